@@ -1,0 +1,80 @@
+-- Tests: what follows from a test and its parts. Assumes nothing.
+use mathlib.Core.Path.{_≡_, refl, sym, ap, _∙_}
+use mathlib.Core.Bool.{Bool, true, false, cond, _&&_, _||_, not, false≢true}
+use Prim.Native.Nat.{ℕ}
+use lib.Dec.{eqb}
+use borrow.Author.Tests.{eq-eqb}
+
+-- A test goes one way or the other, and each way has its equation.
+pub split {ℓ} : {P : Type ℓ} (t : Bool) → (t ≡ true → P) → (t ≡ false → P) → P
+split true f g = f refl
+split false f g = g refl
+
+-- What is not true is false.
+pub no-true : (t : Bool) → (t ≡ true → ⊥) → t ≡ false
+no-true true h = absurd (h refl)
+no-true false h = refl
+
+-- True and false at once.
+pub clash : {t : Bool} → t ≡ true → t ≡ false → ⊥
+clash p q = false≢true (sym q ∙ p)
+
+pub eqb-same : (a : ℕ) → eqb a a ≡ true
+eqb-same a = eq-eqb a a refl
+
+pub and-true : {a b : Bool} → a ≡ true → b ≡ true → (a && b) ≡ true
+and-true p q = rw (p, q)
+
+pub and-l : (a b : Bool) → (a && b) ≡ true → a ≡ true
+and-l true b h = refl
+and-l false b h = h
+
+pub and-r : (a b : Bool) → (a && b) ≡ true → b ≡ true
+and-r true b h = h
+and-r false true h = refl
+and-r false false h = h
+
+pub and-false : (a : Bool) → (a && false) ≡ false
+and-false true = refl
+and-false false = refl
+
+pub and-one : (a : Bool) → (a && true) ≡ a
+and-one true = refl
+and-one false = refl
+
+pub and-assoc : (a b c : Bool) → (a && b && c) ≡ (a && (b && c))
+and-assoc true b c = refl
+and-assoc false b c = refl
+
+pub and-swap : (a b c : Bool) → (a && (b && c)) ≡ (b && (a && c))
+and-swap true true c = refl
+and-swap true false c = refl
+and-swap false true c = refl
+and-swap false false c = refl
+
+pub not-both : (t : Bool) → (t && not t) ≡ false
+not-both true = refl
+not-both false = refl
+
+pub or-true : (a : Bool) → (a || true) ≡ true
+or-true true = refl
+or-true false = refl
+
+pub or-false : (a : Bool) → (a || false) ≡ a
+or-false true = refl
+or-false false = refl
+
+-- A second test that follows from its own premise keeps a disjunction.
+pub or-more : (t u u′ : Bool) → (u ≡ true → u′ ≡ true) → (t || u) ≡ true → (t || u′) ≡ true
+or-more true u u′ f h = refl
+or-more false u u′ f h = f h
+
+pub or-turn : (x y z : Bool) → (y || (x || z)) ≡ (x || y || z)
+or-turn true true z = refl
+or-turn true false z = refl
+or-turn false true z = refl
+or-turn false false z = refl
+
+pub cond-same : {A : Type 0} (t : Bool) (x : A) → cond t x x ≡ x
+cond-same true x = refl
+cond-same false x = refl

@@ -1,0 +1,8 @@
+-- The laws, each stated once.
+pub mod Bools
+pub mod Sums
+pub mod Below
+pub mod Tables
+pub mod Signed
+pub mod Masks
+pub mod Checks

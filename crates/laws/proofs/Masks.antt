@@ -1,0 +1,181 @@
+-- Shifts and masks, and the bits of a word. Assumes nothing.
+use mathlib.Core.Path.{_≡_, refl, sym, ap, ap₂, _∙_}
+use mathlib.Core.Bool.{Bool, true, false, not, _||_, _&&_}
+use Prim.Native.Nat.{ℕ, zero, suc, _+_, _-_, _*_, _/_, _%_, _^_, _≤_, _<_, zero-le, suc-le-suc, min, max}
+use native.Mathlib.Nat.{le-refl, le-of-suc-le-suc, not-suc-le-zero, div-one, div-div-eq-div-mul, pow-succ', mod-eq-of-lt, one-mul}
+use native.Mathlib.Omega.{arith}
+use lib.Dec.{eqb, eqb·zero-suc, eqb·suc-zero, eqb·suc-suc, lit<}
+use lib.Bits.{bitAnd, bitOr, and-mask, and-step, or-step, or-zero-r}
+use lib.Count.{ones, ones-step}
+use lib.Pow.{pow-pos, pow-lt}
+use Rattle.laws.specs.Below.{words, sum, only, count}
+use Rattle.laws.specs.Masks.{bit, maskOf, without}
+use Rattle.laws.proofs.Bools.{and-false, and-one, or-false}
+use Rattle.laws.proofs.Below.{count-first}
+
+abbrev one : Bool → ℕ
+one b = only words b 1
+
+-- The code's test, (w >> b) & 1 == 1.
+pub bit-test : (b w : ℕ) → eqb (bitAnd (w / 2 ^ b) 1) 1 ≡ bit b w
+unfolding bit
+bit-test b w = ap (λ (n : ℕ). eqb n 1) (and-mask (w / 2 ^ b) 1)
+
+-- 1 where a test holds, else 0.
+one-le : (b : Bool) → one b ≤ 1
+unfolding only words
+one-le true = le-refl 1
+one-le false = zero-le
+
+-- The lowest bit of a mask, and the rest.
+low-bit : (n : ℕ) (f : ℕ → Bool) → maskOf (suc n) f % 2 ≡ one (f 0)
+unfolding maskOf
+low-bit n f = omega (arith, one-le (f 0))
+
+high-bits : (n : ℕ) (f : ℕ → Bool) → maskOf (suc n) f / 2 ≡ maskOf n (λ b. f (suc b))
+unfolding maskOf
+high-bits n f = omega (arith, one-le (f 0))
+
+pub mask-cong : (n : ℕ) (f g : ℕ → Bool) → ((k : ℕ) → k < n → f k ≡ g k) → maskOf n f ≡ maskOf n g
+unfolding maskOf
+mask-cong zero f g h = refl
+mask-cong (suc n) f g h = ap₂ (λ (x y : ℕ). x + 2 * y) (ap one (h 0 (suc-le-suc zero-le))) (mask-cong n (λ b. f (suc b)) (λ b. g (suc b)) (λ k l. h (suc k) (suc-le-suc l)))
+
+pub mask-none : (n : ℕ) → maskOf n (λ b. false) ≡ 0
+unfolding maskOf only words
+mask-none zero = refl
+mask-none (suc n) = ap (λ (x : ℕ). 0 + 2 * x) (mask-none n)
+
+pub mask-lt : (n : ℕ) (f : ℕ → Bool) → maskOf n f < 2 ^ n
+unfolding maskOf
+mask-lt zero f = lit< tt
+mask-lt (suc n) f = omega (arith, one-le (f 0), mask-lt n (λ b. f (suc b)), pow-succ' 2 n)
+
+bit-zero : (w : ℕ) → bit 0 w ≡ eqb (w % 2) 1
+unfolding bit
+bit-zero w = ap (λ (x : ℕ). eqb (x % 2) 1) (div-one w)
+
+bit-suc : (b w : ℕ) → bit (suc b) w ≡ bit b (w / 2)
+unfolding bit
+bit-suc b w = ap (λ (x : ℕ). eqb (x % 2) 1) (ap (λ (m : ℕ). w / m) (pow-succ' 2 b) ∙ sym (div-div-eq-div-mul w 2 (2 ^ b)))
+
+one-is : (b : Bool) → eqb (one b) 1 ≡ b
+unfolding only words
+one-is true = refl
+one-is false = refl
+
+-- The bits of a mask.
+pub bit-mask : (n b : ℕ) (f : ℕ → Bool) → b < n → bit b (maskOf n f) ≡ f b
+bit-mask zero b f l = absurd (not-suc-le-zero l)
+bit-mask (suc n) zero f l = bit-zero (maskOf (suc n) f) ∙ ap (λ (x : ℕ). eqb x 1) (low-bit n f) ∙ one-is (f 0)
+bit-mask (suc n) (suc b) f l = bit-suc b (maskOf (suc n) f) ∙ ap (bit b) (high-bits n f) ∙ bit-mask n b (λ k. f (suc k)) (le-of-suc-le-suc l)
+
+one-bit : (x : ℕ) → x < 2 → one (eqb x 1) ≡ x
+unfolding only words
+one-bit zero l = refl
+one-bit (suc zero) l = refl
+one-bit (suc (suc x)) l = absurd (not-suc-le-zero (le-of-suc-le-suc (le-of-suc-le-suc l)))
+
+-- Every word of n bits is the mask of its bits.
+pub mask-bits : (n w : ℕ) → w < 2 ^ n → maskOf n (λ b. bit b w) ≡ w
+unfolding maskOf
+mask-bits zero w l = omega arith
+mask-bits (suc n) w l =
+    ap₂ (λ (x y : ℕ). x + 2 * y)
+    (ap one (bit-zero w) ∙ one-bit (w % 2) (omega arith))
+    (mask-cong n (λ b. bit (suc b) w) (λ b. bit b (w / 2)) (λ b q. bit-suc b w) ∙ mask-bits n (w / 2) (omega (arith, pow-succ' 2 n)))
+    ∙ omega arith
+
+one-max : (b : Bool) → max (one b) 1 ≡ one (b || true)
+unfolding only words
+one-max true = refl
+one-max false = refl
+
+pow-half : (b : ℕ) → 2 ^ suc b / 2 ≡ 2 ^ b
+pow-half b = omega (arith, pow-succ' 2 b)
+
+pow-even : (b : ℕ) → 2 ^ suc b % 2 ≡ 0
+pow-even b = omega (arith, pow-succ' 2 b)
+
+max-zero′ : (x : ℕ) → max x 0 ≡ x
+max-zero′ x = omega arith
+
+-- A bit is set: w | 1 << b.
+pub mask-or : (n b : ℕ) (f : ℕ → Bool) → b < n → bitOr (maskOf n f) (2 ^ b) ≡ maskOf n (λ k. f k || eqb b k)
+unfolding maskOf
+mask-or zero b f l = absurd (not-suc-le-zero l)
+mask-or (suc n) zero f l =
+    or-step (maskOf (suc n) f) 1
+    ∙ ap₂ (λ (x y : ℕ). x * 2 + y)
+    (ap (λ (x : ℕ). bitOr x 0) (high-bits n f) ∙ or-zero-r (maskOf n (λ k. f (suc k))) ∙ mask-cong n _ (λ k. f (suc k) || eqb 0 (suc k)) (λ k q. sym (or-false (f (suc k))) ∙ ap (λ (x : Bool). f (suc k) || x) (sym (eqb·zero-suc k))))
+    (ap (λ (x : ℕ). max x 1) (low-bit n f) ∙ one-max (f 0))
+    ∙ omega arith
+mask-or (suc n) (suc b) f l =
+    or-step (maskOf (suc n) f) (2 ^ suc b)
+    ∙ ap₂ (λ (x y : ℕ). x * 2 + y)
+    (ap₂ bitOr (high-bits n f) (pow-half b) ∙ mask-or n b (λ k. f (suc k)) (le-of-suc-le-suc l) ∙ mask-cong n _ (λ k. f (suc k) || eqb (suc b) (suc k)) (λ k q. ap (λ (x : Bool). f (suc k) || x) (sym (eqb·suc-suc b k))))
+    (ap₂ max (low-bit n f) (pow-even b) ∙ max-zero′ (one (f 0)) ∙ ap one (sym (or-false (f 0)) ∙ ap (λ (x : Bool). f 0 || x) (sym (eqb·suc-zero b))))
+    ∙ omega arith
+
+-- The ones of a mask are counted.
+pub ones-mask : (n : ℕ) (f : ℕ → Bool) → ones (maskOf n f) ≡ count n f
+unfolding maskOf ones lib.Count.onesIn count sum only words
+ones-mask zero f = refl
+ones-mask (suc n) f = ones-step (maskOf (suc n) f) ∙ ap₂ _+_ (low-bit n f) (ap ones (high-bits n f) ∙ ones-mask n (λ k. f (suc k))) ∙ sym (count-first n f)
+
+-- So the ones of any word of n bits.
+pub ones-bits : (n w : ℕ) → w < 2 ^ n → ones w ≡ count n (λ b. bit b w)
+ones-bits n w l = ap ones (sym (mask-bits n w l)) ∙ ones-mask n (λ b. bit b w)
+
+-- 1 << b in 16 bits, as the code has it.
+pub shl-one : (b : ℕ) → b < 16 → (1 * 2 ^ b) % 2 ^ 16 ≡ 2 ^ b
+shl-one b l = ap (λ (x : ℕ). x % 2 ^ 16) (one-mul (2 ^ b)) ∙ mod-eq-of-lt (pow-lt l)
+
+one-min : (b : Bool) → min (one b) 1 ≡ one b
+one-min b = omega (arith, one-le b)
+
+min-none : (x : ℕ) → min x 0 ≡ 0
+min-none x = omega arith
+
+one-false : one false ≡ 0
+unfolding only words
+one-false = refl
+
+not-low-half : (n : ℕ) → ((2 ^ suc n - 1) - 2 ^ 0) / 2 ≡ 2 ^ n - 1
+not-low-half n = omega (arith, pow-succ' 2 n, pow-pos n)
+
+not-low-even : (n : ℕ) → ((2 ^ suc n - 1) - 2 ^ 0) % 2 ≡ 0
+not-low-even n = omega (arith, pow-succ' 2 n, pow-pos n)
+
+not-half : (n b : ℕ) → b < n → ((2 ^ suc n - 1) - 2 ^ suc b) / 2 ≡ (2 ^ n - 1) - 2 ^ b
+not-half n b l = omega (arith, pow-succ' 2 n, pow-succ' 2 b, pow-lt l)
+
+not-odd : (n b : ℕ) → b < n → ((2 ^ suc n - 1) - 2 ^ suc b) % 2 ≡ 1
+not-odd n b l = omega (arith, pow-succ' 2 n, pow-succ' 2 b, pow-lt l)
+
+pub mask-clear : (n b : ℕ) (f : ℕ → Bool) → b < n → bitAnd (maskOf n f) ((2 ^ n - 1) - 2 ^ b) ≡ maskOf n (λ k. f k && not (eqb b k))
+unfolding maskOf
+mask-clear zero b f l = absurd (not-suc-le-zero l)
+mask-clear (suc n) zero f l =
+    and-step (maskOf (suc n) f) ((2 ^ suc n - 1) - 2 ^ 0)
+    ∙ ap₂ (λ (x y : ℕ). x * 2 + y)
+    (ap₂ bitAnd (high-bits n f) (not-low-half n) ∙ and-mask (maskOf n (λ k. f (suc k))) n ∙ mod-eq-of-lt (mask-lt n (λ k. f (suc k)))
+    ∙ mask-cong n _ (λ k. f (suc k) && not (eqb 0 (suc k))) (λ k q. sym (and-one (f (suc k))) ∙ ap (λ (x : Bool). f (suc k) && not x) (sym (eqb·zero-suc k))))
+    (ap₂ min (low-bit n f) (not-low-even n) ∙ min-none (one (f 0)) ∙ sym one-false ∙ ap one (sym (and-false (f 0))))
+    ∙ omega arith
+mask-clear (suc n) (suc b) f l =
+    and-step (maskOf (suc n) f) ((2 ^ suc n - 1) - 2 ^ suc b)
+    ∙ ap₂ (λ (x y : ℕ). x * 2 + y)
+    (ap₂ bitAnd (high-bits n f) (not-half n b (le-of-suc-le-suc l)) ∙ mask-clear n b (λ k. f (suc k)) (le-of-suc-le-suc l)
+    ∙ mask-cong n _ (λ k. f (suc k) && not (eqb (suc b) (suc k))) (λ k q. ap (λ (x : Bool). f (suc k) && not x) (sym (eqb·suc-suc b k))))
+    (ap₂ min (low-bit n f) (not-odd n b (le-of-suc-le-suc l)) ∙ one-min (f 0) ∙ ap one (sym (and-one (f 0)) ∙ ap (λ (x : Bool). f 0 && not x) (sym (eqb·suc-zero b))))
+    ∙ omega arith
+
+-- The bits of a word without one of them.
+pub mask-without : (a : ℕ) (f : ℕ → Bool) → a < 16 → without a (maskOf 16 f) ≡ maskOf 16 (λ b. f b && not (eqb a b))
+unfolding without
+mask-without a f l = mask-clear 16 a f l
+
+-- The ones of a 16-bit mask without its bit a.
+pub ones-without : (a : ℕ) (f : ℕ → Bool) → a < 16 → ones (without a (maskOf 16 f)) ≡ count 16 (λ b. f b && not (eqb a b))
+ones-without a f l = ap ones (mask-without a f l) ∙ ones-mask 16 (λ b. f b && not (eqb a b))

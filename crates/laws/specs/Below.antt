@@ -1,0 +1,51 @@
+-- Sums, counts and searches over the numbers below a bound.
+use mathlib.Core.Path.{_≡_}
+use mathlib.Core.Bool.{Bool, true, false, cond, _&&_, _||_}
+use Prim.Native.Nat.{ℕ, zero, suc, _+_}
+use native.Mathlib.Nat.{add-assoc, add-comm, add-zero}
+use lib.IntN.{ℤ, pos, _+ℤ_, +ℤ-assoc, +ℤ-comm, +ℤ-idr}
+
+-- Numbers that add up: a sum, a zero, and the three laws that make the order of adding idle.
+pub record Adds (A : Type 0) : Type 0 where
+  pub plus : A → A → A
+  pub none : A
+  pub assoc : (x y z : A) → plus (plus x y) z ≡ plus x (plus y z)
+  pub comm : (x y : A) → plus x y ≡ plus y x
+  pub idr : (x : A) → plus x none ≡ x
+
+-- Words and steps are natural numbers.
+unfoldable pub words : Adds ℕ
+words = record { plus = λ x y. x + y; none = 0; assoc = add-assoc; comm = add-comm; idr = add-zero }
+
+-- Amounts are integers.
+unfoldable pub amounts : Adds ℤ
+amounts = record { plus = λ x y. x +ℤ y; none = pos 0; assoc = +ℤ-assoc; comm = +ℤ-comm; idr = +ℤ-idr }
+
+module _ {A : Type 0} (w : Adds A) where
+  -- f 0 + f 1 + .. + f (n - 1)
+  unfoldable pub sum : ℕ → (ℕ → A) → A
+  sum zero f = w .none
+  sum (suc n) f = w .plus (sum n f) (f n)
+
+  -- x where the test passes, and nothing elsewhere
+  unfoldable pub only : Bool → A → A
+  only p x = cond p x (w .none)
+
+-- Some number below n passes p.
+unfoldable pub any : ℕ → (ℕ → Bool) → Bool
+any zero p = false
+any (suc n) p = any n p || p n
+
+-- Every number below n passes p.
+unfoldable pub all : ℕ → (ℕ → Bool) → Bool
+all zero p = true
+all (suc n) p = all n p && p n
+
+-- How many numbers below n pass p.
+unfoldable pub count : ℕ → (ℕ → Bool) → ℕ
+count n p = sum words n (λ i. only words (p i) 1)
+
+-- The first number below n that passes p, or n where none does.
+unfoldable pub find : ℕ → (ℕ → Bool) → ℕ
+find zero p = 0
+find (suc n) p = cond (any n p) (find n p) (cond (p n) n (suc n))

@@ -1,0 +1,5 @@
+-- Definitions that every other crate's definitions are written with.
+pub mod Below
+pub mod Tables
+pub mod Masks
+pub mod Checks
