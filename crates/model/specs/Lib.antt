@@ -1,0 +1,12 @@
+-- The definitions of the settlement, in the order in which docs/READING.md reads them.
+pub mod Job
+pub mod Steps
+pub mod Words
+pub mod Tables
+pub mod Ranges
+pub mod Step
+pub mod Run
+pub mod Local
+pub mod Reconcile
+pub mod Requests
+pub mod Demand3

@@ -1,0 +1,93 @@
+-- The local book of a box (its local matrix, packed by offer), and the tables of words between boxes.
+use mathlib.Core.Path.{_≡_}
+use mathlib.Core.List.{List, [], _∷_, _++_}
+use mathlib.Core.Bool.{Bool, cond, _&&_, _||_, not}
+use Prim.Native.Nat.{ℕ, zero, suc, _+_, _-_, _<_}
+use lib.ListN.{getD, length}
+use lib.Dec.{eqb, ltb}
+use lib.IntN.{ℤ, pos}
+use Rattle.laws.specs.Below.{sum, only, words, count, find}
+use Rattle.laws.specs.Tables.{tabulate}
+use Rattle.laws.specs.Checks.{anyOf}
+use Rattle.model.specs.Job.{Job, heldBy, priceWord, totalWord}
+use Rattle.model.specs.Tables.{JobTables, jobOf, jobLengths, jobShort}
+use Rattle.model.specs.Ranges.{jobInRange}
+
+-- The numbers below n that pass p, ascending.
+unfoldable pub ascending : ℕ → (ℕ → Bool) → List ℕ
+ascending zero p = []
+ascending (suc n) p = ascending n p ++ cond (p n) (n ∷ []) []
+
+-- The lists f 0, f 1, .. f (n − 1), one behind the other.
+unfoldable pub chained : ℕ → (ℕ → List ℕ) → List ℕ
+chained zero f = []
+chained (suc n) f = chained n f ++ f n
+
+module _ (j : Job) (b : ℕ) where
+  -- Local offers: own ones ascending, then others it holds a tally of, by owner and then place in the offer table.
+  unfoldable pub localOffers : List ℕ
+  localOffers = ascending (j .offers) (λ o. eqb (j .offerOwner o) b) ++ chained (j .boxes) (λ a. ascending (j .offers) (priceWord j a b))
+
+  -- Local grocers likewise.
+  unfoldable pub localGrocers : List ℕ
+  localGrocers = ascending (j .grocers) (λ g. eqb (j .grocerOwner g) b) ++ chained (j .boxes) (λ a. ascending (j .grocers) (totalWord j b a))
+
+  -- The local number of grocer g: its place among the local grocers.
+  unfoldable pub localGrocer : ℕ → ℕ
+  localGrocer g = find (length localGrocers) (λ i. eqb (getD localGrocers i 0) g)
+
+  -- Tally t is one of the box's tallies of its local offer i.
+  unfoldable pub ofOffer : ℕ → ℕ → Bool
+  ofOffer i t = heldBy j t b && eqb (j .tallyOffer t) (getD localOffers i 0)
+
+  -- Where the list of local offer i begins: behind the tallies of those before it.
+  unfoldable pub start : ℕ → ℕ
+  start i = sum words i (λ k. count (j .tallies) (ofOffer k))
+
+  -- Starts: one more than local offers, the first 0.
+  unfoldable pub starts : List ℕ
+  starts = tabulate (suc (length localOffers)) start
+
+-- Packed by offer: local grocer and count of each tally. The order inside one offer's list is open: the list has each of the box's tallies of that offer once.
+pub record Packed (j : Job) (b : ℕ) (grocers : List ℕ) (counts : List ℤ) : Type 0 where
+  pub tally : ℕ → ℕ  -- the tally at a place of the lists
+  pub grocer : (i : ℕ) → i < start j b (length (localOffers j b)) → getD grocers i 0 ≡ localGrocer j b (j .tallyGrocer (tally i))
+  pub counted : (i : ℕ) → i < start j b (length (localOffers j b)) → getD counts i (pos 0) ≡ j .tallyCount (tally i)
+  pub once : (k t : ℕ) → k < length (localOffers j b) → t < j .tallies →
+      count (start j b (suc k) - start j b k) (λ i. eqb (tally (start j b k + i)) t) ≡ only words (ofOffer j b k t) 1
+
+module _ (j : Job) where
+  -- The words from each box to each other box form 16 rows of 16 counts; the row is the sender. One such table for prices
+  unfoldable pub priceTable : List (List ℕ)
+  priceTable = tabulate 16 (λ a. tabulate 16 (λ b. count (j .offers) (priceWord j a b)))
+
+  -- and one for totals.
+  unfoldable pub totalTable : List (List ℕ)
+  totalTable = tabulate 16 (λ a. tabulate 16 (λ b. count (j .grocers) (totalWord j a b)))
+
+-- How many words of each of its own tables the local book is lent.
+pub record BookLengths : Type 0 where
+  pub localOffers : ℕ
+  pub localGrocers : ℕ
+  pub starts : ℕ
+  pub packedGrocers : ℕ
+  pub packedCounts : ℕ
+
+-- 20 on these tables: shorter than M, N and T as given need, whatever the box has.
+unfoldable pub bookShort : Job → BookLengths → Bool
+bookShort j n =
+    anyOf (
+    ltb (n .localOffers) (j .offers)
+    ∷ ltb (n .localGrocers) (j .grocers)
+    ∷ ltb (n .starts) (suc (j .offers))
+    ∷ ltb (n .packedGrocers) (j .tallies)
+    ∷ ltb (n .packedCounts) (j .tallies)
+    ∷ [])
+
+-- The refusals of the local book of box b, in order.
+unfoldable pub bookRefusals : JobTables → BookLengths → ℕ → List (Bool × ℕ)
+bookRefusals f n b =
+    (jobShort (jobOf f) (jobLengths f) || bookShort (jobOf f) n, 20)
+    ∷ (not (jobInRange f), 21)
+    ∷ (not (ltb b (f .boxes)), 23)
+    ∷ []

@@ -1,0 +1,89 @@
+-- The ranges of 01, "Terms and sizes": what condition 21 looks at.
+use mathlib.Core.List.{List, [], _∷_}
+use mathlib.Core.Bool.{Bool, _&&_}
+use Prim.Native.Nat.{ℕ, _*_}
+use lib.ListN.{getD}
+use lib.Dec.{ltb, leb}
+use lib.IntN.{ℤ, pos, natAbs}
+use Rattle.laws.specs.Below.{all}
+use Rattle.laws.specs.Checks.{allOf}
+use Rattle.model.specs.Tables.{JobTables, StateTables}
+
+abbrev pub maxBoxes : ℕ
+maxBoxes = 16
+
+abbrev pub maxGrocers : ℕ
+maxGrocers = 255
+
+abbrev pub maxOffers : ℕ
+maxOffers = 500
+
+abbrev pub maxTallies : ℕ
+maxTallies = 1_000
+
+-- Tenths of a cent.
+abbrev pub maxPrice : ℕ
+maxPrice = 9_999_999
+
+-- Corrections are negative: a count is within ±99,999.
+abbrev pub maxCount : ℕ
+maxCount = 99_999
+
+-- Amounts are within ±10^15.
+abbrev pub maxAmount : ℕ
+maxAmount = 1_000_000_000_000_000
+
+abbrev pub maxSent : ℕ
+maxSent = 1_000_000
+
+-- The first n words of a table are at most m.
+unfoldable pub upTo : ℕ → ℕ → List ℕ → Bool
+upTo m n l = all n (λ i. leb (getD l i 0) m)
+
+-- The first n words of a table are below m.
+unfoldable pub under : ℕ → ℕ → List ℕ → Bool
+under m n l = all n (λ i. ltb (getD l i 0) m)
+
+-- The first n words of a table are within ±m.
+unfoldable pub around : ℕ → ℕ → List ℤ → Bool
+around m n l = all n (λ i. leb (natAbs (getD l i (pos 0))) m)
+
+-- K, M, N and T are in range.
+unfoldable pub sizesInRange : JobTables → Bool
+sizesInRange f =
+    allOf (
+    (leb 1 (f .boxes) && leb (f .boxes) maxBoxes)
+    ∷ (leb 1 (f .grocers) && leb (f .grocers) maxGrocers)
+    ∷ (leb 1 (f .offers) && leb (f .offers) maxOffers)
+    ∷ leb (f .tallies) maxTallies
+    ∷ [])
+
+-- Every word of the job's tables is in range.
+unfoldable pub jobWordsInRange : JobTables → Bool
+jobWordsInRange f =
+    allOf (
+    upTo maxPrice (f .offers) (f .price)
+    ∷ under (f .boxes) (f .offers) (f .offerOwner)
+    ∷ under (f .boxes) (f .grocers) (f .grocerOwner)
+    ∷ under (f .grocers) (f .tallies) (f .tallyGrocer)
+    ∷ under (f .boxes) (f .tallies) (f .tallyBox)
+    ∷ under (f .offers) (f .tallies) (f .tallyOffer)
+    ∷ around maxCount (f .tallies) (f .tallyCount)
+    ∷ [])
+
+-- Condition 21 is not met by the job's tables.
+unfoldable pub jobInRange : JobTables → Bool
+jobInRange f = sizesInRange f && jobWordsInRange f
+
+-- Condition 21 is not met by the state's tables: a done mark is 0 or 1, the count of words sent 0 to 1,000,000.
+unfoldable pub stateInRange : JobTables → StateTables → Bool
+stateInRange f t =
+    allOf (
+    upTo maxPrice (f .boxes * f .offers) (t .known)
+    ∷ upTo maxPrice (f .boxes * f .offers) (t .priceTransit)
+    ∷ around maxAmount (f .boxes * f .grocers) (t .working)
+    ∷ around maxAmount (f .boxes * f .grocers) (t .totalTransit)
+    ∷ around maxAmount (f .grocers) (t .statement)
+    ∷ upTo 1 (6 * f .boxes * f .boxes) (t .done)
+    ∷ upTo maxSent 1 (t .sent)
+    ∷ [])

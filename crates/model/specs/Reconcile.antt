@@ -1,0 +1,61 @@
+-- The reconciliation desk: the serial amount of one grocer from a list of tally records.
+use mathlib.Core.List.{List, [], _∷_}
+use mathlib.Core.Bool.{Bool, true, _&&_, not}
+use Prim.Native.Nat.{ℕ, zero, suc}
+use lib.ListN.{getD, length}
+use lib.Dec.{eqb, ltb, leb}
+use lib.IntN.{ℤ, pos, natAbs, _+ℤ_, _*ℤ_}
+use Rattle.laws.specs.Below.{only, amounts}
+use Rattle.laws.specs.Checks.{firstMet, allOf}
+use Rattle.model.specs.Ranges.{maxBoxes, maxGrocers, maxOffers, maxTallies, maxPrice, maxCount, upTo}
+
+-- A tally record: grocer, box, place and count.
+pub record TallyRecord : Type 0 where
+  pub grocer : ℕ
+  pub tallyBox : ℕ
+  pub place : ℕ
+  pub count : ℤ
+
+-- A record is in range: grocer below M, box 0 to 15, place below N, count within ±99,999.
+unfoldable pub recordInRange : ℕ → ℕ → TallyRecord → Bool
+recordInRange m n r = allOf (ltb (r .grocer) m ∷ ltb (r .tallyBox) maxBoxes ∷ ltb (r .place) n ∷ leb (natAbs (r .count)) maxCount ∷ [])
+
+-- Every record of a list is in range.
+unfoldable pub recordsInRange : ℕ → ℕ → List TallyRecord → Bool
+recordsInRange m n [] = true
+recordsInRange m n (r ∷ rs) = recordInRange m n r && recordsInRange m n rs
+
+-- The serial amount of grocer g: count × price over its records. Tallies of other grocers are passed over.
+unfoldable pub serialAmount : List ℕ → ℕ → List TallyRecord → ℤ
+serialAmount prices g [] = pos 0
+serialAmount prices g (r ∷ rs) = only amounts (eqb (r .grocer) g) (r .count *ℤ pos (getD prices (r .place) 0)) +ℤ serialAmount prices g rs
+
+-- What the desk answers.
+pub data DeskAnswer : Type 0 where
+  owed : ℤ → DeskAnswer
+  refused : ℕ → DeskAnswer
+
+-- The refusals of the desk, for M, N, the grocer wanted, the prices and the records.
+unfoldable pub deskRefusals : ℕ → ℕ → ℕ → List ℕ → List TallyRecord → List (Bool × ℕ)
+deskRefusals m n g prices rs =
+    (ltb (length prices) n, 20)
+    ∷ (
+      not (allOf (
+          (leb 1 m && leb m maxGrocers)
+          ∷ (leb 1 n && leb n maxOffers)
+          ∷ upTo maxPrice n prices
+          ∷ leb (length rs) maxTallies
+          ∷ recordsInRange m n rs
+          ∷ ltb g m
+          ∷ [])),
+      21,
+    )
+    ∷ []
+
+unfoldable pub deskAnswer : ℕ → ℤ → DeskAnswer
+deskAnswer zero z = owed z
+deskAnswer (suc n) z = refused (suc n)
+
+-- The desk: THE definition that its contract cites.
+unfoldable pub reconciled : ℕ → ℕ → ℕ → List ℕ → List TallyRecord → DeskAnswer
+reconciled m n g prices rs = deskAnswer (firstMet (deskRefusals m n g prices rs)) (serialAmount prices g rs)

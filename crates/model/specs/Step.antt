@@ -1,0 +1,75 @@
+-- The step entry: its answer for every input, and the tables that it leaves. THE definition that the step's contract cites.
+use mathlib.Core.List.{List, [], _∷_, _++_}
+use mathlib.Core.Bool.{Bool, cond, _&&_, not}
+use Prim.Native.Nat.{ℕ}
+use lib.Dec.{eqb, ltb, leb}
+use Rattle.laws.specs.Checks.{firstMet}
+use Rattle.model.specs.Job.{Job}
+use Rattle.model.specs.Steps.{Kind, kindOf, Steps, Step, oneBox, fits, ready, fresh, effect}
+use Rattle.model.specs.Tables.{JobTables, jobOf, StateTables, view, store, lentShort}
+use Rattle.model.specs.Ranges.{jobInRange, stateInRange}
+
+-- What a request asks for, as three numbers: kind, first box, second box.
+pub record Asked : Type 0 where
+  pub kind : ℕ
+  pub first : ℕ
+  pub second : ℕ
+
+-- The kind is 1 to 6.
+unfoldable pub isKind : ℕ → Bool
+isKind k = leb 1 k && leb k 6
+
+-- The step that numbers ask for.
+unfoldable pub stepOf : Asked → Step
+stepOf q = record { kind = kindOf (q .kind); first = q .first; second = q .second }
+
+-- Both boxes are below K, and they are equal or differ as the kind asks.
+unfoldable pub boxesFit : Job → Kind → ℕ → ℕ → Bool
+boxesFit j k a b = ltb a (j .boxes) && (ltb b (j .boxes) && cond (oneBox k) (eqb a b) (not (eqb a b)))
+
+-- Conditions 22 to 26, where the steps of d are done.
+unfoldable pub stepRules : Job → Steps → Asked → List (Bool × ℕ)
+stepRules j d q =
+    let k = kindOf (q .kind) in
+    (not (isKind (q .kind)), 22)
+    ∷ (not (boxesFit j k (q .first) (q .second)), 23)
+    ∷ (not (fits j k (q .first) (q .second)), 24)
+    ∷ (d k (q .first) (q .second), 25)
+    ∷ (not (ready j d k (q .first) (q .second)), 26)
+    ∷ []
+
+module _ (f : JobTables) (t : StateTables) where
+  -- The tables with the effect of the step that is asked for.
+  unfoldable pub moved : Asked → StateTables
+  moved q = store (jobOf f) (effect (jobOf f) (view (jobOf f) t) (kindOf (q .kind)) (q .first) (q .second)) t
+
+  -- The refusals of a step. Elsewhere by number; the first condition met is always the one refused.
+  -- An entry whose finished result would leave a range refuses with 21, after all its other checks.
+  unfoldable pub refusals : Asked → List (Bool × ℕ)
+  refusals q =
+      (lentShort f t, 20)
+      ∷ (not (jobInRange f && stateInRange f t), 21)
+      ∷ stepRules (jobOf f) (view (jobOf f) t .done) q
+      ++ (not (stateInRange f (moved q)), 21)
+      ∷ []
+
+  -- The answer: 0 where the request is accepted, else the number of the refusal.
+  unfoldable pub answer : Asked → ℕ
+  answer q = firstMet (refusals q)
+
+  -- The tables that the step leaves: a refusal changes no word.
+  unfoldable pub after : Asked → StateTables
+  after q = cond (eqb (answer q) 0) (moved q) t
+
+-- A fresh state of the job, written into the tables t.
+unfoldable pub freshTables : JobTables → StateTables → StateTables
+freshTables f t = store (jobOf f) (fresh (jobOf f)) t
+
+-- What a call gives: its answer, and the state's tables.
+pub record Outcome : Type 0 where
+  pub answer : ℕ
+  pub tables : StateTables
+
+-- The step.
+unfoldable pub stepped : JobTables → StateTables → Asked → Outcome
+stepped f t q = record { answer = answer f t q; tables = after f t q }

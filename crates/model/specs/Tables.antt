@@ -1,0 +1,148 @@
+-- The tables as they are lent, the job and the state that they hold, and how long each must be.
+use mathlib.Core.List.{List, [], _∷_}
+use mathlib.Core.Bool.{Bool, cond, _&&_, _||_}
+use Prim.Native.Nat.{ℕ, suc, _+_, _-_, _*_, _/_, _%_}
+use lib.ListN.{length}
+use lib.Dec.{eqb, ltb}
+use lib.IntN.{ℤ, pos}
+use Rattle.laws.specs.Tables.{overwrite, word, cell, recell}
+use Rattle.laws.specs.Checks.{anyOf}
+use Rattle.model.specs.Job.{Job}
+use Rattle.model.specs.Steps.{number, kindOf, State}
+
+-- The job's tables: K, M, N and T as given, and seven lent slices.
+pub record JobTables : Type 0 where
+  pub boxes : ℕ
+  pub grocers : ℕ
+  pub offers : ℕ
+  pub tallies : ℕ
+  pub price : List ℕ  -- N words
+  pub offerOwner : List ℕ  -- N
+  pub grocerOwner : List ℕ  -- M
+  pub tallyGrocer : List ℕ  -- T
+  pub tallyBox : List ℕ  -- T
+  pub tallyOffer : List ℕ  -- T
+  pub tallyCount : List ℤ  -- T
+
+-- The job that the tables hold. Words past the needed length are not read.
+unfoldable pub jobOf : JobTables → Job
+jobOf f = record {
+  boxes = f .boxes;
+  grocers = f .grocers;
+  offers = f .offers;
+  tallies = f .tallies;
+  price = word (f .offers) (f .price) 0;
+  offerOwner = word (f .offers) (f .offerOwner) 0;
+  grocerOwner = word (f .grocers) (f .grocerOwner) 0;
+  tallyGrocer = word (f .tallies) (f .tallyGrocer) 0;
+  tallyBox = word (f .tallies) (f .tallyBox) 0;
+  tallyOffer = word (f .tallies) (f .tallyOffer) 0;
+  tallyCount = word (f .tallies) (f .tallyCount) (pos 0);
+}
+
+-- The state's tables: seven lent slices.
+pub record StateTables : Type 0 where
+  pub known : List ℕ  -- K × N words, by box
+  pub priceTransit : List ℕ  -- K × N, by receiving box
+  pub working : List ℤ  -- K × M, by box
+  pub totalTransit : List ℤ  -- K × M, by sending box
+  pub statement : List ℤ  -- M
+  pub done : List ℕ  -- 6 × K × K marks, by kind, first box and second box
+  pub sent : List ℕ  -- 1
+
+module _ (j : Job) where
+  -- The state that the tables hold.
+  unfoldable pub view : StateTables → State
+  view t = record {
+    known = cell (j .boxes) (j .offers) (t .known) 0;
+    priceTransit = cell (j .boxes) (j .offers) (t .priceTransit) 0;
+    working = cell (j .boxes) (j .grocers) (t .working) (pos 0);
+    totalTransit = cell (j .boxes) (j .grocers) (t .totalTransit) (pos 0);
+    statement = word (j .grocers) (t .statement) (pos 0);
+    done = λ k a b. ltb a (j .boxes) && eqb (cell (6 * j .boxes) (j .boxes) (t .done) 0 ((number k - 1) * j .boxes + a) b) 1;
+    sent = word 1 (t .sent) 0 0;
+  }
+
+  -- The tables t with the state s written into them. Words past the needed length are not touched.
+  unfoldable pub store : State → StateTables → StateTables
+  store s t = record {
+    known = recell (j .boxes) (j .offers) (s .known) (t .known);
+    priceTransit = recell (j .boxes) (j .offers) (s .priceTransit) (t .priceTransit);
+    working = recell (j .boxes) (j .grocers) (s .working) (t .working);
+    totalTransit = recell (j .boxes) (j .grocers) (s .totalTransit) (t .totalTransit);
+    statement = overwrite (j .grocers) (s .statement) (t .statement);
+    done = recell (6 * j .boxes) (j .boxes) (λ r b. cond (s .done (kindOf (suc (r / j .boxes))) (r % j .boxes) b) 1 0) (t .done);
+    sent = overwrite 1 (λ i. s .sent) (t .sent);
+  }
+
+-- How many words of each of the job's tables are lent.
+pub record JobLengths : Type 0 where
+  pub price : ℕ
+  pub offerOwner : ℕ
+  pub grocerOwner : ℕ
+  pub tallyGrocer : ℕ
+  pub tallyBox : ℕ
+  pub tallyOffer : ℕ
+  pub tallyCount : ℕ
+
+-- How many words of each of the state's tables are lent.
+pub record StateLengths : Type 0 where
+  pub known : ℕ
+  pub priceTransit : ℕ
+  pub working : ℕ
+  pub totalTransit : ℕ
+  pub statement : ℕ
+  pub done : ℕ
+  pub sent : ℕ
+
+unfoldable pub jobLengths : JobTables → JobLengths
+jobLengths f = record {
+  price = length (f .price);
+  offerOwner = length (f .offerOwner);
+  grocerOwner = length (f .grocerOwner);
+  tallyGrocer = length (f .tallyGrocer);
+  tallyBox = length (f .tallyBox);
+  tallyOffer = length (f .tallyOffer);
+  tallyCount = length (f .tallyCount);
+}
+
+unfoldable pub stateLengths : StateTables → StateLengths
+stateLengths t = record {
+  known = length (t .known);
+  priceTransit = length (t .priceTransit);
+  working = length (t .working);
+  totalTransit = length (t .totalTransit);
+  statement = length (t .statement);
+  done = length (t .done);
+  sent = length (t .sent);
+}
+
+-- 20 on the job's tables: a lent buffer shorter than M, N and T as given need.
+unfoldable pub jobShort : Job → JobLengths → Bool
+jobShort j n =
+    anyOf (
+    ltb (n .price) (j .offers)
+    ∷ ltb (n .offerOwner) (j .offers)
+    ∷ ltb (n .grocerOwner) (j .grocers)
+    ∷ ltb (n .tallyGrocer) (j .tallies)
+    ∷ ltb (n .tallyBox) (j .tallies)
+    ∷ ltb (n .tallyOffer) (j .tallies)
+    ∷ ltb (n .tallyCount) (j .tallies)
+    ∷ [])
+
+-- 20 on the state's tables: a lent buffer shorter than K, M and N as given need.
+unfoldable pub stateShort : Job → StateLengths → Bool
+stateShort j n =
+    anyOf (
+    ltb (n .known) (j .boxes * j .offers)
+    ∷ ltb (n .priceTransit) (j .boxes * j .offers)
+    ∷ ltb (n .working) (j .boxes * j .grocers)
+    ∷ ltb (n .totalTransit) (j .boxes * j .grocers)
+    ∷ ltb (n .statement) (j .grocers)
+    ∷ ltb (n .done) (6 * j .boxes * j .boxes)
+    ∷ ltb (n .sent) 1
+    ∷ [])
+
+-- 20 for step and run: one of the fourteen tables is lent short.
+unfoldable pub lentShort : JobTables → StateTables → Bool
+lentShort f t = jobShort (jobOf f) (jobLengths f) || stateShort (jobOf f) (stateLengths t)
