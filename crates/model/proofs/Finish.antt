@@ -1,0 +1,82 @@
+-- When all steps are done: the plainSum sums, nothing under way, and the words of the owner tables. Assumes nothing.
+use mathlib.Core.Path.{_≡_, sym, _∙_}
+use mathlib.Core.Bool.{true, false}
+use Prim.Native.Nat.{ℕ, _<_}
+use lib.Dec.{eqb, ltb}
+use lib.IntN.{pos}
+use borrow.Author.Tests.{lt-ltb}
+use Rattle.laws.specs.Below.{amounts, only}
+use Rattle.laws.proofs.Bools.{split, and-false, no-true, clash, eqb-same, and-one, cond-same, not-both, and-swap}
+use Rattle.laws.proofs.Below.{any-at}
+use Rattle.laws.proofs.Sums.{sum-cong}
+use Rattle.model.specs.Job.{Job, shares, totalWord, pricesDue, totalsDue, plainSum}
+use Rattle.model.specs.Steps.{Kind, sendPrices, receivePrices, sendTotals, addOwn, receiveTotals, Steps, fits, hasStep, added}
+use Rattle.model.specs.Demand3.{AllDone}
+use Rattle.model.proofs.Range.{InRange}
+use Rattle.model.proofs.ClosedForm.{onWay, gone, arrived, partOf, paid, stateOf, Closed}
+use Rattle.model.proofs.Parts.{part-none}
+use Rattle.model.proofs.Running.{by-box}
+
+-- A finished set is the job's steps.
+pub all-steps : (j : Job) (d : Steps) → Closed j d → AllDone j d → d ≡ hasStep j
+unfolding AllDone
+all-steps j d c f = λ i k a b. same k a b i
+  where
+    same : (k : Kind) (a b : ℕ) → d k a b ≡ hasStep j k a b
+    same k a b =
+        split (hasStep j k a b)
+        (λ e. f k a b e ∙ sym e)
+        (λ e. no-true (d k a b) (λ q. clash (c .steps k a b q) e) ∙ sym e)
+
+module _ (j : Job) where
+  pub prices-turn : (a b : ℕ) → hasStep j receivePrices a b ≡ hasStep j sendPrices b a
+  unfolding hasStep fits
+  prices-turn a b = and-swap (ltb a (j .boxes)) (ltb b (j .boxes)) (pricesDue j b a)
+
+  pub totals-turn : (a b : ℕ) → hasStep j receiveTotals a b ≡ hasStep j sendTotals b a
+  unfolding hasStep fits
+  totals-turn a b = and-swap (ltb a (j .boxes)) (ltb b (j .boxes)) (totalsDue j b a)
+
+  pub end-price-transit : (b o : ℕ) → stateOf j (hasStep j) .priceTransit b o ≡ 0
+  unfolding stateOf onWay
+  end-price-transit b o = simp (prices-turn, not-both, and-false)
+
+  pub end-total-transit : (b g : ℕ) → stateOf j (hasStep j) .totalTransit b g ≡ pos 0
+  unfolding stateOf gone arrived
+  end-total-transit b g = split (eqb (j .grocerOwner g) b) (λ e. simp (e, not-both)) (λ e. simp (e, totals-turn, not-both))
+
+  module _ (r : InRange j) (b g : ℕ) (lb : b < j .boxes) (lg : g < j .grocers) where
+    has-own : hasStep j addOwn b b ≡ true
+    unfolding hasStep fits
+    has-own = simp (lt-ltb b (j .boxes) lb, eqb-same)
+
+    has-totals : eqb (j .grocerOwner g) b ≡ false → shares j g b ≡ true → hasStep j sendTotals b (j .grocerOwner g) ≡ true
+    unfolding hasStep fits totalsDue totalWord
+    has-totals e s =
+        simp (lt-ltb b (j .boxes) lb, lt-ltb (j .grocerOwner g) (j .boxes) (r .grocerOwner< g lg))
+        (any-at (j .grocers) (totalWord j b (j .grocerOwner g)) g lg (simp (eqb-same, e, s)))
+
+    pub end-working : stateOf j (hasStep j) .working b g ≡ pos 0
+    unfolding stateOf gone
+    end-working =
+        split (eqb (j .grocerOwner g) b)
+        (λ e. simp (e, has-own))
+        (λ e. split (shares j g b)
+        (λ s. simp (e, has-totals e s))
+        (λ s. simp (e, part-none j (added j (hasStep j)) b g s, cond-same)))
+
+    pub end-paid : paid j (hasStep j) g b ≡ partOf j (λ t. true) b g
+    unfolding paid arrived only amounts
+    end-paid =
+        split (eqb (j .grocerOwner g) b)
+        (λ e. simp (e, has-own))
+        (λ e. split (shares j g b)
+        (λ s. simp (e, totals-turn, has-totals e s))
+        (λ s. simp (part-none j (λ t. true) b g s, cond-same)))
+
+  pub end-statement : InRange j → (g : ℕ) → g < j .grocers → stateOf j (hasStep j) .statement g ≡ plainSum j g
+  unfolding stateOf plainSum
+  end-statement r g l =
+      sum-cong amounts (j .boxes) (paid j (hasStep j) g) (λ b. partOf j (λ t. true) b g) (λ b m. end-paid r b g m l)
+      ∙ by-box j (λ t. true) g
+      ∙ simp and-one

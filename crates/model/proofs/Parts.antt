@@ -1,0 +1,121 @@
+-- Part totals of the closed form: what a box that has multiplied holds, and how multiplying adds to them. Assumes nothing.
+use mathlib.Core.Path.{_≡_, _∙_}
+use mathlib.Core.Bool.{Bool, true, false, _&&_, _||_, not}
+use Prim.Native.Nat.{ℕ, _<_}
+use lib.Dec.{eqb}
+use lib.IntN.{pos, _+ℤ_}
+use borrow.Author.Tests.{eqb-true, lt-ltb}
+use Rattle.laws.specs.Below.{amounts, only}
+use Rattle.laws.proofs.Bools.{split, and-true, and-l, and-r, and-false, eqb-same}
+use Rattle.laws.proofs.Below.{any-at, all-at, any-none}
+use Rattle.laws.proofs.Sums.{sum-cong, sum-none, sum-plus}
+use Rattle.model.specs.Job.{heldBy, Job, needs, shares, priceWord, pricesDue, amount}
+use Rattle.model.specs.Steps.{multiplyOwn, receivePrices, sendTotals, addOwn, Steps, fits, hasStep, added, multiplied, ready, products}
+use Rattle.model.proofs.Range.{InRange, held-box, held-lt}
+use Rattle.model.proofs.ClosedForm.{gone, partOf, Closed}
+
+module _ (j : Job) where
+  pub needs-at : (t b : ℕ) → t < j .tallies → heldBy j t b ≡ true → needs j (j .tallyOffer t) b ≡ true
+  unfolding needs
+  needs-at t b l h = any-at (j .tallies) (λ s. heldBy j s b && eqb (j .tallyOffer s) (j .tallyOffer t)) t l (and-true h (eqb-same (j .tallyOffer t)))
+
+  -- The offer of a tally stands in a message to the tally's box, if another box owns it.
+  pub word-at : (t b : ℕ) → t < j .tallies → heldBy j t b ≡ true → eqb (j .offerOwner (j .tallyOffer t)) b ≡ false →
+      priceWord j (j .offerOwner (j .tallyOffer t)) b (j .tallyOffer t) ≡ true
+  unfolding priceWord
+  word-at t b l h e = simp (eqb-same, e, needs-at t b l h)
+
+  -- A box without a tally of g has nothing of it.
+  pub part-none : (p : ℕ → Bool) (b g : ℕ) → shares j g b ≡ false → partOf j p b g ≡ pos 0
+  unfolding partOf shares only amounts
+  part-none p b g h =
+      sum-none amounts (j .tallies) (λ t. only amounts (heldBy j t b && eqb (j .tallyGrocer t) g && p t) (amount j (j .price (j .tallyOffer t)) t))
+      (λ t l. rw (any-none (j .tallies) (λ t. heldBy j t b && eqb (j .tallyGrocer t) g) t l h))
+
+  pub part-zero : (p : ℕ → Bool) (b g : ℕ) → ((t : ℕ) → p t ≡ false) → partOf j p b g ≡ pos 0
+  unfolding partOf only amounts
+  part-zero p b g h =
+      sum-none amounts (j .tallies) (λ t. only amounts (heldBy j t b && eqb (j .tallyGrocer t) g && p t) (amount j (j .price (j .tallyOffer t)) t))
+      (λ t l. simp (h t, and-false))
+
+  -- Two tests that agree on the tallies of box b and grocer g give the same part total.
+  pub part-same : (p q : ℕ → Bool) (b g : ℕ) → ((t : ℕ) → t < j .tallies → heldBy j t b ≡ true → j .tallyGrocer t ≡ g → p t ≡ q t) → partOf j p b g ≡ partOf j q b g
+  unfolding partOf
+  part-same p q b g h =
+      sum-cong amounts (j .tallies) (λ t. only amounts (heldBy j t b && eqb (j .tallyGrocer t) g && p t) (amount j (j .price (j .tallyOffer t)) t))
+      (λ t. only amounts (heldBy j t b && eqb (j .tallyGrocer t) g && q t) (amount j (j .price (j .tallyOffer t)) t))
+      (λ t l. split (heldBy j t b && eqb (j .tallyGrocer t) g)
+      (λ e. rw (h t l ((and-l (heldBy j t b) _ e)) (eqb-true (j .tallyGrocer t) g (and-r (heldBy j t b) _ e))))
+      (λ e. rw e))
+
+  -- What multiplying adds: of each tally of box b either the one test or the other passes, and the box knows the prices of those that pass.
+  pub part-grows : (p p′ : ℕ → Bool) (know : ℕ → ℕ) (q : ℕ → Bool) (b g : ℕ) →
+      ((t : ℕ) → t < j .tallies → heldBy j t b ≡ true →
+      only amounts (p′ t) (amount j (j .price (j .tallyOffer t)) t)
+      ≡ only amounts (p t) (amount j (j .price (j .tallyOffer t)) t) +ℤ only amounts (q (j .tallyOffer t)) (amount j (know (j .tallyOffer t)) t)) →
+      partOf j p′ b g ≡ partOf j p b g +ℤ products j know q b g
+  unfolding partOf products amounts only
+  part-grows p p′ know q b g h =
+      sum-cong amounts (j .tallies) (λ t. only amounts (heldBy j t b && eqb (j .tallyGrocer t) g && p′ t) (amount j (j .price (j .tallyOffer t)) t))
+      (λ t. only amounts (heldBy j t b && eqb (j .tallyGrocer t) g && p t) (amount j (j .price (j .tallyOffer t)) t)
+      +ℤ only amounts (heldBy j t b && eqb (j .tallyGrocer t) g && q (j .tallyOffer t)) (amount j (know (j .tallyOffer t)) t))
+      (λ t l. split (heldBy j t b && eqb (j .tallyGrocer t) g)
+      (λ e. rw e (h t l ((and-l (heldBy j t b) (eqb (j .tallyGrocer t) g) e))))
+      (λ e. rw e))
+      ∙ sum-plus amounts (j .tallies)
+      (λ t. only amounts (heldBy j t b && eqb (j .tallyGrocer t) g && p t) (amount j (j .price (j .tallyOffer t)) t))
+      (λ t. only amounts (heldBy j t b && eqb (j .tallyGrocer t) g && q (j .tallyOffer t)) (amount j (know (j .tallyOffer t)) t))
+
+  -- Where no tally passes nothing is added.
+  pub products-none : (know : ℕ → ℕ) (q : ℕ → Bool) (b g : ℕ) →
+      ((t : ℕ) → t < j .tallies → heldBy j t b ≡ true → j .tallyGrocer t ≡ g → q (j .tallyOffer t) ≡ false) → products j know q b g ≡ pos 0
+  unfolding products only amounts
+  products-none know q b g h =
+      sum-none amounts (j .tallies) (λ t. only amounts (heldBy j t b && eqb (j .tallyGrocer t) g && q (j .tallyOffer t)) (amount j (know (j .tallyOffer t)) t))
+      (λ t l. split (heldBy j t b && eqb (j .tallyGrocer t) g)
+      (λ e. simp (e, h t l ((and-l (heldBy j t b) _ e)) (eqb-true (j .tallyGrocer t) g (and-r (heldBy j t b) _ e))))
+      (λ e. rw e))
+
+  -- Every tally of box b and grocer g is added.
+  unfoldable pub AllAdded : Steps → ℕ → ℕ → Type 0
+  AllAdded d b g = (t : ℕ) → t < j .tallies → heldBy j t b ≡ true → j .tallyGrocer t ≡ g → added j d t ≡ true
+
+  pub part-full : (d : Steps) (b g : ℕ) → AllAdded d b g → partOf j (added j d) b g ≡ partOf j (λ t. true) b g
+  unfolding AllAdded
+  part-full d b g f = part-same (added j d) (λ t. true) b g f
+
+  module _ (r : InRange j) (d : Steps) where
+    -- A box that has multiplied has added each of its tallies.
+    pub multiplied-added : (t : ℕ) → t < j .tallies → heldBy j t (j .tallyBox t) ≡ true → multiplied j d (j .tallyBox t) ≡ true → added j d t ≡ true
+    unfolding multiplied added hasStep fits pricesDue
+    multiplied-added t l y h =
+        split (eqb (j .offerOwner (j .tallyOffer t)) (j .tallyBox t))
+        (λ e. rw e (and-l (d multiplyOwn (j .tallyBox t) (j .tallyBox t)) _ h))
+        (λ e. rw e (rw (due e) at
+        (all-at (j .boxes) (λ c. not (hasStep j receivePrices (j .tallyBox t) c) || d receivePrices (j .tallyBox t) c) from here
+        (and-r (d multiplyOwn (j .tallyBox t) (j .tallyBox t)) _ h))))
+      where
+        from : ℕ
+        from = j .offerOwner (j .tallyOffer t)
+
+        here : from < j .boxes
+        here = r .owner< (j .tallyOffer t) (r .offer< t l)
+
+        due : eqb from (j .tallyBox t) ≡ false → hasStep j receivePrices (j .tallyBox t) from ≡ true
+        due e =
+            and-true (lt-ltb (j .tallyBox t) (j .boxes) (held-lt j t (j .tallyBox t) y))
+            (and-true (lt-ltb from (j .boxes) here)
+            (any-at (j .offers) (priceWord j from (j .tallyBox t)) (j .tallyOffer t) (r .offer< t l) (word-at t (j .tallyBox t) l y e)))
+
+    -- The rule of steps 4 and 5: what it lets go is added. The only place that reads the rule.
+    pub leaves : (b g : ℕ) → multiplied j d b ≡ true → AllAdded d b g
+    unfolding AllAdded
+    leaves b g h t l e _ = multiplied-added t l (rw (held-box j t b e) e) (rw (held-box j t b e) h)
+
+  -- What is gone was added.
+  pub gone-added : InRange j → (d : Steps) → Closed j d → (b g : ℕ) → gone j d b g ≡ true → AllAdded d b g
+  unfolding gone ready
+  gone-added r d c b g =
+      split (eqb (j .grocerOwner g) b)
+      (λ e h. leaves r d b g (c .inOrder addOwn b b (rw e at h)))
+      (λ e h. leaves r d b g (c .inOrder sendTotals b (j .grocerOwner g) (rw e at h)))
