@@ -15,3 +15,8 @@ pub mod Finish
 pub mod Words
 pub mod Counting
 pub mod Lists
+pub mod EachWord
+pub mod Tables
+pub mod Run
+pub mod Ranges
+pub mod Refusal

@@ -7,13 +7,14 @@ use Rattle.laws.proofs.Bools.{or-false}
 use Rattle.model.specs.Job.{Job}
 use Rattle.model.specs.Steps.{hasStep, fresh, Step, doneBy}
 use Rattle.model.specs.Demand3.{AllDone}
+use Rattle.model.specs.Words.{over, messages, stepCount, sends}
 use Rattle.model.proofs.Range.{InRange}
 use Rattle.model.proofs.ClosedForm.{stateOf, Closed}
 use Rattle.model.proofs.Machine.{taken, size, doneOf, reached}
 use Rattle.model.proofs.Reach.{Sound, sound-all, sound-fresh}
 use Rattle.model.proofs.Trace.{trace-done}
 use Rattle.model.proofs.Finish.{all-steps}
-use Rattle.model.proofs.Counting.{trace-size, size-none}
+use Rattle.model.proofs.Counting.{trace-size, size-none, sentSize, trace-sends, sends-none, steps-number, sends-number}
 
 module _ (j : Job) (r : InRange j) (qs : List Step) where
   -- The marks of the state are the steps done in the list.
@@ -39,3 +40,14 @@ module _ (j : Job) (r : InRange j) (qs : List Step) where
   -- All done: the state is that of all steps.
   pub whole : AllDone j (doneOf j qs) → reached j qs ≡ stateOf j (hasStep j)
   whole f = form ∙ ap (stateOf j) (all-steps j (doneOf j qs) closed f)
+
+  -- As many steps are taken as the job has, and as many messages sent.
+  pub all-length : AllDone j (doneOf j qs) → length (taken j (fresh j) qs) ≡ stepCount j
+  all-length f = sym taken-size ∙ ap (size j) (all-steps j (doneOf j qs) closed f) ∙ steps-number j
+
+  pub all-sends : AllDone j (doneOf j qs) → over sends (taken j (fresh j) qs) ≡ messages j
+  unfolding reached fresh
+  all-sends f =
+      sym (ap (sentSize j) (sym marked) ∙ trace-sends j (fresh j) qs ∙ rw (sends-none j) (omega arith))
+      ∙ ap (sentSize j) (all-steps j (doneOf j qs) closed f)
+      ∙ sends-number j

@@ -1,0 +1,137 @@
+-- Tables and states: what is written is read again, and a state of the closed form has nothing outside the job's bounds. Assumes nothing.
+use mathlib.Core.Path.{_≡_, refl, sym, ap, _∙_}
+use mathlib.Core.Bool.{Bool, true, false, cond, _&&_}
+use Prim.Native.Nat.{ℕ, suc, _+_, _<_, _*_, _-_, _/_, _%_}
+use native.Mathlib.Omega.{arith}
+use native.Mathlib.Nat.{mul-le-mul-right}
+use lib.Dec.{eqb, ltb}
+use lib.IntN.{pos}
+use lib.Arith.{digits-div, digits-mod}
+use borrow.Author.Tests.{ne-eqb, eqb-true, ltb-true, ltb-false, lt-ltb}
+use Rattle.laws.specs.Below.{amounts, only}
+use Rattle.laws.proofs.Below.{any-find}
+use Rattle.laws.proofs.Bools.{split, and-true, and-l, and-r, and-false, no-true, clash, cond-same}
+use Rattle.laws.proofs.Sums.{sum-none}
+use Rattle.laws.proofs.Tables.{cell-recell, word-overwrite}
+use Rattle.model.specs.Job.{heldBy, Job, needs, shares}
+use Rattle.model.specs.Steps.{Kind, number, Steps, State, added, kindOf, sendPrices, multiplyOwn, receivePrices, sendTotals, addOwn, receiveTotals}
+use Rattle.model.specs.Tables.{view, store, StateTables}
+use Rattle.model.proofs.Range.{InRange, held-lt}
+use Rattle.model.proofs.ClosedForm.{knows, onWay, paid, stateOf, Closed}
+use Rattle.model.proofs.Parts.{part-none}
+use Rattle.model.proofs.Reach.{Sound}
+use Rattle.model.proofs.Core.{state-eq, first<, second<}
+
+pub kind-place : (k : Kind) → kindOf (suc (number k - 1)) ≡ k
+unfolding kindOf number
+kind-place sendPrices = refl
+kind-place multiplyOwn = refl
+kind-place receivePrices = refl
+kind-place sendTotals = refl
+kind-place addOwn = refl
+kind-place receiveTotals = refl
+
+pub kind-six : (k : Kind) → number k - 1 < 6
+unfolding number
+kind-six sendPrices = omega arith
+kind-six multiplyOwn = omega arith
+kind-six receivePrices = omega arith
+kind-six sendTotals = omega arith
+kind-six addOwn = omega arith
+kind-six receiveTotals = omega arith
+
+bit-one : (t : Bool) → eqb (cond t 1 0) 1 ≡ t
+bit-one true = refl
+bit-one false = refl
+
+-- The state s inside the job's bounds, and 0 outside.
+unfoldable pub clip : Job → State → State
+clip j s = record {
+  known = λ b o. cond (ltb b (j .boxes) && ltb o (j .offers)) (s .known b o) 0;
+  priceTransit = λ b o. cond (ltb b (j .boxes) && ltb o (j .offers)) (s .priceTransit b o) 0;
+  working = λ b g. cond (ltb b (j .boxes) && ltb g (j .grocers)) (s .working b g) (pos 0);
+  totalTransit = λ b g. cond (ltb b (j .boxes) && ltb g (j .grocers)) (s .totalTransit b g) (pos 0);
+  statement = λ g. cond (ltb g (j .grocers)) (s .statement g) (pos 0);
+  done = λ k a b. ltb a (j .boxes) && (ltb b (j .boxes) && s .done k a b);
+  sent = s .sent;
+}
+
+pub view-store : (j : Job) (s : State) (t : StateTables) → view j (store j s t) ≡ clip j s
+unfolding view store clip
+view-store j s t =
+    state-eq (view j (store j s t)) (clip j s)
+    (cell-recell (j .boxes) (j .offers) (s .known) (t .known) 0)
+    (cell-recell (j .boxes) (j .offers) (s .priceTransit) (t .priceTransit) 0)
+    (cell-recell (j .boxes) (j .grocers) (s .working) (t .working) (pos 0))
+    (cell-recell (j .boxes) (j .grocers) (s .totalTransit) (t .totalTransit) (pos 0))
+    (word-overwrite (j .grocers) (s .statement) (t .statement) (pos 0))
+    (λ i k a b. marks k a b i)
+    (word-overwrite 1 (λ i. s .sent) (t .sent) 0 0)
+  where
+    marks : (k : Kind) (a b : ℕ) → view j (store j s t) .done k a b ≡ clip j s .done k a b
+    marks k a b =
+        split (ltb a (j .boxes))
+        (λ e.
+        let la : a < j .boxes = ltb-true a (j .boxes) e in
+        rw (
+          e,
+          cell-recell (6 * j .boxes) (j .boxes) (λ r b. cond (s .done (kindOf (suc (r / j .boxes))) (r % j .boxes) b) 1 0) (t .done) 0 ((number k - 1) * j .boxes + a) b,
+          lt-ltb ((number k - 1) * j .boxes + a) (6 * j .boxes) (omega (arith, mul-le-mul-right (j .boxes) (kind-six k))),
+          digits-div (number k - 1) la,
+          digits-mod (number k - 1) la,
+          kind-place k,
+        )
+        (split (ltb b (j .boxes)) (λ f. rw f (bit-one (s .done k a b))) (λ f. rw f)))
+        (λ e. rw e)
+
+-- Nothing stands outside the job's bounds.
+module _ (j : Job) (r : InRange j) where
+  needs-out : (b o : ℕ) → (ltb b (j .boxes) && ltb o (j .offers)) ≡ false → needs j o b ≡ false
+  unfolding needs
+  needs-out b o h = no-true (needs j o b) (λ q.
+      let (t, l, e) = any-find (j .tallies) (λ t. heldBy j t b && eqb (j .tallyOffer t) o) q in
+      clash (and-true
+      (lt-ltb b (j .boxes) (held-lt j t b (and-l (heldBy j t b) _ e)))
+      (lt-ltb o (j .offers) (rw (eqb-true (j .tallyOffer t) o (and-r (heldBy j t b) _ e)) at (r .offer< t l)))) h)
+
+  shares-out : (b g : ℕ) → (ltb b (j .boxes) && ltb g (j .grocers)) ≡ false → shares j g b ≡ false
+  unfolding shares
+  shares-out b g h = no-true (shares j g b) (λ q.
+      let (t, l, e) = any-find (j .tallies) (λ t. heldBy j t b && eqb (j .tallyGrocer t) g) q in
+      clash (and-true
+      (lt-ltb b (j .boxes) (held-lt j t b (and-l (heldBy j t b) _ e)))
+      (lt-ltb g (j .grocers) (rw (eqb-true (j .tallyGrocer t) g (and-r (heldBy j t b) _ e)) at (r .grocer< t l)))) h)
+
+  clip-form : (d : Steps) → Closed j d → clip j (stateOf j d) ≡ stateOf j d
+  unfolding clip stateOf knows onWay paid only amounts
+  clip-form d c =
+      state-eq (clip j (stateOf j d)) (stateOf j d)
+      (λ b o. split (ltb b (j .boxes) && ltb o (j .offers))
+      (λ e. rw e)
+      (λ e. rw e (split (ltb o (j .offers))
+      (λ f. simp (ne-eqb (j .offerOwner o) b (λ q. clash (and-true (lt-ltb b (j .boxes) (rw q at (r .owner< o (ltb-true o (j .offers) f)))) f) e), needs-out b o e))
+      (λ f. simp (r .noPrice o (ltb-false o (j .offers) f), cond-same)))))
+      (λ b o. split (ltb b (j .boxes) && ltb o (j .offers))
+      (λ e. rw e)
+      (λ e. simp (e, needs-out b o e, and-false)))
+      (λ b g. split (ltb b (j .boxes) && ltb g (j .grocers))
+      (λ e. rw e)
+      (λ e. simp (e, part-none j (added j d) b g (shares-out b g e), cond-same)))
+      (λ b g. split (ltb b (j .boxes) && ltb g (j .grocers))
+      (λ e. rw e)
+      (λ e. simp (e, part-none j (λ t. true) b g (shares-out b g e), cond-same)))
+      (λ g. split (ltb g (j .grocers))
+      (λ e. rw e)
+      (λ e. rw e (sym (sum-none amounts (j .boxes) (paid j d g)
+      (λ b l. simp (part-none j (λ t. true) b g (shares-out b g (rw e (and-false (ltb b (j .boxes))))), cond-same))))))
+      (λ i k a b. marks k a b i)
+      refl
+    where
+      marks : (k : Kind) (a b : ℕ) → (ltb a (j .boxes) && (ltb b (j .boxes) && d k a b)) ≡ d k a b
+      marks k a b =
+          split (d k a b)
+          (λ e. simp (e, lt-ltb a (j .boxes) (first< j k a b (c .steps k a b e)), lt-ltb b (j .boxes) (second< j k a b (c .steps k a b e))))
+          (λ e. simp (e, and-false))
+
+  pub held : (s : State) → Sound j s → clip j s ≡ s
+  held s o = ap (clip j) (o .form) ∙ clip-form (s .done) (o .closed) ∙ sym (o .form)
