@@ -20,3 +20,7 @@ pub mod Tables
 pub mod Run
 pub mod Ranges
 pub mod Refusal
+pub mod Step
+pub mod Lent
+pub mod Served
+pub mod Demand3

@@ -38,8 +38,8 @@ module _ (j : Job) (r : InRange j) (qs : List Step) where
   taken-size = ap (size j) (sym marked) ∙ trace-size j (fresh j) qs ∙ rw (size-none j) (omega arith)
 
   -- All done: the state is that of all steps.
-  pub whole : AllDone j (doneOf j qs) → reached j qs ≡ stateOf j (hasStep j)
-  whole f = form ∙ ap (stateOf j) (all-steps j (doneOf j qs) closed f)
+  pub all-reached : AllDone j (doneOf j qs) → reached j qs ≡ stateOf j (hasStep j)
+  all-reached f = form ∙ ap (stateOf j) (all-steps j (doneOf j qs) closed f)
 
   -- As many steps are taken as the job has, and as many messages sent.
   pub all-length : AllDone j (doneOf j qs) → length (taken j (fresh j) qs) ≡ stepCount j

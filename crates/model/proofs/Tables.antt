@@ -133,5 +133,5 @@ module _ (j : Job) (r : InRange j) where
           (λ e. simp (e, lt-ltb a (j .boxes) (first< j k a b (c .steps k a b e)), lt-ltb b (j .boxes) (second< j k a b (c .steps k a b e))))
           (λ e. simp (e, and-false))
 
-  pub held : (s : State) → Sound j s → clip j s ≡ s
-  held s o = ap (clip j) (o .form) ∙ clip-form (s .done) (o .closed) ∙ sym (o .form)
+  pub held-form : (s : State) → Sound j s → clip j s ≡ s
+  held-form s o = ap (clip j) (o .form) ∙ clip-form (s .done) (o .closed) ∙ sym (o .form)

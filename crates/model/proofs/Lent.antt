@@ -1,0 +1,215 @@
+-- Parts of tables that are lent: long enough, they hold what the whole holds, and what is written into them is written into the whole. Assumes nothing.
+use mathlib.Core.Path.{_≡_}
+use mathlib.Core.Bool.{false, cond, _&&_}
+use mathlib.Core.List.{[], _∷_}
+use Prim.Native.Nat.{ℕ, suc, _+_, _-_, _*_, _/_, _%_, _≤_}
+use lib.ListN.{take-append-drop}
+use lib.Dec.{eqb, ltb}
+use lib.IntN.{pos}
+use borrow.Author.Tests.{ltb-false}
+use Rattle.laws.specs.Tables.{recell}
+use Rattle.laws.proofs.Checks.{none-of}
+use Rattle.laws.proofs.Tables.{over-over, word-take, cell-take, overwrite-take, long-take}
+use Rattle.model.specs.Job.{Job}
+use Rattle.model.specs.Requests.{lentJob, lentState, returned}
+use Rattle.model.specs.Tables.{JobTables, jobOf, StateTables, view, store, JobLengths, StateLengths, jobLengths, stateLengths, jobShort, stateShort}
+use Rattle.model.specs.Ranges.{sizesInRange, jobWordsInRange, jobInRange, stateInRange}
+use Rattle.model.specs.Steps.{number, kindOf, State}
+use Rattle.model.proofs.Step.{up-take, under-take, around-take}
+use Rattle.model.proofs.Core.{state-eq}
+
+-- What a length test of a lent part says.
+le-of : (m n : ℕ) → ltb n m ≡ false → m ≤ n
+le-of m n h = ltb-false n m h
+
+-- Lent lengths that are long enough, one by one.
+pub record JobLong (m o t : ℕ) (n : JobLengths) : Type 0 where
+  pub price : o ≤ n .price
+  pub offerOwner : o ≤ n .offerOwner
+  pub grocerOwner : m ≤ n .grocerOwner
+  pub tallyGrocer : t ≤ n .tallyGrocer
+  pub tallyBox : t ≤ n .tallyBox
+  pub tallyOffer : t ≤ n .tallyOffer
+  pub tallyCount : t ≤ n .tallyCount
+
+pub job-long : (j : Job) (n : JobLengths) → jobShort j n ≡ false → JobLong (j .grocers) (j .offers) (j .tallies) n
+unfolding jobShort
+job-long j n h =
+    let e = none-of (
+    ltb (n .price) (j .offers)
+    ∷ ltb (n .offerOwner) (j .offers)
+    ∷ ltb (n .grocerOwner) (j .grocers)
+    ∷ ltb (n .tallyGrocer) (j .tallies)
+    ∷ ltb (n .tallyBox) (j .tallies)
+    ∷ ltb (n .tallyOffer) (j .tallies)
+    ∷ ltb (n .tallyCount) (j .tallies)
+    ∷ []) h in
+    record {
+      price = le-of _ _ (e .0);
+      offerOwner = le-of _ _ (e .1 .0);
+      grocerOwner = le-of _ _ (e .1 .1 .0);
+      tallyGrocer = le-of _ _ (e .1 .1 .1 .0);
+      tallyBox = le-of _ _ (e .1 .1 .1 .1 .0);
+      tallyOffer = le-of _ _ (e .1 .1 .1 .1 .1 .0);
+      tallyCount = le-of _ _ (e .1 .1 .1 .1 .1 .1 .0);
+    }
+
+pub record StateLong (k m o : ℕ) (n : StateLengths) : Type 0 where
+  pub known : k * o ≤ n .known
+  pub priceTransit : k * o ≤ n .priceTransit
+  pub working : k * m ≤ n .working
+  pub totalTransit : k * m ≤ n .totalTransit
+  pub statement : m ≤ n .statement
+  pub done : 6 * k * k ≤ n .done
+  pub sent : 1 ≤ n .sent
+
+pub state-long : (j : Job) (n : StateLengths) → stateShort j n ≡ false → StateLong (j .boxes) (j .grocers) (j .offers) n
+unfolding stateShort
+state-long j n h =
+    let e = none-of (
+    ltb (n .known) (j .boxes * j .offers)
+    ∷ ltb (n .priceTransit) (j .boxes * j .offers)
+    ∷ ltb (n .working) (j .boxes * j .grocers)
+    ∷ ltb (n .totalTransit) (j .boxes * j .grocers)
+    ∷ ltb (n .statement) (j .grocers)
+    ∷ ltb (n .done) (6 * j .boxes * j .boxes)
+    ∷ ltb (n .sent) 1
+    ∷ []) h in
+    record {
+      known = le-of _ _ (e .0);
+      priceTransit = le-of _ _ (e .1 .0);
+      working = le-of _ _ (e .1 .1 .0);
+      totalTransit = le-of _ _ (e .1 .1 .1 .0);
+      statement = le-of _ _ (e .1 .1 .1 .1 .0);
+      done = le-of _ _ (e .1 .1 .1 .1 .1 .0);
+      sent = le-of _ _ (e .1 .1 .1 .1 .1 .1 .0);
+    }
+
+-- The job's lent tables are short just where the lent lengths are.
+pub lent-job-short : (j : Job) (f : JobTables) (n : JobLengths) → jobShort j (jobLengths f) ≡ false → jobShort j (jobLengths (lentJob f n)) ≡ jobShort j n
+unfolding jobShort jobLengths lentJob
+lent-job-short j f n h =
+    let l = job-long j (jobLengths f) h in
+    rw (
+      long-take (j .offers) (n .price) (f .price) (l .price),
+      long-take (j .offers) (n .offerOwner) (f .offerOwner) (l .offerOwner),
+      long-take (j .grocers) (n .grocerOwner) (f .grocerOwner) (l .grocerOwner),
+      long-take (j .tallies) (n .tallyGrocer) (f .tallyGrocer) (l .tallyGrocer),
+      long-take (j .tallies) (n .tallyBox) (f .tallyBox) (l .tallyBox),
+      long-take (j .tallies) (n .tallyOffer) (f .tallyOffer) (l .tallyOffer),
+      long-take (j .tallies) (n .tallyCount) (f .tallyCount) (l .tallyCount),
+    )
+
+-- The job that lent tables hold, where they are long enough.
+module _ (f : JobTables) (n : JobLengths) (l : JobLong (f .grocers) (f .offers) (f .tallies) n) where
+  pub lent-job : jobOf (lentJob f n) ≡ jobOf f
+  unfolding jobOf lentJob
+  lent-job = λ i. record {
+    boxes = f .boxes;
+    grocers = f .grocers;
+    offers = f .offers;
+    tallies = f .tallies;
+    price = λ o. word-take (f .offers) (n .price) (f .price) 0 o (l .price) i;
+    offerOwner = λ o. word-take (f .offers) (n .offerOwner) (f .offerOwner) 0 o (l .offerOwner) i;
+    grocerOwner = λ g. word-take (f .grocers) (n .grocerOwner) (f .grocerOwner) 0 g (l .grocerOwner) i;
+    tallyGrocer = λ t. word-take (f .tallies) (n .tallyGrocer) (f .tallyGrocer) 0 t (l .tallyGrocer) i;
+    tallyBox = λ t. word-take (f .tallies) (n .tallyBox) (f .tallyBox) 0 t (l .tallyBox) i;
+    tallyOffer = λ t. word-take (f .tallies) (n .tallyOffer) (f .tallyOffer) 0 t (l .tallyOffer) i;
+    tallyCount = λ t. word-take (f .tallies) (n .tallyCount) (f .tallyCount) (pos 0) t (l .tallyCount) i;
+  }
+
+  pub lent-job-range : jobInRange (lentJob f n) ≡ jobInRange f
+  unfolding jobInRange sizesInRange jobWordsInRange lentJob
+  lent-job-range =
+      rw (
+        up-take 9_999_999 (f .offers) (n .price) (f .price) (l .price),
+        under-take (f .boxes) (f .offers) (n .offerOwner) (f .offerOwner) (l .offerOwner),
+        under-take (f .boxes) (f .grocers) (n .grocerOwner) (f .grocerOwner) (l .grocerOwner),
+        under-take (f .grocers) (f .tallies) (n .tallyGrocer) (f .tallyGrocer) (l .tallyGrocer),
+        under-take (f .boxes) (f .tallies) (n .tallyBox) (f .tallyBox) (l .tallyBox),
+        under-take (f .offers) (f .tallies) (n .tallyOffer) (f .tallyOffer) (l .tallyOffer),
+        around-take 99_999 (f .tallies) (n .tallyCount) (f .tallyCount) (l .tallyCount),
+      )
+
+-- The lent tables of a state are short just where the lent lengths are.
+pub lent-state-short : (j : Job) (t : StateTables) (n : StateLengths) → stateShort j (stateLengths t) ≡ false → stateShort j (stateLengths (lentState t n)) ≡ stateShort j n
+unfolding stateShort stateLengths lentState
+lent-state-short j t n h =
+    let l = state-long j (stateLengths t) h in
+    rw (
+      long-take (j .boxes * j .offers) (n .known) (t .known) (l .known),
+      long-take (j .boxes * j .offers) (n .priceTransit) (t .priceTransit) (l .priceTransit),
+      long-take (j .boxes * j .grocers) (n .working) (t .working) (l .working),
+      long-take (j .boxes * j .grocers) (n .totalTransit) (t .totalTransit) (l .totalTransit),
+      long-take (j .grocers) (n .statement) (t .statement) (l .statement),
+      long-take (6 * j .boxes * j .boxes) (n .done) (t .done) (l .done),
+      long-take 1 (n .sent) (t .sent) (l .sent),
+    )
+
+-- The state that lent tables hold, where they are long enough.
+module _ (j : Job) (t : StateTables) (n : StateLengths) (l : StateLong (j .boxes) (j .grocers) (j .offers) n) where
+  pub lent-view : view j (lentState t n) ≡ view j t
+  unfolding view lentState
+  lent-view =
+      state-eq (view j (lentState t n)) (view j t)
+      (λ b o. cell-take (j .boxes) (j .offers) (n .known) (t .known) 0 b o (l .known))
+      (λ b o. cell-take (j .boxes) (j .offers) (n .priceTransit) (t .priceTransit) 0 b o (l .priceTransit))
+      (λ b g. cell-take (j .boxes) (j .grocers) (n .working) (t .working) (pos 0) b g (l .working))
+      (λ b g. cell-take (j .boxes) (j .grocers) (n .totalTransit) (t .totalTransit) (pos 0) b g (l .totalTransit))
+      (λ g. word-take (j .grocers) (n .statement) (t .statement) (pos 0) g (l .statement))
+      (λ i k a b. ltb a (j .boxes) && eqb (cell-take (6 * j .boxes) (j .boxes) (n .done) (t .done) 0 ((number k - 1) * j .boxes + a) b (l .done) i) 1)
+      (word-take 1 (n .sent) (t .sent) 0 0 (l .sent))
+
+  -- A state that is written into the lent part is written into the whole.
+  pub lent-store : (s : State) → returned t n (store j s (lentState t n)) ≡ store j s t
+  unfolding returned store lentState recell
+  lent-store s = λ i. record {
+    known = overwrite-take (j .boxes * j .offers) (n .known) (λ k. s .known (k / j .offers) (k % j .offers)) (t .known) (l .known) i;
+    priceTransit = overwrite-take (j .boxes * j .offers) (n .priceTransit) (λ k. s .priceTransit (k / j .offers) (k % j .offers)) (t .priceTransit) (l .priceTransit) i;
+    working = overwrite-take (j .boxes * j .grocers) (n .working) (λ k. s .working (k / j .grocers) (k % j .grocers)) (t .working) (l .working) i;
+    totalTransit = overwrite-take (j .boxes * j .grocers) (n .totalTransit) (λ k. s .totalTransit (k / j .grocers) (k % j .grocers)) (t .totalTransit) (l .totalTransit) i;
+    statement = overwrite-take (j .grocers) (n .statement) (s .statement) (t .statement) (l .statement) i;
+    done = overwrite-take (6 * j .boxes * j .boxes) (n .done) (λ k. cond (s .done (kindOf (suc (k / j .boxes / j .boxes))) (k / j .boxes % j .boxes) (k % j .boxes)) 1 0) (t .done) (l .done) i;
+    sent = overwrite-take 1 (n .sent) (λ k. s .sent) (t .sent) (l .sent) i;
+  }
+
+-- The ranges of lent tables are those of the whole.
+pub lent-state-range : (f : JobTables) (n′ : JobLengths) (t : StateTables) (n : StateLengths) → StateLong (f .boxes) (f .grocers) (f .offers) n →
+    stateInRange (lentJob f n′) (lentState t n) ≡ stateInRange f t
+unfolding stateInRange lentJob lentState
+lent-state-range f n′ t n l =
+    rw (
+      up-take 9_999_999 (f .boxes * f .offers) (n .known) (t .known) (l .known),
+      up-take 9_999_999 (f .boxes * f .offers) (n .priceTransit) (t .priceTransit) (l .priceTransit),
+      around-take 1_000_000_000_000_000 (f .boxes * f .grocers) (n .working) (t .working) (l .working),
+      around-take 1_000_000_000_000_000 (f .boxes * f .grocers) (n .totalTransit) (t .totalTransit) (l .totalTransit),
+      around-take 1_000_000_000_000_000 (f .grocers) (n .statement) (t .statement) (l .statement),
+      up-take 1 (6 * f .boxes * f .boxes) (n .done) (t .done) (l .done),
+      up-take 1_000_000 1 (n .sent) (t .sent) (l .sent),
+    )
+
+-- Tables that come back as they were lent are as they were.
+pub lent-back : (t : StateTables) (n : StateLengths) → returned t n (lentState t n) ≡ t
+unfolding returned lentState
+lent-back t n = λ i. record {
+  known = take-append-drop (n .known) (t .known) i;
+  priceTransit = take-append-drop (n .priceTransit) (t .priceTransit) i;
+  working = take-append-drop (n .working) (t .working) i;
+  totalTransit = take-append-drop (n .totalTransit) (t .totalTransit) i;
+  statement = take-append-drop (n .statement) (t .statement) i;
+  done = take-append-drop (n .done) (t .done) i;
+  sent = take-append-drop (n .sent) (t .sent) i;
+}
+
+-- A state written twice is the one written last.
+pub store-store : (j : Job) (s r : State) (t : StateTables) → store j s (store j r t) ≡ store j s t
+unfolding store recell
+store-store j s r t = λ i. record {
+  known = over-over (j .boxes * j .offers) (λ k. s .known (k / j .offers) (k % j .offers)) (λ k. r .known (k / j .offers) (k % j .offers)) (t .known) i;
+  priceTransit = over-over (j .boxes * j .offers) (λ k. s .priceTransit (k / j .offers) (k % j .offers)) (λ k. r .priceTransit (k / j .offers) (k % j .offers)) (t .priceTransit) i;
+  working = over-over (j .boxes * j .grocers) (λ k. s .working (k / j .grocers) (k % j .grocers)) (λ k. r .working (k / j .grocers) (k % j .grocers)) (t .working) i;
+  totalTransit = over-over (j .boxes * j .grocers) (λ k. s .totalTransit (k / j .grocers) (k % j .grocers)) (λ k. r .totalTransit (k / j .grocers) (k % j .grocers)) (t .totalTransit) i;
+  statement = over-over (j .grocers) (s .statement) (r .statement) (t .statement) i;
+  done = over-over (6 * j .boxes * j .boxes) (λ k. cond (s .done (kindOf (suc (k / j .boxes / j .boxes))) (k / j .boxes % j .boxes) (k % j .boxes)) 1 0) (λ k. cond (r .done (kindOf (suc (k / j .boxes / j .boxes))) (k / j .boxes % j .boxes) (k % j .boxes)) 1 0) (t .done) i;
+  sent = over-over 1 (λ k. s .sent) (λ k. r .sent) (t .sent) i;
+}

@@ -1,0 +1,194 @@
+-- A request in a list that begins fresh: its answer and the tables it leaves, in terms of the state. Assumes nothing.
+use mathlib.Core.Path.{_≡_, refl, sym, _∙_}
+use mathlib.Core.Bool.{Bool, true, false, cond, _&&_, _||_, not}
+use mathlib.Core.List.{[], _∷_, _++_}
+use Prim.Native.Nat.{ℕ}
+use lib.Dec.{eqb}
+use borrow.Author.Tests.{eqb-true}
+use Rattle.laws.specs.Checks.{firstMet}
+use Rattle.laws.proofs.Bools.{split, clash, and-true, and-r}
+use Rattle.model.specs.Job.{Job}
+use Rattle.model.specs.Requests.{Request, lentJob, lentState, lendsShort, answerTo, serve}
+use Rattle.model.specs.Tables.{JobTables, jobOf, StateTables, view, store, JobLengths, StateLengths, jobLengths, stateLengths, jobShort, stateShort, lentShort}
+use Rattle.model.specs.Ranges.{jobInRange, stateInRange}
+use Rattle.model.specs.Step.{Asked, isKind, boxesFit, stepRules, moved, refusals, answer, after, stepped}
+use Rattle.model.specs.Steps.{kindOf, Steps, State, fits, ready, permitted, effect}
+use Rattle.model.specs.Demand3.{refusalOf}
+use Rattle.model.proofs.Tables.{view-store, held-form}
+use Rattle.model.proofs.Ranges.{Within, form-within}
+use Rattle.model.proofs.Step.{range, limits, ok-store, whole-store}
+use Rattle.model.proofs.Core.{permit}
+use Rattle.model.proofs.Lent.{job-long, state-long, lent-job-short, lent-job, lent-job-range, lent-state-short, lent-view, lent-store, lent-state-range, lent-back, store-store}
+use Rattle.model.proofs.Refusal.{rules-zero}
+use Rattle.model.proofs.Reach.{Sound, sound-effect}
+
+-- The late 21 comes after conditions 22 to 26.
+then-last : (i x f d r c : Bool) →
+    cond {A = ℕ} i 22 (cond x 23 (cond f 24 (cond d 25 (cond r 26 (cond c 21 0)))))
+    ≡ cond (eqb (cond i 22 (cond x 23 (cond f 24 (cond d 25 (cond r 26 0))))) 0) (cond c 21 0) (cond i 22 (cond x 23 (cond f 24 (cond d 25 (cond r 26 0)))))
+then-last true x f d r c = refl
+then-last false true f d r c = refl
+then-last false false true d r c = refl
+then-last false false false true r c = refl
+then-last false false false false true c = refl
+then-last false false false false false c = refl
+
+rules-then : (j : Job) (d : Steps) (q : Asked) (c : Bool) →
+    firstMet (stepRules j d q ++ (c, 21) ∷ []) ≡ cond (eqb (firstMet (stepRules j d q)) 0) (cond c 21 0) (firstMet (stepRules j d q))
+unfolding stepRules firstMet
+rules-then j d q c =
+    then-last (not (isKind (q .kind))) (not (boxesFit j (kindOf (q .kind)) (q .first) (q .second))) (not (fits j (kindOf (q .kind)) (q .first) (q .second)))
+    (d (kindOf (q .kind)) (q .first) (q .second)) (not (ready j d (kindOf (q .kind)) (q .first) (q .second))) c
+
+-- The step that is asked for is one, and it is permitted.
+unfoldable pub allowed : Job → State → Asked → Bool
+allowed j s q = isKind (q .kind) && permitted j (s .done) (kindOf (q .kind)) (q .first) (q .second)
+
+-- A step on tables u that hold the state s of the job j, where nothing is short and all is in range.
+module _ (f : JobTables) (u : StateTables) (j : Job) (s : State) (q : Asked)
+    (job : jobOf f ≡ j) (holds : view j u ≡ s) (short : lentShort f u ≡ false) (inside : (jobInRange f && stateInRange f u) ≡ true)
+    (late : allowed j s q ≡ true → stateInRange f (store j (effect j s (kindOf (q .kind)) (q .first) (q .second)) u) ≡ true) where
+  moved-is : moved f u q ≡ store j (effect j s (kindOf (q .kind)) (q .first) (q .second)) u
+  unfolding moved
+  moved-is = rw (job, holds)
+
+  zero-is : eqb (firstMet (stepRules j (s .done) q)) 0 ≡ allowed j s q
+  unfolding allowed
+  zero-is = rules-zero j (s .done) q
+
+  pub answer-is : answer f u q ≡ firstMet (stepRules j (s .done) q)
+  unfolding answer refusals firstMet
+  answer-is =
+      rw (short, inside, job, holds, moved-is)
+      (rules-then j (s .done) q (not (stateInRange f (store j (effect j s (kindOf (q .kind)) (q .first) (q .second)) u)))
+      ∙ split (allowed j s q)
+      (λ e. rw (zero-is, e, late e) (sym (eqb-true (firstMet (stepRules j (s .done) q)) 0 (zero-is ∙ e))))
+      (λ e. rw (zero-is, e)))
+
+  pub after-is : after f u q ≡ cond (allowed j s q) (store j (effect j s (kindOf (q .kind)) (q .first) (q .second)) u) u
+  unfolding after
+  after-is = rw (answer-is, zero-is, moved-is)
+
+module _ (f : JobTables) (ok : jobInRange f ≡ true) (long : jobShort (jobOf f) (jobLengths f) ≡ false) (t : StateTables) where
+  pub within : (s : State) → Sound (jobOf f) s → Within s
+  within s o = rw (o .form) (form-within (jobOf f) (limits f ok) (range f ok) (s .done))
+
+  -- Tables that hold a state that a list can leave.
+  pub view-is : (s : State) → Sound (jobOf f) s → view (jobOf f) (store (jobOf f) s t) ≡ s
+  view-is s o = view-store (jobOf f) s t ∙ held-form (jobOf f) (range f ok) s o
+
+  sound-allowed : (s : State) (q : Asked) → Sound (jobOf f) s → allowed (jobOf f) s q ≡ true → Sound (jobOf f) (effect (jobOf f) s (kindOf (q .kind)) (q .first) (q .second))
+  unfolding allowed
+  sound-allowed s q o e =
+      sound-effect (jobOf f) (range f ok) s (kindOf (q .kind)) (q .first) (q .second) o
+      (permit (jobOf f) (s .done) (kindOf (q .kind)) (q .first) (q .second) (and-r (isKind (q .kind)) _ e))
+
+  same-sizes : (n m : JobLengths) → jobShort (jobOf (lentJob f n)) m ≡ jobShort (jobOf f) m
+  unfolding jobShort jobOf lentJob
+  same-sizes n m = refl
+
+  same-sizes′ : (n : JobLengths) (m : StateLengths) → stateShort (jobOf (lentJob f n)) m ≡ stateShort (jobOf f) m
+  unfolding stateShort jobOf lentJob
+  same-sizes′ n m = refl
+
+  -- The lent tables are short just where the request lends short.
+  short-is : (s : State) (r : Request) → lentShort (lentJob f (r .job)) (lentState (store (jobOf f) s t) (r .state)) ≡ lendsShort (jobOf f) r
+  unfolding lentShort lendsShort
+  short-is s r =
+      rw (
+        same-sizes (r .job) (jobLengths (lentJob f (r .job))),
+        same-sizes′ (r .job) (stateLengths (lentState (store (jobOf f) s t) (r .state))),
+        lent-job-short (jobOf f) f (r .job) long,
+        lent-state-short (jobOf f) (store (jobOf f) s t) (r .state) (whole-store (jobOf f) s t),
+      )
+
+  -- A request that lends short.
+  module _ (s : State) (r : Request) (y : lendsShort (jobOf f) r ≡ true) where
+    short-answer : answer (lentJob f (r .job)) (lentState (store (jobOf f) s t) (r .state)) (r .asked) ≡ 20
+    unfolding answer refusals firstMet
+    short-answer = rw (short-is s r, y)
+
+    short-after : after (lentJob f (r .job)) (lentState (store (jobOf f) s t) (r .state)) (r .asked) ≡ lentState (store (jobOf f) s t) (r .state)
+    unfolding after
+    short-after = rw short-answer
+
+  -- A request that lends enough.
+  module _ (s : State) (o : Sound (jobOf f) s) (r : Request) (y : lendsShort (jobOf f) r ≡ false) where
+    no-short : lentShort (lentJob f (r .job)) (lentState (store (jobOf f) s t) (r .state)) ≡ false
+    no-short = short-is s r ∙ y
+
+    or-l : (a b : Bool) → (a || b) ≡ false → a ≡ false
+    or-l true b h = h
+    or-l false b h = refl
+
+    or-r : (a b : Bool) → (a || b) ≡ false → b ≡ false
+    or-r true b h = absurd (clash refl h)
+    or-r false b h = h
+
+    job-enough : jobShort (jobOf f) (r .job) ≡ false
+    unfolding lendsShort
+    job-enough = or-l (jobShort (jobOf f) (r .job)) (stateShort (jobOf f) (r .state)) y
+
+    state-enough : stateShort (jobOf f) (r .state) ≡ false
+    unfolding lendsShort
+    state-enough = or-r (jobShort (jobOf f) (r .job)) (stateShort (jobOf f) (r .state)) y
+
+    job-is : jobOf (lentJob f (r .job)) ≡ jobOf f
+    unfolding jobOf
+    job-is = lent-job f (r .job) (job-long (jobOf f) (r .job) job-enough)
+
+    range-is : jobInRange (lentJob f (r .job)) ≡ true
+    unfolding jobOf
+    range-is = lent-job-range f (r .job) (job-long (jobOf f) (r .job) job-enough) ∙ ok
+
+    lent-is : view (jobOf f) (lentState (store (jobOf f) s t) (r .state)) ≡ s
+    lent-is = lent-view (jobOf f) (store (jobOf f) s t) (r .state) (state-long (jobOf f) (r .state) state-enough) ∙ view-is s o
+
+    states-is : stateInRange (lentJob f (r .job)) (lentState (store (jobOf f) s t) (r .state)) ≡ true
+    unfolding jobOf
+    states-is = lent-state-range f (r .job) (store (jobOf f) s t) (r .state) (state-long (jobOf f) (r .state) state-enough) ∙ ok-store f s t (within s o)
+
+    same-range : (u : StateTables) → stateInRange (lentJob f (r .job)) u ≡ stateInRange f u
+    unfolding stateInRange lentJob
+    same-range u = refl
+
+    late-is : allowed (jobOf f) s (r .asked) ≡ true →
+        stateInRange (lentJob f (r .job)) (store (jobOf f) (effect (jobOf f) s (kindOf (r .asked .kind)) (r .asked .first) (r .asked .second)) (lentState (store (jobOf f) s t) (r .state))) ≡ true
+    late-is e = same-range _ ∙ ok-store f _ _ (within _ (sound-allowed s (r .asked) o e))
+
+    whole-answer : answer (lentJob f (r .job)) (lentState (store (jobOf f) s t) (r .state)) (r .asked) ≡ firstMet (stepRules (jobOf f) (s .done) (r .asked))
+    whole-answer =
+        answer-is (lentJob f (r .job)) (lentState (store (jobOf f) s t) (r .state)) (jobOf f) s (r .asked) job-is lent-is no-short (and-true range-is states-is) late-is
+
+    whole-after : after (lentJob f (r .job)) (lentState (store (jobOf f) s t) (r .state)) (r .asked)
+        ≡ cond (allowed (jobOf f) s (r .asked)) (store (jobOf f) (effect (jobOf f) s (kindOf (r .asked .kind)) (r .asked .first) (r .asked .second)) (lentState (store (jobOf f) s t) (r .state)))
+        (lentState (store (jobOf f) s t) (r .state))
+    whole-after =
+        after-is (lentJob f (r .job)) (lentState (store (jobOf f) s t) (r .state)) (jobOf f) s (r .asked) job-is lent-is no-short (and-true range-is states-is) late-is
+
+  -- What a request does to the state.
+  unfoldable pub next : State → Request → State
+  next s r = cond (not (lendsShort (jobOf f) r) && allowed (jobOf f) s (r .asked)) (effect (jobOf f) s (kindOf (r .asked .kind)) (r .asked .first) (r .asked .second)) s
+
+  pub one-answer : (s : State) → Sound (jobOf f) s → (r : Request) → answerTo f (store (jobOf f) s t) r ≡ refusalOf (jobOf f) (s .done) r
+  unfolding answerTo stepped refusalOf
+  one-answer s o r =
+      split (lendsShort (jobOf f) r)
+      (λ e. short-answer s r e ∙ rw e)
+      (λ e. whole-answer s o r e ∙ rw e)
+
+  pub one-serve : (s : State) → Sound (jobOf f) s → (r : Request) → serve f (store (jobOf f) s t) r ≡ store (jobOf f) (next s r) t
+  unfolding serve stepped next
+  one-serve s o r =
+      split (lendsShort (jobOf f) r)
+      (λ e. rw (short-after s r e, e) (lent-back (store (jobOf f) s t) (r .state)))
+      (λ e. rw (whole-after s o r e, e) (split (allowed (jobOf f) s (r .asked))
+      (λ a. rw a (lent-store (jobOf f) (store (jobOf f) s t) (r .state) (state-long (jobOf f) (r .state) (state-enough s o r e)) _ ∙ store-store (jobOf f) _ s t))
+      (λ a. rw a (lent-back (store (jobOf f) s t) (r .state)))))
+
+  pub one-sound : (s : State) → Sound (jobOf f) s → (r : Request) → Sound (jobOf f) (next s r)
+  unfolding next
+  one-sound s o r =
+      split (not (lendsShort (jobOf f) r) && allowed (jobOf f) s (r .asked))
+      (λ e. rw e (sound-allowed s (r .asked) o (and-r (not (lendsShort (jobOf f) r)) _ e)))
+      (λ e. rw e o)
