@@ -15,6 +15,9 @@ pub record Asked : Type 0 where
   pub first : ℕ
   pub second : ℕ
 
+abbrev pub asked : ℕ → ℕ → ℕ → Asked
+asked k a b = record { kind = k; first = a; second = b }
+
 -- The kind is 1 to 6.
 unfoldable pub isKind : ℕ → Bool
 isKind k = leb 1 k && leb k 6
@@ -70,6 +73,9 @@ pub record Outcome : Type 0 where
   pub answer : ℕ
   pub tables : StateTables
 
+abbrev pub outcome : ℕ → StateTables → Outcome
+outcome n t = record { answer = n; tables = t }
+
 -- The step.
 unfoldable pub stepped : JobTables → StateTables → Asked → Outcome
-stepped f t q = record { answer = answer f t q; tables = after f t q }
+stepped f t q = outcome (answer f t q) (after f t q)

@@ -24,6 +24,22 @@ pub record JobTables : Type 0 where
   pub tallyOffer : List ℕ  -- T
   pub tallyCount : List ℤ  -- T
 
+-- The job's tables, as a contract names them.
+abbrev pub jobTables : ℕ → ℕ → ℕ → ℕ → List ℕ → List ℕ → List ℕ → List ℕ → List ℕ → List ℕ → List ℤ → JobTables
+jobTables k m n t price owner grocers tallyGrocer tallyBox tallyOffer tallyCount = record {
+  boxes = k;
+  grocers = m;
+  offers = n;
+  tallies = t;
+  price = price;
+  offerOwner = owner;
+  grocerOwner = grocers;
+  tallyGrocer = tallyGrocer;
+  tallyBox = tallyBox;
+  tallyOffer = tallyOffer;
+  tallyCount = tallyCount;
+}
+
 -- The job that the tables hold. Words past the needed length are not read.
 unfoldable pub jobOf : JobTables → Job
 jobOf f = record {
@@ -49,6 +65,18 @@ pub record StateTables : Type 0 where
   pub statement : List ℤ  -- M
   pub done : List ℕ  -- 6 × K × K marks, by kind, first box and second box
   pub sent : List ℕ  -- 1
+
+-- The state's tables, as a contract names them.
+abbrev pub stateTables : List ℕ → List ℕ → List ℤ → List ℤ → List ℤ → List ℕ → List ℕ → StateTables
+stateTables known priceTransit working totalTransit statement done sent = record {
+  known = known;
+  priceTransit = priceTransit;
+  working = working;
+  totalTransit = totalTransit;
+  statement = statement;
+  done = done;
+  sent = sent;
+}
 
 module _ (j : Job) where
   -- The state that the tables hold.
