@@ -24,3 +24,5 @@ pub mod Step
 pub mod Lent
 pub mod Served
 pub mod Demand3
+pub mod Quiet
+pub mod Cases
