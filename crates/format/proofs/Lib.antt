@@ -2,3 +2,7 @@
 pub mod Extra
 pub mod Firsts
 pub mod Words
+pub mod Codes
+pub mod Plan
+pub mod Read
+pub mod Range

@@ -3,8 +3,7 @@ use Prim.Native.Nat.{ℕ}
 use mathlib.Core.Bool.{Bool, not, _||_}
 use mathlib.Core.List.{List, [], _∷_}
 use lib.Dec.{leb, ltb}
-use lib.IntN.{ℤ, pos, negsuc}
-use lib.Signed.{ltZ}
+use lib.IntN.{ℤ, natAbs}
 use Rattle.laws.specs.Below.{any, find}
 use Rattle.laws.specs.Checks.{anyOf}
 use Rattle.format.specs.Codes.{Code, isCode, sameOffer}
@@ -39,11 +38,11 @@ badSizes j =
     ltb (j .boxes) 1 ∷ ltb 16 (j .boxes) ∷
     ltb (j .grocers) 1 ∷ ltb 255 (j .grocers) ∷
     ltb (j .offers) 1 ∷ ltb 500 (j .offers) ∷
-    ltb 1000 (j .tallies) ∷ [])
+    ltb 1_000 (j .tallies) ∷ [])
 
 -- 6 of an offer: "Price: 0 to 9,999,999", its owner below K, its code a code.
 unfoldable pub badOffer : FileJob → Offer → Bool
-badOffer j o = anyOf (ltb 9999999 (o .price) ∷ leb (j .boxes) (o .owner) ∷ not (isCode (o .code)) ∷ [])
+badOffer j o = anyOf (ltb 9_999_999 (o .price) ∷ leb (j .boxes) (o .owner) ∷ not (isCode (o .code)) ∷ [])
 
 -- 6 of a grocer: its owner below K.
 unfoldable pub badOwner : FileJob → ℕ → Bool
@@ -54,7 +53,7 @@ unfoldable pub badTally : FileJob → Tally → Bool
 badTally j t =
     anyOf (
     leb (j .grocers) (t .grocer) ∷ leb (j .boxes) (t .box) ∷ not (isCode (t .code)) ∷
-    ltZ (t .count) (negsuc 99998) ∷ ltZ (pos 99999) (t .count) ∷ [])
+    ltb 99_999 (natAbs (t .count)) ∷ [])
 
 -- 6 of the whole job: one of its records.
 unfoldable pub badRecords : FileJob → Bool
