@@ -6,3 +6,6 @@ pub mod Codes
 pub mod Plan
 pub mod Read
 pub mod Range
+pub mod Accept
+pub mod Same
+pub mod Write
