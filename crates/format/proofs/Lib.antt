@@ -9,3 +9,6 @@ pub mod Range
 pub mod Accept
 pub mod Same
 pub mod Write
+pub mod Prime
+pub mod Detect
+pub mod Damage
