@@ -7,7 +7,7 @@ use native.Mathlib.Omega.{arith}
 use native.Mathlib.Decide.{ℕ-discrete}
 use lib.Dec.{eqb}
 use lib.ListN.{getD, length, set, length-set}
-use lib.Seq.{getD-set-other}
+use lib.Seq.{ext-getD, getD-set-same, getD-set-other}
 use borrow.Author.Tests.{eq-eqb, ne-eqb}
 use Rattle.laws.specs.Below.{any}
 use Rattle.laws.specs.Checks.{firstMet}
@@ -165,9 +165,8 @@ module _ (f f′ : List ℕ) (ok : fileRefusal f ≡ 0) (k : ℕ) (hk : k < bloc
     unfolding fileRefusal firstOf
     later = rw (length-fine, header-fine, count-fine, found)
 
--- "In an accepted file, changing one or two bytes of one block always gives refusal 2."
-pub damaged : (f : List ℕ) → ((p : ℕ) → getD f p 0 < 256) → fileRefusal f ≡ 0 → (k i j x y : ℕ) → k < blocks (decode f) → i < 512 → j < 512 → x < 256 → y < 256 → (set (set f (512 * k + i) x) (512 * k + j) y ≡ f → ⊥) → fileRefusal (set (set f (512 * k + i) x) (512 * k + j) y) ≡ 2
-damaged f bytes ok k i j x y hk hi hj hx hy changed =
+pub damaged-set : (f : List ℕ) → ((p : ℕ) → getD f p 0 < 256) → fileRefusal f ≡ 0 → (k i j x y : ℕ) → k < blocks (decode f) → i < 512 → j < 512 → x < 256 → y < 256 → (set (set f (512 * k + i) x) (512 * k + j) y ≡ f → ⊥) → fileRefusal (set (set f (512 * k + i) x) (512 * k + j) y) ≡ 2
+damaged-set f bytes ok k i j x y hk hi hj hx hy changed =
     elim (ℕ-discrete k 0) [
       | yes e ↦ in-header f g ok k hk same-length bad e
       | no d ↦ later f g ok k hk same-length bad (omega (arith, d)) same
@@ -184,3 +183,31 @@ damaged f bytes ok k i j x y hk hi hj hx hy changed =
 
     bad : sumsDiffer (from g (512 * k)) ≡ true
     bad = differ (from g (512 * k)) (λ a b. changed (seen f (512 * k) (omega (arith, long f ok)) bytes (record { first = clean-all f ok k hk .first; second = clean-all f ok k hk .second }) i j x y hi hj hx hy (record { first = a; second = b })))
+
+-- "In an accepted file, changing one or two bytes of one block always gives refusal 2": f′ differs from f, and only at two places of block k, which may be one.
+pub damaged : (f f′ : List ℕ) → ((p : ℕ) → getD f p 0 < 256) → ((p : ℕ) → getD f′ p 0 < 256) → fileRefusal f ≡ 0 → (k i j : ℕ) → k < blocks (decode f) → i < 512 → j < 512 → length f′ ≡ length f → ((p : ℕ) → (p ≡ 512 * k + i → ⊥) → (p ≡ 512 * k + j → ⊥) → getD f′ p 0 ≡ getD f p 0) → (f′ ≡ f → ⊥) → fileRefusal f′ ≡ 2
+damaged f f′ bytes bytes′ ok k i j hk hi hj same-length same changed =
+    rw is (damaged-set f bytes ok k i j _ _ hk hi hj (bytes′ (512 * k + i)) (bytes′ (512 * k + j)) (λ e. changed (is ∙ e)))
+  where
+    g : List ℕ
+    g = set f (512 * k + i) (getD f′ (512 * k + i) 0)
+
+    long-g : length g ≡ length f
+    long-g = length-set f (512 * k + i) _
+
+    at : (p : ℕ) → getD f′ p 0 ≡ getD (set g (512 * k + j) (getD f′ (512 * k + j) 0)) p 0
+    at p =
+        elim (ℕ-discrete p (512 * k + j)) [
+          | yes e ↦ rw e (sym (getD-set-same g (512 * k + j) _ 0 (omega (arith, long f ok, long-g))))
+          | no d ↦ first-place p d ∙ sym (getD-set-other g (512 * k + j) p _ 0 d)
+        ]
+      where
+        first-place : (p : ℕ) → (p ≡ 512 * k + j → ⊥) → getD f′ p 0 ≡ getD g p 0
+        first-place p d =
+            elim (ℕ-discrete p (512 * k + i)) [
+              | yes e ↦ rw e (sym (getD-set-same f (512 * k + i) _ 0 (omega (arith, long f ok))))
+              | no c ↦ same p c d ∙ sym (getD-set-other f (512 * k + i) p _ 0 c)
+            ]
+
+    is : f′ ≡ set g (512 * k + j) (getD f′ (512 * k + j) 0)
+    is = ext-getD 0 f′ _ (same-length ∙ sym long-g ∙ sym (length-set g (512 * k + j) _)) (λ p h. at p)

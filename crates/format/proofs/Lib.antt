@@ -12,3 +12,4 @@ pub mod Write
 pub mod Prime
 pub mod Detect
 pub mod Damage
+pub mod Small
