@@ -1,19 +1,21 @@
 -- Laws of searches, tables, sums and ordered refusals that belong to no one format. Assumes nothing.
-use Prim.Native.Nat.{ℕ, zero, suc, _+_, _*_, _≤_, _<_}
+use Prim.Native.Nat.{ℕ, zero, suc, _+_, _*_, _/_, _%_, _≤_, _<_}
 use mathlib.Core.Path.{_≡_, refl, sym, _∙_, ap, ap₂}
 use mathlib.Core.Bool.{Bool, true, false, cond, _&&_, _||_}
 use mathlib.Core.List.{List, [], _∷_, _++_}
+use native.Mathlib.Nat.{mod-lt, div-lt-iff-lt-mul}
 use native.Mathlib.Omega.{arith}
 use native.Mathlib.Decide.{ℕ-discrete}
 use lib.Dec.{ltb}
-use lib.ListN.{getD, length}
+use lib.ListN.{getD, length, drop}
+use lib.Arith.{digits-div, digits-mod}
 use borrow.Author.Tests.{ltb-true}
 use Rattle.laws.specs.Below.{words, sum, any, find}
 use Rattle.laws.specs.Checks.{firstMet}
 use Rattle.laws.specs.Tables.{tabulate, overwrite, recell}
 use Rattle.laws.proofs.Bools.{clash, and-l, and-r}
 use Rattle.laws.proofs.Sums.{sum-cong}
-use Rattle.laws.proofs.Tables.{is-overwrite, is-recell}
+use Rattle.laws.proofs.Tables.{is-overwrite, is-recell, getD-overwrite, cell-in, pos-right, tabulate-cong}
 
 -- Tests that agree below the bound.
 pub any-cong : (n : ℕ) (p q : ℕ → Bool) → ((i : ℕ) → i < n → p i ≡ q i) → any n p ≡ any n q
@@ -91,3 +93,19 @@ overwrite-same n f l z h e = sym (is-overwrite n f l l z h refl (λ i k. sym (e 
 
 pub recell-same : {A : Type 0} (n m : ℕ) (f : ℕ → ℕ → A) (l : List A) (z : A) → n * m ≤ length l → ((b o : ℕ) → b < n → o < m → f b o ≡ getD l (b * m + o) z) → recell n m f l ≡ l
 recell-same n m f l z h e = sym (is-recell n m f l l z h refl (λ b o p q. sym (e b o p q)) (λ i k. refl))
+
+-- Row b, column o of a table written anew.
+pub getD-recell : {A : Type 0} (n m : ℕ) (f : ℕ → ℕ → A) (l : List A) (b o : ℕ) (z : A) → b < n → o < m → getD (recell n m f l) (b * m + o) z ≡ f b o
+unfolding recell
+getD-recell n m f l b o z hb ho = getD-overwrite (n * m) (λ i. f (i / m) (i % m)) l (b * m + o) z (cell-in b n m o hb ho) ∙ rw (digits-div b ho, digits-mod b ho)
+
+-- Tables written with the same words are the same.
+pub overwrite-cong : {A : Type 0} (n m : ℕ) (f g : ℕ → A) (l : List A) → n ≡ m → ((i : ℕ) → i < m → f i ≡ g i) → overwrite n f l ≡ overwrite m g l
+unfolding overwrite
+overwrite-cong n m f g l e h = ap (λ (k : ℕ). tabulate k f ++ drop k l) e ∙ ap (λ (r : List _). r ++ drop m l) (tabulate-cong m f g h)
+
+pub recell-cong : {A : Type 0} (n n′ m : ℕ) (f g : ℕ → ℕ → A) (l : List A) → n ≡ n′ → ((b o : ℕ) → b < n′ → o < m → f b o ≡ g b o) → recell n m f l ≡ recell n′ m g l
+unfolding recell
+recell-cong n n′ m f g l e h =
+    overwrite-cong (n * m) (n′ * m) _ _ l (ap (λ (k : ℕ). k * m) e)
+    (λ i k. h (i / m) (i % m) (div-lt-iff-lt-mul (pos-right n′ m i k) .1 k) (mod-lt i (pos-right n′ m i k)))

@@ -13,3 +13,5 @@ pub mod Prime
 pub mod Detect
 pub mod Damage
 pub mod Small
+pub mod Encode
+pub mod Tables

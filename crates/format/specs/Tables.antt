@@ -1,10 +1,10 @@
 -- The lent tables of the reader and of the writer, and what each call gives: answer and tables, for every input.
 use Prim.Native.Nat.{ℕ, _+_, _*_}
 use mathlib.Core.Bool.{Bool, cond, _||_}
-use mathlib.Core.List.{List, [], _∷_}
+use mathlib.Core.List.{List, [], _∷_, _++_}
 use lib.Dec.{ltb, eqb}
 use lib.IntN.{ℤ, pos}
-use lib.ListN.{getD, length}
+use lib.ListN.{getD, length, drop}
 use Rattle.laws.specs.Checks.{anyOf, firstMet}
 use Rattle.laws.specs.Tables.{overwrite, recell}
 use Rattle.format.specs.First.{firstOf}
@@ -126,5 +126,5 @@ writeResult k m n t l out =
     let file = encode (fileJobOf k m n t l) in
     let r = writeRefusal k m n t l out in
     cond (eqb r 0)
-    (record { answer = wrote (length file); out = overwrite (length file) (λ p. getD file p 0) out })
+    (record { answer = wrote (length file); out = file ++ drop (length file) out })
     (record { answer = notWritten r; out = out })
