@@ -177,9 +177,10 @@ pub same-offer : (c d : Code) → isCode c ≡ true → isCode d ≡ true → (s
 unfolding sameOffer number written
 same-offer c d hc hd =
     let p = code-is c hc in
-    let q = code-is d hd in
-    (λ e. drop-written _ _ (p .some) ∙ ap orZero (same-strip _ _ _ _ (p .digits) (q .digits) (eqb-true _ _ e)) ∙ sym (drop-written _ _ (q .some)),
-    λ e. eq-eqb _ _ (sym (count-drop _ _ (p .some)) ∙ ap (count 0) e ∙ count-drop _ _ (q .some)))
+    let q = code-is d hd in (
+      λ e. drop-written _ _ (p .some) ∙ ap orZero (same-strip _ _ _ _ (p .digits) (q .digits) (eqb-true _ _ e)) ∙ sym (drop-written _ _ (q .some)),
+      λ e. eq-eqb _ _ (sym (count-drop _ _ (p .some)) ∙ ap (count 0) e ∙ count-drop _ _ (q .some)),
+    )
 
 -- Something is left of a code.
 or-zero-some : (l : List ℕ) → 1 ≤ length (orZero l)

@@ -15,3 +15,4 @@ pub mod Damage
 pub mod Small
 pub mod Encode
 pub mod Tables
+pub mod Cases

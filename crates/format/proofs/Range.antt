@@ -106,9 +106,13 @@ fine j e =
 pub fine-job : (j : FileJob) → Fine j → jobRefusal j ≡ 0
 unfolding jobRefusal badRecords
 fine-job j f =
-    none-met _ (f .sizes,
-    (rw (any-false _ (λ i. badOffer j (j .offer i)) (f .offer), any-false _ (λ i. badOwner j (j .grocerOwner i)) (f .grocerOwner), any-false _ (λ i. badTally j (j .tally i)) (f .tally)),
-    (f .shared, (f .unnamed, tt))))
+    none-met _ (
+      f .sizes,
+      (
+        rw (any-false _ (λ i. badOffer j (j .offer i)) (f .offer), any-false _ (λ i. badOwner j (j .grocerOwner i)) (f .grocerOwner), any-false _ (λ i. badTally j (j .tally i)) (f .tally)),
+        (f .shared, (f .unnamed, tt)),
+      ),
+    )
 
 -- ---- the place of a tally's offer
 

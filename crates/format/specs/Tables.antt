@@ -90,9 +90,13 @@ pub record ReadOutcome : Type 0 where
   pub answer : ReadAnswer
   pub tables : ReaderTables
 
--- The reader's refusal: 20 first, for "the largest job" and before the file is looked at, then the file's.
+-- 20 of the reader: a table "shorter than the largest job needs", which has 255 grocers, 500 offers and 1,000 tallies.
+unfoldable pub shortReader : ReaderTables → Bool
+shortReader l = shortTables 255 500 1_000 (l .job) || ltb (length (l .tallyOffer)) 1_000
+
+-- The reader's refusal: 20 before the file is looked at, then the file's.
 unfoldable pub readRefusal : List ℕ → ReaderTables → ℕ
-readRefusal f l = firstOf (firstMet ((shortTables 255 500 1000 (l .job) || ltb (length (l .tallyOffer)) 1000, 20) ∷ []) ∷ fileRefusal f ∷ [])
+readRefusal f l = firstOf (firstMet ((shortReader l, 20) ∷ []) ∷ fileRefusal f ∷ [])
 
 -- What the reader gives: a refusal leaves every word as it was.
 unfoldable pub readResult : List ℕ → ReaderTables → ReadOutcome
@@ -113,12 +117,13 @@ pub record WriteOutcome : Type 0 where
   pub answer : WriteAnswer
   pub out : List ℕ
 
--- The writer's refusal: 20 first, for K, M, N and T as given and a buffer of the file's length, then the job's.
+-- 20 of the writer: a table, or the buffer for the file, shorter than K, M, N and T as given need.
+unfoldable pub shortWriter : ℕ → ℕ → ℕ → JobTables → List ℕ → Bool
+shortWriter m n t l out = shortTables m n t l || ltb (length out) (512 * blockCount n t)
+
+-- The writer's refusal: 20, then the job's.
 unfoldable pub writeRefusal : ℕ → ℕ → ℕ → ℕ → JobTables → List ℕ → ℕ
-writeRefusal k m n t l out =
-    firstOf (
-    firstMet ((shortTables m n t l || ltb (length out) (512 * blockCount n t), 20) ∷ []) ∷
-    jobRefusal (fileJobOf k m n t l) ∷ [])
+writeRefusal k m n t l out = firstOf (firstMet ((shortWriter m n t l out, 20) ∷ []) ∷ jobRefusal (fileJobOf k m n t l) ∷ [])
 
 -- What the writer gives: the file in front of the rest of the buffer, or the buffer as it was.
 unfoldable pub writeResult : ℕ → ℕ → ℕ → ℕ → JobTables → List ℕ → WriteOutcome
