@@ -2,18 +2,18 @@
 use Prim.Native.Nat.{ℕ, zero, suc, _+_, _-_, _*_, _^_, _≤_, _<_}
 use mathlib.Core.Path.{_≡_, refl, sym, _∙_, ap}
 use mathlib.Core.Logic.{_↔_}
-use mathlib.Core.Bool.{Bool, true, false, cond, _&&_}
+use mathlib.Core.Bool.{true, cond, _&&_}
 use mathlib.Core.List.{List, [], _∷_, _++_}
 use native.Mathlib.Omega.{arith}
 use native.Mathlib.Nat.{pow-suc, pow-le-pow-right, lt-of-lt-of-le}
 use native.Mathlib.Numerals.{add-one}
-use lib.Dec.{leb, ltb, eqb, lit<}
+use lib.Dec.{leb, eqb, lit<}
 use lib.ListN.{length}
-use borrow.Author.Tests.{lt-ltb, le-ltb, leb-true, le-leb, eqb-true, eq-eqb}
+use borrow.Author.Tests.{lt-ltb, le-ltb, leb-true, eqb-true, eq-eqb}
 use Rattle.laws.specs.Below.{all}
 use Rattle.laws.specs.Tables.{tabulate}
-use Rattle.laws.proofs.Bools.{split, and-l, and-r, and-true}
-use Rattle.laws.proofs.Below.{all-at, all-of, all-cong}
+use Rattle.laws.proofs.Bools.{split, and-l, and-r}
+use Rattle.laws.proofs.Below.{all-at, all-cong}
 use Rattle.format.specs.Codes.{Code, isPlace, isCode, value, number, written, dropZeros, sameOffer}
 use Rattle.format.proofs.Extra.{tabulate-snoc}
 

@@ -1,24 +1,18 @@
 -- Two jobs with the same words have one file. Assumes nothing.
-use Prim.Native.Nat.{ℕ, _+_, _*_, _-_, _/_, _%_, _<_, min}
-use mathlib.Core.Path.{_≡_, refl, sym, _∙_, ap, ap₂}
-use mathlib.Core.Bool.{Bool, true, false, cond}
-use mathlib.Core.List.{List, [], _∷_, _++_}
+use Prim.Native.Nat.{ℕ, _+_, _*_, _-_, _/_, _%_, _<_}
+use mathlib.Core.Path.{_≡_, _∙_, ap, ap₂}
+use mathlib.Core.List.{List, [], _∷_}
 use native.Mathlib.Omega.{arith}
-use lib.Dec.{ltb}
 use lib.ListN.{getD}
-use borrow.Author.Tests.{ltb-true}
-use mir.Syntax.{w32}
-use mir.Val.{ofZ}
 use Rattle.laws.specs.Tables.{tabulate}
 use Rattle.laws.proofs.Bools.{split}
 use Rattle.laws.proofs.Tables.{tabulate-cong}
-use Rattle.format.specs.Bytes.{bytes16, bytes32}
 use Rattle.format.specs.Codes.{Code, codeBytes}
 use Rattle.format.specs.Job.{FileJob, Offer, Tally}
-use Rattle.format.specs.Blocks.{BlockKind, header, offerBlock, grocerBlock, tallyBlock, blocks, kindAt, kindNumber, records, recordSize, headerBytes, offerBytes, tallyBytes, recordBytes, spare, firstSum, secondSum}
+use Rattle.format.specs.Blocks.{BlockKind, header, offerBlock, grocerBlock, tallyBlock, blocks, kindAt, records, recordSize, headerBytes, offerBytes, tallyBytes, recordBytes, spare}
 use Rattle.format.specs.File.{recordByte, bodyByte, blockByte, encode}
 use Rattle.format.proofs.Words.{first-cong, second-cong}
-use Rattle.format.proofs.Plan.{Sizes, kind-same, records-same, spare-same}
+use Rattle.format.proofs.Plan.{kind-same, records-same, spare-same}
 use Rattle.format.proofs.Read.{in-field}
 use Rattle.format.proofs.Same.{SameCode, OfferWords, TallyWords, SameWords}
 

@@ -1,7 +1,7 @@
 -- 65,521 is no product of a number up to 508 and one up to 255: one test that is computed. Assumes nothing.
 use Prim.Native.Nat.{ℕ, zero, suc, _+_, _-_, _*_, _%_, _/_, _≤_, _<_}
 use mathlib.Core.Path.{_≡_, refl, sym, _∙_, ap}
-use mathlib.Core.Bool.{Bool, true, false, not, _&&_}
+use mathlib.Core.Bool.{Bool, true, not, _&&_}
 use native.Mathlib.Omega.{arith}
 use native.Mathlib.Nat.{mul-add, mul-div-cancel, mul-zero, mul-pos, mul-le-mul}
 use native.Mathlib.Decide.{decLe}

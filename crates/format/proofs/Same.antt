@@ -1,9 +1,8 @@
 -- Two jobs with the same words are refused alike. Assumes nothing.
 use Prim.Native.Nat.{ℕ, _<_}
-use mathlib.Core.Path.{_≡_, refl, sym, _∙_, ap, ap₂}
-use mathlib.Core.Bool.{Bool, not}
+use mathlib.Core.Path.{_≡_, _∙_, ap, ap₂}
+use mathlib.Core.Bool.{true, not}
 use lib.Dec.{eqb}
-use lib.IntN.{ℤ}
 use native.Mathlib.Omega.{arith}
 use Rattle.laws.specs.Below.{any, find}
 use Rattle.format.specs.Codes.{Code, isCode, number, sameOffer}
@@ -12,7 +11,7 @@ use Rattle.format.specs.Refusals.{jobRefusal}
 use Rattle.format.proofs.Extra.{any-cong, find-cong}
 use Rattle.format.proofs.Codes.{code-cong, number-cong}
 use Rattle.format.proofs.Plan.{Sizes}
-use Rattle.format.proofs.Range.{Fine, fine, fine-job, offer-in, tally-in}
+use Rattle.format.proofs.Range.{fine, fine-job, offer-in, tally-in}
 
 -- The same digit count, and the same bytes of the field.
 pub record SameCode (a b : Code) : Type 0 where
@@ -40,7 +39,7 @@ pub record SameWords (a b : FileJob) : Type 0 where
 same-code : (a b : Code) → SameCode a b → isCode a ≡ isCode b
 same-code a b s = code-cong a b (s .size) (s .digit)
 
-same-number : (a b : Code) → SameCode a b → isCode b ≡ Bool.true → number a ≡ number b
+same-number : (a b : Code) → SameCode a b → isCode b ≡ true → number a ≡ number b
 same-number a b s h = number-cong a b h (s .size) (s .digit)
 
 -- A record's refusal goes by the sizes and the record.

@@ -1,36 +1,33 @@
 -- Reader and writer over lent tables: writing what was read gives the file, and reading what was written gives the words. Assumes nothing.
-use Prim.Native.Nat.{ℕ, zero, suc, _+_, _*_, _≤_, _<_}
-use mathlib.Core.Path.{_≡_, refl, sym, _∙_, ap, ap₂}
-use mathlib.Core.Bool.{Bool, true, false, cond, not, _||_}
+use Prim.Native.Nat.{ℕ, suc, _+_, _*_, _≤_, _<_}
+use mathlib.Core.Path.{_≡_, refl, sym, _∙_, ap}
+use mathlib.Core.Bool.{false}
 use mathlib.Core.List.{List, [], _∷_, _++_}
 use native.Mathlib.Omega.{arith}
 use native.Mathlib.Decide.{ℕ-discrete}
-use lib.Dec.{ltb, eqb}
+use lib.Dec.{ltb}
 use lib.ListN.{getD, length, drop, take}
 use lib.Seq.{take-at}
-use lib.IntN.{ℤ, pos}
-use borrow.Author.Tests.{ltb-false, le-ltb, eqb-true, eq-eqb, ne-eqb}
-use Rattle.laws.specs.Checks.{firstMet}
+use lib.IntN.{pos}
+use borrow.Author.Tests.{ltb-false, le-ltb, ne-eqb}
 use Rattle.laws.specs.Tables.{tabulate, overwrite, recell}
-use Rattle.laws.proofs.Bools.{split}
 use Rattle.laws.proofs.Tables.{getD-overwrite, getD-tabulate, long-overwrite}
-use Rattle.laws.proofs.Checks.{none-of, any-each}
-use Rattle.format.specs.First.{firstOf}
+use Rattle.laws.proofs.Checks.{none-of}
 use Rattle.format.specs.Bytes.{from}
-use Rattle.format.specs.Codes.{Code, codeBytes, readCode, sameOffer}
-use Rattle.format.specs.Job.{FileJob, Offer, Tally, placeOf}
+use Rattle.format.specs.Codes.{Code, codeBytes, readCode}
+use Rattle.format.specs.Job.{FileJob, placeOf}
 use Rattle.format.specs.Blocks.{blockCount}
 use Rattle.format.specs.File.{encode, decode}
 use Rattle.format.specs.Refusals.{fileRefusal, jobRefusal}
-use Rattle.format.specs.Tables.{JobTables, ReaderTables, shortTables, fileJobOf, storeCodes, store, storeRead, ReadAnswer, sizes, refused, ReadOutcome, shortReader, readRefusal, readResult, WriteAnswer, wrote, notWritten, WriteOutcome, shortWriter, writeRefusal, writeResult}
-use Rattle.format.proofs.Extra.{or-off, unmet, none-met, overwrite-same, overwrite-cong, recell-same, recell-cong, getD-recell}
-use Rattle.format.proofs.Firsts.{each, next, alone}
-use Rattle.format.proofs.Plan.{Sizes}
+use Rattle.format.specs.Tables.{JobTables, ReaderTables, shortTables, fileJobOf, storeCodes, store, storeRead, sizes, refused, ReadOutcome, shortReader, readRefusal, readResult, wrote, notWritten, shortWriter, writeRefusal, writeResult}
+use Rattle.format.proofs.Extra.{or-off, unmet, overwrite-same, overwrite-cong, recell-same, recell-cong, getD-recell}
+use Rattle.format.proofs.Firsts.{each}
+use Rattle.format.proofs.Order.{reader-file, writer-job}
 use Rattle.format.proofs.Range.{InRange, in-range}
-use Rattle.format.proofs.Same.{SameCode, OfferWords, TallyWords, SameWords, place-same, same-fine}
+use Rattle.format.proofs.Same.{SameCode, SameWords, place-same, same-fine}
 use Rattle.format.proofs.Encode.{code-bytes, encode-same}
 use Rattle.format.proofs.Accept.{long, accepted, job-accepted}
-use Rattle.format.proofs.Write.{read-back, long-is, written-accepted}
+use Rattle.format.proofs.Write.{read-back, written-accepted}
 
 -- ---- codes in a table
 
@@ -194,16 +191,12 @@ store-own k m n t l h =
 
 -- ---- reading what was written
 
--- Where no table is short the file's refusal is the reader's.
-file-accepted : (f : List ℕ) (r : ReaderTables) → shortReader r ≡ false → fileRefusal f ≡ 0 → readRefusal f r ≡ 0
-unfolding readRefusal
-file-accepted f r h e = rw (none-met ((shortReader r, 20) ∷ []) (h, tt), e, next) (alone 0)
-
 -- Where no table and no buffer is short the job's refusal is the writer's.
 job-written : (k m n t : ℕ) (l : JobTables) (out : List ℕ) → shortTables m n t l ≡ false → 512 * blockCount n t ≤ length out → jobRefusal (fileJobOf k m n t l) ≡ 0 → writeRefusal k m n t l out ≡ 0
-unfolding writeRefusal shortWriter
-job-written k m n t l out h r e = rw (none-met ((shortTables m n t l || ltb (length out) (512 * blockCount n t), 20) ∷ []) (rw (h, le-ltb (length out) (512 * blockCount n t) r), tt), e, next) (alone 0)
+unfolding shortWriter
+job-written k m n t l out h r e = writer-job k m n t l out (rw (h, le-ltb (length out) (512 * blockCount n t) r)) ∙ e
 
+-- A writer that wrote was lent no short table.
 writer-long : (k m n t : ℕ) (l : JobTables) (out : List ℕ) → writeRefusal k m n t l out ≡ 0 → shortTables m n t l ≡ false
 unfolding writeRefusal shortWriter
 writer-long k m n t l out ok = or-off (shortTables m n t l) (ltb (length out) (512 * blockCount n t)) (unmet _ refl (each _ ok 0) .0) .0
@@ -225,7 +218,7 @@ module _ (k m n t : ℕ) (l : JobTables) (out : List ℕ) (ok : writeRefusal k m
       let b = read-back j written-job in
       let z = b .sizes in
       let e = store-read-same (decode (encode j)) j b written-job r in
-      read-accepted (encode j) r (file-accepted (encode j) r h (written-accepted j written-job))
+      read-accepted (encode j) r (reader-file (encode j) r h ∙ written-accepted j written-job)
       ∙ (λ i. record { answer = sizes (z .boxes i) (z .grocers i) (z .offers i) (z .tallies i); tables = e i })
 
 -- Read back into the tables that were written from, no word of theirs changes.

@@ -1,27 +1,24 @@
 -- The file of a job that the writer takes is accepted, and says that job. Assumes nothing.
-use Prim.Native.Nat.{ℕ, zero, suc, _+_, _*_, _-_, _/_, _%_, _≤_, _<_, min}
-use mathlib.Core.Path.{_≡_, refl, sym, _∙_, ap, ap₂}
-use mathlib.Core.Bool.{Bool, true, false, cond, not, _&&_, _||_}
-use mathlib.Core.List.{List, [], _∷_, _++_}
+use Prim.Native.Nat.{ℕ, _+_, _*_, _-_, _/_, _%_, _≤_, _<_}
+use mathlib.Core.Path.{_≡_, refl, sym, _∙_, ap}
+use mathlib.Core.Bool.{false, not, _&&_}
+use mathlib.Core.List.{[], _∷_, _++_}
 use native.Mathlib.Omega.{arith}
-use lib.Dec.{leb, ltb, eqb}
+use lib.Dec.{eqb}
 use lib.ListN.{getD, length, List·getD-append}
 use lib.Seq.{getD-append-add}
 use lib.Arith.{digits-div, digits-mod}
-use lib.IntN.{ℤ}
 use borrow.Author.Tests.{lt-ltb, le-ltb, lt-leb, eq-eqb, ne-eqb}
 use mir.Syntax.{w32}
-use mir.Val.{toZ, ofZ}
-use Rattle.laws.specs.Below.{any}
+use mir.Val.{ofZ}
 use Rattle.laws.specs.Tables.{tabulate}
 use Rattle.laws.proofs.Bools.{split}
 use Rattle.laws.proofs.Signed.{read32-abs}
 use Rattle.laws.proofs.Tables.{getD-tabulate, length-tabulate}
-use Rattle.laws.proofs.Checks.{any-each}
 use Rattle.format.specs.First.{firstOf, firstBelow}
-use Rattle.format.specs.Bytes.{from, after, word16, bytes16, bytes32}
-use Rattle.format.specs.Codes.{Code, codeBytes}
-use Rattle.format.specs.Job.{FileJob, Offer, Tally, badSizes, badRecords, shared, unnamed}
+use Rattle.format.specs.Bytes.{from, after, word16, bytes32}
+use Rattle.format.specs.Codes.{codeBytes}
+use Rattle.format.specs.Job.{FileJob, Offer, Tally, shared, unnamed}
 use Rattle.format.specs.Blocks.{BlockKind, header, offerBlock, grocerBlock, tallyBlock, blocks, offersAt, grocersAt, talliesAt, kindAt, kindNumber, records, recordSize, fieldSize, headerBytes, offerBytes, tallyBytes, recordBytes, spare, firstSum, secondSum}
 use Rattle.format.specs.File.{recordByte, bodyByte, blockByte, encode, readOffer, readTally, recordAt, decode}
 use Rattle.format.specs.Refusals.{badLength, badCount, sumsDiffer, notDue, badHeader, spareUsed, badRecord, headerRefusal, blockRefusal, fileRefusal, jobRefusal}
@@ -29,8 +26,8 @@ use Rattle.format.proofs.Extra.{none-met, any-false}
 use Rattle.format.proofs.Firsts.{alone, below-none}
 use Rattle.format.proofs.Words.{word-bytes16, word-bytes32, first-cong, second-cong}
 use Rattle.format.proofs.Plan.{Sizes, kind-header, kind-offers, kind-grocers, kind-tallies, kind-same, records-same, spare-same}
-use Rattle.format.proofs.Range.{Fine, fine, InRange, in-range}
-use Rattle.format.proofs.Same.{SameCode, OfferWords, TallyWords, SameWords, same-fine}
+use Rattle.format.proofs.Range.{Fine, fine, in-range}
+use Rattle.format.proofs.Same.{OfferWords, TallyWords, SameWords, same-fine}
 
 -- A record's fields are within the record.
 pub fields-fit : (b : BlockKind) → fieldSize b ≤ recordSize b

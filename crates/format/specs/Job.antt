@@ -1,7 +1,7 @@
 -- A job as its file says it, and conditions 4, 6, 7 and 8 on it: the same for the reader and the writer.
 use Prim.Native.Nat.{ℕ}
 use mathlib.Core.Bool.{Bool, not, _||_}
-use mathlib.Core.List.{List, [], _∷_}
+use mathlib.Core.List.{[], _∷_}
 use lib.Dec.{leb, ltb}
 use lib.IntN.{ℤ, natAbs}
 use Rattle.laws.specs.Below.{any, find}

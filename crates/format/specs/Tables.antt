@@ -1,5 +1,5 @@
 -- The lent tables of the reader and of the writer, and what each call gives: answer and tables, for every input.
-use Prim.Native.Nat.{ℕ, _+_, _*_}
+use Prim.Native.Nat.{ℕ, _*_}
 use mathlib.Core.Bool.{Bool, cond, _||_}
 use mathlib.Core.List.{List, [], _∷_, _++_}
 use lib.Dec.{ltb, eqb}
@@ -10,7 +10,7 @@ use Rattle.laws.specs.Tables.{overwrite, recell}
 use Rattle.format.specs.First.{firstOf}
 use Rattle.format.specs.Bytes.{from}
 use Rattle.format.specs.Codes.{Code, readCode, codeBytes}
-use Rattle.format.specs.Job.{FileJob, Offer, Tally, placeOf}
+use Rattle.format.specs.Job.{FileJob, placeOf}
 use Rattle.format.specs.Blocks.{blockCount}
 use Rattle.format.specs.File.{encode, decode}
 use Rattle.format.specs.Refusals.{fileRefusal, jobRefusal}
