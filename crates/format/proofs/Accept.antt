@@ -9,15 +9,18 @@ use lib.Dec.{eqb}
 use lib.ListN.{getD, length}
 use borrow.Author.Tests.{eqb-true, not-false}
 use Rattle.laws.specs.Below.{any}
+use Rattle.laws.proofs.Bools.{no-true}
 use Rattle.laws.proofs.Below.{any-none}
 use Rattle.laws.proofs.Checks.{none-of}
+use Rattle.format.specs.First.{firstBelow}
 use Rattle.format.specs.Bytes.{from, after, word16}
 use Rattle.format.specs.Job.{badSizes, shared, unnamed}
 use Rattle.format.specs.Blocks.{BlockKind, offerBlock, grocerBlock, tallyBlock, blocks, offersAt, grocersAt, talliesAt, kindAt, kindNumber, records, spare, firstSum, secondSum}
 use Rattle.format.specs.File.{encode, decode}
-use Rattle.format.specs.Refusals.{badCount, sumsDiffer, notDue, badHeader, spareUsed, badRecord, headerRefusal, blockRefusal, fileRefusal, jobRefusal}
+use Rattle.format.specs.Refusals.{badLength, badCount, sumsDiffer, notDue, badHeader, spareUsed, badRecord, headerRefusal, blockRefusal, fileRefusal, jobRefusal}
 use Rattle.format.proofs.Extra.{or-off, unmet}
 use Rattle.format.proofs.Firsts.{each, below-at}
+use Rattle.format.proofs.Order.{shared-refused, unnamed-refused}
 use Rattle.format.proofs.Plan.{kind-offers, kind-grocers, kind-tallies}
 use Rattle.format.proofs.Read.{Clean, file-read}
 use Rattle.format.proofs.Range.{Fine, fine-job, InRange, in-range}
@@ -87,9 +90,23 @@ module _ (f : List ℕ) (ok : fileRefusal f ≡ 0) where
       subst (λ (y : BlockKind). any (records (decode f) y) (badRecord (decode f) y) ≡ false → badRecord (decode f) z r ≡ false) (sym e)
       (any-none (records (decode f) z) (badRecord (decode f) z) r l) (unmet _ refl (below k p h) .1 .1 .1 .0)
 
-  whole : (shared (decode f) ≡ false) × (unnamed (decode f) ≡ false)
+  right : badLength f ≡ false
   unfolding fileRefusal
-  whole = let r = unmet _ refl (each _ ok 4) in (r .0, r .1 .0)
+  right = unmet _ refl (each _ ok 0) .0
+
+  count : badCount f ≡ false
+  unfolding fileRefusal
+  count = unmet _ refl (each _ ok 2) .0
+
+  others : firstBelow (blocks (decode f) - 1) (λ k. blockRefusal f (1 + k)) ≡ 0
+  unfolding fileRefusal
+  others = each _ ok 3
+
+  apart : shared (decode f) ≡ false
+  apart = no-true _ (λ h. let e = shared-refused f right top count others h in omega arith)
+
+  named : unnamed (decode f) ≡ false
+  named = no-true _ (λ h. let e = unnamed-refused f right top count others apart h in omega arith)
 
   fine-read : Fine (decode f)
   unfolding badRecord
@@ -105,8 +122,8 @@ module _ (f : List ℕ) (ok : fileRefusal f ≡ 0) where
         tally = λ i h.
             let e : 21 * (i / 21) + i % 21 ≡ i = omega arith in
             rw e at (inner (talliesAt n + i / 21) (tallyBlock (i / 21)) (omega arith) (omega arith) (kind-tallies n (i / 21)) (i % 21) (omega arith));
-        shared = whole .0;
-        unnamed = whole .1;
+        shared = apart;
+        unnamed = named;
       }
 
   -- The writer takes the job of an accepted file.

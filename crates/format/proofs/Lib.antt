@@ -1,6 +1,7 @@
 -- The laws of the job file.
 pub mod Extra
 pub mod Firsts
+pub mod Order
 pub mod Words
 pub mod Codes
 pub mod Plan
@@ -11,7 +12,6 @@ pub mod Accept
 pub mod Write
 pub mod Small
 pub mod Encode
-pub mod Order
 pub mod Tables
 pub mod Prime
 pub mod Detect

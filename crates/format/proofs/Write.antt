@@ -15,7 +15,7 @@ use Rattle.laws.specs.Tables.{tabulate}
 use Rattle.laws.proofs.Bools.{split}
 use Rattle.laws.proofs.Signed.{read32-abs}
 use Rattle.laws.proofs.Tables.{getD-tabulate, length-tabulate}
-use Rattle.format.specs.First.{firstOf, firstBelow}
+use Rattle.format.specs.First.{firstBelow}
 use Rattle.format.specs.Bytes.{from, after, word16, bytes32}
 use Rattle.format.specs.Codes.{codeBytes}
 use Rattle.format.specs.Job.{FileJob, Offer, Tally, shared, unnamed}
@@ -23,7 +23,8 @@ use Rattle.format.specs.Blocks.{BlockKind, header, offerBlock, grocerBlo
 use Rattle.format.specs.File.{recordByte, bodyByte, blockByte, encode, readOffer, readTally, recordAt, decode}
 use Rattle.format.specs.Refusals.{badLength, badCount, sumsDiffer, notDue, badHeader, spareUsed, badRecord, headerRefusal, blockRefusal, fileRefusal, jobRefusal}
 use Rattle.format.proofs.Extra.{none-met, any-false}
-use Rattle.format.proofs.Firsts.{alone, below-none}
+use Rattle.format.proofs.Firsts.{below-none}
+use Rattle.format.proofs.Order.{file-accepted}
 use Rattle.format.proofs.Words.{word-bytes16, word-bytes32, first-cong, second-cong}
 use Rattle.format.proofs.Plan.{Sizes, kind-header, kind-offers, kind-grocers, kind-tallies, kind-same, records-same, spare-same}
 use Rattle.format.proofs.Range.{Fine, fine, in-range}
@@ -210,7 +211,7 @@ module _ (j : FileJob) (ok : jobRefusal j ≡ 0) where
   spare-fine : (k : ℕ) → k < blocks j → spareUsed (decode (encode j)) k (from (encode j) (512 * k)) ≡ false
   unfolding spareUsed
   spare-fine k h =
-      any-false 504 _ (λ s l. rw (kind-is k, spare-same (decode (encode j)) j sizes-read (kindAt (j .offers) k) s) (spare-clear k s h l))
+      any-false _ _ (λ s l. rw (kind-is k, spare-same (decode (encode j)) j sizes-read (kindAt (j .offers) k) s) (spare-clear k s h l))
 
   -- The job that the file says is not refused.
   read-fine : Fine (decode (encode j))
@@ -260,7 +261,4 @@ module _ (j : FileJob) (ok : jobRefusal j ≡ 0) where
 
   -- A written job's file is accepted.
   pub written-accepted : fileRefusal (encode j) ≡ 0
-  unfolding fileRefusal firstOf
-  written-accepted =
-      rw (none-met ((badLength (encode j), 1) ∷ []) (length-fine, tt), header-fine, none-met ((badCount (encode j), 1) ∷ []) (count-fine, tt), rest-fine)
-      (alone _ ∙ none-met _ (read-fine .shared, (read-fine .unnamed, tt)))
+  written-accepted = file-accepted (encode j) length-fine header-fine count-fine rest-fine (read-fine .shared) (read-fine .unnamed)
