@@ -49,32 +49,39 @@ clean f k a b c =
     }
 
 module _ (f : List ℕ) (ok : fileRefusal f ≡ 0) where
+  -- The file is as long as its header says.
   pub long : length f ≡ 512 * blocks (decode f)
   unfolding fileRefusal badCount
   long = even _ _ (unmet _ refl (each _ ok 2) .0)
 
+  -- Its header is not refused.
   pub top : headerRefusal f ≡ 0
   unfolding fileRefusal
   top = each _ ok 1
 
+  -- Nothing in the header is outside its values.
   pub good-header : badHeader f ≡ false
   unfolding headerRefusal
   good-header = unmet _ refl top .1 .1 .0
 
+  -- Byte 5 is 1.
   pub mark : getD f 5 0 ≡ 1
   unfolding badHeader
   mark = even _ _ (or-off (not (eqb (getD f 5 0) 1)) (badSizes (decode f)) good-header .0)
 
+  -- K, M, N and T are within their values.
   pub sizes : badSizes (decode f) ≡ false
   unfolding badHeader
   sizes = or-off (not (eqb (getD f 5 0) 1)) (badSizes (decode f)) good-header .1
 
+  -- No other block is refused.
   pub below : (k : ℕ) → 0 < k → k < blocks (decode f) → blockRefusal f k ≡ 0
   unfolding fileRefusal
   below k p h =
       let e : 1 + (k - 1) ≡ k = omega arith in
       ap (blockRefusal f) (sym e) ∙ below-at _ _ (each _ ok 3) (k - 1) (omega arith)
 
+  -- Every block is clean.
   pub clean-all : (k : ℕ) → k < blocks (decode f) → Clean f k
   unfolding headerRefusal blockRefusal
   clean-all k h =

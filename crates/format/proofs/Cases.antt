@@ -29,6 +29,7 @@ pub zeros-number : number (code (48 ∷ 48 ∷ 48 ∷ [])) ≡ 0
 unfolding number value
 zeros-number = refl
 
+-- The last of its zeros stays.
 pub zeros-dropped : dropZeros (written (code (48 ∷ 48 ∷ 48 ∷ []))) ≡ 48 ∷ []
 unfolding dropZeros written tabulate
 zeros-dropped = refl
@@ -48,10 +49,12 @@ pub ten-digits : isCode (code (48 ∷ 49 ∷ 50 ∷ 51 ∷ 52 ∷ 53 ∷ 54 ∷ 
 unfolding isCode isPlace all
 ten-digits = refl
 
+-- No digit at all.
 pub no-digits : isCode (code []) ≡ false
 unfolding isCode isPlace all
 no-digits = refl
 
+-- Eleven digits.
 pub eleven-digits : isCode (code (48 ∷ 49 ∷ 50 ∷ 51 ∷ 52 ∷ 53 ∷ 54 ∷ 55 ∷ 56 ∷ 57 ∷ 48 ∷ [])) ≡ false
 unfolding isCode isPlace all
 eleven-digits = refl
@@ -61,6 +64,7 @@ pub byte-0-first : firstSum (alone 0) ≡ 255
 unfolding firstSum sum words
 byte-0-first = refl
 
+-- Its second sum.
 pub byte-0-second : secondSum (alone 0) ≡ 64019
 unfolding secondSum sum words
 byte-0-second = refl
@@ -70,6 +74,7 @@ pub byte-507-first : firstSum (alone 507) ≡ 255
 unfolding firstSum sum words
 byte-507-first = refl
 
+-- Its second sum.
 pub byte-507-second : secondSum (alone 507) ≡ 255
 unfolding secondSum sum words
 byte-507-second = refl
@@ -97,6 +102,7 @@ noOffer = record { price = 0; owner = 0; code = code [] }
 noTally : Tally
 noTally = record { grocer = 0; box = 0; code = code []; count = pos 0 }
 
+-- E as a job.
 pub e-job : FileJob
 e-job =
     record {
@@ -123,6 +129,7 @@ pub e-place-3 : placeOf e-job 3 ≡ 0
 unfolding e-job offers tallies noOffer noTally placeOf names sameOffer number value find any
 e-place-3 = refl
 
+-- "077" names the offer "77", at place 1.
 pub e-place-1 : placeOf e-job 1 ≡ 1
 unfolding e-job offers tallies noOffer noTally placeOf names sameOffer number value find any
 e-place-1 = refl

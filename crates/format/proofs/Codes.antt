@@ -28,6 +28,7 @@ pub record IsCode (c : Code) : Type 0 where
   pub digits : Digits (c .digit) (c .size)
   pub rest : (k : ℕ) → c .size ≤ k → k < 10 → c .digit k ≡ 0
 
+-- A field that passes the test is one.
 pub code-is : (c : Code) → isCode c ≡ true → IsCode c
 unfolding isCode isPlace
 code-is c h = record { some = leb-true 1 n (and-l (leb 1 n) (leb n 10) few′); few = few; digits = digits; rest = rest }
@@ -57,6 +58,7 @@ pub code-cong : (c d : Code) → c .size ≡ d .size → ((k : ℕ) → k < 10 �
 unfolding isCode isPlace
 code-cong c d e h = rw (all-cong 10 (isPlace c) (isPlace d) (λ k l. rw (e, h k l)), e)
 
+-- The number goes by the digits.
 pub value-cong : (n : ℕ) (g h : ℕ → ℕ) → ((k : ℕ) → k < n → g k ≡ h k) → value n g ≡ value n h
 unfolding value
 value-cong zero g h e = refl
@@ -76,6 +78,7 @@ value-below g (suc n) v =
     let r = value-below g n (λ k h. v k (omega arith)) in
     omega (arith, v n (omega arith), pow-suc 10 n)
 
+-- n digits, at most k, write a number below 10 to the power k.
 pub value-bound : (g : ℕ → ℕ) (n k : ℕ) → Digits g n → n ≤ k → value n g < 10 ^ k
 value-bound g n k v h = lt-of-lt-of-le (value-below g n v) (pow-le-pow-right (lit< tt) h)
 
@@ -188,6 +191,7 @@ unfolding orZero
 or-zero-some [] = omega arith
 or-zero-some (d ∷ ds) = omega arith
 
+-- Dropping zeros leaves a digit at least.
 pub drop-some : (c : Code) → isCode c ≡ true → 1 ≤ length (dropZeros (written c))
 unfolding written
 drop-some c h = rw (drop-written (c .digit) (c .size) (code-is c h .some)) (or-zero-some _)

@@ -163,6 +163,7 @@ module _ (f f′ : List ℕ) (ok : fileRefusal f ≡ 0) (k : ℕ) (hk : k < bloc
     unfolding fileRefusal firstOf
     later = rw (length-fine, header-fine, count-fine, found)
 
+-- The same of two bytes that are set.
 pub damaged-set : (f : List ℕ) → ((p : ℕ) → getD f p 0 < 256) → fileRefusal f ≡ 0 → (k i j x y : ℕ) → k < blocks (decode f) → i < 512 → j < 512 → x < 256 → y < 256 → (set (set f (512 * k + i) x) (512 * k + j) y ≡ f → ⊥) → fileRefusal (set (set f (512 * k + i) x) (512 * k + j) y) ≡ 2
 damaged-set f bytes ok k i j x y hk hi hj hx hy changed =
     elim (ℕ-discrete k 0) [

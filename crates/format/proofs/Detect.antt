@@ -161,6 +161,7 @@ module _ (f : List ℕ) (at : ℕ) (l : at + 512 ≤ length f) (bytes : Bytes f)
           let same = stored G f at bG bytes k₁ k₂ in
           (sym Gi ∙ same i k (omega arith), sym Gj ∙ same j (omega arith) hj)
 
+  -- Two places, the first below the second.
   pub apart : (i j x y : ℕ) → i < j → j < 512 → x < 256 → y < 256 → Agrees (set (set f (at + i) x) (at + j) y) at → set (set f (at + i) x) (at + j) y ≡ f
   apart i j x y ij hj hx hy g =
       let r = ordered i j x y ij hj hx hy g in

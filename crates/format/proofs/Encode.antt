@@ -16,6 +16,7 @@ use Rattle.format.proofs.Plan.{kind-same, records-same, spare-same}
 use Rattle.format.proofs.Read.{in-field}
 use Rattle.format.proofs.Same.{SameCode, OfferWords, TallyWords, SameWords}
 
+-- Codes with the same digits have the same eleven bytes.
 pub code-bytes : (a b : Code) → SameCode a b → codeBytes a ≡ codeBytes b
 unfolding codeBytes
 code-bytes a b s = ap₂ _∷_ (s .size) (tabulate-cong 10 (a .digit) (b .digit) (s .digit))

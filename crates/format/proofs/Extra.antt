@@ -23,6 +23,7 @@ unfolding any
 any-cong zero p q h = refl
 any-cong (suc n) p q h = ap₂ _||_ (any-cong n p q (λ i l. h i (omega arith))) (h n (omega arith))
 
+-- They find the same number.
 pub find-cong : (n : ℕ) (p q : ℕ → Bool) → ((i : ℕ) → i < n → p i ≡ q i) → find n p ≡ find n q
 unfolding find
 find-cong zero p q h = refl
@@ -34,6 +35,7 @@ unfolding any
 any-false zero p h = refl
 any-false (suc n) p h = rw (any-false n p (λ i l. h i (omega arith)), h n (omega arith))
 
+-- Neither of two tests holds.
 pub or-off : (a b : Bool) → (a || b) ≡ false → (a ≡ false) × (b ≡ false)
 or-off true b h = (h, absurd (clash refl h))
 or-off false b h = (refl, h)
@@ -91,6 +93,7 @@ tabulate-snoc (suc n) f = ap (λ (l : List _). f 0 ∷ l) (tabulate-snoc n (λ i
 pub overwrite-same : {A : Type 0} (n : ℕ) (f : ℕ → A) (l : List A) (z : A) → n ≤ length l → ((i : ℕ) → i < n → f i ≡ getD l i z) → overwrite n f l ≡ l
 overwrite-same n f l z h e = sym (is-overwrite n f l l z h refl (λ i k. sym (e i k)) (λ i k. refl))
 
+-- The same by row and column.
 pub recell-same : {A : Type 0} (n m : ℕ) (f : ℕ → ℕ → A) (l : List A) (z : A) → n * m ≤ length l → ((b o : ℕ) → b < n → o < m → f b o ≡ getD l (b * m + o) z) → recell n m f l ≡ l
 recell-same n m f l z h e = sym (is-recell n m f l l z h refl (λ b o p q. sym (e b o p q)) (λ i k. refl))
 
@@ -104,6 +107,7 @@ pub overwrite-cong : {A : Type 0} (n m : ℕ) (f g : ℕ → A) (l : List A) →
 unfolding overwrite
 overwrite-cong n m f g l e h = ap (λ (k : ℕ). tabulate k f ++ drop k l) e ∙ ap (λ (r : List _). r ++ drop m l) (tabulate-cong m f g h)
 
+-- The same by row and column.
 pub recell-cong : {A : Type 0} (n n′ m : ℕ) (f g : ℕ → ℕ → A) (l : List A) → n ≡ n′ → ((b o : ℕ) → b < n′ → o < m → f b o ≡ g b o) → recell n m f l ≡ recell n′ m g l
 unfolding recell
 recell-cong n n′ m f g l e h =

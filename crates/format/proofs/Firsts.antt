@@ -64,6 +64,7 @@ below-at h (suc n) e k l =
       | no d ↦ below-at h n (each (firstBelow n h ∷ h n ∷ []) e 0) k (omega (arith, d))
     ]
 
+-- And the other way round.
 pub below-none : (h : ℕ → ℕ) (n : ℕ) → ((k : ℕ) → k < n → h k ≡ 0) → firstBelow n h ≡ 0
 unfolding firstBelow
 below-none h zero f = refl

@@ -35,6 +35,7 @@ half w (suc e) a b w₀ hw he h m =
     let l : w * suc e ≤ 508 * 255 = mul-le-mul hw he in
     omega (arith, n)
 
+-- The same of a byte that was x and is y.
 pub no-change : (w x y a b : ℕ) → 0 < w → w ≤ 508 → x ≤ 255 → y ≤ 255 → a + w * x ≡ b + w * y → a % 65521 ≡ b % 65521 → x ≡ y
 no-change w x y a b w₀ hw hx hy h m = elim (decLe x y) [ yes l ↦ up l | no g ↦ down (omega (arith, g)) ]
   where

@@ -14,10 +14,12 @@ use Rattle.laws.proofs.Below.{any-at, any-none, find-passes, find-none}
 use Rattle.laws.proofs.Checks.{none-of}
 use Rattle.format.specs.Codes.{isCode, sameOffer}
 use Rattle.format.specs.Job.{FileJob, Offer, Tally, badSizes, badOffer, badOwner, badTally, badRecords, names, placeOf, shared, unnamed}
+use Rattle.format.specs.Blocks.{blocks}
 use Rattle.format.specs.Refusals.{jobRefusal}
 use Rattle.format.proofs.Codes.{same-trans}
 use Rattle.format.proofs.Extra.{or-off, unmet, none-met, any-false}
 
+-- K, M, N and T within their values.
 pub record SizesIn (j : FileJob) : Type 0 where
   pub boxes-some : 1 ≤ j .boxes
   pub boxes-most : j .boxes ≤ 16
@@ -27,11 +29,13 @@ pub record SizesIn (j : FileJob) : Type 0 where
   pub offers-most : j .offers ≤ 500
   pub tallies-most : j .tallies ≤ 1000
 
+-- An offer's fields within their ranges.
 pub record OfferIn (j : FileJob) (o : Offer) : Type 0 where
   pub price : o .price ≤ 9999999
   pub owner : o .owner < j .boxes
   pub code : isCode (o .code) ≡ true
 
+-- A tally's fields within their ranges.
 pub record TallyIn (j : FileJob) (t : Tally) : Type 0 where
   pub grocer : t .grocer < j .grocers
   pub box : t .box < j .boxes
@@ -48,6 +52,7 @@ pub record InRange (j : FileJob) : Type 0 where
   pub place : (t : ℕ) → t < j .tallies → placeOf j t < j .offers
   pub named : (t : ℕ) → t < j .tallies → sameOffer (j .offer (placeOf j t) .code) (j .tally t .code) ≡ true
 
+-- What 4 says where it is not met.
 pub sizes-in : (j : FileJob) → badSizes j ≡ false → SizesIn j
 unfolding badSizes
 sizes-in j h =
@@ -62,12 +67,14 @@ sizes-in j h =
       tallies-most = ltb-false _ _ (r .1 .1 .1 .1 .1 .1 .0);
     }
 
+-- What 6 of an offer says where it is not met.
 pub offer-in : (j : FileJob) (o : Offer) → badOffer j o ≡ false → OfferIn j o
 unfolding badOffer
 offer-in j o h =
     let r = none-of (ltb 9999999 (o .price) ∷ leb (j .boxes) (o .owner) ∷ not (isCode (o .code)) ∷ []) h in
     record { price = ltb-false _ _ (r .0); owner = leb-false _ _ (r .1 .0); code = not-false _ (r .1 .1 .0) }
 
+-- What 6 of a tally says where it is not met.
 pub tally-in : (j : FileJob) (t : Tally) → badTally j t ≡ false → TallyIn j t
 unfolding badTally
 tally-in j t h =
@@ -76,6 +83,7 @@ tally-in j t h =
 
 -- ---- what the conditions of a whole job say where none is met
 
+-- None of the conditions 4, 6, 7 and 8 is met.
 pub record Fine (j : FileJob) : Type 0 where
   pub sizes : badSizes j ≡ false
   pub offer : (i : ℕ) → i < j .offers → badOffer j (j .offer i) ≡ false
@@ -84,6 +92,7 @@ pub record Fine (j : FileJob) : Type 0 where
   pub shared : shared j ≡ false
   pub unnamed : unnamed j ≡ false
 
+-- A job that is not refused.
 pub fine : (j : FileJob) → jobRefusal j ≡ 0 → Fine j
 unfolding jobRefusal badRecords
 fine j e =
@@ -154,6 +163,7 @@ module _ (j : FileJob) (t : ℕ) where
       n : (placeOf j t < j .offers) × (sameOffer (j .offer (placeOf j t) .code) (j .tally t .code) ≡ true)
       n = named-place here
 
+-- A job that is not refused is in range.
 pub in-range : (j : FileJob) → jobRefusal j ≡ 0 → InRange j
 unfolding unnamed badOwner
 in-range j e =
@@ -169,3 +179,7 @@ in-range j e =
       place = λ t h. named-place j t (n t h) .0;
       named = λ t h. named-place j t (n t h) .1;
     }
+
+-- "The longest file has 74 blocks": no job that is not refused has a longer one.
+pub blocks-most : (j : FileJob) → jobRefusal j ≡ 0 → blocks j ≤ 74
+blocks-most j e = let s = in-range j e .sizes in omega arith

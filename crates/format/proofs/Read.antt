@@ -31,10 +31,12 @@ Bytes g = (k : ℕ) → g k < 256
 
 -- ---- records: what is read and written again is what stood there
 
+-- An offer's fields.
 pub offer-bytes : (g : ℕ → ℕ) → Bytes g → offerBytes (readOffer g) ≡ tabulate 16 g
 unfolding offerBytes readOffer codeBytes tabulate
 offer-bytes g b = ap (λ (l : List ℕ). l ++ (g 4 ∷ g 5 ∷ tabulate 10 (after g 6))) (bytes-word32 (g 0) (g 1) (g 2) (g 3) (b 0) (b 1) (b 2))
 
+-- A tally's fields.
 pub tally-bytes : (g : ℕ → ℕ) → Bytes g → tallyBytes (readTally g) ≡ tabulate 18 g
 unfolding tallyBytes readTally codeBytes tabulate
 tally-bytes g b =

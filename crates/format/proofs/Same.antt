@@ -18,11 +18,13 @@ pub record SameCode (a b : Code) : Type 0 where
   pub size : a .size ≡ b .size
   pub digit : (k : ℕ) → k < 10 → a .digit k ≡ b .digit k
 
+-- Two offers with the same words.
 pub record OfferWords (a b : Offer) : Type 0 where
   pub price : a .price ≡ b .price
   pub owner : a .owner ≡ b .owner
   pub code : SameCode (a .code) (b .code)
 
+-- Two tallies with the same words.
 pub record TallyWords (a b : Tally) : Type 0 where
   pub grocer : a .grocer ≡ b .grocer
   pub box : a .box ≡ b .box
@@ -44,18 +46,22 @@ same-number a b s h = number-cong a b h (s .size) (s .digit)
 
 -- A record's refusal goes by the sizes and the record.
 module _ (a b : FileJob) (z : Sizes a b) where
+  -- 4 goes by the sizes.
   pub sizes-same : badSizes a ≡ badSizes b
   unfolding badSizes
   sizes-same = rw (z .boxes, z .grocers, z .offers, z .tallies)
 
+  -- 6 of an offer.
   pub offer-same : (o p : Offer) → OfferWords o p → badOffer a o ≡ badOffer b p
   unfolding badOffer
   offer-same o p w = rw (z .boxes, w .price, w .owner, same-code (o .code) (p .code) (w .code))
 
+  -- 6 of a grocer.
   pub owner-same : (o p : ℕ) → o ≡ p → badOwner a o ≡ badOwner b p
   unfolding badOwner
   owner-same o p w = rw (z .boxes, w)
 
+  -- 6 of a tally.
   pub tally-same : (o p : Tally) → TallyWords o p → badTally a o ≡ badTally b p
   unfolding badTally
   tally-same o p w = rw (z .boxes, z .grocers, w .grocer, w .box, w .count, same-code (o .code) (p .code) (w .code))
@@ -71,6 +77,7 @@ module _ (a b : FileJob) (s : SameWords a b) (ok : jobRefusal b ≡ 0) where
   unfolding names sameOffer
   names-same t h i l = ap₂ eqb (offer-number i l) (tally-number t h)
 
+  -- Each tally's place is the same.
   pub place-same : (t : ℕ) → t < b .tallies → placeOf a t ≡ placeOf b t
   unfolding placeOf
   place-same t h = ap (λ (n : ℕ). find n (names a t)) (s .sizes .offers) ∙ find-cong (b .offers) (names a t) (names b t) (names-same t h)

@@ -27,7 +27,7 @@ use Rattle.format.proofs.Range.{InRange, in-range}
 use Rattle.format.proofs.Same.{SameCode, SameWords, place-same, same-fine}
 use Rattle.format.proofs.Encode.{code-bytes, encode-same}
 use Rattle.format.proofs.Accept.{long, accepted, job-accepted}
-use Rattle.format.proofs.Write.{read-back, written-accepted}
+use Rattle.format.proofs.Write.{read-back, long-is, written-accepted}
 
 -- ---- codes in a table
 
@@ -67,6 +67,7 @@ unfolding storeCodes
 codes-same n m c d l e h = recell-cong n m 11 _ _ l e (λ i p q r. ap (λ (x : List ℕ). getD x p 0) (code-bytes (c i) (d i) (h i q)))
 
 module _ (a b : FileJob) (s : SameWords a b) where
+  -- The same tables come of both,
   pub store-same : (l : JobTables) → store a l ≡ store b l
   unfolding store
   store-same l =
@@ -81,6 +82,7 @@ module _ (a b : FileJob) (s : SameWords a b) where
       let e₇ = overwrite-cong (a .tallies) (b .tallies) (λ i. a .tally i .count) (λ i. b .tally i .count) (l .tallyCount) (z .tallies) (λ i h. s .tally i h .count) in
       λ i. record { price = e₀ i; offerOwner = e₁ i; offerCode = e₂ i; grocerOwner = e₃ i; tallyGrocer = e₄ i; tallyBox = e₅ i; tallyCode = e₆ i; tallyCount = e₇ i }
 
+  -- the places too.
   pub store-read-same : jobRefusal b ≡ 0 → (l : ReaderTables) → storeRead a l ≡ storeRead b l
   unfolding storeRead
   store-read-same ok l =
@@ -91,10 +93,12 @@ module _ (a b : FileJob) (s : SameWords a b) where
 -- ---- what the calls give, by their refusal
 
 module _ (f : List ℕ) (l : ReaderTables) where
+  -- No refusal: the sizes, and the job stored.
   pub read-accepted : readRefusal f l ≡ 0 → readResult f l ≡ record { answer = sizes (decode f .boxes) (decode f .grocers) (decode f .offers) (decode f .tallies); tables = storeRead (decode f) l }
   unfolding readResult
   read-accepted e = rw e
 
+  -- A refusal: its number, and every word as it was.
   pub read-refused : (readRefusal f l ≡ 0 → ⊥) → readResult f l ≡ record { answer = refused (readRefusal f l); tables = l }
   unfolding readResult
   read-refused n = rw (ne-eqb (readRefusal f l) 0 n)
@@ -108,10 +112,12 @@ module _ (f : List ℕ) (l : ReaderTables) where
       ]
 
 module _ (k m n t : ℕ) (l : JobTables) (out : List ℕ) where
+  -- No refusal: the file's length, and the file in front of the rest.
   pub write-accepted : writeRefusal k m n t l out ≡ 0 → writeResult k m n t l out ≡ record { answer = wrote (length (encode (fileJobOf k m n t l))); out = encode (fileJobOf k m n t l) ++ drop (length (encode (fileJobOf k m n t l))) out }
   unfolding writeResult
   write-accepted e = rw e
 
+  -- A refusal: its number, and the buffer as it was.
   pub write-refused : (writeRefusal k m n t l out ≡ 0 → ⊥) → writeResult k m n t l out ≡ record { answer = notWritten (writeRefusal k m n t l out); out = out }
   unfolding writeResult
   write-refused e = rw (ne-eqb (writeRefusal k m n t l out) 0 e)
@@ -129,6 +135,7 @@ pub record Long (m n t : ℕ) (l : JobTables) : Type 0 where
   pub tallyCode : t * 11 ≤ length (l .tallyCode)
   pub tallyCount : t ≤ length (l .tallyCount)
 
+-- No table is short.
 pub long-tables : (m n t : ℕ) (l : JobTables) → shortTables m n t l ≡ false → Long m n t l
 unfolding shortTables
 long-tables m n t l h =
@@ -147,6 +154,7 @@ long-tables m n t l h =
       tallyCount = ltb-false _ _ (r .1 .1 .1 .1 .1 .1 .1 .0);
     }
 
+-- And the other way round.
 pub tables-long : (m n t : ℕ) (l : JobTables) → Long m n t l → shortTables m n t l ≡ false
 unfolding shortTables
 tables-long m n t l h =
@@ -176,6 +184,7 @@ codes-own n l h = recell-same n 11 _ l 0 h (λ i p q r. ap (λ (x : List ℕ). g
     eleven : (g : ℕ → ℕ) → codeBytes (readCode g) ≡ tabulate 11 g
     eleven g = unfold codeBytes tabulate in refl
 
+-- Tables that are long enough stay as they are.
 pub store-own : (k m n t : ℕ) (l : JobTables) → Long m n t l → store (fileJobOf k m n t l) l ≡ l
 unfolding store fileJobOf
 store-own k m n t l h =
@@ -206,6 +215,11 @@ module _ (k m n t : ℕ) (l : JobTables) (out : List ℕ) (ok : writeRefusal k m
   unfolding writeRefusal
   written-job = each _ ok 1
 
+  -- The writer answers 512 bytes for each block.
+  pub written-length : writeResult k m n t l out .answer ≡ wrote (512 * blockCount n t)
+  unfolding fileJobOf
+  written-length = rw (write-accepted k m n t l out ok) (ap wrote (long-is (fileJobOf k m n t l) written-job))
+
   -- The writer's file is the front of its buffer.
   pub written-file : take (length (encode (fileJobOf k m n t l))) (writeResult k m n t l out .out) ≡ encode (fileJobOf k m n t l)
   written-file = rw (write-accepted k m n t l out ok) (take-at _ _ _ refl)
@@ -220,6 +234,14 @@ module _ (k m n t : ℕ) (l : JobTables) (out : List ℕ) (ok : writeRefusal k m
       let e = store-read-same (decode (encode j)) j b written-job r in
       read-accepted (encode j) r (reader-file (encode j) r h ∙ written-accepted j written-job)
       ∙ (λ i. record { answer = sizes (z .boxes i) (z .grocers i) (z .offers i) (z .tallies i); tables = e i })
+
+  -- The same of the writer's buffer itself, as far as its answer says.
+  pub read-buffer : (r : ReaderTables) → shortReader r ≡ false → readResult (take (512 * blockCount n t) (writeResult k m n t l out .out)) r ≡ record { answer = sizes k m n t; tables = storeRead (fileJobOf k m n t l) r }
+  unfolding fileJobOf
+  read-buffer r h =
+      ap (λ (x : ℕ). readResult (take x (writeResult k m n t l out .out)) r) (sym (long-is (fileJobOf k m n t l) written-job))
+      ∙ ap (λ (f : List ℕ). readResult f r) written-file
+      ∙ read-written r h
 
 -- Read back into the tables that were written from, no word of theirs changes.
 pub read-own : (k m n t : ℕ) (r : ReaderTables) (out : List ℕ) → writeRefusal k m n t (r .job) out ≡ 0 → shortReader r ≡ false →
@@ -243,9 +265,11 @@ module _ (f : List ℕ) (l : ReaderTables) (ok : readRefusal f l ≡ 0) where
   unfolding storeRead
   read-job = rw (read-accepted f l ok) (store-job (decode f) (l .job))
 
+  -- The writer takes the job that the tables hold.
   pub read-writable : jobRefusal (fileJobOf (decode f .boxes) (decode f .grocers) (decode f .offers) (decode f .tallies) (readResult f l .tables .job)) ≡ 0
   read-writable = same-fine _ (decode f) read-job (job-accepted f read-file)
 
+  -- It is in range.
   pub read-range : InRange (fileJobOf (decode f .boxes) (decode f .grocers) (decode f .offers) (decode f .tallies) (readResult f l .tables .job))
   read-range = in-range _ read-writable
 

@@ -47,6 +47,7 @@ not-spare j b r c hr hc =
 -- ---- a job's file, byte by byte
 
 module _ (j : FileJob) where
+  -- A byte of block k,
   pub block-at : (k q : ℕ) → k < blocks j → q < 512 → from (encode j) (512 * k) q ≡ blockByte (bodyByte j k) q
   unfolding encode
   block-at k q hk hq =
@@ -54,10 +55,12 @@ module _ (j : FileJob) where
       let r : (512 * k + q) % 512 ≡ q = omega arith in
       getD-tabulate _ _ (512 * k + q) 0 (omega arith) ∙ rw (d, r)
 
+  -- before the sums,
   pub body-at : (k q : ℕ) → k < blocks j → q < 508 → from (encode j) (512 * k) q ≡ bodyByte j k q
   unfolding blockByte
   body-at k q hk hq = block-at k q hk (omega arith) ∙ rw (lt-ltb q 508 hq)
 
+  -- and among the records.
   pub record-at : (k s : ℕ) → k < blocks j → s < 504 → from (encode j) (512 * k) (4 + s) ≡ recordByte j (kindAt (j .offers) k) s
   unfolding bodyByte
   record-at k s hk hs =
@@ -237,6 +240,7 @@ module _ (j : FileJob) (ok : jobRefusal j ≡ 0) where
   unfolding headerRefusal badHeader
   header-fine = none-met _ (sums-fine 0 (omega arith), (due-fine 0 (omega arith), (rw (mark-is, read-fine .sizes), (spare-fine 0 (omega arith), tt))))
 
+  -- The length of a job's file.
   pub long-is : length (encode j) ≡ 512 * blocks j
   unfolding encode
   long-is = length-tabulate _ _

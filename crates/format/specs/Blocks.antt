@@ -21,24 +21,27 @@ pub data BlockKind : Type 0 where
 abbrev pub blocksFor : ℕ → ℕ
 blocksFor n = (n + 20) / 21
 
--- The plan of blocks: the header, "Then offer, grocer and tally blocks". Where each kind begins, for n offers.
+-- The plan of blocks: the header, "Then offer, grocer and tally blocks". The first offer block is block 1.
 abbrev pub offersAt : ℕ
 offersAt = 1
 
+-- The grocer block, after the blocks of n offers.
 abbrev pub grocersAt : ℕ → ℕ
 grocersAt n = offersAt + blocksFor n
 
+-- The first tally block, after the one grocer block.
 abbrev pub talliesAt : ℕ → ℕ
 talliesAt n = grocersAt n + 1
 
--- How many blocks a file of n offers and t tallies has.
+-- How many blocks a file of n offers and t tallies has; "T = 0 has no tally block".
 abbrev pub blockCount : ℕ → ℕ → ℕ
 blockCount n t = talliesAt n + blocksFor t
 
+-- How many blocks a job's file has.
 abbrev pub blocks : FileJob → ℕ
 blocks j = blockCount (j .offers) (j .tallies)
 
--- What block k of a file of n offers holds.
+-- What block k of a file of n offers is, by the plan.
 unfoldable pub kindAt : ℕ → ℕ → BlockKind
 kindAt n k =
     cond (ltb k offersAt) header

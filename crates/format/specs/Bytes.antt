@@ -11,16 +11,18 @@ from f at k = getD f (at + k) 0
 abbrev pub after : (ℕ → ℕ) → ℕ → ℕ → ℕ
 after g at k = g (at + k)
 
--- "integers little-endian": the 16-bit and the 32-bit word that stand first.
+-- "integers little-endian": the 16-bit word of the first two bytes.
 abbrev pub word16 : (ℕ → ℕ) → ℕ
 word16 g = g 0 + 256 * g 1
 
+-- The 32-bit word of the first four.
 abbrev pub word32 : (ℕ → ℕ) → ℕ
 word32 g = g 0 + 256 * g 1 + 65536 * g 2 + 16777216 * g 3
 
--- The bytes of a word.
+-- The two bytes of a 16-bit word.
 abbrev pub bytes16 : ℕ → List ℕ
 bytes16 v = v % 256 ∷ v / 256 ∷ []
 
+-- The four bytes of a 32-bit word.
 abbrev pub bytes32 : ℕ → List ℕ
 bytes32 v = v % 256 ∷ v / 256 % 256 ∷ v / 65536 % 256 ∷ v / 16777216 ∷ []

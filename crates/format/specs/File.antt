@@ -30,10 +30,11 @@ blockByte g p = cond (ltb p 508) (g p) (getD (bytes16 (firstSum g) ++ bytes16 (s
 unfoldable pub encode : FileJob → List ℕ
 encode j = tabulate (512 * blocks j) (λ p. blockByte (bodyByte j (p / 512)) (p % 512))
 
--- An offer and a tally as their record's bytes say them: the other way round of offerBytes and tallyBytes.
+-- The offer that a record's bytes say: offerBytes the other way round.
 unfoldable pub readOffer : (ℕ → ℕ) → Offer
 readOffer g = record { price = word32 g; owner = g 4; code = readCode (after g 5) }
 
+-- The tally that a record's bytes say: tallyBytes the other way round.
 unfoldable pub readTally : (ℕ → ℕ) → Tally
 readTally g = record { grocer = word16 g; box = g 2; code = readCode (after g 3); count = toZ w32 (word32 (after g 14)) }
 

@@ -31,6 +31,15 @@ pub record ReaderTables : Type 0 where
   pub job : JobTables
   pub tallyOffer : List ℕ
 
+-- The lent lists as tables.
+abbrev pub jobTables : (price offerOwner offerCode grocerOwner tallyGrocer tallyBox tallyCode : List ℕ) → List ℤ → JobTables
+jobTables p o c g tg tb tc n =
+    record { price = p; offerOwner = o; offerCode = c; grocerOwner = g; tallyGrocer = tg; tallyBox = tb; tallyCode = tc; tallyCount = n }
+
+-- The reader's lent lists as tables.
+abbrev pub readerTables : JobTables → (tallyOffer : List ℕ) → ReaderTables
+readerTables j p = record { job = j; tallyOffer = p }
+
 -- 20: a table "shorter than K, M, N and T as given need", for m grocers, n offers and t tallies.
 unfoldable pub shortTables : ℕ → ℕ → ℕ → JobTables → Bool
 shortTables m n t l =
