@@ -1,15 +1,16 @@
 -- Laws of the index: shared numbers are neighbours, and a number is found by halving. Assumes nothing.
-use mathlib.Core.Path.{_≡_, refl, sym, ap, _∙_, subst}
+use mathlib.Core.Path.{_≡_, sym, ap, _∙_, subst}
 use mathlib.Core.List.{List}
-use mathlib.Core.Bool.{Bool, true, false, cond, _||_}
-use Prim.Native.Nat.{ℕ, zero, suc, _+_, _-_, _/_, _<_, _≤_}
+use mathlib.Core.Bool.{Bool, true, false, cond}
+use Prim.Native.Nat.{ℕ, _+_, _-_, _*_, _/_, _^_, _<_, _≤_}
 use native.Mathlib.Omega.{arith}
 use lib.ListN.{getD}
+use mir.Val.{boolByte}
 use lib.Dec.{eqb, ltb, leb}
-use borrow.Author.Tests.{eqb-true, eqb-false, eq-eqb, ne-eqb, ltb-true, ltb-false, leb-true, leb-false}
-use Rattle.laws.specs.Below.{any, find, count}
+use borrow.Author.Tests.{eqb-true, eqb-false, eq-eqb, ltb-true, ltb-false, leb-true, leb-false, lt-ltb, le-ltb}
+use Rattle.laws.specs.Below.{any}
 use Rattle.laws.proofs.Bools.{split, clash, eqb-same, no-true}
-use Rattle.laws.proofs.Below.{any-at, any-none, any-find, find-none, find-only}
+use Rattle.laws.proofs.Below.{any-at, any-find, find-none, find-only}
 use Rattle.index.specs.Index.{times, keyAt, Ascending, IsIndex, sharesNumber, placeOf, Bracket}
 use Rattle.index.proofs.Extra.{count-some, count-two}
 
@@ -84,7 +85,6 @@ module _ {keys places numbers : List ℕ} {n : ℕ} (x : IsIndex keys places num
     pub found : (i : ℕ) → i < n → getD keys i 0 ≡ number → getD places i 0 ≡ placeOf numbers n number
     unfolding placeOf
     found i l e =
-        let p : ℕ = getD places i 0 in
         let same : getD numbers (getD places i 0) 0 ≡ number = sym (key-at i l) ∙ e in
         sym (find-only n (λ k. eqb (getD numbers k 0) number) (getD places i 0) (x .place-in i l) (eq-eqb _ _ same)
         (λ k q f. split (eqb k (getD places i 0))
@@ -115,18 +115,55 @@ neighbours-more keys i p h d k l e = split (eqb (k + 1) i)
 pub bracket-start : (keys : List ℕ) (n number : ℕ) → Bracket keys n number 0 n
 bracket-start keys n number = record { inside = omega arith; behind = λ a i l h. absurd (omega arith); before = λ l. absurd (omega arith) }
 
+pub flag-le : (t : Bool) → boolByte t ≤ 1
+flag-le true = omega arith
+flag-le false = omega arith
+
+-- A word below 2^16 is shifted out by 16 bits, or stays.
+shifted : (half : ℕ) (t : Bool) → half < 65536 → half / 2 ^ (boolByte t * 16) ≡ cond t 0 half
+shifted half true l = omega arith
+shifted half false l = omega arith
+
+pub shift-or : (at half key number : ℕ) → half < 65536 → at + half / 2 ^ (boolByte (ltb number key) * 16) ≡ cond (leb key number) (at + half) at
+shift-or at half key number l = split (leb key number)
+    (λ e. let f : ltb number key ≡ false = le-ltb number key (leb-true key number e) in
+    let g : half / 2 ^ (boolByte (ltb number key) * 16) ≡ half = shifted half (ltb number key) l ∙ ap (λ (t : Bool). cond t 0 half) f in
+    rw e (omega arith))
+    (λ e. let f : ltb number key ≡ true = lt-ltb number key (leb-false key number e) in
+    let g : half / 2 ^ (boolByte (ltb number key) * 16) ≡ 0 = shifted half (ltb number key) l ∙ ap (λ (t : Bool). cond t 0 half) f in
+    rw e (omega arith))
+
+-- The sum is one of the two places.
+pub shift-le : (at half key number : ℕ) → half < 65536 → at + half / 2 ^ (boolByte (ltb number key) * 16) ≤ at + half
+shift-le at half key number l = rw (shift-or at half key number l) (split (leb key number) (λ e. rw e (omega arith)) (λ e. rw e (omega arith)))
+
 -- The farther half is kept, or the nearer.
-pub bracket-half : (keys : List ℕ) (n number at len half : ℕ) → Bracket keys n number at len → half + half ≤ len → 0 < len
+half-kept : (keys : List ℕ) (n number at len half : ℕ) → Bracket keys n number at len → half + half ≤ len → 0 < len
     → Bracket keys n number (cond (leb (getD keys (at + half) 0) number) (at + half) at) (len - half)
-bracket-half keys n number at len half b l p = split (leb (getD keys (at + half) 0) number)
+half-kept keys n number at len half b l p = split (leb (getD keys (at + half) 0) number)
     (λ e. rw e (record {
       inside = omega (arith, b .inside);
       behind = λ a i h q. b .behind a i (omega arith) q;
-      before = λ z. leb-true _ _ e }))
+      before = λ z. leb-true _ _ e;
+    }))
     (λ e. let z : number < getD keys (at + half) 0 = leb-false _ _ e in rw e (record {
       inside = omega (arith, b .inside);
       behind = λ a i h q. let y = a .ascend (at + half) i (omega arith) q in omega arith;
-      before = b .before }))
+      before = b .before;
+    }))
+
+-- The same, as code has it.
+pub bracket-half : {keys : List ℕ} {n number at len : ℕ} (r : ℕ) → Bracket keys n number at len → 1 < len
+    → r ≡ cond (leb (getD keys (at + len / 2) 0) number) (at + len / 2) at → (0 < len - len / 2) × Bracket keys n number r (len - len / 2)
+bracket-half {keys} {n} {number} {at} {len} r b l e =
+    (omega arith, subst (λ (x : ℕ). Bracket keys n number x (len - len / 2)) (sym e) (half-kept keys n number at len (len / 2) b (omega arith) (omega arith)))
+
+-- One place is left.
+pub bracket-end : {keys : List ℕ} {n number at len : ℕ} → Bracket keys n number at len → 0 < len → len ≤ 1 → Bracket keys n number at 1
+bracket-end {keys} {n} {number} {at} {len} b p l = subst (λ (m : ℕ). Bracket keys n number at m) (one len p l) b
+  where
+    one : (m : ℕ) → 0 < m → m ≤ 1 → m ≡ 1
+    one m p l = omega arith
 
 -- One place is left, and its key is not the number: no key is.
 pub bracket-miss : (keys : List ℕ) (n number at : ℕ) → Bracket keys n number at 1 → Ascending keys n → (getD keys at 0 ≡ number → ⊥)

@@ -24,21 +24,20 @@ pub fn shared(keys: &[u64], n: usize) -> bool
     false
 }
 
-// Of the places at and from, the farther one where its number is not too large.
+// Of the places at and at + half, the farther one where its number is not too large. There is no branch, since none could be foreseen:
+// where the number is too large, half is shifted out.
 fn nearer(keys: &[u64], at: usize, half: usize, number: u64) -> usize
-    requires { ⌜ at + half < length (now keys) ⌝ }
+    requires { ⌜ (half < 65536) × (at + half < length (now keys)) ⌝ }
     ensures { λ r. ⌜ r ≡ cond (leb (getD (now (keys .entry)) (at + half) 0) number) (at + half) at ⌝ }
 {
     let far = at + half;
-    if keys[far] <= number {
-        return far;
-    }
-    at
+    let over = (keys[far] > number) as usize;
+    at + (half >> (over * 16))
 }
 
 // Where a number stands in the index if it does: every number behind is larger, and the numbers before are not.
 fn halve(keys: &[u64], n: usize, number: u64) -> usize
-    requires { ⌜ (0 < n) × (n ≤ length (now keys)) ⌝ }
+    requires { ⌜ (0 < n) × ((n ≤ 500) × (n ≤ length (now keys))) ⌝ }
     ensures { λ r. ⌜ Bracket (now (keys .entry)) n number r 1 ⌝ }
 {
     let mut at: usize = 0;
@@ -53,7 +52,7 @@ fn halve(keys: &[u64], n: usize, number: u64) -> usize
 
 // The place of the offer with this number, or n where no offer has it.
 pub fn place(keys: &[u64], places: &[u16], n: usize, number: u64) -> usize
-    requires { ⌜ (n ≤ length (now keys)) × (n ≤ length (now places)) ⌝ }
+    requires { ⌜ (n ≤ 500) × ((n ≤ length (now keys)) × (n ≤ length (now places))) ⌝ }
     ensures { λ r. ⌜ ((numbers : List ℕ) → IsIndex (now (keys .entry)) (now (places .entry)) numbers n → sharesNumber numbers n ≡ false → r ≡ placeOf numbers n number) ⌝ }
 {
     if n == 0 {

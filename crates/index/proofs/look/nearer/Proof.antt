@@ -1,33 +1,57 @@
 -- `index::look::nearer` meets its contract. Assumes nothing.
-use mathlib.Core.Path.{sym, ap}
-use mathlib.Core.Bool.{Bool, cond}
-use Prim.Native.Nat.{_+_}
-use borrow.Author.Tests.{le-leb, lt-leb}
+use mathlib.Core.Bool.{Bool}
+use Prim.Native.Nat.{ℕ, _+_}
+use native.Mathlib.Omega.{arith}
+use lib.ListN.{getD}
+use lib.Dec.{ltb}
+use denote.Ref.{now}
+use Rattle.index.proofs.Looking.{flag-le, shift-or, shift-le}
 use borrow.Author.Needs.{needs}
 use Rattle.index.proofs.look.nearer.Statement.{statement}
 use Rattle.index.proofs.look.nearer.Tie as tie
-use Rattle.index.proofs.look.nearer.Reads as reads
-use Rattle.index.proofs.look.nearer.Lts as lts
 
--- src/look.rt:32:15
+-- the farther place's number, and whether it is too large
+abbrev key : tie.After-shared-slice-known → ℕ
+key c = let s = c .before in getD (now (s .args .keys)) (s .args .at + s .args .half) 0
+
+abbrev flag : tie.After-shared-slice-known → Bool
+flag c = ltb (c .before .args .number) (key c)
+
 add-far : tie.Need-add-far
 add-far c = search needs
 
--- src/look.rt:33:8
-mul-if1 : tie.Need-mul-if1
-mul-if1 c = search needs
+mul-over : tie.Need-mul-over
+mul-over c = search needs
 
--- src/look.rt:33:8
-shared-slice-read-if1 : tie.Need-shared-slice-read-if1
-shared-slice-read-if1 c = search needs
+shared-slice-read-over : tie.Need-shared-slice-read-over
+shared-slice-read-over c = search needs
 
--- src/look.rt:34:9
+cast-over : tie.Need-cast-over
+cast-over c = search needs
+
+mul-result : tie.Need-mul-result
+mul-result c = record { fits = omega (arith, flag-le (flag c)) }
+
+shr-result : tie.Need-shr-result
+shr-result c = omega (arith, flag-le (flag c))
+
+add-result : tie.Need-add-result
+add-result c =
+    let s = c .before in
+    record { fits = omega (arith, shift-le (s .args .at) (s .args .half) (key c) (s .args .number) (s .pre .0), s .pre .1, s .good) }
+
 returns : tie.Need-returns
-returns c = sym (ap (λ (t : Bool). cond t (c .before .before .args .at + c .before .before .args .half) (c .before .before .args .at)) (le-leb _ _ (c .if1 .taken)))
-
--- src/look.rt:28:1
-returns-2 : tie.Need-returns-2
-returns-2 c = sym (ap (λ (t : Bool). cond t (c .before .before .args .at + c .before .before .args .half) (c .before .before .args .at)) (lt-leb _ _ (c .if1 .left)))
+returns c = let s = c .before in shift-or (s .args .at) (s .args .half) (key c) (s .args .number) (s .pre .0)
 
 pub nearer-spec : {M : Type 1} → statement M
-nearer-spec = tie.close (tie.spec add-far mul-if1 shared-slice-read-if1 returns returns-2)
+nearer-spec =
+    tie.close
+    (tie.spec
+    add-far
+    mul-over
+    shared-slice-read-over
+    cast-over
+    mul-result
+    shr-result
+    add-result
+    returns)

@@ -6,12 +6,7 @@ use Rattle.index.proofs.Looking.{found, missing, bracket-miss}
 use borrow.Author.Needs.{needs}
 use Rattle.index.proofs.look.place.Statement.{statement}
 use Rattle.index.proofs.look.place.Tie as tie
-use Rattle.index.proofs.look.place.Reads as reads
-use Rattle.index.proofs.look.place.Lts as lts
-use Rattle.index.proofs.look.halve.Reads as halve-reads
-use Rattle.index.proofs.sort.index_of.Reads as index-of-reads
 
--- src/look.rt:60:9
 returns : tie.Need-returns
 returns c =
     λ numbers x d.
@@ -19,31 +14,24 @@ returns c =
     let z : s .args .n ≡ 0 = c .if1 .taken in
     sym z ∙ missing x (s .args .number) d (λ i l e. omega arith)
 
--- src/look.rt:62:9
 halve-requires : tie.Need-halve-requires
 halve-requires c κs = search needs
 
--- src/look.rt:63:8
 mul-if2 : tie.Need-mul-if2
 mul-if2 c = search needs
 
--- src/look.rt:63:8
 shared-slice-read-if2 : tie.Need-shared-slice-read-if2
 shared-slice-read-if2 c = search needs
 
--- src/look.rt:64:25
 mul-index-of : tie.Need-mul-index-of
 mul-index-of c = search needs
 
--- src/look.rt:64:25
 shared-slice-read-index-of : tie.Need-shared-slice-read-index-of
 shared-slice-read-index-of c = search needs
 
--- src/look.rt:64:9
 index-of-requires : tie.Need-index-of-requires
 index-of-requires c κs = search needs
 
--- src/look.rt:64:9
 returns-2 : tie.Need-returns-2
 returns-2 c =
     λ numbers x d.
@@ -51,7 +39,6 @@ returns-2 c =
     let s = e .before .before .before .before in
     c .index-of .ensures ∙ found x (s .args .number) d (e .halve .result) (omega (arith, e .halve .ensures .inside)) (c .before .before .if2 .taken)
 
--- src/look.rt:55:1
 returns-3 : tie.Need-returns-3
 returns-3 c =
     λ numbers x d.
