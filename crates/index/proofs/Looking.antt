@@ -115,27 +115,22 @@ neighbours-more keys i p h d k l e = split (eqb (k + 1) i)
 pub bracket-start : (keys : List ℕ) (n number : ℕ) → Bracket keys n number 0 n
 bracket-start keys n number = record { inside = omega arith; behind = λ a i l h. absurd (omega arith); before = λ l. absurd (omega arith) }
 
-pub flag-le : (t : Bool) → boolByte t ≤ 1
-flag-le true = omega arith
-flag-le false = omega arith
+-- The code's flag.
+pub flag-is : (key number : ℕ) → boolByte (ltb number key) ≡ cond (leb key number) 0 1
+flag-is key number = split (leb key number)
+    (λ e. rw (e, le-ltb number key (leb-true key number e)))
+    (λ e. rw (e, lt-ltb number key (leb-false key number e)))
 
--- A word below 2^16 is shifted out by 16 bits, or stays.
-shifted : (half : ℕ) (t : Bool) → half < 65536 → half / 2 ^ (boolByte t * 16) ≡ cond t 0 half
-shifted half true l = omega arith
-shifted half false l = omega arith
+module _ (r : ℕ) (t : Bool) (e : r ≡ cond t 0 1) where
+  pub flag-le : r ≤ 1
+  flag-le = rw e (split t (λ f. rw f (omega arith)) (λ f. rw f (omega arith)))
 
-pub shift-or : (at half key number : ℕ) → half < 65536 → at + half / 2 ^ (boolByte (ltb number key) * 16) ≡ cond (leb key number) (at + half) at
-shift-or at half key number l = split (leb key number)
-    (λ e. let f : ltb number key ≡ false = le-ltb number key (leb-true key number e) in
-    let g : half / 2 ^ (boolByte (ltb number key) * 16) ≡ half = shifted half (ltb number key) l ∙ ap (λ (t : Bool). cond t 0 half) f in
-    rw e (omega arith))
-    (λ e. let f : ltb number key ≡ true = lt-ltb number key (leb-false key number e) in
-    let g : half / 2 ^ (boolByte (ltb number key) * 16) ≡ 0 = shifted half (ltb number key) l ∙ ap (λ (t : Bool). cond t 0 half) f in
-    rw e (omega arith))
+  -- A word below 2^16 stays, or is shifted out by 16 bits.
+  pub shifted : (at half : ℕ) → half < 65536 → at + half / 2 ^ (r * 16) ≡ cond t (at + half) at
+  shifted at half l = rw e (split t (λ f. rw f (omega arith)) (λ f. rw f (omega arith)))
 
--- The sum is one of the two places.
-pub shift-le : (at half key number : ℕ) → half < 65536 → at + half / 2 ^ (boolByte (ltb number key) * 16) ≤ at + half
-shift-le at half key number l = rw (shift-or at half key number l) (split (leb key number) (λ e. rw e (omega arith)) (λ e. rw e (omega arith)))
+  pub shifted-le : (at half : ℕ) → half < 65536 → at + half / 2 ^ (r * 16) ≤ at + half
+  shifted-le at half l = rw (shifted at half l) (split t (λ f. rw f (omega arith)) (λ f. rw f (omega arith)))
 
 -- The farther half is kept, or the nearer.
 half-kept : (keys : List ℕ) (n number at len half : ℕ) → Bracket keys n number at len → half + half ≤ len → 0 < len

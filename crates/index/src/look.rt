@@ -24,15 +24,22 @@ pub fn shared(keys: &[u64], n: usize) -> bool
     false
 }
 
-// Of the places at and at + half, the farther one where its number is not too large. There is no branch, since none could be foreseen:
-// where the number is too large, half is shifted out.
+// 1 where the key is larger than the number, else 0.
+fn over(key: u64, number: u64) -> usize
+    ensures { λ r. ⌜ r ≡ cond (leb key number) 0 1 ⌝ }
+{
+    (key > number) as usize
+}
+
+// Of the places at and at + half, the farther one where its key is not larger than the number. There is no branch, since none could be
+// foreseen: where the key is larger, half is shifted out.
 fn nearer(keys: &[u64], at: usize, half: usize, number: u64) -> usize
     requires { ⌜ (half < 65536) × (at + half < length (now keys)) ⌝ }
     ensures { λ r. ⌜ r ≡ cond (leb (getD (now (keys .entry)) (at + half) 0) number) (at + half) at ⌝ }
 {
     let far = at + half;
-    let over = (keys[far] > number) as usize;
-    at + (half >> (over * 16))
+    let shift = over(keys[far], number) * 16;
+    at + (half >> shift)
 }
 
 // Where a number stands in the index if it does: every number behind is larger, and the numbers before are not.

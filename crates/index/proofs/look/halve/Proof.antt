@@ -29,10 +29,10 @@ loop-less : tie.Need-loop-less Inv-loop μ-loop
 loop-less c = search needs
 
 loop-again : tie.Need-loop-again Inv-loop μ-loop
-loop-again c = bracket-half (c .nearer .result) (c .before .before .loop .inv .1) (c .before .loop-test .taken) (c .nearer .ensures)
+loop-again c = bracket-half (c .nearer .result) (c .before .before .loop .inv .1) (omega (arith, c .before .loop-test .taken)) (c .nearer .ensures)
 
 returns : tie.Need-returns Inv-loop μ-loop
-returns c = bracket-end (c .before .loop .inv .1) (c .before .loop .inv .0) (c .loop-test .left)
+returns c = bracket-end (c .before .loop .inv .1) (c .before .loop .inv .0) (omega (arith, c .loop-test .left))
 
 pub halve-spec : {M : Type 1} → statement M
 halve-spec =
