@@ -256,7 +256,7 @@ read-own k m n t r out ok h =
 -- ---- writing what was read
 
 module _ (f : List ℕ) (l : ReaderTables) (ok : readRefusal f l ≡ 0) where
-  read-file : fileRefusal f ≡ 0
+  pub read-file : fileRefusal f ≡ 0
   unfolding readRefusal
   read-file = each _ ok 1
 
@@ -281,7 +281,7 @@ module _ (f : List ℕ) (l : ReaderTables) (ok : readRefusal f l ≡ 0) where
       ∙ getD-overwrite (decode f .tallies) (placeOf (decode f)) (l .tallyOffer) t 0 h
       ∙ sym (place-same _ (decode f) read-job (job-accepted f read-file) t h)
 
-  read-long : shortTables (decode f .grocers) (decode f .offers) (decode f .tallies) (readResult f l .tables .job) ≡ false
+  pub read-long : shortTables (decode f .grocers) (decode f .offers) (decode f .tallies) (readResult f l .tables .job) ≡ false
   unfolding storeRead
   read-long = rw (read-accepted f l ok) (tables-long _ _ _ _ (stored-long (decode f) (l .job)))
 

@@ -1,0 +1,2 @@
+-- The proofs of the guarantees.
+pub mod Accepted

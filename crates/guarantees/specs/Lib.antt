@@ -1,0 +1,2 @@
+-- From the bytes of a file to the statements.
+pub mod Accepted
