@@ -22,6 +22,9 @@ def decls(path):
             elif line.strip() and not line.startswith(' '): indata=False
     return out
 index={}
+places={}
+def put(n,path):
+    index.setdefault(n,path); places.setdefault(n,set()).add(path)
 EXT={'lib.Dec':'eqb ltb leb','borrow.Author.Tests':'lt-ltb le-ltb ltb-true ltb-false eqb-true eqb-false ne-eqb eq-eqb le-leb lt-leb leb-true leb-false not-true not-false',
 'mathlib.Core.Path':'_≡_ refl sym ap ap₂ _∙_ subst','mathlib.Core.Bool':'Bool true false cond _&&_ _||_ not false≢true','Prim.Native.Nat':'ℕ zero suc _+_ _-_ _*_ _/_ _%_ _^_ _<_ _≤_ min',
 'lib.ListN':'length getD take drop','native.Mathlib.Omega':'arith','lib.IntN':'ℤ pos negsuc natAbs _+ℤ_ _*ℤ_ +ℤ-idl +ℤ-idr','mathlib.Core.List':'List [] _∷_ _++_ map','lib.Count':'ones'}
@@ -40,13 +43,13 @@ def build(crate):
                 if re.match(r'(pub )?record ',line): inrec=True
                 elif line.strip() and not line.startswith(' '): inrec=False
                 m=re.match(r'\s*(?:pub )(?:record|data) (\S+)',line)
-                if m: index.setdefault(m.group(1),path); continue
+                if m: put(m.group(1),path); continue
                 m=re.match(r'(\s*)(?:unfoldable |abbrev )*pub (\S+)(?: \{[^}]*\})? :',line)
-                if m and not (inrec and m.group(1)): index.setdefault(m.group(2),path)
+                if m and not (inrec and m.group(1)): put(m.group(2),path)
             s=open(p).read()
             for m in re.finditer(r'pub data \S+.*?where\n((?:  .*\n)+)',s):
                 for l in m.group(1).splitlines():
-                    for x in l.split(' : ')[0].split(): index.setdefault(x,path)
+                    for x in l.split(' : ')[0].split(): put(x,path)
 names_re=lambda n: re.compile(r'(?<![^\s(){};,«»←])'+re.escape(n)+r'(?![^\s(){}.;,«»])')
 def used(n,body):
     if '_' in n and n!='_':
@@ -61,7 +64,7 @@ def used(n,body):
     return False
 def fix(path, extra=()):
     crate=path.split('/crates/')[1].split('/')[0]
-    index.clear(); build(crate)
+    index.clear(); places.clear(); build(crate)
     lines=open(path).read().split('\n')
     head=[];uses=[];aliases=[];body=[];i=0
     for l in lines:
@@ -83,7 +86,7 @@ def fix(path, extra=()):
         base=n.split(' as ')[-1]
         if not used(base,text): continue
         if n not in have and re.search(r'(?m)^\s*(?:unfoldable |abbrev )*(?:pub )?'+re.escape(n)+r'(?: \{[^}]*\})? :',text): continue
-        if n in index and ' as ' not in n: mod=index[n]
+        if n in index and ' as ' not in n and mod not in places.get(n,()): mod=index[n]
         if mod.endswith(me) and f'Rattle·{crate}·' in mod and ('specs' in mod)==('/specs/' in path): continue
         got.setdefault(mod,[])
         if n not in got[mod]: got[mod].append(n)

@@ -18,10 +18,9 @@ use Rattle.model.specs.Ranges.{upTo, under, around, sizesInRange, jobWordsInRan
 use Rattle.format.specs.Job.{FileJob, placeOf}
 use Rattle.format.specs.File.{decode}
 use Rattle.format.specs.Tables.{FileTables, ReaderTables, fileJobOf, readRefusal, readResult, storeRead}
-use Rattle.guarantees.specs.Accepted.{jobRead, Accepted}
-use Rattle.model.specs.Reconcile.{owed}
+use Rattle.guarantees.specs.Accepted.{jobRead, owed, Accepted}
 use Rattle.model.proofs.Demand3.{demand3, run-is-list}
-use Rattle.model.proofs.Range.{InRange}
+use Rattle.format.proofs.Range.{InRange}
 use Rattle.format.proofs.Accept.{accepted-range}
 use Rattle.format.proofs.Tables.{read-file, Long, long-tables, read-long, read-range, read-place, read-job, read-accepted}
 use Rattle.format.proofs.Same.{SameWords}
