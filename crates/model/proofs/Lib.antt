@@ -26,3 +26,4 @@ pub mod Served
 pub mod Demand3
 pub mod Quiet
 pub mod Cases
+pub mod Cursor
