@@ -1,2 +1,5 @@
--- From the bytes of a file to the statements.
-pub mod Accepted
+-- The demands as a reader meets them. Each statement is about the definitions that the public calls' contracts cite.
+pub mod Demand1
+pub mod Demand2
+pub mod Demand3
+pub mod Cases

@@ -18,7 +18,7 @@ use Rattle.model.specs.Ranges.{upTo, under, around, sizesInRange, jobWordsInRan
 use Rattle.format.specs.Job.{FileJob, placeOf}
 use Rattle.format.specs.File.{decode}
 use Rattle.format.specs.Tables.{FileTables, ReaderTables, fileJobOf, readRefusal, readResult, storeRead}
-use Rattle.guarantees.specs.Accepted.{jobRead, owed, Accepted}
+use Rattle.guarantees.specs.Demand3.{jobRead, owed, Accepted}
 use Rattle.model.proofs.Demand3.{demand3, run-is-list}
 use Rattle.format.proofs.Range.{InRange}
 use Rattle.format.proofs.Accept.{accepted-range}
