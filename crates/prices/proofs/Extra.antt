@@ -1,18 +1,18 @@
 -- General laws of tests, and of rows written under a test. Assumes nothing.
 use mathlib.Core.Path.{_≡_, refl, sym, ap, ap₂, _∙_}
-use mathlib.Core.List.{List}
+use mathlib.Core.List.{List, [], _∷_}
 use mathlib.Core.Bool.{Bool, true, false, cond, _&&_}
 use Prim.Native.Nat.{ℕ, _+_, _-_, _*_, _≤_, _<_}
 use native.Mathlib.Nat.{mul-le-mul-right}
 use native.Mathlib.Decide.{decLt}
 use native.Mathlib.Omega.{arith}
 use borrow.Author.Tests.{eqb-true, eqb-false, lt-ltb}
-use lib.Dec.{eqb}
-use lib.ListN.{length, getD}
+use lib.Dec.{eqb, ltb}
+use lib.ListN.{length, getD, set}
 use Rattle.laws.specs.Below.{Adds, words, sum, only, count}
-use Rattle.laws.specs.Tables.{cell, recell}
+use Rattle.laws.specs.Tables.{tabulate, overwrite, cell, recell}
 use Rattle.laws.proofs.Bools.{split, eqb-same, and-l}
-use Rattle.laws.proofs.Tables.{is-recell}
+use Rattle.laws.proofs.Tables.{is-overwrite, is-recell, recell-cell}
 use Rattle.laws.proofs.Loops.{guarded, window, window-in, window-below, window-above}
 
 module _ {A : Type 0} where
@@ -35,6 +35,11 @@ module _ {A : Type 0} where
   pub cell-at : (k n : ℕ) (l : List A) (z : A) (b o : ℕ) → b < k → o < n → cell k n l z b o ≡ getD l (b * n + o) z
   unfolding cell
   cell-at k n l z b o lb lo = rw (lt-ltb b k lb, lt-ltb o n lo)
+
+  -- Outside its table there is nothing.
+  pub cell-out : (k n : ℕ) (l : List A) (z : A) (b o : ℕ) → (ltb b k && ltb o n) ≡ false → cell k n l z b o ≡ z
+  unfolding cell
+  cell-out k n l z b o h = rw h
 
 -- Nothing is counted yet.
 pub count-start : (p : ℕ → Bool) → count 0 p ≡ 0
@@ -70,3 +75,17 @@ module _ {A : Type 0} (k n r : ℕ) (test : ℕ → Bool) (new stored : ℕ → 
       (λ q. rw q)))
       (λ i p. h i ∙ cond-no (guarded (r * n) n test i) (stored i) (getD l i z)
       (ap (λ (w : Bool). w && test (i - r * n)) (window-above (r * n) n i (omega (arith, mul-le-mul-right n lr)))))
+
+module _ {A : Type 0} where
+  -- A table written with what it holds stays as it is: by row and column, and by place.
+  pub recell-same : (n m : ℕ) (l : List A) (z : A) (f : ℕ → ℕ → A) → f ≡ cell n m l z → n * m ≤ length l → recell n m f l ≡ l
+  recell-same n m l z f e h = ap (λ (g : ℕ → ℕ → A). recell n m g l) e ∙ recell-cell n m l z h
+
+  pub overwrite-same : (n : ℕ) (l : List A) (z : A) (f : ℕ → A) → ((i : ℕ) → i < n → f i ≡ getD l i z) → n ≤ length l → overwrite n f l ≡ l
+  overwrite-same n l z f h long = sym (is-overwrite n f l l z long refl (λ i k. sym (h i k)) (λ i k. refl))
+
+  -- One word written at the front.
+  pub overwrite-one : (x : A) (l : List A) → 1 ≤ length l → overwrite 1 (λ i. x) l ≡ set l 0 x
+  unfolding overwrite tabulate
+  overwrite-one x [] h = absurd (omega arith)
+  overwrite-one x (y ∷ l) h = refl
