@@ -1,18 +1,18 @@
 -- The lists that the calls leave are the model's: the tables with the effect of step 1 or 3 written into them. Assumes nothing.
 use mathlib.Core.Path.{_≡_, refl, sym, ap, _∙_}
-use mathlib.Core.Bool.{Bool, true, false, cond, _&&_}
+use mathlib.Core.Bool.{_&&_}
 use mathlib.Core.List.{List}
-use Prim.Native.Nat.{ℕ, _+_, _*_, _<_, _≤_}
+use Prim.Native.Nat.{ℕ, _+_, _<_, _≤_}
 use native.Mathlib.Omega.{arith}
 use lib.Dec.{eqb, ltb}
-use lib.IntN.{pos}
-use lib.ListN.{length, getD, set}
-use borrow.Author.Tests.{lt-ltb, ltb-true, eqb-true}
+use lib.IntN.{ℤ, pos}
+use lib.ListN.{getD, set}
+use borrow.Author.Tests.{ltb-true, eqb-true}
 use Rattle.laws.specs.Below.{count}
-use Rattle.laws.specs.Tables.{tabulate, overwrite, word, cell, recell}
-use Rattle.laws.proofs.Bools.{split, and-l, and-r, cond-same}
+use Rattle.laws.specs.Tables.{tabulate, overwrite, cell}
+use Rattle.laws.proofs.Bools.{split, and-r, cond-same}
 use Rattle.laws.proofs.Below.{count-cong}
-use Rattle.laws.proofs.Tables.{recell-cong, recell-cell, cell-recell, word-in}
+use Rattle.laws.proofs.Tables.{recell-cong, cell-recell, word-in}
 use Rattle.model.specs.Job.{Job, needWord, priceWord}
 use Rattle.model.specs.Steps.{Kind, State, effect, received, sendPrices, multiplyOwn, receivePrices, sendTotals, addOwn, receiveTotals}
 use Rattle.model.specs.Tables.{JobTables, jobOf, StateTables, stateTables, stateLengths, view, store}
@@ -59,7 +59,7 @@ module _ (j : Job) (s : State) (t : StateTables) (l : StateLong (j .boxes) (j .g
   unfolding view store stateLengths
   statement-stays e =
       overwrite-same (j .grocers) (t .statement) (pos 0) (s .statement)
-      (λ i h. ap (λ (f : ℕ → lib.IntN.ℤ). f i) e ∙ word-in (j .grocers) (t .statement) (pos 0) i h) (l .statement)
+      (λ i h. ap (λ (g : ℕ → ℤ). g i) e ∙ word-in (j .grocers) (t .statement) (pos 0) i h) (l .statement)
 
   pub sent-stays : s .sent ≡ view j t .sent → store j s t .sent ≡ t .sent
   unfolding view store stateLengths
@@ -134,13 +134,13 @@ module _ (f : JobTables) (t : StateTables) (masks : List ℕ) (a b : ℕ) (la : 
     -- All tables after step 1: prices in transit, the mark and the count.
     pub prices-sent : store (jobOf f) (effect (jobOf f) (view (jobOf f) t) sendPrices a b) t
         ≡ stateTables
-            (t .known)
-            (sentTransit (f .boxes) (f .offers) a b (f .offerOwner) masks (t .known) (t .priceTransit))
-            (t .working)
-            (t .totalTransit)
-            (t .statement)
-            (marked (f .boxes) sendPrices a b (t .done))
-            (set (t .sent) 0 (getD (t .sent) 0 0 + count (f .offers) (wordIn (f .offerOwner) masks a b)))
+        (t .known)
+        (sentTransit (f .boxes) (f .offers) a b (f .offerOwner) masks (t .known) (t .priceTransit))
+        (t .working)
+        (t .totalTransit)
+        (t .statement)
+        (marked (f .boxes) sendPrices a b (t .done))
+        (set (t .sent) 0 (getD (t .sent) 0 0 + count (f .offers) (wordIn (f .offerOwner) masks a b)))
     unfolding effect stateLengths jobOf
     prices-sent =
         let s = effect (jobOf f) (view (jobOf f) t) sendPrices a b in
@@ -156,13 +156,13 @@ module _ (f : JobTables) (t : StateTables) (masks : List ℕ) (a b : ℕ) (la : 
     -- All tables after step 3: prices known and no longer in transit, the working totals as the step makes them, and the mark.
     pub prices-received : store (jobOf f) (effect (jobOf f) (view (jobOf f) t) receivePrices a b) t
         ≡ stateTables
-            (receivedKnown (f .boxes) (f .offers) a b (f .offerOwner) masks (t .known) (t .priceTransit))
-            (receivedTransit (f .boxes) (f .offers) a b (f .offerOwner) masks (t .known) (t .priceTransit))
-            (store (jobOf f) (effect (jobOf f) (view (jobOf f) t) receivePrices a b) t .working)
-            (t .totalTransit)
-            (t .statement)
-            (marked (f .boxes) receivePrices a b (t .done))
-            (t .sent)
+        (receivedKnown (f .boxes) (f .offers) a b (f .offerOwner) masks (t .known) (t .priceTransit))
+        (receivedTransit (f .boxes) (f .offers) a b (f .offerOwner) masks (t .known) (t .priceTransit))
+        (store (jobOf f) (effect (jobOf f) (view (jobOf f) t) receivePrices a b) t .working)
+        (t .totalTransit)
+        (t .statement)
+        (marked (f .boxes) receivePrices a b (t .done))
+        (t .sent)
     unfolding effect stateLengths jobOf
     prices-received =
         let s = effect (jobOf f) (view (jobOf f) t) receivePrices a b in

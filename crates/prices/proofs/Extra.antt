@@ -11,7 +11,7 @@ use lib.Dec.{eqb, ltb}
 use lib.ListN.{length, getD, set}
 use Rattle.laws.specs.Below.{Adds, words, sum, only, count}
 use Rattle.laws.specs.Tables.{tabulate, overwrite, cell, recell}
-use Rattle.laws.proofs.Bools.{split, eqb-same, and-l}
+use Rattle.laws.proofs.Bools.{split, eqb-same}
 use Rattle.laws.proofs.Tables.{is-overwrite, is-recell, recell-cell}
 use Rattle.laws.proofs.Loops.{guarded, window, window-in, window-below, window-above}
 

@@ -1,6 +1,6 @@
 -- The marks after a step are the old list with one word set. Assumes nothing.
 use mathlib.Core.Path.{_≡_, refl, sym, ap, _∙_}
-use mathlib.Core.Bool.{true, false, cond, _&&_}
+use mathlib.Core.Bool.{Bool, true, false, cond, _&&_}
 use mathlib.Core.List.{List}
 use Prim.Native.Nat.{ℕ, zero, suc, _+_, _-_, _*_, _/_, _%_, _<_, _≤_}
 use native.Mathlib.Nat.{mul-le-mul, div-add-mod', mod-lt, div-lt-iff-lt-mul}
@@ -12,12 +12,12 @@ use lib.Dec.{eqb, leb}
 use borrow.Author.Tests.{lt-ltb, eqb-true, eqb-false, leb-true}
 use Rattle.laws.specs.Tables.{cell, recell}
 use Rattle.laws.proofs.Bools.{split, and-l, and-r, no-true, eqb-same}
-use Rattle.laws.proofs.Below.{all-at}
-use Rattle.laws.proofs.Tables.{cell-in, is-recell}
+use Rattle.laws.proofs.Below.{all-at, all-of}
+use Rattle.laws.proofs.Tables.{cell-in, getD-overwrite, is-recell}
 use Rattle.model.specs.Steps.{Kind, number, kindOf, mark}
 use Rattle.model.specs.Ranges.{upTo}
 use Rattle.model.proofs.Tables.{kind-place, kind-six}
-use Rattle.prices.specs.Marks.{MarksIn, placeOf, stepsDone, marked}
+use Rattle.prices.specs.Marks.{placeOf, stepsDone, marked}
 
 -- The place of a step is below 6 × K × K, and that is small.
 pub row-in : (k kind a : ℕ) → kind - 1 < 6 → a < k → (kind - 1) * k + a < 6 * k
@@ -118,3 +118,15 @@ module _ (k : ℕ) (q : Kind) (a b : ℕ) (done : List ℕ) (la : a < k) (lb : b
       sym (is-recell (6 * k) k (λ r c. cond (mark (stepsDone k done) q a b (kindOf (suc (r / k))) (r % k) c) 1 0)
       done (set done place 1) 0 long (length-set done place 1) one-mark
       (λ i h. getD-set-other done place i 1 0 (λ p. omega (arith, place<))))
+
+-- Marks with one step more are 0 or 1.
+pub marks-bits : (k : ℕ) (q : Kind) (a b : ℕ) (done : List ℕ) → upTo 1 (6 * k * k) (marked k q a b done) ≡ true
+unfolding upTo marked recell
+marks-bits k q a b done =
+    all-of (6 * k * k) (λ i. leb (getD (marked k q a b done) i 0) 1) (λ i l.
+    rw (getD-overwrite (6 * k * k) (λ i. cond (mark (stepsDone k done) q a b (kindOf (suc (i / k / k))) (i / k % k) (i % k)) 1 0) done i 0 l)
+    (one-or-none (mark (stepsDone k done) q a b (kindOf (suc (i / k / k))) (i / k % k) (i % k))))
+  where
+    one-or-none : (t : Bool) → leb (cond t 1 0) 1 ≡ true
+    one-or-none true = refl
+    one-or-none false = refl

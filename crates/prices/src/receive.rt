@@ -21,7 +21,8 @@ fn receive_one(
     ensures { λ r. ⌜ (now (known .exit) ≡ cond (wordIn (now (owner .entry)) (now (needs .entry)) b a o) (set (now (known .entry)) (row + o) (getD (now (transit .entry)) (row + o) 0)) (now (known .entry))) × (now (transit .exit) ≡ cond (wordIn (now (owner .entry)) (now (needs .entry)) b a o) (set (now (transit .entry)) (row + o) 0) (now (transit .entry))) ⌝ }
 {
     if words::in_message(owner[o], needs[o], b, a) {
-        known[row + o] = transit[row + o];
+        let price = transit[row + o];
+        known[row + o] = price;
         transit[row + o] = 0;
     }
 }

@@ -1,5 +1,5 @@
 -- `prices::marks::is_done` meets its contract. Assumes nothing.
-use mathlib.Core.Path.{_≡_, sym, ap, _∙_}
+use mathlib.Core.Path.{sym, ap, _∙_}
 use Prim.Native.Nat.{ℕ, _*_, _<_}
 use native.Mathlib.Omega.{arith}
 use lib.Dec.{eqb}
@@ -11,9 +11,6 @@ use Rattle.prices.proofs.Marked.{place-in, marks-few, number-kind, done
 use borrow.Author.Needs.{needs}
 use Rattle.prices.proofs.marks.is_done.Statement.{statement}
 use Rattle.prices.proofs.marks.is_done.Tie as tie
-use Rattle.prices.proofs.marks.is_done.Reads as reads
-use Rattle.prices.proofs.marks.is_done.Lts as lts
-use Rattle.prices.proofs.marks.place.Reads as place-reads
 
 -- The place is among the marks.
 inside : (s : tie.Start) → placeOf (s .args .k) (s .args .kind) (s .args .a) (s .args .b) < 6 * s .args .k * s .args .k

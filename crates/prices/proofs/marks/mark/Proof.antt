@@ -10,9 +10,6 @@ use Rattle.prices.proofs.Marked.{place-in, marks-few, number-kind, mark
 use borrow.Author.Needs.{needs}
 use Rattle.prices.proofs.marks.mark.Statement.{statement}
 use Rattle.prices.proofs.marks.mark.Tie as tie
-use Rattle.prices.proofs.marks.mark.Reads as reads
-use Rattle.prices.proofs.marks.mark.Lts as lts
-use Rattle.prices.proofs.marks.place.Reads as place-reads
 
 -- The place is among the marks.
 inside : (s : tie.Start) → placeOf (s .args .k) (s .args .kind) (s .args .a) (s .args .b) < 6 * s .args .k * s .args .k
@@ -38,7 +35,7 @@ returns c =
     let old = now (s .args .done) in
     let here : set old (c .place .result) 1 ≡ set old (placeOf (s .args .k) (s .args .kind) (s .args .a) (s .args .b)) 1 = ap (λ (i : ℕ). set old i 1) (c .place .ensures) in
     let same : set old (placeOf (s .args .k) (number q) (s .args .a) (s .args .b)) 1 ≡ set old (placeOf (s .args .k) (s .args .kind) (s .args .a) (s .args .b)) 1 =
-        ap (λ (n : ℕ). set old (placeOf (s .args .k) n (s .args .a) (s .args .b)) 1) (number-kind (s .args .kind) (p .kind-from) (p .kind-to)) in
+    ap (λ (n : ℕ). set old (placeOf (s .args .k) n (s .args .a) (s .args .b)) 1) (number-kind (s .args .kind) (p .kind-from) (p .kind-to)) in
     (here ∙ sym same ∙ sym (marks-set (s .args .k) q (s .args .a) (s .args .b) old (p .a-in) (p .b-in) (p .done-long) (s .pre .1)), here)
 
 pub mark-spec : {M : Type 1} → statement M

@@ -5,8 +5,6 @@ use Rattle.prices.proofs.Marked.{row-in, place-in, marks-few}
 use borrow.Author.Needs.{needs}
 use Rattle.prices.proofs.marks.place.Statement.{statement}
 use Rattle.prices.proofs.marks.place.Tie as tie
-use Rattle.prices.proofs.marks.place.Reads as reads
-use Rattle.prices.proofs.marks.place.Lts as lts
 
 -- The place is small.
 small : (c : tie.Start) → ((c .args .kind - 1) * c .args .k + c .args .a) * c .args .k + c .args .b < 1536

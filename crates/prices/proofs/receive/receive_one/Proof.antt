@@ -7,9 +7,6 @@ use Rattle.prices.proofs.Extra.{cond-yes, cond-no}
 use borrow.Author.Needs.{needs}
 use Rattle.prices.proofs.receive.receive_one.Statement.{statement}
 use Rattle.prices.proofs.receive.receive_one.Tie as tie
-use Rattle.prices.proofs.receive.receive_one.Reads as reads
-use Rattle.prices.proofs.receive.receive_one.Lts as lts
-use Rattle.words.proofs.in_message.Reads as in-message-reads
 
 -- Offer o stands in the message.
 abbrev due : tie.Start → Bool
@@ -30,20 +27,20 @@ element-copy-out-in-message c = search needs
 in-message-requires : tie.Need-in-message-requires
 in-message-requires c κs = search needs
 
+add-price : tie.Need-add-price
+add-price c = search needs
+
+mul-price : tie.Need-mul-price
+mul-price c = search needs
+
+slice-read-price : tie.Need-slice-read-price
+slice-read-price c = search needs
+
 add-known : tie.Need-add-known
 add-known c = search needs
 
 mul-known : tie.Need-mul-known
 mul-known c = search needs
-
-slice-read-known : tie.Need-slice-read-known
-slice-read-known c = search needs
-
-add-known-2 : tie.Need-add-known-2
-add-known-2 c = search needs
-
-mul-known-2 : tie.Need-mul-known-2
-mul-known-2 c = search needs
 
 slice-write-known : tie.Need-slice-write-known
 slice-write-known c = search needs
@@ -86,11 +83,11 @@ receive-one-spec =
     mul-in-message-2
     element-copy-out-in-message
     in-message-requires
+    add-price
+    mul-price
+    slice-read-price
     add-known
     mul-known
-    slice-read-known
-    add-known-2
-    mul-known-2
     slice-write-known
     add-transit
     mul-transit

@@ -16,9 +16,6 @@ use Rattle.prices.specs.Prices.{receivedKnown, receivedTransit}
 use Rattle.prices.proofs.Extra.{cond-no, cell-at, row-recell}
 use Rattle.prices.proofs.receive.receive_prices.Statement.{statement}
 use Rattle.prices.proofs.receive.receive_prices.Tie as tie
-use Rattle.prices.proofs.receive.receive_prices.Reads as reads
-use Rattle.prices.proofs.receive.receive_prices.Lts as lts
-use Rattle.prices.proofs.receive.receive_one.Reads as receive-one-reads
 
 abbrev Inv-loop : tie.InvT-loop
 Inv-loop k n a b owner needs known₀ transit₀ row o₀ known transit o =
@@ -107,7 +104,7 @@ loop-again c =
       call .kept .1 .0 ∙ inv .2,
       λ i. ap (λ (t : List ℕ). getD t i 0) (call .ensures .0)
           ∙ guarded-more (e .before .loop .known) 0 (came s) (knew s) (row s) o (due s) (omega (arith, row-in s o l, s .pre .known-long, inv .1)) (inv .3) _
-              (inv .4 (row s + o) ∙ cond-no _ 0 (came s (row s + o)) (guarded-next (row s) o (due s))) i,
+          (inv .4 (row s + o) ∙ cond-no _ 0 (came s (row s + o)) (guarded-next (row s) o (due s))) i,
       λ i. ap (λ (t : List ℕ). getD t i 0) (call .ensures .1)
           ∙ guarded-more (e .before .loop .transit) 0 (λ x. 0) (came s) (row s) o (due s) (omega (arith, row-in s o l, s .pre .transit-long, inv .2)) (inv .4) 0 refl i,
     )

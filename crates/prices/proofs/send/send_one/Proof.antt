@@ -8,9 +8,6 @@ use Rattle.prices.proofs.Extra.{cond-yes, cond-no, only-yes, only-no}
 use borrow.Author.Needs.{needs}
 use Rattle.prices.proofs.send.send_one.Statement.{statement}
 use Rattle.prices.proofs.send.send_one.Tie as tie
-use Rattle.prices.proofs.send.send_one.Reads as reads
-use Rattle.prices.proofs.send.send_one.Lts as lts
-use Rattle.words.proofs.in_message.Reads as in-message-reads
 
 -- Offer o stands in the message.
 abbrev due : tie.Start → Bool

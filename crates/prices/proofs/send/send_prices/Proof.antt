@@ -18,9 +18,6 @@ use Rattle.prices.specs.Prices.{sentTransit}
 use Rattle.prices.proofs.Extra.{cond-no, count-start, cell-at, row-recell}
 use Rattle.prices.proofs.send.send_prices.Statement.{statement}
 use Rattle.prices.proofs.send.send_prices.Tie as tie
-use Rattle.prices.proofs.send.send_prices.Reads as reads
-use Rattle.prices.proofs.send.send_prices.Lts as lts
-use Rattle.prices.proofs.send.send_one.Reads as send-one-reads
 
 abbrev Inv-loop : tie.InvT-loop
 Inv-loop k n a b owner needs known transit₀ from to sent₀ o₀ transit sent o =
@@ -88,7 +85,7 @@ send-one-requires c κs =
         omega (arith, l, s .pre .offers-in),
         (
           omega (arith, l, s .pre .owner-long),
-          (omega (arith, from-in s o l, s .pre .known-long), omega (arith, to-in s o l, s .pre .transit-long, e .before .loop .inv .2)),
+          (omega (arith, from-in s o l, to-in s o l, s .pre .known-long), omega (arith, to-in s o l, s .pre .transit-long, e .before .loop .inv .2)),
         ),
       ),
     )
@@ -119,7 +116,7 @@ loop-again c =
       call .kept .0 ∙ inv .2,
       λ i. ap (λ (t : List ℕ). getD t i 0) (call .ensures .1)
           ∙ guarded-more (e .before .loop .transit) 0 (new s) (old s) (to s) o (due s) (omega (arith, to-in s o l, s .pre .transit-long, inv .2)) (inv .3) _
-              (ap (λ (x : ℕ). getD (now (s .args .known)) (from s + x) 0) (omega arith)) i,
+          (ap (λ (x : ℕ). getD (now (s .args .known)) (from s + x) 0) (omega arith)) i,
     )
 
 same-length : tie.Need-same-length Inv-loop μ-loop
