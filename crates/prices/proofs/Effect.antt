@@ -85,21 +85,18 @@ steps-done j t = refl
 module _ (f : JobTables) (t : StateTables) (masks : List ℕ) (a b : ℕ) (la : a < f .boxes) (lb : b < f .boxes)
     (lk : f .boxes ≤ 16) (ln : f .offers ≤ 500) (e : masks ≡ tabulate 500 (needWord (jobOf f))) where
   -- The words of the message of prices, told from owners and masks.
-  due : (o : ℕ) → o < f .offers → wordIn (f .offerOwner) masks a b o ≡ priceWord (jobOf f) a b o
-  due o l = price-word f masks a b o (omega arith) l ln e
-
-  due-back : (o : ℕ) → o < f .offers → wordIn (f .offerOwner) masks b a o ≡ priceWord (jobOf f) b a o
-  due-back o l = price-word f masks b a o (omega arith) l ln e
+  due : (x y o : ℕ) → y < f .boxes → o < f .offers → wordIn (f .offerOwner) masks x y o ≡ priceWord (jobOf f) x y o
+  due x y o ly lo = price-word f masks x y o (omega arith) lo ln e
 
   -- Step 1: what is in transit.
   pub sent-transit : store (jobOf f) (effect (jobOf f) (view (jobOf f) t) sendPrices a b) t .priceTransit
       ≡ sentTransit (f .boxes) (f .offers) a b (f .offerOwner) masks (t .known) (t .priceTransit)
   unfolding store effect view sentTransit jobOf
-  sent-transit = recell-cong (f .boxes) (f .offers) _ _ (t .priceTransit) (λ c o lc lo. rw (due o lo))
+  sent-transit = recell-cong (f .boxes) (f .offers) _ _ (t .priceTransit) (λ c o lc lo. rw (due a b o lb lo))
 
   -- How many words are sent, and the count of all words sent.
   pub words-sent : count (f .offers) (wordIn (f .offerOwner) masks a b) ≡ count (f .offers) (priceWord (jobOf f) a b)
-  words-sent = count-cong (f .offers) (wordIn (f .offerOwner) masks a b) (priceWord (jobOf f) a b) due
+  words-sent = count-cong (f .offers) (wordIn (f .offerOwner) masks a b) (priceWord (jobOf f) a b) (λ o lo. due a b o lb lo)
 
   pub sent-more : store (jobOf f) (effect (jobOf f) (view (jobOf f) t) sendPrices a b) t .sent
       ≡ overwrite 1 (λ i. getD (t .sent) 0 0 + count (f .offers) (wordIn (f .offerOwner) masks a b)) (t .sent)
@@ -110,12 +107,12 @@ module _ (f : JobTables) (t : StateTables) (masks : List ℕ) (a b : ℕ) (la : 
   pub received-known : store (jobOf f) (effect (jobOf f) (view (jobOf f) t) receivePrices a b) t .known
       ≡ receivedKnown (f .boxes) (f .offers) a b (f .offerOwner) masks (t .known) (t .priceTransit)
   unfolding store effect view received receivedKnown jobOf
-  received-known = recell-cong (f .boxes) (f .offers) _ _ (t .known) (λ c o lc lo. rw (due-back o lo))
+  received-known = recell-cong (f .boxes) (f .offers) _ _ (t .known) (λ c o lc lo. rw (due b a o la lo))
 
   pub received-transit : store (jobOf f) (effect (jobOf f) (view (jobOf f) t) receivePrices a b) t .priceTransit
       ≡ receivedTransit (f .boxes) (f .offers) a b (f .offerOwner) masks (t .known) (t .priceTransit)
   unfolding store effect view receivedTransit jobOf
-  received-transit = recell-cong (f .boxes) (f .offers) _ _ (t .priceTransit) (λ c o lc lo. rw (due-back o lo))
+  received-transit = recell-cong (f .boxes) (f .offers) _ _ (t .priceTransit) (λ c o lc lo. rw (due b a o la lo))
 
   -- The prices that box a knows then, at which step 3 multiplies.
   pub received-cell : (c o : ℕ) → cell (f .boxes) (f .offers) (receivedKnown (f .boxes) (f .offers) a b (f .offerOwner) masks (t .known) (t .priceTransit)) 0 c o
@@ -124,7 +121,7 @@ module _ (f : JobTables) (t : StateTables) (masks : List ℕ) (a b : ℕ) (la : 
   received-cell c o =
       cell-recell (f .boxes) (f .offers) _ (t .known) 0 c o
       ∙ split (ltb c (f .boxes) && ltb o (f .offers))
-      (λ h. rw (h, due-back o (ltb-true o (f .offers) (and-r (ltb c (f .boxes)) _ h))))
+      (λ h. rw (h, due b a o la (ltb-true o (f .offers) (and-r (ltb c (f .boxes)) _ h))))
       (λ h. rw (h, cell-out (f .boxes) (f .offers) (t .known) 0 c o h)
       (split (eqb c a)
       (λ q. rw (q, ← (eqb-true c a q), cell-out (f .boxes) (f .offers) (t .priceTransit) 0 c o h) (sym (cond-same (priceWord (jobOf f) b c o) 0)))
