@@ -1,4 +1,6 @@
 -- What the proofs of several functions use.
+pub mod Extra
 pub mod Loops
 pub mod Sizes
 pub mod Whole
+pub mod Holders
