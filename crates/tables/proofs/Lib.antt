@@ -4,3 +4,4 @@ pub mod Loops
 pub mod Sizes
 pub mod Whole
 pub mod Holders
+pub mod Sending
