@@ -5,3 +5,5 @@ pub mod Sizes
 pub mod Whole
 pub mod Holders
 pub mod Sending
+pub mod InJob
+pub mod Refused

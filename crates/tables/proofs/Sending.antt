@@ -5,10 +5,10 @@ use mathlib.Core.List.{List, []}
 use Prim.Native.Nat.{ℕ, _+_, _^_, _<_, _≤_}
 use native.Mathlib.Nat.{add-zero}
 use native.Mathlib.Omega.{arith}
-use lib.ListN.{getD, set}
+use lib.ListN.{getD, set, replicate}
 use lib.Dec.{eqb, ltb}
 use borrow.Author.Tests.{lt-ltb, le-ltb, ltb-true, ltb-false, ne-eqb, eqb-true, eqb-false}
-use Rattle.laws.specs.Below.{words, only, count}
+use Rattle.laws.specs.Below.{words, only, sum, count}
 use Rattle.laws.specs.Masks.{bit, without}
 use Rattle.laws.specs.Tables.{tabulate}
 use Rattle.laws.proofs.Bools.{split, eqb-same, and-false}
@@ -129,3 +129,8 @@ module _ (back : Bool) (n : ℕ) (owners masks : List ℕ) (lo : getD owners n 0
   passing-max =
       rw (rows-at 16 16 (passing back n owners masks i) 0 from to from-in to-in, passing-here)
       (omega (arith, count-le n (λ k. sends back (getD owners k 0) (getD masks k 0) from to), only-le (ltb (holder back from to) (i + 1) && sends back (getD owners n 0) (getD masks n 0) from to) 1))
+
+-- No owner yet.
+pub sent-none : (back : Bool) (owners masks : List ℕ) → replicate 16 (replicate 16 0) ≡ sentTable back 0 owners masks
+unfolding sentTable tabulate count sum words
+sent-none back owners masks = refl

@@ -2,3 +2,5 @@
 pub mod Sizes
 pub mod Masks
 pub mod Messages
+pub mod Refusals
+pub mod Answers

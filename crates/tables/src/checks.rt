@@ -4,7 +4,9 @@ ghost use mathlib.Core.List.{[]};
 ghost use Prim.Native.Nat.{_*_};
 ghost use Rattle.model.specs.Tables.{jobTables, jobOf, jobLengths, jobShort, stateTables, stateLengths, stateShort};
 ghost use Rattle.model.specs.Ranges.{sizesInRange, jobWordsInRange, jobInRange, stateInRange};
+ghost use Rattle.laws.specs.Checks.{firstMet};
 ghost use Rattle.tables.specs.Sizes.{sizes};
+ghost use Rattle.tables.specs.Refusals.{jobRefusals};
 use crate::ranges::around32;
 use crate::ranges::around64;
 use crate::ranges::under16;
@@ -166,6 +168,56 @@ pub fn job_in_range(
             toffer,
             tcount,
         )
+}
+
+// The number of the first condition that the job's tables meet, 20 or 21, or 0.
+pub fn job_refusal(
+    boxes: u16,
+    grocers: u16,
+    offers: u16,
+    tallies: u16,
+    price: &[u32],
+    owner: &[u16],
+    gowner: &[u16],
+    tgrocer: &[u16],
+    tbox: &[u16],
+    toffer: &[u16],
+    tcount: &[i32],
+) -> u16
+    ensures { λ r. ⌜ r ≡ firstMet (jobRefusals (jobTables boxes grocers offers tallies (now (price .entry)) (now (owner .entry)) (now (gowner .entry))
+        (now (tgrocer .entry)) (now (tbox .entry)) (now (toffer .entry)) (now (tcount .entry)))) ⌝ }
+{
+    if job_short(
+        boxes,
+        grocers,
+        offers,
+        tallies,
+        price,
+        owner,
+        gowner,
+        tgrocer,
+        tbox,
+        toffer,
+        tcount,
+    ) {
+        return 20;
+    }
+    if !job_in_range(
+        boxes,
+        grocers,
+        offers,
+        tallies,
+        price,
+        owner,
+        gowner,
+        tgrocer,
+        tbox,
+        toffer,
+        tcount,
+    ) {
+        return 21;
+    }
+    0
 }
 
 // 21: whether every word of the state's tables is in range.
