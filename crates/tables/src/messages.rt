@@ -78,6 +78,7 @@ pub fn total_table(grocers: u16, gowner: &[u16], sharers: &[u16; 255]) -> [[u16;
     sent_table(true, grocers, gowner, sharers)
 }
 
+// The word as a 32-bit number.
 fn wide(x: u16) -> u32
     ensures { λ r. ⌜ (r ≡ x) × (r < 65536) ⌝ }
 {
