@@ -1,0 +1,2 @@
+-- The laws of totals that belong to no one function.
+pub mod Extra
