@@ -8,14 +8,15 @@ use native.Mathlib.Decide.{decLt}
 use native.Mathlib.Omega.{arith}
 use lib.Dec.{eqb, ltb, leb}
 use lib.ListN.{length, getD}
-use lib.IntN.{ℤ, pos, natAbs}
+use lib.IntN.{ℤ, pos, natAbs, _+ℤ_}
 use borrow.Author.Tests.{eqb-true, eqb-false, lt-ltb, ltb-true, leb-true}
-use Rattle.laws.specs.Below.{all}
+use Rattle.laws.specs.Below.{amounts, sum, all}
 use Rattle.laws.specs.Tables.{cell, recell}
-use Rattle.laws.proofs.Bools.{split, and-one}
+use Rattle.laws.proofs.Bools.{split, and-l, and-r, and-one}
 use Rattle.laws.proofs.Below.{all-at}
-use Rattle.laws.proofs.Tables.{is-recell, recell-cong}
-use Rattle.laws.proofs.Loops.{guarded, window, window-in, window-below, window-above}
+use Rattle.laws.proofs.Signed.{abs-plus, sum-abs, only-abs}
+use Rattle.laws.proofs.Tables.{cell-in, is-recell, recell-cong}
+use Rattle.laws.proofs.Loops.{share, guarded, window, window-in, window-below, window-above}
 use Rattle.model.specs.Ranges.{upTo, under, around}
 
 -- What the tests of a table say of its words.
@@ -35,6 +36,11 @@ around-at m n l i h k = leb-true (natAbs (getD l i (pos 0))) m (all-at n (λ i. 
 pub all-zero : (p : ℕ → Bool) → all 0 p ≡ true
 unfolding all
 all-zero p = refl
+
+-- A sum of no terms.
+pub sum-zero : (f : ℕ → ℤ) → sum amounts 0 f ≡ pos 0
+unfolding sum amounts
+sum-zero f = refl
 
 -- A row lies within its table.
 pub row-in : (a k m : ℕ) → a < k → a * m + m ≤ k * m
@@ -100,3 +106,24 @@ module _ {A : Type 0} where
   row-put k m a at g l l′ z new f ha long here done same h e =
       row-stored k m a at g l l′ z (λ o. true) new f ha long here done same h e
       ∙ recell-cong k m _ (λ c o. cond (eqb c a) (f o) (cell k m l z c o)) l (λ c o lc lo. ap (λ (t : Bool). cond t (f o) (cell k m l z c o)) (and-one (eqb c a)))
+
+-- The words of a table of amounts in range are in range, and so is what stands for a word outside it.
+pub cell-abs : (b k m : ℕ) (l : List ℤ) (c o : ℕ) → around b (k * m) l ≡ true → natAbs (cell k m l (pos 0) c o) ≤ b
+unfolding cell
+cell-abs b k m l c o h =
+    split (ltb c k && ltb o m)
+    (λ e. rw e (around-at b (k * m) l (c * m + o) h (cell-in c k m o (ltb-true c k (and-l (ltb c k) _ e)) (ltb-true o m (and-r (ltb c k) _ e)))))
+    (λ e. rw e (omega arith))
+
+-- A word that amounts of size m are added to, t of them, is of size at most b + t × m, if it was of size b.
+pub pile-size : (w₀ w : List ℤ) (place : ℕ → ℕ) (z : ℕ → ℤ) (t i b m : ℕ) →
+    getD w i (pos 0) ≡ getD w₀ i (pos 0) +ℤ sum amounts t (share place z i) → natAbs (getD w₀ i (pos 0)) ≤ b → ((s : ℕ) → s < t → natAbs (z s) ≤ m) →
+    natAbs (getD w i (pos 0)) ≤ b + t * m
+pile-size w₀ w place z t i b m e hb hm =
+    omega (
+      arith,
+      ap natAbs e,
+      abs-plus (getD w₀ i (pos 0)) (sum amounts t (share place z i)),
+      hb,
+      sum-abs t m (share place z i) (λ s l. only-abs (eqb (place s) i) (z s) m (hm s l)),
+    )
