@@ -10,7 +10,7 @@ use lib.Dec.{eqb, ltb, leb}
 use lib.ListN.{length, getD}
 use lib.IntN.{ℤ, pos, natAbs, _+ℤ_}
 use borrow.Author.Tests.{eqb-true, eqb-false, lt-ltb, ltb-true, leb-true}
-use Rattle.laws.specs.Below.{amounts, sum, all}
+use Rattle.laws.specs.Below.{words, amounts, sum, only, all, count}
 use Rattle.laws.specs.Tables.{cell, recell}
 use Rattle.laws.proofs.Bools.{split, and-l, and-r, and-one}
 use Rattle.laws.proofs.Below.{all-at}
@@ -36,6 +36,19 @@ around-at m n l i h k = leb-true (natAbs (getD l i (pos 0))) m (all-at n (λ i. 
 pub all-zero : (p : ℕ → Bool) → all 0 p ≡ true
 unfolding all
 all-zero p = refl
+
+-- No number below 0 is counted.
+pub count-start : (p : ℕ → Bool) → count 0 p ≡ 0
+unfolding count sum words
+count-start p = refl
+
+pub only-one : (t : Bool) → t ≡ true → 1 ≡ only words t 1
+unfolding only words
+only-one t e = rw e
+
+pub only-none : (t : Bool) → t ≡ false → 0 ≡ only words t 1
+unfolding only words
+only-none t e = rw e
 
 -- A sum of no terms.
 pub sum-zero : (f : ℕ → ℤ) → sum amounts 0 f ≡ pos 0
