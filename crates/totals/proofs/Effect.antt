@@ -1,28 +1,28 @@
 -- The lists that the calls leave are the model's: the tables with the effect of steps 2 to 6 written into them. Assumes nothing.
-use mathlib.Core.Path.{_≡_, refl, sym, ap, ap₂, _∙_}
-use mathlib.Core.Bool.{Bool, true, false, cond, _&&_, not}
+use mathlib.Core.Path.{_≡_, refl, sym, ap, _∙_}
+use mathlib.Core.Bool.{Bool, true, false, cond, _&&_}
 use mathlib.Core.List.{List}
 use Prim.Native.Nat.{ℕ, _+_, _*_, _<_, _≤_}
 use native.Mathlib.Omega.{arith}
 use lib.Dec.{eqb, ltb, leb}
 use lib.ListN.{getD}
 use lib.IntN.{ℤ, pos, natAbs, _+ℤ_, _*ℤ_}
-use borrow.Author.Tests.{lt-ltb, eq-eqb, ne-eqb, eqb-true}
-use Rattle.laws.specs.Below.{amounts, sum, only, all, count}
+use borrow.Author.Tests.{lt-ltb, ne-eqb, eqb-true}
+use Rattle.laws.specs.Below.{amounts, only, all, count}
 use Rattle.laws.specs.Tables.{tabulate, overwrite, word, cell, recell}
 use Rattle.laws.proofs.Bools.{split, eqb-same}
 use Rattle.laws.proofs.Below.{count-cong}
 use Rattle.laws.proofs.Sums.{sum-cong}
 use Rattle.laws.proofs.Tables.{recell-cong, overwrite-cong, getD-tabulate, word-in}
-use Rattle.model.specs.Job.{Job, heldBy, needs, amount, sharerWord, priceWord, totalWord}
-use Rattle.model.specs.Steps.{State, products, received, effect, multiplyOwn, receivePrices, sendTotals, addOwn, receiveTotals}
+use Rattle.model.specs.Job.{heldBy, needs, amount, sharerWord, priceWord, totalWord}
+use Rattle.model.specs.Steps.{products, received, effect, multiplyOwn, receivePrices, sendTotals, addOwn, receiveTotals}
 use Rattle.model.specs.Tables.{JobTables, jobOf, StateTables, view, store}
 use Rattle.model.specs.Ranges.{maxAmount, around}
-use Rattle.model.proofs.Parts.{needs-at}
 use Rattle.words.specs.Message.{wordIn}
-use Rattle.words.proofs.Message.{total-word}
 use Rattle.totals.specs.Row.{Tallies, tallies, TalliesIn, putRow, product, productSum, productRow}
 use Rattle.totals.specs.Credit.{cleared, sentTotals, credited, creditWord, creditAll}
+use Rattle.model.proofs.Parts.{needs-at}
+use Rattle.words.proofs.Message.{total-word}
 use Rattle.totals.proofs.Extra.{under-at}
 use Rattle.totals.proofs.Rows.{put-range}
 use Rattle.totals.proofs.Credits.{credited-own, credited-other, credit-range}

@@ -9,8 +9,8 @@ use Rattle.laws.proofs.Bools.{and-l, and-r}
 use Rattle.laws.proofs.Checks.{each-of}
 use Rattle.model.specs.Tables.{JobTables, jobLengths, StateTables, stateLengths}
 use Rattle.model.specs.Ranges.{maxBoxes, maxGrocers, maxOffers, maxTallies, maxPrice, maxCount, maxAmount, maxSent, upTo, under, around, sizesInRange, jobWordsInRange, jobInRange, stateInRange}
-use Rattle.model.proofs.Lent.{JobLong, StateLong}
 use Rattle.totals.specs.Row.{TalliesIn, PricesIn, AmountsIn}
+use Rattle.model.proofs.Lent.{JobLong, StateLong}
 use Rattle.totals.proofs.Effect.{talliesOf}
 
 -- The tables of tallies of a job that is lent whole and in range.
