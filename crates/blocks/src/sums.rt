@@ -10,8 +10,8 @@ use crate::bytes::word16;
 
 // The first and the second sum of 508 bytes.
 pub struct TwoSums {
-    pub first: u32,
-    pub second: u32,
+    pub first: usize,
+    pub second: usize,
 }
 
 // Both sums of the 508 bytes at a place.
@@ -30,8 +30,19 @@ pub fn sums(f: &[u8], at: usize) -> TwoSums
         weight -= 1;
         i += 1;
     }
-    TwoSums {
-        first: first % 65521,
-        second: second % 65521,
-    }
+    let a = (first % 65521) as usize;
+    let b = (second % 65521) as usize;
+    TwoSums { first: a, second: b }
+}
+
+// Whether a sum of block k is not as stored.
+pub fn sums_differ(f: &[u8], k: usize) -> bool
+    requires { ⌜ 512 * k + 512 ≤ length (now f) ⌝ }
+    ensures { λ r. ⌜ r ≡ sumsDiffer (from (now (f .entry)) (512 * k)) ⌝ }
+{
+    let at = 512 * k;
+    let s = sums(f, at);
+    let first = s.first;
+    let second = s.second;
+    (first != word16(f, at + 508)) | (second != word16(f, at + 510))
 }

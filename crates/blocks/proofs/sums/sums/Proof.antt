@@ -83,6 +83,14 @@ loop-again c =
       rw (sum-next, l .inv .5, c .wide .ensures .0, l .inv .1),
     )
 
+-- src/sums.rt:33:13
+cast-a : tie.Need-cast-a Inv-loop μ-loop
+cast-a c = omega arith
+
+-- src/sums.rt:34:13
+cast-b : tie.Need-cast-b Inv-loop μ-loop
+cast-b c = omega arith
+
 -- src/sums.rt:18:1
 returns : tie.Need-returns Inv-loop μ-loop
 unfolding firstSum secondSum
@@ -107,4 +115,6 @@ sums-spec =
     add-i
     loop-less
     loop-again
+    cast-a
+    cast-b
     returns)
