@@ -9,8 +9,6 @@ use Rattle.blocks.specs.Shape.{used}
 use borrow.Author.Needs.{needs}
 use Rattle.blocks.proofs.spares.any_used.Statement.{statement}
 use Rattle.blocks.proofs.spares.any_used.Tie as tie
-use Rattle.blocks.proofs.spares.any_used.Reads as reads
-use Rattle.blocks.proofs.spares.any_used.Lts as lts
 
 abbrev Inv-loop : tie.InvT-loop
 Inv-loop f at n found₀ i₀ found i = (i ≤ n) × (found ≡ any i (λ r. used (from f at r)))
@@ -18,32 +16,25 @@ Inv-loop f at n found₀ i₀ found i = (i ≤ n) × (found ≡ any i (λ r. use
 abbrev μ-loop : tie.MeasureT-loop
 μ-loop f at n found₀ i₀ found i = n - i
 
--- src/spares.rt:19:5
 loop-holds : tie.Need-loop-holds Inv-loop μ-loop
 unfolding any
 loop-holds c = (omega arith, refl)
 
--- src/spares.rt:20:28
 add-found : tie.Need-add-found Inv-loop μ-loop
 add-found c = search needs
 
--- src/spares.rt:20:26
 shared-slice-read-found : tie.Need-shared-slice-read-found Inv-loop μ-loop
 shared-slice-read-found c = search needs
 
--- src/spares.rt:21:9
 add-i : tie.Need-add-i Inv-loop μ-loop
 add-i c = search needs
 
--- src/spares.rt:19:5
 loop-less : tie.Need-loop-less Inv-loop μ-loop
 loop-less c = search needs
 
--- src/spares.rt:19:5
 loop-again : tie.Need-loop-again Inv-loop μ-loop
 loop-again c = (omega arith, rw (any-next, c .before .before .loop .inv .1))
 
--- src/spares.rt:13:1
 returns : tie.Need-returns Inv-loop μ-loop
 returns c =
     let l = c .before in
