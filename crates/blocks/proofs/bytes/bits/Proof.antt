@@ -10,9 +10,11 @@ use Rattle.blocks.proofs.Signs.{below-zero, from-zero, sfits-pos, turne
 use Rattle.blocks.proofs.bytes.bits.Statement.{statement}
 use Rattle.blocks.proofs.bytes.bits.Tie as tie
 
+-- A count below 0.
 neg : (c : tie.Then1) → (n : ℕ) × (c .before .args .z ≡ negsuc n) × (n < 2147483648)
 neg c = below-zero (c .before .args .z) (c .before .fits .z) (c .if1 .taken)
 
+-- A count from 0 on.
 non : (c : tie.Else1) → (n : ℕ) × (c .before .args .z ≡ pos n) × (n < 2147483648)
 non c = from-zero (c .before .args .z) (c .before .fits .z) (c .if1 .left)
 

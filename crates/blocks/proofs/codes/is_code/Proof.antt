@@ -2,15 +2,15 @@
 use Prim.Native.Nat.{ℕ, _+_, _≤_, _-_}
 use mathlib.Core.Bool.{cond, _&&_}
 use mathlib.Core.List.{List}
-use mathlib.Core.Path.{sym, ap, ap₂, _∙_, _≡_, refl}
+use mathlib.Core.Path.{sym, ap, _∙_, _≡_, refl}
 use native.Mathlib.Nat.{add-zero, add-assoc}
 use native.Mathlib.Omega.{arith}
 use lib.Dec.{leb, ltb, eqb}
 use lib.ListN.{getD}
 use Rattle.laws.specs.Below.{all}
-use Rattle.laws.proofs.Below.{all-next}
 use Rattle.format.specs.Bytes.{from}
 use Rattle.format.specs.Codes.{isPlace, isCode, readCode}
+use Rattle.blocks.proofs.Extra.{all-more}
 use borrow.Author.Needs.{needs}
 use Rattle.blocks.proofs.codes.is_code.Statement.{statement}
 use Rattle.blocks.proofs.codes.is_code.Tie as tie
@@ -64,7 +64,7 @@ loop-again c =
     let l = c .before .before .before in
     let s = l .before .before .before .before in (
       omega arith,
-      ap₂ _&&_ (l .loop .inv .1) (c .is-place .ensures ∙ place-is (s .args .f .now) (s .args .at) (l .loop .i) _ (l .before .size .ensures .0)) ∙ sym (all-next (l .loop .i) (isPlace (readCode (from (s .args .f .now) (s .args .at))))),
+      all-more (l .loop .i) _ _ _ (l .loop .inv .1) (c .is-place .ensures ∙ place-is (s .args .f .now) (s .args .at) (l .loop .i) _ (l .before .size .ensures .0)),
     )
 
 returns : tie.Need-returns Inv-loop μ-loop

@@ -7,6 +7,7 @@ use Rattle.format.specs.Job.{badSizes}
 use Rattle.blocks.proofs.plan.bad_sizes.Statement.{statement}
 use Rattle.blocks.proofs.plan.bad_sizes.Tie as tie
 
+-- The tests of the four sizes.
 abbrev test : ℕ → ℕ → ℕ → ℕ → Bool
 test b g o t = ltb b 1 || ltb 16 b || ltb g 1 || ltb 255 g || ltb o 1 || ltb 500 o || ltb 1_000 t
 

@@ -1,14 +1,13 @@
 -- `blocks::records::bad_owners` meets its contract. Assumes nothing.
-use Prim.Native.Nat.{ℕ, _-_, _≤_}
-use mathlib.Core.Path.{_≡_, refl, sym, ap, ap₂, _∙_}
-use mathlib.Core.Bool.{_||_}
+use Prim.Native.Nat.{_-_, _≤_}
+use mathlib.Core.Path.{_≡_, refl, ap₂, _∙_}
 use native.Mathlib.Omega.{arith}
 use lib.Dec.{leb}
 use Rattle.laws.specs.Below.{any}
-use Rattle.laws.proofs.Below.{any-next}
 use Rattle.format.specs.Job.{badOwner}
 use Rattle.format.specs.File.{decode}
 use Rattle.blocks.proofs.Places.{owner-at}
+use Rattle.blocks.proofs.Extra.{any-end, any-more}
 use borrow.Author.Needs.{needs}
 use Rattle.blocks.proofs.records.bad_owners.Statement.{statement}
 use Rattle.blocks.proofs.records.bad_owners.Tie as tie
@@ -51,16 +50,11 @@ loop-again c =
     let s = l .before .before in
     let f = s .args .f .now in (
       omega arith,
-      ap₂ _||_ (l .loop .inv .1) (ap₂ leb (s .pre .1) (c .size .ensures .0 ∙ owner-at f (s .args .k) (l .loop .i) (s .pre .0 .1))) ∙ sym (any-next (l .loop .i) (λ r. badOwner (decode f) (decode f .grocerOwner r))),
+      any-more (l .loop .i) _ _ _ (l .loop .inv .1) (ap₂ leb (s .pre .1) (c .size .ensures .0 ∙ owner-at f (s .args .k) (l .loop .i) (s .pre .0 .1))),
     )
 
 returns : tie.Need-returns Inv-loop μ-loop
-returns c =
-    let l = c .before in
-    let s = l .before .before in
-    let f = s .args .f .now in
-    let e : l .loop .i ≡ s .args .count = omega arith in
-    l .loop .inv .1 ∙ ap (λ (n : ℕ). any n (λ r. badOwner (decode f) (decode f .grocerOwner r))) e
+returns c = any-end _ _ _ _ (omega arith) (c .before .loop .inv .1)
 
 pub bad-owners-spec : {M : Type 1} → statement M
 bad-owners-spec =

@@ -1,14 +1,13 @@
 -- `blocks::records::bad_tallies` meets its contract. Assumes nothing.
-use Prim.Native.Nat.{ℕ, _+_, _*_, _-_, _≤_}
-use mathlib.Core.Path.{_≡_, refl, sym, ap, ap₂, _∙_}
-use mathlib.Core.Bool.{_||_}
+use Prim.Native.Nat.{_+_, _*_, _-_, _≤_}
+use mathlib.Core.Path.{_≡_, refl, ap, _∙_}
 use native.Mathlib.Omega.{arith}
 use Rattle.laws.specs.Below.{any}
-use Rattle.laws.proofs.Below.{any-next}
 use Rattle.format.specs.Job.{badTally}
 use Rattle.format.specs.Blocks.{talliesAt}
 use Rattle.format.specs.File.{decode}
 use Rattle.blocks.proofs.Places.{tally-at}
+use Rattle.blocks.proofs.Extra.{any-end, any-more}
 use borrow.Author.Needs.{needs}
 use Rattle.blocks.proofs.records.bad_tallies.Statement.{statement}
 use Rattle.blocks.proofs.records.bad_tallies.Tie as tie
@@ -50,16 +49,11 @@ loop-again c =
     let s = l .before .before in
     let f = s .args .f .now in (
       omega arith,
-      ap₂ _||_ (l .loop .inv .1) (c .bad-tally .ensures ∙ ap (badTally (decode f)) (tally-at f (s .args .k) (l .loop .i) (omega arith) (omega arith))) ∙ sym (any-next (l .loop .i) (λ r. badTally (decode f) (decode f .tally (21 * (s .args .k - talliesAt (decode f .offers)) + r)))),
+      any-more (l .loop .i) _ _ _ (l .loop .inv .1) (c .bad-tally .ensures ∙ ap (badTally (decode f)) (tally-at f (s .args .k) (l .loop .i) (omega arith) (omega arith))),
     )
 
 returns : tie.Need-returns Inv-loop μ-loop
-returns c =
-    let l = c .before in
-    let s = l .before .before in
-    let f = s .args .f .now in
-    let e : l .loop .i ≡ s .args .count = omega arith in
-    l .loop .inv .1 ∙ ap (λ (n : ℕ). any n (λ r. badTally (decode f) (decode f .tally (21 * (s .args .k - talliesAt (decode f .offers)) + r)))) e
+returns c = any-end _ _ _ _ (omega arith) (c .before .loop .inv .1)
 
 pub bad-tallies-spec : {M : Type 1} → statement M
 bad-tallies-spec =

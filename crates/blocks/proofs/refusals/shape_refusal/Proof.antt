@@ -12,12 +12,15 @@ use borrow.Author.Needs.{needs}
 use Rattle.blocks.proofs.refusals.shape_refusal.Statement.{statement}
 use Rattle.blocks.proofs.refusals.shape_refusal.Tie as tie
 
+-- The length is not refused.
 right : (c : tie.Else1) → badLength (c .before .before .before .args .f .now) ≡ false
 right c = sym (c .before .bad-length .ensures) ∙ c .if1 .left
 
+-- The header is not refused.
 top : (c : tie.Else2) → headerRefusal (c .before .before .before .before .before .args .f .now) ≡ 0
 top c = sym (c .before .header-refusal .ensures) ∙ c .if2 .left
 
+-- The sizes that are read are at most the largest ones.
 most : (c : tie.After-read-sizes) → Most (c .read-sizes .result)
 most c =
     let i = c .read-sizes .ensures in

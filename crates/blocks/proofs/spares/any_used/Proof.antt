@@ -1,11 +1,11 @@
 -- `blocks::spares::any_used` meets its contract. Assumes nothing.
-use Prim.Native.Nat.{ℕ, _-_, _≤_}
-use mathlib.Core.Path.{_≡_, refl, ap, _∙_}
+use Prim.Native.Nat.{_-_, _≤_}
+use mathlib.Core.Path.{_≡_, refl}
 use native.Mathlib.Omega.{arith}
 use Rattle.laws.specs.Below.{any}
-use Rattle.laws.proofs.Below.{any-next}
 use Rattle.format.specs.Bytes.{from}
 use Rattle.blocks.specs.Shape.{used}
+use Rattle.blocks.proofs.Extra.{any-end, any-more}
 use borrow.Author.Needs.{needs}
 use Rattle.blocks.proofs.spares.any_used.Statement.{statement}
 use Rattle.blocks.proofs.spares.any_used.Tie as tie
@@ -33,14 +33,10 @@ loop-less : tie.Need-loop-less Inv-loop μ-loop
 loop-less c = search needs
 
 loop-again : tie.Need-loop-again Inv-loop μ-loop
-loop-again c = (omega arith, rw (any-next, c .before .before .loop .inv .1))
+loop-again c = (omega arith, any-more _ _ _ _ (c .before .before .loop .inv .1) refl)
 
 returns : tie.Need-returns Inv-loop μ-loop
-returns c =
-    let l = c .before in
-    let s = l .before in
-    let e : l .loop .i ≡ s .args .n = omega arith in
-    l .loop .inv .1 ∙ ap (λ (n : ℕ). any n (λ r. used (from (s .args .f .now) (s .args .at) r))) e
+returns c = any-end _ _ _ _ (omega arith) (c .before .loop .inv .1)
 
 pub any-used-spec : {M : Type 1} → statement M
 any-used-spec =

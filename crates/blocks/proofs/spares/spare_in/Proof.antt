@@ -4,10 +4,9 @@ use mathlib.Core.Path.{_≡_, refl, sym, ap, ap₂, _∙_}
 use mathlib.Core.Bool.{_||_}
 use native.Mathlib.Omega.{arith}
 use Rattle.laws.specs.Below.{any}
-use Rattle.laws.proofs.Below.{any-next}
 use Rattle.format.specs.Bytes.{from, after}
 use Rattle.blocks.specs.Shape.{used}
-use Rattle.blocks.proofs.Extra.{row-next, row-in}
+use Rattle.blocks.proofs.Extra.{any-more, row-next, row-in}
 use Rattle.blocks.proofs.Places.{from-after}
 use Rattle.blocks.proofs.SpareWalk.{spare-walk}
 use borrow.Author.Needs.{needs}
@@ -70,7 +69,7 @@ loop-again c =
     let e = c .any-used .ensures ∙ ap (λ (g : ℕ → ℕ). any (z - w) (λ i. used (g i))) (from-after f (s .args .at) (l .loop .p + w) ∙ ap (λ (p : ℕ). after (from f (s .args .at)) (p + w)) (l .loop .inv .1)) in (
       omega arith,
       ap (λ (p : ℕ). p + z) (l .loop .inv .1) ∙ sym (row-next (l .loop .i) z),
-      ap₂ _||_ (l .loop .inv .2) e ∙ sym (any-next (l .loop .i) (λ r. any (z - w) (λ i. used (after (from f (s .args .at)) (r * z + w) i)))),
+      any-more (l .loop .i) _ _ _ (l .loop .inv .2) e,
     )
 
 add-any-used-3 : tie.Need-add-any-used-3 Inv-loop μ-loop

@@ -17,9 +17,11 @@ Inv-loop f at first₀ second₀ weight₀ i₀ first second weight i = (i ≤ 5
 abbrev μ-loop : tie.MeasureT-loop
 μ-loop f at first₀ second₀ weight₀ i₀ first second weight i = 508 - i
 
+-- A byte is at most 255.
 byte : (c : tie.After-wide Inv-loop μ-loop) → c .wide .result ≤ 255
 byte c = c .wide .ensures .1
 
+-- A byte with its weight is at most 508 × 255.
 prod : (c : tie.After-wide Inv-loop μ-loop) → c .before .before .before .loop .weight * c .wide .result ≤ 129540
 prod c = mul-le-mul {n₂ = 508} {m₂ = 255} (omega arith) (byte c)
 
