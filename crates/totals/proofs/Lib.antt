@@ -1,0 +1,3 @@
+-- The laws of totals that belong to no one function.
+pub mod Extra
+pub mod Rows
