@@ -1,0 +1,1 @@
+-- Laws of one step applied to the lent tables.

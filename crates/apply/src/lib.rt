@@ -1,0 +1,2 @@
+// One step applied to the lent tables.
+mod steps;
