@@ -2,21 +2,24 @@
 use mathlib.Core.Path.{_≡_, refl, sym, ap, ap₂, _∙_}
 use mathlib.Core.Bool.{Bool, true, false, cond, _&&_}
 use mathlib.Core.List.{List}
-use Prim.Native.Nat.{ℕ, _+_, _-_, _*_, _<_, _≤_}
-use native.Mathlib.Nat.{mul-le-mul-right}
-use native.Mathlib.Decide.{decLt}
+use Prim.Native.Nat.{ℕ, _+_, _-_, _*_, _^_, _<_, _≤_}
+use native.Mathlib.Nat.{le-refl, mul-le-mul-right}
+use native.Mathlib.Decide.{ℕ-discrete, decLt}
 use native.Mathlib.Omega.{arith}
 use lib.Dec.{eqb, ltb, leb}
-use lib.ListN.{length, getD}
+use lib.ListN.{length, getD, set}
 use lib.IntN.{ℤ, pos, natAbs, _+ℤ_}
-use borrow.Author.Tests.{eqb-true, eqb-false, lt-ltb, ltb-true, leb-true}
+use lib.Signed.{mag}
+use mir.Syntax.{w64}
+use mir.Val.{SFits, toZ, ofZ}
+use borrow.Author.Tests.{eqb-true, eqb-false, lt-ltb, le-ltb, ltb-true, leb-true}
 use Rattle.laws.specs.Below.{words, amounts, sum, only, all, count}
 use Rattle.laws.specs.Tables.{cell, recell}
-use Rattle.laws.proofs.Bools.{split, and-l, and-r, and-one}
+use Rattle.laws.proofs.Bools.{split, and-l, and-r, and-false, and-one}
 use Rattle.laws.proofs.Below.{all-at}
-use Rattle.laws.proofs.Signed.{abs-plus, sum-abs, only-abs}
+use Rattle.laws.proofs.Signed.{abs-plus, sum-abs, only-abs, fits64-as, read64}
 use Rattle.laws.proofs.Tables.{cell-in, is-recell, recell-cong}
-use Rattle.laws.proofs.Loops.{share, guarded, window, window-in, window-below, window-above}
+use Rattle.laws.proofs.Loops.{share, stored-more, front-here, front-else, guarded, window, window-in, window-below, window-above}
 use Rattle.model.specs.Ranges.{upTo, under, around}
 
 -- What the tests of a table say of its words.
@@ -119,6 +122,37 @@ module _ {A : Type 0} where
   row-put k m a at g l l′ z new f ha long here done same h e =
       row-stored k m a at g l l′ z (λ o. true) new f ha long here done same h e
       ∙ recell-cong k m _ (λ c o. cond (eqb c a) (f o) (cell k m l z c o)) l (λ c o lc lo. ap (λ (t : Bool). cond t (f o) (cell k m l z c o)) (and-one (eqb c a)))
+
+-- A loop that goes through a list from its front, and stores the new word where a test of the place holds.
+module _ {A : Type 0} (w : List A) (d : A) (new old : ℕ → A) (o : ℕ) (test : ℕ → Bool) (inside : o < length w) (h : (i : ℕ) → getD w i d ≡ cond (ltb i o && test i) (new i) (old i)) where
+  away : (i : ℕ) → (o ≡ i → ⊥) → (ltb i (o + 1) && test i) ≡ (ltb i o && test i)
+  away i n = ap (λ (b : Bool). b && test i) (front-else o i n)
+
+  pub front-more : (v : A) → v ≡ new o → (i : ℕ) → getD (cond (test o) (set w o v) w) i d ≡ cond (ltb i (o + 1) && test i) (new i) (old i)
+  front-more v e i = go (test o) refl
+    where
+      go : (b : Bool) → test o ≡ b → getD (cond b (set w o v) w) i d ≡ cond (ltb i (o + 1) && test i) (new i) (old i)
+      go true t = stored-more w d new old (λ i. ltb i o && test i) (λ i. ltb i (o + 1) && test i) o inside h (ap₂ _&&_ (front-here o) t) away v e i
+      go false t = h i ∙ ap (λ (b : Bool). cond b (new i) (old i)) (which (ℕ-discrete o i))
+        where
+          which : Dec (o ≡ i) → (ltb i o && test i) ≡ (ltb i (o + 1) && test i)
+          which (yes q) = let f : test i ≡ false = rw q at t in rw f (and-false (ltb i o) ∙ sym (and-false (ltb i (o + 1))))
+          which (no n) = sym (away i n)
+
+-- The word of the place that is next is not stored yet.
+pub front-next : (o : ℕ) (t : Bool) → (ltb o o && t) ≡ false
+front-next o t = ap (λ (b : Bool). b && t) (le-ltb o o (le-refl o))
+
+-- Nor is any word before the first place.
+pub front-none : (i : ℕ) (t : Bool) → (ltb i 0 && t) ≡ false
+front-none i t = ap (λ (b : Bool). b && t) (le-ltb i 0 (omega arith))
+
+-- The sum that the machine makes of two amounts, and that it fits where they are in range.
+pub sum-read : (x y : ℤ) → mag x < 2 ^ 63 → mag y < 2 ^ 63 → toZ w64 (ofZ w64 x) +ℤ toZ w64 (ofZ w64 y) ≡ x +ℤ y
+sum-read x y mx my = ap₂ _+ℤ_ (read64 x mx) (read64 y my)
+
+pub sum-fits : (x y : ℤ) (b : ℕ) → b ≤ 4_000_000_000_000_000_000 → natAbs x ≤ b → natAbs y ≤ b → mag x < 2 ^ 63 → mag y < 2 ^ 63 → SFits w64 (toZ w64 (ofZ w64 x) +ℤ toZ w64 (ofZ w64 y))
+sum-fits x y b hb hx hy mx my = fits64-as (sum-read x y mx my) (omega (arith, abs-plus x y))
 
 -- The words of a table of amounts in range are in range, and so is what stands for a word outside it.
 pub cell-abs : (b k m : ℕ) (l : List ℤ) (c o : ℕ) → around b (k * m) l ≡ true → natAbs (cell k m l (pos 0) c o) ≤ b

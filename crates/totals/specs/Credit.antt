@@ -1,12 +1,13 @@
 -- Totals that are sent, and totals that are added to statements.
 use mathlib.Core.Bool.{Bool, cond, _&&_, _||_}
 use mathlib.Core.List.{List}
-use Prim.Native.Nat.{ℕ}
-use lib.ListN.{getD}
+use Prim.Native.Nat.{ℕ, _≤_, _<_}
+use lib.ListN.{length, getD}
 use lib.Dec.{eqb}
-use lib.IntN.{ℤ, pos, _+ℤ_}
+use lib.IntN.{ℤ, pos, natAbs, _+ℤ_}
 use Rattle.laws.specs.Masks.{bit}
 use Rattle.laws.specs.Tables.{overwrite, word, cell, recell}
+use Rattle.model.specs.Ranges.{maxBoxes, maxGrocers, maxAmount}
 
 -- A table of k rows of m amounts with 0 in row a at the grocers that pass p.
 unfoldable pub cleared : ℕ → ℕ → ℕ → (ℕ → Bool) → List ℤ → List ℤ
@@ -29,3 +30,13 @@ creditWord k m from p totals statement g =
 -- The statements with these words.
 unfoldable pub creditAll : ℕ → ℕ → ℕ → (ℕ → Bool) → List ℤ → List ℤ → List ℤ
 creditAll k m from p totals statement = overwrite m (creditWord k m from p totals statement) statement
+
+-- The total of grocer g, at a place, and its statement are in range.
+pub record CreditIn (owners : List ℕ) (totals statement : List ℤ) (from g at : ℕ) : Type 0 where
+  pub from-in : from < maxBoxes
+  pub grocer-in : g < maxGrocers
+  pub owner-long : g < length owners
+  pub total-long : at < length totals
+  pub statement-long : g < length statement
+  pub total-in : natAbs (getD totals at (pos 0)) ≤ maxAmount
+  pub statement-in : natAbs (getD statement g (pos 0)) ≤ maxAmount
