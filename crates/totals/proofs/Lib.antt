@@ -2,3 +2,4 @@
 pub mod Extra
 pub mod Rows
 pub mod Credits
+pub mod Effect

@@ -2,21 +2,25 @@
 use mathlib.Core.Path.{_≡_, refl, sym, ap, _∙_}
 use mathlib.Core.Bool.{Bool, true, false, cond, _&&_}
 use mathlib.Core.List.{List}
-use Prim.Native.Nat.{ℕ, _+_, _*_, _<_, _≤_}
-use native.Mathlib.Nat.{le-trans}
+use Prim.Native.Nat.{ℕ, _+_, _*_, _/_, _%_, _<_, _≤_}
+use native.Mathlib.Nat.{le-trans, mod-lt}
 use native.Mathlib.Omega.{arith}
-use lib.Dec.{eqb, lit≤}
+use lib.Dec.{eqb, leb}
+use lib.Arith.{digits-div, digits-mod}
+use borrow.Author.Tests.{le-leb}
 use lib.ListN.{length, getD, set}
 use lib.Seq.{set-getD}
 use lib.IntN.{ℤ, pos, natAbs, _+ℤ_, _*ℤ_, +ℤ-idr}
-use Rattle.laws.specs.Below.{amounts, sum, only}
-use Rattle.laws.specs.Tables.{cell}
+use Rattle.laws.specs.Below.{amounts, sum, only, all}
+use Rattle.laws.specs.Tables.{overwrite, cell, recell}
+use Rattle.laws.proofs.Bools.{split, eqb-same}
+use Rattle.laws.proofs.Below.{all-at, all-of, all-find, all-fails}
 use Rattle.laws.proofs.Loops.{share}
 use Rattle.laws.proofs.Signed.{abs-plus, abs-times-le, sum-abs, only-abs}
 use Rattle.laws.proofs.Sums.{sum-cong}
-use Rattle.laws.proofs.Tables.{cell-in, getD-tabulate}
+use Rattle.laws.proofs.Tables.{pos-right, cell-in, getD-tabulate, getD-overwrite}
 use Rattle.model.specs.Ranges.{maxAmount, maxGrocers, around}
-use Rattle.totals.specs.Row.{Tallies, TalliesIn, PricesIn, AmountsIn, TallyIn, raised, isTaken, productAt, brings, rowOf, product, productSum}
+use Rattle.totals.specs.Row.{Tallies, TalliesIn, PricesIn, AmountsIn, TallyIn, raised, isTaken, productAt, brings, rowOf, putRow, product, productSum}
 use Rattle.totals.proofs.Extra.{under-at, up-at, around-at, row-in, cell-at, cell-abs}
 
 -- Where nothing is added the row stays, and elsewhere the word grows.
@@ -86,3 +90,23 @@ row-word k m a l g q = getD-tabulate 255 (cell k m l (pos 0) a) g (pos 0) q
 
 pub row-size : (k m a : ℕ) (l : List ℤ) (g : ℕ) → AmountsIn (k * m) l → g < 255 → natAbs (getD (rowOf k m a l) g (pos 0)) ≤ maxAmount
 row-size k m a l g h q = rw (row-word k m a l g q) (cell-abs 1_000_000_000_000_000 k m l a g (h .words-in))
+
+-- The range of a table with a row written anew is that of the row, where the table was in range.
+pub put-range : (n k m a : ℕ) (row l : List ℤ) → a < k → around n (k * m) l ≡ true → around n (k * m) (putRow k m a row l) ≡ around n m row
+unfolding around putRow recell
+put-range n k m a row l la h =
+    split (around n m row)
+    (λ e. all-of (k * m) _ (λ i q. rw (word i q) (both (i / m) (i % m) (mod-lt i (pos-right k m i q)) e)) ∙ sym e)
+    (λ e.
+    let (g, lg, no-fit) = all-find m (λ g. leb (natAbs (getD row g (pos 0))) n) e in
+    all-fails (k * m) _ (a * m + g) (cell-in a k m g la lg) (rw (word (a * m + g) (cell-in a k m g la lg), digits-div a lg, digits-mod a lg, eqb-same a) no-fit) ∙ sym e)
+  where
+    word : (i : ℕ) → i < k * m → getD (overwrite (k * m) (λ i. cond (eqb (i / m) a) (getD row (i % m) (pos 0)) (cell k m l (pos 0) (i / m) (i % m))) l) i (pos 0)
+        ≡ cond (eqb (i / m) a) (getD row (i % m) (pos 0)) (cell k m l (pos 0) (i / m) (i % m))
+    word i q = getD-overwrite (k * m) (λ i. cond (eqb (i / m) a) (getD row (i % m) (pos 0)) (cell k m l (pos 0) (i / m) (i % m))) l i (pos 0) q
+
+    both : (c g : ℕ) → g < m → all m (λ g. leb (natAbs (getD row g (pos 0))) n) ≡ true → leb (natAbs (cond (eqb c a) (getD row g (pos 0)) (cell k m l (pos 0) c g))) n ≡ true
+    both c g lg e =
+        split (eqb c a)
+        (λ q. rw q (all-at m (λ g. leb (natAbs (getD row g (pos 0))) n) g lg e))
+        (λ q. rw q (le-leb (natAbs (cell k m l (pos 0) c g)) n (cell-abs n k m l c g h)))
