@@ -5,6 +5,7 @@ use mathlib.Core.List.{List, [], _∷_}
 use Prim.Native.Nat.{ℕ, _*_, _≤_, _<_}
 use native.Mathlib.Omega.{arith}
 use lib.Dec.{eqb, ltb, leb}
+use lib.ListN.{length}
 use borrow.Author.Tests.{ltb-true, leb-true, eqb-false, not-true}
 use Rattle.laws.specs.Tables.{tabulate}
 use Rattle.laws.proofs.Bools.{and-l, and-r}
@@ -175,3 +176,16 @@ module _ (f : JobTables) (t : StateTables) (needs sharers : List ℕ) (q : Asked
     multiply-in = record { tallies-in = g .tallies-in; prices-in = record { long = g .state-long .priceTransit; words-in = g .words-in .priceTransit }; working-in = working-in; a-in = g .first-in };
     tables-in = prices-in;
   }
+
+  -- Totals sent, and totals of a box `from` added to statements.
+  pub send-in : (f .boxes ≤ 16) × (f .grocers ≤ 255) × (q .first < f .boxes) × (f .grocers ≤ length (f .grocerOwner)) × (f .boxes * f .grocers ≤ length (t .working)) × (f .boxes * f .grocers ≤ length (t .totalTransit))
+  unfolding jobLengths stateLengths
+  send-in = (g .tallies-in .boxes-in, g .tallies-in .grocers-in, g .first-in, g .job-long .grocerOwner, g .state-long .working, g .state-long .totalTransit)
+
+  pub credit-in : (from : ℕ) → from < f .boxes → (f .boxes ≤ 16) × (f .grocers ≤ 255) × (from < f .boxes) × (f .grocers ≤ length (f .grocerOwner))
+  unfolding jobLengths
+  credit-in from l = (g .tallies-in .boxes-in, g .tallies-in .grocers-in, l, g .job-long .grocerOwner)
+
+-- A kind that is none of the first five is the sixth.
+pub sixth : (n : ℕ) → 1 ≤ n → n ≤ 6 → (n ≡ 1 → ⊥) → (n ≡ 2 → ⊥) → (n ≡ 3 → ⊥) → (n ≡ 4 → ⊥) → (n ≡ 5 → ⊥) → n ≡ 6
+sixth n from to n1 n2 n3 n4 n5 = omega arith
