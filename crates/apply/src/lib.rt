@@ -1,5 +1,6 @@
 // One step applied to the lent tables.
 mod steps;
+
 ghost use mathlib.Core.Path.{_≡_};
 ghost use Rattle.model.specs.Tables.{jobTables, stateTables};
 ghost use Rattle.model.specs.Step.{asked, moved};
@@ -45,19 +46,54 @@ pub fn apply(
     }
     if kind == 2 {
         steps::multiply(
-            k, m, n, t, first, first, owner, tgrocer, tbox, toffer, tcount, known, working,
+            k,
+            m,
+            n,
+            t,
+            first,
+            first,
+            owner,
+            tgrocer,
+            tbox,
+            toffer,
+            tcount,
+            known,
+            working,
         );
         return;
     }
     if kind == 3 {
         steps::receive_prices(
-            k, m, n, t, first, second, owner, tgrocer, tbox, toffer, tcount, needs, known,
-            ptransit, working,
+            k,
+            m,
+            n,
+            t,
+            first,
+            second,
+            owner,
+            tgrocer,
+            tbox,
+            toffer,
+            tcount,
+            needs,
+            known,
+            ptransit,
+            working,
         );
         return;
     }
     if kind == 4 {
-        steps::send_totals(k, m, first, second, gowner, sharers, working, ttransit, sent);
+        steps::send_totals(
+            k,
+            m,
+            first,
+            second,
+            gowner,
+            sharers,
+            working,
+            ttransit,
+            sent,
+        );
         return;
     }
     if kind == 5 {

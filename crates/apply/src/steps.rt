@@ -59,7 +59,19 @@ pub fn multiply(
     ensures { λ _. ⌜ now (working .exit) ≡ putRow k m a (productRow (tallies k m n t (now (owner .entry)) (now (grocer .entry)) (now (holder .entry)) (now (offer .entry)) (now (counts .entry))) (now (prices .entry)) a from (now (working .entry))) (now (working .entry)) ⌝ }
 {
     let row = totals::row::product_row(
-        k, m, n, t, a, from, owner, grocer, holder, offer, counts, prices, working,
+        k,
+        m,
+        n,
+        t,
+        a,
+        from,
+        owner,
+        grocer,
+        holder,
+        offer,
+        counts,
+        prices,
+        working,
     );
     totals::row::put_row(k, m, a, &row, working);
 }
@@ -85,7 +97,21 @@ pub fn receive_prices(
     requires { ⌜ ReceiveIn (tallies k m n t (now owner) (now grocer) (now holder) (now offer) (now counts)) a b (now known) (now transit) (now working) ⌝ }
     ensures { λ _. ⌜ (now (known .exit) ≡ receivedKnown k n a b (now (owner .entry)) (now (needs .entry)) (now (known .entry)) (now (transit .entry))) × (now (transit .exit) ≡ receivedTransit k n a b (now (owner .entry)) (now (needs .entry)) (now (known .entry)) (now (transit .entry))) × (now (working .exit) ≡ putRow k m a (productRow (tallies k m n t (now (owner .entry)) (now (grocer .entry)) (now (holder .entry)) (now (offer .entry)) (now (counts .entry))) (now (transit .entry)) a b (now (working .entry))) (now (working .entry))) ⌝ }
 {
-    multiply(k, m, n, t, a, b, owner, grocer, holder, offer, counts, transit, working);
+    multiply(
+        k,
+        m,
+        n,
+        t,
+        a,
+        b,
+        owner,
+        grocer,
+        holder,
+        offer,
+        counts,
+        transit,
+        working,
+    );
     prices::receive::receive_prices(k, n, a, b, owner, needs, known, transit);
 }
 
