@@ -173,7 +173,8 @@ module _ (f : JobTables) (t : StateTables) (needs sharers : List ℕ) (q : Asked
   pub receive-in : ReceiveIn (talliesOf f) (q .first) (q .second) (t .known) (t .priceTransit) (t .working)
   unfolding stateLengths
   receive-in = record {
-    multiply-in = record { tallies-in = g .tallies-in; prices-in = record { long = g .state-long .priceTransit; words-in = g .words-in .priceTransit }; working-in = working-in; a-in = g .first-in };
+    known-in = own-in;
+    transit-in = record { tallies-in = g .tallies-in; prices-in = record { long = g .state-long .priceTransit; words-in = g .words-in .priceTransit }; working-in = working-in; a-in = g .first-in };
     tables-in = prices-in;
   }
 

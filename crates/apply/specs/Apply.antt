@@ -41,7 +41,8 @@ pub record MultiplyIn (e : Tallies) (a : ℕ) (prices : List ℕ) (working : Lis
   pub working-in : AmountsIn (e .boxes * e .grocers) working
   pub a-in : a < e .boxes
 
--- What receiving prices requires: the same at the prices in transit, and the price tables.
+-- What receiving prices requires: the same at the prices known and at those in transit, and the price tables.
 pub record ReceiveIn (e : Tallies) (a b : ℕ) (known transit : List ℕ) (working : List ℤ) : Type 0 where
-  pub multiply-in : MultiplyIn e a transit working
+  pub known-in : MultiplyIn e a known working
+  pub transit-in : MultiplyIn e a transit working
   pub tables-in : price-tables.PricesIn (e .boxes) (e .offers) a b (e .owner) known transit
