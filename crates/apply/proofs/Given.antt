@@ -1,6 +1,6 @@
 -- What the requirement of applying a step says, fact by fact. Assumes nothing.
-use mathlib.Core.Path.{_≡_, sym, ap, _∙_}
-use mathlib.Core.Bool.{Bool, true, false, cond, _&&_, not, false≢true}
+use mathlib.Core.Path.{_≡_, sym}
+use mathlib.Core.Bool.{Bool, true, false, cond, not, false≢true}
 use mathlib.Core.List.{List, [], _∷_}
 use Prim.Native.Nat.{ℕ, _*_, _≤_, _<_}
 use native.Mathlib.Omega.{arith}
@@ -9,20 +9,20 @@ use lib.ListN.{length}
 use borrow.Author.Tests.{ltb-true, leb-true, eqb-false, not-true}
 use Rattle.laws.specs.Tables.{tabulate}
 use Rattle.laws.proofs.Bools.{and-l, and-r}
-use Rattle.laws.proofs.Checks.{Each, each-of}
+use Rattle.laws.proofs.Checks.{each-of}
 use Rattle.model.specs.Job.{needWord, sharerWord}
-use Rattle.model.specs.Steps.{Kind, kindOf, oneBox}
+use Rattle.model.specs.Steps.{kindOf, oneBox}
 use Rattle.model.specs.Tables.{JobTables, jobOf, StateTables, jobLengths, stateLengths}
 use Rattle.model.specs.Ranges.{maxPrice, maxCount, maxAmount, maxSent, upTo, under, around, sizesInRange, jobWordsInRange, jobInRange, stateInRange}
 use Rattle.model.specs.Step.{Asked, isKind, boxesFit}
+use Rattle.prices.specs.Marks.{MarksIn}
+use Rattle.totals.specs.Row.{TalliesIn, AmountsIn}
+use Rattle.apply.specs.Apply.{Applies, SentIn, MultiplyIn, ReceiveIn}
 use Rattle.model.proofs.Step.{range, limits}
 use Rattle.model.proofs.Lent.{JobLong, job-long, StateLong, state-long}
-use Rattle.prices.specs.Prices as price-tables
-use Rattle.prices.specs.Marks.{MarksIn}
-use Rattle.totals.specs.Row.{TalliesIn, PricesIn, AmountsIn}
 use Rattle.totals.proofs.Effect.{talliesOf}
 use Rattle.totals.proofs.Extra.{up-at}
-use Rattle.apply.specs.Apply.{Applies, SentIn, MultiplyIn, ReceiveIn}
+use Rattle.prices.specs.Prices as price-tables
 
 -- The words of the state's tables are in range, table by table.
 pub record StateWords (f : JobTables) (t : StateTables) : Type 0 where

@@ -1,8 +1,8 @@
 -- What the range of the finished tables comes to for each kind of step: one test decides. Assumes nothing.
-use mathlib.Core.Path.{_≡_, refl, sym, ap, _∙_}
+use mathlib.Core.Path.{_≡_, ap, _∙_}
 use mathlib.Core.Bool.{true, _&&_}
 use mathlib.Core.List.{List, [], _∷_}
-use Prim.Native.Nat.{ℕ, _+_, _*_, _≤_, _<_}
+use Prim.Native.Nat.{ℕ, _+_, _*_}
 use native.Mathlib.Omega.{arith}
 use lib.Dec.{eqb, leb}
 use lib.ListN.{getD}
@@ -17,18 +17,18 @@ use Rattle.model.specs.Step.{Asked, moved}
 use Rattle.words.specs.Message.{wordIn}
 use Rattle.prices.specs.Prices.{sentTransit, receivedKnown, receivedTransit}
 use Rattle.prices.specs.Marks.{marked}
-use Rattle.prices.proofs.Marked.{marks-bits}
-use Rattle.prices.proofs.Effect as price-laws
 use Rattle.totals.specs.Row.{productRow}
 use Rattle.totals.specs.Credit.{credited, creditWord}
+use Rattle.apply.specs.Apply.{Applies}
+use Rattle.prices.proofs.Marked.{marks-bits}
 use Rattle.totals.proofs.Rows.{put-range}
 use Rattle.totals.proofs.Credits.{cleared-range, sent-range, credit-range}
-use Rattle.totals.proofs.Effect as total-laws
 use Rattle.totals.proofs.Effect.{talliesOf}
-use Rattle.apply.specs.Apply.{Applies}
 use Rattle.apply.proofs.Extra.{one-left, cell-up, recell-up, set-up}
 use Rattle.apply.proofs.Given.{Given, given}
 use Rattle.apply.proofs.Moved.{prices-sent, own-multiplied, prices-received, totals-sent, own-added, totals-received}
+use Rattle.prices.proofs.Effect as price-laws
+use Rattle.totals.proofs.Effect as total-laws
 
 -- Prices sent or received stay in range.
 module _ (k n a b : ℕ) (owner needs known transit : List ℕ) (hk : upTo maxPrice (k * n) known ≡ true) (ht : upTo maxPrice (k * n) transit ≡ true) where

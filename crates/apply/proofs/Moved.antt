@@ -2,8 +2,7 @@
 use mathlib.Core.Path.{_≡_, refl, sym, ap, _∙_}
 use mathlib.Core.Bool.{false}
 use mathlib.Core.List.{List}
-use Prim.Native.Nat.{ℕ, _≤_, _<_}
-use native.Mathlib.Omega.{arith}
+use Prim.Native.Nat.{ℕ}
 use lib.IntN.{ℤ}
 use Rattle.laws.specs.Below.{count}
 use Rattle.model.specs.Steps.{Kind, State, effect, oneBox, kindOf, sendPrices, multiplyOwn, receivePrices, sendTotals, addOwn, receiveTotals}
@@ -12,15 +11,15 @@ use Rattle.model.specs.Step.{Asked, moved}
 use Rattle.words.specs.Message.{wordIn}
 use Rattle.prices.specs.Prices.{sentTransit, receivedKnown, receivedTransit}
 use Rattle.prices.specs.Marks.{marked}
-use Rattle.prices.proofs.Extra.{overwrite-one}
-use Rattle.prices.proofs.Effect as price-laws
-use Rattle.prices.proofs.Effect.{tables-eq, known-stays, price-transit-stays, working-stays, total-transit-stays, statement-stays, sent-stays, step-marked}
 use Rattle.totals.specs.Row.{putRow, productRow}
 use Rattle.totals.specs.Credit.{cleared, sentTotals, credited, creditAll}
-use Rattle.totals.proofs.Effect as total-laws
-use Rattle.totals.proofs.Effect.{talliesOf, multiplied-own, received-working, added-working, added-statement, received-statement}
 use Rattle.apply.specs.Apply.{sentMore}
+use Rattle.prices.proofs.Extra.{overwrite-one}
+use Rattle.prices.proofs.Effect.{tables-eq, known-stays, price-transit-stays, working-stays, total-transit-stays, statement-stays, sent-stays, step-marked}
+use Rattle.totals.proofs.Effect.{talliesOf, multiplied-own, received-working, added-working, added-statement, received-statement}
 use Rattle.apply.proofs.Given.{Given}
+use Rattle.prices.proofs.Effect as price-laws
+use Rattle.totals.proofs.Effect as total-laws
 
 module _ (f : JobTables) (t : StateTables) (needs sharers : List ℕ) (q : Asked) (g : Given f t needs sharers q) where
   -- The state after a step of a kind, and the tables it is written into.

@@ -11,8 +11,8 @@ use Rattle.model.specs.Steps.{kindOf}
 use Rattle.model.specs.Tables.{JobTables, jobOf, StateTables, jobLengths, stateLengths, jobShort, stateShort}
 use Rattle.model.specs.Ranges.{maxSent, jobInRange, stateInRange}
 use Rattle.model.specs.Step.{Asked, isKind, boxesFit}
-use Rattle.prices.specs.Prices as price-tables
 use Rattle.totals.specs.Row.{Tallies, TalliesIn, PricesIn, AmountsIn}
+use Rattle.prices.specs.Prices as price-tables
 
 -- The tables are long enough and in range, the masks are the job's, and the step is one of a kind with boxes that fit it.
 pub record Applies (f : JobTables) (t : StateTables) (needs sharers : List ℕ) (q : Asked) : Type 0 where

@@ -1,10 +1,9 @@
 -- `apply::apply` meets its contract. Assumes nothing.
-use mathlib.Core.Path.{_≡_, refl, sym, _∙_}
-use Prim.Native.Nat.{ℕ}
-use denote.Ref.{now}
+use mathlib.Core.Path.{refl, sym, _∙_}
 use borrow.Author.Needs.{needs}
 use Rattle.model.specs.Tables.{JobTables, StateTables, jobTables, stateTables}
 use Rattle.model.specs.Step.{Asked, asked}
+use denote.Ref.{now}
 use Rattle.prices.proofs.Effect.{tables-eq}
 use Rattle.apply.proofs.Given.{Given, given, marks-in, prices-in, sent-in, own-in, receive-in, send-in, credit-in, working-in, transit-in, statement-in, sixth}
 use Rattle.apply.proofs.Moved.{prices-sent, own-multiplied, prices-received, totals-sent, own-added, totals-received}

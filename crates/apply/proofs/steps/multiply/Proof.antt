@@ -1,10 +1,10 @@
 -- `apply::steps::multiply` meets its contract. Assumes nothing.
-use mathlib.Core.Path.{_≡_, ap, _∙_}
+use mathlib.Core.Path.{ap, _∙_}
 use mathlib.Core.List.{List}
 use lib.IntN.{ℤ}
-use denote.Ref.{now}
 use borrow.Author.Needs.{needs}
 use Rattle.totals.specs.Row.{putRow}
+use denote.Ref.{now}
 use Rattle.apply.proofs.steps.multiply.Statement.{statement}
 use Rattle.apply.proofs.steps.multiply.Tie as tie
 

@@ -1,13 +1,12 @@
 -- `apply::steps::send_prices` meets its contract. Assumes nothing.
-use mathlib.Core.Path.{_≡_, ap, _∙_}
+use mathlib.Core.Path.{ap, _∙_}
 use Prim.Native.Nat.{ℕ}
-use native.Mathlib.Nat.{le-trans}
 use native.Mathlib.Omega.{arith}
-use denote.Ref.{now}
-use borrow.Author.Needs.{needs}
 use Rattle.laws.proofs.Below.{count-le}
+use borrow.Author.Needs.{needs}
 use Rattle.words.specs.Message.{wordIn}
 use Rattle.apply.specs.Apply.{sentMore}
+use denote.Ref.{now}
 use Rattle.apply.proofs.steps.send_prices.Statement.{statement}
 use Rattle.apply.proofs.steps.send_prices.Tie as tie
 

@@ -1,12 +1,12 @@
 -- `apply::steps::send_totals` meets its contract. Assumes nothing.
-use mathlib.Core.Path.{_≡_, ap, _∙_}
+use mathlib.Core.Path.{ap, _∙_}
 use Prim.Native.Nat.{ℕ}
 use native.Mathlib.Omega.{arith}
-use denote.Ref.{now}
-use borrow.Author.Needs.{needs}
 use Rattle.laws.proofs.Below.{count-le}
+use borrow.Author.Needs.{needs}
 use Rattle.words.specs.Message.{wordIn}
 use Rattle.apply.specs.Apply.{sentMore}
+use denote.Ref.{now}
 use Rattle.apply.proofs.steps.send_totals.Statement.{statement}
 use Rattle.apply.proofs.steps.send_totals.Tie as tie
 

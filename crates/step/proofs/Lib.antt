@@ -1,0 +1,2 @@
+-- What an answer 0 says.
+pub mod Zero

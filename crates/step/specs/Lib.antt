@@ -1,0 +1,2 @@
+-- The numbers of the step's answers.
+pub mod Answer
