@@ -45,10 +45,6 @@ has-received-requires c κs = search needs
 returns-2 : tie.Need-returns-2 Inv-loop μ-loop
 returns-2 c =
     multiplied-fails _ _ _ _ (c .before .before .before .loop .c) (c .before .before .loop-test .taken) (sym (c .before .has-received .ensures) ∙ not-true _ (c .if2 .taken))
-    let s = c .before .before .before .before .before .before .before in
-    sym (ap (λ (t : Bool). stepsDone (s .args .k) (now (s .args .done)) multiplyOwn (s .args .a) (s .args .a) && t)
-    (all-fails (s .args .k) _ (c .before .before .before .loop .c) (c .before .before .loop-test .taken) (sym (c .before .has-received .ensures) ∙ not-true _ (c .if2 .taken)))
-    ∙ and-false _)
 
 add-c : tie.Need-add-c Inv-loop μ-loop
 add-c c = search needs
@@ -64,8 +60,6 @@ unfolding kindOf
 returns-3 c =
     let i = c .before in
     multiplied-all _ _ _ _ (sym (i .before .before .is-marked .ensures) ∙ not-false _ (i .before .if1 .left)) (test-ends _ _ _ (i .loop .inv .0) (c .loop-test .left) (i .loop .inv .1))
-    let i = c .before in
-    sym (and-true (sym (i .before .before .is-marked .ensures) ∙ not-false _ (i .before .if1 .left)) (sym (test-ends _ _ _ (i .loop .inv .0) (c .loop-test .left) (i .loop .inv .1))))
 
 pub multiplied-spec : {M : Type 1} → statement M
 multiplied-spec =

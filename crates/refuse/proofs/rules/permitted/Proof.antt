@@ -15,7 +15,7 @@ fits-requires : tie.Need-fits-requires
 fits-requires c κs = search needs
 
 returns : tie.Need-returns
-returns c = permitted-unfit _ _ _ _ _ _ _ (sym (c .before .fits .ensures) ∙ not-true _ (c .if1 .taken))
+returns c = permitted-unfit _ _ _ _ _ _ _ (sym (c .before .fits2 .ensures) ∙ not-true _ (c .if1 .taken))
 
 is-marked-requires : tie.Need-is-marked-requires
 is-marked-requires c κs = search needs
@@ -29,7 +29,7 @@ is-ready-requires c κs = search needs
 returns-3 : tie.Need-returns-3
 returns-3 c =
     let e = c .before in
-    permitted-ready _ _ _ _ _ _ _ (c .is-ready .result) (sym (e .before .before .before .fits .ensures) ∙ not-false _ (e .before .before .if1 .left)) (sym (e .before .is-marked .ensures) ∙ e .if2 .left) (c .is-ready .ensures)
+    permitted-ready _ _ _ _ _ _ _ (c .is-ready .result) (sym (e .before .before .before .fits2 .ensures) ∙ not-false _ (e .before .before .if1 .left)) (sym (e .before .is-marked .ensures) ∙ e .if2 .left) (c .is-ready .ensures)
 
 pub permitted-spec : {M : Type 1} → statement M
 permitted-spec =
