@@ -71,13 +71,25 @@ returns c =
     later-met (job s) (state s) (s .pre) _ _ _ (sharing-is e) (prices-are e) (totals-are e) (request s) _ (c .before .rules .ensures) (c .if1 .taken)
 
 finished-fits-requires : tie.Need-finished-fits-requires
-finished-fits-requires c κs = ?f
+finished-fits-requires c κs =
+    let i = c .before .before .before in
+    let e = i .before .before in
+    let s = entry e in
+    finish-in (job s) (state s) (s .pre) _ _ _ (sharing-is e) (prices-are e) (totals-are e) (request s) _ (i .before .rules .ensures) (i .if1 .left)
 
 returns-2 : tie.Need-returns-2
-returns-2 c = ?g
+returns-2 c =
+    let i = c .before .before .before .before .before in
+    let e = i .before .before in
+    let s = entry e in
+    later-late (job s) (state s) (s .pre) _ _ _ (sharing-is e) (prices-are e) (totals-are e) (request s) _ (i .before .rules .ensures) (i .if1 .left) _ (c .before .finished-fits .ensures) (c .if2 .taken)
 
 returns-3 : tie.Need-returns-3
-returns-3 c = ?h
+returns-3 c =
+    let i = c .before .before .before .before .before in
+    let e = i .before .before in
+    let s = entry e in
+    later-none (job s) (state s) (s .pre) _ _ _ (sharing-is e) (prices-are e) (totals-are e) (request s) _ (i .before .rules .ensures) (i .if1 .left) _ (c .before .finished-fits .ensures) (c .if2 .left)
 
 pub later-refusal-spec : {M : Type 1} → statement M
 later-refusal-spec =
