@@ -3,7 +3,10 @@ use mathlib.Core.Path.{_≡_}
 use mathlib.Core.List.{List}
 use Prim.Native.Nat.{ℕ, _+_, _*_, _<_, _≤_}
 use lib.ListN.{length, getD}
-use Rattle.format.specs.Bytes.{from, after}
+use lib.IntN.{ℤ}
+use mir.Syntax.{w32}
+use mir.Val.{toZ}
+use Rattle.format.specs.Bytes.{from, after, word32}
 use Rattle.format.specs.Codes.{Code, readCode}
 use Rattle.format.specs.Blocks.{blocksFor}
 use Rattle.format.specs.File.{recordAt}
@@ -21,6 +24,10 @@ bytesIn f first place i = from f (recordAt first i) place
 -- The code at a place of record i.
 abbrev pub codesIn : List ℕ → ℕ → ℕ → ℕ → Code
 codesIn f first place i = readCode (after (from f (recordAt first i)) place)
+
+-- The count at a place of record i: 32 bits in two's complement.
+abbrev pub countsIn : List ℕ → ℕ → ℕ → ℕ → ℤ
+countsIn f first place i = toZ w32 (word32 (after (from f (recordAt first i)) place))
 
 -- The n bytes of g stand in a list from `to` on, and the others are as they were.
 pub record Copied (g : ℕ → ℕ) (to n : ℕ) (old new : List ℕ) : Type 0 where

@@ -6,13 +6,7 @@ ghost use lib.ListN.{length};
 ghost use Rattle.format.specs.Bytes.{from};
 ghost use Rattle.format.specs.Codes.{readCode, isCode, number};
 ghost use Rattle.fills.specs.Fills.{Copied};
-
-// A digit count as a number of turns.
-fn count_of(x: u8) -> usize
-    ensures { λ r. ⌜ r ≡ x ⌝ }
-{
-    x as usize
-}
+use blocks::bytes::size;
 
 // The digit that a byte writes.
 fn digit(x: u8) -> u64
@@ -28,7 +22,7 @@ pub fn number_at(f: &[u8], at: usize) -> u64
     requires { ⌜ isCode (readCode (from (now f) at)) ≡ true ⌝ }
     ensures { λ r. ⌜ r ≡ number (readCode (from (now (f .entry)) at)) ⌝ }
 {
-    let n = count_of(f[at]);
+    let n = size(f[at]);
     let mut value: u64 = 0;
     let mut i: usize = 0;
     while i < n {

@@ -12,7 +12,6 @@ use Rattle.fills.proofs.code.number_at.Statement.{statement}
 use Rattle.fills.proofs.code.number_at.Tie as tie
 use Rattle.fills.proofs.code.number_at.Reads as reads
 use Rattle.fills.proofs.code.number_at.Lts as lts
-use Rattle.fills.proofs.code.count_of.Reads as count-of-reads
 use Rattle.fills.proofs.code.digit.Reads as digit-reads
 
 abbrev Inv-loop : tie.InvT-loop
@@ -23,19 +22,19 @@ abbrev μ-loop : tie.MeasureT-loop
 μ-loop f at n value₀ i₀ value i = n - i
 
 -- src/code.rt:31:22
-shared-slice-read-count-of : tie.Need-shared-slice-read-count-of Inv-loop μ-loop
-shared-slice-read-count-of c = search needs
+shared-slice-read-size : tie.Need-shared-slice-read-size Inv-loop μ-loop
+shared-slice-read-size c = search needs
 
 -- src/code.rt:31:9
-count-of-requires : tie.Need-count-of-requires Inv-loop μ-loop
-count-of-requires c κs = search needs
+size-requires : tie.Need-size-requires Inv-loop μ-loop
+size-requires c κs = search needs
 
 -- src/code.rt:34:5
 loop-holds : tie.Need-loop-holds Inv-loop μ-loop
 loop-holds c =
     let s = c .before .before .before in
     let g = from (s .args .f .now) (s .args .at) in
-    let e : c .count-of .result ≡ g 0 = c .count-of .ensures ∙ ap (λ (p : ℕ). getD (s .args .f .now) p 0) (omega arith) in
+    let e : c .size .result ≡ g 0 = c .size .ensures .0 ∙ ap (λ (p : ℕ). getD (s .args .f .now) p 0) (omega arith) in
     (omega arith, omega (arith, code-is (readCode g) (s .pre .1) .few), e, part-none _, omega arith)
 
 -- src/code.rt:35:17
@@ -99,8 +98,8 @@ number-at-spec =
     (tie.spec
     Inv-loop
     μ-loop
-    shared-slice-read-count-of
-    count-of-requires
+    shared-slice-read-size
+    size-requires
     loop-holds
     mul-value
     add-digit
