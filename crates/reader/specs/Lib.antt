@@ -1,0 +1,2 @@
+-- Definitions of the reader.
+pub mod Sound

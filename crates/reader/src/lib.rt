@@ -1,0 +1,2 @@
+// The reader of job files.
+mod look;
