@@ -1,2 +1,3 @@
 -- The laws of the reader.
 pub mod Places
+pub mod Shapes

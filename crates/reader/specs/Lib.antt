@@ -1,2 +1,4 @@
 -- Definitions of the reader.
 pub mod Sound
+pub mod Answer
+pub mod Shape

@@ -14,6 +14,7 @@ use Rattle.index.specs.Index.{IsIndex, sharesNumber}
 -- The file has the length that its sizes say, its sizes are within their values, and its codes are codes.
 pub record Sound (f : List ℕ) : Type 0 where
   pub long : length f ≡ 512 * blocks (decode f)
+  pub few-boxes : decode f .boxes ≤ 16
   pub few-grocers : decode f .grocers ≤ 255
   pub few-offers : decode f .offers ≤ 500
   pub few-tallies : decode f .tallies ≤ 1_000

@@ -19,9 +19,9 @@ pub fn tallies_at(n: usize) -> usize
     2 + (n + 20) / 21
 }
 
-// A place as a word.
-fn narrow(x: usize) -> u16
-    requires { ⌜ x ≤ 500 ⌝ }
+// A number of 16 bits as a word.
+pub fn narrow(x: usize) -> u16
+    requires { ⌜ x ≤ 65535 ⌝ }
     ensures { λ r. ⌜ r ≡ x ⌝ }
 {
     x as u16

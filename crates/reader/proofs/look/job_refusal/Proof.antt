@@ -5,7 +5,7 @@ use native.Mathlib.Omega.{arith}
 use Rattle.format.specs.Codes.{isCode}
 use Rattle.format.specs.Job.{shared}
 use Rattle.format.specs.File.{decode}
-use Rattle.reader.proofs.Places.{Numbers, offer-code, offers-held, numbers-right, shared-is, last-7, last-8, last-0}
+use Rattle.reader.proofs.Places.{offer-code, offers-held, numbers-right, shared-is, last-7, last-8, last-0}
 use borrow.Author.Needs.{needs}
 use Rattle.reader.proofs.look.job_refusal.Statement.{statement}
 use Rattle.reader.proofs.look.job_refusal.Tie as tie
@@ -51,18 +51,12 @@ slice-aggregate-shared c = search needs
 shared-requires : tie.Need-shared-requires
 shared-requires c κs = search needs
 
--- The list that the index was built from is that of the offers' numbers.
-right : (c : tie.After-shared) → Numbers (c .before .before .before .before .before .before .before .before .before .fill-numbers .last .1 .1 .1 .1 .0) (decode (c .before .before .before .before .before .before .before .before .before .before .before .before .before .args .f .now)) (c .before .before .before .before .before .before .before .before .before .before .before .before .before .args .n)
-right c =
-    let n = c .before .before .before .before .before .before .before .before .before in
-    numbers-right _ _ _ _ (n .fill-numbers .ensures)
-
 -- What the index says of shared numbers is what the format says.
 shared-told : (c : tie.After-shared) → shared (decode (c .before .before .before .before .before .before .before .before .before .before .before .before .before .args .f .now)) ≡ c .shared .result
 shared-told c =
     let b = c .before .before .before .before in
     let s = b .before .before .before .before .before .before .before .before .before in
-    sym (shared-is (decode (s .args .f .now)) (s .args .n) _ (s .pre .1 .0 .0) (right c)) ∙ sym (c .shared .ensures _ _ (b .build .ensures))
+    sym (shared-is (decode (s .args .f .now)) (s .args .n) _ (s .pre .1 .0 .0) (numbers-right _ _ _ _ (b .before .before .before .before .before .fill-numbers .ensures))) ∙ sym (c .shared .ensures _ _ (b .build .ensures))
 
 -- src/look.rt:76:9
 returns : tie.Need-returns
@@ -91,7 +85,7 @@ find-places-requires c κs =
         numbers = _;
         index = b .build .ensures;
         apart = sym (e .before .shared .ensures _ _ (b .build .ensures)) ∙ e .if1 .left;
-        right = right (e .before);
+        right = numbers-right _ _ _ _ (b .before .before .before .before .before .fill-numbers .ensures);
       },
       (s .pre .1 .0 .1, omega arith),
     )
