@@ -20,7 +20,7 @@ use Rattle.format.proofs.Firsts.{each, below-at, next, hit, alone}
 use Rattle.format.proofs.Accept.{even}
 use Rattle.format.proofs.Plan.{kind-offers, kind-tallies}
 use Rattle.format.proofs.Range.{sizes-in, offer-in, tally-in}
-use Rattle.reader.specs.Shape.{shapeRefusal}
+use Rattle.blocks.specs.Shape.{shapeRefusal}
 use Rattle.reader.specs.Sound.{Sound, lastRefusal}
 
 -- ---- the order: what comes before 7 and 8, then those
