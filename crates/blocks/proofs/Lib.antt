@@ -2,3 +2,6 @@
 pub mod Signs
 pub mod Extra
 pub mod Places
+pub mod KindNumbers
+pub mod SpareWalk
+pub mod DueBlocks

@@ -1,1 +1,3 @@
--- The reader's checks of a file.
+-- What the checks of a file go by: the sizes that its header says, what is due in a block, and the refusals before 7 and 8.
+pub mod Due
+pub mod Shape
