@@ -36,6 +36,11 @@ pub record Ready (f keys order : List ℕ) (n : ℕ) : Type 0 where
 pub record Placed (j : FileJob) (places : List ℕ) (t : ℕ) : Type 0 where
   pub at : (i : ℕ) → i < t → getD places i 0 ≡ placeOf j i
 
+-- A file that is not refused is sound, and the place of each tally's offer is kept.
+pub record Kept (f places : List ℕ) : Type 0 where
+  pub sound : Sound f
+  pub placed : Placed (decode f) places (decode f .tallies)
+
 -- 7, where it is met, and then 8.
 unfoldable pub lastRefusal : FileJob → ℕ
 lastRefusal j = firstMet ((shared j, 7) ∷ (unnamed j, 8) ∷ [])

@@ -2,17 +2,18 @@
 ghost use mathlib.Core.Path.{_≡_};
 ghost use Prim.Native.Nat.{_≤_};
 ghost use lib.ListN.{length};
-ghost use Rattle.format.specs.Blocks.{grocersAt};
-ghost use Rattle.format.specs.File.{decode};
 ghost use Rattle.format.specs.Refusals.{fileRefusal};
-ghost use Rattle.format.specs.Tables.{fileTables, readerTables, readResult};
-ghost use Rattle.reader.specs.Answer.{outcome};
-ghost use Rattle.reader.specs.Sound.{Sound, Placed};
+ghost use Rattle.format.specs.Tables.{sizes, fileTables, readerTables, readResult};
+ghost use Rattle.blocks.specs.Due.{Most};
+ghost use Rattle.reader.specs.Answer.{answerOf, outcome};
+ghost use Rattle.reader.specs.Sound.{Kept};
+use blocks::plan::Sizes;
+use blocks::plan::read_sizes;
+use blocks::refusals::shape_refusal;
 use crate::look::job_refusal;
 use crate::look::narrow;
+use crate::look::owners_at;
 use crate::look::tallies_at;
-use crate::stub::read_sizes;
-use crate::stub::shape_refusal;
 use fills::fill::fill_bytes;
 use fills::fill::fill_codes;
 use fills::fill::fill_counts;
@@ -21,7 +22,6 @@ use fills::fill::fill_row;
 use fills::fill::fill_same;
 use fills::fill::fill_words;
 mod look;
-mod stub;
 
 // What the reader answers: the sizes of the job that it read, or why it refused the file.
 pub enum Answer {
@@ -38,7 +38,7 @@ pub enum Answer {
 fn file_refusal(f: &[u8], places: &mut [u16]) -> u16
     requires { ⌜ 1000 ≤ length (now places) ⌝ }
     ensures { λ r. ⌜ r ≡ fileRefusal (now (f .entry)) ⌝ }
-    ensures { λ r. ⌜ (r ≡ 0 → Sound (now (f .entry)) × Placed (decode (now (f .entry))) (now (places .exit)) (decode (now (f .entry)) .tallies)) ⌝ }
+    ensures { λ r. ⌜ (r ≡ 0 → Kept (now (f .entry)) (now (places .exit))) ⌝ }
 {
     let r = shape_refusal(f);
     if r != 0 {
@@ -48,6 +48,19 @@ fn file_refusal(f: &[u8], places: &mut [u16]) -> u16
     let n = s.offers;
     let t = s.tallies;
     job_refusal(f, n, t, places)
+}
+
+// The answer that says a job's sizes.
+fn job_of(s: Sizes) -> Answer
+    requires { ⌜ Most s ⌝ }
+    ensures { λ r. ⌜ answerOf r ≡ sizes (s .boxes) (s .grocers) (s .offers) (s .tallies) ⌝ }
+{
+    Answer::Job {
+        boxes: narrow(s.boxes),
+        grocers: narrow(s.grocers),
+        offers: narrow(s.offers),
+        tallies: narrow(s.tallies),
+    }
 }
 
 // Reads a job from the bytes of a file into the lent tables. A refusal leaves every word as it was.
@@ -82,20 +95,17 @@ pub fn read(
     let m = s.grocers;
     let n = s.offers;
     let t = s.tallies;
+    let row = owners_at(n);
     let first = tallies_at(n);
+    let answer = job_of(s);
     fill_prices(file, 1, n, price);
     fill_bytes(file, 1, 4, n, owner);
     fill_codes(file, 1, 5, n, code);
-    fill_row(file, 512 * (first - 1) + 4, m, gowner);
+    fill_row(file, row, m, gowner);
     fill_words(file, first, t, tgrocer);
     fill_bytes(file, first, 2, t, tbox);
     fill_codes(file, first, 3, t, tcode);
     fill_counts(file, first, 14, t, tcount);
     fill_same(&places, t, toffer);
-    Answer::Job {
-        boxes: narrow(s.boxes),
-        grocers: narrow(m),
-        offers: narrow(n),
-        tallies: narrow(t),
-    }
+    answer
 }

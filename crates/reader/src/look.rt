@@ -1,10 +1,10 @@
 // The offers that the tallies' codes name: refusals 7 and 8, and the place of each tally's offer.
 ghost use mathlib.Core.Path.{_≡_};
 ghost use mathlib.Core.Bool.{false};
-ghost use Prim.Native.Nat.{_≤_, _<_};
+ghost use Prim.Native.Nat.{_+_, _*_, _≤_, _<_};
 ghost use lib.ListN.{length};
 ghost use Rattle.format.specs.Job.{placeOf, unnamed};
-ghost use Rattle.format.specs.Blocks.{talliesAt};
+ghost use Rattle.format.specs.Blocks.{grocersAt, talliesAt};
 ghost use Rattle.format.specs.File.{decode};
 ghost use Rattle.reader.specs.Sound.{Sound, Ready, Placed, lastRefusal};
 use fills::code::number_at;
@@ -17,6 +17,14 @@ pub fn tallies_at(n: usize) -> usize
     ensures { λ r. ⌜ r ≡ talliesAt n ⌝ }
 {
     2 + (n + 20) / 21
+}
+
+// Where the owners of the grocers stand in a file of n offers.
+pub fn owners_at(n: usize) -> usize
+    requires { ⌜ n ≤ 500 ⌝ }
+    ensures { λ r. ⌜ r ≡ 512 * grocersAt n + 4 ⌝ }
+{
+    512 * (1 + (n + 20) / 21) + 4
 }
 
 // A number of 16 bits as a word.
