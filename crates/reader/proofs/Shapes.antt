@@ -21,6 +21,8 @@ use Rattle.format.proofs.Accept.{even}
 use Rattle.format.proofs.Plan.{kind-offers, kind-tallies}
 use Rattle.format.proofs.Range.{sizes-in, offer-in, tally-in}
 use Rattle.blocks.specs.Shape.{shapeRefusal}
+use Rattle.blocks.specs.Due.{Is, Most}
+use Rattle.blocks.specs.declared.plan.Sizes.{Sizes}
 use Rattle.reader.specs.Sound.{Sound, lastRefusal}
 
 -- ---- the order: what comes before 7 and 8, then those
@@ -103,3 +105,17 @@ module _ (f : List ℕ) (ok : shapeRefusal f ≡ 0) where
         offer = λ i h. offer-in _ _ (offer-good i h) .code;
         tally = λ i h. tally-in _ _ (tally-good i h) .code;
       }
+
+-- A sound file has its header.
+pub has-header : {f : List ℕ} → Sound f → 12 ≤ length f
+has-header s = omega (arith, s .long)
+
+-- The sizes read from a sound file's header are at most the largest ones.
+pub sizes-most : {f : List ℕ} {s : Sizes} → Sound f → Is f s → Most s
+sizes-most z i =
+    record {
+      boxes = omega (arith, z .few-boxes, i .boxes);
+      grocers = omega (arith, z .few-grocers, i .grocers);
+      offers = omega (arith, z .few-offers, i .offers);
+      tallies = omega (arith, z .few-tallies, i .tallies);
+    }
