@@ -1,0 +1,3 @@
+-- Laws that the proofs of the writer cite.
+pub mod Puts
+pub mod Blocks
