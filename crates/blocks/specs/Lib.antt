@@ -1,0 +1,1 @@
+-- The reader's checks of a file.
