@@ -1,1 +1,3 @@
 -- Laws that the proofs of the checks cite.
+pub mod Extra
+pub mod Tests
