@@ -1,3 +1,4 @@
 -- Laws that the proofs of the checks cite.
 pub mod Extra
 pub mod Tests
+pub mod Naming

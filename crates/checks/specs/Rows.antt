@@ -6,8 +6,8 @@ use mathlib.Core.List.{List}
 use lib.IntN.{ℤ, pos}
 use lib.ListN.{getD}
 use Rattle.format.specs.Bytes.{from}
-use Rattle.format.specs.Codes.{Code, isCode, number, readCode}
-use Rattle.format.specs.Job.{Offer, Tally}
+use Rattle.format.specs.Codes.{Code, isCode, readCode}
+use Rattle.format.specs.Job.{FileJob, Offer, Tally}
 
 -- Code i of a table of eleven bytes each.
 abbrev pub codeOf : List ℕ → ℕ → Code
@@ -24,3 +24,10 @@ tallyOf g b c z i = record { grocer = getD g i 0; box = getD b i 0; code = codeO
 -- The first n entries of a table hold codes.
 pub record Codes (l : List ℕ) (n : ℕ) : Type 0 where
   pub code : (i : ℕ) → i < n → isCode (codeOf l i) ≡ true
+
+-- A job of n offers and t tallies whose codes these tables hold.
+pub record HasCodes (j : FileJob) (code tallyCode : List ℕ) (n t : ℕ) : Type 0 where
+  pub offers : j .offers ≡ n
+  pub tallies : j .tallies ≡ t
+  pub offer : (i : ℕ) → j .offer i .code ≡ codeOf code i
+  pub tally : (i : ℕ) → j .tally i .code ≡ codeOf tallyCode i
