@@ -2,3 +2,4 @@
 pub mod Extra
 pub mod Tests
 pub mod Naming
+pub mod Joining

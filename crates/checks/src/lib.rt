@@ -2,3 +2,4 @@
 pub mod sizes;
 pub mod records;
 pub mod codes;
+pub mod refusal;
