@@ -11,6 +11,7 @@ use lib.Seq.{ext-getD, getD-append-add, getD-drop, getD-take, getD-set-same, get
 use Rattle.laws.specs.Tables.{tabulate, overwrite}
 use Rattle.laws.proofs.Tables.{length-tabulate, getD-tabulate, is-tabulate, tabulate-cong}
 use Rattle.laws.proofs.Loops.{window, window-in, window-below, window-above, window-none}
+use Rattle.format.specs.Bytes.{from}
 use Rattle.writer.specs.Puts.{put}
 
 module _ (at n : ℕ) (g : ℕ → ℕ) (d : List ℕ) (room : at + n ≤ length d) where
@@ -117,3 +118,19 @@ store-next at n g d v h e =
 pub put-front : (n : ℕ) (g : ℕ → ℕ) (d : List ℕ) → put 0 n g d ≡ tabulate n g ++ drop n d
 unfolding put
 put-front n g d = let e : 0 + n ≡ n = omega arith in ap (λ (k : ℕ). tabulate n g ++ drop k d) e
+
+-- What is put where it stands already changes nothing.
+pub put-keep : (at n : ℕ) (d : List ℕ) → at + n ≤ length d → put at n (from d at) d ≡ d
+put-keep at n d room = sym (is-put at n (from d at) d room d refl (λ p h. refl) (λ k h. refl) (λ p h. refl))
+
+-- The last bytes put count.
+pub put-over : (at n m : ℕ) (g h : ℕ → ℕ) (d : List ℕ) → n ≤ m → at + m ≤ length d → put at m h (put at n g d) ≡ put at m h d
+put-over at n m g h d l room =
+    is-put at m h d room (put at m h (put at n g d))
+    (length-put at m h (put at n g d) room′ ∙ length-put at n g d (omega arith))
+    (λ p q. put-before at m h (put at n g d) room′ p q ∙ put-before at n g d (omega arith) p q)
+    (λ k q. put-in at m h (put at n g d) room′ k q)
+    (λ p q. put-behind at m h (put at n g d) room′ p q ∙ put-behind at n g d (omega arith) p (omega arith))
+  where
+    room′ : at + m ≤ length (put at n g d)
+    room′ = rw (length-put at n g d (omega arith)) room

@@ -1,1 +1,2 @@
 // The writer of the job file.
+mod bytes;
