@@ -1,2 +1,3 @@
 // The writer of the job file.
 mod bytes;
+mod records;
