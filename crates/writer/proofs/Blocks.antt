@@ -30,7 +30,7 @@ some-bytes grocerBlock = omega arith
 some-bytes (tallyBlock b) = omega arith
 
 -- A record's bytes past its fields are 0, as are those past the block's records.
-record-is : (j : FileJob) (b : BlockKind) (s : ℕ) → recordByte j b s ≡ cond (ltb s (records j b * recordSize b)) (rowsOf (recordSize b) (recordBytes j b) s) 0
+record-is : (j : FileJob) (b : BlockKind) (s : ℕ) → recordByte j b s ≡ cond (ltb s (records j b * recordSize b)) (rowsOf (recordSize b) (λ r. bytesOf (recordBytes j b r)) s) 0
 unfolding recordByte spare
 record-is j b s =
     elim (decLt s (records j b * recordSize b)) [
@@ -49,7 +49,7 @@ record-is j b s =
         ]
 
 -- Block k of a job's file is its head, its records and zeros.
-pub body-is : (j : FileJob) (k p : ℕ) → bodyByte j k p ≡ bodyOf (kindNumber (kindAt (j .offers) k) ∷ records j (kindAt (j .offers) k) ∷ bytes16 k) (recordSize (kindAt (j .offers) k)) (records j (kindAt (j .offers) k)) (recordBytes j (kindAt (j .offers) k)) p
+pub body-is : (j : FileJob) (k p : ℕ) → bodyByte j k p ≡ bodyOf (kindNumber (kindAt (j .offers) k) ∷ records j (kindAt (j .offers) k) ∷ bytes16 k) (recordSize (kindAt (j .offers) k)) (records j (kindAt (j .offers) k)) (λ r. bytesOf (recordBytes j (kindAt (j .offers) k) r)) p
 unfolding bodyByte bodyOf
 body-is j k p = rw (record-is j (kindAt (j .offers) k) (p - 4))
 
@@ -140,11 +140,18 @@ block-made f at m head rows d d₁ d₂ d₃ room few e₁ e₂ e₃ h₁ h₂ h
 
 -- ---- records one after the other
 
--- Byte c of record r.
-pub row-at : (size : ℕ) (row : ℕ → List ℕ) (r c : ℕ) → c < size → rowsOf size row (r * size + c) ≡ getD (row r) c 0
+-- Byte c of row r.
+pub row-at : (size : ℕ) (row : ℕ → ℕ → ℕ) (r c : ℕ) → c < size → rowsOf size row (r * size + c) ≡ row r c
 row-at size row r c h = rw (digits-div r h, digits-mod r h)
 
-module _ (head : List ℕ) (size count : ℕ) (row : ℕ → List ℕ) where
+-- Row r is put behind those before it.
+pub row-next : (size : ℕ) (row : ℕ → ℕ → ℕ) (at r : ℕ) (d : List ℕ) → at + (r + 1) * size ≤ length d → put (at + r * size) size (row r) (put at (r * size) (rowsOf size row) d) ≡ put at ((r + 1) * size) (rowsOf size row) d
+row-next size row at r d room =
+    let e : (r + 1) * size ≡ r * size + size = omega arith in
+    put-next at (r * size) (rowsOf size row) d size (row r) (omega arith) (λ k h. sym (row-at size row r k h))
+    ∙ ap (λ (n : ℕ). put at n (rowsOf size row) d) (sym e)
+
+module _ (head : List ℕ) (size count : ℕ) (row : ℕ → ℕ → ℕ) where
   -- A block's head,
   pub body-head : (k : ℕ) → k < 4 → bodyOf head size count row k ≡ bytesOf head k
   unfolding bodyOf
