@@ -2,3 +2,4 @@
 pub mod Puts
 pub mod Blocks
 pub mod Rows
+pub mod Made
