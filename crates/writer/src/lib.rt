@@ -2,3 +2,4 @@
 mod bytes;
 mod records;
 mod block;
+mod file;
