@@ -1,6 +1,6 @@
 -- The blocks put one after the other are the file of the tables' job. Assumes nothing.
 use Prim.Native.Nat.{ℕ, _+_, _*_, _≤_, _<_}
-use mathlib.Core.Path.{_≡_, refl, sym, ap, _∙_, subst}
+use mathlib.Core.Path.{_≡_, refl, sym, ap, ap₂, _∙_}
 use mathlib.Core.Bool.{Bool, false, _||_}
 use mathlib.Core.List.{List, [], _∷_, _++_}
 use native.Mathlib.Omega.{arith}
@@ -14,12 +14,12 @@ use Rattle.format.specs.Job.{FileJob}
 use Rattle.format.specs.Blocks.{BlockKind, header, offerBlock, grocerBlock, tallyBlock, blocksFor, blockCount, offersAt, grocersAt, talliesAt, kindAt, kindNumber, records, recordSize, headerBytes, offerBytes, tallyBytes, recordBytes}
 use Rattle.format.specs.File.{bodyByte, blockByte, encode}
 use Rattle.format.specs.Refusals.{jobRefusal}
-use Rattle.format.specs.Tables.{FileTables, fileJobOf, shortTables, shortWriter, writeRefusal}
+use Rattle.format.specs.Tables.{FileTables, fileJobOf, wrote, notWritten, WriteOutcome, shortTables, shortWriter, writeRefusal, writeResult}
 use Rattle.format.proofs.Extra.{or-off, unmet}
 use Rattle.format.proofs.Firsts.{each}
 use Rattle.format.proofs.Plan.{kind-header, kind-offers, kind-grocers, kind-tallies}
 use Rattle.format.proofs.Range.{in-range}
-use Rattle.format.proofs.Tables.{long-tables}
+use Rattle.format.proofs.Tables.{long-tables, write-accepted, write-refused}
 use Rattle.checks.specs.Rows.{offerOf, tallyOf}
 use Rattle.writer.specs.Puts.{put, bytesOf, bodyOf, recordBody, blocksOf, Small}
 use Rattle.writer.specs.Ready.{Ready}
@@ -98,3 +98,22 @@ module _ (k m n t : ℕ) (l : FileTables) (out : List ℕ) (ok : writeRefusal k 
         grocerOwner = record { small = λ i h. omega (arith, r .grocerOwner i h, z .boxes-most) };
         tallyBox = record { small = λ i h. omega (arith, r .tally i h .box, z .boxes-most) };
       }
+
+-- ---- what the writer gives
+
+module _ (k m n t : ℕ) (l : FileTables) (out : List ℕ) where
+  -- A refusal, and the buffer as it was.
+  pub refused-is : (r : ℕ) → r ≡ writeRefusal k m n t l out → (r ≡ 0 → ⊥) → record { answer = notWritten r; out = out } ≡ writeResult k m n t l out
+  refused-is r e h =
+      ap (λ (x : ℕ). record { answer = notWritten x; out = out }) e
+      ∙ sym (write-refused k m n t l out (λ z. h (e ∙ z)))
+
+  file-length : length (encode (fileJobOf k m n t l)) ≡ 512 * blockCount n t
+  unfolding encode fileJobOf
+  file-length = length-tabulate _ _
+
+  -- The file's length, and the file in front of the rest.
+  pub written-is : writeRefusal k m n t l out ≡ 0 → (x : ℕ) (d : List ℕ) → x ≡ 512 * blockCount n t → d ≡ encode (fileJobOf k m n t l) ++ drop (length (encode (fileJobOf k m n t l))) out → record { answer = wrote x; out = d } ≡ writeResult k m n t l out
+  written-is ok x d e h =
+      ap₂ (λ (x : ℕ) (d : List ℕ). record { answer = wrote x; out = d }) (e ∙ sym file-length) h
+      ∙ sym (write-accepted k m n t l out ok)
