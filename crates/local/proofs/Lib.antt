@@ -1,0 +1,3 @@
+-- Laws of the local matrix.
+pub mod Extra
+pub mod Sorting

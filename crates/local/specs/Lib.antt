@@ -1,0 +1,2 @@
+-- Definitions of the local matrix of a box.
+pub mod Sort

@@ -1,0 +1,1 @@
+// The local matrix of a box.
