@@ -1,3 +1,4 @@
 -- Laws of the local matrix.
 pub mod Extra
 pub mod Sorting
+pub mod Placing

@@ -1,1 +1,2 @@
-// The local matrix of a box.
+// The local matrix of a box: its offers, its grocers, and its tallies packed by offer.
+pub mod sort;
