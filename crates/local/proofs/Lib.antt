@@ -2,3 +2,4 @@
 pub mod Extra
 pub mod Sorting
 pub mod Placing
+pub mod Listing

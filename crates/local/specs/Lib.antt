@@ -1,2 +1,3 @@
 -- Definitions of the local matrix of a box.
 pub mod Sort
+pub mod Lists

@@ -1,2 +1,3 @@
 // The local matrix of a box: its offers, its grocers, and its tallies packed by offer.
+pub mod lists;
 pub mod sort;
