@@ -1,3 +1,4 @@
 // The local matrix of a box: its offers, its grocers, and its tallies packed by offer.
 pub mod lists;
+pub mod pack;
 pub mod sort;

@@ -17,7 +17,7 @@ use Rattle.local.proofs.lists.marks_of.Statement.{statement}
 use Rattle.local.proofs.lists.marks_of.Tie as tie
 use Rattle.local.proofs.lists.marks_of.Reads as reads
 use Rattle.local.proofs.lists.marks_of.Lts as lts
-use Rattle.local.proofs.lists.mark_with.Reads as mark-with-reads
+use Rattle.local.proofs.sort.if_same.Reads as if-same-reads
 use Rattle.local.proofs.sort.index_of.Reads as index-of-reads
 
 abbrev Inv-loop : tie.InvT-loop
@@ -33,7 +33,7 @@ abbrev entry : tie.In-loop Inv-loop μ-loop → tie.Start Inv-loop μ-loop
 entry c = c .before .before .before .before
 
 item-in : (c : tie.In-loop Inv-loop μ-loop) → at (now (entry c .args .items)) (c .before .loop .t) < 500
-item-in c = entry c .pre .1 (c .before .loop .t) (c .loop-test .taken)
+item-in c = entry c .pre .item-in (c .before .loop .t) (c .loop-test .taken)
 
 loop-holds : tie.Need-loop-holds Inv-loop μ-loop
 loop-holds c = let s = c .before .before in (search needs, refl, λ x l. getD-replicate 500 x 0 0 l ∙ sym (mark-none (now (s .args .items)) (now (s .args .boxes)) (s .args .b) x))
@@ -47,20 +47,20 @@ shared-slice-read-index-of c = search needs
 index-of-requires : tie.Need-index-of-requires Inv-loop μ-loop
 index-of-requires c κs = search needs
 
-mul-mark-with : tie.Need-mul-mark-with Inv-loop μ-loop
-mul-mark-with c = omega (arith, c .index-of .ensures, item-in (c .before .before))
+mul-if-same : tie.Need-mul-if-same Inv-loop μ-loop
+mul-if-same c = search needs
 
-array-read-mark-with : tie.Need-array-read-mark-with Inv-loop μ-loop
-array-read-mark-with c = omega (arith, c .index-of .ensures, item-in (c .before .before))
+shared-slice-read-if-same : tie.Need-shared-slice-read-if-same Inv-loop μ-loop
+shared-slice-read-if-same c = search needs
 
-mul-mark-with-2 : tie.Need-mul-mark-with-2 Inv-loop μ-loop
-mul-mark-with-2 c = search needs
+mul-if-same-2 : tie.Need-mul-if-same-2 Inv-loop μ-loop
+mul-if-same-2 c = omega (arith, c .before .index-of .ensures, item-in (c .before .before .before))
 
-shared-slice-read-mark-with : tie.Need-shared-slice-read-mark-with Inv-loop μ-loop
-shared-slice-read-mark-with c = search needs
+array-read-if-same : tie.Need-array-read-if-same Inv-loop μ-loop
+array-read-if-same c = omega (arith, c .before .index-of .ensures, item-in (c .before .before .before))
 
-mark-with-requires : tie.Need-mark-with-requires Inv-loop μ-loop
-mark-with-requires c κs = search needs
+if-same-requires : tie.Need-if-same-requires Inv-loop μ-loop
+if-same-requires c κs = search needs
 
 mul-marks : tie.Need-mul-marks Inv-loop μ-loop
 mul-marks c = omega (arith, c .before .before .index-of .ensures, item-in (c .before .before .before .before))
@@ -85,7 +85,7 @@ loop-again c =
       omega (arith, e .loop-test .taken),
       length-set marks _ _ ∙ e .before .loop .inv .1,
       λ x l. ap₂ (λ (i v : ℕ). at (set marks i v) x) (c .before .before .index-of .ensures)
-          (c .mark-with .ensures ∙ ap (λ (i : ℕ). cond (eqb (at boxes t) (s .args .b)) 1 (at marks i)) (c .before .before .index-of .ensures))
+          (c .if-same .ensures ∙ ap (λ (i : ℕ). cond (eqb (at boxes t) (s .args .b)) 1 (at marks i)) (c .before .before .index-of .ensures))
           ∙ marked-next items boxes (s .args .b) t marks (e .before .loop .inv .1) (e .before .loop .inv .2) (item-in e) x l,
     )
 
@@ -105,11 +105,11 @@ marks-of-spec =
     mul-index-of
     shared-slice-read-index-of
     index-of-requires
-    mul-mark-with
-    array-read-mark-with
-    mul-mark-with-2
-    shared-slice-read-mark-with
-    mark-with-requires
+    mul-if-same
+    shared-slice-read-if-same
+    mul-if-same-2
+    array-read-if-same
+    if-same-requires
     mul-marks
     array-write-marks
     add-t
