@@ -3,3 +3,4 @@ pub mod Extra
 pub mod Sorting
 pub mod Placing
 pub mod Listing
+pub mod Packing
