@@ -4,3 +4,4 @@ pub mod Sorting
 pub mod Placing
 pub mod Listing
 pub mod Packing
+pub mod Modelled

@@ -1,0 +1,107 @@
+-- What a job in range gives the functions of this crate, and what they give of it. Assumes nothing.
+use mathlib.Core.Path.{_≡_, refl, sym, ap, ap₂, _∙_}
+use mathlib.Core.Bool.{Bool, true, false, cond, _&&_, not}
+use mathlib.Core.List.{List}
+use Prim.Native.Nat.{ℕ, _+_, _<_, _≤_}
+use native.Mathlib.Omega.{arith}
+use lib.ListN.{getD, length}
+use lib.Dec.{eqb}
+use lib.Count.{ones}
+use Rattle.laws.specs.Below.{words, sum, count}
+use Rattle.laws.specs.Masks.{bit, maskOf, without}
+use Rattle.laws.specs.Tables.{tabulate}
+use Rattle.laws.proofs.Sums.{sum-cong}
+use Rattle.laws.proofs.Below.{count-cong}
+use Rattle.laws.proofs.Masks.{bit-mask}
+use Rattle.laws.proofs.Tables.{length-tabulate, getD-tabulate, word-in}
+use Rattle.model.specs.Job.{needs, shares, needWord, sharerWord, priceWord, totalWord}
+use Rattle.model.specs.Tables.{JobTables, jobOf}
+use Rattle.model.specs.Ranges.{jobInRange}
+use Rattle.model.specs.Words.{ownerWords}
+use Rattle.model.specs.Local.{priceTable, totalTable}
+use Rattle.model.proofs.Step.{range, limits}
+use Rattle.tables.specs.Masks.{holds, holderWord, Placed, othersSum, Owned}
+use Rattle.tables.specs.Messages.{between, sends, sentTable}
+use Rattle.tables.proofs.Extra.{rows-cong}
+use Rattle.tables.proofs.Whole.{JobWhole}
+use Rattle.tables.proofs.Holders.{need-holds, share-holds, need-word, sharer-word}
+
+-- Tables that are whole and in range are what the functions ask for.
+module _ (f : JobTables) (ok : jobInRange f ≡ true) (w : JobWhole f) where
+  pub placed-offers : Placed (f .boxes) (f .tallies) 500 (f .tallyBox) (f .tallyOffer)
+  unfolding jobOf
+  placed-offers = record {
+    boxes≤ = range f ok .boxes≤;
+    boxLong = w .tallyBox;
+    placeLong = w .tallyOffer;
+    place< = λ t l. omega (arith, rw (word-in (f .tallies) (f .tallyOffer) 0 t l) at (range f ok .offer< t l), limits f ok .offers≤);
+  }
+
+  pub placed-grocers : Placed (f .boxes) (f .tallies) 255 (f .tallyBox) (f .tallyGrocer)
+  unfolding jobOf
+  placed-grocers = record {
+    boxes≤ = range f ok .boxes≤;
+    boxLong = w .tallyBox;
+    placeLong = w .tallyGrocer;
+    place< = λ t l. omega (arith, rw (word-in (f .tallies) (f .tallyGrocer) 0 t l) at (range f ok .grocer< t l), limits f ok .grocers≤);
+  }
+
+  pub owned-offers : (masks : List ℕ) (g : ℕ → ℕ) → masks ≡ tabulate 500 g → Owned (f .offers) (f .offerOwner) masks
+  unfolding jobOf
+  owned-offers masks g e = record {
+    ownerLong = w .offerOwner;
+    maskLong = rw (e, length-tabulate 500 g) (limits f ok .offers≤);
+    owner< = λ o l. omega (arith, rw (word-in (f .offers) (f .offerOwner) 0 o l) at (range f ok .owner< o l), range f ok .boxes≤);
+  }
+
+  pub owned-grocers : (masks : List ℕ) (g : ℕ → ℕ) → masks ≡ tabulate 255 g → Owned (f .grocers) (f .grocerOwner) masks
+  unfolding jobOf
+  owned-grocers masks h e = record {
+    ownerLong = w .grocerOwner;
+    maskLong = rw (e, length-tabulate 255 h) (limits f ok .grocers≤);
+    owner< = λ g l. omega (arith, rw (word-in (f .grocers) (f .grocerOwner) 0 g l) at (range f ok .grocerOwner< g l), range f ok .boxes≤);
+  }
+
+-- A table of messages by the owners and the masks of p is that of p.
+module _ (back : Bool) (n size : ℕ) (owners : List ℕ) (p : ℕ → ℕ → Bool) (room : n ≤ size) where
+  sent-cell : (a b i : ℕ) → cond back a b < 16 → i < n →
+      sends back (getD owners i 0) (getD (tabulate size (λ k. maskOf 16 (p k))) i 0) a b
+      ≡ (eqb (getD owners i 0) (cond back b a) && (not (eqb (getD owners i 0) (cond back a b)) && p i (cond back a b)))
+  unfolding sends between
+  sent-cell a b i l m =
+      ap (λ (t : Bool). eqb (getD owners i 0) (cond back b a) && (not (eqb (getD owners i 0) (cond back a b)) && t))
+      (ap (bit (cond back a b)) (getD-tabulate size (λ k. maskOf 16 (p k)) i 0 (omega arith)) ∙ bit-mask 16 (cond back a b) (p i) l)
+
+module _ (f : JobTables) (ok : jobInRange f ≡ true) where
+  offers-room : f .offers ≤ 500
+  unfolding jobOf
+  offers-room = limits f ok .offers≤
+
+  grocers-room : f .grocers ≤ 255
+  unfolding jobOf
+  grocers-room = limits f ok .grocers≤
+
+  -- The table of prices from the need words is the job's.
+  pub price-sent : sentTable false (f .offers) (f .offerOwner) (tabulate 500 (holderWord (f .boxes) (f .tallies) (f .tallyBox) (f .tallyOffer))) ≡ priceTable (jobOf f)
+  unfolding sentTable holderWord priceTable priceWord jobOf
+  price-sent = rows-cong 16 16 _ _ (λ a b la lb. count-cong (f .offers) _ _ (λ o l.
+      sent-cell false (f .offers) 500 (f .offerOwner) (holds (f .boxes) (f .tallies) (f .tallyBox) (f .tallyOffer)) offers-room a b o lb l
+      ∙ ap₂ (λ (x : ℕ) (t : Bool). eqb x a && (not (eqb x b) && t)) (sym (word-in (f .offers) (f .offerOwner) 0 o l)) (need-holds f o b)))
+
+  -- The table of totals from the sharer words is the job's.
+  pub total-sent : sentTable true (f .grocers) (f .grocerOwner) (tabulate 255 (holderWord (f .boxes) (f .tallies) (f .tallyBox) (f .tallyGrocer))) ≡ totalTable (jobOf f)
+  unfolding sentTable holderWord totalTable totalWord jobOf
+  total-sent = rows-cong 16 16 _ _ (λ a b la lb. count-cong (f .grocers) _ _ (λ g l.
+      sent-cell true (f .grocers) 255 (f .grocerOwner) (holds (f .boxes) (f .tallies) (f .tallyBox) (f .tallyGrocer)) grocers-room a b g la l
+      ∙ ap₂ (λ (x : ℕ) (t : Bool). eqb x b && (not (eqb x a) && t)) (sym (word-in (f .grocers) (f .grocerOwner) 0 g l)) (share-holds f g a)))
+
+  -- What `masks::word_total` gives is the words of the job by the owner tables.
+  pub word-total :
+      othersSum (f .offers) (f .offerOwner) (tabulate 500 (holderWord (f .boxes) (f .tallies) (f .tallyBox) (f .tallyOffer)))
+      + othersSum (f .grocers) (f .grocerOwner) (tabulate 255 (holderWord (f .boxes) (f .tallies) (f .tallyBox) (f .tallyGrocer)))
+      ≡ ownerWords (jobOf f)
+  unfolding othersSum ownerWords jobOf
+  word-total =
+      ap₂ (λ (x y : ℕ). x + y)
+      (sum-cong words (f .offers) _ _ (λ o l. ap₂ (λ (x y : ℕ). ones (without x y)) (sym (word-in (f .offers) (f .offerOwner) 0 o l)) (getD-tabulate 500 _ o 0 (let r = offers-room in omega arith) ∙ need-word f o)))
+      (sum-cong words (f .grocers) _ _ (λ g l. ap₂ (λ (x y : ℕ). ones (without x y)) (sym (word-in (f .grocers) (f .grocerOwner) 0 g l)) (getD-tabulate 255 _ g 0 (let r = grocers-room in omega arith) ∙ sharer-word f g)))

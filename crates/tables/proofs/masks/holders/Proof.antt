@@ -1,0 +1,91 @@
+-- `tables::masks::holders` meets its contract: the words are those of the tallies passed. Assumes nothing.
+use mathlib.Core.Path.{_≡_, refl, sym, ap, _∙_}
+use mathlib.Core.List.{List}
+use Prim.Native.Nat.{ℕ, _<_, _≤_, _-_}
+use native.Mathlib.Nat.{le-antisymm}
+use borrow.Author.Needs.{needs}
+use lib.ListN.{length, getD}
+use denote.Ref.{now}
+use Rattle.laws.proofs.Tables.{is-tabulate}
+use Rattle.tables.specs.Masks.{holderWord}
+use Rattle.tables.proofs.Holders.{holder-none, holder-more}
+use Rattle.tables.proofs.masks.holders.Statement.{statement}
+use Rattle.tables.proofs.masks.holders.Tie as tie
+
+abbrev Inv-loop : tie.InvT-loop
+Inv-loop boxes tallies tbox places masks₀ n t₀ masks t = (t ≤ tallies) × (length masks ≡ length masks₀) × ((p : ℕ) → p < length masks₀ → getD masks p 0 ≡ holderWord boxes t tbox places p)
+
+abbrev μ-loop : tie.MeasureT-loop
+μ-loop boxes tallies tbox places masks₀ n t₀ masks t = tallies - t
+
+abbrev entry : tie.In-loop Inv-loop μ-loop → tie.Start Inv-loop μ-loop
+entry c = c .before .before .before .before .before
+
+loop-holds : tie.Need-loop-holds Inv-loop μ-loop
+loop-holds c =
+    let s = c .before .before .before in
+    (search needs, refl, λ p l. s .pre .1 p ∙ sym (holder-none (s .args .boxes) (now (s .args .tbox)) (now (s .args .places)) p))
+
+mul-mark : tie.Need-mul-mark Inv-loop μ-loop
+mul-mark c = search needs
+
+shared-slice-read-mark : tie.Need-shared-slice-read-mark Inv-loop μ-loop
+shared-slice-read-mark c = search needs
+
+mul-mark-2 : tie.Need-mul-mark-2 Inv-loop μ-loop
+mul-mark-2 c = search needs
+
+shared-slice-read-mark-2 : tie.Need-shared-slice-read-mark-2 Inv-loop μ-loop
+shared-slice-read-mark-2 c = search needs
+
+mark-requires : tie.Need-mark-requires Inv-loop μ-loop
+mark-requires c κs =
+    let e = c .before .before .before in
+    let s = entry e in
+    (s .pre .0 .boxes≤, rw (e .before .loop .inv .1) (s .pre .0 .place< (e .before .loop .t) (e .loop-test .taken)))
+
+add-t : tie.Need-add-t Inv-loop μ-loop
+add-t c = search needs
+
+loop-less : tie.Need-loop-less Inv-loop μ-loop
+loop-less c = search needs
+
+loop-again : tie.Need-loop-again Inv-loop μ-loop
+loop-again c =
+    let e = c .before .before .before .before .before .before in
+    let s = entry e in
+    let t = e .before .loop .t in
+    let old = e .before .loop .masks in
+    let long = e .before .loop .inv .1 in (
+      search needs,
+      c .before .before .mark .kept .0 ∙ long,
+      λ p l. ap (λ (x : List ℕ). getD x p 0) (c .before .before .mark .ensures)
+          ∙ holder-more (s .args .boxes) (now (s .args .tbox)) (now (s .args .places)) old t (s .pre .0 .boxes≤) (rw long (s .pre .0 .place< t (e .loop-test .taken))) (λ q m. e .before .loop .inv .2 q (rw long at m)) p (rw long l),
+    )
+
+same-length : tie.Need-same-length Inv-loop μ-loop
+same-length c = search needs
+
+returns : tie.Need-returns Inv-loop μ-loop
+returns c =
+    let s = c .before .before .before .before .before in
+    is-tabulate (c .before .loop .masks) (length (now (s .args .masks))) (holderWord (s .args .boxes) (s .args .tallies) (now (s .args .tbox)) (now (s .args .places))) 0 (c .before .loop .inv .1)
+    (λ p l. c .before .loop .inv .2 p l ∙ ap (λ (n : ℕ). holderWord (s .args .boxes) n (now (s .args .tbox)) (now (s .args .places)) p) (le-antisymm (c .before .loop .inv .0) (c .loop-test .left)))
+
+pub holders-spec : {M : Type 1} → statement M
+holders-spec =
+    tie.close
+    (tie.spec
+    Inv-loop
+    μ-loop
+    loop-holds
+    mul-mark
+    shared-slice-read-mark
+    mul-mark-2
+    shared-slice-read-mark-2
+    mark-requires
+    add-t
+    loop-less
+    loop-again
+    same-length
+    returns)

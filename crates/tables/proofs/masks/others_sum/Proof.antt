@@ -1,0 +1,90 @@
+-- `tables::masks::others_sum` meets its contract: the sum is that of the words passed. Assumes nothing.
+use mathlib.Core.Path.{_≡_, refl, sym, ap, ap₂, _∙_}
+use Prim.Native.Nat.{ℕ, _<_, _≤_, _-_, _+_, _*_}
+use native.Mathlib.Omega.{arith}
+use native.Mathlib.Nat.{le-antisymm}
+use borrow.Author.Needs.{needs}
+use lib.ListN.{length, getD}
+use denote.Ref.{now}
+use lib.Count.{ones}
+use Rattle.laws.specs.Masks.{without}
+use Rattle.tables.specs.Masks.{othersSum}
+use Rattle.tables.proofs.Extra.{ones-max}
+use Rattle.tables.proofs.Holders.{others-none, others-next}
+use Rattle.tables.proofs.masks.others_sum.Statement.{statement}
+use Rattle.tables.proofs.masks.others_sum.Tie as tie
+
+abbrev Inv-loop : tie.InvT-loop
+Inv-loop n owners masks m sum₀ i₀ sum i = (i ≤ n) × (sum ≡ othersSum i owners masks) × (sum ≤ 16 * i)
+
+abbrev μ-loop : tie.MeasureT-loop
+μ-loop n owners masks m sum₀ i₀ sum i = n - i
+
+abbrev entry : tie.In-loop Inv-loop μ-loop → tie.Start Inv-loop μ-loop
+entry c = c .before .before .before .before
+
+-- What the turn adds.
+owner-in : (c : tie.In-loop Inv-loop μ-loop) → getD (now (entry c .args .owners)) (c .before .loop .i) 0 < 16
+owner-in c = entry c .pre .owner< (c .before .loop .i) (c .loop-test .taken)
+
+most : (c : tie.In-loop Inv-loop μ-loop) → ones (without (getD (now (entry c .args .owners)) (c .before .loop .i) 0) (getD (now (entry c .args .masks)) (c .before .loop .i) 0)) ≤ 16
+most c = ones-max _ _ (owner-in c) (c .before .before .shared-slice-known2 .given (c .before .loop .i) .fits)
+
+loop-holds : tie.Need-loop-holds Inv-loop μ-loop
+loop-holds c = (search needs, sym (others-none _ _), search needs)
+
+mul-others : tie.Need-mul-others Inv-loop μ-loop
+mul-others c = search needs
+
+shared-slice-read-others : tie.Need-shared-slice-read-others Inv-loop μ-loop
+shared-slice-read-others c = search needs
+
+mul-others-2 : tie.Need-mul-others-2 Inv-loop μ-loop
+mul-others-2 c = search needs
+
+shared-slice-read-others-2 : tie.Need-shared-slice-read-others-2 Inv-loop μ-loop
+shared-slice-read-others-2 c = search needs
+
+others-requires : tie.Need-others-requires Inv-loop μ-loop
+others-requires c κs = owner-in (c .before .before)
+
+add-sum : tie.Need-add-sum Inv-loop μ-loop
+add-sum c = omega (arith, c .others .ensures, most (c .before .before .before), c .before .before .before .before .before .before .before .fits .n .fits)
+
+add-i : tie.Need-add-i Inv-loop μ-loop
+add-i c = search needs
+
+loop-less : tie.Need-loop-less Inv-loop μ-loop
+loop-less c = search needs
+
+loop-again : tie.Need-loop-again Inv-loop μ-loop
+loop-again c =
+    let e = c .before .before .before in (
+      search needs,
+      ap₂ (λ (x y : ℕ). x + y) (e .before .loop .inv .1) (c .others .ensures) ∙ sym (others-next (e .before .loop .i) _ _),
+      omega (arith, c .others .ensures, most e),
+    )
+
+returns : tie.Need-returns Inv-loop μ-loop
+returns c =
+    let s = c .before .before .before .before in
+    let done : c .before .loop .i ≡ s .args .n = le-antisymm (c .before .loop .inv .0) (c .loop-test .left) in
+    (c .before .loop .inv .1 ∙ ap (λ (n : ℕ). othersSum n (now (s .args .owners)) (now (s .args .masks))) done, omega arith)
+
+pub others-sum-spec : {M : Type 1} → statement M
+others-sum-spec =
+    tie.close
+    (tie.spec
+    Inv-loop
+    μ-loop
+    loop-holds
+    mul-others
+    shared-slice-read-others
+    mul-others-2
+    shared-slice-read-others-2
+    others-requires
+    add-sum
+    add-i
+    loop-less
+    loop-again
+    returns)

@@ -1,0 +1,60 @@
+-- `tables::ranges::under16` meets its contract: each word passed is in range. Assumes nothing.
+use mathlib.Core.Path.{_≡_}
+use mathlib.Core.Bool.{true}
+use Prim.Native.Nat.{_≤_, _-_}
+use borrow.Author.Needs.{needs}
+use borrow.Author.Tests.{lt-ltb, le-ltb}
+use lib.ListN.{getD}
+use lib.Dec.{ltb}
+use Rattle.laws.specs.Below.{all}
+use Rattle.model.specs.Ranges.{under}
+use Rattle.tables.proofs.Loops.{test-none, test-more, test-fails, test-ends}
+use Rattle.tables.proofs.ranges.under16.Statement.{statement}
+use Rattle.tables.proofs.ranges.under16.Tie as tie
+
+abbrev Inv-loop : tie.InvT-loop
+Inv-loop s n m i₀ i = (i ≤ n) × (all i (λ k. ltb (getD s k 0) m) ≡ true)
+
+abbrev μ-loop : tie.MeasureT-loop
+μ-loop s n m i₀ i = n - i
+
+loop-holds : tie.Need-loop-holds Inv-loop μ-loop
+loop-holds c = (search needs, test-none _)
+
+mul-if1 : tie.Need-mul-if1 Inv-loop μ-loop
+mul-if1 c = search needs
+
+shared-slice-read-if1 : tie.Need-shared-slice-read-if1 Inv-loop μ-loop
+shared-slice-read-if1 c = search needs
+
+returns : tie.Need-returns Inv-loop μ-loop
+unfolding under
+returns c = test-fails _ _ (c .before .before .before .loop .i) (c .before .before .loop-test .taken) (le-ltb _ _ (c .if1 .taken))
+
+add-i : tie.Need-add-i Inv-loop μ-loop
+add-i c = search needs
+
+loop-less : tie.Need-loop-less Inv-loop μ-loop
+loop-less c = search needs
+
+loop-again : tie.Need-loop-again Inv-loop μ-loop
+loop-again c = (search needs, test-more _ _ (c .before .before .before .loop .inv .1) (lt-ltb _ _ (c .if1 .left)))
+
+returns-2 : tie.Need-returns-2 Inv-loop μ-loop
+unfolding under
+returns-2 c = test-ends _ _ _ (c .before .loop .inv .0) (c .loop-test .left) (c .before .loop .inv .1)
+
+pub under16-spec : {M : Type 1} → statement M
+under16-spec =
+    tie.close
+    (tie.spec
+    Inv-loop
+    μ-loop
+    loop-holds
+    mul-if1
+    shared-slice-read-if1
+    returns
+    add-i
+    loop-less
+    loop-again
+    returns-2)

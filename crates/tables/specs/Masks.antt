@@ -1,0 +1,39 @@
+-- Need words and sharer words by the tables of the tallies, and the words of a job by its owner tables.
+use mathlib.Core.Bool.{Bool, cond, _&&_}
+use mathlib.Core.List.{List}
+use Prim.Native.Nat.{ℕ, _^_, _<_, _≤_}
+use lib.ListN.{getD, set, length}
+use lib.Dec.{eqb, ltb}
+use lib.Bits.{bitOr}
+use lib.Count.{ones}
+use Rattle.laws.specs.Below.{any, sum, words}
+use Rattle.laws.specs.Masks.{maskOf, without}
+
+-- The words after one tally of box b and place p: bit b of the word at p is set, where b is below k.
+unfoldable pub marked : ℕ → ℕ → ℕ → List ℕ → List ℕ
+marked k b p masks = cond (ltb b k) (set masks p (bitOr (getD masks p 0) (2 ^ b))) masks
+
+-- Box b holds one of the first n tallies of place p, an offer's or a grocer's. A tally of a box not below k is held by nobody.
+unfoldable pub holds : ℕ → ℕ → List ℕ → List ℕ → ℕ → ℕ → Bool
+holds k n boxes places p b = any n (λ t. (eqb (getD boxes t 0) b && ltb b k) && eqb (getD places t 0) p)
+
+-- The boxes that hold a tally of place p, as a 16-bit word with one bit for each box.
+unfoldable pub holderWord : ℕ → ℕ → List ℕ → List ℕ → ℕ → ℕ
+holderWord k n boxes places p = maskOf 16 (holds k n boxes places p)
+
+-- What the pass over n tallies asks: at most 16 boxes, tables long enough, and each place below the number of words.
+pub record Placed (k n size : ℕ) (boxes places : List ℕ) : Type 0 where
+  pub boxes≤ : k ≤ 16
+  pub boxLong : n ≤ length boxes
+  pub placeLong : n ≤ length places
+  pub place< : (t : ℕ) → t < n → getD places t 0 < size
+
+-- The ones in the first n words, each without its owner's bit.
+unfoldable pub othersSum : ℕ → List ℕ → List ℕ → ℕ
+othersSum n owners masks = sum words n (λ i. ones (without (getD owners i 0) (getD masks i 0)))
+
+-- What the sum asks: tables long enough, and owners below 16.
+pub record Owned (n : ℕ) (owners masks : List ℕ) : Type 0 where
+  pub ownerLong : n ≤ length owners
+  pub maskLong : n ≤ length masks
+  pub owner< : (i : ℕ) → i < n → getD owners i 0 < 16

@@ -1,0 +1,10 @@
+-- Tables of which only the sizes matter: what is asked of a state's tables reads no other word of the job's.
+use mathlib.Core.Path.{_≡_, refl}
+use mathlib.Core.List.{[]}
+use Prim.Native.Nat.{ℕ}
+use Rattle.model.specs.Tables.{JobTables, jobTables, jobOf, StateTables, StateLengths, stateShort}
+use Rattle.model.specs.Ranges.{stateInRange}
+
+-- K, M and N alone.
+abbrev pub sizes : ℕ → ℕ → ℕ → JobTables
+sizes k m n = jobTables k m n 0 [] [] [] [] [] [] []

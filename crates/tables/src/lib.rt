@@ -1,0 +1,5 @@
+// The checks 20 and 21 on the tables of a job and of a state, need and sharer words, and the tables of messages.
+pub mod checks;
+pub mod masks;
+pub mod messages;
+pub mod ranges;

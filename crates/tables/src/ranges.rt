@@ -1,0 +1,91 @@
+ghost use mathlib.Core.Path.{_≡_};
+ghost use Prim.Native.Nat.{_≤_};
+ghost use lib.ListN.{length};
+ghost use lib.Dec.{leb};
+ghost use lib.IntN.{natAbs};
+ghost use Rattle.model.specs.Ranges.{upTo, under, around, maxCount, maxAmount};
+
+// Whether the first n words of s are below m.
+pub fn under16(s: &[u16], n: usize, m: u16) -> bool
+    requires { ⌜ n ≤ length (now s) ⌝ }
+    ensures { λ r. ⌜ r ≡ under m n (now (s .entry)) ⌝ }
+{
+    for i in 0..n {
+        if s[i] >= m {
+            return false;
+        }
+    }
+    true
+}
+
+// Whether the first n words of s are at most m.
+pub fn upto16(s: &[u16], n: usize, m: u16) -> bool
+    requires { ⌜ n ≤ length (now s) ⌝ }
+    ensures { λ r. ⌜ r ≡ upTo m n (now (s .entry)) ⌝ }
+{
+    for i in 0..n {
+        if s[i] > m {
+            return false;
+        }
+    }
+    true
+}
+
+// Whether the first n words of s are at most m.
+pub fn upto32(s: &[u32], n: usize, m: u32) -> bool
+    requires { ⌜ n ≤ length (now s) ⌝ }
+    ensures { λ r. ⌜ r ≡ upTo m n (now (s .entry)) ⌝ }
+{
+    for i in 0..n {
+        if s[i] > m {
+            return false;
+        }
+    }
+    true
+}
+
+// Whether a count is within ±99,999.
+pub fn is_count(x: i32) -> bool
+    ensures { λ r. ⌜ r ≡ leb (natAbs x) maxCount ⌝ }
+{
+    if x > 99_999 {
+        return false;
+    }
+    x >= -99_999
+}
+
+// Whether an amount is within ±10^15.
+pub fn is_amount(x: i64) -> bool
+    ensures { λ r. ⌜ r ≡ leb (natAbs x) maxAmount ⌝ }
+{
+    if x > 1_000_000_000_000_000 {
+        return false;
+    }
+    x >= -1_000_000_000_000_000
+}
+
+// Whether the first n words of s are counts.
+pub fn around32(s: &[i32], n: usize) -> bool
+    requires { ⌜ n ≤ length (now s) ⌝ }
+    ensures { λ r. ⌜ r ≡ around maxCount n (now (s .entry)) ⌝ }
+{
+    for i in 0..n {
+        if !is_count(s[i]) {
+            return false;
+        }
+    }
+    true
+}
+
+// Whether the first n words of s are amounts.
+pub fn around64(s: &[i64], n: usize) -> bool
+    requires { ⌜ n ≤ length (now s) ⌝ }
+    ensures { λ r. ⌜ r ≡ around maxAmount n (now (s .entry)) ⌝ }
+{
+    for i in 0..n {
+        if !is_amount(s[i]) {
+            return false;
+        }
+    }
+    true
+}
