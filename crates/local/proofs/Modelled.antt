@@ -12,7 +12,8 @@ use Rattle.laws.specs.Below.{words, only, any, sum, count, find}
 use Rattle.laws.proofs.Bools.{split, clash, eqb-same, and-one}
 use Rattle.laws.proofs.Sums.{sum-cong}
 use Rattle.laws.proofs.Below.{count-cong, find-only, find-passes, find-none}
-use Rattle.laws.proofs.Tables.{word-in}
+use Rattle.laws.specs.Tables.{tabulate, overwrite}
+use Rattle.laws.proofs.Tables.{length-tabulate, getD-tabulate, getD-overwrite, word-in}
 use Rattle.model.specs.Job.{Job, heldBy, needs, shares, priceWord, totalWord}
 use Rattle.model.specs.Tables.{JobTables, jobOf}
 use Rattle.model.specs.Ranges.{jobInRange}
@@ -20,12 +21,12 @@ use Rattle.model.specs.Local.{ascending, chained, localOffers, localGrocers, lo
 use Rattle.model.proofs.Step.{range, limits}
 use Rattle.local.specs.Sort.{at, inFront, begin, keyCount, sorted}
 use Rattle.local.specs.Lists.{localList, heldOf, classOf, numberIn}
-use Rattle.local.specs.Pack.{tallyKey, packedTallies, packedStart}
-use Rattle.local.proofs.Extra.{any-cong, ascending-cong, chained-cong, find-cong}
-use Rattle.local.proofs.Sorting.{length-sorted, sorted-in, sorted-once}
+use Rattle.local.specs.Pack.{tallyKey, packedTallies, packedStart, packedNumber, packedCount}
+use Rattle.local.proofs.Extra.{overwrite-cong, any-cong, ascending-cong, chained-cong, find-cong}
+use Rattle.local.proofs.Sorting.{begin-suc, length-sorted, sorted-in, sorted-once, part-once}
 use Rattle.local.proofs.Placing.{begin-le}
 use Rattle.local.proofs.Listing.{sorted-list}
-use Rattle.local.proofs.Packing.{at-front}
+use Rattle.local.proofs.Packing.{at-front, packed-in}
 
 -- Owners and marks that agree below n make the same list.
 pub list-cong : (k n b : ℕ) (owner owner′ : ℕ → ℕ) (marked marked′ : ℕ → Bool) → ((x : ℕ) → x < n → owner x ≡ owner′ x) → ((x : ℕ) → x < n → marked x ≡ marked′ x) →
@@ -104,3 +105,93 @@ module _ (f : JobTables) (ok : jobInRange f ≡ true) (b : ℕ) (hb : b < f .box
   grocers-are =
       list-cong (f .boxes) (f .grocers) b (at (f .grocerOwner)) (jobOf f .grocerOwner) (heldOf (f .tallyGrocer) (f .tallyBox) (f .tallies) b) (λ g. shares (jobOf f) g b)
       (λ g l. sym (word-in (f .grocers) (f .grocerOwner) 0 g l)) (λ g l. sym (shares-held g))
+
+-- ---- The packed tallies, from the lists as they stand in front of their tables.
+
+module _ (f : JobTables) (ok : jobInRange f ≡ true) (b : ℕ) (hb : b < f .boxes) (list rest : List ℕ) (l : ℕ)
+    (list-is : list ≡ inFront (localOffers (jobOf f) b) rest) (l-is : l ≡ length (localOffers (jobOf f) b)) where
+  abbrev key : ℕ → ℕ
+  key = tallyKey (f .tallyBox) (f .tallyOffer) list l b
+
+  offer-at : (i : ℕ) → i < l → at list i ≡ at (localOffers (jobOf f) b) i
+  offer-at i h = ap (λ (s : List ℕ). at s i) list-is ∙ at-front (localOffers (jobOf f) b) rest i (omega arith)
+
+  -- No offer stands twice.
+  offer-once : (i m : ℕ) → i < l → m < l → at list i ≡ at list m → i ≡ m
+  offer-once i m hi hm e =
+      let s = offers-are f ok b hb in
+      list-once (f .boxes) (f .offers) (at (f .offerOwner)) (heldOf (f .tallyOffer) (f .tallyBox) (f .tallies) b) b i m
+      (omega (arith, ap length s)) (omega (arith, ap length s)) (rw s (sym (offer-at i hi) ∙ e ∙ offer-at m hm))
+
+  -- A tally has the key c just where it is one of the box's tallies of the local offer c.
+  key-of : (c t : ℕ) → c < l → t < f .tallies → eqb (key t) c ≡ ofOffer (jobOf f) b c t
+  unfolding tallyKey ofOffer jobOf
+  key-of c t hc ht =
+      split (eqb (at (f .tallyBox) t) b)
+      (λ q. rw (held-word f ok b hb t ht, q, word-in (f .tallies) (f .tallyOffer) 0 t ht)
+      (number-is list l (at (f .tallyOffer) t) c offer-once hc ∙ ap (eqb (at (f .tallyOffer) t)) (offer-at c hc)))
+      (λ q. rw (held-word f ok b hb t ht, q) (ne-eqb l c (λ e. omega arith)))
+
+  -- Where the tallies of a local offer begin.
+  pub start-model : (i : ℕ) → i ≤ l → packedStart (f .tallyBox) (f .tallyOffer) (f .tallies) list l b i ≡ start (jobOf f) b i
+  unfolding packedStart begin keyCount start jobOf
+  start-model i h =
+      sum-cong words i (λ c. count (f .tallies) (λ t. eqb (key t) c)) (λ c. count (jobOf f .tallies) (ofOffer (jobOf f) b c))
+      (λ c hc. count-cong (f .tallies) (λ t. eqb (key t) c) (ofOffer (jobOf f) b c) (λ t ht. key-of c t (omega arith) ht))
+
+  -- The starts are the model's.
+  pub starts-model : (old : List ℕ) → overwrite (suc l) (packedStart (f .tallyBox) (f .tallyOffer) (f .tallies) list l b) old ≡ inFront (starts (jobOf f) b) old
+  unfolding inFront starts
+  starts-model old =
+      overwrite-cong 0 (suc l) (packedStart (f .tallyBox) (f .tallyOffer) (f .tallies) list l b) (at (starts (jobOf f) b)) old
+      (λ i h. start-model i (omega arith) ∙ sym (getD-tabulate (suc (length (localOffers (jobOf f) b))) (start (jobOf f) b) i 0 (omega arith)))
+      ∙ ap (λ (n : ℕ). overwrite n (at (starts (jobOf f) b)) old) (ap suc l-is ∙ sym (length-tabulate (suc (length (localOffers (jobOf f) b))) (start (jobOf f) b)))
+
+  abbrev tally : ℕ → ℕ
+  tally = at (packedTallies (f .tallyBox) (f .tallyOffer) (f .tallies) list l b)
+
+  -- The number of places is the number of the box's tallies.
+  pub total-model : packedStart (f .tallyBox) (f .tallyOffer) (f .tallies) list l b l ≡ start (jobOf f) b (length (localOffers (jobOf f) b))
+  total-model = start-model l (omega arith) ∙ ap (start (jobOf f) b) l-is
+
+  place-tally : (i : ℕ) → i < start (jobOf f) b (length (localOffers (jobOf f) b)) → tally i < f .tallies
+  place-tally i h = packed-in (f .tallyBox) (f .tallyOffer) (f .tallies) list l b i (omega (arith, total-model))
+
+  -- Each tally of an offer stands once in the offer's list.
+  tally-once : (k t : ℕ) → k < l → t < f .tallies →
+      count (start (jobOf f) b (suc k) - start (jobOf f) b k) (λ i. eqb (tally (start (jobOf f) b k + i)) t) ≡ only words (ofOffer (jobOf f) b k t) 1
+  unfolding packedTallies packedStart
+  tally-once k t hk ht =
+      ap (λ (n : ℕ). count n (λ i. eqb (tally (start (jobOf f) b k + i)) t)) (omega (arith, start-model k (omega arith), start-model (suc k) hk, begin-suc key (f .tallies) k))
+      ∙ ap (λ (s : ℕ). count (keyCount key (f .tallies) k) (λ i. eqb (tally (s + i)) t)) (sym (start-model k (omega arith)))
+      ∙ part-once key (f .tallies) l k t hk ht
+      ∙ ap (λ (u : Bool). only words u 1) (key-of k t hk ht)
+
+  module _ (names more : List ℕ) (g : ℕ) (names-are : names ≡ inFront (localGrocers (jobOf f) b) more) (g-is : g ≡ length (localGrocers (jobOf f) b)) where
+    name-at : (i : ℕ) → i < g → at names i ≡ at (localGrocers (jobOf f) b) i
+    name-at i h = ap (λ (s : List ℕ). at s i) names-are ∙ at-front (localGrocers (jobOf f) b) more i (omega arith)
+
+    -- The local number of a grocer is the model's.
+    number-model : (x : ℕ) → numberIn names g x ≡ localGrocer (jobOf f) b x
+    unfolding numberIn localGrocer
+    number-model x =
+        find-cong g (λ i. eqb (at names i) x) (λ i. eqb (at (localGrocers (jobOf f) b) i) x) (λ i h. ap (λ (v : ℕ). eqb v x) (name-at i h))
+        ∙ ap (λ (n : ℕ). find n (λ i. eqb (at (localGrocers (jobOf f) b) i) x)) g-is
+
+    -- The packed lists are the model's.
+    pub packed-model : (n : ℕ) (grocers oldGrocers : List ℕ) (counts oldCounts : List ℤ) → n ≡ packedStart (f .tallyBox) (f .tallyOffer) (f .tallies) list l b l →
+        grocers ≡ overwrite n (packedNumber names g (f .tallyGrocer) (packedTallies (f .tallyBox) (f .tallyOffer) (f .tallies) list l b)) oldGrocers →
+        counts ≡ overwrite n (packedCount (f .tallyCount) (packedTallies (f .tallyBox) (f .tallyOffer) (f .tallies) list l b)) oldCounts →
+        Packed (jobOf f) b grocers counts
+    unfolding packedNumber packedCount jobOf
+    packed-model n grocers oldGrocers counts oldCounts n-is grocers-is counts-is = record {
+      tally = tally;
+      grocer = λ i h. ap (λ (s : List ℕ). at s i) grocers-is
+          ∙ getD-overwrite n (packedNumber names g (f .tallyGrocer) (packedTallies (f .tallyBox) (f .tallyOffer) (f .tallies) list l b)) oldGrocers i 0 (omega (arith, total-model))
+          ∙ number-model (at (f .tallyGrocer) (tally i))
+          ∙ ap (localGrocer (jobOf f) b) (sym (word-in (f .tallies) (f .tallyGrocer) 0 (tally i) (place-tally i h)));
+      counted = λ i h. ap (λ (s : List ℤ). getD s i (pos 0)) counts-is
+          ∙ getD-overwrite n (packedCount (f .tallyCount) (packedTallies (f .tallyBox) (f .tallyOffer) (f .tallies) list l b)) oldCounts i (pos 0) (omega (arith, total-model))
+          ∙ sym (word-in (f .tallies) (f .tallyCount) (pos 0) (tally i) (place-tally i h));
+      once = λ k t hk ht. tally-once k t (omega arith) ht;
+    }
