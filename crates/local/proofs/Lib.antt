@@ -5,3 +5,5 @@ pub mod Placing
 pub mod Listing
 pub mod Packing
 pub mod Modelled
+pub mod Ready
+pub mod Booking

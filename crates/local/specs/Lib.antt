@@ -2,3 +2,4 @@
 pub mod Sort
 pub mod Lists
 pub mod Pack
+pub mod Book
