@@ -1,23 +1,21 @@
 -- The call of the local book, by the first refusal that is met. Assumes nothing.
-use mathlib.Core.Path.{_≡_, refl, sym, ap, ap₂, _∙_}
+use mathlib.Core.Path.{_≡_, refl, ap, _∙_}
 use mathlib.Core.Bool.{true}
 use mathlib.Core.List.{List, _++_}
-use Prim.Native.Nat.{ℕ, zero, suc, _+_, _<_, _≤_}
+use Prim.Native.Nat.{ℕ, zero, suc, _<_, _≤_}
 use native.Mathlib.Omega.{arith}
 use lib.ListN.{length, drop}
 use lib.Seq.{drop-at}
-use lib.IntN.{ℤ, pos}
 use Rattle.laws.specs.Checks.{firstMet}
 use Rattle.laws.specs.Tables.{tabulate, overwrite}
 use Rattle.laws.proofs.Tables.{length-tabulate, length-overwrite}
-use Rattle.model.specs.Job.{Job}
 use Rattle.model.specs.Tables.{JobTables, jobOf}
 use Rattle.model.specs.Ranges.{jobInRange}
 use Rattle.model.specs.Local.{localOffers, localGrocers, start, bookRefusals}
 use Rattle.local.specs.Sort.{at, inFront}
 use Rattle.local.specs.Lists.{localList, heldOf}
 use Rattle.local.specs.Pack.{packedTallies, packedStart, packedNumber, packedCount}
-use Rattle.local.specs.Book.{said, bookAnswer, BookTables, bookTables, bookLengths, SamePast, Written, Booked}
+use Rattle.local.specs.Book.{said, bookAnswer, BookTables, bookLengths, SamePast, Written, Booked}
 use Rattle.local.specs.declared.book.Answer.the-variants.{Book, Refused}
 use Rattle.local.proofs.Modelled.{offers-are, grocers-are, starts-model, total-model, packed-model}
 use Rattle.local.proofs.Packing.{packed-le}

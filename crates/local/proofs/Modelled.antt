@@ -1,24 +1,23 @@
 -- The lists, starts and packed tallies of a box are the model's. Assumes nothing.
 use mathlib.Core.Path.{_≡_, refl, sym, ap, ap₂, _∙_}
-use mathlib.Core.Bool.{Bool, true, false, cond, _&&_, not}
+use mathlib.Core.Bool.{Bool, true, _&&_, not}
 use mathlib.Core.List.{List, _++_}
-use Prim.Native.Nat.{ℕ, zero, suc, _+_, _-_, _<_, _≤_}
+use Prim.Native.Nat.{ℕ, suc, _+_, _-_, _<_, _≤_}
 use native.Mathlib.Omega.{arith}
-use lib.Dec.{eqb, ltb}
+use lib.Dec.{eqb}
 use lib.ListN.{length, getD}
 use lib.IntN.{ℤ, pos}
-use borrow.Author.Tests.{eqb-true, eqb-false, eq-eqb, ne-eqb, lt-ltb}
-use Rattle.laws.specs.Below.{words, only, any, sum, count, find}
-use Rattle.laws.proofs.Bools.{split, clash, eqb-same, and-one}
+use borrow.Author.Tests.{eqb-true, eq-eqb, ne-eqb, lt-ltb}
+use Rattle.laws.specs.Below.{words, only, any, count, find}
+use Rattle.laws.proofs.Bools.{split, clash, and-one}
 use Rattle.laws.proofs.Sums.{sum-cong}
 use Rattle.laws.proofs.Below.{count-cong, find-only, find-passes, find-none}
-use Rattle.laws.specs.Tables.{tabulate, overwrite}
+use Rattle.laws.specs.Tables.{overwrite}
 use Rattle.laws.proofs.Tables.{length-tabulate, getD-tabulate, getD-overwrite, word-in}
-use Rattle.model.specs.Job.{Job, heldBy, needs, shares, priceWord, totalWord}
+use Rattle.model.specs.Job.{heldBy, needs, shares, priceWord, totalWord}
 use Rattle.model.specs.Tables.{JobTables, jobOf}
 use Rattle.model.specs.Ranges.{jobInRange}
-use Rattle.model.specs.Local.{ascending, chained, localOffers, localGrocers, localGrocer, ofOffer, start, starts, Packed}
-use Rattle.model.proofs.Step.{range, limits}
+use Rattle.model.specs.Local.{ascending, localOffers, localGrocers, localGrocer, ofOffer, start, starts, Packed}
 use Rattle.local.specs.Sort.{at, inFront, begin, keyCount, sorted}
 use Rattle.local.specs.Lists.{localList, heldOf, classOf, numberIn}
 use Rattle.local.specs.Pack.{tallyKey, packedTallies, packedStart, packedNumber, packedCount}

@@ -1,16 +1,15 @@
 -- The refusals of the local book, and what an accepted call gives the functions below it. Assumes nothing.
-use mathlib.Core.Path.{_≡_, refl, sym, ap, ap₂, _∙_}
+use mathlib.Core.Path.{_≡_, refl, sym, ap, _∙_}
 use mathlib.Core.Bool.{Bool, true, false, cond, _||_, not}
 use mathlib.Core.List.{List, [], _∷_}
-use Prim.Native.Nat.{ℕ, suc, _+_, _<_, _≤_}
+use Prim.Native.Nat.{ℕ, suc, _<_, _≤_}
 use native.Mathlib.Omega.{arith}
-use lib.Dec.{eqb, ltb}
+use lib.Dec.{ltb}
 use lib.ListN.{length}
 use borrow.Author.Tests.{lt-ltb, le-ltb, ltb-true, ltb-false}
 use Rattle.laws.specs.Checks.{firstMet}
 use Rattle.laws.proofs.Checks.{none-of}
 use Rattle.laws.proofs.Tables.{word-in}
-use Rattle.model.specs.Job.{Job}
 use Rattle.model.specs.Tables.{JobTables, jobOf, jobLengths, jobShort}
 use Rattle.model.specs.Ranges.{jobInRange}
 use Rattle.model.specs.Local.{localOffers, localGrocers, BookLengths, bookShort, bookRefusals}

@@ -1,12 +1,9 @@
 -- `local_case::magnitude` meets its contract. Assumes nothing.
-use mathlib.Core.Path.{_≡_, sym, ap, _∙_}
-use lib.IntN.{ℤ, pos, _-ℤ_}
+use lib.IntN.{pos, _-ℤ_}
 use Rattle.laws.proofs.Signed.{read64}
 use Rattle.local_case.proofs.Signs.{read-wide, fits-wide, turned, turned-size, kept}
 use Rattle.local_case.proofs.magnitude.Statement.{statement}
 use Rattle.local_case.proofs.magnitude.Tie as tie
-use Rattle.local_case.proofs.magnitude.Reads as reads
-use Rattle.local_case.proofs.magnitude.Lts as lts
 
 cast-wide : tie.Need-cast-wide
 cast-wide c = fits-wide (c .args .count) (c .fits .count .sfits)

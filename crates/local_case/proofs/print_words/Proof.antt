@@ -4,11 +4,6 @@ use native.Mathlib.Omega.{arith}
 use borrow.Author.Needs.{needs}
 use Rattle.local_case.proofs.print_words.Statement.{statement}
 use Rattle.local_case.proofs.print_words.Tie as tie
-use Rattle.local_case.proofs.print_words.Reads as reads
-use Rattle.local_case.proofs.print_words.Lts as lts
-use Rattle.io.proofs.write_all.Reads as write-all-reads
-use Rattle.local_case.proofs.end_line.Reads as end-line-reads
-use Rattle.local_case.proofs.print_word.Reads as print-word-reads
 
 abbrev Inv-loop : tie.InvT-loop
 Inv-loop name words n i₀ i = i ≤ n

@@ -1,11 +1,9 @@
 -- `local::book::book` meets its contract. Assumes nothing.
-use mathlib.Core.Path.{_≡_, sym, ap, _∙_}
+use mathlib.Core.Path.{_≡_, sym, _∙_}
 use mathlib.Core.List.{List}
-use Prim.Native.Nat.{ℕ, _<_, _≤_}
+use Prim.Native.Nat.{ℕ, _≤_}
 use native.Mathlib.Omega.{arith}
 use borrow.Author.Needs.{needs}
-use lib.IntN.{ℤ}
-use lib.ListN.{length}
 use denote.Ref.{now}
 use Rattle.laws.specs.Checks.{firstMet}
 use Rattle.model.specs.Tables.{JobTables, jobTables}
@@ -17,11 +15,6 @@ use Rattle.local.proofs.Ready.{long, whole, offer-owners, grocer-owners
 use Rattle.local.proofs.Booking.{booked-refused, booked-written}
 use Rattle.local.proofs.book.book.Statement.{statement}
 use Rattle.local.proofs.book.book.Tie as tie
-use Rattle.local.proofs.book.book.Reads as reads
-use Rattle.local.proofs.book.book.Lts as lts
-use Rattle.local.proofs.book.refusal.Reads as refusal-reads
-use Rattle.local.proofs.lists.list.Reads as list-reads
-use Rattle.local.proofs.pack.pack.Reads as pack-reads
 
 abbrev job : tie.Start → JobTables
 job s = jobTables (s .args .boxes) (s .args .grocers) (s .args .offers) (s .args .tallies) (now (s .args .price)) (now (s .args .owner)) (now (s .args .gowner)) (now (s .args .tgrocer)) (now (s .args .tbox)) (now (s .args .toffer)) (now (s .args .tcount))

@@ -5,8 +5,6 @@ use Rattle.model.specs.Tables.{jobOf}
 use Rattle.model.specs.Local.{bookShort}
 use Rattle.local.proofs.book.book_short.Statement.{statement}
 use Rattle.local.proofs.book.book_short.Tie as tie
-use Rattle.local.proofs.book.book_short.Reads as reads
-use Rattle.local.proofs.book.book_short.Lts as lts
 
 add-result : tie.Need-add-result
 add-result c = search needs

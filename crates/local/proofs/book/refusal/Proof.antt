@@ -8,11 +8,6 @@ use Rattle.local.specs.Book.{lengths}
 use Rattle.local.proofs.Ready.{met-20, not-20, met-21, met-23, met-none}
 use Rattle.local.proofs.book.refusal.Statement.{statement}
 use Rattle.local.proofs.book.refusal.Tie as tie
-use Rattle.local.proofs.book.refusal.Reads as reads
-use Rattle.local.proofs.book.refusal.Lts as lts
-use Rattle.local.proofs.book.book_short.Reads as book-short-reads
-use Rattle.tables.proofs.checks.job_in_range.Reads as job-in-range-reads
-use Rattle.tables.proofs.checks.job_short.Reads as job-short-reads
 
 abbrev job : tie.Start → JobTables
 job s = jobTables (s .args .boxes) (s .args .grocers) (s .args .offers) (s .args .tallies) (now (s .args .price)) (now (s .args .owner)) (now (s .args .gowner)) (now (s .args .tgrocer)) (now (s .args .tbox)) (now (s .args .toffer)) (now (s .args .tcount))

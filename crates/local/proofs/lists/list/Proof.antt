@@ -1,22 +1,16 @@
 -- `local::lists::list` meets its contract. Assumes nothing.
-use mathlib.Core.Path.{_≡_, sym, ap, _∙_}
+use mathlib.Core.Path.{_≡_, ap, _∙_}
 use mathlib.Core.List.{List}
-use Prim.Native.Nat.{ℕ, suc, _<_, _≤_, _+_}
+use Prim.Native.Nat.{ℕ, suc, _+_}
 use native.Mathlib.Omega.{arith}
 use borrow.Author.Needs.{needs}
-use lib.ListN.{length, replicate}
+use lib.ListN.{replicate}
 use denote.Ref.{now}
 use Rattle.laws.proofs.Tables.{getD-overwrite}
 use Rattle.local.specs.Sort.{at, begin, inFront}
 use Rattle.local.proofs.Listing.{keys-ready, list-is, list-length}
 use Rattle.local.proofs.lists.list.Statement.{statement}
 use Rattle.local.proofs.lists.list.Tie as tie
-use Rattle.local.proofs.lists.list.Reads as reads
-use Rattle.local.proofs.lists.list.Lts as lts
-use Rattle.local.proofs.lists.classes.Reads as classes-reads
-use Rattle.local.proofs.lists.marks_of.Reads as marks-of-reads
-use Rattle.local.proofs.sort.index_of.Reads as index-of-reads
-use Rattle.local.proofs.sort.sort.Reads as sort-reads
 
 -- Where the marks and the classes are made.
 abbrev entry : tie.After-index-of → tie.Start

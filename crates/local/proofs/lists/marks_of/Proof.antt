@@ -1,13 +1,12 @@
 -- `local::lists::marks_of` meets its contract. Assumes nothing.
 use mathlib.Core.Path.{_≡_, refl, sym, ap, ap₂, _∙_}
 use mathlib.Core.Bool.{cond}
-use mathlib.Core.List.{List}
-use Prim.Native.Nat.{ℕ, _<_, _≤_, _+_, _-_}
+use Prim.Native.Nat.{ℕ, _<_, _≤_, _-_}
 use native.Mathlib.Omega.{arith}
 use native.Mathlib.Nat.{le-antisymm}
 use borrow.Author.Needs.{needs}
 use lib.Dec.{eqb}
-use lib.ListN.{length, getD, set, length-set, getD-replicate}
+use lib.ListN.{length, set, length-set, getD-replicate}
 use denote.Ref.{now}
 use Rattle.laws.proofs.Tables.{is-tabulate}
 use Rattle.local.specs.Sort.{at}
@@ -15,10 +14,6 @@ use Rattle.local.specs.Lists.{markOf}
 use Rattle.local.proofs.Listing.{mark-none, marked-next}
 use Rattle.local.proofs.lists.marks_of.Statement.{statement}
 use Rattle.local.proofs.lists.marks_of.Tie as tie
-use Rattle.local.proofs.lists.marks_of.Reads as reads
-use Rattle.local.proofs.lists.marks_of.Lts as lts
-use Rattle.local.proofs.sort.if_same.Reads as if-same-reads
-use Rattle.local.proofs.sort.index_of.Reads as index-of-reads
 
 abbrev Inv-loop : tie.InvT-loop
 Inv-loop items boxes tallies b marks₀ t₀ marks t =

@@ -1,11 +1,11 @@
 -- `local::pack::pack` meets its contract. Assumes nothing.
-use mathlib.Core.Path.{_≡_, sym, ap, _∙_}
+use mathlib.Core.Path.{_≡_, ap, _∙_}
 use mathlib.Core.List.{List}
-use Prim.Native.Nat.{ℕ, _<_, _≤_}
+use Prim.Native.Nat.{ℕ, _≤_}
 use native.Mathlib.Omega.{arith}
 use borrow.Author.Needs.{needs}
-use lib.IntN.{ℤ, pos}
-use lib.ListN.{length, replicate}
+use lib.IntN.{pos}
+use lib.ListN.{replicate}
 use denote.Ref.{now}
 use Rattle.laws.specs.Tables.{overwrite}
 use Rattle.local.specs.Pack.{packedTallies, packedStart, packedGrocer, packedNumber, packedCount, OrderIn}
@@ -13,13 +13,6 @@ use Rattle.local.proofs.Extra.{overwrite-cong}
 use Rattle.local.proofs.Packing.{packed-le, order-in, grocer-put, count-put}
 use Rattle.local.proofs.pack.pack.Statement.{statement}
 use Rattle.local.proofs.pack.pack.Tie as tie
-use Rattle.local.proofs.pack.pack.Reads as reads
-use Rattle.local.proofs.pack.pack.Lts as lts
-use Rattle.local.proofs.lists.numbers.Reads as numbers-reads
-use Rattle.local.proofs.pack.order_tallies.Reads as order-tallies-reads
-use Rattle.local.proofs.pack.put_counts.Reads as put-counts-reads
-use Rattle.local.proofs.pack.put_grocers.Reads as put-grocers-reads
-use Rattle.local.proofs.sort.index_of.Reads as index-of-reads
 
 abbrev entry : tie.After-index-of → tie.Start
 entry c = c .before .before .before .before .before .before .before .before .before .before .before .before .before .before .before

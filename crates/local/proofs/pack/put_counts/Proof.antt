@@ -1,11 +1,11 @@
 -- `local::pack::put_counts` meets its contract. Assumes nothing.
-use mathlib.Core.Path.{_≡_, refl, sym, ap, ap₂, _∙_}
+use mathlib.Core.Path.{_≡_, sym, ap, ap₂, _∙_}
 use mathlib.Core.List.{List}
-use Prim.Native.Nat.{ℕ, _<_, _≤_, _+_, _-_}
+use Prim.Native.Nat.{ℕ, _<_, _≤_, _-_}
 use native.Mathlib.Omega.{arith}
 use native.Mathlib.Nat.{le-antisymm}
 use borrow.Author.Needs.{needs}
-use lib.ListN.{length, getD, set, length-set}
+use lib.ListN.{length, getD, set}
 use denote.Ref.{now}
 use lib.IntN.{ℤ, pos}
 use Rattle.laws.specs.Tables.{overwrite}
@@ -16,9 +16,6 @@ use Rattle.local.specs.Pack.{packedCount}
 use Rattle.local.proofs.Extra.{overwrite-none, overwrite-next}
 use Rattle.local.proofs.pack.put_counts.Statement.{statement}
 use Rattle.local.proofs.pack.put_counts.Tie as tie
-use Rattle.local.proofs.pack.put_counts.Reads as reads
-use Rattle.local.proofs.pack.put_counts.Lts as lts
-use Rattle.local.proofs.sort.index_of.Reads as index-of-reads
 
 abbrev Inv-loop : tie.InvT-loop
 Inv-loop order n counts tallies out₀ i₀ out i = (i ≤ n) × (out ≡ overwrite i (packedCount counts order) out₀)
