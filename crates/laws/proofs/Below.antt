@@ -155,3 +155,9 @@ find-first (suc n) p i l =
 -- The only number that passes is the one found.
 pub find-only : (n : ℕ) (p : ℕ → Bool) (k : ℕ) → k < n → p k ≡ true → ((i : ℕ) → i < n → p i ≡ true → i ≡ k) → find n p ≡ k
 find-only n p k l h one = let (m, q) = find-passes n p (any-at n p k l h) in one (find n p) m q
+
+-- Where each number fails none passes.
+pub none-any : (n : ℕ) (p : ℕ → Bool) → ((i : ℕ) → p i ≡ false) → any n p ≡ false
+unfolding any
+none-any zero p h = refl
+none-any (suc n) p h = rw (none-any n p h, h n)

@@ -6,3 +6,4 @@ pub mod Tables
 pub mod Signed
 pub mod Masks
 pub mod Checks
+pub mod Loops

@@ -67,6 +67,17 @@ module _ {A : Type 0} where
   unfolding overwrite
   length-overwrite n f l h = length-append (tabulate n f) (drop n l) ∙ rw (length-tabulate n f, length-drop n l) (omega arith)
 
+  pub overwrite-cong : (n : ℕ) (f g : ℕ → A) (l : List A) → ((i : ℕ) → i < n → f i ≡ g i) → overwrite n f l ≡ overwrite n g l
+  unfolding overwrite
+  overwrite-cong n f g l h = ap (λ (x : List A). x ++ drop n l) (tabulate-cong n f g h)
+
+  -- By row and column.
+  pub recell-cong : (n m : ℕ) (f g : ℕ → ℕ → A) (l : List A) → ((b o : ℕ) → b < n → o < m → f b o ≡ g b o) → recell n m f l ≡ recell n m g l
+  unfolding recell
+  recell-cong n m f g l h =
+      overwrite-cong (n * m) (λ i. f (i / m) (i % m)) (λ i. g (i / m) (i % m)) l
+      (λ i k. h (i / m) (i % m) (div-lt-iff-lt-mul (pos-right n m i k) .1 k) (mod-lt i (pos-right n m i k)))
+
   -- The last writing counts.
   pub over-over : (n : ℕ) (f g : ℕ → A) (l : List A) → overwrite n f (overwrite n g l) ≡ overwrite n f l
   unfolding overwrite

@@ -24,3 +24,6 @@ pub mod Step
 pub mod Lent
 pub mod Served
 pub mod Demand3
+pub mod Quiet
+pub mod Cases
+pub mod Cursor

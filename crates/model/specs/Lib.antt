@@ -10,3 +10,4 @@ pub mod Local
 pub mod Reconcile
 pub mod Requests
 pub mod Demand3
+pub mod Cases

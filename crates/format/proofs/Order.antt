@@ -1,0 +1,114 @@
+-- The first condition met in the order is the one refused: each refusal of reader and writer, at its place. Assumes nothing.
+use Prim.Native.Nat.{ℕ, _+_, _-_, _<_}
+use mathlib.Core.Path.{_≡_, refl, _∙_}
+use mathlib.Core.Bool.{Bool, true, false}
+use mathlib.Core.List.{List, [], _∷_}
+use native.Mathlib.Omega.{arith}
+use Rattle.laws.specs.Checks.{firstMet}
+use Rattle.format.specs.First.{firstBelow}
+use Rattle.format.specs.Job.{FileJob, badSizes, badRecords, shared, unnamed}
+use Rattle.format.specs.Blocks.{blocks}
+use Rattle.format.specs.File.{decode}
+use Rattle.format.specs.Refusals.{badLength, badCount, headerRefusal, blockRefusal, fileRefusal, jobRefusal}
+use Rattle.format.specs.Tables.{FileTables, ReaderTables, shortReader, readRefusal, shortWriter, writeRefusal, fileJobOf}
+use Rattle.format.proofs.Firsts.{hit, next, alone, below-hit}
+
+-- One condition that is met, and one that is not.
+one-met : (b : Bool) (n : ℕ) → b ≡ true → firstMet ((b, n) ∷ []) ≡ n
+unfolding firstMet
+one-met b n e = rw e
+
+one-off : (b : Bool) (n : ℕ) → b ≡ false → firstMet ((b, n) ∷ []) ≡ 0
+unfolding firstMet
+one-off b n e = rw e
+
+-- ---- the reader: 20, 1, the header, the block count, other blocks ascending, 7, 8
+
+-- 20 comes before all else.
+pub reader-20 : (f : List ℕ) (l : ReaderTables) → shortReader l ≡ true → readRefusal f l ≡ 20
+unfolding readRefusal
+reader-20 f l h = rw (one-met (shortReader l) 20 h) (hit 20 _ (omega arith))
+
+-- Then the file decides.
+pub reader-file : (f : List ℕ) (l : ReaderTables) → shortReader l ≡ false → readRefusal f l ≡ fileRefusal f
+unfolding readRefusal
+reader-file f l h = rw (one-off (shortReader l) 20 h, next) (alone (fileRefusal f))
+
+module _ (f : List ℕ) where
+  -- 1, by the length alone.
+  pub length-refused : badLength f ≡ true → fileRefusal f ≡ 1
+  unfolding fileRefusal
+  length-refused h = rw (one-met (badLength f) 1 h) (hit 1 _ (omega arith))
+
+  module _ (right : badLength f ≡ false) where
+    -- The header's refusal.
+    pub header-refused : (headerRefusal f ≡ 0 → ⊥) → fileRefusal f ≡ headerRefusal f
+    unfolding fileRefusal
+    header-refused n = rw (one-off (badLength f) 1 right, next) (hit (headerRefusal f) _ n)
+
+    module _ (top : headerRefusal f ≡ 0) where
+      -- 1, by the header's block count.
+      pub count-refused : badCount f ≡ true → fileRefusal f ≡ 1
+      unfolding fileRefusal
+      count-refused h = rw (one-off (badLength f) 1 right, next, top, next, one-met (badCount f) 1 h) (hit 1 _ (omega arith))
+
+      module _ (count : badCount f ≡ false) where
+        -- The blocks before block 1 + k are not refused, and this one is.
+        pub block-refused : (k : ℕ) → k < blocks (decode f) - 1 → firstBelow k (λ k. blockRefusal f (1 + k)) ≡ 0 → (blockRefusal f (1 + k) ≡ 0 → ⊥) → fileRefusal f ≡ blockRefusal f (1 + k)
+        unfolding fileRefusal
+        block-refused k l h n =
+            let r = blockRefusal f (1 + k) in
+            rw (one-off (badLength f) 1 right, next, top, next, one-off (badCount f) 1 count, next, below-hit (λ k. blockRefusal f (1 + k)) k (blocks (decode f) - 1) r l h refl n) (hit r _ n)
+
+        module _ (clean : firstBelow (blocks (decode f) - 1) (λ k. blockRefusal f (1 + k)) ≡ 0) where
+          last : fileRefusal f ≡ firstMet ((shared (decode f), 7) ∷ (unnamed (decode f), 8) ∷ [])
+          unfolding fileRefusal
+          last = rw (one-off (badLength f) 1 right, next, top, next, one-off (badCount f) 1 count, next, clean, next) (alone _)
+
+          -- 7, whatever 8 says.
+          pub shared-refused : shared (decode f) ≡ true → fileRefusal f ≡ 7
+          unfolding firstMet
+          shared-refused h = last ∙ rw h
+
+          -- 8, where 7 is not met.
+          pub unnamed-refused : shared (decode f) ≡ false → unnamed (decode f) ≡ true → fileRefusal f ≡ 8
+          unfolding firstMet
+          unnamed-refused h u = last ∙ rw (h, u)
+
+          -- No condition is met.
+          pub file-accepted : shared (decode f) ≡ false → unnamed (decode f) ≡ false → fileRefusal f ≡ 0
+          unfolding firstMet
+          file-accepted h u = last ∙ rw (h, u)
+
+-- ---- the writer: 20, 4, 6, 7, 8
+
+-- 20 comes before all else.
+pub writer-20 : (k m n t : ℕ) (l : FileTables) (out : List ℕ) → shortWriter m n t l out ≡ true → writeRefusal k m n t l out ≡ 20
+unfolding writeRefusal
+writer-20 k m n t l out h = rw (one-met (shortWriter m n t l out) 20 h) (hit 20 _ (omega arith))
+
+-- Then the job decides.
+pub writer-job : (k m n t : ℕ) (l : FileTables) (out : List ℕ) → shortWriter m n t l out ≡ false → writeRefusal k m n t l out ≡ jobRefusal (fileJobOf k m n t l)
+unfolding writeRefusal
+writer-job k m n t l out h = rw (one-off (shortWriter m n t l out) 20 h, next) (alone (jobRefusal (fileJobOf k m n t l)))
+
+module _ (j : FileJob) where
+  -- 4 first.
+  pub job-4 : badSizes j ≡ true → jobRefusal j ≡ 4
+  unfolding jobRefusal firstMet
+  job-4 a = rw a
+
+  -- 6 where 4 is not met.
+  pub job-6 : badSizes j ≡ false → badRecords j ≡ true → jobRefusal j ≡ 6
+  unfolding jobRefusal firstMet
+  job-6 a b = rw (a, b)
+
+  -- 7, whatever 8 says.
+  pub job-7 : badSizes j ≡ false → badRecords j ≡ false → shared j ≡ true → jobRefusal j ≡ 7
+  unfolding jobRefusal firstMet
+  job-7 a b c = rw (a, b, c)
+
+  -- 8 last.
+  pub job-8 : badSizes j ≡ false → badRecords j ≡ false → shared j ≡ false → unnamed j ≡ true → jobRefusal j ≡ 8
+  unfolding jobRefusal firstMet
+  job-8 a b c d = rw (a, b, c, d)

@@ -1,0 +1,109 @@
+-- Blocks of 512 bytes: what block k of a job's file holds, and which of its bytes are spare.
+use Prim.Native.Nat.{ℕ, _+_, _*_, _-_, _/_, _%_, min}
+use mathlib.Core.Bool.{Bool, cond, _||_}
+use mathlib.Core.List.{List, [], _∷_, _++_}
+use lib.Dec.{leb, ltb}
+use mir.Syntax.{w32}
+use mir.Val.{ofZ}
+use Rattle.laws.specs.Below.{words, sum}
+use Rattle.format.specs.Bytes.{bytes16, bytes32}
+use Rattle.format.specs.Codes.{codeBytes}
+use Rattle.format.specs.Job.{FileJob, Offer, Tally}
+
+-- The kinds of block; an offer and a tally block with its place among those of its kind.
+pub data BlockKind : Type 0 where
+  header : BlockKind
+  offerBlock : ℕ → BlockKind
+  grocerBlock : BlockKind
+  tallyBlock : ℕ → BlockKind
+
+-- Blocks for n records of 24 bytes, "21 a block", "each kind filled before its last block".
+abbrev pub blocksFor : ℕ → ℕ
+blocksFor n = (n + 20) / 21
+
+-- The plan of blocks: the header, "Then offer, grocer and tally blocks". The first offer block is block 1.
+abbrev pub offersAt : ℕ
+offersAt = 1
+
+-- The grocer block, after the blocks of n offers.
+abbrev pub grocersAt : ℕ → ℕ
+grocersAt n = offersAt + blocksFor n
+
+-- The first tally block, after the one grocer block.
+abbrev pub talliesAt : ℕ → ℕ
+talliesAt n = grocersAt n + 1
+
+-- How many blocks a file of n offers and t tallies has; "T = 0 has no tally block".
+abbrev pub blockCount : ℕ → ℕ → ℕ
+blockCount n t = talliesAt n + blocksFor t
+
+-- How many blocks a job's file has.
+abbrev pub blocks : FileJob → ℕ
+blocks j = blockCount (j .offers) (j .tallies)
+
+-- What block k of a file of n offers is, by the plan.
+unfoldable pub kindAt : ℕ → ℕ → BlockKind
+kindAt n k =
+    cond (ltb k offersAt) header
+    (cond (ltb k (grocersAt n)) (offerBlock (k - offersAt))
+    (cond (ltb k (talliesAt n)) grocerBlock
+    (tallyBlock (k - talliesAt n))))
+
+-- "Byte 0 kind (0 header, 1 offers, 2 grocers, 3 tallies)"
+abbrev pub kindNumber : BlockKind → ℕ
+kindNumber header = 0
+kindNumber (offerBlock b) = 1
+kindNumber grocerBlock = 2
+kindNumber (tallyBlock b) = 3
+
+-- "byte 1 number of records"
+abbrev pub records : FileJob → BlockKind → ℕ
+records j header = 1
+records j (offerBlock b) = min 21 (j .offers - 21 * b)
+records j grocerBlock = j .grocers
+records j (tallyBlock b) = min 21 (j .tallies - 21 * b)
+
+-- "Offer and tally records have 24 bytes (21 a block), grocer records one byte"; the header's one record has all 504.
+abbrev pub recordSize : BlockKind → ℕ
+recordSize header = 504
+recordSize (offerBlock b) = 24
+recordSize grocerBlock = 1
+recordSize (tallyBlock b) = 24
+
+-- The bytes of a record that its fields take, from its first byte on.
+abbrev pub fieldSize : BlockKind → ℕ
+fieldSize header = 8
+fieldSize (offerBlock b) = 16
+fieldSize grocerBlock = 1
+fieldSize (tallyBlock b) = 18
+
+-- "byte 4 K, byte 5 always 1, bytes 6–7 M, 8–9 N, 10–11 T"
+unfoldable pub headerBytes : FileJob → List ℕ
+headerBytes j = j .boxes ∷ 1 ∷ bytes16 (j .grocers) ++ bytes16 (j .offers) ++ bytes16 (j .tallies)
+
+-- "Offer: 0–3 price, 4 owner, 5 digit count, 6–15 digits."
+unfoldable pub offerBytes : Offer → List ℕ
+offerBytes o = bytes32 (o .price) ++ o .owner ∷ codeBytes (o .code)
+
+-- "Tally: 0–1 grocer, 2 box, 3 digit count, 4–13 digits, 14–17 count, signed 32-bit two's complement."
+unfoldable pub tallyBytes : Tally → List ℕ
+tallyBytes t = bytes16 (t .grocer) ++ t .box ∷ codeBytes (t .code) ++ bytes32 (ofZ w32 (t .count))
+
+-- The fields of record r of a block; "Grocer: owner."
+unfoldable pub recordBytes : FileJob → BlockKind → ℕ → List ℕ
+recordBytes j header r = headerBytes j
+recordBytes j (offerBlock b) r = offerBytes (j .offer (21 * b + r))
+recordBytes j grocerBlock r = j .grocerOwner r ∷ []
+recordBytes j (tallyBlock b) r = tallyBytes (j .tally (21 * b + r))
+
+-- "A byte of 4–507 outside every field named here is spare and 0": byte 4 + s, past the block's records or past a record's fields.
+unfoldable pub spare : FileJob → BlockKind → ℕ → Bool
+spare j b s = leb (records j b) (s / recordSize b) || leb (fieldSize b) (s % recordSize b)
+
+-- "The first sum is bytes 0–507 added modulo 65,521"
+unfoldable pub firstSum : (ℕ → ℕ) → ℕ
+firstSum g = sum words 508 g % 65521
+
+-- "the second adds (508 − place) × byte, same modulus"
+unfoldable pub secondSum : (ℕ → ℕ) → ℕ
+secondSum g = sum words 508 (λ p. (508 - p) * g p) % 65521

@@ -1,0 +1,9 @@
+-- The job file: codes, jobs, blocks, files, refusals, and the lent tables of reader and writer.
+pub mod First
+pub mod Bytes
+pub mod Codes
+pub mod Job
+pub mod Blocks
+pub mod File
+pub mod Refusals
+pub mod Tables

@@ -1,0 +1,45 @@
+-- Demand 1 holds. Assumes nothing.
+use mathlib.Core.Path.{_≡_, refl}
+use mathlib.Core.List.{List, [], _∷_}
+use mathlib.Core.Logic.{_⊎_, inl, inr}
+use mathlib.Core.Bool.{Bool, true, false}
+use Prim.Native.Nat.{ℕ, zero, suc}
+use lib.Dec.{eqb}
+use borrow.Author.Tests.{ne-eqb}
+use Rattle.laws.specs.Checks.{firstMet}
+use Rattle.laws.proofs.Bools.{split}
+use Rattle.model.specs.Tables.{JobTables, StateTables}
+use Rattle.model.specs.Step.{Asked, outcome, stepped, answer, after, refusals}
+use Rattle.model.specs.Run.{RunAnswer, refused, reported, runRefusals, ran}
+use Rattle.format.proofs.Tables.{read-refused, write-refused}
+use Rattle.guarantees.specs.Demand1.{IsFirst, Demand1}
+
+first-is : (rs : List (Bool × ℕ)) → IsFirst rs (firstMet rs)
+unfolding IsFirst firstMet
+first-is [] = refl
+first-is (r ∷ rs) =
+    split (r .0)
+    (λ e. inl (e, rw e))
+    (λ e. inr (e, rw e (first-is rs)))
+
+step-refused : (f : JobTables) (t : StateTables) (q : Asked) → (firstMet (refusals f t q) ≡ 0 → ⊥) → stepped f t q ≡ outcome (firstMet (refusals f t q)) t
+unfolding stepped after answer
+step-refused f t q n = rw (ne-eqb (firstMet (refusals f t q)) 0 n)
+
+reported-no : (n : ℕ) (r : RunAnswer) → (n ≡ 0 → ⊥) → reported n r ≡ refused n
+unfolding reported
+reported-no zero r h = absurd (h refl)
+reported-no (suc n) r h = refl
+
+run-refused : (f : JobTables) (t : StateTables) (cs : List ℕ) → (firstMet (runRefusals f t) ≡ 0 → ⊥) → ran f t cs ≡ record { answer = refused (firstMet (runRefusals f t)); tables = t }
+unfolding ran
+run-refused f t cs n = rw (ne-eqb (firstMet (runRefusals f t)) 0 n, reported-no (firstMet (runRefusals f t)) _ n)
+
+pub demand1 : Demand1
+demand1 = record {
+  first = first-is;
+  step = step-refused;
+  run = run-refused;
+  reader = read-refused;
+  writer = write-refused;
+}

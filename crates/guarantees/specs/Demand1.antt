@@ -1,0 +1,31 @@
+-- Demand 1: a refusal comes under the first numbered condition that is met, and changes no lent word.
+-- That no call touches memory it was not lent, wraps an amount or loops for ever is part of every function's proof: the public calls ask nothing of their callers.
+use mathlib.Core.Path.{_≡_}
+use mathlib.Core.List.{List, [], _∷_}
+use mathlib.Core.Logic.{_⊎_}
+use mathlib.Core.Bool.{Bool, true, false}
+use Prim.Native.Nat.{ℕ}
+use Rattle.laws.specs.Checks.{firstMet}
+use Rattle.model.specs.Tables.{JobTables, StateTables}
+use Rattle.model.specs.Step.{Asked, outcome, stepped, refusals}
+use Rattle.model.specs.Run.{refused, RunOutcome, runRefusals, ran}
+use Rattle.format.specs.Tables.{ReaderTables, FileTables, refused as notRead, notWritten, readRefusal, readResult, writeRefusal, writeResult}
+
+-- n is the number of the first condition met, or 0 where none is.
+unfoldable pub IsFirst : List (Bool × ℕ) → ℕ → Type 0
+IsFirst [] n = n ≡ 0
+IsFirst (r ∷ rs) n = ((r .0 ≡ true) × (n ≡ r .1)) ⊎ ((r .0 ≡ false) × IsFirst rs n)
+
+pub record Demand1 : Type 0 where
+  -- In every list of refusals the first condition met is the one refused.
+  pub first : (rs : List (Bool × ℕ)) → IsFirst rs (firstMet rs)
+  -- A step answers the first of its conditions; refused, it leaves every word of the seven tables.
+  pub step : (f : JobTables) (t : StateTables) (q : Asked) → (firstMet (refusals f t q) ≡ 0 → ⊥) → stepped f t q ≡ outcome (firstMet (refusals f t q)) t
+  -- So does a run,
+  pub run : (f : JobTables) (t : StateTables) (choices : List ℕ) → (firstMet (runRefusals f t) ≡ 0 → ⊥) →
+      ran f t choices ≡ record { answer = refused (firstMet (runRefusals f t)); tables = t }
+  -- the reader
+  pub reader : (file : List ℕ) (l : ReaderTables) → (readRefusal file l ≡ 0 → ⊥) → readResult file l ≡ record { answer = notRead (readRefusal file l); tables = l }
+  -- and the writer.
+  pub writer : (k m n t : ℕ) (l : FileTables) (out : List ℕ) → (writeRefusal k m n t l out ≡ 0 → ⊥) →
+      writeResult k m n t l out ≡ record { answer = notWritten (writeRefusal k m n t l out); out = out }

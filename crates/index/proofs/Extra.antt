@@ -1,0 +1,66 @@
+-- Laws of counts: one that passes. Assumes nothing.
+use mathlib.Core.Path.{_≡_, refl, sym, _∙_}
+use mathlib.Core.Bool.{Bool, true, false}
+use Prim.Native.Nat.{ℕ, zero, suc, _+_, _<_, _≤_}
+use native.Mathlib.Omega.{arith}
+use lib.Dec.{eqb}
+use borrow.Author.Tests.{eqb-true, eqb-false}
+use Rattle.laws.specs.Below.{words, sum, only, any, count}
+use Rattle.laws.proofs.Bools.{split, clash}
+use Rattle.laws.proofs.Below.{any-find, count-none, count-zero}
+
+-- The count of one test more.
+count-suc : (n : ℕ) (p : ℕ → Bool) → count (suc n) p ≡ count n p + only words (p n) 1
+unfolding count sum words
+count-suc n p = refl
+
+pub only-yes : {t : Bool} → t ≡ true → only words t 1 ≡ 1
+unfolding only words
+only-yes e = rw e
+
+pub only-no : {t : Bool} → t ≡ false → only words t 1 ≡ 0
+unfolding only words
+only-no e = rw e
+
+-- A number that passes is counted.
+pub count-at : (n : ℕ) (p : ℕ → Bool) (i : ℕ) → i < n → p i ≡ true → 0 < count n p
+count-at n p i l h = split (eqb (count n p) 0)
+    (λ e. absurd (clash h (count-zero n p i l (eqb-true (count n p) 0 e))))
+    (λ e. let ne : count n p ≡ 0 → ⊥ = eqb-false (count n p) 0 e in omega arith)
+
+-- Where some are counted, some number passes.
+pub count-some : (n : ℕ) (p : ℕ → Bool) → 0 < count n p → any n p ≡ true
+count-some n p h = split (any n p) (λ e. e) (λ e. absurd (omega (arith, count-none n p e)))
+
+-- Where one is counted, no two numbers pass.
+pub count-two : (n : ℕ) (p : ℕ → Bool) (i k : ℕ) → i < n → k < n → p i ≡ true → p k ≡ true → count n p ≡ 1 → i ≡ k
+count-two zero p i k li lk hi hk e = absurd (omega arith)
+count-two (suc n) p i k li lk hi hk e =
+    split (p n)
+    (λ f. let z : count n p ≡ 0 = omega (arith, count-suc n p, only-yes f) in
+    let li′ : i < n → ⊥ = λ l. clash hi (count-zero n p i l z) in
+    let lk′ : k < n → ⊥ = λ l. clash hk (count-zero n p k l z) in
+    below i n li li′ ∙ sym (below k n lk lk′))
+    (λ f. let z : count n p ≡ 1 = omega (arith, count-suc n p, only-no f) in
+    let ni : i ≡ n → ⊥ = λ q. clash hi (rw q f) in
+    let nk : k ≡ n → ⊥ = λ q. clash hk (rw q f) in
+    count-two n p i k (omega arith) (omega arith) hi hk z)
+  where
+    below : (i n : ℕ) → i < suc n → (i < n → ⊥) → i ≡ n
+    below i n l ne = split (eqb i n) (λ q. eqb-true i n q) (λ q. let d : i ≡ n → ⊥ = eqb-false i n q in absurd (ne (omega arith)))
+
+-- Of the numbers below n, one is v.
+pub count-is : (n v : ℕ) → v < n → count n (λ i. eqb i v) ≡ 1
+count-is zero v l = absurd (omega arith)
+count-is (suc n) v l =
+    split (eqb n v)
+    (λ q. let e : n ≡ v = eqb-true n v q in
+    let z : count n (λ i. eqb i v) ≡ 0 = count-none n (λ i. eqb i v) (none n v (omega arith)) in
+    omega (arith, count-suc n (λ i. eqb i v), only-yes q))
+    (λ q. let d : n ≡ v → ⊥ = eqb-false n v q in
+    omega (arith, count-suc n (λ i. eqb i v), only-no q, count-is n v (omega arith)))
+  where
+    none : (n v : ℕ) → n ≤ v → any n (λ i. eqb i v) ≡ false
+    none n v l = split (any n (λ i. eqb i v))
+        (λ e. let (i, il, f) = any-find n (λ i. eqb i v) e in let q : i ≡ v = eqb-true i v f in absurd (omega arith))
+        (λ e. e)

@@ -1,0 +1,61 @@
+-- `index::look::place` meets its contract. Assumes nothing.
+use mathlib.Core.Path.{_≡_, sym, _∙_}
+use native.Mathlib.Omega.{arith}
+use denote.Ref.{now}
+use Rattle.index.proofs.Looking.{found, missing, bracket-miss}
+use borrow.Author.Needs.{needs}
+use Rattle.index.proofs.look.place.Statement.{statement}
+use Rattle.index.proofs.look.place.Tie as tie
+
+returns : tie.Need-returns
+returns c =
+    λ numbers x d.
+    let s = c .before .before .before in
+    let z : s .args .n ≡ 0 = c .if1 .taken in
+    sym z ∙ missing x (s .args .number) d (λ i l e. omega arith)
+
+halve-requires : tie.Need-halve-requires
+halve-requires c κs = search needs
+
+mul-if2 : tie.Need-mul-if2
+mul-if2 c = search needs
+
+shared-slice-read-if2 : tie.Need-shared-slice-read-if2
+shared-slice-read-if2 c = search needs
+
+mul-index-of : tie.Need-mul-index-of
+mul-index-of c = search needs
+
+shared-slice-read-index-of : tie.Need-shared-slice-read-index-of
+shared-slice-read-index-of c = search needs
+
+index-of-requires : tie.Need-index-of-requires
+index-of-requires c κs = search needs
+
+returns-2 : tie.Need-returns-2
+returns-2 c =
+    λ numbers x d.
+    let e = c .before .before .before .before in
+    let s = e .before .before .before .before in
+    c .index-of .ensures ∙ found x (s .args .number) d (e .halve .result) (omega (arith, e .halve .ensures .inside)) (c .before .before .if2 .taken)
+
+returns-3 : tie.Need-returns-3
+returns-3 c =
+    λ numbers x d.
+    let e = c .before .before in
+    let s = e .before .before .before .before in
+    missing x (s .args .number) d (bracket-miss (now (s .args .keys)) (s .args .n) (s .args .number) (e .halve .result) (e .halve .ensures) (x .ascending) (c .if2 .left))
+
+pub place-spec : {M : Type 1} → statement M
+place-spec =
+    tie.close
+    (tie.spec
+    returns
+    halve-requires
+    mul-if2
+    shared-slice-read-if2
+    mul-index-of
+    shared-slice-read-index-of
+    index-of-requires
+    returns-2
+    returns-3)

@@ -1,0 +1,2 @@
+-- Definitions of the index of offers.
+pub mod Index

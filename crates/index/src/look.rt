@@ -1,0 +1,73 @@
+// Questions to the index.
+ghost use mathlib.Core.Path.{_≡_};
+ghost use mathlib.Core.List.{List};
+ghost use mathlib.Core.Bool.{false, cond};
+ghost use Prim.Native.Nat.{ℕ, _+_, _≤_, _<_};
+ghost use lib.Dec.{leb};
+ghost use lib.ListN.{length, getD};
+ghost use Rattle.index.specs.Index.{IsIndex, sharesNumber, placeOf, Bracket};
+use crate::sort::index_of;
+
+// Whether two offers share a number.
+pub fn shared(keys: &[u64], n: usize) -> bool
+    requires { ⌜ n ≤ length (now keys) ⌝ }
+    ensures { λ r. ⌜ ((places numbers : List ℕ) → IsIndex (now (keys .entry)) places numbers n → r ≡ sharesNumber numbers n) ⌝ }
+{
+    let mut i: usize = 1;
+    while i < n {
+        let last = i - 1;
+        if keys[last] == keys[i] {
+            return true;
+        }
+        i += 1;
+    }
+    false
+}
+
+// 1 where the key is larger than the number, else 0.
+fn over(key: u64, number: u64) -> usize
+    ensures { λ r. ⌜ r ≡ cond (leb key number) 0 1 ⌝ }
+{
+    (key > number) as usize
+}
+
+// Of the places at and at + half, the farther one where its key is not larger than the number. There is no branch, since none could be
+// foreseen: where the key is larger, half is shifted out.
+fn nearer(keys: &[u64], at: usize, half: usize, number: u64) -> usize
+    requires { ⌜ (half < 65536) × (at + half < length (now keys)) ⌝ }
+    ensures { λ r. ⌜ r ≡ cond (leb (getD (now (keys .entry)) (at + half) 0) number) (at + half) at ⌝ }
+{
+    let far = at + half;
+    let shift = over(keys[far], number) * 16;
+    at + (half >> shift)
+}
+
+// Where a number stands in the index if it does: every number behind is larger, and the numbers before are not.
+fn halve(keys: &[u64], n: usize, number: u64) -> usize
+    requires { ⌜ (0 < n) × ((n ≤ 500) × (n ≤ length (now keys))) ⌝ }
+    ensures { λ r. ⌜ Bracket (now (keys .entry)) n number r 1 ⌝ }
+{
+    let mut at: usize = 0;
+    let mut len = n;
+    while len > 1 {
+        let half = len / 2;
+        at = nearer(keys, at, half, number);
+        len -= half;
+    }
+    at
+}
+
+// The place of the offer with this number, or n where no offer has it.
+pub fn place(keys: &[u64], places: &[u16], n: usize, number: u64) -> usize
+    requires { ⌜ (n ≤ 500) × ((n ≤ length (now keys)) × (n ≤ length (now places))) ⌝ }
+    ensures { λ r. ⌜ ((numbers : List ℕ) → IsIndex (now (keys .entry)) (now (places .entry)) numbers n → sharesNumber numbers n ≡ false → r ≡ placeOf numbers n number) ⌝ }
+{
+    if n == 0 {
+        return 0;
+    }
+    let at = halve(keys, n, number);
+    if keys[at] == number {
+        return index_of(places[at]);
+    }
+    n
+}

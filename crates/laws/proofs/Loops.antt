@@ -1,0 +1,168 @@
+-- Laws for loops over tables: words that are stored or added to, one a turn. Assumes nothing.
+use mathlib.Core.Path.{_≡_, refl, sym, ap, ap₂, _∙_, subst}
+use mathlib.Core.List.{List, [], _∷_}
+use mathlib.Core.Bool.{Bool, true, false, cond, _&&_, _||_}
+use Prim.Native.Nat.{ℕ, zero, suc, _+_, _-_, _*_, _≤_, _<_}
+use native.Mathlib.Nat.{le-refl, le-trans}
+use native.Mathlib.Decide.{ℕ-discrete, decLt}
+use native.Mathlib.Omega.{arith}
+use borrow.Author.Tests.{eq-eqb, ne-eqb, lt-ltb, le-ltb, le-leb, lt-leb}
+use lib.Dec.{eqb, ltb, leb}
+use lib.IntN.{ℤ, pos, natAbs, _+ℤ_, +ℤ-idr, +ℤ-assoc}
+use lib.ListN.{length, getD, set, replicate}
+use lib.Seq.{getD-set-same, getD-set-other}
+use Rattle.laws.specs.Below.{amounts, sum, only}
+use Rattle.laws.proofs.Bools.{and-false}
+use Rattle.laws.proofs.Sums.{sum-next}
+use Rattle.laws.proofs.Signed.{abs-plus, sum-abs}
+
+only-yes : (b : Bool) (z : ℤ) → b ≡ true → only amounts b z ≡ z
+unfolding only amounts
+only-yes b z e = rw e
+
+only-no : (b : Bool) (z : ℤ) → b ≡ false → only amounts b z ≡ pos 0
+unfolding only amounts
+only-no b z e = rw e
+
+only-small : (b : Bool) (z : ℤ) → natAbs (only amounts b z) ≤ natAbs z
+unfolding only amounts
+only-small true z = le-refl (natAbs z)
+only-small false z = omega arith
+
+-- Z is added to the word at j: what the word at i is then.
+pub add-at : (w : List ℤ) (j i : ℕ) (z : ℤ) → j < length w → getD (set w j (getD w j (pos 0) +ℤ z)) i (pos 0) ≡ getD w i (pos 0) +ℤ only amounts (eqb j i) z
+add-at w j i z l = go (ℕ-discrete j i)
+  where
+    go : Dec (j ≡ i) → getD (set w j (getD w j (pos 0) +ℤ z)) i (pos 0) ≡ getD w i (pos 0) +ℤ only amounts (eqb j i) z
+    go (yes e) =
+        subst (λ (k : ℕ). getD (set w j (getD w j (pos 0) +ℤ z)) k (pos 0) ≡ getD w k (pos 0) +ℤ only amounts (eqb j k) z) e
+        (getD-set-same w j (getD w j (pos 0) +ℤ z) (pos 0) l ∙ ap (λ (x : ℤ). getD w j (pos 0) +ℤ x) (sym (only-yes (eqb j j) z (eq-eqb j j refl))))
+    go (no n) =
+        getD-set-other w j i (getD w j (pos 0) +ℤ z) (pos 0) (λ e. n (sym e))
+        ∙ sym (+ℤ-idr (getD w i (pos 0)))
+        ∙ ap (λ (x : ℤ). getD w i (pos 0) +ℤ x) (sym (only-no (eqb j i) z (ne-eqb j i n)))
+
+-- A list of zeros has zero everywhere, past its end too.
+pub getD-zeros : {A : Type 0} (n k : ℕ) (d : A) → getD (replicate n d) k d ≡ d
+getD-zeros zero k d = refl
+getD-zeros (suc n) zero d = refl
+getD-zeros (suc n) (suc k) d = getD-zeros n k d
+
+-- A loop that stores new words, one a turn: `before` says which words are stored already, and `after` which with the one at j.
+module _ {A : Type 0} (w : List A) (d : A) (new old : ℕ → A) (before after : ℕ → Bool) (j : ℕ) (inside : j < length w) (h : (k : ℕ) → getD w k d ≡ cond (before k) (new k) (old k)) where
+  pub stored-more : after j ≡ true → ((k : ℕ) → (j ≡ k → ⊥) → after k ≡ before k) → (v : A) → v ≡ new j → (k : ℕ) → getD (set w j v) k d ≡ cond (after k) (new k) (old k)
+  stored-more here else v e k = go (ℕ-discrete j k)
+    where
+      go : Dec (j ≡ k) → getD (set w j v) k d ≡ cond (after k) (new k) (old k)
+      go (yes p) =
+          subst (λ (i : ℕ). getD (set w j v) i d ≡ cond (after i) (new i) (old i)) p
+          (getD-set-same w j v d inside ∙ e ∙ sym (ap (λ (b : Bool). cond b (new j) (old j)) here))
+      go (no n) = getD-set-other w j k v d (λ p. n (sym p)) ∙ h k ∙ sym (ap (λ (b : Bool). cond b (new k) (old k)) (else k n))
+
+-- The first g words.
+pub front-here : (g : ℕ) → ltb g (g + 1) ≡ true
+front-here g = lt-ltb g (g + 1) (omega arith)
+
+pub front-else : (g k : ℕ) → (g ≡ k → ⊥) → ltb k (g + 1) ≡ ltb k g
+front-else g k n = go (decLt k g)
+  where
+    go : Dec (k < g) → ltb k (g + 1) ≡ ltb k g
+    go (yes l) = lt-ltb k (g + 1) (omega arith) ∙ sym (lt-ltb k g l)
+    go (no m) = le-ltb k (g + 1) (omega arith) ∙ sym (le-ltb k g (omega arith))
+
+-- The g words from a place on.
+abbrev pub window : ℕ → ℕ → ℕ → Bool
+window at g k = leb at k && ltb k (at + g)
+
+pub window-in : (at g k : ℕ) → at ≤ k → k < at + g → window at g k ≡ true
+window-in at g k l m = ap (λ (x : Bool). x && ltb k (at + g)) (le-leb at k l) ∙ lt-ltb k (at + g) m
+
+pub window-below : (at g k : ℕ) → k < at → window at g k ≡ false
+window-below at g k l = ap (λ (x : Bool). x && ltb k (at + g)) (lt-leb at k l)
+
+pub window-above : (at g k : ℕ) → at + g ≤ k → window at g k ≡ false
+window-above at g k l = ap (λ (x : Bool). leb at k && x) (le-ltb k (at + g) l) ∙ and-false (leb at k)
+
+pub window-none : (at k : ℕ) → window at 0 k ≡ false
+window-none at k = go (decLt k at)
+  where
+    go : Dec (k < at) → window at 0 k ≡ false
+    go (yes l) = window-below at 0 k l
+    go (no n) = window-above at 0 k (omega arith)
+
+pub window-here : (at g : ℕ) → window at (g + 1) (at + g) ≡ true
+window-here at g = window-in at (g + 1) (at + g) (omega arith) (omega arith)
+
+pub window-else : (at g k : ℕ) → (at + g ≡ k → ⊥) → window at (g + 1) k ≡ window at g k
+window-else at g k n = ap (λ (x : Bool). leb at k && x) (sym (ap (λ (m : ℕ). ltb k m) (regroup at g)) ∙ front-else (at + g) k n)
+  where
+    regroup : (at g : ℕ) → (at + g) + 1 ≡ at + (g + 1)
+    regroup at g = omega arith
+
+-- A loop that adds z t to the word at `place t` in turn t. w₀ is the table where the loop begins, and w after t turns.
+abbrev pub share : (ℕ → ℕ) → (ℕ → ℤ) → ℕ → ℕ → ℤ
+share place z i t = only amounts (eqb (place t) i) (z t)
+
+module _ (w₀ w : List ℤ) (place : ℕ → ℕ) (z : ℕ → ℤ) (t : ℕ) where
+  pub pile-more : ((i : ℕ) → getD w i (pos 0) ≡ getD w₀ i (pos 0) +ℤ sum amounts t (share place z i)) → place t < length w
+      → (i : ℕ) → getD (set w (place t) (getD w (place t) (pos 0) +ℤ z t)) i (pos 0) ≡ getD w₀ i (pos 0) +ℤ sum amounts (t + 1) (share place z i)
+  unfolding amounts
+  pile-more h l i =
+      add-at w (place t) i (z t) l
+      ∙ ap (λ (y : ℤ). y +ℤ share place z i t) (h i)
+      ∙ +ℤ-assoc (getD w₀ i (pos 0)) (sum amounts t (share place z i)) (share place z i t)
+      ∙ ap (λ (y : ℤ). getD w₀ i (pos 0) +ℤ y) (sym (sum-next amounts t (share place z i)))
+
+  -- What turn t writes is of size at most b + t × m + m, for words of size b at the start and amounts of size m.
+  pub pile-abs : (i b m : ℕ) → getD w i (pos 0) ≡ getD w₀ i (pos 0) +ℤ sum amounts t (share place z i) → natAbs (getD w₀ i (pos 0)) ≤ b → ((s : ℕ) → s < t + 1 → natAbs (z s) ≤ m)
+      → natAbs (getD w i (pos 0) +ℤ z t) ≤ b + t * m + m
+  pile-abs i b m e hb hm =
+      omega (
+        arith,
+        abs-plus (getD w i (pos 0)) (z t),
+        ap natAbs e,
+        abs-plus (getD w₀ i (pos 0)) (sum amounts t (share place z i)),
+        hb,
+        hm t (omega arith),
+        sum-abs t m (share place z i) (λ s l. le-trans (only-small (eqb (place s) i) (z s)) (hm s (omega arith))),
+      )
+
+-- The same number added on both sides of a test.
+pub eqb-shift : (x m n : ℕ) → eqb (x + m) (x + n) ≡ eqb m n
+eqb-shift x m n = go (ℕ-discrete m n)
+  where
+    go : Dec (m ≡ n) → eqb (x + m) (x + n) ≡ eqb m n
+    go (yes e) = eq-eqb (x + m) (x + n) (omega arith) ∙ sym (eq-eqb m n e)
+    go (no ne) = ne-eqb (x + m) (x + n) (λ p. ne (omega arith)) ∙ sym (ne-eqb m n ne)
+
+-- A loop that goes through a row, and stores the new word where a test of the column holds.
+abbrev pub guarded : ℕ → ℕ → (ℕ → Bool) → ℕ → Bool
+guarded at o test k = window at o k && test (k - at)
+
+module _ {A : Type 0} (w : List A) (d : A) (new old : ℕ → A) (at o : ℕ) (test : ℕ → Bool) (inside : at + o < length w) (h : (k : ℕ) → getD w k d ≡ cond (guarded at o test k) (new k) (old k)) where
+  same-column : test (at + o - at) ≡ test o
+  same-column = ap test (omega arith)
+
+  away : (k : ℕ) → (at + o ≡ k → ⊥) → guarded at (o + 1) test k ≡ guarded at o test k
+  away k n = ap (λ (b : Bool). b && test (k - at)) (window-else at o k n)
+
+  pub guarded-more : (v : A) → v ≡ new (at + o) → (k : ℕ) → getD (cond (test o) (set w (at + o) v) w) k d ≡ cond (guarded at (o + 1) test k) (new k) (old k)
+  guarded-more v e k = go (test o) refl
+    where
+      go : (b : Bool) → test o ≡ b → getD (cond b (set w (at + o) v) w) k d ≡ cond (guarded at (o + 1) test k) (new k) (old k)
+      go true t = stored-more w d new old (guarded at o test) (guarded at (o + 1) test) (at + o) inside h (ap₂ _&&_ (window-here at o) (same-column ∙ t)) away v e k
+      go false t = h k ∙ ap (λ (b : Bool). cond b (new k) (old k)) (which (ℕ-discrete (at + o) k))
+        where
+          which : Dec (at + o ≡ k) → guarded at o test k ≡ guarded at (o + 1) test k
+          which (yes p) =
+              subst (λ (i : ℕ). guarded at o test i ≡ guarded at (o + 1) test i) p
+              (ap (λ (b : Bool). b && test (at + o - at)) (window-above at o (at + o) (omega arith)) ∙ sym (ap₂ _&&_ (window-here at o) (same-column ∙ t)))
+          which (no n) = sym (away k n)
+
+-- The word of the column that is next is not stored yet.
+pub guarded-next : (at o : ℕ) (test : ℕ → Bool) → guarded at o test (at + o) ≡ false
+guarded-next at o test = ap (λ (b : Bool). b && test (at + o - at)) (window-above at o (at + o) (omega arith))
+
+-- Nor is any word before the first column.
+pub guarded-none : (at : ℕ) (test : ℕ → Bool) (k : ℕ) → guarded at 0 test k ≡ false
+guarded-none at test k = ap (λ (b : Bool). b && test (k - at)) (window-none at k)

@@ -1,0 +1,104 @@
+-- The ◆ cases of 01 that concern the settlement, in 01's order, and other small examples that say what the definitions mean.
+use mathlib.Core.Path.{_≡_}
+use mathlib.Core.List.{List, [], _∷_}
+use Prim.Native.Nat.{ℕ, _*_}
+use lib.IntN.{ℤ, pos, negsuc}
+use lib.ListN.{getD}
+use Rattle.model.specs.Job.{Job, needWord, plainSum}
+use Rattle.model.specs.Words.{ownerWords, messages, stepCount}
+use Rattle.model.specs.Tables.{JobTables, StateTables, jobTables, stateTables, jobOf}
+use Rattle.model.specs.Step.{asked, answer, after, freshTables}
+use Rattle.model.specs.Run.{runState, finished, ran}
+use Rattle.model.specs.Local.{localOffers, localGrocers, starts, priceTable, totalTable}
+use Rattle.model.specs.Reconcile.{TallyRecord, owed, refused, reconciled}
+
+-- E, "Settling one small evening".
+abbrev pub jobE : JobTables
+jobE = jobTables 2 2 2 4 (500 ∷ 1250 ∷ []) (0 ∷ 1 ∷ []) (1 ∷ 0 ∷ []) (0 ∷ 1 ∷ 0 ∷ 0 ∷ []) (0 ∷ 0 ∷ 1 ∷ 1 ∷ []) (0 ∷ 1 ∷ 1 ∷ 0 ∷ []) (pos 3 ∷ pos 2 ∷ negsuc 0 ∷ pos 4 ∷ [])
+
+-- Buffers without a word, and a fresh state of E.
+abbrev pub empty : StateTables
+empty = stateTables [] [] [] [] [] [] []
+
+abbrev pub freshE : StateTables
+freshE = freshTables jobE empty
+
+-- K 2, an offer of box 0, its tallies in box 1, a grocer of box 1.
+abbrev pub away : ℕ → List ℕ → List ℕ → List ℕ → List ℤ → JobTables
+away t grocers boxes offers counts = jobTables 2 1 1 t (9_999_999 ∷ []) (0 ∷ []) (1 ∷ []) grocers boxes offers counts
+
+-- The table of ◆ cases.
+pub record Cases : Type 0 where
+  -- E's amounts, as plain sums and as a run leaves them.
+  pub e-amount-0 : plainSum (jobOf jobE) 0 ≡ pos 2250
+  pub e-amount-1 : plainSum (jobOf jobE) 1 ≡ pos 2500
+  pub e-statement-0 : runState (jobOf jobE) [] .statement 0 ≡ pos 2250
+  pub e-statement-1 : runState (jobOf jobE) [] .statement 1 ≡ pos 2500
+  -- Its words and steps, and what a run reports: words 3, messages 3, steps 10.
+  pub e-words : ownerWords (jobOf jobE) ≡ 3
+  pub e-messages : messages (jobOf jobE) ≡ 3
+  pub e-steps : stepCount (jobOf jobE) ≡ 10
+  pub e-report : ran jobE freshE [] .answer ≡ finished 3 3 10
+  -- T = 0: 2 × K steps, no words. Here K 2; proofs/Quiet.antt has it for every K.
+  pub quiet-steps : stepCount (jobOf (away 0 [] [] [] [])) ≡ 4
+  pub quiet-words : ownerWords (jobOf (away 0 [] [] [] [])) ≡ 0
+  -- K 2, offer of box 0, its one tally in box 1, grocer of box 1: 1 word, 6 steps.
+  pub away-words : ownerWords (jobOf (away 1 (0 ∷ []) (1 ∷ []) (0 ∷ []) (pos 3 ∷ []))) ≡ 1
+  pub away-steps : stepCount (jobOf (away 1 (0 ∷ []) (1 ∷ []) (0 ∷ []) (pos 3 ∷ []))) ≡ 6
+  -- The same tally twice: still one word.
+  pub twice-words : ownerWords (jobOf (away 2 (0 ∷ 0 ∷ []) (1 ∷ 1 ∷ []) (0 ∷ 0 ∷ []) (pos 3 ∷ pos 3 ∷ []))) ≡ 1
+  -- Count 99,999, price 9,999,999: 999,989,900,001; with −99,999 the negative.
+  pub largest : plainSum (jobOf (away 1 (0 ∷ []) (1 ∷ []) (0 ∷ []) (pos 99_999 ∷ []))) 0 ≡ pos 999_989_900_001
+  pub smallest : plainSum (jobOf (away 1 (0 ∷ []) (1 ∷ []) (0 ∷ []) (negsuc 99_998 ∷ []))) 0 ≡ negsuc 999_989_900_000
+
+-- An offer of box 0, which holds no tally of it; boxes 1 and 2 do. The grocer is box 0's. Box 3 has nothing.
+abbrev pub ownerWithout : JobTables
+ownerWithout = jobTables 4 1 1 2 (10 ∷ []) (0 ∷ []) (0 ∷ []) (0 ∷ 0 ∷ []) (1 ∷ 2 ∷ []) (0 ∷ 0 ∷ []) (pos 5 ∷ pos 0 ∷ [])
+
+-- One box.
+abbrev pub oneBoxJob : JobTables
+oneBoxJob = jobTables 1 1 1 2 (10 ∷ []) (0 ∷ []) (0 ∷ []) (0 ∷ 0 ∷ []) (0 ∷ 0 ∷ []) (0 ∷ 0 ∷ []) (pos 5 ∷ negsuc 1 ∷ [])
+
+-- E with working totals at their limit.
+abbrev pub fullE : StateTables
+fullE = stateTables (500 ∷ 0 ∷ 0 ∷ 1250 ∷ []) (0 ∷ 0 ∷ 0 ∷ 0 ∷ []) (pos 1_000_000_000_000_000 ∷ pos 0 ∷ pos 0 ∷ pos 0 ∷ []) (pos 0 ∷ pos 0 ∷ pos 0 ∷ pos 0 ∷ [])
+    (pos 0 ∷ pos 0 ∷ []) (0 ∷ 0 ∷ 0 ∷ 0 ∷ 0 ∷ 0 ∷ 0 ∷ 0 ∷ 0 ∷ 0 ∷ 0 ∷ 0 ∷ 0 ∷ 0 ∷ 0 ∷ 0 ∷ 0 ∷ 0 ∷ 0 ∷ 0 ∷ 0 ∷ 0 ∷ 0 ∷ 0 ∷ []) (0 ∷ [])
+
+pub record Examples : Type 0 where
+  -- The owner is not among the needs: bits 1 and 2, two price words; two totals; a tally of count 0 is one like any other.
+  pub needs-away : needWord (jobOf ownerWithout) 0 ≡ 6
+  pub words-away : ownerWords (jobOf ownerWithout) ≡ 4
+  -- Two messages of prices, two of totals; steps 2 and 5 of four boxes, the one with nothing among them.
+  pub steps-away : stepCount (jobOf ownerWithout) ≡ 16
+  pub sum-away : runState (jobOf ownerWithout) [] .statement 0 ≡ pos 50
+  -- One box: no message, two steps; tallies of the same grocer, offer and box add up.
+  pub one-words : ownerWords (jobOf oneBoxJob) ≡ 0
+  pub one-steps : stepCount (jobOf oneBoxJob) ≡ 2
+  pub one-sum : runState (jobOf oneBoxJob) [] .statement 0 ≡ pos 30
+  -- A tally of a box not below K is held by nobody.
+  pub nobody : plainSum (jobOf (away 2 (0 ∷ 0 ∷ []) (1 ∷ 2 ∷ []) (0 ∷ 0 ∷ []) (pos 1 ∷ pos 1 ∷ []))) 0 ≡ pos 9_999_999
+  -- E's local books, and the words between its boxes.
+  pub offers-0 : localOffers (jobOf jobE) 0 ≡ 0 ∷ 1 ∷ []
+  pub offers-1 : localOffers (jobOf jobE) 1 ≡ 1 ∷ 0 ∷ []
+  pub grocers-0 : localGrocers (jobOf jobE) 0 ≡ 1 ∷ 0 ∷ []
+  pub grocers-1 : localGrocers (jobOf jobE) 1 ≡ 0 ∷ []
+  pub starts-0 : starts (jobOf jobE) 0 ≡ 0 ∷ 1 ∷ 2 ∷ []
+  pub starts-1 : starts (jobOf jobE) 1 ≡ 0 ∷ 1 ∷ 2 ∷ []
+  pub prices-0-1 : getD (getD (priceTable (jobOf jobE)) 0 []) 1 0 ≡ 1
+  pub prices-1-0 : getD (getD (priceTable (jobOf jobE)) 1 []) 0 0 ≡ 1
+  pub totals-0-1 : getD (getD (totalTable (jobOf jobE)) 0 []) 1 0 ≡ 1
+  pub totals-1-0 : getD (getD (totalTable (jobOf jobE)) 1 []) 0 0 ≡ 0
+  -- Refusals of a step on a fresh state of E: kind 9 with box 99; message 0 to 0; receipt before sending; no such message; a step repeated.
+  pub no-kind : answer jobE freshE (asked 9 99 0) ≡ 22
+  pub to-itself : answer jobE freshE (asked 1 0 0) ≡ 23
+  pub not-sent : answer jobE freshE (asked 3 1 0) ≡ 26
+  pub no-message : answer jobE freshE (asked 4 1 0) ≡ 24
+  pub repeated : answer jobE (after jobE freshE (asked 2 0 0)) (asked 2 0 0) ≡ 25
+  -- A state without a word; a result beyond ±10^15.
+  pub short : answer jobE empty (asked 9 99 0) ≡ 20
+  pub too-much : answer jobE fullE (asked 2 0 0) ≡ 21
+  pub still-fits : answer jobE fullE (asked 2 1 1) ≡ 0
+  -- The desk: tallies of other grocers are passed over; a wanted grocer not below M; prices lent short.
+  pub desk : reconciled 2 2 0 (500 ∷ 1250 ∷ []) (record { grocer = 0; tallyBox = 0; place = 0; count = pos 3 } ∷ record { grocer = 1; tallyBox = 0; place = 1; count = pos 2 } ∷ record { grocer = 0; tallyBox = 15; place = 1; count = negsuc 0 } ∷ []) ≡ owed (pos 250)
+  pub desk-21 : reconciled 2 2 2 (500 ∷ 1250 ∷ []) [] ≡ refused 21
+  pub desk-20 : reconciled 2 2 2 (500 ∷ []) [] ≡ refused 20

@@ -1,0 +1,41 @@
+-- `prices::marks::place` meets its contract. Assumes nothing.
+use Prim.Native.Nat.{_+_, _-_, _*_, _<_}
+use native.Mathlib.Omega.{arith}
+use Rattle.prices.proofs.Marked.{row-in, place-in, marks-few}
+use borrow.Author.Needs.{needs}
+use Rattle.prices.proofs.marks.place.Statement.{statement}
+use Rattle.prices.proofs.marks.place.Tie as tie
+
+-- The place is small.
+small : (c : tie.Start) → ((c .args .kind - 1) * c .args .k + c .args .a) * c .args .k + c .args .b < 1536
+small c =
+    omega (
+      arith,
+      place-in (c .args .k) (c .args .kind) (c .args .a) (c .args .b) (omega arith) (c .pre .1 .1 .1 .0) (c .pre .1 .1 .1 .1),
+      marks-few (c .args .k) (c .pre .1 .1 .0),
+    )
+
+row-small : (c : tie.Start) → (c .args .kind - 1) * c .args .k + c .args .a < 96
+row-small c = omega (arith, row-in (c .args .k) (c .args .kind) (c .args .a) (omega arith) (c .pre .1 .1 .1 .0), c .pre .1 .1 .0)
+
+sub-result : tie.Need-sub-result
+sub-result c = search needs
+
+mul-result : tie.Need-mul-result
+mul-result c = omega (arith, row-small c)
+
+add-result : tie.Need-add-result
+add-result c = omega (arith, row-small c)
+
+mul-result-2 : tie.Need-mul-result-2
+mul-result-2 c = omega (arith, small c)
+
+add-result-2 : tie.Need-add-result-2
+add-result-2 c = omega (arith, small c)
+
+returns : tie.Need-returns
+returns c = search needs
+
+pub place-spec : {M : Type 1} → statement M
+place-spec =
+    tie.close (tie.spec sub-result mul-result add-result mul-result-2 add-result-2 returns)

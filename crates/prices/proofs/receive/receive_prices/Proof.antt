@@ -1,0 +1,148 @@
+-- `prices::receive::receive_prices` meets its contract. The invariant: of the offers passed, the prices that are due are known, and no longer in transit. Assumes nothing.
+use mathlib.Core.Path.{_≡_, refl, sym, ap, _∙_}
+use mathlib.Core.Bool.{Bool, cond}
+use mathlib.Core.List.{List}
+use Prim.Native.Nat.{ℕ, _<_, _≤_, _+_, _-_, _*_}
+use native.Mathlib.Omega.{arith}
+use native.Mathlib.Nat.{le-antisymm, mul-le-mul, mul-le-mul-right}
+use borrow.Author.Needs.{needs}
+use lib.ListN.{length, getD}
+use denote.Ref.{now}
+use Rattle.laws.specs.Tables.{cell}
+use Rattle.laws.proofs.Tables.{cell-in}
+use Rattle.laws.proofs.Loops.{guarded, guarded-more, guarded-next, guarded-none}
+use Rattle.words.specs.Message.{wordIn}
+use Rattle.prices.specs.Prices.{receivedKnown, receivedTransit}
+use Rattle.prices.proofs.Extra.{cond-no, cell-at, row-recell}
+use Rattle.prices.proofs.receive.receive_prices.Statement.{statement}
+use Rattle.prices.proofs.receive.receive_prices.Tie as tie
+
+abbrev Inv-loop : tie.InvT-loop
+Inv-loop k n a b owner needs known₀ transit₀ row o₀ known transit o =
+    (o ≤ n)
+    × (length known ≡ length known₀)
+    × (length transit ≡ length transit₀)
+    × ((i : ℕ) → getD known i 0 ≡ cond (guarded row o (wordIn owner needs b a) i) (getD transit₀ i 0) (getD known₀ i 0))
+    × ((i : ℕ) → getD transit i 0 ≡ cond (guarded row o (wordIn owner needs b a) i) 0 (getD transit₀ i 0))
+
+abbrev μ-loop : tie.MeasureT-loop
+μ-loop k n a b owner needs known₀ transit₀ row o₀ known transit o = n - o
+
+abbrev Start : Type 0
+Start = tie.Start Inv-loop μ-loop
+
+-- Offer o stands in the message.
+abbrev due : Start → ℕ → Bool
+due s = wordIn (now (s .args .owner)) (now (s .args .needs)) (s .args .b) (s .args .a)
+
+-- Where the row of box a begins.
+abbrev row : Start → ℕ
+row s = s .args .a * s .args .n
+
+-- The words at place i when the call begins.
+abbrev knew : Start → ℕ → ℕ
+knew s i = getD (now (s .args .known)) i 0
+
+abbrev came : Start → ℕ → ℕ
+came s i = getD (now (s .args .transit)) i 0
+
+abbrev entry : tie.In-loop Inv-loop μ-loop → Start
+entry c = c .before .before .before .before .before
+
+-- The tables are small, and the row is inside them.
+cells : (s : Start) → s .args .k * s .args .n ≤ 8000
+cells s = mul-le-mul (s .pre .boxes-in) (s .pre .offers-in)
+
+row-in : (s : Start) (o : ℕ) → o < s .args .n → row s + o < s .args .k * s .args .n
+row-in s o l = cell-in (s .args .a) (s .args .k) (s .args .n) o (s .pre .a-in) l
+
+mul-row : tie.Need-mul-row Inv-loop μ-loop
+mul-row c = let s = c .before .before .before in omega (arith, mul-le-mul-right (s .args .n) (s .pre .a-in), cells s)
+
+loop-holds : tie.Need-loop-holds Inv-loop μ-loop
+loop-holds c =
+    let s = c .before .before .before in (
+      search needs,
+      refl,
+      refl,
+      λ i. sym (cond-no _ (came s i) (knew s i) (guarded-none (row s) (due s) i)),
+      λ i. sym (cond-no _ 0 (came s i) (guarded-none (row s) (due s) i)),
+    )
+
+receive-one-requires : tie.Need-receive-one-requires Inv-loop μ-loop
+receive-one-requires c κs =
+    let e = c .before .before in
+    let s = entry e in
+    let o = e .before .loop .o in
+    let l = e .loop-test .taken in (
+      omega (arith, s .pre .a-in, s .pre .boxes-in),
+      (
+        omega (arith, l, s .pre .offers-in),
+        (
+          omega (arith, l, s .pre .owner-long),
+          (omega (arith, row-in s o l, s .pre .known-long, e .before .loop .inv .1), omega (arith, row-in s o l, s .pre .transit-long, e .before .loop .inv .2)),
+        ),
+      ),
+    )
+
+add-o : tie.Need-add-o Inv-loop μ-loop
+add-o c = search needs
+
+loop-less : tie.Need-loop-less Inv-loop μ-loop
+loop-less c = search needs
+
+loop-again : tie.Need-loop-again Inv-loop μ-loop
+loop-again c =
+    let e = c .before .before .before .before .before .before .before in
+    let s = entry e in
+    let o = e .before .loop .o in
+    let l = e .loop-test .taken in
+    let inv = e .before .loop .inv in
+    let call = c .before .before .before .before .receive-one in (
+      omega (arith, l),
+      call .kept .0 ∙ inv .1,
+      call .kept .1 .0 ∙ inv .2,
+      λ i. ap (λ (t : List ℕ). getD t i 0) (call .ensures .0)
+          ∙ guarded-more (e .before .loop .known) 0 (came s) (knew s) (row s) o (due s) (omega (arith, row-in s o l, s .pre .known-long, inv .1)) (inv .3) _
+          (inv .4 (row s + o) ∙ cond-no _ 0 (came s (row s + o)) (guarded-next (row s) o (due s))) i,
+      λ i. ap (λ (t : List ℕ). getD t i 0) (call .ensures .1)
+          ∙ guarded-more (e .before .loop .transit) 0 (λ x. 0) (came s) (row s) o (due s) (omega (arith, row-in s o l, s .pre .transit-long, inv .2)) (inv .4) 0 refl i,
+    )
+
+same-length : tie.Need-same-length Inv-loop μ-loop
+same-length c = c .before .loop .inv .1
+
+same-length-2 : tie.Need-same-length-2 Inv-loop μ-loop
+same-length-2 c = c .before .loop .inv .2
+
+returns : tie.Need-returns Inv-loop μ-loop
+unfolding receivedKnown receivedTransit
+returns c =
+    let s = c .before .before .before .before .before in
+    let inv = c .before .loop .inv in
+    let end : c .before .loop .o ≡ s .args .n = le-antisymm (inv .0) (c .loop-test .left) in (
+      row-recell (s .args .k) (s .args .n) (s .args .a) (due s) (cell (s .args .k) (s .args .n) (now (s .args .transit)) 0 (s .args .a)) (came s)
+          (now (s .args .known)) (c .before .loop .known) 0 (s .pre .a-in) (s .pre .known-long) (inv .1)
+          (λ o l. sym (cell-at (s .args .k) (s .args .n) (now (s .args .transit)) 0 (s .args .a) o (s .pre .a-in) l))
+          (λ i. inv .3 i ∙ ap (λ (m : ℕ). cond (guarded (row s) m (due s) i) (came s i) (knew s i)) end),
+      row-recell (s .args .k) (s .args .n) (s .args .a) (due s) (λ o. 0) (λ i. 0)
+          (now (s .args .transit)) (c .before .loop .transit) 0 (s .pre .a-in) (s .pre .transit-long) (inv .2)
+          (λ o l. refl)
+          (λ i. inv .4 i ∙ ap (λ (m : ℕ). cond (guarded (row s) m (due s) i) 0 (came s i)) end),
+    )
+
+pub receive-prices-spec : {M : Type 1} → statement M
+receive-prices-spec =
+    tie.close
+    (tie.spec
+    Inv-loop
+    μ-loop
+    mul-row
+    loop-holds
+    receive-one-requires
+    add-o
+    loop-less
+    loop-again
+    same-length
+    same-length-2
+    returns)

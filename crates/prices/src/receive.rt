@@ -1,0 +1,48 @@
+// Step 3 on the price tables.
+ghost use mathlib.Core.Path.{_≡_};
+ghost use mathlib.Core.Bool.{cond};
+ghost use Prim.Native.Nat.{_+_, _<_};
+ghost use lib.ListN.{length, getD, set};
+ghost use Rattle.words.specs.Message.{wordIn};
+ghost use Rattle.prices.specs.Prices.{PricesIn, receivedKnown, receivedTransit};
+
+// Takes the price of offer o out of transit, in the row of box a, if a is to have it from box b.
+fn receive_one(
+    known: &mut [u32],
+    transit: &mut [u32],
+    owner: &[u16],
+    needs: &[u16; 500],
+    row: usize,
+    a: u16,
+    b: u16,
+    o: usize,
+)
+    requires { ⌜ (a < 16) × ((o < 500) × ((o < length (now owner)) × ((row + o < length (now known)) × (row + o < length (now transit))))) ⌝ }
+    ensures { λ r. ⌜ (now (known .exit) ≡ cond (wordIn (now (owner .entry)) (now (needs .entry)) b a o) (set (now (known .entry)) (row + o) (getD (now (transit .entry)) (row + o) 0)) (now (known .entry))) × (now (transit .exit) ≡ cond (wordIn (now (owner .entry)) (now (needs .entry)) b a o) (set (now (transit .entry)) (row + o) 0) (now (transit .entry))) ⌝ }
+{
+    if words::in_message(owner[o], needs[o], b, a) {
+        let price = transit[row + o];
+        known[row + o] = price;
+        transit[row + o] = 0;
+    }
+}
+
+// Box a receives the prices that box b has sent it. They are known to it, and no longer in transit.
+pub fn receive_prices(
+    k: usize,
+    n: usize,
+    a: u16,
+    b: u16,
+    owner: &[u16],
+    needs: &[u16; 500],
+    known: &mut [u32],
+    transit: &mut [u32],
+)
+    requires { ⌜ PricesIn k n a b (now owner) (now known) (now transit) ⌝ }
+    ensures { λ r. ⌜ (now (known .exit) ≡ receivedKnown k n a b (now (owner .entry)) (now (needs .entry)) (now (known .entry)) (now (transit .entry))) × (now (transit .exit) ≡ receivedTransit k n a b (now (owner .entry)) (now (needs .entry)) (now (known .entry)) (now (transit .entry))) ⌝ }
+{
+    let row = a as usize * n;
+    for o in 0..n {
+        receive_one(known, transit, owner, needs, row, a, b, o);
+    }
+}

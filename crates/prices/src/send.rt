@@ -1,0 +1,53 @@
+// Step 1 on the price tables.
+ghost use mathlib.Core.Path.{_≡_};
+ghost use mathlib.Core.Bool.{cond};
+ghost use Prim.Native.Nat.{_+_, _<_};
+ghost use lib.ListN.{length, getD, set};
+ghost use Rattle.laws.specs.Below.{words, only, count};
+ghost use Rattle.words.specs.Message.{wordIn};
+ghost use Rattle.prices.specs.Prices.{PricesIn, sentTransit};
+
+// Sends the price of offer o, from row `from` to row `to`, if box b is to have it from box a: 1 where it is, else 0.
+fn send_one(
+    transit: &mut [u32],
+    known: &[u32],
+    owner: &[u16],
+    needs: &[u16; 500],
+    from: usize,
+    to: usize,
+    a: u16,
+    b: u16,
+    o: usize,
+) -> u32
+    requires { ⌜ (b < 16) × ((o < 500) × ((o < length (now owner)) × ((from + o < length (now known)) × (to + o < length (now transit))))) ⌝ }
+    ensures { λ r. ⌜ (r ≡ only words (wordIn (now (owner .entry)) (now (needs .entry)) a b o) 1) × (now (transit .exit) ≡ cond (wordIn (now (owner .entry)) (now (needs .entry)) a b o) (set (now (transit .entry)) (to + o) (getD (now (known .entry)) (from + o) 0)) (now (transit .entry))) ⌝ }
+{
+    if words::in_message(owner[o], needs[o], a, b) {
+        transit[to + o] = known[from + o];
+        return 1;
+    }
+    0
+}
+
+// Box a sends to box b the prices of its offers that b needs. Their number.
+pub fn send_prices(
+    k: usize,
+    n: usize,
+    a: u16,
+    b: u16,
+    owner: &[u16],
+    needs: &[u16; 500],
+    known: &[u32],
+    transit: &mut [u32],
+) -> u32
+    requires { ⌜ PricesIn k n a b (now owner) (now known) (now transit) ⌝ }
+    ensures { λ r. ⌜ (now (transit .exit) ≡ sentTransit k n a b (now (owner .entry)) (now (needs .entry)) (now (known .entry)) (now (transit .entry))) × (r ≡ count n (wordIn (now (owner .entry)) (now (needs .entry)) a b)) ⌝ }
+{
+    let from = a as usize * n;
+    let to = b as usize * n;
+    let mut sent: u32 = 0;
+    for o in 0..n {
+        sent += send_one(transit, known, owner, needs, from, to, a, b, o);
+    }
+    sent
+}

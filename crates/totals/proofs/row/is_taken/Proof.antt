@@ -1,0 +1,57 @@
+-- `totals::row::is_taken` meets its contract. Assumes nothing.
+use mathlib.Core.Path.{sym, ap, _∙_}
+use mathlib.Core.Bool.{Bool, _&&_}
+use Prim.Native.Nat.{ℕ}
+use lib.Dec.{eqb}
+use lib.ListN.{getD}
+use borrow.Author.Tests.{eq-eqb, ne-eqb}
+use borrow.Author.Needs.{needs}
+use denote.Ref.{now}
+use Rattle.totals.proofs.row.is_taken.Statement.{statement}
+use Rattle.totals.proofs.row.is_taken.Tie as tie
+
+mul-if1 : tie.Need-mul-if1
+mul-if1 c = search needs
+
+shared-slice-read-if1 : tie.Need-shared-slice-read-if1
+shared-slice-read-if1 c = search needs
+
+returns : tie.Need-returns
+returns c =
+    let s = c .before .before .before .before .before in
+    sym (ap (λ (t : Bool). t && eqb (getD (now (s .args .owner)) (getD (now (s .args .offer)) (s .args .i) 0) 0) (s .args .from)) (ne-eqb (getD (now (s .args .holder)) (s .args .i) 0) (s .args .a) (c .if1 .taken)))
+
+mul-index : tie.Need-mul-index
+mul-index c = search needs
+
+shared-slice-read-index : tie.Need-shared-slice-read-index
+shared-slice-read-index c = search needs
+
+index-requires : tie.Need-index-requires
+index-requires c κs = search needs
+
+mul-result : tie.Need-mul-result
+mul-result c = search needs
+
+shared-slice-read-result : tie.Need-shared-slice-read-result
+shared-slice-read-result c = search needs
+
+returns-2 : tie.Need-returns-2
+returns-2 c =
+    let s = c .before .before .before .before .before .before .before .before in
+    ap (λ (o : ℕ). eqb (getD (now (s .args .owner)) o 0) (s .args .from)) (c .before .index .ensures)
+    ∙ sym (ap (λ (t : Bool). t && eqb (getD (now (s .args .owner)) (getD (now (s .args .offer)) (s .args .i) 0) 0) (s .args .from)) (eq-eqb (getD (now (s .args .holder)) (s .args .i) 0) (s .args .a) (c .before .before .before .if1 .left)))
+
+pub is-taken-spec : {M : Type 1} → statement M
+is-taken-spec =
+    tie.close
+    (tie.spec
+    mul-if1
+    shared-slice-read-if1
+    returns
+    mul-index
+    shared-slice-read-index
+    index-requires
+    mul-result
+    shared-slice-read-result
+    returns-2)

@@ -1,0 +1,2 @@
+-- Words of messages as the model has them.
+pub mod Message

@@ -1,0 +1,2 @@
+-- The test of a word against its owner and its mask.
+pub mod Message
