@@ -13,15 +13,16 @@ use Rattle.laws.proofs.Bools.{split, clash, and-one}
 use Rattle.laws.proofs.Sums.{sum-cong}
 use Rattle.laws.proofs.Below.{count-cong, find-only, find-passes, find-none}
 use Rattle.laws.specs.Tables.{overwrite}
-use Rattle.laws.proofs.Tables.{length-tabulate, getD-tabulate, getD-overwrite, word-in}
+use Rattle.laws.proofs.Tables.{overwrite-cong, length-tabulate, getD-tabulate, getD-overwrite, word-in}
 use Rattle.model.specs.Job.{heldBy, needs, shares, priceWord, totalWord}
 use Rattle.model.specs.Tables.{JobTables, jobOf}
 use Rattle.model.specs.Ranges.{jobInRange}
 use Rattle.model.specs.Local.{ascending, localOffers, localGrocers, localGrocer, ofOffer, start, starts, Packed}
+use Rattle.tables.proofs.Extra.{any-cong}
 use Rattle.local.specs.Sort.{at, inFront, begin, keyCount, sorted}
 use Rattle.local.specs.Lists.{localList, heldOf, classOf, numberIn}
 use Rattle.local.specs.Pack.{tallyKey, packedTallies, packedStart, packedNumber, packedCount}
-use Rattle.local.proofs.Extra.{overwrite-cong, any-cong, ascending-cong, chained-cong, find-cong}
+use Rattle.local.proofs.Extra.{ascending-cong, chained-cong, find-cong}
 use Rattle.local.proofs.Sorting.{begin-suc, length-sorted, sorted-in, sorted-once, part-once}
 use Rattle.local.proofs.Placing.{begin-le}
 use Rattle.local.proofs.Listing.{sorted-list}
@@ -142,7 +143,7 @@ module _ (f : JobTables) (ok : jobInRange f ≡ true) (b : ℕ) (hb : b < f .box
   pub starts-model : (old : List ℕ) → overwrite (suc l) (packedStart (f .tallyBox) (f .tallyOffer) (f .tallies) list l b) old ≡ inFront (starts (jobOf f) b) old
   unfolding inFront starts
   starts-model old =
-      overwrite-cong 0 (suc l) (packedStart (f .tallyBox) (f .tallyOffer) (f .tallies) list l b) (at (starts (jobOf f) b)) old
+      overwrite-cong (suc l) (packedStart (f .tallyBox) (f .tallyOffer) (f .tallies) list l b) (at (starts (jobOf f) b)) old
       (λ i h. start-model i (omega arith) ∙ sym (getD-tabulate (suc (length (localOffers (jobOf f) b))) (start (jobOf f) b) i 0 (omega arith)))
       ∙ ap (λ (n : ℕ). overwrite n (at (starts (jobOf f) b)) old) (ap suc l-is ∙ sym (length-tabulate (suc (length (localOffers (jobOf f) b))) (start (jobOf f) b)))
 

@@ -35,6 +35,7 @@ pub record BookTables : Type 0 where
   pub packedGrocers : List ℕ
   pub packedCounts : List ℤ
 
+-- The same, as a contract names them.
 abbrev pub bookTables : List ℕ → List ℕ → List ℕ → List ℕ → List ℤ → BookTables
 bookTables offers grocers starts packedGrocers packedCounts = record {
   localOffers = offers;
@@ -62,17 +63,17 @@ lengths offers grocers starts packedGrocers packedCounts = record {
 abbrev pub bookLengths : BookTables → BookLengths
 bookLengths t = lengths (length (t .localOffers)) (length (t .localGrocers)) (length (t .starts)) (length (t .packedGrocers)) (length (t .packedCounts))
 
--- The list now is as long as the list before, and from place n on has the same words.
-pub record SamePast {A : Type 0} (n : ℕ) (before now : List A) : Type 0 where
-  pub long : length now ≡ length before
-  pub past : drop n now ≡ drop n before
+-- A list is as long after as before, and from place n on has the same words.
+pub record SamePast {A : Type 0} (n : ℕ) (before after : List A) : Type 0 where
+  pub long : length after ≡ length before
+  pub past : drop n after ≡ drop n before
 
 -- The local matrix of box b is written: each list in front of what stood in its table, and words past what the box has as they were.
 pub record Written (j : Job) (b : ℕ) (before after : BookTables) : Type 0 where
   pub offers : after .localOffers ≡ inFront (localOffers j b) (before .localOffers)
   pub grocers : after .localGrocers ≡ inFront (localGrocers j b) (before .localGrocers)
   pub starts : after .starts ≡ inFront (starts j b) (before .starts)
-  -- The order of tallies inside one offer's list is open.
+  -- The order of tallies inside one offer's list is open: the list has each of the box's tallies of that offer once.
   pub packed : Packed j b (after .packedGrocers) (after .packedCounts)
   pub pastGrocers : SamePast (start j b (length (localOffers j b))) (before .packedGrocers) (after .packedGrocers)
   pub pastCounts : SamePast (start j b (length (localOffers j b))) (before .packedCounts) (after .packedCounts)

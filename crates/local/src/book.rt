@@ -1,6 +1,5 @@
 // The local book of a box: the public call.
 ghost use mathlib.Core.Path.{_≡_};
-ghost use lib.ListN.{length};
 ghost use Rattle.laws.specs.Checks.{firstMet};
 ghost use Rattle.model.specs.Tables.{jobTables, jobOf};
 ghost use Rattle.model.specs.Local.{bookShort, bookRefusals};

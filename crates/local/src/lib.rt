@@ -1,5 +1,5 @@
 // The local matrix of a box: its offers, its grocers, and its tallies packed by offer.
 pub mod book;
-pub mod lists;
-pub mod pack;
-pub mod sort;
+mod lists;
+mod pack;
+mod sort;

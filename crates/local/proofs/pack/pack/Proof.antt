@@ -4,12 +4,11 @@ use mathlib.Core.List.{List}
 use Prim.Native.Nat.{ℕ, _≤_}
 use native.Mathlib.Omega.{arith}
 use borrow.Author.Needs.{needs}
-use lib.IntN.{pos}
 use lib.ListN.{replicate}
 use denote.Ref.{now}
 use Rattle.laws.specs.Tables.{overwrite}
+use Rattle.laws.proofs.Tables.{overwrite-cong}
 use Rattle.local.specs.Pack.{packedTallies, packedStart, packedGrocer, packedNumber, packedCount, OrderIn}
-use Rattle.local.proofs.Extra.{overwrite-cong}
 use Rattle.local.proofs.Packing.{packed-le, order-in, grocer-put, count-put}
 use Rattle.local.proofs.pack.pack.Statement.{statement}
 use Rattle.local.proofs.pack.pack.Tie as tie
@@ -90,11 +89,11 @@ returns c =
         ordered i .order-tallies .ensures .1 .0,
         (
           q .put-grocers .ensures
-              ∙ overwrite-cong 0 (i .index-of .result) (packedGrocer (i .before .numbers .result) (now (s .args .tgrocer)) (order i)) (packedNumber (now (s .args .lgrocers)) (s .args .g) (now (s .args .tgrocer)) (packed s)) (now (s .args .pgrocers))
+              ∙ overwrite-cong (i .index-of .result) (packedGrocer (i .before .numbers .result) (now (s .args .tgrocer)) (order i)) (packedNumber (now (s .args .lgrocers)) (s .args .g) (now (s .args .tgrocer)) (packed s)) (now (s .args .pgrocers))
               (grocer-put (now (s .args .tbox)) (now (s .args .toffer)) (s .args .tallies) (now (s .args .loffers)) (s .args .l) (s .args .b) (replicate 1_000 0) (order i) (i .index-of .result) (ordered i .order-tallies .ensures .1 .1) (total-is i) (i .before .numbers .result) (now (s .args .tgrocer)) (now (s .args .lgrocers)) (s .args .g) (i .before .numbers .ensures) (s .pre .0 .1))
               ∙ ap (λ (k : ℕ). overwrite k (packedNumber (now (s .args .lgrocers)) (s .args .g) (now (s .args .tgrocer)) (packed s)) (now (s .args .pgrocers))) (i .index-of .ensures),
           p .put-counts .ensures
-              ∙ overwrite-cong (pos 0) (i .index-of .result) (packedCount (now (s .args .tcount)) (order i)) (packedCount (now (s .args .tcount)) (packed s)) (now (s .args .pcounts))
+              ∙ overwrite-cong (i .index-of .result) (packedCount (now (s .args .tcount)) (order i)) (packedCount (now (s .args .tcount)) (packed s)) (now (s .args .pcounts))
               (count-put (now (s .args .tbox)) (now (s .args .toffer)) (s .args .tallies) (now (s .args .loffers)) (s .args .l) (s .args .b) (replicate 1_000 0) (order i) (i .index-of .result) (ordered i .order-tallies .ensures .1 .1) (total-is i) (now (s .args .tcount)))
               ∙ ap (λ (k : ℕ). overwrite k (packedCount (now (s .args .tcount)) (packed s)) (now (s .args .pcounts))) (i .index-of .ensures),
         ),
