@@ -6,8 +6,8 @@ use Prim.Native.Nat.{ℕ, zero, suc, _≤_, _<_}
 use native.Mathlib.Omega.{arith}
 use lib.Dec.{eqb, leb}
 use lib.IntN.{natAbs}
-use Rattle.laws.specs.Below.{all}
 use borrow.Author.Tests.{leb-true}
+use Rattle.laws.specs.Below.{all}
 use Rattle.laws.proofs.Bools.{and-l, and-r}
 use Rattle.model.specs.Steps.{kindOf, oneBox, Steps}
 use Rattle.model.specs.Step.{isKind}

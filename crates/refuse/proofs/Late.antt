@@ -1,30 +1,28 @@
 -- Whether the finished tables are in range is told by one table, kind by kind. Assumes nothing.
-use mathlib.Core.Path.{_≡_, refl, sym, ap, _∙_}
-use mathlib.Core.Bool.{Bool, true, false, cond, _&&_, not}
+use mathlib.Core.Path.{_≡_, sym, _∙_}
+use mathlib.Core.Bool.{Bool, true, cond, _&&_, not}
 use mathlib.Core.List.{List, [], _∷_}
-use Prim.Native.Nat.{ℕ, _+_, _*_, _≤_, _<_}
+use Prim.Native.Nat.{ℕ, _*_, _≤_, _<_}
 use native.Mathlib.Omega.{arith}
 use lib.Dec.{eqb, leb}
-use lib.ListN.{length, getD}
+use lib.ListN.{getD}
 use lib.IntN.{ℤ, pos, natAbs}
 use borrow.Author.Tests.{eqb-false, not-true}
-use Rattle.laws.specs.Checks.{allOf}
 use Rattle.laws.specs.Tables.{tabulate}
 use Rattle.laws.proofs.Checks.{Each, each-of}
 use Rattle.laws.proofs.Tables.{word-in}
 use Rattle.model.specs.Job.{sharerWord, priceWord, totalWord}
-use Rattle.model.specs.Steps.{Kind, kindOf, sendPrices, multiplyOwn, receivePrices, sendTotals, addOwn, receiveTotals, State, oneBox, received, effect}
+use Rattle.model.specs.Steps.{Kind, sendPrices, multiplyOwn, receivePrices, sendTotals, addOwn, receiveTotals, State, oneBox, received, effect}
 use Rattle.model.specs.Tables.{JobTables, jobOf, StateTables, view, store}
 use Rattle.model.specs.Ranges.{maxPrice, maxAmount, maxSent, upTo, around, jobInRange, stateInRange}
 use Rattle.model.specs.Local.{priceTable, totalTable}
+use Rattle.totals.specs.Row.{TalliesIn}
+use Rattle.refuse.specs.Late.{sentFits, productsFit, creditsFit, talliesOf, finishedFits}
 use Rattle.model.proofs.Ranges.{Within}
 use Rattle.model.proofs.Step.{range, limits, ok-store}
 use Rattle.tables.proofs.MessageLaws.{price-cell, total-cell}
-use Rattle.totals.specs.Row.{TalliesIn}
 use Rattle.totals.proofs.Extra.{cell-abs}
 use Rattle.totals.proofs.Effect.{multiplied-range, received-range, added-range, statement-range}
-use Rattle.refuse.specs.Rules.{wordsTo}
-use Rattle.refuse.specs.Late.{sentFits, productsFit, creditsFit, talliesOf, finishedFits}
 use Rattle.refuse.proofs.Extra.{but-one, chosen, cell-up, word-around, word-up, up-one}
 
 -- The seven tests of a state's tables.

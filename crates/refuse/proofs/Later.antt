@@ -1,29 +1,28 @@
 -- The conditions after 20 and 21, on tables that are whole and in range. Assumes nothing.
 use mathlib.Core.Path.{_≡_, refl, sym, ap, _∙_}
-use mathlib.Core.Bool.{Bool, true, false, cond, _&&_, not}
+use mathlib.Core.Bool.{Bool, true, false, cond, not}
 use mathlib.Core.List.{List, [], _∷_}
-use Prim.Native.Nat.{ℕ, _*_, _≤_, _<_}
+use Prim.Native.Nat.{ℕ, _≤_, _<_}
 use native.Mathlib.Omega.{arith}
-use lib.Dec.{eqb, ltb}
-use borrow.Author.Tests.{not-true, not-false}
+use lib.Dec.{ltb}
 use Rattle.laws.specs.Checks.{firstMet}
 use Rattle.laws.specs.Tables.{tabulate}
 use Rattle.laws.proofs.Bools.{and-r}
 use Rattle.laws.proofs.Checks.{Each, each-of}
 use Rattle.model.specs.Job.{sharerWord}
-use Rattle.model.specs.Steps.{Kind, kindOf, sendPrices, multiplyOwn, receivePrices, sendTotals, addOwn, receiveTotals, Steps, oneBox, fits, ready}
+use Rattle.model.specs.Steps.{Kind, kindOf, sendPrices, multiplyOwn, receivePrices, sendTotals, addOwn, receiveTotals, Steps, fits, ready}
 use Rattle.model.specs.Tables.{JobTables, jobOf, StateTables, view}
 use Rattle.model.specs.Ranges.{maxPrice, maxCount, upTo, under, around, sizesInRange, jobWordsInRange, jobInRange, stateInRange}
 use Rattle.model.specs.Step.{Asked, isKind, boxesFit, stepRules, moved}
 use Rattle.model.specs.Local.{priceTable, totalTable}
-use Rattle.model.proofs.Step.{range, limits}
-use Rattle.tables.proofs.Whole.{JobWhole, job-whole, StateWhole, state-whole}
 use Rattle.prices.specs.Marks.{stepsDone}
-use Rattle.prices.proofs.Effect.{steps-done}
 use Rattle.totals.specs.Row.{TalliesIn}
-use Rattle.totals.proofs.Extra.{up-at}
 use Rattle.refuse.specs.Rules.{boxesFitBy, rulesBy}
 use Rattle.refuse.specs.Late.{talliesOf, finishedFits, FinishIn, unpriced, unmarked, laterRules, Held}
+use Rattle.model.proofs.Step.{range, limits}
+use Rattle.tables.proofs.Whole.{JobWhole, job-whole, StateWhole, state-whole}
+use Rattle.prices.proofs.Effect.{steps-done}
+use Rattle.totals.proofs.Extra.{up-at}
 use Rattle.refuse.proofs.Extra.{met-first}
 use Rattle.refuse.proofs.ByKind.{kind-from, kind-to}
 use Rattle.refuse.proofs.Ways.{first-in, second-in}

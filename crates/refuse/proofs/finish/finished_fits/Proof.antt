@@ -1,16 +1,11 @@
 -- `refuse::finish::finished_fits` meets its contract, kind by kind. Assumes nothing.
-use mathlib.Core.Path.{_≡_, refl, sym, ap, ap₂, _∙_}
+use mathlib.Core.Path.{_∙_}
 use Rattle.model.specs.Steps.{kindOf}
 use Rattle.refuse.specs.Late.{creditsFit, finishedFits}
-use Rattle.refuse.proofs.ByKind.{last-kind}
 use borrow.Author.Needs.{needs}
+use Rattle.refuse.proofs.ByKind.{last-kind}
 use Rattle.refuse.proofs.finish.finished_fits.Statement.{statement}
 use Rattle.refuse.proofs.finish.finished_fits.Tie as tie
-use Rattle.refuse.proofs.finish.finished_fits.Reads as reads
-use Rattle.refuse.proofs.finish.finished_fits.Lts as lts
-use Rattle.refuse.proofs.finish.products_fit.Reads as products-fit-reads
-use Rattle.refuse.proofs.finish.sent_fits.Reads as sent-fits-reads
-use Rattle.totals.proofs.credit.credit_fits.Reads as credit-fits-reads
 
 sent-fits-requires : tie.Need-sent-fits-requires
 sent-fits-requires c κs = search needs
