@@ -1,20 +1,20 @@
 -- What a job in range gives the functions of this crate, and what they give of it. Assumes nothing.
-use mathlib.Core.Path.{_≡_, refl, sym, ap, ap₂, _∙_}
+use mathlib.Core.Path.{_≡_, sym, ap, ap₂, _∙_}
 use mathlib.Core.Bool.{Bool, true, false, cond, _&&_, not}
 use mathlib.Core.List.{List}
 use Prim.Native.Nat.{ℕ, _+_, _<_, _≤_}
 use native.Mathlib.Omega.{arith}
-use lib.ListN.{getD, length}
+use lib.ListN.{getD}
 use lib.Dec.{eqb}
 use lib.Count.{ones}
-use Rattle.laws.specs.Below.{words, sum, count}
+use Rattle.laws.specs.Below.{words}
 use Rattle.laws.specs.Masks.{bit, maskOf, without}
 use Rattle.laws.specs.Tables.{tabulate}
 use Rattle.laws.proofs.Sums.{sum-cong}
 use Rattle.laws.proofs.Below.{count-cong}
 use Rattle.laws.proofs.Masks.{bit-mask}
 use Rattle.laws.proofs.Tables.{length-tabulate, getD-tabulate, word-in}
-use Rattle.model.specs.Job.{needs, shares, needWord, sharerWord, priceWord, totalWord}
+use Rattle.model.specs.Job.{priceWord, totalWord}
 use Rattle.model.specs.Tables.{JobTables, jobOf}
 use Rattle.model.specs.Ranges.{jobInRange}
 use Rattle.model.specs.Words.{ownerWords}

@@ -2,17 +2,15 @@
 -- that sum to the ones of the need words and the sharer words, and no word just where no message is due. Assumes nothing.
 use mathlib.Core.Path.{_≡_, refl, sym, ap, ap₂, _∙_}
 use mathlib.Core.Bool.{Bool, true, false, _&&_, not}
-use mathlib.Core.List.{List, []}
 use Prim.Native.Nat.{ℕ, _+_, _<_, _≤_}
 use native.Mathlib.Omega.{arith}
 use native.Mathlib.Nat.{le-refl}
-use lib.ListN.{getD}
 use lib.Dec.{eqb}
 use lib.Count.{ones}
 use borrow.Author.Tests.{ne-eqb}
-use Rattle.laws.specs.Below.{Adds, words, sum, only, any, count}
+use Rattle.laws.specs.Below.{words, sum, only, any, count}
 use Rattle.laws.specs.Masks.{maskOf, without}
-use Rattle.laws.proofs.Bools.{split, clash, not-both, and-one, and-false}
+use Rattle.laws.proofs.Bools.{split, clash, and-one, and-false}
 use Rattle.laws.proofs.Sums.{sum-cong, sum-none, sum-swap, sum-only, sum-pick}
 use Rattle.laws.proofs.Below.{any-find, count-none, count-zero}
 use Rattle.model.specs.Job.{Job, needs, shares, needWord, sharerWord, priceWord, totalWord, pricesDue, totalsDue}
@@ -20,6 +18,7 @@ use Rattle.model.specs.Words.{ownerWords}
 use Rattle.model.specs.Local.{priceTable, totalTable}
 use Rattle.model.proofs.Range.{InRange}
 use Rattle.model.proofs.Words.{needs-past, shares-past, ones-others}
+use Rattle.tables.specs.Messages.{cellAt, lineSum, tableSum}
 use Rattle.tables.proofs.Extra.{rows-at}
 
 -- None is counted where none passes.
@@ -79,10 +78,6 @@ module _ (n : ℕ) (owner : ℕ → ℕ) (p : ℕ → ℕ → Bool) where
         sum-cong words 16 (λ x. only words (eqb (owner i) x) (others i)) (λ x. only words (eqb (owner i) x && true) (others i)) (λ x m. rw (and-one (eqb (owner i) x)))
         ∙ sum-pick words 16 (owner i) true (others i) (lt i l)
         ∙ only-true (others i))
-
--- The count in row a, column b of a table.
-abbrev pub cellAt : List (List ℕ) → ℕ → ℕ → ℕ
-cellAt t a b = getD (getD t a []) b 0
 
 module _ (j : Job) (a b : ℕ) (la : a < 16) (lb : b < 16) where
   -- A count is the length of the message's list.
@@ -144,31 +139,29 @@ module _ (j : Job) (r : InRange j) where
   shares-out g b h = shares-past j g b (omega (arith, r .boxes≤))
 
   -- A box's row of the price table sums to the ones in the need words of its own offers, the owner's bit left out.
-  pub price-row-sum : (a : ℕ) → a < 16 →
-      sum words 16 (λ b. cellAt (priceTable j) a b) ≡ sum words (j .offers) (λ o. only words (eqb (j .offerOwner o) a) (ones (without (j .offerOwner o) (needWord j o))))
-  unfolding priceWord needWord
+  pub price-row-sum : (a : ℕ) → a < 16 → lineSum false (priceTable j) a ≡ sum words (j .offers) (λ o. only words (eqb (j .offerOwner o) a) (ones (without (j .offerOwner o) (needWord j o))))
+  unfolding lineSum priceWord needWord
   price-row-sum a l =
       sum-cong words 16 (λ b. cellAt (priceTable j) a b) (λ b. count (j .offers) (priceWord j a b)) (λ b m. price-cell j a b l m)
       ∙ owner-sum (j .offers) (j .offerOwner) (needs j) offer-owner needs-out a
 
   -- Its column of the totals table sums likewise over the sharers of its own grocers.
-  pub total-column-sum : (b : ℕ) → b < 16 →
-      sum words 16 (λ a. cellAt (totalTable j) a b) ≡ sum words (j .grocers) (λ g. only words (eqb (j .grocerOwner g) b) (ones (without (j .grocerOwner g) (sharerWord j g))))
-  unfolding totalWord sharerWord
+  pub total-column-sum : (b : ℕ) → b < 16 → lineSum true (totalTable j) b ≡ sum words (j .grocers) (λ g. only words (eqb (j .grocerOwner g) b) (ones (without (j .grocerOwner g) (sharerWord j g))))
+  unfolding lineSum totalWord sharerWord
   total-column-sum b l =
       sum-cong words 16 (λ a. cellAt (totalTable j) a b) (λ a. count (j .grocers) (totalWord j a b)) (λ a m. total-cell j a b m l)
       ∙ owner-sum (j .grocers) (j .grocerOwner) (shares j) grocer-owner shares-out b
 
   -- Each table sums to its part of the word total,
-  pub price-sum : sum words 16 (λ a. sum words 16 (λ b. cellAt (priceTable j) a b)) ≡ sum words (j .offers) (λ o. ones (without (j .offerOwner o) (needWord j o)))
-  unfolding priceWord needWord
+  pub price-sum : tableSum (priceTable j) ≡ sum words (j .offers) (λ o. ones (without (j .offerOwner o) (needWord j o)))
+  unfolding tableSum lineSum priceWord needWord
   price-sum =
       sum-cong words 16 (λ a. sum words 16 (λ b. cellAt (priceTable j) a b)) (λ a. sum words 16 (λ b. count (j .offers) (priceWord j a b)))
       (λ a l. sum-cong words 16 (λ b. cellAt (priceTable j) a b) (λ b. count (j .offers) (priceWord j a b)) (λ b m. price-cell j a b l m))
       ∙ whole-sum (j .offers) (j .offerOwner) (needs j) offer-owner needs-out
 
-  pub total-sum : sum words 16 (λ a. sum words 16 (λ b. cellAt (totalTable j) a b)) ≡ sum words (j .grocers) (λ g. ones (without (j .grocerOwner g) (sharerWord j g)))
-  unfolding totalWord sharerWord
+  pub total-sum : tableSum (totalTable j) ≡ sum words (j .grocers) (λ g. ones (without (j .grocerOwner g) (sharerWord j g)))
+  unfolding tableSum lineSum totalWord sharerWord
   total-sum =
       sum-cong words 16 (λ a. sum words 16 (λ b. cellAt (totalTable j) a b)) (λ a. sum words 16 (λ b. count (j .grocers) (totalWord j a b)))
       (λ a l. sum-cong words 16 (λ b. cellAt (totalTable j) a b) (λ b. count (j .grocers) (totalWord j a b)) (λ b m. total-cell j a b l m))
@@ -176,6 +169,6 @@ module _ (j : Job) (r : InRange j) where
       ∙ whole-sum (j .grocers) (j .grocerOwner) (shares j) grocer-owner shares-out
 
   -- and both together to the words of the job by the owner tables.
-  pub tables-sum : sum words 16 (λ a. sum words 16 (λ b. cellAt (priceTable j) a b)) + sum words 16 (λ a. sum words 16 (λ b. cellAt (totalTable j) a b)) ≡ ownerWords j
+  pub tables-sum : tableSum (priceTable j) + tableSum (totalTable j) ≡ ownerWords j
   unfolding ownerWords
   tables-sum = ap₂ (λ (x y : ℕ). x + y) price-sum total-sum

@@ -1,13 +1,11 @@
 -- The call that makes the tables of messages, by the first condition that is met. Assumes nothing.
-use mathlib.Core.Path.{_≡_, refl, sym, ap, _∙_}
+use mathlib.Core.Path.{_≡_, refl, sym}
 use mathlib.Core.Bool.{Bool, true, false, cond, not}
 use mathlib.Core.List.{List}
-use Prim.Native.Nat.{ℕ, _<_}
+use Prim.Native.Nat.{ℕ}
 use native.Mathlib.Omega.{arith}
-use lib.Dec.{eqb}
-use borrow.Author.Tests.{eq-eqb, ne-eqb}
+use borrow.Author.Tests.{ne-eqb}
 use Rattle.laws.specs.Checks.{firstMet}
-use Rattle.laws.proofs.Bools.{split}
 use Rattle.model.specs.Tables.{JobTables, jobOf, jobLengths, jobShort}
 use Rattle.model.specs.Ranges.{jobInRange}
 use Rattle.model.specs.Local.{priceTable, totalTable}

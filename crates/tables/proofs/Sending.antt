@@ -1,4 +1,4 @@
--- A table of messages while the words of one owner more are added to it, box by box. Assumes nothing.
+-- A table of messages while the words of one owner more are added to it, box by box; and while its counts are summed. Assumes nothing.
 use mathlib.Core.Path.{_≡_, refl, sym, ap, ap₂, _∙_}
 use mathlib.Core.Bool.{Bool, true, false, cond, _&&_, not}
 use mathlib.Core.List.{List, []}
@@ -12,15 +12,16 @@ use Rattle.laws.specs.Below.{words, only, sum, count}
 use Rattle.laws.specs.Masks.{bit, without}
 use Rattle.laws.specs.Tables.{tabulate}
 use Rattle.laws.proofs.Bools.{split, eqb-same, and-false}
+use Rattle.laws.proofs.Sums.{sum-next}
 use Rattle.laws.proofs.Below.{count-next, count-le, only-le}
-use Rattle.tables.specs.Messages.{between, sends, sentTable}
+use Rattle.tables.specs.Messages.{between, sends, sentTable, cellAt, lineSum, tableSum}
 use Rattle.tables.proofs.Extra.{bit-without, rows-cong, rows-at, rows-set}
 
 -- The side of a cell that holds, and the side that owns.
 abbrev pub holder : Bool → ℕ → ℕ → ℕ
 holder back a b = cond back a b
 
-side : (t : Bool) (a b : ℕ) → a < 16 → b < 16 → cond t a b < 16
+pub side : (t : Bool) (a b : ℕ) → a < 16 → b < 16 → cond t a b < 16
 side true a b l k = l
 side false a b l k = k
 
@@ -116,15 +117,15 @@ module _ (back : Bool) (n : ℕ) (owners masks : List ℕ) (lo : getD owners n 0
   to-in = side back (getD owners n 0) i lo li
 
   -- The turn as code makes it.
-  pub passing-more : (v : ℕ) → v ≡ getD (getD (passingTable back n owners masks i) from []) to 0 + only words (bit i (without (getD owners n 0) (getD masks n 0))) 1 →
-      set (passingTable back n owners masks i) from (set (getD (passingTable back n owners masks i) from []) to v) ≡ passingTable back n owners masks (i + 1)
-  passing-more v e =
-      rows-set 16 16 (passing back n owners masks i) (passing back n owners masks (i + 1)) 0 from to v from-in to-in
-      (e ∙ ap (λ (x : ℕ). x + only words (bit i (without (getD owners n 0) (getD masks n 0))) 1) (rows-at 16 16 (passing back n owners masks i) 0 from to from-in to-in) ∙ passing-here)
+  pub passing-more : (m : ℕ) → m ≡ only words (bit i (without (getD owners n 0) (getD masks n 0))) 1 →
+      set (passingTable back n owners masks i) from (set (getD (passingTable back n owners masks i) from []) to (cellAt (passingTable back n owners masks i) from to + m)) ≡ passingTable back n owners masks (i + 1)
+  passing-more m e =
+      rows-set 16 16 (passing back n owners masks i) (passing back n owners masks (i + 1)) 0 from to (cellAt (passingTable back n owners masks i) from to + m) from-in to-in
+      (ap₂ (λ (x y : ℕ). x + y) (rows-at 16 16 (passing back n owners masks i) 0 from to from-in to-in) e ∙ passing-here)
       passing-else
 
   -- A word that is raised was at most n.
-  pub passing-max : getD (getD (passingTable back n owners masks i) from []) to 0 + only words (bit i (without (getD owners n 0) (getD masks n 0))) 1 ≤ n + 1
+  pub passing-max : cellAt (passingTable back n owners masks i) from to + only words (bit i (without (getD owners n 0) (getD masks n 0))) 1 ≤ n + 1
   unfolding passing
   passing-max =
       rw (rows-at 16 16 (passing back n owners masks i) 0 from to from-in to-in, passing-here)
@@ -134,3 +135,37 @@ module _ (back : Bool) (n : ℕ) (owners masks : List ℕ) (lo : getD owners n 0
 pub sent-none : (back : Bool) (owners masks : List ℕ) → replicate 16 (replicate 16 0) ≡ sentTable back 0 owners masks
 unfolding sentTable tabulate count sum words
 sent-none back owners masks = refl
+
+-- The first n counts of a row or a column, summed.
+unfoldable pub lineTo : ℕ → Bool → List (List ℕ) → ℕ → ℕ
+lineTo n back t x = sum words n (λ y. cellAt t (cond back y x) (cond back x y))
+
+module _ (back : Bool) (t : List (List ℕ)) (x : ℕ) where
+  pub line-none : lineTo 0 back t x ≡ 0
+  unfolding lineTo sum words
+  line-none = refl
+
+  pub line-next : (n : ℕ) → lineTo (n + 1) back t x ≡ lineTo n back t x + cellAt t (cond back n x) (cond back x n)
+  unfolding lineTo words
+  line-next n = sum-next words n (λ y. cellAt t (cond back y x) (cond back x y))
+
+  pub line-whole : lineTo 16 back t x ≡ lineSum back t x
+  unfolding lineTo lineSum
+  line-whole = refl
+
+-- The first n rows.
+unfoldable pub rowsTo : ℕ → List (List ℕ) → ℕ
+rowsTo n t = sum words n (λ a. lineSum false t a)
+
+module _ (t : List (List ℕ)) where
+  pub rows-none : rowsTo 0 t ≡ 0
+  unfolding rowsTo sum words
+  rows-none = refl
+
+  pub rows-next : (n : ℕ) → rowsTo (n + 1) t ≡ rowsTo n t + lineSum false t n
+  unfolding rowsTo words
+  rows-next n = sum-next words n (λ a. lineSum false t a)
+
+  pub rows-whole : rowsTo 16 t ≡ tableSum t
+  unfolding rowsTo tableSum
+  rows-whole = refl

@@ -1,10 +1,10 @@
 -- Tables of messages by owners and words of holders: 16 rows of 16 counts, the row is the sender.
-use mathlib.Core.Bool.{Bool, cond, _&&_, not}
-use mathlib.Core.List.{List}
-use Prim.Native.Nat.{ℕ, _<_, _≤_}
-use lib.ListN.{getD, length}
+use mathlib.Core.Bool.{Bool, false, cond, _&&_, not}
+use mathlib.Core.List.{List, []}
+use Prim.Native.Nat.{ℕ}
+use lib.ListN.{getD}
 use lib.Dec.{eqb}
-use Rattle.laws.specs.Below.{count}
+use Rattle.laws.specs.Below.{sum, words, count}
 use Rattle.laws.specs.Masks.{bit}
 use Rattle.laws.specs.Tables.{tabulate}
 
@@ -19,3 +19,15 @@ sends back c w a b = between c w (cond back b a) (cond back a b)
 -- The words between the boxes for the first n owners and words: prices go from the owner, totals go back.
 unfoldable pub sentTable : Bool → ℕ → List ℕ → List ℕ → List (List ℕ)
 sentTable back n owners masks = tabulate 16 (λ a. tabulate 16 (λ b. count n (λ i. sends back (getD owners i 0) (getD masks i 0) a b)))
+
+-- The count in row a, column b of a table.
+abbrev pub cellAt : List (List ℕ) → ℕ → ℕ → ℕ
+cellAt t a b = getD (getD t a []) b 0
+
+-- What box x sends in all, the sum of its row; or where `back` what it receives, the sum of its column.
+unfoldable pub lineSum : Bool → List (List ℕ) → ℕ → ℕ
+lineSum back t x = sum words 16 (λ y. cellAt t (cond back y x) (cond back x y))
+
+-- The words of a table in all.
+unfoldable pub tableSum : List (List ℕ) → ℕ
+tableSum t = sum words 16 (λ a. lineSum false t a)

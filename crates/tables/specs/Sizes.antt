@@ -1,9 +1,7 @@
 -- Tables of which only the sizes matter: what is asked of a state's tables reads no other word of the job's.
-use mathlib.Core.Path.{_≡_, refl}
 use mathlib.Core.List.{[]}
 use Prim.Native.Nat.{ℕ}
-use Rattle.model.specs.Tables.{JobTables, jobTables, jobOf, StateTables, StateLengths, stateShort}
-use Rattle.model.specs.Ranges.{stateInRange}
+use Rattle.model.specs.Tables.{JobTables, jobTables}
 
 -- K, M and N alone.
 abbrev pub sizes : ℕ → ℕ → ℕ → JobTables

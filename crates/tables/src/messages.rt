@@ -1,12 +1,11 @@
 ghost use mathlib.Core.Path.{_≡_};
 ghost use mathlib.Core.Bool.{false, true, cond};
-ghost use Prim.Native.Nat.{ℕ, _+_, _≤_, _<_};
-ghost use lib.ListN.{length, getD};
+ghost use Prim.Native.Nat.{_+_, _≤_, _<_};
 ghost use Rattle.laws.specs.Below.{words, only};
 ghost use Rattle.laws.specs.Masks.{bit};
 ghost use Rattle.model.specs.Tables.{jobTables};
 ghost use Rattle.tables.specs.Masks.{Owned};
-ghost use Rattle.tables.specs.Messages.{sentTable};
+ghost use Rattle.tables.specs.Messages.{sentTable, lineSum, tableSum};
 ghost use Rattle.tables.specs.Answers.{number, messages, messageTables};
 use crate::checks::job_refusal;
 use crate::masks::clear_bit;
@@ -77,6 +76,54 @@ pub fn total_table(grocers: u16, gowner: &[u16], sharers: &[u16; 255]) -> [[u16;
     ensures { λ r. ⌜ r ≡ sentTable true grocers (now (gowner .entry)) (now (sharers .entry)) ⌝ }
 {
     sent_table(true, grocers, gowner, sharers)
+}
+
+// The word as a 32-bit number.
+fn wide(x: u16) -> u32
+    ensures { λ r. ⌜ (r ≡ x) × (r < 65536) ⌝ }
+{
+    x as u32
+}
+
+// The sum of row x of a table, or where `back` of column x.
+fn line_sum(table: [[u16; 16]; 16], back: bool, x: usize) -> u32
+    requires { ⌜ x < 16 ⌝ }
+    ensures { λ r. ⌜ (r ≡ lineSum back table x) × (r ≤ 1048560) ⌝ }
+{
+    let mut sum: u32 = 0;
+    for y in 0..16 {
+        let from = pick(back, y, x);
+        let to = pick(back, x, y);
+        sum += wide(table[from][to]);
+    }
+    sum
+}
+
+// The words that box a sends: its row of a table.
+pub fn row_sum(table: [[u16; 16]; 16], a: usize) -> u32
+    requires { ⌜ a < 16 ⌝ }
+    ensures { λ r. ⌜ r ≡ lineSum false table a ⌝ }
+{
+    line_sum(table, false, a)
+}
+
+// The words that box b receives: its column of a table.
+pub fn column_sum(table: [[u16; 16]; 16], b: usize) -> u32
+    requires { ⌜ b < 16 ⌝ }
+    ensures { λ r. ⌜ r ≡ lineSum true table b ⌝ }
+{
+    line_sum(table, true, b)
+}
+
+// The words of a table in all.
+pub fn table_sum(table: [[u16; 16]; 16]) -> u32
+    ensures { λ r. ⌜ r ≡ tableSum table ⌝ }
+{
+    let mut sum: u32 = 0;
+    for a in 0..16 {
+        sum += line_sum(table, false, a);
+    }
+    sum
 }
 
 // What `message_tables` answers: both tables are made, or the number of the condition that refuses it.

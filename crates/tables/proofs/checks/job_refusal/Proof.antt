@@ -1,5 +1,5 @@
 -- `tables::checks::job_refusal` meets its contract: each number is that of the first test that holds. Assumes nothing.
-use mathlib.Core.Path.{_≡_, sym, _∙_}
+use mathlib.Core.Path.{sym, _∙_}
 use borrow.Author.Needs.{needs}
 use Rattle.laws.specs.Checks.{firstMet}
 use Rattle.tables.specs.Refusals.{jobRefusals}

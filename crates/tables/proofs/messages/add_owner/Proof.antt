@@ -1,11 +1,11 @@
 -- `tables::messages::add_owner` meets its contract: the words of the boxes passed are added. Assumes nothing.
-use mathlib.Core.Path.{_≡_, refl, sym, ap, ap₂, _∙_}
+use mathlib.Core.Path.{_≡_, ap, _∙_}
 use mathlib.Core.List.{List}
-use Prim.Native.Nat.{ℕ, _<_, _≤_, _-_, _+_, _^_}
+use Prim.Native.Nat.{ℕ, _<_, _≤_, _-_, _^_}
 use native.Mathlib.Omega.{arith}
 use native.Mathlib.Nat.{le-antisymm}
 use borrow.Author.Needs.{needs}
-use lib.ListN.{length, getD, set}
+use lib.ListN.{getD}
 use denote.Ref.{now}
 use Rattle.laws.specs.Below.{words, only}
 use Rattle.laws.specs.Masks.{bit, without}
@@ -132,7 +132,7 @@ loop-again c =
     let s = entry e in (
       search needs,
       rw (e .before .loop .inv .1, c .before .before .before .pick .ensures, c .before .before .pick2 .ensures)
-          (passing-more (s .args .back) (s .args .n) (owners s) (masks s) (owner-in e) (mask-in e) (e .before .loop .b) (e .loop-test .taken) _ (rw (more-is c))),
+          (passing-more (s .args .back) (s .args .n) (owners s) (masks s) (owner-in e) (mask-in e) (e .before .loop .b) (e .loop-test .taken) (c .bit-word .result) (more-is c)),
     )
 
 returns : tie.Need-returns Inv-loop μ-loop

@@ -1,12 +1,9 @@
 -- `tables::messages::message_tables` meets its contract: the refusal, or the tables of the words that the masks mean. Assumes nothing.
 use mathlib.Core.Path.{_≡_, sym, ap, _∙_}
 use mathlib.Core.Bool.{true, false}
-use mathlib.Core.List.{List}
-use Prim.Native.Nat.{ℕ}
 use borrow.Author.Needs.{needs}
 use denote.Ref.{now}
-use Rattle.laws.specs.Tables.{tabulate}
-use Rattle.model.specs.Tables.{JobTables, jobTables, jobOf, jobLengths, jobShort}
+use Rattle.model.specs.Tables.{JobTables, jobTables}
 use Rattle.model.specs.Ranges.{jobInRange}
 use Rattle.tables.specs.Messages.{sentTable}
 use Rattle.tables.proofs.Whole.{JobWhole, job-whole}

@@ -1,5 +1,5 @@
 -- `tables::ranges::is_amount` meets its contract: the two tests are the size's. Assumes nothing.
-use mathlib.Core.Path.{_≡_, sym, ap, _∙_}
+use mathlib.Core.Path.{sym, ap, _∙_}
 use lib.IntN.{ℤ, negsuc}
 use lib.Signed.{leZ}
 use Rattle.laws.proofs.Signed.{read64, over-by, not-over-by}

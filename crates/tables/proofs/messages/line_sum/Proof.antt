@@ -1,0 +1,98 @@
+-- `tables::messages::line_sum` meets its contract: the sum is that of the counts passed. Assumes nothing.
+use mathlib.Core.Path.{_≡_, sym, ap, ap₂, _∙_}
+use Prim.Native.Nat.{ℕ, _<_, _≤_, _-_, _+_, _*_}
+use native.Mathlib.Nat.{le-antisymm}
+use native.Mathlib.Omega.{arith}
+use borrow.Author.Needs.{needs}
+use Rattle.tables.specs.Messages.{cellAt}
+use Rattle.tables.proofs.Sending.{side, lineTo, line-none, line-next, line-whole}
+use Rattle.tables.proofs.messages.line_sum.Statement.{statement}
+use Rattle.tables.proofs.messages.line_sum.Tie as tie
+
+abbrev Inv-loop : tie.InvT-loop
+Inv-loop back x table sum₀ y₀ sum y = (y ≤ 16) × (sum ≡ lineTo y back table x) × (sum ≤ 65_535 * y)
+
+abbrev μ-loop : tie.MeasureT-loop
+μ-loop back x table sum₀ y₀ sum y = 16 - y
+
+abbrev entry : tie.In-loop Inv-loop μ-loop → tie.Start Inv-loop μ-loop
+entry c = c .before .before
+
+sender : (c : tie.After-pick2 Inv-loop μ-loop) → c .before .pick .result < 16
+sender c =
+    let e = c .before .before in
+    rw (c .before .pick .ensures) (side (entry e .args .back) (e .before .loop .y) (entry e .args .x) (e .loop-test .taken) (entry e .pre))
+
+receiver : (c : tie.After-pick2 Inv-loop μ-loop) → c .pick2 .result < 16
+receiver c =
+    let e = c .before .before in
+    rw (c .pick2 .ensures) (side (entry e .args .back) (entry e .args .x) (e .before .loop .y) (entry e .pre) (e .loop-test .taken))
+
+loop-holds : tie.Need-loop-holds Inv-loop μ-loop
+loop-holds c = (search needs, sym (line-none _ _ _), search needs)
+
+pick-requires : tie.Need-pick-requires Inv-loop μ-loop
+pick-requires c κs = search needs
+
+pick-requires-2 : tie.Need-pick-requires-2 Inv-loop μ-loop
+pick-requires-2 c κs = search needs
+
+mul-wide : tie.Need-mul-wide Inv-loop μ-loop
+mul-wide c = omega (arith, sender c)
+
+mul-wide-2 : tie.Need-mul-wide-2 Inv-loop μ-loop
+mul-wide-2 c = omega (arith, receiver c)
+
+index-1-wide : tie.Need-index-1-wide Inv-loop μ-loop
+index-1-wide c = sender c
+
+index-2-wide : tie.Need-index-2-wide Inv-loop μ-loop
+index-2-wide c = receiver c
+
+wide-requires : tie.Need-wide-requires Inv-loop μ-loop
+wide-requires c κs = search needs
+
+add-sum : tie.Need-add-sum Inv-loop μ-loop
+add-sum c = omega (arith, c .wide .ensures .1, c .before .before .before .before .before .loop .inv .2, c .before .before .before .before .before .loop .inv .0)
+
+add-y : tie.Need-add-y Inv-loop μ-loop
+add-y c = search needs
+
+loop-less : tie.Need-loop-less Inv-loop μ-loop
+loop-less c = search needs
+
+loop-again : tie.Need-loop-again Inv-loop μ-loop
+loop-again c =
+    let e = c .before .before .before .before in
+    let s = entry e in (
+      search needs,
+      ap₂ (λ (x y : ℕ). x + y) (e .before .loop .inv .1) (c .wide .ensures .0 ∙ ap₂ (λ (a b : ℕ). cellAt (s .args .t1) a b) (c .before .before .before .pick .ensures) (c .before .before .pick2 .ensures))
+          ∙ sym (line-next (s .args .back) (s .args .t1) (s .args .x) (e .before .loop .y)),
+      omega (arith, c .wide .ensures .1, e .before .loop .inv .2),
+    )
+
+returns : tie.Need-returns Inv-loop μ-loop
+returns c =
+    let s = c .before .before in
+    let done : c .before .loop .y ≡ 16 = le-antisymm (c .before .loop .inv .0) (c .loop-test .left) in
+    (c .before .loop .inv .1 ∙ ap (λ (n : ℕ). lineTo n (s .args .back) (s .args .t1) (s .args .x)) done ∙ line-whole (s .args .back) (s .args .t1) (s .args .x), omega (arith, c .before .loop .inv .2))
+
+pub line-sum-spec : {M : Type 1} → statement M
+line-sum-spec =
+    tie.close
+    (tie.spec
+    Inv-loop
+    μ-loop
+    loop-holds
+    pick-requires
+    pick-requires-2
+    mul-wide
+    mul-wide-2
+    index-1-wide
+    index-2-wide
+    wide-requires
+    add-sum
+    add-y
+    loop-less
+    loop-again
+    returns)
