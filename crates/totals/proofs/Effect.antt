@@ -1,28 +1,28 @@
 -- The lists that the calls leave are the model's: the tables with the effect of steps 2 to 6 written into them. Assumes nothing.
-use mathlib.Core.Path.{_≡_, refl, sym, ap, ap₂, _∙_}
-use mathlib.Core.Bool.{Bool, true, false, cond, _&&_, not}
+use mathlib.Core.Path.{_≡_, refl, sym, ap, _∙_}
+use mathlib.Core.Bool.{Bool, true, false, cond, _&&_}
 use mathlib.Core.List.{List}
 use Prim.Native.Nat.{ℕ, _+_, _*_, _<_, _≤_}
 use native.Mathlib.Omega.{arith}
 use lib.Dec.{eqb, ltb, leb}
 use lib.ListN.{getD}
 use lib.IntN.{ℤ, pos, natAbs, _+ℤ_, _*ℤ_}
-use borrow.Author.Tests.{lt-ltb, eq-eqb, ne-eqb, eqb-true}
-use Rattle.laws.specs.Below.{amounts, sum, only, all, count}
+use borrow.Author.Tests.{lt-ltb, ne-eqb, eqb-true}
+use Rattle.laws.specs.Below.{amounts, only, all, count}
 use Rattle.laws.specs.Tables.{tabulate, overwrite, word, cell, recell}
 use Rattle.laws.proofs.Bools.{split, eqb-same}
 use Rattle.laws.proofs.Below.{count-cong}
 use Rattle.laws.proofs.Sums.{sum-cong}
 use Rattle.laws.proofs.Tables.{recell-cong, overwrite-cong, getD-tabulate, word-in}
-use Rattle.model.specs.Job.{Job, heldBy, needs, amount, sharerWord, priceWord, totalWord}
-use Rattle.model.specs.Steps.{State, products, received, effect, multiplyOwn, receivePrices, sendTotals, addOwn, receiveTotals}
+use Rattle.model.specs.Job.{heldBy, needs, amount, sharerWord, priceWord, totalWord}
+use Rattle.model.specs.Steps.{products, received, effect, multiplyOwn, receivePrices, sendTotals, addOwn, receiveTotals}
 use Rattle.model.specs.Tables.{JobTables, jobOf, StateTables, view, store}
 use Rattle.model.specs.Ranges.{maxAmount, around}
-use Rattle.model.proofs.Parts.{needs-at}
 use Rattle.words.specs.Message.{wordIn}
-use Rattle.words.proofs.Message.{total-word}
 use Rattle.totals.specs.Row.{Tallies, tallies, TalliesIn, putRow, product, productSum, productRow}
 use Rattle.totals.specs.Credit.{cleared, sentTotals, credited, creditWord, creditAll}
+use Rattle.model.proofs.Parts.{needs-at}
+use Rattle.words.proofs.Message.{total-word}
 use Rattle.totals.proofs.Extra.{under-at}
 use Rattle.totals.proofs.Rows.{put-range}
 use Rattle.totals.proofs.Credits.{credited-own, credited-other, credit-range}
@@ -74,10 +74,10 @@ module _ (f : JobTables) (h : TalliesIn (talliesOf f)) (a : ℕ) (la : a < f .bo
   offer-in i l = under-at (f .offers) (f .tallies) (f .tallyOffer) i (h .offer-in) l
 
   -- Step 2: the working totals.
-  pub multiplied-own : (t : StateTables) (b : ℕ) → store (jobOf f) (effect (jobOf f) (view (jobOf f) t) multiplyOwn a b) t .working
+  pub multiplied-working : (t : StateTables) (b : ℕ) → store (jobOf f) (effect (jobOf f) (view (jobOf f) t) multiplyOwn a b) t .working
       ≡ putRow (f .boxes) (f .grocers) a (productRow (talliesOf f) (t .known) a a (t .working)) (t .working)
   unfolding store effect view jobOf
-  multiplied-own t b =
+  multiplied-working t b =
       put-is (t .known) a (cell (f .boxes) (f .offers) (t .known) 0 a) (λ o. eqb (word (f .offers) (f .offerOwner) 0 o) a)
       (λ i l _. rw (word-in (f .offers) (f .offerOwner) 0 (getD (f .tallyOffer) i 0) (offer-in i l)))
       (λ o _. refl) (t .working)
@@ -86,7 +86,7 @@ module _ (f : JobTables) (h : TalliesIn (talliesOf f)) (a : ℕ) (la : a < f .bo
   pub multiplied-range : (t : StateTables) (b : ℕ) → around maxAmount (f .boxes * f .grocers) (t .working) ≡ true →
       around maxAmount (f .boxes * f .grocers) (store (jobOf f) (effect (jobOf f) (view (jobOf f) t) multiplyOwn a b) t .working)
       ≡ around maxAmount (f .grocers) (productRow (talliesOf f) (t .known) a a (t .working))
-  multiplied-range t b ok = rw (multiplied-own t b) (put-range maxAmount (f .boxes) (f .grocers) a _ (t .working) la ok)
+  multiplied-range t b ok = rw (multiplied-working t b) (put-range maxAmount (f .boxes) (f .grocers) a _ (t .working) la ok)
 
   -- The offer of a tally, as the model reads it: its owner, and that box a needs it if it holds the tally.
   owner-is : (i : ℕ) → i < f .tallies → jobOf f .offerOwner (getD (f .tallyOffer) i 0) ≡ getD (f .offerOwner) (getD (f .tallyOffer) i 0) 0
@@ -132,23 +132,23 @@ module _ (f : JobTables) (t : StateTables) (masks : List ℕ) (a b : ℕ) (la : 
   due x y g lx lg = total-word f masks y x g (omega arith) lg lm e
 
   -- Step 4: the working totals, the totals in transit, and the words sent.
-  pub sent-working : store (jobOf f) (effect (jobOf f) (view (jobOf f) t) sendTotals a b) t .working
+  pub totals-sent-working : store (jobOf f) (effect (jobOf f) (view (jobOf f) t) sendTotals a b) t .working
       ≡ cleared (f .boxes) (f .grocers) a (wordIn (f .grocerOwner) masks b a) (t .working)
   unfolding store effect view cleared jobOf
-  sent-working = recell-cong (f .boxes) (f .grocers) _ _ (t .working) (λ c g lc lg. rw (due a b g la lg))
+  totals-sent-working = recell-cong (f .boxes) (f .grocers) _ _ (t .working) (λ c g lc lg. rw (due a b g la lg))
 
-  pub sent-transit : store (jobOf f) (effect (jobOf f) (view (jobOf f) t) sendTotals a b) t .totalTransit
+  pub totals-sent-transit : store (jobOf f) (effect (jobOf f) (view (jobOf f) t) sendTotals a b) t .totalTransit
       ≡ sentTotals (f .boxes) (f .grocers) a (wordIn (f .grocerOwner) masks b a) (t .working) (t .totalTransit)
   unfolding store effect view sentTotals jobOf
-  sent-transit = recell-cong (f .boxes) (f .grocers) _ _ (t .totalTransit) (λ c g lc lg. rw (due a b g la lg))
+  totals-sent-transit = recell-cong (f .boxes) (f .grocers) _ _ (t .totalTransit) (λ c g lc lg. rw (due a b g la lg))
 
-  pub words-sent : count (f .grocers) (wordIn (f .grocerOwner) masks b a) ≡ count (f .grocers) (totalWord (jobOf f) a b)
-  words-sent = count-cong (f .grocers) (wordIn (f .grocerOwner) masks b a) (totalWord (jobOf f) a b) (λ g lg. due a b g la lg)
+  pub totals-sent-count : count (f .grocers) (wordIn (f .grocerOwner) masks b a) ≡ count (f .grocers) (totalWord (jobOf f) a b)
+  totals-sent-count = count-cong (f .grocers) (wordIn (f .grocerOwner) masks b a) (totalWord (jobOf f) a b) (λ g lg. due a b g la lg)
 
-  pub sent-more : store (jobOf f) (effect (jobOf f) (view (jobOf f) t) sendTotals a b) t .sent
+  pub totals-sent-more : store (jobOf f) (effect (jobOf f) (view (jobOf f) t) sendTotals a b) t .sent
       ≡ overwrite 1 (λ i. getD (t .sent) 0 0 + count (f .grocers) (wordIn (f .grocerOwner) masks b a)) (t .sent)
   unfolding store effect view jobOf
-  sent-more = rw (words-sent, word-in 1 (t .sent) 0 0 (omega arith))
+  totals-sent-more = rw (totals-sent-count, word-in 1 (t .sent) 0 0 (omega arith))
 
   -- Step 5: the working totals, and the statements with their range.
   own : (g : ℕ) → g < f .grocers → credited (f .grocerOwner) masks a a g ≡ eqb (word (f .grocers) (f .grocerOwner) 0 g) a
@@ -173,16 +173,16 @@ module _ (f : JobTables) (t : StateTables) (masks : List ℕ) (a b : ℕ) (la : 
     other g lg = credited-other (f .grocerOwner) masks a b g ne ∙ due b a g lb lg
 
     -- Step 6: the totals in transit, and the statements with their range.
-    pub received-transit : store (jobOf f) (effect (jobOf f) (view (jobOf f) t) receiveTotals a b) t .totalTransit
+    pub totals-received-transit : store (jobOf f) (effect (jobOf f) (view (jobOf f) t) receiveTotals a b) t .totalTransit
         ≡ cleared (f .boxes) (f .grocers) b (credited (f .grocerOwner) masks a b) (t .totalTransit)
     unfolding store effect view cleared jobOf
-    received-transit = recell-cong (f .boxes) (f .grocers) _ _ (t .totalTransit) (λ c g lc lg. rw (other g lg))
+    totals-received-transit = recell-cong (f .boxes) (f .grocers) _ _ (t .totalTransit) (λ c g lc lg. rw (other g lg))
 
-    pub received-statement : store (jobOf f) (effect (jobOf f) (view (jobOf f) t) receiveTotals a b) t .statement
+    pub totals-received-statement : store (jobOf f) (effect (jobOf f) (view (jobOf f) t) receiveTotals a b) t .statement
         ≡ creditAll (f .boxes) (f .grocers) b (credited (f .grocerOwner) masks a b) (t .totalTransit) (t .statement)
     unfolding store effect view creditAll creditWord jobOf
-    received-statement = overwrite-cong (f .grocers) _ _ (t .statement) (λ g lg. rw (other g lg))
+    totals-received-statement = overwrite-cong (f .grocers) _ _ (t .statement) (λ g lg. rw (other g lg))
 
-    pub statement-range : around maxAmount (f .grocers) (store (jobOf f) (effect (jobOf f) (view (jobOf f) t) receiveTotals a b) t .statement)
+    pub totals-received-range : around maxAmount (f .grocers) (store (jobOf f) (effect (jobOf f) (view (jobOf f) t) receiveTotals a b) t .statement)
         ≡ all (f .grocers) (λ g. leb (natAbs (creditWord (f .boxes) (f .grocers) b (credited (f .grocerOwner) masks a b) (t .totalTransit) (t .statement) g)) maxAmount)
-    statement-range = rw received-statement (credit-range maxAmount (f .boxes) (f .grocers) b (credited (f .grocerOwner) masks a b) (t .totalTransit) (t .statement))
+    totals-received-range = rw totals-received-statement (credit-range maxAmount (f .boxes) (f .grocers) b (credited (f .grocerOwner) masks a b) (t .totalTransit) (t .statement))

@@ -3,3 +3,4 @@ pub mod Extra
 pub mod Rows
 pub mod Credits
 pub mod Effect
+pub mod Given

@@ -7,19 +7,19 @@ use native.Mathlib.Nat.{le-trans, mod-lt}
 use native.Mathlib.Omega.{arith}
 use lib.Dec.{eqb, leb}
 use lib.Arith.{digits-div, digits-mod}
-use borrow.Author.Tests.{le-leb}
-use lib.ListN.{length, getD, set}
+use lib.ListN.{getD, set}
 use lib.Seq.{set-getD}
 use lib.IntN.{ℤ, pos, natAbs, _+ℤ_, _*ℤ_, +ℤ-idr}
+use borrow.Author.Tests.{le-leb}
 use Rattle.laws.specs.Below.{amounts, sum, only, all}
 use Rattle.laws.specs.Tables.{overwrite, cell, recell}
 use Rattle.laws.proofs.Bools.{split, eqb-same}
 use Rattle.laws.proofs.Below.{all-at, all-of, all-find, all-fails}
 use Rattle.laws.proofs.Loops.{share}
-use Rattle.laws.proofs.Signed.{abs-plus, abs-times-le, sum-abs, only-abs}
+use Rattle.laws.proofs.Signed.{abs-times-le, only-abs}
 use Rattle.laws.proofs.Sums.{sum-cong}
 use Rattle.laws.proofs.Tables.{pos-right, cell-in, getD-tabulate, getD-overwrite}
-use Rattle.model.specs.Ranges.{maxAmount, maxGrocers, around}
+use Rattle.model.specs.Ranges.{maxAmount, around}
 use Rattle.totals.specs.Row.{Tallies, TalliesIn, PricesIn, AmountsIn, TallyIn, raised, isTaken, productAt, brings, rowOf, putRow, product, productSum}
 use Rattle.totals.proofs.Extra.{under-at, up-at, around-at, row-in, cell-at, cell-abs}
 

@@ -122,7 +122,18 @@ pub fn product_row(
     let at = row_start(n, a);
     for i in 0..t {
         add_tally(
-            n, at, a, from, i, owner, grocer, holder, offer, counts, prices, &mut row,
+            n,
+            at,
+            a,
+            from,
+            i,
+            owner,
+            grocer,
+            holder,
+            offer,
+            counts,
+            prices,
+            &mut row,
         );
     }
     row

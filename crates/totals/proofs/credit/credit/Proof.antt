@@ -8,22 +8,17 @@ use native.Mathlib.Omega.{arith}
 use lib.Dec.{ltb}
 use lib.ListN.{length, getD}
 use lib.IntN.{ℤ, pos, natAbs, _+ℤ_}
-use denote.Ref.{now}
-use borrow.Author.Needs.{needs}
-use Rattle.laws.specs.Tables.{cell}
 use Rattle.laws.proofs.Loops.{guarded, guarded-more, guarded-next, guarded-none}
-use Rattle.totals.specs.Credit.{CreditIn, credited, cleared, creditWord, creditAll}
+use borrow.Author.Needs.{needs}
+use Rattle.totals.specs.Credit.{credited, cleared}
+use denote.Ref.{now}
 use Rattle.totals.proofs.Extra.{around-at, cond-no, front-more, front-next, front-none, row-in, row-stored}
 use Rattle.totals.proofs.Credits.{credit-stored}
 use Rattle.totals.proofs.credit.credit.Statement.{statement}
 use Rattle.totals.proofs.credit.credit.Tie as tie
-use Rattle.totals.proofs.credit.credit.Reads as reads
-use Rattle.totals.proofs.credit.credit.Lts as lts
-use Rattle.totals.proofs.credit.credit_one.Reads as credit-one-reads
-use Rattle.totals.proofs.num.row_start.Reads as row-start-reads
 
 abbrev Inv-loop : tie.InvT-loop
-Inv-loop k m a from owner sharers source₀ statement₀ at g₀ source statement g = 
+Inv-loop k m a from owner sharers source₀ statement₀ at g₀ source statement g =
     (g ≤ m)
     × (length source ≡ length source₀)
     × (length statement ≡ length statement₀)
@@ -70,13 +65,11 @@ old-is c =
     let g = c .before .loop .g in
     c .before .loop .inv .4 g ∙ cond-no _ (old s g +ℤ was s (start c + g)) (old s g) (front-next g (test s g))
 
--- src/credit.rt:106:9
 row-start-requires : tie.Need-row-start-requires Inv-loop μ-loop
 row-start-requires c κs = (omega (arith, c .before .pre .0 .1), omega (arith, c .before .pre .0 .0, c .before .pre .0 .2))
 
--- src/credit.rt:107:5
 loop-holds : tie.Need-loop-holds Inv-loop μ-loop
-loop-holds c = 
+loop-holds c =
     let s = c .before .before in (
       search needs,
       refl,
@@ -85,13 +78,11 @@ loop-holds c =
       λ i. sym (cond-no _ (old s i +ℤ was s (c .row-start .result + i)) (old s i) (front-none i (test s i))),
     )
 
--- src/credit.rt:108:20
 add-credit-one : tie.Need-add-credit-one Inv-loop μ-loop
 add-credit-one c = omega (arith, place c, entry c .pre .1 .0 .long)
 
--- src/credit.rt:108:9
 credit-one-requires : tie.Need-credit-one-requires Inv-loop μ-loop
-credit-one-requires c κs = 
+credit-one-requires c κs =
     let e = c .before .before in
     let s = entry e in
     let g = e .before .loop .g in
@@ -106,17 +97,14 @@ credit-one-requires c κs =
       statement-in = subst (λ (z : ℤ). natAbs z ≤ 1_000_000_000_000_000) (sym (old-is e)) (around-at 1_000_000_000_000_000 (s .args .m) (now (s .args .statement)) g (s .pre .1 .1 .words-in) (e .loop-test .taken));
     }
 
--- src/credit.rt:107:9
 add-g : tie.Need-add-g Inv-loop μ-loop
 add-g c = search needs
 
--- src/credit.rt:107:5
 loop-less : tie.Need-loop-less Inv-loop μ-loop
 loop-less c = search needs
 
--- src/credit.rt:107:5
 loop-again : tie.Need-loop-again Inv-loop μ-loop
-loop-again c = 
+loop-again c =
     let e = c .before .before .before .before .before in
     let s = entry e in
     let at = start e in
@@ -132,18 +120,15 @@ loop-again c =
           ∙ front-more (e .before .loop .statement) (pos 0) (λ i. old s i +ℤ was s (at + i)) (old s) g (test s) (omega (arith, s .pre .1 .1 .long, e .loop-test .taken, inv .2)) (inv .4) _ (ap₂ _+ℤ_ (old-is e) (total-is e)) i,
     )
 
--- src/credit.rt:92:1
 same-length : tie.Need-same-length Inv-loop μ-loop
 same-length c = c .before .loop .inv .1
 
--- src/credit.rt:92:1
 same-length-2 : tie.Need-same-length-2 Inv-loop μ-loop
 same-length-2 c = c .before .loop .inv .2
 
--- src/credit.rt:92:1
 returns : tie.Need-returns Inv-loop μ-loop
 unfolding cleared
-returns c = 
+returns c =
     let s = c .before .before .before .before in
     let k = s .args .k in
     let m = s .args .m in

@@ -1,13 +1,12 @@
 -- `totals::num::amount` meets its contract: the product of the two is at most 99,999 × 9,999,999. Assumes nothing.
 use mathlib.Core.Path.{_≡_}
-use Prim.Native.Nat.{ℕ}
-use lib.Dec.{lit≤}
 use native.Mathlib.Nat.{le-trans}
-use lib.IntN.{ℤ, pos, _*ℤ_}
-use borrow.Author.Needs.{needs}
+use lib.Dec.{lit≤}
+use lib.IntN.{pos, _*ℤ_}
 use mir.Syntax.{w64}
 use mir.Val.{toZ, ofZ}
 use Rattle.laws.proofs.Signed.{read64, read32, fits64-as, abs-times-le}
+use borrow.Author.Needs.{needs}
 use Rattle.totals.proofs.num.amount.Statement.{statement}
 use Rattle.totals.proofs.num.amount.Tie as tie
 
@@ -17,7 +16,7 @@ wide-count-requires c κs = search needs
 wide-price-requires : tie.Need-wide-price-requires
 wide-price-requires c κs = search needs
 
--- what the machine multiplies is count × price
+-- What the machine multiplies is count × price.
 whole : (c : tie.After-wide-price) → toZ w64 (ofZ w64 (c .before .wide-count .result)) *ℤ toZ w64 (ofZ w64 (c .wide-price .result)) ≡ c .before .before .args .count *ℤ pos (c .before .before .args .price)
 whole c = cc (read64 (c .before .wide-count .result) (c .before .wide-count .ok), read64 (c .wide-price .result) (c .wide-price .ok), read32 (c .before .before .args .count) (c .before .before .fits .count .sfits))
 

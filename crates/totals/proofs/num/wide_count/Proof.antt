@@ -1,5 +1,5 @@
 -- `totals::num::wide_count` meets its contract: an i32 fits an i64, and its bits read back as itself. Assumes nothing.
-use mathlib.Core.Path.{_≡_, sym, ap, _∙_, subst}
+use mathlib.Core.Path.{sym, ap, _∙_, subst}
 use lib.IntN.{ℤ}
 use mir.Syntax.{w64}
 use mir.Val.{SFits, toZ, ofZ}

@@ -1,8 +1,8 @@
 -- `totals::num::wide_price` meets its contract: a u32 is below 2^63. Assumes nothing.
-use borrow.Author.Needs.{needs}
 use native.Mathlib.Omega.{arith}
 use mir.Syntax.{w64}
 use mir.Facts.{toZ-pos}
+use borrow.Author.Needs.{needs}
 use Rattle.totals.proofs.num.wide_price.Statement.{statement}
 use Rattle.totals.proofs.num.wide_price.Tie as tie
 

@@ -7,22 +7,16 @@ use native.Mathlib.Omega.{arith}
 use lib.Dec.{lit≤}
 use lib.ListN.{getD, set}
 use lib.IntN.{ℤ, pos, _+ℤ_, _*ℤ_}
-use denote.Ref.{now}
 use mir.Syntax.{w32, w64}
 use mir.Val.{toZ, ofZ}
 use borrow.Author.Tests.{not-true, not-false}
 use Rattle.laws.proofs.Signed.{read64, read32-abs, read-sum, fits64-as, abs-plus, abs-times-le}
 use Rattle.totals.specs.Row.{isTaken, productAt}
-use Rattle.totals.proofs.Rows.{raised-not, raised-by}
 use borrow.Author.Needs.{needs}
+use denote.Ref.{now}
+use Rattle.totals.proofs.Rows.{raised-not, raised-by}
 use Rattle.totals.proofs.row.add_tally.Statement.{statement}
 use Rattle.totals.proofs.row.add_tally.Tie as tie
-use Rattle.totals.proofs.row.add_tally.Reads as reads
-use Rattle.totals.proofs.row.add_tally.Lts as lts
-use Rattle.totals.proofs.num.amount.Reads as amount-reads
-use Rattle.totals.proofs.num.index.Reads as index-reads
-use Rattle.totals.proofs.num.plus.Reads as plus-reads
-use Rattle.totals.proofs.row.is_taken.Reads as is-taken-reads
 
 abbrev taken : tie.Start → Bool
 taken s = isTaken (now (s .args .owner)) (now (s .args .holder)) (now (s .args .offer)) (s .args .a) (s .args .from) (s .args .i)
@@ -49,77 +43,60 @@ sum-is c =
     let s = c .before .before .before .before .before .before .before .before .before .before .before .before .before .before .before in
     read-sum (c .plus-arg .given) (c .before .before .before .amount .ok) (ap (λ (g : ℕ). getD (now (s .args .row)) g (pos 0)) (c .before .index2 .ensures)) (amount-is (c .before .before .before))
 
--- src/row.rt:89:9
 is-taken-requires : tie.Need-is-taken-requires
 is-taken-requires c κs = search needs
 
--- src/row.rt:90:9
 returns : tie.Need-returns
-returns c = 
+returns c =
     let s = c .before .before .before .before .before .before .before in
     raised-not (now (s .args .row)) (place s) (taken s) (product s) (sym (c .before .is-taken .ensures) ∙ not-true (c .before .is-taken .result) (c .if1 .taken))
 
--- src/row.rt:92:24
 mul-index : tie.Need-mul-index
 mul-index c = search needs
 
--- src/row.rt:92:24
 shared-slice-read-index : tie.Need-shared-slice-read-index
 shared-slice-read-index c = search needs
 
--- src/row.rt:92:18
 index-requires : tie.Need-index-requires
 index-requires c κs = search needs
 
--- src/row.rt:92:13
 add-p : tie.Need-add-p
 add-p c = search needs
 
--- src/row.rt:93:20
 mul-amount : tie.Need-mul-amount
 mul-amount c = search needs
 
--- src/row.rt:93:20
 shared-slice-copy-out-amount : tie.Need-shared-slice-copy-out-amount
 shared-slice-copy-out-amount c = search needs
 
--- src/row.rt:93:31
 mul-amount-2 : tie.Need-mul-amount-2
 mul-amount-2 c = search needs
 
--- src/row.rt:93:31
 shared-slice-read-amount : tie.Need-shared-slice-read-amount
 shared-slice-read-amount c = search needs
 
--- src/row.rt:93:9
 amount-requires : tie.Need-amount-requires
-amount-requires c κs = 
+amount-requires c κs =
     let s = c .before .before .before .before .before .before .before .before .before .before .before in
     (rw (count-is s) (s .pre .0 .count-in), rw (c .before .before .index .ensures) (s .pre .0 .price-in))
 
--- src/row.rt:94:19
 mul-index-2 : tie.Need-mul-index-2
 mul-index-2 c = search needs
 
--- src/row.rt:94:19
 shared-slice-read-index-2 : tie.Need-shared-slice-read-index-2
 shared-slice-read-index-2 c = search needs
 
--- src/row.rt:94:9
 index-requires-2 : tie.Need-index-requires-2
 index-requires-2 c κs = search needs
 
--- src/row.rt:95:18
 mul-plus : tie.Need-mul-plus
 mul-plus c = search needs
 
--- src/row.rt:95:18
 element-copy-out-plus : tie.Need-element-copy-out-plus
 element-copy-out-plus c = search needs
 
--- src/row.rt:95:9
 plus-requires : tie.Need-plus-requires
-plus-requires c κs = 
+plus-requires c κs =
     let s = c .before .before .before .before .before .before .before .before .before .before .before .before .before .before .before in
     fits64-as (sum-is c) (omega (
       arith,
@@ -128,17 +105,14 @@ plus-requires c κs =
       abs-times-le (getD (now (s .args .counts)) (s .args .i) (pos 0)) (pos (getD (now (s .args .prices)) (s .args .at + getD (now (s .args .offer)) (s .args .i) 0) 0)) (s .pre .0 .count-in) (s .pre .0 .price-in),
     ))
 
--- src/row.rt:96:5
 mul-v : tie.Need-mul-v
 mul-v c = search needs
 
--- src/row.rt:96:5
 element-set-from-v : tie.Need-element-set-from-v
 element-set-from-v c = search needs
 
--- src/row.rt:71:1
 returns-2 : tie.Need-returns-2
-returns-2 c = 
+returns-2 c =
     let s = c .before .before .before .before .before .before .before .before .before .before .before .before .before .before .before .before in
     ap₂ (set (now (s .args .row))) (c .before .before .index2 .ensures) (read64 (c .plus .result) (c .plus .ok) ∙ c .plus .ensures ∙ sum-is (c .before))
     ∙ raised-by (now (s .args .row)) (place s) (taken s) (product s) (sym (c .before .before .before .before .before .before .before .before .before .before .is-taken .ensures) ∙ not-false (c .before .before .before .before .before .before .before .before .before .before .is-taken .result) (c .before .before .before .before .before .before .before .before .before .if1 .left))

@@ -1,30 +1,24 @@
 -- `totals::row::product_row` meets its contract. The invariant: each word is the word at entry with the tallies passed added. Assumes nothing.
-use mathlib.Core.Path.{_≡_, refl, sym, ap, ap₂, _∙_, subst}
+use mathlib.Core.Path.{_≡_, sym, ap, ap₂, _∙_, subst}
 use mathlib.Core.List.{List}
-use Prim.Native.Nat.{ℕ, _≤_, _<_, _+_, _*_, _-_}
+use Prim.Native.Nat.{ℕ, _≤_, _<_, _-_}
 use native.Mathlib.Nat.{le-antisymm}
 use native.Mathlib.Omega.{arith}
 use lib.ListN.{length, getD, length-set}
 use lib.IntN.{ℤ, pos, natAbs, _+ℤ_, +ℤ-idr}
-use denote.Ref.{now}
-use borrow.Author.Needs.{needs}
 use Rattle.laws.specs.Below.{amounts, sum}
 use Rattle.laws.proofs.Loops.{share, pile-more}
 use Rattle.laws.proofs.Tables.{is-tabulate}
-use Rattle.model.specs.Ranges.{maxGrocers}
-use Rattle.totals.specs.Row.{Tallies, tallies, brings, raised, rowOf, productRow}
+use borrow.Author.Needs.{needs}
+use Rattle.totals.specs.Row.{Tallies, tallies, brings, raised, productRow}
+use denote.Ref.{now}
 use Rattle.totals.proofs.Extra.{sum-zero, pile-size}
 use Rattle.totals.proofs.Rows.{tally-in, brought-abs, brought-sum, row-word, row-size}
 use Rattle.totals.proofs.row.product_row.Statement.{statement}
 use Rattle.totals.proofs.row.product_row.Tie as tie
-use Rattle.totals.proofs.row.product_row.Reads as reads
-use Rattle.totals.proofs.row.product_row.Lts as lts
-use Rattle.totals.proofs.num.row_start.Reads as row-start-reads
-use Rattle.totals.proofs.row.add_tally.Reads as add-tally-reads
-use Rattle.totals.proofs.row.row_at.Reads as row-at-reads
 
 abbrev Inv-loop : tie.InvT-loop
-Inv-loop k m n t a from owner grocer holder offer counts prices working row₀ at i₀ row i = 
+Inv-loop k m n t a from owner grocer holder offer counts prices working row₀ at i₀ row i =
     (i ≤ t)
     × (length row ≡ 255)
     × ((g : ℕ) → getD row g (pos 0) ≡ getD row₀ g (pos 0) +ℤ sum amounts i (share (λ j. getD grocer j 0) (brings owner holder offer counts prices a from at) g))
@@ -73,38 +67,31 @@ small c =
           (λ r l. brought-abs (tables s) (prices s) (s .args .a) (s .args .from) at (s .pre .0) (s .pre .1 .0) (s .pre .1 .1 .1) (began c .row-start .ensures) r (omega (arith, l, c .loop-test .taken))),
     )
 
--- src/row.rt:121:19
 row-at-requires : tie.Need-row-at-requires Inv-loop μ-loop
 row-at-requires c κs = let s = c .before .before .before .before .before in (s .pre .0 .boxes-in, s .pre .0 .grocers-in, s .pre .1 .1 .1, s .pre .1 .1 .0 .long)
 
--- src/row.rt:122:9
 row-start-requires : tie.Need-row-start-requires Inv-loop μ-loop
 row-start-requires c κs = let s = c .before .before .before .before .before .before in (s .pre .0 .offers-in, omega (arith, s .pre .0 .boxes-in, s .pre .1 .1 .1))
 
--- src/row.rt:123:5
 loop-holds : tie.Need-loop-holds Inv-loop μ-loop
-loop-holds c = 
+loop-holds c =
     let s = c .before .before .before .before .before .before .before in
     let row = c .before .row-at .result in
     (search needs, search needs, λ g. sym (ap (λ (z : ℤ). getD row g (pos 0) +ℤ z) (sum-zero (share (place s) (brought s (c .row-start .result)) g)) ∙ +ℤ-idr (getD row g (pos 0))))
 
--- src/row.rt:124:9
 add-tally-requires : tie.Need-add-tally-requires Inv-loop μ-loop
-add-tally-requires c κs = 
+add-tally-requires c κs =
     let s = entry (began (c .before)) in
     (tally-in (tables s) (prices s) (s .args .a) (s .args .from) (began (c .before) .row-start .result) (s .pre .0) (s .pre .1 .0) (s .pre .1 .1 .1) (began (c .before) .row-start .ensures) (c .before .before .loop .i) (c .before .loop-test .taken), small (c .before))
 
--- src/row.rt:123:9
 add-i : tie.Need-add-i Inv-loop μ-loop
 add-i c = search needs
 
--- src/row.rt:123:5
 loop-less : tie.Need-loop-less Inv-loop μ-loop
 loop-less c = search needs
 
--- src/row.rt:123:5
 loop-again : tie.Need-loop-again Inv-loop μ-loop
-loop-again c = 
+loop-again c =
     let e = c .before .before in
     let s = entry (began e) in
     let i = e .before .loop .i in
@@ -117,10 +104,9 @@ loop-again c =
       λ g. ap (λ (l : List ℤ). getD l g (pos 0)) stored ∙ pile-more (began e .before .row-at .result) row (place s) (brought s at) i (inv .2) (omega (arith, grocer-in e, inv .1)) g,
     )
 
--- src/row.rt:100:1
 returns : tie.Need-returns Inv-loop μ-loop
 unfolding productRow
-returns c = 
+returns c =
     let b = c .before .before in
     let s = entry b in
     let inv = c .before .loop .inv in

@@ -7,24 +7,20 @@ use native.Mathlib.Nat.{le-antisymm}
 use native.Mathlib.Omega.{arith}
 use lib.ListN.{length, getD}
 use lib.IntN.{ℤ, pos}
-use denote.Ref.{now}
-use borrow.Author.Needs.{needs}
 use Rattle.laws.specs.Below.{count}
 use Rattle.laws.specs.Tables.{cell}
 use Rattle.laws.proofs.Below.{count-next, count-le, only-le}
 use Rattle.laws.proofs.Loops.{guarded, guarded-more, guarded-next, guarded-none}
+use borrow.Author.Needs.{needs}
 use Rattle.words.specs.Message.{wordIn}
 use Rattle.totals.specs.Credit.{cleared, sentTotals}
+use denote.Ref.{now}
 use Rattle.totals.proofs.Extra.{count-start, cond-no, row-in, row-stored, cell-at}
 use Rattle.totals.proofs.send.send_totals.Statement.{statement}
 use Rattle.totals.proofs.send.send_totals.Tie as tie
-use Rattle.totals.proofs.send.send_totals.Reads as reads
-use Rattle.totals.proofs.send.send_totals.Lts as lts
-use Rattle.totals.proofs.num.row_start.Reads as row-start-reads
-use Rattle.totals.proofs.send.send_one.Reads as send-one-reads
 
 abbrev Inv-loop : tie.InvT-loop
-Inv-loop k m a b owner sharers working₀ transit₀ at sent₀ g₀ working transit sent g = 
+Inv-loop k m a b owner sharers working₀ transit₀ at sent₀ g₀ working transit sent g =
     (g ≤ m)
     × (sent ≡ count g (wordIn owner sharers b a))
     × (length working ≡ length working₀)
@@ -59,13 +55,11 @@ place c =
     let s = entry c in
     omega (arith, row-in (s .args .a) (s .args .k) (s .args .m) (s .pre .2), c .before .before .row-start .ensures, c .loop-test .taken)
 
--- src/send.rt:49:9
 row-start-requires : tie.Need-row-start-requires Inv-loop μ-loop
 row-start-requires c κs = (omega (arith, c .before .pre .1), omega (arith, c .before .pre .0, c .before .pre .2))
 
--- src/send.rt:51:5
 loop-holds : tie.Need-loop-holds Inv-loop μ-loop
-loop-holds c = 
+loop-holds c =
     let s = c .before .before in (
       search needs,
       sym (count-start (test s)),
@@ -75,13 +69,11 @@ loop-holds c =
       λ i. sym (cond-no _ (was s i) (way s i) (guarded-none (c .row-start .result) (test s) i)),
     )
 
--- src/send.rt:52:26
 add-send-one : tie.Need-add-send-one Inv-loop μ-loop
 add-send-one c = let s = entry c in omega (arith, place c, s .pre .4)
 
--- src/send.rt:52:17
 send-one-requires : tie.Need-send-one-requires Inv-loop μ-loop
-send-one-requires c κs = 
+send-one-requires c κs =
     let e = c .before .before in
     let s = entry e in
     let inv = e .before .loop .inv in (
@@ -92,25 +84,21 @@ send-one-requires c κs =
       omega (arith, place e, s .pre .5, inv .3),
     )
 
--- src/send.rt:52:9
 add-sent : tie.Need-add-sent Inv-loop μ-loop
-add-sent c = 
+add-sent c =
     let e = c .before .before .before .before .before in
     let s = entry e in
     let g = e .before .loop .g in
     omega (arith, count-le g (test s), only-le (test s g) 1, c .before .before .send-one .ensures .0, e .before .loop .inv .1, e .loop-test .taken, s .pre .1)
 
--- src/send.rt:51:9
 add-g : tie.Need-add-g Inv-loop μ-loop
 add-g c = search needs
 
--- src/send.rt:51:5
 loop-less : tie.Need-loop-less Inv-loop μ-loop
 loop-less c = search needs
 
--- src/send.rt:51:5
 loop-again : tie.Need-loop-again Inv-loop μ-loop
-loop-again c = 
+loop-again c =
     let e = c .before .before .before .before .before in
     let s = entry e in
     let at = start e in
@@ -127,18 +115,15 @@ loop-again c =
           ∙ guarded-more (e .before .loop .transit) (pos 0) (was s) (way s) at g (test s) (omega (arith, place e, s .pre .5, inv .3)) (inv .5) _ (inv .4 (at + g) ∙ cond-no _ (pos 0) (was s (at + g)) (guarded-next at g (test s))) i,
     )
 
--- src/send.rt:36:1
 same-length : tie.Need-same-length Inv-loop μ-loop
 same-length c = c .before .loop .inv .2
 
--- src/send.rt:36:1
 same-length-2 : tie.Need-same-length-2 Inv-loop μ-loop
 same-length-2 c = c .before .loop .inv .3
 
--- src/send.rt:36:1
 returns : tie.Need-returns Inv-loop μ-loop
 unfolding cleared sentTotals
-returns c = 
+returns c =
     let s = c .before .before .before .before in
     let k = s .args .k in
     let m = s .args .m in
