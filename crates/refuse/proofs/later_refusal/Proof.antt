@@ -10,7 +10,7 @@ use Rattle.tables.specs.Messages.{sentTable}
 use denote.Ref.{now}
 use Rattle.tables.proofs.Holders.{sharer-words}
 use Rattle.tables.proofs.InJob.{placed-offers, placed-grocers, owned-offers, owned-grocers, price-sent, total-sent}
-use Rattle.refuse.proofs.Later.{whole, whole-state, few-boxes, later-met, finish-in, later-late, later-none}
+use Rattle.refuse.proofs.Later.{whole, whole-state, few-boxes, later-met, finishing, later-late, later-none}
 use Rattle.refuse.proofs.later_refusal.Statement.{statement}
 use Rattle.refuse.proofs.later_refusal.Tie as tie
 
@@ -67,7 +67,7 @@ finished-fits-requires c κs =
     let i = c .before .before .before in
     let e = i .before .before in
     let s = entry e in
-    finish-in (job s) (state s) (s .pre) _ _ _ (sharing-is e) (prices-are e) (totals-are e) (request s) _ (i .before .rules .ensures) (i .if1 .left)
+    finishing (job s) (state s) (s .pre) _ _ _ (sharing-is e) (prices-are e) (totals-are e) (request s) _ (i .before .rules .ensures) (i .if1 .left)
 
 returns-2 : tie.Need-returns-2
 returns-2 c =
