@@ -120,7 +120,7 @@ module _ (f : JobTables) (t : StateTables) (needs sharers : List ℕ) (q : Asked
       (w .statement)
       ∙ set-up maxSent (t .sent) _ (g .state-long .sent)
       ∙ ap (λ (n : ℕ). leb (getD (t .sent) 0 0 + n) maxSent)
-      (total-laws.words-sent f t sharers (q .first) (q .second) (g .first-in) (g .second-in) (g .tallies-in .boxes-in) (g .tallies-in .grocers-in) (g .sharers-are))
+      (total-laws.totals-sent-count f t sharers (q .first) (q .second) (g .first-in) (g .second-in) (g .tallies-in .boxes-in) (g .tallies-in .grocers-in) (g .sharers-are))
 
   -- 5: each statement with the box's own working total.
   pub late-own-added : q .kind ≡ 5 → stateInRange f (moved f t q)

@@ -16,7 +16,7 @@ use Rattle.totals.specs.Credit.{cleared, sentTotals, credited, creditAll}
 use Rattle.apply.specs.Apply.{sentMore}
 use Rattle.prices.proofs.Extra.{overwrite-one}
 use Rattle.prices.proofs.Effect.{tables-eq, known-stays, price-transit-stays, working-stays, total-transit-stays, statement-stays, sent-stays, step-marked}
-use Rattle.totals.proofs.Effect.{talliesOf, multiplied-own, received-working, added-working, added-statement, received-statement}
+use Rattle.totals.proofs.Effect.{talliesOf, multiplied-working, received-working, added-working, added-statement, totals-received-statement}
 use Rattle.apply.proofs.Given.{Given}
 use Rattle.prices.proofs.Effect as price-laws
 use Rattle.totals.proofs.Effect as total-laws
@@ -74,7 +74,7 @@ module _ (f : JobTables) (t : StateTables) (needs sharers : List ℕ) (q : Asked
       by-lists multiplyOwn (ap kindOf e) _ _ _ _ _ _
       (known-stays (jobOf f) (left multiplyOwn) t (g .state-long) refl)
       (price-transit-stays (jobOf f) (left multiplyOwn) t (g .state-long) refl)
-      (multiplied-own f (g .tallies-in) (q .first) (g .first-in) t (q .second))
+      (multiplied-working f (g .tallies-in) (q .first) (g .first-in) t (q .second))
       (total-transit-stays (jobOf f) (left multiplyOwn) t (g .state-long) refl)
       (statement-stays (jobOf f) (left multiplyOwn) t (g .state-long) refl)
       (sent-stays (jobOf f) (left multiplyOwn) t (g .state-long) refl)
@@ -116,10 +116,10 @@ module _ (f : JobTables) (t : StateTables) (needs sharers : List ℕ) (q : Asked
       by-lists sendTotals (ap kindOf e) _ _ _ _ _ _
       (known-stays (jobOf f) (left sendTotals) t (g .state-long) refl)
       (price-transit-stays (jobOf f) (left sendTotals) t (g .state-long) refl)
-      (total-laws.sent-working f t sharers (q .first) (q .second) (g .first-in) (g .second-in) (g .tallies-in .boxes-in) (g .tallies-in .grocers-in) (g .sharers-are))
-      (total-laws.sent-transit f t sharers (q .first) (q .second) (g .first-in) (g .second-in) (g .tallies-in .boxes-in) (g .tallies-in .grocers-in) (g .sharers-are))
+      (total-laws.totals-sent-working f t sharers (q .first) (q .second) (g .first-in) (g .second-in) (g .tallies-in .boxes-in) (g .tallies-in .grocers-in) (g .sharers-are))
+      (total-laws.totals-sent-transit f t sharers (q .first) (q .second) (g .first-in) (g .second-in) (g .tallies-in .boxes-in) (g .tallies-in .grocers-in) (g .sharers-are))
       (statement-stays (jobOf f) (left sendTotals) t (g .state-long) refl)
-      (total-laws.sent-more f t sharers (q .first) (q .second) (g .first-in) (g .second-in) (g .tallies-in .boxes-in) (g .tallies-in .grocers-in) (g .sharers-are)
+      (total-laws.totals-sent-more f t sharers (q .first) (q .second) (g .first-in) (g .second-in) (g .tallies-in .boxes-in) (g .tallies-in .grocers-in) (g .sharers-are)
       ∙ overwrite-one _ (t .sent) (g .state-long .sent))
 
   -- 5 Add own working totals to its own statements.
@@ -157,6 +157,6 @@ module _ (f : JobTables) (t : StateTables) (needs sharers : List ℕ) (q : Asked
       (known-stays (jobOf f) (left receiveTotals) t (g .state-long) refl)
       (price-transit-stays (jobOf f) (left receiveTotals) t (g .state-long) refl)
       (working-stays (jobOf f) (left receiveTotals) t (g .state-long) refl)
-      (total-laws.received-transit f t sharers (q .first) (q .second) (g .first-in) (g .second-in) (g .tallies-in .boxes-in) (g .tallies-in .grocers-in) (g .sharers-are) ne)
-      (received-statement f t sharers (q .first) (q .second) (g .first-in) (g .second-in) (g .tallies-in .boxes-in) (g .tallies-in .grocers-in) (g .sharers-are) ne)
+      (total-laws.totals-received-transit f t sharers (q .first) (q .second) (g .first-in) (g .second-in) (g .tallies-in .boxes-in) (g .tallies-in .grocers-in) (g .sharers-are) ne)
+      (totals-received-statement f t sharers (q .first) (q .second) (g .first-in) (g .second-in) (g .tallies-in .boxes-in) (g .tallies-in .grocers-in) (g .sharers-are) ne)
       (sent-stays (jobOf f) (left receiveTotals) t (g .state-long) refl)

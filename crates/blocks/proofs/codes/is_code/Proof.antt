@@ -1,0 +1,94 @@
+-- `blocks::codes::is_code` meets its contract. Assumes nothing.
+use Prim.Native.Nat.{ℕ, _+_, _≤_, _-_}
+use mathlib.Core.Bool.{cond, _&&_}
+use mathlib.Core.List.{List}
+use mathlib.Core.Path.{sym, ap, _∙_, _≡_, refl}
+use native.Mathlib.Nat.{add-zero, add-assoc}
+use native.Mathlib.Omega.{arith}
+use lib.Dec.{leb, ltb, eqb}
+use lib.ListN.{getD}
+use Rattle.laws.specs.Below.{all}
+use Rattle.format.specs.Bytes.{from}
+use Rattle.format.specs.Codes.{isPlace, isCode, readCode}
+use Rattle.blocks.proofs.Extra.{all-more}
+use borrow.Author.Needs.{needs}
+use Rattle.blocks.proofs.codes.is_code.Statement.{statement}
+use Rattle.blocks.proofs.codes.is_code.Tie as tie
+
+abbrev Inv-loop : tie.InvT-loop
+Inv-loop f at n field ok₀ i₀ ok i = (i ≤ 10) × (ok ≡ all i (isPlace (readCode (from f at))))
+
+abbrev μ-loop : tie.MeasureT-loop
+μ-loop f at n field ok₀ i₀ ok i = 10 - i
+
+-- The count is the field's first byte, in the definition's words.
+count-is : (f : List ℕ) (at n : ℕ) → n ≡ getD f at 0 → n ≡ readCode (from f at) .size
+count-is f at n e = e ∙ ap (λ (p : ℕ). getD f p 0) (sym (add-zero at))
+
+-- The test of one byte is the definition's.
+place-is : (f : List ℕ) (at i n : ℕ) → n ≡ getD f at 0 →
+    cond (ltb i n) (leb 48 (getD f (at + 1 + i) 0) && leb (getD f (at + 1 + i) 0) 57) (eqb (getD f (at + 1 + i) 0) 0) ≡ isPlace (readCode (from f at)) i
+unfolding isPlace
+place-is f at i n e = rw (count-is f at n e, add-assoc at 1 i)
+
+shared-slice-read-size : tie.Need-shared-slice-read-size Inv-loop μ-loop
+shared-slice-read-size c = search needs
+
+size-requires : tie.Need-size-requires Inv-loop μ-loop
+size-requires c κs = search needs
+
+add-field : tie.Need-add-field Inv-loop μ-loop
+add-field c = search needs
+
+loop-holds : tie.Need-loop-holds Inv-loop μ-loop
+unfolding all
+loop-holds c = (omega arith, refl)
+
+add-is-place : tie.Need-add-is-place Inv-loop μ-loop
+add-is-place c = search needs
+
+shared-slice-read-is-place : tie.Need-shared-slice-read-is-place Inv-loop μ-loop
+shared-slice-read-is-place c = search needs
+
+is-place-requires : tie.Need-is-place-requires Inv-loop μ-loop
+is-place-requires c κs = search needs
+
+add-i : tie.Need-add-i Inv-loop μ-loop
+add-i c = search needs
+
+loop-less : tie.Need-loop-less Inv-loop μ-loop
+loop-less c = search needs
+
+loop-again : tie.Need-loop-again Inv-loop μ-loop
+loop-again c =
+    let l = c .before .before .before in
+    let s = l .before .before .before .before in (
+      omega arith,
+      all-more (l .loop .i) _ _ _ (l .loop .inv .1) (c .is-place .ensures ∙ place-is (s .args .f .now) (s .args .at) (l .loop .i) _ (l .before .size .ensures .0)),
+    )
+
+returns : tie.Need-returns Inv-loop μ-loop
+unfolding isCode
+returns c =
+    let l = c .before in
+    let s = l .before .before .before .before in
+    let e : l .loop .i ≡ 10 = omega arith in
+    rw (l .loop .inv .1, e, ← (count-is (s .args .f .now) (s .args .at) _ (l .before .size .ensures .0)))
+
+pub is-code-spec : {M : Type 1} → statement M
+is-code-spec =
+    tie.close
+    (tie.spec
+    Inv-loop
+    μ-loop
+    shared-slice-read-size
+    size-requires
+    add-field
+    loop-holds
+    add-is-place
+    shared-slice-read-is-place
+    is-place-requires
+    add-i
+    loop-less
+    loop-again
+    returns)

@@ -1,0 +1,46 @@
+-- `blocks::plan::kind_at` meets its contract. Assumes nothing.
+use native.Mathlib.Omega.{arith}
+use borrow.Author.Tests.{lt-ltb, le-ltb}
+use Rattle.format.specs.Blocks.{offersAt, grocersAt, talliesAt, kindAt}
+use borrow.Author.Needs.{needs}
+use Rattle.blocks.proofs.plan.kind_at.Statement.{statement}
+use Rattle.blocks.proofs.plan.kind_at.Tie as tie
+
+blocks-for-requires : tie.Need-blocks-for-requires
+blocks-for-requires c κs = search needs
+
+add-grocers : tie.Need-add-grocers
+add-grocers c = search needs
+
+returns : tie.Need-returns
+unfolding kindAt
+returns c = rw (lt-ltb _ offersAt (c .if1 .taken))
+
+returns-2 : tie.Need-returns-2
+unfolding kindAt
+returns-2 c =
+    let n = c .before .before .before .args .n in
+    let k = c .before .before .before .args .k in
+    rw (le-ltb k offersAt (c .before .if1 .left), lt-ltb k (grocersAt n) (omega arith))
+
+add-if3 : tie.Need-add-if3
+add-if3 c = search needs
+
+returns-3 : tie.Need-returns-3
+unfolding kindAt
+returns-3 c =
+    let n = c .before .before .before .before .args .n in
+    let k = c .before .before .before .before .args .k in
+    rw (le-ltb k offersAt (c .before .before .if1 .left), le-ltb k (grocersAt n) (omega arith), lt-ltb k (talliesAt n) (omega arith))
+
+returns-4 : tie.Need-returns-4
+unfolding kindAt
+returns-4 c =
+    let n = c .before .before .before .before .args .n in
+    let k = c .before .before .before .before .args .k in
+    rw (le-ltb k offersAt (c .before .before .if1 .left), le-ltb k (grocersAt n) (omega arith), le-ltb k (talliesAt n) (omega arith))
+
+pub kind-at-spec : {M : Type 1} → statement M
+kind-at-spec =
+    tie.close
+    (tie.spec blocks-for-requires add-grocers returns returns-2 add-if3 returns-3 returns-4)

@@ -1,0 +1,49 @@
+-- `blocks::records::bad_offer` meets its contract. Assumes nothing.
+use Prim.Native.Nat.{ℕ}
+use mathlib.Core.Path.{ap, _∙_}
+use Rattle.format.specs.Codes.{readCode, isCode}
+use Rattle.format.specs.Job.{badOffer}
+use Rattle.format.specs.File.{readOffer}
+use Rattle.blocks.proofs.Places.{from-after}
+use borrow.Author.Needs.{needs}
+use Rattle.blocks.proofs.records.bad_offer.Statement.{statement}
+use Rattle.blocks.proofs.records.bad_offer.Tie as tie
+
+word32-requires : tie.Need-word32-requires
+word32-requires c κs = search needs
+
+add-size : tie.Need-add-size
+add-size c = search needs
+
+shared-slice-read-size : tie.Need-shared-slice-read-size
+shared-slice-read-size c = search needs
+
+size-requires : tie.Need-size-requires
+size-requires c κs = search needs
+
+add-is-code : tie.Need-add-is-code
+add-is-code c = search needs
+
+is-code-requires : tie.Need-is-code-requires
+is-code-requires c κs = search needs
+
+returns : tie.Need-returns
+unfolding badOffer readOffer
+returns c =
+    let z = c .before in
+    let p = z .before .before in
+    let s = p .before .before in
+    let e = c .is-code .ensures ∙ ap (λ (g : ℕ → ℕ). isCode (readCode g)) (from-after (s .args .f .now) (s .args .at) 5) in
+    rw (← (s .pre .1), p .word32 .ensures, z .size .ensures .0, e)
+
+pub bad-offer-spec : {M : Type 1} → statement M
+bad-offer-spec =
+    tie.close
+    (tie.spec
+    word32-requires
+    add-size
+    shared-slice-read-size
+    size-requires
+    add-is-code
+    is-code-requires
+    returns)

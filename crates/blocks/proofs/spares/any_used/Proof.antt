@@ -1,0 +1,53 @@
+-- `blocks::spares::any_used` meets its contract. Assumes nothing.
+use Prim.Native.Nat.{_-_, _≤_}
+use mathlib.Core.Path.{_≡_, refl}
+use native.Mathlib.Omega.{arith}
+use Rattle.laws.specs.Below.{any}
+use Rattle.format.specs.Bytes.{from}
+use Rattle.blocks.specs.Shape.{used}
+use Rattle.blocks.proofs.Extra.{any-end, any-more}
+use borrow.Author.Needs.{needs}
+use Rattle.blocks.proofs.spares.any_used.Statement.{statement}
+use Rattle.blocks.proofs.spares.any_used.Tie as tie
+
+abbrev Inv-loop : tie.InvT-loop
+Inv-loop f at n found₀ i₀ found i = (i ≤ n) × (found ≡ any i (λ r. used (from f at r)))
+
+abbrev μ-loop : tie.MeasureT-loop
+μ-loop f at n found₀ i₀ found i = n - i
+
+loop-holds : tie.Need-loop-holds Inv-loop μ-loop
+unfolding any
+loop-holds c = (omega arith, refl)
+
+add-found : tie.Need-add-found Inv-loop μ-loop
+add-found c = search needs
+
+shared-slice-read-found : tie.Need-shared-slice-read-found Inv-loop μ-loop
+shared-slice-read-found c = search needs
+
+add-i : tie.Need-add-i Inv-loop μ-loop
+add-i c = search needs
+
+loop-less : tie.Need-loop-less Inv-loop μ-loop
+loop-less c = search needs
+
+loop-again : tie.Need-loop-again Inv-loop μ-loop
+loop-again c = (omega arith, any-more _ _ _ _ (c .before .before .loop .inv .1) refl)
+
+returns : tie.Need-returns Inv-loop μ-loop
+returns c = any-end _ _ _ _ (omega arith) (c .before .loop .inv .1)
+
+pub any-used-spec : {M : Type 1} → statement M
+any-used-spec =
+    tie.close
+    (tie.spec
+    Inv-loop
+    μ-loop
+    loop-holds
+    add-found
+    shared-slice-read-found
+    add-i
+    loop-less
+    loop-again
+    returns)

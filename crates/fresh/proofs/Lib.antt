@@ -1,0 +1,2 @@
+-- Laws of a fresh state's tables.
+pub mod Made

@@ -1,0 +1,2 @@
+-- What a fresh state's tables hold.
+pub mod Fresh
