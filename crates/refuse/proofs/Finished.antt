@@ -10,12 +10,12 @@ use Rattle.model.specs.Job.{needWord}
 use Rattle.model.specs.Tables.{JobTables, jobOf, StateTables}
 use Rattle.model.specs.Ranges.{maxSent, stateInRange}
 use Rattle.model.specs.Step.{Asked, moved}
-use Rattle.tables.proofs.MessageLaws.{price-cell, total-cell}
 use Rattle.apply.specs.Apply.{Applies}
-use Rattle.apply.proofs.Given.{Given, given}
-use Rattle.apply.proofs.Late.{late-prices-sent, late-totals-sent}
 use Rattle.refuse.specs.Rules.{wordsTo}
 use Rattle.refuse.specs.Late.{Finishing}
+use Rattle.tables.proofs.MessageLaws.{price-cell, total-cell}
+use Rattle.apply.proofs.Given.{Given, given}
+use Rattle.apply.proofs.Late.{late-prices-sent, late-totals-sent}
 
 -- The need words of the job.
 abbrev pub needing : JobTables → List ℕ

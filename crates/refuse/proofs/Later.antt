@@ -12,12 +12,12 @@ use Rattle.model.specs.Tables.{JobTables, jobOf, StateTables, view}
 use Rattle.model.specs.Ranges.{stateInRange}
 use Rattle.model.specs.Step.{Asked, isKind, boxesFit, stepRules, moved}
 use Rattle.model.specs.Local.{priceTable, totalTable}
-use Rattle.model.proofs.Step.{range}
-use Rattle.tables.proofs.Whole.{JobWhole, job-whole, StateWhole, state-whole}
 use Rattle.prices.specs.Marks.{stepsDone}
-use Rattle.prices.proofs.Effect.{steps-done}
 use Rattle.refuse.specs.Rules.{rulesBy}
 use Rattle.refuse.specs.Late.{laterRules, Held, Finishing}
+use Rattle.model.proofs.Step.{range}
+use Rattle.tables.proofs.Whole.{JobWhole, job-whole, StateWhole, state-whole}
+use Rattle.prices.proofs.Effect.{steps-done}
 use Rattle.refuse.proofs.Extra.{met-first}
 use Rattle.refuse.proofs.InModel.{rules-are}
 

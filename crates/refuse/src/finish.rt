@@ -1,7 +1,7 @@
 // The late 21: whether the finished tables of a step are in range. One table decides, by kind.
 ghost use mathlib.Core.Path.{_≡_};
-ghost use Prim.Native.Nat.{_+_, _*_, _≤_, _<_};
-ghost use lib.ListN.{length, getD};
+ghost use Prim.Native.Nat.{_+_, _<_};
+ghost use lib.ListN.{getD};
 ghost use lib.Dec.{leb};
 ghost use Rattle.model.specs.Tables.{jobTables, stateTables};
 ghost use Rattle.model.specs.Ranges.{maxAmount, maxSent, around, stateInRange};
@@ -42,7 +42,19 @@ fn products_fit(
     ensures { λ r. ⌜ r ≡ around maxAmount m (productRow (tallies k m n t (now (owner .entry)) (now (grocer .entry)) (now (holder .entry)) (now (offer .entry)) (now (counts .entry))) (now (prices .entry)) a from (now (working .entry))) ⌝ }
 {
     let row = totals::row::product_row(
-        k, m, n, t, a, from, owner, grocer, holder, offer, counts, prices, working,
+        k,
+        m,
+        n,
+        t,
+        a,
+        from,
+        owner,
+        grocer,
+        holder,
+        offer,
+        counts,
+        prices,
+        working,
     );
     totals::row::row_fits(&row, m)
 }
@@ -93,21 +105,43 @@ pub fn finished_fits(
     }
     if kind == 2 {
         return products_fit(
-            k, m, n, t, first, first, owner, tgrocer, tbox, toffer, tcount, known, working,
+            k,
+            m,
+            n,
+            t,
+            first,
+            first,
+            owner,
+            tgrocer,
+            tbox,
+            toffer,
+            tcount,
+            known,
+            working,
         );
     }
     if kind == 3 {
         return products_fit(
-            k, m, n, t, first, second, owner, tgrocer, tbox, toffer, tcount, ptransit, working,
+            k,
+            m,
+            n,
+            t,
+            first,
+            second,
+            owner,
+            tgrocer,
+            tbox,
+            toffer,
+            tcount,
+            ptransit,
+            working,
         );
     }
     if kind == 4 {
         return sent_fits(totals, sent, first, second);
     }
     if kind == 5 {
-        return totals::credit::credit_fits(
-            k, m, first, first, gowner, sharers, working, statement,
-        );
+        return totals::credit::credit_fits(k, m, first, first, gowner, sharers, working, statement);
     }
     totals::credit::credit_fits(k, m, first, second, gowner, sharers, ttransit, statement)
 }

@@ -1,19 +1,14 @@
 -- `refuse::finish::finished_fits` meets its contract, kind by kind. Assumes nothing.
-use mathlib.Core.Path.{_≡_, refl, sym, ap, ap₂, _∙_}
-use denote.Ref.{now}
+use mathlib.Core.Path.{sym, _∙_}
 use Rattle.model.specs.Tables.{JobTables, jobTables, StateTables, stateTables}
 use Rattle.model.specs.Step.{Asked, asked}
 use Rattle.apply.specs.Apply.{Applies}
+use denote.Ref.{now}
 use Rattle.apply.proofs.Given.{Given, sent-in, own-in, receive-in, working-in, transit-in, statement-in, credit-in, sixth}
 use Rattle.apply.proofs.Late.{late-own-multiplied, late-prices-received, late-own-added, late-totals-received}
 use Rattle.refuse.proofs.Finished.{needing, applies, facts, small-boxes, prices-counted, totals-counted}
 use Rattle.refuse.proofs.finish.finished_fits.Statement.{statement}
 use Rattle.refuse.proofs.finish.finished_fits.Tie as tie
-use Rattle.refuse.proofs.finish.finished_fits.Reads as reads
-use Rattle.refuse.proofs.finish.finished_fits.Lts as lts
-use Rattle.refuse.proofs.finish.products_fit.Reads as products-fit-reads
-use Rattle.refuse.proofs.finish.sent_fits.Reads as sent-fits-reads
-use Rattle.totals.proofs.credit.credit_fits.Reads as credit-fits-reads
 
 -- The job's and the state's tables, and what is asked.
 abbrev job : tie.Start → JobTables

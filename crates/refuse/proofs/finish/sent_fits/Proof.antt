@@ -1,11 +1,7 @@
 -- `refuse::finish::sent_fits` meets its contract. Assumes nothing.
-use mathlib.Core.Path.{_≡_, refl, sym, ap, ap₂, _∙_}
 use borrow.Author.Needs.{needs}
 use Rattle.refuse.proofs.finish.sent_fits.Statement.{statement}
 use Rattle.refuse.proofs.finish.sent_fits.Tie as tie
-use Rattle.refuse.proofs.finish.sent_fits.Reads as reads
-use Rattle.refuse.proofs.finish.sent_fits.Lts as lts
-use Rattle.refuse.proofs.rules.words_to.Reads as words-to-reads
 
 words-to-requires : tie.Need-words-to-requires
 words-to-requires c κs = search needs
