@@ -1,20 +1,18 @@
 -- Over the tables of messages of a job the tests are the model's. Assumes nothing.
-use mathlib.Core.Path.{_≡_, refl, sym, ap, ap₂, _∙_}
+use mathlib.Core.Path.{_≡_, refl, ap}
 use mathlib.Core.Bool.{Bool, true, false, cond, _&&_, _||_, not}
 use mathlib.Core.List.{List}
 use Prim.Native.Nat.{ℕ, _<_, _≤_}
 use native.Mathlib.Omega.{arith}
-use lib.Dec.{eqb, ltb}
 use borrow.Author.Tests.{lt-ltb}
 use Rattle.laws.specs.Checks.{firstMet}
-use Rattle.laws.proofs.Bools.{split}
 use Rattle.laws.proofs.Below.{all-cong}
 use Rattle.model.specs.Job.{Job, pricesDue, totalsDue}
 use Rattle.model.specs.Steps.{Kind, kindOf, sendPrices, multiplyOwn, receivePrices, sendTotals, addOwn, receiveTotals, Steps, fits, hasStep, multiplied, ready, permitted}
 use Rattle.model.specs.Step.{Asked, isKind, boxesFit, stepRules}
 use Rattle.model.specs.Local.{priceTable, totalTable}
-use Rattle.tables.proofs.MessageLaws.{price-due, total-due}
 use Rattle.refuse.specs.Rules.{due, fitsBy, boxesFitBy, receivedFrom, multipliedBy, readyBy, permittedBy, rulesBy}
+use Rattle.tables.proofs.MessageLaws.{price-due, total-due}
 use Rattle.refuse.proofs.Ways.{first-in, second-in}
 
 -- Two lists of rules that differ only where the boxes do not fit.

@@ -3,6 +3,6 @@ pub mod Extra
 pub mod ByKind
 pub mod Ways
 pub mod InModel
-pub mod Late
+pub mod Finished
 pub mod Later
 pub mod Refused

@@ -1,9 +1,9 @@
 -- The whole answer, by the tests that led to it. Assumes nothing.
-use mathlib.Core.Path.{_≡_, refl, sym, ap, _∙_}
-use mathlib.Core.Bool.{Bool, true, false, cond, _&&_, _||_, not}
-use mathlib.Core.List.{List, [], _∷_}
+use mathlib.Core.Path.{_≡_, sym, _∙_}
+use mathlib.Core.Bool.{Bool, true, false, _&&_, _||_, not}
+use mathlib.Core.List.{[], _∷_}
 use Prim.Native.Nat.{ℕ}
-use borrow.Author.Tests.{not-true, not-false}
+use borrow.Author.Tests.{not-false}
 use Rattle.laws.specs.Checks.{firstMet}
 use Rattle.laws.proofs.Bools.{and-l, and-r}
 use Rattle.laws.proofs.Checks.{none-of}
@@ -11,8 +11,8 @@ use Rattle.model.specs.Tables.{JobTables, jobOf, jobLengths, jobShort, StateTab
 use Rattle.model.specs.Ranges.{jobInRange, stateInRange}
 use Rattle.model.specs.Step.{Asked, refusals, answer}
 use Rattle.tables.specs.Sizes.{sizes}
-use Rattle.tables.proofs.Sizes.{short-sizes, range-sizes}
 use Rattle.refuse.specs.Late.{laterRules, Held}
+use Rattle.tables.proofs.Sizes.{short-sizes, range-sizes}
 
 module _ (f : JobTables) (t : StateTables) (q : Asked) (x y : Bool) (ex : x ≡ jobShort (jobOf f) (jobLengths f))
     (ey : y ≡ stateShort (jobOf (sizes (f .boxes) (f .grocers) (f .offers))) (stateLengths t)) where

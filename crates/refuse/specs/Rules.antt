@@ -5,7 +5,7 @@ use Prim.Native.Nat.{ℕ, _*_, _≤_, _<_}
 use lib.ListN.{length, getD}
 use lib.Dec.{eqb, ltb}
 use Rattle.laws.specs.Below.{all}
-use Rattle.model.specs.Steps.{Kind, kindOf, sendPrices, multiplyOwn, receivePrices, sendTotals, addOwn, receiveTotals, Steps, oneBox}
+use Rattle.model.specs.Steps.{kindOf, sendPrices, multiplyOwn, receivePrices, sendTotals, addOwn, receiveTotals, Steps, oneBox}
 use Rattle.model.specs.Step.{Asked, isKind}
 
 -- How many words go from box a to box b, by a table of messages.

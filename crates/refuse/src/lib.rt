@@ -1,6 +1,7 @@
 // The refusal of a step: its number for every input.
 pub mod finish;
 pub mod rules;
+
 ghost use mathlib.Core.Path.{_≡_};
 ghost use Rattle.laws.specs.Checks.{firstMet};
 ghost use Rattle.model.specs.Tables.{jobTables, stateTables};
@@ -56,8 +57,29 @@ fn later_refusal(
         return r;
     }
     if !finish::finished_fits(
-        boxes, grocers, offers, tallies, owner, gowner, tgrocer, tbox, toffer, tcount, known,
-        ptransit, working, ttransit, statement, sent, &sharing, &prices, &totals, kind, first,
+        boxes,
+        grocers,
+        offers,
+        tallies,
+        price,
+        owner,
+        gowner,
+        tgrocer,
+        tbox,
+        toffer,
+        tcount,
+        known,
+        ptransit,
+        working,
+        ttransit,
+        statement,
+        done,
+        sent,
+        &sharing,
+        &prices,
+        &totals,
+        kind,
+        first,
         second,
     ) {
         return 21;
@@ -95,21 +117,81 @@ pub fn refusal(
         (asked kind first second) ⌝ }
 {
     if job_short(
-        boxes, grocers, offers, tallies, price, owner, gowner, tgrocer, tbox, toffer, tcount,
-    ) | state_short(
-        boxes, grocers, offers, known, ptransit, working, ttransit, statement, done, sent,
-    ) {
+        boxes,
+        grocers,
+        offers,
+        tallies,
+        price,
+        owner,
+        gowner,
+        tgrocer,
+        tbox,
+        toffer,
+        tcount,
+    )
+        | state_short(
+            boxes,
+            grocers,
+            offers,
+            known,
+            ptransit,
+            working,
+            ttransit,
+            statement,
+            done,
+            sent,
+        )
+    {
         return 20;
     }
     if !(job_in_range(
-        boxes, grocers, offers, tallies, price, owner, gowner, tgrocer, tbox, toffer, tcount,
-    ) & state_in_range(
-        boxes, grocers, offers, known, ptransit, working, ttransit, statement, done, sent,
-    )) {
+        boxes,
+        grocers,
+        offers,
+        tallies,
+        price,
+        owner,
+        gowner,
+        tgrocer,
+        tbox,
+        toffer,
+        tcount,
+    )
+        & state_in_range(
+            boxes,
+            grocers,
+            offers,
+            known,
+            ptransit,
+            working,
+            ttransit,
+            statement,
+            done,
+            sent,
+        )) {
         return 21;
     }
     later_refusal(
-        boxes, grocers, offers, tallies, price, owner, gowner, tgrocer, tbox, toffer, tcount,
-        known, ptransit, working, ttransit, statement, done, sent, kind, first, second,
+        boxes,
+        grocers,
+        offers,
+        tallies,
+        price,
+        owner,
+        gowner,
+        tgrocer,
+        tbox,
+        toffer,
+        tcount,
+        known,
+        ptransit,
+        working,
+        ttransit,
+        statement,
+        done,
+        sent,
+        kind,
+        first,
+        second,
     )
 }

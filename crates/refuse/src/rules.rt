@@ -59,13 +59,7 @@ fn boxes_fit(k: u16, kind: u16, a: u16, b: u16) -> bool
 }
 
 // Whether the job has the step: for a message, that it has words.
-pub fn fits(
-    kind: u16,
-    a: u16,
-    b: u16,
-    prices: &[[u16; 16]; 16],
-    totals: &[[u16; 16]; 16],
-) -> bool
+pub fn fits(kind: u16, a: u16, b: u16, prices: &[[u16; 16]; 16], totals: &[[u16; 16]; 16]) -> bool
     requires { ⌜ (1 ≤ kind) × (kind ≤ 6) × (a < 16) × (b < 16) ⌝ }
     ensures { λ r. ⌜ r ≡ fitsBy (now (prices .entry)) (now (totals .entry)) (kindOf kind) a b ⌝ }
 {

@@ -1,26 +1,18 @@
 -- `refuse::later_refusal` meets its contract: the masks and the tables of messages are the job's, and so are the tests over them. Assumes nothing.
-use mathlib.Core.Path.{_≡_, refl, sym, ap, ap₂, _∙_}
+use mathlib.Core.Path.{_≡_, ap, _∙_}
 use mathlib.Core.Bool.{true, false}
-use denote.Ref.{now}
 use Rattle.laws.specs.Tables.{tabulate}
 use Rattle.model.specs.Job.{sharerWord}
 use Rattle.model.specs.Tables.{JobTables, jobTables, jobOf, StateTables, stateTables}
 use Rattle.model.specs.Step.{Asked, asked}
 use Rattle.model.specs.Local.{priceTable, totalTable}
 use Rattle.tables.specs.Messages.{sentTable}
+use denote.Ref.{now}
 use Rattle.tables.proofs.Holders.{sharer-words}
 use Rattle.tables.proofs.InJob.{placed-offers, placed-grocers, owned-offers, owned-grocers, price-sent, total-sent}
-use Rattle.refuse.proofs.Later.{whole, whole-state, few-boxes, later-met, finish-in, later-late, later-none}
+use Rattle.refuse.proofs.Later.{whole, whole-state, few-boxes, later-met, finishing, later-late, later-none}
 use Rattle.refuse.proofs.later_refusal.Statement.{statement}
 use Rattle.refuse.proofs.later_refusal.Tie as tie
-use Rattle.refuse.proofs.later_refusal.Reads as reads
-use Rattle.refuse.proofs.later_refusal.Lts as lts
-use Rattle.refuse.proofs.finish.finished_fits.Reads as finished-fits-reads
-use Rattle.refuse.proofs.rules.rules.Reads as rules-reads
-use Rattle.tables.proofs.masks.needs.Reads as needs-reads
-use Rattle.tables.proofs.masks.sharers.Reads as sharers-reads
-use Rattle.tables.proofs.messages.price_table.Reads as price-table-reads
-use Rattle.tables.proofs.messages.total_table.Reads as total-table-reads
 
 -- The job's and the state's tables, and what is asked.
 abbrev job : tie.Start → JobTables
@@ -75,7 +67,7 @@ finished-fits-requires c κs =
     let i = c .before .before .before in
     let e = i .before .before in
     let s = entry e in
-    finish-in (job s) (state s) (s .pre) _ _ _ (sharing-is e) (prices-are e) (totals-are e) (request s) _ (i .before .rules .ensures) (i .if1 .left)
+    finishing (job s) (state s) (s .pre) _ _ _ (sharing-is e) (prices-are e) (totals-are e) (request s) _ (i .before .rules .ensures) (i .if1 .left)
 
 returns-2 : tie.Need-returns-2
 returns-2 c =

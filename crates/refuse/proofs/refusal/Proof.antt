@@ -1,19 +1,11 @@
 -- `refuse::refusal` meets its contract: each number is that of the first condition that is met. Assumes nothing.
-use mathlib.Core.Path.{_≡_, refl, sym, ap, ap₂, _∙_}
-use denote.Ref.{now}
 use Rattle.model.specs.Tables.{JobTables, jobTables, StateTables, stateTables}
 use Rattle.model.specs.Step.{Asked, asked}
-use Rattle.refuse.proofs.Refused.{refused-short, job-long, state-long, refused-range, held, refused-later}
 use borrow.Author.Needs.{needs}
+use denote.Ref.{now}
+use Rattle.refuse.proofs.Refused.{refused-short, job-long, state-long, refused-range, held, refused-later}
 use Rattle.refuse.proofs.refusal.Statement.{statement}
 use Rattle.refuse.proofs.refusal.Tie as tie
-use Rattle.refuse.proofs.refusal.Reads as reads
-use Rattle.refuse.proofs.refusal.Lts as lts
-use Rattle.refuse.proofs.later_refusal.Reads as later-refusal-reads
-use Rattle.tables.proofs.checks.job_in_range.Reads as job-in-range-reads
-use Rattle.tables.proofs.checks.job_short.Reads as job-short-reads
-use Rattle.tables.proofs.checks.state_in_range.Reads as state-in-range-reads
-use Rattle.tables.proofs.checks.state_short.Reads as state-short-reads
 
 -- The job's and the state's tables, and what is asked.
 abbrev job : tie.Start → JobTables

@@ -1,16 +1,13 @@
 -- `refuse::rules::boxes_fit` meets its contract. Assumes nothing.
-use mathlib.Core.Path.{_≡_, refl, sym, ap, ap₂, _∙_}
-use Rattle.refuse.specs.Rules.{boxesFitBy}
-use Rattle.refuse.proofs.ByKind.{as-asked}
-use borrow.Author.Needs.{needs}
-use Rattle.refuse.proofs.rules.boxes_fit.Statement.{statement}
-use Rattle.refuse.proofs.rules.boxes_fit.Tie as tie
-use Rattle.refuse.proofs.rules.boxes_fit.Reads as reads
-use Rattle.refuse.proofs.rules.boxes_fit.Lts as lts
-use Rattle.refuse.proofs.rules.one_box.Reads as one-box-reads
+use mathlib.Core.Path.{ap}
 use mathlib.Core.Bool.{Bool, _&&_}
 use lib.Dec.{eqb, ltb}
+use Rattle.refuse.specs.Rules.{boxesFitBy}
+use borrow.Author.Needs.{needs}
 use Rattle.model.specs.Steps.{kindOf, oneBox}
+use Rattle.refuse.proofs.ByKind.{as-asked}
+use Rattle.refuse.proofs.rules.boxes_fit.Statement.{statement}
+use Rattle.refuse.proofs.rules.boxes_fit.Tie as tie
 
 one-box-requires : tie.Need-one-box-requires
 one-box-requires c κs = search needs

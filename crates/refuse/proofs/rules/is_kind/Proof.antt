@@ -1,10 +1,8 @@
 -- `refuse::rules::is_kind` meets its contract. Assumes nothing.
-use mathlib.Core.Path.{_≡_, refl, sym, ap, ap₂, _∙_}
+use mathlib.Core.Path.{refl}
 use Rattle.model.specs.Step.{isKind}
 use Rattle.refuse.proofs.rules.is_kind.Statement.{statement}
 use Rattle.refuse.proofs.rules.is_kind.Tie as tie
-use Rattle.refuse.proofs.rules.is_kind.Reads as reads
-use Rattle.refuse.proofs.rules.is_kind.Lts as lts
 
 returns : tie.Need-returns
 unfolding isKind

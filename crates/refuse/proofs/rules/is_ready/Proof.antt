@@ -1,15 +1,11 @@
 -- `refuse::rules::is_ready` meets its contract, kind by kind. Assumes nothing.
-use mathlib.Core.Path.{_≡_, refl, sym, ap, ap₂, _∙_}
+use mathlib.Core.Path.{_∙_}
 use Rattle.model.specs.Steps.{kindOf}
 use Rattle.refuse.specs.Rules.{readyBy}
-use Rattle.refuse.proofs.ByKind.{ready-first, ready-last}
 use borrow.Author.Needs.{needs}
+use Rattle.refuse.proofs.ByKind.{ready-first, ready-last}
 use Rattle.refuse.proofs.rules.is_ready.Statement.{statement}
 use Rattle.refuse.proofs.rules.is_ready.Tie as tie
-use Rattle.refuse.proofs.rules.is_ready.Reads as reads
-use Rattle.refuse.proofs.rules.is_ready.Lts as lts
-use Rattle.refuse.proofs.rules.is_marked.Reads as is-marked-reads
-use Rattle.refuse.proofs.rules.multiplied.Reads as multiplied-reads
 
 is-marked-requires : tie.Need-is-marked-requires
 is-marked-requires c κs = search needs

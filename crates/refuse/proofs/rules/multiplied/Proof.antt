@@ -1,25 +1,17 @@
 -- `refuse::rules::multiplied` meets its contract: of every box passed the prices are received. Assumes nothing.
-use mathlib.Core.Path.{_≡_, refl, sym, ap, ap₂, _∙_}
-use mathlib.Core.Bool.{Bool, true, _&&_}
+use mathlib.Core.Path.{_≡_, sym, _∙_}
+use mathlib.Core.Bool.{true}
 use Prim.Native.Nat.{_≤_, _-_}
-use native.Mathlib.Omega.{arith}
-use borrow.Author.Needs.{needs}
 use borrow.Author.Tests.{not-true, not-false}
-use denote.Ref.{now}
 use Rattle.laws.specs.Below.{all}
-use Rattle.laws.proofs.Bools.{and-true, and-false}
-use Rattle.laws.proofs.Below.{all-fails}
-use Rattle.model.specs.Steps.{kindOf, multiplyOwn}
-use Rattle.tables.proofs.Loops.{test-none, test-more, test-ends}
+use borrow.Author.Needs.{needs}
+use Rattle.model.specs.Steps.{kindOf}
 use Rattle.prices.specs.Marks.{stepsDone}
-use Rattle.refuse.specs.Rules.{receivedFrom, multipliedBy}
+use Rattle.refuse.specs.Rules.{receivedFrom}
+use Rattle.tables.proofs.Loops.{test-none, test-more, test-ends}
 use Rattle.refuse.proofs.rules.multiplied.Statement.{statement}
-use Rattle.refuse.proofs.rules.multiplied.Tie as tie
-use Rattle.refuse.proofs.rules.multiplied.Reads as reads
-use Rattle.refuse.proofs.rules.multiplied.Lts as lts
-use Rattle.refuse.proofs.rules.has_received.Reads as has-received-reads
-use Rattle.refuse.proofs.rules.is_marked.Reads as is-marked-reads
 use Rattle.refuse.proofs.Ways.{multiplied-not, multiplied-fails, multiplied-all}
+use Rattle.refuse.proofs.rules.multiplied.Tie as tie
 
 abbrev Inv-loop : tie.InvT-loop
 Inv-loop k a prices done c₀ c = (c ≤ k) × (all c (receivedFrom prices (stepsDone k done) a) ≡ true)

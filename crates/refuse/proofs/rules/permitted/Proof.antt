@@ -1,15 +1,10 @@
 -- `refuse::rules::permitted` meets its contract: fit, not done, and ready. Assumes nothing.
-use mathlib.Core.Path.{_≡_, refl, sym, ap, ap₂, _∙_}
+use mathlib.Core.Path.{sym, _∙_}
 use borrow.Author.Tests.{not-true, not-false}
-use Rattle.refuse.proofs.Ways.{permitted-unfit, permitted-done, permitted-ready}
 use borrow.Author.Needs.{needs}
+use Rattle.refuse.proofs.Ways.{permitted-unfit, permitted-done, permitted-ready}
 use Rattle.refuse.proofs.rules.permitted.Statement.{statement}
 use Rattle.refuse.proofs.rules.permitted.Tie as tie
-use Rattle.refuse.proofs.rules.permitted.Reads as reads
-use Rattle.refuse.proofs.rules.permitted.Lts as lts
-use Rattle.refuse.proofs.rules.fits.Reads as fits-reads
-use Rattle.refuse.proofs.rules.is_marked.Reads as is-marked-reads
-use Rattle.refuse.proofs.rules.is_ready.Reads as is-ready-reads
 
 fits-requires : tie.Need-fits-requires
 fits-requires c κs = search needs

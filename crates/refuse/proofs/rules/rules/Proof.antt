@@ -1,25 +1,18 @@
 -- `refuse::rules::rules` meets its contract: each number is that of the first test that holds. Assumes nothing.
-use mathlib.Core.Path.{_≡_, refl, sym, ap, ap₂, _∙_}
+use mathlib.Core.Path.{_≡_, sym, _∙_}
 use mathlib.Core.Bool.{true}
 use native.Mathlib.Omega.{arith}
-use borrow.Author.Tests.{not-true, not-false}
-use denote.Ref.{now}
+use borrow.Author.Tests.{not-false}
 use Rattle.laws.specs.Checks.{firstMet}
 use Rattle.model.specs.Step.{isKind}
 use Rattle.prices.specs.Marks.{MarksIn}
 use Rattle.refuse.specs.Rules.{rulesBy}
+use borrow.Author.Needs.{needs}
+use denote.Ref.{now}
 use Rattle.refuse.proofs.ByKind.{kind-from, kind-to}
 use Rattle.refuse.proofs.Ways.{marks-in}
-use borrow.Author.Needs.{needs}
 use Rattle.refuse.proofs.rules.rules.Statement.{statement}
 use Rattle.refuse.proofs.rules.rules.Tie as tie
-use Rattle.refuse.proofs.rules.rules.Reads as reads
-use Rattle.refuse.proofs.rules.rules.Lts as lts
-use Rattle.refuse.proofs.rules.boxes_fit.Reads as boxes-fit-reads
-use Rattle.refuse.proofs.rules.fits.Reads as fits-reads
-use Rattle.refuse.proofs.rules.is_kind.Reads as is-kind-reads
-use Rattle.refuse.proofs.rules.is_marked.Reads as is-marked-reads
-use Rattle.refuse.proofs.rules.is_ready.Reads as is-ready-reads
 
 -- Past the first test the kind is 1 to 6, and past the second the step has a mark.
 is-one : (c : tie.Else1) → isKind (c .before .before .before .args .kind) ≡ true

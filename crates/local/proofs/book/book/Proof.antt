@@ -1,0 +1,136 @@
+-- `local::book::book` meets its contract. Assumes nothing.
+use mathlib.Core.Path.{_≡_, sym, _∙_}
+use mathlib.Core.List.{List}
+use Prim.Native.Nat.{ℕ, _≤_}
+use native.Mathlib.Omega.{arith}
+use borrow.Author.Needs.{needs}
+use denote.Ref.{now}
+use Rattle.laws.specs.Checks.{firstMet}
+use Rattle.model.specs.Tables.{JobTables, jobTables}
+use Rattle.model.specs.Local.{bookRefusals}
+use Rattle.local.specs.Sort.{at}
+use Rattle.local.specs.Lists.{PlacesIn}
+use Rattle.local.specs.Book.{BookTables, bookTables, bookLengths}
+use Rattle.local.proofs.Ready.{long, whole, offer-owners, grocer-owners, offer-tallies, grocer-tallies, places-in}
+use Rattle.local.proofs.Booking.{booked-refused, booked-written}
+use Rattle.local.proofs.book.book.Statement.{statement}
+use Rattle.local.proofs.book.book.Tie as tie
+
+abbrev job : tie.Start → JobTables
+job s = jobTables (s .args .boxes) (s .args .grocers) (s .args .offers) (s .args .tallies) (now (s .args .price)) (now (s .args .owner)) (now (s .args .gowner)) (now (s .args .tgrocer)) (now (s .args .tbox)) (now (s .args .toffer)) (now (s .args .tcount))
+
+-- The tables as they are lent.
+abbrev lent : tie.Start → BookTables
+lent s = bookTables (now (s .args .loffers)) (now (s .args .lgrocers)) (now (s .args .starts)) (now (s .args .pgrocers)) (now (s .args .pcounts))
+
+abbrev entry : tie.Else1 → tie.Start
+entry c = c .before .before .before .before .before .before .before .before .before .before .before .before
+
+-- Nothing is refused.
+accepted : (c : tie.Else1) → firstMet (bookRefusals (job (entry c)) (bookLengths (lent (entry c))) (entry c .args .b)) ≡ 0
+accepted c = sym (c .before .refusal .ensures) ∙ c .if1 .left
+
+-- Where the local offers are written, and where the local grocers are.
+abbrev open-1 : tie.After-list → tie.Else1
+open-1 c = c .before .before
+
+abbrev open-2 : tie.After-list2 → tie.After-list
+open-2 c = c .before .before .before .before
+
+abbrev offers : tie.After-list → List ℕ
+offers c = c .list .last .1 .1 .1 .1 .1 .1 .1 .0
+
+abbrev grocers : tie.After-list2 → List ℕ
+grocers c = c .list2 .last .1 .1 .1 .1 .1 .1 .1 .0
+
+offer-places : (c : tie.After-list) → PlacesIn (offers c) (c .list .result) × (c .list .result ≤ entry (open-1 c) .args .offers)
+offer-places c =
+    let e = open-1 c in
+    let s = entry e in
+    let f = job s in
+    places-in (s .args .boxes) (s .args .offers) (at (now (s .args .owner))) (now (s .args .toffer)) (now (s .args .tbox)) (s .args .tallies) (s .args .b) (offers c) (now (s .args .loffers)) (c .list .result)
+    (offer-owners f (bookLengths (lent s)) (s .args .b) (accepted e) .n-in) (long f (bookLengths (lent s)) (s .args .b) (accepted e) .localOffers) (c .list .kept .1 .1 .1 .1 .1 .1 .1 .0) (c .list .ensures .1) (c .list .ensures .0)
+
+grocer-places : (c : tie.After-list2) → PlacesIn (grocers c) (c .list2 .result) × (c .list2 .result ≤ entry (open-1 (open-2 c)) .args .grocers)
+grocer-places c =
+    let e = open-1 (open-2 c) in
+    let s = entry e in
+    let f = job s in
+    places-in (s .args .boxes) (s .args .grocers) (at (now (s .args .gowner))) (now (s .args .tgrocer)) (now (s .args .tbox)) (s .args .tallies) (s .args .b) (grocers c) (now (s .args .lgrocers)) (c .list2 .result)
+    (grocer-owners f (bookLengths (lent s)) (s .args .b) (accepted e) .n-in) (long f (bookLengths (lent s)) (s .args .b) (accepted e) .localGrocers) (c .list2 .kept .1 .1 .1 .1 .1 .1 .1 .0) (c .list2 .ensures .1) (c .list2 .ensures .0)
+
+refusal-requires : tie.Need-refusal-requires
+refusal-requires c κs = search needs
+
+returns : tie.Need-returns
+returns c = let s = c .before .before .before .before .before .before .before .before .before .before .before .before in booked-refused (job s) (s .args .b) (lent s) (c .before .refusal .result) (c .before .refusal .ensures) (c .if1 .taken)
+
+list-requires : tie.Need-list-requires
+list-requires c κs =
+    let e = c .before in
+    let s = entry e in
+    let f = job s in
+    ((offer-owners f (bookLengths (lent s)) (s .args .b) (accepted e), offer-tallies f (bookLengths (lent s)) (s .args .b) (accepted e)), long f (bookLengths (lent s)) (s .args .b) (accepted e) .localOffers)
+
+list-requires-2 : tie.Need-list-requires-2
+list-requires-2 c κs =
+    let e = open-1 (c .before .before .before) in
+    let s = entry e in
+    let f = job s in
+    ((grocer-owners f (bookLengths (lent s)) (s .args .b) (accepted e), grocer-tallies f (bookLengths (lent s)) (s .args .b) (accepted e)), long f (bookLengths (lent s)) (s .args .b) (accepted e) .localGrocers)
+
+pack-requires : tie.Need-pack-requires
+pack-requires c κs =
+    let u = c .before .before .before .before .before .before .before in
+    let e = open-1 (open-2 u) in
+    let s = entry e in
+    let f = job s in
+    let w = long f (bookLengths (lent s)) (s .args .b) (accepted e) in (
+      (offer-tallies f (bookLengths (lent s)) (s .args .b) (accepted e), grocer-tallies f (bookLengths (lent s)) (s .args .b) (accepted e)),
+      (
+        (offer-places (open-2 u) .0, grocer-places u .0),
+        (omega (arith, offer-places (open-2 u) .1, w .starts), (whole f (bookLengths (lent s)) (s .args .b) (accepted e) .tallyCount, (w .packedGrocers, w .packedCounts))),
+      ),
+    )
+
+same-length : tie.Need-same-length
+same-length c = c .before .before .before .before .before .before .before .before .before .before .before .before .before .before .before .before .before .list .kept .1 .1 .1 .1 .1 .1 .1 .0
+
+same-length-2 : tie.Need-same-length-2
+same-length-2 c = c .before .before .before .before .before .before .before .before .before .before .before .before .before .list2 .kept .1 .1 .1 .1 .1 .1 .1 .0
+
+same-length-3 : tie.Need-same-length-3
+same-length-3 c = c .before .before .before .before .before .pack .kept .1 .1 .1 .1 .1 .1 .1 .1 .1 .1 .0
+
+same-length-4 : tie.Need-same-length-4
+same-length-4 c = c .before .before .before .before .before .pack .kept .1 .1 .1 .1 .1 .1 .1 .1 .1 .1 .1 .0
+
+same-length-5 : tie.Need-same-length-5
+same-length-5 c = c .before .before .before .before .before .pack .kept .1 .1 .1 .1 .1 .1 .1 .1 .1 .1 .1 .1 .0
+
+returns-2 : tie.Need-returns-2
+returns-2 c =
+    let p = c .before .before .before .before .before in
+    let u = p .before .before .before .before .before .before .before .before in
+    let a = open-2 u in
+    let e = open-1 a in
+    let s = entry e in
+    booked-written (job s) (s .args .b) (lent s) (accepted e) (a .list .result) (u .list2 .result) (p .pack .result)
+    (bookTables (offers a) (grocers u) (p .pack .last .1 .1 .1 .1 .1 .1 .1 .1 .1 .1 .0) (p .pack .last .1 .1 .1 .1 .1 .1 .1 .1 .1 .1 .1 .0) (p .pack .last .1 .1 .1 .1 .1 .1 .1 .1 .1 .1 .1 .1 .0))
+    (a .list .ensures .0) (a .list .ensures .1) (u .list2 .ensures .0) (u .list2 .ensures .1) (p .pack .ensures .0) (p .pack .ensures .1 .0) (p .pack .ensures .1 .1 .0) (p .pack .ensures .1 .1 .1)
+
+pub book-spec : {M : Type 1} → statement M
+book-spec =
+    tie.close
+    (tie.spec
+    refusal-requires
+    returns
+    list-requires
+    list-requires-2
+    pack-requires
+    same-length
+    same-length-2
+    same-length-3
+    same-length-4
+    same-length-5
+    returns-2)

@@ -1,0 +1,17 @@
+-- `local::book::book_short` meets its contract. Assumes nothing.
+use native.Mathlib.Numerals.{add-one}
+use borrow.Author.Needs.{needs}
+use Rattle.model.specs.Tables.{jobOf}
+use Rattle.model.specs.Local.{bookShort}
+use Rattle.local.proofs.book.book_short.Statement.{statement}
+use Rattle.local.proofs.book.book_short.Tie as tie
+
+add-result : tie.Need-add-result
+add-result c = search needs
+
+returns : tie.Need-returns
+unfolding bookShort jobOf
+returns c = rw (add-one (c .args .offers))
+
+pub book-short-spec : {M : Type 1} → statement M
+book-short-spec = tie.close (tie.spec add-result returns)

@@ -1,0 +1,118 @@
+-- `local::pack::pack` meets its contract. Assumes nothing.
+use mathlib.Core.Path.{_≡_, ap, _∙_}
+use mathlib.Core.List.{List}
+use Prim.Native.Nat.{ℕ, _≤_}
+use native.Mathlib.Omega.{arith}
+use borrow.Author.Needs.{needs}
+use lib.ListN.{replicate}
+use denote.Ref.{now}
+use Rattle.laws.specs.Tables.{overwrite}
+use Rattle.laws.proofs.Tables.{overwrite-cong}
+use Rattle.local.specs.Pack.{packedTallies, packedStart, packedGrocer, packedNumber, packedCount, OrderIn}
+use Rattle.local.proofs.Packing.{packed-le, order-in, grocer-put, count-put}
+use Rattle.local.proofs.pack.pack.Statement.{statement}
+use Rattle.local.proofs.pack.pack.Tie as tie
+
+abbrev entry : tie.After-index-of → tie.Start
+entry c = c .before .before .before .before .before .before .before .before .before .before .before .before .before .before .before
+
+-- Where the tallies are in order.
+abbrev ordered : tie.After-index-of → tie.After-order-tallies
+ordered c = c .before .before .before .before .before
+
+abbrev order : tie.After-index-of → List ℕ
+order c = ordered c .order-tallies .last .1 .1 .1 .1 .1 .1 .1 .0
+
+abbrev packed : tie.Start → List ℕ
+packed s = packedTallies (now (s .args .tbox)) (now (s .args .toffer)) (s .args .tallies) (now (s .args .loffers)) (s .args .l) (s .args .b)
+
+total-is : (c : tie.After-index-of) → c .index-of .result ≡ packedStart (now (entry c .args .tbox)) (now (entry c .args .toffer)) (entry c .args .tallies) (now (entry c .args .loffers)) (entry c .args .l) (entry c .args .b) (entry c .args .l)
+total-is c = c .index-of .ensures ∙ ordered c .order-tallies .ensures .0
+
+total-in : (c : tie.After-index-of) → c .index-of .result ≤ entry c .args .tallies
+total-in c = let s = entry c in omega (arith, total-is c, packed-le (now (s .args .tbox)) (now (s .args .toffer)) (s .args .tallies) (now (s .args .loffers)) (s .args .l) (s .args .b))
+
+in-order : (c : tie.After-index-of) → OrderIn (order c) (c .index-of .result) (entry c .args .tallies)
+in-order c =
+    let s = entry c in
+    order-in (now (s .args .tbox)) (now (s .args .toffer)) (s .args .tallies) (now (s .args .loffers)) (s .args .l) (s .args .b) (replicate 1_000 0) (order c) (c .index-of .result) (ordered c .order-tallies .ensures .1 .1) (total-is c)
+    (s .pre .0 .0 .tallies-in) (omega (arith, s .pre .0 .0 .tallies-in, ordered c .order-tallies .kept .1 .1 .1 .1 .1 .1 .1 .0))
+
+slice-aggregate-order-tallies : tie.Need-slice-aggregate-order-tallies
+slice-aggregate-order-tallies c = search needs
+
+order-tallies-requires : tie.Need-order-tallies-requires
+order-tallies-requires c κs = search needs
+
+numbers-requires : tie.Need-numbers-requires
+numbers-requires c κs = search needs
+
+index-of-requires : tie.Need-index-of-requires
+index-of-requires c κs = search needs
+
+slice-aggregate-put-grocers : tie.Need-slice-aggregate-put-grocers
+slice-aggregate-put-grocers c = search needs
+
+put-grocers-requires : tie.Need-put-grocers-requires
+put-grocers-requires c κs =
+    let i = c .before .before .before in
+    let s = entry i in
+    (in-order i, ((s .pre .0 .1 .items-long, omega (arith, total-in i, s .pre .1 .1 .1 .1 .0)), s .pre .0 .1 .item-in))
+
+slice-aggregate-put-counts : tie.Need-slice-aggregate-put-counts
+slice-aggregate-put-counts c = search needs
+
+put-counts-requires : tie.Need-put-counts-requires
+put-counts-requires c κs =
+    let i = c .before .before .before .before .before .before .before .before in
+    let s = entry i in
+    (in-order i, (s .pre .1 .1 .1 .0, omega (arith, total-in i, s .pre .1 .1 .1 .1 .1)))
+
+same-length : tie.Need-same-length
+same-length c = search needs
+
+same-length-2 : tie.Need-same-length-2
+same-length-2 c = search needs
+
+same-length-3 : tie.Need-same-length-3
+same-length-3 c = search needs
+
+returns : tie.Need-returns
+returns c =
+    let p = c .before in
+    let q = p .before .before .before .before .before in
+    let i = q .before .before .before .before in
+    let s = entry i in
+    let n = ordered i .order-tallies .result in (
+      ordered i .order-tallies .ensures .0,
+      (
+        ordered i .order-tallies .ensures .1 .0,
+        (
+          q .put-grocers .ensures
+              ∙ overwrite-cong (i .index-of .result) (packedGrocer (i .before .numbers .result) (now (s .args .tgrocer)) (order i)) (packedNumber (now (s .args .lgrocers)) (s .args .g) (now (s .args .tgrocer)) (packed s)) (now (s .args .pgrocers))
+              (grocer-put (now (s .args .tbox)) (now (s .args .toffer)) (s .args .tallies) (now (s .args .loffers)) (s .args .l) (s .args .b) (replicate 1_000 0) (order i) (i .index-of .result) (ordered i .order-tallies .ensures .1 .1) (total-is i) (i .before .numbers .result) (now (s .args .tgrocer)) (now (s .args .lgrocers)) (s .args .g) (i .before .numbers .ensures) (s .pre .0 .1))
+              ∙ ap (λ (k : ℕ). overwrite k (packedNumber (now (s .args .lgrocers)) (s .args .g) (now (s .args .tgrocer)) (packed s)) (now (s .args .pgrocers))) (i .index-of .ensures),
+          p .put-counts .ensures
+              ∙ overwrite-cong (i .index-of .result) (packedCount (now (s .args .tcount)) (order i)) (packedCount (now (s .args .tcount)) (packed s)) (now (s .args .pcounts))
+              (count-put (now (s .args .tbox)) (now (s .args .toffer)) (s .args .tallies) (now (s .args .loffers)) (s .args .l) (s .args .b) (replicate 1_000 0) (order i) (i .index-of .result) (ordered i .order-tallies .ensures .1 .1) (total-is i) (now (s .args .tcount)))
+              ∙ ap (λ (k : ℕ). overwrite k (packedCount (now (s .args .tcount)) (packed s)) (now (s .args .pcounts))) (i .index-of .ensures),
+        ),
+      ),
+    )
+
+pub pack-spec : {M : Type 1} → statement M
+pack-spec =
+    tie.close
+    (tie.spec
+    slice-aggregate-order-tallies
+    order-tallies-requires
+    numbers-requires
+    index-of-requires
+    slice-aggregate-put-grocers
+    put-grocers-requires
+    slice-aggregate-put-counts
+    put-counts-requires
+    same-length
+    same-length-2
+    same-length-3
+    returns)

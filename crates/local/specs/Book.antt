@@ -1,0 +1,85 @@
+-- The local book of a box as the call gives it: its answer, and the five lent tables.
+use mathlib.Core.Path.{_≡_}
+use mathlib.Core.List.{List, []}
+use Prim.Native.Nat.{ℕ, zero, suc}
+use lib.ListN.{length, drop}
+use lib.IntN.{ℤ}
+use Rattle.laws.specs.Checks.{firstMet}
+use Rattle.model.specs.Job.{Job}
+use Rattle.model.specs.Tables.{JobTables, jobTables, jobOf}
+use Rattle.model.specs.Local.{localOffers, localGrocers, start, starts, Packed, BookLengths, bookRefusals}
+use Rattle.local.specs.Sort.{inFront}
+use Rattle.local.specs.declared.book.Answer.{Answer}
+use Rattle.local.specs.declared.book.Answer.the-variants.{Book, Refused}
+
+-- What the call says: how many local offers, local grocers and tallies the box has, or the number of a refusal.
+pub data BookAnswer : Type 0 where
+  book : ℕ → ℕ → ℕ → BookAnswer
+  refused : ℕ → BookAnswer
+
+-- What each case of the answer says.
+unfoldable pub said : Answer → BookAnswer
+said (Book offers grocers tallies) = book offers grocers tallies
+said (Refused n) = refused n
+
+-- What is due: the first refusal that is met, or the numbers of the box.
+unfoldable pub bookAnswer : ℕ → Job → ℕ → BookAnswer
+bookAnswer zero j b = book (length (localOffers j b)) (length (localGrocers j b)) (start j b (length (localOffers j b)))
+bookAnswer (suc n) j b = refused (suc n)
+
+-- The five tables that the call is lent.
+pub record BookTables : Type 0 where
+  pub localOffers : List ℕ
+  pub localGrocers : List ℕ
+  pub starts : List ℕ
+  pub packedGrocers : List ℕ
+  pub packedCounts : List ℤ
+
+-- The same, as a contract names them.
+abbrev pub bookTables : List ℕ → List ℕ → List ℕ → List ℕ → List ℤ → BookTables
+bookTables offers grocers starts packedGrocers packedCounts = record {
+  localOffers = offers;
+  localGrocers = grocers;
+  starts = starts;
+  packedGrocers = packedGrocers;
+  packedCounts = packedCounts;
+}
+
+-- M, N and T alone.
+abbrev pub bookSizes : ℕ → ℕ → ℕ → JobTables
+bookSizes m n t = jobTables 0 m n t [] [] [] [] [] [] []
+
+-- The lengths of these tables, as a contract names them.
+abbrev pub lengths : ℕ → ℕ → ℕ → ℕ → ℕ → BookLengths
+lengths offers grocers starts packedGrocers packedCounts = record {
+  localOffers = offers;
+  localGrocers = grocers;
+  starts = starts;
+  packedGrocers = packedGrocers;
+  packedCounts = packedCounts;
+}
+
+-- How many words of each are lent.
+abbrev pub bookLengths : BookTables → BookLengths
+bookLengths t = lengths (length (t .localOffers)) (length (t .localGrocers)) (length (t .starts)) (length (t .packedGrocers)) (length (t .packedCounts))
+
+-- A list is as long after as before, and from place n on has the same words.
+pub record SamePast {A : Type 0} (n : ℕ) (before after : List A) : Type 0 where
+  pub long : length after ≡ length before
+  pub past : drop n after ≡ drop n before
+
+-- The local matrix of box b is written: each list in front of what stood in its table, and words past what the box has as they were.
+pub record Written (j : Job) (b : ℕ) (before after : BookTables) : Type 0 where
+  pub offers : after .localOffers ≡ inFront (localOffers j b) (before .localOffers)
+  pub grocers : after .localGrocers ≡ inFront (localGrocers j b) (before .localGrocers)
+  pub starts : after .starts ≡ inFront (starts j b) (before .starts)
+  -- The order of tallies inside one offer's list is open: the list has each of the box's tallies of that offer once.
+  pub packed : Packed j b (after .packedGrocers) (after .packedCounts)
+  pub pastGrocers : SamePast (start j b (length (localOffers j b))) (before .packedGrocers) (after .packedGrocers)
+  pub pastCounts : SamePast (start j b (length (localOffers j b))) (before .packedCounts) (after .packedCounts)
+
+-- What the call gives, by the first refusal that is met: THE definition that its contract cites.
+pub record Booked (f : JobTables) (b : ℕ) (before : BookTables) (r : Answer) (after : BookTables) : Type 0 where
+  pub answer : said r ≡ bookAnswer (firstMet (bookRefusals f (bookLengths before) b)) (jobOf f) b
+  pub written : firstMet (bookRefusals f (bookLengths before) b) ≡ 0 → Written (jobOf f) b before after
+  pub unchanged : (firstMet (bookRefusals f (bookLengths before) b) ≡ 0 → ⊥) → after ≡ before

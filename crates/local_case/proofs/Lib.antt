@@ -1,0 +1,2 @@
+-- Laws of the sign of a count.
+pub mod Signs
