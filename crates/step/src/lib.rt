@@ -43,8 +43,27 @@ pub fn step(
         (asked kind first second) ⌝ }
 {
     let r = refuse::refusal(
-        boxes, grocers, offers, tallies, price, owner, gowner, tgrocer, tbox, toffer, tcount, known, ptransit, working,
-        ttransit, statement, done, sent, kind, first, second,
+        boxes,
+        grocers,
+        offers,
+        tallies,
+        price,
+        owner,
+        gowner,
+        tgrocer,
+        tbox,
+        toffer,
+        tcount,
+        known,
+        ptransit,
+        working,
+        ttransit,
+        statement,
+        done,
+        sent,
+        kind,
+        first,
+        second,
     );
     if r != 0 {
         return Answer::Refused(r);
@@ -52,8 +71,29 @@ pub fn step(
     let needing = tables::masks::needs(boxes, tallies, tbox, toffer);
     let sharing = tables::masks::sharers(boxes, tallies, tbox, tgrocer);
     apply::apply(
-        boxes, grocers, offers, tallies, price, owner, gowner, tgrocer, tbox, toffer, tcount, &needing, &sharing, known,
-        ptransit, working, ttransit, statement, done, sent, kind, first, second,
+        boxes,
+        grocers,
+        offers,
+        tallies,
+        price,
+        owner,
+        gowner,
+        tgrocer,
+        tbox,
+        toffer,
+        tcount,
+        &needing,
+        &sharing,
+        known,
+        ptransit,
+        working,
+        ttransit,
+        statement,
+        done,
+        sent,
+        kind,
+        first,
+        second,
     );
     Answer::Accepted
 }
