@@ -36,7 +36,7 @@ module _ (j : Job) (prices totals : List (List ℕ)) (ep : prices ≡ priceTable
   unfolding due
   due-total a b la lb = rw (et, total-due j a b (omega arith) (omega arith)) (not-not (totalsDue j a b))
 
-  fits-is : (q : Kind) (a b : ℕ) → a < j .boxes → b < j .boxes → fitsBy prices totals q a b ≡ fits j q a b
+  pub fits-is : (q : Kind) (a b : ℕ) → a < j .boxes → b < j .boxes → fitsBy prices totals q a b ≡ fits j q a b
   unfolding fitsBy fits
   fits-is sendPrices a b la lb = due-price a b la lb
   fits-is multiplyOwn a b la lb = refl
@@ -47,14 +47,14 @@ module _ (j : Job) (prices totals : List (List ℕ)) (ep : prices ≡ priceTable
 
   module _ (d : Steps) where
     -- Step 2 and every due step 3 of box a are done.
-    multiplied-is : (a : ℕ) → a < j .boxes → multipliedBy (j .boxes) prices d a ≡ multiplied j d a
+    pub multiplied-is : (a : ℕ) → a < j .boxes → multipliedBy (j .boxes) prices d a ≡ multiplied j d a
     unfolding multipliedBy multiplied receivedFrom hasStep fits
     multiplied-is a la =
         ap (λ (t : Bool). d multiplyOwn a a && t)
         (all-cong (j .boxes) (receivedFrom prices d a) (λ c. not (hasStep j receivePrices a c) || d receivePrices a c)
         (λ c lc. rw (due-price c a lc la, lt-ltb a (j .boxes) la, lt-ltb c (j .boxes) lc)))
 
-    ready-is : (q : Kind) (a b : ℕ) → a < j .boxes → readyBy (j .boxes) prices d q a b ≡ ready j d q a b
+    pub ready-is : (q : Kind) (a b : ℕ) → a < j .boxes → readyBy (j .boxes) prices d q a b ≡ ready j d q a b
     unfolding readyBy ready
     ready-is sendPrices a b la = refl
     ready-is multiplyOwn a b la = refl
