@@ -13,6 +13,9 @@ use Rattle.laws.specs.Checks.{firstMet}
 use Rattle.laws.proofs.Below.{any-next, all-next}
 use Rattle.laws.proofs.Bools.{clash, or-true, or-false}
 use Rattle.format.specs.First.{firstOf}
+pub use Rattle.laws.proofs.Below.{any-more}
+pub use Rattle.laws.proofs.Checks.{one-met, one-off}
+pub use Rattle.laws.proofs.Tables.{row-in}
 
 -- A choice by a test of two numbers, without a branch.
 pub cond-or : (k n : ℕ) (a b : Bool) → ((ltb k n && a) || (leb n k && b)) ≡ cond (ltb k n) a b
@@ -36,10 +39,6 @@ or-l a b e = rw e
 pub or-r : (a b : Bool) → b ≡ true → (a || b) ≡ true
 or-r a b e = rw e (or-true a)
 
--- A search goes on: what the places below i say, and what place i says.
-pub any-more : (i : ℕ) (p : ℕ → Bool) (a b : Bool) → a ≡ any i p → b ≡ p i → (a || b) ≡ any (i + 1) p
-any-more i p a b h e = ap₂ _||_ h e ∙ sym (any-next i p)
-
 -- A search ends: all n places are looked at.
 pub any-end : (i n : ℕ) (p : ℕ → Bool) (a : Bool) → i ≡ n → a ≡ any i p → a ≡ any n p
 any-end i n p a e h = h ∙ ap (λ (k : ℕ). any k p) e
@@ -52,23 +51,9 @@ all-more i p a b h e = ap₂ _&&_ h e ∙ sym (all-next i p)
 pub row-next : (i z : ℕ) → (i + 1) * z ≡ i * z + z
 row-next i z = rw (add-mul i 1 z, one-mul z)
 
--- Row i of n rows of z words each ends within them.
-pub row-in : (i n z : ℕ) → i < n → i * z + z ≤ n * z
-row-in i n z l = rw (row-next i z) at (mul-le-mul-right {m = i + 1} {n = n} z (omega arith))
-
 -- The first refusal of two lists, one after the other.
 pub first-split : (l r : List ℕ) → firstOf (l ++ r) ≡ firstOf (firstOf l ∷ r)
 unfolding firstOf
 first-split [] r = refl
 first-split (zero ∷ l) r = first-split l r
 first-split (suc n ∷ l) r = refl
-
--- One condition that is met.
-pub one-met : (b : Bool) (n : ℕ) → b ≡ true → firstMet ((b, n) ∷ []) ≡ n
-unfolding firstMet
-one-met b n e = rw e
-
--- One condition that is not met.
-pub one-off : (b : Bool) (n : ℕ) → b ≡ false → firstMet ((b, n) ∷ []) ≡ 0
-unfolding firstMet
-one-off b n e = rw e

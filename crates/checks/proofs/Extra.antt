@@ -11,10 +11,7 @@ use borrow.Author.Tests.{lt-ltb, le-ltb}
 use Rattle.laws.specs.Below.{any}
 use Rattle.laws.proofs.Bools.{or-false}
 use Rattle.laws.proofs.Below.{any-next}
-
--- A loop that joins a test of each place: one place more.
-pub any-more : (i : ℕ) (p : ℕ → Bool) (bad x : Bool) → bad ≡ any i p → x ≡ p i → (bad || x) ≡ any (i + 1) p
-any-more i p bad x h e = ap₂ _||_ h e ∙ sym (any-next i p)
+pub use Rattle.laws.proofs.Below.{any-more}
 
 -- A number outside −99,999 to 99,999, by its size.
 pub far : (z : ℤ) → (ltZ z (negsuc 99998) || ltZ (pos 99999) z) ≡ ltb 99999 (natAbs z)

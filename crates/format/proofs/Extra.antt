@@ -16,29 +16,8 @@ use Rattle.laws.specs.Tables.{tabulate, overwrite, recell}
 use Rattle.laws.proofs.Bools.{clash, and-l, and-r}
 use Rattle.laws.proofs.Sums.{sum-cong}
 use Rattle.laws.proofs.Tables.{is-overwrite, is-recell, getD-overwrite, cell-in, pos-right, tabulate-cong}
-
--- Tests that agree below the bound.
-pub any-cong : (n : ℕ) (p q : ℕ → Bool) → ((i : ℕ) → i < n → p i ≡ q i) → any n p ≡ any n q
-unfolding any
-any-cong zero p q h = refl
-any-cong (suc n) p q h = ap₂ _||_ (any-cong n p q (λ i l. h i (omega arith))) (h n (omega arith))
-
--- They find the same number.
-pub find-cong : (n : ℕ) (p q : ℕ → Bool) → ((i : ℕ) → i < n → p i ≡ q i) → find n p ≡ find n q
-unfolding find
-find-cong zero p q h = refl
-find-cong (suc n) p q h = rw (any-cong n p q (λ i l. h i (omega arith)), find-cong n p q (λ i l. h i (omega arith)), h n (omega arith))
-
--- No number below n passes.
-pub any-false : (n : ℕ) (p : ℕ → Bool) → ((i : ℕ) → i < n → p i ≡ false) → any n p ≡ false
-unfolding any
-any-false zero p h = refl
-any-false (suc n) p h = rw (any-false n p (λ i l. h i (omega arith)), h n (omega arith))
-
--- Neither of two tests holds.
-pub or-off : (a b : Bool) → (a || b) ≡ false → (a ≡ false) × (b ≡ false)
-or-off true b h = (h, absurd (clash refl h))
-or-off false b h = (refl, h)
+pub use Rattle.laws.proofs.Below.{any-cong, find-cong, any-false}
+pub use Rattle.laws.proofs.Bools.{or-off}
 
 -- Two sums that differ at one place i only.
 pub sum-change : (n i : ℕ) (f g : ℕ → ℕ) → i < n → ((k : ℕ) → k < n → (k ≡ i → ⊥) → g k ≡ f k) → sum words n g + f i ≡ sum words n f + g i

@@ -12,15 +12,7 @@ use Rattle.format.specs.File.{decode}
 use Rattle.format.specs.Refusals.{badLength, badCount, headerRefusal, blockRefusal, fileRefusal, jobRefusal}
 use Rattle.format.specs.Tables.{FileTables, ReaderTables, shortReader, readRefusal, shortWriter, writeRefusal, fileJobOf}
 use Rattle.format.proofs.Firsts.{hit, next, alone, below-hit}
-
--- One condition that is met, and one that is not.
-one-met : (b : Bool) (n : ℕ) → b ≡ true → firstMet ((b, n) ∷ []) ≡ n
-unfolding firstMet
-one-met b n e = rw e
-
-one-off : (b : Bool) (n : ℕ) → b ≡ false → firstMet ((b, n) ∷ []) ≡ 0
-unfolding firstMet
-one-off b n e = rw e
+use Rattle.laws.proofs.Checks.{one-met, one-off}
 
 -- ---- the reader: 20, 1, the header, the block count, other blocks ascending, 7, 8
 

@@ -8,11 +8,7 @@ use borrow.Author.Tests.{eqb-true, eqb-false}
 use Rattle.laws.specs.Below.{words, sum, only, any, count}
 use Rattle.laws.proofs.Bools.{split, clash}
 use Rattle.laws.proofs.Below.{any-find, count-none, count-zero}
-
--- The count of one test more.
-count-suc : (n : ℕ) (p : ℕ → Bool) → count (suc n) p ≡ count n p + only words (p n) 1
-unfolding count sum words
-count-suc n p = refl
+pub use Rattle.laws.proofs.Below.{count-suc}
 
 pub only-yes : {t : Bool} → t ≡ true → only words t 1 ≡ 1
 unfolding only words

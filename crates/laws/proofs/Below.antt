@@ -23,6 +23,36 @@ pub count-next : (n : ℕ) (p : ℕ → Bool) → count (n + 1) p ≡ count n p 
 unfolding count words
 count-next n p = sum-next words n (λ i. only words (p i) 1)
 
+pub count-start : (p : ℕ → Bool) → count 0 p ≡ 0
+unfolding count sum words
+count-start p = refl
+
+pub count-suc : (n : ℕ) (p : ℕ → Bool) → count (suc n) p ≡ count n p + only words (p n) 1
+unfolding count sum words
+count-suc n p = refl
+
+-- A search in a loop, one test a turn.
+pub any-more : (i : ℕ) (p : ℕ → Bool) (a b : Bool) → a ≡ any i p → b ≡ p i → (a || b) ≡ any (i + 1) p
+any-more i p a b h e = rw (h, e) (sym (any-next i p))
+
+-- Tests that agree below the bound.
+pub any-cong : (n : ℕ) (p q : ℕ → Bool) → ((i : ℕ) → i < n → p i ≡ q i) → any n p ≡ any n q
+unfolding any
+any-cong zero p q h = refl
+any-cong (suc n) p q h = ap₂ _||_ (any-cong n p q (λ i l. h i (omega arith))) (h n (omega arith))
+
+-- They find the same number.
+pub find-cong : (n : ℕ) (p q : ℕ → Bool) → ((i : ℕ) → i < n → p i ≡ q i) → find n p ≡ find n q
+unfolding find
+find-cong zero p q h = refl
+find-cong (suc n) p q h = rw (any-cong n p q (λ i l. h i (omega arith)), find-cong n p q (λ i l. h i (omega arith)), h n (omega arith))
+
+-- No number below n passes.
+pub any-false : (n : ℕ) (p : ℕ → Bool) → ((i : ℕ) → i < n → p i ≡ false) → any n p ≡ false
+unfolding any
+any-false zero p h = refl
+any-false (suc n) p h = rw (any-false n p (λ i l. h i (omega arith)), h n (omega arith))
+
 -- One number that passes.
 pub any-at : (n : ℕ) (p : ℕ → Bool) (i : ℕ) → i < n → p i ≡ true → any n p ≡ true
 unfolding any
@@ -155,9 +185,3 @@ find-first (suc n) p i l =
 -- The only number that passes is the one found.
 pub find-only : (n : ℕ) (p : ℕ → Bool) (k : ℕ) → k < n → p k ≡ true → ((i : ℕ) → i < n → p i ≡ true → i ≡ k) → find n p ≡ k
 find-only n p k l h one = let (m, q) = find-passes n p (any-at n p k l h) in one (find n p) m q
-
--- Where each number fails none passes.
-pub none-any : (n : ℕ) (p : ℕ → Bool) → ((i : ℕ) → p i ≡ false) → any n p ≡ false
-unfolding any
-none-any zero p h = refl
-none-any (suc n) p h = rw (none-any n p h, h n)

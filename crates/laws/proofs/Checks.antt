@@ -2,7 +2,8 @@
 use mathlib.Core.Path.{_≡_, refl}
 use mathlib.Core.Bool.{Bool, true, false, _||_, _&&_}
 use mathlib.Core.List.{List, [], _∷_}
-use Rattle.laws.specs.Checks.{anyFrom, anyOf, allFrom, allOf}
+use Prim.Native.Nat.{ℕ}
+use Rattle.laws.specs.Checks.{anyFrom, anyOf, allFrom, allOf, firstMet}
 
 -- Each of the tests is v, as a tuple.
 abbrev pub Each : Bool → List Bool → Type 0
@@ -59,3 +60,12 @@ nothing-from a (b ∷ bs) e h = nothing-from (a || b) bs (rw (e, h .0)) (h .1)
 pub any-each : (bs : List Bool) → Each false bs → anyOf bs ≡ false
 any-each [] h = refl
 any-each (b ∷ bs) h = nothing-from b bs (h .0) (h .1)
+
+-- One condition alone.
+pub one-met : (b : Bool) (n : ℕ) → b ≡ true → firstMet ((b, n) ∷ []) ≡ n
+unfolding firstMet
+one-met b n e = rw e
+
+pub one-off : (b : Bool) (n : ℕ) → b ≡ false → firstMet ((b, n) ∷ []) ≡ 0
+unfolding firstMet
+one-off b n e = rw e

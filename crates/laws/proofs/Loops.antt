@@ -13,16 +13,8 @@ use lib.ListN.{length, getD, set, replicate}
 use lib.Seq.{getD-set-same, getD-set-other}
 use Rattle.laws.specs.Below.{amounts, sum, only}
 use Rattle.laws.proofs.Bools.{and-false}
-use Rattle.laws.proofs.Sums.{sum-next}
+use Rattle.laws.proofs.Sums.{sum-next, only-yes, only-no}
 use Rattle.laws.proofs.Signed.{abs-plus, sum-abs}
-
-only-yes : (b : Bool) (z : ℤ) → b ≡ true → only amounts b z ≡ z
-unfolding only amounts
-only-yes b z e = rw e
-
-only-no : (b : Bool) (z : ℤ) → b ≡ false → only amounts b z ≡ pos 0
-unfolding only amounts
-only-no b z e = rw e
 
 only-small : (b : Bool) (z : ℤ) → natAbs (only amounts b z) ≤ natAbs z
 unfolding only amounts
@@ -31,16 +23,17 @@ only-small false z = omega arith
 
 -- Z is added to the word at j: what the word at i is then.
 pub add-at : (w : List ℤ) (j i : ℕ) (z : ℤ) → j < length w → getD (set w j (getD w j (pos 0) +ℤ z)) i (pos 0) ≡ getD w i (pos 0) +ℤ only amounts (eqb j i) z
+unfolding amounts
 add-at w j i z l = go (ℕ-discrete j i)
   where
     go : Dec (j ≡ i) → getD (set w j (getD w j (pos 0) +ℤ z)) i (pos 0) ≡ getD w i (pos 0) +ℤ only amounts (eqb j i) z
     go (yes e) =
         subst (λ (k : ℕ). getD (set w j (getD w j (pos 0) +ℤ z)) k (pos 0) ≡ getD w k (pos 0) +ℤ only amounts (eqb j k) z) e
-        (getD-set-same w j (getD w j (pos 0) +ℤ z) (pos 0) l ∙ ap (λ (x : ℤ). getD w j (pos 0) +ℤ x) (sym (only-yes (eqb j j) z (eq-eqb j j refl))))
+        (getD-set-same w j (getD w j (pos 0) +ℤ z) (pos 0) l ∙ ap (λ (x : ℤ). getD w j (pos 0) +ℤ x) (sym (only-yes amounts (eqb j j) z (eq-eqb j j refl))))
     go (no n) =
         getD-set-other w j i (getD w j (pos 0) +ℤ z) (pos 0) (λ e. n (sym e))
         ∙ sym (+ℤ-idr (getD w i (pos 0)))
-        ∙ ap (λ (x : ℤ). getD w i (pos 0) +ℤ x) (sym (only-no (eqb j i) z (ne-eqb j i n)))
+        ∙ ap (λ (x : ℤ). getD w i (pos 0) +ℤ x) (sym (only-no amounts (eqb j i) z (ne-eqb j i n)))
 
 -- A list of zeros has zero everywhere, past its end too.
 pub getD-zeros : {A : Type 0} (n k : ℕ) (d : A) → getD (replicate n d) k d ≡ d

@@ -93,6 +93,15 @@ module _ {A : Type 0} (w : Adds A) where
   sum-only n true f = refl
   sum-only n false f = sum-none n (λ i. w .none) (λ i l. refl)
 
+  -- What a test lets through.
+  pub only-yes : (t : Bool) (x : A) → t ≡ true → only w t x ≡ x
+  unfolding only
+  only-yes t x e = rw e
+
+  pub only-no : (t : Bool) (x : A) → t ≡ false → only w t x ≡ w .none
+  unfolding only
+  only-no t x e = rw e
+
 -- Sums of words.
 pub sum-ones : (n : ℕ) → sum words n (λ i. 1) ≡ n
 unfolding sum words

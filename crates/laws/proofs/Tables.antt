@@ -22,6 +22,10 @@ pos-right n (suc m) i k = omega arith
 pub cell-in : (b n m o : ℕ) → b < n → o < m → b * m + o < n * m
 cell-in b n m o lb lo = omega (arith, mul-le-mul-right m lb)
 
+-- A row is within the table.
+pub row-in : (b n m : ℕ) → b < n → b * m + m ≤ n * m
+row-in b n m lb = omega (arith, mul-le-mul-right m lb)
+
 module _ {A : Type 0} where
   pub length-tabulate : (n : ℕ) (f : ℕ → A) → length (tabulate n f) ≡ n
   unfolding tabulate
@@ -120,6 +124,11 @@ module _ {A : Type 0} where
       rw e (getD-overwrite (n * m) (λ i. f (i / m) (i % m)) l (b * m + o) z (cell-in b n m o lb lo)
       ∙ rw (digits-div b lo, digits-mod b lo)))
       (λ e. rw e)
+
+  -- A cell inside the table.
+  pub cell-at : (n m : ℕ) (l : List A) (z : A) (b o : ℕ) → b < n → o < m → cell n m l z b o ≡ getD l (b * m + o) z
+  unfolding cell
+  cell-at n m l z b o lb lo = rw (lt-ltb b n lb, lt-ltb o m lo)
 
   pub word-overwrite : (n : ℕ) (f : ℕ → A) (l : List A) (z : A) (i : ℕ) → word n (overwrite n f l) z i ≡ cond (ltb i n) (f i) z
   unfolding word

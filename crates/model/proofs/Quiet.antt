@@ -9,7 +9,7 @@ use Rattle.laws.specs.Masks.{without}
 use Rattle.laws.specs.Below.{words, any, count}
 use Rattle.laws.proofs.Sums.{sum-none}
 use Rattle.laws.proofs.Bools.{and-false}
-use Rattle.laws.proofs.Below.{count-none, none-any}
+use Rattle.laws.proofs.Below.{count-none, any-false}
 use Rattle.model.specs.Job.{Job, needs, shares, needWord, sharerWord, priceWord, totalWord, pricesDue, totalsDue}
 use Rattle.model.specs.Words.{ownerWords, messages, stepCount}
 use Rattle.model.proofs.Range.{InRange}
@@ -28,13 +28,13 @@ module _ (j : Job) (r : InRange j) (none : j .tallies ≡ 0) where
   unfolding needWord
   no-price-words o l =
       ones-others (j .boxes) (j .offerOwner o) (needs j o) (r .boxes≤) (r .owner< o l) (λ b _. no-needs o b)
-      ∙ count-none (j .boxes) (λ b. not (eqb (j .offerOwner o) b) && needs j o b) (none-any (j .boxes) (λ b. not (eqb (j .offerOwner o) b) && needs j o b) (λ b. rw (no-needs o b) (and-false (not (eqb (j .offerOwner o) b)))))
+      ∙ count-none (j .boxes) (λ b. not (eqb (j .offerOwner o) b) && needs j o b) (any-false (j .boxes) (λ b. not (eqb (j .offerOwner o) b) && needs j o b) (λ b _. rw (no-needs o b) (and-false (not (eqb (j .offerOwner o) b)))))
 
   no-total-words : (g : ℕ) → g < j .grocers → ones (without (j .grocerOwner g) (sharerWord j g)) ≡ 0
   unfolding sharerWord
   no-total-words g l =
       ones-others (j .boxes) (j .grocerOwner g) (shares j g) (r .boxes≤) (r .grocerOwner< g l) (λ b _. no-shares g b)
-      ∙ count-none (j .boxes) (λ b. not (eqb (j .grocerOwner g) b) && shares j g b) (none-any (j .boxes) (λ b. not (eqb (j .grocerOwner g) b) && shares j g b) (λ b. rw (no-shares g b) (and-false (not (eqb (j .grocerOwner g) b)))))
+      ∙ count-none (j .boxes) (λ b. not (eqb (j .grocerOwner g) b) && shares j g b) (any-false (j .boxes) (λ b. not (eqb (j .grocerOwner g) b) && shares j g b) (λ b _. rw (no-shares g b) (and-false (not (eqb (j .grocerOwner g) b)))))
 
   pub no-tallies-words : ownerWords j ≡ 0
   unfolding ownerWords words
@@ -44,17 +44,17 @@ module _ (j : Job) (r : InRange j) (none : j .tallies ≡ 0) where
 
   no-prices-due : (a b : ℕ) → pricesDue j a b ≡ false
   unfolding pricesDue priceWord
-  no-prices-due a b = none-any (j .offers) (priceWord j a b) (λ o. rw (no-needs o b) (simp and-false))
+  no-prices-due a b = any-false (j .offers) (priceWord j a b) (λ o _. rw (no-needs o b) (simp and-false))
 
   no-totals-due : (a b : ℕ) → totalsDue j a b ≡ false
   unfolding totalsDue totalWord
-  no-totals-due a b = none-any (j .grocers) (totalWord j a b) (λ g. rw (no-shares g a) (simp and-false))
+  no-totals-due a b = any-false (j .grocers) (totalWord j a b) (λ g _. rw (no-shares g a) (simp and-false))
 
   pub no-tallies-steps : stepCount j ≡ 2 * j .boxes
   unfolding stepCount messages words
   no-tallies-steps =
       omega (
         arith,
-        sum-none words (j .boxes) (λ a. count (j .boxes) (λ b. pricesDue j a b)) (λ a l. count-none (j .boxes) (λ b. pricesDue j a b) (none-any (j .boxes) (λ b. pricesDue j a b) (no-prices-due a))),
-        sum-none words (j .boxes) (λ a. count (j .boxes) (λ b. totalsDue j a b)) (λ a l. count-none (j .boxes) (λ b. totalsDue j a b) (none-any (j .boxes) (λ b. totalsDue j a b) (no-totals-due a))),
+        sum-none words (j .boxes) (λ a. count (j .boxes) (λ b. pricesDue j a b)) (λ a l. count-none (j .boxes) (λ b. pricesDue j a b) (any-false (j .boxes) (λ b. pricesDue j a b) (λ b _. no-prices-due a b))),
+        sum-none words (j .boxes) (λ a. count (j .boxes) (λ b. totalsDue j a b)) (λ a l. count-none (j .boxes) (λ b. totalsDue j a b) (any-false (j .boxes) (λ b. totalsDue j a b) (λ b _. no-totals-due a b))),
       )

@@ -6,7 +6,7 @@ use Prim.Native.Nat.{ℕ}
 use lib.Dec.{eqb}
 use borrow.Author.Tests.{eqb-true}
 use Rattle.laws.specs.Checks.{firstMet}
-use Rattle.laws.proofs.Bools.{split, clash, and-true, and-r}
+use Rattle.laws.proofs.Bools.{or-off, split, clash, and-true, and-r}
 use Rattle.model.specs.Job.{Job}
 use Rattle.model.specs.Requests.{Request, lentJob, lentState, lendsShort, answerTo, serve}
 use Rattle.model.specs.Tables.{JobTables, jobOf, StateTables, view, store, JobLengths, StateLengths, jobLengths, stateLengths, jobShort, stateShort, lentShort}
@@ -117,21 +117,13 @@ module _ (f : JobTables) (ok : jobInRange f ≡ true) (long : jobShort (jobOf f)
     no-short : lentShort (lentJob f (r .job)) (lentState (store (jobOf f) s t) (r .state)) ≡ false
     no-short = short-is s r ∙ y
 
-    or-l : (a b : Bool) → (a || b) ≡ false → a ≡ false
-    or-l true b h = h
-    or-l false b h = refl
-
-    or-r : (a b : Bool) → (a || b) ≡ false → b ≡ false
-    or-r true b h = absurd (clash refl h)
-    or-r false b h = h
-
     job-enough : jobShort (jobOf f) (r .job) ≡ false
     unfolding lendsShort
-    job-enough = or-l (jobShort (jobOf f) (r .job)) (stateShort (jobOf f) (r .state)) y
+    job-enough = or-off (jobShort (jobOf f) (r .job)) (stateShort (jobOf f) (r .state)) y .0
 
     state-enough : stateShort (jobOf f) (r .state) ≡ false
     unfolding lendsShort
-    state-enough = or-r (jobShort (jobOf f) (r .job)) (stateShort (jobOf f) (r .state)) y
+    state-enough = or-off (jobShort (jobOf f) (r .job)) (stateShort (jobOf f) (r .state)) y .1
 
     job-is : jobOf (lentJob f (r .job)) ≡ jobOf f
     unfolding jobOf

@@ -21,15 +21,15 @@ use Rattle.model.proofs.Range.{InRange}
 use Rattle.model.proofs.Ranges.{Limits, Within}
 
 -- What the tests of a table say of its words.
-up-at : (m n : ℕ) (l : List ℕ) (i : ℕ) → upTo m n l ≡ true → i < n → getD l i 0 ≤ m
+pub up-at : (m n : ℕ) (l : List ℕ) (i : ℕ) → upTo m n l ≡ true → i < n → getD l i 0 ≤ m
 unfolding upTo
 up-at m n l i h k = leb-true (getD l i 0) m (all-at n (λ i. leb (getD l i 0) m) i k h)
 
-under-at : (m n : ℕ) (l : List ℕ) (i : ℕ) → under m n l ≡ true → i < n → getD l i 0 < m
+pub under-at : (m n : ℕ) (l : List ℕ) (i : ℕ) → under m n l ≡ true → i < n → getD l i 0 < m
 unfolding under
 under-at m n l i h k = ltb-true (getD l i 0) m (all-at n (λ i. ltb (getD l i 0) m) i k h)
 
-around-at : (m n : ℕ) (l : List ℤ) (i : ℕ) → around m n l ≡ true → i < n → natAbs (getD l i (pos 0)) ≤ m
+pub around-at : (m n : ℕ) (l : List ℤ) (i : ℕ) → around m n l ≡ true → i < n → natAbs (getD l i (pos 0)) ≤ m
 unfolding around
 around-at m n l i h k = leb-true (natAbs (getD l i (pos 0))) m (all-at n (λ i. leb (natAbs (getD l i (pos 0))) m) i k h)
 

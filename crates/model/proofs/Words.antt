@@ -7,7 +7,7 @@ use lib.Dec.{eqb}
 use lib.Count.{ones}
 use borrow.Author.Tests.{lt-ltb}
 use Rattle.laws.specs.Below.{words, sum, only, count}
-use Rattle.laws.proofs.Bools.{split, cond-same, no-true, and-l}
+use Rattle.laws.proofs.Bools.{and-comm, split, cond-same, no-true, and-l}
 use Rattle.laws.proofs.Sums.{sum-cong, sum-plus, sum-swap, sum-pick, sum-front}
 use Rattle.laws.specs.Masks.{maskOf, without}
 use Rattle.laws.proofs.Masks.{ones-without}
@@ -45,12 +45,6 @@ ones-others k a p h l past =
   where
     room : (k : ℕ) → k ≤ 16 → 16 ≡ (16 - k) + k
     room k h = omega arith
-
-    and-comm : (x y : Bool) → (x && y) ≡ (y && x)
-    and-comm true true = refl
-    and-comm true false = refl
-    and-comm false true = refl
-    and-comm false false = refl
 
 module _ (j : Job) where
   -- A message that is not due has no words.

@@ -14,37 +14,16 @@ use Rattle.laws.specs.Tables.{tabulate, overwrite, cell, recell}
 use Rattle.laws.proofs.Bools.{split, eqb-same}
 use Rattle.laws.proofs.Tables.{is-overwrite, is-recell, recell-cell}
 use Rattle.laws.proofs.Loops.{guarded, window, window-in, window-below, window-above}
+pub use Rattle.laws.proofs.Bools.{cond-yes, cond-no}
+pub use Rattle.laws.proofs.Sums.{only-yes, only-no}
+pub use Rattle.laws.proofs.Tables.{cell-at}
+pub use Rattle.laws.proofs.Below.{count-start}
 
 module _ {A : Type 0} where
-  -- A test that holds, and one that does not.
-  pub cond-yes : (t : Bool) (x y : A) → t ≡ true → cond t x y ≡ x
-  cond-yes t x y e = rw e
-
-  pub cond-no : (t : Bool) (x y : A) → t ≡ false → cond t x y ≡ y
-  cond-no t x y e = rw e
-
-  pub only-yes : (w : Adds A) (t : Bool) (x : A) → t ≡ true → only w t x ≡ x
-  unfolding only
-  only-yes w t x e = rw e
-
-  pub only-no : (w : Adds A) (t : Bool) (x : A) → t ≡ false → only w t x ≡ w .none
-  unfolding only
-  only-no w t x e = rw e
-
-  -- A cell inside its table is a word of the list.
-  pub cell-at : (k n : ℕ) (l : List A) (z : A) (b o : ℕ) → b < k → o < n → cell k n l z b o ≡ getD l (b * n + o) z
-  unfolding cell
-  cell-at k n l z b o lb lo = rw (lt-ltb b k lb, lt-ltb o n lo)
-
   -- Outside its table there is nothing.
   pub cell-out : (k n : ℕ) (l : List A) (z : A) (b o : ℕ) → (ltb b k && ltb o n) ≡ false → cell k n l z b o ≡ z
   unfolding cell
   cell-out k n l z b o h = rw h
-
--- Nothing is counted yet.
-pub count-start : (p : ℕ → Bool) → count 0 p ≡ 0
-unfolding count sum words
-count-start p = refl
 
 -- A place outside row r.
 outside : (r n c o : ℕ) → o < n → (c ≡ r → ⊥) → window (r * n) n (c * n + o) ≡ false

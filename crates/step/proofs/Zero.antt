@@ -1,14 +1,14 @@
 -- Where no condition is met: what the step that is applied asks, and what the definition leaves. Assumes nothing.
-use mathlib.Core.Path.{_≡_, refl, sym, _∙_}
+use mathlib.Core.Path.{_≡_, refl}
 use mathlib.Core.List.{List}
-use mathlib.Core.Bool.{Bool, true, false, cond, _&&_, _||_, not, false≢true}
+use mathlib.Core.Bool.{Bool, true, false, cond, _&&_, _||_, not}
 use Prim.Native.Nat.{ℕ, suc}
 use native.Mathlib.Omega.{arith}
 use lib.Dec.{eqb}
 use borrow.Author.Tests.{not-false, ne-eqb}
 use Rattle.laws.specs.Checks.{firstMet}
 use Rattle.laws.specs.Tables.{tabulate}
-use Rattle.laws.proofs.Bools.{and-l, and-r}
+use Rattle.laws.proofs.Bools.{and-l, and-r, or-off}
 use Rattle.model.specs.Job.{needWord, sharerWord}
 use Rattle.model.specs.Steps.{kindOf}
 use Rattle.model.specs.Tables.{JobTables, StateTables, jobOf, view, jobLengths, stateLengths, jobShort, stateShort, lentShort}
@@ -52,17 +52,9 @@ module _ (f : JobTables) (t : StateTables) (q : Asked) where
     pub in-range : jobInRange f ≡ true
     in-range = and-l (jobInRange f) (stateInRange f t) ranges
 
-    or-l : (a b : Bool) → (a || b) ≡ false → a ≡ false
-    or-l true b e = e
-    or-l false b e = refl
-
-    or-r : (a b : Bool) → (a || b) ≡ false → b ≡ false
-    or-r true b e = absurd (false≢true (sym e))
-    or-r false b e = e
-
     pub job-long : jobShort (jobOf f) (jobLengths f) ≡ false
     unfolding lentShort
-    job-long = or-l (jobShort (jobOf f) (jobLengths f)) (stateShort (jobOf f) (stateLengths t)) short
+    job-long = or-off (jobShort (jobOf f) (jobLengths f)) (stateShort (jobOf f) (stateLengths t)) short .0
 
     -- What is asked of the step that is applied.
     pub applies : (needs sharers : List ℕ) → needs ≡ tabulate 500 (needWord (jobOf f)) → sharers ≡ tabulate 255 (sharerWord (jobOf f)) → Applies f t needs sharers q
@@ -70,7 +62,7 @@ module _ (f : JobTables) (t : StateTables) (q : Asked) where
     applies needs sharers n s = record {
       job-in = in-range;
       job-long = job-long;
-      state-long = or-r (jobShort (jobOf f) (jobLengths f)) (stateShort (jobOf f) (stateLengths t)) short;
+      state-long = or-off (jobShort (jobOf f) (jobLengths f)) (stateShort (jobOf f) (stateLengths t)) short .1;
       state-in = and-r (jobInRange f) (stateInRange f t) ranges;
       needs-are = n;
       sharers-are = s;

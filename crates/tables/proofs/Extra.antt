@@ -18,11 +18,7 @@ use Rattle.laws.proofs.Bools.{split}
 use Rattle.laws.proofs.Below.{count-le}
 use Rattle.laws.proofs.Tables.{length-tabulate, getD-tabulate, is-tabulate, tabulate-cong}
 use Rattle.laws.proofs.Masks.{mask-bits, bit-mask, mask-without, ones-without}
-
-pub any-cong : (n : ℕ) (p q : ℕ → Bool) → ((i : ℕ) → i < n → p i ≡ q i) → any n p ≡ any n q
-unfolding any
-any-cong zero p q h = refl
-any-cong (suc n) p q h = ap₂ _||_ (any-cong n p q (λ i l. h i (omega arith))) (h n (omega arith))
+pub use Rattle.laws.proofs.Below.{any-cong}
 
 -- A list of the same word has it everywhere, where it stands for what is past the end too.
 pub getD-same : {A : Type 0} (n i : ℕ) (z : A) → getD (replicate n z) i z ≡ z

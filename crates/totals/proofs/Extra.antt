@@ -21,29 +21,15 @@ use Rattle.laws.proofs.Signed.{abs-plus, sum-abs, only-abs, fits64-as, read64}
 use Rattle.laws.proofs.Tables.{cell-in, is-recell, recell-cong}
 use Rattle.laws.proofs.Loops.{share, stored-more, front-here, front-else, guarded, window, window-in, window-below, window-above}
 use Rattle.model.specs.Ranges.{upTo, under, around}
-
--- What the tests of a table say of its words.
-pub up-at : (m n : ℕ) (l : List ℕ) (i : ℕ) → upTo m n l ≡ true → i < n → getD l i 0 ≤ m
-unfolding upTo
-up-at m n l i h k = leb-true (getD l i 0) m (all-at n (λ i. leb (getD l i 0) m) i k h)
-
-pub under-at : (m n : ℕ) (l : List ℕ) (i : ℕ) → under m n l ≡ true → i < n → getD l i 0 < m
-unfolding under
-under-at m n l i h k = ltb-true (getD l i 0) m (all-at n (λ i. ltb (getD l i 0) m) i k h)
-
-pub around-at : (m n : ℕ) (l : List ℤ) (i : ℕ) → around m n l ≡ true → i < n → natAbs (getD l i (pos 0)) ≤ m
-unfolding around
-around-at m n l i h k = leb-true (natAbs (getD l i (pos 0))) m (all-at n (λ i. leb (natAbs (getD l i (pos 0))) m) i k h)
+pub use Rattle.laws.proofs.Bools.{cond-yes, cond-no}
+pub use Rattle.laws.proofs.Tables.{cell-at, row-in}
+pub use Rattle.laws.proofs.Below.{count-start}
+pub use Rattle.model.proofs.Step.{up-at, under-at, around-at}
 
 -- No number below 0 fails.
 pub all-zero : (p : ℕ → Bool) → all 0 p ≡ true
 unfolding all
 all-zero p = refl
-
--- No number below 0 is counted.
-pub count-start : (p : ℕ → Bool) → count 0 p ≡ 0
-unfolding count sum words
-count-start p = refl
 
 pub only-one : (t : Bool) → t ≡ true → 1 ≡ only words t 1
 unfolding only words
@@ -58,10 +44,6 @@ pub sum-zero : (f : ℕ → ℤ) → sum amounts 0 f ≡ pos 0
 unfolding sum amounts
 sum-zero f = refl
 
--- A row lies within its table.
-pub row-in : (a k m : ℕ) → a < k → a * m + m ≤ k * m
-row-in a k m l = omega (arith, mul-le-mul-right m l)
-
 -- Word (c, o) of a table is in row a, and passes the test of its column.
 pub guarded-cell : (m a c o : ℕ) (test : ℕ → Bool) → o < m → guarded (a * m) m test (c * m + o) ≡ (eqb c a && test o)
 guarded-cell m a c o test l =
@@ -74,17 +56,6 @@ guarded-cell m a c o test l =
     away (no h) n = let h′ : a < c = omega arith in window-above (a * m) m (c * m + o) (omega (arith, row-in a c m h′))
 
 module _ {A : Type 0} where
-  pub cond-yes : (t : Bool) (x y : A) → t ≡ true → cond t x y ≡ x
-  cond-yes t x y e = rw e
-
-  pub cond-no : (t : Bool) (x y : A) → t ≡ false → cond t x y ≡ y
-  cond-no t x y e = rw e
-
-  -- A word inside the bounds of its table.
-  pub cell-at : (k m : ℕ) (l : List A) (z : A) (c o : ℕ) → c < k → o < m → cell k m l z c o ≡ getD l (c * m + o) z
-  unfolding cell
-  cell-at k m l z c o lc lo = rw (lt-ltb c k lc, lt-ltb o m lo)
-
   -- A word of a row of the table, and nothing past its columns.
   pub cell-in-row : (k m : ℕ) (l : List A) (z : A) (c o : ℕ) → c < k → cell k m l z c o ≡ cond (ltb o m) (getD l (c * m + o) z) z
   unfolding cell
