@@ -1,0 +1,8 @@
+-- Laws that the checks of a file are proved with.
+pub mod Signs
+pub mod Extra
+pub mod Places
+pub mod KindNumbers
+pub mod SpareWalk
+pub mod DueBlocks
+pub mod ShapeOrder

@@ -1,0 +1,14 @@
+-- `blocks::records::bad_count` meets its contract. Assumes nothing.
+use native.Mathlib.Omega.{arith}
+use Rattle.blocks.proofs.Signs.{count-out}
+use Rattle.blocks.proofs.records.bad_count.Statement.{statement}
+use Rattle.blocks.proofs.records.bad_count.Tie as tie
+use Rattle.blocks.proofs.records.bad_count.Reads as reads
+use Rattle.blocks.proofs.records.bad_count.Lts as lts
+
+-- src/records.rt:23:1
+returns : tie.Need-returns
+returns c = count-out (c .args .v) (omega arith)
+
+pub bad-count-spec : {M : Type 1} → statement M
+bad-count-spec = tie.close (tie.spec returns)

@@ -1,0 +1,15 @@
+-- `blocks::refusals::bad_length` meets its contract. Assumes nothing.
+use mathlib.Core.Path.{refl}
+use Rattle.format.specs.Refusals.{badLength}
+use Rattle.blocks.proofs.refusals.bad_length.Statement.{statement}
+use Rattle.blocks.proofs.refusals.bad_length.Tie as tie
+use Rattle.blocks.proofs.refusals.bad_length.Reads as reads
+use Rattle.blocks.proofs.refusals.bad_length.Lts as lts
+
+-- src/refusals.rt:25:1
+returns : tie.Need-returns
+unfolding badLength
+returns c = refl
+
+pub bad-length-spec : {M : Type 1} → statement M
+bad-length-spec = tie.close (tie.spec returns)

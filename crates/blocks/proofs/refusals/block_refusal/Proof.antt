@@ -1,0 +1,129 @@
+-- `blocks::refusals::block_refusal` meets its contract. Assumes nothing.
+use Prim.Native.Nat.{ℕ}
+use mathlib.Core.Path.{_≡_, sym, ap, _∙_}
+use Rattle.laws.specs.Below.{any}
+use Rattle.laws.specs.Checks.{firstMet}
+use Rattle.format.specs.Blocks.{kindAt, kindNumber, records}
+use Rattle.format.specs.File.{decode}
+use Rattle.format.specs.Refusals.{blockRefusal, badRecord}
+use Rattle.blocks.specs.Due.{Due}
+use borrow.Author.Needs.{needs}
+use Rattle.blocks.proofs.refusals.block_refusal.Statement.{statement}
+use Rattle.blocks.proofs.refusals.block_refusal.Tie as tie
+use Rattle.blocks.proofs.refusals.block_refusal.Reads as reads
+use Rattle.blocks.proofs.refusals.block_refusal.Lts as lts
+use Rattle.blocks.proofs.plan.kind_at.Reads as kind-at-reads
+use Rattle.blocks.proofs.plan.not_due.Reads as not-due-reads
+use Rattle.blocks.proofs.plan.records_at.Reads as records-at-reads
+use Rattle.blocks.proofs.records.bad_records.Reads as bad-records-reads
+use Rattle.blocks.proofs.spares.spare_used.Reads as spare-used-reads
+use Rattle.blocks.proofs.sums.sums_differ.Reads as sums-differ-reads
+
+-- What the code has computed is what is due.
+due : (c : tie.After-records-at) → Due (c .before .before .before .args .f .now) (c .before .before .before .args .k) (c .before .kind-at .result) (c .records-at .result)
+due c =
+    let s = c .before .before .before in
+    let j = decode (s .args .f .now) in
+    let i = s .pre .1 .0 in
+    record {
+      kind = c .before .kind-at .ensures ∙ ap (λ (n : ℕ). kindNumber (kindAt n (s .args .k))) (i .offers);
+      count = c .records-at .ensures .0 j (sym (i .grocers)) (sym (i .offers)) (sym (i .tallies)) ∙ ap (λ (n : ℕ). records j (kindAt n (s .args .k))) (i .offers);
+      few = c .records-at .ensures .1;
+    }
+
+-- The check of the records, in the definition's words.
+bad : (c : tie.After-bad-records) →
+    let a = c .before .before .before .before .before .before .before .before .before .before .args in
+    any (records (decode (a .f .now)) (kindAt (decode (a .f .now) .offers) (a .k))) (badRecord (decode (a .f .now)) (kindAt (decode (a .f .now) .offers) (a .k))) ≡ c .bad-records .result
+bad c =
+    let r = c .before .before .before .before .before .before .before in
+    let a = r .before .before .before .args in
+    let j = decode (a .f .now) in
+    ap (λ (n : ℕ). any n (badRecord j (kindAt (j .offers) (a .k)))) (sym (due r .count)) ∙ sym (c .bad-records .ensures)
+
+-- src/refusals.rt:72:9
+kind-at-requires : tie.Need-kind-at-requires
+kind-at-requires c κs = search needs
+
+-- src/refusals.rt:73:9
+records-at-requires : tie.Need-records-at-requires
+records-at-requires c κs = search needs
+
+-- src/refusals.rt:74:8
+sums-differ-requires : tie.Need-sums-differ-requires
+sums-differ-requires c κs = search needs
+
+-- src/refusals.rt:75:9
+returns : tie.Need-returns
+unfolding blockRefusal firstMet
+returns c = rw (← (c .before .sums-differ .ensures), c .if1 .taken)
+
+-- src/refusals.rt:77:8
+not-due-requires : tie.Need-not-due-requires
+not-due-requires c κs =
+    let r = c .before .before in
+    let s = r .before .before .before in
+    (s .pre .0 .0, due r)
+
+-- src/refusals.rt:78:9
+returns-2 : tie.Need-returns-2
+unfolding blockRefusal firstMet
+returns-2 c =
+    let a = c .before .before in
+    rw (← (a .before .sums-differ .ensures), a .if1 .left, ← (c .before .not-due .ensures), c .if2 .taken)
+
+-- src/refusals.rt:80:8
+spare-used-requires : tie.Need-spare-used-requires
+spare-used-requires c κs =
+    let r = c .before .before .before .before in
+    let s = r .before .before .before in
+    ((s .pre .0 .0, s .pre .0 .1), due r)
+
+-- src/refusals.rt:81:9
+returns-3 : tie.Need-returns-3
+unfolding blockRefusal firstMet
+returns-3 c =
+    let b = c .before .before in
+    let a = b .before .before in
+    rw (← (a .before .sums-differ .ensures), a .if1 .left, ← (b .before .not-due .ensures), b .if2 .left, ← (c .before .spare-used .ensures), c .if3 .taken)
+
+-- src/refusals.rt:83:8
+bad-records-requires : tie.Need-bad-records-requires
+bad-records-requires c κs =
+    let r = c .before .before .before .before .before .before in
+    let s = r .before .before .before in
+    ((s .pre .0 .0, s .pre .0 .1), (s .pre .1 .0, due r))
+
+-- src/refusals.rt:84:9
+returns-4 : tie.Need-returns-4
+unfolding blockRefusal firstMet
+returns-4 c =
+    let d = c .before .before in
+    let b = d .before .before in
+    let a = b .before .before in
+    rw (← (a .before .sums-differ .ensures), a .if1 .left, ← (b .before .not-due .ensures), b .if2 .left, ← (d .before .spare-used .ensures), d .if3 .left, bad (c .before), c .if4 .taken)
+
+-- src/refusals.rt:66:1
+returns-5 : tie.Need-returns-5
+unfolding blockRefusal firstMet
+returns-5 c =
+    let d = c .before .before in
+    let b = d .before .before in
+    let a = b .before .before in
+    rw (← (a .before .sums-differ .ensures), a .if1 .left, ← (b .before .not-due .ensures), b .if2 .left, ← (d .before .spare-used .ensures), d .if3 .left, bad (c .before), c .if4 .left)
+
+pub block-refusal-spec : {M : Type 1} → statement M
+block-refusal-spec =
+    tie.close
+    (tie.spec
+    kind-at-requires
+    records-at-requires
+    sums-differ-requires
+    returns
+    not-due-requires
+    returns-2
+    spare-used-requires
+    returns-3
+    bad-records-requires
+    returns-4
+    returns-5)

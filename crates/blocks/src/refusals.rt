@@ -1,0 +1,126 @@
+// The refusals of a file's form, in order.
+ghost use mathlib.Core.Path.{_≡_};
+ghost use Prim.Native.Nat.{_+_, _*_, _-_, _≤_};
+ghost use lib.ListN.{length};
+ghost use Rattle.format.specs.First.{firstBelow};
+ghost use Rattle.format.specs.Blocks.{blocks};
+ghost use Rattle.format.specs.File.{decode};
+ghost use Rattle.format.specs.Refusals.{badLength, badHeader, headerRefusal, blockRefusal};
+ghost use Rattle.blocks.specs.Due.{Is, Most};
+ghost use Rattle.blocks.specs.Shape.{shapeRefusal};
+use crate::bytes::size;
+use crate::plan::Sizes;
+use crate::plan::bad_sizes;
+use crate::plan::block_count;
+use crate::plan::kind_at;
+use crate::plan::not_due;
+use crate::plan::read_sizes;
+use crate::plan::records_at;
+use crate::records::bad_records;
+use crate::spares::header_spare_used;
+use crate::spares::spare_used;
+use crate::sums::sums_differ;
+
+// Whether the length is 0, not a multiple of 512, or over 74 blocks.
+fn bad_length(f: &[u8]) -> bool
+    ensures { λ r. ⌜ r ≡ badLength (now (f .entry)) ⌝ }
+{
+    let n = f.len();
+    ((n == 0) | (n % 512 != 0)) | (37888 < n)
+}
+
+// Whether byte 5 or a size of the header is outside its values.
+fn bad_header(f: &[u8]) -> bool
+    requires { ⌜ 512 ≤ length (now f) ⌝ }
+    ensures { λ r. ⌜ r ≡ badHeader (now (f .entry)) ⌝ }
+{
+    let s = read_sizes(f);
+    let boxes = s.boxes;
+    let grocers = s.grocers;
+    let offers = s.offers;
+    let tallies = s.tallies;
+    (size(f[5]) != 1) | bad_sizes(boxes, grocers, offers, tallies)
+}
+
+// The refusal of the header: 2, 3, 4, 5.
+pub fn header_refusal(f: &[u8]) -> u16
+    requires { ⌜ 512 ≤ length (now f) ⌝ }
+    ensures { λ r. ⌜ r ≡ headerRefusal (now (f .entry)) ⌝ }
+{
+    if sums_differ(f, 0) {
+        return 2;
+    }
+    if not_due(f, 0, 0, 1) {
+        return 3;
+    }
+    if bad_header(f) {
+        return 4;
+    }
+    if header_spare_used(f) {
+        return 5;
+    }
+    0
+}
+
+// The refusal of block k, which is not the header: 2, 3, 5, 6.
+pub fn block_refusal(f: &[u8], k: usize, s: Sizes) -> u16
+    requires { ⌜ (512 * k + 512 ≤ length (now f)) × (1 ≤ k) × (k ≤ 73) ⌝ }
+    requires { ⌜ Is (now f) s × Most s ⌝ }
+    ensures { λ r. ⌜ r ≡ blockRefusal (now (f .entry)) k ⌝ }
+{
+    let offers = s.offers;
+    let kind = kind_at(offers, k);
+    let count = records_at(k, kind, s);
+    if sums_differ(f, k) {
+        return 2;
+    }
+    if not_due(f, k, kind, count) {
+        return 3;
+    }
+    if spare_used(f, k, kind, count) {
+        return 5;
+    }
+    if bad_records(f, k, kind, count, s) {
+        return 6;
+    }
+    0
+}
+
+// The refusal of the first of the other blocks that is refused.
+pub fn blocks_refusal(f: &[u8], s: Sizes, n: usize) -> u16
+    requires { ⌜ (512 * n ≤ length (now f)) × (n ≤ 74) × (n ≡ blocks (decode (now f))) ⌝ }
+    requires { ⌜ Is (now f) s × Most s ⌝ }
+    ensures { λ r. ⌜ r ≡ firstBelow (blocks (decode (now (f .entry))) - 1) (λ k. blockRefusal (now (f .entry)) (1 + k)) ⌝ }
+{
+    let others = n - 1;
+    let mut i: usize = 0;
+    while i < others {
+        let r = block_refusal(f, 1 + i, s);
+        if r != 0 {
+            return r;
+        }
+        i += 1;
+    }
+    0
+}
+
+// The refusal of a file's form, for any bytes: 1, the header's, 1 for the block count, the other blocks'.
+pub fn shape_refusal(f: &[u8]) -> u16
+    ensures { λ r. ⌜ r ≡ shapeRefusal (now (f .entry)) ⌝ }
+{
+    if bad_length(f) {
+        return 1;
+    }
+    let top = header_refusal(f);
+    if top != 0 {
+        return top;
+    }
+    let s = read_sizes(f);
+    let offers = s.offers;
+    let tallies = s.tallies;
+    let n = block_count(offers, tallies);
+    if f.len() != 512 * n {
+        return 1;
+    }
+    blocks_refusal(f, s, n)
+}

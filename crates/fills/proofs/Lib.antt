@@ -1,0 +1,2 @@
+-- The laws of the loops that fill tables.
+pub mod Filling

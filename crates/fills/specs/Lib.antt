@@ -1,0 +1,2 @@
+-- Definitions of the words that stand in a file's records.
+pub mod Fills

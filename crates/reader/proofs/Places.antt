@@ -1,0 +1,145 @@
+-- What the index says of a file's offers is what the format says: shared numbers, and the places of the tallies' offers. Assumes nothing.
+use mathlib.Core.Path.{_≡_, refl, sym, ap, ap₂, _∙_, subst}
+use mathlib.Core.Bool.{Bool, true, false, not, _||_}
+use mathlib.Core.List.{List, [], _∷_}
+use Prim.Native.Nat.{ℕ, _+_, _*_, _<_, _≤_}
+use native.Mathlib.Decide.{ℕ-discrete}
+use native.Mathlib.Nat.{le-antisymm}
+use native.Mathlib.Omega.{arith}
+use lib.Dec.{eqb}
+use lib.ListN.{length, getD, set}
+use lib.Seq.{getD-set-same, getD-set-other}
+use borrow.Author.Tests.{eq-eqb, ne-eqb}
+use Rattle.laws.specs.Below.{any, find}
+use Rattle.laws.specs.Checks.{firstMet}
+use Rattle.laws.specs.Tables.{overwrite}
+use Rattle.laws.proofs.Bools.{split}
+use Rattle.laws.proofs.Below.{any-next, any-at, find-passes, find-none}
+use Rattle.laws.proofs.Tables.{getD-overwrite}
+use Rattle.format.specs.Codes.{Code, number, sameOffer}
+use Rattle.format.specs.Job.{FileJob, names, placeOf, shared, unnamed}
+use Rattle.format.specs.Blocks.{blocks, offersAt, talliesAt}
+use Rattle.format.specs.File.{decode, readOffer, readTally}
+use Rattle.format.proofs.Extra.{any-cong, find-cong}
+use Rattle.format.proofs.Range.{unnamed-place}
+use Rattle.index.specs.Index.{IsIndex, sharesNumber, placeOf as placeIn}
+use Rattle.fills.specs.Fills.{Holds, codesIn}
+use Rattle.reader.specs.Sound.{Sound, Ready, Placed, lastRefusal}
+
+-- ---- records in the file
+
+-- The code of offer i stands at place 5 of its record,
+pub offer-code : (f : List ℕ) (i : ℕ) → codesIn f offersAt 5 i ≡ decode f .offer i .code
+unfolding decode readOffer
+offer-code f i = refl
+
+-- that of tally i at place 3 of its.
+pub tally-code : (f : List ℕ) (n first i : ℕ) → n ≡ decode f .offers → first ≡ talliesAt n → codesIn f first 3 i ≡ decode f .tally i .code
+unfolding decode readTally
+tally-code f n first i e q = ap (λ (k : ℕ). codesIn f k 3 i) (q ∙ ap talliesAt e)
+
+module _ {f : List ℕ} (s : Sound f) where
+  -- The offers' blocks are in the file,
+  pub offers-held : (n : ℕ) → n ≡ decode f .offers → Holds f offersAt n
+  offers-held n e = record { few = omega (arith, s .few-offers); low = omega arith; room = omega (arith, s .long) }
+
+  -- and the tallies'.
+  pub tallies-held : (n first t : ℕ) → n ≡ decode f .offers → first ≡ talliesAt n → t ≡ decode f .tallies → Holds f first t
+  tallies-held n first t e q z =
+      record { few = omega (arith, s .few-tallies); low = omega (arith, s .few-offers); room = omega (arith, s .long, ap talliesAt e) }
+
+-- ---- numbers
+
+-- The numbers of the offers, in a list.
+abbrev pub Numbers : List ℕ → FileJob → ℕ → Type 0
+Numbers numbers j n = (i : ℕ) → i < n → getD numbers i 0 ≡ number (j .offer i .code)
+
+module _ (j : FileJob) (n : ℕ) (numbers : List ℕ) (e : n ≡ j .offers) (right : Numbers numbers j n) where
+  -- Two of them are one exactly where two offers share a number.
+  pub shared-is : sharesNumber numbers n ≡ shared j
+  unfolding sharesNumber shared sameOffer
+  shared-is =
+      any-cong n _ _ (λ i l. any-cong i _ _ (λ k m. ap₂ eqb (right k (omega arith)) (right i l)))
+      ∙ ap (λ (m : ℕ). any m (λ i. any i (λ k. eqb (number (j .offer k .code)) (number (j .offer i .code))))) e
+
+  -- The place of a tally's number is the place of its offer.
+  pub place-is : (t : ℕ) → placeIn numbers n (number (j .tally t .code)) ≡ placeOf j t
+  unfolding placeIn placeOf names sameOffer
+  place-is t =
+      find-cong n _ _ (λ i l. ap (λ (x : ℕ). eqb x (number (j .tally t .code))) (right i l))
+      ∙ ap (λ (m : ℕ). find m (λ i. eqb (number (j .offer i .code)) (number (j .tally t .code)))) e
+
+-- A place is at most N.
+pub place-most : (j : FileJob) (t : ℕ) → placeOf j t ≤ j .offers
+unfolding placeOf
+place-most j t =
+    split (any (j .offers) (names j t))
+    (λ e. let l = find-passes (j .offers) (names j t) e .0 in omega arith)
+    (λ e. let l = find-none (j .offers) (names j t) e in omega arith)
+
+-- ---- tallies looked up, one a turn
+
+-- One of the first i tallies has a code that names no offer.
+unfoldable pub unnamedBelow : FileJob → ℕ → Bool
+unnamedBelow j i = any i (λ t. not (any (j .offers) (names j t)))
+
+pub none-yet : (j : FileJob) → unnamedBelow j 0 ≡ false
+unfolding unnamedBelow any
+none-yet j = refl
+
+-- One that names an offer.
+pub named-more : (j : FileJob) (n i p : ℕ) → n ≡ j .offers → p ≡ placeOf j i → (p ≡ n → ⊥) → unnamedBelow j i ≡ false → unnamedBelow j (i + 1) ≡ false
+unfolding unnamedBelow
+named-more j n i p e q d h =
+    any-next i (λ t. not (any (j .offers) (names j t)))
+    ∙ rw (h, unnamed-place j i) (ne-eqb (placeOf j i) (j .offers) (λ z. d (q ∙ z ∙ sym e)))
+
+-- One that names none.
+pub unnamed-hit : (j : FileJob) (n i p t : ℕ) → n ≡ j .offers → t ≡ j .tallies → p ≡ placeOf j i → p ≡ n → i < t → unnamed j ≡ true
+unfolding unnamed
+unnamed-hit j n i p t e z q d l =
+    any-at (j .tallies) (λ t. not (any (j .offers) (names j t))) i (omega arith)
+    (unnamed-place j i ∙ eq-eqb (placeOf j i) (j .offers) (sym q ∙ d ∙ e))
+
+-- All are looked up.
+pub unnamed-end : (j : FileJob) (i t : ℕ) → i ≤ t → t ≤ i → t ≡ j .tallies → unnamedBelow j i ≡ false → unnamed j ≡ false
+unfolding unnamed unnamedBelow
+unnamed-end j i t a b z h = ap (λ (m : ℕ). any m (λ t. not (any (j .offers) (names j t)))) (sym z ∙ sym (le-antisymm a b)) ∙ h
+
+-- Nothing is kept yet.
+pub placed-none : (j : FileJob) (l : List ℕ) → Placed j l 0
+placed-none j l = record { at = λ i h. absurd (omega arith) }
+
+-- One place more is kept.
+pub placed-more : {j : FileJob} {l : List ℕ} {i : ℕ} (v : ℕ) → Placed j l i → i < length l → v ≡ placeOf j i → Placed j (set l i v) (i + 1)
+placed-more {j} {l} {i} v p h e =
+    record {
+      at = λ k m.
+          elim (ℕ-discrete k i) [
+            | yes q ↦ subst (λ (x : ℕ). getD (set l i v) x 0 ≡ placeOf j x) (sym q) (getD-set-same l i v 0 h ∙ e)
+            | no q ↦ getD-set-other l i k v 0 q ∙ p .at k (omega (arith, q))
+          ];
+    }
+
+-- All are kept.
+pub placed-end : {j : FileJob} {l : List ℕ} (i t : ℕ) → i ≤ t → t ≤ i → Placed j l i → Placed j l t
+placed-end {j} {l} i t a b p = subst (λ (k : ℕ). Placed j l k) (le-antisymm a b) p
+
+-- ---- 7 and 8
+
+-- Words filled with the numbers of the codes in the file are the offers' numbers.
+pub numbers-right : (f l numbers : List ℕ) (n : ℕ) → numbers ≡ overwrite n (λ i. number (codesIn f offersAt 5 i)) l → Numbers numbers (decode f) n
+numbers-right f l numbers n e i h =
+    ap (λ (x : List ℕ). getD x i 0) e ∙ getD-overwrite n (λ i. number (codesIn f offersAt 5 i)) l i 0 h ∙ ap number (offer-code f i)
+
+pub last-7 : (j : FileJob) → shared j ≡ true → 7 ≡ lastRefusal j
+unfolding lastRefusal firstMet
+last-7 j h = rw h
+
+pub last-8 : (j : FileJob) → shared j ≡ false → unnamed j ≡ true → 8 ≡ lastRefusal j
+unfolding lastRefusal firstMet
+last-8 j h u = rw (h, u)
+
+pub last-0 : (j : FileJob) → shared j ≡ false → unnamed j ≡ false → 0 ≡ lastRefusal j
+unfolding lastRefusal firstMet
+last-0 j h u = rw (h, u)

@@ -1,0 +1,14 @@
+-- What the reader answers, in the format's words.
+use Prim.Native.Nat.{ℕ}
+use Rattle.format.specs.Tables.{ReadAnswer, sizes, refused, ReadOutcome, ReaderTables}
+use Rattle.reader.specs.declared.Answer.{Answer}
+use Rattle.reader.specs.declared.Answer.the-variants.{Job, Refused}
+
+-- `Job` is K, M, N and T of an accepted file, `Refused` a refusal's number.
+abbrev pub answerOf : Answer → ReadAnswer
+answerOf (Job k m n t) = sizes k m n t
+answerOf (Refused n) = refused n
+
+-- An answer, and the tables as they are afterwards.
+abbrev pub outcome : Answer → ReaderTables → ReadOutcome
+outcome a l = record { answer = answerOf a; tables = l }

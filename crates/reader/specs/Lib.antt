@@ -1,0 +1,3 @@
+-- Definitions of the reader.
+pub mod Sound
+pub mod Answer
