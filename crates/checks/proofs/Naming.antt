@@ -1,0 +1,56 @@
+-- The numbers of the codes, and what they say of 7 and 8. Assumes nothing.
+use Prim.Native.Nat.{ℕ, _+_, _<_, _≤_}
+use mathlib.Core.Path.{_≡_, refl, sym, ap, ap₂, _∙_}
+use mathlib.Core.Bool.{Bool, true, false, not}
+use mathlib.Core.List.{List, [], _∷_}
+use native.Mathlib.Omega.{arith}
+use lib.Dec.{eqb}
+use lib.ListN.{getD}
+use Rattle.laws.specs.Below.{any, find}
+use Rattle.laws.specs.Checks.{firstMet}
+use Rattle.laws.specs.Tables.{overwrite}
+use Rattle.laws.proofs.Tables.{getD-overwrite}
+use Rattle.index.specs.Index.{sharesNumber, placeOf as placeIn}
+use Rattle.format.specs.Codes.{number, sameOffer}
+use Rattle.format.specs.Job.{FileJob, names, placeOf, shared, unnamed}
+use Rattle.format.proofs.Extra.{any-cong, find-cong}
+use Rattle.format.proofs.Range.{unnamed-place}
+use Rattle.checks.specs.Rows.{codeOf, HasCodes}
+
+module _ (j : FileJob) (code tcode : List ℕ) (n t : ℕ) (has : HasCodes j code tcode n t) (old : List ℕ) where
+  number-is : (i : ℕ) → i < n → getD (overwrite n (λ i. number (codeOf code i)) old) i 0 ≡ number (j .offer i .code)
+  number-is i h = getD-overwrite n (λ i. number (codeOf code i)) old i 0 h ∙ ap number (sym (has .offer i))
+
+  -- Two numbers are equal where two offers share one.
+  pub shared-is : sharesNumber (overwrite n (λ i. number (codeOf code i)) old) n ≡ shared j
+  unfolding sharesNumber shared sameOffer
+  shared-is =
+      any-cong n _ (λ i. any i (λ k. eqb (number (j .offer k .code)) (number (j .offer i .code)))) (λ i h.
+      any-cong i _ (λ k. eqb (number (j .offer k .code)) (number (j .offer i .code))) (λ k l. ap₂ eqb (number-is k (omega arith)) (number-is i h)))
+      ∙ ap (λ (n : ℕ). any n (λ i. any i (λ k. eqb (number (j .offer k .code)) (number (j .offer i .code))))) (sym (has .offers))
+
+  place-is : (i : ℕ) → placeIn (overwrite n (λ i. number (codeOf code i)) old) n (number (codeOf tcode i)) ≡ placeOf j i
+  unfolding placeIn placeOf names sameOffer
+  place-is i =
+      find-cong n _ (λ k. eqb (number (j .offer k .code)) (number (j .tally i .code))) (λ k l. ap₂ eqb (number-is k l) (ap number (sym (has .tally i))))
+      ∙ ap (λ (n : ℕ). find n (λ k. eqb (number (j .offer k .code)) (number (j .tally i .code)))) (sym (has .offers))
+
+  -- A number has no place where a tally's code names no offer.
+  pub unnamed-is : any t (λ i. eqb (placeIn (overwrite n (λ i. number (codeOf code i)) old) n (number (codeOf tcode i))) n) ≡ unnamed j
+  unfolding unnamed
+  unnamed-is =
+      any-cong t _ (λ i. not (any (j .offers) (names j i))) (λ i h. ap₂ eqb (place-is i) (sym (has .offers)) ∙ sym (unnamed-place j i))
+      ∙ ap (λ (t : ℕ). any t (λ i. not (any (j .offers) (names j i)))) (sym (has .tallies))
+
+-- 7 and 8 in their order.
+pub seven : (a b : Bool) → a ≡ true → firstMet ((a, 7) ∷ (b, 8) ∷ []) ≡ 7
+unfolding firstMet
+seven a b e = rw e
+
+pub eight : (a b : Bool) → a ≡ false → b ≡ true → firstMet ((a, 7) ∷ (b, 8) ∷ []) ≡ 8
+unfolding firstMet
+eight a b e f = rw (e, f)
+
+pub neither : (a b : Bool) → a ≡ false → b ≡ false → firstMet ((a, 7) ∷ (b, 8) ∷ []) ≡ 0
+unfolding firstMet
+neither a b e f = rw (e, f)

@@ -1,0 +1,58 @@
+-- `checks::records::bad_offers` meets its contract. The invariant: the tests of the first i places are joined. Assumes nothing.
+use Prim.Native.Nat.{ℕ, _≤_, _-_}
+use mathlib.Core.Path.{_≡_, refl, subst}
+use mathlib.Core.Bool.{Bool}
+use native.Mathlib.Omega.{arith}
+use native.Mathlib.Nat.{le-antisymm}
+use denote.Ref.{now}
+use Rattle.laws.specs.Below.{any}
+use Rattle.format.specs.Job.{FileJob, badOffer}
+use Rattle.checks.specs.Rows.{offerOf}
+use Rattle.checks.proofs.Extra.{any-more}
+use borrow.Author.Needs.{needs}
+use Rattle.checks.proofs.records.bad_offers.Statement.{statement}
+use Rattle.checks.proofs.records.bad_offers.Tie as tie
+use Rattle.checks.proofs.records.bad_offers.Reads as reads
+use Rattle.checks.proofs.records.bad_offers.Lts as lts
+use Rattle.checks.proofs.records.bad_offer.Reads as bad-offer-reads
+
+abbrev Inv-loop : tie.InvT-loop
+Inv-loop boxes n price owner code bad₀ i₀ bad i = (i ≤ n) × ((j : FileJob) → j .boxes ≡ boxes → bad ≡ any i (λ i. badOffer j (offerOf price owner code i)))
+
+abbrev μ-loop : tie.MeasureT-loop
+μ-loop boxes n price owner code bad₀ i₀ bad i = n - i
+
+-- src/records.rt:55:5
+loop-holds : tie.Need-loop-holds Inv-loop μ-loop
+unfolding any
+loop-holds c = (omega arith, λ j e. refl)
+
+-- src/records.rt:56:21
+bad-offer-requires : tie.Need-bad-offer-requires Inv-loop μ-loop
+bad-offer-requires c κs = search needs
+
+-- src/records.rt:57:9
+add-i : tie.Need-add-i Inv-loop μ-loop
+add-i c = search needs
+
+-- src/records.rt:55:5
+loop-less : tie.Need-loop-less Inv-loop μ-loop
+loop-less c = search needs
+
+-- src/records.rt:55:5
+loop-again : tie.Need-loop-again Inv-loop μ-loop
+loop-again c = 
+    let l = c .before .before in
+    (omega arith, λ j e. any-more (l .loop .i) _ _ _ (l .loop .inv .1 j e) (c .bad-offer .ensures j e))
+
+-- src/records.rt:49:1
+returns : tie.Need-returns Inv-loop μ-loop
+returns c = 
+    let l = c .before in
+    let s = l .before .before .before .before in
+    λ j e. subst (λ (i : ℕ). l .loop .bad ≡ any i (λ i. badOffer j (offerOf (now (s .args .price)) (now (s .args .owner)) (now (s .args .code)) i))) (le-antisymm (l .loop .inv .0) (c .loop-test .left)) (l .loop .inv .1 j e)
+
+pub bad-offers-spec : {M : Type 1} → statement M
+bad-offers-spec =
+    tie.close
+    (tie.spec Inv-loop μ-loop loop-holds bad-offer-requires add-i loop-less loop-again returns)

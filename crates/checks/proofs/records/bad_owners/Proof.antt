@@ -1,0 +1,71 @@
+-- `checks::records::bad_owners` meets its contract. The invariant: the tests of the first i places are joined. Assumes nothing.
+use Prim.Native.Nat.{ℕ, _≤_, _-_}
+use mathlib.Core.Path.{_≡_, refl, subst}
+use mathlib.Core.Bool.{Bool}
+use native.Mathlib.Omega.{arith}
+use native.Mathlib.Nat.{le-antisymm}
+use denote.Ref.{now}
+use Rattle.laws.specs.Below.{any}
+use Rattle.format.specs.Job.{FileJob, badOwner}
+use lib.ListN.{getD}
+use Rattle.checks.proofs.Tests.{owner-test}
+use Rattle.checks.proofs.Extra.{any-more}
+use borrow.Author.Needs.{needs}
+use Rattle.checks.proofs.records.bad_owners.Statement.{statement}
+use Rattle.checks.proofs.records.bad_owners.Tie as tie
+use Rattle.checks.proofs.records.bad_owners.Reads as reads
+use Rattle.checks.proofs.records.bad_owners.Lts as lts
+
+abbrev Inv-loop : tie.InvT-loop
+Inv-loop boxes m gowner bad₀ i₀ bad i = (i ≤ m) × ((j : FileJob) → j .boxes ≡ boxes → bad ≡ any i (λ i. badOwner j (getD gowner i 0)))
+
+abbrev μ-loop : tie.MeasureT-loop
+μ-loop boxes m gowner bad₀ i₀ bad i = m - i
+
+-- src/records.rt:69:5
+loop-holds : tie.Need-loop-holds Inv-loop μ-loop
+unfolding any
+loop-holds c = (omega arith, λ j e. refl)
+
+-- src/records.rt:70:31
+mul-bad : tie.Need-mul-bad Inv-loop μ-loop
+mul-bad c = search needs
+
+-- src/records.rt:70:31
+shared-slice-read-bad : tie.Need-shared-slice-read-bad Inv-loop μ-loop
+shared-slice-read-bad c = search needs
+
+-- src/records.rt:71:9
+add-i : tie.Need-add-i Inv-loop μ-loop
+add-i c = search needs
+
+-- src/records.rt:69:5
+loop-less : tie.Need-loop-less Inv-loop μ-loop
+loop-less c = search needs
+
+-- src/records.rt:69:5
+loop-again : tie.Need-loop-again Inv-loop μ-loop
+loop-again c = 
+    let l = c .before .before in
+    (omega arith, λ j e. any-more (l .loop .i) _ _ _ (l .loop .inv .1 j e) (owner-test j _ _ e))
+
+-- src/records.rt:63:1
+returns : tie.Need-returns Inv-loop μ-loop
+returns c = 
+    let l = c .before in
+    let s = l .before in
+    λ j e. subst (λ (i : ℕ). l .loop .bad ≡ any i (λ i. badOwner j (getD (now (s .args .gowner)) i 0))) (le-antisymm (l .loop .inv .0) (c .loop-test .left)) (l .loop .inv .1 j e)
+
+pub bad-owners-spec : {M : Type 1} → statement M
+bad-owners-spec =
+    tie.close
+    (tie.spec
+    Inv-loop
+    μ-loop
+    loop-holds
+    mul-bad
+    shared-slice-read-bad
+    add-i
+    loop-less
+    loop-again
+    returns)

@@ -1,0 +1,63 @@
+-- `checks::records::bad_records` meets its contract. Assumes nothing.
+use mathlib.Core.Path.{refl}
+use denote.Ref.{now}
+use Rattle.format.specs.Tables.{fileTables, fileJobOf}
+use Rattle.checks.proofs.Tests.{record-tests}
+use borrow.Author.Needs.{needs}
+use Rattle.checks.proofs.records.bad_records.Statement.{statement}
+use Rattle.checks.proofs.records.bad_records.Tie as tie
+use Rattle.checks.proofs.records.bad_records.Reads as reads
+use Rattle.checks.proofs.records.bad_records.Lts as lts
+use Rattle.checks.proofs.records.bad_offers.Reads as bad-offers-reads
+use Rattle.checks.proofs.records.bad_owners.Reads as bad-owners-reads
+use Rattle.checks.proofs.records.bad_tallies.Reads as bad-tallies-reads
+use Rattle.checks.proofs.sizes.size_of.Reads as size-of-reads
+
+-- src/records.rt:116:9
+size-of-requires : tie.Need-size-of-requires
+size-of-requires c κs = search needs
+
+-- src/records.rt:117:9
+size-of-requires-2 : tie.Need-size-of-requires-2
+size-of-requires-2 c κs = search needs
+
+-- src/records.rt:118:9
+size-of-requires-3 : tie.Need-size-of-requires-3
+size-of-requires-3 c κs = search needs
+
+-- src/records.rt:119:5
+bad-offers-requires : tie.Need-bad-offers-requires
+bad-offers-requires c κs = search needs
+
+-- src/records.rt:120:11
+bad-owners-requires : tie.Need-bad-owners-requires
+bad-owners-requires c κs = search needs
+
+-- src/records.rt:121:11
+bad-tallies-requires : tie.Need-bad-tallies-requires
+bad-tallies-requires c κs = search needs
+
+-- src/records.rt:99:1
+returns : tie.Need-returns
+unfolding fileJobOf
+returns c =
+    let u = c .before .before .before in
+    let s = u .before .before .before .before .before .before .before .before .before .before in
+    let a = s .args in
+    let j = fileJobOf (a .boxes) (a .grocers) (a .offers) (a .tallies) (fileTables (now (a .price)) (now (a .owner)) (now (a .code)) (now (a .gowner)) (now (a .tgrocer)) (now (a .tbox)) (now (a .tcode)) (now (a .tcount))) in
+    record-tests j _ _ _
+    (rw (u .before .size-of2 .ensures .0) at (c .before .before .bad-offers .ensures j refl))
+    (rw (u .before .before .size-of .ensures .0) at (c .before .bad-owners .ensures j refl))
+    (rw (u .size-of3 .ensures .0) at (c .bad-tallies .ensures j refl refl))
+
+pub bad-records-spec : {M : Type 1} → statement M
+bad-records-spec =
+    tie.close
+    (tie.spec
+    size-of-requires
+    size-of-requires-2
+    size-of-requires-3
+    bad-offers-requires
+    bad-owners-requires
+    bad-tallies-requires
+    returns)

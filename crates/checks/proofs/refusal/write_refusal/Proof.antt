@@ -1,0 +1,26 @@
+-- `checks::refusal::write_refusal` meets its contract. Assumes nothing.
+use mathlib.Core.Path.{_≡_, sym, _∙_}
+use mathlib.Core.Bool.{false}
+use denote.Ref.{now}
+use Rattle.format.specs.Tables.{FileTables, fileTables, shortWriter}
+use Rattle.format.proofs.Order.{writer-20, writer-job}
+use Rattle.checks.proofs.Joining.{long-enough}
+use borrow.Author.Needs.{needs}
+use Rattle.checks.proofs.refusal.write_refusal.Statement.{statement}
+use Rattle.checks.proofs.refusal.write_refusal.Tie as tie
+
+short-writer-requires : tie.Need-short-writer-requires
+short-writer-requires c κs = search needs
+
+returns : tie.Need-returns
+returns c = sym (writer-20 _ _ _ _ _ _ (sym (c .before .short-writer .ensures) ∙ c .if1 .taken))
+
+job-refusal-requires : tie.Need-job-refusal-requires
+job-refusal-requires c κs = long-enough _ _ _ _ _ (sym (c .before .short-writer .ensures) ∙ c .if1 .left)
+
+returns-2 : tie.Need-returns-2
+returns-2 c = c .job-refusal .ensures ∙ sym (writer-job _ _ _ _ _ _ (sym (c .before .before .short-writer .ensures) ∙ c .before .if1 .left))
+
+pub write-refusal-spec : {M : Type 1} → statement M
+write-refusal-spec =
+    tie.close (tie.spec short-writer-requires returns job-refusal-requires returns-2)

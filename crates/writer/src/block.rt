@@ -1,0 +1,135 @@
+// Blocks put into the buffer for the file: head, records, zeros and both sums.
+ghost use mathlib.Core.Path.{_≡_};
+ghost use mathlib.Core.List.{List, [], _∷_, _++_};
+ghost use Prim.Native.Nat.{ℕ, _+_, _-_, _*_, _≤_, _<_, min};
+ghost use lib.ListN.{length, getD};
+ghost use Rattle.format.specs.Bytes.{from, bytes16};
+ghost use Rattle.format.specs.Blocks.{offerBytes, tallyBytes};
+ghost use Rattle.format.specs.File.{blockByte};
+ghost use Rattle.checks.specs.Rows.{offerOf, tallyOf};
+ghost use Rattle.writer.specs.Puts.{put, bytesOf, bodyOf, keepOf, recordBody, Small};
+use blocks::sums::sums;
+use checks::sizes::size_of;
+use crate::bytes::byte;
+use crate::bytes::put16;
+use crate::bytes::put_zeros;
+use crate::records::put_offers;
+use crate::records::put_owners;
+use crate::records::put_tallies;
+
+// The first four bytes of a block.
+fn put_head(out: &mut [u8], at: usize, kind: u8, records: usize, number: usize)
+    requires { ⌜ (at + 4 ≤ length (now out)) × ((records < 256) × (number < 65536)) ⌝ }
+    ensures { λ _. ⌜ now (out .exit) ≡ put at 4 (bytesOf (kind ∷ records ∷ bytes16 number)) (now (out .entry)) ⌝ }
+{
+    out[at] = kind;
+    out[at + 1] = byte(records);
+    put16(out, at + 2, number);
+}
+
+// Zeros behind the first bytes of a block, and both sums.
+fn close_block(out: &mut [u8], at: usize, used: usize)
+    requires { ⌜ (at + 512 ≤ length (now out)) × (used ≤ 508) ⌝ }
+    ensures { λ _. ⌜ now (out .exit) ≡ put at 512 (blockByte (keepOf used (from (now (out .entry)) at))) (now (out .entry)) ⌝ }
+{
+    put_zeros(out, at + used, 508 - used);
+    let s = sums(out, at);
+    let first = s.first;
+    let second = s.second;
+    put16(out, at + 508, first as usize);
+    put16(out, at + 510, second as usize);
+}
+
+// How many of n records the block has whose first record is `first`.
+fn part_of(n: usize, first: usize) -> usize
+    requires { ⌜ first ≤ n ⌝ }
+    ensures { λ r. ⌜ r ≡ min 21 (n - first) ⌝ }
+{
+    let rest = n - first;
+    if rest < 21 {
+        return rest;
+    }
+    21
+}
+
+// The header's record: K, 1, M, N and T.
+fn put_sizes(out: &mut [u8], boxes: u16, grocers: u16, offers: u16, tallies: u16)
+    requires { ⌜ (12 ≤ length (now out)) × (boxes < 256) ⌝ }
+    ensures { λ _. ⌜ now (out .exit) ≡ put 4 8 (bytesOf (boxes ∷ 1 ∷ bytes16 grocers ++ bytes16 offers ++ bytes16 tallies)) (now (out .entry)) ⌝ }
+{
+    out[4] = boxes as u8;
+    out[5] = 1;
+    put16(out, 6, size_of(grocers));
+    put16(out, 8, size_of(offers));
+    put16(out, 10, size_of(tallies));
+}
+
+// The header block.
+pub fn put_header(out: &mut [u8], boxes: u16, grocers: u16, offers: u16, tallies: u16)
+    requires { ⌜ (512 ≤ length (now out)) × (boxes < 256) ⌝ }
+    ensures { λ _. ⌜ now (out .exit) ≡ put 0 512 (blockByte (bodyOf (0 ∷ 1 ∷ bytes16 0) 504 1 (λ _. bytesOf (boxes ∷ 1 ∷ bytes16 grocers ++ bytes16 offers ++ bytes16 tallies)))) (now (out .entry)) ⌝ }
+{
+    put_head(out, 0, 0, 1, 0);
+    put_sizes(out, boxes, grocers, offers, tallies);
+    close_block(out, 0, 12);
+}
+
+// Offer block b, of n offers.
+pub fn put_offer_block(
+    out: &mut [u8],
+    b: usize,
+    n: usize,
+    price: &[u32],
+    owner: &[u16],
+    code: &[u8],
+)
+    requires { ⌜ (n ≤ 500) × ((21 * b < n) × (512 * (2 + b) ≤ length (now out))) ⌝ }
+    requires { ⌜ (n ≤ length (now price)) × ((n ≤ length (now owner)) × (n * 11 ≤ length (now code))) ⌝ }
+    requires { ⌜ Small (now owner) n ⌝ }
+    ensures { λ _. ⌜ now (out .exit) ≡ put (512 * (1 + b)) 512 (blockByte (recordBody 1 1 n (λ i. offerBytes (offerOf (now (price .entry)) (now (owner .entry)) (now (code .entry)) i)) b)) (now (out .entry)) ⌝ }
+{
+    let number = 1 + b;
+    let at = 512 * number;
+    let first = 21 * b;
+    let count = part_of(n, first);
+    put_head(out, at, 1, count, number);
+    put_offers(out, at + 4, first, count, price, owner, code);
+    close_block(out, at, 4 + count * 24);
+}
+
+// The grocer block, block k, of m grocers.
+pub fn put_grocer_block(out: &mut [u8], k: usize, m: usize, gowner: &[u16])
+    requires { ⌜ (m ≤ 255) × ((k < 65536) × (512 * (k + 1) ≤ length (now out))) ⌝ }
+    requires { ⌜ (m ≤ length (now gowner)) × Small (now gowner) m ⌝ }
+    ensures { λ _. ⌜ now (out .exit) ≡ put (512 * k) 512 (blockByte (bodyOf (2 ∷ m ∷ bytes16 k) 1 m (λ r. bytesOf (getD (now (gowner .entry)) r 0 ∷ [])))) (now (out .entry)) ⌝ }
+{
+    let at = 512 * k;
+    put_head(out, at, 2, m, k);
+    put_owners(out, at + 4, m, gowner);
+    close_block(out, at, 4 + m);
+}
+
+// Tally block b, of t tallies whose first block is block k.
+pub fn put_tally_block(
+    out: &mut [u8],
+    k: usize,
+    b: usize,
+    t: usize,
+    tgrocer: &[u16],
+    tbox: &[u16],
+    tcode: &[u8],
+    tcount: &[i32],
+)
+    requires { ⌜ (t ≤ 1000) × ((21 * b < t) × ((k ≤ 100) × (512 * (k + b + 1) ≤ length (now out)))) ⌝ }
+    requires { ⌜ (t ≤ length (now tgrocer)) × ((t ≤ length (now tbox)) × ((t * 11 ≤ length (now tcode)) × (t ≤ length (now tcount)))) ⌝ }
+    requires { ⌜ Small (now tbox) t ⌝ }
+    ensures { λ _. ⌜ now (out .exit) ≡ put (512 * (k + b)) 512 (blockByte (recordBody 3 k t (λ i. tallyBytes (tallyOf (now (tgrocer .entry)) (now (tbox .entry)) (now (tcode .entry)) (now (tcount .entry)) i)) b)) (now (out .entry)) ⌝ }
+{
+    let number = k + b;
+    let at = 512 * number;
+    let first = 21 * b;
+    let count = part_of(t, first);
+    put_head(out, at, 3, count, number);
+    put_tallies(out, at + 4, first, count, tgrocer, tbox, tcode, tcount);
+    close_block(out, at, 4 + count * 24);
+}

@@ -1,0 +1,46 @@
+// Bytes put into the buffer for the file.
+ghost use mathlib.Core.Path.{_≡_};
+ghost use Prim.Native.Nat.{_+_, _≤_, _<_};
+ghost use lib.ListN.{length};
+ghost use Rattle.format.specs.Bytes.{bytes16, bytes32};
+ghost use Rattle.writer.specs.Puts.{put, bytesOf};
+
+// A number below 256 as a byte.
+pub fn byte(x: usize) -> u8
+    requires { ⌜ x < 256 ⌝ }
+    ensures { λ r. ⌜ r ≡ x ⌝ }
+{
+    x as u8
+}
+
+// A 16-bit word in two bytes.
+pub fn put16(out: &mut [u8], at: usize, v: usize)
+    requires { ⌜ (at + 2 ≤ length (now out)) × (v < 65536) ⌝ }
+    ensures { λ _. ⌜ now (out .exit) ≡ put at 2 (bytesOf (bytes16 v)) (now (out .entry)) ⌝ }
+{
+    out[at] = (v % 256) as u8;
+    out[at + 1] = (v / 256) as u8;
+}
+
+// A 32-bit word in four bytes.
+pub fn put32(out: &mut [u8], at: usize, v: u32)
+    requires { ⌜ at + 4 ≤ length (now out) ⌝ }
+    ensures { λ _. ⌜ now (out .exit) ≡ put at 4 (bytesOf (bytes32 v)) (now (out .entry)) ⌝ }
+{
+    out[at] = (v % 256) as u8;
+    out[at + 1] = (v / 256 % 256) as u8;
+    out[at + 2] = (v / 65536 % 256) as u8;
+    out[at + 3] = (v / 16777216) as u8;
+}
+
+// Zeros in n bytes.
+pub fn put_zeros(out: &mut [u8], at: usize, n: usize)
+    requires { ⌜ at + n ≤ length (now out) ⌝ }
+    ensures { λ _. ⌜ now (out .exit) ≡ put at n (λ _. 0) (now (out .entry)) ⌝ }
+{
+    let mut i: usize = 0;
+    while i < n {
+        out[at + i] = 0;
+        i += 1;
+    }
+}

@@ -1,0 +1,4 @@
+// The writer of the job file.
+mod bytes;
+mod records;
+mod block;
