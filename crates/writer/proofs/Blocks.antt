@@ -166,3 +166,37 @@ module _ (head : List ℕ) (size count : ℕ) (row : ℕ → ℕ → ℕ) where
   pub body-rest : (p : ℕ) → 4 + count * size ≤ p → bodyOf head size count row p ≡ 0
   unfolding bodyOf
   body-rest p h = rw (le-ltb p 4 (omega arith), le-ltb (p - 4) (count * size) (omega arith))
+
+-- ---- blocks one after the other
+
+-- Block k + b is put behind b blocks from block k on.
+pub block-next : (body : ℕ → ℕ → ℕ) (k b : ℕ) (d : List ℕ) → 512 * k + (b + 1) * 512 ≤ length d →
+    put (512 * (k + b)) 512 (blockByte (body b)) (put (512 * k) (b * 512) (blocksOf body) d) ≡ put (512 * k) ((b + 1) * 512) (blocksOf body) d
+block-next body k b d room =
+    let e : 512 * (k + b) ≡ 512 * k + b * 512 = omega arith in
+    ap (λ (at : ℕ). put at 512 (blockByte (body b)) (put (512 * k) (b * 512) (blocksOf body) d)) e
+    ∙ row-next 512 (λ b. blockByte (body b)) (512 * k) b d room
+
+-- C blocks are put behind the first k blocks of a file.
+pub blocks-behind : (body part : ℕ → ℕ → ℕ) (k c : ℕ) (d : List ℕ) → 512 * (k + c) ≤ length d → ((b p : ℕ) → b < c → part b p ≡ body (k + b) p) →
+    put (512 * k) (c * 512) (blocksOf part) (put 0 (512 * k) (blocksOf body) d) ≡ put 0 (512 * (k + c)) (blocksOf body) d
+blocks-behind body part k c d room same =
+    let z : 512 * k ≡ 0 + 512 * k = omega arith in
+    let e : 512 * k + c * 512 ≡ 512 * (k + c) = omega arith in
+    ap (λ (at : ℕ). put at (c * 512) (blocksOf part) (put 0 (512 * k) (blocksOf body) d)) z
+    ∙ put-next 0 (512 * k) (blocksOf body) d (c * 512) (blocksOf part) (omega arith) byte
+    ∙ ap (λ (n : ℕ). put 0 n (blocksOf body) d) e
+  where
+    byte : (q : ℕ) → q < c * 512 → blocksOf part q ≡ blocksOf body (512 * k + q)
+    byte q h =
+        let a : (512 * k + q) / 512 ≡ k + q / 512 = omega arith in
+        let m : (512 * k + q) % 512 ≡ q % 512 = omega arith in
+        block-cong (part (q / 512)) (body (k + q / 512)) (λ p l. same (q / 512) p (omega arith)) (q % 512)
+        ∙ sym (rw (a, m))
+
+-- One block is.
+pub block-behind : (body : ℕ → ℕ → ℕ) (g : ℕ → ℕ) (k : ℕ) (d : List ℕ) → 512 * (k + 1) ≤ length d → ((p : ℕ) → g p ≡ body k p) →
+    put (512 * k) 512 (blockByte g) (put 0 (512 * k) (blocksOf body) d) ≡ put 0 (512 * (k + 1)) (blocksOf body) d
+block-behind body g k d room same =
+    put-cong (512 * k) 512 (blockByte g) (blocksOf (λ b. g)) (put 0 (512 * k) (blocksOf body) d) (λ q h. let m : q % 512 ≡ q = omega arith in sym (rw m))
+    ∙ blocks-behind body (λ b. g) k 1 d room (λ b p h. same p ∙ ap (λ (i : ℕ). body i p) (omega (arith, h)))

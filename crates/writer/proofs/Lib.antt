@@ -3,3 +3,4 @@ pub mod Puts
 pub mod Blocks
 pub mod Rows
 pub mod Made
+pub mod Written
