@@ -4,7 +4,7 @@ use mathlib.Core.List.{List}
 use mathlib.Core.Bool.{true}
 use Prim.Native.Nat.{ℕ, _+_, _-_, _*_, _≤_, _<_}
 use native.Mathlib.Nat.{le-antisymm}
-use native.Mathlib.Decide.{ℕ-discrete, decLt}
+use native.Mathlib.Decide.{ℕ-discrete}
 use native.Mathlib.Omega.{arith}
 use lib.ListN.{length, getD, set, length-set}
 use lib.Seq.{getD-set-same, getD-set-other}
@@ -95,11 +95,11 @@ codes-more c i l m l′ g e h long w q =
     is-recell (i + 1) 11 _ l l′ 0 h long (λ b o lb lo.
     elim (ℕ-discrete b i) [
       | yes p ↦
-        subst (λ (j : ℕ). getD l′ (j * 11 + o) 0 ≡ getD (codeBytes (c j)) o 0) (sym p)
-        (w .inside o lo ∙ sym (code-byte g o lo) ∙ ap (λ (x : Code). getD (codeBytes x) o 0) q)
+          subst (λ (j : ℕ). getD l′ (j * 11 + o) 0 ≡ getD (codeBytes (c j)) o 0) (sym p)
+          (w .inside o lo ∙ sym (code-byte g o lo) ∙ ap (λ (x : Code). getD (codeBytes x) o 0) q)
       | no p ↦
-        w .before (b * 11 + o) (omega (arith, p)) ∙ ap (λ (x : List ℕ). getD x (b * 11 + o) 0) e
-        ∙ getD-recell i 11 (λ i p. getD (codeBytes (c i)) p 0) l b o 0 (omega (arith, p)) lo
+          w .before (b * 11 + o) (omega (arith, p)) ∙ ap (λ (x : List ℕ). getD x (b * 11 + o) 0) e
+          ∙ getD-recell i 11 (λ i p. getD (codeBytes (c i)) p 0) l b o 0 (omega (arith, p)) lo
     ])
     (λ k p. w .past k (omega arith) ∙ ap (λ (x : List ℕ). getD x k 0) e ∙ unfold recell in getD-past (i * 11) _ l k 0 (omega arith))
 

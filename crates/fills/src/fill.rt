@@ -9,12 +9,12 @@ ghost use Rattle.format.specs.Codes.{readCode, isCode, number};
 ghost use Rattle.format.specs.File.{recordAt};
 ghost use Rattle.format.specs.Tables.{storeCodes};
 ghost use Rattle.fills.specs.Fills.{Holds, bytesIn, codesIn, countsIn};
-use blocks::bytes::signed;
-use blocks::bytes::word16;
-use blocks::bytes::word32;
 use crate::code::copy_code;
 use crate::code::number_at;
 use crate::place::record_at;
+use blocks::bytes::signed;
+use blocks::bytes::word16;
+use blocks::bytes::word32;
 
 // A byte as a 16-bit word.
 fn wide(x: u8) -> u16

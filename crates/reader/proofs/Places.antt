@@ -1,8 +1,8 @@
 -- What the index says of a file's offers is what the format says: shared numbers, and the places of the tallies' offers. Assumes nothing.
 use mathlib.Core.Path.{_≡_, refl, sym, ap, ap₂, _∙_, subst}
-use mathlib.Core.Bool.{Bool, true, false, not, _||_}
-use mathlib.Core.List.{List, [], _∷_}
-use Prim.Native.Nat.{ℕ, _+_, _*_, _<_, _≤_}
+use mathlib.Core.Bool.{Bool, true, false, not}
+use mathlib.Core.List.{List}
+use Prim.Native.Nat.{ℕ, _+_, _<_, _≤_}
 use native.Mathlib.Decide.{ℕ-discrete}
 use native.Mathlib.Nat.{le-antisymm}
 use native.Mathlib.Omega.{arith}
@@ -16,15 +16,15 @@ use Rattle.laws.specs.Tables.{overwrite}
 use Rattle.laws.proofs.Bools.{split}
 use Rattle.laws.proofs.Below.{any-next, any-at, find-passes, find-none}
 use Rattle.laws.proofs.Tables.{getD-overwrite}
-use Rattle.format.specs.Codes.{Code, number, sameOffer}
+use Rattle.format.specs.Codes.{number, sameOffer}
 use Rattle.format.specs.Job.{FileJob, names, placeOf, shared, unnamed}
-use Rattle.format.specs.Blocks.{blocks, offersAt, talliesAt}
+use Rattle.format.specs.Blocks.{offersAt, talliesAt}
 use Rattle.format.specs.File.{decode, readOffer, readTally}
 use Rattle.format.proofs.Extra.{any-cong, find-cong}
 use Rattle.format.proofs.Range.{unnamed-place}
-use Rattle.index.specs.Index.{IsIndex, sharesNumber, placeOf as placeIn}
+use Rattle.index.specs.Index.{sharesNumber, placeOf as placeIn}
 use Rattle.fills.specs.Fills.{Holds, codesIn}
-use Rattle.reader.specs.Sound.{Sound, Ready, Placed, lastRefusal}
+use Rattle.reader.specs.Sound.{Sound, Placed, lastRefusal}
 
 -- ---- records in the file
 

@@ -1,8 +1,8 @@
 -- What the reader gives: a refusal, or the sizes with every table filled. Assumes nothing.
-use mathlib.Core.Path.{_≡_, refl, sym, ap, ap₂, _∙_}
+use mathlib.Core.Path.{_≡_, sym, ap, _∙_}
 use mathlib.Core.Bool.{true, false}
 use mathlib.Core.List.{List}
-use Prim.Native.Nat.{ℕ, _+_, _*_, _<_, _≤_}
+use Prim.Native.Nat.{ℕ, _+_, _*_, _≤_}
 use native.Mathlib.Omega.{arith}
 use lib.Dec.{ltb}
 use lib.ListN.{length, getD}
@@ -10,12 +10,11 @@ use borrow.Author.Tests.{ltb-false}
 use Rattle.laws.specs.Tables.{overwrite}
 use Rattle.laws.proofs.Tables.{overwrite-cong}
 use Rattle.format.specs.Bytes.{from, word16, word32}
-use Rattle.format.specs.Codes.{Code}
 use Rattle.format.specs.Job.{placeOf}
 use Rattle.format.specs.Blocks.{offersAt, grocersAt, talliesAt}
 use Rattle.format.specs.File.{recordAt, decode, readOffer, readTally}
 use Rattle.format.specs.Refusals.{fileRefusal}
-use Rattle.format.specs.Tables.{ReaderTables, fileTables, readerTables, storeCodes, store, storeRead, ReadAnswer, sizes, refused, shortTables, shortReader, readRefusal, readResult}
+use Rattle.format.specs.Tables.{ReaderTables, storeCodes, store, storeRead, ReadAnswer, sizes, refused, shortTables, shortReader, readRefusal, readResult}
 use Rattle.format.proofs.Order.{reader-20, reader-file}
 use Rattle.format.proofs.Tables.{read-accepted, read-refused, long-tables}
 use Rattle.format.proofs.Extra.{or-off}

@@ -1,20 +1,18 @@
 -- What is known of a file of which nothing is refused but 7 and 8. Assumes nothing.
 use mathlib.Core.Path.{_≡_, refl, sym, ap, _∙_, subst}
-use mathlib.Core.Bool.{true, false, not}
+use mathlib.Core.Bool.{false, not}
 use mathlib.Core.List.{List, [], _∷_, _++_}
 use Prim.Native.Nat.{ℕ, zero, suc, _+_, _*_, _-_, _/_, _%_, _<_, _≤_}
 use native.Mathlib.Omega.{arith}
 use lib.Dec.{eqb}
 use lib.ListN.{getD, length}
 use Rattle.laws.specs.Below.{any}
-use Rattle.laws.specs.Checks.{firstMet}
 use Rattle.laws.proofs.Below.{any-none}
-use Rattle.format.specs.First.{firstOf, firstBelow}
-use Rattle.format.specs.Codes.{isCode}
-use Rattle.format.specs.Job.{badSizes, badOffer, badTally, shared, unnamed}
+use Rattle.format.specs.First.{firstOf}
+use Rattle.format.specs.Job.{badSizes, badOffer, badTally}
 use Rattle.format.specs.Blocks.{BlockKind, offerBlock, tallyBlock, blocks, offersAt, talliesAt, kindAt, records}
 use Rattle.format.specs.File.{decode}
-use Rattle.format.specs.Refusals.{badLength, badCount, badHeader, badRecord, headerRefusal, blockRefusal, fileRefusal}
+use Rattle.format.specs.Refusals.{badCount, badHeader, badRecord, headerRefusal, blockRefusal, fileRefusal}
 use Rattle.format.proofs.Extra.{or-off, unmet}
 use Rattle.format.proofs.Firsts.{each, below-at, next, hit, alone}
 use Rattle.format.proofs.Accept.{even}

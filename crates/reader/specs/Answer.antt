@@ -1,5 +1,4 @@
 -- What the reader answers, in the format's words.
-use Prim.Native.Nat.{ℕ}
 use Rattle.format.specs.Tables.{ReadAnswer, sizes, refused, ReadOutcome, ReaderTables}
 use Rattle.reader.specs.declared.Answer.{Answer}
 use Rattle.reader.specs.declared.Answer.the-variants.{Job, Refused}

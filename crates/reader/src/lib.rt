@@ -7,13 +7,13 @@ ghost use Rattle.format.specs.Tables.{sizes, fileTables, readerTables, readResu
 ghost use Rattle.blocks.specs.Due.{Most};
 ghost use Rattle.reader.specs.Answer.{answerOf, outcome};
 ghost use Rattle.reader.specs.Sound.{Kept};
-use blocks::plan::Sizes;
-use blocks::plan::read_sizes;
-use blocks::refusals::shape_refusal;
 use crate::look::job_refusal;
 use crate::look::narrow;
 use crate::look::owners_at;
 use crate::look::tallies_at;
+use blocks::plan::Sizes;
+use blocks::plan::read_sizes;
+use blocks::refusals::shape_refusal;
 use fills::fill::fill_bytes;
 use fills::fill::fill_codes;
 use fills::fill::fill_counts;
@@ -21,6 +21,7 @@ use fills::fill::fill_prices;
 use fills::fill::fill_row;
 use fills::fill::fill_same;
 use fills::fill::fill_words;
+
 mod look;
 
 // What the reader answers: the sizes of the job that it read, or why it refused the file.
@@ -80,10 +81,9 @@ pub fn read(
         outcome r (readerTables (fileTables (now (price .exit)) (now (owner .exit)) (now (code .exit)) (now (gowner .exit)) (now (tgrocer .exit)) (now (tbox .exit)) (now (tcode .exit)) (now (tcount .exit))) (now (toffer .exit)))
         ≡ readResult (now (file .entry)) (readerTables (fileTables (now (price .entry)) (now (owner .entry)) (now (code .entry)) (now (gowner .entry)) (now (tgrocer .entry)) (now (tbox .entry)) (now (tcode .entry)) (now (tcount .entry))) (now (toffer .entry))) ⌝ }
 {
-    let offers = (price.len() < 500) | (owner.len() < 500) | (code.len() < 5500);
-    let grocers = offers | (gowner.len() < 255);
-    let tallies = grocers | (tgrocer.len() < 1000) | (tbox.len() < 1000) | (tcode.len() < 11000);
-    if tallies | (tcount.len() < 1000) | (toffer.len() < 1000) {
+    let few = (price.len() < 500) | (owner.len() < 500) | (code.len() < 5500);
+    let fewer = few | (gowner.len() < 255) | (tgrocer.len() < 1000) | (tbox.len() < 1000);
+    if fewer | (tcode.len() < 11000) | (tcount.len() < 1000) | (toffer.len() < 1000) {
         return Answer::Refused(20);
     }
     let mut places = [0u16; 1000];

@@ -46,7 +46,14 @@ fn find_place(f: &[u8], keys: &[u64], order: &[u16], n: usize, first: usize, i: 
 }
 
 // Looks each tally up, once, and keeps its place; whether a tally's code names no offer.
-fn find_places(f: &[u8], keys: &[u64], order: &[u16], n: usize, t: usize, places: &mut [u16]) -> bool
+fn find_places(
+    f: &[u8],
+    keys: &[u64],
+    order: &[u16],
+    n: usize,
+    t: usize,
+    places: &mut [u16],
+) -> bool
     requires { ⌜ Ready (now f) (now keys) (now order) n ⌝ }
     requires { ⌜ (t ≡ decode (now f) .tallies) × (t ≤ length (now places)) ⌝ }
     ensures { λ r. ⌜ r ≡ unnamed (decode (now (f .entry))) ⌝ }

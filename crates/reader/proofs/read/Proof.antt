@@ -3,27 +3,13 @@ use mathlib.Core.Path.{_≡_, sym, _∙_}
 use mathlib.Core.Bool.{false}
 use native.Mathlib.Omega.{arith}
 use lib.ListN.{length}
+use borrow.Author.Needs.{needs}
 use Rattle.format.specs.Tables.{ReaderTables, fileTables, readerTables, shortTables, shortReader}
 use Rattle.reader.specs.Sound.{Kept}
 use Rattle.reader.proofs.Shapes.{has-header, sizes-most}
 use Rattle.reader.proofs.Results.{Held, held, read-20, read-file, read-job, row-stored, places-stored}
-use borrow.Author.Needs.{needs}
 use Rattle.reader.proofs.read.Statement.{statement}
 use Rattle.reader.proofs.read.Tie as tie
-use Rattle.reader.proofs.read.Reads as reads
-use Rattle.reader.proofs.read.Lts as lts
-use Rattle.blocks.proofs.plan.read_sizes.Reads as read-sizes-reads
-use Rattle.fills.proofs.fill.fill_bytes.Reads as fill-bytes-reads
-use Rattle.fills.proofs.fill.fill_codes.Reads as fill-codes-reads
-use Rattle.fills.proofs.fill.fill_counts.Reads as fill-counts-reads
-use Rattle.fills.proofs.fill.fill_prices.Reads as fill-prices-reads
-use Rattle.fills.proofs.fill.fill_row.Reads as fill-row-reads
-use Rattle.fills.proofs.fill.fill_same.Reads as fill-same-reads
-use Rattle.fills.proofs.fill.fill_words.Reads as fill-words-reads
-use Rattle.reader.proofs.file_refusal.Reads as file-refusal-reads
-use Rattle.reader.proofs.job_of.Reads as job-of-reads
-use Rattle.reader.proofs.look.owners_at.Reads as owners-at-reads
-use Rattle.reader.proofs.look.tallies_at.Reads as tallies-at-reads
 
 -- The tables as they are lent.
 abbrev lent : tie.Start → ReaderTables
@@ -52,116 +38,88 @@ room b =
 whole : (b : tie.After-job-of) → length (b .before .before .before .before .before .before .file-refusal .last .1 .0) ≡ 1_000
 whole b = b .before .before .before .before .before .before .file-refusal .kept .1 .0
 
--- src/lib.rt:87:9
 returns : tie.Need-returns
 unfolding shortReader shortTables
 returns c = read-20 _ _ (c .if1 .taken)
 
--- src/lib.rt:90:32
 slice-aggregate-file-refusal : tie.Need-slice-aggregate-file-refusal
 slice-aggregate-file-refusal c = search needs
 
--- src/lib.rt:90:9
 file-refusal-requires : tie.Need-file-refusal-requires
 file-refusal-requires c κs = search needs
 
--- src/lib.rt:92:9
 returns-2 : tie.Need-returns-2
 returns-2 c = read-file _ _ _ (long (c .before .before .before .before)) (c .before .before .file-refusal .ensures .0) (c .if2 .taken)
 
--- src/lib.rt:94:9
 read-sizes-requires : tie.Need-read-sizes-requires
 read-sizes-requires c κs = has-header (kept c .sound)
 
--- src/lib.rt:98:9
 owners-at-requires : tie.Need-owners-at-requires
 owners-at-requires c κs = let k = sizes-most (kept (c .before) .sound) (c .read-sizes .ensures) in omega (arith, k .offers)
 
--- src/lib.rt:99:9
 tallies-at-requires : tie.Need-tallies-at-requires
 tallies-at-requires c κs = let k = sizes-most (kept (c .before .before) .sound) (c .before .read-sizes .ensures) in omega (arith, k .offers)
 
--- src/lib.rt:100:9
 job-of-requires : tie.Need-job-of-requires
 job-of-requires c κs = sizes-most (kept (c .before .before .before) .sound) (c .before .before .read-sizes .ensures)
 
--- src/lib.rt:101:5
 fill-prices-requires : tie.Need-fill-prices-requires
 fill-prices-requires c κs = let h = room (c .before) in (h .offers, h .price)
 
--- src/lib.rt:102:5
 fill-bytes-requires : tie.Need-fill-bytes-requires
 fill-bytes-requires c κs = let h = room (c .before .before .before .before .before) in (h .offers, (omega arith, h .offerOwner))
 
--- src/lib.rt:103:5
 fill-codes-requires : tie.Need-fill-codes-requires
 fill-codes-requires c κs = let h = room (c .before .before .before .before .before .before .before .before .before) in (h .offers, (omega arith, h .offerCode))
 
--- src/lib.rt:104:5
 fill-row-requires : tie.Need-fill-row-requires
 fill-row-requires c κs = let h = room (c .before .before .before .before .before .before .before .before .before .before .before .before .before) in (h .grocers, h .grocerOwner)
 
--- src/lib.rt:105:5
 fill-words-requires : tie.Need-fill-words-requires
 fill-words-requires c κs = let h = room (c .before .before .before .before .before .before .before .before .before .before .before .before .before .before .before .before .before) in (h .tallies, h .tallyGrocer)
 
--- src/lib.rt:106:5
 fill-bytes-requires-2 : tie.Need-fill-bytes-requires-2
 fill-bytes-requires-2 c κs = let h = room (c .before .before .before .before .before .before .before .before .before .before .before .before .before .before .before .before .before .before .before .before .before) in (h .tallies, (omega arith, h .tallyBox))
 
--- src/lib.rt:107:5
 fill-codes-requires-2 : tie.Need-fill-codes-requires-2
 fill-codes-requires-2 c κs = let h = room (c .before .before .before .before .before .before .before .before .before .before .before .before .before .before .before .before .before .before .before .before .before .before .before .before .before) in (h .tallies, (omega arith, h .tallyCode))
 
--- src/lib.rt:108:5
 fill-counts-requires : tie.Need-fill-counts-requires
 fill-counts-requires c κs = let h = room (c .before .before .before .before .before .before .before .before .before .before .before .before .before .before .before .before .before .before .before .before .before .before .before .before .before .before .before .before .before) in (h .tallies, (omega arith, h .tallyCount))
 
--- src/lib.rt:109:15
 slice-aggregate-fill-same : tie.Need-slice-aggregate-fill-same
 slice-aggregate-fill-same c = sym (whole (c .before .before .before .before .before .before .before .before .before .before .before .before .before .before .before .before .before .before .before .before .before .before .before .before .before .before .before .before .before .before .before .before))
 
--- src/lib.rt:109:5
 fill-same-requires : tie.Need-fill-same-requires
 fill-same-requires c κs = let h = room (c .before .before .before .before .before .before .before .before .before .before .before .before .before .before .before .before .before .before .before .before .before .before .before .before .before .before .before .before .before .before .before .before .before) in (omega (arith, sizes-most (kept (c .before .before .before .before .before .before .before .before .before .before .before .before .before .before .before .before .before .before .before .before .before .before .before .before .before .before .before .before .before .before .before .before .before .before .before .before .before) .sound) (c .before .before .before .before .before .before .before .before .before .before .before .before .before .before .before .before .before .before .before .before .before .before .before .before .before .before .before .before .before .before .before .before .before .before .before .before .read-sizes .ensures) .tallies, whole (c .before .before .before .before .before .before .before .before .before .before .before .before .before .before .before .before .before .before .before .before .before .before .before .before .before .before .before .before .before .before .before .before .before)), h .tallyOffer)
 
--- src/lib.rt:67:1
 same-length : tie.Need-same-length
 same-length c = c .before .before .before .before .before .before .before .before .before .before .before .before .before .before .before .before .before .before .before .before .before .before .before .before .before .before .before .before .before .before .before .before .before .before .fill-prices .kept .1 .1 .1 .0
 
--- src/lib.rt:67:1
 same-length-2 : tie.Need-same-length-2
 same-length-2 c = c .before .before .before .before .before .before .before .before .before .before .before .before .before .before .before .before .before .before .before .before .before .before .before .before .before .before .before .before .before .before .fill-bytes .kept .1 .1 .1 .1 .0
 
--- src/lib.rt:67:1
 same-length-3 : tie.Need-same-length-3
 same-length-3 c = c .before .before .before .before .before .before .before .before .before .before .before .before .before .before .before .before .before .before .before .before .before .before .before .before .before .before .fill-codes .kept .1 .1 .1 .1 .0
 
--- src/lib.rt:67:1
 same-length-4 : tie.Need-same-length-4
 same-length-4 c = c .before .before .before .before .before .before .before .before .before .before .before .before .before .before .before .before .before .before .before .before .before .before .fill-row .kept .1 .1 .1 .0
 
--- src/lib.rt:67:1
 same-length-5 : tie.Need-same-length-5
 same-length-5 c = c .before .before .before .before .before .before .before .before .before .before .before .before .before .before .before .before .before .before .fill-words .kept .1 .1 .1 .0
 
--- src/lib.rt:67:1
 same-length-6 : tie.Need-same-length-6
 same-length-6 c = c .before .before .before .before .before .before .before .before .before .before .before .before .before .before .fill-bytes2 .kept .1 .1 .1 .1 .0
 
--- src/lib.rt:67:1
 same-length-7 : tie.Need-same-length-7
 same-length-7 c = c .before .before .before .before .before .before .before .before .before .before .fill-codes2 .kept .1 .1 .1 .1 .0
 
--- src/lib.rt:67:1
 same-length-8 : tie.Need-same-length-8
 same-length-8 c = c .before .before .before .before .before .before .fill-counts .kept .1 .1 .1 .1 .0
 
--- src/lib.rt:67:1
 same-length-9 : tie.Need-same-length-9
 same-length-9 c = c .before .before .fill-same .kept .1 .1 .0
 
--- src/lib.rt:67:1
 returns-3 : tie.Need-returns-3
 returns-3 c =
     let b = c .before .before .before .before .before .before .before .before .before .before .before .before .before .before .before .before .before .before .before .before .before .before .before .before .before .before .before .before .before .before .before .before .before .before .before .before in

@@ -1,18 +1,15 @@
 -- `fills::code::number_at` meets its contract. The invariant: the value is that of the first i digits. Assumes nothing.
-use Prim.Native.Nat.{ℕ, _≤_, _-_, _+_, _<_}
 use mathlib.Core.Path.{_≡_, ap, _∙_}
+use Prim.Native.Nat.{ℕ, _≤_, _-_, _+_, _<_}
 use native.Mathlib.Omega.{arith}
-use Rattle.format.specs.Bytes.{from, after}
 use lib.ListN.{getD}
+use borrow.Author.Needs.{needs}
+use Rattle.format.specs.Bytes.{from, after}
 use Rattle.format.specs.Codes.{readCode, value as worth}
 use Rattle.format.proofs.Codes.{code-is}
 use Rattle.fills.proofs.Filling.{part-none, part-more, part-below, part-all}
-use borrow.Author.Needs.{needs}
 use Rattle.fills.proofs.code.number_at.Statement.{statement}
 use Rattle.fills.proofs.code.number_at.Tie as tie
-use Rattle.fills.proofs.code.number_at.Reads as reads
-use Rattle.fills.proofs.code.number_at.Lts as lts
-use Rattle.fills.proofs.code.digit.Reads as digit-reads
 
 abbrev Inv-loop : tie.InvT-loop
 Inv-loop f at n value₀ i₀ value i =
@@ -21,15 +18,12 @@ Inv-loop f at n value₀ i₀ value i =
 abbrev μ-loop : tie.MeasureT-loop
 μ-loop f at n value₀ i₀ value i = n - i
 
--- src/code.rt:31:22
 shared-slice-read-size : tie.Need-shared-slice-read-size Inv-loop μ-loop
 shared-slice-read-size c = search needs
 
--- src/code.rt:31:9
 size-requires : tie.Need-size-requires Inv-loop μ-loop
 size-requires c κs = search needs
 
--- src/code.rt:34:5
 loop-holds : tie.Need-loop-holds Inv-loop μ-loop
 loop-holds c =
     let s = c .before .before .before in
@@ -37,23 +31,18 @@ loop-holds c =
     let e : c .size .result ≡ g 0 = c .size .ensures .0 ∙ ap (λ (p : ℕ). getD (s .args .f .now) p 0) (omega arith) in
     (omega arith, omega (arith, code-is (readCode g) (s .pre .1) .few), e, part-none _, omega arith)
 
--- src/code.rt:35:17
 mul-value : tie.Need-mul-value Inv-loop μ-loop
 mul-value c = search needs
 
--- src/code.rt:35:38
 add-digit : tie.Need-add-digit Inv-loop μ-loop
 add-digit c = search needs
 
--- src/code.rt:35:38
 add-digit-2 : tie.Need-add-digit-2 Inv-loop μ-loop
 add-digit-2 c = search needs
 
--- src/code.rt:35:36
 shared-slice-read-digit : tie.Need-shared-slice-read-digit Inv-loop μ-loop
 shared-slice-read-digit c = search needs
 
--- src/code.rt:35:30
 digit-requires : tie.Need-digit-requires Inv-loop μ-loop
 digit-requires c κs =
     let l = c .before .before in
@@ -62,19 +51,15 @@ digit-requires c κs =
     let e : s .args .at + (1 + l .loop .i) ≡ s .args .at + 1 + l .loop .i = omega arith in
     rw e at (code-is (readCode g) (s .pre .1) .digits (l .loop .i) (omega arith))
 
--- src/code.rt:35:17
 add-value : tie.Need-add-value Inv-loop μ-loop
 add-value c = search needs
 
--- src/code.rt:36:9
 add-i : tie.Need-add-i Inv-loop μ-loop
 add-i c = search needs
 
--- src/code.rt:34:5
 loop-less : tie.Need-loop-less Inv-loop μ-loop
 loop-less c = search needs
 
--- src/code.rt:34:5
 loop-again : tie.Need-loop-again Inv-loop μ-loop
 loop-again c =
     let l = c .before .before .before in
@@ -85,7 +70,6 @@ loop-again c =
     let v = part-more (readCode g) (l .loop .i) (l .loop .value) (c .digit .result) (l .loop .inv .3) d in
     (omega arith, l .loop .inv .1, l .loop .inv .2, v, omega (arith, v, part-below (readCode g) (s .pre .1) (l .loop .i + 1) (omega arith)))
 
--- src/code.rt:26:1
 returns : tie.Need-returns Inv-loop μ-loop
 returns c =
     let l = c .before in

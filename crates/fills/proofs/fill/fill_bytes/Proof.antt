@@ -1,19 +1,14 @@
 -- `fills::fill::fill_bytes` meets its contract. The invariant: the first i words are written. Assumes nothing.
-use Prim.Native.Nat.{_≤_, _-_}
 use mathlib.Core.Path.{_≡_, refl}
+use Prim.Native.Nat.{_≤_, _-_}
 use native.Mathlib.Omega.{arith}
 use lib.ListN.{length, length-set}
+use borrow.Author.Needs.{needs}
 use Rattle.laws.specs.Tables.{overwrite}
-use Rattle.format.specs.Bytes.{from}
 use Rattle.fills.specs.Fills.{bytesIn}
 use Rattle.fills.proofs.Filling.{fill-none, fill-more, fill-end}
-use borrow.Author.Needs.{needs}
 use Rattle.fills.proofs.fill.fill_bytes.Statement.{statement}
 use Rattle.fills.proofs.fill.fill_bytes.Tie as tie
-use Rattle.fills.proofs.fill.fill_bytes.Reads as reads
-use Rattle.fills.proofs.fill.fill_bytes.Lts as lts
-use Rattle.fills.proofs.fill.wide.Reads as wide-reads
-use Rattle.fills.proofs.place.record_at.Reads as record-at-reads
 
 abbrev Inv-loop : tie.InvT-loop
 Inv-loop f first place n words₀ i₀ words i = (i ≤ n) × (length words ≡ length words₀) × (words ≡ overwrite i (bytesIn f first place) words₀)
@@ -21,43 +16,33 @@ Inv-loop f first place n words₀ i₀ words i = (i ≤ n) × (length words ≡ 
 abbrev μ-loop : tie.MeasureT-loop
 μ-loop f first place n words₀ i₀ words i = n - i
 
--- src/fill.rt:30:5
 loop-holds : tie.Need-loop-holds Inv-loop μ-loop
 loop-holds c = (omega arith, refl, fill-none _ _)
 
--- src/fill.rt:31:18
 record-at-requires : tie.Need-record-at-requires Inv-loop μ-loop
 record-at-requires c κs = search needs
 
--- src/fill.rt:31:18
 add-at : tie.Need-add-at Inv-loop μ-loop
 add-at c = search needs
 
--- src/fill.rt:32:25
 shared-slice-read-wide : tie.Need-shared-slice-read-wide Inv-loop μ-loop
 shared-slice-read-wide c = search needs
 
--- src/fill.rt:32:20
 wide-requires : tie.Need-wide-requires Inv-loop μ-loop
 wide-requires c κs = search needs
 
--- src/fill.rt:32:9
 mul-words : tie.Need-mul-words Inv-loop μ-loop
 mul-words c = search needs
 
--- src/fill.rt:32:9
 slice-write-words : tie.Need-slice-write-words Inv-loop μ-loop
 slice-write-words c = search needs
 
--- src/fill.rt:33:9
 add-i : tie.Need-add-i Inv-loop μ-loop
 add-i c = search needs
 
--- src/fill.rt:30:5
 loop-less : tie.Need-loop-less Inv-loop μ-loop
 loop-less c = search needs
 
--- src/fill.rt:30:5
 loop-again : tie.Need-loop-again Inv-loop μ-loop
 loop-again c =
     let l = c .before .before .before .before in
@@ -65,11 +50,9 @@ loop-again c =
     let e : c .wide .result ≡ bytesIn (s .args .f .now) (s .args .first) (s .args .place) (l .loop .i) = rw (c .wide .ensures, c .before .before .record-at .ensures) in
     (omega arith, simp length-set (l .loop .inv .1), fill-more _ (l .loop .i) _ _ _ (l .loop .inv .2) (omega arith) e)
 
--- src/fill.rt:24:1
 same-length : tie.Need-same-length Inv-loop μ-loop
 same-length c = c .before .loop .inv .1
 
--- src/fill.rt:24:1
 returns : tie.Need-returns Inv-loop μ-loop
 returns c = fill-end _ (c .before .loop .i) _ _ _ (c .before .loop .inv .2) (c .before .loop .inv .0) (c .loop-test .left)
 

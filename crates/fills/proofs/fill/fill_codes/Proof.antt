@@ -1,21 +1,14 @@
 -- `fills::fill::fill_codes` meets its contract. The invariant: the first i codes are stored. Assumes nothing.
-use Prim.Native.Nat.{ℕ, _≤_, _-_, _+_}
-use mathlib.Core.Path.{_≡_, refl, sym, ap, _∙_}
+use mathlib.Core.Path.{_≡_, refl, _∙_}
+use Prim.Native.Nat.{_≤_, _-_}
 use native.Mathlib.Omega.{arith}
 use lib.ListN.{length}
-use Rattle.format.specs.Bytes.{from}
-use Rattle.format.specs.Codes.{readCode}
-use Rattle.format.specs.File.{recordAt}
+use borrow.Author.Needs.{needs}
 use Rattle.format.specs.Tables.{storeCodes}
 use Rattle.fills.specs.Fills.{codesIn}
 use Rattle.fills.proofs.Filling.{codes-none, codes-more, codes-end, code-in}
-use borrow.Author.Needs.{needs}
 use Rattle.fills.proofs.fill.fill_codes.Statement.{statement}
 use Rattle.fills.proofs.fill.fill_codes.Tie as tie
-use Rattle.fills.proofs.fill.fill_codes.Reads as reads
-use Rattle.fills.proofs.fill.fill_codes.Lts as lts
-use Rattle.fills.proofs.code.copy_code.Reads as copy-code-reads
-use Rattle.fills.proofs.place.record_at.Reads as record-at-reads
 
 abbrev Inv-loop : tie.InvT-loop
 Inv-loop f first place n code₀ i₀ code i = (i ≤ n) × (length code ≡ length code₀) × (code ≡ storeCodes i (codesIn f first place) code₀)
@@ -23,35 +16,27 @@ Inv-loop f first place n code₀ i₀ code i = (i ≤ n) × (length code ≡ len
 abbrev μ-loop : tie.MeasureT-loop
 μ-loop f first place n code₀ i₀ code i = n - i
 
--- src/fill.rt:56:5
 loop-holds : tie.Need-loop-holds Inv-loop μ-loop
 loop-holds c = (omega arith, refl, codes-none _ _)
 
--- src/fill.rt:57:22
 record-at-requires : tie.Need-record-at-requires Inv-loop μ-loop
 record-at-requires c κs = search needs
 
--- src/fill.rt:57:22
 add-copy-code : tie.Need-add-copy-code Inv-loop μ-loop
 add-copy-code c = search needs
 
--- src/fill.rt:57:57
 mul-copy-code : tie.Need-mul-copy-code Inv-loop μ-loop
 mul-copy-code c = search needs
 
--- src/fill.rt:57:9
 copy-code-requires : tie.Need-copy-code-requires Inv-loop μ-loop
 copy-code-requires c κs = search needs
 
--- src/fill.rt:58:9
 add-i : tie.Need-add-i Inv-loop μ-loop
 add-i c = search needs
 
--- src/fill.rt:56:5
 loop-less : tie.Need-loop-less Inv-loop μ-loop
 loop-less c = search needs
 
--- src/fill.rt:56:5
 loop-again : tie.Need-loop-again Inv-loop μ-loop
 loop-again c =
     let w = c .before .before in
@@ -61,11 +46,9 @@ loop-again c =
     let e = code-in (s .args .f .now) (s .args .first) (l .loop .i) (s .args .place) (at .record-at .result) (at .record-at .ensures) in
     (omega arith, w .copy-code .kept .1 .1 .0 ∙ l .loop .inv .1, codes-more _ (l .loop .i) _ _ _ _ (l .loop .inv .2) (omega arith) (w .copy-code .kept .1 .1 .0 ∙ l .loop .inv .1) (w .copy-code .ensures) e)
 
--- src/fill.rt:50:1
 same-length : tie.Need-same-length Inv-loop μ-loop
 same-length c = c .before .loop .inv .1
 
--- src/fill.rt:50:1
 returns : tie.Need-returns Inv-loop μ-loop
 returns c = codes-end _ (c .before .loop .i) _ _ _ (c .before .loop .inv .2) (c .before .loop .inv .0) (c .loop-test .left)
 

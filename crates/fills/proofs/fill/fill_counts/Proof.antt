@@ -1,24 +1,17 @@
 -- `fills::fill::fill_counts` meets its contract. The invariant: the first i counts are written. Assumes nothing.
-use Prim.Native.Nat.{ℕ, _≤_, _-_, _+_}
 use mathlib.Core.Path.{_≡_, refl, ap, _∙_}
+use Prim.Native.Nat.{_≤_, _-_}
 use native.Mathlib.Omega.{arith}
 use lib.ListN.{length, length-set}
 use mir.Syntax.{w32}
 use mir.Val.{Fits, toZ, ofZ}
 use mir.Facts.{toZ-ofZ, sfits-toZ}
+use borrow.Author.Needs.{needs}
 use Rattle.laws.specs.Tables.{overwrite}
-use Rattle.format.specs.Bytes.{from, after, word32}
-use Rattle.format.specs.File.{recordAt}
 use Rattle.fills.specs.Fills.{countsIn}
 use Rattle.fills.proofs.Filling.{fill-none, fill-more, fill-end, word-in}
-use borrow.Author.Needs.{needs}
 use Rattle.fills.proofs.fill.fill_counts.Statement.{statement}
 use Rattle.fills.proofs.fill.fill_counts.Tie as tie
-use Rattle.fills.proofs.fill.fill_counts.Reads as reads
-use Rattle.fills.proofs.fill.fill_counts.Lts as lts
-use Rattle.blocks.proofs.bytes.signed.Reads as signed-reads
-use Rattle.blocks.proofs.bytes.word32.Reads as word32-reads
-use Rattle.fills.proofs.place.record_at.Reads as record-at-reads
 
 abbrev Inv-loop : tie.InvT-loop
 Inv-loop f first place n count₀ i₀ count i = (i ≤ n) × (length count ≡ length count₀) × (count ≡ overwrite i (countsIn f first place) count₀)
@@ -26,43 +19,33 @@ Inv-loop f first place n count₀ i₀ count i = (i ≤ n) × (length count ≡ 
 abbrev μ-loop : tie.MeasureT-loop
 μ-loop f first place n count₀ i₀ count i = n - i
 
--- src/fill.rt:120:5
 loop-holds : tie.Need-loop-holds Inv-loop μ-loop
 loop-holds c = (omega arith, refl, fill-none _ _)
 
--- src/fill.rt:121:34
 record-at-requires : tie.Need-record-at-requires Inv-loop μ-loop
 record-at-requires c κs = search needs
 
--- src/fill.rt:121:34
 add-word32 : tie.Need-add-word32 Inv-loop μ-loop
 add-word32 c = search needs
 
--- src/fill.rt:121:24
 word32-requires : tie.Need-word32-requires Inv-loop μ-loop
 word32-requires c κs = search needs
 
--- src/fill.rt:121:13
 signed-requires : tie.Need-signed-requires Inv-loop μ-loop
 signed-requires c κs = search needs
 
--- src/fill.rt:122:9
 mul-v : tie.Need-mul-v Inv-loop μ-loop
 mul-v c = search needs
 
--- src/fill.rt:122:9
 slice-set-from-v : tie.Need-slice-set-from-v Inv-loop μ-loop
 slice-set-from-v c = search needs
 
--- src/fill.rt:123:9
 add-i : tie.Need-add-i Inv-loop μ-loop
 add-i c = search needs
 
--- src/fill.rt:120:5
 loop-less : tie.Need-loop-less Inv-loop μ-loop
 loop-less c = search needs
 
--- src/fill.rt:120:5
 loop-again : tie.Need-loop-again Inv-loop μ-loop
 loop-again c =
     let l = c .before .before .before .before in
@@ -72,11 +55,9 @@ loop-again c =
     let e : toZ w32 (ofZ w32 (c .signed .result)) ≡ countsIn (s .args .f .now) (s .args .first) (s .args .place) (l .loop .i) = rw (c .signed .ensures) (toZ-ofZ (sfits-toZ v) ∙ ap (toZ w32) w) in
     (omega arith, simp length-set (l .loop .inv .1), fill-more _ (l .loop .i) _ _ _ (l .loop .inv .2) (omega arith) e)
 
--- src/fill.rt:114:1
 same-length : tie.Need-same-length Inv-loop μ-loop
 same-length c = c .before .loop .inv .1
 
--- src/fill.rt:114:1
 returns : tie.Need-returns Inv-loop μ-loop
 returns c = fill-end _ (c .before .loop .i) _ _ _ (c .before .loop .inv .2) (c .before .loop .inv .0) (c .loop-test .left)
 

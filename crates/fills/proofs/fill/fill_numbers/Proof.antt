@@ -1,21 +1,15 @@
 -- `fills::fill::fill_numbers` meets its contract. The invariant: the first i numbers are written. Assumes nothing.
-use Prim.Native.Nat.{ℕ, _≤_, _-_, _+_}
-use mathlib.Core.Path.{_≡_, refl, sym, ap, _∙_}
+use mathlib.Core.Path.{_≡_, refl, ap, _∙_}
+use Prim.Native.Nat.{_≤_, _-_}
 use native.Mathlib.Omega.{arith}
 use lib.ListN.{length, length-set}
+use borrow.Author.Needs.{needs}
 use Rattle.laws.specs.Tables.{overwrite}
-use Rattle.format.specs.Bytes.{from}
-use Rattle.format.specs.Codes.{Code, readCode, isCode, number}
-use Rattle.format.specs.File.{recordAt}
+use Rattle.format.specs.Codes.{isCode, number}
 use Rattle.fills.specs.Fills.{codesIn}
 use Rattle.fills.proofs.Filling.{fill-none, fill-more, fill-end, code-in}
-use borrow.Author.Needs.{needs}
 use Rattle.fills.proofs.fill.fill_numbers.Statement.{statement}
 use Rattle.fills.proofs.fill.fill_numbers.Tie as tie
-use Rattle.fills.proofs.fill.fill_numbers.Reads as reads
-use Rattle.fills.proofs.fill.fill_numbers.Lts as lts
-use Rattle.fills.proofs.code.number_at.Reads as number-at-reads
-use Rattle.fills.proofs.place.record_at.Reads as record-at-reads
 
 abbrev Inv-loop : tie.InvT-loop
 Inv-loop f first place n numbers₀ i₀ numbers i = (i ≤ n) × (length numbers ≡ length numbers₀) × (numbers ≡ overwrite i (λ k. number (codesIn f first place k)) numbers₀)
@@ -23,19 +17,15 @@ Inv-loop f first place n numbers₀ i₀ numbers i = (i ≤ n) × (length number
 abbrev μ-loop : tie.MeasureT-loop
 μ-loop f first place n numbers₀ i₀ numbers i = n - i
 
--- src/fill.rt:70:5
 loop-holds : tie.Need-loop-holds Inv-loop μ-loop
 loop-holds c = (omega arith, refl, fill-none _ _)
 
--- src/fill.rt:71:35
 record-at-requires : tie.Need-record-at-requires Inv-loop μ-loop
 record-at-requires c κs = search needs
 
--- src/fill.rt:71:35
 add-number-at : tie.Need-add-number-at Inv-loop μ-loop
 add-number-at c = search needs
 
--- src/fill.rt:71:22
 number-at-requires : tie.Need-number-at-requires Inv-loop μ-loop
 number-at-requires c κs =
     let l = c .before .before in
@@ -43,23 +33,18 @@ number-at-requires c κs =
     let e = code-in (s .args .f .now) (s .args .first) (l .loop .i) (s .args .place) (c .record-at .result) (c .record-at .ensures) in
     (omega (arith, s .pre .0 .room, c .record-at .ensures), ap isCode e ∙ s .pre .1 .1 (l .loop .i) (omega arith))
 
--- src/fill.rt:71:9
 mul-numbers : tie.Need-mul-numbers Inv-loop μ-loop
 mul-numbers c = search needs
 
--- src/fill.rt:71:9
 slice-write-numbers : tie.Need-slice-write-numbers Inv-loop μ-loop
 slice-write-numbers c = search needs
 
--- src/fill.rt:72:9
 add-i : tie.Need-add-i Inv-loop μ-loop
 add-i c = search needs
 
--- src/fill.rt:70:5
 loop-less : tie.Need-loop-less Inv-loop μ-loop
 loop-less c = search needs
 
--- src/fill.rt:70:5
 loop-again : tie.Need-loop-again Inv-loop μ-loop
 loop-again c =
     let l = c .before .before .before in
@@ -67,11 +52,9 @@ loop-again c =
     let e = code-in (s .args .f .now) (s .args .first) (l .loop .i) (s .args .place) (c .before .record-at .result) (c .before .record-at .ensures) in
     (omega arith, simp length-set (l .loop .inv .1), fill-more _ (l .loop .i) _ _ _ (l .loop .inv .2) (omega arith) (c .number-at .ensures ∙ ap number e))
 
--- src/fill.rt:63:1
 same-length : tie.Need-same-length Inv-loop μ-loop
 same-length c = c .before .loop .inv .1
 
--- src/fill.rt:63:1
 returns : tie.Need-returns Inv-loop μ-loop
 returns c = fill-end _ (c .before .loop .i) _ _ _ (c .before .loop .inv .2) (c .before .loop .inv .0) (c .loop-test .left)
 

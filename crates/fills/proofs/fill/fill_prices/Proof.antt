@@ -1,19 +1,15 @@
 -- `fills::fill::fill_prices` meets its contract. The invariant: the first i words are written. Assumes nothing.
-use Prim.Native.Nat.{_≤_, _-_}
 use mathlib.Core.Path.{_≡_, refl}
+use Prim.Native.Nat.{_≤_, _-_}
 use native.Mathlib.Omega.{arith}
 use lib.ListN.{length, length-set}
+use borrow.Author.Needs.{needs}
 use Rattle.laws.specs.Tables.{overwrite}
 use Rattle.format.specs.Bytes.{from, word32}
 use Rattle.format.specs.File.{recordAt}
 use Rattle.fills.proofs.Filling.{fill-none, fill-more, fill-end}
-use borrow.Author.Needs.{needs}
 use Rattle.fills.proofs.fill.fill_prices.Statement.{statement}
 use Rattle.fills.proofs.fill.fill_prices.Tie as tie
-use Rattle.fills.proofs.fill.fill_prices.Reads as reads
-use Rattle.fills.proofs.fill.fill_prices.Lts as lts
-use Rattle.blocks.proofs.bytes.word32.Reads as word32-reads
-use Rattle.fills.proofs.place.record_at.Reads as record-at-reads
 
 abbrev Inv-loop : tie.InvT-loop
 Inv-loop f first n price₀ i₀ price i = (i ≤ n) × (length price ≡ length price₀) × (price ≡ overwrite i (λ k. word32 (from f (recordAt first k))) price₀)
@@ -21,35 +17,27 @@ Inv-loop f first n price₀ i₀ price i = (i ≤ n) × (length price ≡ length
 abbrev μ-loop : tie.MeasureT-loop
 μ-loop f first n price₀ i₀ price i = n - i
 
--- src/fill.rt:107:5
 loop-holds : tie.Need-loop-holds Inv-loop μ-loop
 loop-holds c = (omega arith, refl, fill-none _ _)
 
--- src/fill.rt:108:30
 record-at-requires : tie.Need-record-at-requires Inv-loop μ-loop
 record-at-requires c κs = search needs
 
--- src/fill.rt:108:20
 word32-requires : tie.Need-word32-requires Inv-loop μ-loop
 word32-requires c κs = search needs
 
--- src/fill.rt:108:9
 mul-price : tie.Need-mul-price Inv-loop μ-loop
 mul-price c = search needs
 
--- src/fill.rt:108:9
 slice-write-price : tie.Need-slice-write-price Inv-loop μ-loop
 slice-write-price c = search needs
 
--- src/fill.rt:109:9
 add-i : tie.Need-add-i Inv-loop μ-loop
 add-i c = search needs
 
--- src/fill.rt:107:5
 loop-less : tie.Need-loop-less Inv-loop μ-loop
 loop-less c = search needs
 
--- src/fill.rt:107:5
 loop-again : tie.Need-loop-again Inv-loop μ-loop
 loop-again c =
     let l = c .before .before .before in
@@ -57,11 +45,9 @@ loop-again c =
     let e : c .word32 .result ≡ word32 (from (s .args .f .now) (recordAt (s .args .first) (l .loop .i))) = rw (c .word32 .ensures, c .before .record-at .ensures) in
     (omega arith, simp length-set (l .loop .inv .1), fill-more _ (l .loop .i) _ _ _ (l .loop .inv .2) (omega arith) e)
 
--- src/fill.rt:101:1
 same-length : tie.Need-same-length Inv-loop μ-loop
 same-length c = c .before .loop .inv .1
 
--- src/fill.rt:101:1
 returns : tie.Need-returns Inv-loop μ-loop
 returns c = fill-end _ (c .before .loop .i) _ _ _ (c .before .loop .inv .2) (c .before .loop .inv .0) (c .loop-test .left)
 

@@ -1,20 +1,15 @@
 -- `fills::fill::fill_words` meets its contract. The invariant: the first i words are written. Assumes nothing.
-use Prim.Native.Nat.{_≤_, _-_}
 use mathlib.Core.Path.{_≡_, refl}
+use Prim.Native.Nat.{_≤_, _-_}
 use native.Mathlib.Omega.{arith}
 use lib.ListN.{length, length-set}
+use borrow.Author.Needs.{needs}
 use Rattle.laws.specs.Tables.{overwrite}
 use Rattle.format.specs.Bytes.{from, word16}
 use Rattle.format.specs.File.{recordAt}
 use Rattle.fills.proofs.Filling.{fill-none, fill-more, fill-end}
-use borrow.Author.Needs.{needs}
 use Rattle.fills.proofs.fill.fill_words.Statement.{statement}
 use Rattle.fills.proofs.fill.fill_words.Tie as tie
-use Rattle.fills.proofs.fill.fill_words.Reads as reads
-use Rattle.fills.proofs.fill.fill_words.Lts as lts
-use Rattle.blocks.proofs.bytes.word16.Reads as word16-reads
-use Rattle.fills.proofs.fill.narrow.Reads as narrow-reads
-use Rattle.fills.proofs.place.record_at.Reads as record-at-reads
 
 abbrev Inv-loop : tie.InvT-loop
 Inv-loop f first n words₀ i₀ words i = (i ≤ n) × (length words ≡ length words₀) × (words ≡ overwrite i (λ k. word16 (from f (recordAt first k))) words₀)
@@ -22,39 +17,30 @@ Inv-loop f first n words₀ i₀ words i = (i ≤ n) × (length words ≡ length
 abbrev μ-loop : tie.MeasureT-loop
 μ-loop f first n words₀ i₀ words i = n - i
 
--- src/fill.rt:94:5
 loop-holds : tie.Need-loop-holds Inv-loop μ-loop
 loop-holds c = (omega arith, refl, fill-none _ _)
 
--- src/fill.rt:95:37
 record-at-requires : tie.Need-record-at-requires Inv-loop μ-loop
 record-at-requires c κs = search needs
 
--- src/fill.rt:95:27
 word16-requires : tie.Need-word16-requires Inv-loop μ-loop
 word16-requires c κs = search needs
 
--- src/fill.rt:95:20
 narrow-requires : tie.Need-narrow-requires Inv-loop μ-loop
 narrow-requires c κs = search needs
 
--- src/fill.rt:95:9
 mul-words : tie.Need-mul-words Inv-loop μ-loop
 mul-words c = search needs
 
--- src/fill.rt:95:9
 slice-write-words : tie.Need-slice-write-words Inv-loop μ-loop
 slice-write-words c = search needs
 
--- src/fill.rt:96:9
 add-i : tie.Need-add-i Inv-loop μ-loop
 add-i c = search needs
 
--- src/fill.rt:94:5
 loop-less : tie.Need-loop-less Inv-loop μ-loop
 loop-less c = search needs
 
--- src/fill.rt:94:5
 loop-again : tie.Need-loop-again Inv-loop μ-loop
 loop-again c =
     let l = c .before .before .before .before in
@@ -62,11 +48,9 @@ loop-again c =
     let e : c .narrow .result ≡ word16 (from (s .args .f .now) (recordAt (s .args .first) (l .loop .i))) = rw (c .narrow .ensures, c .before .word16 .ensures .0, c .before .before .record-at .ensures) in
     (omega arith, simp length-set (l .loop .inv .1), fill-more _ (l .loop .i) _ _ _ (l .loop .inv .2) (omega arith) e)
 
--- src/fill.rt:88:1
 same-length : tie.Need-same-length Inv-loop μ-loop
 same-length c = c .before .loop .inv .1
 
--- src/fill.rt:88:1
 returns : tie.Need-returns Inv-loop μ-loop
 returns c = fill-end _ (c .before .loop .i) _ _ _ (c .before .loop .inv .2) (c .before .loop .inv .0) (c .loop-test .left)
 

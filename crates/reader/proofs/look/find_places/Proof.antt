@@ -1,21 +1,16 @@
 -- `reader::look::find_places` meets its contract. The invariant: the first i tallies name offers, whose places are kept. Assumes nothing.
-use Prim.Native.Nat.{_≤_, _-_}
 use mathlib.Core.Path.{_≡_, refl, sym, _∙_}
 use mathlib.Core.Bool.{false, false≢true}
+use Prim.Native.Nat.{_≤_, _-_}
 use native.Mathlib.Omega.{arith}
 use lib.ListN.{length, length-set}
+use borrow.Author.Needs.{needs}
 use Rattle.format.specs.Blocks.{talliesAt}
 use Rattle.format.specs.File.{decode}
 use Rattle.reader.specs.Sound.{Placed}
 use Rattle.reader.proofs.Places.{unnamedBelow, none-yet, named-more, unnamed-hit, unnamed-end, placed-none, placed-more, placed-end, place-most}
-use borrow.Author.Needs.{needs}
 use Rattle.reader.proofs.look.find_places.Statement.{statement}
 use Rattle.reader.proofs.look.find_places.Tie as tie
-use Rattle.reader.proofs.look.find_places.Reads as reads
-use Rattle.reader.proofs.look.find_places.Lts as lts
-use Rattle.reader.proofs.look.find_place.Reads as find-place-reads
-use Rattle.reader.proofs.look.narrow.Reads as narrow-reads
-use Rattle.reader.proofs.look.tallies_at.Reads as tallies-at-reads
 
 abbrev Inv-loop : tie.InvT-loop
 Inv-loop f keys order n t places₀ first i₀ places i = (i ≤ t) × (length places ≡ length places₀) × (first ≡ talliesAt n) × (unnamedBelow (decode f) i ≡ false) × Placed (decode f) places i
@@ -23,26 +18,21 @@ Inv-loop f keys order n t places₀ first i₀ places i = (i ≤ t) × (length p
 abbrev μ-loop : tie.MeasureT-loop
 μ-loop f keys order n t places₀ first i₀ places i = t - i
 
--- src/look.rt:49:9
 tallies-at-requires : tie.Need-tallies-at-requires Inv-loop μ-loop
 tallies-at-requires c κs = omega arith
 
--- src/look.rt:51:5
 loop-holds : tie.Need-loop-holds Inv-loop μ-loop
 loop-holds c = (omega arith, refl, c .tallies-at .ensures, none-yet _, placed-none _ _)
 
--- src/look.rt:52:13
 find-place-requires : tie.Need-find-place-requires Inv-loop μ-loop
 find-place-requires c κs =
     let l = c .before in
     let s = l .before .before .before .before .before .before in
     (s .pre .0, (l .loop .inv .2, omega arith))
 
--- src/look.rt:54:13
 same-length : tie.Need-same-length Inv-loop μ-loop
 same-length c = c .before .before .before .loop .inv .1
 
--- src/look.rt:54:13
 returns : tie.Need-returns Inv-loop μ-loop
 returns c =
     let l = c .before .before .before in
@@ -50,30 +40,24 @@ returns c =
     let h = unnamed-hit _ (s .args .n) (l .loop .i) (c .before .find-place .result) (s .args .t) (s .pre .0 .offers) (s .pre .1 .0) (c .before .find-place .ensures) (c .if1 .taken) (c .before .before .loop-test .taken) in
     (sym h, λ e. absurd (false≢true (sym e)))
 
--- src/look.rt:56:21
 narrow-requires : tie.Need-narrow-requires Inv-loop μ-loop
 narrow-requires c κs =
     let l = c .before .before .before in
     let s = l .before .before .before .before .before .before in
     omega (arith, c .before .find-place .ensures, place-most (decode (s .args .f .now)) (l .loop .i), s .pre .0 .sound .few-offers)
 
--- src/look.rt:56:9
 mul-places : tie.Need-mul-places Inv-loop μ-loop
 mul-places c = search needs
 
--- src/look.rt:56:9
 slice-write-places : tie.Need-slice-write-places Inv-loop μ-loop
 slice-write-places c = search needs
 
--- src/look.rt:57:9
 add-i : tie.Need-add-i Inv-loop μ-loop
 add-i c = search needs
 
--- src/look.rt:51:5
 loop-less : tie.Need-loop-less Inv-loop μ-loop
 loop-less c = search needs
 
--- src/look.rt:51:5
 loop-again : tie.Need-loop-again Inv-loop μ-loop
 loop-again c =
     let l = c .before .before .before .before in
@@ -81,11 +65,9 @@ loop-again c =
     let e = c .before .before .find-place .ensures in
     (omega arith, simp length-set (l .loop .inv .1), l .loop .inv .2, named-more _ (s .args .n) (l .loop .i) _ (s .pre .0 .offers) e (c .before .if1 .left) (l .loop .inv .3), placed-more _ (l .loop .inv .4) (omega arith) (c .narrow .ensures ∙ e))
 
--- src/look.rt:43:1
 same-length-2 : tie.Need-same-length-2 Inv-loop μ-loop
 same-length-2 c = c .before .loop .inv .1
 
--- src/look.rt:43:1
 returns-2 : tie.Need-returns-2 Inv-loop μ-loop
 returns-2 c =
     let l = c .before in

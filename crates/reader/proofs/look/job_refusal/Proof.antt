@@ -1,53 +1,38 @@
 -- `reader::look::job_refusal` meets its contract. Assumes nothing.
-use Prim.Native.Nat.{ℕ}
 use mathlib.Core.Path.{_≡_, sym, ap, _∙_}
 use native.Mathlib.Omega.{arith}
+use borrow.Author.Needs.{needs}
 use Rattle.format.specs.Codes.{isCode}
 use Rattle.format.specs.Job.{shared}
 use Rattle.format.specs.File.{decode}
 use Rattle.reader.proofs.Places.{offer-code, offers-held, numbers-right, shared-is, last-7, last-8, last-0}
-use borrow.Author.Needs.{needs}
 use Rattle.reader.proofs.look.job_refusal.Statement.{statement}
 use Rattle.reader.proofs.look.job_refusal.Tie as tie
-use Rattle.reader.proofs.look.job_refusal.Reads as reads
-use Rattle.reader.proofs.look.job_refusal.Lts as lts
-use Rattle.fills.proofs.fill.fill_numbers.Reads as fill-numbers-reads
-use Rattle.index.proofs.build.build.Reads as build-reads
-use Rattle.index.proofs.look.shared.Reads as shared-reads
-use Rattle.reader.proofs.look.find_places.Reads as find-places-reads
 
--- src/look.rt:71:30
 slice-aggregate-fill-numbers : tie.Need-slice-aggregate-fill-numbers
 slice-aggregate-fill-numbers c = search needs
 
--- src/look.rt:71:5
 fill-numbers-requires : tie.Need-fill-numbers-requires
 fill-numbers-requires c κs =
     let s = c .before .before .before in
     let f = s .args .f .now in
     (offers-held (s .pre .0) (s .args .n) (s .pre .1 .0 .0), ((omega arith, omega arith), λ i l. ap isCode (offer-code f i) ∙ s .pre .0 .offer i (omega arith)))
 
--- src/look.rt:74:25
 slice-aggregate-build : tie.Need-slice-aggregate-build
 slice-aggregate-build c = search needs
 
--- src/look.rt:74:35
 slice-aggregate-build-2 : tie.Need-slice-aggregate-build-2
 slice-aggregate-build-2 c = search needs
 
--- src/look.rt:74:46
 slice-aggregate-build-3 : tie.Need-slice-aggregate-build-3
 slice-aggregate-build-3 c = search needs
 
--- src/look.rt:74:5
 build-requires : tie.Need-build-requires
 build-requires c κs = search needs
 
--- src/look.rt:75:28
 slice-aggregate-shared : tie.Need-slice-aggregate-shared
 slice-aggregate-shared c = search needs
 
--- src/look.rt:75:8
 shared-requires : tie.Need-shared-requires
 shared-requires c κs = search needs
 
@@ -58,25 +43,20 @@ shared-told c =
     let s = b .before .before .before .before .before .before .before .before .before in
     sym (shared-is (decode (s .args .f .now)) (s .args .n) _ (s .pre .1 .0 .0) (numbers-right _ _ _ _ (b .before .before .before .before .before .fill-numbers .ensures))) ∙ sym (c .shared .ensures _ _ (b .build .ensures))
 
--- src/look.rt:76:9
 returns : tie.Need-returns
 returns c = (last-7 _ (shared-told (c .before) ∙ c .if1 .taken), λ e. absurd (omega arith))
 
--- src/look.rt:78:23
 slice-aggregate-find-places : tie.Need-slice-aggregate-find-places
 slice-aggregate-find-places c = search needs
 
--- src/look.rt:78:30
 slice-aggregate-find-places-2 : tie.Need-slice-aggregate-find-places-2
 slice-aggregate-find-places-2 c = search needs
 
--- src/look.rt:78:8
 find-places-requires : tie.Need-find-places-requires
 find-places-requires c κs =
     let e = c .before .before .before in
     let b = e .before .before .before .before .before in
-    let s = b .before .before .before .before .before .before .before .before .before in
-    (
+    let s = b .before .before .before .before .before .before .before .before .before in (
       record {
         sound = s .pre .0;
         offers = s .pre .1 .0 .0;
@@ -90,22 +70,18 @@ find-places-requires c κs =
       (s .pre .1 .0 .1, omega arith),
     )
 
--- src/look.rt:79:9
 same-length : tie.Need-same-length
 same-length c = search needs
 
--- src/look.rt:79:9
 returns-2 : tie.Need-returns-2
 returns-2 c =
     let p = c .before .before .before in
     let e = p .before .before .before .before in
     (last-8 _ (shared-told (e .before) ∙ e .if1 .left) (sym (p .find-places .ensures .0) ∙ c .if2 .taken), λ z. absurd (omega arith))
 
--- src/look.rt:63:1
 same-length-2 : tie.Need-same-length-2
 same-length-2 c = search needs
 
--- src/look.rt:63:1
 returns-3 : tie.Need-returns-3
 returns-3 c =
     let p = c .before .before .before in
