@@ -1,0 +1,102 @@
+// The reader lent tables full of words that no job has: its answer, and how many words it changed.
+ghost use Prim.Native.Nat.{_≤_};
+use crate::differ::add;
+use crate::differ::differ16;
+use crate::differ::differ32;
+use crate::differ::differ8;
+use crate::differ::differ_counts;
+use crate::job::wide16;
+use reader::Answer;
+
+// An answer, 0 where nothing was refused, and how many lent words are not as they were.
+pub struct Seen {
+    pub answer: u64,
+    pub changed: u64,
+}
+
+// n words, or one less where the table is to be short.
+pub fn cut(n: usize, short: bool) -> usize
+    requires { ⌜ 1 ≤ n ⌝ }
+    ensures { λ r. ⌜ r ≤ n ⌝ }
+{
+    if short {
+        return n - 1;
+    }
+    n
+}
+
+// The reader's refusal, 0 where it accepted the file.
+pub fn refusal_of(a: Answer) -> u64 {
+    match a {
+        Answer::Job {
+            boxes: _,
+            grocers: _,
+            offers: _,
+            tallies: _,
+        } => 0,
+        Answer::Refused(n) => wide16(n),
+    }
+}
+
+// How many words of the tables of offers and grocers lost their marks.
+fn changed_offers(price: &[u32], owner: &[u16], code: &[u8], gowner: &[u16]) -> u64 {
+    let prices = differ32(price, &[4_000_000_001u32; 500]);
+    let owners = differ16(owner, &[60_001u16; 500]);
+    let codes = differ8(code, &[201u8; 5500]);
+    let grocers = differ16(gowner, &[60_001u16; 255]);
+    add(add(prices, owners), add(codes, grocers))
+}
+
+// How many words of the tables of tallies lost their marks.
+fn changed_tallies(
+    tgrocer: &[u16],
+    tbox: &[u16],
+    tcode: &[u8],
+    tcount: &[i32],
+    toffer: &[u16],
+) -> u64 {
+    let words = [60_001u16; 1000];
+    let grocers = differ16(tgrocer, &words);
+    let boxes = differ16(tbox, &words);
+    let codes = differ8(tcode, &[201u8; 11000]);
+    let counts = differ_counts(tcount, &[-2_000_000_001i32; 1000]);
+    let places = differ16(toffer, &words);
+    add(add(add(grocers, boxes), add(codes, counts)), places)
+}
+
+// Reads a file with table `which` of the nine, from 0, a word shorter than the largest job needs; 9 for none.
+pub fn read_short(file: &[u8], which: u64) -> Seen {
+    let mut price = [4_000_000_001u32; 500];
+    let mut owner = [60_001u16; 500];
+    let mut code = [201u8; 5500];
+    let mut gowner = [60_001u16; 255];
+    let mut tgrocer = [60_001u16; 1000];
+    let mut tbox = [60_001u16; 1000];
+    let mut tcode = [201u8; 11000];
+    let mut tcount = [-2_000_000_001i32; 1000];
+    let mut toffer = [60_001u16; 1000];
+    let a = cut(500, which == 0);
+    let b = cut(500, which == 1);
+    let c = cut(5500, which == 2);
+    let d = cut(255, which == 3);
+    let e = cut(1000, which == 4);
+    let f = cut(1000, which == 5);
+    let g = cut(11000, which == 6);
+    let h = cut(1000, which == 7);
+    let i = cut(1000, which == 8);
+    let answer = reader::read(
+        file, &mut price[..a], &mut owner[..b], &mut code[..c], &mut gowner[..d], &mut tgrocer[..e],
+        &mut tbox[..f], &mut tcode[..g], &mut tcount[..h], &mut toffer[..i],
+    );
+    let offers = changed_offers(&price, &owner, &code, &gowner);
+    let tallies = changed_tallies(&tgrocer, &tbox, &tcode, &tcount, &toffer);
+    Seen {
+        answer: refusal_of(answer),
+        changed: add(offers, tallies),
+    }
+}
+
+// Reads a file into tables that are long enough.
+pub fn read_marked(file: &[u8]) -> Seen {
+    read_short(file, 9)
+}
