@@ -11,36 +11,36 @@ pub fn add(a: u64, b: u64) -> u64 {
     wrapping_add_u64(a, b)
 }
 
-// 1 where two tables of bytes differ at a place, or one has none there.
-fn other8(a: &[u8], b: &[u8], i: usize) -> u64 {
-    if (a.len() <= i) | (b.len() <= i) {
-        return 1;
+// 1 where a byte is not the one at a place of a table, or the table has none there.
+fn other8(x: u8, b: &[u8], i: usize) -> u64 {
+    if i < b.len() {
+        return one(x != b[i]);
     }
-    one(a[i] != b[i])
+    1
 }
 
-// 1 where two tables of 16-bit words differ at a place, or one has none there.
-fn other16(a: &[u16], b: &[u16], i: usize) -> u64 {
-    if (a.len() <= i) | (b.len() <= i) {
-        return 1;
+// 1 where a 16-bit word is not the one at a place of a table, or the table has none there.
+fn other16(x: u16, b: &[u16], i: usize) -> u64 {
+    if i < b.len() {
+        return one(x != b[i]);
     }
-    one(a[i] != b[i])
+    1
 }
 
-// 1 where two tables of 32-bit words differ at a place, or one has none there.
-fn other32(a: &[u32], b: &[u32], i: usize) -> u64 {
-    if (a.len() <= i) | (b.len() <= i) {
-        return 1;
+// 1 where a 32-bit word is not the one at a place of a table, or the table has none there.
+fn other32(x: u32, b: &[u32], i: usize) -> u64 {
+    if i < b.len() {
+        return one(x != b[i]);
     }
-    one(a[i] != b[i])
+    1
 }
 
-// 1 where two tables of counts differ at a place, or one has none there.
-fn other_count(a: &[i32], b: &[i32], i: usize) -> u64 {
-    if (a.len() <= i) | (b.len() <= i) {
-        return 1;
+// 1 where a count is not the one at a place of a table, or the table has none there.
+fn other_count(x: i32, b: &[i32], i: usize) -> u64 {
+    if i < b.len() {
+        return one(x != b[i]);
     }
-    one(a[i] != b[i])
+    1
 }
 
 // How many bytes differ.
@@ -48,7 +48,7 @@ pub fn differ8(a: &[u8], b: &[u8]) -> u64 {
     let mut n: u64 = 0;
     let mut i: usize = 0;
     while i < a.len() {
-        n = add(n, other8(a, b, i));
+        n = add(n, other8(a[i], b, i));
         i += 1;
     }
     n
@@ -59,7 +59,7 @@ pub fn differ16(a: &[u16], b: &[u16]) -> u64 {
     let mut n: u64 = 0;
     let mut i: usize = 0;
     while i < a.len() {
-        n = add(n, other16(a, b, i));
+        n = add(n, other16(a[i], b, i));
         i += 1;
     }
     n
@@ -70,7 +70,7 @@ pub fn differ32(a: &[u32], b: &[u32]) -> u64 {
     let mut n: u64 = 0;
     let mut i: usize = 0;
     while i < a.len() {
-        n = add(n, other32(a, b, i));
+        n = add(n, other32(a[i], b, i));
         i += 1;
     }
     n
@@ -81,7 +81,7 @@ pub fn differ_counts(a: &[i32], b: &[i32]) -> u64 {
     let mut n: u64 = 0;
     let mut i: usize = 0;
     while i < a.len() {
-        n = add(n, other_count(a, b, i));
+        n = add(n, other_count(a[i], b, i));
         i += 1;
     }
     n

@@ -45,7 +45,7 @@ pub fn set32(f: &mut [u8], at: usize, v: u32)
 }
 
 // "The first sum is bytes 0–507 added modulo 65,521; the second adds (508 − place) × byte": the sum of the sums on the way.
-fn sums(f: &[u8], at: usize) -> Sums
+fn both_sums(f: &[u8], at: usize) -> Sums
     requires { ⌜ at ≤ 65_536 ⌝ }
 {
     let mut first: u64 = 0;
@@ -67,7 +67,7 @@ pub fn seal(f: &mut [u8], block: usize)
     requires { ⌜ block ≤ 74 ⌝ }
 {
     let at = 512 * block;
-    let s = sums(f, at);
+    let s = both_sums(f, at);
     let first = s.first;
     let second = s.second;
     set(f, at + 508, low(first));

@@ -1,10 +1,10 @@
 // The reader lent tables full of words that no job has: its answer, and how many words it changed.
 ghost use Prim.Native.Nat.{_≤_};
 use crate::differ::add;
+use crate::differ::differ_counts;
+use crate::differ::differ8;
 use crate::differ::differ16;
 use crate::differ::differ32;
-use crate::differ::differ8;
-use crate::differ::differ_counts;
 use crate::job::wide16;
 use reader::Answer;
 
@@ -14,13 +14,22 @@ pub struct Seen {
     pub changed: u64,
 }
 
-// n words, or one less where the table is to be short.
+// One less.
+fn less(n: usize) -> usize
+    ensures { λ r. ⌜ r ≤ n ⌝ }
+{
+    if 0 < n {
+        return n - 1;
+    }
+    n
+}
+
+// The length of a part: all n words, or one less where the table is to be short.
 pub fn cut(n: usize, short: bool) -> usize
-    requires { ⌜ 1 ≤ n ⌝ }
     ensures { λ r. ⌜ r ≤ n ⌝ }
 {
     if short {
-        return n - 1;
+        return less(n);
     }
     n
 }
@@ -39,7 +48,12 @@ pub fn refusal_of(a: Answer) -> u64 {
 }
 
 // How many words of the tables of offers and grocers lost their marks.
-fn changed_offers(price: &[u32], owner: &[u16], code: &[u8], gowner: &[u16]) -> u64 {
+fn changed_offers(
+    price: &[u32; 500],
+    owner: &[u16; 500],
+    code: &[u8; 5500],
+    gowner: &[u16; 255],
+) -> u64 {
     let prices = differ32(price, &[4_000_000_001u32; 500]);
     let owners = differ16(owner, &[60_001u16; 500]);
     let codes = differ8(code, &[201u8; 5500]);
@@ -49,11 +63,11 @@ fn changed_offers(price: &[u32], owner: &[u16], code: &[u8], gowner: &[u16]) -> 
 
 // How many words of the tables of tallies lost their marks.
 fn changed_tallies(
-    tgrocer: &[u16],
-    tbox: &[u16],
-    tcode: &[u8],
-    tcount: &[i32],
-    toffer: &[u16],
+    tgrocer: &[u16; 1000],
+    tbox: &[u16; 1000],
+    tcode: &[u8; 11000],
+    tcount: &[i32; 1000],
+    toffer: &[u16; 1000],
 ) -> u64 {
     let words = [60_001u16; 1000];
     let grocers = differ16(tgrocer, &words);
@@ -64,7 +78,44 @@ fn changed_tallies(
     add(add(add(grocers, boxes), add(codes, counts)), places)
 }
 
-// Reads a file with table `which` of the nine, from 0, a word shorter than the largest job needs; 9 for none.
+// Reads a file with table `which` of the nine, from 0, lent without its last word.
+fn read_parts(
+    file: &[u8],
+    which: u64,
+    price: &mut [u32],
+    owner: &mut [u16],
+    code: &mut [u8],
+    gowner: &mut [u16],
+    tgrocer: &mut [u16],
+    tbox: &mut [u16],
+    tcode: &mut [u8],
+    tcount: &mut [i32],
+    toffer: &mut [u16],
+) -> Answer {
+    let a = cut(price.len(), which == 0);
+    let b = cut(owner.len(), which == 1);
+    let c = cut(code.len(), which == 2);
+    let d = cut(gowner.len(), which == 3);
+    let e = cut(tgrocer.len(), which == 4);
+    let f = cut(tbox.len(), which == 5);
+    let g = cut(tcode.len(), which == 6);
+    let h = cut(tcount.len(), which == 7);
+    let i = cut(toffer.len(), which == 8);
+    reader::read(
+        file,
+        &mut price[..a],
+        &mut owner[..b],
+        &mut code[..c],
+        &mut gowner[..d],
+        &mut tgrocer[..e],
+        &mut tbox[..f],
+        &mut tcode[..g],
+        &mut tcount[..h],
+        &mut toffer[..i],
+    )
+}
+
+// Reads a file with table `which` of the nine a word shorter than the largest job needs; 9 for none.
 pub fn read_short(file: &[u8], which: u64) -> Seen {
     let mut price = [4_000_000_001u32; 500];
     let mut owner = [60_001u16; 500];
@@ -75,18 +126,18 @@ pub fn read_short(file: &[u8], which: u64) -> Seen {
     let mut tcode = [201u8; 11000];
     let mut tcount = [-2_000_000_001i32; 1000];
     let mut toffer = [60_001u16; 1000];
-    let a = cut(500, which == 0);
-    let b = cut(500, which == 1);
-    let c = cut(5500, which == 2);
-    let d = cut(255, which == 3);
-    let e = cut(1000, which == 4);
-    let f = cut(1000, which == 5);
-    let g = cut(11000, which == 6);
-    let h = cut(1000, which == 7);
-    let i = cut(1000, which == 8);
-    let answer = reader::read(
-        file, &mut price[..a], &mut owner[..b], &mut code[..c], &mut gowner[..d], &mut tgrocer[..e],
-        &mut tbox[..f], &mut tcode[..g], &mut tcount[..h], &mut toffer[..i],
+    let answer = read_parts(
+        file,
+        which,
+        &mut price,
+        &mut owner,
+        &mut code,
+        &mut gowner,
+        &mut tgrocer,
+        &mut tbox,
+        &mut tcode,
+        &mut tcount,
+        &mut toffer,
     );
     let offers = changed_offers(&price, &owner, &code, &gowner);
     let tallies = changed_tallies(&tgrocer, &tbox, &tcode, &tcount, &toffer);

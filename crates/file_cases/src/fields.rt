@@ -1,8 +1,8 @@
 // Files with one field outside its values: refusals 1, 3, 4, 5 and 6.
-use attempts::differ::add;
 use crate::lines::byte_case;
 use crate::lines::bytes_case;
 use crate::lines::word_case;
+use attempts::differ::add;
 
 // The header: 3, 4, and 1 for its block count.
 pub fn header_cases() -> u64 {
@@ -67,7 +67,10 @@ pub fn offer_cases() -> u64 {
     n = add(n, byte_case(b"read offer byte below the digits", 522, 47));
     n = add(n, byte_case(b"read offer byte above the digits", 522, 58));
     n = add(n, byte_case(b"read offer 4 digits and one behind", 521, 4));
-    n = add(n, byte_case(b"read offer 6 digits, the last 0 byte", 521, 6));
+    n = add(
+        n,
+        byte_case(b"read offer 6 digits, the last 0 byte", 521, 6),
+    );
     n = add(n, byte_case(b"read offer byte behind the digits", 531, 48));
     n = add(n, byte_case(b"read grocer owner 1", 1029, 1));
     n = add(n, byte_case(b"read grocer owner 2", 1028, 2));

@@ -1,5 +1,6 @@
 // Cases of reader and writer, one line each: a name and the refusal's number, 0 where nothing is refused.
 use attempts::differ::add;
+
 mod codes;
 mod fields;
 mod lines;

@@ -3,8 +3,8 @@ use attempts::differ::differ8;
 use attempts::job::refusal_of;
 use attempts::job::small_file;
 use attempts::job::wide16;
-use attempts::reads::read_marked;
 use attempts::reads::Seen;
+use attempts::reads::read_marked;
 use reader::Answer;
 
 // A 32-bit number as a count.
@@ -108,7 +108,19 @@ fn write_again(
 ) {
     let mut out = [0u8; 2048];
     let answer = writer::write(
-        2, 2, 2, 4, price, owner, code, gowner, tgrocer, tbox, tcode, tcount, &mut out,
+        2,
+        2,
+        2,
+        4,
+        price,
+        owner,
+        code,
+        gowner,
+        tgrocer,
+        tbox,
+        tcode,
+        tcount,
+        &mut out,
     );
     show::line(b"written again", refusal_of(answer));
     show::line(b"bytes that differ", differ8(&out, &small_file()));
@@ -127,8 +139,16 @@ fn read_tables() {
     let mut tcount = [0i32; 1000];
     let mut toffer = [0u16; 1000];
     let answer = reader::read(
-        &f, &mut price, &mut owner, &mut code, &mut gowner, &mut tgrocer, &mut tbox, &mut tcode,
-        &mut tcount, &mut toffer,
+        &f,
+        &mut price,
+        &mut owner,
+        &mut code,
+        &mut gowner,
+        &mut tgrocer,
+        &mut tbox,
+        &mut tcode,
+        &mut tcount,
+        &mut toffer,
     );
     show_answer(answer);
     show_prices(&price);
@@ -140,7 +160,16 @@ fn read_tables() {
     show_tally_codes(&tcode);
     show_four(b"tally places", &toffer);
     show_counts(&tcount);
-    write_again(&price, &owner, &code, &gowner, &tgrocer, &tbox, &tcode, &tcount);
+    write_again(
+        &price,
+        &owner,
+        &code,
+        &gowner,
+        &tgrocer,
+        &tbox,
+        &tcode,
+        &tcount,
+    );
 }
 
 // E's file read and written again; the words that the reader stored, and no others.

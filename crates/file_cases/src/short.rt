@@ -1,10 +1,10 @@
 // Tables a word too short, each in turn: 20.
+use crate::lines::tell;
 use attempts::differ::add;
 use attempts::job::small;
 use attempts::job::small_file;
 use attempts::reads::read_short;
 use attempts::writes::write_short;
-use crate::lines::tell;
 
 // E's file read with one table short.
 fn read_one(name: &[u8], which: u64) -> u64 {

@@ -1,5 +1,7 @@
 // Jobs that the writer refuses: 4, 6, 7 and 8, and which comes first.
 ghost use Prim.Native.Nat.{_≤_};
+use crate::lines::tell;
+use crate::lines::write_case;
 use attempts::differ::add;
 use attempts::differ::differ8;
 use attempts::job::refusal_of;
@@ -7,8 +9,6 @@ use attempts::job::small;
 use attempts::patch::put_code;
 use attempts::reads::Seen;
 use attempts::writes::write_short;
-use crate::lines::tell;
-use crate::lines::write_case;
 
 // E with other sizes.
 fn sized(name: &[u8], boxes: u16, grocers: u16, offers: u16, tallies: u16) -> u64 {
@@ -83,11 +83,28 @@ fn large(name: &[u8], grocers: u16, offers: u16, tallies: u16) -> u64 {
     let count = [0i32; 1001];
     let mut out = [201u8; 38400];
     let answer = writer::write(
-        1, grocers, offers, tallies, &price, &words, &code, &words, &words, &words, &tcode, &count,
+        1,
+        grocers,
+        offers,
+        tallies,
+        &price,
+        &words,
+        &code,
+        &words,
+        &words,
+        &words,
+        &tcode,
+        &count,
         &mut out,
     );
     let changed = differ8(&out, &[201u8; 38400]);
-    tell(name, Seen { answer: refusal_of(answer), changed: changed })
+    tell(
+        name,
+        Seen {
+            answer: refusal_of(answer),
+            changed: changed,
+        },
+    )
 }
 
 // Sizes: 4, or 20 where they need longer tables.
@@ -101,7 +118,10 @@ pub fn size_cases() -> u64 {
     n = add(n, sized(b"write 3 grocers of 2", 2, 3, 2, 4));
     n = add(n, sized(b"write 3 offers of 2", 2, 2, 3, 4));
     n = add(n, sized(b"write 5 tallies of 4", 2, 2, 2, 5));
-    n = add(n, sized(b"write 65535 of each", 65_535, 65_535, 65_535, 65_535));
+    n = add(
+        n,
+        sized(b"write 65535 of each", 65_535, 65_535, 65_535, 65_535),
+    );
     n
 }
 
@@ -137,10 +157,19 @@ pub fn record_cases() -> u64 {
 pub fn number_cases() -> u64 {
     let mut n = coded(b"write offer code of 10 digits", b"0000000412", b"77");
     n = add(n, coded(b"write offer code of 0 digits", b"", b"77"));
-    n = add(n, coded(b"write offer code of 11 digits", b"00000000412", b"77"));
-    n = add(n, counted(b"write tally code of 10 digits", b"0000000412", 3));
+    n = add(
+        n,
+        coded(b"write offer code of 11 digits", b"00000000412", b"77"),
+    );
+    n = add(
+        n,
+        counted(b"write tally code of 10 digits", b"0000000412", 3),
+    );
     n = add(n, counted(b"write tally code of 0 digits", b"", 3));
-    n = add(n, counted(b"write tally code of 11 digits", b"00000000412", 3));
+    n = add(
+        n,
+        counted(b"write tally code of 11 digits", b"00000000412", 3),
+    );
     n = add(n, coded_byte(b"write byte above the digits", 5, 58));
     n = add(n, coded_byte(b"write byte behind the digits", 6, 48));
     n = add(n, coded(b"write offers 7 and 07", b"7", b"07"));
@@ -182,6 +211,9 @@ pub fn write_order() -> u64 {
     n = add(n, large_and_priced(b"write 4 before 6"));
     n = add(n, shared_and_counted(b"write 6 before 7", 100_000));
     n = add(n, shared_and_counted(b"write 7 before 8", 4));
-    n = add(n, counted(b"write bad count with unknown code", b"413", 100_000));
+    n = add(
+        n,
+        counted(b"write bad count with unknown code", b"413", 100_000),
+    );
     n
 }
