@@ -15,6 +15,7 @@ use Rattle.format.specs.Bytes.{from, after}
 use Rattle.format.specs.Blocks.{BlockKind, kindAt, records, recordSize, fieldSize, spare}
 use Rattle.format.specs.File.{decode}
 use Rattle.format.specs.Refusals.{spareUsed}
+use Rattle.blocks.specs.Due.{Due}
 use Rattle.blocks.specs.Shape.{used, spareIn}
 use Rattle.blocks.proofs.Extra.{same-test, or-l, or-r, row-in}
 use Rattle.blocks.proofs.Places.{from-after}
@@ -86,7 +87,11 @@ spare-after : (f : List ℕ) (k : ℕ) (b : BlockKind) (n : ℕ) → kindAt (dec
 unfolding spareIn spareUsed spare
 spare-after f k b n e c = rw (e, c)
 
--- The spare bytes of block k, whose kind is b and which has n records.
-pub spare-is : (f : List ℕ) (k : ℕ) (b : BlockKind) (n : ℕ) → kindAt (decode f .offers) k ≡ b → n ≡ records (decode f) b →
+spare-is : (f : List ℕ) (k : ℕ) (b : BlockKind) (n : ℕ) → kindAt (decode f .offers) k ≡ b → n ≡ records (decode f) b →
     spareIn n (recordSize b) (fieldSize b) (from f (512 * k + 4)) ≡ spareUsed (decode f) k (from f (512 * k))
 spare-is f k b n e c = ap (spareIn n (recordSize b) (fieldSize b)) (from-after f (512 * k) 4) ∙ spare-after f k b n e c
+
+-- The spare bytes of block k, whose kind is b and which is due to have n records.
+pub spare-due : (f : List ℕ) (k x n : ℕ) → Due f k x n → (b : BlockKind) → kindAt (decode f .offers) k ≡ b →
+    spareIn n (recordSize b) (fieldSize b) (from f (512 * k + 4)) ≡ spareUsed (decode f) k (from f (512 * k))
+spare-due f k x n d b e = spare-is f k b n e (d .count ∙ ap (records (decode f)) e)

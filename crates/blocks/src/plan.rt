@@ -1,6 +1,6 @@
 // The sizes that a file's header says, and what each block is due to hold.
 ghost use mathlib.Core.Path.{_≡_};
-ghost use Prim.Native.Nat.{_+_, _*_, _-_, _≤_, _<_, min};
+ghost use Prim.Native.Nat.{_+_, _*_, _-_, _≤_, min};
 ghost use lib.ListN.{length};
 ghost use Rattle.format.specs.Bytes.{from};
 ghost use Rattle.format.specs.Job.{FileJob, badSizes};

@@ -1,6 +1,6 @@
 // Records of a block: fields outside their ranges.
 ghost use mathlib.Core.Path.{_≡_};
-ghost use Prim.Native.Nat.{_+_, _*_, _-_, _≤_, _<_};
+ghost use Prim.Native.Nat.{_+_, _*_, _-_, _≤_};
 ghost use lib.Dec.{ltb};
 ghost use lib.IntN.{natAbs};
 ghost use lib.ListN.{length};
@@ -12,7 +12,7 @@ ghost use Rattle.format.specs.Job.{badOffer, badOwner, badTally};
 ghost use Rattle.format.specs.Blocks.{grocersAt, talliesAt, kindAt};
 ghost use Rattle.format.specs.File.{readOffer, readTally, decode};
 ghost use Rattle.format.specs.Refusals.{badRecord};
-ghost use Rattle.blocks.specs.Due.{Is, Most, Due};
+ghost use Rattle.blocks.specs.Due.{Is, Due};
 use crate::bytes::size;
 use crate::bytes::word16;
 use crate::bytes::word32;

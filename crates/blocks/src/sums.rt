@@ -32,7 +32,10 @@ pub fn sums(f: &[u8], at: usize) -> TwoSums
     }
     let a = (first % 65521) as usize;
     let b = (second % 65521) as usize;
-    TwoSums { first: a, second: b }
+    TwoSums {
+        first: a,
+        second: b,
+    }
 }
 
 // Whether a sum of block k is not as stored.

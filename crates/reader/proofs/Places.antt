@@ -83,6 +83,7 @@ place-most j t =
 unfoldable pub unnamedBelow : FileJob → ℕ → Bool
 unnamedBelow j i = any i (λ t. not (any (j .offers) (names j t)))
 
+-- None is looked up yet.
 pub none-yet : (j : FileJob) → unnamedBelow j 0 ≡ false
 unfolding unnamedBelow any
 none-yet j = refl
@@ -132,14 +133,17 @@ pub numbers-right : (f l numbers : List ℕ) (n : ℕ) → numbers ≡ overwrite
 numbers-right f l numbers n e i h =
     ap (λ (x : List ℕ). getD x i 0) e ∙ getD-overwrite n (λ i. number (codesIn f offersAt 5 i)) l i 0 h ∙ ap number (offer-code f i)
 
+-- Two offers share a number: 7.
 pub last-7 : (j : FileJob) → shared j ≡ true → 7 ≡ lastRefusal j
 unfolding lastRefusal firstMet
 last-7 j h = rw h
 
+-- None do, and a tally's code names no offer: 8.
 pub last-8 : (j : FileJob) → shared j ≡ false → unnamed j ≡ true → 8 ≡ lastRefusal j
 unfolding lastRefusal firstMet
 last-8 j h u = rw (h, u)
 
+-- Neither is met.
 pub last-0 : (j : FileJob) → shared j ≡ false → unnamed j ≡ false → 0 ≡ lastRefusal j
 unfolding lastRefusal firstMet
 last-0 j h u = rw (h, u)

@@ -100,6 +100,7 @@ pub record Held (f : List ℕ) (l : ReaderTables) (m n t row first : ℕ) : Type
   pub tallyCount : t ≤ length (l .job .tallyCount)
   pub tallyOffer : t ≤ length (l .tallyOffer)
 
+-- So it is where the file is sound and no table is short.
 pub held : (f : List ℕ) (l : ReaderTables) (m n t row first : ℕ) → Sound f → shortReader l ≡ false → m ≡ decode f .grocers → n ≡ decode f .offers → t ≡ decode f .tallies → row ≡ 512 * grocersAt n + 4 → first ≡ talliesAt n → Held f l m n t row first
 unfolding shortReader
 held f l m n t row first s h em en et er ef =

@@ -5,30 +5,22 @@ use Rattle.blocks.proofs.Signs.{upper}
 use borrow.Author.Needs.{needs}
 use Rattle.blocks.proofs.bytes.signed.Statement.{statement}
 use Rattle.blocks.proofs.bytes.signed.Tie as tie
-use Rattle.blocks.proofs.bytes.signed.Reads as reads
-use Rattle.blocks.proofs.bytes.signed.Lts as lts
 
--- src/bytes.rt:50:9
 cast-result : tie.Need-cast-result
 cast-result c = search needs
 
--- src/bytes.rt:52:18
 sub-m : tie.Need-sub-m
 sub-m c = search needs
 
--- src/bytes.rt:52:17
 cast-m : tie.Need-cast-m
 cast-m c = search needs
 
--- src/bytes.rt:53:9
 sub-result : tie.Need-sub-result
 sub-result c = rw (upper (c .before .args .v) (c .if1 .left) (omega arith)) (sfits-toZ (c .before .fits .v))
 
--- src/bytes.rt:46:1
 returns : tie.Need-returns
 returns c = search needs
 
--- src/bytes.rt:46:1
 returns-2 : tie.Need-returns-2
 returns-2 c = rw (upper (c .before .args .v) (c .if1 .left) (omega arith)) (toZ-ofZ (sfits-toZ (c .before .fits .v)))
 

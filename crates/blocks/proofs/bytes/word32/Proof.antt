@@ -4,79 +4,58 @@ use native.Mathlib.Nat.{add-zero}
 use borrow.Author.Needs.{needs}
 use Rattle.blocks.proofs.bytes.word32.Statement.{statement}
 use Rattle.blocks.proofs.bytes.word32.Tie as tie
-use Rattle.blocks.proofs.bytes.word32.Reads as reads
-use Rattle.blocks.proofs.bytes.word32.Lts as lts
-use Rattle.blocks.proofs.bytes.wide.Reads as wide-reads
 
--- src/bytes.rt:38:18
 shared-slice-read-wide : tie.Need-shared-slice-read-wide
 shared-slice-read-wide c = search needs
 
--- src/bytes.rt:38:9
 wide-requires : tie.Need-wide-requires
 wide-requires c κs = search needs
 
--- src/bytes.rt:39:20
 add-wide : tie.Need-add-wide
 add-wide c = search needs
 
--- src/bytes.rt:39:18
 shared-slice-read-wide-2 : tie.Need-shared-slice-read-wide-2
 shared-slice-read-wide-2 c = search needs
 
--- src/bytes.rt:39:9
 wide-requires-2 : tie.Need-wide-requires-2
 wide-requires-2 c κs = search needs
 
--- src/bytes.rt:40:20
 add-wide-2 : tie.Need-add-wide-2
 add-wide-2 c = search needs
 
--- src/bytes.rt:40:18
 shared-slice-read-wide-3 : tie.Need-shared-slice-read-wide-3
 shared-slice-read-wide-3 c = search needs
 
--- src/bytes.rt:40:9
 wide-requires-3 : tie.Need-wide-requires-3
 wide-requires-3 c κs = search needs
 
--- src/bytes.rt:41:20
 add-wide-3 : tie.Need-add-wide-3
 add-wide-3 c = search needs
 
--- src/bytes.rt:41:18
 shared-slice-read-wide-4 : tie.Need-shared-slice-read-wide-4
 shared-slice-read-wide-4 c = search needs
 
--- src/bytes.rt:41:9
 wide-requires-4 : tie.Need-wide-requires-4
 wide-requires-4 c κs = search needs
 
--- src/bytes.rt:42:9
 mul-result : tie.Need-mul-result
 mul-result c = search needs
 
--- src/bytes.rt:42:5
 add-result : tie.Need-add-result
 add-result c = search needs
 
--- src/bytes.rt:42:19
 mul-result-2 : tie.Need-mul-result-2
 mul-result-2 c = search needs
 
--- src/bytes.rt:42:5
 add-result-2 : tie.Need-add-result-2
 add-result-2 c = search needs
 
--- src/bytes.rt:42:31
 mul-result-3 : tie.Need-mul-result-3
 mul-result-3 c = search needs
 
--- src/bytes.rt:42:5
 add-result-3 : tie.Need-add-result-3
 add-result-3 c = search needs
 
--- src/bytes.rt:34:1
 returns : tie.Need-returns
 returns c = rw add-zero (omega arith)
 

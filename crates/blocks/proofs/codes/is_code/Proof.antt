@@ -1,25 +1,19 @@
 -- `blocks::codes::is_code` meets its contract. Assumes nothing.
-use mathlib.Core.Bool.{Bool, cond, _&&_}
-use mathlib.Core.List.{List}
 use Prim.Native.Nat.{ℕ, _+_, _≤_, _-_}
-use mathlib.Core.Path.{sym, ap, ap₂, _∙_}
+use mathlib.Core.Bool.{cond, _&&_}
+use mathlib.Core.List.{List}
+use mathlib.Core.Path.{sym, ap, _∙_, _≡_, refl}
 use native.Mathlib.Nat.{add-zero, add-assoc}
+use native.Mathlib.Omega.{arith}
 use lib.Dec.{leb, ltb, eqb}
 use lib.ListN.{getD}
-use Prim.Native.Nat.{_≤_, _-_}
-use mathlib.Core.Path.{_≡_, refl}
-use native.Mathlib.Omega.{arith}
 use Rattle.laws.specs.Below.{all}
-use Rattle.laws.proofs.Below.{all-next}
 use Rattle.format.specs.Bytes.{from}
 use Rattle.format.specs.Codes.{isPlace, isCode, readCode}
+use Rattle.blocks.proofs.Extra.{all-more}
 use borrow.Author.Needs.{needs}
 use Rattle.blocks.proofs.codes.is_code.Statement.{statement}
 use Rattle.blocks.proofs.codes.is_code.Tie as tie
-use Rattle.blocks.proofs.codes.is_code.Reads as reads
-use Rattle.blocks.proofs.codes.is_code.Lts as lts
-use Rattle.blocks.proofs.bytes.size.Reads as size-reads
-use Rattle.blocks.proofs.codes.is_place.Reads as is-place-reads
 
 abbrev Inv-loop : tie.InvT-loop
 Inv-loop f at n field ok₀ i₀ ok i = (i ≤ 10) × (ok ≡ all i (isPlace (readCode (from f at))))
@@ -37,54 +31,42 @@ place-is : (f : List ℕ) (at i n : ℕ) → n ≡ getD f at 0 →
 unfolding isPlace
 place-is f at i n e = rw (count-is f at n e, add-assoc at 1 i)
 
--- src/codes.rt:23:18
 shared-slice-read-size : tie.Need-shared-slice-read-size Inv-loop μ-loop
 shared-slice-read-size c = search needs
 
--- src/codes.rt:23:9
 size-requires : tie.Need-size-requires Inv-loop μ-loop
 size-requires c κs = search needs
 
--- src/codes.rt:24:17
 add-field : tie.Need-add-field Inv-loop μ-loop
 add-field c = search needs
 
--- src/codes.rt:27:5
 loop-holds : tie.Need-loop-holds Inv-loop μ-loop
 unfolding all
 loop-holds c = (omega arith, refl)
 
--- src/codes.rt:28:30
 add-is-place : tie.Need-add-is-place Inv-loop μ-loop
 add-is-place c = search needs
 
--- src/codes.rt:28:28
 shared-slice-read-is-place : tie.Need-shared-slice-read-is-place Inv-loop μ-loop
 shared-slice-read-is-place c = search needs
 
--- src/codes.rt:28:19
 is-place-requires : tie.Need-is-place-requires Inv-loop μ-loop
 is-place-requires c κs = search needs
 
--- src/codes.rt:29:9
 add-i : tie.Need-add-i Inv-loop μ-loop
 add-i c = search needs
 
--- src/codes.rt:27:5
 loop-less : tie.Need-loop-less Inv-loop μ-loop
 loop-less c = search needs
 
--- src/codes.rt:27:5
 loop-again : tie.Need-loop-again Inv-loop μ-loop
 loop-again c =
     let l = c .before .before .before in
-    let s = l .before .before .before .before in
-    (
+    let s = l .before .before .before .before in (
       omega arith,
-      ap₂ _&&_ (l .loop .inv .1) (c .is-place .ensures ∙ place-is (s .args .f .now) (s .args .at) (l .loop .i) _ (l .before .size .ensures .0)) ∙ sym (all-next (l .loop .i) (isPlace (readCode (from (s .args .f .now) (s .args .at))))),
+      all-more (l .loop .i) _ _ _ (l .loop .inv .1) (c .is-place .ensures ∙ place-is (s .args .f .now) (s .args .at) (l .loop .i) _ (l .before .size .ensures .0)),
     )
 
--- src/codes.rt:19:1
 returns : tie.Need-returns Inv-loop μ-loop
 unfolding isCode
 returns c =

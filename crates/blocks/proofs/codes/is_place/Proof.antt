@@ -2,10 +2,7 @@
 use Rattle.blocks.proofs.Extra.{cond-or}
 use Rattle.blocks.proofs.codes.is_place.Statement.{statement}
 use Rattle.blocks.proofs.codes.is_place.Tie as tie
-use Rattle.blocks.proofs.codes.is_place.Reads as reads
-use Rattle.blocks.proofs.codes.is_place.Lts as lts
 
--- src/codes.rt:12:1
 returns : tie.Need-returns
 returns c = cond-or (c .args .k) (c .args .n) _ _
 

@@ -3,16 +3,14 @@ use Prim.Native.Nat.{ℕ}
 use mathlib.Core.Path.{sym, ap, _∙_}
 use mathlib.Core.Bool.{Bool, _||_}
 use lib.Dec.{ltb}
-use Rattle.format.specs.Job.{FileJob, badSizes}
+use Rattle.format.specs.Job.{badSizes}
 use Rattle.blocks.proofs.plan.bad_sizes.Statement.{statement}
 use Rattle.blocks.proofs.plan.bad_sizes.Tie as tie
-use Rattle.blocks.proofs.plan.bad_sizes.Reads as reads
-use Rattle.blocks.proofs.plan.bad_sizes.Lts as lts
 
+-- The tests of the four sizes.
 abbrev test : ℕ → ℕ → ℕ → ℕ → Bool
 test b g o t = ltb b 1 || ltb 16 b || ltb g 1 || ltb 255 g || ltb o 1 || ltb 500 o || ltb 1_000 t
 
--- src/plan.rt:40:1
 returns : tie.Need-returns
 unfolding badSizes
 returns c =

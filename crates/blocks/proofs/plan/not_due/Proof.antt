@@ -9,44 +9,31 @@ use Rattle.blocks.proofs.Places.{from-after}
 use borrow.Author.Needs.{needs}
 use Rattle.blocks.proofs.plan.not_due.Statement.{statement}
 use Rattle.blocks.proofs.plan.not_due.Tie as tie
-use Rattle.blocks.proofs.plan.not_due.Reads as reads
-use Rattle.blocks.proofs.plan.not_due.Lts as lts
-use Rattle.blocks.proofs.bytes.size.Reads as size-reads
-use Rattle.blocks.proofs.bytes.word16.Reads as word16-reads
 
--- src/plan.rt:119:14
 mul-at : tie.Need-mul-at
 mul-at c = search needs
 
--- src/plan.rt:120:23
 shared-slice-read-size : tie.Need-shared-slice-read-size
 shared-slice-read-size c = search needs
 
--- src/plan.rt:120:18
 size-requires : tie.Need-size-requires
 size-requires c κs = search needs
 
--- src/plan.rt:120:52
 add-word16 : tie.Need-add-word16
 add-word16 c = search needs
 
--- src/plan.rt:120:42
 word16-requires : tie.Need-word16-requires
 word16-requires c κs = search needs
 
--- src/plan.rt:121:21
 add-size : tie.Need-add-size
 add-size c = search needs
 
--- src/plan.rt:121:19
 shared-slice-read-size-2 : tie.Need-shared-slice-read-size-2
 shared-slice-read-size-2 c = search needs
 
--- src/plan.rt:121:14
 size-requires-2 : tie.Need-size-requires-2
 size-requires-2 c κs = search needs
 
--- src/plan.rt:114:1
 returns : tie.Need-returns
 unfolding notDue
 returns c =

@@ -3,32 +3,22 @@ use Rattle.format.specs.File.{decode}
 use borrow.Author.Needs.{needs}
 use Rattle.blocks.proofs.plan.read_sizes.Statement.{statement}
 use Rattle.blocks.proofs.plan.read_sizes.Tie as tie
-use Rattle.blocks.proofs.plan.read_sizes.Reads as reads
-use Rattle.blocks.proofs.plan.read_sizes.Lts as lts
-use Rattle.blocks.proofs.bytes.size.Reads as size-reads
-use Rattle.blocks.proofs.bytes.word16.Reads as word16-reads
 
--- src/plan.rt:27:22
 shared-slice-read-size : tie.Need-shared-slice-read-size
 shared-slice-read-size c = search needs
 
--- src/plan.rt:27:9
 size-requires : tie.Need-size-requires
 size-requires c κs = search needs
 
--- src/plan.rt:28:9
 word16-requires : tie.Need-word16-requires
 word16-requires c κs = search needs
 
--- src/plan.rt:29:9
 word16-requires-2 : tie.Need-word16-requires-2
 word16-requires-2 c κs = search needs
 
--- src/plan.rt:30:9
 word16-requires-3 : tie.Need-word16-requires-3
 word16-requires-3 c κs = search needs
 
--- src/plan.rt:23:1
 returns : tie.Need-returns
 unfolding decode
 returns c =

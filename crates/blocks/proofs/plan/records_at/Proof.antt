@@ -7,10 +7,6 @@ use Rattle.blocks.proofs.KindNumbers.{one-is, two-is, three-is}
 use borrow.Author.Needs.{needs}
 use Rattle.blocks.proofs.plan.records_at.Statement.{statement}
 use Rattle.blocks.proofs.plan.records_at.Tie as tie
-use Rattle.blocks.proofs.plan.records_at.Reads as reads
-use Rattle.blocks.proofs.plan.records_at.Lts as lts
-use Rattle.blocks.proofs.plan.blocks_for.Reads as blocks-for-reads
-use Rattle.blocks.proofs.plan.part.Reads as part-reads
 
 -- A block past the header that is of neither other kind.
 rest : (c : tie.Else2) →
@@ -20,15 +16,12 @@ rest c =
     let s = c .before .before in
     three-is (s .args .s .offers) (s .args .k) (s .pre .1 .0) (λ e. c .before .if1 .left (s .pre .1 .1 ∙ e)) (λ e. c .if2 .left (s .pre .1 .1 ∙ e))
 
--- src/plan.rt:104:31
 sub-part : tie.Need-sub-part
 sub-part c = search needs
 
--- src/plan.rt:104:9
 part-requires : tie.Need-part-requires
 part-requires c κs = search needs
 
--- src/plan.rt:104:9
 returns : tie.Need-returns
 returns c =
     let s = c .before .before in
@@ -36,30 +29,24 @@ returns c =
     let e = one-is (s .args .s .offers) k (sym (s .pre .1 .1) ∙ c .before .if1 .taken) in
     (λ j g o t. c .part .ensures ∙ ap (λ (v : ℕ). min 21 (v - 21 * (k - 1))) (sym o) ∙ sym (ap (records j) e), omega arith)
 
--- src/plan.rt:107:9
 returns-2 : tie.Need-returns-2
 returns-2 c =
     let s = c .before .before in
     let e = two-is (s .args .s .offers) (s .args .k) (sym (s .pre .1 .1) ∙ c .if2 .taken) in
     (λ j g o t. sym g ∙ sym (ap (records j) (e .0)), omega (arith, s .pre .0 .1 .grocers))
 
--- src/plan.rt:109:17
 blocks-for-requires : tie.Need-blocks-for-requires
 blocks-for-requires c κs = search needs
 
--- src/plan.rt:109:17
 add-first : tie.Need-add-first
 add-first c = search needs
 
--- src/plan.rt:110:21
 sub-part-2 : tie.Need-sub-part-2
 sub-part-2 c = omega (arith, rest (c .before) .1)
 
--- src/plan.rt:110:5
 part-requires-2 : tie.Need-part-requires-2
 part-requires-2 c κs = search needs
 
--- src/plan.rt:98:1
 returns-3 : tie.Need-returns-3
 returns-3 c =
     let b = c .before in

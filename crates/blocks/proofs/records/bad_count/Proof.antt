@@ -3,10 +3,7 @@ use native.Mathlib.Omega.{arith}
 use Rattle.blocks.proofs.Signs.{count-out}
 use Rattle.blocks.proofs.records.bad_count.Statement.{statement}
 use Rattle.blocks.proofs.records.bad_count.Tie as tie
-use Rattle.blocks.proofs.records.bad_count.Reads as reads
-use Rattle.blocks.proofs.records.bad_count.Lts as lts
 
--- src/records.rt:23:1
 returns : tie.Need-returns
 returns c = count-out (c .args .v) (omega arith)
 

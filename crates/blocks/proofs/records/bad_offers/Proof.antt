@@ -1,19 +1,15 @@
 -- `blocks::records::bad_offers` meets its contract. Assumes nothing.
-use Prim.Native.Nat.{ℕ, _+_, _*_, _-_, _≤_}
-use mathlib.Core.Path.{_≡_, refl, sym, ap, ap₂, _∙_}
-use mathlib.Core.Bool.{_||_}
+use Prim.Native.Nat.{_+_, _*_, _-_, _≤_}
+use mathlib.Core.Path.{_≡_, refl, ap, _∙_}
 use native.Mathlib.Omega.{arith}
 use Rattle.laws.specs.Below.{any}
-use Rattle.laws.proofs.Below.{any-next}
 use Rattle.format.specs.Job.{badOffer}
 use Rattle.format.specs.File.{decode}
 use Rattle.blocks.proofs.Places.{offer-at}
+use Rattle.blocks.proofs.Extra.{any-end, any-more}
 use borrow.Author.Needs.{needs}
 use Rattle.blocks.proofs.records.bad_offers.Statement.{statement}
 use Rattle.blocks.proofs.records.bad_offers.Tie as tie
-use Rattle.blocks.proofs.records.bad_offers.Reads as reads
-use Rattle.blocks.proofs.records.bad_offers.Lts as lts
-use Rattle.blocks.proofs.records.bad_offer.Reads as bad-offer-reads
 
 abbrev Inv-loop : tie.InvT-loop
 Inv-loop f k count boxes at found₀ i₀ found i = (i ≤ count) × (found ≡ any i (λ r. badOffer (decode f) (decode f .offer (21 * (k - 1) + r))))
@@ -21,58 +17,42 @@ Inv-loop f k count boxes at found₀ i₀ found i = (i ≤ count) × (found ≡ 
 abbrev μ-loop : tie.MeasureT-loop
 μ-loop f k count boxes at found₀ i₀ found i = count - i
 
--- src/records.rt:56:14
 mul-at : tie.Need-mul-at Inv-loop μ-loop
 mul-at c = search needs
 
--- src/records.rt:56:14
 add-at : tie.Need-add-at Inv-loop μ-loop
 add-at c = search needs
 
--- src/records.rt:59:5
 loop-holds : tie.Need-loop-holds Inv-loop μ-loop
 unfolding any
 loop-holds c = (omega arith, refl)
 
--- src/records.rt:60:43
 mul-bad-offer : tie.Need-mul-bad-offer Inv-loop μ-loop
 mul-bad-offer c = search needs
 
--- src/records.rt:60:38
 add-bad-offer : tie.Need-add-bad-offer Inv-loop μ-loop
 add-bad-offer c = search needs
 
--- src/records.rt:60:25
 bad-offer-requires : tie.Need-bad-offer-requires Inv-loop μ-loop
 bad-offer-requires c κs = search needs
 
--- src/records.rt:61:9
 add-i : tie.Need-add-i Inv-loop μ-loop
 add-i c = search needs
 
--- src/records.rt:59:5
 loop-less : tie.Need-loop-less Inv-loop μ-loop
 loop-less c = search needs
 
--- src/records.rt:59:5
 loop-again : tie.Need-loop-again Inv-loop μ-loop
 loop-again c =
     let l = c .before .before in
     let s = l .before .before in
-    let f = s .args .f .now in
-    (
+    let f = s .args .f .now in (
       omega arith,
-      ap₂ _||_ (l .loop .inv .1) (c .bad-offer .ensures ∙ ap (badOffer (decode f)) (offer-at f (s .args .k) (l .loop .i) (omega arith) (omega arith))) ∙ sym (any-next (l .loop .i) (λ r. badOffer (decode f) (decode f .offer (21 * (s .args .k - 1) + r)))),
+      any-more (l .loop .i) _ _ _ (l .loop .inv .1) (c .bad-offer .ensures ∙ ap (badOffer (decode f)) (offer-at f (s .args .k) (l .loop .i) (omega arith) (omega arith))),
     )
 
--- src/records.rt:51:1
 returns : tie.Need-returns Inv-loop μ-loop
-returns c =
-    let l = c .before in
-    let s = l .before .before in
-    let f = s .args .f .now in
-    let e : l .loop .i ≡ s .args .count = omega arith in
-    l .loop .inv .1 ∙ ap (λ (n : ℕ). any n (λ r. badOffer (decode f) (decode f .offer (21 * (s .args .k - 1) + r)))) e
+returns c = any-end _ _ _ _ (omega arith) (c .before .loop .inv .1)
 
 pub bad-offers-spec : {M : Type 1} → statement M
 bad-offers-spec =

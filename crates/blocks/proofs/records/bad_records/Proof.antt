@@ -1,7 +1,5 @@
 -- `blocks::records::bad_records` meets its contract. Assumes nothing.
-use Prim.Native.Nat.{ℕ}
 use mathlib.Core.Path.{_∙_, sym, ap}
-use mathlib.Core.Bool.{Bool}
 use Rattle.laws.specs.Below.{any}
 use Rattle.format.specs.Blocks.{BlockKind}
 use Rattle.format.specs.File.{decode}
@@ -9,20 +7,13 @@ use Rattle.format.specs.Refusals.{badRecord}
 use Rattle.blocks.proofs.DueBlocks.{due-one, due-two, due-three}
 use Rattle.blocks.proofs.records.bad_records.Statement.{statement}
 use Rattle.blocks.proofs.records.bad_records.Tie as tie
-use Rattle.blocks.proofs.records.bad_records.Reads as reads
-use Rattle.blocks.proofs.records.bad_records.Lts as lts
-use Rattle.blocks.proofs.records.bad_offers.Reads as bad-offers-reads
-use Rattle.blocks.proofs.records.bad_owners.Reads as bad-owners-reads
-use Rattle.blocks.proofs.records.bad_tallies.Reads as bad-tallies-reads
 
--- src/records.rt:107:9
 bad-offers-requires : tie.Need-bad-offers-requires
 bad-offers-requires c κs =
     let s = c .before .before in
     let d = due-one _ _ _ _ (s .pre .1 .1) (c .if1 .taken) in
     ((s .pre .0 .0, s .pre .0 .1, d .1), s .pre .1 .0 .boxes)
 
--- src/records.rt:107:9
 returns : tie.Need-returns
 unfolding badRecord
 returns c =
@@ -30,14 +21,12 @@ returns c =
     let d = due-one _ _ _ _ (s .pre .1 .1) (c .before .if1 .taken) .0 in
     c .bad-offers .ensures ∙ sym (ap (λ (b : BlockKind). any (s .args .count) (badRecord (decode (s .args .f .now)) b)) d)
 
--- src/records.rt:110:9
 bad-owners-requires : tie.Need-bad-owners-requires
 bad-owners-requires c κs =
     let s = c .before .before .before in
     let d = due-two _ _ _ _ (s .pre .1 .1) (c .if2 .taken) in
     ((s .pre .0 .0, d .1, s .pre .1 .1 .few), s .pre .1 .0 .boxes)
 
--- src/records.rt:110:9
 returns-2 : tie.Need-returns-2
 unfolding badRecord
 returns-2 c =
@@ -45,14 +34,12 @@ returns-2 c =
     let d = due-two _ _ _ _ (s .pre .1 .1) (c .before .if2 .taken) .0 in
     c .bad-owners .ensures ∙ sym (ap (λ (b : BlockKind). any (s .args .count) (badRecord (decode (s .args .f .now)) b)) d)
 
--- src/records.rt:112:5
 bad-tallies-requires : tie.Need-bad-tallies-requires
 bad-tallies-requires c κs =
     let s = c .before .before .before in
     let d = due-three _ _ _ _ (s .pre .1 .1) (s .pre .0 .1) (c .before .if1 .left) (c .if2 .left) in
     ((s .pre .0 .0, d .1, d .2), (s .pre .1 .0 .boxes, s .pre .1 .0 .grocers))
 
--- src/records.rt:99:1
 returns-3 : tie.Need-returns-3
 unfolding badRecord
 returns-3 c =

@@ -3,10 +3,7 @@ use mathlib.Core.Path.{refl}
 use Rattle.format.specs.Refusals.{badLength}
 use Rattle.blocks.proofs.refusals.bad_length.Statement.{statement}
 use Rattle.blocks.proofs.refusals.bad_length.Tie as tie
-use Rattle.blocks.proofs.refusals.bad_length.Reads as reads
-use Rattle.blocks.proofs.refusals.bad_length.Lts as lts
 
--- src/refusals.rt:25:1
 returns : tie.Need-returns
 unfolding badLength
 returns c = refl

@@ -10,14 +10,6 @@ use Rattle.blocks.specs.Due.{Due}
 use borrow.Author.Needs.{needs}
 use Rattle.blocks.proofs.refusals.block_refusal.Statement.{statement}
 use Rattle.blocks.proofs.refusals.block_refusal.Tie as tie
-use Rattle.blocks.proofs.refusals.block_refusal.Reads as reads
-use Rattle.blocks.proofs.refusals.block_refusal.Lts as lts
-use Rattle.blocks.proofs.plan.kind_at.Reads as kind-at-reads
-use Rattle.blocks.proofs.plan.not_due.Reads as not-due-reads
-use Rattle.blocks.proofs.plan.records_at.Reads as records-at-reads
-use Rattle.blocks.proofs.records.bad_records.Reads as bad-records-reads
-use Rattle.blocks.proofs.spares.spare_used.Reads as spare-used-reads
-use Rattle.blocks.proofs.sums.sums_differ.Reads as sums-differ-reads
 
 -- What the code has computed is what is due.
 due : (c : tie.After-records-at) → Due (c .before .before .before .args .f .now) (c .before .before .before .args .k) (c .before .kind-at .result) (c .records-at .result)
@@ -41,45 +33,37 @@ bad c =
     let j = decode (a .f .now) in
     ap (λ (n : ℕ). any n (badRecord j (kindAt (j .offers) (a .k)))) (sym (due r .count)) ∙ sym (c .bad-records .ensures)
 
--- src/refusals.rt:72:9
 kind-at-requires : tie.Need-kind-at-requires
 kind-at-requires c κs = search needs
 
--- src/refusals.rt:73:9
 records-at-requires : tie.Need-records-at-requires
 records-at-requires c κs = search needs
 
--- src/refusals.rt:74:8
 sums-differ-requires : tie.Need-sums-differ-requires
 sums-differ-requires c κs = search needs
 
--- src/refusals.rt:75:9
 returns : tie.Need-returns
 unfolding blockRefusal firstMet
 returns c = rw (← (c .before .sums-differ .ensures), c .if1 .taken)
 
--- src/refusals.rt:77:8
 not-due-requires : tie.Need-not-due-requires
 not-due-requires c κs =
     let r = c .before .before in
     let s = r .before .before .before in
     (s .pre .0 .0, due r)
 
--- src/refusals.rt:78:9
 returns-2 : tie.Need-returns-2
 unfolding blockRefusal firstMet
 returns-2 c =
     let a = c .before .before in
     rw (← (a .before .sums-differ .ensures), a .if1 .left, ← (c .before .not-due .ensures), c .if2 .taken)
 
--- src/refusals.rt:80:8
 spare-used-requires : tie.Need-spare-used-requires
 spare-used-requires c κs =
     let r = c .before .before .before .before in
     let s = r .before .before .before in
     ((s .pre .0 .0, s .pre .0 .1), due r)
 
--- src/refusals.rt:81:9
 returns-3 : tie.Need-returns-3
 unfolding blockRefusal firstMet
 returns-3 c =
@@ -87,14 +71,12 @@ returns-3 c =
     let a = b .before .before in
     rw (← (a .before .sums-differ .ensures), a .if1 .left, ← (b .before .not-due .ensures), b .if2 .left, ← (c .before .spare-used .ensures), c .if3 .taken)
 
--- src/refusals.rt:83:8
 bad-records-requires : tie.Need-bad-records-requires
 bad-records-requires c κs =
     let r = c .before .before .before .before .before .before in
     let s = r .before .before .before in
     ((s .pre .0 .0, s .pre .0 .1), (s .pre .1 .0, due r))
 
--- src/refusals.rt:84:9
 returns-4 : tie.Need-returns-4
 unfolding blockRefusal firstMet
 returns-4 c =
@@ -103,7 +85,6 @@ returns-4 c =
     let a = b .before .before in
     rw (← (a .before .sums-differ .ensures), a .if1 .left, ← (b .before .not-due .ensures), b .if2 .left, ← (d .before .spare-used .ensures), d .if3 .left, bad (c .before), c .if4 .taken)
 
--- src/refusals.rt:66:1
 returns-5 : tie.Need-returns-5
 unfolding blockRefusal firstMet
 returns-5 c =

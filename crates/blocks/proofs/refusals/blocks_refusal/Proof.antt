@@ -10,9 +10,6 @@ use Rattle.format.proofs.Firsts.{below-more, below-hit}
 use borrow.Author.Needs.{needs}
 use Rattle.blocks.proofs.refusals.blocks_refusal.Statement.{statement}
 use Rattle.blocks.proofs.refusals.blocks_refusal.Tie as tie
-use Rattle.blocks.proofs.refusals.blocks_refusal.Reads as reads
-use Rattle.blocks.proofs.refusals.blocks_refusal.Lts as lts
-use Rattle.blocks.proofs.refusals.block_refusal.Reads as block-refusal-reads
 
 abbrev Inv-loop : tie.InvT-loop
 Inv-loop f s n others i₀ i = (i ≤ others) × (firstBelow i (λ k. blockRefusal f (1 + k)) ≡ 0)
@@ -20,26 +17,21 @@ Inv-loop f s n others i₀ i = (i ≤ others) × (firstBelow i (λ k. blockRefus
 abbrev μ-loop : tie.MeasureT-loop
 μ-loop f s n others i₀ i = others - i
 
--- src/refusals.rt:95:18
 sub-others : tie.Need-sub-others Inv-loop μ-loop
 sub-others c = search needs
 
--- src/refusals.rt:97:5
 loop-holds : tie.Need-loop-holds Inv-loop μ-loop
 unfolding firstBelow
 loop-holds c = (omega arith, refl)
 
--- src/refusals.rt:98:34
 add-block-refusal : tie.Need-add-block-refusal Inv-loop μ-loop
 add-block-refusal c = search needs
 
--- src/refusals.rt:98:13
 block-refusal-requires : tie.Need-block-refusal-requires Inv-loop μ-loop
 block-refusal-requires c κs =
     let s = c .before .before .before in
     ((omega arith, omega arith, omega arith), s .pre .1)
 
--- src/refusals.rt:100:13
 returns : tie.Need-returns Inv-loop μ-loop
 returns c =
     let l = c .before .before .before in
@@ -47,15 +39,12 @@ returns c =
     let f = s .args .f .now in
     sym (below-hit (λ k. blockRefusal f (1 + k)) (l .loop .i) (blocks (decode f) - 1) _ (omega arith) (l .loop .inv .1) (sym (c .before .block-refusal .ensures)) (c .if1 .taken))
 
--- src/refusals.rt:102:9
 add-i : tie.Need-add-i Inv-loop μ-loop
 add-i c = search needs
 
--- src/refusals.rt:97:5
 loop-less : tie.Need-loop-less Inv-loop μ-loop
 loop-less c = search needs
 
--- src/refusals.rt:97:5
 loop-again : tie.Need-loop-again Inv-loop μ-loop
 loop-again c =
     let l = c .before .before .before in
@@ -63,7 +52,6 @@ loop-again c =
     let f = s .args .f .now in
     (omega arith, below-more (λ k. blockRefusal f (1 + k)) (l .loop .i) (l .loop .inv .1) (sym (c .before .block-refusal .ensures) ∙ c .if1 .left))
 
--- src/refusals.rt:90:1
 returns-2 : tie.Need-returns-2 Inv-loop μ-loop
 returns-2 c =
     let l = c .before in

@@ -6,40 +6,28 @@ use Rattle.blocks.proofs.DueBlocks.{due-header}
 use borrow.Author.Needs.{needs}
 use Rattle.blocks.proofs.refusals.header_refusal.Statement.{statement}
 use Rattle.blocks.proofs.refusals.header_refusal.Tie as tie
-use Rattle.blocks.proofs.refusals.header_refusal.Reads as reads
-use Rattle.blocks.proofs.refusals.header_refusal.Lts as lts
-use Rattle.blocks.proofs.plan.not_due.Reads as not-due-reads
-use Rattle.blocks.proofs.refusals.bad_header.Reads as bad-header-reads
-use Rattle.blocks.proofs.spares.header_spare_used.Reads as header-spare-used-reads
-use Rattle.blocks.proofs.sums.sums_differ.Reads as sums-differ-reads
 
--- src/refusals.rt:50:8
 sums-differ-requires : tie.Need-sums-differ-requires
 sums-differ-requires c κs = search needs
 
--- src/refusals.rt:51:9
 returns : tie.Need-returns
 unfolding headerRefusal firstMet
 returns c = rw (← (c .before .sums-differ .ensures), c .if1 .taken)
 
--- src/refusals.rt:53:8
 not-due-requires : tie.Need-not-due-requires
 not-due-requires c κs =
     let s = c .before .before .before in
     (omega arith, due-header (s .args .f .now))
 
--- src/refusals.rt:54:9
 returns-2 : tie.Need-returns-2
 unfolding headerRefusal firstMet
 returns-2 c =
     let a = c .before .before in
     rw (← (a .before .sums-differ .ensures), a .if1 .left, ← (c .before .not-due .ensures), c .if2 .taken)
 
--- src/refusals.rt:56:8
 bad-header-requires : tie.Need-bad-header-requires
 bad-header-requires c κs = search needs
 
--- src/refusals.rt:57:9
 returns-3 : tie.Need-returns-3
 unfolding headerRefusal firstMet
 returns-3 c =
@@ -47,11 +35,9 @@ returns-3 c =
     let a = b .before .before in
     rw (← (a .before .sums-differ .ensures), a .if1 .left, ← (b .before .not-due .ensures), b .if2 .left, ← (c .before .bad-header .ensures), c .if3 .taken)
 
--- src/refusals.rt:59:8
 header-spare-used-requires : tie.Need-header-spare-used-requires
 header-spare-used-requires c κs = search needs
 
--- src/refusals.rt:60:9
 returns-4 : tie.Need-returns-4
 unfolding headerRefusal firstMet
 returns-4 c =
@@ -60,7 +46,6 @@ returns-4 c =
     let a = b .before .before in
     rw (← (a .before .sums-differ .ensures), a .if1 .left, ← (b .before .not-due .ensures), b .if2 .left, ← (d .before .bad-header .ensures), d .if3 .left, ← (c .before .header-spare-used .ensures), c .if4 .taken)
 
--- src/refusals.rt:46:1
 returns-5 : tie.Need-returns-5
 unfolding headerRefusal firstMet
 returns-5 c =

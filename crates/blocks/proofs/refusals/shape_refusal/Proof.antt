@@ -1,34 +1,26 @@
 -- `blocks::refusals::shape_refusal` meets its contract. Assumes nothing.
-use Prim.Native.Nat.{ℕ, _*_, _≤_}
-use mathlib.Core.Path.{_≡_, refl, sym, ap, ap₂, _∙_}
-use mathlib.Core.Bool.{true, false, not}
+use Prim.Native.Nat.{ℕ, _*_}
+use mathlib.Core.Path.{_≡_, sym, ap, ap₂, _∙_}
+use mathlib.Core.Bool.{false}
 use native.Mathlib.Omega.{arith}
-use lib.Dec.{eqb}
-use lib.ListN.{length}
-use borrow.Author.Tests.{eq-eqb, ne-eqb}
 use Rattle.format.specs.Blocks.{blocks, blockCount}
 use Rattle.format.specs.File.{decode}
-use Rattle.format.specs.Refusals.{badLength, badCount, headerRefusal}
-use Rattle.format.proofs.Range.{SizesIn}
+use Rattle.format.specs.Refusals.{badLength, headerRefusal}
 use Rattle.blocks.specs.Due.{Most}
 use Rattle.blocks.proofs.ShapeOrder.{length-in, header-sizes, count-off, count-on, shape-length, shape-header, shape-count, shape-blocks}
 use borrow.Author.Needs.{needs}
 use Rattle.blocks.proofs.refusals.shape_refusal.Statement.{statement}
 use Rattle.blocks.proofs.refusals.shape_refusal.Tie as tie
-use Rattle.blocks.proofs.refusals.shape_refusal.Reads as reads
-use Rattle.blocks.proofs.refusals.shape_refusal.Lts as lts
-use Rattle.blocks.proofs.plan.block_count.Reads as block-count-reads
-use Rattle.blocks.proofs.plan.read_sizes.Reads as read-sizes-reads
-use Rattle.blocks.proofs.refusals.bad_length.Reads as bad-length-reads
-use Rattle.blocks.proofs.refusals.blocks_refusal.Reads as blocks-refusal-reads
-use Rattle.blocks.proofs.refusals.header_refusal.Reads as header-refusal-reads
 
+-- The length is not refused.
 right : (c : tie.Else1) → badLength (c .before .before .before .args .f .now) ≡ false
 right c = sym (c .before .bad-length .ensures) ∙ c .if1 .left
 
+-- The header is not refused.
 top : (c : tie.Else2) → headerRefusal (c .before .before .before .before .before .args .f .now) ≡ 0
 top c = sym (c .before .header-refusal .ensures) ∙ c .if2 .left
 
+-- The sizes that are read are at most the largest ones.
 most : (c : tie.After-read-sizes) → Most (c .read-sizes .result)
 most c =
     let i = c .read-sizes .ensures in
@@ -44,49 +36,39 @@ most c =
 counted : (c : tie.After-block-count) → c .block-count .result ≡ blocks (decode (c .before .before .before .before .before .before .before .args .f .now))
 counted c = let i = c .before .read-sizes .ensures in c .block-count .ensures ∙ ap₂ blockCount (i .offers) (i .tallies)
 
--- src/refusals.rt:111:8
 bad-length-requires : tie.Need-bad-length-requires
 bad-length-requires c κs = search needs
 
--- src/refusals.rt:112:9
 returns : tie.Need-returns
 returns c = sym (shape-length _ (sym (c .before .bad-length .ensures) ∙ c .if1 .taken))
 
--- src/refusals.rt:114:9
 header-refusal-requires : tie.Need-header-refusal-requires
 header-refusal-requires c κs = omega (arith, length-in _ (right c) .0)
 
--- src/refusals.rt:116:9
 returns-2 : tie.Need-returns-2
 returns-2 c = c .before .header-refusal .ensures ∙ sym (shape-header _ (right (c .before .before)) (λ e. c .if2 .taken (c .before .header-refusal .ensures ∙ e)))
 
--- src/refusals.rt:118:9
 read-sizes-requires : tie.Need-read-sizes-requires
 read-sizes-requires c κs = omega (arith, length-in _ (right (c .before .before)) .0)
 
--- src/refusals.rt:121:9
 block-count-requires : tie.Need-block-count-requires
 block-count-requires c κs = let m = most c in (omega (arith, m .offers), omega (arith, m .tallies))
 
--- src/refusals.rt:122:19
 mul-if3 : tie.Need-mul-if3
 mul-if3 c = let m = most (c .before) in omega (arith, m .offers, m .tallies)
 
--- src/refusals.rt:123:9
 returns-3 : tie.Need-returns-3
 returns-3 c =
     let b = c .before in
     let t = b .before .before in
     sym (shape-count _ (right (t .before .before)) (top t) (count-on _ (λ e. c .if3 .taken (e ∙ ap (λ (n : ℕ). 512 * n) (sym (counted b))))))
 
--- src/refusals.rt:125:5
 blocks-refusal-requires : tie.Need-blocks-refusal-requires
 blocks-refusal-requires c κs =
     let b = c .before in
     let m = most (b .before) in
     ((omega (arith, c .if3 .left), omega (arith, c .if3 .left, length-in _ (right (b .before .before .before .before)) .1), counted b), (b .before .read-sizes .ensures, m))
 
--- src/refusals.rt:108:1
 returns-4 : tie.Need-returns-4
 returns-4 c =
     let e = c .before in

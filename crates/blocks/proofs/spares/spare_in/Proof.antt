@@ -4,18 +4,14 @@ use mathlib.Core.Path.{_≡_, refl, sym, ap, ap₂, _∙_}
 use mathlib.Core.Bool.{_||_}
 use native.Mathlib.Omega.{arith}
 use Rattle.laws.specs.Below.{any}
-use Rattle.laws.proofs.Below.{any-next}
 use Rattle.format.specs.Bytes.{from, after}
 use Rattle.blocks.specs.Shape.{used}
-use Rattle.blocks.proofs.Extra.{row-next, row-in}
+use Rattle.blocks.proofs.Extra.{any-more, row-next, row-in}
 use Rattle.blocks.proofs.Places.{from-after}
 use Rattle.blocks.proofs.SpareWalk.{spare-walk}
 use borrow.Author.Needs.{needs}
 use Rattle.blocks.proofs.spares.spare_in.Statement.{statement}
 use Rattle.blocks.proofs.spares.spare_in.Tie as tie
-use Rattle.blocks.proofs.spares.spare_in.Reads as reads
-use Rattle.blocks.proofs.spares.spare_in.Lts as lts
-use Rattle.blocks.proofs.spares.any_used.Reads as any-used-reads
 
 abbrev Inv-loop : tie.InvT-loop
 Inv-loop f at count size fields rest found₀ p₀ i₀ found p i = (i ≤ count) × (p ≡ i * size) × (found ≡ any i (λ r. any (size - fields) (λ i. used (after (from f at) (r * size + fields) i))))
@@ -38,40 +34,31 @@ full c =
     let d : l .loop .i ≡ s .args .count = omega arith in
     l .loop .inv .1 ∙ ap (λ (i : ℕ). i * s .args .size) d
 
--- src/spares.rt:32:16
 sub-rest : tie.Need-sub-rest Inv-loop μ-loop
 sub-rest c = search needs
 
--- src/spares.rt:36:5
 loop-holds : tie.Need-loop-holds Inv-loop μ-loop
 unfolding any
 loop-holds c = (omega arith, omega arith, refl)
 
--- src/spares.rt:37:43
 add-any-used : tie.Need-add-any-used Inv-loop μ-loop
 add-any-used c = omega (arith, room c)
 
--- src/spares.rt:37:37
 add-any-used-2 : tie.Need-add-any-used-2 Inv-loop μ-loop
 add-any-used-2 c = omega (arith, room c)
 
--- src/spares.rt:37:25
 any-used-requires : tie.Need-any-used-requires Inv-loop μ-loop
 any-used-requires c κs = omega (arith, room c)
 
--- src/spares.rt:38:9
 add-p : tie.Need-add-p Inv-loop μ-loop
 add-p c = omega (arith, room (c .before))
 
--- src/spares.rt:39:9
 add-i : tie.Need-add-i Inv-loop μ-loop
 add-i c = search needs
 
--- src/spares.rt:36:5
 loop-less : tie.Need-loop-less Inv-loop μ-loop
 loop-less c = search needs
 
--- src/spares.rt:36:5
 loop-again : tie.Need-loop-again Inv-loop μ-loop
 loop-again c =
     let l = c .before .before in
@@ -79,26 +66,21 @@ loop-again c =
     let f = s .args .f .now in
     let z = s .args .size in
     let w = s .args .fields in
-    let e = c .any-used .ensures ∙ ap (λ (g : ℕ → ℕ). any (z - w) (λ i. used (g i))) (from-after f (s .args .at) (l .loop .p + w) ∙ ap (λ (p : ℕ). after (from f (s .args .at)) (p + w)) (l .loop .inv .1)) in
-    (
+    let e = c .any-used .ensures ∙ ap (λ (g : ℕ → ℕ). any (z - w) (λ i. used (g i))) (from-after f (s .args .at) (l .loop .p + w) ∙ ap (λ (p : ℕ). after (from f (s .args .at)) (p + w)) (l .loop .inv .1)) in (
       omega arith,
       ap (λ (p : ℕ). p + z) (l .loop .inv .1) ∙ sym (row-next (l .loop .i) z),
-      ap₂ _||_ (l .loop .inv .2) e ∙ sym (any-next (l .loop .i) (λ r. any (z - w) (λ i. used (after (from f (s .args .at)) (r * z + w) i)))),
+      any-more (l .loop .i) _ _ _ (l .loop .inv .2) e,
     )
 
--- src/spares.rt:41:25
 add-any-used-3 : tie.Need-add-any-used-3 Inv-loop μ-loop
 add-any-used-3 c = omega (arith, full c)
 
--- src/spares.rt:41:33
 sub-any-used : tie.Need-sub-any-used Inv-loop μ-loop
 sub-any-used c = omega (arith, full c)
 
--- src/spares.rt:41:13
 any-used-requires-2 : tie.Need-any-used-requires-2 Inv-loop μ-loop
 any-used-requires-2 c κs = omega (arith, full c)
 
--- src/spares.rt:27:1
 returns : tie.Need-returns Inv-loop μ-loop
 returns c =
     let l = c .before .before in

@@ -1,64 +1,51 @@
 -- `blocks::spares::spare_used` meets its contract. Assumes nothing.
-use mathlib.Core.Path.{_∙_, ap}
+use mathlib.Core.Path.{_∙_}
 use native.Mathlib.Omega.{arith}
-use Rattle.format.specs.Blocks.{offerBlock, grocerBlock, tallyBlock, records}
-use Rattle.format.specs.File.{decode}
 use Rattle.blocks.proofs.DueBlocks.{due-one, due-two, due-three}
-use Rattle.blocks.proofs.SpareWalk.{spare-is}
+use Rattle.blocks.proofs.SpareWalk.{spare-due}
 use borrow.Author.Needs.{needs}
 use Rattle.blocks.proofs.spares.spare_used.Statement.{statement}
 use Rattle.blocks.proofs.spares.spare_used.Tie as tie
-use Rattle.blocks.proofs.spares.spare_used.Reads as reads
-use Rattle.blocks.proofs.spares.spare_used.Lts as lts
-use Rattle.blocks.proofs.spares.spare_in.Reads as spare-in-reads
 
--- src/spares.rt:58:14
 mul-at : tie.Need-mul-at
 mul-at c = search needs
 
--- src/spares.rt:58:14
 add-at : tie.Need-add-at
 add-at c = search needs
 
--- src/spares.rt:60:9
 spare-in-requires : tie.Need-spare-in-requires
 spare-in-requires c κs =
     let s = c .before .before in
     let d = due-one _ _ _ _ (s .pre .1) (c .if1 .taken) in
     omega (arith, d .1)
 
--- src/spares.rt:60:9
 returns : tie.Need-returns
 returns c =
     let s = c .before .before .before in
     let d = due-one _ _ _ _ (s .pre .1) (c .before .if1 .taken) .0 in
-    c .spare-in .ensures ∙ spare-is (s .args .f .now) (s .args .k) _ (s .args .count) d (s .pre .1 .count ∙ ap (records (decode (s .args .f .now))) d)
+    c .spare-in .ensures ∙ spare-due _ _ _ _ (s .pre .1) _ d
 
--- src/spares.rt:63:9
 spare-in-requires-2 : tie.Need-spare-in-requires-2
 spare-in-requires-2 c κs = search needs
 
--- src/spares.rt:63:9
 returns-2 : tie.Need-returns-2
 returns-2 c =
     let s = c .before .before .before .before in
     let d = due-two _ _ _ _ (s .pre .1) (c .before .if2 .taken) .0 in
-    c .spare-in2 .ensures ∙ spare-is (s .args .f .now) (s .args .k) _ (s .args .count) d (s .pre .1 .count ∙ ap (records (decode (s .args .f .now))) d)
+    c .spare-in2 .ensures ∙ spare-due _ _ _ _ (s .pre .1) _ d
 
--- src/spares.rt:65:5
 spare-in-requires-3 : tie.Need-spare-in-requires-3
 spare-in-requires-3 c κs =
     let s = c .before .before .before in
     let d = due-three _ _ _ _ (s .pre .1) (s .pre .0 .1) (c .before .if1 .left) (c .if2 .left) in
     omega (arith, d .2)
 
--- src/spares.rt:53:1
 returns-3 : tie.Need-returns-3
 returns-3 c =
     let e = c .before in
     let s = e .before .before .before in
     let d = due-three _ _ _ _ (s .pre .1) (s .pre .0 .1) (e .before .if1 .left) (e .if2 .left) .0 in
-    c .spare-in3 .ensures ∙ spare-is (s .args .f .now) (s .args .k) _ (s .args .count) d (s .pre .1 .count ∙ ap (records (decode (s .args .f .now))) d)
+    c .spare-in3 .ensures ∙ spare-due _ _ _ _ (s .pre .1) _ d
 
 pub spare-used-spec : {M : Type 1} → statement M
 spare-used-spec =

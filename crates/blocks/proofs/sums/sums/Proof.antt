@@ -10,9 +10,6 @@ use Rattle.format.specs.Blocks.{firstSum, secondSum}
 use borrow.Author.Needs.{needs}
 use Rattle.blocks.proofs.sums.sums.Statement.{statement}
 use Rattle.blocks.proofs.sums.sums.Tie as tie
-use Rattle.blocks.proofs.sums.sums.Reads as reads
-use Rattle.blocks.proofs.sums.sums.Lts as lts
-use Rattle.blocks.proofs.bytes.wide.Reads as wide-reads
 
 abbrev Inv-loop : tie.InvT-loop
 Inv-loop f at first₀ second₀ weight₀ i₀ first second weight i = (i ≤ 508) × (weight ≡ 508 - i) × (first ≤ 255 * i) × (second ≤ 129540 * i) × (first ≡ sum words i (from f at)) × (second ≡ sum words i (λ p. (508 - p) * from f at p))
@@ -20,61 +17,51 @@ Inv-loop f at first₀ second₀ weight₀ i₀ first second weight i = (i ≤ 5
 abbrev μ-loop : tie.MeasureT-loop
 μ-loop f at first₀ second₀ weight₀ i₀ first second weight i = 508 - i
 
+-- A byte is at most 255.
 byte : (c : tie.After-wide Inv-loop μ-loop) → c .wide .result ≤ 255
 byte c = c .wide .ensures .1
 
+-- A byte with its weight is at most 508 × 255.
 prod : (c : tie.After-wide Inv-loop μ-loop) → c .before .before .before .loop .weight * c .wide .result ≤ 129540
 prod c = mul-le-mul {n₂ = 508} {m₂ = 255} (omega arith) (byte c)
 
--- src/sums.rt:26:5
 loop-holds : tie.Need-loop-holds Inv-loop μ-loop
 unfolding sum words
 loop-holds c = (omega arith, omega arith, omega arith, omega arith, refl, refl)
 
--- src/sums.rt:27:24
 add-wide : tie.Need-add-wide Inv-loop μ-loop
 add-wide c = omega arith
 
--- src/sums.rt:27:22
 shared-slice-read-wide : tie.Need-shared-slice-read-wide Inv-loop μ-loop
 shared-slice-read-wide c = omega arith
 
--- src/sums.rt:27:13
 wide-requires : tie.Need-wide-requires Inv-loop μ-loop
 wide-requires c κs = search needs
 
--- src/sums.rt:28:9
 add-first : tie.Need-add-first Inv-loop μ-loop
 add-first c = omega (arith, byte c)
 
--- src/sums.rt:29:19
 mul-second : tie.Need-mul-second Inv-loop μ-loop
 mul-second c = omega (arith, prod c)
 
--- src/sums.rt:29:9
 add-second : tie.Need-add-second Inv-loop μ-loop
 add-second c = omega (arith, prod c)
 
--- src/sums.rt:30:9
 sub-weight : tie.Need-sub-weight Inv-loop μ-loop
 sub-weight c = omega arith
 
--- src/sums.rt:31:9
 add-i : tie.Need-add-i Inv-loop μ-loop
 add-i c = omega arith
 
--- src/sums.rt:26:5
 loop-less : tie.Need-loop-less Inv-loop μ-loop
 loop-less c = omega arith
 
--- src/sums.rt:26:5
 loop-again : tie.Need-loop-again Inv-loop μ-loop
 unfolding words
 loop-again c =
     let b = byte c in
     let p = prod c in
-    let l = c .before .before .before .loop in
-    (
+    let l = c .before .before .before .loop in (
       omega arith,
       omega arith,
       omega arith,
@@ -83,15 +70,12 @@ loop-again c =
       rw (sum-next, l .inv .5, c .wide .ensures .0, l .inv .1),
     )
 
--- src/sums.rt:33:13
 cast-a : tie.Need-cast-a Inv-loop μ-loop
 cast-a c = omega arith
 
--- src/sums.rt:34:13
 cast-b : tie.Need-cast-b Inv-loop μ-loop
 cast-b c = omega arith
 
--- src/sums.rt:18:1
 returns : tie.Need-returns Inv-loop μ-loop
 unfolding firstSum secondSum
 returns c =

@@ -1,41 +1,30 @@
 -- `blocks::sums::sums_differ` meets its contract. Assumes nothing.
-use mathlib.Core.Path.{sym, _∙_, ap}
+use mathlib.Core.Path.{_∙_, ap}
 use Rattle.format.specs.Bytes.{word16}
 use Rattle.format.specs.Refusals.{sumsDiffer}
 use Rattle.blocks.proofs.Places.{from-after}
 use borrow.Author.Needs.{needs}
 use Rattle.blocks.proofs.sums.sums_differ.Statement.{statement}
 use Rattle.blocks.proofs.sums.sums_differ.Tie as tie
-use Rattle.blocks.proofs.sums.sums_differ.Reads as reads
-use Rattle.blocks.proofs.sums.sums_differ.Lts as lts
-use Rattle.blocks.proofs.bytes.word16.Reads as word16-reads
-use Rattle.blocks.proofs.sums.sums.Reads as sums-reads
 
--- src/sums.rt:43:14
 mul-at : tie.Need-mul-at
 mul-at c = search needs
 
--- src/sums.rt:44:9
 sums-requires : tie.Need-sums-requires
 sums-requires c κs = search needs
 
--- src/sums.rt:47:25
 add-word16 : tie.Need-add-word16
 add-word16 c = search needs
 
--- src/sums.rt:47:15
 word16-requires : tie.Need-word16-requires
 word16-requires c κs = search needs
 
--- src/sums.rt:47:59
 add-word16-2 : tie.Need-add-word16-2
 add-word16-2 c = search needs
 
--- src/sums.rt:47:49
 word16-requires-2 : tie.Need-word16-requires-2
 word16-requires-2 c κs = search needs
 
--- src/sums.rt:39:1
 returns : tie.Need-returns
 unfolding sumsDiffer
 returns c =
