@@ -1,15 +1,12 @@
 -- What the checks so far say, for those that follow. Assumes nothing.
-use Prim.Native.Nat.{ℕ, _≤_}
-use mathlib.Core.Path.{_≡_, refl, sym, _∙_}
-use mathlib.Core.Bool.{Bool, true, false, _||_}
+use Prim.Native.Nat.{ℕ}
+use mathlib.Core.Path.{_≡_, refl}
+use mathlib.Core.Bool.{false, _||_}
 use mathlib.Core.List.{List, [], _∷_}
-use lib.Dec.{ltb}
-use lib.ListN.{length}
 use Rattle.laws.specs.Below.{any}
 use Rattle.laws.specs.Checks.{firstMet}
 use Rattle.laws.proofs.Below.{any-none}
 use Rattle.format.specs.Job.{FileJob, badSizes, badOffer, badOwner, badTally, badRecords, shared, unnamed}
-use Rattle.format.specs.Blocks.{blockCount}
 use Rattle.format.specs.Refusals.{jobRefusal}
 use Rattle.format.specs.Tables.{FileTables, fileJobOf, shortTables, shortWriter}
 use Rattle.format.proofs.Extra.{or-off}

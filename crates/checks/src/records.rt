@@ -9,8 +9,8 @@ ghost use Rattle.format.specs.Job.{FileJob, badOffer, badOwner, badTally, badRe
 ghost use Rattle.format.specs.Tables.{fileTables, fileJobOf};
 ghost use Rattle.format.proofs.Tables.{Long};
 ghost use Rattle.checks.specs.Rows.{offerOf, tallyOf};
-use blocks::codes::is_code;
 use crate::sizes::size_of;
+use blocks::codes::is_code;
 
 // Whether a count is outside −99,999 to 99,999.
 fn bad_count(z: i32) -> bool

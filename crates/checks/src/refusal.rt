@@ -31,7 +31,18 @@ fn job_refusal(
         return 4;
     }
     if bad_records(
-        boxes, grocers, offers, tallies, price, owner, code, gowner, tgrocer, tbox, tcode, tcount,
+        boxes,
+        grocers,
+        offers,
+        tallies,
+        price,
+        owner,
+        code,
+        gowner,
+        tgrocer,
+        tbox,
+        tcode,
+        tcount,
     ) {
         return 6;
     }
@@ -59,11 +70,33 @@ pub fn write_refusal(
     ensures { λ r. ⌜ r ≡ writeRefusal boxes grocers offers tallies (fileTables (now (price .entry)) (now (owner .entry)) (now (code .entry)) (now (gowner .entry)) (now (tgrocer .entry)) (now (tbox .entry)) (now (tcode .entry)) (now (tcount .entry))) (now (out .entry)) ⌝ }
 {
     if short_writer(
-        grocers, offers, tallies, price, owner, code, gowner, tgrocer, tbox, tcode, tcount, out,
+        grocers,
+        offers,
+        tallies,
+        price,
+        owner,
+        code,
+        gowner,
+        tgrocer,
+        tbox,
+        tcode,
+        tcount,
+        out,
     ) {
         return 20;
     }
     job_refusal(
-        boxes, grocers, offers, tallies, price, owner, code, gowner, tgrocer, tbox, tcode, tcount,
+        boxes,
+        grocers,
+        offers,
+        tallies,
+        price,
+        owner,
+        code,
+        gowner,
+        tgrocer,
+        tbox,
+        tcode,
+        tcount,
     )
 }

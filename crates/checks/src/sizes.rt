@@ -1,6 +1,6 @@
 // 20 and 4: lengths, and K, M, N and T.
 ghost use mathlib.Core.Path.{_≡_};
-ghost use Prim.Native.Nat.{_+_, _*_, _≤_};
+ghost use Prim.Native.Nat.{_*_, _≤_};
 ghost use Rattle.format.specs.Job.{badSizes};
 ghost use Rattle.format.specs.Blocks.{blocksFor, blockCount};
 ghost use Rattle.format.specs.Tables.{FileTables, fileTables, fileJobOf, shortWriter};

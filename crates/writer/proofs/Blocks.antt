@@ -1,21 +1,20 @@
 -- Laws of blocks that are put into a buffer: head, records, zeros and sums. Assumes nothing.
 use Prim.Native.Nat.{ℕ, zero, suc, _+_, _-_, _*_, _/_, _%_, _≤_, _<_}
-use mathlib.Core.Path.{_≡_, refl, sym, ap, ap₂, _∙_}
-use mathlib.Core.Bool.{Bool, true, false, cond}
-use mathlib.Core.List.{List, [], _∷_, _++_}
+use mathlib.Core.Path.{_≡_, refl, sym, ap, _∙_}
+use mathlib.Core.Bool.{cond}
+use mathlib.Core.List.{List, _∷_}
 use native.Mathlib.Omega.{arith}
 use native.Mathlib.Nat.{div-lt-iff-lt-mul}
 use native.Mathlib.Decide.{decLt}
 use lib.Dec.{ltb, leb}
 use lib.ListN.{length, getD, List·getD-eq-default}
 use lib.Arith.{digits-div, digits-mod}
-use borrow.Author.Tests.{lt-ltb, le-ltb, ltb-true, ltb-false, le-leb, lt-leb, leb-true, leb-false}
-use Rattle.laws.specs.Tables.{tabulate}
+use borrow.Author.Tests.{lt-ltb, le-ltb, ltb-true, le-leb, lt-leb, leb-true}
 use Rattle.laws.proofs.Bools.{split}
 use Rattle.format.specs.Bytes.{from, bytes16}
 use Rattle.format.specs.Job.{FileJob}
 use Rattle.format.specs.Blocks.{BlockKind, header, offerBlock, grocerBlock, tallyBlock, kindAt, kindNumber, records, recordSize, fieldSize, recordBytes, spare, firstSum, secondSum}
-use Rattle.format.specs.File.{recordByte, bodyByte, blockByte, encode}
+use Rattle.format.specs.File.{recordByte, bodyByte, blockByte}
 use Rattle.format.proofs.Plan.{fields-length}
 use Rattle.format.proofs.Words.{first-cong, second-cong}
 use Rattle.writer.specs.Puts.{put, bytesOf, rowsOf, bodyOf, keepOf, blocksOf}

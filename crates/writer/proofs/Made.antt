@@ -1,14 +1,14 @@
 -- Each kind of block as it is made: its head and its records are put, and it is closed. Assumes nothing.
 use Prim.Native.Nat.{ℕ, _+_, _-_, _*_, _/_, _%_, _≤_, _<_, min}
-use mathlib.Core.Path.{_≡_, refl, sym, ap, ap₂, _∙_}
+use mathlib.Core.Path.{_≡_, refl, sym, ap, _∙_}
 use mathlib.Core.List.{List, [], _∷_, _++_}
 use native.Mathlib.Omega.{arith}
-use lib.ListN.{length, getD, set, length-set, List·getD-append, List·getD-eq-default}
+use lib.ListN.{length, getD, set, List·getD-append, List·getD-eq-default}
 use lib.Seq.{getD-append-add}
 use Rattle.format.specs.Bytes.{from, bytes16}
 use Rattle.format.specs.File.{blockByte}
 use Rattle.writer.specs.Puts.{put, bytesOf, rowsOf, bodyOf, keepOf, recordBody}
-use Rattle.writer.proofs.Puts.{length-put, put-cong, put-next, store-put, store-next}
+use Rattle.writer.proofs.Puts.{put-next, store-put, store-next}
 use Rattle.writer.proofs.Blocks.{block-made, body-head, body-row, body-rest}
 
 -- Two bytes in a list, behind others.

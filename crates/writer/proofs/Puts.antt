@@ -1,16 +1,14 @@
 -- Laws of bytes that are put into a buffer. Assumes nothing.
 use Prim.Native.Nat.{ℕ, zero, suc, _+_, _-_, _≤_, _<_}
 use mathlib.Core.Path.{_≡_, refl, sym, ap, _∙_}
-use mathlib.Core.Bool.{Bool, cond}
 use mathlib.Core.List.{List, [], _∷_, _++_, append-nil}
 use native.Mathlib.Omega.{arith}
 use native.Mathlib.Nat.{add-zero}
 use native.Mathlib.Decide.{decLt}
-use lib.ListN.{length, getD, take, drop, set, length-append, length-drop, List·getD-append, length-set, take-append-drop}
-use lib.Seq.{ext-getD, getD-append-add, getD-drop, getD-take, getD-set-same, getD-set-other, length-take-le, sets, sets-eq}
-use Rattle.laws.specs.Tables.{tabulate, overwrite}
+use lib.ListN.{length, getD, take, drop, set, length-append, length-drop, List·getD-append, take-append-drop}
+use lib.Seq.{ext-getD, getD-append-add, getD-drop, getD-take, length-take-le, sets, sets-eq}
+use Rattle.laws.specs.Tables.{tabulate}
 use Rattle.laws.proofs.Tables.{length-tabulate, getD-tabulate, is-tabulate, tabulate-cong}
-use Rattle.laws.proofs.Loops.{window, window-in, window-below, window-above, window-none}
 use Rattle.format.specs.Bytes.{from}
 use Rattle.writer.specs.Puts.{put}
 

@@ -1,15 +1,15 @@
 -- The fields of an offer and of a tally, put one after the other. Assumes nothing.
-use Prim.Native.Nat.{ℕ, _+_, _*_, _/_, _%_, _≤_, _<_}
+use Prim.Native.Nat.{ℕ, _+_, _/_, _%_, _≤_, _<_}
 use mathlib.Core.Path.{_≡_, refl, sym, ap, _∙_}
 use mathlib.Core.List.{List, [], _∷_, _++_}
 use native.Mathlib.Omega.{arith}
 use lib.IntN.{ℤ}
-use lib.ListN.{length, getD, set, length-set, List·getD-append, List·getD-eq-default}
+use lib.ListN.{length, set, length-set, List·getD-append, List·getD-eq-default}
 use lib.Seq.{getD-append-add}
 use mir.Syntax.{w32}
 use mir.Val.{ofZ}
 use Rattle.laws.specs.Tables.{tabulate}
-use Rattle.format.specs.Bytes.{from, bytes16, bytes32}
+use Rattle.format.specs.Bytes.{bytes16, bytes32}
 use Rattle.format.specs.Codes.{codeBytes, readCode}
 use Rattle.format.specs.Job.{Offer, Tally}
 use Rattle.format.specs.Blocks.{offerBytes, tallyBytes}

@@ -1,5 +1,5 @@
 -- What the writer's checks leave where none refuses, for the functions that put the file.
-use Prim.Native.Nat.{ℕ, _*_, _≤_, _<_}
+use Prim.Native.Nat.{ℕ, _*_, _≤_}
 use mathlib.Core.List.{List}
 use lib.ListN.{length}
 use Rattle.format.specs.Blocks.{blockCount}

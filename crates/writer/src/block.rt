@@ -1,21 +1,21 @@
 // Blocks put into the buffer for the file: head, records, zeros and both sums.
 ghost use mathlib.Core.Path.{_≡_};
-ghost use mathlib.Core.List.{List, [], _∷_, _++_};
-ghost use Prim.Native.Nat.{ℕ, _+_, _-_, _*_, _≤_, _<_, min};
+ghost use mathlib.Core.List.{[], _∷_, _++_};
+ghost use Prim.Native.Nat.{_+_, _-_, _*_, _≤_, _<_, min};
 ghost use lib.ListN.{length, getD};
 ghost use Rattle.format.specs.Bytes.{from, bytes16};
 ghost use Rattle.format.specs.Blocks.{offerBytes, tallyBytes};
 ghost use Rattle.format.specs.File.{blockByte};
 ghost use Rattle.checks.specs.Rows.{offerOf, tallyOf};
 ghost use Rattle.writer.specs.Puts.{put, bytesOf, bodyOf, keepOf, recordBody, Small};
-use blocks::sums::sums;
-use checks::sizes::size_of;
 use crate::bytes::byte;
-use crate::bytes::put16;
 use crate::bytes::put_zeros;
+use crate::bytes::put16;
 use crate::records::put_offers;
 use crate::records::put_owners;
 use crate::records::put_tallies;
+use blocks::sums::sums;
+use checks::sizes::size_of;
 
 // The first four bytes of a block.
 fn put_head(out: &mut [u8], at: usize, kind: u8, records: usize, number: usize)

@@ -23,14 +23,14 @@ pub fn put16(out: &mut [u8], at: usize, v: usize)
 }
 
 // A 32-bit word in four bytes.
-pub fn put32(out: &mut [u8], at: usize, v: u32)
+pub fn put32(out: &mut [u8], at: usize, bits: u32)
     requires { ⌜ at + 4 ≤ length (now out) ⌝ }
-    ensures { λ _. ⌜ now (out .exit) ≡ put at 4 (bytesOf (bytes32 v)) (now (out .entry)) ⌝ }
+    ensures { λ _. ⌜ now (out .exit) ≡ put at 4 (bytesOf (bytes32 bits)) (now (out .entry)) ⌝ }
 {
-    out[at] = (v % 256) as u8;
-    out[at + 1] = (v / 256 % 256) as u8;
-    out[at + 2] = (v / 65536 % 256) as u8;
-    out[at + 3] = (v / 16777216) as u8;
+    out[at] = (bits % 256) as u8;
+    out[at + 1] = (bits / 256 % 256) as u8;
+    out[at + 2] = (bits / 65536 % 256) as u8;
+    out[at + 3] = (bits / 16777216) as u8;
 }
 
 // Zeros in n bytes.

@@ -1,7 +1,7 @@
 // The whole file put into the buffer.
 ghost use mathlib.Core.Path.{_≡_};
 ghost use mathlib.Core.List.{_++_};
-ghost use Prim.Native.Nat.{ℕ, _+_, _*_, _≤_, _<_};
+ghost use Prim.Native.Nat.{_+_, _*_, _≤_};
 ghost use lib.ListN.{length, drop};
 ghost use Rattle.format.specs.Blocks.{blocksFor, offerBytes, tallyBytes};
 ghost use Rattle.format.specs.File.{encode};
@@ -9,11 +9,11 @@ ghost use Rattle.format.specs.Tables.{fileTables, fileJobOf};
 ghost use Rattle.checks.specs.Rows.{offerOf, tallyOf};
 ghost use Rattle.writer.specs.Puts.{put, recordBody, blocksOf, Small};
 ghost use Rattle.writer.specs.Ready.{Ready};
-use checks::sizes::blocks_for;
 use crate::block::put_grocer_block;
 use crate::block::put_header;
 use crate::block::put_offer_block;
 use crate::block::put_tally_block;
+use checks::sizes::blocks_for;
 
 // All offer blocks, of n offers.
 fn put_offer_blocks(out: &mut [u8], n: usize, price: &[u32], owner: &[u16], code: &[u8])

@@ -2,10 +2,12 @@
 ghost use mathlib.Core.Path.{_≡_};
 ghost use Rattle.format.specs.Tables.{fileTables, writeResult};
 ghost use Rattle.writer.specs.Outcome.{outcomeOf};
+
 mod block;
 mod bytes;
 mod file;
 mod records;
+
 use checks::refusal::write_refusal;
 use checks::sizes::file_length;
 use file::put_file;
@@ -35,14 +37,36 @@ pub fn write(
     ensures { λ r. ⌜ outcomeOf r (now (out .exit)) ≡ writeResult boxes grocers offers tallies (fileTables (now (price .entry)) (now (owner .entry)) (now (code .entry)) (now (gowner .entry)) (now (tgrocer .entry)) (now (tbox .entry)) (now (tcode .entry)) (now (tcount .entry))) (now (out .entry)) ⌝ }
 {
     let refusal = write_refusal(
-        boxes, grocers, offers, tallies, price, owner, code, gowner, tgrocer, tbox, tcode, tcount,
+        boxes,
+        grocers,
+        offers,
+        tallies,
+        price,
+        owner,
+        code,
+        gowner,
+        tgrocer,
+        tbox,
+        tcode,
+        tcount,
         out,
     );
     if refusal != 0 {
         return Answer::Refused(refusal);
     }
     put_file(
-        boxes, grocers, offers, tallies, price, owner, code, gowner, tgrocer, tbox, tcode, tcount,
+        boxes,
+        grocers,
+        offers,
+        tallies,
+        price,
+        owner,
+        code,
+        gowner,
+        tgrocer,
+        tbox,
+        tcode,
+        tcount,
         out,
     );
     Answer::Wrote(file_length(offers as usize, tallies as usize))

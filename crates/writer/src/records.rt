@@ -1,26 +1,19 @@
 // Records put into the buffer for the file.
 ghost use mathlib.Core.Path.{_≡_};
-ghost use Prim.Native.Nat.{ℕ, _+_, _*_, _≤_, _<_};
+ghost use Prim.Native.Nat.{_+_, _*_, _≤_, _<_};
 ghost use lib.ListN.{length, getD};
 ghost use Rattle.format.specs.Blocks.{offerBytes, tallyBytes};
 ghost use Rattle.checks.specs.Rows.{offerOf, tallyOf};
 ghost use Rattle.writer.specs.Puts.{put, bytesOf, rowsOf, Small};
-use blocks::bytes::bits;
-use checks::sizes::size_of;
+use crate::bytes::put_zeros;
 use crate::bytes::put16;
 use crate::bytes::put32;
-use crate::bytes::put_zeros;
+use blocks::bytes::bits;
+use checks::sizes::size_of;
 use fills::code::copy_code;
 
 // Offer i in 24 bytes.
-pub fn put_offer(
-    out: &mut [u8],
-    at: usize,
-    price: &[u32],
-    owner: &[u16],
-    code: &[u8],
-    i: usize,
-)
+pub fn put_offer(out: &mut [u8], at: usize, price: &[u32], owner: &[u16], code: &[u8], i: usize)
     requires { ⌜ at + 24 ≤ length (now out) ⌝ }
     requires { ⌜ (i < length (now price)) × ((i < length (now owner)) × (i * 11 + 11 ≤ length (now code))) ⌝ }
     requires { ⌜ getD (now owner) i 0 < 256 ⌝ }

@@ -2,16 +2,15 @@
 use Prim.Native.Nat.{ℕ}
 use mathlib.Core.Path.{_≡_, sym, ap, _∙_}
 use mathlib.Core.List.{List}
-use mathlib.Core.Bool.{false}
 use lib.Dec.{eqb}
 use denote.Ref.{now}
+use borrow.Author.Needs.{needs}
 use Rattle.laws.specs.Below.{any}
 use Rattle.index.specs.Index.{sharesNumber, placeOf}
 use Rattle.format.specs.Codes.{number}
 use Rattle.format.specs.Job.{FileJob, shared, unnamed}
 use Rattle.checks.specs.Rows.{codeOf, HasCodes}
 use Rattle.checks.proofs.Naming.{shared-is, unnamed-is, seven, eight, neither}
-use borrow.Author.Needs.{needs}
 use Rattle.checks.proofs.codes.codes_refusal.Statement.{statement}
 use Rattle.checks.proofs.codes.codes_refusal.Tie as tie
 
@@ -75,12 +74,12 @@ some-none-requires : tie.Need-some-none-requires
 some-none-requires c κs = search needs
 
 returns-2 : tie.Need-returns-2
-returns-2 c = 
+returns-2 c =
     let e = c .before .before .before .before in
     λ j h. sym (eight _ _ (shared-at (e .before) j h ∙ e .if1 .left) (unnamed-at (c .before) j h ∙ c .if2 .taken))
 
 returns-3 : tie.Need-returns-3
-returns-3 c = 
+returns-3 c =
     let e = c .before .before .before .before in
     λ j h. sym (neither _ _ (shared-at (e .before) j h ∙ e .if1 .left) (unnamed-at (c .before) j h ∙ c .if2 .left))
 

@@ -2,8 +2,8 @@
 use Prim.Native.Nat.{ℕ}
 use mathlib.Core.Path.{ap, _∙_}
 use lib.Dec.{eqb}
-use Rattle.index.specs.Index.{placeOf}
 use borrow.Author.Needs.{needs}
+use Rattle.index.specs.Index.{placeOf}
 use Rattle.checks.proofs.codes.names_none.Statement.{statement}
 use Rattle.checks.proofs.codes.names_none.Tie as tie
 
@@ -17,7 +17,7 @@ place-requires : tie.Need-place-requires
 place-requires c κs = search needs
 
 returns : tie.Need-returns
-returns c = 
+returns c =
     let s = c .before .before .before .before .before in
     λ numbers x d. ap (λ (p : ℕ). eqb p (s .args .n)) (c .place .ensures numbers x d ∙ ap (placeOf numbers (s .args .n)) (c .before .number-at .ensures))
 

@@ -1,13 +1,13 @@
 -- `checks::codes::number_all` meets its contract. The invariant: the first i numbers are written. Assumes nothing.
 use Prim.Native.Nat.{_≤_, _-_}
-use mathlib.Core.Path.{_≡_, refl, ap, _∙_}
+use mathlib.Core.Path.{_≡_, refl}
 use native.Mathlib.Omega.{arith}
 use lib.ListN.{length, length-set}
+use borrow.Author.Needs.{needs}
 use Rattle.laws.specs.Tables.{overwrite}
 use Rattle.format.specs.Codes.{number}
 use Rattle.fills.proofs.Filling.{fill-none, fill-more, fill-end}
 use Rattle.checks.specs.Rows.{codeOf}
-use borrow.Author.Needs.{needs}
 use Rattle.checks.proofs.codes.number_all.Statement.{statement}
 use Rattle.checks.proofs.codes.number_all.Tie as tie
 
@@ -24,7 +24,7 @@ mul-number-at : tie.Need-mul-number-at Inv-loop μ-loop
 mul-number-at c = search needs
 
 number-at-requires : tie.Need-number-at-requires Inv-loop μ-loop
-number-at-requires c κs = 
+number-at-requires c κs =
     let l = c .before in
     let s = l .before .before .before in
     (omega arith, s .pre .1 .code (l .loop .i) (c .loop-test .taken))
@@ -42,7 +42,7 @@ loop-less : tie.Need-loop-less Inv-loop μ-loop
 loop-less c = search needs
 
 loop-again : tie.Need-loop-again Inv-loop μ-loop
-loop-again c = 
+loop-again c =
     let l = c .before .before in
     (omega arith, simp length-set (l .loop .inv .1), fill-more _ (l .loop .i) _ _ (c .number-at .result) (l .loop .inv .2) (omega arith) (c .number-at .ensures))
 
@@ -50,7 +50,7 @@ same-length : tie.Need-same-length Inv-loop μ-loop
 same-length c = c .before .loop .inv .1
 
 returns : tie.Need-returns Inv-loop μ-loop
-returns c = 
+returns c =
     let l = c .before in
     fill-end _ (l .loop .i) _ _ _ (l .loop .inv .2) (l .loop .inv .0) (c .loop-test .left)
 

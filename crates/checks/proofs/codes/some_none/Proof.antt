@@ -7,17 +7,17 @@ use native.Mathlib.Omega.{arith}
 use native.Mathlib.Nat.{le-antisymm}
 use lib.Dec.{eqb}
 use denote.Ref.{now}
+use borrow.Author.Needs.{needs}
 use Rattle.laws.specs.Below.{any}
 use Rattle.index.specs.Index.{IsIndex, sharesNumber, placeOf}
 use Rattle.format.specs.Codes.{number}
 use Rattle.checks.specs.Rows.{codeOf}
 use Rattle.checks.proofs.Extra.{any-more}
-use borrow.Author.Needs.{needs}
 use Rattle.checks.proofs.codes.some_none.Statement.{statement}
 use Rattle.checks.proofs.codes.some_none.Tie as tie
 
 abbrev Inv-loop : tie.InvT-loop
-Inv-loop keys places n tcode t bad₀ i₀ bad i = 
+Inv-loop keys places n tcode t bad₀ i₀ bad i =
     (i ≤ t) × ((numbers : List ℕ) → IsIndex keys places numbers n → sharesNumber numbers n ≡ false → bad ≡ any i (λ i. eqb (placeOf numbers n (number (codeOf tcode i))) n))
 
 abbrev μ-loop : tie.MeasureT-loop
@@ -28,7 +28,7 @@ unfolding any
 loop-holds c = (omega arith, λ numbers x d. refl)
 
 names-none-requires : tie.Need-names-none-requires Inv-loop μ-loop
-names-none-requires c κs = 
+names-none-requires c κs =
     let l = c .before in
     let s = l .before .before .before .before in
     (s .pre .0, (omega arith, s .pre .1 .1 .code (l .loop .i) (c .loop-test .taken)))
@@ -40,12 +40,12 @@ loop-less : tie.Need-loop-less Inv-loop μ-loop
 loop-less c = search needs
 
 loop-again : tie.Need-loop-again Inv-loop μ-loop
-loop-again c = 
+loop-again c =
     let l = c .before .before in
     (omega arith, λ numbers x d. any-more (l .loop .i) _ _ _ (l .loop .inv .1 numbers x d) (c .names-none .ensures numbers x d))
 
 returns : tie.Need-returns Inv-loop μ-loop
-returns c = 
+returns c =
     let l = c .before in
     let s = l .before .before .before .before in
     λ numbers x d. subst (λ (i : ℕ). l .loop .bad ≡ any i (λ i. eqb (placeOf numbers (s .args .n) (number (codeOf (now (s .args .tcode)) i))) (s .args .n))) (le-antisymm (l .loop .inv .0) (c .loop-test .left)) (l .loop .inv .1 numbers x d)

@@ -1,6 +1,6 @@
 -- `checks::records::bad_offer` meets its contract. Assumes nothing.
-use Rattle.checks.proofs.Tests.{offer-tests}
 use borrow.Author.Needs.{needs}
+use Rattle.checks.proofs.Tests.{offer-tests}
 use Rattle.checks.proofs.records.bad_offer.Statement.{statement}
 use Rattle.checks.proofs.records.bad_offer.Tie as tie
 use Rattle.checks.proofs.records.bad_offer.Reads as reads

@@ -1,15 +1,14 @@
 -- `checks::records::bad_offers` meets its contract. The invariant: the tests of the first i places are joined. Assumes nothing.
 use Prim.Native.Nat.{ℕ, _≤_, _-_}
 use mathlib.Core.Path.{_≡_, refl, subst}
-use mathlib.Core.Bool.{Bool}
 use native.Mathlib.Omega.{arith}
 use native.Mathlib.Nat.{le-antisymm}
 use denote.Ref.{now}
+use borrow.Author.Needs.{needs}
 use Rattle.laws.specs.Below.{any}
 use Rattle.format.specs.Job.{FileJob, badOffer}
 use Rattle.checks.specs.Rows.{offerOf}
 use Rattle.checks.proofs.Extra.{any-more}
-use borrow.Author.Needs.{needs}
 use Rattle.checks.proofs.records.bad_offers.Statement.{statement}
 use Rattle.checks.proofs.records.bad_offers.Tie as tie
 use Rattle.checks.proofs.records.bad_offers.Reads as reads
@@ -41,13 +40,13 @@ loop-less c = search needs
 
 -- src/records.rt:55:5
 loop-again : tie.Need-loop-again Inv-loop μ-loop
-loop-again c = 
+loop-again c =
     let l = c .before .before in
     (omega arith, λ j e. any-more (l .loop .i) _ _ _ (l .loop .inv .1 j e) (c .bad-offer .ensures j e))
 
 -- src/records.rt:49:1
 returns : tie.Need-returns Inv-loop μ-loop
-returns c = 
+returns c =
     let l = c .before in
     let s = l .before .before .before .before in
     λ j e. subst (λ (i : ℕ). l .loop .bad ≡ any i (λ i. badOffer j (offerOf (now (s .args .price)) (now (s .args .owner)) (now (s .args .code)) i))) (le-antisymm (l .loop .inv .0) (c .loop-test .left)) (l .loop .inv .1 j e)

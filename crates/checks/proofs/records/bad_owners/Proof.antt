@@ -1,16 +1,15 @@
 -- `checks::records::bad_owners` meets its contract. The invariant: the tests of the first i places are joined. Assumes nothing.
 use Prim.Native.Nat.{ℕ, _≤_, _-_}
 use mathlib.Core.Path.{_≡_, refl, subst}
-use mathlib.Core.Bool.{Bool}
 use native.Mathlib.Omega.{arith}
 use native.Mathlib.Nat.{le-antisymm}
+use lib.ListN.{getD}
 use denote.Ref.{now}
+use borrow.Author.Needs.{needs}
 use Rattle.laws.specs.Below.{any}
 use Rattle.format.specs.Job.{FileJob, badOwner}
-use lib.ListN.{getD}
 use Rattle.checks.proofs.Tests.{owner-test}
 use Rattle.checks.proofs.Extra.{any-more}
-use borrow.Author.Needs.{needs}
 use Rattle.checks.proofs.records.bad_owners.Statement.{statement}
 use Rattle.checks.proofs.records.bad_owners.Tie as tie
 use Rattle.checks.proofs.records.bad_owners.Reads as reads
@@ -45,13 +44,13 @@ loop-less c = search needs
 
 -- src/records.rt:69:5
 loop-again : tie.Need-loop-again Inv-loop μ-loop
-loop-again c = 
+loop-again c =
     let l = c .before .before in
     (omega arith, λ j e. any-more (l .loop .i) _ _ _ (l .loop .inv .1 j e) (owner-test j _ _ e))
 
 -- src/records.rt:63:1
 returns : tie.Need-returns Inv-loop μ-loop
-returns c = 
+returns c =
     let l = c .before in
     let s = l .before in
     λ j e. subst (λ (i : ℕ). l .loop .bad ≡ any i (λ i. badOwner j (getD (now (s .args .gowner)) i 0))) (le-antisymm (l .loop .inv .0) (c .loop-test .left)) (l .loop .inv .1 j e)

@@ -1,9 +1,9 @@
 -- `checks::records::bad_records` meets its contract. Assumes nothing.
 use mathlib.Core.Path.{refl}
 use denote.Ref.{now}
+use borrow.Author.Needs.{needs}
 use Rattle.format.specs.Tables.{fileTables, fileJobOf}
 use Rattle.checks.proofs.Tests.{record-tests}
-use borrow.Author.Needs.{needs}
 use Rattle.checks.proofs.records.bad_records.Statement.{statement}
 use Rattle.checks.proofs.records.bad_records.Tie as tie
 use Rattle.checks.proofs.records.bad_records.Reads as reads

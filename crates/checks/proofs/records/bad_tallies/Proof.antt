@@ -1,15 +1,14 @@
 -- `checks::records::bad_tallies` meets its contract. The invariant: the tests of the first i places are joined. Assumes nothing.
 use Prim.Native.Nat.{ℕ, _≤_, _-_}
 use mathlib.Core.Path.{_≡_, refl, subst}
-use mathlib.Core.Bool.{Bool}
 use native.Mathlib.Omega.{arith}
 use native.Mathlib.Nat.{le-antisymm}
 use denote.Ref.{now}
+use borrow.Author.Needs.{needs}
 use Rattle.laws.specs.Below.{any}
 use Rattle.format.specs.Job.{FileJob, badTally}
 use Rattle.checks.specs.Rows.{tallyOf}
 use Rattle.checks.proofs.Extra.{any-more}
-use borrow.Author.Needs.{needs}
 use Rattle.checks.proofs.records.bad_tallies.Statement.{statement}
 use Rattle.checks.proofs.records.bad_tallies.Tie as tie
 use Rattle.checks.proofs.records.bad_tallies.Reads as reads
@@ -41,13 +40,13 @@ loop-less c = search needs
 
 -- src/records.rt:91:5
 loop-again : tie.Need-loop-again Inv-loop μ-loop
-loop-again c = 
+loop-again c =
     let l = c .before .before in
     (omega arith, λ j e f. any-more (l .loop .i) _ _ _ (l .loop .inv .1 j e f) (c .bad-tally .ensures j e f))
 
 -- src/records.rt:77:1
 returns : tie.Need-returns Inv-loop μ-loop
-returns c = 
+returns c =
     let l = c .before in
     let s = l .before .before .before .before in
     λ j e f. subst (λ (i : ℕ). l .loop .bad ≡ any i (λ i. badTally j (tallyOf (now (s .args .tgrocer)) (now (s .args .tbox)) (now (s .args .tcode)) (now (s .args .tcount)) i))) (le-antisymm (l .loop .inv .0) (c .loop-test .left)) (l .loop .inv .1 j e f)

@@ -7,8 +7,8 @@ use mir.Syntax.{w32}
 use mir.Val.{SFits}
 use mir.Facts.{toZ-ofZ}
 use denote.Ref.{now}
-use Rattle.checks.proofs.Tests.{tally-tests}
 use borrow.Author.Needs.{needs}
+use Rattle.checks.proofs.Tests.{tally-tests}
 use Rattle.checks.proofs.records.bad_tally.Statement.{statement}
 use Rattle.checks.proofs.records.bad_tally.Tie as tie
 use Rattle.checks.proofs.records.bad_tally.Reads as reads

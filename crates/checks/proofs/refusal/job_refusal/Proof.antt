@@ -3,12 +3,12 @@ use mathlib.Core.Path.{_≡_, sym, _∙_}
 use mathlib.Core.Bool.{false}
 use native.Mathlib.Omega.{arith}
 use denote.Ref.{now}
+use borrow.Author.Needs.{needs}
 use Rattle.format.specs.Job.{FileJob, badSizes, badRecords}
 use Rattle.format.specs.Tables.{FileTables, fileTables, fileJobOf}
 use Rattle.format.proofs.Range.{sizes-in}
 use Rattle.format.proofs.Order.{job-4, job-6}
 use Rattle.checks.proofs.Joining.{job-rest, has-codes, offer-codes, tally-codes}
-use borrow.Author.Needs.{needs}
 use Rattle.checks.proofs.refusal.job_refusal.Statement.{statement}
 use Rattle.checks.proofs.refusal.job_refusal.Tie as tie
 
@@ -53,7 +53,7 @@ size-of-requires-2 c κs = search needs
 
 codes-refusal-requires : tie.Need-codes-refusal-requires
 unfolding fileJobOf
-codes-refusal-requires c κs = 
+codes-refusal-requires c κs =
     let e = c .before .before in
     let s = first (e .before .before .before) in
     let a = s .args in
@@ -65,7 +65,7 @@ codes-refusal-requires c κs =
     )
 
 returns-3 : tie.Need-returns-3
-returns-3 c = 
+returns-3 c =
     let e = c .before .before .before in
     let s = first (e .before .before .before) in
     let a = s .args in

@@ -1,11 +1,8 @@
 -- `checks::refusal::write_refusal` meets its contract. Assumes nothing.
-use mathlib.Core.Path.{_≡_, sym, _∙_}
-use mathlib.Core.Bool.{false}
-use denote.Ref.{now}
-use Rattle.format.specs.Tables.{FileTables, fileTables, shortWriter}
+use mathlib.Core.Path.{sym, _∙_}
+use borrow.Author.Needs.{needs}
 use Rattle.format.proofs.Order.{writer-20, writer-job}
 use Rattle.checks.proofs.Joining.{long-enough}
-use borrow.Author.Needs.{needs}
 use Rattle.checks.proofs.refusal.write_refusal.Statement.{statement}
 use Rattle.checks.proofs.refusal.write_refusal.Tie as tie
 

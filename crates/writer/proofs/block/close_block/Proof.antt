@@ -3,11 +3,11 @@ use Prim.Native.Nat.{_+_}
 use mathlib.Core.Path.{_∙_, ap}
 use native.Mathlib.Omega.{arith}
 use denote.Ref.{now}
+use borrow.Author.Needs.{needs}
 use Rattle.format.specs.Bytes.{bytes16}
 use Rattle.format.specs.Blocks.{firstSum, secondSum}
 use Rattle.writer.specs.Puts.{put, bytesOf}
 use Rattle.writer.proofs.Blocks.{closed}
-use borrow.Author.Needs.{needs}
 use Rattle.writer.proofs.block.close_block.Statement.{statement}
 use Rattle.writer.proofs.block.close_block.Tie as tie
 
@@ -41,7 +41,7 @@ same-length : tie.Need-same-length
 same-length c = search needs
 
 returns : tie.Need-returns
-returns c = 
+returns c =
     let p = c .before .before .before .before .before .before in
     let m = p .before .before in
     let z = m .before .before .before .before in

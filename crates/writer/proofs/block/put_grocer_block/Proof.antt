@@ -1,8 +1,8 @@
 -- `writer::block::put_grocer_block` meets its contract. Assumes nothing.
 use native.Mathlib.Omega.{arith}
 use denote.Ref.{now}
-use Rattle.writer.proofs.Made.{grocers-made}
 use borrow.Author.Needs.{needs}
+use Rattle.writer.proofs.Made.{grocers-made}
 use Rattle.writer.proofs.block.put_grocer_block.Statement.{statement}
 use Rattle.writer.proofs.block.put_grocer_block.Tie as tie
 
@@ -28,7 +28,7 @@ same-length : tie.Need-same-length
 same-length c = search needs
 
 returns : tie.Need-returns
-returns c = 
+returns c =
     let s = c .before .before .before .before .before .before .before .before .before .before .before .before .before .before in
     let a = s .args in
     grocers-made (a .k) (a .m) (now (a .gowner)) (now (a .out)) _ _ _ (s .pre .0 .0) (omega (arith, s .pre .0)) (c .before .before .before .before .before .before .before .before .before .before .put-head .ensures) (c .before .before .before .before .before .before .put-owners .ensures) (c .before .before .close-block .ensures)

@@ -1,13 +1,13 @@
 -- `writer::block::put_head` meets its contract. Assumes nothing.
+use Prim.Native.Nat.{ℕ, _+_}
 use mathlib.Core.Path.{_∙_, ap}
 use native.Mathlib.Omega.{arith}
 use lib.ListN.{length-set, set}
-use Prim.Native.Nat.{ℕ, _+_}
 use denote.Ref.{now}
+use borrow.Author.Needs.{needs}
 use Rattle.format.specs.Bytes.{bytes16}
 use Rattle.writer.specs.Puts.{put, bytesOf}
 use Rattle.writer.proofs.Made.{head-put}
-use borrow.Author.Needs.{needs}
 use Rattle.writer.proofs.block.put_head.Statement.{statement}
 use Rattle.writer.proofs.block.put_head.Tie as tie
 
@@ -33,7 +33,7 @@ same-length : tie.Need-same-length
 same-length c = c .before .before .put16 .kept .0 ∙ simp length-set
 
 returns : tie.Need-returns
-returns c = 
+returns c =
     let s = c .before .before .before .before .before .before in
     let a = s .args in
     head-put (a .at) (a .kind) (a .records) (a .number) (now (a .out)) _ (s .pre .0)

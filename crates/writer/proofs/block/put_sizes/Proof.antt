@@ -4,10 +4,10 @@ use mathlib.Core.Path.{_∙_, ap}
 use native.Mathlib.Omega.{arith}
 use lib.ListN.{length-set, set}
 use denote.Ref.{now}
+use borrow.Author.Needs.{needs}
 use Rattle.format.specs.Bytes.{bytes16}
 use Rattle.writer.specs.Puts.{put, bytesOf}
 use Rattle.writer.proofs.Made.{sizes-put}
-use borrow.Author.Needs.{needs}
 use Rattle.writer.proofs.block.put_sizes.Statement.{statement}
 use Rattle.writer.proofs.block.put_sizes.Tie as tie
 
@@ -42,7 +42,7 @@ same-length : tie.Need-same-length
 same-length c = c .before .before .put163 .kept .0 ∙ c .before .before .before .before .before .before .before .put162 .kept .0 ∙ c .before .before .before .before .before .before .before .before .before .before .before .before .put16 .kept .0 ∙ simp length-set
 
 returns : tie.Need-returns
-returns c = 
+returns c =
     let q = c .before .before .before .before .before .before .before in
     let p = q .before .before .before .before .before in
     let s = p .before .before .before .before in

@@ -1,10 +1,10 @@
 -- `writer::block::put_tally_block` meets its contract. Assumes nothing.
 use native.Mathlib.Omega.{arith}
 use denote.Ref.{now}
+use borrow.Author.Needs.{needs}
 use Rattle.format.specs.Blocks.{tallyBytes}
 use Rattle.checks.specs.Rows.{tallyOf}
 use Rattle.writer.proofs.Made.{records-made}
-use borrow.Author.Needs.{needs}
 use Rattle.writer.proofs.block.put_tally_block.Statement.{statement}
 use Rattle.writer.proofs.block.put_tally_block.Tie as tie
 
@@ -27,7 +27,7 @@ add-put-tallies : tie.Need-add-put-tallies
 add-put-tallies c = search needs
 
 put-tallies-requires : tie.Need-put-tallies-requires
-put-tallies-requires c κs = 
+put-tallies-requires c κs =
     let s = c .before .before .before .before .before .before .before .before .before .before in
     let e = c .before .before .before .before .before .part-of .ensures in
     ((omega (arith, e), omega (arith, e, c .before .before .before .put-head .kept .0, s .pre .0)), ((omega (arith, e, s .pre .1 .0), (omega (arith, e, s .pre .1 .0), (omega (arith, e, s .pre .1 .0), omega (arith, e, s .pre .1 .0)))), record { small = λ i h. s .pre .1 .1 .small i (omega (arith, h, e)) }))
@@ -45,7 +45,7 @@ same-length : tie.Need-same-length
 same-length c = search needs
 
 returns : tie.Need-returns
-returns c = 
+returns c =
     let s = c .before .before .before .before .before .before .before .before .before .before .before .before .before .before .before .before .before in
     let a = s .args in
     records-made 3 (a .k) (a .t) (a .b) _ (λ i. tallyBytes (tallyOf (now (a .tgrocer)) (now (a .tbox)) (now (a .tcode)) (now (a .tcount)) i)) (now (a .out)) _ _ _ (c .before .before .before .before .before .before .before .before .before .before .before .before .part-of .ensures) (omega (arith, s .pre .0)) (c .before .before .before .before .before .before .before .before .before .before .put-head .ensures) (c .before .before .before .before .before .before .put-tallies .ensures) (c .before .before .close-block .ensures)

@@ -5,8 +5,8 @@ use native.Mathlib.Omega.{arith}
 use native.Mathlib.Numerals.{add-one}
 use lib.ListN.{length-set}
 use denote.Ref.{now}
-use Rattle.writer.proofs.Puts.{stores-put}
 use borrow.Author.Needs.{needs}
+use Rattle.writer.proofs.Puts.{stores-put}
 use Rattle.writer.proofs.bytes.put16.Statement.{statement}
 use Rattle.writer.proofs.bytes.put16.Tie as tie
 

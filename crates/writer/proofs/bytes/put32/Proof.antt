@@ -5,8 +5,8 @@ use native.Mathlib.Omega.{arith}
 use native.Mathlib.Numerals.{add-one, add-two, add-three}
 use lib.ListN.{length-set}
 use denote.Ref.{now}
-use Rattle.writer.proofs.Puts.{stores-put}
 use borrow.Author.Needs.{needs}
+use Rattle.writer.proofs.Puts.{stores-put}
 use Rattle.writer.proofs.bytes.put32.Statement.{statement}
 use Rattle.writer.proofs.bytes.put32.Tie as tie
 
@@ -47,7 +47,7 @@ same-length : tie.Need-same-length
 same-length c = search needs
 
 returns : tie.Need-returns
-returns c = let a = c .args in let v = a .v in rw (add-one, add-two, add-three) (stores-put (v % 256 ∷ v / 256 % 256 ∷ v / 65536 % 256 ∷ v / 16777216 ∷ []) (a .at) (now (a .out)) (omega arith))
+returns c = let a = c .args in let v = a .bits in rw (add-one, add-two, add-three) (stores-put (v % 256 ∷ v / 256 % 256 ∷ v / 65536 % 256 ∷ v / 16777216 ∷ []) (a .at) (now (a .out)) (omega arith))
 
 pub put32-spec : {M : Type 1} → statement M
 put32-spec =

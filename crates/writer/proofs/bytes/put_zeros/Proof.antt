@@ -3,12 +3,11 @@ use Prim.Native.Nat.{ℕ, _≤_, _-_}
 use mathlib.Core.Path.{_≡_, refl, ap, _∙_}
 use native.Mathlib.Omega.{arith}
 use native.Mathlib.Nat.{le-antisymm}
-use lib.ListN.{length, length-set, set}
-use mathlib.Core.List.{List}
+use lib.ListN.{length, length-set}
 use denote.Ref.{now}
+use borrow.Author.Needs.{needs}
 use Rattle.writer.specs.Puts.{put}
 use Rattle.writer.proofs.Puts.{put-none, store-next}
-use borrow.Author.Needs.{needs}
 use Rattle.writer.proofs.bytes.put_zeros.Statement.{statement}
 use Rattle.writer.proofs.bytes.put_zeros.Tie as tie
 
@@ -34,7 +33,7 @@ loop-less : tie.Need-loop-less Inv-loop μ-loop
 loop-less c = search needs
 
 loop-again : tie.Need-loop-again Inv-loop μ-loop
-loop-again c = 
+loop-again c =
     let l = c .before in
     let s = l .before in
     (omega arith, simp length-set (l .loop .inv .1), rw (l .loop .inv .2) (store-next (s .args .at) (l .loop .i) (λ _. 0) (now (s .args .out)) 0 (omega arith) refl))
@@ -43,7 +42,7 @@ same-length : tie.Need-same-length Inv-loop μ-loop
 same-length c = c .before .loop .inv .1
 
 returns : tie.Need-returns Inv-loop μ-loop
-returns c = 
+returns c =
     let l = c .before in
     let s = l .before in
     l .loop .inv .2 ∙ ap (λ (i : ℕ). put (s .args .at) i (λ _. 0) (now (s .args .out))) (le-antisymm (l .loop .inv .0) (c .loop-test .left))

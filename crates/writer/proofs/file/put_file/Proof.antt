@@ -1,10 +1,11 @@
 -- `writer::file::put_file` meets its contract. Assumes nothing.
 use Prim.Native.Nat.{ℕ, _+_, _*_}
-use mathlib.Core.Path.{_≡_, ap, _∙_}
+use mathlib.Core.Path.{ap, _∙_}
 use mathlib.Core.List.{[], _∷_}
 use native.Mathlib.Omega.{arith}
 use lib.ListN.{getD}
 use denote.Ref.{now}
+use borrow.Author.Needs.{needs}
 use Rattle.format.specs.Bytes.{bytes16}
 use Rattle.format.specs.Blocks.{blocksFor, tallyBytes}
 use Rattle.format.specs.File.{blockByte}
@@ -12,7 +13,6 @@ use Rattle.format.specs.Tables.{fileTables}
 use Rattle.checks.specs.Rows.{tallyOf}
 use Rattle.writer.specs.Puts.{put, bytesOf, bodyOf, recordBody, blocksOf}
 use Rattle.writer.proofs.Written.{file-put}
-use borrow.Author.Needs.{needs}
 use Rattle.writer.proofs.file.put_file.Statement.{statement}
 use Rattle.writer.proofs.file.put_file.Tie as tie
 
@@ -29,7 +29,7 @@ put-offer-blocks-requires : tie.Need-put-offer-blocks-requires
 put-offer-blocks-requires c κs = search needs
 
 put-grocer-block-requires : tie.Need-put-grocer-block-requires
-put-grocer-block-requires c κs = 
+put-grocer-block-requires c κs =
     let s = c .before .before .before .before .before .before .before .before .before .before .before .before .before .before .before .before .before .before in
     let r = s .pre in
     let e = c .before .before .before .before .before .before .before .before .before .blocks-for .ensures in
@@ -39,11 +39,10 @@ add-put-tally-blocks : tie.Need-add-put-tally-blocks
 add-put-tally-blocks c = search needs
 
 put-tally-blocks-requires : tie.Need-put-tally-blocks-requires
-put-tally-blocks-requires c κs = 
+put-tally-blocks-requires c κs =
     let s = c .before .before .before .before .before .before .before .before .before .before .before .before .before .before .before .before .before .before .before .before .before .before in
     let r = s .pre in
-    let e = c .before .before .before .before .before .before .before .before .before .before .before .before .before .blocks-for .ensures in
-    (
+    let e = c .before .before .before .before .before .before .before .before .before .before .before .before .before .blocks-for .ensures in (
       (r .tallies, (omega (arith, e, r .offers), omega (arith, e, c .before .before .before .put-grocer-block .kept .0, c .before .before .before .before .before .before .before .put-offer-blocks .kept .0, c .before .before .before .before .before .before .before .before .before .before .before .put-header .kept .0, r .room))),
       ((r .long .tallyGrocer, (r .long .tallyBox, (r .long .tallyCode, r .long .tallyCount))), r .tallyBox),
     )
@@ -52,7 +51,7 @@ same-length : tie.Need-same-length
 same-length c = search needs
 
 returns : tie.Need-returns
-returns c = 
+returns c =
     let s = c .before .before .before .before .before .before .before .before .before .before .before .before .before .before .before .before .before .before .before .before .before .before .before .before .before in
     let a = s .args in
     let e = c .before .before .before .before .before .before .before .before .before .before .before .before .before .before .before .before .blocks-for .ensures in

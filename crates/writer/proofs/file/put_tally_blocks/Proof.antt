@@ -5,18 +5,18 @@ use native.Mathlib.Omega.{arith}
 use native.Mathlib.Nat.{le-antisymm}
 use lib.ListN.{length}
 use denote.Ref.{now}
+use borrow.Author.Needs.{needs}
 use Rattle.format.specs.Blocks.{tallyBytes}
 use Rattle.format.specs.File.{blockByte}
 use Rattle.checks.specs.Rows.{tallyOf}
 use Rattle.writer.specs.Puts.{put, recordBody, blocksOf}
 use Rattle.writer.proofs.Puts.{put-none}
 use Rattle.writer.proofs.Blocks.{block-next}
-use borrow.Author.Needs.{needs}
 use Rattle.writer.proofs.file.put_tally_blocks.Statement.{statement}
 use Rattle.writer.proofs.file.put_tally_blocks.Tie as tie
 
 abbrev Inv-loop : tie.InvT-loop
-Inv-loop out₀ k t tgrocer tbox tcode tcount blocks b₀ out b = 
+Inv-loop out₀ k t tgrocer tbox tcode tcount blocks b₀ out b =
     (b ≤ blocks) × (length out ≡ length out₀) × (out ≡ put (512 * k) (b * 512) (blocksOf (recordBody 3 k t (λ i. tallyBytes (tallyOf tgrocer tbox tcode tcount i)))) out₀)
 
 abbrev μ-loop : tie.MeasureT-loop
@@ -29,7 +29,7 @@ loop-holds : tie.Need-loop-holds Inv-loop μ-loop
 loop-holds c = (omega arith, refl, put-none _ _ _)
 
 put-tally-block-requires : tie.Need-put-tally-block-requires Inv-loop μ-loop
-put-tally-block-requires c κs = 
+put-tally-block-requires c κs =
     let l = c .before .before in
     let s = l .before .before .before .before .before .before in
     let e = l .before .blocks-for .ensures in
@@ -42,22 +42,21 @@ loop-less : tie.Need-loop-less Inv-loop μ-loop
 loop-less c = search needs
 
 loop-again : tie.Need-loop-again Inv-loop μ-loop
-loop-again c = 
+loop-again c =
     let l = c .before .before .before .before .before in
-    let s = l .before .before .before .before .before .before in
-    (
+    let s = l .before .before .before .before .before .before in (
       omega (arith, c .before .before .before .before .loop-test .taken),
       c .before .before .put-tally-block .kept .0 ∙ l .loop .inv .1,
       c .before .before .put-tally-block .ensures
-      ∙ ap (put (512 * ((s .args .k) + l .loop .b)) 512 (blockByte (recordBody 3 (s .args .k) (s .args .t) (λ i. tallyBytes (tallyOf (now (s .args .tgrocer)) (now (s .args .tbox)) (now (s .args .tcode)) (now (s .args .tcount)) i)) (l .loop .b)))) (l .loop .inv .2)
-      ∙ block-next (recordBody 3 (s .args .k) (s .args .t) (λ i. tallyBytes (tallyOf (now (s .args .tgrocer)) (now (s .args .tbox)) (now (s .args .tcode)) (now (s .args .tcount)) i))) (s .args .k) (l .loop .b) (now (s .args .out)) (omega (arith, c .before .before .before .before .loop-test .taken, l .before .blocks-for .ensures, s .pre .0)),
+          ∙ ap (put (512 * ((s .args .k) + l .loop .b)) 512 (blockByte (recordBody 3 (s .args .k) (s .args .t) (λ i. tallyBytes (tallyOf (now (s .args .tgrocer)) (now (s .args .tbox)) (now (s .args .tcode)) (now (s .args .tcount)) i)) (l .loop .b)))) (l .loop .inv .2)
+          ∙ block-next (recordBody 3 (s .args .k) (s .args .t) (λ i. tallyBytes (tallyOf (now (s .args .tgrocer)) (now (s .args .tbox)) (now (s .args .tcode)) (now (s .args .tcount)) i))) (s .args .k) (l .loop .b) (now (s .args .out)) (omega (arith, c .before .before .before .before .loop-test .taken, l .before .blocks-for .ensures, s .pre .0)),
     )
 
 same-length : tie.Need-same-length Inv-loop μ-loop
 same-length c = c .before .loop .inv .1
 
 returns : tie.Need-returns Inv-loop μ-loop
-returns c = 
+returns c =
     let l = c .before in
     let s = l .before .before .before .before .before .before in
     l .loop .inv .2 ∙ ap (λ (b : ℕ). put (512 * (s .args .k)) (b * 512) (blocksOf (recordBody 3 (s .args .k) (s .args .t) (λ i. tallyBytes (tallyOf (now (s .args .tgrocer)) (now (s .args .tbox)) (now (s .args .tcode)) (now (s .args .tcount)) i)))) (now (s .args .out))) (le-antisymm (l .loop .inv .0) (c .loop-test .left) ∙ l .before .blocks-for .ensures)

@@ -1,12 +1,12 @@
 -- `writer::records::put_offer` meets its contract. Assumes nothing.
 use Prim.Native.Nat.{_*_}
-use mathlib.Core.Path.{_≡_, refl, _∙_}
+use mathlib.Core.Path.{_≡_, _∙_}
 use native.Mathlib.Omega.{arith}
 use lib.ListN.{length, getD, length-set}
 use denote.Ref.{now}
+use borrow.Author.Needs.{needs}
 use Rattle.format.specs.Bytes.{from}
 use Rattle.writer.proofs.Rows.{offer-put}
-use borrow.Author.Needs.{needs}
 use Rattle.writer.proofs.records.put_offer.Statement.{statement}
 use Rattle.writer.proofs.records.put_offer.Tie as tie
 
@@ -57,7 +57,7 @@ same-length : tie.Need-same-length
 same-length c = c .before .before .put-zeros .kept .0 ∙ long-copied (c .before .before .before .before .before .before)
 
 returns : tie.Need-returns
-returns c = 
+returns c =
     let q = c .before .before .before .before .before .before in
     let s = q .before .before .before .before .before .before .before .before .before .before .before .before in
     let a = s .args in

@@ -5,9 +5,9 @@ use native.Mathlib.Omega.{arith}
 use native.Mathlib.Nat.{le-antisymm}
 use lib.ListN.{length, length-set}
 use denote.Ref.{now}
+use borrow.Author.Needs.{needs}
 use Rattle.writer.specs.Puts.{put, bytesOf}
 use Rattle.writer.proofs.Puts.{put-none, store-next}
-use borrow.Author.Needs.{needs}
 use Rattle.writer.proofs.records.put_owners.Statement.{statement}
 use Rattle.writer.proofs.records.put_owners.Tie as tie
 
@@ -42,7 +42,7 @@ loop-less : tie.Need-loop-less Inv-loop μ-loop
 loop-less c = search needs
 
 loop-again : tie.Need-loop-again Inv-loop μ-loop
-loop-again c = 
+loop-again c =
     let l = c .before .before in
     let s = l .before in
     (omega arith, simp length-set (l .loop .inv .1), rw (l .loop .inv .2) (store-next (s .args .at) (l .loop .i) (bytesOf (now (s .args .gowner))) (now (s .args .out)) _ (omega arith) refl))
@@ -51,7 +51,7 @@ same-length : tie.Need-same-length Inv-loop μ-loop
 same-length c = c .before .loop .inv .1
 
 returns : tie.Need-returns Inv-loop μ-loop
-returns c = 
+returns c =
     let l = c .before in
     let s = l .before in
     l .loop .inv .2 ∙ ap (λ (i : ℕ). put (s .args .at) i (bytesOf (now (s .args .gowner))) (now (s .args .out))) (le-antisymm (l .loop .inv .0) (c .loop-test .left))

@@ -5,17 +5,17 @@ use native.Mathlib.Omega.{arith}
 use native.Mathlib.Nat.{le-antisymm}
 use lib.ListN.{length}
 use denote.Ref.{now}
+use borrow.Author.Needs.{needs}
 use Rattle.format.specs.Blocks.{tallyBytes}
 use Rattle.checks.specs.Rows.{tallyOf}
 use Rattle.writer.specs.Puts.{put, bytesOf, rowsOf}
 use Rattle.writer.proofs.Puts.{put-none}
 use Rattle.writer.proofs.Blocks.{row-next}
-use borrow.Author.Needs.{needs}
 use Rattle.writer.proofs.records.put_tallies.Statement.{statement}
 use Rattle.writer.proofs.records.put_tallies.Tie as tie
 
 abbrev Inv-loop : tie.InvT-loop
-Inv-loop out₀ at first n tgrocer tbox tcode tcount r₀ out r = 
+Inv-loop out₀ at first n tgrocer tbox tcode tcount r₀ out r =
     (r ≤ n) × (length out ≡ length out₀) × (out ≡ put at (r * 24) (rowsOf 24 (λ r. bytesOf (tallyBytes (tallyOf tgrocer tbox tcode tcount (first + r))))) out₀)
 
 abbrev μ-loop : tie.MeasureT-loop
@@ -34,7 +34,7 @@ add-put-tally-2 : tie.Need-add-put-tally-2 Inv-loop μ-loop
 add-put-tally-2 c = search needs
 
 put-tally-requires : tie.Need-put-tally-requires Inv-loop μ-loop
-put-tally-requires c κs = 
+put-tally-requires c κs =
     let l = c .before .before in
     let s = l .before .before .before .before .before in
     (omega arith, ((omega arith, (omega arith, (omega arith, omega arith))), s .pre .1 .1 .small (s .args .first + l .loop .r) (omega arith)))
@@ -46,22 +46,21 @@ loop-less : tie.Need-loop-less Inv-loop μ-loop
 loop-less c = search needs
 
 loop-again : tie.Need-loop-again Inv-loop μ-loop
-loop-again c = 
+loop-again c =
     let l = c .before .before .before .before .before in
-    let s = l .before .before .before .before .before in
-    (
+    let s = l .before .before .before .before .before in (
       omega (arith, c .before .before .before .before .loop-test .taken),
       c .before .before .put-tally .kept .0 ∙ l .loop .inv .1,
       c .before .before .put-tally .ensures
-      ∙ ap (put (s .args .at + l .loop .r * 24) 24 (bytesOf (tallyBytes (tallyOf (now (s .args .tgrocer)) (now (s .args .tbox)) (now (s .args .tcode)) (now (s .args .tcount)) (s .args .first + l .loop .r))))) (l .loop .inv .2)
-      ∙ row-next 24 (λ r. bytesOf (tallyBytes (tallyOf (now (s .args .tgrocer)) (now (s .args .tbox)) (now (s .args .tcode)) (now (s .args .tcount)) (s .args .first + r)))) (s .args .at) (l .loop .r) (now (s .args .out)) (omega (arith, c .before .before .before .before .loop-test .taken, s .pre .0)),
+          ∙ ap (put (s .args .at + l .loop .r * 24) 24 (bytesOf (tallyBytes (tallyOf (now (s .args .tgrocer)) (now (s .args .tbox)) (now (s .args .tcode)) (now (s .args .tcount)) (s .args .first + l .loop .r))))) (l .loop .inv .2)
+          ∙ row-next 24 (λ r. bytesOf (tallyBytes (tallyOf (now (s .args .tgrocer)) (now (s .args .tbox)) (now (s .args .tcode)) (now (s .args .tcount)) (s .args .first + r)))) (s .args .at) (l .loop .r) (now (s .args .out)) (omega (arith, c .before .before .before .before .loop-test .taken, s .pre .0)),
     )
 
 same-length : tie.Need-same-length Inv-loop μ-loop
 same-length c = c .before .loop .inv .1
 
 returns : tie.Need-returns Inv-loop μ-loop
-returns c = 
+returns c =
     let l = c .before in
     let s = l .before .before .before .before .before in
     l .loop .inv .2 ∙ ap (λ (r : ℕ). put (s .args .at) (r * 24) (rowsOf 24 (λ r. bytesOf (tallyBytes (tallyOf (now (s .args .tgrocer)) (now (s .args .tbox)) (now (s .args .tcode)) (now (s .args .tcount)) (s .args .first + r))))) (now (s .args .out))) (le-antisymm (l .loop .inv .0) (c .loop-test .left))

@@ -2,16 +2,16 @@
 use Prim.Native.Nat.{ℕ, _*_, _+_}
 use mathlib.Core.Path.{_≡_, ap, _∙_}
 use native.Mathlib.Omega.{arith}
-use lib.IntN.{ℤ, pos}
+use lib.IntN.{pos}
 use lib.ListN.{length, getD, length-set}
 use mir.Syntax.{w32}
-use mir.Val.{SFits, ofZ}
+use mir.Val.{ofZ}
 use mir.Facts.{toZ-ofZ}
 use denote.Ref.{now}
+use borrow.Author.Needs.{needs}
 use Rattle.format.specs.Bytes.{from, bytes16, bytes32}
 use Rattle.writer.specs.Puts.{put, bytesOf}
 use Rattle.writer.proofs.Rows.{tally-put}
-use borrow.Author.Needs.{needs}
 use Rattle.writer.proofs.records.put_tally.Statement.{statement}
 use Rattle.writer.proofs.records.put_tally.Tie as tie
 
@@ -80,7 +80,7 @@ same-length : tie.Need-same-length
 same-length c = c .before .before .put-zeros .kept .0 ∙ c .before .before .before .before .before .before .put32 .kept .0 ∙ long-copied (c .before .before .before .before .before .before .before .before .before .before .before .before)
 
 returns : tie.Need-returns
-returns c = 
+returns c =
     let f = c .before .before .before .before .before .before in
     let q = f .before .before .before .before .before .before in
     let s = q .before .before .before .before .before .before .before .before .before .before .before .before .before in
