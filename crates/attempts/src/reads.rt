@@ -47,6 +47,26 @@ pub fn refusal_of(a: Answer) -> u64 {
     }
 }
 
+// The line of the job's sizes, or of the refusal.
+pub fn show_answer(a: Answer) {
+    match a {
+        Answer::Job {
+            boxes: k,
+            grocers: m,
+            offers: n,
+            tallies: t,
+        } => {
+            show::text(b"sizes");
+            show::next(wide16(k));
+            show::next(wide16(m));
+            show::next(wide16(n));
+            show::next(wide16(t));
+            show::end();
+        }
+        Answer::Refused(r) => show::line(b"refused", wide16(r)),
+    }
+}
+
 // How many words of the tables of offers and grocers lost their marks.
 fn changed_offers(
     price: &[u32; 500],

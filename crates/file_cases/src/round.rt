@@ -3,9 +3,8 @@ use attempts::differ::differ8;
 use attempts::job::refusal_of;
 use attempts::job::small_file;
 use attempts::job::wide16;
-use attempts::reads::Seen;
 use attempts::reads::read_marked;
-use reader::Answer;
+use attempts::reads::show_answer;
 
 // A 32-bit number as a count.
 fn wide32(x: u32) -> u64 {
@@ -15,26 +14,6 @@ fn wide32(x: u32) -> u64 {
 // A count with its sign.
 fn wide_count(z: i32) -> i64 {
     z as i64
-}
-
-// The sizes of the job, or the refusal.
-fn show_answer(a: Answer) {
-    match a {
-        Answer::Job {
-            boxes: k,
-            grocers: m,
-            offers: n,
-            tallies: t,
-        } => {
-            show::text(b"sizes");
-            show::next(wide16(k));
-            show::next(wide16(m));
-            show::next(wide16(n));
-            show::next(wide16(t));
-            show::end();
-        }
-        Answer::Refused(r) => show::line(b"refused", wide16(r)),
-    }
 }
 
 // Two words of a table.
@@ -175,7 +154,7 @@ fn read_tables() {
 // E's file read and written again; the words that the reader stored, and no others.
 pub fn round_trip() {
     read_tables();
-    let s: Seen = read_marked(&small_file());
+    let s = read_marked(&small_file());
     let answer = s.answer;
     let changed = s.changed;
     show::line(b"E read", answer);
