@@ -1,12 +1,12 @@
 // "In an accepted file, changing one or two bytes of one block always gives refusal 2."
 ghost use Prim.Native.Nat.{_<_};
+use crate::random::byte;
+use crate::random::step;
 use attempts::job::small_file;
 use attempts::patch::get;
 use attempts::patch::set;
 use attempts::reads::Seen;
 use attempts::reads::read_marked;
-use crate::random::byte;
-use crate::random::step;
 use std::num::wrapping_add_u8;
 
 // A byte of a file with v added to it.

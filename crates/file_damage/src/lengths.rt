@@ -1,8 +1,8 @@
 // Files of bad lengths: 1.
+use crate::seen::told;
 use attempts::differ::add;
 use attempts::job::small_file;
 use attempts::reads::read_marked;
-use crate::seen::told;
 
 // No byte.
 fn empty_case(name: &[u8]) -> u64 {

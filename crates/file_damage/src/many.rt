@@ -1,6 +1,4 @@
 // Many files of one kind, read one after the other.
-use attempts::differ::add;
-use attempts::reads::Seen;
 use crate::change::read_changed;
 use crate::change::read_pair;
 use crate::random::read_length;
@@ -9,6 +7,8 @@ use crate::random::read_sealed;
 use crate::random::read_tally;
 use crate::seen::changed;
 use crate::seen::gave;
+use attempts::differ::add;
+use attempts::reads::Seen;
 
 // A kind of bad files, told apart by a number from 0 on.
 pub enum Kind {

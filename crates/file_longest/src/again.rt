@@ -1,12 +1,12 @@
 // The file read back into other tables and written again.
-use attempts::differ::add;
-use attempts::differ::differ16;
-use attempts::differ::differ32;
-use attempts::differ::differ8;
-use attempts::differ::differ_counts;
-use attempts::job::refusal_of;
 use crate::tables::Words;
 use crate::tables::fill_words;
+use attempts::differ::add;
+use attempts::differ::differ_counts;
+use attempts::differ::differ8;
+use attempts::differ::differ16;
+use attempts::differ::differ32;
+use attempts::job::refusal_of;
 
 // A byte as a number.
 fn wide(x: u8) -> u64 {
@@ -87,7 +87,19 @@ pub fn write_again(
 ) {
     let mut out = [201u8; 37888];
     let answer = writer::write(
-        16, 255, 500, 1_000, price, owner, code, gowner, tgrocer, tbox, tcode, tcount, &mut out,
+        16,
+        255,
+        500,
+        1_000,
+        price,
+        owner,
+        code,
+        gowner,
+        tgrocer,
+        tbox,
+        tcode,
+        tcount,
+        &mut out,
     );
     show::line(b"written again", refusal_of(answer));
     show::line(b"bytes that differ", differ_files(file, &out));

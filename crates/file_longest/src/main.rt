@@ -11,6 +11,7 @@ use tables::fill_codes;
 use tables::fill_counts;
 use tables::fill_prices;
 use tables::fill_words;
+
 mod again;
 mod tables;
 
@@ -36,15 +37,49 @@ fn read_back(
     let mut tcount2 = [-2_000_000_001i32; 1000];
     let mut toffer = [60_001u16; 1000];
     let answer = reader::read(
-        file, &mut price2, &mut owner2, &mut code2, &mut gowner2, &mut tgrocer2, &mut tbox2,
-        &mut tcode2, &mut tcount2, &mut toffer,
+        file,
+        &mut price2,
+        &mut owner2,
+        &mut code2,
+        &mut gowner2,
+        &mut tgrocer2,
+        &mut tbox2,
+        &mut tcode2,
+        &mut tcount2,
+        &mut toffer,
     );
     show_answer(answer);
-    compare_offers(price, &price2, owner, &owner2, code, &code2, gowner, &gowner2);
-    compare_tallies(tgrocer, &tgrocer2, tbox, &tbox2, tcode, &tcode2, tcount, &tcount2);
+    compare_offers(
+        price,
+        &price2,
+        owner,
+        &owner2,
+        code,
+        &code2,
+        gowner,
+        &gowner2,
+    );
+    compare_tallies(
+        tgrocer,
+        &tgrocer2,
+        tbox,
+        &tbox2,
+        tcode,
+        &tcode2,
+        tcount,
+        &tcount2,
+    );
     compare_places(&toffer);
     write_again(
-        file, &price2, &owner2, &code2, &gowner2, &tgrocer2, &tbox2, &tcode2, &tcount2,
+        file,
+        &price2,
+        &owner2,
+        &code2,
+        &gowner2,
+        &tgrocer2,
+        &tbox2,
+        &tcode2,
+        &tcount2,
     );
 }
 
@@ -61,11 +96,33 @@ fn write_first(
 ) {
     let mut out = [201u8; 37888];
     let answer = writer::write(
-        16, 255, 500, 1_000, price, owner, code, gowner, tgrocer, tbox, tcode, tcount, &mut out,
+        16,
+        255,
+        500,
+        1_000,
+        price,
+        owner,
+        code,
+        gowner,
+        tgrocer,
+        tbox,
+        tcode,
+        tcount,
+        &mut out,
     );
     show::line(b"written", refusal_of(answer));
     show_sums(&out);
-    read_back(&out, price, owner, code, gowner, tgrocer, tbox, tcode, tcount);
+    read_back(
+        &out,
+        price,
+        owner,
+        code,
+        gowner,
+        tgrocer,
+        tbox,
+        tcode,
+        tcount,
+    );
 }
 
 // Fills the tables of the largest job.
@@ -86,5 +143,14 @@ fn main() {
     fill_words(&mut tbox, Words::TallyBox);
     fill_codes(&mut tcode, 1_000, true);
     fill_counts(&mut tcount);
-    write_first(&price, &owner, &code, &gowner, &tgrocer, &tbox, &tcode, &tcount);
+    write_first(
+        &price,
+        &owner,
+        &code,
+        &gowner,
+        &tgrocer,
+        &tbox,
+        &tcode,
+        &tcount,
+    );
 }
