@@ -1,4 +1,5 @@
 // Files of bad lengths: 1.
+use crate::seen::read_first;
 use crate::seen::told;
 use attempts::differ::add;
 use attempts::job::small_file;
@@ -10,12 +11,10 @@ fn empty_case(name: &[u8]) -> u64 {
     told(name, read_marked(&f))
 }
 
-// The first bytes of a file.
-fn first_bytes(name: &[u8], f: &[u8], n: usize) -> u64 {
-    if f.len() < n {
-        return 0;
-    }
-    told(name, read_marked(&f[..n]))
+// The first n bytes of E's file.
+fn part_case(name: &[u8], n: usize) -> u64 {
+    let f = small_file();
+    told(name, read_first(&f, n))
 }
 
 // 75 blocks of zeros.
@@ -32,14 +31,13 @@ fn blocks_74(name: &[u8]) -> u64 {
 
 // Parts of E's file.
 fn part_cases() -> u64 {
-    let f = small_file();
-    let mut n = first_bytes(b"1 byte", &f, 1);
-    n = add(n, first_bytes(b"511 bytes", &f, 511));
-    n = add(n, first_bytes(b"513 bytes", &f, 513));
-    n = add(n, first_bytes(b"2047 bytes", &f, 2047));
-    n = add(n, first_bytes(b"1 block of 4", &f, 512));
-    n = add(n, first_bytes(b"3 blocks of 4", &f, 1536));
-    n = add(n, first_bytes(b"4 blocks of 4", &f, 2048));
+    let mut n = part_case(b"1 byte", 1);
+    n = add(n, part_case(b"511 bytes", 511));
+    n = add(n, part_case(b"513 bytes", 513));
+    n = add(n, part_case(b"2047 bytes", 2047));
+    n = add(n, part_case(b"1 block of 4", 512));
+    n = add(n, part_case(b"3 blocks of 4", 1536));
+    n = add(n, part_case(b"4 blocks of 4", 2048));
     n
 }
 

@@ -1,4 +1,5 @@
 // Pseudo-random bytes by a fixed linear congruence, and files of them.
+use crate::seen::read_first;
 use attempts::job::small_file;
 use attempts::patch::seal;
 use attempts::patch::set;
@@ -42,14 +43,6 @@ pub fn read_sealed(seed: u64) -> Seen {
     seal(&mut f, 2);
     seal(&mut f, 3);
     read_marked(&f)
-}
-
-// The first n bytes of a file.
-fn read_first(f: &[u8], n: usize) -> Seen {
-    if f.len() < n {
-        return read_marked(f);
-    }
-    read_marked(&f[..n])
 }
 
 // A file of random bytes and a random length below 2,048.

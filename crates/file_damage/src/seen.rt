@@ -1,6 +1,7 @@
 // What a read gave, as a count.
 use attempts::differ::one;
 use attempts::reads::Seen;
+use attempts::reads::read_marked;
 
 // 1 where the refusal has this number.
 pub fn gave(s: Seen, number: u64) -> u64 {
@@ -21,4 +22,12 @@ pub fn told(name: &[u8], s: Seen) -> u64 {
     let answer = s.answer;
     show::line(name, answer);
     changed(s)
+}
+
+// Reads the first n bytes of a file, or all of it where it has fewer.
+pub fn read_first(f: &[u8], n: usize) -> Seen {
+    if f.len() < n {
+        return read_marked(f);
+    }
+    read_marked(&f[..n])
 }
