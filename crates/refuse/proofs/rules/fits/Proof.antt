@@ -1,0 +1,59 @@
+-- `refuse::rules::fits` meets its contract, kind by kind. Assumes nothing.
+use native.Mathlib.Omega.{arith}
+use mathlib.Core.Path.{_≡_, refl, sym, ap, ap₂, _∙_}
+use Rattle.refuse.specs.Rules.{fitsBy}
+use Rattle.refuse.proofs.ByKind.{fits-one}
+use Rattle.model.specs.Steps.{kindOf}
+use borrow.Author.Needs.{needs}
+use Rattle.refuse.proofs.rules.fits.Statement.{statement}
+use Rattle.refuse.proofs.rules.fits.Tie as tie
+use Rattle.refuse.proofs.rules.fits.Reads as reads
+use Rattle.refuse.proofs.rules.fits.Lts as lts
+use Rattle.refuse.proofs.rules.is_due.Reads as is-due-reads
+
+is-due-requires : tie.Need-is-due-requires
+is-due-requires c κs = search needs
+
+returns : tie.Need-returns
+unfolding fitsBy kindOf
+returns c = rw (c .before .if1 .taken) (c .is-due .ensures)
+
+is-due-requires-2 : tie.Need-is-due-requires-2
+is-due-requires-2 c κs = search needs
+
+returns-2 : tie.Need-returns-2
+unfolding fitsBy kindOf
+returns-2 c = rw (c .before .if2 .taken) (c .is-due2 .ensures)
+
+is-due-requires-3 : tie.Need-is-due-requires-3
+is-due-requires-3 c κs = search needs
+
+returns-3 : tie.Need-returns-3
+unfolding fitsBy kindOf
+returns-3 c = rw (c .before .if3 .taken) (c .is-due3 .ensures)
+
+is-due-requires-4 : tie.Need-is-due-requires-4
+is-due-requires-4 c κs = search needs
+
+returns-4 : tie.Need-returns-4
+unfolding fitsBy kindOf
+returns-4 c = rw (c .before .if4 .taken) (c .is-due4 .ensures)
+
+returns-5 : tie.Need-returns-5
+returns-5 c = 
+    let s = c .before .before .before .before in
+    fits-one _ _ (s .args .a) (s .args .b) (s .args .kind) (omega arith) (omega arith) (c .before .before .before .if1 .left) (c .before .before .if2 .left) (c .before .if3 .left) (c .if4 .left)
+
+pub fits-spec : {M : Type 1} → statement M
+fits-spec =
+    tie.close
+    (tie.spec
+    is-due-requires
+    returns
+    is-due-requires-2
+    returns-2
+    is-due-requires-3
+    returns-3
+    is-due-requires-4
+    returns-4
+    returns-5)

@@ -1,0 +1,78 @@
+-- `refuse::rules::multiplied` meets its contract: of every box passed the prices are received. Assumes nothing.
+use mathlib.Core.Path.{_≡_, refl, sym, ap, ap₂, _∙_}
+use mathlib.Core.Bool.{Bool, true, _&&_}
+use Prim.Native.Nat.{_≤_, _-_}
+use native.Mathlib.Omega.{arith}
+use borrow.Author.Needs.{needs}
+use borrow.Author.Tests.{not-true, not-false}
+use denote.Ref.{now}
+use Rattle.laws.specs.Below.{all}
+use Rattle.laws.proofs.Bools.{and-true, and-false}
+use Rattle.laws.proofs.Below.{all-fails}
+use Rattle.model.specs.Steps.{kindOf, multiplyOwn}
+use Rattle.tables.proofs.Loops.{test-none, test-more, test-ends}
+use Rattle.prices.specs.Marks.{stepsDone}
+use Rattle.refuse.specs.Rules.{receivedFrom, multipliedBy}
+use Rattle.refuse.proofs.rules.multiplied.Statement.{statement}
+use Rattle.refuse.proofs.rules.multiplied.Tie as tie
+use Rattle.refuse.proofs.rules.multiplied.Reads as reads
+use Rattle.refuse.proofs.rules.multiplied.Lts as lts
+use Rattle.refuse.proofs.rules.has_received.Reads as has-received-reads
+use Rattle.refuse.proofs.rules.is_marked.Reads as is-marked-reads
+use Rattle.refuse.proofs.Ways.{multiplied-not, multiplied-fails, multiplied-all}
+
+abbrev Inv-loop : tie.InvT-loop
+Inv-loop k a prices done c₀ c = (c ≤ k) × (all c (receivedFrom prices (stepsDone k done) a) ≡ true)
+
+abbrev μ-loop : tie.MeasureT-loop
+μ-loop k a prices done c₀ c = k - c
+
+is-marked-requires : tie.Need-is-marked-requires Inv-loop μ-loop
+is-marked-requires c κs = let p = c .before .pre in search needs
+
+returns : tie.Need-returns Inv-loop μ-loop
+unfolding kindOf
+returns c =
+    let s = c .before .before .before in
+    multiplied-not (s .args .k) _ _ (s .args .a) (sym (c .before .is-marked .ensures) ∙ not-true _ (c .if1 .taken))
+
+loop-holds : tie.Need-loop-holds Inv-loop μ-loop
+loop-holds c = (search needs, test-none _)
+
+has-received-requires : tie.Need-has-received-requires Inv-loop μ-loop
+has-received-requires c κs = search needs
+
+returns-2 : tie.Need-returns-2 Inv-loop μ-loop
+returns-2 c =
+    multiplied-fails _ _ _ _ (c .before .before .before .loop .c) (c .before .before .loop-test .taken) (sym (c .before .has-received .ensures) ∙ not-true _ (c .if2 .taken))
+
+add-c : tie.Need-add-c Inv-loop μ-loop
+add-c c = search needs
+
+loop-less : tie.Need-loop-less Inv-loop μ-loop
+loop-less c = search needs
+
+loop-again : tie.Need-loop-again Inv-loop μ-loop
+loop-again c = (search needs, test-more _ _ (c .before .before .before .loop .inv .1) (sym (c .before .has-received .ensures) ∙ not-false _ (c .if2 .left)))
+
+returns-3 : tie.Need-returns-3 Inv-loop μ-loop
+unfolding kindOf
+returns-3 c =
+    let i = c .before in
+    multiplied-all _ _ _ _ (sym (i .before .before .is-marked .ensures) ∙ not-false _ (i .before .if1 .left)) (test-ends _ _ _ (i .loop .inv .0) (c .loop-test .left) (i .loop .inv .1))
+
+pub multiplied-spec : {M : Type 1} → statement M
+multiplied-spec =
+    tie.close
+    (tie.spec
+    Inv-loop
+    μ-loop
+    is-marked-requires
+    returns
+    loop-holds
+    has-received-requires
+    returns-2
+    add-c
+    loop-less
+    loop-again
+    returns-3)

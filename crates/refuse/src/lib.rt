@@ -1,0 +1,2 @@
+// The refusal of a step: its number for every input.
+pub mod rules;

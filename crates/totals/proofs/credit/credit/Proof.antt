@@ -1,0 +1,172 @@
+-- `totals::credit::credit` meets its contract. The invariant: of the grocers passed, the totals that are credited are in the statements, and 0 where they were. Assumes nothing.
+use mathlib.Core.Path.{_≡_, refl, sym, ap, ap₂, _∙_, subst}
+use mathlib.Core.Bool.{Bool, cond, _&&_}
+use mathlib.Core.List.{List}
+use Prim.Native.Nat.{ℕ, _≤_, _<_, _+_, _*_, _-_}
+use native.Mathlib.Nat.{le-antisymm}
+use native.Mathlib.Omega.{arith}
+use lib.Dec.{ltb}
+use lib.ListN.{length, getD}
+use lib.IntN.{ℤ, pos, natAbs, _+ℤ_}
+use denote.Ref.{now}
+use borrow.Author.Needs.{needs}
+use Rattle.laws.specs.Tables.{cell}
+use Rattle.laws.proofs.Loops.{guarded, guarded-more, guarded-next, guarded-none}
+use Rattle.totals.specs.Credit.{CreditIn, credited, cleared, creditWord, creditAll}
+use Rattle.totals.proofs.Extra.{around-at, cond-no, front-more, front-next, front-none, row-in, row-stored}
+use Rattle.totals.proofs.Credits.{credit-stored}
+use Rattle.totals.proofs.credit.credit.Statement.{statement}
+use Rattle.totals.proofs.credit.credit.Tie as tie
+use Rattle.totals.proofs.credit.credit.Reads as reads
+use Rattle.totals.proofs.credit.credit.Lts as lts
+use Rattle.totals.proofs.credit.credit_one.Reads as credit-one-reads
+use Rattle.totals.proofs.num.row_start.Reads as row-start-reads
+
+abbrev Inv-loop : tie.InvT-loop
+Inv-loop k m a from owner sharers source₀ statement₀ at g₀ source statement g = 
+    (g ≤ m)
+    × (length source ≡ length source₀)
+    × (length statement ≡ length statement₀)
+    × ((i : ℕ) → getD source i (pos 0) ≡ cond (guarded at g (credited owner sharers a from) i) (pos 0) (getD source₀ i (pos 0)))
+    × ((i : ℕ) → getD statement i (pos 0) ≡ cond (ltb i g && credited owner sharers a from i) (getD statement₀ i (pos 0) +ℤ getD source₀ (at + i) (pos 0)) (getD statement₀ i (pos 0)))
+
+abbrev μ-loop : tie.MeasureT-loop
+μ-loop k m a from owner sharers source₀ statement₀ at g₀ source statement g = m - g
+
+abbrev Start : Type 0
+Start = tie.Start Inv-loop μ-loop
+
+abbrev test : Start → ℕ → Bool
+test s = credited (now (s .args .owner)) (now (s .args .sharers)) (s .args .a) (s .args .from)
+
+abbrev was : Start → ℕ → ℤ
+was s i = getD (now (s .args .source)) i (pos 0)
+
+abbrev old : Start → ℕ → ℤ
+old s i = getD (now (s .args .statement)) i (pos 0)
+
+abbrev entry : tie.In-loop Inv-loop μ-loop → Start
+entry c = c .before .before .before .before
+
+abbrev start : tie.In-loop Inv-loop μ-loop → ℕ
+start c = c .before .before .row-start .result
+
+-- A word of the row lies within the table.
+place : (c : tie.In-loop Inv-loop μ-loop) → start c + c .before .loop .g < entry c .args .k * entry c .args .m
+place c =
+    let s = entry c in
+    omega (arith, row-in (s .args .from) (s .args .k) (s .args .m) (s .pre .0 .2), c .before .before .row-start .ensures, c .loop-test .taken)
+
+-- The words that a turn adds are those at the start.
+total-is : (c : tie.In-loop Inv-loop μ-loop) → getD (c .before .loop .source) (start c + c .before .loop .g) (pos 0) ≡ was (entry c) (start c + c .before .loop .g)
+total-is c =
+    let s = entry c in
+    let i = start c + c .before .loop .g in
+    c .before .loop .inv .3 i ∙ cond-no _ (pos 0) (was s i) (guarded-next (start c) (c .before .loop .g) (test s))
+
+old-is : (c : tie.In-loop Inv-loop μ-loop) → getD (c .before .loop .statement) (c .before .loop .g) (pos 0) ≡ old (entry c) (c .before .loop .g)
+old-is c =
+    let s = entry c in
+    let g = c .before .loop .g in
+    c .before .loop .inv .4 g ∙ cond-no _ (old s g +ℤ was s (start c + g)) (old s g) (front-next g (test s g))
+
+-- src/credit.rt:106:9
+row-start-requires : tie.Need-row-start-requires Inv-loop μ-loop
+row-start-requires c κs = (omega (arith, c .before .pre .0 .1), omega (arith, c .before .pre .0 .0, c .before .pre .0 .2))
+
+-- src/credit.rt:107:5
+loop-holds : tie.Need-loop-holds Inv-loop μ-loop
+loop-holds c = 
+    let s = c .before .before in (
+      search needs,
+      refl,
+      refl,
+      λ i. sym (cond-no _ (pos 0) (was s i) (guarded-none (c .row-start .result) (test s) i)),
+      λ i. sym (cond-no _ (old s i +ℤ was s (c .row-start .result + i)) (old s i) (front-none i (test s i))),
+    )
+
+-- src/credit.rt:108:20
+add-credit-one : tie.Need-add-credit-one Inv-loop μ-loop
+add-credit-one c = omega (arith, place c, entry c .pre .1 .0 .long)
+
+-- src/credit.rt:108:9
+credit-one-requires : tie.Need-credit-one-requires Inv-loop μ-loop
+credit-one-requires c κs = 
+    let e = c .before .before in
+    let s = entry e in
+    let g = e .before .loop .g in
+    let inv = e .before .loop .inv in
+    record {
+      from-in = omega (arith, s .pre .0 .0, s .pre .0 .2);
+      grocer-in = omega (arith, s .pre .0 .1, e .loop-test .taken);
+      owner-long = omega (arith, s .pre .0 .3, e .loop-test .taken);
+      total-long = omega (arith, place e, s .pre .1 .0 .long, inv .1);
+      statement-long = omega (arith, s .pre .1 .1 .long, e .loop-test .taken, inv .2);
+      total-in = subst (λ (z : ℤ). natAbs z ≤ 1_000_000_000_000_000) (sym (total-is e)) (around-at 1_000_000_000_000_000 (s .args .k * s .args .m) (now (s .args .source)) (start e + g) (s .pre .1 .0 .words-in) (place e));
+      statement-in = subst (λ (z : ℤ). natAbs z ≤ 1_000_000_000_000_000) (sym (old-is e)) (around-at 1_000_000_000_000_000 (s .args .m) (now (s .args .statement)) g (s .pre .1 .1 .words-in) (e .loop-test .taken));
+    }
+
+-- src/credit.rt:107:9
+add-g : tie.Need-add-g Inv-loop μ-loop
+add-g c = search needs
+
+-- src/credit.rt:107:5
+loop-less : tie.Need-loop-less Inv-loop μ-loop
+loop-less c = search needs
+
+-- src/credit.rt:107:5
+loop-again : tie.Need-loop-again Inv-loop μ-loop
+loop-again c = 
+    let e = c .before .before .before .before .before in
+    let s = entry e in
+    let at = start e in
+    let g = e .before .loop .g in
+    let inv = e .before .loop .inv in
+    let call = c .before .before .credit-one in (
+      omega (arith, e .loop-test .taken),
+      call .kept .1 .1 .1 .1 .1 .1 .0 ∙ inv .1,
+      call .kept .1 .1 .1 .1 .1 .1 .1 .0 ∙ inv .2,
+      λ i. ap (λ (l : List ℤ). getD l i (pos 0)) (call .ensures .0)
+          ∙ guarded-more (e .before .loop .source) (pos 0) (λ i. pos 0) (was s) at g (test s) (omega (arith, place e, s .pre .1 .0 .long, inv .1)) (inv .3) (pos 0) refl i,
+      λ i. ap (λ (l : List ℤ). getD l i (pos 0)) (call .ensures .1)
+          ∙ front-more (e .before .loop .statement) (pos 0) (λ i. old s i +ℤ was s (at + i)) (old s) g (test s) (omega (arith, s .pre .1 .1 .long, e .loop-test .taken, inv .2)) (inv .4) _ (ap₂ _+ℤ_ (old-is e) (total-is e)) i,
+    )
+
+-- src/credit.rt:92:1
+same-length : tie.Need-same-length Inv-loop μ-loop
+same-length c = c .before .loop .inv .1
+
+-- src/credit.rt:92:1
+same-length-2 : tie.Need-same-length-2 Inv-loop μ-loop
+same-length-2 c = c .before .loop .inv .2
+
+-- src/credit.rt:92:1
+returns : tie.Need-returns Inv-loop μ-loop
+unfolding cleared
+returns c = 
+    let s = c .before .before .before .before in
+    let k = s .args .k in
+    let m = s .args .m in
+    let at = c .before .before .row-start in
+    let inv = c .before .loop .inv in
+    let done : c .before .loop .g ≡ m = le-antisymm (inv .0) (c .loop-test .left) in (
+      row-stored k m (s .args .from) (at .result) (c .before .loop .g) (now (s .args .source)) (c .before .loop .source) (pos 0) (test s) (λ i. pos 0) (λ g. pos 0) (s .pre .0 .2) (s .pre .1 .0 .long) (at .ensures) done (inv .1) (inv .3) (λ o l. refl),
+      credit-stored k m (s .args .from) (test s) (now (s .args .source)) (now (s .args .statement)) (s .pre .0 .2) (c .before .loop .statement) (at .result) (c .before .loop .g) (s .pre .1 .1 .long) (at .ensures) done (inv .2) (inv .4),
+    )
+
+pub credit-spec : {M : Type 1} → statement M
+credit-spec =
+    tie.close
+    (tie.spec
+    Inv-loop
+    μ-loop
+    row-start-requires
+    loop-holds
+    add-credit-one
+    credit-one-requires
+    add-g
+    loop-less
+    loop-again
+    same-length
+    same-length-2
+    returns)

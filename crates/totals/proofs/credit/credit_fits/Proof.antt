@@ -1,0 +1,138 @@
+-- `totals::credit::credit_fits` meets its contract. Assumes nothing.
+use mathlib.Core.Path.{_≡_, refl, sym, ap, ap₂, _∙_}
+use mathlib.Core.Bool.{Bool, true, cond}
+use mathlib.Core.List.{List}
+use Prim.Native.Nat.{ℕ, _≤_, _<_, _+_, _*_, _-_}
+use native.Mathlib.Nat.{le-antisymm}
+use native.Mathlib.Omega.{arith}
+use lib.Dec.{leb}
+use lib.ListN.{length, getD}
+use lib.IntN.{ℤ, pos, natAbs, _+ℤ_}
+use denote.Ref.{now}
+use borrow.Author.Needs.{needs}
+use Rattle.laws.specs.Below.{all}
+use Rattle.model.specs.Ranges.{maxAmount}
+use Rattle.laws.proofs.Bools.{and-true}
+use Rattle.laws.proofs.Below.{all-next, all-fails}
+use Rattle.laws.proofs.Signed.{read64}
+use borrow.Author.Tests.{not-true, not-false}
+use Rattle.totals.specs.Credit.{CreditIn, credited, creditWord}
+use Rattle.totals.proofs.Extra.{all-zero, around-at, row-in}
+use Rattle.totals.proofs.Credits.{credit-at}
+use Rattle.totals.proofs.credit.credit_fits.Statement.{statement}
+use Rattle.totals.proofs.credit.credit_fits.Tie as tie
+use Rattle.totals.proofs.credit.credit_fits.Reads as reads
+use Rattle.totals.proofs.credit.credit_fits.Lts as lts
+use Rattle.totals.proofs.credit.credit_word.Reads as credit-word-reads
+use Rattle.totals.proofs.num.amount_fits.Reads as amount-fits-reads
+use Rattle.totals.proofs.num.row_start.Reads as row-start-reads
+
+abbrev Inv-loop : tie.InvT-loop
+Inv-loop k m a from owner sharers source statement at g₀ g = (g ≤ m) × (all g (λ i. leb (natAbs (creditWord k m from (credited owner sharers a from) source statement i)) maxAmount) ≡ true)
+
+abbrev μ-loop : tie.MeasureT-loop
+μ-loop k m a from owner sharers source statement at g₀ g = m - g
+
+abbrev Start : Type 0
+Start = tie.Start Inv-loop μ-loop
+
+abbrev test : Start → ℕ → Bool
+test s = credited (now (s .args .owner)) (now (s .args .sharers)) (s .args .a) (s .args .from)
+
+abbrev within : Start → ℕ → Bool
+within s i = leb (natAbs (creditWord (s .args .k) (s .args .m) (s .args .from) (test s) (now (s .args .source)) (now (s .args .statement)) i)) maxAmount
+
+abbrev entry : tie.In-loop Inv-loop μ-loop → Start
+entry c = c .before .before .before .before
+
+-- A word of the row lies within the table.
+place : (c : tie.In-loop Inv-loop μ-loop) → c .before .before .row-start .result + c .before .loop .g < entry c .args .k * entry c .args .m
+place c =
+    let s = entry c in
+    omega (arith, row-in (s .args .from) (s .args .k) (s .args .m) (s .pre .0 .2), c .before .before .row-start .ensures, c .loop-test .taken)
+
+-- What the calls say of the word.
+told : (c : tie.After-amount-fits Inv-loop μ-loop) → c .amount-fits .result ≡ within (entry (c .before .before)) (c .before .before .before .loop .g)
+told c =
+    let w = c .before .credit-word in
+    let e = c .before .before in
+    let s = entry e in
+    c .amount-fits .ensures
+    ∙ ap (λ (z : ℤ). leb (natAbs z) maxAmount)
+    (read64 (w .result) (w .ok) ∙ w .ensures
+    ∙ sym (credit-at (s .args .k) (s .args .m) (s .args .from) (test s) (now (s .args .source)) (now (s .args .statement)) (s .pre .0 .2) (e .before .loop .g) (e .before .before .row-start .result) (e .loop-test .taken) (e .before .before .row-start .ensures)))
+
+-- src/credit.rt:60:9
+row-start-requires : tie.Need-row-start-requires Inv-loop μ-loop
+row-start-requires c κs = (omega (arith, c .before .pre .0 .1), omega (arith, c .before .pre .0 .0, c .before .pre .0 .2))
+
+-- src/credit.rt:61:5
+loop-holds : tie.Need-loop-holds Inv-loop μ-loop
+loop-holds c = (search needs, all-zero (within (c .before .before)))
+
+-- src/credit.rt:62:37
+add-credit-word : tie.Need-add-credit-word Inv-loop μ-loop
+add-credit-word c = omega (arith, place c, entry c .pre .1 .0 .long)
+
+-- src/credit.rt:62:25
+credit-word-requires : tie.Need-credit-word-requires Inv-loop μ-loop
+credit-word-requires c κs = 
+    let s = entry c in
+    let g = c .before .loop .g in
+    record {
+      from-in = omega (arith, s .pre .0 .0, s .pre .0 .2);
+      grocer-in = omega (arith, s .pre .0 .1, c .loop-test .taken);
+      owner-long = omega (arith, s .pre .0 .3, c .loop-test .taken);
+      total-long = omega (arith, place c, s .pre .1 .0 .long);
+      statement-long = omega (arith, s .pre .1 .1 .long, c .loop-test .taken);
+      total-in = around-at 1_000_000_000_000_000 (s .args .k * s .args .m) (now (s .args .source)) (c .before .before .row-start .result + g) (s .pre .1 .0 .words-in) (place c);
+      statement-in = around-at 1_000_000_000_000_000 (s .args .m) (now (s .args .statement)) g (s .pre .1 .1 .words-in) (c .loop-test .taken);
+    }
+
+-- src/credit.rt:62:13
+amount-fits-requires : tie.Need-amount-fits-requires Inv-loop μ-loop
+amount-fits-requires c κs = search needs
+
+-- src/credit.rt:63:13
+returns : tie.Need-returns Inv-loop μ-loop
+returns c = 
+    let e = c .before .before .before in
+    sym (all-fails (entry e .args .m) (within (entry e)) (e .before .loop .g) (e .loop-test .taken) (sym (told (c .before)) ∙ not-true (c .before .amount-fits .result) (c .if1 .taken)))
+
+-- src/credit.rt:61:9
+add-g : tie.Need-add-g Inv-loop μ-loop
+add-g c = search needs
+
+-- src/credit.rt:61:5
+loop-less : tie.Need-loop-less Inv-loop μ-loop
+loop-less c = search needs
+
+-- src/credit.rt:61:5
+loop-again : tie.Need-loop-again Inv-loop μ-loop
+loop-again c = 
+    let e = c .before .before .before in
+    let g = e .before .loop .g in
+    (omega (arith, e .loop-test .taken), all-next g (within (entry e)) ∙ and-true (e .before .loop .inv .1) (sym (told (c .before)) ∙ not-false (c .before .amount-fits .result) (c .if1 .left)))
+
+-- src/credit.rt:46:1
+returns-2 : tie.Need-returns-2 Inv-loop μ-loop
+returns-2 c = 
+    let s = c .before .before .before .before in
+    sym (ap (λ (n : ℕ). all n (within s)) (le-antisymm (c .loop-test .left) (c .before .loop .inv .0)) ∙ c .before .loop .inv .1)
+
+pub credit-fits-spec : {M : Type 1} → statement M
+credit-fits-spec =
+    tie.close
+    (tie.spec
+    Inv-loop
+    μ-loop
+    row-start-requires
+    loop-holds
+    add-credit-word
+    credit-word-requires
+    amount-fits-requires
+    returns
+    add-g
+    loop-less
+    loop-again
+    returns-2)

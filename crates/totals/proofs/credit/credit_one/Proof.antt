@@ -1,0 +1,141 @@
+-- `totals::credit::credit_one` meets its contract. Assumes nothing.
+use mathlib.Core.Path.{_≡_, sym, ap, _∙_}
+use mathlib.Core.Bool.{Bool, true, false, cond}
+use lib.Dec.{lit≤}
+use lib.ListN.{getD, set}
+use lib.IntN.{ℤ, pos, _+ℤ_}
+use denote.Ref.{now}
+use borrow.Author.Tests.{not-true, not-false}
+use Rattle.laws.proofs.Signed.{read64}
+use Rattle.totals.specs.Credit.{credited}
+use Rattle.totals.proofs.Extra.{cond-yes, cond-no, sum-read, sum-fits}
+use borrow.Author.Needs.{needs}
+use Rattle.totals.proofs.credit.credit_one.Statement.{statement}
+use Rattle.totals.proofs.credit.credit_one.Tie as tie
+use Rattle.totals.proofs.credit.credit_one.Reads as reads
+use Rattle.totals.proofs.credit.credit_one.Lts as lts
+use Rattle.totals.proofs.credit.is_credited.Reads as is-credited-reads
+use Rattle.totals.proofs.num.plus.Reads as plus-reads
+
+abbrev test : tie.Start → Bool
+test s = credited (now (s .args .owner)) (now (s .args .sharers)) (s .args .a) (s .args .from) (s .args .g)
+
+abbrev old : tie.Start → ℤ
+old s = getD (now (s .args .statement)) (s .args .g) (pos 0)
+
+abbrev total : tie.Start → ℤ
+total s = getD (now (s .args .source)) (s .args .at) (pos 0)
+
+-- What the call says of the grocer.
+told : (c : tie.After-is-credited) → c .is-credited .result ≡ test (c .before .before .before .before)
+unfolding credited
+told c = c .is-credited .ensures
+
+-- src/credit.rt:83:21
+mul-is-credited : tie.Need-mul-is-credited
+mul-is-credited c = search needs
+
+-- src/credit.rt:83:21
+shared-slice-read-is-credited : tie.Need-shared-slice-read-is-credited
+shared-slice-read-is-credited c = search needs
+
+-- src/credit.rt:83:31
+mul-is-credited-2 : tie.Need-mul-is-credited-2
+mul-is-credited-2 c = search needs
+
+-- src/credit.rt:83:31
+element-copy-out-is-credited : tie.Need-element-copy-out-is-credited
+element-copy-out-is-credited c = search needs
+
+-- src/credit.rt:83:9
+is-credited-requires : tie.Need-is-credited-requires
+is-credited-requires c κs = search needs
+
+-- src/credit.rt:84:9
+returns : tie.Need-returns
+returns c = 
+    let s = c .before .before .before .before .before in
+    let is : test s ≡ false = sym (told (c .before)) ∙ not-true (c .before .is-credited .result) (c .if1 .taken) in (
+      sym (cond-no (test s) (set (now (s .args .source)) (s .args .at) (pos 0)) (now (s .args .source)) is),
+      sym (cond-no (test s) (set (now (s .args .statement)) (s .args .g) (old s +ℤ total s)) (now (s .args .statement)) is),
+    )
+
+-- src/credit.rt:86:18
+mul-plus : tie.Need-mul-plus
+mul-plus c = search needs
+
+-- src/credit.rt:86:18
+slice-copy-out-plus : tie.Need-slice-copy-out-plus
+slice-copy-out-plus c = search needs
+
+-- src/credit.rt:86:32
+mul-plus-2 : tie.Need-mul-plus-2
+mul-plus-2 c = search needs
+
+-- src/credit.rt:86:32
+slice-copy-out-plus-2 : tie.Need-slice-copy-out-plus-2
+slice-copy-out-plus-2 c = search needs
+
+-- src/credit.rt:86:9
+plus-requires : tie.Need-plus-requires
+plus-requires c κs = 
+    let s = c .before .before .before .before .before .before .before in
+    sum-fits (old s) (total s) 1_000_000_000_000_000 (lit≤ tt) (s .pre .statement-in) (s .pre .total-in) (c .before .plus-arg .given) (c .plus-arg2 .given)
+
+-- src/credit.rt:87:5
+mul-v : tie.Need-mul-v
+mul-v c = search needs
+
+-- src/credit.rt:87:5
+slice-set-from-v : tie.Need-slice-set-from-v
+slice-set-from-v c = search needs
+
+-- src/credit.rt:88:5
+mul-source : tie.Need-mul-source
+mul-source c = search needs
+
+-- src/credit.rt:88:5
+slice-set-of-source : tie.Need-slice-set-of-source
+slice-set-of-source c = search needs
+
+-- src/credit.rt:70:1
+same-length : tie.Need-same-length
+same-length c = search needs
+
+-- src/credit.rt:70:1
+same-length-2 : tie.Need-same-length-2
+same-length-2 c = search needs
+
+-- src/credit.rt:70:1
+returns-2 : tie.Need-returns-2
+returns-2 c = 
+    let s = c .before .before .before .before .before .before .before .before in
+    let is : test s ≡ true = sym (told (c .before .before .before .before)) ∙ not-false (c .before .before .before .before .is-credited .result) (c .before .before .before .if1 .left) in (
+      sym (cond-yes (test s) (set (now (s .args .source)) (s .args .at) (pos 0)) (now (s .args .source)) is),
+      ap (λ (z : ℤ). set (now (s .args .statement)) (s .args .g) z)
+          (read64 (c .plus .result) (c .plus .ok) ∙ c .plus .ensures ∙ sum-read (old s) (total s) (c .before .before .plus-arg .given) (c .before .plus-arg2 .given))
+      ∙ sym (cond-yes (test s) (set (now (s .args .statement)) (s .args .g) (old s +ℤ total s)) (now (s .args .statement)) is),
+    )
+
+pub credit-one-spec : {M : Type 1} → statement M
+credit-one-spec =
+    tie.close
+    (tie.spec
+    mul-is-credited
+    shared-slice-read-is-credited
+    mul-is-credited-2
+    element-copy-out-is-credited
+    is-credited-requires
+    returns
+    mul-plus
+    slice-copy-out-plus
+    mul-plus-2
+    slice-copy-out-plus-2
+    plus-requires
+    mul-v
+    slice-set-from-v
+    mul-source
+    slice-set-of-source
+    same-length
+    same-length-2
+    returns-2)

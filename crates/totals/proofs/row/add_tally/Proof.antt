@@ -1,0 +1,169 @@
+-- `totals::row::add_tally` meets its contract. Assumes nothing.
+use mathlib.Core.Path.{_≡_, sym, ap, ap₂, _∙_}
+use mathlib.Core.Bool.{Bool}
+use Prim.Native.Nat.{ℕ, _+_}
+use native.Mathlib.Nat.{le-trans}
+use native.Mathlib.Omega.{arith}
+use lib.Dec.{lit≤}
+use lib.ListN.{getD, set}
+use lib.IntN.{ℤ, pos, _+ℤ_, _*ℤ_}
+use denote.Ref.{now}
+use mir.Syntax.{w32, w64}
+use mir.Val.{toZ, ofZ}
+use borrow.Author.Tests.{not-true, not-false}
+use Rattle.laws.proofs.Signed.{read64, read32-abs, read-sum, fits64-as, abs-plus, abs-times-le}
+use Rattle.totals.specs.Row.{isTaken, productAt}
+use Rattle.totals.proofs.Rows.{raised-not, raised-by}
+use borrow.Author.Needs.{needs}
+use Rattle.totals.proofs.row.add_tally.Statement.{statement}
+use Rattle.totals.proofs.row.add_tally.Tie as tie
+use Rattle.totals.proofs.row.add_tally.Reads as reads
+use Rattle.totals.proofs.row.add_tally.Lts as lts
+use Rattle.totals.proofs.num.amount.Reads as amount-reads
+use Rattle.totals.proofs.num.index.Reads as index-reads
+use Rattle.totals.proofs.num.plus.Reads as plus-reads
+use Rattle.totals.proofs.row.is_taken.Reads as is-taken-reads
+
+abbrev taken : tie.Start → Bool
+taken s = isTaken (now (s .args .owner)) (now (s .args .holder)) (now (s .args .offer)) (s .args .a) (s .args .from) (s .args .i)
+
+abbrev product : tie.Start → ℤ
+product s = productAt (now (s .args .offer)) (now (s .args .counts)) (now (s .args .prices)) (s .args .at) (s .args .i)
+
+abbrev place : tie.Start → ℕ
+place s = getD (now (s .args .grocer)) (s .args .i) 0
+
+count-is : (s : tie.Start) → toZ w32 (ofZ w32 (getD (now (s .args .counts)) (s .args .i) (pos 0))) ≡ getD (now (s .args .counts)) (s .args .i) (pos 0)
+count-is s = read32-abs (getD (now (s .args .counts)) (s .args .i) (pos 0)) (le-trans (s .pre .0 .count-in) (lit≤ tt))
+
+-- What is added, and what it is added to.
+amount-is : (c : tie.After-amount) → c .amount .result ≡ product (c .before .before .before .before .before .before .before .before .before .before .before .before)
+amount-is c =
+    let s = c .before .before .before .before .before .before .before .before .before .before .before .before in
+    c .amount .ensures ∙ ap₂ (λ (z : ℤ) (o : ℕ). z *ℤ pos (getD (now (s .args .prices)) (s .args .at + o) 0)) (count-is s) (c .before .before .before .index .ensures)
+
+sum-is : (c : tie.After-plus-arg) →
+    toZ w64 (ofZ w64 (getD (now (c .before .before .before .before .before .before .before .before .before .before .before .before .before .before .before .args .row)) (c .before .index2 .result) (pos 0))) +ℤ toZ w64 (ofZ w64 (c .before .before .before .amount .result))
+    ≡ getD (now (c .before .before .before .before .before .before .before .before .before .before .before .before .before .before .before .args .row)) (place (c .before .before .before .before .before .before .before .before .before .before .before .before .before .before .before)) (pos 0) +ℤ product (c .before .before .before .before .before .before .before .before .before .before .before .before .before .before .before)
+sum-is c =
+    let s = c .before .before .before .before .before .before .before .before .before .before .before .before .before .before .before in
+    read-sum (c .plus-arg .given) (c .before .before .before .amount .ok) (ap (λ (g : ℕ). getD (now (s .args .row)) g (pos 0)) (c .before .index2 .ensures)) (amount-is (c .before .before .before))
+
+-- src/row.rt:89:9
+is-taken-requires : tie.Need-is-taken-requires
+is-taken-requires c κs = search needs
+
+-- src/row.rt:90:9
+returns : tie.Need-returns
+returns c = 
+    let s = c .before .before .before .before .before .before .before in
+    raised-not (now (s .args .row)) (place s) (taken s) (product s) (sym (c .before .is-taken .ensures) ∙ not-true (c .before .is-taken .result) (c .if1 .taken))
+
+-- src/row.rt:92:24
+mul-index : tie.Need-mul-index
+mul-index c = search needs
+
+-- src/row.rt:92:24
+shared-slice-read-index : tie.Need-shared-slice-read-index
+shared-slice-read-index c = search needs
+
+-- src/row.rt:92:18
+index-requires : tie.Need-index-requires
+index-requires c κs = search needs
+
+-- src/row.rt:92:13
+add-p : tie.Need-add-p
+add-p c = search needs
+
+-- src/row.rt:93:20
+mul-amount : tie.Need-mul-amount
+mul-amount c = search needs
+
+-- src/row.rt:93:20
+shared-slice-copy-out-amount : tie.Need-shared-slice-copy-out-amount
+shared-slice-copy-out-amount c = search needs
+
+-- src/row.rt:93:31
+mul-amount-2 : tie.Need-mul-amount-2
+mul-amount-2 c = search needs
+
+-- src/row.rt:93:31
+shared-slice-read-amount : tie.Need-shared-slice-read-amount
+shared-slice-read-amount c = search needs
+
+-- src/row.rt:93:9
+amount-requires : tie.Need-amount-requires
+amount-requires c κs = 
+    let s = c .before .before .before .before .before .before .before .before .before .before .before in
+    (rw (count-is s) (s .pre .0 .count-in), rw (c .before .before .index .ensures) (s .pre .0 .price-in))
+
+-- src/row.rt:94:19
+mul-index-2 : tie.Need-mul-index-2
+mul-index-2 c = search needs
+
+-- src/row.rt:94:19
+shared-slice-read-index-2 : tie.Need-shared-slice-read-index-2
+shared-slice-read-index-2 c = search needs
+
+-- src/row.rt:94:9
+index-requires-2 : tie.Need-index-requires-2
+index-requires-2 c κs = search needs
+
+-- src/row.rt:95:18
+mul-plus : tie.Need-mul-plus
+mul-plus c = search needs
+
+-- src/row.rt:95:18
+element-copy-out-plus : tie.Need-element-copy-out-plus
+element-copy-out-plus c = search needs
+
+-- src/row.rt:95:9
+plus-requires : tie.Need-plus-requires
+plus-requires c κs = 
+    let s = c .before .before .before .before .before .before .before .before .before .before .before .before .before .before .before in
+    fits64-as (sum-is c) (omega (
+      arith,
+      abs-plus (getD (now (s .args .row)) (place s) (pos 0)) (product s),
+      s .pre .1,
+      abs-times-le (getD (now (s .args .counts)) (s .args .i) (pos 0)) (pos (getD (now (s .args .prices)) (s .args .at + getD (now (s .args .offer)) (s .args .i) 0) 0)) (s .pre .0 .count-in) (s .pre .0 .price-in),
+    ))
+
+-- src/row.rt:96:5
+mul-v : tie.Need-mul-v
+mul-v c = search needs
+
+-- src/row.rt:96:5
+element-set-from-v : tie.Need-element-set-from-v
+element-set-from-v c = search needs
+
+-- src/row.rt:71:1
+returns-2 : tie.Need-returns-2
+returns-2 c = 
+    let s = c .before .before .before .before .before .before .before .before .before .before .before .before .before .before .before .before in
+    ap₂ (set (now (s .args .row))) (c .before .before .index2 .ensures) (read64 (c .plus .result) (c .plus .ok) ∙ c .plus .ensures ∙ sum-is (c .before))
+    ∙ raised-by (now (s .args .row)) (place s) (taken s) (product s) (sym (c .before .before .before .before .before .before .before .before .before .before .is-taken .ensures) ∙ not-false (c .before .before .before .before .before .before .before .before .before .before .is-taken .result) (c .before .before .before .before .before .before .before .before .before .if1 .left))
+
+pub add-tally-spec : {M : Type 1} → statement M
+add-tally-spec =
+    tie.close
+    (tie.spec
+    is-taken-requires
+    returns
+    mul-index
+    shared-slice-read-index
+    index-requires
+    add-p
+    mul-amount
+    shared-slice-copy-out-amount
+    mul-amount-2
+    shared-slice-read-amount
+    amount-requires
+    mul-index-2
+    shared-slice-read-index-2
+    index-requires-2
+    mul-plus
+    element-copy-out-plus
+    plus-requires
+    mul-v
+    element-set-from-v
+    returns-2)

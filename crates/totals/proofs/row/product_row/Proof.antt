@@ -1,0 +1,147 @@
+-- `totals::row::product_row` meets its contract. The invariant: each word is the word at entry with the tallies passed added. Assumes nothing.
+use mathlib.Core.Path.{_≡_, refl, sym, ap, ap₂, _∙_, subst}
+use mathlib.Core.List.{List}
+use Prim.Native.Nat.{ℕ, _≤_, _<_, _+_, _*_, _-_}
+use native.Mathlib.Nat.{le-antisymm}
+use native.Mathlib.Omega.{arith}
+use lib.ListN.{length, getD, length-set}
+use lib.IntN.{ℤ, pos, natAbs, _+ℤ_, +ℤ-idr}
+use denote.Ref.{now}
+use borrow.Author.Needs.{needs}
+use Rattle.laws.specs.Below.{amounts, sum}
+use Rattle.laws.proofs.Loops.{share, pile-more}
+use Rattle.laws.proofs.Tables.{is-tabulate}
+use Rattle.model.specs.Ranges.{maxGrocers}
+use Rattle.totals.specs.Row.{Tallies, tallies, brings, raised, rowOf, productRow}
+use Rattle.totals.proofs.Extra.{sum-zero, pile-size}
+use Rattle.totals.proofs.Rows.{tally-in, brought-abs, brought-sum, row-word, row-size}
+use Rattle.totals.proofs.row.product_row.Statement.{statement}
+use Rattle.totals.proofs.row.product_row.Tie as tie
+use Rattle.totals.proofs.row.product_row.Reads as reads
+use Rattle.totals.proofs.row.product_row.Lts as lts
+use Rattle.totals.proofs.num.row_start.Reads as row-start-reads
+use Rattle.totals.proofs.row.add_tally.Reads as add-tally-reads
+use Rattle.totals.proofs.row.row_at.Reads as row-at-reads
+
+abbrev Inv-loop : tie.InvT-loop
+Inv-loop k m n t a from owner grocer holder offer counts prices working row₀ at i₀ row i = 
+    (i ≤ t)
+    × (length row ≡ 255)
+    × ((g : ℕ) → getD row g (pos 0) ≡ getD row₀ g (pos 0) +ℤ sum amounts i (share (λ j. getD grocer j 0) (brings owner holder offer counts prices a from at) g))
+
+abbrev μ-loop : tie.MeasureT-loop
+μ-loop k m n t a from owner grocer holder offer counts prices working row₀ at i₀ row i = t - i
+
+abbrev Start : Type 0
+Start = tie.Start Inv-loop μ-loop
+
+abbrev tables : Start → Tallies
+tables s = tallies (s .args .k) (s .args .m) (s .args .n) (s .args .t) (now (s .args .owner)) (now (s .args .grocer)) (now (s .args .holder)) (now (s .args .offer)) (now (s .args .counts))
+
+abbrev prices : Start → List ℕ
+prices s = now (s .args .prices)
+
+abbrev brought : Start → ℕ → ℕ → ℤ
+brought s at = brings (now (s .args .owner)) (now (s .args .holder)) (now (s .args .offer)) (now (s .args .counts)) (prices s) (s .args .a) (s .args .from) at
+
+abbrev place : Start → ℕ → ℕ
+place s i = getD (now (s .args .grocer)) i 0
+
+abbrev began : tie.In-loop Inv-loop μ-loop → tie.After-row-start Inv-loop μ-loop
+began c = c .before .before
+
+abbrev entry : tie.After-row-start Inv-loop μ-loop → Start
+entry c = c .before .before .before .before .before .before .before
+
+-- A grocer's place is within the row, and the row's word there is small enough to add to.
+grocer-in : (c : tie.In-loop Inv-loop μ-loop) → place (entry (began c)) (c .before .loop .i) < 255
+grocer-in c =
+    let s = entry (began c) in
+    tally-in (tables s) (prices s) (s .args .a) (s .args .from) (began c .row-start .result) (s .pre .0) (s .pre .1 .0) (s .pre .1 .1 .1) (began c .row-start .ensures) (c .before .loop .i) (c .loop-test .taken) .grocer-in
+
+small : (c : tie.In-loop Inv-loop μ-loop) → natAbs (getD (c .before .loop .row) (place (entry (began c)) (c .before .loop .i)) (pos 0)) ≤ 2_000_000_000_000_000
+small c =
+    let s = entry (began c) in
+    let at = began c .row-start .result in
+    let i = c .before .loop .i in
+    omega (
+      arith,
+      s .pre .0 .tallies-in,
+      c .loop-test .taken,
+      pile-size (began c .before .row-at .result) (c .before .loop .row) (place s) (brought s at) i (place s i) 1_000_000_000_000_000 999_989_900_001 (c .before .loop .inv .2 (place s i))
+          (subst (λ (r : List ℤ). natAbs (getD r (place s i) (pos 0)) ≤ 1_000_000_000_000_000) (sym (began c .before .row-at .ensures)) (row-size (s .args .k) (s .args .m) (s .args .a) (now (s .args .working)) (place s i) (s .pre .1 .1 .0) (grocer-in c)))
+          (λ r l. brought-abs (tables s) (prices s) (s .args .a) (s .args .from) at (s .pre .0) (s .pre .1 .0) (s .pre .1 .1 .1) (began c .row-start .ensures) r (omega (arith, l, c .loop-test .taken))),
+    )
+
+-- src/row.rt:121:19
+row-at-requires : tie.Need-row-at-requires Inv-loop μ-loop
+row-at-requires c κs = let s = c .before .before .before .before .before in (s .pre .0 .boxes-in, s .pre .0 .grocers-in, s .pre .1 .1 .1, s .pre .1 .1 .0 .long)
+
+-- src/row.rt:122:9
+row-start-requires : tie.Need-row-start-requires Inv-loop μ-loop
+row-start-requires c κs = let s = c .before .before .before .before .before .before in (s .pre .0 .offers-in, omega (arith, s .pre .0 .boxes-in, s .pre .1 .1 .1))
+
+-- src/row.rt:123:5
+loop-holds : tie.Need-loop-holds Inv-loop μ-loop
+loop-holds c = 
+    let s = c .before .before .before .before .before .before .before in
+    let row = c .before .row-at .result in
+    (search needs, search needs, λ g. sym (ap (λ (z : ℤ). getD row g (pos 0) +ℤ z) (sum-zero (share (place s) (brought s (c .row-start .result)) g)) ∙ +ℤ-idr (getD row g (pos 0))))
+
+-- src/row.rt:124:9
+add-tally-requires : tie.Need-add-tally-requires Inv-loop μ-loop
+add-tally-requires c κs = 
+    let s = entry (began (c .before)) in
+    (tally-in (tables s) (prices s) (s .args .a) (s .args .from) (began (c .before) .row-start .result) (s .pre .0) (s .pre .1 .0) (s .pre .1 .1 .1) (began (c .before) .row-start .ensures) (c .before .before .loop .i) (c .before .loop-test .taken), small (c .before))
+
+-- src/row.rt:123:9
+add-i : tie.Need-add-i Inv-loop μ-loop
+add-i c = search needs
+
+-- src/row.rt:123:5
+loop-less : tie.Need-loop-less Inv-loop μ-loop
+loop-less c = search needs
+
+-- src/row.rt:123:5
+loop-again : tie.Need-loop-again Inv-loop μ-loop
+loop-again c = 
+    let e = c .before .before in
+    let s = entry (began e) in
+    let i = e .before .loop .i in
+    let row = e .before .loop .row in
+    let at = began e .row-start .result in
+    let inv = e .before .loop .inv in
+    let stored : c .add-tally .last .1 .1 .1 .1 .1 .1 .1 .1 .1 .1 .1 .0 ≡ raised row (place s i) (brought s at i) = c .add-tally .ensures in (
+      omega (arith, e .loop-test .taken),
+      ap length stored ∙ length-set row (place s i) _ ∙ inv .1,
+      λ g. ap (λ (l : List ℤ). getD l g (pos 0)) stored ∙ pile-more (began e .before .row-at .result) row (place s) (brought s at) i (inv .2) (omega (arith, grocer-in e, inv .1)) g,
+    )
+
+-- src/row.rt:100:1
+returns : tie.Need-returns Inv-loop μ-loop
+unfolding productRow
+returns c = 
+    let b = c .before .before in
+    let s = entry b in
+    let inv = c .before .loop .inv in
+    is-tabulate (c .before .loop .row) 255 _ (pos 0) (inv .1)
+    (λ g l. inv .2 g
+    ∙ ap₂ _+ℤ_
+    (ap (λ (r : List ℤ). getD r g (pos 0)) (b .before .row-at .ensures) ∙ row-word (s .args .k) (s .args .m) (s .args .a) (now (s .args .working)) g l)
+    (ap (λ (n : ℕ). sum amounts n (share (place s) (brought s (b .row-start .result)) g)) (le-antisymm (inv .0) (c .loop-test .left))
+    ∙ brought-sum (tables s) (prices s) (s .args .a) (s .args .from) (b .row-start .result) (s .pre .0) (s .pre .1 .0) (s .pre .1 .1 .1) (b .row-start .ensures) g))
+
+pub product-row-spec : {M : Type 1} → statement M
+product-row-spec =
+    tie.close
+    (tie.spec
+    Inv-loop
+    μ-loop
+    row-at-requires
+    row-start-requires
+    loop-holds
+    add-tally-requires
+    add-i
+    loop-less
+    loop-again
+    returns)

@@ -1,0 +1,118 @@
+use mathlib.Core.Path.{_≡_, refl, sym, ap, ap₂, _∙_}
+use mathlib.Core.Bool.{Bool, true, false, cond, _&&_}
+use Prim.Native.Nat.{ℕ, _≤_, _<_, _-_, _+_, _*_}
+use native.Mathlib.Omega.{arith}
+use native.Mathlib.Nat.{le-antisymm}
+use lib.ListN.{length, getD, length-set}
+use lib.Dec.{ltb, leb}
+use lib.IntN.{ℤ, pos, natAbs}
+use denote.Ref.{now}
+use borrow.Author.Needs.{needs}
+use Rattle.laws.specs.Below.{all}
+use Rattle.laws.specs.Tables.{cell}
+use Rattle.laws.proofs.Signed.{read64}
+use Rattle.laws.proofs.Loops.{guarded, guarded-none, guarded-more, getD-zeros, stored-more, front-here, front-else}
+use Rattle.laws.proofs.Tables.{is-tabulate}
+use borrow.Author.Tests.{le-ltb}
+use Rattle.laws.proofs.Below.{all-next, all-fails}
+use Rattle.model.specs.Ranges.{maxAmount, around}
+use Rattle.totals.specs.Row.{rowOf, putRow}
+use Rattle.totals.proofs.Extra.{row-in, cell-in-row, cond-no}
+use Rattle.totals.proofs.row.row_at.Statement.{statement}
+use Rattle.totals.proofs.row.row_at.Tie as tie
+use Rattle.totals.proofs.row.row_at.Reads as reads
+use Rattle.totals.proofs.row.row_at.Lts as lts
+use Rattle.totals.proofs.num.row_start.Reads as row-start-reads
+
+abbrev Inv-loop : tie.InvT-loop
+Inv-loop k m a working row₀ at g₀ row g = (g ≤ m) × (length row ≡ 255) × ((i : ℕ) → getD row i (pos 0) ≡ cond (ltb i g) (getD working (at + i) (pos 0)) (pos 0))
+
+abbrev μ-loop : tie.MeasureT-loop
+μ-loop k m a working row₀ at g₀ row g = m - g
+
+-- A word of the row lies within the table.
+place : (c : tie.In-loop Inv-loop μ-loop) → c .before .before .row-start .result + c .before .loop .g < length (now (c .before .before .before .args .working))
+place c =
+    let s = c .before .before .before in
+    omega (arith, row-in (s .args .a) (s .args .k) (s .args .m) (s .pre .2), c .before .before .row-start .ensures, s .pre .3, c .loop-test .taken)
+
+-- src/row.rt:47:9
+row-start-requires : tie.Need-row-start-requires Inv-loop μ-loop
+row-start-requires c κs = (omega (arith, c .pre .1), omega (arith, c .pre .0, c .pre .2))
+
+-- src/row.rt:48:5
+loop-holds : tie.Need-loop-holds Inv-loop μ-loop
+loop-holds c = (search needs, refl, λ i. getD-zeros 255 i (pos 0) ∙ sym (cond-no _ (getD (now (c .before .args .working)) (c .row-start .result + i) (pos 0)) (pos 0) (le-ltb i 0 (omega arith))))
+
+-- src/row.rt:49:17
+add-i : tie.Need-add-i Inv-loop μ-loop
+add-i c = omega (arith, place c)
+
+-- src/row.rt:50:17
+mul-v : tie.Need-mul-v Inv-loop μ-loop
+mul-v c = omega (arith, place c)
+
+-- src/row.rt:50:17
+shared-slice-copy-out-v : tie.Need-shared-slice-copy-out-v Inv-loop μ-loop
+shared-slice-copy-out-v c = omega (arith, place c)
+
+-- src/row.rt:51:9
+mul-row : tie.Need-mul-row Inv-loop μ-loop
+mul-row c = search needs
+
+-- src/row.rt:51:9
+array-set-from-row : tie.Need-array-set-from-row Inv-loop μ-loop
+array-set-from-row c = search needs
+
+-- src/row.rt:48:9
+add-g : tie.Need-add-g Inv-loop μ-loop
+add-g c = search needs
+
+-- src/row.rt:48:5
+loop-less : tie.Need-loop-less Inv-loop μ-loop
+loop-less c = search needs
+
+-- src/row.rt:48:5
+loop-again : tie.Need-loop-again Inv-loop μ-loop
+loop-again c = 
+    let e = c .before in
+    let s = e .before .before .before in
+    let at = e .before .before .row-start .result in
+    let g = e .before .loop .g in
+    let row = e .before .loop .row in
+    let w = now (s .args .working) in
+    let inv = e .before .loop .inv in (
+      omega (arith, e .loop-test .taken),
+      length-set row _ _ ∙ inv .1,
+      stored-more row (pos 0) (λ i. getD w (at + i) (pos 0)) (λ i. pos 0) (λ i. ltb i g) (λ i. ltb i (g + 1)) g (omega (arith, e .loop-test .taken, s .pre .1, inv .1)) (inv .2) (front-here g) (front-else g) _
+          (read64 (getD w (at + g) (pos 0)) (c .v .given)),
+    )
+
+-- src/row.rt:42:1
+returns : tie.Need-returns Inv-loop μ-loop
+unfolding rowOf
+returns c = 
+    let s = c .before .before .before in
+    let inv = c .before .loop .inv in
+    is-tabulate (c .before .loop .row) 255 _ (pos 0) (inv .1)
+    (λ i l. inv .2 i
+    ∙ ap₂ (λ (x y : ℕ). cond (ltb i x) (getD (now (s .args .working)) (y + i) (pos 0)) (pos 0)) (le-antisymm (inv .0) (c .loop-test .left)) (c .before .before .row-start .ensures)
+    ∙ sym (cell-in-row (s .args .k) (s .args .m) (now (s .args .working)) (pos 0) (s .args .a) i (s .pre .2)))
+
+pub row-at-spec : {M : Type 1} → statement M
+row-at-spec =
+    tie.close
+    (tie.spec
+    Inv-loop
+    μ-loop
+    row-start-requires
+    loop-holds
+    add-i
+    mul-v
+    shared-slice-copy-out-v
+    mul-row
+    array-set-from-row
+    add-g
+    loop-less
+    loop-again
+    returns)

@@ -1,0 +1,118 @@
+-- `totals::send::send_one` meets its contract. Assumes nothing.
+use mathlib.Core.Path.{_≡_, sym, ap, _∙_}
+use mathlib.Core.Bool.{Bool, true, false, cond}
+use lib.ListN.{getD, set}
+use lib.IntN.{ℤ, pos}
+use denote.Ref.{now}
+use borrow.Author.Tests.{not-true, not-false}
+use Rattle.laws.proofs.Signed.{read64}
+use Rattle.words.specs.Message.{wordIn}
+use Rattle.totals.proofs.Extra.{cond-yes, cond-no, only-one, only-none}
+use borrow.Author.Needs.{needs}
+use Rattle.totals.proofs.send.send_one.Statement.{statement}
+use Rattle.totals.proofs.send.send_one.Tie as tie
+use Rattle.totals.proofs.send.send_one.Reads as reads
+use Rattle.totals.proofs.send.send_one.Lts as lts
+use Rattle.words.proofs.in_message.Reads as in-message-reads
+
+abbrev test : tie.Start → Bool
+test s = wordIn (now (s .args .owner)) (now (s .args .sharers)) (s .args .b) (s .args .a) (s .args .g)
+
+-- What the call says of the word.
+told : (c : tie.After-in-message) → c .in-message .result ≡ test (c .before .before .before .before)
+unfolding wordIn
+told c = c .in-message .ensures
+
+-- src/send.rt:26:27
+mul-in-message : tie.Need-mul-in-message
+mul-in-message c = search needs
+
+-- src/send.rt:26:27
+shared-slice-read-in-message : tie.Need-shared-slice-read-in-message
+shared-slice-read-in-message c = search needs
+
+-- src/send.rt:26:37
+mul-in-message-2 : tie.Need-mul-in-message-2
+mul-in-message-2 c = search needs
+
+-- src/send.rt:26:37
+element-copy-out-in-message : tie.Need-element-copy-out-in-message
+element-copy-out-in-message c = search needs
+
+-- src/send.rt:26:9
+in-message-requires : tie.Need-in-message-requires
+in-message-requires c κs = search needs
+
+-- src/send.rt:27:9
+returns : tie.Need-returns
+returns c = 
+    let s = c .before .before .before .before .before in
+    let is : test s ≡ false = sym (told (c .before)) ∙ not-true (c .before .in-message .result) (c .if1 .taken) in (
+      only-none (test s) is,
+      sym (cond-no (test s) (set (now (s .args .working)) (s .args .at) (pos 0)) (now (s .args .working)) is),
+      sym (cond-no (test s) (set (now (s .args .transit)) (s .args .at) (getD (now (s .args .working)) (s .args .at) (pos 0))) (now (s .args .transit)) is),
+    )
+
+-- src/send.rt:29:13
+mul-v : tie.Need-mul-v
+mul-v c = search needs
+
+-- src/send.rt:29:13
+slice-copy-out-v : tie.Need-slice-copy-out-v
+slice-copy-out-v c = search needs
+
+-- src/send.rt:30:5
+mul-v-2 : tie.Need-mul-v-2
+mul-v-2 c = search needs
+
+-- src/send.rt:30:5
+slice-set-from-v : tie.Need-slice-set-from-v
+slice-set-from-v c = search needs
+
+-- src/send.rt:31:5
+mul-working : tie.Need-mul-working
+mul-working c = search needs
+
+-- src/send.rt:31:5
+slice-set-of-working : tie.Need-slice-set-of-working
+slice-set-of-working c = search needs
+
+-- src/send.rt:13:1
+same-length : tie.Need-same-length
+same-length c = search needs
+
+-- src/send.rt:13:1
+same-length-2 : tie.Need-same-length-2
+same-length-2 c = search needs
+
+-- src/send.rt:13:1
+returns-2 : tie.Need-returns-2
+returns-2 c = 
+    let s = c .before .before .before .before .before .before in
+    let w = now (s .args .working) in
+    let is : test s ≡ true = sym (told (c .before .before)) ∙ not-false (c .before .before .in-message .result) (c .before .if1 .left) in (
+      only-one (test s) is,
+      sym (cond-yes (test s) (set w (s .args .at) (pos 0)) w is),
+      ap (λ (z : ℤ). set (now (s .args .transit)) (s .args .at) z) (read64 (getD w (s .args .at) (pos 0)) (c .v .given))
+      ∙ sym (cond-yes (test s) (set (now (s .args .transit)) (s .args .at) (getD w (s .args .at) (pos 0))) (now (s .args .transit)) is),
+    )
+
+pub send-one-spec : {M : Type 1} → statement M
+send-one-spec =
+    tie.close
+    (tie.spec
+    mul-in-message
+    shared-slice-read-in-message
+    mul-in-message-2
+    element-copy-out-in-message
+    in-message-requires
+    returns
+    mul-v
+    slice-copy-out-v
+    mul-v-2
+    slice-set-from-v
+    mul-working
+    slice-set-of-working
+    same-length
+    same-length-2
+    returns-2)

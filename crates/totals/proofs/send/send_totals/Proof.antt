@@ -1,0 +1,171 @@
+-- `totals::send::send_totals` meets its contract. The invariant: of the grocers passed, the totals in the message are in transit, counted, and 0 where they were. Assumes nothing.
+use mathlib.Core.Path.{_≡_, refl, sym, ap, ap₂, _∙_}
+use mathlib.Core.Bool.{Bool, cond}
+use mathlib.Core.List.{List}
+use Prim.Native.Nat.{ℕ, _≤_, _<_, _+_, _*_, _-_}
+use native.Mathlib.Nat.{le-antisymm}
+use native.Mathlib.Omega.{arith}
+use lib.ListN.{length, getD}
+use lib.IntN.{ℤ, pos}
+use denote.Ref.{now}
+use borrow.Author.Needs.{needs}
+use Rattle.laws.specs.Below.{count}
+use Rattle.laws.specs.Tables.{cell}
+use Rattle.laws.proofs.Below.{count-next, count-le, only-le}
+use Rattle.laws.proofs.Loops.{guarded, guarded-more, guarded-next, guarded-none}
+use Rattle.words.specs.Message.{wordIn}
+use Rattle.totals.specs.Credit.{cleared, sentTotals}
+use Rattle.totals.proofs.Extra.{count-start, cond-no, row-in, row-stored, cell-at}
+use Rattle.totals.proofs.send.send_totals.Statement.{statement}
+use Rattle.totals.proofs.send.send_totals.Tie as tie
+use Rattle.totals.proofs.send.send_totals.Reads as reads
+use Rattle.totals.proofs.send.send_totals.Lts as lts
+use Rattle.totals.proofs.num.row_start.Reads as row-start-reads
+use Rattle.totals.proofs.send.send_one.Reads as send-one-reads
+
+abbrev Inv-loop : tie.InvT-loop
+Inv-loop k m a b owner sharers working₀ transit₀ at sent₀ g₀ working transit sent g = 
+    (g ≤ m)
+    × (sent ≡ count g (wordIn owner sharers b a))
+    × (length working ≡ length working₀)
+    × (length transit ≡ length transit₀)
+    × ((i : ℕ) → getD working i (pos 0) ≡ cond (guarded at g (wordIn owner sharers b a) i) (pos 0) (getD working₀ i (pos 0)))
+    × ((i : ℕ) → getD transit i (pos 0) ≡ cond (guarded at g (wordIn owner sharers b a) i) (getD working₀ i (pos 0)) (getD transit₀ i (pos 0)))
+
+abbrev μ-loop : tie.MeasureT-loop
+μ-loop k m a b owner sharers working₀ transit₀ at sent₀ g₀ working transit sent g = m - g
+
+abbrev Start : Type 0
+Start = tie.Start Inv-loop μ-loop
+
+abbrev test : Start → ℕ → Bool
+test s = wordIn (now (s .args .owner)) (now (s .args .sharers)) (s .args .b) (s .args .a)
+
+abbrev was : Start → ℕ → ℤ
+was s i = getD (now (s .args .working)) i (pos 0)
+
+abbrev way : Start → ℕ → ℤ
+way s i = getD (now (s .args .transit)) i (pos 0)
+
+abbrev entry : tie.In-loop Inv-loop μ-loop → Start
+entry c = c .before .before .before .before
+
+abbrev start : tie.In-loop Inv-loop μ-loop → ℕ
+start c = c .before .before .row-start .result
+
+-- A word of the row lies within a table.
+place : (c : tie.In-loop Inv-loop μ-loop) → start c + c .before .loop .g < entry c .args .k * entry c .args .m
+place c =
+    let s = entry c in
+    omega (arith, row-in (s .args .a) (s .args .k) (s .args .m) (s .pre .2), c .before .before .row-start .ensures, c .loop-test .taken)
+
+-- src/send.rt:49:9
+row-start-requires : tie.Need-row-start-requires Inv-loop μ-loop
+row-start-requires c κs = (omega (arith, c .before .pre .1), omega (arith, c .before .pre .0, c .before .pre .2))
+
+-- src/send.rt:51:5
+loop-holds : tie.Need-loop-holds Inv-loop μ-loop
+loop-holds c = 
+    let s = c .before .before in (
+      search needs,
+      sym (count-start (test s)),
+      refl,
+      refl,
+      λ i. sym (cond-no _ (pos 0) (was s i) (guarded-none (c .row-start .result) (test s) i)),
+      λ i. sym (cond-no _ (was s i) (way s i) (guarded-none (c .row-start .result) (test s) i)),
+    )
+
+-- src/send.rt:52:26
+add-send-one : tie.Need-add-send-one Inv-loop μ-loop
+add-send-one c = let s = entry c in omega (arith, place c, s .pre .4)
+
+-- src/send.rt:52:17
+send-one-requires : tie.Need-send-one-requires Inv-loop μ-loop
+send-one-requires c κs = 
+    let e = c .before .before in
+    let s = entry e in
+    let inv = e .before .loop .inv in (
+      omega (arith, s .pre .0, s .pre .2),
+      omega (arith, s .pre .1, e .loop-test .taken),
+      omega (arith, s .pre .3, e .loop-test .taken),
+      omega (arith, place e, s .pre .4, inv .2),
+      omega (arith, place e, s .pre .5, inv .3),
+    )
+
+-- src/send.rt:52:9
+add-sent : tie.Need-add-sent Inv-loop μ-loop
+add-sent c = 
+    let e = c .before .before .before .before .before in
+    let s = entry e in
+    let g = e .before .loop .g in
+    omega (arith, count-le g (test s), only-le (test s g) 1, c .before .before .send-one .ensures .0, e .before .loop .inv .1, e .loop-test .taken, s .pre .1)
+
+-- src/send.rt:51:9
+add-g : tie.Need-add-g Inv-loop μ-loop
+add-g c = search needs
+
+-- src/send.rt:51:5
+loop-less : tie.Need-loop-less Inv-loop μ-loop
+loop-less c = search needs
+
+-- src/send.rt:51:5
+loop-again : tie.Need-loop-again Inv-loop μ-loop
+loop-again c = 
+    let e = c .before .before .before .before .before in
+    let s = entry e in
+    let at = start e in
+    let g = e .before .loop .g in
+    let inv = e .before .loop .inv in
+    let call = c .before .before .send-one in (
+      omega (arith, e .loop-test .taken),
+      ap₂ _+_ (inv .1) (call .ensures .0) ∙ sym (count-next g (test s)),
+      call .kept .1 .1 .1 .1 .1 .1 .0 ∙ inv .2,
+      call .kept .1 .1 .1 .1 .1 .1 .1 .0 ∙ inv .3,
+      λ i. ap (λ (l : List ℤ). getD l i (pos 0)) (call .ensures .1)
+          ∙ guarded-more (e .before .loop .working) (pos 0) (λ i. pos 0) (was s) at g (test s) (omega (arith, place e, s .pre .4, inv .2)) (inv .4) (pos 0) refl i,
+      λ i. ap (λ (l : List ℤ). getD l i (pos 0)) (call .ensures .2)
+          ∙ guarded-more (e .before .loop .transit) (pos 0) (was s) (way s) at g (test s) (omega (arith, place e, s .pre .5, inv .3)) (inv .5) _ (inv .4 (at + g) ∙ cond-no _ (pos 0) (was s (at + g)) (guarded-next at g (test s))) i,
+    )
+
+-- src/send.rt:36:1
+same-length : tie.Need-same-length Inv-loop μ-loop
+same-length c = c .before .loop .inv .2
+
+-- src/send.rt:36:1
+same-length-2 : tie.Need-same-length-2 Inv-loop μ-loop
+same-length-2 c = c .before .loop .inv .3
+
+-- src/send.rt:36:1
+returns : tie.Need-returns Inv-loop μ-loop
+unfolding cleared sentTotals
+returns c = 
+    let s = c .before .before .before .before in
+    let k = s .args .k in
+    let m = s .args .m in
+    let a = s .args .a in
+    let at = c .before .before .row-start in
+    let inv = c .before .loop .inv in
+    let done : c .before .loop .g ≡ m = le-antisymm (inv .0) (c .loop-test .left) in (
+      inv .1 ∙ ap (λ (n : ℕ). count n (test s)) done,
+      row-stored k m a (at .result) (c .before .loop .g) (now (s .args .working)) (c .before .loop .working) (pos 0) (test s) (λ i. pos 0) (λ g. pos 0) (s .pre .2) (s .pre .4) (at .ensures) done (inv .2) (inv .4) (λ o l. refl),
+      row-stored k m a (at .result) (c .before .loop .g) (now (s .args .transit)) (c .before .loop .transit) (pos 0) (test s) (was s) (cell k m (now (s .args .working)) (pos 0) a) (s .pre .2) (s .pre .5) (at .ensures) done (inv .3) (inv .5)
+          (λ o l. sym (cell-at k m (now (s .args .working)) (pos 0) a o (s .pre .2) l)),
+    )
+
+pub send-totals-spec : {M : Type 1} → statement M
+send-totals-spec =
+    tie.close
+    (tie.spec
+    Inv-loop
+    μ-loop
+    row-start-requires
+    loop-holds
+    add-send-one
+    send-one-requires
+    add-sent
+    add-g
+    loop-less
+    loop-again
+    same-length
+    same-length-2
+    returns)

@@ -1,0 +1,55 @@
+// Step 4: box a sends totals of box b's grocers, and its working totals of them become 0.
+ghost use mathlib.Core.Path.{_≡_};
+ghost use mathlib.Core.Bool.{cond};
+ghost use Prim.Native.Nat.{_*_, _≤_, _<_};
+ghost use lib.ListN.{length, getD, set};
+ghost use lib.IntN.{pos};
+ghost use Rattle.laws.specs.Below.{words, only, count};
+ghost use Rattle.words.specs.Message.{wordIn};
+ghost use Rattle.totals.specs.Credit.{cleared, sentTotals};
+use crate::num::row_start;
+
+// Sends the total of grocer g, which is at a place, if it stands in the message from box a to box b: 1 if it does, else 0.
+fn send_one(
+    at: usize,
+    a: u16,
+    b: u16,
+    g: usize,
+    owner: &[u16],
+    sharers: &[u16; 255],
+    working: &mut [i64],
+    transit: &mut [i64],
+) -> u32
+    requires { ⌜ (a < 16) × (g < 255) × (g < length (now owner)) × (at < length (now working)) × (at < length (now transit)) ⌝ }
+    ensures { λ r. ⌜ (r ≡ only words (wordIn (now (owner .entry)) (now (sharers .entry)) b a g) 1) × (now (working .exit) ≡ cond (wordIn (now (owner .entry)) (now (sharers .entry)) b a g) (set (now (working .entry)) at (pos 0)) (now (working .entry))) × (now (transit .exit) ≡ cond (wordIn (now (owner .entry)) (now (sharers .entry)) b a g) (set (now (transit .entry)) at (getD (now (working .entry)) at (pos 0))) (now (transit .entry))) ⌝ }
+{
+    if !words::in_message(owner[g], sharers[g], b, a) {
+        return 0;
+    }
+    let v = working[at];
+    transit[at] = v;
+    working[at] = 0;
+    1
+}
+
+// Step 4 of box a to box b: the number of totals sent.
+pub fn send_totals(
+    k: usize,
+    m: usize,
+    a: u16,
+    b: u16,
+    owner: &[u16],
+    sharers: &[u16; 255],
+    working: &mut [i64],
+    transit: &mut [i64],
+) -> u32
+    requires { ⌜ (k ≤ 16) × (m ≤ 255) × (a < k) × (m ≤ length (now owner)) × (k * m ≤ length (now working)) × (k * m ≤ length (now transit)) ⌝ }
+    ensures { λ r. ⌜ (r ≡ count m (wordIn (now (owner .entry)) (now (sharers .entry)) b a)) × (now (working .exit) ≡ cleared k m a (wordIn (now (owner .entry)) (now (sharers .entry)) b a) (now (working .entry))) × (now (transit .exit) ≡ sentTotals k m a (wordIn (now (owner .entry)) (now (sharers .entry)) b a) (now (working .entry)) (now (transit .entry))) ⌝ }
+{
+    let at = row_start(m, a);
+    let mut sent: u32 = 0;
+    for g in 0..m {
+        sent += send_one(at + g, a, b, g, owner, sharers, working, transit);
+    }
+    sent
+}
