@@ -1,0 +1,192 @@
+-- What the requirement of applying a step says, fact by fact. Assumes nothing.
+use mathlib.Core.Path.{_≡_, sym}
+use mathlib.Core.Bool.{Bool, true, false, cond, not, false≢true}
+use mathlib.Core.List.{List, [], _∷_}
+use Prim.Native.Nat.{ℕ, _*_, _≤_, _<_}
+use native.Mathlib.Omega.{arith}
+use lib.Dec.{eqb, ltb, leb}
+use lib.ListN.{length}
+use borrow.Author.Tests.{ltb-true, leb-true, eqb-false, not-true}
+use Rattle.laws.specs.Tables.{tabulate}
+use Rattle.laws.proofs.Bools.{and-l, and-r}
+use Rattle.laws.proofs.Checks.{each-of}
+use Rattle.model.specs.Job.{needWord, sharerWord}
+use Rattle.model.specs.Steps.{kindOf, oneBox}
+use Rattle.model.specs.Tables.{JobTables, jobOf, StateTables, jobLengths, stateLengths}
+use Rattle.model.specs.Ranges.{maxPrice, maxCount, maxAmount, maxSent, upTo, under, around, sizesInRange, jobWordsInRange, jobInRange, stateInRange}
+use Rattle.model.specs.Step.{Asked, isKind, boxesFit}
+use Rattle.prices.specs.Marks.{MarksIn}
+use Rattle.totals.specs.Row.{TalliesIn, AmountsIn}
+use Rattle.apply.specs.Apply.{Applies, SentIn, MultiplyIn, ReceiveIn}
+use Rattle.model.proofs.Step.{range, limits}
+use Rattle.model.proofs.Lent.{JobLong, job-long, StateLong, state-long}
+use Rattle.totals.proofs.Effect.{talliesOf}
+use Rattle.totals.proofs.Extra.{up-at}
+use Rattle.prices.specs.Prices as price-tables
+
+-- The words of the state's tables are in range, table by table.
+pub record StateWords (f : JobTables) (t : StateTables) : Type 0 where
+  pub known : upTo maxPrice (f .boxes * f .offers) (t .known) ≡ true
+  pub priceTransit : upTo maxPrice (f .boxes * f .offers) (t .priceTransit) ≡ true
+  pub working : around maxAmount (f .boxes * f .grocers) (t .working) ≡ true
+  pub totalTransit : around maxAmount (f .boxes * f .grocers) (t .totalTransit) ≡ true
+  pub statement : around maxAmount (f .grocers) (t .statement) ≡ true
+  pub done : upTo 1 (6 * f .boxes * f .boxes) (t .done) ≡ true
+  pub sent : upTo maxSent 1 (t .sent) ≡ true
+
+pub state-words : (f : JobTables) (t : StateTables) → stateInRange f t ≡ true → StateWords f t
+unfolding stateInRange
+state-words f t h =
+    let e = each-of (
+    upTo maxPrice (f .boxes * f .offers) (t .known)
+    ∷ upTo maxPrice (f .boxes * f .offers) (t .priceTransit)
+    ∷ around maxAmount (f .boxes * f .grocers) (t .working)
+    ∷ around maxAmount (f .boxes * f .grocers) (t .totalTransit)
+    ∷ around maxAmount (f .grocers) (t .statement)
+    ∷ upTo 1 (6 * f .boxes * f .boxes) (t .done)
+    ∷ upTo maxSent 1 (t .sent)
+    ∷ []) h in
+    record {
+      known = e .0;
+      priceTransit = e .1 .0;
+      working = e .1 .1 .0;
+      totalTransit = e .1 .1 .1 .0;
+      statement = e .1 .1 .1 .1 .0;
+      done = e .1 .1 .1 .1 .1 .0;
+      sent = e .1 .1 .1 .1 .1 .1 .0;
+    }
+
+-- The tables of tallies of a job in range.
+pub tallies-given : (f : JobTables) → jobInRange f ≡ true → JobLong (f .grocers) (f .offers) (f .tallies) (jobLengths f) → TalliesIn (talliesOf f)
+unfolding jobInRange jobWordsInRange jobLengths jobOf
+tallies-given f h l =
+    let e = each-of (
+    upTo maxPrice (f .offers) (f .price)
+    ∷ under (f .boxes) (f .offers) (f .offerOwner)
+    ∷ under (f .boxes) (f .grocers) (f .grocerOwner)
+    ∷ under (f .grocers) (f .tallies) (f .tallyGrocer)
+    ∷ under (f .boxes) (f .tallies) (f .tallyBox)
+    ∷ under (f .offers) (f .tallies) (f .tallyOffer)
+    ∷ around maxCount (f .tallies) (f .tallyCount)
+    ∷ []) (and-r (sizesInRange f) (jobWordsInRange f) h) in
+    record {
+      boxes-in = range f h .boxes≤;
+      grocers-in = limits f h .grocers≤;
+      offers-in = limits f h .offers≤;
+      tallies-in = limits f h .tallies≤;
+      owner-long = l .offerOwner;
+      grocer-long = l .tallyGrocer;
+      holder-long = l .tallyBox;
+      offer-long = l .tallyOffer;
+      count-long = l .tallyCount;
+      grocer-in = e .1 .1 .1 .0;
+      offer-in = e .1 .1 .1 .1 .1 .0;
+      count-in = e .1 .1 .1 .1 .1 .1 .0;
+    }
+
+-- Sizes, lengths, ranges, masks and boxes.
+pub record Given (f : JobTables) (t : StateTables) (needs sharers : List ℕ) (q : Asked) : Type 0 where
+  pub tallies-in : TalliesIn (talliesOf f)
+  pub job-long : JobLong (f .grocers) (f .offers) (f .tallies) (jobLengths f)
+  pub state-long : StateLong (f .boxes) (f .grocers) (f .offers) (stateLengths t)
+  pub words-in : StateWords f t
+  pub needs-are : needs ≡ tabulate 500 (needWord (jobOf f))
+  pub sharers-are : sharers ≡ tabulate 255 (sharerWord (jobOf f))
+  pub kind-from : 1 ≤ q .kind
+  pub kind-to : q .kind ≤ 6
+  pub first-in : q .first < f .boxes
+  pub second-in : q .second < f .boxes
+  pub two-boxes : oneBox (kindOf (q .kind)) ≡ false → q .first ≡ q .second → ⊥
+
+-- Boxes that fit a kind with two boxes are not the same.
+boxes-differ : (t : Bool) (a b : ℕ) → cond t (eqb a b) (not (eqb a b)) ≡ true → t ≡ false → a ≡ b → ⊥
+boxes-differ true a b h e = absurd (false≢true (sym e))
+boxes-differ false a b h e = eqb-false a b (not-true (eqb a b) h)
+
+pub given : (f : JobTables) (t : StateTables) (needs sharers : List ℕ) (q : Asked) → Applies f t needs sharers q → Given f t needs sharers q
+unfolding jobOf isKind boxesFit
+given f t needs sharers q h =
+    let k = kindOf (q .kind) in
+    let fit = h .boxes-fit in
+    let rest = and-r (ltb (q .first) (f .boxes)) _ fit in
+    let long = job-long (jobOf f) (jobLengths f) (h .job-long) in
+    record {
+      tallies-in = tallies-given f (h .job-in) long;
+      job-long = long;
+      state-long = state-long (jobOf f) (stateLengths t) (h .state-long);
+      words-in = state-words f t (h .state-in);
+      needs-are = h .needs-are;
+      sharers-are = h .sharers-are;
+      kind-from = leb-true 1 (q .kind) (and-l (leb 1 (q .kind)) (leb (q .kind) 6) (h .kind-in));
+      kind-to = leb-true (q .kind) 6 (and-r (leb 1 (q .kind)) (leb (q .kind) 6) (h .kind-in));
+      first-in = ltb-true (q .first) (f .boxes) (and-l (ltb (q .first) (f .boxes)) _ fit);
+      second-in = ltb-true (q .second) (f .boxes) (and-l (ltb (q .second) (f .boxes)) _ rest);
+      two-boxes = boxes-differ (oneBox k) (q .first) (q .second) (and-r (ltb (q .second) (f .boxes)) _ rest);
+    }
+
+-- What each part of a step requires.
+module _ (f : JobTables) (t : StateTables) (needs sharers : List ℕ) (q : Asked) (g : Given f t needs sharers q) where
+  pub marks-in : MarksIn (f .boxes) (q .kind) (q .first) (q .second) (t .done)
+  unfolding stateLengths
+  marks-in = record {
+    kind-from = g .kind-from;
+    kind-to = g .kind-to;
+    boxes-in = g .tallies-in .boxes-in;
+    a-in = g .first-in;
+    b-in = g .second-in;
+    done-long = g .state-long .done;
+  }
+
+  pub prices-in : price-tables.PricesIn (f .boxes) (f .offers) (q .first) (q .second) (f .offerOwner) (t .known) (t .priceTransit)
+  unfolding stateLengths
+  prices-in = record {
+    boxes-in = g .tallies-in .boxes-in;
+    offers-in = g .tallies-in .offers-in;
+    a-in = g .first-in;
+    b-in = g .second-in;
+    owner-long = g .tallies-in .owner-long;
+    known-long = g .state-long .known;
+    transit-long = g .state-long .priceTransit;
+  }
+
+  pub sent-in : SentIn (t .sent)
+  unfolding stateLengths
+  sent-in = record { long = g .state-long .sent; word-in = up-at maxSent 1 (t .sent) 0 (g .words-in .sent) (omega arith) }
+
+  pub working-in : AmountsIn (f .boxes * f .grocers) (t .working)
+  unfolding stateLengths
+  working-in = record { long = g .state-long .working; words-in = g .words-in .working }
+
+  pub transit-in : AmountsIn (f .boxes * f .grocers) (t .totalTransit)
+  unfolding stateLengths
+  transit-in = record { long = g .state-long .totalTransit; words-in = g .words-in .totalTransit }
+
+  pub statement-in : AmountsIn (f .grocers) (t .statement)
+  unfolding stateLengths
+  statement-in = record { long = g .state-long .statement; words-in = g .words-in .statement }
+
+  -- At the prices known, and at those in transit.
+  pub own-in : MultiplyIn (talliesOf f) (q .first) (t .known) (t .working)
+  unfolding stateLengths
+  own-in = record { tallies-in = g .tallies-in; prices-in = record { long = g .state-long .known; words-in = g .words-in .known }; working-in = working-in; a-in = g .first-in }
+
+  pub receive-in : ReceiveIn (talliesOf f) (q .first) (q .second) (t .known) (t .priceTransit) (t .working)
+  unfolding stateLengths
+  receive-in = record {
+    known-in = own-in;
+    transit-in = record { tallies-in = g .tallies-in; prices-in = record { long = g .state-long .priceTransit; words-in = g .words-in .priceTransit }; working-in = working-in; a-in = g .first-in };
+    tables-in = prices-in;
+  }
+
+  -- Totals sent, and totals of a box `from` added to statements.
+  pub send-in : (f .boxes ≤ 16) × (f .grocers ≤ 255) × (q .first < f .boxes) × (f .grocers ≤ length (f .grocerOwner)) × (f .boxes * f .grocers ≤ length (t .working)) × (f .boxes * f .grocers ≤ length (t .totalTransit))
+  unfolding jobLengths stateLengths
+  send-in = (g .tallies-in .boxes-in, g .tallies-in .grocers-in, g .first-in, g .job-long .grocerOwner, g .state-long .working, g .state-long .totalTransit)
+
+  pub credit-in : (from : ℕ) → from < f .boxes → (f .boxes ≤ 16) × (f .grocers ≤ 255) × (from < f .boxes) × (f .grocers ≤ length (f .grocerOwner))
+  unfolding jobLengths
+  credit-in from l = (g .tallies-in .boxes-in, g .tallies-in .grocers-in, l, g .job-long .grocerOwner)
+
+-- A kind that is none of the first five is the sixth.
+pub sixth : (n : ℕ) → 1 ≤ n → n ≤ 6 → (n ≡ 1 → ⊥) → (n ≡ 2 → ⊥) → (n ≡ 3 → ⊥) → (n ≡ 4 → ⊥) → (n ≡ 5 → ⊥) → n ≡ 6
+sixth n from to n1 n2 n3 n4 n5 = omega arith

@@ -1,0 +1,162 @@
+-- The tables with the effect of a step, list by list, as the calls leave them. Assumes nothing.
+use mathlib.Core.Path.{_≡_, refl, sym, ap, _∙_}
+use mathlib.Core.Bool.{false}
+use mathlib.Core.List.{List}
+use Prim.Native.Nat.{ℕ}
+use lib.IntN.{ℤ}
+use Rattle.laws.specs.Below.{count}
+use Rattle.model.specs.Steps.{Kind, State, effect, oneBox, kindOf, sendPrices, multiplyOwn, receivePrices, sendTotals, addOwn, receiveTotals}
+use Rattle.model.specs.Tables.{JobTables, jobOf, StateTables, stateTables, stateLengths, view, store}
+use Rattle.model.specs.Step.{Asked, moved}
+use Rattle.words.specs.Message.{wordIn}
+use Rattle.prices.specs.Prices.{sentTransit, receivedKnown, receivedTransit}
+use Rattle.prices.specs.Marks.{marked}
+use Rattle.totals.specs.Row.{putRow, productRow}
+use Rattle.totals.specs.Credit.{cleared, sentTotals, credited, creditAll}
+use Rattle.apply.specs.Apply.{sentMore}
+use Rattle.prices.proofs.Extra.{overwrite-one}
+use Rattle.prices.proofs.Effect.{tables-eq, known-stays, price-transit-stays, working-stays, total-transit-stays, statement-stays, sent-stays, step-marked}
+use Rattle.totals.proofs.Effect.{talliesOf, multiplied-own, received-working, added-working, added-statement, received-statement}
+use Rattle.apply.proofs.Given.{Given}
+use Rattle.prices.proofs.Effect as price-laws
+use Rattle.totals.proofs.Effect as total-laws
+
+module _ (f : JobTables) (t : StateTables) (needs sharers : List ℕ) (q : Asked) (g : Given f t needs sharers q) where
+  -- The state after a step of a kind, and the tables it is written into.
+  abbrev left : Kind → State
+  left k = effect (jobOf f) (view (jobOf f) t) k (q .first) (q .second)
+
+  abbrev written : Kind → StateTables
+  written k = store (jobOf f) (left k) t
+
+  -- The tables of a kind by each list but the marks, which are the same for every kind.
+  by-lists : (k : Kind) → kindOf (q .kind) ≡ k → (known transit : List ℕ) (working totals statement : List ℤ) (sent : List ℕ) →
+      written k .known ≡ known → written k .priceTransit ≡ transit → written k .working ≡ working → written k .totalTransit ≡ totals → written k .statement ≡ statement → written k .sent ≡ sent →
+      moved f t q ≡ stateTables known transit working totals statement (marked (f .boxes) (kindOf (q .kind)) (q .first) (q .second) (t .done)) sent
+  unfolding moved jobOf
+  by-lists k e known transit working totals statement sent ek ep ew et es en =
+      ap written e
+      ∙ tables-eq (written k) _ ek ep ew et es
+      (step-marked (jobOf f) t k (q .first) (q .second) ∙ ap (λ (x : Kind). marked (f .boxes) x (q .first) (q .second) (t .done)) (sym e))
+      en
+
+  -- 1 Send prices.
+  pub prices-sent : q .kind ≡ 1 → moved f t q ≡ stateTables
+      (t .known)
+      (sentTransit (f .boxes) (f .offers) (q .first) (q .second) (f .offerOwner) needs (t .known) (t .priceTransit))
+      (t .working)
+      (t .totalTransit)
+      (t .statement)
+      (marked (f .boxes) (kindOf (q .kind)) (q .first) (q .second) (t .done))
+      (sentMore (t .sent) (count (f .offers) (wordIn (f .offerOwner) needs (q .first) (q .second))))
+  unfolding effect kindOf stateLengths jobOf
+  prices-sent e =
+      by-lists sendPrices (ap kindOf e) _ _ _ _ _ _
+      (known-stays (jobOf f) (left sendPrices) t (g .state-long) refl)
+      (price-laws.sent-transit f t needs (q .first) (q .second) (g .first-in) (g .second-in) (g .tallies-in .boxes-in) (g .tallies-in .offers-in) (g .needs-are))
+      (working-stays (jobOf f) (left sendPrices) t (g .state-long) refl)
+      (total-transit-stays (jobOf f) (left sendPrices) t (g .state-long) refl)
+      (statement-stays (jobOf f) (left sendPrices) t (g .state-long) refl)
+      (price-laws.sent-more f t needs (q .first) (q .second) (g .first-in) (g .second-in) (g .tallies-in .boxes-in) (g .tallies-in .offers-in) (g .needs-are)
+      ∙ overwrite-one _ (t .sent) (g .state-long .sent))
+
+  -- 2 Multiply own.
+  pub own-multiplied : q .kind ≡ 2 → moved f t q ≡ stateTables
+      (t .known)
+      (t .priceTransit)
+      (putRow (f .boxes) (f .grocers) (q .first) (productRow (talliesOf f) (t .known) (q .first) (q .first) (t .working)) (t .working))
+      (t .totalTransit)
+      (t .statement)
+      (marked (f .boxes) (kindOf (q .kind)) (q .first) (q .second) (t .done))
+      (t .sent)
+  unfolding effect kindOf stateLengths jobOf
+  own-multiplied e =
+      by-lists multiplyOwn (ap kindOf e) _ _ _ _ _ _
+      (known-stays (jobOf f) (left multiplyOwn) t (g .state-long) refl)
+      (price-transit-stays (jobOf f) (left multiplyOwn) t (g .state-long) refl)
+      (multiplied-own f (g .tallies-in) (q .first) (g .first-in) t (q .second))
+      (total-transit-stays (jobOf f) (left multiplyOwn) t (g .state-long) refl)
+      (statement-stays (jobOf f) (left multiplyOwn) t (g .state-long) refl)
+      (sent-stays (jobOf f) (left multiplyOwn) t (g .state-long) refl)
+
+  -- The boxes of a step of two boxes are not the same.
+  differ : (k : Kind) → kindOf (q .kind) ≡ k → oneBox k ≡ false → q .first ≡ q .second → ⊥
+  differ k e o = g .two-boxes (ap oneBox e ∙ o)
+
+  -- 3 Receive prices.
+  pub prices-received : q .kind ≡ 3 → moved f t q ≡ stateTables
+      (receivedKnown (f .boxes) (f .offers) (q .first) (q .second) (f .offerOwner) needs (t .known) (t .priceTransit))
+      (receivedTransit (f .boxes) (f .offers) (q .first) (q .second) (f .offerOwner) needs (t .known) (t .priceTransit))
+      (putRow (f .boxes) (f .grocers) (q .first) (productRow (talliesOf f) (t .priceTransit) (q .first) (q .second) (t .working)) (t .working))
+      (t .totalTransit)
+      (t .statement)
+      (marked (f .boxes) (kindOf (q .kind)) (q .first) (q .second) (t .done))
+      (t .sent)
+  unfolding effect kindOf stateLengths jobOf oneBox
+  prices-received e =
+      by-lists receivePrices (ap kindOf e) _ _ _ _ _ _
+      (price-laws.received-known f t needs (q .first) (q .second) (g .first-in) (g .second-in) (g .tallies-in .boxes-in) (g .tallies-in .offers-in) (g .needs-are))
+      (price-laws.received-transit f t needs (q .first) (q .second) (g .first-in) (g .second-in) (g .tallies-in .boxes-in) (g .tallies-in .offers-in) (g .needs-are))
+      (received-working f (g .tallies-in) (q .first) (g .first-in) t (q .second) (differ receivePrices (ap kindOf e) refl))
+      (total-transit-stays (jobOf f) (left receivePrices) t (g .state-long) refl)
+      (statement-stays (jobOf f) (left receivePrices) t (g .state-long) refl)
+      (sent-stays (jobOf f) (left receivePrices) t (g .state-long) refl)
+
+  -- 4 Send totals.
+  pub totals-sent : q .kind ≡ 4 → moved f t q ≡ stateTables
+      (t .known)
+      (t .priceTransit)
+      (cleared (f .boxes) (f .grocers) (q .first) (wordIn (f .grocerOwner) sharers (q .second) (q .first)) (t .working))
+      (sentTotals (f .boxes) (f .grocers) (q .first) (wordIn (f .grocerOwner) sharers (q .second) (q .first)) (t .working) (t .totalTransit))
+      (t .statement)
+      (marked (f .boxes) (kindOf (q .kind)) (q .first) (q .second) (t .done))
+      (sentMore (t .sent) (count (f .grocers) (wordIn (f .grocerOwner) sharers (q .second) (q .first))))
+  unfolding effect kindOf stateLengths jobOf
+  totals-sent e =
+      by-lists sendTotals (ap kindOf e) _ _ _ _ _ _
+      (known-stays (jobOf f) (left sendTotals) t (g .state-long) refl)
+      (price-transit-stays (jobOf f) (left sendTotals) t (g .state-long) refl)
+      (total-laws.sent-working f t sharers (q .first) (q .second) (g .first-in) (g .second-in) (g .tallies-in .boxes-in) (g .tallies-in .grocers-in) (g .sharers-are))
+      (total-laws.sent-transit f t sharers (q .first) (q .second) (g .first-in) (g .second-in) (g .tallies-in .boxes-in) (g .tallies-in .grocers-in) (g .sharers-are))
+      (statement-stays (jobOf f) (left sendTotals) t (g .state-long) refl)
+      (total-laws.sent-more f t sharers (q .first) (q .second) (g .first-in) (g .second-in) (g .tallies-in .boxes-in) (g .tallies-in .grocers-in) (g .sharers-are)
+      ∙ overwrite-one _ (t .sent) (g .state-long .sent))
+
+  -- 5 Add own working totals to its own statements.
+  pub own-added : q .kind ≡ 5 → moved f t q ≡ stateTables
+      (t .known)
+      (t .priceTransit)
+      (cleared (f .boxes) (f .grocers) (q .first) (credited (f .grocerOwner) sharers (q .first) (q .first)) (t .working))
+      (t .totalTransit)
+      (creditAll (f .boxes) (f .grocers) (q .first) (credited (f .grocerOwner) sharers (q .first) (q .first)) (t .working) (t .statement))
+      (marked (f .boxes) (kindOf (q .kind)) (q .first) (q .second) (t .done))
+      (t .sent)
+  unfolding effect kindOf stateLengths jobOf
+  own-added e =
+      by-lists addOwn (ap kindOf e) _ _ _ _ _ _
+      (known-stays (jobOf f) (left addOwn) t (g .state-long) refl)
+      (price-transit-stays (jobOf f) (left addOwn) t (g .state-long) refl)
+      (added-working f t sharers (q .first) (q .second) (g .first-in) (g .second-in) (g .tallies-in .boxes-in) (g .tallies-in .grocers-in) (g .sharers-are))
+      (total-transit-stays (jobOf f) (left addOwn) t (g .state-long) refl)
+      (added-statement f t sharers (q .first) (q .second) (g .first-in) (g .second-in) (g .tallies-in .boxes-in) (g .tallies-in .grocers-in) (g .sharers-are))
+      (sent-stays (jobOf f) (left addOwn) t (g .state-long) refl)
+
+  -- 6 Receive totals.
+  pub totals-received : q .kind ≡ 6 → moved f t q ≡ stateTables
+      (t .known)
+      (t .priceTransit)
+      (t .working)
+      (cleared (f .boxes) (f .grocers) (q .second) (credited (f .grocerOwner) sharers (q .first) (q .second)) (t .totalTransit))
+      (creditAll (f .boxes) (f .grocers) (q .second) (credited (f .grocerOwner) sharers (q .first) (q .second)) (t .totalTransit) (t .statement))
+      (marked (f .boxes) (kindOf (q .kind)) (q .first) (q .second) (t .done))
+      (t .sent)
+  unfolding effect kindOf stateLengths jobOf oneBox
+  totals-received e =
+      let ne = differ receiveTotals (ap kindOf e) refl in
+      by-lists receiveTotals (ap kindOf e) _ _ _ _ _ _
+      (known-stays (jobOf f) (left receiveTotals) t (g .state-long) refl)
+      (price-transit-stays (jobOf f) (left receiveTotals) t (g .state-long) refl)
+      (working-stays (jobOf f) (left receiveTotals) t (g .state-long) refl)
+      (total-laws.received-transit f t sharers (q .first) (q .second) (g .first-in) (g .second-in) (g .tallies-in .boxes-in) (g .tallies-in .grocers-in) (g .sharers-are) ne)
+      (received-statement f t sharers (q .first) (q .second) (g .first-in) (g .second-in) (g .tallies-in .boxes-in) (g .tallies-in .grocers-in) (g .sharers-are) ne)
+      (sent-stays (jobOf f) (left receiveTotals) t (g .state-long) refl)

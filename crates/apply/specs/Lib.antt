@@ -1,0 +1,2 @@
+-- What applying a step requires, and what its parts leave.
+pub mod Apply
