@@ -5,10 +5,16 @@ use mathlib.Core.Bool.{Bool, true, false, cond, _&&_, _||_, not}
 use Prim.Native.Nat.{ℕ, zero, suc, _≤_, _<_}
 use native.Mathlib.Omega.{arith}
 use lib.Dec.{eqb, leb}
+use lib.IntN.{natAbs}
+use Rattle.laws.specs.Below.{all}
 use borrow.Author.Tests.{leb-true}
 use Rattle.laws.proofs.Bools.{and-l, and-r}
 use Rattle.model.specs.Steps.{kindOf, oneBox, Steps}
 use Rattle.model.specs.Step.{isKind}
+use Rattle.model.specs.Tables.{JobTables, StateTables}
+use Rattle.model.specs.Ranges.{maxAmount}
+use Rattle.totals.specs.Credit.{credited, creditWord}
+use Rattle.refuse.specs.Late.{creditsFit, finishedFits}
 use Rattle.refuse.specs.Rules.{fitsBy, multipliedBy, readyBy}
 
 -- A kind is 1 to 6.
@@ -71,3 +77,17 @@ module _ (k : ℕ) (prices : List (List ℕ)) (d : Steps) (a b : ℕ) where
   ready-first (suc (suc zero)) h l w = refl
   ready-first (suc (suc (suc zero))) h l w = absurd (w refl)
   ready-first (suc (suc (suc (suc n)))) h l w = absurd (omega arith)
+
+module _ (f : JobTables) (t : StateTables) (sharers : List ℕ) (prices totals : List (List ℕ)) (a b : ℕ) where
+  -- The sixth kind is what is left: the statements decide.
+  pub last-kind : (n : ℕ) → 1 ≤ n → n ≤ 6 → (n ≡ 1 → ⊥) → (n ≡ 2 → ⊥) → (n ≡ 3 → ⊥) → (n ≡ 4 → ⊥) → (n ≡ 5 → ⊥) →
+      all (f .grocers) (λ g. leb (natAbs (creditWord (f .boxes) (f .grocers) b (credited (f .grocerOwner) sharers a b) (t .totalTransit) (t .statement) g)) maxAmount)
+      ≡ finishedFits f t sharers prices totals (kindOf n) a b
+  unfolding finishedFits creditsFit kindOf
+  last-kind zero h l v w x y z = absurd (omega arith)
+  last-kind (suc zero) h l v w x y z = absurd (v refl)
+  last-kind (suc (suc zero)) h l v w x y z = absurd (w refl)
+  last-kind (suc (suc (suc zero))) h l v w x y z = absurd (x refl)
+  last-kind (suc (suc (suc (suc zero)))) h l v w x y z = absurd (y refl)
+  last-kind (suc (suc (suc (suc (suc zero))))) h l v w x y z = absurd (z refl)
+  last-kind (suc (suc (suc (suc (suc (suc n)))))) h l v w x y z = refl

@@ -9,7 +9,7 @@ use lib.ListN.{getD}
 use lib.IntN.{ℤ, pos, natAbs}
 use borrow.Author.Tests.{ltb-true}
 use Rattle.laws.specs.Below.{all}
-use Rattle.laws.specs.Checks.{allFrom, allOf}
+use Rattle.laws.specs.Checks.{allFrom, allOf, firstMet}
 use Rattle.laws.specs.Tables.{overwrite, word, cell}
 use Rattle.laws.proofs.Bools.{split, and-l, and-r, and-true, and-one}
 use Rattle.laws.proofs.Checks.{Each}
@@ -61,3 +61,12 @@ word-up b n l i h =
 pub up-one : (b x : ℕ) (l : List ℕ) → upTo b 1 (overwrite 1 (λ i. x) l) ≡ leb x b
 unfolding upTo all
 up-one b x l = rw (getD-overwrite 1 (λ i. x) l 0 0 (omega arith))
+
+-- The first condition met is in the first list where one is met there.
+pub met-first : (rs ss : List (Bool × ℕ)) → (firstMet rs ≡ 0 → ⊥) → firstMet (rs ++ ss) ≡ firstMet rs
+unfolding firstMet
+met-first [] ss h = absurd (h refl)
+met-first (r ∷ rs) ss h =
+    split (r .0)
+    (λ e. rw e)
+    (λ e. rw e (met-first rs ss (λ z. h (rw e z))))

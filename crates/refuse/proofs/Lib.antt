@@ -4,3 +4,5 @@ pub mod ByKind
 pub mod Ways
 pub mod InModel
 pub mod Late
+pub mod Later
+pub mod Refused

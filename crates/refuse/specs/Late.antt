@@ -1,14 +1,15 @@
 -- The late 21: whether the finished tables are in range, told by the one table that a step of a kind can take out of its range.
 use mathlib.Core.Path.{_≡_}
-use mathlib.Core.Bool.{Bool, true, false}
-use mathlib.Core.List.{List, []}
+use mathlib.Core.Bool.{Bool, true, false, not}
+use mathlib.Core.List.{List, [], _∷_, _++_}
 use Prim.Native.Nat.{ℕ, _+_, _*_, _≤_, _<_}
 use lib.ListN.{length, getD}
 use lib.Dec.{leb}
 use lib.IntN.{ℤ, natAbs}
 use Rattle.laws.specs.Below.{all}
 use Rattle.model.specs.Steps.{Kind, sendPrices, multiplyOwn, receivePrices, sendTotals, addOwn, receiveTotals}
-use Rattle.model.specs.Tables.{JobTables, jobTables, jobOf, jobLengths, jobShort, StateTables, stateTables, stateLengths, stateShort}
+use Rattle.model.specs.Tables.{JobTables, jobTables, jobOf, jobLengths, jobShort, StateTables, stateTables, stateLengths, stateShort, view}
+use Rattle.model.specs.Step.{Asked, stepRules, moved}
 use Rattle.model.specs.Ranges.{maxAmount, maxSent, around, jobInRange, stateInRange}
 use Rattle.totals.specs.Row.{Tallies, tallies, TalliesIn, PricesIn, AmountsIn, productRow}
 use Rattle.totals.specs.Credit.{credited, creditWord}
@@ -64,6 +65,10 @@ unpriced f =
 
 abbrev pub unmarked : StateTables → StateTables
 unmarked t = stateTables (t .known) (t .priceTransit) (t .working) (t .totalTransit) (t .statement) [] (t .sent)
+
+-- The conditions after 20 and 21: 22 to 26, and the late 21.
+unfoldable pub laterRules : JobTables → StateTables → Asked → List (Bool × ℕ)
+laterRules f t q = stepRules (jobOf f) (view (jobOf f) t .done) q ++ (not (stateInRange f (moved f t q)), 21) ∷ []
 
 -- Nothing is lent short, and every word is in range.
 pub record Held (f : JobTables) (t : StateTables) : Type 0 where

@@ -6,16 +6,24 @@ ghost use Rattle.laws.specs.Checks.{firstMet};
 ghost use Rattle.model.specs.Steps.{kindOf, oneBox};
 ghost use Rattle.model.specs.Step.{asked, isKind};
 ghost use Rattle.prices.specs.Marks.{MarksIn, stepsDone};
-ghost use Rattle.refuse.specs.Rules.{due, fitsBy, boxesFitBy, receivedFrom, multipliedBy, readyBy, permittedBy, rulesBy, BoxIn};
+ghost use Rattle.refuse.specs.Rules.{wordsTo, due, fitsBy, boxesFitBy, receivedFrom, multipliedBy, readyBy, permittedBy, rulesBy, BoxIn};
 
-// Whether a table of messages has words from box a to box b.
+// How many words a table of messages has from box a to box b.
+pub fn words_to(table: &[[u16; 16]; 16], a: u16, b: u16) -> u16
+    requires { ⌜ (a < 16) × (b < 16) ⌝ }
+    ensures { λ r. ⌜ r ≡ wordsTo (now (table .entry)) a b ⌝ }
+{
+    let i = a as usize;
+    let j = b as usize;
+    table[i][j]
+}
+
+// Whether there is a message from box a to box b.
 fn is_due(table: &[[u16; 16]; 16], a: u16, b: u16) -> bool
     requires { ⌜ (a < 16) × (b < 16) ⌝ }
     ensures { λ r. ⌜ r ≡ due (now (table .entry)) a b ⌝ }
 {
-    let i = a as usize;
-    let j = b as usize;
-    table[i][j] != 0
+    words_to(table, a, b) != 0
 }
 
 // Whether a step is marked as done.

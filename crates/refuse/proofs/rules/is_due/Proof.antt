@@ -6,22 +6,14 @@ use Rattle.refuse.proofs.rules.is_due.Statement.{statement}
 use Rattle.refuse.proofs.rules.is_due.Tie as tie
 use Rattle.refuse.proofs.rules.is_due.Reads as reads
 use Rattle.refuse.proofs.rules.is_due.Lts as lts
+use Rattle.refuse.proofs.rules.words_to.Reads as words-to-reads
 
-mul-result : tie.Need-mul-result
-mul-result c = search needs
-
-mul-result-2 : tie.Need-mul-result-2
-mul-result-2 c = search needs
-
-index-1-result : tie.Need-index-1-result
-index-1-result c = search needs
-
-index-2-result : tie.Need-index-2-result
-index-2-result c = search needs
+words-to-requires : tie.Need-words-to-requires
+words-to-requires c κs = search needs
 
 returns : tie.Need-returns
 unfolding due
-returns c = refl
+returns c = rw (c .words-to .ensures)
 
 pub is-due-spec : {M : Type 1} → statement M
-is-due-spec = tie.close (tie.spec mul-result mul-result-2 index-1-result index-2-result returns)
+is-due-spec = tie.close (tie.spec words-to-requires returns)
