@@ -41,7 +41,7 @@ fn counted(counts: Counts, kind: u16) -> Counts
 }
 
 // The step that choice i picks, one of `ready` steps, is applied.
-fn choose(
+pub fn choose(
     boxes: u16,
     grocers: u16,
     offers: u16,
@@ -81,7 +81,7 @@ fn choose(
 }
 
 // The step of a place is applied where it is ready.
-fn turn(
+pub fn turn(
     boxes: u16,
     grocers: u16,
     offers: u16,
