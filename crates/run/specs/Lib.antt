@@ -1,1 +1,2 @@
--- What the run answers.
+-- What the run answers, and what its parts leave.
+pub mod Run
