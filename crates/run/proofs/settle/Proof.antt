@@ -1,3 +1,8 @@
+-- `run::settle` meets its contract: from a fresh state all steps are done. Assumes nothing.
+use mathlib.Core.Path.{_≡_, refl, sym, ap, _∙_}
+use denote.Ref.{now}
+use Rattle.model.specs.Tables.{JobTables, jobTables, StateTables, stateTables}
+use Rattle.run.proofs.Ends.{begins-fresh, begins-needs, begins-sharers, begins-prices, begins-totals, begins-goes, ends-settled}
 use Rattle.run.proofs.settle.Statement.{statement}
 use Rattle.run.proofs.settle.Tie as tie
 use Rattle.run.proofs.settle.Reads as reads
@@ -9,61 +14,59 @@ use Rattle.tables.proofs.masks.sharers.Reads as sharers-reads
 use Rattle.tables.proofs.messages.price_table.Reads as price-table-reads
 use Rattle.tables.proofs.messages.total_table.Reads as total-table-reads
 
--- src/lib.rt:77:5
+abbrev job : tie.Start → JobTables
+job s = jobTables (s .args .boxes) (s .args .grocers) (s .args .offers) (s .args .tallies) (now (s .args .price)) (now (s .args .owner)) (now (s .args .gowner)) (now (s .args .tgrocer)) (now (s .args .tbox)) (now (s .args .toffer)) (now (s .args .tcount))
+
+abbrev entry : tie.Start → StateTables
+entry s = stateTables (now (s .args .known)) (now (s .args .ptransit)) (now (s .args .working)) (now (s .args .ttransit)) (now (s .args .statement)) (now (s .args .done)) (now (s .args .sent))
+
+
 fresh-requires : tie.Need-fresh-requires
-fresh-requires c κs = ?
+fresh-requires c κs = let s = c .before .before .before .before .before .before .before .before .before .before .before .before .before .before .before .before .before .before in begins-fresh (job s) (entry s) (s .pre)
 
--- src/lib.rt:78:17
 needs-requires : tie.Need-needs-requires
-needs-requires c κs = ?
+needs-requires c κs = let s = c .before .before .before .before .before .before .before .before .before .before .before .before .before .before .before .before .before .before .before .before .before .before .before .before .before .before .before .before .before .before in begins-needs (job s) (entry s) (s .pre)
 
--- src/lib.rt:79:19
 sharers-requires : tie.Need-sharers-requires
-sharers-requires c κs = ?
+sharers-requires c κs = let s = c .before .before .before .before .before .before .before .before .before .before .before .before .before .before .before .before .before .before .before .before .before .before .before .before .before .before .before .before .before .before .before in begins-sharers (job s) (entry s) (s .pre)
 
--- src/lib.rt:80:18
 price-table-requires : tie.Need-price-table-requires
-price-table-requires c κs = ?
+price-table-requires c κs = let s = c .before .before .before .before .before .before .before .before .before .before .before .before .before .before .before .before .before .before .before .before .before .before .before .before .before .before .before .before .before .before .before .before .before in begins-prices (job s) (entry s) (s .pre) ((c .before .before) .needs .result) ((c .before) .sharers .result) ((c .before .before) .needs .ensures) ((c .before) .sharers .ensures)
 
--- src/lib.rt:81:18
 total-table-requires : tie.Need-total-table-requires
-total-table-requires c κs = ?
+total-table-requires c κs = let s = c .before .before .before .before .before .before .before .before .before .before .before .before .before .before .before .before .before .before .before .before .before .before .before .before .before .before .before .before .before .before .before .before .before .before .before in begins-totals (job s) (entry s) (s .pre) ((c .before .before .before .before) .needs .result) ((c .before .before .before) .sharers .result) ((c .before .before .before .before) .needs .ensures) ((c .before .before .before) .sharers .ensures)
 
--- src/lib.rt:82:5
 all-steps-requires : tie.Need-all-steps-requires
-all-steps-requires c κs = ?
+all-steps-requires c κs = 
+    let s = c .before .before .before .before .before .before .before .before .before .before .before .before .before .before .before .before .before .before .before .before .before .before .before .before .before .before .before .before .before .before .before .before .before .before .before .before .before .before .before .before .before .before .before .before .before .before .before in
+    begins-goes (job s) (entry s) (s .pre) ((c .before .before .before .before .before .before .before .before .before .before .before .before .before .before .before .before) .needs .result) ((c .before .before .before .before .before .before .before .before .before .before .before .before .before .before .before) .sharers .result) ((c .before .before .before .before .before .before .before .before .before .before .before .before .before .before .before .before) .needs .ensures) ((c .before .before .before .before .before .before .before .before .before .before .before .before .before .before .before) .sharers .ensures) ((c .before .before .before .before .before .before .before .before .before .before .before .before .before) .price-table .result) ((c .before .before .before .before .before .before .before .before .before .before .before) .total-table .result) ((c .before .before .before .before .before .before .before .before .before .before .before .before .before) .price-table .ensures) ((c .before .before .before .before .before .before .before .before .before .before .before) .total-table .ensures) _ ((c .before .before .before .before .before .before .before .before .before .before .before .before .before .before .before .before .before .before .before .before .before .before .before .before .before .before .before .before) .fresh .ensures (s .args .tallies) (now (s .args .gowner)) (now (s .args .tgrocer)) (now (s .args .tbox)) (now (s .args .toffer)) (now (s .args .tcount))) (now (s .args .choices))
 
--- src/lib.rt:53:1
 same-length : tie.Need-same-length
-same-length c = ?
+same-length c = c .before .before .before .before .before .before .before .before .before .before .before .all-steps .kept .1 .1 .1 .1 .1 .1 .1 .1 .1 .1 .1 .1 .1 .1 .1 .0 ∙ c .before .before .before .before .before .before .before .before .before .before .before .before .before .before .before .before .before .before .before .before .before .before .before .before .before .before .before .before .before .before .before .before .before .before .before .before .before .before .before .before .fresh .kept .1 .1 .1 .1 .1 .0
 
--- src/lib.rt:53:1
 same-length-2 : tie.Need-same-length-2
-same-length-2 c = ?
+same-length-2 c = c .before .before .before .before .before .before .before .before .before .before .before .all-steps .kept .1 .1 .1 .1 .1 .1 .1 .1 .1 .1 .1 .1 .1 .1 .1 .1 .0 ∙ c .before .before .before .before .before .before .before .before .before .before .before .before .before .before .before .before .before .before .before .before .before .before .before .before .before .before .before .before .before .before .before .before .before .before .before .before .before .before .before .before .fresh .kept .1 .1 .1 .1 .1 .1 .0
 
--- src/lib.rt:53:1
 same-length-3 : tie.Need-same-length-3
-same-length-3 c = ?
+same-length-3 c = c .before .before .before .before .before .before .before .before .before .before .before .all-steps .kept .1 .1 .1 .1 .1 .1 .1 .1 .1 .1 .1 .1 .1 .1 .1 .1 .1 .0 ∙ c .before .before .before .before .before .before .before .before .before .before .before .before .before .before .before .before .before .before .before .before .before .before .before .before .before .before .before .before .before .before .before .before .before .before .before .before .before .before .before .before .fresh .kept .1 .1 .1 .1 .1 .1 .1 .0
 
--- src/lib.rt:53:1
 same-length-4 : tie.Need-same-length-4
-same-length-4 c = ?
+same-length-4 c = c .before .before .before .before .before .before .before .before .before .before .before .all-steps .kept .1 .1 .1 .1 .1 .1 .1 .1 .1 .1 .1 .1 .1 .1 .1 .1 .1 .1 .0 ∙ c .before .before .before .before .before .before .before .before .before .before .before .before .before .before .before .before .before .before .before .before .before .before .before .before .before .before .before .before .before .before .before .before .before .before .before .before .before .before .before .before .fresh .kept .1 .1 .1 .1 .1 .1 .1 .1 .0
 
--- src/lib.rt:53:1
 same-length-5 : tie.Need-same-length-5
-same-length-5 c = ?
+same-length-5 c = c .before .before .before .before .before .before .before .before .before .before .before .all-steps .kept .1 .1 .1 .1 .1 .1 .1 .1 .1 .1 .1 .1 .1 .1 .1 .1 .1 .1 .1 .0 ∙ c .before .before .before .before .before .before .before .before .before .before .before .before .before .before .before .before .before .before .before .before .before .before .before .before .before .before .before .before .before .before .before .before .before .before .before .before .before .before .before .before .fresh .kept .1 .1 .1 .1 .1 .1 .1 .1 .1 .0
 
--- src/lib.rt:53:1
 same-length-6 : tie.Need-same-length-6
-same-length-6 c = ?
+same-length-6 c = c .before .before .before .before .before .before .before .before .before .before .before .all-steps .kept .1 .1 .1 .1 .1 .1 .1 .1 .1 .1 .1 .1 .1 .1 .1 .1 .1 .1 .1 .1 .0 ∙ c .before .before .before .before .before .before .before .before .before .before .before .before .before .before .before .before .before .before .before .before .before .before .before .before .before .before .before .before .before .before .before .before .before .before .before .before .before .before .before .before .fresh .kept .1 .1 .1 .1 .1 .1 .1 .1 .1 .1 .0
 
--- src/lib.rt:53:1
 same-length-7 : tie.Need-same-length-7
-same-length-7 c = ?
+same-length-7 c = c .before .before .before .before .before .before .before .before .before .before .before .all-steps .kept .1 .1 .1 .1 .1 .1 .1 .1 .1 .1 .1 .1 .1 .1 .1 .1 .1 .1 .1 .1 .1 .0 ∙ c .before .before .before .before .before .before .before .before .before .before .before .before .before .before .before .before .before .before .before .before .before .before .before .before .before .before .before .before .before .before .before .before .before .before .before .before .before .before .before .before .fresh .kept .1 .1 .1 .1 .1 .1 .1 .1 .1 .1 .1 .0
 
--- src/lib.rt:53:1
 returns : tie.Need-returns
-returns c = ?
+returns c = 
+    let s = c .before .before .before .before .before .before .before .before .before .before .before .before .before .before .before .before .before .before .before .before .before .before .before .before .before .before .before .before .before .before .before .before .before .before .before .before .before .before .before .before .before .before .before .before .before .before .before .before .before .before .before .before .before .before .before .before .before .before .before in
+    let k = c .before .before .before .before .before .before .before .before .before .before .before .all-steps in
+    ends-settled (job s) (entry s) (s .pre) ((c .before .before .before .before .before .before .before .before .before .before .before .before .before .before .before .before .before .before .before .before .before .before .before .before .before .before .before .before) .needs .result) ((c .before .before .before .before .before .before .before .before .before .before .before .before .before .before .before .before .before .before .before .before .before .before .before .before .before .before .before) .sharers .result) ((c .before .before .before .before .before .before .before .before .before .before .before .before .before .before .before .before .before .before .before .before .before .before .before .before .before .before .before .before) .needs .ensures) ((c .before .before .before .before .before .before .before .before .before .before .before .before .before .before .before .before .before .before .before .before .before .before .before .before .before .before .before) .sharers .ensures) ((c .before .before .before .before .before .before .before .before .before .before .before .before .before .before .before .before .before .before .before .before .before .before .before .before .before) .price-table .result) ((c .before .before .before .before .before .before .before .before .before .before .before .before .before .before .before .before .before .before .before .before .before .before .before) .total-table .result) ((c .before .before .before .before .before .before .before .before .before .before .before .before .before .before .before .before .before .before .before .before .before .before .before .before .before) .price-table .ensures) ((c .before .before .before .before .before .before .before .before .before .before .before .before .before .before .before .before .before .before .before .before .before .before .before) .total-table .ensures) _ ((c .before .before .before .before .before .before .before .before .before .before .before .before .before .before .before .before .before .before .before .before .before .before .before .before .before .before .before .before .before .before .before .before .before .before .before .before .before .before .before .before) .fresh .ensures (s .args .tallies) (now (s .args .gowner)) (now (s .args .tgrocer)) (now (s .args .tbox)) (now (s .args .toffer)) (now (s .args .tcount))) (now (s .args .choices)) _ (k .result .messages) (k .result .steps) (k .ensures)
 
 pub settle-spec : {M : Type 1} → statement M
 settle-spec =
