@@ -153,7 +153,7 @@ unfolding store
 settled-sent f t cs t′ m n w = rw (w .tables-are) (long-overwrite 1 (λ i. runState (jobOf f) cs .sent) (t .sent))
 
 -- A number that is not 0 is a refusal.
-refused-said : (n : ℕ) (a : RunAnswer) → (n ≡ 0 → ⊥) → refused n ≡ reported n a
+pub refused-said : (n : ℕ) (a : RunAnswer) → (n ≡ 0 → ⊥) → refused n ≡ reported n a
 unfolding reported
 refused-said zero a h = absurd (h refl)
 refused-said (suc n) a h = refl
