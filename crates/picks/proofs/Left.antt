@@ -1,8 +1,8 @@
 -- One step more of a run: what is left of it, and what it comes to. Assumes nothing.
-use mathlib.Core.Path.{_≡_, refl, sym, ap, ap₂, _∙_}
-use mathlib.Core.Bool.{Bool, true, false, cond, _&&_, not}
+use mathlib.Core.Path.{_≡_, refl, ap, _∙_}
+use mathlib.Core.Bool.{true, false}
 use mathlib.Core.List.{List, [], _∷_}
-use Prim.Native.Nat.{ℕ, zero, suc, _+_, _*_, _%_, _<_, _≤_}
+use Prim.Native.Nat.{ℕ, zero, suc, _+_, _%_, _<_, _≤_}
 use native.Mathlib.Omega.{arith}
 use native.Mathlib.Nat.{mod-lt, zero-mod}
 use lib.Dec.{eqb}
@@ -12,10 +12,12 @@ use Rattle.laws.specs.Below.{any, count}
 use Rattle.laws.proofs.Bools.{split, clash, no-true}
 use Rattle.laws.proofs.Below.{count-none, none-any, count-zero, any-find}
 use Rattle.model.specs.Job.{Job}
-use Rattle.model.specs.Steps.{Kind, Steps, State, Step, mark, hasStep, permitted, does, effect}
+use Rattle.model.specs.Steps.{Kind, Steps, State, Step, mark, hasStep, permitted, does}
 use Rattle.model.specs.Words.{over, sends, stepCount}
 use Rattle.model.specs.Run.{nth, stepAt, places, listed, readyCount, pick, picks, afterSteps}
 use Rattle.model.specs.Demand3.{AllDone}
+use Rattle.picks.specs.Left.{left, comesTo, whole, Few}
+use Rattle.picks.specs.Way.{NoneBefore}
 use Rattle.model.proofs.Range.{InRange}
 use Rattle.model.proofs.Machine.{size}
 use Rattle.model.proofs.Core.{first<, second<, Permit, permit}
@@ -23,8 +25,6 @@ use Rattle.model.proofs.Reach.{Sound, effect-done, sound-effect}
 use Rattle.model.proofs.Counting.{size-mark, size-le, all-of-size, steps-number}
 use Rattle.model.proofs.Run.{nth-passes}
 use Rattle.model.proofs.Cursor.{nth-first, listed-kept, listed-done}
-use Rattle.picks.specs.Left.{left, comesTo, whole, Few}
-use Rattle.picks.specs.Way.{NoneBefore}
 
 same-whole : {s s′ : State} {m m′ n n′ : ℕ} → s ≡ s′ → m ≡ m′ → n ≡ n′ → whole s m n ≡ whole s′ m′ n′
 same-whole p q r = λ i. record { state = p i; messages = q i; steps = r i }

@@ -1,33 +1,31 @@
 -- The step that is picked, as code finds it: by a choice, or at a place. Assumes nothing.
-use mathlib.Core.Path.{_≡_, refl, sym, ap, _∙_}
-use mathlib.Core.Bool.{Bool, true, false}
+use mathlib.Core.Path.{_≡_, sym, ap, _∙_}
+use mathlib.Core.Bool.{true, false}
 use mathlib.Core.List.{List, [], _∷_}
 use Prim.Native.Nat.{ℕ, suc, _+_, _-_, _*_, _%_, _<_, _≤_}
 use native.Mathlib.Omega.{arith}
 use native.Mathlib.Nat.{mod-lt}
 use native.Mathlib.Numerals.{add-one}
 use lib.Arith.{digits-lt}
-use lib.Dec.{eqb, leb}
+use lib.Dec.{eqb}
 use lib.ListN.{length, getD, drop}
 use lib.Seq.{drop-cons}
 use borrow.Author.Tests.{le-leb, leb-true, ne-eqb}
 use Rattle.laws.specs.Below.{count}
-use Rattle.laws.specs.Tables.{tabulate}
 use Rattle.laws.proofs.Bools.{and-true, and-l, and-r}
-use Rattle.model.specs.Job.{Job, needWord, sharerWord}
-use Rattle.model.specs.Steps.{kindOf, Steps, Step, mark, permitted, effect}
+use Rattle.model.specs.Steps.{kindOf, permitted}
 use Rattle.model.specs.Tables.{JobTables, jobOf, StateTables, view, stateLengths}
 use Rattle.model.specs.Ranges.{sizesInRange, jobWordsInRange, jobInRange}
 use Rattle.model.specs.Step.{asked, isKind, stepOf, moved}
 use Rattle.model.specs.Words.{sends}
 use Rattle.model.specs.Run.{nth, stepAt, places, listed, readyCount, pick}
+use Rattle.walk.specs.Walk.{PlaceIn, here, listedBy, WalkIn, Found}
+use Rattle.apply.specs.Apply.{Applies}
+use Rattle.picks.specs.Way.{OnWay, Made, Kept, NoneBefore, Passed}
 use Rattle.model.proofs.Step.{range}
 use Rattle.model.proofs.Lent.{state-long}
 use Rattle.model.proofs.Reach.{effect-done}
-use Rattle.walk.specs.Walk.{PlaceIn, here, listedBy, WalkIn, Found}
 use Rattle.walk.proofs.InModel.{step-here, listed-is, count-is, nth-is-model}
-use Rattle.apply.specs.Apply.{Applies}
-use Rattle.picks.specs.Way.{OnWay, Made, Kept, NoneBefore, Passed}
 use Rattle.picks.proofs.Left.{picked, first-picked, some-ready, none-more, none-done}
 use Rattle.picks.proofs.Way.{way-whole, way-applies, moved-view, moved-kept, kept-none}
 

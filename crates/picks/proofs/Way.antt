@@ -1,33 +1,30 @@
 -- The tables on the way of a run: a step applied to them, and what it keeps. Assumes nothing.
 use mathlib.Core.Path.{_≡_, refl, sym, ap, ap₂, _∙_}
-use mathlib.Core.Bool.{Bool, true, false, cond, _&&_, not}
-use mathlib.Core.List.{List, []}
-use Prim.Native.Nat.{ℕ, suc, _+_, _*_, _/_, _%_, _<_, _≤_}
-use native.Mathlib.Omega.{arith}
+use mathlib.Core.Bool.{Bool, true, false, cond, not}
+use mathlib.Core.List.{List}
+use Prim.Native.Nat.{ℕ, suc, _+_, _*_, _/_, _%_}
 use lib.Dec.{eqb}
 use lib.ListN.{getD, drop}
-use borrow.Author.Tests.{eqb-true}
 use Rattle.laws.specs.Tables.{tabulate, recell}
 use Rattle.laws.specs.Checks.{firstMet}
-use Rattle.laws.proofs.Bools.{split, clash, and-true}
+use Rattle.laws.proofs.Bools.{and-true}
 use Rattle.laws.proofs.Tables.{length-overwrite}
 use Rattle.model.specs.Job.{Job, needWord, sharerWord}
-use Rattle.model.specs.Steps.{kindOf, Steps, State, Step, mark, fits, ready, permitted, effect, does}
-use Rattle.model.specs.Tables.{JobTables, jobOf, StateTables, view, store, StateLengths, jobLengths, jobShort, stateLengths, stateShort}
+use Rattle.model.specs.Steps.{kindOf, Steps, State, fits, ready, permitted, effect}
+use Rattle.model.specs.Tables.{JobTables, jobOf, StateTables, view, store, jobLengths, jobShort, stateLengths, stateShort}
 use Rattle.model.specs.Ranges.{jobInRange, stateInRange}
-use Rattle.model.specs.Step.{Asked, asked, isKind, stepOf, boxesFit, stepRules, moved}
+use Rattle.model.specs.Step.{asked, isKind, stepOf, boxesFit, stepRules, moved}
 use Rattle.model.specs.Words.{sends}
 use Rattle.model.specs.Run.{readyCount, pick}
+use Rattle.apply.specs.Apply.{Applies}
+use Rattle.picks.specs.Way.{OnWay, Kept}
 use Rattle.model.proofs.Core.{permit}
 use Rattle.model.proofs.Reach.{Sound, sound-effect}
 use Rattle.model.proofs.Refusal.{rules-zero}
 use Rattle.model.proofs.Step.{range, ok-store, whole-store}
 use Rattle.model.proofs.Lent.{state-long, store-store}
 use Rattle.model.proofs.Served.{within, view-is}
-use Rattle.apply.specs.Apply.{Applies}
-use Rattle.picks.specs.Left.{comesTo, Few}
-use Rattle.picks.specs.Way.{OnWay, Kept}
-use Rattle.picks.proofs.Left.{comes-next, few-so-far}
+use Rattle.picks.proofs.Left.{comes-next}
 
 -- A state that a list can leave, written into tables.
 module _ (f : JobTables) (ok : jobInRange f ≡ true) (long : jobShort (jobOf f) (jobLengths f) ≡ false) (t t′ : StateTables) (s : State) (o : Sound (jobOf f) s) (e : t′ ≡ store (jobOf f) s t) where

@@ -10,8 +10,8 @@ use Rattle.model.specs.Tables.{JobTables, jobOf, StateTables, view, store, jobL
 use Rattle.model.specs.Ranges.{jobInRange}
 use Rattle.model.specs.Local.{priceTable, totalTable}
 use Rattle.model.specs.Run.{listed}
-use Rattle.model.proofs.Reach.{Sound}
 use Rattle.picks.specs.Left.{whole, comesTo, Few}
+use Rattle.model.proofs.Reach.{Sound}
 
 -- The job's tables are whole and in range, and the state's hold a state that a list of steps can leave.
 pub record OnWay (f : JobTables) (t : StateTables) : Type 0 where

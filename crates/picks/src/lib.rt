@@ -8,7 +8,7 @@ ghost use Rattle.model.specs.Tables.{jobTables, jobOf, stateTables, view};
 ghost use Rattle.model.specs.Words.{sends};
 ghost use Rattle.model.specs.Run.{readyCount};
 ghost use Rattle.walk.specs.Walk.{PlaceIn, here};
-ghost use Rattle.picks.specs.Way.{Goes, Kept, Ended, NoneBefore, Passed};
+ghost use Rattle.picks.specs.Way.{Goes, Kept, NoneBefore, Passed};
 
 // Messages and steps, counted as steps are applied.
 pub struct Counts {
@@ -76,7 +76,31 @@ pub fn choose(
     let c = choices[i] % ready;
     let p = walk::find(boxes, c, prices, totals, done);
     let kind = p.kind;
-    apply::apply(boxes, grocers, offers, tallies, price, owner, gowner, tgrocer, tbox, toffer, tcount, needs, sharers, known, ptransit, working, ttransit, statement, done, sent, kind, p.first, p.second);
+    apply::apply(
+        boxes,
+        grocers,
+        offers,
+        tallies,
+        price,
+        owner,
+        gowner,
+        tgrocer,
+        tbox,
+        toffer,
+        tcount,
+        needs,
+        sharers,
+        known,
+        ptransit,
+        working,
+        ttransit,
+        statement,
+        done,
+        sent,
+        kind,
+        p.first,
+        p.second,
+    );
     counted(counts, kind)
 }
 
@@ -116,6 +140,30 @@ pub fn turn(
         return counts;
     }
     let kind = p.kind;
-    apply::apply(boxes, grocers, offers, tallies, price, owner, gowner, tgrocer, tbox, toffer, tcount, needs, sharers, known, ptransit, working, ttransit, statement, done, sent, kind, p.first, p.second);
+    apply::apply(
+        boxes,
+        grocers,
+        offers,
+        tallies,
+        price,
+        owner,
+        gowner,
+        tgrocer,
+        tbox,
+        toffer,
+        tcount,
+        needs,
+        sharers,
+        known,
+        ptransit,
+        working,
+        ttransit,
+        statement,
+        done,
+        sent,
+        kind,
+        p.first,
+        p.second,
+    );
     counted(counts, kind)
 }

@@ -1,45 +1,43 @@
 -- What a run begins with, and what it comes to. Assumes nothing.
-use mathlib.Core.Path.{_≡_, refl, sym, ap, ap₂, _∙_, subst}
-use mathlib.Core.Bool.{Bool, true, false, cond, _&&_, _||_, not}
-use mathlib.Core.List.{List, [], _∷_}
-use Prim.Native.Nat.{ℕ, zero, suc, _+_, _*_, _≤_, _<_}
+use mathlib.Core.Path.{_≡_, refl, sym, ap, ap₂, _∙_}
+use mathlib.Core.Bool.{Bool, true, false, cond, _||_, not}
+use mathlib.Core.List.{List}
+use Prim.Native.Nat.{ℕ, zero, suc, _+_, _≤_, _<_}
 use native.Mathlib.Omega.{arith}
 use native.Mathlib.Nat.{mul-le-mul}
-use lib.Dec.{eqb}
 use lib.ListN.{length, getD}
 use borrow.Author.Tests.{ne-eqb}
-use Rattle.laws.specs.Below.{words, sum, count}
-use Rattle.laws.specs.Tables.{tabulate, overwrite}
+use Rattle.laws.specs.Below.{count}
+use Rattle.laws.specs.Tables.{tabulate}
 use Rattle.laws.specs.Checks.{firstMet}
 use Rattle.laws.proofs.Sums.{sum-max}
 use Rattle.laws.proofs.Below.{count-le}
 use Rattle.laws.proofs.Tables.{word-in, getD-overwrite, long-overwrite}
-use Rattle.model.specs.Job.{Job, needWord, sharerWord, pricesDue, totalsDue}
+use Rattle.model.specs.Job.{Job, pricesDue, totalsDue}
 use Rattle.model.specs.Steps.{State, fresh}
 use Rattle.model.specs.Tables.{JobTables, jobOf, StateTables, view, store, jobLengths, stateLengths, jobShort, stateShort, lentShort}
 use Rattle.model.specs.Ranges.{jobInRange}
 use Rattle.model.specs.Step.{freshTables}
 use Rattle.model.specs.Words.{over, sends, messages, stepCount}
-use Rattle.model.specs.Local.{priceTable, totalTable}
-use Rattle.model.specs.Run.{run, runState, afterSteps, RunAnswer, finished, refused, reported, runRefusals, ran}
-use Rattle.model.proofs.Range.{InRange}
-use Rattle.model.proofs.Step.{range, limits}
-use Rattle.model.proofs.Lent.{job-long, state-long, store-store}
-use Rattle.model.proofs.Reach.{sound-fresh}
-use Rattle.model.proofs.Run.{run-length, run-sends}
+use Rattle.model.specs.Run.{run, runState, RunAnswer, finished, refused, reported, runRefusals, ran}
 use Rattle.tables.specs.Masks.{holderWord, Placed, Owned}
 use Rattle.tables.specs.Messages.{sentTable}
 use Rattle.tables.specs.Sizes.{sizes}
+use Rattle.fresh.specs.Fresh.{FreshIn}
+use Rattle.picks.specs.Left.{Whole, whole, comesTo, left, Few}
+use Rattle.picks.specs.Way.{Made, Goes, Ended}
+use Rattle.run.specs.declared.Answer.the-variants.{Finished, Refused}
+use Rattle.run.specs.Run.{Begins, Settled, answerOf, given}
+use Rattle.model.proofs.Range.{InRange}
+use Rattle.model.proofs.Step.{range, limits}
+use Rattle.model.proofs.Lent.{state-long, store-store}
+use Rattle.model.proofs.Reach.{sound-fresh}
+use Rattle.model.proofs.Run.{run-length, run-sends}
 use Rattle.tables.proofs.Sizes.{short-sizes}
 use Rattle.tables.proofs.Whole.{JobWhole, job-whole}
 use Rattle.tables.proofs.Holders.{need-words, sharer-words}
 use Rattle.tables.proofs.InJob.{placed-offers, placed-grocers, owned-offers, owned-grocers, price-sent, total-sent}
-use Rattle.fresh.specs.Fresh.{FreshIn}
-use Rattle.picks.specs.Left.{Whole, whole, comesTo, left, Few}
-use Rattle.picks.specs.Way.{OnWay, Made, Goes, Ended}
 use Rattle.picks.proofs.Way.{stored-view, stored-way}
-use Rattle.run.specs.declared.Answer.the-variants.{Finished, Refused}
-use Rattle.run.specs.Run.{Begins, Settled, answerOf, given}
 
 -- A job in range has at most 512 messages.
 messages-few : (j : Job) → InRange j → messages j ≤ 512

@@ -1,9 +1,9 @@
 -- The loops of a run: what each turn keeps, and where they end. Assumes nothing.
-use mathlib.Core.Path.{_≡_, refl, sym, ap, _∙_, subst}
+use mathlib.Core.Path.{_≡_, sym, ap, _∙_, subst}
 use mathlib.Core.List.{List, []}
-use Prim.Native.Nat.{ℕ, _+_, _*_, _≤_, _<_}
-use native.Mathlib.Omega.{arith}
 use mathlib.Core.Bool.{true}
+use Prim.Native.Nat.{ℕ, _*_}
+use native.Mathlib.Omega.{arith}
 use lib.Dec.{eqb}
 use lib.ListN.{length, drop}
 use lib.Seq.{drop-length}
@@ -11,14 +11,12 @@ use borrow.Author.Tests.{eq-eqb}
 use Rattle.laws.specs.Below.{count}
 use Rattle.model.specs.Tables.{JobTables, jobOf, StateTables, StateLengths, view, store, stateLengths}
 use Rattle.model.specs.Run.{readyCount, places}
-use Rattle.model.proofs.Step.{range}
-use Rattle.walk.specs.Walk.{PlaceIn, here, listedBy, WalkIn, Next}
-use Rattle.walk.proofs.Walking.{At, at-first, at-next, at-in}
-use Rattle.picks.specs.Left.{whole, comesTo, Few}
-use Rattle.picks.specs.Way.{OnWay, Made, Goes, Kept, Ended, NoneBefore, Passed}
+use Rattle.walk.specs.Walk.{listedBy, WalkIn}
+use Rattle.picks.specs.Left.{Few}
+use Rattle.picks.specs.Way.{OnWay, Goes, Kept, Ended, NoneBefore}
 use Rattle.picks.proofs.Left.{comes-none, none-at-all}
-use Rattle.picks.proofs.Way.{way-lengths, over-stored, kept-none, kept-both}
-use Rattle.picks.proofs.Pick.{some-box, way-walk, way-count}
+use Rattle.picks.proofs.Way.{way-lengths, over-stored, kept-none}
+use Rattle.picks.proofs.Pick.{way-walk, way-count}
 
 -- Tables of the same lengths.
 pub record SameLengths (t′ t : StateTables) : Type 0 where

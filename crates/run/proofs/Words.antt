@@ -1,6 +1,6 @@
 -- What a run that finishes reports: the words of the owner tables, the messages and the steps of the job. Assumes nothing.
-use mathlib.Core.Path.{_≡_, refl, sym, ap, _∙_}
-use mathlib.Core.Bool.{true, false, cond, _||_}
+use mathlib.Core.Path.{_≡_, sym, ap, _∙_}
+use mathlib.Core.Bool.{false, cond}
 use mathlib.Core.List.{List}
 use Prim.Native.Nat.{ℕ}
 use native.Mathlib.Omega.{arith}
@@ -11,9 +11,9 @@ use Rattle.laws.proofs.Bools.{split}
 use Rattle.model.specs.Tables.{JobTables, jobOf, StateTables, lentShort}
 use Rattle.model.specs.Words.{ownerWords, messages, stepCount}
 use Rattle.model.specs.Run.{RunAnswer, RunOutcome, finished, refused, reported, runRefusals, ran}
-use Rattle.model.proofs.Demand3.{run-is-list}
 use Rattle.run.specs.declared.Answer.the-variants.{Finished}
 use Rattle.run.specs.Run.{Begins, answerOf, given}
+use Rattle.model.proofs.Demand3.{run-is-list}
 use Rattle.run.proofs.Ends.{begins, refused-said}
 
 -- The numbers of a run by the job's tables.

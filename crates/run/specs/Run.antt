@@ -3,7 +3,7 @@ use mathlib.Core.Path.{_≡_}
 use mathlib.Core.Bool.{true, false}
 use mathlib.Core.List.{List}
 use Prim.Native.Nat.{ℕ}
-use lib.ListN.{length, getD}
+use lib.ListN.{length}
 use Rattle.model.specs.Words.{over, sends}
 use Rattle.model.specs.Tables.{JobTables, jobOf, StateTables, store, jobLengths, stateLengths, jobShort, stateShort}
 use Rattle.model.specs.Ranges.{jobInRange}

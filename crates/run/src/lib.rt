@@ -1,12 +1,10 @@
 // The run: it starts fresh, picks steps until all are done, and reports the words sent, the messages and the steps.
 mod steps;
+
 ghost use mathlib.Core.Path.{_≡_};
-ghost use mathlib.Core.Bool.{true, false};
 ghost use Rattle.laws.specs.Checks.{firstMet};
-ghost use Rattle.model.specs.Tables.{jobTables, jobOf, jobLengths, jobShort, stateTables, stateLengths, stateShort};
-ghost use Rattle.model.specs.Ranges.{jobInRange};
+ghost use Rattle.model.specs.Tables.{jobTables, stateTables};
 ghost use Rattle.model.specs.Run.{ran, runRefusals};
-ghost use Rattle.picks.specs.Way.{Goes, Ended};
 ghost use Rattle.run.specs.Run.{Begins, Settled, answerOf, given};
 
 // What a run answers: words sent, messages and steps; or the number of the condition that refuses it.
@@ -38,12 +36,47 @@ fn refusal(
 ) -> u16
     ensures { λ r. ⌜ r ≡ firstMet (runRefusals (jobTables boxes grocers offers tallies (now (price .entry)) (now (owner .entry)) (now (gowner .entry)) (now (tgrocer .entry)) (now (tbox .entry)) (now (toffer .entry)) (now (tcount .entry))) (stateTables (now (known .entry)) (now (ptransit .entry)) (now (working .entry)) (now (ttransit .entry)) (now (statement .entry)) (now (done .entry)) (now (sent .entry)))) ⌝ }
 {
-    if tables::checks::job_short(boxes, grocers, offers, tallies, price, owner, gowner, tgrocer, tbox, toffer, tcount)
-        | tables::checks::state_short(boxes, grocers, offers, known, ptransit, working, ttransit, statement, done, sent)
+    if tables::checks::job_short(
+        boxes,
+        grocers,
+        offers,
+        tallies,
+        price,
+        owner,
+        gowner,
+        tgrocer,
+        tbox,
+        toffer,
+        tcount,
+    )
+        | tables::checks::state_short(
+            boxes,
+            grocers,
+            offers,
+            known,
+            ptransit,
+            working,
+            ttransit,
+            statement,
+            done,
+            sent,
+        )
     {
         return 20;
     }
-    if !tables::checks::job_in_range(boxes, grocers, offers, tallies, price, owner, gowner, tgrocer, tbox, toffer, tcount) {
+    if !tables::checks::job_in_range(
+        boxes,
+        grocers,
+        offers,
+        tallies,
+        price,
+        owner,
+        gowner,
+        tgrocer,
+        tbox,
+        toffer,
+        tcount,
+    ) {
         return 21;
     }
     0
@@ -74,12 +107,49 @@ fn settle(
     requires { ⌜ Begins (jobTables boxes grocers offers tallies (now price) (now owner) (now gowner) (now tgrocer) (now tbox) (now toffer) (now tcount)) (stateTables (now known) (now ptransit) (now working) (now ttransit) (now statement) (now done) (now sent)) ⌝ }
     ensures { λ r. ⌜ Settled (jobTables boxes grocers offers tallies (now (price .entry)) (now (owner .entry)) (now (gowner .entry)) (now (tgrocer .entry)) (now (tbox .entry)) (now (toffer .entry)) (now (tcount .entry))) (stateTables (now (known .entry)) (now (ptransit .entry)) (now (working .entry)) (now (ttransit .entry)) (now (statement .entry)) (now (done .entry)) (now (sent .entry))) (now (choices .entry)) (stateTables (now (known .exit)) (now (ptransit .exit)) (now (working .exit)) (now (ttransit .exit)) (now (statement .exit)) (now (done .exit)) (now (sent .exit))) (r .messages) (r .steps) ⌝ }
 {
-    fresh::fresh(boxes, grocers, offers, price, owner, known, ptransit, working, ttransit, statement, done, sent);
+    fresh::fresh(
+        boxes,
+        grocers,
+        offers,
+        price,
+        owner,
+        known,
+        ptransit,
+        working,
+        ttransit,
+        statement,
+        done,
+        sent,
+    );
     let needs = tables::masks::needs(boxes, tallies, tbox, toffer);
     let sharers = tables::masks::sharers(boxes, tallies, tbox, tgrocer);
     let prices = tables::messages::price_table(offers, owner, &needs);
     let totals = tables::messages::total_table(grocers, gowner, &sharers);
-    steps::all_steps(boxes, grocers, offers, tallies, price, owner, gowner, tgrocer, tbox, toffer, tcount, &needs, &sharers, &prices, &totals, known, ptransit, working, ttransit, statement, done, sent, choices)
+    steps::all_steps(
+        boxes,
+        grocers,
+        offers,
+        tallies,
+        price,
+        owner,
+        gowner,
+        tgrocer,
+        tbox,
+        toffer,
+        tcount,
+        &needs,
+        &sharers,
+        &prices,
+        &totals,
+        known,
+        ptransit,
+        working,
+        ttransit,
+        statement,
+        done,
+        sent,
+        choices,
+    )
 }
 
 // The run of a job, from a fresh state.
@@ -106,10 +176,49 @@ pub fn run(
 ) -> Answer
     ensures { λ r. ⌜ given (answerOf r) (stateTables (now (known .exit)) (now (ptransit .exit)) (now (working .exit)) (now (ttransit .exit)) (now (statement .exit)) (now (done .exit)) (now (sent .exit))) ≡ ran (jobTables boxes grocers offers tallies (now (price .entry)) (now (owner .entry)) (now (gowner .entry)) (now (tgrocer .entry)) (now (tbox .entry)) (now (toffer .entry)) (now (tcount .entry))) (stateTables (now (known .entry)) (now (ptransit .entry)) (now (working .entry)) (now (ttransit .entry)) (now (statement .entry)) (now (done .entry)) (now (sent .entry))) (now (choices .entry)) ⌝ }
 {
-    let r = refusal(boxes, grocers, offers, tallies, price, owner, gowner, tgrocer, tbox, toffer, tcount, known, ptransit, working, ttransit, statement, done, sent);
+    let r = refusal(
+        boxes,
+        grocers,
+        offers,
+        tallies,
+        price,
+        owner,
+        gowner,
+        tgrocer,
+        tbox,
+        toffer,
+        tcount,
+        known,
+        ptransit,
+        working,
+        ttransit,
+        statement,
+        done,
+        sent,
+    );
     if r != 0 {
         return Answer::Refused(r);
     }
-    let counts = settle(boxes, grocers, offers, tallies, price, owner, gowner, tgrocer, tbox, toffer, tcount, known, ptransit, working, ttransit, statement, done, sent, choices);
+    let counts = settle(
+        boxes,
+        grocers,
+        offers,
+        tallies,
+        price,
+        owner,
+        gowner,
+        tgrocer,
+        tbox,
+        toffer,
+        tcount,
+        known,
+        ptransit,
+        working,
+        ttransit,
+        statement,
+        done,
+        sent,
+        choices,
+    );
     Answer::Finished(sent[0], counts.messages, counts.steps)
 }

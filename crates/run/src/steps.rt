@@ -1,8 +1,6 @@
 // The loops of a run: while choices are left, and then one walk over all places.
-ghost use mathlib.Core.Path.{_≡_};
 ghost use mathlib.Core.List.{[]};
-ghost use Prim.Native.Nat.{_+_};
-ghost use Rattle.model.specs.Tables.{jobTables, jobOf, stateTables, view};
+ghost use Rattle.model.specs.Tables.{jobTables, stateTables};
 ghost use Rattle.picks.specs.Way.{Goes, Kept, Ended};
 
 // While choices are left and some step is ready, each choice picks a step, and it is applied.
@@ -34,14 +32,44 @@ fn chosen(
     requires { ⌜ Goes (jobTables boxes grocers offers tallies (now price) (now owner) (now gowner) (now tgrocer) (now tbox) (now toffer) (now tcount)) (stateTables (now known) (now ptransit) (now working) (now ttransit) (now statement) (now done) (now sent)) (now needs) (now sharers) (now prices) (now totals) (now choices) 0 0 ⌝ }
     ensures { λ r. ⌜ Kept (jobTables boxes grocers offers tallies (now (price .entry)) (now (owner .entry)) (now (gowner .entry)) (now (tgrocer .entry)) (now (tbox .entry)) (now (toffer .entry)) (now (tcount .entry))) (stateTables (now (known .entry)) (now (ptransit .entry)) (now (working .entry)) (now (ttransit .entry)) (now (statement .entry)) (now (done .entry)) (now (sent .entry))) (now (choices .entry)) 0 0 (stateTables (now (known .exit)) (now (ptransit .exit)) (now (working .exit)) (now (ttransit .exit)) (now (statement .exit)) (now (done .exit)) (now (sent .exit))) [] (r .messages) (r .steps) ⌝ }
 {
-    let mut counts = picks::Counts { messages: 0, steps: 0 };
+    let mut counts = picks::Counts {
+        messages: 0,
+        steps: 0,
+    };
     let n = choices.len();
     for i in 0..n {
         let ready = walk::count_ready(boxes, prices, totals, done);
         if ready == 0 {
             return counts;
         }
-        let next = picks::choose(boxes, grocers, offers, tallies, price, owner, gowner, tgrocer, tbox, toffer, tcount, needs, sharers, prices, totals, known, ptransit, working, ttransit, statement, done, sent, choices, i, ready, counts);
+        let next = picks::choose(
+            boxes,
+            grocers,
+            offers,
+            tallies,
+            price,
+            owner,
+            gowner,
+            tgrocer,
+            tbox,
+            toffer,
+            tcount,
+            needs,
+            sharers,
+            prices,
+            totals,
+            known,
+            ptransit,
+            working,
+            ttransit,
+            statement,
+            done,
+            sent,
+            choices,
+            i,
+            ready,
+            counts,
+        );
         counts = next;
     }
     counts
@@ -78,9 +106,38 @@ fn rest(
 {
     let n = tables::checks::marks(boxes);
     let mut counts = before;
-    let mut p = walk::Place { kind: 1, first: 0, second: 0 };
+    let mut p = walk::Place {
+        kind: 1,
+        first: 0,
+        second: 0,
+    };
     for i in 0..n {
-        let next = picks::turn(boxes, grocers, offers, tallies, price, owner, gowner, tgrocer, tbox, toffer, tcount, needs, sharers, prices, totals, known, ptransit, working, ttransit, statement, done, sent, p, counts);
+        let next = picks::turn(
+            boxes,
+            grocers,
+            offers,
+            tallies,
+            price,
+            owner,
+            gowner,
+            tgrocer,
+            tbox,
+            toffer,
+            tcount,
+            needs,
+            sharers,
+            prices,
+            totals,
+            known,
+            ptransit,
+            working,
+            ttransit,
+            statement,
+            done,
+            sent,
+            p,
+            counts,
+        );
         counts = next;
         let q = walk::next(boxes, p);
         p = q;
@@ -117,6 +174,54 @@ pub fn all_steps(
     requires { ⌜ Goes (jobTables boxes grocers offers tallies (now price) (now owner) (now gowner) (now tgrocer) (now tbox) (now toffer) (now tcount)) (stateTables (now known) (now ptransit) (now working) (now ttransit) (now statement) (now done) (now sent)) (now needs) (now sharers) (now prices) (now totals) (now choices) 0 0 ⌝ }
     ensures { λ r. ⌜ Ended (jobTables boxes grocers offers tallies (now (price .entry)) (now (owner .entry)) (now (gowner .entry)) (now (tgrocer .entry)) (now (tbox .entry)) (now (toffer .entry)) (now (tcount .entry))) (stateTables (now (known .entry)) (now (ptransit .entry)) (now (working .entry)) (now (ttransit .entry)) (now (statement .entry)) (now (done .entry)) (now (sent .entry))) (now (choices .entry)) 0 0 (stateTables (now (known .exit)) (now (ptransit .exit)) (now (working .exit)) (now (ttransit .exit)) (now (statement .exit)) (now (done .exit)) (now (sent .exit))) (r .messages) (r .steps) ⌝ }
 {
-    let first = chosen(boxes, grocers, offers, tallies, price, owner, gowner, tgrocer, tbox, toffer, tcount, needs, sharers, prices, totals, known, ptransit, working, ttransit, statement, done, sent, choices);
-    rest(boxes, grocers, offers, tallies, price, owner, gowner, tgrocer, tbox, toffer, tcount, needs, sharers, prices, totals, known, ptransit, working, ttransit, statement, done, sent, first)
+    let first = chosen(
+        boxes,
+        grocers,
+        offers,
+        tallies,
+        price,
+        owner,
+        gowner,
+        tgrocer,
+        tbox,
+        toffer,
+        tcount,
+        needs,
+        sharers,
+        prices,
+        totals,
+        known,
+        ptransit,
+        working,
+        ttransit,
+        statement,
+        done,
+        sent,
+        choices,
+    );
+    rest(
+        boxes,
+        grocers,
+        offers,
+        tallies,
+        price,
+        owner,
+        gowner,
+        tgrocer,
+        tbox,
+        toffer,
+        tcount,
+        needs,
+        sharers,
+        prices,
+        totals,
+        known,
+        ptransit,
+        working,
+        ttransit,
+        statement,
+        done,
+        sent,
+        first,
+    )
 }

@@ -1,21 +1,20 @@
 -- Over the tables of messages of a job the list of ready steps is the model's. Assumes nothing.
-use mathlib.Core.Path.{_≡_, refl, sym, ap, ap₂, _∙_}
-use mathlib.Core.Bool.{Bool, cond, _&&_}
+use mathlib.Core.Path.{_≡_, refl, ap, _∙_}
+use mathlib.Core.Bool.{Bool}
 use mathlib.Core.List.{List}
 use Prim.Native.Nat.{ℕ, zero, suc, _-_, _*_, _/_, _%_, _≤_, _<_}
 use native.Mathlib.Omega.{arith}
 use native.Mathlib.Nat.{mod-lt}
-use lib.Dec.{eqb}
 use Rattle.laws.specs.Below.{count}
 use Rattle.laws.proofs.Below.{count-cong}
 use Rattle.model.specs.Job.{Job}
-use Rattle.model.specs.Steps.{Steps, Step, permitted, number, kindOf}
+use Rattle.model.specs.Steps.{Steps, permitted, number, kindOf}
 use Rattle.model.specs.Tables.{StateTables, view}
 use Rattle.model.specs.Local.{priceTable, totalTable}
 use Rattle.model.specs.Run.{nth, stepAt, places, listed, readyCount}
 use Rattle.prices.specs.Marks.{stepsDone}
+use Rattle.walk.specs.Walk.{PlaceIn, here, listedBy}
 use Rattle.refuse.proofs.InModel.{permitted-is}
-use Rattle.walk.specs.Walk.{PlaceIn, here, listedBy, Found}
 use Rattle.walk.proofs.Places.{kind-of, first-of, second-of}
 
 -- Two tests that agree below n.

@@ -1,18 +1,18 @@
 -- A walk over the places: where it is, and what it has counted. Assumes nothing.
-use mathlib.Core.Path.{_≡_, refl, sym, ap, _∙_}
+use mathlib.Core.Path.{_≡_, sym, ap, _∙_}
 use mathlib.Core.Bool.{Bool, true, false, _&&_}
 use Prim.Native.Nat.{ℕ, _+_, _-_, _*_, _≤_, _<_}
 use native.Mathlib.Omega.{arith}
 use native.Mathlib.Nat.{zero-mul, add-zero}
 use lib.Dec.{eqb}
 use borrow.Author.Tests.{eqb-true, eqb-false}
-use Rattle.laws.specs.Below.{words, sum, only, count}
+use Rattle.laws.specs.Below.{words, only, count}
 use Rattle.laws.proofs.Bools.{split, and-l, and-r}
 use Rattle.laws.proofs.Below.{count-next, count-le, only-le}
 use Rattle.model.specs.Run.{nth}
+use Rattle.walk.specs.Walk.{PlaceIn, Next, here}
 use Rattle.model.proofs.Cursor.{nth-is}
-use Rattle.walk.specs.Walk.{PlaceIn, Next, Found, here}
-use Rattle.walk.proofs.Places.{place-in, room}
+use Rattle.walk.proofs.Places.{place-in}
 
 -- The walk is at place i.
 pub record At (k i kind a b : ℕ) : Type 0 where

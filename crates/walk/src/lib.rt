@@ -20,12 +20,24 @@ pub fn next(k: u16, p: Place) -> Place
     let a = p.first;
     let b = p.second;
     if b + 1 < k {
-        return Place { kind: p.kind, first: a, second: b + 1 };
+        return Place {
+            kind: p.kind,
+            first: a,
+            second: b + 1,
+        };
     }
     if a + 1 < k {
-        return Place { kind: p.kind, first: a + 1, second: 0 };
+        return Place {
+            kind: p.kind,
+            first: a + 1,
+            second: 0,
+        };
     }
-    Place { kind: p.kind + 1, first: 0, second: 0 }
+    Place {
+        kind: p.kind + 1,
+        first: 0,
+        second: 0,
+    }
 }
 
 // Whether the step of a place is in the list of ready steps.
@@ -54,18 +66,17 @@ fn one(test: bool) -> u16
 }
 
 // The number of ready steps.
-pub fn count_ready(
-    k: u16,
-    prices: &[[u16; 16]; 16],
-    totals: &[[u16; 16]; 16],
-    done: &[u16],
-) -> u16
+pub fn count_ready(k: u16, prices: &[[u16; 16]; 16], totals: &[[u16; 16]; 16], done: &[u16]) -> u16
     requires { ⌜ WalkIn k (now done) ⌝ }
     ensures { λ r. ⌜ r ≡ count (6 * k * k) (listedBy k (now (prices .entry)) (now (totals .entry)) (now (done .entry))) ⌝ }
 {
     let n = tables::checks::marks(k);
     let mut found: u16 = 0;
-    let mut p = Place { kind: 1, first: 0, second: 0 };
+    let mut p = Place {
+        kind: 1,
+        first: 0,
+        second: 0,
+    };
     for i in 0..n {
         let more = one(is_listed(k, p, prices, totals, done));
         found += more;
@@ -89,7 +100,11 @@ pub fn find(
 {
     let n = tables::checks::marks(k);
     let mut left = c;
-    let mut p = Place { kind: 1, first: 0, second: 0 };
+    let mut p = Place {
+        kind: 1,
+        first: 0,
+        second: 0,
+    };
     for i in 0..n {
         let ready = is_listed(k, p, prices, totals, done);
         if ready & (left == 0) {

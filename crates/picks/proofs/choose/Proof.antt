@@ -1,26 +1,20 @@
 -- `picks::choose` meets its contract: the step that the choice picks is found and applied. Assumes nothing.
-use mathlib.Core.Path.{_≡_, refl, sym, ap, _∙_}
+use mathlib.Core.Path.{refl}
 use native.Mathlib.Omega.{arith}
-use denote.Ref.{now}
-use Rattle.model.specs.Tables.{JobTables, jobTables, StateTables, stateTables}
 use lib.ListN.{getD}
+use Rattle.model.specs.Tables.{JobTables, jobTables, StateTables, stateTables}
+use borrow.Author.Needs.{needs}
+use denote.Ref.{now}
 use Rattle.picks.proofs.Left.{few-so-far}
 use Rattle.picks.proofs.Pick.{way-walk, choice-below, choice-applies, choice-kept}
-use borrow.Author.Needs.{needs}
 use Rattle.picks.proofs.choose.Statement.{statement}
 use Rattle.picks.proofs.choose.Tie as tie
-use Rattle.picks.proofs.choose.Reads as reads
-use Rattle.picks.proofs.choose.Lts as lts
-use Rattle.apply.proofs.apply.Reads as apply-reads
-use Rattle.picks.proofs.counted.Reads as counted-reads
-use Rattle.walk.proofs.find.Reads as find-reads
 
 abbrev job : tie.Start → JobTables
 job s = jobTables (s .args .boxes) (s .args .grocers) (s .args .offers) (s .args .tallies) (now (s .args .price)) (now (s .args .owner)) (now (s .args .gowner)) (now (s .args .tgrocer)) (now (s .args .tbox)) (now (s .args .toffer)) (now (s .args .tcount))
 
 abbrev tables : tie.Start → StateTables
 tables s = stateTables (now (s .args .known)) (now (s .args .ptransit)) (now (s .args .working)) (now (s .args .ttransit)) (now (s .args .statement)) (now (s .args .done)) (now (s .args .sent))
-
 
 mul-c : tie.Need-mul-c
 mul-c c = let s = c .before .before .before .before .before .before .before .before .before .before .before in omega (arith, s .pre .1 .0, s .good .1 .1 .1 .1 .1 .1 .1 .1 .1 .1 .1 .1 .1 .1 .1 .1 .1 .1 .1 .1 .1 .1 .0)
@@ -32,19 +26,20 @@ rem-c : tie.Need-rem-c
 rem-c c = search needs
 
 find-requires : tie.Need-find-requires
-find-requires c κs = 
-    let s = c .before .before .before .before .before .before .before .before .before .before .before .before .before in
-    (way-walk (job s) (tables s) (s .pre .0 .on-way) (now (s .args .needs)) (now (s .args .sharers)) (now (s .args .prices)) (now (s .args .totals)) (s .pre .0 .made),
-    choice-below (job s) (tables s) (s .pre .0 .on-way) (now (s .args .needs)) (now (s .args .sharers)) (now (s .args .prices)) (now (s .args .totals)) (s .pre .0 .made) (s .args .ready) (getD (now (s .args .choices)) (s .args .i) 0) (s .pre .1 .1 .0) (s .pre .1 .1 .1))
+find-requires c κs =
+    let s = c .before .before .before .before .before .before .before .before .before .before .before .before .before in (
+      way-walk (job s) (tables s) (s .pre .0 .on-way) (now (s .args .needs)) (now (s .args .sharers)) (now (s .args .prices)) (now (s .args .totals)) (s .pre .0 .made),
+      choice-below (job s) (tables s) (s .pre .0 .on-way) (now (s .args .needs)) (now (s .args .sharers)) (now (s .args .prices)) (now (s .args .totals)) (s .pre .0 .made) (s .args .ready) (getD (now (s .args .choices)) (s .args .i) 0) (s .pre .1 .1 .0) (s .pre .1 .1 .1),
+    )
 
 apply-requires : tie.Need-apply-requires
-apply-requires c κs = 
+apply-requires c κs =
     let s = c .before .before .before .before .before .before .before .before .before .before .before .before .before .before .before .before .before .before .before .before .before in
     let g = c .before .before .before .before .before .before .before .find in
     choice-applies (job s) (tables s) (s .pre .0 .on-way) (now (s .args .needs)) (now (s .args .sharers)) (now (s .args .prices)) (now (s .args .totals)) (s .pre .0 .made) (s .args .ready) (getD (now (s .args .choices)) (s .args .i) 0) (s .pre .1 .1 .0) (s .pre .1 .1 .1) (g .result .kind) (g .result .first) (g .result .second) (g .ensures)
 
 counted-requires : tie.Need-counted-requires
-counted-requires c κs = 
+counted-requires c κs =
     let s = c .before .before .before .before .before .before .before .before .before .before .before .before .before .before .before .before .before .before .before .before .before .before .before .before .before .before .before .before .before .before .before .before .before in
     let g = c .before .before .before .before .before .before .before .before .before .before .before .before .before .before .before .before .before .before .before .find in
     ((g .ensures .place-in .kind-from, g .ensures .place-in .kind-to), few-so-far _ _ _ (s .args .counts .messages) (s .args .counts .steps) (s .pre .0 .few))
@@ -71,7 +66,7 @@ same-length-7 : tie.Need-same-length-7
 same-length-7 c = search needs
 
 returns : tie.Need-returns
-returns c = 
+returns c =
     let s = c .before .before .before .before .before .before .before .before .before .before .before .before .before .before .before .before .before .before .before .before .before .before .before .before .before .before .before .before .before .before .before .before .before .before in
     let g = c .before .before .before .before .before .before .before .before .before .before .before .before .before .before .before .before .before .before .before .before .find in
     choice-kept (job s) (tables s) (s .pre .0 .on-way) (now (s .args .needs)) (now (s .args .sharers)) (now (s .args .prices)) (now (s .args .totals)) (s .pre .0 .made) (s .args .ready) (getD (now (s .args .choices)) (s .args .i) 0) (s .pre .1 .1 .0) (s .pre .1 .1 .1) (g .result .kind) (g .result .first) (g .result .second) (g .ensures)

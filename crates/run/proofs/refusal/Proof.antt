@@ -1,24 +1,17 @@
 -- `run::refusal` meets its contract: 20 before 21. Assumes nothing.
-use mathlib.Core.Path.{_≡_, refl, sym, ap, _∙_}
-use denote.Ref.{now}
-use Rattle.model.specs.Tables.{JobTables, jobTables, StateTables, stateTables}
 use borrow.Author.Tests.{not-true, not-false}
-use Rattle.run.proofs.Ends.{refused-short, long-job, refused-range, refused-none}
+use Rattle.model.specs.Tables.{JobTables, jobTables, StateTables, stateTables}
 use borrow.Author.Needs.{needs}
+use denote.Ref.{now}
+use Rattle.run.proofs.Ends.{refused-short, long-job, refused-range, refused-none}
 use Rattle.run.proofs.refusal.Statement.{statement}
 use Rattle.run.proofs.refusal.Tie as tie
-use Rattle.run.proofs.refusal.Reads as reads
-use Rattle.run.proofs.refusal.Lts as lts
-use Rattle.tables.proofs.checks.job_in_range.Reads as job-in-range-reads
-use Rattle.tables.proofs.checks.job_short.Reads as job-short-reads
-use Rattle.tables.proofs.checks.state_short.Reads as state-short-reads
 
 abbrev job : tie.Start → JobTables
 job s = jobTables (s .args .boxes) (s .args .grocers) (s .args .offers) (s .args .tallies) (now (s .args .price)) (now (s .args .owner)) (now (s .args .gowner)) (now (s .args .tgrocer)) (now (s .args .tbox)) (now (s .args .toffer)) (now (s .args .tcount))
 
 abbrev entry : tie.Start → StateTables
 entry s = stateTables (now (s .args .known)) (now (s .args .ptransit)) (now (s .args .working)) (now (s .args .ttransit)) (now (s .args .statement)) (now (s .args .done)) (now (s .args .sent))
-
 
 job-short-requires : tie.Need-job-short-requires
 job-short-requires c κs = search needs

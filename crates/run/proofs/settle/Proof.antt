@@ -1,25 +1,16 @@
 -- `run::settle` meets its contract: from a fresh state all steps are done. Assumes nothing.
-use mathlib.Core.Path.{_≡_, refl, sym, ap, _∙_}
-use denote.Ref.{now}
+use mathlib.Core.Path.{_∙_}
 use Rattle.model.specs.Tables.{JobTables, jobTables, StateTables, stateTables}
+use denote.Ref.{now}
 use Rattle.run.proofs.Ends.{begins-fresh, begins-needs, begins-sharers, begins-prices, begins-totals, begins-goes, ends-settled}
 use Rattle.run.proofs.settle.Statement.{statement}
 use Rattle.run.proofs.settle.Tie as tie
-use Rattle.run.proofs.settle.Reads as reads
-use Rattle.run.proofs.settle.Lts as lts
-use Rattle.fresh.proofs.fresh.Reads as fresh-reads
-use Rattle.run.proofs.steps.all_steps.Reads as all-steps-reads
-use Rattle.tables.proofs.masks.needs.Reads as needs-reads
-use Rattle.tables.proofs.masks.sharers.Reads as sharers-reads
-use Rattle.tables.proofs.messages.price_table.Reads as price-table-reads
-use Rattle.tables.proofs.messages.total_table.Reads as total-table-reads
 
 abbrev job : tie.Start → JobTables
 job s = jobTables (s .args .boxes) (s .args .grocers) (s .args .offers) (s .args .tallies) (now (s .args .price)) (now (s .args .owner)) (now (s .args .gowner)) (now (s .args .tgrocer)) (now (s .args .tbox)) (now (s .args .toffer)) (now (s .args .tcount))
 
 abbrev entry : tie.Start → StateTables
 entry s = stateTables (now (s .args .known)) (now (s .args .ptransit)) (now (s .args .working)) (now (s .args .ttransit)) (now (s .args .statement)) (now (s .args .done)) (now (s .args .sent))
-
 
 fresh-requires : tie.Need-fresh-requires
 fresh-requires c κs = let s = c .before .before .before .before .before .before .before .before .before .before .before .before .before .before .before .before .before .before in begins-fresh (job s) (entry s) (s .pre)
@@ -37,7 +28,7 @@ total-table-requires : tie.Need-total-table-requires
 total-table-requires c κs = let s = c .before .before .before .before .before .before .before .before .before .before .before .before .before .before .before .before .before .before .before .before .before .before .before .before .before .before .before .before .before .before .before .before .before .before .before in begins-totals (job s) (entry s) (s .pre) ((c .before .before .before .before) .needs .result) ((c .before .before .before) .sharers .result) ((c .before .before .before .before) .needs .ensures) ((c .before .before .before) .sharers .ensures)
 
 all-steps-requires : tie.Need-all-steps-requires
-all-steps-requires c κs = 
+all-steps-requires c κs =
     let s = c .before .before .before .before .before .before .before .before .before .before .before .before .before .before .before .before .before .before .before .before .before .before .before .before .before .before .before .before .before .before .before .before .before .before .before .before .before .before .before .before .before .before .before .before .before .before .before in
     begins-goes (job s) (entry s) (s .pre) ((c .before .before .before .before .before .before .before .before .before .before .before .before .before .before .before .before) .needs .result) ((c .before .before .before .before .before .before .before .before .before .before .before .before .before .before .before) .sharers .result) ((c .before .before .before .before .before .before .before .before .before .before .before .before .before .before .before .before) .needs .ensures) ((c .before .before .before .before .before .before .before .before .before .before .before .before .before .before .before) .sharers .ensures) ((c .before .before .before .before .before .before .before .before .before .before .before .before .before) .price-table .result) ((c .before .before .before .before .before .before .before .before .before .before .before) .total-table .result) ((c .before .before .before .before .before .before .before .before .before .before .before .before .before) .price-table .ensures) ((c .before .before .before .before .before .before .before .before .before .before .before) .total-table .ensures) _ ((c .before .before .before .before .before .before .before .before .before .before .before .before .before .before .before .before .before .before .before .before .before .before .before .before .before .before .before .before) .fresh .ensures (s .args .tallies) (now (s .args .gowner)) (now (s .args .tgrocer)) (now (s .args .tbox)) (now (s .args .toffer)) (now (s .args .tcount))) (now (s .args .choices))
 
@@ -63,7 +54,7 @@ same-length-7 : tie.Need-same-length-7
 same-length-7 c = c .before .before .before .before .before .before .before .before .before .before .before .all-steps .kept .1 .1 .1 .1 .1 .1 .1 .1 .1 .1 .1 .1 .1 .1 .1 .1 .1 .1 .1 .1 .1 .0 ∙ c .before .before .before .before .before .before .before .before .before .before .before .before .before .before .before .before .before .before .before .before .before .before .before .before .before .before .before .before .before .before .before .before .before .before .before .before .before .before .before .before .fresh .kept .1 .1 .1 .1 .1 .1 .1 .1 .1 .1 .1 .0
 
 returns : tie.Need-returns
-returns c = 
+returns c =
     let s = c .before .before .before .before .before .before .before .before .before .before .before .before .before .before .before .before .before .before .before .before .before .before .before .before .before .before .before .before .before .before .before .before .before .before .before .before .before .before .before .before .before .before .before .before .before .before .before .before .before .before .before .before .before .before .before .before .before .before .before in
     let k = c .before .before .before .before .before .before .before .before .before .before .before .all-steps in
     ends-settled (job s) (entry s) (s .pre) ((c .before .before .before .before .before .before .before .before .before .before .before .before .before .before .before .before .before .before .before .before .before .before .before .before .before .before .before .before) .needs .result) ((c .before .before .before .before .before .before .before .before .before .before .before .before .before .before .before .before .before .before .before .before .before .before .before .before .before .before .before) .sharers .result) ((c .before .before .before .before .before .before .before .before .before .before .before .before .before .before .before .before .before .before .before .before .before .before .before .before .before .before .before .before) .needs .ensures) ((c .before .before .before .before .before .before .before .before .before .before .before .before .before .before .before .before .before .before .before .before .before .before .before .before .before .before .before) .sharers .ensures) ((c .before .before .before .before .before .before .before .before .before .before .before .before .before .before .before .before .before .before .before .before .before .before .before .before .before) .price-table .result) ((c .before .before .before .before .before .before .before .before .before .before .before .before .before .before .before .before .before .before .before .before .before .before .before) .total-table .result) ((c .before .before .before .before .before .before .before .before .before .before .before .before .before .before .before .before .before .before .before .before .before .before .before .before .before) .price-table .ensures) ((c .before .before .before .before .before .before .before .before .before .before .before .before .before .before .before .before .before .before .before .before .before .before .before) .total-table .ensures) _ ((c .before .before .before .before .before .before .before .before .before .before .before .before .before .before .before .before .before .before .before .before .before .before .before .before .before .before .before .before .before .before .before .before .before .before .before .before .before .before .before .before) .fresh .ensures (s .args .tallies) (now (s .args .gowner)) (now (s .args .tgrocer)) (now (s .args .tbox)) (now (s .args .toffer)) (now (s .args .tcount))) (now (s .args .choices)) _ (k .result .messages) (k .result .steps) (k .ensures)

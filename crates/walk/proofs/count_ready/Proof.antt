@@ -1,20 +1,14 @@
 -- `walk::count_ready` meets its contract: at place i the ready steps before it are counted. Assumes nothing.
-use mathlib.Core.Path.{_≡_, refl, sym, ap, _∙_}
+use mathlib.Core.Path.{_≡_, refl, ap, _∙_}
 use Prim.Native.Nat.{_≤_, _-_}
 use native.Mathlib.Omega.{arith}
-use borrow.Author.Needs.{needs}
 use Rattle.laws.specs.Below.{count, sum, only, words}
+use borrow.Author.Needs.{needs}
 use Rattle.walk.specs.Walk.{listedBy}
 use Rattle.walk.proofs.Places.{room}
 use Rattle.walk.proofs.Walking.{At, at-first, at-next, at-in, counted-fits, counted}
 use Rattle.walk.proofs.count_ready.Statement.{statement}
 use Rattle.walk.proofs.count_ready.Tie as tie
-use Rattle.walk.proofs.count_ready.Reads as reads
-use Rattle.walk.proofs.count_ready.Lts as lts
-use Rattle.tables.proofs.checks.marks.Reads as marks-reads
-use Rattle.walk.proofs.is_listed.Reads as is-listed-reads
-use Rattle.walk.proofs.next.Reads as next-reads
-use Rattle.walk.proofs.one.Reads as one-reads
 
 abbrev Inv-loop : tie.InvT-loop
 Inv-loop k prices totals done n found₀ p₀ i₀ found p i = (i ≤ n) × ((At k i (p .kind) (p .first) (p .second)) × (found ≡ count i (listedBy k prices totals done)))
@@ -36,7 +30,7 @@ one-requires : tie.Need-one-requires Inv-loop μ-loop
 one-requires c κs = search needs
 
 add-found : tie.Need-add-found Inv-loop μ-loop
-add-found c = 
+add-found c =
     let l = c .before .before .before .loop in
     let i = c .before .before .before in
     omega (arith, counted-fits (listedBy _ _ _ _) (l .i) (l .found) (c .one .result) (l .inv .1 .1) (c .one .ensures ∙ ap (λ t. only words t 1) (c .before .is-listed .ensures ∙ ap (listedBy _ _ _ _) (l .inv .1 .0 .place-is))) (omega (arith, i .before .marks .ensures, room _ (i .before .before .before .pre .boxes-in))))
@@ -51,10 +45,14 @@ loop-less : tie.Need-loop-less Inv-loop μ-loop
 loop-less c = search needs
 
 loop-again : tie.Need-loop-again Inv-loop μ-loop
-loop-again c = 
-    let l = c .before .before .before .before .loop in
-    (search needs, (at-next _ _ _ _ _ _ _ _ (l .inv .1 .0) (c .next .ensures),
-    counted (listedBy _ _ _ _) (l .i) (l .found) (c .before .one .result) (l .inv .1 .1) (c .before .one .ensures ∙ ap (λ t. only words t 1) (c .before .before .is-listed .ensures ∙ ap (listedBy _ _ _ _) (l .inv .1 .0 .place-is)))))
+loop-again c =
+    let l = c .before .before .before .before .loop in (
+      search needs,
+      (
+        at-next _ _ _ _ _ _ _ _ (l .inv .1 .0) (c .next .ensures),
+        counted (listedBy _ _ _ _) (l .i) (l .found) (c .before .one .result) (l .inv .1 .1) (c .before .one .ensures ∙ ap (λ t. only words t 1) (c .before .before .is-listed .ensures ∙ ap (listedBy _ _ _ _) (l .inv .1 .0 .place-is))),
+      ),
+    )
 
 returns : tie.Need-returns Inv-loop μ-loop
 returns c =

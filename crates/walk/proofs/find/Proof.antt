@@ -1,20 +1,14 @@
 -- `walk::find` meets its contract: at place i, what is left to pass and the ready steps before it make c. Assumes nothing.
-use mathlib.Core.Path.{_≡_, refl, sym, ap, _∙_}
+use mathlib.Core.Path.{_≡_, sym, ap, _∙_}
+use mathlib.Core.Bool.{Bool}
 use Prim.Native.Nat.{ℕ, _+_, _≤_, _-_}
 use native.Mathlib.Omega.{arith}
-use borrow.Author.Needs.{needs}
-use mathlib.Core.Bool.{Bool}
 use Rattle.laws.specs.Below.{count, sum, words}
+use borrow.Author.Needs.{needs}
 use Rattle.walk.specs.Walk.{listedBy}
 use Rattle.walk.proofs.Walking.{At, at-first, at-next, at-in, found-here, less-fits, passed, found-some}
 use Rattle.walk.proofs.find.Statement.{statement}
 use Rattle.walk.proofs.find.Tie as tie
-use Rattle.walk.proofs.find.Reads as reads
-use Rattle.walk.proofs.find.Lts as lts
-use Rattle.tables.proofs.checks.marks.Reads as marks-reads
-use Rattle.walk.proofs.is_listed.Reads as is-listed-reads
-use Rattle.walk.proofs.next.Reads as next-reads
-use Rattle.walk.proofs.one.Reads as one-reads
 
 abbrev Inv-loop : tie.InvT-loop
 Inv-loop k c prices totals done n left₀ p₀ i₀ left p i = (i ≤ n) × ((At k i (p .kind) (p .first) (p .second)) × (left + count i (listedBy k prices totals done) ≡ c))
@@ -36,7 +30,7 @@ is-listed-requires : tie.Need-is-listed-requires Inv-loop μ-loop
 is-listed-requires c κs = let s = c .before .before .before .before in (at-in _ (c .before .loop .i) _ _ _ (s .pre .0 .boxes-in) (c .before .loop .inv .1 .0) (omega (arith, c .before .before .marks .ensures)), s .pre .0)
 
 returns : tie.Need-returns Inv-loop μ-loop
-returns c = 
+returns c =
     let l = c .before .before .before .loop in
     let m = c .before .before .before .before in
     let s = m .before .before in
@@ -49,7 +43,7 @@ one-requires : tie.Need-one-requires Inv-loop μ-loop
 one-requires c κs = search needs
 
 sub-left : tie.Need-sub-left Inv-loop μ-loop
-sub-left c = 
+sub-left c =
     let l = c .before .before .before .before .loop in
     less-fits (listedBy _ _ _ _) (l .i) (l .left) _ (l .inv .1 .1) _ _ (c .before .before .is-listed .ensures ∙ ap (listedBy _ _ _ _) (l .inv .1 .0 .place-is)) (c .one .ensures) (c .before .if1 .left)
 
@@ -63,13 +57,17 @@ loop-less : tie.Need-loop-less Inv-loop μ-loop
 loop-less c = search needs
 
 loop-again : tie.Need-loop-again Inv-loop μ-loop
-loop-again c = 
-    let l = c .before .before .before .before .before .loop in
-    (search needs, (at-next _ _ _ _ _ _ _ _ (l .inv .1 .0) (c .next .ensures),
-    passed (listedBy _ _ _ _) (l .i) (l .left) _ (l .inv .1 .1) _ _ (c .before .before .before .is-listed .ensures ∙ ap (listedBy _ _ _ _) (l .inv .1 .0 .place-is)) (c .before .one .ensures) (c .before .before .if1 .left)))
+loop-again c =
+    let l = c .before .before .before .before .before .loop in (
+      search needs,
+      (
+        at-next _ _ _ _ _ _ _ _ (l .inv .1 .0) (c .next .ensures),
+        passed (listedBy _ _ _ _) (l .i) (l .left) _ (l .inv .1 .1) _ _ (c .before .before .before .is-listed .ensures ∙ ap (listedBy _ _ _ _) (l .inv .1 .0 .place-is)) (c .before .one .ensures) (c .before .before .if1 .left),
+      ),
+    )
 
 returns-2 : tie.Need-returns-2 Inv-loop μ-loop
-returns-2 c = 
+returns-2 c =
     let l = c .before .loop in
     let m = c .before .before in
     let end : l .i ≡ m .marks .result = omega arith in

@@ -1,21 +1,16 @@
 -- `run::steps::all_steps` meets its contract: by choices, and then one walk over all places. Assumes nothing.
-use denote.Ref.{now}
 use Rattle.model.specs.Tables.{JobTables, jobTables, StateTables, stateTables}
-use Rattle.run.proofs.Loops.{goes-on, both-ended}
 use borrow.Author.Needs.{needs}
+use denote.Ref.{now}
+use Rattle.run.proofs.Loops.{goes-on, both-ended}
 use Rattle.run.proofs.steps.all_steps.Statement.{statement}
 use Rattle.run.proofs.steps.all_steps.Tie as tie
-use Rattle.run.proofs.steps.all_steps.Reads as reads
-use Rattle.run.proofs.steps.all_steps.Lts as lts
-use Rattle.run.proofs.steps.chosen.Reads as chosen-reads
-use Rattle.run.proofs.steps.rest.Reads as rest-reads
 
 abbrev job : tie.Start → JobTables
 job s = jobTables (s .args .boxes) (s .args .grocers) (s .args .offers) (s .args .tallies) (now (s .args .price)) (now (s .args .owner)) (now (s .args .gowner)) (now (s .args .tgrocer)) (now (s .args .tbox)) (now (s .args .toffer)) (now (s .args .tcount))
 
 abbrev entry : tie.Start → StateTables
 entry s = stateTables (now (s .args .known)) (now (s .args .ptransit)) (now (s .args .working)) (now (s .args .ttransit)) (now (s .args .statement)) (now (s .args .done)) (now (s .args .sent))
-
 
 chosen-requires : tie.Need-chosen-requires
 chosen-requires c κs = search needs

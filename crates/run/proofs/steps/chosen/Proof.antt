@@ -1,21 +1,17 @@
 -- `run::steps::chosen` meets its contract: what the run comes to is kept, with one choice less each turn. Assumes nothing.
-use mathlib.Core.Path.{_≡_, refl, sym, ap, _∙_, subst}
-use mathlib.Core.List.{List, []}
-use Prim.Native.Nat.{ℕ, _+_, _-_, _≤_, _<_}
+use mathlib.Core.Path.{_≡_, refl}
+use mathlib.Core.List.{[]}
+use Prim.Native.Nat.{_-_, _≤_, _<_}
 use native.Mathlib.Omega.{arith}
-use borrow.Author.Needs.{needs}
-use denote.Ref.{now}
 use lib.ListN.{length, drop}
-use Rattle.model.specs.Tables.{JobTables, jobTables, jobOf, StateTables, stateTables, view}
+use borrow.Author.Needs.{needs}
+use Rattle.model.specs.Tables.{JobTables, jobTables, StateTables, stateTables}
 use Rattle.picks.specs.Way.{Kept}
+use denote.Ref.{now}
 use Rattle.picks.proofs.Way.{kept-both}
 use Rattle.run.proofs.Loops.{goes-first, goes-on, goes-lengths, goes-walk, goes-count, goes-none, choices-end}
 use Rattle.run.proofs.steps.chosen.Statement.{statement}
 use Rattle.run.proofs.steps.chosen.Tie as tie
-use Rattle.run.proofs.steps.chosen.Reads as reads
-use Rattle.run.proofs.steps.chosen.Lts as lts
-use Rattle.picks.proofs.choose.Reads as choose-reads
-use Rattle.walk.proofs.count_ready.Reads as count-ready-reads
 
 abbrev Inv-loop : tie.InvT-loop
 Inv-loop boxes grocers offers tallies price owner gowner tgrocer tbox toffer tcount needs sharers prices totals known₀ ptransit₀ working₀ ttransit₀ statement₀ done₀ sent₀ choices counts₀ n i₀ known ptransit working ttransit statement done sent counts i =
@@ -61,7 +57,7 @@ returns : tie.Need-returns Inv-loop μ-loop
 returns c = let s = c .before .before .before .before .before .before .before .before .before .before .before .before .before .before .before .before in goes-none (job s) (entry s) (now (s .args .needs)) (now (s .args .sharers)) (now (s .args .prices)) (now (s .args .totals)) (now (s .args .choices)) 0 0 (s .pre) _ _ _ _ (c .before .before .before .before .loop .inv .1 .1) (c .before .count-ready .result) (c .before .count-ready .ensures) (c .if1 .taken)
 
 choose-requires : tie.Need-choose-requires Inv-loop μ-loop
-choose-requires c κs = 
+choose-requires c κs =
     let s = c .before .before .before .before .before .before .before .before .before .before .before .before .before .before .before .before .before .before .before .before .before .before .before in
     let l = c .before .before .before .before .before .before .before .before .before .before .before .loop in
     let r = c .before .before .before .before .before .before .before .before .count-ready in

@@ -1,23 +1,16 @@
 -- `run::steps::rest` meets its contract: at place i no step of an earlier place is ready. Assumes nothing.
-use mathlib.Core.Path.{_≡_, refl, sym, ap, _∙_, subst}
-use mathlib.Core.List.{List, []}
-use Prim.Native.Nat.{ℕ, _+_, _-_, _≤_}
+use mathlib.Core.List.{[]}
+use Prim.Native.Nat.{_-_, _≤_}
 use native.Mathlib.Omega.{arith}
 use borrow.Author.Needs.{needs}
-use denote.Ref.{now}
-use lib.ListN.{length, drop}
 use Rattle.model.specs.Tables.{JobTables, jobTables, jobOf, StateTables, stateTables, view}
-use Rattle.walk.proofs.Walking.{At, at-first, at-next, at-in}
 use Rattle.picks.specs.Way.{Kept, NoneBefore}
+use denote.Ref.{now}
+use Rattle.walk.proofs.Walking.{At, at-first, at-next, at-in}
 use Rattle.picks.proofs.Way.{kept-both}
 use Rattle.run.proofs.Loops.{goes-first, goes-on, goes-lengths, goes-walk, goes-ends, none-first}
 use Rattle.run.proofs.steps.rest.Statement.{statement}
 use Rattle.run.proofs.steps.rest.Tie as tie
-use Rattle.run.proofs.steps.rest.Reads as reads
-use Rattle.run.proofs.steps.rest.Lts as lts
-use Rattle.picks.proofs.turn.Reads as turn-reads
-use Rattle.tables.proofs.checks.marks.Reads as marks-reads
-use Rattle.walk.proofs.next.Reads as next-reads
 
 abbrev Inv-loop : tie.InvT-loop
 Inv-loop boxes grocers offers tallies price owner gowner tgrocer tbox toffer tcount needs sharers prices totals known₀ ptransit₀ working₀ ttransit₀ statement₀ done₀ sent₀ n counts₀ p₀ i₀ known ptransit working ttransit statement done sent counts p i =
@@ -39,14 +32,14 @@ loop-holds : tie.Need-loop-holds Inv-loop μ-loop
 loop-holds c = let s = c .before .before .before .before .before .before .before .before .before .before .before in (search needs, (at-first _ (goes-walk (job s) (entry s) (now (s .args .needs)) (now (s .args .sharers)) (now (s .args .prices)) (now (s .args .totals)) [] (s .args .before .messages) (s .args .before .steps) (s .pre) _ _ _ _ (goes-first (job s) (entry s) (now (s .args .needs)) (now (s .args .sharers)) (now (s .args .prices)) (now (s .args .totals)) [] (s .args .before .messages) (s .args .before .steps) (s .pre)) .some), (goes-first (job s) (entry s) (now (s .args .needs)) (now (s .args .sharers)) (now (s .args .prices)) (now (s .args .totals)) [] (s .args .before .messages) (s .args .before .steps) (s .pre), none-first (job s) (entry s))))
 
 turn-requires : tie.Need-turn-requires Inv-loop μ-loop
-turn-requires c κs = 
+turn-requires c κs =
     let s = c .before .before .before .before .before .before .before .before .before .before .before .before .before .before .before .before .before .before .before .before in
     let l = c .before .before .before .before .before .before .before .before .loop in
     let w = goes-walk (job s) (entry s) (now (s .args .needs)) (now (s .args .sharers)) (now (s .args .prices)) (now (s .args .totals)) [] (s .args .before .messages) (s .args .before .steps) (s .pre) _ _ _ _ (l .inv .1 .1 .0) in
     (goes-on (job s) (entry s) (now (s .args .needs)) (now (s .args .sharers)) (now (s .args .prices)) (now (s .args .totals)) [] (s .args .before .messages) (s .args .before .steps) (s .pre) _ _ _ _ (l .inv .1 .1 .0), (at-in _ (l .i) _ _ _ (w .boxes-in) (l .inv .1 .0) (omega (arith, c .before .before .before .before .before .before .before .loop-test .taken, c .before .before .before .before .before .before .before .before .before .marks .ensures)), rw (l .inv .1 .0 .place-is) (l .inv .1 .1 .1)))
 
 next-requires : tie.Need-next-requires Inv-loop μ-loop
-next-requires c κs = 
+next-requires c κs =
     let s = c .before .before .before .before .before .before .before .before .before .before .before .before .before .before .before .before .before .before .before .before .before .before .before .before .before .before .before .before .before .before .before .before in
     let l = c .before .before .before .before .before .before .before .before .before .before .before .before .before .before .before .before .before .before .before .before .loop in
     let w = goes-walk (job s) (entry s) (now (s .args .needs)) (now (s .args .sharers)) (now (s .args .prices)) (now (s .args .totals)) [] (s .args .before .messages) (s .args .before .steps) (s .pre) _ _ _ _ (l .inv .1 .1 .0) in
@@ -59,11 +52,15 @@ loop-less : tie.Need-loop-less Inv-loop μ-loop
 loop-less c = omega (arith, c .before .before .before .before .before .before .before .before .before .before .before .before .before .before .before .before .before .before .before .before .loop-test .taken)
 
 loop-again : tie.Need-loop-again Inv-loop μ-loop
-loop-again c = 
+loop-again c =
     let l = c .before .before .before .before .before .before .before .before .before .before .before .before .before .before .before .before .before .before .before .before .before .loop in
-    let u = c .before .before .before .before .before .before .before .before .before .before .before .before .turn .ensures in
-    (omega (arith, c .before .before .before .before .before .before .before .before .before .before .before .before .before .before .before .before .before .before .before .before .loop-test .taken), (at-next _ (l .i) _ _ _ _ _ _ (l .inv .1 .0) (c .next .ensures),
-    (kept-both _ _ _ _ _ _ _ _ _ _ _ _ _ (l .inv .1 .1 .0) (u .kept), rw (l .inv .1 .0 .place-is) at (u .none))))
+    let u = c .before .before .before .before .before .before .before .before .before .before .before .before .turn .ensures in (
+      omega (arith, c .before .before .before .before .before .before .before .before .before .before .before .before .before .before .before .before .before .before .before .before .loop-test .taken),
+      (
+        at-next _ (l .i) _ _ _ _ _ _ (l .inv .1 .0) (c .next .ensures),
+        (kept-both _ _ _ _ _ _ _ _ _ _ _ _ _ (l .inv .1 .1 .0) (u .kept), rw (l .inv .1 .0 .place-is) at (u .none)),
+      ),
+    )
 
 same-length : tie.Need-same-length Inv-loop μ-loop
 same-length c = let s = c .before .before .before .before .before .before .before .before .before .before .before .before .before in goes-lengths (job s) (entry s) (now (s .args .needs)) (now (s .args .sharers)) (now (s .args .prices)) (now (s .args .totals)) [] (s .args .before .messages) (s .args .before .steps) (s .pre) _ _ _ _ (c .before .loop .inv .1 .1 .0) .known
