@@ -1,0 +1,57 @@
+// Lines of text for programs: what they write is compared with what they should.
+ghost use mathlib.Core.Path.{_≡_};
+ghost use lib.IntN.{natAbs};
+
+// Bytes as they are.
+pub fn text(s: &[u8]) {
+    io::write_all(1, s);
+}
+
+// A number in decimal.
+pub fn number(n: u64) {
+    io::print_decimal(1, n);
+}
+
+// A number without its sign.
+fn size(z: i64) -> u64
+    ensures { λ r. ⌜ r ≡ natAbs z ⌝ }
+{
+    if z < 0 {
+        let low = (-1 - z) as u64;
+        low + 1
+    } else {
+        z as u64
+    }
+}
+
+// A whole number in decimal, with its sign.
+pub fn signed(z: i64) {
+    if z < 0 {
+        text(b"-");
+    }
+    number(size(z));
+}
+
+// A space and a number.
+pub fn next(n: u64) {
+    text(b" ");
+    number(n);
+}
+
+// A space and a whole number with its sign.
+pub fn next_signed(z: i64) {
+    text(b" ");
+    signed(z);
+}
+
+// The end of a line.
+pub fn end() {
+    text(b"\n");
+}
+
+// A line: a name and a number.
+pub fn line(name: &[u8], n: u64) {
+    text(name);
+    next(n);
+    end();
+}
