@@ -1,0 +1,2 @@
+-- What the run answers, and what its parts leave.
+pub mod Run

@@ -1,0 +1,88 @@
+-- Places by kind, first box and second box, and their numbers. Assumes nothing.
+use mathlib.Core.Path.{_≡_, ap, _∙_}
+use mathlib.Core.List.{List}
+use Prim.Native.Nat.{ℕ, suc, _+_, _-_, _*_, _/_, _%_, _≤_, _<_}
+use native.Mathlib.Omega.{arith}
+use native.Mathlib.Nat.{suc-mul, add-zero, mul-le-mul, div-lt-iff-lt-mul}
+use lib.Arith.{digits-div, digits-mod}
+use Rattle.model.specs.Steps.{kindOf}
+use Rattle.prices.specs.Marks.{stepsDone}
+use Rattle.refuse.specs.Rules.{permittedBy}
+use Rattle.walk.specs.Walk.{PlaceIn, Next, here, listedBy}
+
+-- At most 16 boxes have at most 1,536 places.
+pub room : (k : ℕ) → k ≤ 16 → 6 * k * k ≤ 1536
+room k h = omega (arith, mul-le-mul h h)
+
+-- The last place of a kind is followed by the first of the next.
+last-kind : (m q : ℕ) → (suc m * suc q) * suc q ≡ (m * suc q + q) * suc q + q + 1
+last-kind m q = ap (λ (x : ℕ). x * suc q) rows ∙ suc-mul (m * suc q + q) (suc q) ∙ regroup ((m * suc q + q) * suc q) q
+  where
+    rows : suc m * suc q ≡ suc (m * suc q + q)
+    rows = omega (arith, suc-mul m (suc q))
+
+    regroup : (x q : ℕ) → x + suc q ≡ x + q + 1
+    regroup x q = omega arith
+
+pub kind-next : (k kind a b : ℕ) → PlaceIn k kind a b → k ≤ a + 1 → k ≤ b + 1 → Next k kind a b (kind + 1) 0 0
+kind-next k kind a b p la lb = record {
+  kind-from = omega arith;
+  a-in = omega arith;
+  b-in = omega arith;
+  next-is = rw (ek, ea, eb) (step (kind - 1) b);
+}
+  where
+    ek : kind ≡ suc (kind - 1)
+    ek = omega arith
+
+    ea : a ≡ b
+    ea = omega arith
+
+    eb : k ≡ suc b
+    eb = omega arith
+
+    step : (m q : ℕ) → ((suc m + 1 - 1) * suc q + 0) * suc q + 0 ≡ ((suc m - 1) * suc q + q) * suc q + q + 1
+    step m q = simp (up m, down m, add-zero) (last-kind m q)
+      where
+        up : (m : ℕ) → suc m + 1 - 1 ≡ suc m
+        up m = omega arith
+
+        down : (m : ℕ) → suc m - 1 ≡ m
+        down m = omega arith
+
+module _ (k kind a b : ℕ) (la : a < k) (lb : b < k) where
+  row-of : here k kind a b / k ≡ (kind - 1) * k + a
+  row-of = digits-div ((kind - 1) * k + a) lb
+
+  pub kind-of : here k kind a b / k / k ≡ kind - 1
+  kind-of = ap (λ (r : ℕ). r / k) row-of ∙ digits-div (kind - 1) la
+
+  pub first-of : here k kind a b / k % k ≡ a
+  first-of = ap (λ (r : ℕ). r % k) row-of ∙ digits-mod (kind - 1) la
+
+  pub second-of : here k kind a b % k ≡ b
+  second-of = digits-mod ((kind - 1) * k + a) lb
+
+  -- A place below the number of places has a kind up to 6.
+  pub place-in : k ≤ 16 → 1 ≤ kind → here k kind a b < 6 * k * k → PlaceIn k kind a b
+  place-in lk from h = record {
+    boxes-in = lk;
+    kind-from = from;
+    kind-to = omega (arith, low);
+    a-in = la;
+    b-in = lb;
+  }
+    where
+      low : kind - 1 < 6
+      low = rw kind-of at (div-lt-iff-lt-mul {k = k} (omega arith) .1 (div-lt-iff-lt-mul {k = k} (omega arith) .1 h))
+
+-- The test of a step is the test of its place.
+pub listed-at : (k kind a b : ℕ) (prices totals : List (List ℕ)) (done : List ℕ) → PlaceIn k kind a b →
+    permittedBy k prices totals (stepsDone k done) (kindOf kind) a b ≡ listedBy k prices totals done (here k kind a b)
+unfolding listedBy
+listed-at k kind a b prices totals done p =
+    rw (kind-of k kind a b (p .a-in) (p .b-in), first-of k kind a b (p .a-in) (p .b-in), second-of k kind a b (p .a-in) (p .b-in))
+    (ap (λ (n : ℕ). permittedBy k prices totals (stepsDone k done) (kindOf n) a b) (up kind (p .kind-from)))
+  where
+    up : (n : ℕ) → 1 ≤ n → n ≡ suc (n - 1)
+    up n h = omega arith

@@ -1,0 +1,71 @@
+-- A walk over the places: where it is, and what it has counted. Assumes nothing.
+use mathlib.Core.Path.{_≡_, sym, ap, _∙_}
+use mathlib.Core.Bool.{Bool, true, false, _&&_}
+use Prim.Native.Nat.{ℕ, _+_, _-_, _*_, _≤_, _<_}
+use native.Mathlib.Omega.{arith}
+use native.Mathlib.Nat.{zero-mul, add-zero}
+use lib.Dec.{eqb}
+use borrow.Author.Tests.{eqb-true, eqb-false}
+use Rattle.laws.specs.Below.{words, only, count}
+use Rattle.laws.proofs.Bools.{split, and-l, and-r}
+use Rattle.laws.proofs.Below.{count-next, count-le, only-le}
+use Rattle.model.specs.Run.{nth}
+use Rattle.walk.specs.Walk.{PlaceIn, Next, here}
+use Rattle.model.proofs.Cursor.{nth-is}
+use Rattle.walk.proofs.Places.{place-in}
+
+-- The walk is at place i.
+pub record At (k i kind a b : ℕ) : Type 0 where
+  pub kind-from : 1 ≤ kind
+  pub a-in : a < k
+  pub b-in : b < k
+  pub place-is : here k kind a b ≡ i
+
+-- It begins at place 0,
+pub at-first : (k : ℕ) → 1 ≤ k → At k 0 1 0 0
+at-first k h = record { kind-from = omega arith; a-in = h; b-in = h; place-is = simp (zero-mul, add-zero) }
+
+-- goes on by one,
+pub at-next : (k i kind a b kind′ a′ b′ : ℕ) → At k i kind a b → Next k kind a b kind′ a′ b′ → At k (i + 1) kind′ a′ b′
+at-next k i kind a b kind′ a′ b′ w n = record {
+  kind-from = n .kind-from;
+  a-in = n .a-in;
+  b-in = n .b-in;
+  place-is = n .next-is ∙ ap (λ (x : ℕ). x + 1) (w .place-is);
+}
+
+-- and is at a step of the job's boxes while places are left.
+pub at-in : (k i kind a b : ℕ) → k ≤ 16 → At k i kind a b → i < 6 * k * k → PlaceIn k kind a b
+at-in k i kind a b lk w l = place-in k kind a b (w .a-in) (w .b-in) lk (w .kind-from) (rw (w .place-is) l)
+
+-- Counting: what was found so far.
+module _ (p : ℕ → Bool) (i found more : ℕ) (e : found ≡ count i p) (m : more ≡ only words (p i) 1) where
+  pub counted-fits : i < 1536 → found + more < 65536
+  counted-fits h = omega (arith, count-le i p, only-le (p i) 1)
+
+  pub counted : found + more ≡ count (i + 1) p
+  counted = rw (e, m) (sym (count-next i p))
+
+-- Searching for the place with c before it: how many are left to pass.
+module _ (p : ℕ → Bool) (i left c : ℕ) (e : left + count i p ≡ c) where
+  -- It is here.
+  pub found-here : (n : ℕ) (ready : Bool) → ready ≡ p i → i < n → (ready && eqb left 0) ≡ true → nth n p c ≡ i
+  found-here n ready r l h =
+      nth-is n p c i l (sym r ∙ and-l ready (eqb left 0) h)
+      (let z : left ≡ 0 = eqb-true left 0 (and-r ready (eqb left 0) h) in omega arith)
+
+  -- It is not here.
+  module _ (ready : Bool) (less : ℕ) (r : ready ≡ p i) (s : less ≡ only words ready 1) (h : (ready && eqb left 0) ≡ false) where
+    pub less-fits : less ≤ left
+    unfolding only words
+    less-fits =
+        split ready
+        (λ y. let ne : left ≡ 0 → ⊥ = eqb-false left 0 (rw y at h) in rw (s, y) (omega arith))
+        (λ y. rw (s, y) (omega arith))
+
+    pub passed : left - less + count (i + 1) p ≡ c
+    passed = rw (count-next i p, ← r, ← s) (let f = less-fits in omega arith)
+
+-- Past the last place c was not found, so there were not so many.
+pub found-some : (p : ℕ → Bool) (n left c : ℕ) → left + count n p ≡ c → c < count n p → ⊥
+found-some p n left c e h = omega arith

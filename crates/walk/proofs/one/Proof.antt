@@ -1,0 +1,15 @@
+-- `walk::one` meets its contract. Assumes nothing.
+use Rattle.laws.specs.Below.{words, only}
+use Rattle.walk.proofs.one.Statement.{statement}
+use Rattle.walk.proofs.one.Tie as tie
+
+returns : tie.Need-returns
+unfolding only words
+returns c = rw (c .if1 .taken)
+
+returns-2 : tie.Need-returns-2
+unfolding only words
+returns-2 c = rw (c .if1 .left)
+
+pub one-spec : {M : Type 1} → statement M
+one-spec = tie.close (tie.spec returns returns-2)

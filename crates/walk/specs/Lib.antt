@@ -1,0 +1,2 @@
+-- The list of ready steps as code walks it.
+pub mod Walk

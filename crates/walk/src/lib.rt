@@ -1,0 +1,119 @@
+// The list of ready steps, walked by kind, first box and second box. No place is divided.
+ghost use mathlib.Core.Path.{_≡_};
+ghost use Prim.Native.Nat.{_*_, _<_};
+ghost use Rattle.laws.specs.Below.{words, only, count};
+ghost use Rattle.model.specs.Run.{nth};
+ghost use Rattle.walk.specs.Walk.{PlaceIn, Next, listedBy, here, WalkIn, Found};
+
+// A place among the steps: kind, first box and second box.
+pub struct Place {
+    pub kind: u16,
+    pub first: u16,
+    pub second: u16,
+}
+
+// The place after this one.
+pub fn next(k: u16, p: Place) -> Place
+    requires { ⌜ PlaceIn k (p .kind) (p .first) (p .second) ⌝ }
+    ensures { λ r. ⌜ Next k (p .kind) (p .first) (p .second) (r .kind) (r .first) (r .second) ⌝ }
+{
+    let a = p.first;
+    let b = p.second;
+    if b + 1 < k {
+        return Place {
+            kind: p.kind,
+            first: a,
+            second: b + 1,
+        };
+    }
+    if a + 1 < k {
+        return Place {
+            kind: p.kind,
+            first: a + 1,
+            second: 0,
+        };
+    }
+    Place {
+        kind: p.kind + 1,
+        first: 0,
+        second: 0,
+    }
+}
+
+// Whether the step of a place is in the list of ready steps.
+pub fn is_listed(
+    k: u16,
+    p: Place,
+    prices: &[[u16; 16]; 16],
+    totals: &[[u16; 16]; 16],
+    done: &[u16],
+) -> bool
+    requires { ⌜ PlaceIn k (p .kind) (p .first) (p .second) ⌝ }
+    requires { ⌜ WalkIn k (now done) ⌝ }
+    ensures { λ r. ⌜ r ≡ listedBy k (now (prices .entry)) (now (totals .entry)) (now (done .entry)) (here k (p .kind) (p .first) (p .second)) ⌝ }
+{
+    refuse::rules::permitted(k, p.kind, p.first, p.second, prices, totals, done)
+}
+
+// 1 for a test that holds, else 0.
+fn one(test: bool) -> u16
+    ensures { λ r. ⌜ r ≡ only words test 1 ⌝ }
+{
+    if test {
+        return 1;
+    }
+    0
+}
+
+// The number of ready steps.
+pub fn count_ready(k: u16, prices: &[[u16; 16]; 16], totals: &[[u16; 16]; 16], done: &[u16]) -> u16
+    requires { ⌜ WalkIn k (now done) ⌝ }
+    ensures { λ r. ⌜ r ≡ count (6 * k * k) (listedBy k (now (prices .entry)) (now (totals .entry)) (now (done .entry))) ⌝ }
+{
+    let n = tables::checks::marks(k);
+    let mut found: u16 = 0;
+    let mut p = Place {
+        kind: 1,
+        first: 0,
+        second: 0,
+    };
+    for i in 0..n {
+        let more = one(is_listed(k, p, prices, totals, done));
+        found += more;
+        let q = next(k, p);
+        p = q;
+    }
+    found
+}
+
+// The ready step that has c ready steps before it.
+pub fn find(
+    k: u16,
+    c: u16,
+    prices: &[[u16; 16]; 16],
+    totals: &[[u16; 16]; 16],
+    done: &[u16],
+) -> Place
+    requires { ⌜ WalkIn k (now done) ⌝ }
+    requires { ⌜ c < count (6 * k * k) (listedBy k (now prices) (now totals) (now done)) ⌝ }
+    ensures { λ r. ⌜ Found k (nth (6 * k * k) (listedBy k (now (prices .entry)) (now (totals .entry)) (now (done .entry))) c) (r .kind) (r .first) (r .second) ⌝ }
+{
+    let n = tables::checks::marks(k);
+    let mut left = c;
+    let mut p = Place {
+        kind: 1,
+        first: 0,
+        second: 0,
+    };
+    for i in 0..n {
+        let ready = is_listed(k, p, prices, totals, done);
+        if ready & (left == 0) {
+            return p;
+        }
+        let less = one(ready);
+        left -= less;
+        let q = next(k, p);
+        p = q;
+    }
+    p
+}
