@@ -1,0 +1,93 @@
+// K, M, N and T out of range, each in turn, with tables that are long enough: 21.
+use crate::ask::refusal_of;
+use crate::differ::differ64;
+use attempts::differ::add;
+use attempts::differ::differ16;
+use attempts::differ::differ32;
+
+// How many words of a state's tables are not 0.
+fn not_zero(
+    known: &[u32; 8000],
+    ptransit: &[u32; 8000],
+    working: &[i64; 4080],
+    ttransit: &[i64; 4080],
+    statement: &[i64; 256],
+    done: &[u16; 1734],
+    sent: &[u32; 1],
+) -> u64 {
+    let prices = add(
+        differ32(known, &[0u32; 8000]),
+        differ32(ptransit, &[0u32; 8000]),
+    );
+    let totals = add(
+        differ64(working, &[0i64; 4080]),
+        differ64(ttransit, &[0i64; 4080]),
+    );
+    let rest = add(
+        differ64(statement, &[0i64; 256]),
+        differ16(done, &[0u16; 1734]),
+    );
+    add(add(prices, totals), add(rest, differ32(sent, &[0u32; 1])))
+}
+
+// Step 2 of box 0, every table all zeros and long enough.
+fn size_case(name: &[u8], boxes: u16, grocers: u16, offers: u16, tallies: u16) {
+    let mut known = [0u32; 8000];
+    let mut ptransit = [0u32; 8000];
+    let mut working = [0i64; 4080];
+    let mut ttransit = [0i64; 4080];
+    let mut statement = [0i64; 256];
+    let mut done = [0u16; 1734];
+    let mut sent = [0u32; 1];
+    let answer = step::step(
+        boxes,
+        grocers,
+        offers,
+        tallies,
+        &[0u32; 501],
+        &[0u16; 501],
+        &[0u16; 256],
+        &[0u16; 1001],
+        &[0u16; 1001],
+        &[0u16; 1001],
+        &[0i32; 1001],
+        &mut known,
+        &mut ptransit,
+        &mut working,
+        &mut ttransit,
+        &mut statement,
+        &mut done,
+        &mut sent,
+        2,
+        0,
+        0,
+    );
+    show::text(name);
+    show::text(b":");
+    show::next(refusal_of(answer));
+    show::line(
+        b", words changed",
+        not_zero(
+            &known,
+            &ptransit,
+            &working,
+            &ttransit,
+            &statement,
+            &done,
+            &sent,
+        ),
+    );
+}
+
+// Each size below and above its values, and at both ends of them.
+pub fn size_cases() {
+    size_case(b"K 0", 0, 1, 1, 0);
+    size_case(b"K 17", 17, 1, 1, 0);
+    size_case(b"M 0", 1, 0, 1, 0);
+    size_case(b"M 256", 1, 256, 1, 0);
+    size_case(b"N 0", 1, 1, 0, 0);
+    size_case(b"N 501", 1, 1, 501, 0);
+    size_case(b"T 1001", 1, 1, 1, 1_001);
+    size_case(b"K 1, M 1, N 1, T 0", 1, 1, 1, 0);
+    size_case(b"K 16, M 255, N 500, T 1000", 16, 255, 500, 1_000);
+}
