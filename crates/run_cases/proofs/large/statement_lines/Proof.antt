@@ -1,0 +1,47 @@
+-- `run_cases::large::statement_lines` is safe and ends. Assumes nothing.
+use native.Mathlib.Omega.{arith}
+use borrow.Author.Needs.{needs}
+use Prim.Native.Nat.{_≤_, _-_}
+use Rattle.run_cases.proofs.large.statement_lines.Statement.{statement}
+use Rattle.run_cases.proofs.large.statement_lines.Tie as tie
+
+abbrev Inv-loop : tie.InvT-loop
+Inv-loop statement price tgrocer toffer grocers tallies g₀ g = g ≤ grocers
+
+abbrev μ-loop : tie.MeasureT-loop
+μ-loop statement price tgrocer toffer grocers tallies g₀ g = grocers - g
+
+loop-holds : tie.Need-loop-holds Inv-loop μ-loop
+loop-holds c = omega arith
+
+plain-sum-requires : tie.Need-plain-sum-requires Inv-loop μ-loop
+plain-sum-requires c κs = search needs
+
+one-line-requires : tie.Need-one-line-requires Inv-loop μ-loop
+one-line-requires c κs = search needs
+
+add-g : tie.Need-add-g Inv-loop μ-loop
+add-g c = omega arith
+
+loop-less : tie.Need-loop-less Inv-loop μ-loop
+loop-less c = omega arith
+
+loop-again : tie.Need-loop-again Inv-loop μ-loop
+loop-again c = omega arith
+
+returns : tie.Need-returns Inv-loop μ-loop
+returns c = tt
+
+pub statement-lines-spec : {M : Type 1} → statement M
+statement-lines-spec =
+    tie.close
+    (tie.spec
+    Inv-loop
+    μ-loop
+    loop-holds
+    plain-sum-requires
+    one-line-requires
+    add-g
+    loop-less
+    loop-again
+    returns)
