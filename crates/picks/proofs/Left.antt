@@ -10,7 +10,7 @@ use lib.ListN.{length, getD, drop}
 use borrow.Author.Tests.{eqb-true, eqb-false, eq-eqb, ne-eqb}
 use Rattle.laws.specs.Below.{any, count}
 use Rattle.laws.proofs.Bools.{split, clash, no-true}
-use Rattle.laws.proofs.Below.{count-none, none-any, count-zero, any-find}
+use Rattle.laws.proofs.Below.{count-none, any-false, count-zero, any-find}
 use Rattle.model.specs.Job.{Job}
 use Rattle.model.specs.Steps.{Kind, Steps, State, Step, mark, hasStep, permitted, does}
 use Rattle.model.specs.Words.{over, sends, stepCount}
@@ -51,7 +51,7 @@ module _ (j : Job) where
   -- No step is ready where all are done.
   all-none : (d : Steps) → AllDone j d → readyCount j d ≡ 0
   unfolding AllDone readyCount listed
-  all-none d h = count-none (places j) (listed j d) (none-any (places j) (listed j d) (λ i. done-not (stepAt j i .kind) (stepAt j i .first) (stepAt j i .second)))
+  all-none d h = count-none (places j) (listed j d) (any-false (places j) (listed j d) (λ i l. done-not (stepAt j i .kind) (stepAt j i .first) (stepAt j i .second)))
     where
       done-not : (k : Kind) (a b : ℕ) → permitted j d k a b ≡ false
       done-not k a b = no-true (permitted j d k a b) (λ e. let p = permit j d k a b e in clash (h k a b (p .has)) (p .fresh-one))
