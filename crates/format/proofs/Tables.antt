@@ -27,6 +27,7 @@ use Rattle.format.proofs.Range.{InRange, in-range}
 use Rattle.format.proofs.Same.{SameCode, SameWords, place-same, same-fine}
 use Rattle.format.proofs.Encode.{code-bytes, encode-same}
 use Rattle.format.proofs.Accept.{long, accepted, job-accepted}
+use Rattle.format.proofs.Small.{encode-small}
 use Rattle.format.proofs.Write.{read-back, long-is, written-accepted}
 
 -- ---- codes in a table
@@ -224,6 +225,15 @@ module _ (k m n t : ℕ) (l : FileTables) (out : List ℕ) (ok : writeRefusal k 
   pub written-file : take (length (encode (fileJobOf k m n t l))) (writeResult k m n t l out .out) ≡ encode (fileJobOf k m n t l)
   written-file = rw (write-accepted k m n t l out ok) (take-at _ _ _ refl)
 
+  -- Its length is the one that the writer answers,
+  pub buffer-file : take (512 * blockCount n t) (writeResult k m n t l out .out) ≡ encode (fileJobOf k m n t l)
+  unfolding fileJobOf
+  buffer-file = ap (λ (x : ℕ). take x (writeResult k m n t l out .out)) (sym (long-is (fileJobOf k m n t l) written-job)) ∙ written-file
+
+  -- and each of its words is a byte.
+  pub written-bytes : (p : ℕ) → getD (take (512 * blockCount n t) (writeResult k m n t l out .out)) p 0 < 256
+  written-bytes p = rw buffer-file (encode-small (fileJobOf k m n t l) written-job p)
+
   -- The reader accepts the writer's file, answers the writer's K, M, N and T, and writes the writer's words, with each tally's place.
   pub read-written : (r : ReaderTables) → shortReader r ≡ false → readResult (encode (fileJobOf k m n t l)) r ≡ record { answer = sizes k m n t; tables = storeRead (fileJobOf k m n t l) r }
   unfolding fileJobOf
@@ -237,11 +247,7 @@ module _ (k m n t : ℕ) (l : FileTables) (out : List ℕ) (ok : writeRefusal k 
 
   -- The same of the writer's buffer itself, as far as its answer says.
   pub read-buffer : (r : ReaderTables) → shortReader r ≡ false → readResult (take (512 * blockCount n t) (writeResult k m n t l out .out)) r ≡ record { answer = sizes k m n t; tables = storeRead (fileJobOf k m n t l) r }
-  unfolding fileJobOf
-  read-buffer r h =
-      ap (λ (x : ℕ). readResult (take x (writeResult k m n t l out .out)) r) (sym (long-is (fileJobOf k m n t l) written-job))
-      ∙ ap (λ (f : List ℕ). readResult f r) written-file
-      ∙ read-written r h
+  read-buffer r h = ap (λ (f : List ℕ). readResult f r) buffer-file ∙ read-written r h
 
 -- Read back into the tables that were written from, no word of theirs changes.
 pub read-own : (k m n t : ℕ) (r : ReaderTables) (out : List ℕ) → writeRefusal k m n t (r .job) out ≡ 0 → shortReader r ≡ false →

@@ -1,20 +1,21 @@
--- The table of ◆ cases holds: each computes. Assumes nothing.
-use mathlib.Core.Path.{refl}
-use Rattle.laws.specs.Below.{words, sum}
-use Rattle.format.specs.Codes.{value, number, sameOffer}
-use Rattle.format.specs.Blocks.{firstSum, secondSum}
+-- The table of ◆ cases holds. Assumes nothing.
+use Rattle.model.specs.Tables.{jobOf}
 use Rattle.model.proofs.Cases as Settlement
+use Rattle.model.proofs.Step.{range}
+use Rattle.model.proofs.Quiet.{no-tallies-words, no-tallies-steps}
+use Rattle.format.proofs.Cases as File
 use Rattle.guarantees.specs.Cases.{Cases}
 
 pub cases : Cases
-unfolding number value sameOffer firstSum secondSum sum words
+unfolding jobOf
 cases = record {
-  zeros = refl;
-  agree = refl;
-  apart = refl;
+  zeros = File.zeros-number;
+  agree = File.agree;
+  apart = File.apart;
   settlement = Settlement.cases;
-  byte-0-first = refl;
-  byte-0-second = refl;
-  byte-507-first = refl;
-  byte-507-second = refl;
+  quiet = λ f ok none. (no-tallies-words (jobOf f) (range f ok) none, no-tallies-steps (jobOf f) (range f ok) none);
+  byte-0-first = File.byte-0-first;
+  byte-0-second = File.byte-0-second;
+  byte-507-first = File.byte-507-first;
+  byte-507-second = File.byte-507-second;
 }

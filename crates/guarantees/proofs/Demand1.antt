@@ -5,12 +5,14 @@ use mathlib.Core.Logic.{_⊎_, inl, inr}
 use mathlib.Core.Bool.{Bool, true, false}
 use Prim.Native.Nat.{ℕ, zero, suc}
 use lib.Dec.{eqb}
+use lib.IntN.{ℤ}
 use borrow.Author.Tests.{ne-eqb}
 use Rattle.laws.specs.Checks.{firstMet}
 use Rattle.laws.proofs.Bools.{split}
 use Rattle.model.specs.Tables.{JobTables, StateTables}
 use Rattle.model.specs.Step.{Asked, outcome, stepped, answer, after, refusals}
 use Rattle.model.specs.Run.{RunAnswer, refused, reported, runRefusals, ran}
+use Rattle.model.specs.Reconcile.{TallyRecord, refused as notOwed, deskRefusals, deskAnswer, reconciled}
 use Rattle.format.proofs.Tables.{read-refused, write-refused}
 use Rattle.guarantees.specs.Demand1.{IsFirst, Demand1}
 
@@ -35,11 +37,22 @@ run-refused : (f : JobTables) (t : StateTables) (cs : List ℕ) → (firstMet (r
 unfolding ran
 run-refused f t cs n = rw (ne-eqb (firstMet (runRefusals f t)) 0 n, reported-no (firstMet (runRefusals f t)) _ n)
 
+desk-no : (n : ℕ) (z : ℤ) → (n ≡ 0 → ⊥) → deskAnswer n z ≡ notOwed n
+unfolding deskAnswer
+desk-no zero z h = absurd (h refl)
+desk-no (suc n) z h = refl
+
+desk-refused : (m n wanted : ℕ) (prices : List ℕ) (records : List TallyRecord) → (firstMet (deskRefusals m n wanted prices records) ≡ 0 → ⊥) →
+    reconciled m n wanted prices records ≡ notOwed (firstMet (deskRefusals m n wanted prices records))
+unfolding reconciled
+desk-refused m n wanted prices records h = desk-no (firstMet (deskRefusals m n wanted prices records)) _ h
+
 pub demand1 : Demand1
 demand1 = record {
   first = first-is;
   step = step-refused;
   run = run-refused;
+  desk = desk-refused;
   reader = read-refused;
   writer = write-refused;
 }

@@ -13,7 +13,7 @@ use Rattle.format.specs.Blocks.{blockCount}
 use Rattle.format.specs.Tables.{ReaderTables, fileJobOf, shortReader, readResult, sizes, writeRefusal, writeResult}
 use Rattle.format.proofs.Codes.{same-offer}
 use Rattle.format.proofs.Damage.{damaged}
-use Rattle.format.proofs.Tables.{read-buffer, read-own, read-written, write-read}
+use Rattle.format.proofs.Tables.{read-buffer, read-own, read-written, write-read, written-bytes}
 use Rattle.guarantees.specs.Demand2.{Bytes, Demand2}
 
 step-does : (f : JobTables) (t : StateTables) (q : Asked) → answer f t q ≡ 0 → stepped f t q .tables ≡ store (jobOf f) (does (jobOf f) (view (jobOf f) t) (stepOf q)) t
@@ -33,6 +33,7 @@ unfolding Bytes
 demand2 = record {
   writeRead = λ file l bytes ok out room. write-read file l ok bytes out room;
   readWrite = read-write;
+  writtenBytes = written-bytes;
   codes = same-offer;
   damage = damaged;
   step = step-does;

@@ -9,6 +9,7 @@ use Rattle.laws.specs.Checks.{firstMet}
 use Rattle.model.specs.Tables.{JobTables, StateTables}
 use Rattle.model.specs.Step.{Asked, outcome, stepped, refusals}
 use Rattle.model.specs.Run.{refused, RunOutcome, runRefusals, ran}
+use Rattle.model.specs.Reconcile.{TallyRecord, refused as notOwed, deskRefusals, reconciled}
 use Rattle.format.specs.Tables.{ReaderTables, FileTables, refused as notRead, notWritten, readRefusal, readResult, writeRefusal, writeResult}
 
 -- n is the number of the first condition met, or 0 where none is.
@@ -26,6 +27,9 @@ pub record Demand1 : Type 0 where
       ran f t choices ≡ record { answer = refused (firstMet (runRefusals f t)); tables = t }
   -- the reader
   pub reader : (file : List ℕ) (l : ReaderTables) → (readRefusal file l ≡ 0 → ⊥) → readResult file l ≡ record { answer = notRead (readRefusal file l); tables = l }
+  -- the desk
+  pub desk : (m n wanted : ℕ) (prices : List ℕ) (records : List TallyRecord) → (firstMet (deskRefusals m n wanted prices records) ≡ 0 → ⊥) →
+      reconciled m n wanted prices records ≡ notOwed (firstMet (deskRefusals m n wanted prices records))
   -- and the writer.
   pub writer : (k m n t : ℕ) (l : FileTables) (out : List ℕ) → (writeRefusal k m n t l out ≡ 0 → ⊥) →
       writeResult k m n t l out ≡ record { answer = notWritten (writeRefusal k m n t l out); out = out }

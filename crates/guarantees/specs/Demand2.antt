@@ -14,7 +14,7 @@ use Rattle.format.specs.Job.{placeOf}
 use Rattle.format.specs.Blocks.{blocks, blockCount}
 use Rattle.format.specs.File.{decode}
 use Rattle.format.specs.Refusals.{fileRefusal}
-use Rattle.format.specs.Tables.{ReaderTables, fileJobOf, shortReader, readRefusal, readResult, sizes, writeRefusal, writeResult, wrote}
+use Rattle.format.specs.Tables.{FileTables, ReaderTables, fileJobOf, shortReader, readRefusal, readResult, sizes, writeRefusal, writeResult, wrote}
 
 -- A file's words are bytes.
 unfoldable pub Bytes : List ℕ → Type 0
@@ -29,6 +29,8 @@ pub record Demand2 : Type 0 where
   pub readWrite : (k m n t : ℕ) (r : ReaderTables) (out : List ℕ) → writeRefusal k m n t (r .job) out ≡ 0 → shortReader r ≡ false →
       readResult (take (512 * blockCount n t) (writeResult k m n t (r .job) out .out)) r
       ≡ record { answer = sizes k m n t; tables = record { job = r .job; tallyOffer = overwrite t (placeOf (fileJobOf k m n t (r .job))) (r .tallyOffer) } }
+  -- What was written are bytes: the file that reading takes back is one that a disk can hold.
+  pub writtenBytes : (k m n t : ℕ) (l : FileTables) (out : List ℕ) → writeRefusal k m n t l out ≡ 0 → Bytes (take (512 * blockCount n t) (writeResult k m n t l out .out))
   -- Two codes name one offer exactly when they agree after leading zeros are dropped.
   pub codes : (c d : Code) → isCode c ≡ true → isCode d ≡ true → (sameOffer c d ≡ true) ↔ (dropZeros (written c) ≡ dropZeros (written d))
   -- In an accepted file, changing one or two bytes of one block always gives refusal 2: f′ differs from f at most at bytes i and j of block k, and somewhere.

@@ -94,6 +94,14 @@ pub record Examples : Type 0 where
   pub not-sent : answer jobE freshE (asked 3 1 0) ≡ 26
   pub no-message : answer jobE freshE (asked 4 1 0) ≡ 24
   pub repeated : answer jobE (after jobE freshE (asked 2 0 0)) (asked 2 0 0) ≡ 25
+  -- A step accepted on a fresh state of E sets its mark, where there was none; the statements are not made yet.
+  pub begins : answer jobE freshE (asked 2 0 0) ≡ 0
+  pub unmarked : getD (freshE .done) 4 0 ≡ 0
+  pub marked : getD (after jobE freshE (asked 2 0 0) .done) 4 0 ≡ 1
+  pub not-yet : getD (after jobE freshE (asked 2 0 0) .statement) 0 (pos 0) ≡ pos 0
+  -- The statements that a run leaves of E and of the job of one box.
+  pub e-leaves : ran jobE freshE [] .tables .statement ≡ pos 2250 ∷ pos 2500 ∷ []
+  pub one-leaves : ran oneBoxJob (freshTables oneBoxJob empty) [] .tables .statement ≡ pos 30 ∷ []
   -- A state without a word; a result beyond ±10^15.
   pub short : answer jobE empty (asked 9 99 0) ≡ 20
   pub too-much : answer jobE fullE (asked 2 0 0) ≡ 21
