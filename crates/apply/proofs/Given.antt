@@ -22,6 +22,7 @@ use Rattle.model.proofs.Step.{range, limits}
 use Rattle.model.proofs.Lent.{JobLong, job-long, StateLong, state-long}
 use Rattle.totals.proofs.Effect.{talliesOf}
 use Rattle.totals.proofs.Extra.{up-at}
+use Rattle.totals.proofs.Given.{tallies-given}
 use Rattle.prices.specs.Prices as price-tables
 
 -- The words of the state's tables are in range, table by table.
@@ -56,34 +57,6 @@ state-words f t h =
       sent = e .1 .1 .1 .1 .1 .1 .0;
     }
 
--- The tables of tallies of a job in range.
-pub tallies-given : (f : JobTables) → jobInRange f ≡ true → JobLong (f .grocers) (f .offers) (f .tallies) (jobLengths f) → TalliesIn (talliesOf f)
-unfolding jobInRange jobWordsInRange jobLengths jobOf
-tallies-given f h l =
-    let e = each-of (
-    upTo maxPrice (f .offers) (f .price)
-    ∷ under (f .boxes) (f .offers) (f .offerOwner)
-    ∷ under (f .boxes) (f .grocers) (f .grocerOwner)
-    ∷ under (f .grocers) (f .tallies) (f .tallyGrocer)
-    ∷ under (f .boxes) (f .tallies) (f .tallyBox)
-    ∷ under (f .offers) (f .tallies) (f .tallyOffer)
-    ∷ around maxCount (f .tallies) (f .tallyCount)
-    ∷ []) (and-r (sizesInRange f) (jobWordsInRange f) h) in
-    record {
-      boxes-in = range f h .boxes≤;
-      grocers-in = limits f h .grocers≤;
-      offers-in = limits f h .offers≤;
-      tallies-in = limits f h .tallies≤;
-      owner-long = l .offerOwner;
-      grocer-long = l .tallyGrocer;
-      holder-long = l .tallyBox;
-      offer-long = l .tallyOffer;
-      count-long = l .tallyCount;
-      grocer-in = e .1 .1 .1 .0;
-      offer-in = e .1 .1 .1 .1 .1 .0;
-      count-in = e .1 .1 .1 .1 .1 .1 .0;
-    }
-
 -- Sizes, lengths, ranges, masks and boxes.
 pub record Given (f : JobTables) (t : StateTables) (needs sharers : List ℕ) (q : Asked) : Type 0 where
   pub tallies-in : TalliesIn (talliesOf f)
@@ -111,7 +84,7 @@ given f t needs sharers q h =
     let rest = and-r (ltb (q .first) (f .boxes)) _ fit in
     let long = job-long (jobOf f) (jobLengths f) (h .job-long) in
     record {
-      tallies-in = tallies-given f (h .job-in) long;
+      tallies-in = tallies-given f long (h .job-in);
       job-long = long;
       state-long = state-long (jobOf f) (stateLengths t) (h .state-long);
       words-in = state-words f t (h .state-in);

@@ -24,7 +24,7 @@ fn wide(x: u8) -> u16
 }
 
 // A word that 16 bits hold.
-fn narrow(x: usize) -> u16
+pub fn narrow(x: usize) -> u16
     requires { ⌜ x ≤ 65535 ⌝ }
     ensures { λ r. ⌜ r ≡ x ⌝ }
 {

@@ -4,6 +4,7 @@ pub mod Sums
 pub mod Below
 pub mod Tables
 pub mod Signed
+pub mod Signs
 pub mod Masks
 pub mod Checks
 pub mod Loops

@@ -1,34 +1,10 @@
 // Prints the local matrices of both boxes of 01's job E, and the refusal of a third box.
-ghost use mathlib.Core.Path.{_≡_};
-ghost use lib.IntN.{natAbs};
 use local::book::Answer;
 use local::book::book;
 
-// A count without its sign.
-fn magnitude(count: i32) -> u64
-    ensures { λ r. ⌜ r ≡ natAbs count ⌝ }
-{
-    let wide = count as i64;
-    if wide < 0 {
-        return (0 - wide) as u64;
-    }
-    wide as u64
-}
-
-// Writes one number behind a space.
-fn print_word(word: u16) {
-    io::write_all(1, b" ");
-    io::print_decimal(1, word as u64);
-}
-
-// Writes one count behind a space.
-fn print_count(count: i32) {
-    if count < 0 {
-        io::write_all(1, b" -");
-    } else {
-        io::write_all(1, b" ");
-    }
-    io::print_decimal(1, magnitude(count));
+// A number as one to print.
+fn wide(x: u16) -> u64 {
+    x as u64
 }
 
 // The number of starts.
@@ -36,35 +12,30 @@ fn one_more(offers: u16) -> usize {
     (offers as usize) + 1
 }
 
-// Ends a line.
-fn end_line() {
-    io::write_all(1, b"\n");
-}
-
 // Writes a line of the first n words, as far as there are any.
 fn print_words(name: &[u8], words: &[u16], n: usize) {
-    io::write_all(1, name);
+    show::text(name);
     let mut i: usize = 0;
-    while i < n {
-        if i < words.len() {
-            print_word(words[i]);
+    while i < words.len() {
+        if i < n {
+            show::next(wide(words[i]));
         }
         i += 1;
     }
-    end_line();
+    show::end();
 }
 
 // Writes a line of the first n counts, as far as there are any.
 fn print_counts(name: &[u8], counts: &[i32], n: usize) {
-    io::write_all(1, name);
+    show::text(name);
     let mut i: usize = 0;
-    while i < n {
-        if i < counts.len() {
-            print_count(counts[i]);
+    while i < counts.len() {
+        if i < n {
+            show::next_count(counts[i]);
         }
         i += 1;
     }
-    end_line();
+    show::end();
 }
 
 // Writes the local matrix of box b of E: K 2, M 2, N 2, T 4.
@@ -109,9 +80,7 @@ fn print_book(b: u16) {
 
 // Writes the book of one box under its number.
 fn print_box(b: u16) {
-    io::write_all(1, b"box");
-    print_word(b);
-    end_line();
+    show::line(b"box", wide(b));
     print_book(b);
 }
 

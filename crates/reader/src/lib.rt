@@ -8,7 +8,6 @@ ghost use Rattle.blocks.specs.Due.{Most};
 ghost use Rattle.reader.specs.Answer.{answerOf, outcome};
 ghost use Rattle.reader.specs.Sound.{Kept};
 use crate::look::job_refusal;
-use crate::look::narrow;
 use crate::look::owners_at;
 use crate::look::tallies_at;
 use blocks::plan::Sizes;
@@ -21,6 +20,7 @@ use fills::fill::fill_prices;
 use fills::fill::fill_row;
 use fills::fill::fill_same;
 use fills::fill::fill_words;
+use fills::fill::narrow;
 
 mod look;
 

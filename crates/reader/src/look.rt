@@ -9,6 +9,7 @@ ghost use Rattle.format.specs.File.{decode};
 ghost use Rattle.reader.specs.Sound.{Sound, Ready, Placed, lastRefusal};
 use fills::code::number_at;
 use fills::fill::fill_numbers;
+use fills::fill::narrow;
 use fills::place::record_at;
 
 // The first tally block of a file of n offers.
@@ -25,14 +26,6 @@ pub fn owners_at(n: usize) -> usize
     ensures { λ r. ⌜ r ≡ 512 * grocersAt n + 4 ⌝ }
 {
     512 * (1 + (n + 20) / 21) + 4
-}
-
-// A number of 16 bits as a word.
-pub fn narrow(x: usize) -> u16
-    requires { ⌜ x ≤ 65535 ⌝ }
-    ensures { λ r. ⌜ r ≡ x ⌝ }
-{
-    x as u16
 }
 
 // The place of the offer that the code of tally i names, or n where it names none.

@@ -44,6 +44,16 @@ pub fn next_signed(z: i64) {
     signed(z);
 }
 
+// A count as a whole number.
+fn wide_count(x: i32) -> i64 {
+    x as i64
+}
+
+// A space and a count with its sign.
+pub fn next_count(x: i32) {
+    next_signed(wide_count(x));
+}
+
 // The end of a line.
 pub fn end() {
     text(b"\n");

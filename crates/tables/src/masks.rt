@@ -15,14 +15,6 @@ fn set_bit(word: u16, b: u16) -> u16
     word | (1 << b)
 }
 
-// Whether bit b of the word is set.
-pub fn has_bit(word: u16, b: u16) -> bool
-    requires { ⌜ b < 16 ⌝ }
-    ensures { λ r. ⌜ r ≡ bit b word ⌝ }
-{
-    (word >> b) & 1 == 1
-}
-
 // The word without its bit b.
 pub fn clear_bit(word: u16, b: u16) -> u16
     requires { ⌜ b < 16 ⌝ }

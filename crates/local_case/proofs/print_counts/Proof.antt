@@ -1,30 +1,31 @@
 -- `local_case::print_counts` meets its contract. Assumes nothing.
 use Prim.Native.Nat.{_≤_, _-_}
 use native.Mathlib.Omega.{arith}
+use lib.ListN.{length}
 use borrow.Author.Needs.{needs}
 use Rattle.local_case.proofs.print_counts.Statement.{statement}
 use Rattle.local_case.proofs.print_counts.Tie as tie
 
 abbrev Inv-loop : tie.InvT-loop
-Inv-loop name counts n i₀ i = i ≤ n
+Inv-loop name counts n i₀ i = i ≤ length counts
 
 abbrev μ-loop : tie.MeasureT-loop
-μ-loop name counts n i₀ i = n - i
+μ-loop name counts n i₀ i = length counts - i
 
-write-all-requires : tie.Need-write-all-requires Inv-loop μ-loop
-write-all-requires c κs = search needs
+text-requires : tie.Need-text-requires Inv-loop μ-loop
+text-requires c κs = search needs
 
 loop-holds : tie.Need-loop-holds Inv-loop μ-loop
 loop-holds c = omega arith
 
-mul-print-count : tie.Need-mul-print-count Inv-loop μ-loop
-mul-print-count c = search needs
+mul-next-count : tie.Need-mul-next-count Inv-loop μ-loop
+mul-next-count c = search needs
 
-shared-slice-copy-out-print-count : tie.Need-shared-slice-copy-out-print-count Inv-loop μ-loop
-shared-slice-copy-out-print-count c = omega arith
+shared-slice-copy-out-next-count : tie.Need-shared-slice-copy-out-next-count Inv-loop μ-loop
+shared-slice-copy-out-next-count c = search needs
 
-print-count-requires : tie.Need-print-count-requires Inv-loop μ-loop
-print-count-requires c κs = search needs
+next-count-requires : tie.Need-next-count-requires Inv-loop μ-loop
+next-count-requires c κs = search needs
 
 add-i : tie.Need-add-i Inv-loop μ-loop
 add-i c = search needs
@@ -35,8 +36,8 @@ loop-less c = search needs
 loop-again : tie.Need-loop-again Inv-loop μ-loop
 loop-again c = omega arith
 
-end-line-requires : tie.Need-end-line-requires Inv-loop μ-loop
-end-line-requires c κs = search needs
+end-requires : tie.Need-end-requires Inv-loop μ-loop
+end-requires c κs = search needs
 
 returns : tie.Need-returns Inv-loop μ-loop
 returns c = tt
@@ -47,13 +48,13 @@ print-counts-spec =
     (tie.spec
     Inv-loop
     μ-loop
-    write-all-requires
+    text-requires
     loop-holds
-    mul-print-count
-    shared-slice-copy-out-print-count
-    print-count-requires
+    mul-next-count
+    shared-slice-copy-out-next-count
+    next-count-requires
     add-i
     loop-less
     loop-again
-    end-line-requires
+    end-requires
     returns)

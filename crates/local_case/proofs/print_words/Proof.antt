@@ -1,30 +1,34 @@
 -- `local_case::print_words` meets its contract. Assumes nothing.
 use Prim.Native.Nat.{_≤_, _-_}
 use native.Mathlib.Omega.{arith}
+use lib.ListN.{length}
 use borrow.Author.Needs.{needs}
 use Rattle.local_case.proofs.print_words.Statement.{statement}
 use Rattle.local_case.proofs.print_words.Tie as tie
 
 abbrev Inv-loop : tie.InvT-loop
-Inv-loop name words n i₀ i = i ≤ n
+Inv-loop name words n i₀ i = i ≤ length words
 
 abbrev μ-loop : tie.MeasureT-loop
-μ-loop name words n i₀ i = n - i
+μ-loop name words n i₀ i = length words - i
 
-write-all-requires : tie.Need-write-all-requires Inv-loop μ-loop
-write-all-requires c κs = search needs
+text-requires : tie.Need-text-requires Inv-loop μ-loop
+text-requires c κs = search needs
 
 loop-holds : tie.Need-loop-holds Inv-loop μ-loop
 loop-holds c = omega arith
 
-mul-print-word : tie.Need-mul-print-word Inv-loop μ-loop
-mul-print-word c = search needs
+mul-wide : tie.Need-mul-wide Inv-loop μ-loop
+mul-wide c = search needs
 
-shared-slice-read-print-word : tie.Need-shared-slice-read-print-word Inv-loop μ-loop
-shared-slice-read-print-word c = search needs
+shared-slice-read-wide : tie.Need-shared-slice-read-wide Inv-loop μ-loop
+shared-slice-read-wide c = search needs
 
-print-word-requires : tie.Need-print-word-requires Inv-loop μ-loop
-print-word-requires c κs = search needs
+wide-requires : tie.Need-wide-requires Inv-loop μ-loop
+wide-requires c κs = search needs
+
+next-requires : tie.Need-next-requires Inv-loop μ-loop
+next-requires c κs = search needs
 
 add-i : tie.Need-add-i Inv-loop μ-loop
 add-i c = search needs
@@ -35,8 +39,8 @@ loop-less c = search needs
 loop-again : tie.Need-loop-again Inv-loop μ-loop
 loop-again c = omega arith
 
-end-line-requires : tie.Need-end-line-requires Inv-loop μ-loop
-end-line-requires c κs = search needs
+end-requires : tie.Need-end-requires Inv-loop μ-loop
+end-requires c κs = search needs
 
 returns : tie.Need-returns Inv-loop μ-loop
 returns c = tt
@@ -47,13 +51,14 @@ print-words-spec =
     (tie.spec
     Inv-loop
     μ-loop
-    write-all-requires
+    text-requires
     loop-holds
-    mul-print-word
-    shared-slice-read-print-word
-    print-word-requires
+    mul-wide
+    shared-slice-read-wide
+    wide-requires
+    next-requires
     add-i
     loop-less
     loop-again
-    end-line-requires
+    end-requires
     returns)

@@ -6,7 +6,7 @@ use lib.IntN.{pos, negsuc, natAbs}
 use mir.Syntax.{w64}
 use mir.Val.{hbits}
 use mir.Facts.{toZ-ofZ}
-use Rattle.show.proofs.Extra.{below-zero, from-zero, sfits-pos, turned}
+use Rattle.laws.proofs.Signs.{below-zero, from-zero, sfits-pos, turned}
 use Rattle.show.proofs.size.Statement.{statement}
 use Rattle.show.proofs.size.Tie as tie
 use Rattle.show.proofs.size.Reads as reads

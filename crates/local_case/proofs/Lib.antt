@@ -1,2 +1,0 @@
--- Laws of the sign of a count.
-pub mod Signs
