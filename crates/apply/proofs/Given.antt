@@ -13,15 +13,14 @@ use Rattle.laws.proofs.Checks.{each-of}
 use Rattle.model.specs.Job.{needWord, sharerWord}
 use Rattle.model.specs.Steps.{kindOf, oneBox}
 use Rattle.model.specs.Tables.{JobTables, jobOf, StateTables, jobLengths, stateLengths}
-use Rattle.model.specs.Ranges.{maxPrice, maxCount, maxAmount, maxSent, upTo, under, around, sizesInRange, jobWordsInRange, jobInRange, stateInRange}
+use Rattle.model.specs.Ranges.{maxPrice, maxAmount, maxSent, upTo, around, stateInRange}
 use Rattle.model.specs.Step.{Asked, isKind, boxesFit}
 use Rattle.prices.specs.Marks.{MarksIn}
 use Rattle.totals.specs.Row.{TalliesIn, AmountsIn}
 use Rattle.apply.specs.Apply.{Applies, SentIn, MultiplyIn, ReceiveIn}
-use Rattle.model.proofs.Step.{range, limits}
 use Rattle.model.proofs.Lent.{JobLong, job-long, StateLong, state-long}
 use Rattle.totals.proofs.Effect.{talliesOf}
-use Rattle.totals.proofs.Extra.{up-at}
+use Rattle.model.proofs.Step.{up-at}
 use Rattle.totals.proofs.Given.{tallies-given}
 use Rattle.prices.specs.Prices as price-tables
 

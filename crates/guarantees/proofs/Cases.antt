@@ -1,10 +1,10 @@
 -- The table of ◆ cases holds. Assumes nothing.
 use Rattle.model.specs.Tables.{jobOf}
-use Rattle.model.proofs.Cases as Settlement
+use Rattle.guarantees.specs.Cases.{Cases}
 use Rattle.model.proofs.Step.{range}
 use Rattle.model.proofs.Quiet.{no-tallies-words, no-tallies-steps}
+use Rattle.model.proofs.Cases as Settlement
 use Rattle.format.proofs.Cases as File
-use Rattle.guarantees.specs.Cases.{Cases}
 
 pub cases : Cases
 unfolding jobOf

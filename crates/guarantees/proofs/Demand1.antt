@@ -1,10 +1,9 @@
 -- Demand 1 holds. Assumes nothing.
 use mathlib.Core.Path.{_≡_, refl}
 use mathlib.Core.List.{List, [], _∷_}
-use mathlib.Core.Logic.{_⊎_, inl, inr}
-use mathlib.Core.Bool.{Bool, true, false}
+use mathlib.Core.Logic.{inl, inr}
+use mathlib.Core.Bool.{Bool}
 use Prim.Native.Nat.{ℕ, zero, suc}
-use lib.Dec.{eqb}
 use lib.IntN.{ℤ}
 use borrow.Author.Tests.{ne-eqb}
 use Rattle.laws.specs.Checks.{firstMet}
@@ -13,8 +12,8 @@ use Rattle.model.specs.Tables.{JobTables, StateTables}
 use Rattle.model.specs.Step.{Asked, outcome, stepped, answer, after, refusals}
 use Rattle.model.specs.Run.{RunAnswer, refused, reported, runRefusals, ran}
 use Rattle.model.specs.Reconcile.{TallyRecord, refused as notOwed, deskRefusals, deskAnswer, reconciled}
-use Rattle.format.proofs.Tables.{read-refused, write-refused}
 use Rattle.guarantees.specs.Demand1.{IsFirst, Demand1}
+use Rattle.format.proofs.Tables.{read-refused, write-refused}
 
 first-is : (rs : List (Bool × ℕ)) → IsFirst rs (firstMet rs)
 unfolding IsFirst firstMet

@@ -1,5 +1,5 @@
 -- Demand 2 holds. Assumes nothing.
-use mathlib.Core.Path.{_≡_, sym, ap, _∙_}
+use mathlib.Core.Path.{_≡_, sym, _∙_}
 use mathlib.Core.List.{List}
 use mathlib.Core.Bool.{false}
 use Prim.Native.Nat.{ℕ, _*_}
@@ -11,10 +11,10 @@ use Rattle.model.specs.Step.{Asked, stepOf, stepped, answer, after, moved}
 use Rattle.format.specs.Job.{placeOf}
 use Rattle.format.specs.Blocks.{blockCount}
 use Rattle.format.specs.Tables.{ReaderTables, fileJobOf, shortReader, readResult, sizes, writeRefusal, writeResult}
+use Rattle.guarantees.specs.Demand2.{Bytes, Demand2}
 use Rattle.format.proofs.Codes.{same-offer}
 use Rattle.format.proofs.Damage.{damaged}
 use Rattle.format.proofs.Tables.{read-buffer, read-own, read-written, write-read, written-bytes}
-use Rattle.guarantees.specs.Demand2.{Bytes, Demand2}
 
 step-does : (f : JobTables) (t : StateTables) (q : Asked) → answer f t q ≡ 0 → stepped f t q .tables ≡ store (jobOf f) (does (jobOf f) (view (jobOf f) t) (stepOf q)) t
 unfolding stepped after moved stepOf

@@ -13,17 +13,17 @@ use Rattle.laws.proofs.Tables.{length-tabulate}
 use Rattle.model.specs.Words.{ownerWords, messages, stepCount}
 use Rattle.model.specs.Tables.{JobTables, StateTables, jobOf, store, jobLengths, stateLengths, jobShort, stateShort, lentShort}
 use Rattle.model.specs.Ranges.{upTo, under, around, sizesInRange, jobWordsInRange, jobInRange}
-use Rattle.model.specs.Step.{Asked, Outcome, asked, answer, after, freshTables, stepped}
+use Rattle.model.specs.Step.{Asked, Outcome, asked, after, freshTables, stepped}
 use Rattle.model.specs.Run.{RunAnswer, RunOutcome, finished, refused, reported, ran}
-use Rattle.model.proofs.Demand3.{run-is-list}
 use Rattle.model.specs.Cases.{jobE, freshE, oneBoxJob, empty}
-use Rattle.model.proofs.Cases.{cases, examples}
-use Rattle.format.specs.Tables.{ReaderTables, ReadOutcome, ReadAnswer, sizes, refused as notRead, fileTables, readerTables, shortTables, shortReader, readRefusal, readResult}
+use Rattle.format.specs.Tables.{ReaderTables, ReadOutcome, ReadAnswer, sizes, refused as notRead, fileTables, readerTables, shortTables, shortReader, readResult}
 use Rattle.format.specs.File.{decode, encode}
+use Rattle.guarantees.specs.Strength.{IsStep, IsRun, Strength}
+use Rattle.model.proofs.Demand3.{run-is-list}
+use Rattle.model.proofs.Cases.{cases, examples}
 use Rattle.format.proofs.Cases.{e-job, e-accepted}
 use Rattle.format.proofs.Order.{reader-file}
 use Rattle.format.proofs.Tables.{read-accepted}
-use Rattle.guarantees.specs.Strength.{IsStep, IsRun, IsReader, Strength}
 
 module _ (step : JobTables → StateTables → Asked → Outcome) (is : IsStep step) where
   -- Step 2 of box 0 is accepted on a fresh state of E.

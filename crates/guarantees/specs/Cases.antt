@@ -8,9 +8,9 @@ use lib.ListN.{getD, length}
 use Rattle.model.specs.Words.{ownerWords, stepCount}
 use Rattle.model.specs.Tables.{JobTables, jobOf}
 use Rattle.model.specs.Ranges.{jobInRange}
-use Rattle.model.specs.Cases as Settlement
 use Rattle.format.specs.Codes.{Code, number, sameOffer}
 use Rattle.format.specs.Blocks.{firstSum, secondSum}
+use Rattle.model.specs.Cases as Settlement
 
 -- A code by its digits.
 abbrev pub code : List ℕ → Code

@@ -8,7 +8,7 @@ use Prim.Native.Nat.{ℕ}
 use Rattle.laws.specs.Checks.{firstMet}
 use Rattle.model.specs.Tables.{JobTables, StateTables}
 use Rattle.model.specs.Step.{Asked, outcome, stepped, refusals}
-use Rattle.model.specs.Run.{refused, RunOutcome, runRefusals, ran}
+use Rattle.model.specs.Run.{refused, runRefusals, ran}
 use Rattle.model.specs.Reconcile.{TallyRecord, refused as notOwed, deskRefusals, reconciled}
 use Rattle.format.specs.Tables.{ReaderTables, FileTables, refused as notRead, notWritten, readRefusal, readResult, writeRefusal, writeResult}
 

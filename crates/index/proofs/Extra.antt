@@ -1,22 +1,14 @@
 -- Laws of counts: one that passes. Assumes nothing.
-use mathlib.Core.Path.{_≡_, refl, sym, _∙_}
+use mathlib.Core.Path.{_≡_, sym, _∙_}
 use mathlib.Core.Bool.{Bool, true, false}
-use Prim.Native.Nat.{ℕ, zero, suc, _+_, _<_, _≤_}
+use Prim.Native.Nat.{ℕ, zero, suc, _<_, _≤_}
 use native.Mathlib.Omega.{arith}
 use lib.Dec.{eqb}
 use borrow.Author.Tests.{eqb-true, eqb-false}
-use Rattle.laws.specs.Below.{words, sum, only, any, count}
+use Rattle.laws.specs.Below.{any, count}
 use Rattle.laws.proofs.Bools.{split, clash}
-use Rattle.laws.proofs.Below.{any-find, count-none, count-zero}
+use Rattle.laws.proofs.Below.{any-find, count-none, count-zero, counts-one, counts-none}
 pub use Rattle.laws.proofs.Below.{count-suc}
-
-pub only-yes : {t : Bool} → t ≡ true → only words t 1 ≡ 1
-unfolding only words
-only-yes e = rw e
-
-pub only-no : {t : Bool} → t ≡ false → only words t 1 ≡ 0
-unfolding only words
-only-no e = rw e
 
 -- A number that passes is counted.
 pub count-at : (n : ℕ) (p : ℕ → Bool) (i : ℕ) → i < n → p i ≡ true → 0 < count n p
@@ -33,11 +25,11 @@ pub count-two : (n : ℕ) (p : ℕ → Bool) (i k : ℕ) → i < n → k < n →
 count-two zero p i k li lk hi hk e = absurd (omega arith)
 count-two (suc n) p i k li lk hi hk e =
     split (p n)
-    (λ f. let z : count n p ≡ 0 = omega (arith, count-suc n p, only-yes f) in
+    (λ f. let z : count n p ≡ 0 = omega (arith, count-suc n p, counts-one f) in
     let li′ : i < n → ⊥ = λ l. clash hi (count-zero n p i l z) in
     let lk′ : k < n → ⊥ = λ l. clash hk (count-zero n p k l z) in
     below i n li li′ ∙ sym (below k n lk lk′))
-    (λ f. let z : count n p ≡ 1 = omega (arith, count-suc n p, only-no f) in
+    (λ f. let z : count n p ≡ 1 = omega (arith, count-suc n p, counts-none f) in
     let ni : i ≡ n → ⊥ = λ q. clash hi (rw q f) in
     let nk : k ≡ n → ⊥ = λ q. clash hk (rw q f) in
     count-two n p i k (omega arith) (omega arith) hi hk z)
@@ -52,9 +44,9 @@ count-is (suc n) v l =
     split (eqb n v)
     (λ q. let e : n ≡ v = eqb-true n v q in
     let z : count n (λ i. eqb i v) ≡ 0 = count-none n (λ i. eqb i v) (none n v (omega arith)) in
-    omega (arith, count-suc n (λ i. eqb i v), only-yes q))
+    omega (arith, count-suc n (λ i. eqb i v), counts-one q))
     (λ q. let d : n ≡ v → ⊥ = eqb-false n v q in
-    omega (arith, count-suc n (λ i. eqb i v), only-no q, count-is n v (omega arith)))
+    omega (arith, count-suc n (λ i. eqb i v), counts-none q, count-is n v (omega arith)))
   where
     none : (n v : ℕ) → n ≤ v → any n (λ i. eqb i v) ≡ false
     none n v l = split (any n (λ i. eqb i v))

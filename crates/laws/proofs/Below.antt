@@ -31,6 +31,15 @@ pub count-suc : (n : ℕ) (p : ℕ → Bool) → count (suc n) p ≡ count n p +
 unfolding count sum words
 count-suc n p = refl
 
+-- What one number adds to a count.
+pub counts-one : {t : Bool} → t ≡ true → only words t 1 ≡ 1
+unfolding only words
+counts-one e = rw e
+
+pub counts-none : {t : Bool} → t ≡ false → only words t 1 ≡ 0
+unfolding only words
+counts-none e = rw e
+
 -- A search in a loop, one test a turn.
 pub any-more : (i : ℕ) (p : ℕ → Bool) (a b : Bool) → a ≡ any i p → b ≡ p i → (a || b) ≡ any (i + 1) p
 any-more i p a b h e = rw (h, e) (sym (any-next i p))

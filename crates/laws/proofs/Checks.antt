@@ -3,17 +3,13 @@ use mathlib.Core.Path.{_≡_, refl}
 use mathlib.Core.Bool.{Bool, true, false, _||_, _&&_}
 use mathlib.Core.List.{List, [], _∷_}
 use Prim.Native.Nat.{ℕ}
+use Rattle.laws.proofs.Bools.{or-off}
 use Rattle.laws.specs.Checks.{anyFrom, anyOf, allFrom, allOf, firstMet}
 
 -- Each of the tests is v, as a tuple.
 abbrev pub Each : Bool → List Bool → Type 0
 Each v [] = Unit
 Each v (b ∷ bs) = (b ≡ v) × Each v bs
-
-neither : (a b : Bool) → (a || b) ≡ false → (a ≡ false) × (b ≡ false)
-neither true true h = (h, h)
-neither true false h = (h, refl)
-neither false b h = (refl, h)
 
 both : (a b : Bool) → (a && b) ≡ true → (a ≡ true) × (b ≡ true)
 both true b h = (refl, h)
@@ -24,7 +20,7 @@ none-from : (a : Bool) (bs : List Bool) → anyFrom a bs ≡ false → (a ≡ fa
 none-from a [] h = (h, tt)
 none-from a (b ∷ bs) h =
     let r = none-from (a || b) bs h in
-    let n = neither a b (r .0) in
+    let n = or-off a b (r .0) in
     (n .0, (n .1, r .1))
 
 -- Where no test holds, each is false.

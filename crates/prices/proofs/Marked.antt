@@ -16,8 +16,9 @@ use Rattle.laws.proofs.Below.{all-at, all-of}
 use Rattle.laws.proofs.Tables.{cell-in, getD-overwrite, is-recell}
 use Rattle.model.specs.Steps.{Kind, number, kindOf, mark}
 use Rattle.model.specs.Ranges.{upTo}
-use Rattle.model.proofs.Tables.{kind-place, kind-six}
 use Rattle.prices.specs.Marks.{placeOf, stepsDone, marked}
+use Rattle.model.proofs.Tables.{kind-place, kind-six}
+use Rattle.model.proofs.Cursor.{number-place}
 
 -- The place of a step is below 6 × K × K, and that is small.
 pub row-in : (k kind a : ℕ) → kind - 1 < 6 → a < k → (kind - 1) * k + a < 6 * k
@@ -28,17 +29,6 @@ place-in k kind a b lq la lb = cell-in ((kind - 1) * k + a) (6 * k) k b (row-in 
 
 pub marks-few : (k : ℕ) → k ≤ 16 → 6 * k * k ≤ 1536
 marks-few k l = mul-le-mul {n₂ = 96} {m₂ = 16} (omega arith) l
-
--- Numbers of kinds by place.
-number-place : (n : ℕ) → n < 6 → number (kindOf (suc n)) ≡ suc n
-unfolding number kindOf
-number-place zero h = refl
-number-place (suc zero) h = refl
-number-place (suc (suc zero)) h = refl
-number-place (suc (suc (suc zero))) h = refl
-number-place (suc (suc (suc (suc zero)))) h = refl
-number-place (suc (suc (suc (suc (suc zero))))) h = refl
-number-place (suc (suc (suc (suc (suc (suc n)))))) h = absurd (omega arith)
 
 -- A number from 1 to 6 is that of its kind.
 pub number-kind : (n : ℕ) → 1 ≤ n → n ≤ 6 → number (kindOf n) ≡ n
