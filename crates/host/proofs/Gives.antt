@@ -15,8 +15,8 @@ use Rattle.reader.specs.declared.Answer.the-variants.{Job, Refused as NotRead}
 use Rattle.run.specs.Run.{answerOf as runAnswer}
 use Rattle.run.specs.declared.Answer.{Answer as RunnerAnswer}
 use Rattle.run.specs.declared.Answer.the-variants.{Finished, Refused as NotRun}
+use Rattle.host.specs.Host.{hostRead, readAs, readByHost, hostRun, runAs, ranByHost}
 use Rattle.host.proofs.Put.{put-three, put-four}
-use Rattle.host.specs.Host.{HostRead, hostRead, readAs, readByHost, HostRun, hostRun, runAs, ranByHost}
 
 -- The number of what the step gave.
 pub step-told : (o : Outcome) (r n : ℕ) (t : StateTables) → r ≡ n → outcome n t ≡ o → outcome r t ≡ o
