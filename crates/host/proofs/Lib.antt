@@ -1,0 +1,4 @@
+-- What the three calls give, from what the calls under them give.
+pub mod Put
+pub mod Gives
+pub mod Refused

@@ -1,0 +1,22 @@
+-- `host::step_number` meets its contract. Assumes nothing.
+use borrow.Author.Needs.{needs}
+use Rattle.step.specs.Answer.{number}
+use Rattle.host.proofs.step_number.Statement.{statement}
+use Rattle.host.proofs.step_number.Tie as tie
+
+enum-told : tie.Need-enum-told
+enum-told c = search needs
+
+enum-known-a : tie.Need-enum-known-a
+enum-known-a c = search needs
+
+returns : tie.Need-returns
+unfolding number
+returns c = search needs
+
+returns-2 : tie.Need-returns-2
+unfolding number
+returns-2 c = search needs
+
+pub step-number-spec : {M : Type 1} → statement M
+step-number-spec = tie.close (tie.spec enum-told enum-known-a returns returns-2)

@@ -1,0 +1,48 @@
+-- `host::tell_sizes` meets its contract. Assumes nothing.
+use native.Mathlib.Omega.{arith}
+use borrow.Author.Needs.{needs}
+use Rattle.host.proofs.Put.{set-in, set-set-in}
+use Rattle.host.proofs.Gives.{told-sizes, told-refused}
+use Rattle.host.proofs.tell_sizes.Statement.{statement}
+use Rattle.host.proofs.tell_sizes.Tie as tie
+
+enum-known-a : tie.Need-enum-known-a
+enum-known-a c = search needs
+
+slice-write-sizes : tie.Need-slice-write-sizes
+slice-write-sizes c = search needs
+
+slice-write-sizes-2 : tie.Need-slice-write-sizes-2
+slice-write-sizes-2 c = set-in (c .before .before .before .args .sizes .now) 0 _ 1 (omega (arith, c .before .before .before .pre))
+
+slice-write-sizes-3 : tie.Need-slice-write-sizes-3
+slice-write-sizes-3 c = set-set-in (c .before .before .before .args .sizes .now) 0 _ 1 _ 2 (omega (arith, c .before .before .before .pre))
+
+slice-write-sizes-4 : tie.Need-slice-write-sizes-4
+slice-write-sizes-4 c = search needs
+
+enum-known-a-2 : tie.Need-enum-known-a-2
+enum-known-a-2 c = search needs
+
+same-length : tie.Need-same-length
+same-length c = search needs
+
+returns : tie.Need-returns
+returns c = told-sizes _ _ _ _ _ (c .before .before .before .args .sizes .now) (c .before .before .before .pre) (c .before .a .given .1)
+
+returns-2 : tie.Need-returns-2
+returns-2 c = told-refused _ _ _ (c .before .a2 .given .1)
+
+pub tell-sizes-spec : {M : Type 1} → statement M
+tell-sizes-spec =
+    tie.close
+    (tie.spec
+    enum-known-a
+    slice-write-sizes
+    slice-write-sizes-2
+    slice-write-sizes-3
+    slice-write-sizes-4
+    enum-known-a-2
+    same-length
+    returns
+    returns-2)

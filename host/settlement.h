@@ -1,0 +1,189 @@
+/* Gaugelupin for C: the reader of job files, one step of a settlement, and a whole run. Link with libhost.a.
+ *
+ * BUFFERS
+ * A lent table is a pointer and, after it, the number of its WORDS (not bytes; for uint8_t the two are one).
+ * - Each pointer is real: not NULL, aligned for its type, readable (and writable where it is not const) for the
+ *   number of words given, also where that number is 0.
+ * - Buffers of one call do not overlap, also where they are only read.
+ * - More words than needed may be lent. Words of a table past its needed length are neither read nor written.
+ * No call keeps a pointer, uses a heap or has data of its own.
+ *
+ * ANSWERS
+ * 0: accepted. Any other number is a refusal, the first condition met in the order that stands at each call;
+ * a refused call has changed no word of any buffer. Every input has an answer: K, M, N, T, the request and all words
+ * may be anything, as long as the buffers are as above.
+ *
+ * NUMBERS
+ * Boxes, grocers, offers, tallies and places are numbered from 0. K boxes 1 to 16, M grocers 1 to 255, N offers 1 to
+ * 500, T tallies 0 to 1,000. A price is 0 to 9,999,999 tenths of a cent, a count -99,999 to 99,999, an amount within
+ * +-10^15 tenths of a cent.
+ *
+ * TABLES OF A JOB             words  word i
+ *   price         uint32_t    N      price of offer i
+ *   offer_owner   uint16_t    N      box that owns offer i
+ *   grocer_owner  uint16_t    M      box that owns grocer i
+ *   tally_grocer  uint16_t    T      grocer of tally i
+ *   tally_box     uint16_t    T      box that holds tally i
+ *   tally_offer   uint16_t    T      place of the offer of tally i
+ *   tally_count   int32_t     T      count of tally i
+ * and for the reader alone
+ *   offer_code    uint8_t     11 N   the code of offer i is bytes 11 i to 11 i + 10: digit count, then ten bytes,
+ *   tally_code    uint8_t     11 T   ASCII digits first and 0 after them; likewise of tally i
+ *
+ * TABLES OF A STATE           words  what stands where
+ *   known         uint32_t    K N    price of offer o that box b knows: word b N + o
+ *   price_transit uint32_t    K N    price of offer o sent to box b and not yet received: word b N + o
+ *   working       int64_t     K M    working total of grocer g in box b: word b M + g
+ *   total_transit int64_t     K M    total of grocer g sent by box b and not yet received: word b M + g
+ *   statement     int64_t     M      statement of grocer g: word g
+ *   done          uint16_t    6 K K  1 where the step of kind, first and second is done, else 0: word
+ *                                    ((kind - 1) K + first) K + second
+ *   sent          uint32_t    1      words sent so far, 0 to 1,000,000
+ * A fresh state has the price of each offer known in the box that owns it (word offer_owner[o] N + o of known), and 0
+ * in every other word.
+ */
+#ifndef SETTLEMENT_H
+#define SETTLEMENT_H
+
+#include <stddef.h>
+#include <stdint.h>
+
+/* The largest job. */
+#define SETTLEMENT_MAX_BOXES 16
+#define SETTLEMENT_MAX_GROCERS 255
+#define SETTLEMENT_MAX_OFFERS 500
+#define SETTLEMENT_MAX_TALLIES 1000
+
+/* Bytes of the longest job file (74 blocks of 512), and of a code in its table. */
+#define SETTLEMENT_MAX_FILE 37888
+#define SETTLEMENT_CODE 11
+
+/* Words of the tables that the largest job needs and that are not one for each grocer, offer or tally. */
+#define SETTLEMENT_MAX_OFFER_CODES (SETTLEMENT_MAX_OFFERS * SETTLEMENT_CODE)
+#define SETTLEMENT_MAX_TALLY_CODES (SETTLEMENT_MAX_TALLIES * SETTLEMENT_CODE)
+#define SETTLEMENT_MAX_KNOWN (SETTLEMENT_MAX_BOXES * SETTLEMENT_MAX_OFFERS)
+#define SETTLEMENT_MAX_WORKING (SETTLEMENT_MAX_BOXES * SETTLEMENT_MAX_GROCERS)
+#define SETTLEMENT_MAX_DONE (6 * SETTLEMENT_MAX_BOXES * SETTLEMENT_MAX_BOXES)
+#define SETTLEMENT_SENT 1
+
+/* Words of `sizes` (K, M, N, T) and of `report` (words sent, messages, steps). */
+#define SETTLEMENT_SIZES 4
+#define SETTLEMENT_REPORT 3
+
+#ifdef __cplusplus
+extern "C" {
+#endif
+
+/* Reads the bytes of a job file into the tables of a job, and K, M, N and T into sizes[0] to sizes[3].
+ *
+ * Needed lengths do not depend on the file: price, offer_owner 500; offer_code 5,500; grocer_owner 255;
+ * tally_grocer, tally_box, tally_count, tally_offer 1,000; tally_code 11,000; sizes 4. An accepted file writes the
+ * first M, N or T entries of each table, as above, and no others.
+ *
+ * Refusals, in the order in which they are looked for: 20, then 1; then of the header 2, 3, 4, 5 and 1 (the block
+ * count); then of each other block, ascending, 2, 3, 5, 6; then 7, 8.
+ *   20  a table shorter than said above
+ *    1  length 0, not a multiple of 512, over 74 blocks, or not the block count that the header's sizes make
+ *    2  the sums of a block differ from those stored
+ *    3  kind, block number or record count of a block not as due
+ *    4  byte 5, K, M, N or T of the header outside its values
+ *    5  a spare byte not 0
+ *    6  a record with a field outside its range, an owner, box or grocer too large, a bad digit, or a byte after the
+ *       digits not 0
+ *    7  two offers share a number
+ *    8  a tally's code names no offer
+ */
+uint16_t settlement_read(
+    const uint8_t *file, size_t file_len,
+    uint32_t *price, size_t price_len,
+    uint16_t *offer_owner, size_t offer_owner_len,
+    uint8_t *offer_code, size_t offer_code_len,
+    uint16_t *grocer_owner, size_t grocer_owner_len,
+    uint16_t *tally_grocer, size_t tally_grocer_len,
+    uint16_t *tally_box, size_t tally_box_len,
+    uint8_t *tally_code, size_t tally_code_len,
+    int32_t *tally_count, size_t tally_count_len,
+    uint16_t *tally_offer, size_t tally_offer_len,
+    uint16_t *sizes, size_t sizes_len);
+
+/* Makes one step: kind 1 to 6, first the box that acts, second the other box, or the same box for kinds 2 and 5.
+ *
+ *   kind                  what first does                                       ready
+ *   1  send prices        sends the prices that it knows of its offers that     from the start
+ *                         second needs
+ *   2  multiply own       adds count x price of its tallies of its own offers   from the start
+ *                         into its working totals
+ *   3  receive prices     receives them from second, and adds the tallies of    once second has sent (1)
+ *                         those offers
+ *   4  send totals        sends its working totals of second's grocers of       once its 2 and every due 3 are done
+ *                         which it holds a tally; they become 0
+ *   5  add own totals     adds its working totals of its own grocers to their   as 4
+ *                         statements; they become 0
+ *   6  receive totals     receives them from second into its statements         once second has sent (4)
+ *
+ * Needed lengths are the words of the tables above, from K, M, N and T as given; sent 1.
+ *
+ * Refusals, in the order in which they are looked for:
+ *   20  a table shorter than needed
+ *   21  K, M, N, T or a needed word of a table of the job or the state outside its range, a done mark not 0 or 1
+ *   22  kind not 1 to 6
+ *   23  a box not below K; or first and second equal for kinds 1, 3, 4, 6, or different for kinds 2, 5
+ *   24  an empty message: the job has no such step
+ *   25  already done
+ *   26  not ready
+ *   21  again: a word that the step would leave is outside its range
+ */
+uint16_t settlement_step(
+    uint16_t boxes, uint16_t grocers, uint16_t offers, uint16_t tallies,
+    const uint32_t *price, size_t price_len,
+    const uint16_t *offer_owner, size_t offer_owner_len,
+    const uint16_t *grocer_owner, size_t grocer_owner_len,
+    const uint16_t *tally_grocer, size_t tally_grocer_len,
+    const uint16_t *tally_box, size_t tally_box_len,
+    const uint16_t *tally_offer, size_t tally_offer_len,
+    const int32_t *tally_count, size_t tally_count_len,
+    uint32_t *known, size_t known_len,
+    uint32_t *price_transit, size_t price_transit_len,
+    int64_t *working, size_t working_len,
+    int64_t *total_transit, size_t total_transit_len,
+    int64_t *statement, size_t statement_len,
+    uint16_t *done, size_t done_len,
+    uint32_t *sent, size_t sent_len,
+    uint16_t kind, uint16_t first, uint16_t second);
+
+/* Makes all steps of a job from a fresh state: the state's tables may hold anything before, and hold the last state
+ * after. choices, of any length from 0 on, pick the order: the next choice modulo the number of ready steps picks one
+ * from their list, which goes by kind, first and second; when choices end, the first ready step. Choices left at the
+ * end are passed over.
+ * report[0] is the number of words sent, report[1] of messages sent, report[2] of steps.
+ *
+ * Needed lengths are the words of the tables above, from K, M, N and T as given; sent 1, report 3.
+ *
+ * Refusals, in the order in which they are looked for:
+ *   20  a table, or the report, shorter than needed
+ *   21  K, M, N, T or a needed word of a table of the job outside its range
+ */
+uint16_t settlement_run(
+    uint16_t boxes, uint16_t grocers, uint16_t offers, uint16_t tallies,
+    const uint32_t *price, size_t price_len,
+    const uint16_t *offer_owner, size_t offer_owner_len,
+    const uint16_t *grocer_owner, size_t grocer_owner_len,
+    const uint16_t *tally_grocer, size_t tally_grocer_len,
+    const uint16_t *tally_box, size_t tally_box_len,
+    const uint16_t *tally_offer, size_t tally_offer_len,
+    const int32_t *tally_count, size_t tally_count_len,
+    uint32_t *known, size_t known_len,
+    uint32_t *price_transit, size_t price_transit_len,
+    int64_t *working, size_t working_len,
+    int64_t *total_transit, size_t total_transit_len,
+    int64_t *statement, size_t statement_len,
+    uint16_t *done, size_t done_len,
+    uint32_t *sent, size_t sent_len,
+    const uint16_t *choices, size_t choices_len,
+    uint32_t *report, size_t report_len);
+
+#ifdef __cplusplus
+}
+#endif
+
+#endif
