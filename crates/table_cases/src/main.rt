@@ -78,11 +78,12 @@ fn print_tables(b: u16) {
         &mut totals,
     );
     match answer {
-        Answer::Done => {
+        Answer::Made(words) => {
             print_table(b"prices", prices);
             print_table(b"totals", totals);
             let sum = wrapping_add_u32(table_sum(prices), table_sum(totals));
             show::line(b"words in all", wide32(sum));
+            show::line(b"words by the need and sharer words", wide32(words));
         }
         Answer::Refused(number) => {
             show::line(b"refused", wide16(number));

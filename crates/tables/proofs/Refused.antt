@@ -2,21 +2,27 @@
 use mathlib.Core.Path.{_≡_, refl, sym}
 use mathlib.Core.Bool.{Bool, true, false, cond, not}
 use mathlib.Core.List.{List}
-use Prim.Native.Nat.{ℕ}
+use Prim.Native.Nat.{ℕ, zero, suc}
 use native.Mathlib.Omega.{arith}
 use borrow.Author.Tests.{ne-eqb}
 use Rattle.laws.specs.Checks.{firstMet}
+use Rattle.model.specs.Words.{ownerWords}
 use Rattle.model.specs.Tables.{JobTables, jobOf, jobLengths, jobShort}
 use Rattle.model.specs.Ranges.{jobInRange}
 use Rattle.model.specs.Local.{priceTable, totalTable}
 use Rattle.tables.specs.Refusals.{jobRefusals}
-use Rattle.tables.specs.Answers.{number, messages, messageTables}
-use Rattle.tables.specs.declared.messages.Answer.the-variants.{Done, Refused}
+use Rattle.tables.specs.Answers.{MessagesAnswer, refused, said, messagesAnswer, messages, messageTables}
+use Rattle.tables.specs.declared.messages.Answer.the-variants.{Made, Refused}
 
 two-tests : (a b : Bool) → cond {A = ℕ} a 20 (cond (not b) 21 0) ≡ 0 → (a ≡ false) × (b ≡ true)
 two-tests true b h = absurd (omega arith)
 two-tests false true h = (refl, refl)
 two-tests false false h = absurd (omega arith)
+
+answer-no : (n w : ℕ) → (n ≡ 0 → ⊥) → messagesAnswer n w ≡ refused n
+unfolding messagesAnswer
+answer-no zero w h = absurd (h refl)
+answer-no (suc n) w h = refl
 
 module _ (f : JobTables) where
   -- No refusal: the tables are whole, and in range.
@@ -25,12 +31,12 @@ module _ (f : JobTables) where
   accepted h = two-tests (jobShort (jobOf f) (jobLengths f)) (jobInRange f) h
 
   -- A refusal leaves both tables.
-  pub messages-refused : (p t : List (List ℕ)) (n : ℕ) → n ≡ firstMet (jobRefusals f) → (n ≡ 0 → ⊥) → messages (number (Refused n)) p t ≡ messageTables f p t
-  unfolding messageTables number
-  messages-refused p t n e h = rw (sym e, ne-eqb n 0 h)
+  pub messages-refused : (p t : List (List ℕ)) (n : ℕ) → n ≡ firstMet (jobRefusals f) → (n ≡ 0 → ⊥) → messages (said (Refused n)) p t ≡ messageTables f p t
+  unfolding messageTables said
+  messages-refused p t n e h = rw (sym e, ne-eqb n 0 h, answer-no n (ownerWords (jobOf f)) h)
 
-  -- No refusal: both tables are the job's.
-  pub messages-made : (p t p′ t′ : List (List ℕ)) (n : ℕ) → n ≡ firstMet (jobRefusals f) → n ≡ 0 → p′ ≡ priceTable (jobOf f) → t′ ≡ totalTable (jobOf f) →
-      messages (number Done) p′ t′ ≡ messageTables f p t
-  unfolding messageTables number
-  messages-made p t p′ t′ n e h ep et = rw (sym e, h, ep, et)
+  -- No refusal: both tables are the job's, and so are the words.
+  pub messages-made : (p t p′ t′ : List (List ℕ)) (w n : ℕ) → n ≡ firstMet (jobRefusals f) → n ≡ 0 → p′ ≡ priceTable (jobOf f) → t′ ≡ totalTable (jobOf f) → w ≡ ownerWords (jobOf f) →
+      messages (said (Made w)) p′ t′ ≡ messageTables f p t
+  unfolding messageTables said messagesAnswer
+  messages-made p t p′ t′ w n e h ep et ew = rw (sym e, h, ep, et, ew)

@@ -6,11 +6,12 @@ ghost use Rattle.laws.specs.Masks.{bit};
 ghost use Rattle.model.specs.Tables.{jobTables};
 ghost use Rattle.tables.specs.Masks.{Owned};
 ghost use Rattle.tables.specs.Messages.{sentTable, lineSum, tableSum};
-ghost use Rattle.tables.specs.Answers.{number, messages, messageTables};
+ghost use Rattle.tables.specs.Answers.{said, messages, messageTables};
 use crate::checks::job_refusal;
 use crate::masks::clear_bit;
 use crate::masks::needs;
 use crate::masks::sharers;
+use crate::masks::word_total;
 
 // 1 where bit b of the word is set, else 0.
 fn bit_word(word: u16, b: usize) -> u16
@@ -126,14 +127,15 @@ pub fn table_sum(table: [[u16; 16]; 16]) -> u32
     sum
 }
 
-// What `message_tables` answers: both tables are made, or the number of the condition that refuses it.
+// What `message_tables` answers: both tables are made, and the job has so many words; or the number of the condition that refuses it.
 pub enum Answer {
-    Done,
+    Made(u32),
     Refused(u16),
 }
 
 // The words from each box to each other box: 16 rows of 16 counts, the row is the sender, one such table for prices and
-// one for totals. A refusal leaves both as they were.
+// one for totals; the words of the job are the ones in its need and sharer words, the owner's bit left out. A refusal
+// leaves both tables as they were.
 pub fn message_tables(
     boxes: u16,
     grocers: u16,
@@ -149,7 +151,7 @@ pub fn message_tables(
     prices: &mut [[u16; 16]; 16],
     totals: &mut [[u16; 16]; 16],
 ) -> Answer
-    ensures { λ r. ⌜ messages (number r) (now (prices .exit)) (now (totals .exit))
+    ensures { λ r. ⌜ messages (said r) (now (prices .exit)) (now (totals .exit))
         ≡ messageTables (jobTables boxes grocers offers tallies (now (price .entry)) (now (owner .entry)) (now (gowner .entry))
         (now (tgrocer .entry)) (now (tbox .entry)) (now (toffer .entry)) (now (tcount .entry)))
         (now (prices .entry)) (now (totals .entry)) ⌝ }
@@ -174,7 +176,8 @@ pub fn message_tables(
     let sharing = sharers(boxes, tallies, tbox, tgrocer);
     let p = price_table(offers, owner, &needing);
     let t = total_table(grocers, gowner, &sharing);
+    let words = word_total(grocers, offers, owner, gowner, &needing, &sharing);
     *prices = p;
     *totals = t;
-    Answer::Done
+    Answer::Made(words)
 }

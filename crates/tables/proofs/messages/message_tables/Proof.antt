@@ -1,13 +1,16 @@
 -- `tables::messages::message_tables` meets its contract: the refusal, or the tables of the words that the masks mean. Assumes nothing.
-use mathlib.Core.Path.{_≡_, sym, ap, _∙_}
+use mathlib.Core.Path.{_≡_, sym, ap, ap₂, _∙_}
 use mathlib.Core.Bool.{true, false}
+use mathlib.Core.List.{List}
+use Prim.Native.Nat.{ℕ, _+_}
 use borrow.Author.Needs.{needs}
 use denote.Ref.{now}
 use Rattle.model.specs.Tables.{JobTables, jobTables}
 use Rattle.model.specs.Ranges.{jobInRange}
+use Rattle.tables.specs.Masks.{othersSum}
 use Rattle.tables.specs.Messages.{sentTable}
 use Rattle.tables.proofs.Whole.{JobWhole, job-whole}
-use Rattle.tables.proofs.InJob.{placed-offers, placed-grocers, owned-offers, owned-grocers, price-sent, total-sent}
+use Rattle.tables.proofs.InJob.{placed-offers, placed-grocers, owned-offers, owned-grocers, price-sent, total-sent, word-total}
 use Rattle.tables.proofs.Refused.{accepted, messages-refused, messages-made}
 use Rattle.tables.proofs.messages.message_tables.Statement.{statement}
 use Rattle.tables.proofs.messages.message_tables.Tie as tie
@@ -45,13 +48,25 @@ price-table-requires c κs = let e = c .before .before .before in owned-offers (
 total-table-requires : tie.Need-total-table-requires
 total-table-requires c κs = let e = c .before .before .before .before .before in owned-grocers (job (entry e)) (in-range e) (whole e) _ _ (c .before .before .before .sharers .ensures)
 
+word-total-requires : tie.Need-word-total-requires
+word-total-requires c κs =
+    let e = c .before .before .before .before .before .before .before .before in (
+      owned-offers (job (entry e)) (in-range e) (whole e) _ _ (c .before .before .before .before .before .before .before .needs .ensures),
+      owned-grocers (job (entry e)) (in-range e) (whole e) _ _ (c .before .before .before .before .before .before .sharers .ensures),
+    )
+
 returns-2 : tie.Need-returns-2
 returns-2 c =
-    let e = c .before .before .before .before .before .before in
+    let made = c .before .before .before in
+    let e = made .before .before .before .before .before .before in
     let s = entry e in
-    messages-made (job s) (now (s .args .prices)) (now (s .args .totals)) (c .before .before .price-table .result) (c .total-table .result) (e .before .job-refusal .result) (e .before .job-refusal .ensures) (e .if1 .left)
-    (c .before .before .price-table .ensures ∙ ap (sentTable false (s .args .offers) (now (s .args .owner))) (c .before .before .before .before .before .needs .ensures) ∙ price-sent (job s) (in-range e))
-    (c .total-table .ensures ∙ ap (sentTable true (s .args .grocers) (now (s .args .gowner))) (c .before .before .before .before .sharers .ensures) ∙ total-sent (job s) (in-range e))
+    let need = made .before .before .before .before .before .needs .ensures in
+    let share = made .before .before .before .before .sharers .ensures in
+    messages-made (job s) (now (s .args .prices)) (now (s .args .totals)) (made .before .before .price-table .result) (made .total-table .result) (c .word-total .result)
+    (e .before .job-refusal .result) (e .before .job-refusal .ensures) (e .if1 .left)
+    (made .before .before .price-table .ensures ∙ ap (sentTable false (s .args .offers) (now (s .args .owner))) need ∙ price-sent (job s) (in-range e))
+    (made .total-table .ensures ∙ ap (sentTable true (s .args .grocers) (now (s .args .gowner))) share ∙ total-sent (job s) (in-range e))
+    (c .word-total .ensures ∙ ap₂ (λ (x y : List ℕ). othersSum (s .args .offers) (now (s .args .owner)) x + othersSum (s .args .grocers) (now (s .args .gowner)) y) need share ∙ word-total (job s) (in-range e))
 
 pub message-tables-spec : {M : Type 1} → statement M
 message-tables-spec =
@@ -63,4 +78,5 @@ message-tables-spec =
     sharers-requires
     price-table-requires
     total-table-requires
+    word-total-requires
     returns-2)
