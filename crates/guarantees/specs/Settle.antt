@@ -7,7 +7,7 @@ use lib.Dec.{ltb}
 use lib.IntN.{ℤ, pos, negsuc}
 use lib.ListN.{getD, replicate}
 use Rattle.model.specs.Words.{ownerWords, messages, stepCount}
-use Rattle.model.specs.Tables.{StateTables, stateTables, jobOf}
+use Rattle.model.specs.Tables.{JobTables, StateTables, stateTables, jobOf}
 use Rattle.model.specs.Run.{RunAnswer, finished, refused, ran}
 use Rattle.format.specs.File.{decode}
 use Rattle.format.specs.Refusals.{fileRefusal}
@@ -68,14 +68,18 @@ blankJob =
 unfoldable pub blankState : StateTables
 blankState = stateTables (replicate 8_000 0) (replicate 8_000 0) (replicate 4_080 (pos 0)) (replicate 4_080 (pos 0)) (replicate 255 (pos 0)) (replicate 1_536 0) (replicate 1 0)
 
--- What is printed of a run of m grocers.
-unfoldable pub runText : ℕ → RunAnswer → StateTables → List ℕ
-runText m (finished w c n) t = settledText m (λ g. getD (t .statement) g (pos 0)) w c n
-runText m (refused n) t = refusedText n
+-- What is printed of a run of m grocers, by its answer and the statements it leaves.
+unfoldable pub runText : ℕ → RunAnswer → List ℤ → List ℕ
+runText m (finished w c n) statement = settledText m (λ g. getD statement g (pos 0)) w c n
+runText m (refused n) statement = refusedText n
 
--- What is printed once a file is read: the run with no choices.
+-- What is printed of a job: the run with no choices.
+unfoldable pub jobText : JobTables → List ℕ
+jobText f = let o = ran f blankState [] in runText (f .grocers) (o .answer) (o .tables .statement)
+
+-- What is printed once a file is read.
 unfoldable pub readText : List ℕ → ReadAnswer → List ℕ
-readText file (sizes k m n t) = let o = ran (jobRead file blankJob) blankState [] in runText m (o .answer) (o .tables)
+readText file (sizes k m n t) = jobText (jobRead file blankJob)
 readText file (notRead r) = refusedText r
 
 -- What `settle` prints: it "reads a job file from standard input, runs it with no choices and prints".
@@ -92,9 +96,9 @@ pub record Settle : Type 0 where
   pub accepted : (file : List ℕ) → fileRefusal file ≡ 0 →
       printed file
       ≡ settledText (decode file .grocers) (owed (decode file))
-        (ownerWords (jobOf (jobRead file blankJob)))
-        (messages (jobOf (jobRead file blankJob)))
-        (stepCount (jobOf (jobRead file blankJob)))
+      (ownerWords (jobOf (jobRead file blankJob)))
+      (messages (jobOf (jobRead file blankJob)))
+      (stepCount (jobOf (jobRead file blankJob)))
   -- A refused file: its number and nothing else.
   pub refused : (file : List ℕ) → (fileRefusal file ≡ 0 → ⊥) → printed file ≡ refusedText (fileRefusal file)
   -- A printed number is the number.
