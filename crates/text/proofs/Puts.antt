@@ -7,6 +7,7 @@ use native.Mathlib.Nat.{add-zero}
 use native.Mathlib.Numerals.{add-one}
 use lib.ListN.{length, getD, take, drop, set, length-append}
 use lib.Seq.{sets, sets-eq, length-sets, length-take-le, take-suc, take-length, take-append-seam, drop-append-seam}
+use Rattle.io.specs.Counts.{Counts}
 use Rattle.text.specs.Puts.{put, Put}
 
 -- The buffer keeps its length.
@@ -59,12 +60,18 @@ module _ {r : ℕ} {s d e : List ℕ} (p : Put 0 s d e r) where
   unfolding put
   whole = let e : 0 + length s ≡ length s = omega arith in p .bytes ∙ sets-eq s d 0 (omega (arith, p .next, p .room)) ∙ ap (λ (k : ℕ). s ++ drop k d) e
 
-  pub front : take r e ≡ s
+  front : take r e ≡ s
   front = ap (λ (k : ℕ). take k e) long ∙ ap (take (length s)) whole ∙ take-append-seam s (drop (length s) d)
 
-  pub rest : drop r e ≡ drop r d
+  rest : drop r e ≡ drop r d
   rest =
       ap (λ (k : ℕ). drop k e) long
       ∙ ap (drop (length s)) whole
       ∙ drop-append-seam s (drop (length s) d)
       ∙ ap (λ (k : ℕ). drop k d) (sym long)
+
+  -- So much a caller is told that shows the first bytes.
+  pub shown : Counts r e × ((take r e ≡ s) × (drop r e ≡ drop r d))
+  shown =
+      let room : r ≤ length e = omega (arith, p .room, same-long p) in
+      ((room, sym (length-take-le r e room)), (front, rest))
