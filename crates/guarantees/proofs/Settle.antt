@@ -42,9 +42,14 @@ value-digits (suc k) n h =
     (λ e. rw e (omega arith))
     (λ e. rw e (value-more (digitsOf (suc k) (n / 10)) (48 + n % 10) 0 ∙ omega (arith, value-digits k (n / 10) (omega (arith, pow-suc 10 (suc k))))))
 
-number-reads : (n : ℕ) → n < 10 ^ 20 → valueOf (decimal n) 0 ≡ n
+-- N + 1 digits are enough for n.
+pub below-power : (n : ℕ) → n < 10 ^ suc n
+below-power zero = omega arith
+below-power (suc n) = omega (arith, below-power n, pow-suc 10 (suc n))
+
+number-reads : (n : ℕ) → valueOf (decimal n) 0 ≡ n
 unfolding decimal
-number-reads n h = value-digits 19 n h
+number-reads n = value-digits n n (below-power n)
 
 -- ---- the blank buffers are long enough
 

@@ -2,7 +2,7 @@
 use mathlib.Core.Path.{_≡_}
 use mathlib.Core.Bool.{cond}
 use mathlib.Core.List.{List, [], _∷_, _++_}
-use Prim.Native.Nat.{ℕ, zero, suc, _+_, _-_, _*_, _^_, _/_, _%_, _<_}
+use Prim.Native.Nat.{ℕ, zero, suc, _+_, _-_, _*_, _/_, _%_}
 use lib.Dec.{ltb}
 use lib.IntN.{ℤ, pos, negsuc}
 use lib.ListN.{getD, replicate}
@@ -19,9 +19,9 @@ unfoldable pub digitsOf : ℕ → ℕ → List ℕ
 digitsOf zero n = []
 digitsOf (suc k) n = cond (ltb n 10) ((48 + n) ∷ []) (digitsOf k (n / 10) ++ ((48 + n % 10) ∷ []))
 
--- A number of at most 20 digits.
+-- A number in decimal: n + 1 digits are enough for n.
 unfoldable pub decimal : ℕ → List ℕ
-decimal n = digitsOf 20 n
+decimal n = digitsOf (suc n) n
 
 -- An amount: negative ones with a minus sign.
 unfoldable pub signedDecimal : ℤ → List ℕ
@@ -102,4 +102,4 @@ pub record Settle : Type 0 where
   -- A refused file: its number and nothing else.
   pub refused : (file : List ℕ) → (fileRefusal file ≡ 0 → ⊥) → printed file ≡ refusedText (fileRefusal file)
   -- A printed number is the number.
-  pub reads : (n : ℕ) → n < 10 ^ 20 → valueOf (decimal n) 0 ≡ n
+  pub reads : (n : ℕ) → valueOf (decimal n) 0 ≡ n

@@ -15,6 +15,7 @@ use borrow.Author.Tests.{lt-ltb, ltb-true, ltb-false}
 use Rattle.io.specs.Digits.{digits, glyph, Fewest}
 use Rattle.laws.proofs.Bools.{split}
 use Rattle.guarantees.specs.Settle.{digitsOf, decimal, signedDecimal, line, grocerLines}
+use Rattle.guarantees.proofs.Settle.{below-power}
 use Rattle.text.specs.Puts.{put, Put}
 use Rattle.text.proofs.Puts.{behind, reworded}
 
@@ -61,9 +62,9 @@ digits-are (suc k) n r small f =
     (λ e. rw e (one-digit n r (ltb-true n 10 e) f))
     (λ e. rw e (more (suc k) n r (digits-are k) (ltb-false n 10 e) small f))
 
-pub decimal-is : (n r : ℕ) → n < 10 ^ 20 → Fewest 10 1 n r → digits 10 r n ≡ decimal n
+pub decimal-is : (n r : ℕ) → Fewest 10 1 n r → digits 10 r n ≡ decimal n
 unfolding decimal
-decimal-is n r = digits-are 19 n r
+decimal-is n r = digits-are n n r (below-power n)
 
 -- A number below 10 ^ (j + 1) has at most j + 1 digits.
 few : (k j n : ℕ) → n < 10 ^ suc j → length (digitsOf k n) ≤ suc j
@@ -77,7 +78,7 @@ few (suc k) (suc j) n h =
 
 pub decimal-few : (j n : ℕ) → n < 10 ^ suc j → length (decimal n) ≤ suc j
 unfolding decimal
-decimal-few j n h = few 20 j n h
+decimal-few j n h = few (suc n) j n h
 
 -- With a sign it is at most one more.
 pub signed-few : (j : ℕ) (z : ℤ) → natAbs z < 10 ^ suc j → length (signedDecimal z) ≤ suc (suc j)

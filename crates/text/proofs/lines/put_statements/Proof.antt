@@ -14,13 +14,13 @@ use Rattle.text.proofs.lines.put_statements.Statement.{statement}
 use Rattle.text.proofs.lines.put_statements.Tie as tie
 
 abbrev Inv-loop : tie.InvT-loop
-Inv-loop out₀ m statement at₀ g₀ out at g = (g ≤ m) × (at ≤ 25 * g) × Put 0 (grocerLines g (λ i. getD statement i (pos 0))) out₀ out at
+Inv-loop out₀ m statement at₀ g₀ out at g = Put 0 (grocerLines g (λ i. getD statement i (pos 0))) out₀ out at × (at ≤ 25 * g) × (g ≤ m)
 
 abbrev μ-loop : tie.MeasureT-loop
 μ-loop out₀ m statement at₀ g₀ out at g = m - g
 
 loop-holds : tie.Need-loop-holds Inv-loop μ-loop
-loop-holds c = (omega arith, omega arith, grocer-none _ _)
+loop-holds c = (grocer-none _ _, omega arith, omega arith)
 
 mul-z : tie.Need-mul-z Inv-loop μ-loop
 mul-z c = omega arith
@@ -29,7 +29,7 @@ shared-slice-copy-out-z : tie.Need-shared-slice-copy-out-z Inv-loop μ-loop
 shared-slice-copy-out-z c = omega arith
 
 put-statement-requires : tie.Need-put-statement-requires Inv-loop μ-loop
-put-statement-requires c κs = let i = c .before .before .before .loop .inv in omega (arith, same-long (i .2))
+put-statement-requires c κs = let i = c .before .before .before .loop .inv in omega (arith, same-long (i .0))
 
 add-g : tie.Need-add-g Inv-loop μ-loop
 add-g c = omega arith
@@ -44,19 +44,19 @@ loop-again c =
     let z = getD w (l .g) (pos 0) in
     let fits = c .before .before .before .before .z .given in
     let p = reworded (ap (λ (y : ℤ). line (decimal (l .g)) (signedDecimal y)) (read64 z fits)) (c .before .before .put-statement .ensures) in (
-      omega arith,
+      grocer-more (l .g) (λ i. getD w i (pos 0)) (l .inv .0) p,
       omega (arith, p .next, l .inv .1, grocer-short (l .g) z (omega arith) (abs-64 z (record { sfits = fits }))),
-      grocer-more (l .g) (λ i. getD w i (pos 0)) (l .inv .2) p,
+      omega arith,
     )
 
 same-length : tie.Need-same-length Inv-loop μ-loop
-same-length c = same-long (c .before .loop .inv .2)
+same-length c = same-long (c .before .loop .inv .0)
 
 returns : tie.Need-returns Inv-loop μ-loop
 returns c =
     let l = c .before .loop in
     let e : l .g ≡ c .before .before .before .args .m = omega arith in
-    (rw e at (l .inv .2), omega arith)
+    (rw e at (l .inv .0), omega arith)
 
 pub put-statements-spec : {M : Type 1} → statement M
 put-statements-spec =

@@ -11,7 +11,7 @@ use Rattle.text.proofs.numbers.put_decimal.Tie as tie
 
 -- The digits that are made are the number in decimal.
 made : (d : tie.After-decimal) → take (d .decimal .result) (d .decimal .last .1 .0) ≡ decimal (d .before .before .before .args .n)
-made d = d .decimal .ensures .1 .1 ∙ decimal-is (d .before .before .before .args .n) (d .decimal .result) (omega arith) (d .decimal .ensures .1 .0)
+made d = d .decimal .ensures .1 .1 ∙ decimal-is (d .before .before .before .args .n) (d .decimal .result) (d .decimal .ensures .1 .0)
 
 decimal-requires : tie.Need-decimal-requires
 decimal-requires c κs = search needs
