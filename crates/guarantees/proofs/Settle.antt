@@ -7,7 +7,8 @@ use native.Mathlib.Omega.{arith}
 use native.Mathlib.Nat.{pow-suc, mul-le-mul, le-refl}
 use lib.Dec.{ltb}
 use lib.IntN.{ℤ, pos}
-use lib.ListN.{getD, length, replicate, length-replicate}
+use lib.ListN.{getD, length, take, replicate, length-replicate}
+use lib.Seq.{getD-take, length-take-le}
 use borrow.Author.Tests.{lt-ltb, le-ltb, ltb-false, ltb-true}
 use Rattle.laws.proofs.Bools.{split}
 use Rattle.laws.proofs.Tables.{word-in}
@@ -21,7 +22,7 @@ use Rattle.format.specs.File.{decode}
 use Rattle.format.specs.Refusals.{fileRefusal}
 use Rattle.format.specs.Tables.{ReaderTables, ReadOutcome, shortTables, shortReader, readRefusal}
 use Rattle.format.proofs.Order.{reader-file}
-use Rattle.format.proofs.Accept.{accepted-range}
+use Rattle.format.proofs.Accept.{long, accepted-range}
 use Rattle.format.proofs.Tables.{read-accepted, read-refused}
 use Rattle.guarantees.specs.Demand3.{jobRead, owed, Accepted}
 use Rattle.guarantees.specs.Settle.{digitsOf, decimal, signedDecimal, line, grocerLines, settledText, refusedText, blankJob, blankState, runText, jobText, readText, printed, valueOf, Settle}
@@ -164,5 +165,15 @@ refused-is file met =
     let e = reader-file file blankJob blank-reader in
     ap (λ (o : ReadOutcome). readText file (o .answer)) (read-refused file blankJob (λ z. met (sym e ∙ z))) ∙ ap refusedText e
 
+-- The first n bytes of a file say the file's length, if they are a file.
+cut-is : (file : List ℕ) (n : ℕ) → fileRefusal file ≡ 0 → n < length file → fileRefusal (take n file) ≡ 0 → ⊥
+unfolding decode
+cut-is file n ok h cut =
+    let whole = long file ok in
+    let part = long (take n file) cut in
+    let size = length-take-le n file (omega arith) in
+    let same : (i : ℕ) → i < 12 → getD (take n file) i 0 ≡ getD file i 0 = λ i l. getD-take n file i 0 (omega arith) in
+    omega (arith, same 8 (omega arith), same 9 (omega arith), same 10 (omega arith), same 11 (omega arith))
+
 pub settle : Settle
-settle = record { accepted = settled-is; refused = refused-is; reads = number-reads }
+settle = record { accepted = settled-is; refused = refused-is; cut = cut-is; reads = number-reads }

@@ -2,10 +2,10 @@
 use mathlib.Core.Path.{_≡_}
 use mathlib.Core.Bool.{cond}
 use mathlib.Core.List.{List, [], _∷_, _++_}
-use Prim.Native.Nat.{ℕ, zero, suc, _+_, _-_, _*_, _/_, _%_}
+use Prim.Native.Nat.{ℕ, zero, suc, _+_, _-_, _*_, _/_, _%_, _<_}
 use lib.Dec.{ltb}
 use lib.IntN.{ℤ, pos, negsuc}
-use lib.ListN.{getD, replicate}
+use lib.ListN.{getD, length, take, replicate}
 use Rattle.model.specs.Words.{ownerWords, messages, stepCount}
 use Rattle.model.specs.Tables.{JobTables, StateTables, stateTables, jobOf}
 use Rattle.model.specs.Run.{RunAnswer, finished, refused, ran}
@@ -101,5 +101,7 @@ pub record Settle : Type 0 where
       (stepCount (jobOf (jobRead file blankJob)))
   -- A refused file: its number and nothing else.
   pub refused : (file : List ℕ) → (fileRefusal file ≡ 0 → ⊥) → printed file ≡ refusedText (fileRefusal file)
+  -- Cut short anywhere, an accepted file is refused.
+  pub cut : (file : List ℕ) (n : ℕ) → fileRefusal file ≡ 0 → n < length file → fileRefusal (take n file) ≡ 0 → ⊥
   -- A printed number is the number.
   pub reads : (n : ℕ) → valueOf (decimal n) 0 ≡ n

@@ -1,6 +1,7 @@
 -- `statements::put_job` meets its contract. Assumes nothing.
 use denote.Ref.{now}
-use Rattle.model.specs.Tables.{JobTables, jobTables}
+use Rattle.model.specs.Tables.{JobTables, jobTables, StateTables, stateTables}
+use Rattle.run.specs.Run.{answerOf}
 use Rattle.text.proofs.Puts.{reworded}
 use Rattle.guarantees.specs.Settle.{blankState}
 use Rattle.statements.proofs.Texts.{run-text}
@@ -10,6 +11,10 @@ use Rattle.statements.proofs.put_job.Tie as tie
 
 abbrev job : tie.Start → JobTables
 job s = jobTables (s .args .boxes) (s .args .grocers) (s .args .offers) (s .args .tallies) (now (s .args .price)) (now (s .args .owner)) (now (s .args .gowner)) (now (s .args .tgrocer)) (now (s .args .tbox)) (now (s .args .toffer)) (now (s .args .tcount))
+
+-- The state that the run leaves.
+abbrev left : tie.After-run → StateTables
+left r = let w = r .run .last .1 .1 .1 .1 .1 .1 .1 .1 .1 .1 .1 in stateTables (w .0) (w .1 .0) (w .1 .1 .0) (w .1 .1 .1 .0) (w .1 .1 .1 .1 .0) (w .1 .1 .1 .1 .1 .0) (w .1 .1 .1 .1 .1 .1 .0)
 
 slice-aggregate-run : tie.Need-slice-aggregate-run
 slice-aggregate-run c = search needs
@@ -52,7 +57,7 @@ unfolding blankState
 returns c =
     let r = c .before .before .before .before .before .before .before .before .before .before .before .before in
     let s = r .before .before .before .before .before .before .before .before .before .before .before .before .before .before .before .before in
-    reworded (run-text (job s) _ _ (r .run .ensures)) (c .before .before .put-answer .ensures)
+    reworded (run-text (job s) (answerOf (r .run .result)) (left r) (r .run .ensures)) (c .before .before .put-answer .ensures)
 
 pub put-job-spec : {M : Type 1} → statement M
 put-job-spec =
