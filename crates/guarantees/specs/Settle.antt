@@ -50,7 +50,7 @@ stepsName = 115 ∷ 116 ∷ 101 ∷ 112 ∷ 115 ∷ []
 abbrev pub refusedName : List ℕ
 refusedName = 114 ∷ 101 ∷ 102 ∷ 117 ∷ 115 ∷ 101 ∷ 100 ∷ []
 
--- A settled evening: the grocers' lines, then the words and messages sent and the steps accepted.
+-- A settled job: the grocers' lines, then the words and messages sent and the steps accepted.
 unfoldable pub settledText : ℕ → (ℕ → ℤ) → ℕ → ℕ → ℕ → List ℕ
 settledText m amount w c n = grocerLines m amount ++ line wordsName (decimal w) ++ line messagesName (decimal c) ++ line stepsName (decimal n)
 
