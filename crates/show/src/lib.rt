@@ -13,7 +13,7 @@ pub fn number(n: u64) {
 }
 
 // A number without its sign.
-fn size(z: i64) -> u64
+pub fn size(z: i64) -> u64
     ensures { λ r. ⌜ r ≡ natAbs z ⌝ }
 {
     if z < 0 {

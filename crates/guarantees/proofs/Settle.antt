@@ -1,0 +1,179 @@
+-- What settle prints are the amounts owed. Assumes nothing.
+use mathlib.Core.Path.{_≡_, refl, sym, ap, ap₂, _∙_}
+use mathlib.Core.Bool.{false, _||_}
+use mathlib.Core.List.{List, [], _∷_, _++_, map}
+use Prim.Native.Nat.{ℕ, zero, suc, _+_, _-_, _*_, _/_, _%_, _^_, _<_, _≤_}
+use native.Mathlib.Omega.{arith}
+use native.Mathlib.Nat.{pow-suc, mul-le-mul, le-refl}
+use lib.Dec.{ltb}
+use lib.IntN.{ℤ, pos}
+use lib.ListN.{getD, length, take, replicate, length-replicate}
+use lib.Seq.{getD-take, length-take-le}
+use borrow.Author.Tests.{lt-ltb, le-ltb, ltb-false, ltb-true}
+use Rattle.laws.proofs.Bools.{split}
+use Rattle.laws.proofs.Tables.{word-in}
+use Rattle.model.specs.Job.{Job, plainSum}
+use Rattle.model.specs.Words.{ownerWords, messages, stepCount}
+use Rattle.model.specs.Tables.{JobTables, StateTables, jobOf, view, stateLengths, stateShort, lentShort}
+use Rattle.model.specs.Run.{RunAnswer, finished, reported, run, ran}
+use Rattle.model.specs.Requests.{Request, left}
+use Rattle.model.specs.Demand3.{whole}
+use Rattle.format.specs.File.{decode}
+use Rattle.format.specs.Refusals.{fileRefusal}
+use Rattle.format.specs.Tables.{ReaderTables, ReadOutcome, shortTables, shortReader, readRefusal}
+use Rattle.format.proofs.Order.{reader-file}
+use Rattle.format.proofs.Accept.{long, accepted-range}
+use Rattle.format.proofs.Tables.{read-accepted, read-refused}
+use Rattle.guarantees.specs.Demand3.{jobRead, owed, Accepted}
+use Rattle.guarantees.specs.Settle.{digitsOf, decimal, signedDecimal, line, grocerLines, settledText, refusedText, blankJob, blankState, runText, jobText, readText, printed, valueOf, Settle}
+use Rattle.guarantees.proofs.Demand3.{accepted}
+
+-- ---- a printed number is the number
+
+value-more : (s : List ℕ) (d n : ℕ) → valueOf (s ++ (d ∷ [])) n ≡ 10 * valueOf s n + (d - 48)
+unfolding valueOf
+value-more [] d n = refl
+value-more (c ∷ s) d n = value-more s d (10 * n + (c - 48))
+
+value-digits : (k n : ℕ) → n < 10 ^ suc k → valueOf (digitsOf (suc k) n) 0 ≡ n
+unfolding digitsOf valueOf
+value-digits zero n h = rw (lt-ltb n 10 (omega arith)) (omega arith)
+value-digits (suc k) n h =
+    split (ltb n 10)
+    (λ e. rw e (omega arith))
+    (λ e. rw e (value-more (digitsOf (suc k) (n / 10)) (48 + n % 10) 0 ∙ omega (arith, value-digits k (n / 10) (omega (arith, pow-suc 10 (suc k))))))
+
+-- N + 1 digits are enough for n.
+pub below-power : (n : ℕ) → n < 10 ^ suc n
+below-power zero = omega arith
+below-power (suc n) = omega (arith, below-power n, pow-suc 10 (suc n))
+
+number-reads : (n : ℕ) → valueOf (decimal n) 0 ≡ n
+unfolding decimal
+number-reads n = value-digits n n (below-power n)
+
+-- ---- the blank buffers are long enough
+
+zeros : (n : ℕ) → n ≤ length (replicate {A = ℕ} n 0)
+zeros n = rw (length-replicate {A = ℕ} n 0) (le-refl n)
+
+zeros-signed : (n : ℕ) → n ≤ length (replicate n (pos 0))
+zeros-signed n = rw (length-replicate n (pos 0)) (le-refl n)
+
+reader-enough : (l : ReaderTables) → 500 ≤ length (l .job .price) → 500 ≤ length (l .job .offerOwner) → 5_500 ≤ length (l .job .offerCode) → 255 ≤ length (l .job .grocerOwner) →
+    1_000 ≤ length (l .job .tallyGrocer) → 1_000 ≤ length (l .job .tallyBox) → 11_000 ≤ length (l .job .tallyCode) → 1_000 ≤ length (l .job .tallyCount) → 1_000 ≤ length (l .tallyOffer) →
+    shortReader l ≡ false
+unfolding shortReader shortTables
+reader-enough l a b c d e f g h i =
+    rw (
+      le-ltb (length (l .job .price)) 500 a,
+      le-ltb (length (l .job .offerOwner)) 500 b,
+      le-ltb (length (l .job .offerCode)) 5_500 c,
+      le-ltb (length (l .job .grocerOwner)) 255 d,
+      le-ltb (length (l .job .tallyGrocer)) 1_000 e,
+      le-ltb (length (l .job .tallyBox)) 1_000 f,
+      le-ltb (length (l .job .tallyCode)) 11_000 g,
+      le-ltb (length (l .job .tallyCount)) 1_000 h,
+      le-ltb (length (l .tallyOffer)) 1_000 i,
+    )
+
+blank-reader : shortReader blankJob ≡ false
+unfolding blankJob
+blank-reader =
+    reader-enough blankJob (zeros 500) (zeros 500) (zeros 5_500) (zeros 255) (zeros 1_000) (zeros 1_000) (zeros 11_000) (zeros-signed 1_000) (zeros 1_000)
+
+state-enough : (j : Job) (t : StateTables) → j .boxes ≤ 16 → j .grocers ≤ 255 → j .offers ≤ 500 →
+    8_000 ≤ length (t .known) → 8_000 ≤ length (t .priceTransit) → 4_080 ≤ length (t .working) → 4_080 ≤ length (t .totalTransit) → 255 ≤ length (t .statement) → 1_536 ≤ length (t .done) → 1 ≤ length (t .sent) →
+    stateShort j (stateLengths t) ≡ false
+unfolding stateShort stateLengths
+state-enough j t k m n a b c d e f g =
+    let prices : j .boxes * j .offers ≤ 8_000 = mul-le-mul k n in
+    let totals : j .boxes * j .grocers ≤ 4_080 = mul-le-mul k m in
+    let marks : 6 * j .boxes * j .boxes ≤ 1_536 = mul-le-mul {n₂ = 96} (omega arith) k in
+    rw (
+      le-ltb (length (t .known)) (j .boxes * j .offers) (omega arith),
+      le-ltb (length (t .priceTransit)) (j .boxes * j .offers) (omega arith),
+      le-ltb (length (t .working)) (j .boxes * j .grocers) (omega arith),
+      le-ltb (length (t .totalTransit)) (j .boxes * j .grocers) (omega arith),
+      le-ltb (length (t .statement)) (j .grocers) (omega arith),
+      le-ltb (length (t .done)) (6 * j .boxes * j .boxes) (omega arith),
+      le-ltb (length (t .sent)) 1 g,
+    )
+
+blank-state : (j : Job) → j .boxes ≤ 16 → j .grocers ≤ 255 → j .offers ≤ 500 → stateShort j (stateLengths blankState) ≡ false
+unfolding blankState
+blank-state j k m n =
+    state-enough j blankState k m n (zeros 8_000) (zeros 8_000) (zeros-signed 4_080) (zeros-signed 4_080) (zeros-signed 255) (zeros 1_536) (zeros 1)
+
+-- ---- the lines
+
+-- The first m amounts alone count.
+lines-cong : (m : ℕ) (a b : ℕ → ℤ) → ((g : ℕ) → g < m → a g ≡ b g) → grocerLines m a ≡ grocerLines m b
+unfolding grocerLines
+lines-cong zero a b h = refl
+lines-cong (suc m) a b h =
+    ap₂ (λ (x : List ℕ) (z : ℤ). x ++ line (decimal m) (signedDecimal z)) (lines-cong m a b (λ g l. h g (omega arith))) (h m (omega arith))
+
+text-cong : (m : ℕ) (a b : ℕ → ℤ) (w c n : ℕ) → ((g : ℕ) → g < m → a g ≡ b g) → settledText m a w c n ≡ settledText m b w c n
+unfolding settledText
+text-cong m a b w c n h = rw (lines-cong m a b h)
+
+module _ (file : List ℕ) (ok : fileRefusal file ≡ 0) where
+  read-ok : readRefusal file blankJob ≡ 0
+  read-ok = reader-file file blankJob blank-reader ∙ ok
+
+  given : Accepted file blankJob
+  given = accepted file blankJob read-ok
+
+  abbrev job : JobTables
+  job = jobRead file blankJob
+
+  -- The steps that the run with no choices takes.
+  abbrev list : List Request
+  list = map (whole (jobOf job)) (run (jobOf job) [])
+
+  lent-ok : lentShort job blankState ≡ false
+  unfolding lentShort jobOf jobRead
+  lent-ok =
+      let s = accepted-range file ok .sizes in
+      rw (given .whole, blank-state (jobOf job) (s .boxes-most) (s .grocers-most) (s .offers-most))
+
+  -- The run is not refused: its answer is the job's words, messages and steps,
+  answer-is : ran job blankState [] .answer ≡ finished (ownerWords (jobOf job)) (messages (jobOf job)) (stepCount (jobOf job))
+  unfolding reported
+  answer-is = given .run blankState [] .answer ∙ rw lent-ok
+
+  -- and each statement is what the file says is owed.
+  amount-is : (g : ℕ) → g < decode file .grocers → getD (ran job blankState [] .tables .statement) g (pos 0) ≡ owed (decode file) g
+  unfolding view jobOf jobRead
+  amount-is g h =
+      ap (λ (t : StateTables). getD (t .statement) g (pos 0)) (given .run blankState [] .tables lent-ok)
+      ∙ sym (word-in (decode file .grocers) (left job blankState list .statement) (pos 0) g h)
+      ∙ given .steps blankState list .finish (given .run blankState [] .allDone) .statements g h
+      ∙ given .sums g
+
+  settled-is : printed file ≡ settledText (decode file .grocers) (owed (decode file)) (ownerWords (jobOf job)) (messages (jobOf job)) (stepCount (jobOf job))
+  unfolding printed readText jobText runText jobRead
+  settled-is =
+      ap (λ (o : ReadOutcome). readText file (o .answer)) (read-accepted file blankJob read-ok)
+      ∙ ap (λ (a : RunAnswer). runText (decode file .grocers) a (ran job blankState [] .tables .statement)) answer-is
+      ∙ text-cong (decode file .grocers) (λ g. getD (ran job blankState [] .tables .statement) g (pos 0)) (owed (decode file)) (ownerWords (jobOf job)) (messages (jobOf job)) (stepCount (jobOf job)) amount-is
+
+refused-is : (file : List ℕ) → (fileRefusal file ≡ 0 → ⊥) → printed file ≡ refusedText (fileRefusal file)
+unfolding printed readText
+refused-is file met =
+    let e = reader-file file blankJob blank-reader in
+    ap (λ (o : ReadOutcome). readText file (o .answer)) (read-refused file blankJob (λ z. met (sym e ∙ z))) ∙ ap refusedText e
+
+-- The first n bytes of a file say the file's length, if they are a file.
+cut-is : (file : List ℕ) (n : ℕ) → fileRefusal file ≡ 0 → n < length file → fileRefusal (take n file) ≡ 0 → ⊥
+unfolding decode
+cut-is file n ok h cut =
+    let whole = long file ok in
+    let part = long (take n file) cut in
+    let size = length-take-le n file (omega arith) in
+    let same : (i : ℕ) → i < 12 → getD (take n file) i 0 ≡ getD file i 0 = λ i l. getD-take n file i 0 (omega arith) in
+    omega (arith, same 8 (omega arith), same 9 (omega arith), same 10 (omega arith), same 11 (omega arith))
+
+pub settle : Settle
+settle = record { accepted = settled-is; refused = refused-is; cut = cut-is; reads = number-reads }

@@ -1,0 +1,78 @@
+-- `statements::put_job` meets its contract. Assumes nothing.
+use denote.Ref.{now}
+use Rattle.model.specs.Tables.{JobTables, jobTables, StateTables, stateTables}
+use Rattle.run.specs.Run.{answerOf}
+use Rattle.text.proofs.Puts.{reworded}
+use Rattle.guarantees.specs.Settle.{blankState}
+use Rattle.statements.proofs.Texts.{run-text}
+use borrow.Author.Needs.{needs}
+use Rattle.statements.proofs.put_job.Statement.{statement}
+use Rattle.statements.proofs.put_job.Tie as tie
+
+abbrev job : tie.Start → JobTables
+job s = jobTables (s .args .boxes) (s .args .grocers) (s .args .offers) (s .args .tallies) (now (s .args .price)) (now (s .args .owner)) (now (s .args .gowner)) (now (s .args .tgrocer)) (now (s .args .tbox)) (now (s .args .toffer)) (now (s .args .tcount))
+
+-- The state that the run leaves.
+abbrev left : tie.After-run → StateTables
+left r = let w = r .run .last .1 .1 .1 .1 .1 .1 .1 .1 .1 .1 .1 in stateTables (w .0) (w .1 .0) (w .1 .1 .0) (w .1 .1 .1 .0) (w .1 .1 .1 .1 .0) (w .1 .1 .1 .1 .1 .0) (w .1 .1 .1 .1 .1 .1 .0)
+
+slice-aggregate-run : tie.Need-slice-aggregate-run
+slice-aggregate-run c = search needs
+
+slice-aggregate-run-2 : tie.Need-slice-aggregate-run-2
+slice-aggregate-run-2 c = search needs
+
+slice-aggregate-run-3 : tie.Need-slice-aggregate-run-3
+slice-aggregate-run-3 c = search needs
+
+slice-aggregate-run-4 : tie.Need-slice-aggregate-run-4
+slice-aggregate-run-4 c = search needs
+
+slice-aggregate-run-5 : tie.Need-slice-aggregate-run-5
+slice-aggregate-run-5 c = search needs
+
+slice-aggregate-run-6 : tie.Need-slice-aggregate-run-6
+slice-aggregate-run-6 c = search needs
+
+slice-aggregate-run-7 : tie.Need-slice-aggregate-run-7
+slice-aggregate-run-7 c = search needs
+
+slice-aggregate-run-8 : tie.Need-slice-aggregate-run-8
+slice-aggregate-run-8 c = search needs
+
+run-requires : tie.Need-run-requires
+run-requires c κs = search needs
+
+slice-aggregate-put-answer : tie.Need-slice-aggregate-put-answer
+slice-aggregate-put-answer c = search needs
+
+put-answer-requires : tie.Need-put-answer-requires
+put-answer-requires c κs = search needs
+
+same-length : tie.Need-same-length
+same-length c = search needs
+
+returns : tie.Need-returns
+unfolding blankState
+returns c =
+    let r = c .before .before .before .before .before .before .before .before .before .before .before .before in
+    let s = r .before .before .before .before .before .before .before .before .before .before .before .before .before .before .before .before in
+    reworded (run-text (job s) (answerOf (r .run .result)) (left r) (r .run .ensures)) (c .before .before .put-answer .ensures)
+
+pub put-job-spec : {M : Type 1} → statement M
+put-job-spec =
+    tie.close
+    (tie.spec
+    slice-aggregate-run
+    slice-aggregate-run-2
+    slice-aggregate-run-3
+    slice-aggregate-run-4
+    slice-aggregate-run-5
+    slice-aggregate-run-6
+    slice-aggregate-run-7
+    slice-aggregate-run-8
+    run-requires
+    slice-aggregate-put-answer
+    put-answer-requires
+    same-length
+    returns)

@@ -1,0 +1,131 @@
+-- `statements::settled` meets its contract, by the reader's answer. Assumes nothing.
+use mathlib.Core.List.{List}
+use Prim.Native.Nat.{ℕ}
+use denote.Ref.{now}
+use Rattle.format.specs.Tables.{ReaderTables, fileTables, readerTables}
+use Rattle.text.proofs.Puts.{reworded, shown}
+use Rattle.guarantees.specs.Settle.{blankJob}
+use Rattle.statements.proofs.Texts.{refused-text, grocers-few, job-text}
+use borrow.Author.Needs.{needs}
+use Rattle.statements.proofs.settled.Statement.{statement}
+use Rattle.statements.proofs.settled.Tie as tie
+
+abbrev file : tie.After-read → List ℕ
+file r = now (r .before .before .before .before .before .before .before .before .before .before .before .args .file)
+
+-- The tables as the reader leaves them.
+abbrev tables : tie.After-read → ReaderTables
+tables r =
+    let w = r .read .last .1 in
+    readerTables
+    (fileTables (w .0) (w .1 .0) (w .1 .1 .0) (w .1 .1 .1 .0) (w .1 .1 .1 .1 .0) (w .1 .1 .1 .1 .1 .0) (w .1 .1 .1 .1 .1 .1 .0) (w .1 .1 .1 .1 .1 .1 .1 .0))
+    (w .1 .1 .1 .1 .1 .1 .1 .1 .0)
+
+slice-aggregate-read : tie.Need-slice-aggregate-read
+slice-aggregate-read c = search needs
+
+slice-aggregate-read-2 : tie.Need-slice-aggregate-read-2
+slice-aggregate-read-2 c = search needs
+
+slice-aggregate-read-3 : tie.Need-slice-aggregate-read-3
+slice-aggregate-read-3 c = search needs
+
+slice-aggregate-read-4 : tie.Need-slice-aggregate-read-4
+slice-aggregate-read-4 c = search needs
+
+slice-aggregate-read-5 : tie.Need-slice-aggregate-read-5
+slice-aggregate-read-5 c = search needs
+
+slice-aggregate-read-6 : tie.Need-slice-aggregate-read-6
+slice-aggregate-read-6 c = search needs
+
+slice-aggregate-read-7 : tie.Need-slice-aggregate-read-7
+slice-aggregate-read-7 c = search needs
+
+slice-aggregate-read-8 : tie.Need-slice-aggregate-read-8
+slice-aggregate-read-8 c = search needs
+
+slice-aggregate-read-9 : tie.Need-slice-aggregate-read-9
+slice-aggregate-read-9 c = search needs
+
+read-requires : tie.Need-read-requires
+read-requires c κs = search needs
+
+enum-known-a : tie.Need-enum-known-a
+enum-known-a c = search needs
+
+slice-aggregate-put-job : tie.Need-slice-aggregate-put-job
+slice-aggregate-put-job c = search needs
+
+slice-aggregate-put-job-2 : tie.Need-slice-aggregate-put-job-2
+slice-aggregate-put-job-2 c = search needs
+
+slice-aggregate-put-job-3 : tie.Need-slice-aggregate-put-job-3
+slice-aggregate-put-job-3 c = search needs
+
+slice-aggregate-put-job-4 : tie.Need-slice-aggregate-put-job-4
+slice-aggregate-put-job-4 c = search needs
+
+slice-aggregate-put-job-5 : tie.Need-slice-aggregate-put-job-5
+slice-aggregate-put-job-5 c = search needs
+
+slice-aggregate-put-job-6 : tie.Need-slice-aggregate-put-job-6
+slice-aggregate-put-job-6 c = search needs
+
+slice-aggregate-put-job-7 : tie.Need-slice-aggregate-put-job-7
+slice-aggregate-put-job-7 c = search needs
+
+put-job-requires : tie.Need-put-job-requires
+unfolding blankJob
+put-job-requires c κs =
+    let m = c .before .before .before .before .before .before .before .before .before in
+    let r = m .before .before .before .before .before .before .before .before .before .before .before in
+    (grocers-few (file r) (tables r) (r .read .result) (r .read .ensures) _ _ _ _ (m .a .given .1), search needs)
+
+enum-known-a-2 : tie.Need-enum-known-a-2
+enum-known-a-2 c = search needs
+
+put-refused-requires : tie.Need-put-refused-requires
+put-refused-requires c κs = search needs
+
+returns : tie.Need-returns
+unfolding blankJob
+returns c =
+    let m = c .before .before .before .before .before .before .before .before .before .before in
+    let r = m .before .before .before .before .before .before .before .before .before .before .before in
+    shown (reworded (job-text (file r) (tables r) (r .read .result) (r .read .ensures) _ _ _ _ (m .a .given .1)) (c .put-job .ensures))
+
+returns-2 : tie.Need-returns-2
+unfolding blankJob
+returns-2 c =
+    let m = c .before .before .before in
+    let r = m .before .before .before .before .before .before .before .before .before .before .before in
+    shown (reworded (refused-text (file r) (tables r) (r .read .result) (r .read .ensures) _ (m .a2 .given .1)) (c .put-refused .ensures))
+
+pub settled-spec : {M : Type 1} → statement M
+settled-spec =
+    tie.close
+    (tie.spec
+    slice-aggregate-read
+    slice-aggregate-read-2
+    slice-aggregate-read-3
+    slice-aggregate-read-4
+    slice-aggregate-read-5
+    slice-aggregate-read-6
+    slice-aggregate-read-7
+    slice-aggregate-read-8
+    slice-aggregate-read-9
+    read-requires
+    enum-known-a
+    slice-aggregate-put-job
+    slice-aggregate-put-job-2
+    slice-aggregate-put-job-3
+    slice-aggregate-put-job-4
+    slice-aggregate-put-job-5
+    slice-aggregate-put-job-6
+    slice-aggregate-put-job-7
+    put-job-requires
+    enum-known-a-2
+    put-refused-requires
+    returns
+    returns-2)

@@ -1,0 +1,124 @@
+// From the bytes of a job file to the lines that settle prints.
+ghost use mathlib.Core.Path.{_≡_};
+ghost use Prim.Native.Nat.{_≤_};
+ghost use lib.ListN.{length, take, drop};
+ghost use Rattle.io.specs.Counts.{Counts};
+ghost use Rattle.model.specs.Tables.{jobTables};
+ghost use Rattle.run.specs.Run.{answerOf};
+ghost use Rattle.text.specs.Puts.{Put};
+ghost use Rattle.guarantees.specs.Settle.{runText, jobText, printed};
+use text::lines::put_refused;
+use text::lines::put_settled;
+
+// The lines of a run's answer.
+fn put_answer(out: &mut [u8], grocers: u16, statement: &[i64], a: run::Answer) -> usize
+    requires { ⌜ (grocers ≤ 255) × (grocers ≤ length (now statement)) × (8192 ≤ length (now out)) ⌝ }
+    ensures { λ r. ⌜ Put 0 (runText grocers (answerOf a) (now (statement .entry))) (now (out .entry)) (now (out .exit)) r ⌝ }
+{
+    match a {
+        run::Answer::Finished(words, messages, steps) => {
+            put_settled(out, grocers as usize, statement, words, messages, steps)
+        }
+        run::Answer::Refused(n) => put_refused(out, n),
+    }
+}
+
+// The lines of a job: it is run with no choices.
+fn put_job(
+    out: &mut [u8],
+    boxes: u16,
+    grocers: u16,
+    offers: u16,
+    tallies: u16,
+    price: &[u32],
+    owner: &[u16],
+    gowner: &[u16],
+    tgrocer: &[u16],
+    tbox: &[u16],
+    toffer: &[u16],
+    tcount: &[i32],
+) -> usize
+    requires { ⌜ (grocers ≤ 255) × (8192 ≤ length (now out)) ⌝ }
+    ensures { λ r. ⌜ Put 0 (jobText (jobTables boxes grocers offers tallies (now (price .entry)) (now (owner .entry)) (now (gowner .entry)) (now (tgrocer .entry)) (now (tbox .entry)) (now (toffer .entry)) (now (tcount .entry)))) (now (out .entry)) (now (out .exit)) r ⌝ }
+{
+    let mut known = [0u32; 8000];
+    let mut ptransit = [0u32; 8000];
+    let mut working = [0i64; 4080];
+    let mut ttransit = [0i64; 4080];
+    let mut statement = [0i64; 255];
+    let mut done = [0u16; 1536];
+    let mut sent = [0u32; 1];
+    let a = run::run(
+        boxes,
+        grocers,
+        offers,
+        tallies,
+        price,
+        owner,
+        gowner,
+        tgrocer,
+        tbox,
+        toffer,
+        tcount,
+        &mut known,
+        &mut ptransit,
+        &mut working,
+        &mut ttransit,
+        &mut statement,
+        &mut done,
+        &mut sent,
+        &[],
+    );
+    put_answer(out, grocers, &statement, a)
+}
+
+// Puts what settle prints for a job file at the start of the buffer, and answers how many bytes that is. What stands behind them stays.
+pub fn settled(file: &[u8], out: &mut [u8; 8192]) -> usize
+    ensures { λ r. ⌜ Counts r (now (out .exit)) ⌝ }
+    ensures { λ r. ⌜ take r (now (out .exit)) ≡ printed (now (file .entry)) ⌝ }
+    ensures { λ r. ⌜ drop r (now (out .exit)) ≡ drop r (now (out .entry)) ⌝ }
+{
+    let mut price = [0u32; 500];
+    let mut owner = [0u16; 500];
+    let mut code = [0u8; 5500];
+    let mut gowner = [0u16; 255];
+    let mut tgrocer = [0u16; 1000];
+    let mut tbox = [0u16; 1000];
+    let mut tcode = [0u8; 11000];
+    let mut tcount = [0i32; 1000];
+    let mut toffer = [0u16; 1000];
+    let a = reader::read(
+        file,
+        &mut price,
+        &mut owner,
+        &mut code,
+        &mut gowner,
+        &mut tgrocer,
+        &mut tbox,
+        &mut tcode,
+        &mut tcount,
+        &mut toffer,
+    );
+    match a {
+        reader::Answer::Job {
+            boxes: k,
+            grocers: m,
+            offers: n,
+            tallies: t,
+        } => put_job(
+            out,
+            k,
+            m,
+            n,
+            t,
+            &price,
+            &owner,
+            &gowner,
+            &tgrocer,
+            &tbox,
+            &toffer,
+            &tcount,
+        ),
+        reader::Answer::Refused(n) => put_refused(out, n),
+    }
+}

@@ -1,0 +1,3 @@
+-- Laws that the functions are proved with.
+pub mod Puts
+pub mod Decimals

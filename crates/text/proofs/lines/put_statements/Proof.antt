@@ -1,0 +1,75 @@
+-- `text::lines::put_statements` meets its contract. The loop's invariant: the lines of the first g grocers are put. Assumes nothing.
+use mathlib.Core.Path.{_≡_, ap}
+use Prim.Native.Nat.{_≤_, _*_, _-_}
+use native.Mathlib.Omega.{arith}
+use denote.Ref.{now}
+use lib.IntN.{ℤ, pos}
+use lib.ListN.{length, getD}
+use Rattle.laws.proofs.Signed.{read64}
+use Rattle.guarantees.specs.Settle.{decimal, signedDecimal, line, grocerLines}
+use Rattle.text.specs.Puts.{Put}
+use Rattle.text.proofs.Puts.{same-long, reworded}
+use Rattle.text.proofs.Decimals.{grocer-none, grocer-more, grocer-short, abs-64}
+use Rattle.text.proofs.lines.put_statements.Statement.{statement}
+use Rattle.text.proofs.lines.put_statements.Tie as tie
+
+abbrev Inv-loop : tie.InvT-loop
+Inv-loop out₀ m statement at₀ g₀ out at g = Put 0 (grocerLines g (λ i. getD statement i (pos 0))) out₀ out at × (at ≤ 25 * g) × (g ≤ m)
+
+abbrev μ-loop : tie.MeasureT-loop
+μ-loop out₀ m statement at₀ g₀ out at g = m - g
+
+loop-holds : tie.Need-loop-holds Inv-loop μ-loop
+loop-holds c = (grocer-none _ _, omega arith, omega arith)
+
+mul-z : tie.Need-mul-z Inv-loop μ-loop
+mul-z c = omega arith
+
+shared-slice-copy-out-z : tie.Need-shared-slice-copy-out-z Inv-loop μ-loop
+shared-slice-copy-out-z c = omega arith
+
+put-statement-requires : tie.Need-put-statement-requires Inv-loop μ-loop
+put-statement-requires c κs = let i = c .before .before .before .loop .inv in omega (arith, same-long (i .0))
+
+add-g : tie.Need-add-g Inv-loop μ-loop
+add-g c = omega arith
+
+loop-less : tie.Need-loop-less Inv-loop μ-loop
+loop-less c = omega arith
+
+loop-again : tie.Need-loop-again Inv-loop μ-loop
+loop-again c =
+    let l = c .before .before .before .before .before .before .loop in
+    let w = now (c .before .before .before .before .before .before .before .before .args .statement) in
+    let z = getD w (l .g) (pos 0) in
+    let fits = c .before .before .before .before .z .given in
+    let p = reworded (ap (λ (y : ℤ). line (decimal (l .g)) (signedDecimal y)) (read64 z fits)) (c .before .before .put-statement .ensures) in (
+      grocer-more (l .g) (λ i. getD w i (pos 0)) (l .inv .0) p,
+      omega (arith, p .next, l .inv .1, grocer-short (l .g) z (omega arith) (abs-64 z (record { sfits = fits }))),
+      omega arith,
+    )
+
+same-length : tie.Need-same-length Inv-loop μ-loop
+same-length c = same-long (c .before .loop .inv .0)
+
+returns : tie.Need-returns Inv-loop μ-loop
+returns c =
+    let l = c .before .loop in
+    let e : l .g ≡ c .before .before .before .args .m = omega arith in
+    (rw e at (l .inv .0), omega arith)
+
+pub put-statements-spec : {M : Type 1} → statement M
+put-statements-spec =
+    tie.close
+    (tie.spec
+    Inv-loop
+    μ-loop
+    loop-holds
+    mul-z
+    shared-slice-copy-out-z
+    put-statement-requires
+    add-g
+    loop-less
+    loop-again
+    same-length
+    returns)

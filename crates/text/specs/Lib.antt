@@ -1,0 +1,2 @@
+-- Text that is put into a buffer.
+pub mod Puts
