@@ -3,7 +3,7 @@ use mathlib.Core.Path.{_≡_, ap, _∙_}
 use lib.IntN.{natAbs}
 use mir.Syntax.{w64}
 use mir.Facts.{toZ-ofZ}
-use Rattle.show.proofs.Extra.{below-zero, from-zero}
+use Rattle.laws.proofs.Signs.{below-zero, from-zero}
 use Rattle.text.proofs.Puts.{behind, reworded}
 use Rattle.text.proofs.Decimals.{signed-below, signed-from}
 use borrow.Author.Needs.{needs}
