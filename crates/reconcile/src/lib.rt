@@ -50,18 +50,18 @@ fn is_count(count: i32) -> bool
 // Whether a record is in range, by its fields.
 fn record_in_range(
     grocer: u16,
-    holder: u16,
+    tbox: u16,
     place: u16,
     count: i32,
     grocers: u16,
     offers: u16,
 ) -> bool
-    ensures { λ r. ⌜ r ≡ recordInRange grocers offers (tallyRecord grocer holder place count) ⌝ }
+    ensures { λ r. ⌜ r ≡ recordInRange grocers offers (tallyRecord grocer tbox place count) ⌝ }
 {
     if grocer >= grocers {
         return false;
     }
-    if holder >= 16 {
+    if tbox >= 16 {
         return false;
     }
     if place >= offers {
@@ -114,7 +114,7 @@ fn open(len: usize, price: &[u32], grocers: u16, offers: u16, wanted: u16) -> An
 fn add_record(
     answer: Answer,
     grocer: u16,
-    holder: u16,
+    tbox: u16,
     place: u16,
     count: i32,
     price: &[u32],
@@ -123,12 +123,12 @@ fn add_record(
     wanted: u16,
 ) -> Answer
     requires { ⌜ Summable offers (now price) answer ⌝ }
-    ensures { λ r. ⌜ r ≡ withRecord grocers offers wanted (now (price .entry)) answer (tallyRecord grocer holder place count) ⌝ }
+    ensures { λ r. ⌜ r ≡ withRecord grocers offers wanted (now (price .entry)) answer (tallyRecord grocer tbox place count) ⌝ }
 {
     match answer {
         Answer::Refused(n) => Answer::Refused(n),
         Answer::Owed(sum) => {
-            if !record_in_range(grocer, holder, place, count, grocers, offers) {
+            if !record_in_range(grocer, tbox, place, count, grocers, offers) {
                 return Answer::Refused(21);
             }
             if grocer != wanted {

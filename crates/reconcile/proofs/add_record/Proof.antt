@@ -13,7 +13,7 @@ use Rattle.reconcile.proofs.add_record.Tie as tie
 
 -- The record whose fields are passed.
 abbrev passes : tie.After-record-in-range → TallyRecord
-passes c = let x = c .before .before .before .before .before .args in tallyRecord (x .grocer) (x .holder) (x .place) (x .count)
+passes c = let x = c .before .before .before .before .before .args in tallyRecord (x .grocer) (x .tbox) (x .place) (x .count)
 
 -- What the test says of it.
 tested : (c : tie.After-record-in-range)
@@ -21,7 +21,7 @@ tested : (c : tie.After-record-in-range)
 tested c =
     let k = c .before .before .before .before .before in
     c .record-in-range .ensures
-    ∙ ap (λ (z : ℤ). recordInRange (k .args .grocers) (k .args .offers) (tallyRecord (k .args .grocer) (k .args .holder) (k .args .place) z)) (read32 (k .args .count) (k .fits .count .sfits))
+    ∙ ap (λ (z : ℤ). recordInRange (k .args .grocers) (k .args .offers) (tallyRecord (k .args .grocer) (k .args .tbox) (k .args .place) z)) (read32 (k .args .count) (k .fits .count .sfits))
 
 enum-known-answer : tie.Need-enum-known-answer
 enum-known-answer c = search needs
