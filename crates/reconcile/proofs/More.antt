@@ -61,5 +61,5 @@ module _ (m n g : ℕ) (ps : List ℕ) (a : Answer) (r : TallyRecord) where
         added f s es =
             let sum : s ≡ z +ℤ (r .count *ℤ pos (getD ps (r .place) 0)) = es ∙ rw (sum-read, ec) in
             let back : toZ w64 (ofZ w64 s) ≡ z +ℤ (r .count *ℤ pos (getD ps (r .place) 0)) =
-              ap (λ (y : ℤ). toZ w64 (ofZ w64 y)) sum ∙ read64-abs _ (sum-abs z (r .count) (getD ps (r .place) 0) (asked .0) (count-in m n r h) price-below) in
+            ap (λ (y : ℤ). toZ w64 (ofZ w64 y)) sum ∙ read64-abs _ (sum-abs z (r .count) (getD ps (r .place) 0) (asked .0) (count-in m n r h) price-below) in
             rw (back, e, h, eq-eqb (r .grocer) g f)

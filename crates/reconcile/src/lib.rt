@@ -141,13 +141,7 @@ fn add_record(
 }
 
 // What the grocer wanted is owed by the records, or the refusal. Sizes, prices and records may be anything.
-pub fn reconcile(
-    records: &[Tally],
-    price: &[u32],
-    grocers: u16,
-    offers: u16,
-    wanted: u16,
-) -> Answer
+pub fn reconcile(records: &[Tally], price: &[u32], grocers: u16, offers: u16, wanted: u16) -> Answer
     ensures { λ r. ⌜ answerOf r ≡ reconciled grocers offers wanted (now (price .entry)) (recordsOf (now (records .entry))) ⌝ }
 {
     let mut answer = open(records.len(), price, grocers, offers, wanted);

@@ -10,7 +10,10 @@ fn sized(name: &[u8], price: &[u32], m: u16, n: u16, wanted: u16) {
 
 // E for grocer 0, with a record of grocer 1, or with the record given in its place.
 fn with(name: &[u8], t: Tally) {
-    list::line(name, reconcile_few(list::changed(t), 4, &[500, 1_250], 2, 2, 0));
+    list::line(
+        name,
+        reconcile_few(list::changed(t), 4, &[500, 1_250], 2, 2, 0),
+    );
 }
 
 // Prices, M, N and the grocer wanted.
@@ -18,7 +21,13 @@ pub fn sizes() {
     let many = [500u32; 501];
     sized(b"one price of two", &[500], 2, 2, 0);
     sized(b"no price", &[], 2, 2, 0);
-    sized(b"three prices of two", &[500, 1_250, 4_000_000_000], 2, 2, 0);
+    sized(
+        b"three prices of two",
+        &[500, 1_250, 4_000_000_000],
+        2,
+        2,
+        0,
+    );
     sized(b"M 0", &[500, 1_250], 0, 2, 0);
     sized(b"M 255", &[500, 1_250], 255, 2, 0);
     sized(b"M 256", &[500, 1_250], 256, 2, 0);

@@ -20,8 +20,7 @@ tested : (c : tie.After-record-in-range)
     → c .record-in-range .result ≡ recordInRange (c .before .before .before .before .before .args .grocers) (c .before .before .before .before .before .args .offers) (passes c)
 tested c =
     let k = c .before .before .before .before .before in
-    c .record-in-range .ensures
-    ∙ ap (λ (z : ℤ). recordInRange (k .args .grocers) (k .args .offers) (tallyRecord (k .args .grocer) (k .args .tbox) (k .args .place) z)) (read32 (k .args .count) (k .fits .count .sfits))
+    rw (read32 (k .args .count) (k .fits .count .sfits)) at (c .record-in-range .ensures)
 
 enum-known-answer : tie.Need-enum-known-answer
 enum-known-answer c = search needs
