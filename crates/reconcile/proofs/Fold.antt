@@ -15,11 +15,11 @@ use lib.IntN.{ℤ, pos, natAbs, _+ℤ_, _*ℤ_, +ℤ-idl, +ℤ-idr, +ℤ-assoc}
 use borrow.Author.Tests.{leb-true, ltb-true, ltb-false}
 use Rattle.laws.specs.Checks.{firstMet}
 use Rattle.laws.proofs.Bools.{and-comm}
-use Rattle.laws.proofs.Below.{all-at}
 use Rattle.laws.proofs.Checks.{each-of}
 use Rattle.laws.proofs.Signed.{abs-plus, only-abs}
 use Rattle.model.specs.Ranges.{maxBoxes, maxGrocers, maxOffers, maxTallies, maxPrice, maxCount, maxAmount, upTo}
 use Rattle.model.specs.Reconcile.{TallyRecord, recordInRange, recordsInRange, serialAmount, deskRefusals, deskAnswer, reconciled}
+use Rattle.model.proofs.Step.{up-at}
 use Rattle.reconcile.specs.declared.Tally.{Tally}
 use Rattle.reconcile.specs.declared.Answer.{Answer}
 use Rattle.reconcile.specs.declared.Answer.the-variants.{Owed, Refused}
@@ -40,11 +40,6 @@ module _ (m n : ℕ) (r : TallyRecord) (h : recordInRange m n r ≡ true) where
 
   pub count-in : natAbs (r .count) ≤ maxCount
   count-in = leb-true (natAbs (r .count)) maxCount (tests .1)
-
--- A price that is read where all n are in range.
-pub price-in : (n : ℕ) (ps : List ℕ) (o : ℕ) → o < n → upTo maxPrice n ps ≡ true → getD ps o 0 ≤ maxPrice
-unfolding upTo
-price-in n ps o l h = leb-true (getD ps o 0) maxPrice (all-at n (λ i. leb (getD ps i 0) maxPrice) o l h)
 
 -- Nothing but the records is left to refuse.
 all-in : (q : Bool) (z : ℤ) → answerOf (cond q (Owed z) (Refused 21)) ≡ deskAnswer (cond (not q) 21 0) z
@@ -97,7 +92,7 @@ module _ (m n g : ℕ) (ps : List ℕ) where
     share-abs : (r : TallyRecord) → recordInRange m n r ≡ true → natAbs (share ps g r) ≤ 999_989_900_001
     share-abs r h =
         only-abs (eqb (r .grocer) g) (r .count *ℤ pos (getD ps (r .place) 0)) 999_989_900_001
-        (product-abs (r .count) (getD ps (r .place) 0) (count-in m n r h) (price-in n ps (r .place) (place-in m n r h) priced))
+        (product-abs (r .count) (getD ps (r .place) 0) (count-in m n r h) (up-at maxPrice n ps (r .place) priced (place-in m n r h)))
 
     one-summable : (b : Bool) (r : TallyRecord) (rs : List TallyRecord) (z : ℤ)
         → ((y : ℤ) → natAbs y + length rs * 999_989_900_001 ≤ maxAmount → Summable n ps (withRecords m n g ps (Owed y) rs)) → recordInRange m n r ≡ b

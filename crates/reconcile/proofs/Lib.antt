@@ -3,4 +3,5 @@ pub mod Amounts
 pub mod Cut
 pub mod Fold
 pub mod More
+pub mod Plain
 pub mod Walk

@@ -13,11 +13,12 @@ use Rattle.laws.specs.Below.{only, amounts}
 use Rattle.laws.proofs.Signed.{read64-abs}
 use Rattle.model.specs.Ranges.{maxPrice, maxCount, maxAmount, upTo}
 use Rattle.model.specs.Reconcile.{TallyRecord, recordInRange}
+use Rattle.model.proofs.Step.{up-at}
 use Rattle.reconcile.specs.declared.Answer.{Answer}
 use Rattle.reconcile.specs.declared.Answer.the-variants.{Owed, Refused}
 use Rattle.reconcile.specs.Serial.{withRecord, Summable}
 use Rattle.reconcile.proofs.Amounts.{sum-abs}
-use Rattle.reconcile.proofs.Fold.{place-in, count-in, price-in}
+use Rattle.reconcile.proofs.Fold.{place-in, count-in}
 
 module _ (m n g : ℕ) (ps : List ℕ) (a : Answer) (r : TallyRecord) where
   -- A refusal stays.
@@ -44,7 +45,7 @@ module _ (m n g : ℕ) (ps : List ℕ) (a : Answer) (r : TallyRecord) where
       place-below = omega (arith, place-in m n r h, asked .1)
 
       price-below : getD ps (r .place) 0 ≤ maxPrice
-      price-below = price-in n ps (r .place) (place-in m n r h) (asked .2)
+      price-below = up-at maxPrice n ps (r .place) (asked .2) (place-in m n r h)
 
       -- Another grocer's.
       pub passed : (r .grocer ≡ g → ⊥) → Owed (toZ w64 (ofZ w64 z)) ≡ withRecord m n g ps a r
