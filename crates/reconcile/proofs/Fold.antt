@@ -2,7 +2,7 @@
 --     sums-to       the code's opening and one record after the other give what the model says
 --     after         the answer after i records; after-first, after-next, after-last, after-summable are what the walk cites
 -- Assumes nothing.
-use mathlib.Core.Path.{_≡_, refl, sym, ap, _∙_, subst}
+use mathlib.Core.Path.{_≡_, refl, sym, ap, _∙_}
 use mathlib.Core.List.{List, [], _∷_, _++_}
 use mathlib.Core.Bool.{Bool, true, false, cond, _&&_, not}
 use Prim.Native.Nat.{ℕ, suc, _+_, _*_, _<_, _≤_}

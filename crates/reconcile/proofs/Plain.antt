@@ -1,12 +1,12 @@
 -- Handed a job's own tallies, the desk answers the plain sum: `plain`. Assumes nothing.
 use mathlib.Core.Path.{_≡_, refl, sym, ap, _∙_}
 use mathlib.Core.List.{List, [], _∷_}
-use mathlib.Core.Bool.{Bool, true, false, cond, _&&_, not}
+use mathlib.Core.Bool.{Bool, true, _&&_}
 use Prim.Native.Nat.{ℕ, zero, suc, _<_, _≤_}
 use native.Mathlib.Omega.{arith}
-use lib.ListN.{getD, length}
+use lib.ListN.{length}
 use lib.Dec.{eqb, ltb, leb}
-use lib.IntN.{ℤ, pos, natAbs, _+ℤ_}
+use lib.IntN.{ℤ, natAbs, _+ℤ_}
 use borrow.Author.Tests.{lt-ltb, le-ltb, le-leb}
 use Rattle.laws.specs.Below.{Adds, sum, only, amounts}
 use Rattle.laws.specs.Checks.{firstMet}
@@ -19,8 +19,6 @@ use Rattle.model.specs.Job.{Job, heldBy, held, amount, plainSum}
 use Rattle.model.specs.Tables.{JobTables, jobOf}
 use Rattle.model.specs.Ranges.{maxBoxes, maxGrocers, maxOffers, maxTallies, maxPrice, maxCount, upTo, under, around, sizesInRange, jobWordsInRange, jobInRange}
 use Rattle.model.specs.Reconcile.{TallyRecord, owed, recordInRange, recordsInRange, serialAmount, deskRefusals, deskAnswer, reconciled}
-use Rattle.model.proofs.Range.{InRange}
-use Rattle.model.proofs.Ranges.{Limits}
 use Rattle.model.proofs.Step.{under-at, range, limits}
 use Rattle.reconcile.specs.Records.{tallyRecord}
 use Rattle.reconcile.specs.Serial.{share}

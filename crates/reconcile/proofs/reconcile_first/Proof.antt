@@ -23,7 +23,7 @@ use Rattle.reconcile.proofs.reconcile_first.Statement as stated
 use Rattle.reconcile.proofs.reconcile_first.Code as code
 use Rattle.reconcile.proofs.reconcile_first.Code.Mir as mir′
 
--- ---- the types of the locals
+-- The types of the locals.
 abbrev array : Ty
 array = tyArray T′.mir 1024
 
@@ -40,7 +40,7 @@ abbrev stayed : Stays (self.ended .signature .params) (self.ended .kept)
 stayed = (stay-dropped _ _, (stay-dropped _ _, (stay-dropped _ _, (stay-dropped _ _, (stay-dropped _ _, (stay-dropped _ _, tt))))))
 
 module _ {M : Type 1} (𝓤 : URA M) (H : Heap 𝓤) (A : Atoms 𝓤) (mem : Memory → SProp 𝓤) (run : Routine → Fun 𝓤) where
-  -- the contract that the proof cites
+  -- The contract that the proof cites.
   abbrev Whole : Contract 𝓤
   Whole = tripleOf 𝓤 H A whole.signature (whole.spec 𝓤 H A mem run)
 
@@ -91,7 +91,7 @@ module _ {M : Type 1} (𝓤 : URA M) (H : Heap 𝓤) (A : Atoms 𝓤) (W : Given
       owned ! D.the-row (Is D.the-row) (EL.makes D.the-type D′.the-plain 𝓤 H A) r _ is $
       nothing ! $ nothing ! $ fjoin ! $ nothing ! $ fjoin ! $ nothing ! $ fjoin ! $ nothing ! $ fjoin ! $ nothing ! $ fjoin ! $ nothing ! $ fjoin ! $ done !
 
-  -- ---- the call of `reconcile`, at the lifetime α that is made for it, on the first records of the array at l
+  -- The call of `reconcile`, at the lifetime α that is made for it, on the first records of the array at l.
   module _ (α : ℕ) (γ : GName) (l : ℕ) where
     abbrev s : RefT (List Tally)
     s = record { ptr = (l, 0); name = γ; now = ys }
@@ -138,7 +138,7 @@ module _ {M : Type 1} (𝓤 : URA M) (H : Heap 𝓤) (A : Atoms 𝓤) (W : Given
           assigns ! (addr ! (from ! (stop !))) (from ! (stop !)) (init ! 2 refl (tt, tt)) $
           assigns ! (agg ! (and-then ! (load ! (from ! (stop !)) (look ! 2 refl)) (and-then ! (load ! (from ! (stop !)) (look ! 14 refl)) (no-more !)))) (from ! (stop !)) (init ! 0 refl (tt, (tt, (record { fits = gj }, tt)))) $
           rewrite ! 0 (λ (n : ℕ). ‵ (fat fullShare slice₁ l₉ 0 (sliceVal (l₇, 0) n))) j-is refl $
-          -- the array in memory is cut after the first records
+          -- The array in memory is cut after the first records.
           move ! (21 ∷ []) $ fsplit ! $ move ! (1 ∷ []) $ fsplit ! $ drop ! $ fsplit ! $ move ! (1 ∷ []) $ drop ! $ move ! (6 ∷ 1 ∷ []) $
           use2 W (‵ (row T.the-row fullShare ys l₇ 0) ⊛ ‵ (rest T.the-row j ts l₇ 0)) (array-out 𝓤 H A W T.the-row tt 1024 j ts vA l₇ 0) $ split ! $ feqI ! ℕ (length ys) (length ys) refl $ fjoin ! $
           -- [the first records; the rest; what prices owns; _9; …; _8; …; that _7 dies; _6; …; …; _0; …; the token]
@@ -153,7 +153,7 @@ module _ {M : Type 1} (𝓤 : URA M) (H : Heap 𝓤) (A : Atoms 𝓤) (W : Given
           split ! $ move ! (1 ∷ []) $ use1 W (raw (fact 𝓤 (Found r))) (whole-said α γ l₇ r) $ heard ! (Found r) (λ e. split ! $ move ! (1 ∷ []) $
           facts ! D.the-row (Is D.the-row) (shows 𝓤 H A D.the-row) r (u ∷ []) (λ is.
           land ! (from ! (stop !)) (init ! 21 refl (EL.lawful D.the-type D′.the-laws 𝓤 H A W tt .typed r _ is .0)) $
-          -- the lifetime is ended, and the records come back
+          -- The lifetime is ended, and the records come back.
           split ! $ lft-end ! tt $ move ! (0 ∷ 3 ∷ []) $ lent-back ! tt $ fsplit ! $ drop ! $ move ! (0 ∷ 3 ∷ []) $
           use2 W (‵ (froom array l₇ 0)) (array-in 𝓤 H A W T.the-row 1024 j ts whole-length l₇ 0) $
           -- [_7; the token; true; _9; …; _8; …; that _7 dies; _6; …; …; _0; …]
