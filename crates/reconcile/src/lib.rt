@@ -1,5 +1,4 @@
-// The reconciliation desk: what one grocer is owed, from a lent list of tally records. `reconcile` walks the list and
-// calls the serial sum on each record's fields.
+// The reconciliation desk: what one grocer is owed, from a lent list of tally records.
 ghost use mathlib.Core.Path.{_≡_};
 ghost use Prim.Native.Nat.{_≤_};
 ghost use lib.Dec.{leb};
@@ -110,7 +109,7 @@ fn open(len: usize, price: &[u32], grocers: u16, offers: u16, wanted: u16) -> An
     Answer::Owed(0)
 }
 
-// The serial sum: the answer with one record more, which is refused out of range, passed over for another grocer, else added.
+// The serial sum: the answer with one record more; out of range it is refused, of another grocer passed over.
 fn add_record(
     answer: Answer,
     grocer: u16,
@@ -140,7 +139,7 @@ fn add_record(
     }
 }
 
-// What the grocer wanted is owed by the records, or the refusal. Sizes, prices and records may be anything.
+// What the records say that the grocer wanted is owed, or the refusal; sizes, prices and records may be anything.
 pub fn reconcile(records: &[Tally], price: &[u32], grocers: u16, offers: u16, wanted: u16) -> Answer
     ensures { λ r. ⌜ answerOf r ≡ reconciled grocers offers wanted (now (price .entry)) (recordsOf (now (records .entry))) ⌝ }
 {
@@ -164,7 +163,7 @@ pub fn reconcile(records: &[Tally], price: &[u32], grocers: u16, offers: u16, wa
     answer
 }
 
-// The same of the first records of an array: lends them.
+// The same of the first len records of an array, which it lends.
 fn reconcile_first(
     records: [Tally; 1024],
     len: usize,
@@ -179,8 +178,7 @@ fn reconcile_first(
     reconcile(&records[..len], price, grocers, offers, wanted)
 }
 
-// The same of up to 1,024 records by value, for callers that hold no slice of records. More than 1,024 count as 1,024:
-// both are too many.
+// The same of the first len of 1,024 records by value, for callers that hold no slice; a larger len counts as 1,024.
 pub fn reconcile_few(
     records: [Tally; 1024],
     len: usize,
