@@ -165,7 +165,7 @@ pub fn reconcile(records: &[Tally], price: &[u32], grocers: u16, offers: u16, wa
 
 // The same of the first len records of an array, which it lends.
 fn reconcile_first(
-    records: [Tally; 1024],
+    array: [Tally; 1024],
     len: usize,
     price: &[u32],
     grocers: u16,
@@ -173,9 +173,9 @@ fn reconcile_first(
     wanted: u16,
 ) -> Answer
     requires { ⌜ len ≤ 1024 ⌝ }
-    ensures { λ r. ⌜ answerOf r ≡ reconciled grocers offers wanted (now (price .entry)) (recordsOf (take len records)) ⌝ }
+    ensures { λ r. ⌜ answerOf r ≡ reconciled grocers offers wanted (now (price .entry)) (recordsOf (take len array)) ⌝ }
 {
-    reconcile(&records[..len], price, grocers, offers, wanted)
+    reconcile(&array[..len], price, grocers, offers, wanted)
 }
 
 // The same of the first len of 1,024 records by value, for callers that hold no slice; a larger len counts as 1,024.
