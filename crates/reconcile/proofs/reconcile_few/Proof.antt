@@ -17,7 +17,7 @@ returns c =
     let full : length (x .records) ≡ 1024 = k .good .0 .1 .0 .1 in
     let all : take 1024 (x .records) ≡ x .records = take-all 1024 (x .records) (omega arith) in
     let more : take (x .len) (x .records) ≡ x .records = take-all (x .len) (x .records) (omega arith) in
-    rw more (rw all at (c .reconcile-first .ensures))
+    cc (all, more, c .reconcile-first .ensures)
 
 reconcile-first-requires-2 : tie.Need-reconcile-first-requires-2
 reconcile-first-requires-2 c κs = search needs
