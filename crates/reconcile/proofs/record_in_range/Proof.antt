@@ -1,0 +1,50 @@
+-- `reconcile::record_in_range` meets its contract: each answer by the tests that led there. Assumes nothing.
+use mathlib.Core.Path.{_∙_}
+use native.Mathlib.Omega.{arith}
+use borrow.Author.Needs.{needs}
+use borrow.Author.Tests.{lt-ltb, le-ltb}
+use Rattle.laws.proofs.Signed.{read32}
+use Rattle.model.specs.Ranges.{maxBoxes}
+use Rattle.model.specs.Reconcile.{recordInRange}
+use Rattle.reconcile.proofs.record_in_range.Statement.{statement}
+use Rattle.reconcile.proofs.record_in_range.Tie as tie
+
+returns : tie.Need-returns
+unfolding recordInRange
+returns c =
+    let x = c .before .args in
+    simp (le-ltb (x .grocer) (x .grocers) (omega arith))
+
+returns-2 : tie.Need-returns-2
+unfolding recordInRange
+returns-2 c =
+    let x = c .before .before .args in
+    simp (lt-ltb (x .grocer) (x .grocers) (omega arith), le-ltb (x .tbox) maxBoxes (omega arith))
+
+returns-3 : tie.Need-returns-3
+unfolding recordInRange
+returns-3 c =
+    let x = c .before .before .before .args in
+    simp (
+      lt-ltb (x .grocer) (x .grocers) (omega arith),
+      lt-ltb (x .tbox) maxBoxes (omega arith),
+      le-ltb (x .place) (x .offers) (omega arith),
+    )
+
+is-count-requires : tie.Need-is-count-requires
+is-count-requires c κs = search needs
+
+returns-4 : tie.Need-returns-4
+unfolding recordInRange
+returns-4 c =
+    let k = c .before .before .before .before in
+    let x = k .args in
+    c .is-count .ensures ∙ simp (
+      read32 (x .count) (k .fits .count .sfits),
+      lt-ltb (x .grocer) (x .grocers) (omega arith),
+      lt-ltb (x .tbox) maxBoxes (omega arith),
+      lt-ltb (x .place) (x .offers) (omega arith),
+    )
+
+pub record-in-range-spec : {M : Type 1} → statement M
+record-in-range-spec = tie.close (tie.spec returns returns-2 returns-3 is-count-requires returns-4)
