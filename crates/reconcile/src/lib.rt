@@ -1,13 +1,14 @@
 // The reconciliation desk: what one grocer is owed, from a lent list of tally records.
 ghost use mathlib.Core.Path.{_≡_};
 ghost use Prim.Native.Nat.{_≤_};
-ghost use lib.Dec.{leb};
 ghost use lib.IntN.{pos, natAbs, _+ℤ_, _*ℤ_};
-ghost use lib.ListN.{length, take};
-ghost use Rattle.model.specs.Ranges.{maxPrice, maxCount, maxAmount, upTo};
+ghost use lib.ListN.{take};
+ghost use Rattle.model.specs.Ranges.{maxPrice, maxCount, maxAmount};
 ghost use Rattle.model.specs.Reconcile.{recordInRange, reconciled};
 ghost use Rattle.reconcile.specs.Records.{tallyRecord, recordsOf, answerOf};
 ghost use Rattle.reconcile.specs.Serial.{opened, Summable, withRecord};
+use tables::ranges::is_count;
+use tables::ranges::upto32;
 
 // A tally record: the place is that of its offer.
 pub struct Tally {
@@ -21,29 +22,6 @@ pub struct Tally {
 pub enum Answer {
     Owed(i64),
     Refused(u16),
-}
-
-// Whether the first n prices are in range.
-fn prices_in_range(price: &[u32], n: usize) -> bool
-    requires { ⌜ n ≤ length (now price) ⌝ }
-    ensures { λ r. ⌜ r ≡ upTo maxPrice n (now (price .entry)) ⌝ }
-{
-    for i in 0..n {
-        if price[i] > 9_999_999 {
-            return false;
-        }
-    }
-    true
-}
-
-// Whether a count is within ±99,999.
-fn is_count(count: i32) -> bool
-    ensures { λ r. ⌜ r ≡ leb (natAbs count) maxCount ⌝ }
-{
-    if count > 99_999 {
-        return false;
-    }
-    count >= -99_999
 }
 
 // Whether a record is in range, by its fields.
@@ -97,7 +75,7 @@ fn open(len: usize, price: &[u32], grocers: u16, offers: u16, wanted: u16) -> An
     if offers > 500 {
         return Answer::Refused(21);
     }
-    if !prices_in_range(price, n) {
+    if !upto32(price, n, 9_999_999) {
         return Answer::Refused(21);
     }
     if len > 1000 {

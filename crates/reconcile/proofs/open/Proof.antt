@@ -50,8 +50,8 @@ returns-5 c =
       lt-leb _ _ (c .if5 .taken),
     )
 
-prices-in-range-requires : tie.Need-prices-in-range-requires
-prices-in-range-requires c κs = search needs
+upto32-requires : tie.Need-upto32-requires
+upto32-requires c κs = search needs
 
 returns-6 : tie.Need-returns-6
 unfolding opened headInRange
@@ -62,7 +62,7 @@ returns-6 c =
       le-leb _ _ (c .before .before .before .before .if3 .left),
       le-leb _ _ (c .before .before .before .if4 .left),
       le-leb _ _ (c .before .before .if5 .left),
-      sym (c .before .prices-in-range .ensures) ∙ not-true (c .before .prices-in-range .result) (c .if6 .taken),
+      sym (c .before .upto32 .ensures) ∙ not-true (c .before .upto32 .result) (c .if6 .taken),
     )
 
 returns-7 : tie.Need-returns-7
@@ -74,7 +74,7 @@ returns-7 c =
       le-leb _ _ (c .before .before .before .before .before .if3 .left),
       le-leb _ _ (c .before .before .before .before .if4 .left),
       le-leb _ _ (c .before .before .before .if5 .left),
-      sym (c .before .before .prices-in-range .ensures) ∙ not-false (c .before .before .prices-in-range .result) (c .before .if6 .left),
+      sym (c .before .before .upto32 .ensures) ∙ not-false (c .before .before .upto32 .result) (c .before .if6 .left),
       lt-leb _ _ (c .if7 .taken),
     )
 
@@ -87,7 +87,7 @@ returns-8 c =
       le-leb _ _ (c .before .before .before .before .before .before .if3 .left),
       le-leb _ _ (c .before .before .before .before .before .if4 .left),
       le-leb _ _ (c .before .before .before .before .if5 .left),
-      sym (c .before .before .before .prices-in-range .ensures) ∙ not-false (c .before .before .before .prices-in-range .result) (c .before .before .if6 .left),
+      sym (c .before .before .before .upto32 .ensures) ∙ not-false (c .before .before .before .upto32 .result) (c .before .before .if6 .left),
       le-leb _ _ (c .before .if7 .left),
       le-ltb _ _ (c .if8 .taken),
     )
@@ -101,7 +101,7 @@ returns-9 c =
       le-leb _ _ (c .before .before .before .before .before .before .if3 .left),
       le-leb _ _ (c .before .before .before .before .before .if4 .left),
       le-leb _ _ (c .before .before .before .before .if5 .left),
-      sym (c .before .before .before .prices-in-range .ensures) ∙ not-false (c .before .before .before .prices-in-range .result) (c .before .before .if6 .left),
+      sym (c .before .before .before .upto32 .ensures) ∙ not-false (c .before .before .before .upto32 .result) (c .before .before .if6 .left),
       le-leb _ _ (c .before .if7 .left),
       lt-ltb _ _ (c .if8 .left),
     )
@@ -115,7 +115,7 @@ open-spec =
     returns-3
     returns-4
     returns-5
-    prices-in-range-requires
+    upto32-requires
     returns-6
     returns-7
     returns-8
