@@ -1,0 +1,2 @@
+-- Entries linked by key.
+pub mod Links
