@@ -178,12 +178,19 @@ fn lend(
     )
 }
 
-// A run of a job over a state, table `which` of the fourteen a word too short; 14 for none.
-pub fn run_short(j: Job, s: State, which: u64, choices: &[u16]) -> Ran {
-    let boxes = j.boxes;
-    let grocers = j.grocers;
-    let offers = j.offers;
-    let tallies = j.tallies;
+// A run of a job over the arrays of a state, table `which` of the fourteen a word too short.
+fn run_job(
+    j: Job,
+    known: &mut [u32; 4],
+    ptransit: &mut [u32; 4],
+    working: &mut [i64; 4],
+    ttransit: &mut [i64; 4],
+    statement: &mut [i64; 2],
+    done: &mut [u16; 24],
+    sent: &mut [u32; 1],
+    which: u64,
+    choices: &[u16],
+) -> Answer {
     let price = j.price;
     let owner = j.owner;
     let gowner = j.gowner;
@@ -191,18 +198,11 @@ pub fn run_short(j: Job, s: State, which: u64, choices: &[u16]) -> Ran {
     let tbox = j.tbox;
     let toffer = j.toffer;
     let tcount = j.tcount;
-    let mut known = s.known;
-    let mut ptransit = s.ptransit;
-    let mut working = s.working;
-    let mut ttransit = s.ttransit;
-    let mut statement = s.statement;
-    let mut done = s.done;
-    let mut sent = s.sent;
-    let answer = lend(
-        boxes,
-        grocers,
-        offers,
-        tallies,
+    lend(
+        j.boxes,
+        j.grocers,
+        j.offers,
+        j.tallies,
         &price,
         &owner,
         &gowner,
@@ -210,6 +210,29 @@ pub fn run_short(j: Job, s: State, which: u64, choices: &[u16]) -> Ran {
         &tbox,
         &toffer,
         &tcount,
+        known,
+        ptransit,
+        working,
+        ttransit,
+        statement,
+        done,
+        sent,
+        which,
+        choices,
+    )
+}
+
+// A run of a job over a state, table `which` of the fourteen a word too short; 14 for none.
+pub fn run_short(j: Job, s: State, which: u64, choices: &[u16]) -> Ran {
+    let mut known = s.known;
+    let mut ptransit = s.ptransit;
+    let mut working = s.working;
+    let mut ttransit = s.ttransit;
+    let mut statement = s.statement;
+    let mut done = s.done;
+    let mut sent = s.sent;
+    let answer = run_job(
+        j,
         &mut known,
         &mut ptransit,
         &mut working,

@@ -119,7 +119,7 @@ fn settle(
 }
 
 // 16 boxes, each with an offer and a grocer of its own and a tally of every offer: every pair exchanges messages.
-pub fn every_pair() {
+fn pairs(name: &[u8], choices: &[u16]) {
     let mut price = [0u32; 500];
     let mut owner = [0u16; 500];
     let mut gowner = [0u16; 255];
@@ -131,7 +131,7 @@ pub fn every_pair() {
     fill(&mut tgrocer, 1, 16);
     fill(&mut tbox, 16, 16);
     settle(
-        b"every pair",
+        name,
         16,
         16,
         16,
@@ -142,24 +142,15 @@ pub fn every_pair() {
         &tgrocer,
         &tbox,
         &tgrocer,
-        &[],
+        choices,
         true,
     );
-    settle(
-        b"every pair, with choices",
-        16,
-        16,
-        16,
-        256,
-        &price,
-        &owner,
-        &gowner,
-        &tgrocer,
-        &tbox,
-        &tgrocer,
-        &[65_535u16; 1000],
-        true,
-    );
+}
+
+// Without choices, and with more than there are steps.
+pub fn every_pair() {
+    pairs(b"every pair", &[]);
+    pairs(b"every pair, with choices", &[65_535u16; 1000]);
 }
 
 // 16 boxes, 255 grocers, 500 offers, 1,000 tallies.

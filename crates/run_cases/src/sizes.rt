@@ -32,19 +32,17 @@ fn size_case(name: &[u8], boxes: u16, grocers: u16, offers: u16, tallies: u16) {
         &mut sent,
         &[],
     );
-    answer_text(name, answer);
-    show::line(
-        b", words changed",
-        not_zero(
-            &known,
-            &ptransit,
-            &working,
-            &ttransit,
-            &statement,
-            &done,
-            &sent,
-        ),
+    let changed = not_zero(
+        &known,
+        &ptransit,
+        &working,
+        &ttransit,
+        &statement,
+        &done,
+        &sent,
     );
+    answer_text(name, answer);
+    show::line(b", words changed", changed);
 }
 
 // Each size above its values, with both ends of them.

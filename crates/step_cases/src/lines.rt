@@ -30,13 +30,18 @@ pub fn take(s: State, kind: u16, first: u16, second: u16) -> State {
 }
 
 // The line of a case: its name, the answer, and how many words of the state are not as they were.
-pub fn tell(name: &[u8], before: State, o: Outcome) {
-    let answer = o.answer;
-    let state = o.state;
+pub fn answer_line(name: &[u8], answer: u64, changed: u64) {
     show::text(name);
     show::text(b":");
     show::next(answer);
-    show::line(b", words changed", changed(state, before));
+    show::line(b", words changed", changed);
+}
+
+// The line of a request on a state.
+fn tell(name: &[u8], before: State, o: Outcome) {
+    let answer = o.answer;
+    let state = o.state;
+    answer_line(name, answer, changed(state, before));
 }
 
 // A request of a job in a state.

@@ -1,4 +1,5 @@
 // K, M, N and T out of range, each in turn, with tables that are long enough: 21.
+use crate::lines::answer_line;
 use small_job::ask::refusal_of;
 use small_job::differ::not_zero;
 
@@ -34,21 +35,16 @@ fn size_case(name: &[u8], boxes: u16, grocers: u16, offers: u16, tallies: u16) {
         0,
         0,
     );
-    show::text(name);
-    show::text(b":");
-    show::next(refusal_of(answer));
-    show::line(
-        b", words changed",
-        not_zero(
-            &known,
-            &ptransit,
-            &working,
-            &ttransit,
-            &statement,
-            &done,
-            &sent,
-        ),
+    let changed = not_zero(
+        &known,
+        &ptransit,
+        &working,
+        &ttransit,
+        &statement,
+        &done,
+        &sent,
     );
+    answer_line(name, refusal_of(answer), changed);
 }
 
 // Each size below and above its values, and at both ends of them.
