@@ -58,8 +58,16 @@ pub fn refusal_of(a: Answer) -> u64 {
     }
 }
 
-// Writes a job of these lengths; the refusal, 0 where it was written.
-pub fn write_small(j: SmallJob, out: &mut [u8]) -> u64 {
+// The length of the file that the writer wrote, 0 where it refused.
+pub fn length_of(a: Answer) -> u64 {
+    match a {
+        Answer::Wrote(n) => n as u64,
+        Answer::Refused(_) => 0,
+    }
+}
+
+// Writes a job of these lengths.
+pub fn write_small(j: SmallJob, out: &mut [u8]) -> Answer {
     let boxes = j.boxes;
     let grocers = j.grocers;
     let offers = j.offers;
@@ -72,7 +80,7 @@ pub fn write_small(j: SmallJob, out: &mut [u8]) -> u64 {
     let tbox = j.tbox;
     let tcode = j.tcode;
     let tcount = j.tcount;
-    let answer = writer::write(
+    writer::write(
         boxes,
         grocers,
         offers,
@@ -86,8 +94,7 @@ pub fn write_small(j: SmallJob, out: &mut [u8]) -> u64 {
         &tcode,
         &tcount,
         out,
-    );
-    refusal_of(answer)
+    )
 }
 
 // E's file.

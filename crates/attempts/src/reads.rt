@@ -67,6 +67,21 @@ pub fn show_answer(a: Answer) {
     }
 }
 
+// The line of a case: its name and the refusal's number, and how many words a refused call changed, if any.
+pub fn tell(name: &[u8], s: Seen) {
+    let answer = s.answer;
+    let changed = s.changed;
+    show::text(name);
+    show::next(answer);
+    if answer != 0 {
+        if changed != 0 {
+            show::text(b" changed");
+            show::next(changed);
+        }
+    }
+    show::end();
+}
+
 // How many words of the tables of offers and grocers lost their marks.
 fn changed_offers(
     price: &[u32; 500],

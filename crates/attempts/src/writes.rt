@@ -29,15 +29,11 @@ fn write_parts(
     let g = cut(tcode.len(), which == 6);
     let h = cut(tcount.len(), which == 7);
     let i = cut(out.len(), which == 8);
-    let boxes = j.boxes;
-    let grocers = j.grocers;
-    let offers = j.offers;
-    let tallies = j.tallies;
     writer::write(
-        boxes,
-        grocers,
-        offers,
-        tallies,
+        j.boxes,
+        j.grocers,
+        j.offers,
+        j.tallies,
         &price[..a],
         &owner[..b],
         &code[..c],

@@ -1,5 +1,5 @@
 // The writer's checks of lent tables, in their order: 20, 4, 6, 7, 8.
-pub mod codes;
-pub mod records;
+mod codes;
+mod records;
 pub mod refusal;
 pub mod sizes;

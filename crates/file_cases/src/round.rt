@@ -1,5 +1,6 @@
 // E's file read, shown and written again.
 use attempts::differ::differ8;
+use attempts::job::length_of;
 use attempts::job::refusal_of;
 use attempts::job::small_file;
 use attempts::job::wide16;
@@ -82,6 +83,29 @@ fn show_counts(count: &[i32; 1000]) {
     show::end();
 }
 
+// The words of offers and grocers.
+fn show_offers(price: &[u32; 500], owner: &[u16; 500], code: &[u8; 5500], gowner: &[u16; 500]) {
+    show_prices(price);
+    show_two(b"offer owners", owner);
+    show_codes(code);
+    show_two(b"grocer owners", gowner);
+}
+
+// The words of tallies.
+fn show_tallies(
+    tgrocer: &[u16; 1000],
+    tbox: &[u16; 1000],
+    tcode: &[u8; 11000],
+    toffer: &[u16; 1000],
+    tcount: &[i32; 1000],
+) {
+    show_four(b"tally grocers", tgrocer);
+    show_four(b"tally boxes", tbox);
+    show_tally_codes(tcode);
+    show_four(b"tally places", toffer);
+    show_counts(tcount);
+}
+
 // How many bytes of two files differ.
 fn differ_files(a: &[u8; 2048], b: &[u8; 2048]) -> u64 {
     differ8(a, b)
@@ -115,6 +139,7 @@ fn write_again(
         &mut out,
     );
     show::line(b"written again", refusal_of(answer));
+    show::line(b"bytes written", length_of(answer));
     show::line(b"bytes that differ", differ_files(&out, &small_file()));
 }
 
@@ -143,15 +168,8 @@ fn read_tables() {
         &mut toffer,
     );
     show_answer(answer);
-    show_prices(&price);
-    show_two(b"offer owners", &owner);
-    show_codes(&code);
-    show_two(b"grocer owners", &gowner);
-    show_four(b"tally grocers", &tgrocer);
-    show_four(b"tally boxes", &tbox);
-    show_tally_codes(&tcode);
-    show_four(b"tally places", &toffer);
-    show_counts(&tcount);
+    show_offers(&price, &owner, &code, &gowner);
+    show_tallies(&tgrocer, &tbox, &tcode, &toffer, &tcount);
     write_again(
         &price,
         &owner,

@@ -2,6 +2,7 @@
 use attempts::differ::one;
 use attempts::reads::Seen;
 use attempts::reads::read_marked;
+use attempts::reads::tell;
 
 // 1 where the refusal has this number.
 pub fn gave(s: Seen, number: u64) -> u64 {
@@ -19,8 +20,7 @@ pub fn changed(s: Seen) -> u64 {
 
 // The line of one file; 1 where the call refused and changed a word.
 pub fn told(name: &[u8], s: Seen) -> u64 {
-    let answer = s.answer;
-    show::line(name, answer);
+    tell(name, s);
     changed(s)
 }
 

@@ -4,6 +4,18 @@ use attempts::patch::set;
 use blocks::bytes::signed;
 use std::num::wrapping_add_u32;
 
+// The tables of a job of 255 grocers, 500 offers and 1,000 tallies.
+pub struct Tables {
+    pub price: [u32; 500],
+    pub owner: [u16; 500],
+    pub code: [u8; 5500],
+    pub gowner: [u16; 255],
+    pub tgrocer: [u16; 1000],
+    pub tbox: [u16; 1000],
+    pub tcode: [u8; 11000],
+    pub tcount: [i32; 1000],
+}
+
 // The tables of 16-bit words.
 pub enum Words {
     OfferOwner,
@@ -94,7 +106,7 @@ fn put_code_of(code: &mut [u8], i: usize, tally: bool)
 }
 
 // The codes of n offers or tallies.
-pub fn fill_codes(code: &mut [u8], n: usize, tally: bool)
+fn fill_codes(code: &mut [u8], n: usize, tally: bool)
     requires { ⌜ n ≤ 1_000 ⌝ }
 {
     let mut i: usize = 0;
@@ -114,7 +126,7 @@ pub fn fill_words(s: &mut [u16], w: Words) {
 }
 
 // All prices.
-pub fn fill_prices(s: &mut [u32]) {
+fn fill_prices(s: &mut [u32]) {
     let mut i: usize = 0;
     while i < s.len() {
         s[i] = price_of(i);
@@ -123,10 +135,40 @@ pub fn fill_prices(s: &mut [u32]) {
 }
 
 // All counts.
-pub fn fill_counts(s: &mut [i32]) {
+fn fill_counts(s: &mut [i32]) {
     let mut i: usize = 0;
     while i < s.len() {
         s[i] = count_of(i);
         i += 1;
+    }
+}
+
+// A job of the largest sizes.
+pub fn largest() -> Tables {
+    let mut price = [0u32; 500];
+    let mut owner = [0u16; 500];
+    let mut code = [0u8; 5500];
+    let mut gowner = [0u16; 255];
+    let mut tgrocer = [0u16; 1000];
+    let mut tbox = [0u16; 1000];
+    let mut tcode = [0u8; 11000];
+    let mut tcount = [0i32; 1000];
+    fill_prices(&mut price);
+    fill_words(&mut owner, Words::OfferOwner);
+    fill_codes(&mut code, 500, false);
+    fill_words(&mut gowner, Words::GrocerOwner);
+    fill_words(&mut tgrocer, Words::TallyGrocer);
+    fill_words(&mut tbox, Words::TallyBox);
+    fill_codes(&mut tcode, 1_000, true);
+    fill_counts(&mut tcount);
+    Tables {
+        price: price,
+        owner: owner,
+        code: code,
+        gowner: gowner,
+        tgrocer: tgrocer,
+        tbox: tbox,
+        tcode: tcode,
+        tcount: tcount,
     }
 }

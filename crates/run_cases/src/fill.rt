@@ -1,6 +1,6 @@
 // Tables filled by a rule, and a plain sum over the tallies.
 ghost use Prim.Native.Nat.{_<_};
-use crate::small::wide32;
+use small_job::lines::wide32;
 use std::num::wrapping_add_u64;
 
 // The quotient of a place, modulo m.

@@ -2,22 +2,54 @@
 use crate::fill::fill;
 use crate::fill::fill_prices;
 use crate::fill::plain_sum;
-use crate::small::answer_line;
-use crate::small::wide16;
+use crate::lines::answer_text;
+use attempts::differ::add;
+use attempts::differ::one;
+use attempts::job::wide16;
 
 // A grocer's statement beside the plain sum of its prices, whose negative it is.
-fn one_line(g: u16, statement: &[i64; 255], sum: u64) {
-    let i = g as usize;
-    if i < 255 {
-        show::number(wide16(g));
-        show::next_signed(statement[i]);
-        show::text(b", by a plain sum -");
-        show::number(sum);
-        show::end();
-    }
+fn one_line(g: u16, amount: i64, sum: u64) {
+    show::number(wide16(g));
+    show::next_signed(amount);
+    show::text(b", by a plain sum -");
+    show::number(sum);
+    show::end();
 }
 
-// A line for each grocer.
+// 1 where an amount is not the negative of a plain sum.
+fn other(amount: i64, sum: u64) -> u64 {
+    if sum < 1_000_000_000_000_000 {
+        let s = sum as i64;
+        return one(amount != 0 - s);
+    }
+    1
+}
+
+// The line of a grocer, where it is to be shown; 1 where its statement is not the plain sum.
+fn grocer(g: u16, statement: &[i64; 255], sum: u64, shown: bool) -> u64 {
+    let i = g as usize;
+    if i < 255 {
+        let amount = statement[i];
+        if shown {
+            one_line(g, amount, sum);
+        }
+        return other(amount, sum);
+    }
+    1
+}
+
+// Every grocer is shown, or the first and the last.
+fn is_shown(g: u16, grocers: u16, every: bool) -> bool {
+    if every {
+        return true;
+    }
+    if g == 0 {
+        return true;
+    }
+    add(wide16(g), 1) == wide16(grocers)
+}
+
+// The lines of grocers, and how many statements differ from the plain sum.
 fn statement_lines(
     statement: &[i64; 255],
     price: &[u32; 500],
@@ -25,12 +57,16 @@ fn statement_lines(
     toffer: &[u16; 1000],
     grocers: u16,
     tallies: u16,
+    every: bool,
 ) {
+    let mut n: u64 = 0;
     let mut g: u16 = 0;
     while g < grocers {
-        one_line(g, statement, plain_sum(price, tgrocer, toffer, tallies, g));
+        let sum = plain_sum(price, tgrocer, toffer, tallies, g);
+        n = add(n, grocer(g, statement, sum, is_shown(g, grocers, every)));
         g += 1;
     }
+    show::line(b"statements that differ from the plain sum", n);
 }
 
 // A job run with the choices given.
@@ -47,6 +83,7 @@ fn settle(
     tbox: &[u16; 1000],
     toffer: &[u16; 1000],
     choices: &[u16],
+    every: bool,
 ) {
     let mut known = [4_000_000_001u32; 8000];
     let mut ptransit = [4_000_000_001u32; 8000];
@@ -76,12 +113,13 @@ fn settle(
         &mut sent,
         choices,
     );
-    answer_line(name, answer);
-    statement_lines(&statement, price, tgrocer, toffer, grocers, tallies);
+    answer_text(name, answer);
+    show::end();
+    statement_lines(&statement, price, tgrocer, toffer, grocers, tallies, every);
 }
 
 // 16 boxes, each with an offer and a grocer of its own and a tally of every offer: every pair exchanges messages.
-pub fn every_pair() {
+fn pairs(name: &[u8], choices: &[u16]) {
     let mut price = [0u32; 500];
     let mut owner = [0u16; 500];
     let mut gowner = [0u16; 255];
@@ -93,7 +131,7 @@ pub fn every_pair() {
     fill(&mut tgrocer, 1, 16);
     fill(&mut tbox, 16, 16);
     settle(
-        b"every pair",
+        name,
         16,
         16,
         16,
@@ -104,22 +142,15 @@ pub fn every_pair() {
         &tgrocer,
         &tbox,
         &tgrocer,
-        &[],
+        choices,
+        true,
     );
-    settle(
-        b"every pair, with choices",
-        16,
-        16,
-        16,
-        256,
-        &price,
-        &owner,
-        &gowner,
-        &tgrocer,
-        &tbox,
-        &tgrocer,
-        &[65_535u16; 1000],
-    );
+}
+
+// Without choices, and with more than there are steps.
+pub fn every_pair() {
+    pairs(b"every pair", &[]);
+    pairs(b"every pair, with choices", &[65_535u16; 1000]);
 }
 
 // 16 boxes, 255 grocers, 500 offers, 1,000 tallies.
@@ -149,5 +180,6 @@ pub fn largest() {
         &tbox,
         &toffer,
         &[],
+        false,
     );
 }

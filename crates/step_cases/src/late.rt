@@ -1,8 +1,8 @@
 // "An entry whose finished result would leave a range refuses with 21, after all its other checks."
-use crate::job::State;
-use crate::job::fresh;
 use crate::lines::case_of;
 use crate::refusals::go;
+use small_job::job::State;
+use small_job::job::fresh;
 
 // Working totals: 3 × 500 comes to box 0's total of grocer 0, and 4 × 500 to box 1's by receipt.
 pub fn working_cases() {

@@ -1,7 +1,4 @@
 // Cases of the step: E step by step in three orders, and every refusal.
-mod ask;
-mod differ;
-mod job;
 mod late;
 mod lines;
 mod orders;

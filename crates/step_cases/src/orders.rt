@@ -1,8 +1,8 @@
 // E step by step, with every word of the state behind each step.
-use crate::job::State;
-use crate::job::fresh;
-use crate::lines::state_lines;
 use crate::lines::take;
+use small_job::job::State;
+use small_job::job::fresh;
+use small_job::lines::state_lines;
 
 // The heading of an order, and the fresh state.
 fn begin(name: &[u8]) -> State {

@@ -1,10 +1,10 @@
 // Refusals 22 to 26, also where a later one would hold too.
-use crate::ask::ask;
-use crate::job::State;
-use crate::job::fresh;
-use crate::job::small;
 use crate::lines::case;
 use crate::lines::case_of;
+use small_job::ask::ask;
+use small_job::job::State;
+use small_job::job::fresh;
+use small_job::job::small;
 
 // The state behind a request of E.
 pub fn go(s: State, kind: u16, first: u16, second: u16) -> State {

@@ -1,34 +1,7 @@
 // K, M, N and T out of range, each in turn, with tables that are long enough: 21.
-use crate::ask::refusal_of;
-use crate::differ::differ64;
-use attempts::differ::add;
-use attempts::differ::differ16;
-use attempts::differ::differ32;
-
-// How many words of a state's tables are not 0.
-fn not_zero(
-    known: &[u32; 8000],
-    ptransit: &[u32; 8000],
-    working: &[i64; 4080],
-    ttransit: &[i64; 4080],
-    statement: &[i64; 256],
-    done: &[u16; 1734],
-    sent: &[u32; 1],
-) -> u64 {
-    let prices = add(
-        differ32(known, &[0u32; 8000]),
-        differ32(ptransit, &[0u32; 8000]),
-    );
-    let totals = add(
-        differ64(working, &[0i64; 4080]),
-        differ64(ttransit, &[0i64; 4080]),
-    );
-    let rest = add(
-        differ64(statement, &[0i64; 256]),
-        differ16(done, &[0u16; 1734]),
-    );
-    add(add(prices, totals), add(rest, differ32(sent, &[0u32; 1])))
-}
+use crate::lines::answer_line;
+use small_job::ask::refusal_of;
+use small_job::differ::not_zero;
 
 // Step 2 of box 0, every table all zeros and long enough.
 fn size_case(name: &[u8], boxes: u16, grocers: u16, offers: u16, tallies: u16) {
@@ -62,21 +35,16 @@ fn size_case(name: &[u8], boxes: u16, grocers: u16, offers: u16, tallies: u16) {
         0,
         0,
     );
-    show::text(name);
-    show::text(b":");
-    show::next(refusal_of(answer));
-    show::line(
-        b", words changed",
-        not_zero(
-            &known,
-            &ptransit,
-            &working,
-            &ttransit,
-            &statement,
-            &done,
-            &sent,
-        ),
+    let changed = not_zero(
+        &known,
+        &ptransit,
+        &working,
+        &ttransit,
+        &statement,
+        &done,
+        &sent,
     );
+    answer_line(name, refusal_of(answer), changed);
 }
 
 // Each size below and above its values, and at both ends of them.

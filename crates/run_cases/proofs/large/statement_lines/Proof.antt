@@ -6,10 +6,10 @@ use Rattle.run_cases.proofs.large.statement_lines.Statement.{statement}
 use Rattle.run_cases.proofs.large.statement_lines.Tie as tie
 
 abbrev Inv-loop : tie.InvT-loop
-Inv-loop statement price tgrocer toffer grocers tallies g₀ g = g ≤ grocers
+Inv-loop statement price tgrocer toffer grocers tallies every n₀ g₀ sum n g = g ≤ grocers
 
 abbrev μ-loop : tie.MeasureT-loop
-μ-loop statement price tgrocer toffer grocers tallies g₀ g = grocers - g
+μ-loop statement price tgrocer toffer grocers tallies every n₀ g₀ sum n g = grocers - g
 
 loop-holds : tie.Need-loop-holds Inv-loop μ-loop
 loop-holds c = omega arith
@@ -17,8 +17,14 @@ loop-holds c = omega arith
 plain-sum-requires : tie.Need-plain-sum-requires Inv-loop μ-loop
 plain-sum-requires c κs = search needs
 
-one-line-requires : tie.Need-one-line-requires Inv-loop μ-loop
-one-line-requires c κs = search needs
+is-shown-requires : tie.Need-is-shown-requires Inv-loop μ-loop
+is-shown-requires c κs = search needs
+
+grocer-requires : tie.Need-grocer-requires Inv-loop μ-loop
+grocer-requires c κs = search needs
+
+add-requires : tie.Need-add-requires Inv-loop μ-loop
+add-requires c κs = search needs
 
 add-g : tie.Need-add-g Inv-loop μ-loop
 add-g c = omega arith
@@ -28,6 +34,12 @@ loop-less c = omega arith
 
 loop-again : tie.Need-loop-again Inv-loop μ-loop
 loop-again c = omega arith
+
+slice-aggregate-line : tie.Need-slice-aggregate-line Inv-loop μ-loop
+slice-aggregate-line c = search needs
+
+line-requires : tie.Need-line-requires Inv-loop μ-loop
+line-requires c κs = search needs
 
 returns : tie.Need-returns Inv-loop μ-loop
 returns c = tt
@@ -40,8 +52,12 @@ statement-lines-spec =
     μ-loop
     loop-holds
     plain-sum-requires
-    one-line-requires
+    is-shown-requires
+    grocer-requires
+    add-requires
     add-g
     loop-less
     loop-again
+    slice-aggregate-line
+    line-requires
     returns)

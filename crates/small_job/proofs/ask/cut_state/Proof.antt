@@ -1,10 +1,10 @@
--- `step_cases::ask::cut_state` is safe and ends: each part is no longer than its table. Assumes nothing.
+-- `small_job::ask::cut_state` is safe and ends: each part is no longer than its table. Assumes nothing.
 use native.Mathlib.Omega.{arith}
 use mathlib.Core.Path.{sym}
 use lib.Seq.{length-take-le}
 use borrow.Author.Needs.{needs}
-use Rattle.step_cases.proofs.ask.cut_state.Statement.{statement}
-use Rattle.step_cases.proofs.ask.cut_state.Tie as tie
+use Rattle.small_job.proofs.ask.cut_state.Statement.{statement}
+use Rattle.small_job.proofs.ask.cut_state.Tie as tie
 
 cut-requires : tie.Need-cut-requires
 cut-requires c κs = search needs

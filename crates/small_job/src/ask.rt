@@ -185,12 +185,21 @@ fn lend(
     )
 }
 
-// A request on a job and a state, table `which` of the fourteen a word too short; 14 for none.
-pub fn ask_short(j: Job, s: State, which: u64, kind: u16, first: u16, second: u16) -> Outcome {
-    let boxes = j.boxes;
-    let grocers = j.grocers;
-    let offers = j.offers;
-    let tallies = j.tallies;
+// A request on a job and the arrays of a state, table `which` of the fourteen a word too short.
+fn ask_job(
+    j: Job,
+    known: &mut [u32; 4],
+    ptransit: &mut [u32; 4],
+    working: &mut [i64; 4],
+    ttransit: &mut [i64; 4],
+    statement: &mut [i64; 2],
+    done: &mut [u16; 24],
+    sent: &mut [u32; 1],
+    which: u64,
+    kind: u16,
+    first: u16,
+    second: u16,
+) -> Answer {
     let price = j.price;
     let owner = j.owner;
     let gowner = j.gowner;
@@ -198,18 +207,11 @@ pub fn ask_short(j: Job, s: State, which: u64, kind: u16, first: u16, second: u1
     let tbox = j.tbox;
     let toffer = j.toffer;
     let tcount = j.tcount;
-    let mut known = s.known;
-    let mut ptransit = s.ptransit;
-    let mut working = s.working;
-    let mut ttransit = s.ttransit;
-    let mut statement = s.statement;
-    let mut done = s.done;
-    let mut sent = s.sent;
-    let answer = lend(
-        boxes,
-        grocers,
-        offers,
-        tallies,
+    lend(
+        j.boxes,
+        j.grocers,
+        j.offers,
+        j.tallies,
         &price,
         &owner,
         &gowner,
@@ -217,6 +219,31 @@ pub fn ask_short(j: Job, s: State, which: u64, kind: u16, first: u16, second: u1
         &tbox,
         &toffer,
         &tcount,
+        known,
+        ptransit,
+        working,
+        ttransit,
+        statement,
+        done,
+        sent,
+        which,
+        kind,
+        first,
+        second,
+    )
+}
+
+// A request on a job and a state, table `which` of the fourteen a word too short; 14 for none.
+pub fn ask_short(j: Job, s: State, which: u64, kind: u16, first: u16, second: u16) -> Outcome {
+    let mut known = s.known;
+    let mut ptransit = s.ptransit;
+    let mut working = s.working;
+    let mut ttransit = s.ttransit;
+    let mut statement = s.statement;
+    let mut done = s.done;
+    let mut sent = s.sent;
+    let answer = ask_job(
+        j,
         &mut known,
         &mut ptransit,
         &mut working,

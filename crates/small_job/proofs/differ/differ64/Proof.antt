@@ -1,9 +1,9 @@
--- `step_cases::differ::differ64` is safe and ends. Assumes nothing.
+-- `small_job::differ::differ64` is safe and ends. Assumes nothing.
 use native.Mathlib.Omega.{arith}
 use Prim.Native.Nat.{_-_}
 use lib.ListN.{length}
-use Rattle.step_cases.proofs.differ.differ64.Statement.{statement}
-use Rattle.step_cases.proofs.differ.differ64.Tie as tie
+use Rattle.small_job.proofs.differ.differ64.Statement.{statement}
+use Rattle.small_job.proofs.differ.differ64.Tie as tie
 
 abbrev Inv-loop : tie.InvT-loop
 Inv-loop a b n₀ i₀ n i = Unit {0}
