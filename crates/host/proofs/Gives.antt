@@ -1,0 +1,69 @@
+-- What reader and run give, and their answers told, are what the host's calls give. Assumes nothing.
+use mathlib.Core.Path.{_≡_, sym, ap, _∙_}
+use mathlib.Core.List.{List}
+use Prim.Native.Nat.{ℕ, _<_, _≤_}
+use lib.ListN.{length, set}
+use borrow.Author.Tests.{lt-ltb, le-ltb}
+use Rattle.laws.proofs.Bools.{cond-yes, cond-no}
+use Rattle.model.specs.Tables.{JobTables, StateTables}
+use Rattle.model.specs.Step.{Outcome, outcome}
+use Rattle.model.specs.Run.{RunAnswer, RunOutcome, ran}
+use Rattle.format.specs.Tables.{ReadAnswer, ReadOutcome, ReaderTables, readResult}
+use Rattle.reader.specs.Answer.{answerOf as readAnswer}
+use Rattle.reader.specs.declared.Answer.{Answer as ReaderAnswer}
+use Rattle.reader.specs.declared.Answer.the-variants.{Job, Refused as NotRead}
+use Rattle.run.specs.Run.{answerOf as runAnswer}
+use Rattle.run.specs.declared.Answer.{Answer as RunnerAnswer}
+use Rattle.run.specs.declared.Answer.the-variants.{Finished, Refused as NotRun}
+use Rattle.host.proofs.Put.{put-three, put-four}
+use Rattle.host.specs.Host.{HostRead, hostRead, readAs, readByHost, HostRun, hostRun, runAs, ranByHost}
+
+-- The number of what the step gave.
+pub step-told : (o : Outcome) (r n : ℕ) (t : StateTables) → r ≡ n → outcome n t ≡ o → outcome r t ≡ o
+step-told o r n t e h = rw e h
+
+-- The sizes of an accepted file, told.
+pub told-sizes : (a : ReaderAnswer) (k m n t : ℕ) (s : List ℕ) → 4 ≤ length s → a ≡ Job k m n t → (l : ReaderTables) →
+    hostRead 0 l (set (set (set (set s 0 k) 1 m) 2 n) 3 t) ≡ readAs (readAnswer a) l s
+unfolding readAs
+told-sizes a k m n t s h e l = rw e (ap (hostRead 0 l) (put-four s k m n t h))
+
+-- A refusal of the reader, told.
+pub told-refused : (a : ReaderAnswer) (n : ℕ) (s : List ℕ) → a ≡ NotRead n → (l : ReaderTables) → hostRead n l s ≡ readAs (readAnswer a) l s
+unfolding readAs
+told-refused a n s e l = rw e
+
+-- What a finished run reports, told.
+pub told-report : (a : RunnerAnswer) (w m n : ℕ) (p : List ℕ) → 3 ≤ length p → a ≡ Finished w m n → (t : StateTables) →
+    hostRun 0 t (set (set (set p 0 w) 1 m) 2 n) ≡ runAs (runAnswer a) t p
+unfolding runAs runAnswer
+told-report a w m n p h e t = rw e (ap (hostRun 0 t) (put-three p w m n h))
+
+-- A refusal of the run, told.
+pub told-not-run : (a : RunnerAnswer) (n : ℕ) (p : List ℕ) → a ≡ NotRun n → (t : StateTables) → hostRun n t p ≡ runAs (runAnswer a) t p
+unfolding runAs runAnswer
+told-not-run a n p e t = rw e
+
+module _ (file : List ℕ) (l : ReaderTables) (s : List ℕ) where
+  -- 20: the buffer for sizes is short.
+  pub read-short : length s < 4 → hostRead 20 l s ≡ readByHost file l s
+  unfolding readByHost
+  read-short h = sym (cond-yes _ _ _ (lt-ltb _ _ h))
+
+  -- What the reader gave, and its answer told.
+  pub read-told : (a : ReadAnswer) (l′ : ReaderTables) (r : ℕ) (s′ : List ℕ) → 4 ≤ length s → record { answer = a; tables = l′ } ≡ readResult file l →
+      ((k : ReaderTables) → hostRead r k s′ ≡ readAs a k s) → hostRead r l′ s′ ≡ readByHost file l s
+  unfolding readByHost
+  read-told a l′ r s′ h e told = told l′ ∙ ap (λ (o : ReadOutcome). readAs (o .answer) (o .tables) s) e ∙ sym (cond-no _ _ _ (le-ltb _ _ h))
+
+module _ (f : JobTables) (t : StateTables) (choices p : List ℕ) where
+  -- 20: the report is short.
+  pub run-short : length p < 3 → hostRun 20 t p ≡ ranByHost f t choices p
+  unfolding ranByHost
+  run-short h = sym (cond-yes _ _ _ (lt-ltb _ _ h))
+
+  -- What the run gave, and its answer told.
+  pub run-told : (a : RunAnswer) (t′ : StateTables) (r : ℕ) (p′ : List ℕ) → 3 ≤ length p → record { answer = a; tables = t′ } ≡ ran f t choices →
+      ((u : StateTables) → hostRun r u p′ ≡ runAs a u p) → hostRun r t′ p′ ≡ ranByHost f t choices p
+  unfolding ranByHost
+  run-told a t′ r p′ h e told = told t′ ∙ ap (λ (o : RunOutcome). runAs (o .answer) (o .tables) p) e ∙ sym (cond-no _ _ _ (le-ltb _ _ h))

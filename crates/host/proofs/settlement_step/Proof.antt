@@ -1,0 +1,64 @@
+-- `host::settlement_step` meets its contract. Assumes nothing.
+use Rattle.host.proofs.Gives.{step-told}
+use borrow.Author.Needs.{needs}
+use Rattle.host.proofs.settlement_step.Statement.{statement}
+use Rattle.host.proofs.settlement_step.Tie as tie
+use Rattle.host.proofs.settlement_step.Reads as reads
+use Rattle.host.proofs.settlement_step.Lts as lts
+use Rattle.host.proofs.step_number.Reads as step-number-reads
+use Rattle.step.proofs.step.Reads as step-reads
+
+-- src/lib.rt:133:9
+step-requires : tie.Need-step-requires
+step-requires c κs = search needs
+
+-- src/lib.rt:156:5
+step-number-requires : tie.Need-step-number-requires
+step-number-requires c κs = search needs
+
+-- src/lib.rt:102:1
+same-length : tie.Need-same-length
+same-length c = search needs
+
+-- src/lib.rt:102:1
+same-length-2 : tie.Need-same-length-2
+same-length-2 c = search needs
+
+-- src/lib.rt:102:1
+same-length-3 : tie.Need-same-length-3
+same-length-3 c = search needs
+
+-- src/lib.rt:102:1
+same-length-4 : tie.Need-same-length-4
+same-length-4 c = search needs
+
+-- src/lib.rt:102:1
+same-length-5 : tie.Need-same-length-5
+same-length-5 c = search needs
+
+-- src/lib.rt:102:1
+same-length-6 : tie.Need-same-length-6
+same-length-6 c = search needs
+
+-- src/lib.rt:102:1
+same-length-7 : tie.Need-same-length-7
+same-length-7 c = search needs
+
+-- src/lib.rt:102:1
+returns : tie.Need-returns
+returns c = step-told _ _ _ _ (c .step-number .ensures) (c .before .before .before .before .before .before .before .before .before .before .before .before .step .ensures)
+
+pub settlement-step-spec : {M : Type 1} → statement M
+settlement-step-spec =
+    tie.close
+    (tie.spec
+    step-requires
+    step-number-requires
+    same-length
+    same-length-2
+    same-length-3
+    same-length-4
+    same-length-5
+    same-length-6
+    same-length-7
+    returns)

@@ -1,0 +1,49 @@
+-- What the three calls of the host give: a number, 0 where the call is accepted and else the refusal's, and the lent words.
+use mathlib.Core.Bool.{cond}
+use mathlib.Core.List.{List, [], _∷_, _++_}
+use Prim.Native.Nat.{ℕ}
+use lib.Dec.{ltb}
+use lib.ListN.{length, drop}
+use Rattle.model.specs.Tables.{JobTables, StateTables}
+use Rattle.model.specs.Run.{RunAnswer, finished, refused, ran}
+use Rattle.format.specs.Tables.{ReadAnswer, sizes, refused as notRead, ReaderTables, readResult}
+
+-- The words xs written in front of a lent buffer. Words past them are not touched.
+abbrev pub put : List ℕ → List ℕ → List ℕ
+put xs l = xs ++ drop (length xs) l
+
+-- What `settlement_read` gives: the number, the tables, and the buffer for K, M, N and T.
+pub record HostRead : Type 0 where
+  pub answer : ℕ
+  pub tables : ReaderTables
+  pub sizes : List ℕ
+
+abbrev pub hostRead : ℕ → ReaderTables → List ℕ → HostRead
+hostRead n l s = record { answer = n; tables = l; sizes = s }
+
+-- The reader's answer as a number; K, M, N and T go into the buffer for sizes.
+unfoldable pub readAs : ReadAnswer → ReaderTables → List ℕ → HostRead
+readAs (sizes k m n t) l s = hostRead 0 l (put (k ∷ m ∷ n ∷ t ∷ []) s)
+readAs (notRead r) l s = hostRead r l s
+
+-- The host's reader: 20 also where the buffer for sizes is shorter than four words.
+unfoldable pub readByHost : List ℕ → ReaderTables → List ℕ → HostRead
+readByHost file l s = cond (ltb (length s) 4) (hostRead 20 l s) (readAs (readResult file l .answer) (readResult file l .tables) s)
+
+-- What `settlement_run` gives: the number, the state's tables, and the buffer for the report.
+pub record HostRun : Type 0 where
+  pub answer : ℕ
+  pub tables : StateTables
+  pub report : List ℕ
+
+abbrev pub hostRun : ℕ → StateTables → List ℕ → HostRun
+hostRun n t p = record { answer = n; tables = t; report = p }
+
+-- The run's answer as a number; words sent, messages and steps go into the report.
+unfoldable pub runAs : RunAnswer → StateTables → List ℕ → HostRun
+runAs (finished w m n) t p = hostRun 0 t (put (w ∷ m ∷ n ∷ []) p)
+runAs (refused r) t p = hostRun r t p
+
+-- The host's run: 20 also where the report is shorter than three words.
+unfoldable pub ranByHost : JobTables → StateTables → List ℕ → List ℕ → HostRun
+ranByHost f t choices p = cond (ltb (length p) 3) (hostRun 20 t p) (runAs (ran f t choices .answer) (ran f t choices .tables) p)

@@ -1,0 +1,2 @@
+-- What the three calls of the host give.
+pub mod Host

@@ -1,0 +1,217 @@
+// The three calls of a C host, on numbers and lent words. Each answers 0, or the number of the refusal.
+ghost use mathlib.Core.Path.{_≡_};
+ghost use Prim.Native.Nat.{_≤_};
+ghost use lib.ListN.{length};
+ghost use Rattle.model.specs.Tables.{jobTables, StateTables, stateTables};
+ghost use Rattle.model.specs.Step.{asked, outcome, stepped};
+ghost use Rattle.format.specs.Tables.{fileTables, ReaderTables, readerTables};
+ghost use Rattle.reader.specs.Answer.{answerOf as readAnswer};
+ghost use Rattle.step.specs.Answer.{number};
+ghost use Rattle.run.specs.Run.{answerOf as runAnswer};
+ghost use Rattle.host.specs.Host.{hostRead, readAs, readByHost, hostRun, runAs, ranByHost};
+
+// The number of the reader's answer; K, M, N and T of an accepted file go in front of the buffer.
+fn tell_sizes(a: reader::Answer, sizes: &mut [u16]) -> u16
+    requires { ⌜ 4 ≤ length (now sizes) ⌝ }
+    ensures { λ r. ⌜ ((l : ReaderTables) → hostRead r l (now (sizes .exit)) ≡ readAs (readAnswer a) l (now (sizes .entry))) ⌝ }
+{
+    match a {
+        reader::Answer::Job {
+            boxes,
+            grocers,
+            offers,
+            tallies,
+        } => {
+            sizes[0] = boxes;
+            sizes[1] = grocers;
+            sizes[2] = offers;
+            sizes[3] = tallies;
+            0
+        }
+        reader::Answer::Refused(n) => n,
+    }
+}
+
+// The number of the run's answer; words sent, messages and steps of a finished run go in front of the buffer.
+fn tell_report(a: run::Answer, report: &mut [u32]) -> u16
+    requires { ⌜ 3 ≤ length (now report) ⌝ }
+    ensures { λ r. ⌜ ((t : StateTables) → hostRun r t (now (report .exit)) ≡ runAs (runAnswer a) t (now (report .entry))) ⌝ }
+{
+    match a {
+        run::Answer::Finished(words, messages, steps) => {
+            report[0] = words;
+            report[1] = messages;
+            report[2] = steps;
+            0
+        }
+        run::Answer::Refused(n) => n,
+    }
+}
+
+// The number of the step's answer.
+fn step_number(a: step::Answer) -> u16
+    ensures { λ r. ⌜ r ≡ number a ⌝ }
+{
+    match a {
+        step::Answer::Accepted => 0,
+        step::Answer::Refused(n) => n,
+    }
+}
+
+// Reads a job file into the lent tables, and its K, M, N and T into the buffer for sizes. A refusal leaves every word as it was.
+#[no_mangle]
+pub extern "C" fn settlement_read(
+    file: &[u8],
+    price: &mut [u32],
+    owner: &mut [u16],
+    code: &mut [u8],
+    gowner: &mut [u16],
+    tgrocer: &mut [u16],
+    tbox: &mut [u16],
+    tcode: &mut [u8],
+    tcount: &mut [i32],
+    toffer: &mut [u16],
+    sizes: &mut [u16],
+) -> u16
+    ensures { λ r. ⌜ hostRead r
+        (readerTables (fileTables (now (price .exit)) (now (owner .exit)) (now (code .exit)) (now (gowner .exit)) (now (tgrocer .exit)) (now (tbox .exit)) (now (tcode .exit)) (now (tcount .exit))) (now (toffer .exit)))
+        (now (sizes .exit))
+        ≡ readByHost (now (file .entry))
+        (readerTables (fileTables (now (price .entry)) (now (owner .entry)) (now (code .entry)) (now (gowner .entry)) (now (tgrocer .entry)) (now (tbox .entry)) (now (tcode .entry)) (now (tcount .entry))) (now (toffer .entry)))
+        (now (sizes .entry)) ⌝ }
+{
+    if sizes.len() < 4 {
+        return 20;
+    }
+    let a = reader::read(
+        file,
+        price,
+        owner,
+        code,
+        gowner,
+        tgrocer,
+        tbox,
+        tcode,
+        tcount,
+        toffer,
+    );
+    tell_sizes(a, sizes)
+}
+
+// One step request on the lent tables. A refusal leaves every word as it was.
+#[no_mangle]
+pub extern "C" fn settlement_step(
+    boxes: u16,
+    grocers: u16,
+    offers: u16,
+    tallies: u16,
+    price: &[u32],
+    owner: &[u16],
+    gowner: &[u16],
+    tgrocer: &[u16],
+    tbox: &[u16],
+    toffer: &[u16],
+    tcount: &[i32],
+    known: &mut [u32],
+    ptransit: &mut [u32],
+    working: &mut [i64],
+    ttransit: &mut [i64],
+    statement: &mut [i64],
+    done: &mut [u16],
+    sent: &mut [u32],
+    kind: u16,
+    first: u16,
+    second: u16,
+) -> u16
+    ensures { λ r. ⌜ outcome r
+        (stateTables (now (known .exit)) (now (ptransit .exit)) (now (working .exit)) (now (ttransit .exit)) (now (statement .exit)) (now (done .exit)) (now (sent .exit)))
+        ≡ stepped
+        (jobTables boxes grocers offers tallies (now (price .entry)) (now (owner .entry)) (now (gowner .entry)) (now (tgrocer .entry)) (now (tbox .entry)) (now (toffer .entry)) (now (tcount .entry)))
+        (stateTables (now (known .entry)) (now (ptransit .entry)) (now (working .entry)) (now (ttransit .entry)) (now (statement .entry)) (now (done .entry)) (now (sent .entry)))
+        (asked kind first second) ⌝ }
+{
+    let a = step::step(
+        boxes,
+        grocers,
+        offers,
+        tallies,
+        price,
+        owner,
+        gowner,
+        tgrocer,
+        tbox,
+        toffer,
+        tcount,
+        known,
+        ptransit,
+        working,
+        ttransit,
+        statement,
+        done,
+        sent,
+        kind,
+        first,
+        second,
+    );
+    step_number(a)
+}
+
+// The run of a job from a fresh state; what it reports goes into the buffer for the report. A refusal leaves every word as it was.
+#[no_mangle]
+pub extern "C" fn settlement_run(
+    boxes: u16,
+    grocers: u16,
+    offers: u16,
+    tallies: u16,
+    price: &[u32],
+    owner: &[u16],
+    gowner: &[u16],
+    tgrocer: &[u16],
+    tbox: &[u16],
+    toffer: &[u16],
+    tcount: &[i32],
+    known: &mut [u32],
+    ptransit: &mut [u32],
+    working: &mut [i64],
+    ttransit: &mut [i64],
+    statement: &mut [i64],
+    done: &mut [u16],
+    sent: &mut [u32],
+    choices: &[u16],
+    report: &mut [u32],
+) -> u16
+    ensures { λ r. ⌜ hostRun r
+        (stateTables (now (known .exit)) (now (ptransit .exit)) (now (working .exit)) (now (ttransit .exit)) (now (statement .exit)) (now (done .exit)) (now (sent .exit)))
+        (now (report .exit))
+        ≡ ranByHost
+        (jobTables boxes grocers offers tallies (now (price .entry)) (now (owner .entry)) (now (gowner .entry)) (now (tgrocer .entry)) (now (tbox .entry)) (now (toffer .entry)) (now (tcount .entry)))
+        (stateTables (now (known .entry)) (now (ptransit .entry)) (now (working .entry)) (now (ttransit .entry)) (now (statement .entry)) (now (done .entry)) (now (sent .entry)))
+        (now (choices .entry))
+        (now (report .entry)) ⌝ }
+{
+    if report.len() < 3 {
+        return 20;
+    }
+    let a = run::run(
+        boxes,
+        grocers,
+        offers,
+        tallies,
+        price,
+        owner,
+        gowner,
+        tgrocer,
+        tbox,
+        toffer,
+        tcount,
+        known,
+        ptransit,
+        working,
+        ttransit,
+        statement,
+        done,
+        sent,
+        choices,
+    );
+    tell_report(a, report)
+}
