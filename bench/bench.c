@@ -24,7 +24,7 @@ struct calls {
     reconcile_call *reconcile;
 };
 
-static const struct calls ours = { settlement_read, bench_write, settlement_step, settlement_run, BENCH_RECONCILE };
+static const struct calls ours = { settlement_read, bench_write, settlement_step, settlement_run, bench_reconcile };
 static const struct calls plain = { plain_read, plain_write, plain_step, plain_run, plain_reconcile };
 
 /* All that a call is lent, of either side. */
@@ -275,8 +275,7 @@ static void agree_at_random(struct work *w)
         damage(w);
         run_both(w);
         w->wanted = (uint16_t)below(w->grocers);
-        if (ours.reconcile)
-            agree_on(w, RECONCILE, "reconciliation");
+        agree_on(w, RECONCILE, "reconciliation");
         make_fresh(w);
         request_list(w);
     }
@@ -416,17 +415,11 @@ static void agree_and_accept(const struct work *w, const struct item *item)
         fail("a work that is measured is refused");
 }
 
-static bool is_there(const struct item *item) { return item->operation != RECONCILE || ours.reconcile; }
-
 static void table(void)
 {
     static struct work w;
     printf("%-31s | %6s | %6s | %8s | %9s | %9s\n", "what", "ours/C", "growth", "C's own", "ours, ns", "C, ns");
     for (unsigned i = 0; i < ITEMS; i++) {
-        if (!is_there(&items[i])) {
-            printf("%-31s | no entry point yet\n", items[i].what);
-            continue;
-        }
         prepare(&w, &items[i], true);
         agree_and_accept(&w, &items[i]);
         struct pair whole = measure(&w);
@@ -444,7 +437,7 @@ static int ours_alone(const char *name)
 {
     static struct work w;
     for (unsigned i = 0; i < ITEMS; i++)
-        if (!strcmp(name, items[i].name) && is_there(&items[i])) {
+        if (!strcmp(name, items[i].name)) {
             prepare(&w, &items[i], true);
             room[0] = w.start;
             call(&ours, &w, &room[0]);
@@ -461,8 +454,7 @@ int main(int argc, char **argv)
         return ours_alone(argv[2]);
     if (argc == 2 && !strcmp(argv[1], "--names")) {
         for (unsigned i = 0; i < ITEMS; i++)
-            if (is_there(&items[i]))
-                puts(items[i].name);
+            puts(items[i].name);
         return 0;
     }
     agree_at_random(&w);
