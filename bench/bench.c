@@ -305,7 +305,8 @@ static int ascending(const void *a, const void *b)
     return (x > y) - (x < y);
 }
 
-enum { ROUNDS = 2001, LEAST = 51 };
+/* Rounds go through several jobs, so that the machine cannot learn the branches of one by heart. */
+enum { JOBS = 8, ROUNDS = 2000, LEAST = 48 };
 
 static double median(double *t, unsigned n)
 {
@@ -324,25 +325,51 @@ static double clock_time(void)
     return median(t, 101);
 }
 
-struct pair {
-    double ours, plain;
+/* Medians of one work. The ratios are taken round by round, of calls that follow each other, so that a machine that
+   slows down or speeds up counts for both. */
+struct result {
+    double ratio, growth, plain_growth, ours, plain;
 };
 
-/* The median time of either side: rounds alternate, and each side has either room equally often. */
-static struct pair measure(const struct work *w)
+enum { OURS, PLAIN, OURS_TENTH, PLAIN_TENTH, TIMES };
+
+/* Rounds of four calls: ours and the plain one, on a whole job and on a tenth. Each has either room equally often. */
+static unsigned rounds(const struct work whole[JOBS], const struct work tenth[JOBS], double t[TIMES][ROUNDS])
 {
-    static double a[ROUNDS], b[ROUNDS];
     unsigned n = 0;
-    for (unsigned warm = 0; warm < 10; warm++) {
-        timed(&ours, w, &room[warm % 2]);
-        timed(&plain, w, &room[1 - warm % 2]);
-    }
-    for (double end = now() + 7e8; n < ROUNDS && (n < LEAST || now() < end); n++) {
-        a[n] = timed(&ours, w, &room[n % 2]);
-        b[n] = timed(&plain, w, &room[1 - n % 2]);
-    }
     double clock = clock_time();
-    return (struct pair){ median(a, n) - clock, median(b, n) - clock };
+    for (double end = now() + 1e9; n < ROUNDS && (n < LEAST || now() < end); n++) {
+        const struct work *w = &whole[n % JOBS], *v = &tenth[n % JOBS];
+        struct buffers *a = &room[n / JOBS % 2], *b = &room[1 - n / JOBS % 2];
+        t[OURS][n] = timed(&ours, w, a) - clock;
+        t[PLAIN][n] = timed(&plain, w, b) - clock;
+        t[OURS_TENTH][n] = timed(&ours, v, a) - clock;
+        t[PLAIN_TENTH][n] = timed(&plain, v, b) - clock;
+    }
+    return n;
+}
+
+static double median_ratio(const double *above, const double *below, unsigned n)
+{
+    static double t[ROUNDS];
+    for (unsigned i = 0; i < n; i++)
+        t[i] = above[i] / below[i];
+    return median(t, n);
+}
+
+static struct result measure(const struct work whole[JOBS], const struct work tenth[JOBS])
+{
+    static double t[TIMES][ROUNDS];
+    for (unsigned warm = 0; warm < JOBS; warm++) {
+        timed(&ours, &whole[warm], &room[warm % 2]);
+        timed(&plain, &whole[warm], &room[1 - warm % 2]);
+    }
+    unsigned n = rounds(whole, tenth, t);
+    struct result r = { median_ratio(t[OURS], t[PLAIN], n), median_ratio(t[OURS], t[OURS_TENTH], n),
+                        median_ratio(t[PLAIN], t[PLAIN_TENTH], n), 0, 0 };
+    r.ours = median(t[OURS], n);
+    r.plain = median(t[PLAIN], n);
+    return r;
 }
 
 /* ---- the works that are measured ---- */
@@ -387,10 +414,10 @@ static void prepare_step(struct work *w, unsigned kind)
     fail("no step of this kind is permitted");
 }
 
-/* The whole job, or a tenth of it: its offers, grocers and tallies; the boxes are 16 in both. */
-static void prepare(struct work *w, const struct item *item, bool whole)
+/* The largest job, or a tenth of its offers, grocers and tallies; the boxes are 16 in both. `number` picks one of them. */
+static void prepare(struct work *w, const struct item *item, bool whole, unsigned number)
 {
-    seed = 977;
+    seed = 977 + number;
     if (whole)
         make_job(w, BOXES, GROCERS, OFFERS, TALLIES);
     else
@@ -417,17 +444,18 @@ static void agree_and_accept(const struct work *w, const struct item *item)
 
 static void table(void)
 {
-    static struct work w;
+    static struct work whole[JOBS], tenth[JOBS];
     printf("%-31s | %6s | %6s | %8s | %9s | %9s\n", "what", "ours/C", "growth", "C's own", "ours, ns", "C, ns");
     for (unsigned i = 0; i < ITEMS; i++) {
-        prepare(&w, &items[i], true);
-        agree_and_accept(&w, &items[i]);
-        struct pair whole = measure(&w);
-        prepare(&w, &items[i], false);
-        agree_and_accept(&w, &items[i]);
-        struct pair tenth = measure(&w);
-        printf("%-31s | %6.2f | %6.2f | %8.2f | %9.0f | %9.0f\n", items[i].what, whole.ours / whole.plain,
-               whole.ours / tenth.ours, whole.plain / tenth.plain, whole.ours, whole.plain);
+        for (unsigned k = 0; k < JOBS; k++) {
+            prepare(&whole[k], &items[i], true, k);
+            prepare(&tenth[k], &items[i], false, k);
+            agree_and_accept(&whole[k], &items[i]);
+            agree_and_accept(&tenth[k], &items[i]);
+        }
+        struct result r = measure(whole, tenth);
+        printf("%-31s | %6.2f | %6.2f | %8.2f | %9.0f | %9.0f\n", items[i].what, r.ratio, r.growth, r.plain_growth,
+               r.ours, r.plain);
         fflush(stdout);
     }
 }
@@ -438,7 +466,7 @@ static int ours_alone(const char *name)
     static struct work w;
     for (unsigned i = 0; i < ITEMS; i++)
         if (!strcmp(name, items[i].name)) {
-            prepare(&w, &items[i], true);
+            prepare(&w, &items[i], true, 0);
             room[0] = w.start;
             call(&ours, &w, &room[0]);
             return 0;
