@@ -1,0 +1,492 @@
+/* Our calls beside those of the plain C program, in one run: first that both give the same, then how long each takes.
+   bench              the table
+   bench --ours NAME  ours alone, once, on the work of this name: for callgrind
+   bench --names      the names */
+#define _POSIX_C_SOURCE 200809L
+#include "entries.h"
+#include <stdbool.h>
+#include <stdio.h>
+#include <stdlib.h>
+#include <string.h>
+#include <time.h>
+
+typedef uint16_t read_call(READ_PARAMETERS);
+typedef size_t write_call(WRITE_PARAMETERS);
+typedef uint16_t step_call(STEP_PARAMETERS);
+typedef uint16_t run_call(RUN_PARAMETERS);
+typedef uint16_t reconcile_call(RECONCILE_PARAMETERS);
+
+struct calls {
+    read_call *read;
+    write_call *write;
+    step_call *step;
+    run_call *run;
+    reconcile_call *reconcile;
+};
+
+static const struct calls ours = { settlement_read, bench_write, settlement_step, settlement_run, bench_reconcile };
+static const struct calls plain = { plain_read, plain_write, plain_step, plain_run, plain_reconcile };
+
+/* All that a call is lent, of either side. */
+struct buffers {
+    uint32_t price[OFFERS];
+    uint16_t offer_owner[OFFERS];
+    uint8_t offer_code[OFFERS * CODE];
+    uint16_t grocer_owner[GROCERS];
+    uint16_t tally_grocer[TALLIES], tally_box[TALLIES], tally_offer[TALLIES];
+    uint8_t tally_code[TALLIES * CODE];
+    int32_t tally_count[TALLIES];
+    uint16_t sizes[4];
+    uint8_t file[FILE_BYTES];
+    uint32_t known[BOXES * OFFERS], price_transit[BOXES * OFFERS];
+    int64_t working[BOXES * GROCERS], total_transit[BOXES * GROCERS], statement[GROCERS];
+    uint16_t done[6 * BOXES * BOXES];
+    uint32_t sent[1], report[3];
+    int64_t owed[1];
+};
+
+enum operation { READ, WRITE, STEP, RUN, RECONCILE };
+
+/* What is called, and on what: the buffers are copied from `start` before each call. */
+struct work {
+    enum operation operation;
+    struct buffers start;
+    uint16_t boxes, grocers, offers, tallies;
+    size_t file_len;
+    uint16_t kind, first, second;
+    uint16_t choices[TALLIES];
+    size_t choices_len;
+    uint16_t wanted;
+};
+
+/* ---- the calls ---- */
+
+#define WORDS(x) (x), sizeof(x) / sizeof *(x)
+#define SIZES w->boxes, w->grocers, w->offers, w->tallies
+#define TABLES                                                                                                        \
+    SIZES, WORDS(b->price), WORDS(b->offer_owner), WORDS(b->grocer_owner), WORDS(b->tally_grocer),                    \
+        WORDS(b->tally_box), WORDS(b->tally_offer), WORDS(b->tally_count), WORDS(b->known), WORDS(b->price_transit),  \
+        WORDS(b->working), WORDS(b->total_transit), WORDS(b->statement), WORDS(b->done), WORDS(b->sent)
+
+static size_t call(const struct calls *c, const struct work *w, struct buffers *b)
+{
+    switch (w->operation) {
+    case READ:
+        return c->read(b->file, w->file_len, WORDS(b->price), WORDS(b->offer_owner), WORDS(b->offer_code),
+                       WORDS(b->grocer_owner), WORDS(b->tally_grocer), WORDS(b->tally_box), WORDS(b->tally_code),
+                       WORDS(b->tally_count), WORDS(b->tally_offer), WORDS(b->sizes));
+    case WRITE:
+        return c->write(SIZES, WORDS(b->price), WORDS(b->offer_owner), WORDS(b->offer_code), WORDS(b->grocer_owner),
+                        WORDS(b->tally_grocer), WORDS(b->tally_box), WORDS(b->tally_code), WORDS(b->tally_count),
+                        WORDS(b->file));
+    case STEP:
+        return c->step(TABLES, w->kind, w->first, w->second);
+    case RUN:
+        return c->run(TABLES, w->choices, w->choices_len, WORDS(b->report));
+    case RECONCILE:
+        return c->reconcile(b->tally_grocer, w->tallies, b->tally_box, w->tallies, b->tally_offer, w->tallies,
+                            b->tally_count, w->tallies, WORDS(b->price), w->grocers, w->offers, w->wanted,
+                            WORDS(b->owed));
+    }
+    return 0;
+}
+
+/* ---- jobs ---- */
+
+static uint64_t seed = 20250102;
+
+static unsigned below(unsigned n)
+{
+    seed ^= seed << 13;
+    seed ^= seed >> 7;
+    seed ^= seed << 17;
+    return (unsigned)((seed >> 11) % n);
+}
+
+/* A number as a code of at least `digits` digits. */
+static void put_code(uint8_t *code, uint64_t number, unsigned digits)
+{
+    char text[24];
+    int n = snprintf(text, sizeof text, "%0*llu", (int)digits, (unsigned long long)number);
+    memset(code, 0, CODE);
+    code[0] = (uint8_t)n;
+    memcpy(code + 1, text, (size_t)n);
+}
+
+static uint64_t code_value(const uint8_t *code)
+{
+    uint64_t v = 0;
+    for (unsigned i = 1; i <= code[0]; i++)
+        v = v * 10 + (code[i] - (unsigned)'0');
+    return v;
+}
+
+static bool code_used(const struct buffers *b, unsigned n, uint64_t number)
+{
+    for (unsigned o = 0; o < n; o++)
+        if (code_value(b->offer_code + o * CODE) == number)
+            return true;
+    return false;
+}
+
+/* A job of these sizes: every word random within its range. */
+static void make_job(struct work *w, unsigned k, unsigned m, unsigned n, unsigned t)
+{
+    struct buffers *b = &w->start;
+    memset(w, 0, sizeof *w);
+    w->boxes = (uint16_t)k;
+    w->grocers = (uint16_t)m;
+    w->offers = (uint16_t)n;
+    w->tallies = (uint16_t)t;
+    for (unsigned o = 0; o < n; o++) {
+        uint64_t number;
+        do
+            number = (uint64_t)below(1000000) * (1 + 9999 * (uint64_t)below(2)) % 10000000000u + below(10000);
+        while (code_used(b, o, number));
+        b->price[o] = below(10000000);
+        b->offer_owner[o] = (uint16_t)below(k);
+        put_code(b->offer_code + o * CODE, number, 1 + below(10));
+    }
+    for (unsigned g = 0; g < m; g++)
+        b->grocer_owner[g] = (uint16_t)below(k);
+    for (unsigned i = 0; i < t; i++) {
+        unsigned o = below(n);
+        b->tally_grocer[i] = (uint16_t)below(m);
+        b->tally_box[i] = (uint16_t)below(k);
+        b->tally_offer[i] = (uint16_t)o;
+        b->tally_count[i] = (int32_t)below(199999) - 99999;
+        put_code(b->tally_code + i * CODE, code_value(b->offer_code + o * CODE), 1 + below(10));
+    }
+}
+
+static void make_fresh(struct work *w)
+{
+    struct buffers *b = &w->start;
+    for (unsigned o = 0; o < w->offers; o++)
+        b->known[b->offer_owner[o] * w->offers + o] = b->price[o];
+}
+
+/* ---- both give the same ---- */
+
+static struct buffers room[2];
+static unsigned long compared;
+
+static void fail(const char *what)
+{
+    printf("bench: the two sides differ: %s\n", what);
+    exit(1);
+}
+
+/* Calls both sides on the same words: answers and every lent word must agree. The answer; room[0] has the words. */
+static size_t agree(const struct work *w, const char *what)
+{
+    room[0] = w->start;
+    room[1] = w->start;
+    size_t a = call(&ours, w, &room[0]), b = call(&plain, w, &room[1]);
+    if (a != b) {
+        printf("bench: %s: ours answers %zu, plain %zu\n", what, a, b);
+        fail(what);
+    }
+    if (memcmp(&room[0], &room[1], sizeof room[0]))
+        fail(what);
+    compared++;
+    return a;
+}
+
+static size_t agree_on(struct work *w, enum operation operation, const char *what)
+{
+    w->operation = operation;
+    return agree(w, what);
+}
+
+static void write_file(struct work *w)
+{
+    w->file_len = agree_on(w, WRITE, "writer");
+    memcpy(w->start.file, room[0].file, sizeof room[0].file);
+}
+
+static void damage(struct work *w)
+{
+    uint8_t kept[FILE_BYTES];
+    memcpy(kept, w->start.file, sizeof kept);
+    for (unsigned i = 0; i < 40; i++) {
+        size_t block = below((unsigned)(w->file_len / BLOCK)) * BLOCK;
+        uint8_t *p = w->start.file + block;
+        unsigned at = below(508), a = 0, b = 0;
+        p[at] = (uint8_t)below(256);
+        for (unsigned k = 0; k < 508; k++) {
+            a += p[k];
+            b += (508 - k) * p[k];
+        }
+        a = a % 65521 + (below(8) == 0);
+        b %= 65521;
+        p[508] = (uint8_t)a, p[509] = (uint8_t)(a >> 8), p[510] = (uint8_t)b, p[511] = (uint8_t)(b >> 8);
+        agree_on(w, READ, "reader of a damaged file");
+        memcpy(w->start.file, kept, sizeof kept);
+    }
+}
+
+/* Requests of all kinds, wild ones too, on one state; some words are put out of range for one request. */
+static void request_list(struct work *w)
+{
+    for (unsigned i = 0; i < 400; i++) {
+        w->kind = (uint16_t)(below(40) ? 1 + below(6) : below(9));
+        w->first = (uint16_t)(below(40) ? below(w->boxes) : below(20));
+        w->second = (uint16_t)(w->kind == 2 || w->kind == 5 ? w->first : below(w->boxes));
+        uint8_t *word = (uint8_t *)w->start.known + below(sizeof w->start.known + sizeof w->start.price_transit);
+        uint8_t old = *word;
+        if (!below(20))
+            *word = (uint8_t)below(256);
+        if (agree_on(w, STEP, "step") == 0)
+            w->start = room[0];
+        else
+            *word = old;
+    }
+}
+
+static void statements_right(const struct work *w)
+{
+    int64_t sum[GROCERS] = { 0 };
+    const struct buffers *b = &w->start;
+    for (unsigned i = 0; i < w->tallies; i++)
+        sum[b->tally_grocer[i]] += (int64_t)b->tally_count[i] * b->price[b->tally_offer[i]];
+    if (memcmp(sum, room[0].statement, w->grocers * sizeof *sum))
+        fail("statements and the plain sums");
+}
+
+static void run_both(struct work *w)
+{
+    for (unsigned i = 0; i < 3; i++) {
+        w->choices_len = i == 0 ? 0 : below(TALLIES + 1);
+        for (unsigned c = 0; c < w->choices_len; c++)
+            w->choices[c] = (uint16_t)below(65536);
+        if (agree_on(w, RUN, "run") == 0)
+            statements_right(w);
+    }
+    w->choices_len = 0;
+}
+
+static void agree_at_random(struct work *w)
+{
+    for (unsigned i = 0; i < 60; i++) {
+        make_job(w, 1 + below(16), 1 + below(i % 2 ? 255 : 12), 1 + below(i % 2 ? 500 : 20), below(i % 2 ? 1001 : 60));
+        write_file(w);
+        agree_on(w, READ, "reader");
+        damage(w);
+        run_both(w);
+        w->wanted = (uint16_t)below(w->grocers);
+        agree_on(w, RECONCILE, "reconciliation");
+        make_fresh(w);
+        request_list(w);
+    }
+}
+
+/* ---- time ---- */
+
+/* The processor's time for this program, so that other programs on the machine do not count. */
+static double now(void)
+{
+    struct timespec t;
+    clock_gettime(CLOCK_PROCESS_CPUTIME_ID, &t);
+    return (double)t.tv_sec * 1e9 + (double)t.tv_nsec;
+}
+
+static double timed(const struct calls *c, const struct work *w, struct buffers *b)
+{
+    *b = w->start;
+    double start = now();
+    call(c, w, b);
+    return now() - start;
+}
+
+static int ascending(const void *a, const void *b)
+{
+    double x = *(const double *)a, y = *(const double *)b;
+    return (x > y) - (x < y);
+}
+
+/* Rounds go through several jobs, so that the machine cannot learn the branches of one by heart. */
+enum { JOBS = 8, ROUNDS = 2000, LEAST = 48 };
+
+static double median(double *t, unsigned n)
+{
+    qsort(t, n, sizeof *t, ascending);
+    return t[n / 2];
+}
+
+/* The time that looking at the clock takes. */
+static double clock_time(void)
+{
+    double t[101];
+    for (unsigned i = 0; i < 101; i++) {
+        double start = now();
+        t[i] = now() - start;
+    }
+    return median(t, 101);
+}
+
+/* Medians of one work. The ratios are taken round by round, of calls that follow each other, so that a machine that
+   slows down or speeds up counts for both. */
+struct result {
+    double ratio, growth, plain_growth, ours, plain;
+};
+
+enum { OURS, PLAIN, OURS_TENTH, PLAIN_TENTH, TIMES };
+
+/* Rounds of four calls: ours and the plain one, on a whole job and on a tenth. Each has either room equally often. */
+static unsigned rounds(const struct work whole[JOBS], const struct work tenth[JOBS], double t[TIMES][ROUNDS])
+{
+    unsigned n = 0;
+    double clock = clock_time();
+    for (double end = now() + 1e9; n < ROUNDS && (n < LEAST || now() < end); n++) {
+        const struct work *w = &whole[n % JOBS], *v = &tenth[n % JOBS];
+        struct buffers *a = &room[n / JOBS % 2], *b = &room[1 - n / JOBS % 2];
+        t[OURS][n] = timed(&ours, w, a) - clock;
+        t[PLAIN][n] = timed(&plain, w, b) - clock;
+        t[OURS_TENTH][n] = timed(&ours, v, a) - clock;
+        t[PLAIN_TENTH][n] = timed(&plain, v, b) - clock;
+    }
+    return n;
+}
+
+static double median_ratio(const double *above, const double *below, unsigned n)
+{
+    static double t[ROUNDS];
+    for (unsigned i = 0; i < n; i++)
+        t[i] = above[i] / below[i];
+    return median(t, n);
+}
+
+static struct result measure(const struct work whole[JOBS], const struct work tenth[JOBS])
+{
+    static double t[TIMES][ROUNDS];
+    for (unsigned warm = 0; warm < JOBS; warm++) {
+        timed(&ours, &whole[warm], &room[warm % 2]);
+        timed(&plain, &whole[warm], &room[1 - warm % 2]);
+    }
+    unsigned n = rounds(whole, tenth, t);
+    struct result r = { median_ratio(t[OURS], t[PLAIN], n), median_ratio(t[OURS], t[OURS_TENTH], n),
+                        median_ratio(t[PLAIN], t[PLAIN_TENTH], n), 0, 0 };
+    r.ours = median(t[OURS], n);
+    r.plain = median(t[PLAIN], n);
+    return r;
+}
+
+/* ---- the works that are measured ---- */
+
+struct item {
+    const char *name, *what;
+    enum operation operation;
+    unsigned kind, choices;
+};
+
+static const struct item items[] = {
+    { "read", "reader, the longest file", READ, 0, 0 },
+    { "write", "writer, the same job", WRITE, 0, 0 },
+    { "step1", "step 1, send prices", STEP, 1, 0 },
+    { "step2", "step 2, sweep own", STEP, 2, 0 },
+    { "step3", "step 3, receive prices", STEP, 3, 0 },
+    { "step4", "step 4, send totals", STEP, 4, 0 },
+    { "step5", "step 5, own totals", STEP, 5, 0 },
+    { "step6", "step 6, receive totals", STEP, 6, 0 },
+    { "run", "run without choices", RUN, 0, 0 },
+    { "choices", "run with choices", RUN, 0, TALLIES },
+    { "reconcile", "reconciliation, 1,000 records", RECONCILE, 0, 0 },
+};
+enum { ITEMS = sizeof items / sizeof *items };
+
+/* Every step of the kinds before this one is done, and then the first permitted one of this kind from box 7 on is asked. */
+static void prepare_step(struct work *w, unsigned kind)
+{
+    w->operation = STEP;
+    make_fresh(w);
+    for (unsigned i = 0; i < kind * BOXES * BOXES; i++) {
+        w->kind = (uint16_t)(1 + i / (BOXES * BOXES));
+        w->first = (uint16_t)((7 + i / BOXES) % BOXES);
+        w->second = (uint16_t)(w->kind == 2 || w->kind == 5 ? w->first : i % BOXES);
+        room[0] = w->start;
+        if (call(&plain, w, &room[0]))
+            continue;
+        if (w->kind == kind)
+            return;
+        w->start = room[0];
+    }
+    fail("no step of this kind is permitted");
+}
+
+/* The largest job, or a tenth of its offers, grocers and tallies; the boxes are 16 in both. `number` picks one of them. */
+static void prepare(struct work *w, const struct item *item, bool whole, unsigned number)
+{
+    seed = 977 + number;
+    if (whole)
+        make_job(w, BOXES, GROCERS, OFFERS, TALLIES);
+    else
+        make_job(w, BOXES, GROCERS / 10, OFFERS / 10, TALLIES / 10);
+    if (item->operation == READ) {
+        w->operation = WRITE;
+        w->file_len = call(&plain, w, &w->start);
+    }
+    if (item->operation == STEP)
+        prepare_step(w, item->kind);
+    w->operation = item->operation;
+    w->choices_len = item->choices;
+    for (unsigned c = 0; c < item->choices; c++)
+        w->choices[c] = (uint16_t)below(65536);
+}
+
+/* Both sides agree on a work that is measured, and accept it. */
+static void agree_and_accept(const struct work *w, const struct item *item)
+{
+    size_t answer = agree(w, item->what);
+    if (item->operation == WRITE ? answer < BLOCK : answer != 0)
+        fail("a work that is measured is refused");
+}
+
+static void table(void)
+{
+    static struct work whole[JOBS], tenth[JOBS];
+    printf("%-31s | %6s | %6s | %8s | %9s | %9s\n", "what", "ours/C", "growth", "C's own", "ours, ns", "C, ns");
+    for (unsigned i = 0; i < ITEMS; i++) {
+        for (unsigned k = 0; k < JOBS; k++) {
+            prepare(&whole[k], &items[i], true, k);
+            prepare(&tenth[k], &items[i], false, k);
+            agree_and_accept(&whole[k], &items[i]);
+            agree_and_accept(&tenth[k], &items[i]);
+        }
+        struct result r = measure(whole, tenth);
+        printf("%-31s | %6.2f | %6.2f | %8.2f | %9.0f | %9.0f\n", items[i].what, r.ratio, r.growth, r.plain_growth,
+               r.ours, r.plain);
+        fflush(stdout);
+    }
+}
+
+/* Ours alone, on one work: for callgrind, which collects inside the call only. */
+static int ours_alone(const char *name)
+{
+    static struct work w;
+    for (unsigned i = 0; i < ITEMS; i++)
+        if (!strcmp(name, items[i].name)) {
+            prepare(&w, &items[i], true, 0);
+            room[0] = w.start;
+            call(&ours, &w, &room[0]);
+            return 0;
+        }
+    printf("bench: no work is called %s\n", name);
+    return 2;
+}
+
+int main(int argc, char **argv)
+{
+    static struct work w;
+    if (argc == 3 && !strcmp(argv[1], "--ours"))
+        return ours_alone(argv[2]);
+    if (argc == 2 && !strcmp(argv[1], "--names")) {
+        for (unsigned i = 0; i < ITEMS; i++)
+            puts(items[i].name);
+        return 0;
+    }
+    agree_at_random(&w);
+    printf("both sides agree, answers and tables, in %lu calls\n", compared);
+    table();
+    return 0;
+}

@@ -1,0 +1,2 @@
+-- Proofs about the benchmark's entry points.
+pub mod Fields

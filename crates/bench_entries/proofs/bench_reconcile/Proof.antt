@@ -1,0 +1,54 @@
+-- `bench_reconcile` gives what the desk gives for the records whose fields are lent. Assumes nothing.
+use denote.Ref.{now}
+use Rattle.bench_entries.specs.Entries.{shortFields}
+use Rattle.bench_entries.proofs.Fields.{fields-whole, told-short, told-whole}
+use borrow.Author.Needs.{needs}
+use Rattle.bench_entries.proofs.bench_reconcile.Statement.{statement}
+use Rattle.bench_entries.proofs.bench_reconcile.Tie as tie
+use Rattle.bench_entries.proofs.bench_reconcile.Reads as reads
+use Rattle.bench_entries.proofs.bench_reconcile.Lts as lts
+use Rattle.bench_entries.proofs.records.Reads as records-reads
+use Rattle.bench_entries.proofs.tell.Reads as tell-reads
+use Rattle.reconcile.proofs.reconcile_few.Reads as reconcile-few-reads
+
+-- src/lib.rt:135:9
+returns : tie.Need-returns
+unfolding shortFields
+returns c = told-short _ _ _ _ _ _ _ _ _ (c .if1 .taken)
+
+-- src/lib.rt:137:9
+records-requires : tie.Need-records-requires
+unfolding shortFields
+records-requires c κs =
+    let x = c .before .before .before .before .before .args in
+    let w = fields-whole (now (x .grocer)) (now (x .tbox)) (now (x .place)) (now (x .count)) (now (x .owed)) (c .if1 .left) in
+    (w .0, w .1)
+
+-- src/lib.rt:138:9
+reconcile-few-requires : tie.Need-reconcile-few-requires
+reconcile-few-requires c κs = search needs
+
+-- src/lib.rt:139:5
+tell-requires : tie.Need-tell-requires
+unfolding shortFields
+tell-requires c κs =
+    let k = c .before .before .before in
+    let x = k .before .before .before .before .before .args in
+    fields-whole (now (x .grocer)) (now (x .tbox)) (now (x .place)) (now (x .count)) (now (x .owed)) (k .if1 .left) .2
+
+-- src/lib.rt:118:1
+same-length : tie.Need-same-length
+same-length c = search needs
+
+-- src/lib.rt:118:1
+returns-2 : tie.Need-returns-2
+unfolding shortFields
+returns-2 c =
+    let b = c .before in
+    let k = b .before .before .before .before in
+    told-whole _ _ _ _ _ _ _ _ _ _ _ _ _ (k .if1 .left) (b .tell .ensures) (b .before .before .«reconcile-few» .ensures) (b .before .before .before .records .ensures)
+
+pub bench-reconcile-spec : {M : Type 1} → statement M
+bench-reconcile-spec =
+    tie.close
+    (tie.spec returns records-requires reconcile-few-requires tell-requires same-length returns-2)

@@ -1,0 +1,2 @@
+-- What the benchmark's entry points give.
+pub mod Entries
