@@ -1,0 +1,23 @@
+#!/usr/bin/env python3
+"""What each crate of crates.txt assumes, from the logs of the last build in target/log."""
+import re
+from pathlib import Path
+
+root = Path(__file__).resolve().parent.parent
+names = re.findall(r"^(\w+):", (root / "crates.txt").read_text(), re.M)
+nothing, missing = [], []
+for name in names:
+    log = root / "target" / "log" / f"{name}.out"
+    text = log.read_text() if log.exists() else ""
+    if "logic=proved" not in text:
+        missing.append(name)
+        continue
+    assumed = re.findall(r"^axioms (.*)$", text, re.M)
+    if assumed:
+        print(f"{name}: {'; '.join(assumed)}")
+    else:
+        nothing.append(name)
+if nothing:
+    print("nothing: " + ", ".join(nothing))
+if missing:
+    print("not built: " + ", ".join(missing))
