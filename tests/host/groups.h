@@ -1,0 +1,13 @@
+/* The groups of checks, by the entry that they are about. */
+#ifndef GROUPS_H
+#define GROUPS_H
+
+/* How many random jobs a group tries; the others go by it. */
+extern unsigned long job_count;
+
+/* Runs all groups of one entry. */
+void check_reader(void);
+void check_step(void);
+void check_run(void);
+
+#endif
