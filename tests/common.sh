@@ -1,8 +1,6 @@
 # What the test scripts share: named checks, and the last line 'N passed, M failed'.
 passed=0 failed=0
 
-pass() { passed=$((passed + 1)); }
-
 fail() { # fail TEXT
     failed=$((failed + 1))
     echo "failed: $1"
@@ -11,7 +9,7 @@ fail() { # fail TEXT
 check() { # check TEXT COMMAND..
     local text=$1
     shift
-    if "$@"; then pass; else fail "$text"; fi
+    if "$@"; then passed=$((passed + 1)); else fail "$text"; fi
 }
 
 add_result() { # add_result TEXT LOG STATUS: add the last line of a test's log
@@ -27,13 +25,18 @@ add_result() { # add_result TEXT LOG STATUS: add the last line of a test's log
     if [ "$3" -ne 0 ] && [ "${line%% failed*}" -eq 0 ]; then fail "$1 ended with status $3"; fi
 }
 
-need() { # need COMMAND PACKAGE: install a Debian package whose command is missing
-    command -v "$1" >/dev/null 2>&1 && return
-    { apt-get update && DEBIAN_FRONTEND=noninteractive apt-get install -y --no-install-recommends "$2"; } >/dev/null 2>&1 ||
-        fail "$1 is missing, and the package $2 could not be installed"
+need() { # need TEST PACKAGE..: install Debian packages where a test does not hold
+    eval "$1" >/dev/null 2>&1 && return
+    { apt-get update && DEBIAN_FRONTEND=noninteractive apt-get install -y --no-install-recommends "${@:2}"; } >/dev/null 2>&1 ||
+        fail "not so: $1, and ${*:2} could not be installed"
 }
 
-finish() {
+need_compiler() {
+    need 'command -v gcc' gcc
+    need 'test -e /usr/include/stdio.h' libc6-dev
+}
+
+finish() { # the last line, and the exit status
     echo "$passed passed, $failed failed"
     [ "$failed" -eq 0 ]
     exit

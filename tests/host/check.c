@@ -2,11 +2,14 @@
 
 #include <stdarg.h>
 #include <stdio.h>
+#include <stdlib.h>
 
 enum { MOST_PRINTED = 5, MOST_NUMBER = 30 };
 
 static unsigned long checks, differences, passed, failed, answers[ENTRIES][MOST_NUMBER + 1];
 static char where[200];
+
+bool stop_at_first;
 
 void run_group(const char *name, void (*group)(void))
 {
@@ -21,6 +24,7 @@ void run_group(const char *name, void (*group)(void))
         passed++;
     else
         failed++;
+    if (failed && stop_at_first) exit(close_checks());
 }
 
 void at_case(const char *format, ...)

@@ -7,6 +7,9 @@
 
 enum entry { READ, STEP, RUN, ENTRIES };
 
+/* Whether the program ends with the first group that fails. */
+extern bool stop_at_first;
+
 /* Runs one group and prints its line; its first differences are printed before. */
 void run_group(const char *name, void (*group)(void));
 

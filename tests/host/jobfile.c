@@ -142,8 +142,8 @@ static bool read_tally(const uint8_t *record, struct job *job, size_t place)
     tally->grocer = (uint16_t)get_number(record, 2);
     tally->box = record[2];
     tally->count = (int32_t)get_number(record + 14, 4);
-    return read_code(record + 3, &tally->code) && tally->grocer < job->sizes.grocers &&
-           tally->box < job->sizes.boxes && tally->count >= -MOST_COUNT && tally->count <= MOST_COUNT;
+    return read_code(record + 3, &tally->code) && tally->grocer < job->sizes.grocers && tally->box < job->sizes.boxes &&
+           tally->count >= -MOST_COUNT && tally->count <= MOST_COUNT;
 }
 
 static bool read_record(const uint8_t *record, struct job *job, unsigned kind, size_t place)

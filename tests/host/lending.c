@@ -95,7 +95,8 @@ static void hand_over(const struct lending *lending, struct table lent[ALL_TABLE
         lent[name].length = lending->lend[name];
         if (!lend_exactly) continue;
         lent[name].words = memory(bytes_of(lent[name]));
-        if (!lending->blank || !is_state(name)) memcpy(lent[name].words, lending->table[name].words, bytes_of(lent[name]));
+        if (!lending->blank || !is_state(name))
+            memcpy(lent[name].words, lending->table[name].words, bytes_of(lent[name]));
     }
 }
 
@@ -123,10 +124,11 @@ uint16_t call_read(struct lending *lending)
 {
     struct table lent[ALL_TABLES];
     hand_over(lending, lent);
-    uint16_t answer = settlement_read(
-        SLICE(const uint8_t, FILE_BYTES), SLICE(uint32_t, PRICE), SLICE(uint16_t, OFFER_OWNER), SLICE(uint8_t, OFFER_CODE),
-        SLICE(uint16_t, GROCER_OWNER), SLICE(uint16_t, TALLY_GROCER), SLICE(uint16_t, TALLY_BOX),
-        SLICE(uint8_t, TALLY_CODE), SLICE(int32_t, TALLY_COUNT), SLICE(uint16_t, TALLY_OFFER), SLICE(uint16_t, SIZES));
+    uint16_t answer =
+        settlement_read(SLICE(const uint8_t, FILE_BYTES), SLICE(uint32_t, PRICE), SLICE(uint16_t, OFFER_OWNER),
+                        SLICE(uint8_t, OFFER_CODE), SLICE(uint16_t, GROCER_OWNER), SLICE(uint16_t, TALLY_GROCER),
+                        SLICE(uint16_t, TALLY_BOX), SLICE(uint8_t, TALLY_CODE), SLICE(int32_t, TALLY_COUNT),
+                        SLICE(uint16_t, TALLY_OFFER), SLICE(uint16_t, SIZES));
     return hand_back(lending, lent, READ, answer);
 }
 
@@ -153,7 +155,8 @@ static void say_difference(struct table table, struct table twin)
     size_t byte = 0, width = width_of(table.name);
     while (block_of(table)[byte] == block_of(twin)[byte]) byte++;
     if (byte < GUARD || byte >= GUARD + bytes_of(table)) {
-        expect(false, "%s: memory %s the buffer was written to", table_text(table.name), byte < GUARD ? "before" : "after");
+        expect(false, "%s: memory %s the buffer was written to", table_text(table.name),
+               byte < GUARD ? "before" : "after");
         return;
     }
     size_t place = (byte - GUARD) / width;

@@ -388,8 +388,7 @@ static void write_marks(const struct machine *machine, struct table done)
     uint16_t boxes = machine->job->sizes.boxes;
     for (unsigned kind = 1; kind < KINDS; kind++)
         for (size_t a = 0; a < boxes; a++)
-            for (size_t b = 0; b < boxes; b++)
-                put_word(done, mark_place(boxes, kind, a, b), machine->done[kind][a][b]);
+            for (size_t b = 0; b < boxes; b++) put_word(done, mark_place(boxes, kind, a, b), machine->done[kind][a][b]);
 }
 
 /* Prices under way stand by receiver, totals by sender. */

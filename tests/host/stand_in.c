@@ -1,4 +1,5 @@
-/* A stand-in for the library, made of the model. The test passes with it and must fail with each fault of faults.txt. */
+/* A stand-in for the library, made of the model. The test passes with it and must fail with each fault of faults.txt.
+ */
 #include "model.h"
 #include "settlement.h"
 

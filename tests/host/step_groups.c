@@ -270,32 +270,52 @@ static uint16_t wild_number(uint16_t near)
     }
 }
 
-/* Buffers long enough for sizes a little out of range, and sizes whose tables would be as long as 16 or 32 bits wrap. */
+/* Asks with each of these sizes on whatever is lent. */
+static void expect_for_sizes(const struct sizes tried[], size_t count, uint16_t due)
+{
+    for (size_t i = 0; i < count; i++) {
+        evening.job.sizes = tried[i];
+        at_case("K %u, M %u, N %u, T %u", tried[i].boxes, tried[i].grocers, tried[i].offers, tried[i].tallies);
+        expect_answer((struct step){2, 0, 0}, due);
+    }
+}
+
+/* Every buffer is long enough for sizes that are a little out of range. */
 static void sizes_out_of_range(void)
 {
     static const struct sizes tried[] = {
-        {0, 2, 2, 4},    {17, 2, 2, 4},     {2, 0, 2, 4},     {2, 256, 2, 4},      {2, 2, 0, 4},
-        {2, 2, 501, 4},  {2, 2, 2, 1001},   {0, 0, 0, 0},     {17, 256, 501, 1001}, {16, 255, 500, 1001},
-        {16, 255, 501, 1000}, {16, 256, 500, 1000}, {17, 255, 500, 1000},
-    };
-    static const struct sizes wrapping[] = {
-        {16, 2, 4096, 4}, {16, 4096, 2, 4}, {256, 2, 256, 4}, {256, 256, 2, 4}, {65535, 65535, 65535, 65535},
-        {32768, 2, 2, 4}, {2, 2, 2, 65535}, {2, 65535, 2, 4}, {2, 2, 65535, 4}, {18919, 2, 2, 4},
-    };
+        {0, 2, 2, 4},         {17, 2, 2, 4},        {2, 0, 2, 4},        {2, 256, 2, 4},       {2, 2, 0, 4},
+        {2, 2, 501, 4},       {2, 2, 2, 1001},      {0, 0, 0, 0},        {17, 256, 501, 1001}, {16, 255, 500, 1001},
+        {16, 255, 501, 1000}, {16, 256, 500, 1000}, {17, 255, 500, 1000}};
     size_t lengths[ALL_TABLES];
     for (unsigned name = 0; name < ALL_TABLES; name++) lengths[name] = needed(name, (struct sizes){17, 256, 501, 1001});
     open_lending(&evening.lending, lengths);
-    for (unsigned i = 0; i < sizeof tried / sizeof tried[0]; i++) {
-        at_case("K %u, M %u, N %u, T %u", tried[i].boxes, tried[i].grocers, tried[i].offers, tried[i].tallies);
-        evening.job.sizes = tried[i];
-        expect_answer((struct step){2, 0, 0}, 21);
-    }
-    for (unsigned i = 0; i < sizeof wrapping / sizeof wrapping[0]; i++) {
-        at_case("K %u, M %u, N %u, T %u", wrapping[i].boxes, wrapping[i].grocers, wrapping[i].offers,
-                wrapping[i].tallies);
-        evening.job.sizes = wrapping[i];
-        expect_answer((struct step){2, 0, 0}, 20);
-    }
+    expect_for_sizes(tried, sizeof tried / sizeof tried[0], 21);
+    close_evening(&evening);
+}
+
+/* Tables of one word for each grocer, offer or tally are as long as can be, the others short of lengths that are small
+   only where 16 or 32 bits wrap round. */
+static void lengths_that_wrap(void)
+{
+    static const struct sizes tried[] = {{16, 2, 4096, 4},
+                                         {2, 2, 32768, 4},
+                                         {16, 4096, 2, 4},
+                                         {2, 32768, 2, 4},
+                                         {256, 1, 1, 0},
+                                         {128, 1, 1, 0},
+                                         {32768, 1, 1, 0},
+                                         {26755, 1, 1, 0},
+                                         {65535, 1, 1, 0},
+                                         {257, 255, 2, 4},
+                                         {2, 2, 65535, 4},
+                                         {2, 65535, 2, 4},
+                                         {65535, 65535, 65535, 65535}};
+    size_t lengths[ALL_TABLES];
+    for (unsigned name = 0; name < ALL_TABLES; name++)
+        lengths[name] = needed(name, (struct sizes){0, 65535, 65535, 65535}) ? 65535 : 40000;
+    open_lending(&evening.lending, lengths);
+    expect_for_sizes(tried, sizeof tried / sizeof tried[0], 20);
     close_evening(&evening);
 }
 
@@ -360,7 +380,8 @@ static void late_refusals(void)
 static void sums_on_the_way(void)
 {
     at_case("a sum beyond the range on the way");
-    one_tally_job(&evening.job, (struct sizes){1, 1, 1, 1000}, MOST_PRICE, (struct tally){0, 0, 0, MOST_COUNT, {0, {0}}});
+    one_tally_job(&evening.job, (struct sizes){1, 1, 1, 1000}, MOST_PRICE,
+                  (struct tally){0, 0, 0, MOST_COUNT, {0, {0}}});
     for (size_t t = 500; t < 1000; t++) evening.job.tally[t].count = -MOST_COUNT;
     open_job();
     put_both(&evening.lending, WORKING, 0, MOST_AMOUNT);
@@ -410,7 +431,8 @@ static void running_sum(void)
     for (size_t g = 0; g < job->sizes.grocers; g++) {
         int64_t have = lent_word(STATEMENT, g);
         for (size_t b = 0; b < job->sizes.boxes; b++)
-            have += lent_word(WORKING, b * job->sizes.grocers + g) + lent_word(TOTAL_TRANSIT, b * job->sizes.grocers + g);
+            have +=
+                lent_word(WORKING, b * job->sizes.grocers + g) + lent_word(TOTAL_TRANSIT, b * job->sizes.grocers + g);
         expect(have == sum[g], "running sum of grocer %zu is %lld, should be %lld", g, (long long)have,
                (long long)sum[g]);
     }
@@ -594,6 +616,7 @@ void check_step(void)
     run_group("step: each buffer short", short_buffers);
     run_group("step: each table with a word at and beyond its range", words_out_of_range);
     run_group("step: K, M, N and T out of range", sizes_out_of_range);
+    run_group("step: K, M, N and T whose lengths wrap round", lengths_that_wrap);
     run_group("step: K, M, N and T beside their tables", arbitrary_sizes);
     run_group("step: results at and beyond their range", late_refusals);
     run_group("step: only finished words are held to the range", sums_on_the_way);

@@ -1,4 +1,4 @@
-/* The settlement library, called from C and held to the model: test [--seed N] [--count N] [--exact]. */
+/* The settlement library, called from C and held to the model: test [--seed N] [--count N] [--exact] [--stop]. */
 #include <stdio.h>
 #include <stdlib.h>
 #include <string.h>
@@ -11,7 +11,7 @@ unsigned long job_count = 2000;
 
 static int usage(void)
 {
-    fputs("test [--seed N] [--count N] [--exact]\n", stderr);
+    fputs("test [--seed N] [--count N] [--exact] [--stop]\n", stderr);
     return 2;
 }
 
@@ -21,6 +21,8 @@ int main(int argc, char **argv)
     for (int i = 1; i < argc; i++) {
         if (strcmp(argv[i], "--exact") == 0)
             lend_exactly = true;
+        else if (strcmp(argv[i], "--stop") == 0)
+            stop_at_first = true;
         else if (i + 1 < argc && strcmp(argv[i], "--seed") == 0)
             seed = strtoull(argv[++i], NULL, 10);
         else if (i + 1 < argc && strcmp(argv[i], "--count") == 0)
