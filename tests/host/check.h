@@ -10,6 +10,9 @@ enum entry { READ, STEP, RUN, ENTRIES };
 /* Whether the program ends with the first group that fails. */
 extern bool stop_at_first;
 
+/* Groups whose name has not this text are left out. */
+extern const char *only_groups;
+
 /* Runs one group and prints its line; its first differences are printed before. */
 void run_group(const char *name, void (*group)(void));
 

@@ -25,6 +25,19 @@ void lend_state(struct evening *evening)
     copy_twins(&evening->lending);
 }
 
+int64_t lent_word(const struct evening *evening, enum table_name name, size_t place)
+{
+    return word_at(evening->lending.table[name], place);
+}
+
+void expect_plain_sums(const struct evening *evening)
+{
+    for (uint16_t g = 0; g < evening->job.sizes.grocers; g++) {
+        int64_t statement = lent_word(evening, STATEMENT, g), sum = plain_sum(&evening->job, g);
+        expect(statement == sum, "statement %u is %lld, the plain sum %lld", g, (long long)statement, (long long)sum);
+    }
+}
+
 static uint16_t compare_step(struct evening *evening, struct sizes sizes, struct step step, uint16_t due)
 {
     uint16_t answer = call_step(&evening->lending, sizes, step);

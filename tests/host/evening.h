@@ -18,6 +18,12 @@ void close_evening(struct evening *evening);
 /* Writes the model's state to the buffers. */
 void lend_state(struct evening *evening);
 
+/* A word as the library left it. */
+int64_t lent_word(const struct evening *evening, enum table_name name, size_t place);
+
+/* Checks that every statement is the plain sum of its grocer. */
+void expect_plain_sums(const struct evening *evening);
+
 /* One request of the list: the answer, which is also the model's unless a difference was found. */
 uint16_t ask(struct evening *evening, struct step step);
 

@@ -64,6 +64,14 @@ struct sizes random_sizes(struct sizes most)
                           random_size(0, most.tallies)};
 }
 
+struct sizes sizes_with_tallies(struct sizes most)
+{
+    struct sizes sizes = random_sizes(most);
+    if (sizes.boxes < 2) sizes.boxes = 2;
+    if (sizes.tallies < 1) sizes.tallies = 1;
+    return sizes;
+}
+
 static int64_t random_in(int64_t least, int64_t most)
 {
     switch (below(6)) {

@@ -14,8 +14,9 @@ int64_t between(int64_t least, int64_t most);
 struct code code_of(const char *digits);
 struct code code_of_number(uint64_t number, size_t zeros);
 
-/* Sizes within the given ones, each from its least on. */
+/* Sizes within the given ones, each from its least on; and such with two boxes and a tally at least. */
 struct sizes random_sizes(struct sizes most);
+struct sizes sizes_with_tallies(struct sizes most);
 extern const struct sizes TINY, SMALL, MEDIUM, LARGEST;
 
 /* An accepted job of these sizes. */

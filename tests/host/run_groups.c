@@ -24,20 +24,12 @@ static void expect_run(uint16_t due)
     expect(answer == due, "run answered %u, the specification says %u", answer, due);
 }
 
-static int64_t lent_word(enum table_name name, size_t place) { return word_at(evening.lending.table[name], place); }
-
 static void expect_report(uint32_t words, uint32_t messages, uint32_t steps)
 {
     uint32_t due[] = {words, messages, steps};
     for (size_t i = 0; i < 3; i++)
-        expect(lent_word(REPORT, i) == due[i], "report[%zu] is %lld, should be %u", i, (long long)lent_word(REPORT, i),
-               due[i]);
-}
-
-static void expect_plain_sums(void)
-{
-    for (uint16_t g = 0; g < evening.job.sizes.grocers; g++)
-        expect(lent_word(STATEMENT, g) == plain_sum(&evening.job, g), "statement %u is not the plain sum", g);
+        expect(lent_word(&evening, REPORT, i) == due[i], "report[%zu] is %lld, should be %u", i,
+               (long long)lent_word(&evening, REPORT, i), due[i]);
 }
 
 /* The cases of the specification */
@@ -49,13 +41,13 @@ static void run_case(const char *what, uint32_t words, uint32_t messages, uint32
     scramble_state();
     expect_run(0);
     expect_report(words, messages, steps);
-    expect_plain_sums();
+    expect_plain_sums(&evening);
 }
 
 static void expect_statement(uint16_t grocer, int64_t amount)
 {
-    expect(lent_word(STATEMENT, grocer) == amount, "statement %u is %lld, should be %lld", grocer,
-           (long long)lent_word(STATEMENT, grocer), (long long)amount);
+    expect(lent_word(&evening, STATEMENT, grocer) == amount, "statement %u is %lld, should be %lld", grocer,
+           (long long)lent_word(&evening, STATEMENT, grocer), (long long)amount);
 }
 
 static void one_tally_case(const char *what, uint16_t tallies, uint32_t price, int32_t count, int64_t amount)
@@ -99,8 +91,7 @@ static void refused_run(enum table_name name, size_t lend)
 static void short_buffers(void)
 {
     for (unsigned long round = 0; round < 10 + job_count / 100; round++) {
-        struct sizes sizes = random_sizes(round % 4 ? TINY : MEDIUM);
-        if (sizes.tallies == 0) sizes.tallies = 1;
+        struct sizes sizes = sizes_with_tallies(round % 4 ? TINY : MEDIUM);
         random_job(&evening.job, sizes);
         open_run(below(5));
         scramble_state();
@@ -134,8 +125,7 @@ static void out_of_range(enum table_name name, size_t place, int64_t word)
 static void words_out_of_range(void)
 {
     for (unsigned long round = 0; round < 10 + job_count / 100; round++) {
-        struct sizes sizes = random_sizes(round % 4 ? TINY : MEDIUM);
-        if (sizes.tallies == 0) sizes.tallies = 1;
+        struct sizes sizes = sizes_with_tallies(round % 4 ? TINY : MEDIUM);
         random_job(&evening.job, sizes);
         open_run(0);
         scramble_state();
@@ -152,24 +142,24 @@ static void words_out_of_range(void)
     }
 }
 
+static void expect_for_sizes(const struct sizes tried[], size_t count, uint16_t due)
+{
+    for (size_t i = 0; i < count; i++) {
+        evening.job.sizes = tried[i];
+        at_case("K %u, M %u, N %u, T %u", tried[i].boxes, tried[i].grocers, tried[i].offers, tried[i].tallies);
+        expect_run(due);
+    }
+}
+
 static void sizes_out_of_range(void)
 {
-    static const struct sizes tried[] = {{0, 2, 2, 4}, {2, 0, 2, 4}, {2, 2, 0, 4}, {0, 0, 0, 0}};
-    static const struct sizes wrapping[] = {{17, 2, 2, 4},   {2, 256, 2, 4},   {2, 2, 501, 4},
-                                            {2, 2, 2, 1001}, {16, 2, 4096, 4}, {65535, 65535, 65535, 65535}};
+    static const struct sizes none[] = {{0, 2, 2, 4}, {2, 0, 2, 4}, {2, 2, 0, 4}, {0, 0, 0, 0}};
+    static const struct sizes more[] = {{17, 2, 2, 4},   {2, 256, 2, 4},   {2, 2, 501, 4},
+                                        {2, 2, 2, 1001}, {16, 2, 4096, 4}, {65535, 65535, 65535, 65535}};
     small_evening(&evening.job);
     open_run(3);
-    for (unsigned i = 0; i < sizeof tried / sizeof tried[0]; i++) {
-        at_case("K %u, M %u, N %u, T %u", tried[i].boxes, tried[i].grocers, tried[i].offers, tried[i].tallies);
-        uint16_t answer = ask_run(&evening, tried[i], &picks);
-        expect(answer == 21, "run answered %u, the specification says 21", answer);
-    }
-    for (unsigned i = 0; i < sizeof wrapping / sizeof wrapping[0]; i++) {
-        at_case("K %u, M %u, N %u, T %u", wrapping[i].boxes, wrapping[i].grocers, wrapping[i].offers,
-                wrapping[i].tallies);
-        uint16_t answer = ask_run(&evening, wrapping[i], &picks);
-        expect(answer == 20, "run answered %u, the specification says 20", answer);
-    }
+    expect_for_sizes(none, 4, 21);
+    expect_for_sizes(more, 6, 20);
     close_evening(&evening);
 }
 
@@ -197,15 +187,14 @@ static void random_choices(void)
 /* The picked steps, asked one by one from a fresh state, leave the words that the run left. */
 static void list_ends_alike(void)
 {
-    struct lending *lending = &evening.lending;
     start_fresh(&evening.machine, &evening.job);
     lend_state(&evening);
     for (size_t i = 0; i < picks.length; i++)
         expect(ask(&evening, picks.step[i]) == 0, "the run's step %zu was refused in the list", i);
-    for (uint16_t g = 0; g < evening.job.sizes.grocers; g++)
-        expect(word_at(lending->table[STATEMENT], g) == plain_sum(&evening.job, g), "statement %u differs", g);
-    expect(lent_word(SENT, 0) == lent_word(REPORT, 0), "words sent in the list and the run's report differ");
-    expect(picks.length == (size_t)lent_word(REPORT, 2), "steps in the list and the run's report differ");
+    expect_plain_sums(&evening);
+    expect(lent_word(&evening, SENT, 0) == lent_word(&evening, REPORT, 0),
+           "words sent in the list and the run's report differ");
+    expect(picks.length == (size_t)lent_word(&evening, REPORT, 2), "steps in the list and the run's report differ");
 }
 
 static void try_run(struct sizes sizes, bool as_list)
@@ -215,7 +204,7 @@ static void try_run(struct sizes sizes, bool as_list)
     scramble_state();
     random_choices();
     expect_run(0);
-    expect_plain_sums();
+    expect_plain_sums(&evening);
     expect_report(words_of_evening(&evening.job), (uint32_t)(picks.length / 2 - sizes.boxes), (uint32_t)picks.length);
     if (as_list) list_ends_alike();
     close_evening(&evening);
@@ -237,6 +226,26 @@ static void largest_runs(void)
     }
 }
 
+/* A file read into the tables of the largest job, and the run on those very tables. */
+static void from_file_to_statements(void)
+{
+    static uint8_t file[MOST_FILE];
+    size_t lengths[ALL_TABLES];
+    for (unsigned name = 0; name < ALL_TABLES; name++) lengths[name] = needed(name, LARGEST);
+    lengths[FILE_BYTES] = MOST_FILE;
+    open_lending(&evening.lending, lengths);
+    for (unsigned long i = 0; i < 10 + job_count / 20; i++) {
+        at_case("file %lu", i);
+        random_job(&evening.job, random_sizes(i % 8 ? SMALL : LARGEST));
+        expect(ask_read(&evening.lending, file, write_file(&evening.job, file)) == 0, "the file was refused");
+        struct sizes read = {(uint16_t)lent_word(&evening, SIZES, 0), (uint16_t)lent_word(&evening, SIZES, 1),
+                             (uint16_t)lent_word(&evening, SIZES, 2), (uint16_t)lent_word(&evening, SIZES, 3)};
+        expect(ask_run(&evening, read, &picks) == 0, "the run was refused");
+        expect_plain_sums(&evening);
+    }
+    close_evening(&evening);
+}
+
 /* State buffers that nothing was written to: a memory checker sees a run that looks at them. */
 static void blank_state(void)
 {
@@ -249,7 +258,7 @@ static void blank_state(void)
         random_choices();
         evening.lending.blank = true;
         expect_run(0);
-        expect_plain_sums();
+        expect_plain_sums(&evening);
         close_evening(&evening);
     }
     lend_exactly = exactly;
@@ -263,5 +272,6 @@ void check_run(void)
     run_group("run: K, M, N and T out of range", sizes_out_of_range);
     run_group("run: random runs, and lists that end alike", random_runs);
     run_group("run: the largest jobs", largest_runs);
+    run_group("run: from a file to its statements", from_file_to_statements);
     run_group("run: what the state buffers held is not looked at", blank_state);
 }

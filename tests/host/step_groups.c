@@ -41,65 +41,87 @@ struct plight {
 };
 
 static const struct plight plights[] = {
-    {"send prices, permitted", {1, 0, 1}, 0, false, false, {{0}}},
-    {"sweep own, permitted", {2, 1, 1}, 0, false, false, {{0}}},
-    {"receive prices, permitted", {3, 0, 1}, 0, false, false, {{1, 1, 0}}},
-    {"send totals, permitted", {4, 0, 1}, 0, false, false, {{2, 0, 0}, {3, 0, 1}}},
-    {"add own, permitted", {5, 0, 0}, 0, false, false, {{2, 0, 0}, {3, 0, 1}}},
-    {"receive totals, permitted", {6, 1, 0}, 0, false, false, {{4, 0, 1}}},
-    {"kind 0", {0, 0, 1}, 22, false, false, {{0}}},
-    {"kind 7", {7, 0, 1}, 22, false, false, {{0}}},
-    {"kind 65,535", {65535, 0, 0}, 22, false, false, {{0}}},
-    {"kind 9 with box 99", {9, 99, 99}, 22, false, false, {{0}}},
-    {"kind 257", {257, 0, 1}, 22, false, false, {{0}}},
-    {"message 0 to 0", {1, 0, 0}, 23, false, false, {{0}}},
-    {"message 0 to 0, its place marked", {1, 0, 0}, 23, true, false, {{0}}},
-    {"receipt of 1 from 1", {3, 1, 1}, 23, false, false, {{0}}},
-    {"totals 1 to 1", {4, 1, 1}, 23, false, false, {{2, 1, 1}, {3, 1, 0}}},
-    {"totals of 0 from 0", {6, 0, 0}, 23, false, false, {{0}}},
-    {"sweep of 0 and 1", {2, 0, 1}, 23, false, false, {{0}}},
-    {"own of 1 and 0", {5, 1, 0}, 23, false, false, {{0}}},
-    {"first box 2", {1, 2, 0}, 23, false, false, {{0}}},
-    {"second box 2", {1, 0, 2}, 23, false, false, {{0}}},
-    {"sweep of box 2", {2, 2, 2}, 23, false, false, {{0}}},
-    {"own of box 65,535", {5, 65535, 65535}, 23, false, false, {{0}}},
-    {"first box 256", {1, 256, 1}, 23, false, false, {{0}}},
-    {"second box 65,535", {6, 1, 65535}, 23, false, false, {{0}}},
-    {"empty totals", {4, 1, 0}, 24, false, false, {{2, 1, 1}, {3, 1, 0}}},
-    {"empty totals, not ready", {4, 1, 0}, 24, false, false, {{0}}},
-    {"empty totals, marked", {4, 1, 0}, 24, true, false, {{2, 1, 1}, {3, 1, 0}}},
-    {"empty receipt", {6, 0, 1}, 24, false, false, {{4, 1, 0}}},
-    {"empty receipt, not ready", {6, 0, 1}, 24, false, false, {{0}}},
-    {"empty receipt, marked", {6, 0, 1}, 24, true, true, {{0}}},
-    {"send prices repeated", {1, 0, 1}, 25, true, false, {{0}}},
-    {"sweep repeated", {2, 0, 0}, 25, true, false, {{0}}},
-    {"receipt repeated", {3, 0, 1}, 25, true, false, {{1, 1, 0}}},
-    {"receipt marked, not ready", {3, 0, 1}, 25, true, false, {{0}}},
-    {"totals repeated", {4, 0, 1}, 25, true, false, {{2, 0, 0}, {3, 0, 1}}},
-    {"totals marked, not ready", {4, 0, 1}, 25, true, false, {{0}}},
-    {"own repeated", {5, 1, 1}, 25, true, false, {{2, 1, 1}, {3, 1, 0}}},
-    {"own repeated, its result too large", {5, 1, 1}, 25, true, true, {{2, 1, 1}, {3, 1, 0}}},
-    {"receipt of totals repeated", {6, 1, 0}, 25, true, true, {{4, 0, 1}}},
-    {"receipt of totals marked, not ready", {6, 1, 0}, 25, true, true, {{0}}},
-    {"send prices repeated, the count full", {1, 1, 0}, 25, true, true, {{0}}},
-    {"receipt before sending", {3, 0, 1}, 26, false, false, {{0}}},
-    {"receipt before sending, the other way sent", {3, 0, 1}, 26, false, false, {{1, 0, 1}}},
-    {"receipt before sending, its result too large", {3, 1, 0}, 26, false, true, {{0}}},
-    {"totals before anything", {4, 0, 1}, 26, false, false, {{0}}},
-    {"totals after the own sweep only", {4, 0, 1}, 26, false, false, {{2, 0, 0}}},
-    {"totals after the receipt only", {4, 0, 1}, 26, false, false, {{3, 0, 1}}},
-    {"totals after the other box's sweep", {4, 0, 1}, 26, false, true, {{2, 1, 1}, {3, 0, 1}}},
-    {"own before anything", {5, 1, 1}, 26, false, true, {{0}}},
-    {"own after the sweep only", {5, 1, 1}, 26, false, false, {{2, 1, 1}}},
-    {"own after the receipt only", {5, 0, 0}, 26, false, false, {{3, 0, 1}}},
-    {"receipt of totals before sending", {6, 1, 0}, 26, false, true, {{0}}},
-    {"receipt of totals, own added", {6, 1, 0}, 26, false, false, {{5, 0, 0}, {5, 1, 1}}},
-    {"send prices, the count full", {1, 0, 1}, 21, false, true, {{0}}},
-    {"sweep, its result too large", {2, 0, 0}, 21, false, true, {{0}}},
-    {"receipt, its result too large", {3, 1, 0}, 21, false, true, {{1, 0, 1}}},
-    {"totals, the count full", {4, 0, 1}, 21, false, true, {{2, 0, 0}, {3, 0, 1}}},
-    {"own, its result too large", {5, 1, 1}, 21, false, true, {{2, 1, 1}, {3, 1, 0}}},
-    {"receipt of totals, its result too large", {6, 1, 0}, 21, false, true, {{4, 0, 1}}},
+    {.what = "send prices, permitted", .step = {1, 0, 1}, .number = 0},
+    {.what = "sweep own, permitted", .step = {2, 1, 1}, .number = 0},
+    {.what = "receive prices, permitted", .step = {3, 0, 1}, .number = 0, .done = {{1, 1, 0}}},
+    {.what = "send totals, permitted", .step = {4, 0, 1}, .number = 0, .done = {{2, 0, 0}, {3, 0, 1}}},
+    {.what = "add own, permitted", .step = {5, 0, 0}, .number = 0, .done = {{2, 0, 0}, {3, 0, 1}}},
+    {.what = "receive totals, permitted", .step = {6, 1, 0}, .number = 0, .done = {{4, 0, 1}}},
+    {.what = "kind 0", .step = {0, 0, 1}, .number = 22},
+    {.what = "kind 7", .step = {7, 0, 1}, .number = 22},
+    {.what = "kind 65,535", .step = {65535, 0, 0}, .number = 22},
+    {.what = "kind 9 with box 99", .step = {9, 99, 99}, .number = 22},
+    {.what = "kind 257", .step = {257, 0, 1}, .number = 22},
+    {.what = "message 0 to 0", .step = {1, 0, 0}, .number = 23},
+    {.what = "message 0 to 0, its place marked", .step = {1, 0, 0}, .number = 23, .marked = true},
+    {.what = "receipt of 1 from 1", .step = {3, 1, 1}, .number = 23},
+    {.what = "totals 1 to 1", .step = {4, 1, 1}, .number = 23, .done = {{2, 1, 1}, {3, 1, 0}}},
+    {.what = "totals of 0 from 0", .step = {6, 0, 0}, .number = 23},
+    {.what = "sweep of 0 and 1", .step = {2, 0, 1}, .number = 23},
+    {.what = "own of 1 and 0", .step = {5, 1, 0}, .number = 23},
+    {.what = "first box 2", .step = {1, 2, 0}, .number = 23},
+    {.what = "second box 2", .step = {1, 0, 2}, .number = 23},
+    {.what = "sweep of box 2", .step = {2, 2, 2}, .number = 23},
+    {.what = "own of box 65,535", .step = {5, 65535, 65535}, .number = 23},
+    {.what = "first box 256", .step = {1, 256, 1}, .number = 23},
+    {.what = "second box 65,535", .step = {6, 1, 65535}, .number = 23},
+    {.what = "empty totals", .step = {4, 1, 0}, .number = 24, .done = {{2, 1, 1}, {3, 1, 0}}},
+    {.what = "empty totals, not ready", .step = {4, 1, 0}, .number = 24},
+    {.what = "empty totals, marked", .step = {4, 1, 0}, .number = 24, .marked = true, .done = {{2, 1, 1}, {3, 1, 0}}},
+    {.what = "empty receipt", .step = {6, 0, 1}, .number = 24, .done = {{4, 1, 0}}},
+    {.what = "empty receipt, not ready", .step = {6, 0, 1}, .number = 24},
+    {.what = "empty receipt, marked", .step = {6, 0, 1}, .number = 24, .marked = true, .large = true},
+    {.what = "send prices repeated", .step = {1, 0, 1}, .number = 25, .marked = true},
+    {.what = "sweep repeated", .step = {2, 0, 0}, .number = 25, .marked = true},
+    {.what = "receipt repeated", .step = {3, 0, 1}, .number = 25, .marked = true, .done = {{1, 1, 0}}},
+    {.what = "receipt marked, not ready", .step = {3, 0, 1}, .number = 25, .marked = true},
+    {.what = "totals repeated", .step = {4, 0, 1}, .number = 25, .marked = true, .done = {{2, 0, 0}, {3, 0, 1}}},
+    {.what = "totals marked, not ready", .step = {4, 0, 1}, .number = 25, .marked = true},
+    {.what = "own repeated", .step = {5, 1, 1}, .number = 25, .marked = true, .done = {{2, 1, 1}, {3, 1, 0}}},
+    {.what = "own repeated, its result too large",
+     .step = {5, 1, 1},
+     .number = 25,
+     .marked = true,
+     .large = true,
+     .done = {{2, 1, 1}, {3, 1, 0}}},
+    {.what = "receipt of totals repeated",
+     .step = {6, 1, 0},
+     .number = 25,
+     .marked = true,
+     .large = true,
+     .done = {{4, 0, 1}}},
+    {.what = "receipt of totals marked, not ready", .step = {6, 1, 0}, .number = 25, .marked = true, .large = true},
+    {.what = "send prices repeated, the count full", .step = {1, 1, 0}, .number = 25, .marked = true, .large = true},
+    {.what = "receipt before sending", .step = {3, 0, 1}, .number = 26},
+    {.what = "receipt before sending, the other way sent", .step = {3, 0, 1}, .number = 26, .done = {{1, 0, 1}}},
+    {.what = "receipt before sending, its result too large", .step = {3, 1, 0}, .number = 26, .large = true},
+    {.what = "totals before anything", .step = {4, 0, 1}, .number = 26},
+    {.what = "totals after the own sweep only", .step = {4, 0, 1}, .number = 26, .done = {{2, 0, 0}}},
+    {.what = "totals after the receipt only", .step = {4, 0, 1}, .number = 26, .done = {{3, 0, 1}}},
+    {.what = "totals after the other box's sweep",
+     .step = {4, 0, 1},
+     .number = 26,
+     .large = true,
+     .done = {{2, 1, 1}, {3, 0, 1}}},
+    {.what = "own before anything", .step = {5, 1, 1}, .number = 26, .large = true},
+    {.what = "own after the sweep only", .step = {5, 1, 1}, .number = 26, .done = {{2, 1, 1}}},
+    {.what = "own after the receipt only", .step = {5, 0, 0}, .number = 26, .done = {{3, 0, 1}}},
+    {.what = "receipt of totals before sending", .step = {6, 1, 0}, .number = 26, .large = true},
+    {.what = "receipt of totals, own added", .step = {6, 1, 0}, .number = 26, .done = {{5, 0, 0}, {5, 1, 1}}},
+    {.what = "send prices, the count full", .step = {1, 0, 1}, .number = 21, .large = true},
+    {.what = "sweep, its result too large", .step = {2, 0, 0}, .number = 21, .large = true},
+    {.what = "receipt, its result too large", .step = {3, 1, 0}, .number = 21, .large = true, .done = {{1, 0, 1}}},
+    {.what = "totals, the count full", .step = {4, 0, 1}, .number = 21, .large = true, .done = {{2, 0, 0}, {3, 0, 1}}},
+    {.what = "own, its result too large",
+     .step = {5, 1, 1},
+     .number = 21,
+     .large = true,
+     .done = {{2, 1, 1}, {3, 1, 0}}},
+    {.what = "receipt of totals, its result too large",
+     .step = {6, 1, 0},
+     .number = 21,
+     .large = true,
+     .done = {{4, 0, 1}}},
 };
 enum { PLIGHTS = sizeof plights / sizeof plights[0] };
 
@@ -173,17 +195,9 @@ static struct step some_ready_step(void)
     return length ? ready[below((uint32_t)length)] : (struct step){1, 0, 0};
 }
 
-static struct sizes sizes_with_all(struct sizes most)
-{
-    struct sizes sizes = random_sizes(most);
-    if (sizes.boxes < 2) sizes.boxes = 2;
-    if (sizes.tallies < 1) sizes.tallies = 1;
-    return sizes;
-}
-
 static void open_middle(struct sizes most)
 {
-    random_job(&evening.job, sizes_with_all(most));
+    random_job(&evening.job, sizes_with_tallies(most));
     open_job();
     advance(below(20));
 }
@@ -405,11 +419,9 @@ static void sums_on_the_way(void)
 
 /* Lists of requests */
 
-static int64_t lent_word(enum table_name name, size_t place) { return word_at(evening.lending.table[name], place); }
-
 static bool is_marked(uint16_t kind, uint16_t first, uint16_t second)
 {
-    return lent_word(DONE, mark_place((struct step){kind, first, second})) == 1;
+    return lent_word(&evening, DONE, mark_place((struct step){kind, first, second})) == 1;
 }
 
 static bool is_added(const struct tally *tally)
@@ -429,37 +441,60 @@ static void running_sum(void)
         if (is_added(tally)) sum[tally->grocer] += (int64_t)tally->count * job->offer[tally->place].price;
     }
     for (size_t g = 0; g < job->sizes.grocers; g++) {
-        int64_t have = lent_word(STATEMENT, g);
+        int64_t have = lent_word(&evening, STATEMENT, g);
         for (size_t b = 0; b < job->sizes.boxes; b++)
-            have +=
-                lent_word(WORKING, b * job->sizes.grocers + g) + lent_word(TOTAL_TRANSIT, b * job->sizes.grocers + g);
+            have += lent_word(&evening, WORKING, b * job->sizes.grocers + g) +
+                    lent_word(&evening, TOTAL_TRANSIT, b * job->sizes.grocers + g);
         expect(have == sum[g], "running sum of grocer %zu is %lld, should be %lld", g, (long long)have,
                (long long)sum[g]);
     }
 }
 
-static struct step random_request(void)
+static struct step random_step(void)
 {
     uint16_t boxes = evening.job.sizes.boxes;
-    struct step step = {(uint16_t)(1 + below(6)), (uint16_t)below(boxes), (uint16_t)below(boxes)};
-    uint32_t draw = below(10);
-    if (draw < 6) return some_ready_step();
-    if (draw < 8 && (step.kind == SWEEP_OWN || step.kind == ADD_OWN)) step.second = step.first;
-    if (draw == 9) {
-        if (one_in(2)) step.kind = wild_number(6);
-        if (one_in(2)) step.first = wild_number(boxes);
-        if (one_in(2)) step.second = wild_number(boxes);
+    return (struct step){(uint16_t)(1 + below(6)), (uint16_t)below(boxes), (uint16_t)below(boxes)};
+}
+
+/* A step of the job, done, ready or neither. */
+static struct step some_step_of_job(void)
+{
+    for (;;) {
+        struct step step = random_step();
+        if (evening.machine.has[step.kind][step.first][step.second]) return step;
     }
+}
+
+static struct step wild_step(void)
+{
+    struct step step = random_step();
+    if (one_in(2)) step.kind = wild_number(6);
+    if (one_in(2)) step.first = wild_number(evening.job.sizes.boxes);
+    if (one_in(2)) step.second = wild_number(evening.job.sizes.boxes);
     return step;
 }
 
-static void ask_short(struct step step)
+static struct step random_request(void)
+{
+    uint32_t draw = below(10);
+    if (draw < 5) return some_ready_step();
+    if (draw < 8) return some_step_of_job();
+    return draw == 8 ? random_step() : wild_step();
+}
+
+/* Lends one or two buffers short; those that need no word stay as they are. */
+static void lend_short(void)
 {
     for (uint32_t tables = 1 + below(2); tables > 0; tables--) {
         enum table_name name = below(STEP_TABLES);
         uint64_t need = needed(name, evening.job.sizes);
         if (need > 0) evening.lending.lend[name] = one_in(2) ? need - 1 : below((uint32_t)need);
     }
+}
+
+static void ask_short(struct step step)
+{
+    lend_short();
     ask(&evening, step);
     lend_whole(&evening.lending);
 }
@@ -496,11 +531,9 @@ static void finish(void)
     while ((length = ready_steps(&evening.machine, ready)) > 0)
         if (ask(&evening, ready[below((uint32_t)length)]) != 0) break;
     running_sum();
-    for (uint16_t g = 0; g < evening.job.sizes.grocers; g++)
-        expect(lent_word(STATEMENT, g) == plain_sum(&evening.job, g), "statement %u is %lld, the plain sum %lld", g,
-               (long long)lent_word(STATEMENT, g), (long long)plain_sum(&evening.job, g));
-    expect(lent_word(SENT, 0) == words_of_evening(&evening.job), "words sent %lld, should be %u",
-           (long long)lent_word(SENT, 0), words_of_evening(&evening.job));
+    expect_plain_sums(&evening);
+    expect(lent_word(&evening, SENT, 0) == words_of_evening(&evening.job), "words sent %lld, should be %u",
+           (long long)lent_word(&evening, SENT, 0), words_of_evening(&evening.job));
     for (unsigned i = 0; i < 3; i++) expect(ask(&evening, random_request()) != 0, "a step after the last was accepted");
 }
 
@@ -579,7 +612,9 @@ static void try_states(struct sizes sizes, unsigned requests)
         struct step step = random_request();
         if (one_in(2)) random_state();
         make_ready(step);
+        if (one_in(20)) lend_short();
         ask_on_words(&evening, evening.job.sizes, step);
+        lend_whole(&evening.lending);
     }
     close_evening(&evening);
 }
@@ -590,6 +625,8 @@ static void arbitrary_states(void)
         at_case("state %lu", i);
         try_states(random_sizes(i % 8 ? TINY : i % 64 ? SMALL : MEDIUM), 8);
     }
+    at_case("states of a largest job");
+    try_states(LARGEST, (unsigned)(10 + job_count / 20));
 }
 
 /* A random job's words and random sizes beside it. */

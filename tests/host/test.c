@@ -1,4 +1,5 @@
-/* The settlement library, called from C and held to the model: test [--seed N] [--count N] [--exact] [--stop]. */
+/* The settlement library, called from C and held to the model: test [--seed N] [--count N] [--exact] [--stop]
+   [--only TEXT]. */
 #include <stdio.h>
 #include <stdlib.h>
 #include <string.h>
@@ -11,7 +12,7 @@ unsigned long job_count = 2000;
 
 static int usage(void)
 {
-    fputs("test [--seed N] [--count N] [--exact] [--stop]\n", stderr);
+    fputs("test [--seed N] [--count N] [--exact] [--stop] [--only TEXT]\n", stderr);
     return 2;
 }
 
@@ -27,6 +28,8 @@ int main(int argc, char **argv)
             seed = strtoull(argv[++i], NULL, 10);
         else if (i + 1 < argc && strcmp(argv[i], "--count") == 0)
             job_count = strtoul(argv[++i], NULL, 10);
+        else if (i + 1 < argc && strcmp(argv[i], "--only") == 0)
+            only_groups = argv[++i];
         else
             return usage();
     }
