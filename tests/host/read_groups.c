@@ -311,6 +311,51 @@ static void damaged_files(void)
     }
 }
 
+/* Every byte of a file in turn, with the sums of its block made right. */
+static void each_byte_of(size_t length)
+{
+    for (size_t place = 0; place < length; place++) {
+        uint8_t *block = file + place / BLOCK * BLOCK, kept[BLOCK];
+        memcpy(kept, block, BLOCK);
+        file[place] = one_in(2) ? likely_byte(file[place]) : file[place] ^ (uint8_t)(1u << below(8));
+        if (place % BLOCK < 508) write_sums(block);
+        at_case("byte %zu of %zu is %u", place, length, file[place]);
+        ask_read(&lending, file, length);
+        memcpy(block, kept, BLOCK);
+    }
+}
+
+/* Blocks with each number of records. */
+static void each_byte(void)
+{
+    unsigned stride = job_count < 1000 ? 10 : 1;
+    for (uint16_t records = 1; records <= 21; records = (uint16_t)(records + stride)) {
+        random_job(&job, (struct sizes){3, (uint16_t)(12 * records), records, (uint16_t)(22 - records)});
+        each_byte_of(write_file(&job, file));
+    }
+}
+
+/* Each length of a code with each place of its field set to each of some bytes, in an offer and in a tally. */
+static void each_code(void)
+{
+    static const uint8_t bytes[] = {0, 1, '0' - 1, '0', '9', '9' + 1, '0' + 128, 255};
+    for (unsigned at = 0; at < 13 * FIELD * sizeof bytes; at++) {
+        unsigned digits = at % 13, place = at / 13 % FIELD;
+        struct code code = code_of_number(1234567890, 0);
+        memset(code.field + digits % (FIELD + 1), 0, FIELD - digits % (FIELD + 1));
+        code.digits = (uint8_t)digits;
+        code.field[place] = bytes[at / 13 / FIELD];
+        at_case("%u digits, byte %u is %u", digits, place, code.field[place]);
+        one_tally_job(&job, (struct sizes){1, 1, 1, 1}, 1, (struct tally){0});
+        job.offer[0].code = code;
+        ask_read(&lending, file, write_file(&job, file));
+        job.tally[0].code = code;
+        ask_read(&lending, file, write_file(&job, file));
+        job.offer[0].code = code_of_number(123, 2);
+        ask_read(&lending, file, write_file(&job, file));
+    }
+}
+
 /* Codes that share a number, or nearly, and tallies of them. */
 static void near_codes(void)
 {
@@ -394,5 +439,7 @@ void check_reader(void)
     group("reader: random files", random_files);
     group("reader: one or two bytes of a block changed", changed_bytes);
     group("reader: damage with the sums made right", damaged_files);
+    group("reader: every byte in turn, the sums made right", each_byte);
+    group("reader: every place of a code", each_code);
     group("reader: codes that share a number or nearly", near_codes);
 }

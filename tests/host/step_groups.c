@@ -366,16 +366,20 @@ static void open_late(int sign)
     put_both(&evening.lending, KNOWN, 0, 3);
 }
 
+/* Every mark of two boxes but one, so that this step is ready. */
+static void mark_all_but(struct step step)
+{
+    for (size_t place = 0; place < needed(DONE, evening.job.sizes); place++) put_both(&evening.lending, DONE, place, 1);
+    put_both(&evening.lending, DONE, mark_place(step), 0);
+}
+
 static void late_case(const struct late *late, int sign, bool beyond)
 {
     struct step step = late->step;
     if (late->name == SENT) sign = 1;
     at_case("%s, %s, sign %d", late->what, beyond ? "beyond" : "just fits", sign);
     open_late(sign);
-    for (uint16_t kind = 1; kind < KINDS; kind++)
-        for (uint16_t a = 0; a < 2; a++)
-            for (uint16_t b = 0; b < 2; b++) set_mark((struct step){kind, a, b});
-    put_both(&evening.lending, DONE, mark_place(step), 0);
+    mark_all_but(step);
     put_both(&evening.lending, late->name, late->place, sign * (late->just_fits + (beyond ? late->beyond : 0)));
     expect_answer(step, beyond ? 21 : 0);
     close_evening(&evening);
@@ -415,6 +419,36 @@ static void sums_on_the_way(void)
     put_both(&evening.lending, STATEMENT, 254, 1 - MOST_AMOUNT);
     expect_answer((struct step){5, 0, 0}, 0);
     close_evening(&evening);
+}
+
+/* Two boxes hold a tally of offer 0 and grocer 0; box 0 owns the offers, box 1 the grocers. */
+static void open_beside(struct step step, int sign)
+{
+    one_tally_job(&evening.job, (struct sizes){2, 3, 3, 2}, 5, (struct tally){0, 0, 0, sign, {0, {0}}});
+    evening.job.tally[1].box = 1;
+    open_job();
+    mark_all_but(step);
+    for (size_t place = 0; place < 6; place++) {
+        int64_t amount = place % 3 == 0 ? 0 : sign * MOST_AMOUNT;
+        put_both(&evening.lending, KNOWN, place, MOST_PRICE);
+        put_both(&evening.lending, PRICE_TRANSIT, place, MOST_PRICE);
+        put_both(&evening.lending, WORKING, place, amount);
+        put_both(&evening.lending, TOTAL_TRANSIT, place, amount);
+        if (place < 3) put_both(&evening.lending, STATEMENT, place, amount);
+    }
+}
+
+/* Amounts of the other grocers stand at an end of their range, and no step may mind or touch them. */
+static void words_outside_messages(void)
+{
+    static const struct step steps[] = {{1, 0, 1}, {2, 0, 0}, {3, 1, 0}, {4, 0, 1}, {5, 0, 0}, {6, 1, 0}};
+    for (unsigned i = 0; i < 6; i++)
+        for (int sign = -1; sign <= 1; sign += 2) {
+            at_case("step %u beside words of %d x 10^15", steps[i].kind, sign);
+            open_beside(steps[i], sign);
+            expect_answer(steps[i], 0);
+            close_evening(&evening);
+        }
 }
 
 /* Lists of requests */
@@ -585,8 +619,9 @@ static int64_t random_state_word(struct range range, uint32_t manner)
 
 static void random_state(void)
 {
+    uint32_t all = below(12);
     for (unsigned name = JOB_TABLES; name < STEP_TABLES; name++) {
-        uint32_t manner = below(6);
+        uint32_t manner = all < 6 ? all : below(6);
         for (size_t place = 0; place < needed(name, evening.job.sizes); place++)
             put_both(&evening.lending, name, place, random_state_word(range_of(name, evening.job.sizes), manner));
     }
@@ -656,6 +691,7 @@ void check_step(void)
     run_group("step: K, M, N and T whose lengths wrap round", lengths_that_wrap);
     run_group("step: K, M, N and T beside their tables", arbitrary_sizes);
     run_group("step: results at and beyond their range", late_refusals);
+    run_group("step: words outside its message do not matter", words_outside_messages);
     run_group("step: only finished words are held to the range", sums_on_the_way);
     run_group("step: lists of requests on small jobs", small_lists);
     run_group("step: lists of requests on medium jobs", medium_lists);
