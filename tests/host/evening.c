@@ -73,6 +73,30 @@ uint16_t ask_on_words(struct evening *evening, struct sizes sizes, struct step s
     return compare_step(evening, sizes, step, due);
 }
 
+void expect_step(struct evening *evening, struct step step, uint16_t due)
+{
+    uint16_t answer = ask_on_words(evening, evening->job.sizes, step);
+    expect(answer == due, "step answered %u, the specification says %u", answer, due);
+}
+
+struct step some_ready_step(const struct evening *evening)
+{
+    struct step ready[MOST_STEPS];
+    size_t length = ready_steps(&evening->machine, ready);
+    return length ? ready[below((uint32_t)length)] : (struct step){1, 0, 0};
+}
+
+size_t mark_place(const struct evening *evening, struct step step)
+{
+    uint16_t boxes = evening->job.sizes.boxes;
+    return ((step.kind - 1u) * boxes + step.first) * (size_t)boxes + step.second;
+}
+
+void set_mark(struct evening *evening, struct step step)
+{
+    put_both(&evening->lending, DONE, mark_place(evening, step), 1);
+}
+
 static void write_report(struct table table, struct report report)
 {
     put_word(table, 0, report.words);

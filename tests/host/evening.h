@@ -11,6 +11,9 @@ struct evening {
     struct lending lending;
 };
 
+/* Spare words that buffers have at the most. */
+enum { SPARE = 6 };
+
 /* Lends the job's tables and a fresh state; the buffers have up to this many spare words, and room for the choices. */
 void open_evening(struct evening *evening, uint32_t spare, size_t choices);
 void close_evening(struct evening *evening);
@@ -29,6 +32,16 @@ uint16_t ask(struct evening *evening, struct step step);
 
 /* One request on whatever words are lent; the model's state is read from them, not carried on. */
 uint16_t ask_on_words(struct evening *evening, struct sizes sizes, struct step step);
+
+/* The same, and the answer is held to a number that is known without the model. */
+void expect_step(struct evening *evening, struct step step, uint16_t due);
+
+/* A ready step of the model's state; where there is none, one that is refused. */
+struct step some_ready_step(const struct evening *evening);
+
+/* The place of a step's mark, and the mark set. */
+size_t mark_place(const struct evening *evening, struct step step);
+void set_mark(struct evening *evening, struct step step);
 
 /* A run on whatever words are lent; the steps that the model picks. */
 struct picks {

@@ -27,6 +27,16 @@ int64_t between(int64_t least, int64_t most)
     return (int64_t)((uint64_t)least + (span ? random_word() % span : random_word()));
 }
 
+uint16_t wild_number(uint16_t near)
+{
+    static const uint16_t numbers[] = {0, 1, 2, 6, 7, 15, 16, 17, 255, 256, 257, 500, 501, 1000, 1001, 32768, 65535};
+    switch (below(3)) {
+    case 0: return numbers[below(sizeof numbers / sizeof numbers[0])];
+    case 1: return (uint16_t)(near + below(3) - 1);
+    default: return (uint16_t)random_word();
+    }
+}
+
 struct code code_of(const char *digits)
 {
     struct code code = {(uint8_t)strlen(digits), {0}};

@@ -11,6 +11,9 @@ uint32_t below(uint32_t bound);
 bool one_in(uint32_t bound);
 int64_t between(int64_t least, int64_t most);
 
+/* A number that tends to matter, one beside the given one, or any. */
+uint16_t wild_number(uint16_t near);
+
 struct code code_of(const char *digits);
 struct code code_of_number(uint64_t number, size_t zeros);
 

@@ -1,5 +1,4 @@
 /* The reader: each refusal, their order, short buffers, random files and damaged ones. */
-#include <stdio.h>
 #include <string.h>
 
 #include "evening.h"
@@ -16,7 +15,7 @@ static void (*body)(void);
 
 static void with_buffers(void)
 {
-    open_reading(&lending, 6, ROOM);
+    open_reading(&lending, SPARE, ROOM);
     body();
     close_lending(&lending);
 }

@@ -1,7 +1,4 @@
 /* The run: its refusals, its choices, its report, and a list of steps that ends alike. */
-#include <stdio.h>
-#include <string.h>
-
 #include "evening.h"
 #include "groups.h"
 
@@ -9,7 +6,7 @@ static struct evening evening;
 static struct picks picks;
 
 /* A run of the job with these many choices; the state buffers hold anything before. */
-static void open_run(size_t choices) { open_evening(&evening, 6, choices); }
+static void open_run(size_t choices) { open_evening(&evening, SPARE, choices); }
 
 static void scramble_state(void)
 {

@@ -59,7 +59,7 @@ uint64_t needed(enum table_name name, struct sizes sizes)
     }
 }
 
-static struct range width_range(enum table_name name)
+struct range width_range(enum table_name name)
 {
     unsigned bits = 8 * (unsigned)width_of(name);
     if (bits == 64) return (struct range){INT64_MIN, INT64_MAX};

@@ -59,7 +59,10 @@ bool is_signed(enum table_name name);
 /* The words that a table needs for K, M, N and T as given. */
 uint64_t needed(enum table_name name, struct sizes sizes);
 
-/* The range of a table's words; for a table that has none, all that its width holds. */
+/* All that a word of the table's width holds. */
+struct range width_range(enum table_name name);
+
+/* The range of a table's words; for a table that has none, that of its width. */
 struct range range_of(enum table_name name, struct sizes sizes);
 
 bool sizes_in_range(struct sizes sizes);

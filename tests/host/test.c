@@ -37,6 +37,8 @@ int main(int argc, char **argv)
     seed_random(seed);
     check_reader();
     check_step();
+    check_step_tables();
+    check_lists();
     check_run();
     return close_checks();
 }
