@@ -159,24 +159,24 @@ struct late {
     enum table_name name;
     size_t place;
     int64_t just_fits; /* the word of the table with which the result is the last within the range */
-    int64_t beyond;    /* what more makes it leave the range */
 };
 
-/* One tally of count 7, price 3; offer of box 0, grocer of box 1; amounts of 100 under way and at work. */
+/* Count 7, price 3; offer of box 0, grocer of box 1; amounts of 100 under way and at work. */
 static const struct late lates[] = {
-    {"prices sent", {1, 0, 1}, SENT, 0, MOST_SENT - 1, 1},
-    {"own swept", {2, 0, 0}, WORKING, 0, MOST_AMOUNT - 21, 1},
-    {"prices received", {3, 1, 0}, WORKING, 1, MOST_AMOUNT - 21, 1},
-    {"totals sent", {4, 0, 1}, SENT, 0, MOST_SENT - 1, 1},
-    {"own added", {5, 1, 1}, STATEMENT, 0, MOST_AMOUNT - 100, 1},
-    {"totals received", {6, 1, 0}, STATEMENT, 0, MOST_AMOUNT - 100, 1},
+    {"prices sent", {1, 0, 1}, SENT, 0, MOST_SENT - 1},
+    {"own swept", {2, 0, 0}, WORKING, 0, MOST_AMOUNT - 21},
+    {"prices received", {3, 1, 0}, WORKING, 1, MOST_AMOUNT - 21},
+    {"totals sent", {4, 0, 1}, SENT, 0, MOST_SENT - 1},
+    {"own added", {5, 1, 1}, STATEMENT, 0, MOST_AMOUNT - 100},
+    {"totals received", {6, 1, 0}, STATEMENT, 0, MOST_AMOUNT - 100},
 };
 
-/* A tally in each box, so that every message has its word. */
-static void open_late(int sign)
+/* One tally in the box that the step is about, or one in each box. */
+static void open_late(struct step step, int sign, uint16_t tallies)
 {
-    one_tally_job(&evening.job, (struct sizes){2, 1, 1, 2}, 3, (struct tally){0, 0, 0, 7 * sign, {0, {0}}});
-    evening.job.tally[1].box = 1;
+    uint16_t box = step.kind == SEND_PRICES || step.kind == RECEIVE_PRICES;
+    one_tally_job(&evening.job, (struct sizes){2, 1, 1, tallies}, 3, (struct tally){0, box, 0, 7 * sign, {0, {0}}});
+    evening.job.tally[1].box = !box;
     open_evening(&evening, SPARE, 0);
     put_both(&evening.lending, PRICE_TRANSIT, 1, 3);
     put_both(&evening.lending, WORKING, 1, 100 * sign);
@@ -191,25 +191,21 @@ static void mark_all_but(struct step step)
     put_both(&evening.lending, DONE, mark_place(&evening, step), 0);
 }
 
-static void late_case(const struct late *late, int sign, bool beyond)
+static void late_case(const struct late *late, int sign, uint16_t tallies, bool beyond)
 {
-    struct step step = late->step;
     if (late->name == SENT) sign = 1;
-    at_case("%s, %s, sign %d", late->what, beyond ? "beyond" : "just fits", sign);
-    open_late(sign);
-    mark_all_but(step);
-    put_both(&evening.lending, late->name, late->place, sign * (late->just_fits + (beyond ? late->beyond : 0)));
-    expect_step(&evening, step, beyond ? 21 : 0);
+    at_case("%s, %s, sign %d, %u tallies", late->what, beyond ? "beyond" : "just fits", sign, tallies);
+    open_late(late->step, sign, tallies);
+    mark_all_but(late->step);
+    put_both(&evening.lending, late->name, late->place, sign * (late->just_fits + beyond));
+    expect_step(&evening, late->step, beyond ? 21 : 0);
     close_evening(&evening);
 }
 
 static void late_refusals(void)
 {
     for (unsigned i = 0; i < sizeof lates / sizeof lates[0]; i++)
-        for (int sign = -1; sign <= 1; sign += 2) {
-            late_case(&lates[i], sign, false);
-            late_case(&lates[i], sign, true);
-        }
+        for (unsigned way = 0; way < 8; way++) late_case(&lates[i], way & 1 ? 1 : -1, way & 2 ? 1 : 2, way & 4);
 }
 
 /* Sums that leave the range on the way and come back are no fault; a fault in the last word leaves the first alone. */
