@@ -1,0 +1,43 @@
+# What the test scripts share: named checks, and the last line 'N passed, M failed'.
+passed=0 failed=0
+
+fail() { # fail TEXT
+    failed=$((failed + 1))
+    echo "failed: $1"
+}
+
+check() { # check TEXT COMMAND..
+    local text=$1
+    shift
+    if "$@"; then passed=$((passed + 1)); else fail "$text"; fi
+}
+
+add_result() { # add_result TEXT LOG STATUS: add the last line of a test's log
+    local line
+    line=$(tail -n 1 "$2" | grep -E '^[0-9]+ passed, [0-9]+ failed$')
+    if [ -z "$line" ]; then
+        fail "$1 gave no result (status $3)"
+        return
+    fi
+    passed=$((passed + ${line%% passed*}))
+    line=${line#*, }
+    failed=$((failed + ${line%% failed*}))
+    if [ "$3" -ne 0 ] && [ "${line%% failed*}" -eq 0 ]; then fail "$1 ended with status $3"; fi
+}
+
+need() { # need TEST PACKAGE..: install Debian packages where a test does not hold
+    eval "$1" >/dev/null 2>&1 && return
+    { apt-get update && DEBIAN_FRONTEND=noninteractive apt-get install -y --no-install-recommends "${@:2}"; } >/dev/null 2>&1 ||
+        fail "not so: $1, and ${*:2} could not be installed"
+}
+
+need_compiler() {
+    need 'command -v gcc' gcc
+    need 'test -e /usr/include/stdio.h' libc6-dev
+}
+
+finish() { # the last line, and the exit status
+    echo "$passed passed, $failed failed"
+    [ "$failed" -eq 0 ]
+    exit
+}

@@ -1,0 +1,167 @@
+#include "evening.h"
+
+#include <string.h>
+
+static size_t spare_words(uint32_t spare) { return below(spare + 1); }
+
+void open_evening(struct evening *evening, uint32_t spare, size_t choices)
+{
+    size_t lengths[ALL_TABLES] = {0};
+    for (unsigned name = 0; name < STEP_TABLES; name++)
+        lengths[name] = needed(name, evening->job.sizes) + spare_words(spare);
+    lengths[REPORT] = needed(REPORT, evening->job.sizes) + spare_words(spare);
+    lengths[CHOICES] = choices;
+    open_lending(&evening->lending, lengths);
+    write_job_words(&evening->job, evening->lending.twin);
+    start_fresh(&evening->machine, &evening->job);
+    lend_state(evening);
+}
+
+void close_evening(struct evening *evening) { close_lending(&evening->lending); }
+
+void lend_state(struct evening *evening)
+{
+    write_state_words(&evening->machine, evening->lending.twin);
+    copy_twins(&evening->lending);
+}
+
+int64_t lent_word(const struct evening *evening, enum table_name name, size_t place)
+{
+    return word_at(evening->lending.table[name], place);
+}
+
+void expect_plain_sums(const struct evening *evening)
+{
+    for (uint16_t g = 0; g < evening->job.sizes.grocers; g++) {
+        int64_t statement = lent_word(evening, STATEMENT, g), sum = plain_sum(&evening->job, g);
+        expect(statement == sum, "statement %u is %lld, the plain sum %lld", g, (long long)statement, (long long)sum);
+    }
+}
+
+static uint16_t compare_step(struct evening *evening, struct sizes sizes, struct step step, uint16_t due)
+{
+    uint16_t answer = call_step(&evening->lending, sizes, step);
+    expect(answer == due, "step %u of %u and %u answered %u, should be %u", step.kind, step.first, step.second, answer,
+           due);
+    compare_with_twins(&evening->lending);
+    return answer;
+}
+
+uint16_t ask(struct evening *evening, struct step step)
+{
+    struct table tables[ALL_TABLES];
+    twins_as_lent(&evening->lending, tables);
+    uint16_t due = step_tables_refusal(evening->job.sizes, tables);
+    if (!due) due = request(&evening->machine, step);
+    if (!due) write_state_words(&evening->machine, evening->lending.twin);
+    return compare_step(evening, evening->job.sizes, step, due);
+}
+
+uint16_t ask_on_words(struct evening *evening, struct sizes sizes, struct step step)
+{
+    static struct job job;
+    static struct machine machine;
+    struct table tables[ALL_TABLES];
+    twins_as_lent(&evening->lending, tables);
+    uint16_t due = step_tables_refusal(sizes, tables);
+    if (!due) {
+        read_job_words(&job, sizes, tables);
+        read_state_words(&machine, &job, tables);
+        due = request(&machine, step);
+        if (!due) write_state_words(&machine, evening->lending.twin);
+    }
+    return compare_step(evening, sizes, step, due);
+}
+
+void expect_step(struct evening *evening, struct step step, uint16_t due)
+{
+    uint16_t answer = ask_on_words(evening, evening->job.sizes, step);
+    expect(answer == due, "step answered %u, the specification says %u", answer, due);
+}
+
+struct step some_ready_step(const struct evening *evening)
+{
+    struct step ready[MOST_STEPS];
+    size_t length = ready_steps(&evening->machine, ready);
+    return length ? ready[below((uint32_t)length)] : (struct step){1, 0, 0};
+}
+
+size_t mark_place(const struct evening *evening, struct step step)
+{
+    uint16_t boxes = evening->job.sizes.boxes;
+    return ((step.kind - 1u) * boxes + step.first) * (size_t)boxes + step.second;
+}
+
+void set_mark(struct evening *evening, struct step step)
+{
+    put_both(&evening->lending, DONE, mark_place(evening, step), 1);
+}
+
+static void write_report(struct table table, struct report report)
+{
+    put_word(table, 0, report.words);
+    put_word(table, 1, report.messages);
+    put_word(table, 2, report.steps);
+}
+
+uint16_t ask_run(struct evening *evening, struct sizes sizes, struct picks *picks)
+{
+    static struct job job;
+    static struct machine machine;
+    struct table tables[ALL_TABLES];
+    twins_as_lent(&evening->lending, tables);
+    uint16_t due = run_tables_refusal(sizes, tables);
+    picks->length = 0;
+    if (!due) {
+        read_job_words(&job, sizes, tables);
+        struct report report = run_all(&machine, &job, tables[CHOICES], picks->step);
+        picks->length = report.steps;
+        write_state_words(&machine, evening->lending.twin);
+        write_report(evening->lending.twin[REPORT], report);
+    }
+    uint16_t answer = call_run(&evening->lending, sizes);
+    expect(answer == due, "run answered %u, should be %u", answer, due);
+    compare_with_twins(&evening->lending);
+    return answer;
+}
+
+static const enum table_name reader_tables[] = {PRICE,     OFFER_OWNER, OFFER_CODE,  GROCER_OWNER, TALLY_GROCER,
+                                                TALLY_BOX, TALLY_CODE,  TALLY_COUNT, TALLY_OFFER,  SIZES};
+enum { READER_TABLES = sizeof reader_tables / sizeof reader_tables[0] };
+
+void open_reading(struct lending *lending, uint32_t spare, size_t length)
+{
+    size_t lengths[ALL_TABLES] = {0};
+    for (unsigned i = 0; i < READER_TABLES; i++)
+        lengths[reader_tables[i]] = needed(reader_tables[i], LARGEST) + spare_words(spare);
+    lengths[FILE_BYTES] = length;
+    open_lending(lending, lengths);
+}
+
+static bool reader_is_short(const struct table tables[])
+{
+    for (unsigned i = 0; i < READER_TABLES; i++)
+        if (is_short(tables[reader_tables[i]], LARGEST)) return true;
+    return false;
+}
+
+uint16_t ask_read(struct lending *lending, const uint8_t *file, size_t length)
+{
+    static struct job job;
+    struct table tables[ALL_TABLES];
+    if (length > 0) {
+        memcpy(lending->table[FILE_BYTES].words, file, length);
+        memcpy(lending->twin[FILE_BYTES].words, file, length);
+    }
+    lending->lend[FILE_BYTES] = length;
+    twins_as_lent(lending, tables);
+    uint16_t due = reader_is_short(tables) ? 20 : read_file(file, length, &job);
+    if (!due) {
+        write_job_words(&job, lending->twin);
+        write_code_words(&job, lending->twin);
+    }
+    uint16_t answer = call_read(lending);
+    expect(answer == due, "reader answered %u, should be %u", answer, due);
+    compare_with_twins(lending);
+    return answer;
+}

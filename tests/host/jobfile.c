@@ -1,0 +1,295 @@
+/* The job file of the model: blocks of 512 bytes, read with their refusals in order, and written. */
+#include <assert.h>
+#include <string.h>
+
+#include "model.h"
+
+enum { HEADER, OFFER_BLOCKS, GROCER_BLOCKS, TALLY_BLOCKS };
+enum { RECORDS_FROM = 4, SUMS_FROM = 508, MODULUS = 65521 };
+
+/* The places of a kind's records: bytes of a record, of them in named fields, records of a full block. */
+static const struct {
+    size_t size, fields, full;
+} layout[] = {
+    [HEADER] = {8, 8, 1},
+    [OFFER_BLOCKS] = {24, 16, 21},
+    [GROCER_BLOCKS] = {1, 1, 255},
+    [TALLY_BLOCKS] = {24, 18, 21},
+};
+
+/* What a block of the file has to be: its kind, its number of records, the number of its first one. */
+struct due {
+    uint8_t kind;
+    size_t records, first;
+};
+
+static uint32_t get_number(const uint8_t *bytes, size_t width)
+{
+    uint32_t number = 0;
+    for (size_t i = width; i > 0; i--) number = number * 256 + bytes[i - 1];
+    return number;
+}
+
+static void set_number(uint8_t *bytes, size_t width, uint32_t number)
+{
+    for (size_t i = 0; i < width; i++, number /= 256) bytes[i] = (uint8_t)(number % 256);
+}
+
+/* Blocks */
+
+static uint32_t first_sum(const uint8_t *block)
+{
+    uint32_t sum = 0;
+    for (size_t place = 0; place < SUMS_FROM; place++) sum += block[place];
+    return sum % MODULUS;
+}
+
+static uint32_t second_sum(const uint8_t *block)
+{
+    uint32_t sum = 0;
+    for (uint32_t place = 0; place < SUMS_FROM; place++) sum += (508 - place) * block[place];
+    return sum % MODULUS;
+}
+
+void write_sums(uint8_t block[BLOCK])
+{
+    set_number(block + 508, 2, first_sum(block));
+    set_number(block + 510, 2, second_sum(block));
+}
+
+static bool sums_agree(const uint8_t *block)
+{
+    return get_number(block + 508, 2) == first_sum(block) && get_number(block + 510, 2) == second_sum(block);
+}
+
+static size_t records_of_kind(struct sizes sizes, unsigned kind)
+{
+    size_t records[] = {1, sizes.offers, sizes.grocers, sizes.tallies};
+    return records[kind];
+}
+
+static size_t blocks_of_kind(struct sizes sizes, unsigned kind)
+{
+    return (records_of_kind(sizes, kind) + layout[kind].full - 1) / layout[kind].full;
+}
+
+size_t blocks_of(struct sizes sizes)
+{
+    size_t blocks = 0;
+    for (unsigned kind = HEADER; kind <= TALLY_BLOCKS; kind++) blocks += blocks_of_kind(sizes, kind);
+    return blocks;
+}
+
+static struct due due_block(struct sizes sizes, size_t number)
+{
+    uint8_t kind = HEADER;
+    while (number >= blocks_of_kind(sizes, kind)) number -= blocks_of_kind(sizes, kind++);
+    struct due due = {kind, layout[kind].full, number * layout[kind].full};
+    if (due.first + due.records > records_of_kind(sizes, kind)) due.records = records_of_kind(sizes, kind) - due.first;
+    return due;
+}
+
+static bool is_as_due(const uint8_t *block, struct due due, size_t number)
+{
+    return block[0] == due.kind && block[1] == due.records && get_number(block + 2, 2) == number;
+}
+
+static bool is_spare(struct due due, size_t place)
+{
+    size_t record = (place - RECORDS_FROM) / layout[due.kind].size;
+    size_t byte = (place - RECORDS_FROM) % layout[due.kind].size;
+    return record >= due.records || byte >= layout[due.kind].fields;
+}
+
+static bool spare_is_zero(const uint8_t *block, struct due due)
+{
+    for (size_t place = RECORDS_FROM; place < SUMS_FROM; place++)
+        if (is_spare(due, place) && block[place] != 0) return false;
+    return true;
+}
+
+/* Records */
+
+static bool read_code(const uint8_t *bytes, struct code *code)
+{
+    code->digits = bytes[0];
+    memcpy(code->field, bytes + 1, FIELD);
+    if (code->digits < 1 || code->digits > FIELD) return false;
+    for (size_t i = 0; i < FIELD; i++) {
+        bool is_digit = code->field[i] >= '0' && code->field[i] <= '9';
+        if (i < code->digits ? !is_digit : code->field[i] != 0) return false;
+    }
+    return true;
+}
+
+static bool read_offer(const uint8_t *record, struct job *job, size_t place)
+{
+    struct offer *offer = &job->offer[place];
+    offer->price = get_number(record, 4);
+    offer->owner = record[4];
+    return read_code(record + 5, &offer->code) && offer->price <= MOST_PRICE && offer->owner < job->sizes.boxes;
+}
+
+static bool read_grocer(const uint8_t *record, struct job *job, size_t place)
+{
+    job->grocer_owner[place] = record[0];
+    return record[0] < job->sizes.boxes;
+}
+
+static bool read_tally(const uint8_t *record, struct job *job, size_t place)
+{
+    struct tally *tally = &job->tally[place];
+    tally->grocer = (uint16_t)get_number(record, 2);
+    tally->box = record[2];
+    tally->count = (int32_t)get_number(record + 14, 4);
+    return read_code(record + 3, &tally->code) && tally->grocer < job->sizes.grocers && tally->box < job->sizes.boxes &&
+           tally->count >= -MOST_COUNT && tally->count <= MOST_COUNT;
+}
+
+static bool read_record(const uint8_t *record, struct job *job, unsigned kind, size_t place)
+{
+    switch (kind) {
+    case OFFER_BLOCKS: return read_offer(record, job, place);
+    case GROCER_BLOCKS: return read_grocer(record, job, place);
+    default: return read_tally(record, job, place);
+    }
+}
+
+static bool read_records(const uint8_t *block, struct due due, struct job *job)
+{
+    for (size_t i = 0; i < due.records; i++)
+        if (!read_record(block + RECORDS_FROM + i * layout[due.kind].size, job, due.kind, due.first + i)) return false;
+    return true;
+}
+
+/* The whole file */
+
+static uint16_t read_header(const uint8_t *block, struct sizes *sizes)
+{
+    struct due due = {HEADER, 1, 0};
+    if (!sums_agree(block)) return 2;
+    if (!is_as_due(block, due, 0)) return 3;
+    sizes->boxes = block[4];
+    sizes->grocers = (uint16_t)get_number(block + 6, 2);
+    sizes->offers = (uint16_t)get_number(block + 8, 2);
+    sizes->tallies = (uint16_t)get_number(block + 10, 2);
+    if (block[5] != 1 || !sizes_in_range(*sizes)) return 4;
+    return spare_is_zero(block, due) ? 0 : 5;
+}
+
+static uint16_t read_block(const uint8_t *block, size_t number, struct job *job)
+{
+    struct due due = due_block(job->sizes, number);
+    if (!sums_agree(block)) return 2;
+    if (!is_as_due(block, due, number)) return 3;
+    if (!spare_is_zero(block, due)) return 5;
+    return read_records(block, due, job) ? 0 : 6;
+}
+
+static uint64_t number_of(const struct code *code)
+{
+    uint64_t number = 0;
+    for (size_t i = 0; i < code->digits; i++) number = 10 * number + (uint64_t)(code->field[i] - '0');
+    return number;
+}
+
+static bool share_a_number(const struct job *job)
+{
+    for (size_t o = 0; o < job->sizes.offers; o++)
+        for (size_t p = 0; p < o; p++)
+            if (number_of(&job->offer[o].code) == number_of(&job->offer[p].code)) return true;
+    return false;
+}
+
+static bool find_place(const struct job *job, struct tally *tally)
+{
+    for (uint16_t o = 0; o < job->sizes.offers; o++)
+        if (number_of(&job->offer[o].code) == number_of(&tally->code)) {
+            tally->place = o;
+            return true;
+        }
+    return false;
+}
+
+static uint16_t find_places(struct job *job)
+{
+    if (share_a_number(job)) return 7;
+    for (size_t t = 0; t < job->sizes.tallies; t++)
+        if (!find_place(job, &job->tally[t])) return 8;
+    return 0;
+}
+
+uint16_t read_file(const uint8_t *file, size_t length, struct job *job)
+{
+    if (length == 0 || length % BLOCK != 0 || length > MOST_FILE) return 1;
+    uint16_t refusal = read_header(file, &job->sizes);
+    if (refusal) return refusal;
+    if (length / BLOCK != blocks_of(job->sizes)) return 1;
+    for (size_t number = 1; number < length / BLOCK; number++) {
+        refusal = read_block(file + number * BLOCK, number, job);
+        if (refusal) return refusal;
+    }
+    return find_places(job);
+}
+
+/* Writing */
+
+static void write_code_field(uint8_t *bytes, const struct code *code)
+{
+    bytes[0] = code->digits;
+    memcpy(bytes + 1, code->field, FIELD);
+}
+
+static void write_header(uint8_t *record, struct sizes sizes)
+{
+    record[0] = (uint8_t)sizes.boxes;
+    record[1] = 1;
+    set_number(record + 2, 2, sizes.grocers);
+    set_number(record + 4, 2, sizes.offers);
+    set_number(record + 6, 2, sizes.tallies);
+}
+
+static void write_offer(uint8_t *record, const struct offer *offer)
+{
+    set_number(record, 4, offer->price);
+    record[4] = (uint8_t)offer->owner;
+    write_code_field(record + 5, &offer->code);
+}
+
+static void write_tally(uint8_t *record, const struct tally *tally)
+{
+    set_number(record, 2, tally->grocer);
+    record[2] = (uint8_t)tally->box;
+    write_code_field(record + 3, &tally->code);
+    set_number(record + 14, 4, (uint32_t)tally->count);
+}
+
+static void write_record(uint8_t *record, const struct job *job, unsigned kind, size_t place)
+{
+    switch (kind) {
+    case HEADER: write_header(record, job->sizes); break;
+    case OFFER_BLOCKS: write_offer(record, &job->offer[place]); break;
+    case GROCER_BLOCKS: record[0] = (uint8_t)job->grocer_owner[place]; break;
+    default: write_tally(record, &job->tally[place]); break;
+    }
+}
+
+static void write_block(uint8_t *block, const struct job *job, size_t number)
+{
+    struct due due = due_block(job->sizes, number);
+    memset(block, 0, BLOCK);
+    block[0] = due.kind;
+    block[1] = (uint8_t)due.records;
+    set_number(block + 2, 2, (uint32_t)number);
+    for (size_t i = 0; i < due.records; i++)
+        write_record(block + RECORDS_FROM + i * layout[due.kind].size, job, due.kind, due.first + i);
+    write_sums(block);
+}
+
+size_t write_file(const struct job *job, uint8_t file[MOST_FILE])
+{
+    size_t blocks = blocks_of(job->sizes);
+    assert(blocks <= MOST_BLOCKS);
+    for (size_t number = 0; number < blocks; number++) write_block(file + number * BLOCK, job, number);
+    return blocks * BLOCK;
+}

@@ -1,0 +1,34 @@
+/* Jobs to try: seeded random ones, and those of the specification. */
+#ifndef JOBS_H
+#define JOBS_H
+
+#include "model.h"
+
+/* The seeded source of all that is random. */
+void seed_random(uint64_t seed);
+uint64_t random_word(void);
+uint32_t below(uint32_t bound);
+bool one_in(uint32_t bound);
+int64_t between(int64_t least, int64_t most);
+
+/* A number that tends to matter, one beside the given one, or any. */
+uint16_t wild_number(uint16_t near);
+
+struct code code_of(const char *digits);
+struct code code_of_number(uint64_t number, size_t zeros);
+
+/* Sizes within the given ones, each from its least on; and such with two boxes and a tally at least. */
+struct sizes random_sizes(struct sizes most);
+struct sizes sizes_with_tallies(struct sizes most);
+extern const struct sizes TINY, SMALL, MEDIUM, LARGEST;
+
+/* An accepted job of these sizes. */
+void random_job(struct job *job, struct sizes sizes);
+
+/* E of the specification. */
+void small_evening(struct job *job);
+
+/* A job with one offer, one grocer and tallies alike, each with its own owner. */
+void one_tally_job(struct job *job, struct sizes sizes, uint32_t price, struct tally tally);
+
+#endif

@@ -1,0 +1,44 @@
+/* Buffers lent to the library. Each has a twin with the words that should stand there, guards and spare words included,
+   and after every call the two are compared byte for byte. */
+#ifndef LENDING_H
+#define LENDING_H
+
+#include "check.h"
+#include "tables.h"
+
+#include "model.h"
+
+struct lending {
+    struct table table[ALL_TABLES], twin[ALL_TABLES];
+    size_t lend[ALL_TABLES]; /* the words of each that the next call is lent */
+    bool blank;              /* whether the next call's state buffers are handed over without a word written to them */
+};
+
+/* Whether every call is lent copies in memory of exactly the lent size, for a memory checker to watch. */
+extern bool lend_exactly;
+
+/* Buffers of these lengths, filled with random words, and their twins. */
+void open_lending(struct lending *lending, const size_t lengths[ALL_TABLES]);
+void close_lending(struct lending *lending);
+
+/* Lends all that there is of each buffer. */
+void lend_whole(struct lending *lending);
+
+/* The twins, at the lengths that the next call is lent. */
+void twins_as_lent(const struct lending *lending, struct table tables[ALL_TABLES]);
+
+/* Writes a word to a buffer and its twin. */
+void put_both(struct lending *lending, enum table_name name, size_t place, int64_t word);
+
+/* Brings every buffer to what its twin says. */
+void copy_twins(struct lending *lending);
+
+/* The library's three entries; the answer is counted. */
+uint16_t call_read(struct lending *lending);
+uint16_t call_step(struct lending *lending, struct sizes sizes, struct step step);
+uint16_t call_run(struct lending *lending, struct sizes sizes);
+
+/* Checks every buffer against its twin; a buffer that differs is brought to it. */
+bool compare_with_twins(struct lending *lending);
+
+#endif

@@ -1,0 +1,519 @@
+#include "model.h"
+
+#include <assert.h>
+#include <string.h>
+
+/* Who holds what */
+
+static bool in_mask(uint16_t mask, unsigned box) { return (mask >> box) & 1; }
+
+static void note_holders(struct machine *machine)
+{
+    const struct job *job = machine->job;
+    memset(machine->needs, 0, sizeof machine->needs);
+    memset(machine->sharers, 0, sizeof machine->sharers);
+    for (size_t t = 0; t < job->sizes.tallies; t++) {
+        const struct tally *tally = &job->tally[t];
+        machine->needs[tally->place] |= (uint16_t)(1u << tally->box);
+        machine->sharers[tally->grocer] |= (uint16_t)(1u << tally->box);
+    }
+}
+
+/* Messages */
+
+struct message {
+    uint16_t sender, receiver;
+    size_t length;
+    uint16_t number[MOST_OFFERS];
+};
+
+static bool is_message_step(unsigned kind) { return kind != SWEEP_OWN && kind != ADD_OWN; }
+static bool is_send(unsigned kind) { return kind == SEND_PRICES || kind == SEND_TOTALS; }
+static bool carries_prices(unsigned kind) { return kind == SEND_PRICES || kind == RECEIVE_PRICES; }
+
+/* The sender's offers that the receiver needs. */
+static void list_offers(const struct machine *machine, struct message *message)
+{
+    for (uint16_t o = 0; o < machine->job->sizes.offers; o++)
+        if (machine->job->offer[o].owner == message->sender && in_mask(machine->needs[o], message->receiver))
+            message->number[message->length++] = o;
+}
+
+/* The receiver's grocers of which the sender has a part total. */
+static void list_grocers(const struct machine *machine, struct message *message)
+{
+    for (uint16_t g = 0; g < machine->job->sizes.grocers; g++)
+        if (machine->job->grocer_owner[g] == message->receiver && in_mask(machine->sharers[g], message->sender))
+            message->number[message->length++] = g;
+}
+
+static struct message message_of(const struct machine *machine, struct step step)
+{
+    struct message message = {step.first, step.second, 0, {0}};
+    if (!is_send(step.kind)) {
+        message.sender = step.second;
+        message.receiver = step.first;
+    }
+    if (carries_prices(step.kind))
+        list_offers(machine, &message);
+    else
+        list_grocers(machine, &message);
+    return message;
+}
+
+/* The steps of the job, and those that are ready */
+
+static bool job_has(const struct machine *machine, struct step step)
+{
+    if (!is_message_step(step.kind)) return step.first == step.second;
+    return step.first != step.second && message_of(machine, step).length > 0;
+}
+
+static void note_steps(struct machine *machine)
+{
+    memset(machine->has, 0, sizeof machine->has);
+    for (uint16_t kind = 1; kind < KINDS; kind++)
+        for (uint16_t a = 0; a < machine->job->sizes.boxes; a++)
+            for (uint16_t b = 0; b < machine->job->sizes.boxes; b++)
+                machine->has[kind][a][b] = job_has(machine, (struct step){kind, a, b});
+}
+
+static bool all_tallies_added(const struct machine *machine, uint16_t box)
+{
+    if (!machine->done[SWEEP_OWN][box][box]) return false;
+    for (uint16_t from = 0; from < machine->job->sizes.boxes; from++)
+        if (machine->has[RECEIVE_PRICES][box][from] && !machine->done[RECEIVE_PRICES][box][from]) return false;
+    return true;
+}
+
+static bool is_ready(const struct machine *machine, struct step step)
+{
+    switch (step.kind) {
+    case RECEIVE_PRICES: return machine->done[SEND_PRICES][step.second][step.first];
+    case RECEIVE_TOTALS: return machine->done[SEND_TOTALS][step.second][step.first];
+    case SEND_TOTALS:
+    case ADD_OWN: return all_tallies_added(machine, step.first);
+    default: return true;
+    }
+}
+
+static bool has(const struct machine *machine, struct step step)
+{
+    return machine->has[step.kind][step.first][step.second];
+}
+
+static bool is_done(const struct machine *machine, struct step step)
+{
+    return machine->done[step.kind][step.first][step.second];
+}
+
+size_t ready_steps(const struct machine *machine, struct step ready[MOST_STEPS])
+{
+    size_t length = 0;
+    for (uint16_t kind = 1; kind < KINDS; kind++)
+        for (uint16_t a = 0; a < machine->job->sizes.boxes; a++)
+            for (uint16_t b = 0; b < machine->job->sizes.boxes; b++) {
+                struct step step = {kind, a, b};
+                if (has(machine, step) && !is_done(machine, step) && is_ready(machine, step)) ready[length++] = step;
+            }
+    return length;
+}
+
+/* Words under way */
+
+static struct envelope *find_envelope(struct post *post, uint16_t sender, uint16_t receiver, uint16_t number)
+{
+    for (size_t i = 0; i < post->length; i++) {
+        struct envelope *e = &post->envelope[i];
+        if (e->sender == sender && e->receiver == receiver && e->number == number) return e;
+    }
+    return NULL;
+}
+
+static void post_word(struct post *post, const struct message *message, uint16_t number, int64_t word)
+{
+    struct envelope *e = find_envelope(post, message->sender, message->receiver, number);
+    if (!e) e = &post->envelope[post->length++];
+    *e = (struct envelope){message->sender, message->receiver, number, word};
+}
+
+/* The word of an envelope, which is gone afterwards; 0 where nothing is under way. */
+static int64_t take_word(struct post *post, const struct message *message, uint16_t number)
+{
+    struct envelope *e = find_envelope(post, message->sender, message->receiver, number);
+    if (!e) return 0;
+    int64_t word = e->word;
+    *e = post->envelope[--post->length];
+    return word;
+}
+
+/* What each step does */
+
+/* Adds the box's tallies of the offers that one box owns, at the prices the box knows. */
+static void add_tallies(struct machine *machine, uint16_t box, uint16_t owner)
+{
+    const struct job *job = machine->job;
+    for (size_t t = 0; t < job->sizes.tallies; t++) {
+        const struct tally *tally = &job->tally[t];
+        if (tally->box == box && job->offer[tally->place].owner == owner)
+            machine->working[box][tally->grocer] += tally->count * (int64_t)machine->known[box][tally->place];
+    }
+}
+
+static void send_prices(struct machine *machine, const struct message *message)
+{
+    for (size_t i = 0; i < message->length; i++) {
+        uint16_t offer = message->number[i];
+        post_word(&machine->prices, message, offer, machine->known[message->sender][offer]);
+        machine->sent++;
+    }
+}
+
+static void receive_prices(struct machine *machine, const struct message *message)
+{
+    for (size_t i = 0; i < message->length; i++) {
+        uint16_t offer = message->number[i];
+        machine->known[message->receiver][offer] = (uint32_t)take_word(&machine->prices, message, offer);
+    }
+    add_tallies(machine, message->receiver, message->sender);
+}
+
+static void send_totals(struct machine *machine, const struct message *message)
+{
+    for (size_t i = 0; i < message->length; i++) {
+        uint16_t grocer = message->number[i];
+        post_word(&machine->totals, message, grocer, machine->working[message->sender][grocer]);
+        machine->working[message->sender][grocer] = 0;
+        machine->sent++;
+    }
+}
+
+static void receive_totals(struct machine *machine, const struct message *message)
+{
+    for (size_t i = 0; i < message->length; i++) {
+        uint16_t grocer = message->number[i];
+        machine->statement[grocer] += take_word(&machine->totals, message, grocer);
+    }
+}
+
+static void add_own(struct machine *machine, uint16_t box)
+{
+    for (uint16_t g = 0; g < machine->job->sizes.grocers; g++)
+        if (machine->job->grocer_owner[g] == box) {
+            machine->statement[g] += machine->working[box][g];
+            machine->working[box][g] = 0;
+        }
+}
+
+static void act(struct machine *machine, struct step step)
+{
+    struct message message = message_of(machine, step);
+    switch (step.kind) {
+    case SEND_PRICES: send_prices(machine, &message); break;
+    case SWEEP_OWN: add_tallies(machine, step.first, step.first); break;
+    case RECEIVE_PRICES: receive_prices(machine, &message); break;
+    case SEND_TOTALS: send_totals(machine, &message); break;
+    case ADD_OWN: add_own(machine, step.first); break;
+    default: receive_totals(machine, &message); break;
+    }
+    machine->done[step.kind][step.first][step.second] = true;
+}
+
+/* Requests */
+
+static bool is_amount(int64_t word) { return -MOST_AMOUNT <= word && word <= MOST_AMOUNT; }
+
+static bool result_in_range(const struct machine *machine)
+{
+    struct sizes sizes = machine->job->sizes;
+    for (size_t g = 0; g < sizes.grocers; g++) {
+        if (!is_amount(machine->statement[g])) return false;
+        for (size_t b = 0; b < sizes.boxes; b++)
+            if (!is_amount(machine->working[b][g])) return false;
+    }
+    return machine->sent <= MOST_SENT;
+}
+
+static void copy_post(struct post *to, const struct post *from)
+{
+    to->length = from->length;
+    memcpy(to->envelope, from->envelope, from->length * sizeof from->envelope[0]);
+}
+
+static void copy_state(struct machine *to, const struct machine *from)
+{
+    size_t boxes = from->job->sizes.boxes;
+    memcpy(to, from, offsetof(struct machine, known));
+    memcpy(to->known, from->known, boxes * sizeof from->known[0]);
+    memcpy(to->working, from->working, boxes * sizeof from->working[0]);
+    memcpy(to->statement, from->statement, sizeof from->statement);
+    copy_post(&to->prices, &from->prices);
+    copy_post(&to->totals, &from->totals);
+    to->sent = from->sent;
+}
+
+static uint16_t refusal_of(const struct machine *machine, struct step step)
+{
+    uint16_t boxes = machine->job->sizes.boxes;
+    if (step.kind < 1 || step.kind > 6) return 22;
+    if (step.first >= boxes || step.second >= boxes) return 23;
+    if ((step.first != step.second) != is_message_step(step.kind)) return 23;
+    if (!has(machine, step)) return 24;
+    if (is_done(machine, step)) return 25;
+    if (!is_ready(machine, step)) return 26;
+    return 0;
+}
+
+uint16_t request(struct machine *machine, struct step step)
+{
+    static struct machine after;
+    uint16_t refusal = refusal_of(machine, step);
+    if (refusal) return refusal;
+    copy_state(&after, machine);
+    act(&after, step);
+    if (!result_in_range(&after)) return 21;
+    copy_state(machine, &after);
+    return 0;
+}
+
+/* A state with nothing in it */
+static void start_empty(struct machine *machine, const struct job *job)
+{
+    memset(machine, 0, offsetof(struct machine, prices));
+    machine->job = job;
+    machine->prices.length = machine->totals.length = 0;
+    machine->sent = 0;
+    note_holders(machine);
+    note_steps(machine);
+}
+
+void start_fresh(struct machine *machine, const struct job *job)
+{
+    start_empty(machine, job);
+    for (size_t o = 0; o < job->sizes.offers; o++) machine->known[job->offer[o].owner][o] = job->offer[o].price;
+}
+
+struct report run_all(struct machine *machine, const struct job *job, struct table choices,
+                      struct step picked[MOST_STEPS])
+{
+    struct report report = {0, 0, 0};
+    struct step ready[MOST_STEPS];
+    size_t length;
+    start_fresh(machine, job);
+    while ((length = ready_steps(machine, ready)) > 0) {
+        size_t choice = report.steps < choices.length ? (size_t)word_at(choices, report.steps) : 0;
+        struct step step = ready[choice % length];
+        uint16_t refusal = request(machine, step);
+        assert(refusal == 0);
+        (void)refusal;
+        report.messages += is_send(step.kind);
+        picked[report.steps++] = step;
+    }
+    report.words = (uint32_t)machine->sent;
+    return report;
+}
+
+/* Lent tables */
+
+static bool any_short(struct sizes sizes, const struct table tables[], size_t from, size_t to)
+{
+    for (size_t name = from; name < to; name++)
+        if (is_short(tables[name], sizes)) return true;
+    return false;
+}
+
+static bool all_in_range(struct sizes sizes, const struct table tables[], size_t to)
+{
+    if (!sizes_in_range(sizes)) return false;
+    for (size_t name = 0; name < to; name++)
+        if (!words_in_range(tables[name], sizes)) return false;
+    return true;
+}
+
+uint16_t step_tables_refusal(struct sizes sizes, const struct table tables[ALL_TABLES])
+{
+    if (any_short(sizes, tables, 0, STEP_TABLES)) return 20;
+    return all_in_range(sizes, tables, STEP_TABLES) ? 0 : 21;
+}
+
+uint16_t run_tables_refusal(struct sizes sizes, const struct table tables[ALL_TABLES])
+{
+    if (any_short(sizes, tables, 0, STEP_TABLES) || is_short(tables[REPORT], sizes)) return 20;
+    return all_in_range(sizes, tables, JOB_TABLES) ? 0 : 21;
+}
+
+void write_job_words(const struct job *job, const struct table tables[ALL_TABLES])
+{
+    for (size_t o = 0; o < job->sizes.offers; o++) {
+        put_word(tables[PRICE], o, job->offer[o].price);
+        put_word(tables[OFFER_OWNER], o, job->offer[o].owner);
+    }
+    for (size_t g = 0; g < job->sizes.grocers; g++) put_word(tables[GROCER_OWNER], g, job->grocer_owner[g]);
+    for (size_t t = 0; t < job->sizes.tallies; t++) {
+        put_word(tables[TALLY_GROCER], t, job->tally[t].grocer);
+        put_word(tables[TALLY_BOX], t, job->tally[t].box);
+        put_word(tables[TALLY_OFFER], t, job->tally[t].place);
+        put_word(tables[TALLY_COUNT], t, job->tally[t].count);
+    }
+}
+
+static void write_code(struct table table, size_t entry, const struct code *code)
+{
+    put_word(table, 11 * entry, code->digits);
+    for (size_t i = 0; i < FIELD; i++) put_word(table, 11 * entry + 1 + i, code->field[i]);
+}
+
+void write_code_words(const struct job *job, const struct table tables[ALL_TABLES])
+{
+    for (size_t o = 0; o < job->sizes.offers; o++) write_code(tables[OFFER_CODE], o, &job->offer[o].code);
+    for (size_t t = 0; t < job->sizes.tallies; t++) write_code(tables[TALLY_CODE], t, &job->tally[t].code);
+    put_word(tables[SIZES], 0, job->sizes.boxes);
+    put_word(tables[SIZES], 1, job->sizes.grocers);
+    put_word(tables[SIZES], 2, job->sizes.offers);
+    put_word(tables[SIZES], 3, job->sizes.tallies);
+}
+
+static void clear_words(struct table table, struct sizes sizes)
+{
+    memset(table.words, 0, needed(table.name, sizes) * width_of(table.name));
+}
+
+static size_t mark_place(uint16_t boxes, unsigned kind, size_t a, size_t b)
+{
+    return ((kind - 1) * (size_t)boxes + a) * boxes + b;
+}
+
+static void write_marks(const struct machine *machine, struct table done)
+{
+    uint16_t boxes = machine->job->sizes.boxes;
+    for (unsigned kind = 1; kind < KINDS; kind++)
+        for (size_t a = 0; a < boxes; a++)
+            for (size_t b = 0; b < boxes; b++) put_word(done, mark_place(boxes, kind, a, b), machine->done[kind][a][b]);
+}
+
+/* Prices under way stand by receiver, totals by sender. */
+static void write_post(const struct machine *machine, const struct table tables[])
+{
+    struct sizes sizes = machine->job->sizes;
+    clear_words(tables[PRICE_TRANSIT], sizes);
+    clear_words(tables[TOTAL_TRANSIT], sizes);
+    for (size_t i = 0; i < machine->prices.length; i++) {
+        const struct envelope *e = &machine->prices.envelope[i];
+        put_word(tables[PRICE_TRANSIT], (size_t)e->receiver * sizes.offers + e->number, e->word);
+    }
+    for (size_t i = 0; i < machine->totals.length; i++) {
+        const struct envelope *e = &machine->totals.envelope[i];
+        put_word(tables[TOTAL_TRANSIT], (size_t)e->sender * sizes.grocers + e->number, e->word);
+    }
+}
+
+void write_state_words(const struct machine *machine, const struct table tables[ALL_TABLES])
+{
+    struct sizes sizes = machine->job->sizes;
+    for (size_t b = 0; b < sizes.boxes; b++) {
+        for (size_t o = 0; o < sizes.offers; o++) put_word(tables[KNOWN], b * sizes.offers + o, machine->known[b][o]);
+        for (size_t g = 0; g < sizes.grocers; g++)
+            put_word(tables[WORKING], b * sizes.grocers + g, machine->working[b][g]);
+    }
+    for (size_t g = 0; g < sizes.grocers; g++) put_word(tables[STATEMENT], g, machine->statement[g]);
+    write_post(machine, tables);
+    write_marks(machine, tables[DONE]);
+    put_word(tables[SENT], 0, machine->sent);
+}
+
+void read_job_words(struct job *job, struct sizes sizes, const struct table tables[ALL_TABLES])
+{
+    job->sizes = sizes;
+    for (size_t o = 0; o < sizes.offers; o++) {
+        job->offer[o].price = (uint32_t)word_at(tables[PRICE], o);
+        job->offer[o].owner = (uint16_t)word_at(tables[OFFER_OWNER], o);
+    }
+    for (size_t g = 0; g < sizes.grocers; g++) job->grocer_owner[g] = (uint16_t)word_at(tables[GROCER_OWNER], g);
+    for (size_t t = 0; t < sizes.tallies; t++) {
+        job->tally[t].grocer = (uint16_t)word_at(tables[TALLY_GROCER], t);
+        job->tally[t].box = (uint16_t)word_at(tables[TALLY_BOX], t);
+        job->tally[t].place = (uint16_t)word_at(tables[TALLY_OFFER], t);
+        job->tally[t].count = (int32_t)word_at(tables[TALLY_COUNT], t);
+    }
+}
+
+static void read_envelope(struct post *post, struct envelope envelope)
+{
+    if (envelope.word != 0) post->envelope[post->length++] = envelope;
+}
+
+/* The other end of a word under way is the owner of its offer or grocer. */
+static void read_post(struct machine *machine, const struct table tables[])
+{
+    const struct job *job = machine->job;
+    struct sizes sizes = job->sizes;
+    for (uint16_t b = 0; b < sizes.boxes; b++) {
+        for (uint16_t o = 0; o < sizes.offers; o++)
+            read_envelope(&machine->prices,
+                          (struct envelope){job->offer[o].owner, b, o,
+                                            word_at(tables[PRICE_TRANSIT], (size_t)b * sizes.offers + o)});
+        for (uint16_t g = 0; g < sizes.grocers; g++)
+            read_envelope(&machine->totals,
+                          (struct envelope){b, job->grocer_owner[g], g,
+                                            word_at(tables[TOTAL_TRANSIT], (size_t)b * sizes.grocers + g)});
+    }
+}
+
+static void read_marks(struct machine *machine, struct table done)
+{
+    uint16_t boxes = machine->job->sizes.boxes;
+    for (unsigned kind = 1; kind < KINDS; kind++)
+        for (size_t a = 0; a < boxes; a++)
+            for (size_t b = 0; b < boxes; b++)
+                machine->done[kind][a][b] = word_at(done, mark_place(boxes, kind, a, b)) == 1;
+}
+
+void read_state_words(struct machine *machine, const struct job *job, const struct table tables[ALL_TABLES])
+{
+    struct sizes sizes = job->sizes;
+    start_empty(machine, job);
+    for (size_t b = 0; b < sizes.boxes; b++) {
+        for (size_t o = 0; o < sizes.offers; o++)
+            machine->known[b][o] = (uint32_t)word_at(tables[KNOWN], b * sizes.offers + o);
+        for (size_t g = 0; g < sizes.grocers; g++)
+            machine->working[b][g] = word_at(tables[WORKING], b * sizes.grocers + g);
+    }
+    for (size_t g = 0; g < sizes.grocers; g++) machine->statement[g] = word_at(tables[STATEMENT], g);
+    read_post(machine, tables);
+    read_marks(machine, tables[DONE]);
+    machine->sent = word_at(tables[SENT], 0);
+}
+
+/* Sums straight from the tallies */
+
+int64_t plain_sum(const struct job *job, uint16_t grocer)
+{
+    int64_t sum = 0;
+    for (size_t t = 0; t < job->sizes.tallies; t++)
+        if (job->tally[t].grocer == grocer) sum += (int64_t)job->tally[t].count * job->offer[job->tally[t].place].price;
+    return sum;
+}
+
+static bool holds_offer(const struct job *job, size_t box, size_t offer)
+{
+    for (size_t t = 0; t < job->sizes.tallies; t++)
+        if (job->tally[t].box == box && job->tally[t].place == offer) return true;
+    return false;
+}
+
+static bool holds_grocer(const struct job *job, size_t box, size_t grocer)
+{
+    for (size_t t = 0; t < job->sizes.tallies; t++)
+        if (job->tally[t].box == box && job->tally[t].grocer == grocer) return true;
+    return false;
+}
+
+uint32_t words_of_evening(const struct job *job)
+{
+    uint32_t words = 0;
+    for (size_t b = 0; b < job->sizes.boxes; b++) {
+        for (size_t o = 0; o < job->sizes.offers; o++) words += job->offer[o].owner != b && holds_offer(job, b, o);
+        for (size_t g = 0; g < job->sizes.grocers; g++) words += job->grocer_owner[g] != b && holds_grocer(job, b, g);
+    }
+    return words;
+}

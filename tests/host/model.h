@@ -1,0 +1,101 @@
+/* The settlement told once more, from its specification alone: the job as plain structs, words under way as envelopes,
+   the six steps, the run, and the job file. The tests hold the proved library to it. */
+#ifndef MODEL_H
+#define MODEL_H
+
+#include "tables.h"
+
+enum { BLOCK = 512, MOST_BLOCKS = 74, MOST_FILE = BLOCK * MOST_BLOCKS, FIELD = 10 };
+enum { SEND_PRICES = 1, SWEEP_OWN, RECEIVE_PRICES, SEND_TOTALS, ADD_OWN, RECEIVE_TOTALS, KINDS };
+enum { MOST_STEPS = 6 * MOST_BOXES * MOST_BOXES };
+
+struct code {
+    uint8_t digits, field[FIELD];
+};
+
+struct offer {
+    uint32_t price;
+    uint16_t owner;
+    struct code code;
+};
+
+struct tally {
+    uint16_t grocer, box, place;
+    int32_t count;
+    struct code code;
+};
+
+struct job {
+    struct sizes sizes;
+    struct offer offer[MOST_OFFERS];
+    uint16_t grocer_owner[MOST_GROCERS];
+    struct tally tally[MOST_TALLIES];
+};
+
+struct step {
+    uint16_t kind, first, second;
+};
+
+/* One word under way: the price of an offer, or the part total of a grocer. */
+struct envelope {
+    uint16_t sender, receiver, number;
+    int64_t word;
+};
+
+struct post {
+    size_t length;
+    struct envelope envelope[MOST_BOXES * MOST_OFFERS];
+};
+
+/* The boxes in the middle of an evening. */
+struct machine {
+    const struct job *job;
+    uint16_t needs[MOST_OFFERS], sharers[MOST_GROCERS];
+    bool has[KINDS][MOST_BOXES][MOST_BOXES], done[KINDS][MOST_BOXES][MOST_BOXES];
+    uint32_t known[MOST_BOXES][MOST_OFFERS];
+    int64_t working[MOST_BOXES][MOST_GROCERS], statement[MOST_GROCERS];
+    struct post prices, totals;
+    int64_t sent;
+};
+
+struct report {
+    uint32_t words, messages, steps;
+};
+
+/* A fresh state of the job, which must stay where it is. */
+void start_fresh(struct machine *machine, const struct job *job);
+
+/* 22 to 26, the late 21, or 0 when the step was done; a refusal changes nothing. */
+uint16_t request(struct machine *machine, struct step step);
+
+/* The ready steps in their order; their number. */
+size_t ready_steps(const struct machine *machine, struct step ready[MOST_STEPS]);
+
+/* A run from a fresh state: what it reports, and the steps that it picked. */
+struct report run_all(struct machine *machine, const struct job *job, struct table choices,
+                      struct step picked[MOST_STEPS]);
+
+/* 20 or 21 on the lent tables, else 0. */
+uint16_t step_tables_refusal(struct sizes sizes, const struct table tables[ALL_TABLES]);
+uint16_t run_tables_refusal(struct sizes sizes, const struct table tables[ALL_TABLES]);
+
+/* The words of a job or a state as they should stand in tables, and back. */
+void write_job_words(const struct job *job, const struct table tables[ALL_TABLES]);
+void write_code_words(const struct job *job, const struct table tables[ALL_TABLES]);
+void write_state_words(const struct machine *machine, const struct table tables[ALL_TABLES]);
+void read_job_words(struct job *job, struct sizes sizes, const struct table tables[ALL_TABLES]);
+void read_state_words(struct machine *machine, const struct job *job, const struct table tables[ALL_TABLES]);
+
+/* The plain sum of count x price of one grocer. */
+int64_t plain_sum(const struct job *job, uint16_t grocer);
+
+/* The words that a whole evening sends, counted pair by pair from the owners and tallies. */
+uint32_t words_of_evening(const struct job *job);
+
+/* The job file: its refusal, or 0 and the job; a job as a file, and its length; a block's two sums. */
+uint16_t read_file(const uint8_t *file, size_t length, struct job *job);
+size_t write_file(const struct job *job, uint8_t file[MOST_FILE]);
+void write_sums(uint8_t block[BLOCK]);
+size_t blocks_of(struct sizes sizes);
+
+#endif

@@ -1,0 +1,444 @@
+/* The reader: each refusal, their order, short buffers, random files and damaged ones. */
+#include <string.h>
+
+#include "evening.h"
+#include "groups.h"
+
+static struct job job;
+static struct lending lending;
+
+/* Room for the longest file and what may stand behind it. */
+enum { ROOM = 41000 };
+static uint8_t file[ROOM];
+
+static void (*body)(void);
+
+static void with_buffers(void)
+{
+    open_reading(&lending, SPARE, ROOM);
+    body();
+    close_lending(&lending);
+}
+
+/* A group whose checks share the reader's buffers. */
+static void group(const char *name, void (*checks)(void))
+{
+    body = checks;
+    run_group(name, with_buffers);
+}
+
+/* Reads what stands in file, and holds the answer to a number that is known without the model. */
+static void expect_answer(size_t length, uint16_t due)
+{
+    uint16_t answer = ask_read(&lending, file, length);
+    expect(answer == due, "reader answered %u, the specification says %u", answer, due);
+}
+
+static size_t write_small_evening(void)
+{
+    small_evening(&job);
+    return write_file(&job, file);
+}
+
+/* Edits of E's file, each with its refusal, in the order in which the reader looks for them */
+
+struct edit {
+    const char *what;
+    uint16_t number;
+    uint8_t block;
+    uint16_t place;
+    uint8_t length, bytes[5];
+};
+
+static const struct edit edits[] = {
+    {"first sum of the header", 2, 0, 508, 1, {99}},
+    {"second sum of the header", 2, 0, 510, 1, {99}},
+    {"kind of the header", 3, 0, 0, 1, {1}},
+    {"record count of the header", 3, 0, 1, 1, {0}},
+    {"block number of the header", 3, 0, 2, 1, {1}},
+    {"block number of the header, high byte", 3, 0, 3, 1, {1}},
+    {"byte 5 is 0", 4, 0, 5, 1, {0}},
+    {"byte 5 is 2", 4, 0, 5, 1, {2}},
+    {"0 boxes", 4, 0, 4, 1, {0}},
+    {"17 boxes", 4, 0, 4, 1, {17}},
+    {"0 grocers", 4, 0, 6, 2, {0, 0}},
+    {"256 grocers", 4, 0, 6, 2, {0, 1}},
+    {"0 offers", 4, 0, 8, 2, {0, 0}},
+    {"501 offers", 4, 0, 8, 2, {0xF5, 1}},
+    {"1,001 tallies", 4, 0, 10, 2, {0xE9, 3}},
+    {"first spare byte of the header", 5, 0, 12, 1, {1}},
+    {"last spare byte of the header", 5, 0, 507, 1, {255}},
+    {"22 tallies need one block more", 1, 0, 10, 2, {22, 0}},
+    {"no tallies need one block less", 1, 0, 10, 2, {0, 0}},
+    {"first sum of the offers", 2, 1, 509, 1, {99}},
+    {"second sum of the offers", 2, 1, 511, 1, {99}},
+    {"kind of the offers", 3, 1, 0, 1, {2}},
+    {"record count of the offers", 3, 1, 1, 1, {3}},
+    {"block number of the offers", 3, 1, 2, 1, {2}},
+    {"first spare byte of an offer", 5, 1, 20, 1, {1}},
+    {"last spare byte of an offer", 5, 1, 27, 1, {1}},
+    {"first byte after the offers", 5, 1, 52, 1, {1}},
+    {"last byte after the offers", 5, 1, 507, 1, {1}},
+    {"price 10,000,000", 6, 1, 4, 4, {0x80, 0x96, 0x98, 0}},
+    {"price 4,294,967,295", 6, 1, 4, 4, {255, 255, 255, 255}},
+    {"owner of an offer is 2", 6, 1, 8, 1, {2}},
+    {"owner of an offer is 255", 6, 1, 8, 1, {255}},
+    {"an offer with 0 digits", 6, 1, 9, 1, {0}},
+    {"an offer with 11 digits", 6, 1, 9, 1, {11}},
+    {"a slash as digit", 6, 1, 10, 1, {'/'}},
+    {"a colon as digit", 6, 1, 10, 1, {':'}},
+    {"a byte after the digits of an offer", 6, 1, 15, 1, {'0'}},
+    {"the last byte after the digits of an offer", 6, 1, 19, 1, {1}},
+    {"first sum of the grocers", 2, 2, 508, 1, {99}},
+    {"kind of the grocers", 3, 2, 0, 1, {3}},
+    {"record count of the grocers", 3, 2, 1, 1, {1}},
+    {"block number of the grocers", 3, 2, 2, 1, {9}},
+    {"first byte after the grocers", 5, 2, 6, 1, {1}},
+    {"owner of a grocer is 2", 6, 2, 5, 1, {2}},
+    {"second sum of the tallies", 2, 3, 510, 1, {99}},
+    {"kind of the tallies", 3, 3, 0, 1, {0}},
+    {"record count of the tallies", 3, 3, 1, 1, {21}},
+    {"block number of the tallies", 3, 3, 3, 1, {1}},
+    {"first spare byte of a tally", 5, 3, 22, 1, {1}},
+    {"last spare byte of a tally", 5, 3, 27, 1, {1}},
+    {"first byte after the tallies", 5, 3, 100, 1, {1}},
+    {"grocer of a tally is 2", 6, 3, 4, 1, {2}},
+    {"grocer of a tally is 256", 6, 3, 5, 1, {1}},
+    {"box of a tally is 2", 6, 3, 6, 1, {2}},
+    {"a tally with 0 digits", 6, 3, 7, 1, {0}},
+    {"a tally with 11 digits", 6, 3, 7, 1, {11}},
+    {"a letter as digit", 6, 3, 8, 1, {'A'}},
+    {"a byte after the digits of a tally", 6, 3, 11, 1, {' '}},
+    {"the last byte after the digits of a tally", 6, 3, 17, 1, {1}},
+    {"count 100,000", 6, 3, 18, 4, {0xA0, 0x86, 1, 0}},
+    {"count -100,000", 6, 3, 18, 4, {0x60, 0x79, 0xFE, 0xFF}},
+    {"count -2,147,483,648", 6, 3, 18, 4, {0, 0, 0, 0x80}},
+    {"two offers with number 412", 7, 1, 33, 4, {3, '4', '1', '2'}},
+    {"a tally with number 4120", 8, 3, 7, 5, {4, '4', '1', '2', '0'}},
+};
+enum { EDITS = sizeof edits / sizeof edits[0] };
+
+static bool breaks_sums(const struct edit *edit) { return edit->place >= 508; }
+
+static void apply(const struct edit *edit)
+{
+    memcpy(file + edit->block * BLOCK + edit->place, edit->bytes, edit->length);
+}
+
+/* E's file with two edits, the earlier one last; the sums are right except where an edit is about them. */
+static size_t edit_small_evening(const struct edit *earlier, const struct edit *later)
+{
+    size_t length = write_small_evening();
+    if (!breaks_sums(later)) apply(later);
+    if (!breaks_sums(earlier)) apply(earlier);
+    for (size_t at = 0; at < length; at += BLOCK) write_sums(file + at);
+    if (breaks_sums(later)) apply(later);
+    if (breaks_sums(earlier)) apply(earlier);
+    return length;
+}
+
+static void each_refusal(void)
+{
+    for (size_t i = 0; i < EDITS; i++) {
+        at_case("%s", edits[i].what);
+        expect_answer(edit_small_evening(&edits[i], &edits[i]), edits[i].number);
+    }
+}
+
+static bool same_bytes(const struct edit *a, const struct edit *b)
+{
+    return a->block == b->block && a->place < b->place + b->length && b->place < a->place + a->length;
+}
+
+static void order_of_refusals(void)
+{
+    for (size_t j = 0; j < EDITS; j++)
+        for (size_t i = 0; i < j; i++) {
+            if (same_bytes(&edits[i], &edits[j])) continue;
+            at_case("%s, and %s", edits[i].what, edits[j].what);
+            expect_answer(edit_small_evening(&edits[i], &edits[j]), edits[i].number);
+        }
+}
+
+static void lengths(void)
+{
+    size_t whole = write_small_evening();
+    for (size_t length = 0; length <= whole; length++) {
+        at_case("first %zu bytes of E", length);
+        expect_answer(length, length == whole ? 0 : 1);
+    }
+    memset(file + whole, 0, ROOM - whole);
+    for (size_t length = whole + 1; length <= ROOM; length += length < whole + 2 * BLOCK ? 1 : 479) {
+        at_case("E and zeros, %zu bytes", length);
+        expect_answer(length, 1);
+    }
+}
+
+/* A file of one block more, and faults before and behind the place where the block count is looked at. */
+static void block_count_in_order(void)
+{
+    for (size_t i = 0; i < EDITS; i++) {
+        if (edits[i].number == 1) continue;
+        size_t length = edit_small_evening(&edits[i], &edits[i]);
+        bool before = edits[i].block == 0;
+        at_case("%s, and a block too many", edits[i].what);
+        memset(file + length, 0, BLOCK);
+        expect_answer(length + BLOCK, before ? edits[i].number : 1);
+        at_case("%s, and a byte too many", edits[i].what);
+        expect_answer(length + 1, 1);
+        at_case("%s, and 75 blocks", edits[i].what);
+        expect_answer(75 * BLOCK, 1);
+    }
+}
+
+static void short_buffers(void)
+{
+    for (unsigned name = 0; name < ALL_TABLES; name++) {
+        size_t need = needed(name, LARGEST);
+        if (lending.table[name].length == 0 || name == FILE_BYTES) continue;
+        for (unsigned way = 0; way < 4; way++) {
+            size_t length = way < 2 ? write_small_evening() : way == 2 ? 0 : 100;
+            at_case("%s short", table_text(name));
+            lending.lend[name] = way == 0 ? need - 1 : way == 1 ? 0 : below((uint32_t)need);
+            expect_answer(length, 20);
+            lend_whole(&lending);
+        }
+        at_case("%s just long enough", table_text(name));
+        lending.lend[name] = need;
+        expect_answer(write_small_evening(), 0);
+        lend_whole(&lending);
+    }
+}
+
+/* Random files */
+
+static size_t write_random_file(struct sizes most)
+{
+    random_job(&job, random_sizes(most));
+    return write_file(&job, file);
+}
+
+static struct sizes some_sizes(void)
+{
+    switch (below(8)) {
+    case 0: return MEDIUM;
+    case 1:
+    case 2: return SMALL;
+    default: return TINY;
+    }
+}
+
+static void random_files(void)
+{
+    for (unsigned long i = 0; i < job_count; i++) {
+        at_case("random file %lu", i);
+        expect_answer(write_random_file(some_sizes()), 0);
+    }
+    for (unsigned long i = 0; i < 4 + job_count / 200; i++) {
+        at_case("largest file %lu", i);
+        random_job(&job, LARGEST);
+        size_t length = write_file(&job, file);
+        expect(length == MOST_FILE, "the longest file has %zu bytes", length);
+        expect_answer(length, 0);
+    }
+}
+
+static void change_byte(uint8_t *byte) { *byte ^= (uint8_t)(1 + below(255)); }
+
+/* One or two bytes of one block: always 2. */
+static void change_and_ask(size_t length, size_t place)
+{
+    size_t block = place / BLOCK * BLOCK, other = block + below(BLOCK);
+    uint8_t one = file[place], two = file[other];
+    change_byte(file + place);
+    if (other != place && one_in(2)) change_byte(file + other);
+    at_case("bytes %zu and %zu of %zu changed", place, other, length);
+    expect_answer(length, 2);
+    file[other] = two;
+    file[place] = one;
+}
+
+static void changed_bytes(void)
+{
+    size_t length = write_small_evening();
+    for (unsigned round = 0; round < 4; round++)
+        for (size_t place = 0; place < length; place++) change_and_ask(length, place);
+    for (unsigned long i = 0; i < job_count / 4 + 1; i++) {
+        length = write_random_file(some_sizes());
+        for (unsigned round = 0; round < 16; round++) change_and_ask(length, below((uint32_t)length));
+    }
+}
+
+/* A byte that is likely to matter: of the block's head, of its first records, or any. */
+static size_t likely_place(void)
+{
+    switch (below(4)) {
+    case 0: return below(12);
+    case 1: return 4 + below(3 * 24);
+    default: return below(508);
+    }
+}
+
+static uint8_t likely_byte(uint8_t byte)
+{
+    static const uint8_t words[] = {0, 1, 2, 3, 10, 11, 16, 17, 22, '0', '1', '9', '/', ':', 127, 128, 255};
+    switch (below(3)) {
+    case 0: return words[below(sizeof words)];
+    case 1: return (uint8_t)(byte + 1 - 2 * below(2));
+    default: return (uint8_t)random_word();
+    }
+}
+
+static void damage(size_t length)
+{
+    for (uint32_t bytes = 1 + below(3); bytes > 0; bytes--) {
+        uint8_t *block = file + (size_t)below((uint32_t)(length / BLOCK)) * BLOCK;
+        uint8_t *byte = block + likely_place();
+        *byte = likely_byte(*byte);
+        if (!one_in(20)) write_sums(block);
+    }
+}
+
+static void damaged_files(void)
+{
+    for (unsigned long i = 0; i < 8 * job_count; i++) {
+        size_t length = write_random_file(one_in(10) ? SMALL : TINY);
+        damage(length);
+        if (one_in(20)) length = below((uint32_t)length + BLOCK);
+        at_case("damaged file %lu", i);
+        ask_read(&lending, file, length);
+    }
+}
+
+/* Every byte of a file in turn, with the sums of its block made right. */
+static void each_byte_of(size_t length)
+{
+    for (size_t place = 0; place < length; place++) {
+        uint8_t *block = file + place / BLOCK * BLOCK, kept[BLOCK];
+        memcpy(kept, block, BLOCK);
+        file[place] = one_in(2) ? likely_byte(file[place]) : file[place] ^ (uint8_t)(1u << below(8));
+        if (place % BLOCK < 508) write_sums(block);
+        at_case("byte %zu of %zu is %u", place, length, file[place]);
+        ask_read(&lending, file, length);
+        memcpy(block, kept, BLOCK);
+    }
+}
+
+/* Blocks with each number of records. */
+static void each_byte(void)
+{
+    unsigned stride = job_count < 1000 ? 10 : 1;
+    for (uint16_t records = 1; records <= 21; records = (uint16_t)(records + stride)) {
+        random_job(&job, (struct sizes){3, (uint16_t)(12 * records), records, (uint16_t)(22 - records)});
+        each_byte_of(write_file(&job, file));
+    }
+}
+
+/* Each length of a code with each place of its field set to each of some bytes, in an offer and in a tally. */
+static void each_code(void)
+{
+    static const uint8_t bytes[] = {0, 1, '0' - 1, '0', '9', '9' + 1, '0' + 128, 255};
+    for (unsigned at = 0; at < 13 * FIELD * sizeof bytes; at++) {
+        unsigned digits = at % 13, place = at / 13 % FIELD;
+        struct code code = code_of_number(1234567890, 0);
+        memset(code.field + digits % (FIELD + 1), 0, FIELD - digits % (FIELD + 1));
+        code.digits = (uint8_t)digits;
+        code.field[place] = bytes[at / 13 / FIELD];
+        at_case("%u digits, byte %u is %u", digits, place, code.field[place]);
+        one_tally_job(&job, (struct sizes){1, 1, 1, 1}, 1, (struct tally){0});
+        job.offer[0].code = code;
+        ask_read(&lending, file, write_file(&job, file));
+        job.tally[0].code = code;
+        ask_read(&lending, file, write_file(&job, file));
+        job.offer[0].code = code_of_number(123, 2);
+        ask_read(&lending, file, write_file(&job, file));
+    }
+}
+
+/* Codes that share a number, or nearly, and tallies of them. */
+static void near_codes(void)
+{
+    for (unsigned long i = 0; i < 2 * job_count; i++) {
+        random_job(&job, random_sizes(TINY));
+        for (size_t o = 0; o < job.sizes.offers; o++) job.offer[o].code = code_of_number(below(12), below(9));
+        for (size_t t = 0; t < job.sizes.tallies; t++) job.tally[t].code = code_of_number(below(8), below(10));
+        at_case("near codes %lu", i);
+        ask_read(&lending, file, write_file(&job, file));
+    }
+}
+
+/* The cases of the specification about files, and the edges of fields */
+
+struct edge {
+    const char *what;
+    uint32_t price;
+    int32_t count;
+    const char *offer, *tally;
+    uint16_t due;
+};
+
+static const struct edge edges[] = {
+    {"000 is 0", 1, 1, "000", "0", 0},
+    {"0412 and 412 agree", 1, 1, "0412", "412", 0},
+    {"4120 and 412 do not", 1, 1, "4120", "412", 8},
+    {"10 digits pass", 1, 1, "9999999999", "9999999999", 0},
+    {"10 digits, the first a zero", 1, 1, "0999999999", "999999999", 0},
+    {"numbers above 32 bits that agree there", 1, 1, "4294967303", "7", 8},
+    {"price 9,999,999", 9999999, 1, "1", "1", 0},
+    {"price 10,000,000", 10000000, 1, "1", "1", 6},
+    {"count 99,999", 1, 99999, "1", "1", 0},
+    {"count -99,999", 1, -99999, "1", "1", 0},
+    {"count 100,000", 1, 100000, "1", "1", 6},
+    {"count -100,000", 1, -100000, "1", "1", 6},
+    {"bad count with unknown code", 1, 100000, "1", "2", 6},
+    {"price 0, count 0", 0, 0, "1", "1", 0},
+};
+
+static void cases_of_files(void)
+{
+    struct tally tally = {0, 0, 0, 1, {0, {0}}};
+    for (size_t i = 0; i < sizeof edges / sizeof edges[0]; i++) {
+        tally.count = edges[i].count;
+        one_tally_job(&job, (struct sizes){1, 1, 1, 1}, edges[i].price, tally);
+        job.offer[0].code = code_of(edges[i].offer);
+        job.tally[0].code = code_of(edges[i].tally);
+        at_case("%s", edges[i].what);
+        expect_answer(write_file(&job, file), edges[i].due);
+    }
+    at_case("16 boxes");
+    one_tally_job(&job, (struct sizes){16, 255, 21, 21}, 1, tally);
+    size_t length = write_file(&job, file);
+    expect(length == 4 * BLOCK, "21 offers and 21 tallies fill one block each, the file has %zu bytes", length);
+    expect_answer(length, 0);
+}
+
+/* The two sums of a block, as the specification gives them. */
+static void cases_of_sums(void)
+{
+    static const uint16_t due[2][3] = {{0, 255, 64019}, {507, 255, 255}};
+    for (unsigned i = 0; i < 2; i++) {
+        uint8_t block[BLOCK] = {0};
+        block[due[i][0]] = 255;
+        write_sums(block);
+        at_case("byte %u alone 255", due[i][0]);
+        expect(block[508] + 256 * block[509] == due[i][1], "first sum differs");
+        expect(block[510] + 256 * block[511] == due[i][2], "second sum differs");
+    }
+}
+
+void check_reader(void)
+{
+    group("reader: the sums of the specification", cases_of_sums);
+    group("reader: the cases of the specification", cases_of_files);
+    group("reader: each refusal by an edit of E", each_refusal);
+    group("reader: of two faults the earlier is refused", order_of_refusals);
+    group("reader: the block count in its place", block_count_in_order);
+    group("reader: files cut, longer and empty", lengths);
+    group("reader: each buffer short", short_buffers);
+    group("reader: random files", random_files);
+    group("reader: one or two bytes of a block changed", changed_bytes);
+    group("reader: damage with the sums made right", damaged_files);
+    group("reader: every byte in turn, the sums made right", each_byte);
+    group("reader: every place of a code", each_code);
+    group("reader: codes that share a number or nearly", near_codes);
+}

@@ -1,0 +1,274 @@
+/* The run: its refusals, its choices, its report, and a list of steps that ends alike. */
+#include "evening.h"
+#include "groups.h"
+
+static struct evening evening;
+static struct picks picks;
+
+/* A run of the job with these many choices; the state buffers hold anything before. */
+static void open_run(size_t choices) { open_evening(&evening, SPARE, choices); }
+
+static void scramble_state(void)
+{
+    for (unsigned name = JOB_TABLES; name < STEP_TABLES; name++)
+        for (size_t place = 0; place < needed(name, evening.job.sizes); place++)
+            put_both(&evening.lending, name, place, (int64_t)random_word());
+}
+
+static void expect_run(uint16_t due)
+{
+    uint16_t answer = ask_run(&evening, evening.job.sizes, &picks);
+    expect(answer == due, "run answered %u, the specification says %u", answer, due);
+}
+
+static void expect_report(uint32_t words, uint32_t messages, uint32_t steps)
+{
+    uint32_t due[] = {words, messages, steps};
+    for (size_t i = 0; i < 3; i++)
+        expect(lent_word(&evening, REPORT, i) == due[i], "report[%zu] is %lld, should be %u", i,
+               (long long)lent_word(&evening, REPORT, i), due[i]);
+}
+
+/* The cases of the specification */
+
+static void run_case(const char *what, uint32_t words, uint32_t messages, uint32_t steps)
+{
+    at_case("%s", what);
+    open_run(0);
+    scramble_state();
+    expect_run(0);
+    expect_report(words, messages, steps);
+    expect_plain_sums(&evening);
+}
+
+static void expect_statement(uint16_t grocer, int64_t amount)
+{
+    expect(lent_word(&evening, STATEMENT, grocer) == amount, "statement %u is %lld, should be %lld", grocer,
+           (long long)lent_word(&evening, STATEMENT, grocer), (long long)amount);
+}
+
+static void one_tally_case(const char *what, uint16_t tallies, uint32_t price, int32_t count, int64_t amount)
+{
+    one_tally_job(&evening.job, (struct sizes){2, 1, 1, tallies}, price, (struct tally){0, 1, 0, count, {0, {0}}});
+    run_case(what, 1, 1, 6);
+    expect_statement(0, amount);
+    close_evening(&evening);
+}
+
+static void cases(void)
+{
+    small_evening(&evening.job);
+    run_case("E", 3, 3, 10);
+    expect_statement(0, 2250);
+    expect_statement(1, 2500);
+    close_evening(&evening);
+    for (uint16_t boxes = 1; boxes <= MOST_BOXES; boxes++) {
+        one_tally_job(&evening.job, (struct sizes){boxes, 3, 3, 0}, 1, (struct tally){0});
+        run_case("no tallies", 0, 0, 2u * boxes);
+        close_evening(&evening);
+    }
+    one_tally_case("one tally", 1, 30, 5, 150);
+    one_tally_case("the same tally twice", 2, 30, 5, 300);
+    one_tally_case("a tally of count 0", 1, 30, 0, 0);
+    one_tally_case("largest amount", 1, MOST_PRICE, MOST_COUNT, INT64_C(999989900001));
+    one_tally_case("largest negative amount", 1, MOST_PRICE, -MOST_COUNT, INT64_C(-999989900001));
+    one_tally_case("1,000 times the largest amount", 1000, MOST_PRICE, MOST_COUNT, INT64_C(999989900001000));
+}
+
+/* Refusals */
+
+static void refused_run(enum table_name name, size_t lend)
+{
+    at_case("%s of %zu words", table_text(name), lend);
+    evening.lending.lend[name] = lend;
+    expect_run(20);
+    lend_whole(&evening.lending);
+}
+
+static void short_buffers(void)
+{
+    for (unsigned long round = 0; round < 10 + job_count / 100; round++) {
+        struct sizes sizes = sizes_with_tallies(round % 4 ? TINY : MEDIUM);
+        random_job(&evening.job, sizes);
+        open_run(below(5));
+        scramble_state();
+        for (unsigned name = 0; name < ALL_TABLES; name++) {
+            size_t need = needed(name, sizes);
+            if (need == 0 || (name >= STEP_TABLES && name != REPORT)) continue;
+            refused_run(name, need - 1);
+            refused_run(name, 0);
+            refused_run(name, below((uint32_t)need));
+        }
+        for (unsigned name = 0; name < ALL_TABLES; name++)
+            if (evening.lending.lend[name] > 0 && name != CHOICES) evening.lending.lend[name] = needed(name, sizes);
+        at_case("every buffer just long enough");
+        expect_run(0);
+        close_evening(&evening);
+    }
+}
+
+/* A word of the job out of range, alone and with a short buffer. */
+static void out_of_range(enum table_name name, size_t place, int64_t word)
+{
+    int64_t kept = word_at(evening.lending.twin[name], place);
+    at_case("%s[%zu] = %lld", table_text(name), place, (long long)word);
+    put_both(&evening.lending, name, place, word);
+    expect_run(21);
+    refused_run(REPORT, 2);
+    refused_run(SENT, 0);
+    put_both(&evening.lending, name, place, kept);
+}
+
+static void words_out_of_range(void)
+{
+    for (unsigned long round = 0; round < 10 + job_count / 100; round++) {
+        struct sizes sizes = sizes_with_tallies(round % 4 ? TINY : MEDIUM);
+        random_job(&evening.job, sizes);
+        open_run(0);
+        scramble_state();
+        for (unsigned name = 0; name < JOB_TABLES; name++) {
+            size_t places[] = {0, needed(name, sizes) - 1, below((uint32_t)needed(name, sizes))};
+            for (unsigned i = 0; i < 3; i++) {
+                out_of_range(name, places[i], range_of(name, sizes).most + 1);
+                if (is_signed(name)) out_of_range(name, places[i], range_of(name, sizes).least - 1);
+            }
+        }
+        at_case("every word put back");
+        expect_run(0);
+        close_evening(&evening);
+    }
+}
+
+static void expect_for_sizes(const struct sizes tried[], size_t count, uint16_t due)
+{
+    for (size_t i = 0; i < count; i++) {
+        evening.job.sizes = tried[i];
+        at_case("K %u, M %u, N %u, T %u", tried[i].boxes, tried[i].grocers, tried[i].offers, tried[i].tallies);
+        expect_run(due);
+    }
+}
+
+static void sizes_out_of_range(void)
+{
+    static const struct sizes none[] = {{0, 2, 2, 4}, {2, 0, 2, 4}, {2, 2, 0, 4}, {0, 0, 0, 0}};
+    static const struct sizes more[] = {{17, 2, 2, 4},   {2, 256, 2, 4},   {2, 2, 501, 4},
+                                        {2, 2, 2, 1001}, {16, 2, 4096, 4}, {65535, 65535, 65535, 65535}};
+    small_evening(&evening.job);
+    open_run(3);
+    expect_for_sizes(none, 4, 21);
+    expect_for_sizes(more, 6, 20);
+    close_evening(&evening);
+}
+
+/* Random runs */
+
+static size_t random_choice_count(void)
+{
+    switch (below(4)) {
+    case 0: return 0;
+    case 1: return below(6);
+    case 2: return below(200);
+    default: return 1500;
+    }
+}
+
+static void random_choices(void)
+{
+    uint32_t manner = below(4);
+    for (size_t i = 0; i < evening.lending.table[CHOICES].length; i++) {
+        uint16_t choice = manner == 0 ? 65535 : manner == 1 ? (uint16_t)below(8) : (uint16_t)random_word();
+        put_both(&evening.lending, CHOICES, i, choice);
+    }
+}
+
+/* The picked steps, asked one by one from a fresh state, leave the words that the run left. */
+static void list_ends_alike(void)
+{
+    start_fresh(&evening.machine, &evening.job);
+    lend_state(&evening);
+    for (size_t i = 0; i < picks.length; i++)
+        expect(ask(&evening, picks.step[i]) == 0, "the run's step %zu was refused in the list", i);
+    expect_plain_sums(&evening);
+    expect(lent_word(&evening, SENT, 0) == lent_word(&evening, REPORT, 0),
+           "words sent in the list and the run's report differ");
+    expect(picks.length == (size_t)lent_word(&evening, REPORT, 2), "steps in the list and the run's report differ");
+}
+
+static void try_run(struct sizes sizes, bool as_list)
+{
+    random_job(&evening.job, sizes);
+    open_run(random_choice_count());
+    scramble_state();
+    random_choices();
+    expect_run(0);
+    expect_plain_sums(&evening);
+    expect_report(words_of_evening(&evening.job), (uint32_t)(picks.length / 2 - sizes.boxes), (uint32_t)picks.length);
+    if (as_list) list_ends_alike();
+    close_evening(&evening);
+}
+
+static void random_runs(void)
+{
+    for (unsigned long i = 0; i < job_count; i++) {
+        at_case("run %lu", i);
+        try_run(random_sizes(i % 4 ? TINY : i % 16 ? SMALL : MEDIUM), i % 3 == 0);
+    }
+}
+
+static void largest_runs(void)
+{
+    for (unsigned long i = 0; i < job_count / 200 + 1; i++) {
+        at_case("largest run %lu", i);
+        try_run(LARGEST, i == 0);
+    }
+}
+
+/* A file read into the tables of the largest job, and the run on those very tables. */
+static void from_file_to_statements(void)
+{
+    static uint8_t file[MOST_FILE];
+    size_t lengths[ALL_TABLES];
+    for (unsigned name = 0; name < ALL_TABLES; name++) lengths[name] = needed(name, LARGEST);
+    lengths[FILE_BYTES] = MOST_FILE;
+    open_lending(&evening.lending, lengths);
+    for (unsigned long i = 0; i < 10 + job_count / 20; i++) {
+        at_case("file %lu", i);
+        random_job(&evening.job, random_sizes(i % 8 ? SMALL : LARGEST));
+        expect(ask_read(&evening.lending, file, write_file(&evening.job, file)) == 0, "the file was refused");
+        struct sizes read = {(uint16_t)lent_word(&evening, SIZES, 0), (uint16_t)lent_word(&evening, SIZES, 1),
+                             (uint16_t)lent_word(&evening, SIZES, 2), (uint16_t)lent_word(&evening, SIZES, 3)};
+        expect(ask_run(&evening, read, &picks) == 0, "the run was refused");
+        expect_plain_sums(&evening);
+    }
+    close_evening(&evening);
+}
+
+/* State buffers that nothing was written to: a memory checker sees a run that looks at them. */
+static void blank_state(void)
+{
+    bool exactly = lend_exactly;
+    lend_exactly = true;
+    for (unsigned long i = 0; i < 20; i++) {
+        at_case("blank state %lu", i);
+        random_job(&evening.job, random_sizes(i % 4 ? TINY : SMALL));
+        open_evening(&evening, 0, random_choice_count());
+        random_choices();
+        evening.lending.blank = true;
+        expect_run(0);
+        expect_plain_sums(&evening);
+        close_evening(&evening);
+    }
+    lend_exactly = exactly;
+}
+
+void check_run(void)
+{
+    run_group("run: the cases of the specification", cases);
+    run_group("run: each buffer short", short_buffers);
+    run_group("run: each table of the job with a word beyond its range", words_out_of_range);
+    run_group("run: K, M, N and T out of range", sizes_out_of_range);
+    run_group("run: random runs, and lists that end alike", random_runs);
+    run_group("run: the largest jobs", largest_runs);
+    run_group("run: from a file to its statements", from_file_to_statements);
+    run_group("run: what the state buffers held is not looked at", blank_state);
+}

@@ -1,0 +1,275 @@
+/* One step on jobs that are written out: each refusal, their order, and results at the edges of their ranges. */
+#include "evening.h"
+#include "groups.h"
+
+static struct evening evening;
+
+/* Plights: requests on E with some steps done, and their refusals */
+
+struct plight {
+    const char *what;
+    struct step step;
+    uint16_t number;
+    bool marked, large; /* whether the step's own mark stands, and whether its result would leave the range */
+    struct step done[3];
+};
+
+static const struct plight plights[] = {
+    {.what = "send prices, permitted", .step = {1, 0, 1}, .number = 0},
+    {.what = "sweep own, permitted", .step = {2, 1, 1}, .number = 0},
+    {.what = "receive prices, permitted", .step = {3, 0, 1}, .number = 0, .done = {{1, 1, 0}}},
+    {.what = "send totals, permitted", .step = {4, 0, 1}, .number = 0, .done = {{2, 0, 0}, {3, 0, 1}}},
+    {.what = "add own, permitted", .step = {5, 0, 0}, .number = 0, .done = {{2, 0, 0}, {3, 0, 1}}},
+    {.what = "receive totals, permitted", .step = {6, 1, 0}, .number = 0, .done = {{4, 0, 1}}},
+    {.what = "kind 0", .step = {0, 0, 1}, .number = 22},
+    {.what = "kind 7", .step = {7, 0, 1}, .number = 22},
+    {.what = "kind 65,535", .step = {65535, 0, 0}, .number = 22},
+    {.what = "kind 9 with box 99", .step = {9, 99, 99}, .number = 22},
+    {.what = "kind 257", .step = {257, 0, 1}, .number = 22},
+    {.what = "message 0 to 0", .step = {1, 0, 0}, .number = 23},
+    {.what = "message 0 to 0, its place marked", .step = {1, 0, 0}, .number = 23, .marked = true},
+    {.what = "receipt of 1 from 1", .step = {3, 1, 1}, .number = 23},
+    {.what = "totals 1 to 1", .step = {4, 1, 1}, .number = 23, .done = {{2, 1, 1}, {3, 1, 0}}},
+    {.what = "totals of 0 from 0", .step = {6, 0, 0}, .number = 23},
+    {.what = "sweep of 0 and 1", .step = {2, 0, 1}, .number = 23},
+    {.what = "own of 1 and 0", .step = {5, 1, 0}, .number = 23},
+    {.what = "first box 2", .step = {1, 2, 0}, .number = 23},
+    {.what = "second box 2", .step = {1, 0, 2}, .number = 23},
+    {.what = "sweep of box 2", .step = {2, 2, 2}, .number = 23},
+    {.what = "own of box 65,535", .step = {5, 65535, 65535}, .number = 23},
+    {.what = "first box 256", .step = {1, 256, 1}, .number = 23},
+    {.what = "second box 65,535", .step = {6, 1, 65535}, .number = 23},
+    {.what = "empty totals", .step = {4, 1, 0}, .number = 24, .done = {{2, 1, 1}, {3, 1, 0}}},
+    {.what = "empty totals, not ready", .step = {4, 1, 0}, .number = 24},
+    {.what = "empty totals, marked", .step = {4, 1, 0}, .number = 24, .marked = true, .done = {{2, 1, 1}, {3, 1, 0}}},
+    {.what = "empty receipt", .step = {6, 0, 1}, .number = 24, .done = {{4, 1, 0}}},
+    {.what = "empty receipt, not ready", .step = {6, 0, 1}, .number = 24},
+    {.what = "empty receipt, marked", .step = {6, 0, 1}, .number = 24, .marked = true, .large = true},
+    {.what = "send prices repeated", .step = {1, 0, 1}, .number = 25, .marked = true},
+    {.what = "sweep repeated", .step = {2, 0, 0}, .number = 25, .marked = true},
+    {.what = "receipt repeated", .step = {3, 0, 1}, .number = 25, .marked = true, .done = {{1, 1, 0}}},
+    {.what = "receipt marked, not ready", .step = {3, 0, 1}, .number = 25, .marked = true},
+    {.what = "totals repeated", .step = {4, 0, 1}, .number = 25, .marked = true, .done = {{2, 0, 0}, {3, 0, 1}}},
+    {.what = "totals marked, not ready", .step = {4, 0, 1}, .number = 25, .marked = true},
+    {.what = "own repeated", .step = {5, 1, 1}, .number = 25, .marked = true, .done = {{2, 1, 1}, {3, 1, 0}}},
+    {.what = "own repeated, its result too large",
+     .step = {5, 1, 1},
+     .number = 25,
+     .marked = true,
+     .large = true,
+     .done = {{2, 1, 1}, {3, 1, 0}}},
+    {.what = "receipt of totals repeated",
+     .step = {6, 1, 0},
+     .number = 25,
+     .marked = true,
+     .large = true,
+     .done = {{4, 0, 1}}},
+    {.what = "receipt of totals marked, not ready", .step = {6, 1, 0}, .number = 25, .marked = true, .large = true},
+    {.what = "send prices repeated, the count full", .step = {1, 1, 0}, .number = 25, .marked = true, .large = true},
+    {.what = "receipt before sending", .step = {3, 0, 1}, .number = 26},
+    {.what = "receipt before sending, the other way sent", .step = {3, 0, 1}, .number = 26, .done = {{1, 0, 1}}},
+    {.what = "receipt before sending, its result too large", .step = {3, 1, 0}, .number = 26, .large = true},
+    {.what = "totals before anything", .step = {4, 0, 1}, .number = 26},
+    {.what = "totals after the own sweep only", .step = {4, 0, 1}, .number = 26, .done = {{2, 0, 0}}},
+    {.what = "totals after the receipt only", .step = {4, 0, 1}, .number = 26, .done = {{3, 0, 1}}},
+    {.what = "totals after the other box's sweep",
+     .step = {4, 0, 1},
+     .number = 26,
+     .large = true,
+     .done = {{2, 1, 1}, {3, 0, 1}}},
+    {.what = "own before anything", .step = {5, 1, 1}, .number = 26, .large = true},
+    {.what = "own after the sweep only", .step = {5, 1, 1}, .number = 26, .done = {{2, 1, 1}}},
+    {.what = "own after the receipt only", .step = {5, 0, 0}, .number = 26, .done = {{3, 0, 1}}},
+    {.what = "receipt of totals before sending", .step = {6, 1, 0}, .number = 26, .large = true},
+    {.what = "receipt of totals, own added", .step = {6, 1, 0}, .number = 26, .done = {{5, 0, 0}, {5, 1, 1}}},
+    {.what = "send prices, the count full", .step = {1, 0, 1}, .number = 21, .large = true},
+    {.what = "sweep, its result too large", .step = {2, 0, 0}, .number = 21, .large = true},
+    {.what = "receipt, its result too large", .step = {3, 1, 0}, .number = 21, .large = true, .done = {{1, 0, 1}}},
+    {.what = "totals, the count full", .step = {4, 0, 1}, .number = 21, .large = true, .done = {{2, 0, 0}, {3, 0, 1}}},
+    {.what = "own, its result too large",
+     .step = {5, 1, 1},
+     .number = 21,
+     .large = true,
+     .done = {{2, 1, 1}, {3, 1, 0}}},
+    {.what = "receipt of totals, its result too large",
+     .step = {6, 1, 0},
+     .number = 21,
+     .large = true,
+     .done = {{4, 0, 1}}},
+};
+enum { PLIGHTS = sizeof plights / sizeof plights[0] };
+
+/* Every amount and the count at the end of its range, prices above 0: no step that adds stays within. */
+static void make_large(void)
+{
+    struct lending *lending = &evening.lending;
+    for (size_t place = 0; place < 4; place++) {
+        put_both(lending, KNOWN, place, 1);
+        put_both(lending, PRICE_TRANSIT, place, 1);
+        put_both(lending, WORKING, place, MOST_AMOUNT);
+        put_both(lending, TOTAL_TRANSIT, place, MOST_AMOUNT);
+    }
+    for (size_t grocer = 0; grocer < 2; grocer++) put_both(lending, STATEMENT, grocer, MOST_AMOUNT);
+    put_both(lending, SENT, 0, MOST_SENT);
+}
+
+static void open_plight(const struct plight *plight, const char *and)
+{
+    small_evening(&evening.job);
+    open_evening(&evening, SPARE, 0);
+    at_case("%s%s", plight->what, and);
+    for (unsigned i = 0; i < 3; i++)
+        if (plight->done[i].kind) set_mark(&evening, plight->done[i]);
+    if (plight->marked) set_mark(&evening, plight->step);
+    if (plight->large) make_large();
+}
+
+static void each_plight(void)
+{
+    for (size_t i = 0; i < PLIGHTS; i++) {
+        open_plight(&plights[i], "");
+        expect_step(&evening, plights[i].step, plights[i].number);
+        close_evening(&evening);
+    }
+}
+
+/* Each plight with a word out of range, with a short buffer, and with both. */
+static void plights_with_earlier_faults(void)
+{
+    for (size_t i = 0; i < PLIGHTS; i++)
+        for (unsigned name = 0; name < STEP_TABLES; name++) {
+            struct lending *lending = &evening.lending;
+            size_t need = needed(name, (struct sizes){2, 2, 2, 4});
+            open_plight(&plights[i], ", and an earlier fault");
+            lending->lend[name] = need - 1;
+            expect_step(&evening, plights[i].step, 20);
+            put_both(lending, name, below((uint32_t)need), range_of(name, evening.job.sizes).most + 1);
+            expect_step(&evening, plights[i].step, 20);
+            lend_whole(lending);
+            expect_step(&evening, plights[i].step, 21);
+            close_evening(&evening);
+        }
+}
+
+/* Late refusals: the finished word just within its range, and just beyond */
+
+struct late {
+    const char *what;
+    struct step step;
+    enum table_name name;
+    size_t place;
+    int64_t just_fits; /* the word of the table with which the result is the last within the range */
+};
+
+/* Count 7, price 3; offer of box 0, grocer of box 1; amounts of 100 under way and at work. */
+static const struct late lates[] = {
+    {"prices sent", {1, 0, 1}, SENT, 0, MOST_SENT - 1},
+    {"own swept", {2, 0, 0}, WORKING, 0, MOST_AMOUNT - 21},
+    {"prices received", {3, 1, 0}, WORKING, 1, MOST_AMOUNT - 21},
+    {"totals sent", {4, 0, 1}, SENT, 0, MOST_SENT - 1},
+    {"own added", {5, 1, 1}, STATEMENT, 0, MOST_AMOUNT - 100},
+    {"totals received", {6, 1, 0}, STATEMENT, 0, MOST_AMOUNT - 100},
+};
+
+/* One tally in the box that the step is about, or one in each box. */
+static void open_late(struct step step, int sign, uint16_t tallies)
+{
+    uint16_t box = step.kind == SEND_PRICES || step.kind == RECEIVE_PRICES;
+    one_tally_job(&evening.job, (struct sizes){2, 1, 1, tallies}, 3, (struct tally){0, box, 0, 7 * sign, {0, {0}}});
+    evening.job.tally[1].box = !box;
+    open_evening(&evening, SPARE, 0);
+    put_both(&evening.lending, PRICE_TRANSIT, 1, 3);
+    put_both(&evening.lending, WORKING, 1, 100 * sign);
+    put_both(&evening.lending, TOTAL_TRANSIT, 0, 100 * sign);
+    put_both(&evening.lending, KNOWN, 0, 3);
+}
+
+/* Every mark of two boxes but one, so that this step is ready. */
+static void mark_all_but(struct step step)
+{
+    for (size_t place = 0; place < needed(DONE, evening.job.sizes); place++) put_both(&evening.lending, DONE, place, 1);
+    put_both(&evening.lending, DONE, mark_place(&evening, step), 0);
+}
+
+static void late_case(const struct late *late, int sign, uint16_t tallies, bool beyond)
+{
+    if (late->name == SENT) sign = 1;
+    at_case("%s, %s, sign %d, %u tallies", late->what, beyond ? "beyond" : "just fits", sign, tallies);
+    open_late(late->step, sign, tallies);
+    mark_all_but(late->step);
+    put_both(&evening.lending, late->name, late->place, sign * (late->just_fits + beyond));
+    expect_step(&evening, late->step, beyond ? 21 : 0);
+    close_evening(&evening);
+}
+
+static void late_refusals(void)
+{
+    for (unsigned i = 0; i < sizeof lates / sizeof lates[0]; i++)
+        for (unsigned way = 0; way < 8; way++) late_case(&lates[i], way & 1 ? 1 : -1, way & 2 ? 1 : 2, way & 4);
+}
+
+/* Sums that leave the range on the way and come back are no fault; a fault in the last word leaves the first alone. */
+static void sums_on_the_way(void)
+{
+    at_case("a sum beyond the range on the way");
+    one_tally_job(&evening.job, (struct sizes){1, 1, 1, 1000}, MOST_PRICE,
+                  (struct tally){0, 0, 0, MOST_COUNT, {0, {0}}});
+    for (size_t t = 500; t < 1000; t++) evening.job.tally[t].count = -MOST_COUNT;
+    open_evening(&evening, SPARE, 0);
+    put_both(&evening.lending, WORKING, 0, MOST_AMOUNT);
+    expect_step(&evening, (struct step){2, 0, 0}, 0);
+    close_evening(&evening);
+
+    at_case("the last of 255 statements beyond its range");
+    one_tally_job(&evening.job, (struct sizes){1, 255, 1, 0}, 1, (struct tally){0});
+    open_evening(&evening, SPARE, 0);
+    for (size_t g = 0; g < 255; g++) {
+        put_both(&evening.lending, WORKING, g, -1);
+        put_both(&evening.lending, STATEMENT, g, 5);
+    }
+    put_both(&evening.lending, DONE, mark_place(&evening, (struct step){2, 0, 0}), 1);
+    put_both(&evening.lending, STATEMENT, 254, -MOST_AMOUNT);
+    expect_step(&evening, (struct step){5, 0, 0}, 21);
+    put_both(&evening.lending, STATEMENT, 254, 1 - MOST_AMOUNT);
+    expect_step(&evening, (struct step){5, 0, 0}, 0);
+    close_evening(&evening);
+}
+
+/* Two boxes hold a tally of offer 0 and grocer 0; box 0 owns the offers, box 1 the grocers. */
+static void open_beside(struct step step, int sign)
+{
+    one_tally_job(&evening.job, (struct sizes){2, 3, 3, 2}, 5, (struct tally){0, 0, 0, sign, {0, {0}}});
+    evening.job.tally[1].box = 1;
+    open_evening(&evening, SPARE, 0);
+    mark_all_but(step);
+    for (size_t place = 0; place < 6; place++) {
+        int64_t amount = place % 3 == 0 ? 0 : sign * MOST_AMOUNT;
+        put_both(&evening.lending, KNOWN, place, MOST_PRICE);
+        put_both(&evening.lending, PRICE_TRANSIT, place, MOST_PRICE);
+        put_both(&evening.lending, WORKING, place, amount);
+        put_both(&evening.lending, TOTAL_TRANSIT, place, amount);
+        if (place < 3) put_both(&evening.lending, STATEMENT, place, amount);
+    }
+}
+
+/* Amounts of the other grocers stand at an end of their range, and no step may mind or touch them. */
+static void words_outside_messages(void)
+{
+    static const struct step steps[] = {{1, 0, 1}, {2, 0, 0}, {3, 1, 0}, {4, 0, 1}, {5, 0, 0}, {6, 1, 0}};
+    for (unsigned i = 0; i < 6; i++)
+        for (int sign = -1; sign <= 1; sign += 2) {
+            at_case("step %u beside words of %d x 10^15", steps[i].kind, sign);
+            open_beside(steps[i], sign);
+            expect_step(&evening, steps[i], 0);
+            close_evening(&evening);
+        }
+}
+
+void check_step(void)
+{
+    run_group("step: each refusal on E, and each kind permitted", each_plight);
+    run_group("step: a short buffer or a word out of range comes first", plights_with_earlier_faults);
+    run_group("step: results at and beyond their range", late_refusals);
+    run_group("step: only finished words are held to the range", sums_on_the_way);
+    run_group("step: words outside its message do not matter", words_outside_messages);
+}

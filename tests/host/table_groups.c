@@ -1,0 +1,162 @@
+/* One step on tables that are short or hold words out of range, and on K, M, N and T that do not fit them. */
+#include "evening.h"
+#include "groups.h"
+
+static struct evening evening;
+
+/* A state in the middle of a random job's evening. */
+static void advance(uint32_t steps)
+{
+    struct step ready[MOST_STEPS];
+    size_t length;
+    while (steps-- > 0 && (length = ready_steps(&evening.machine, ready)) > 0)
+        request(&evening.machine, ready[below((uint32_t)length)]);
+    lend_state(&evening);
+}
+
+static void open_middle(struct sizes most)
+{
+    random_job(&evening.job, sizes_with_tallies(most));
+    open_evening(&evening, SPARE, 0);
+    advance(below(20));
+}
+
+static void short_by(enum table_name name, size_t length)
+{
+    at_case("%s of %zu words", table_text(name), length);
+    evening.lending.lend[name] = length;
+    expect_step(&evening, some_ready_step(&evening), 20);
+    expect_step(&evening, (struct step){9, 99, 99}, 20);
+    lend_whole(&evening.lending);
+}
+
+static void short_buffers(void)
+{
+    for (unsigned long round = 0; round < 20 + job_count / 50; round++)
+        for (unsigned name = 0; name < STEP_TABLES; name++) {
+            open_middle(round % 4 ? SMALL : MEDIUM);
+            size_t need = needed(name, evening.job.sizes);
+            short_by(name, need - 1);
+            short_by(name, 0);
+            short_by(name, below((uint32_t)need));
+            at_case("%s of %zu words, all needed", table_text(name), need);
+            evening.lending.lend[name] = need;
+            ask(&evening, some_ready_step(&evening));
+            close_evening(&evening);
+        }
+}
+
+/* A word of a table replaced; asked; and put back. */
+static void with_word(enum table_name name, size_t place, int64_t word, bool inside)
+{
+    struct step step = some_ready_step(&evening);
+    int64_t kept = word_at(evening.lending.twin[name], place);
+    at_case("%s[%zu] = %lld", table_text(name), place, (long long)word);
+    put_both(&evening.lending, name, place, word);
+    if (inside)
+        ask_on_words(&evening, evening.job.sizes, step);
+    else
+        expect_step(&evening, step, 21);
+    put_both(&evening.lending, name, place, kept);
+    lend_state(&evening);
+}
+
+static void edges_of_word(enum table_name name, size_t place)
+{
+    struct range range = range_of(name, evening.job.sizes), width = width_range(name);
+    with_word(name, place, range.most, true);
+    with_word(name, place, range.least, true);
+    with_word(name, place, range.most + 1, false);
+    with_word(name, place, width.most, false);
+    if (!is_signed(name)) return;
+    with_word(name, place, range.least - 1, false);
+    with_word(name, place, width.least, false);
+}
+
+static void words_out_of_range(void)
+{
+    for (unsigned long round = 0; round < 5 + job_count / 100; round++)
+        for (unsigned name = 0; name < STEP_TABLES; name++) {
+            open_middle(round % 4 ? SMALL : MEDIUM);
+            size_t need = needed(name, evening.job.sizes);
+            edges_of_word(name, 0);
+            edges_of_word(name, need - 1);
+            edges_of_word(name, below((uint32_t)need));
+            close_evening(&evening);
+        }
+}
+
+/* Asks with each of these sizes on whatever is lent. */
+static void expect_for_sizes(const struct sizes tried[], size_t count, uint16_t due)
+{
+    for (size_t i = 0; i < count; i++) {
+        evening.job.sizes = tried[i];
+        at_case("K %u, M %u, N %u, T %u", tried[i].boxes, tried[i].grocers, tried[i].offers, tried[i].tallies);
+        expect_step(&evening, (struct step){2, 0, 0}, due);
+    }
+}
+
+/* Every buffer is long enough for sizes that are a little out of range. */
+static void sizes_out_of_range(void)
+{
+    static const struct sizes tried[] = {
+        {0, 2, 2, 4},         {17, 2, 2, 4},        {2, 0, 2, 4},        {2, 256, 2, 4},       {2, 2, 0, 4},
+        {2, 2, 501, 4},       {2, 2, 2, 1001},      {0, 0, 0, 0},        {17, 256, 501, 1001}, {16, 255, 500, 1001},
+        {16, 255, 501, 1000}, {16, 256, 500, 1000}, {17, 255, 500, 1000}};
+    size_t lengths[ALL_TABLES];
+    for (unsigned name = 0; name < ALL_TABLES; name++) lengths[name] = needed(name, (struct sizes){17, 256, 501, 1001});
+    open_lending(&evening.lending, lengths);
+    expect_for_sizes(tried, sizeof tried / sizeof tried[0], 21);
+    close_evening(&evening);
+}
+
+/* Tables of one word for each grocer, offer or tally are as long as can be, the others short of lengths that are small
+   only where 16 or 32 bits wrap round. */
+static void lengths_that_wrap(void)
+{
+    static const struct sizes tried[] = {{16, 2, 4096, 4},
+                                         {2, 2, 32768, 4},
+                                         {16, 4096, 2, 4},
+                                         {2, 32768, 2, 4},
+                                         {256, 1, 1, 0},
+                                         {128, 1, 1, 0},
+                                         {32768, 1, 1, 0},
+                                         {26755, 1, 1, 0},
+                                         {65535, 1, 1, 0},
+                                         {257, 255, 2, 4},
+                                         {2, 2, 65535, 4},
+                                         {2, 65535, 2, 4},
+                                         {65535, 65535, 65535, 65535}};
+    size_t lengths[ALL_TABLES];
+    for (unsigned name = 0; name < ALL_TABLES; name++)
+        lengths[name] = needed(name, (struct sizes){0, 65535, 65535, 65535}) ? 65535 : 40000;
+    open_lending(&evening.lending, lengths);
+    expect_for_sizes(tried, sizeof tried / sizeof tried[0], 20);
+    close_evening(&evening);
+}
+
+/* A random job's words and random sizes beside it. */
+static void arbitrary_sizes(void)
+{
+    for (unsigned long i = 0; i < job_count; i++) {
+        random_job(&evening.job, random_sizes(TINY));
+        open_evening(&evening, SPARE, 0);
+        struct sizes sizes = evening.job.sizes;
+        if (one_in(2)) sizes.boxes = wild_number(sizes.boxes);
+        if (one_in(2)) sizes.grocers = wild_number(sizes.grocers);
+        if (one_in(2)) sizes.offers = wild_number(sizes.offers);
+        if (one_in(2)) sizes.tallies = wild_number(sizes.tallies);
+        at_case("K %u, M %u, N %u, T %u", sizes.boxes, sizes.grocers, sizes.offers, sizes.tallies);
+        ask_on_words(&evening, sizes, some_ready_step(&evening));
+        close_evening(&evening);
+    }
+}
+
+void check_step_tables(void)
+{
+    run_group("step: each buffer short", short_buffers);
+    run_group("step: each table with a word at and beyond its range", words_out_of_range);
+    run_group("step: K, M, N and T out of range", sizes_out_of_range);
+    run_group("step: K, M, N and T whose lengths wrap round", lengths_that_wrap);
+    run_group("step: K, M, N and T beside their tables", arbitrary_sizes);
+}

@@ -1,0 +1,125 @@
+#include "tables.h"
+
+#include <string.h>
+
+static const struct {
+    const char *text;
+    size_t width;
+    bool is_signed;
+} kinds[ALL_TABLES] = {
+    [PRICE] = {"price", 4, false},
+    [OFFER_OWNER] = {"offer_owner", 2, false},
+    [GROCER_OWNER] = {"grocer_owner", 2, false},
+    [TALLY_GROCER] = {"tally_grocer", 2, false},
+    [TALLY_BOX] = {"tally_box", 2, false},
+    [TALLY_OFFER] = {"tally_offer", 2, false},
+    [TALLY_COUNT] = {"tally_count", 4, true},
+    [KNOWN] = {"known", 4, false},
+    [PRICE_TRANSIT] = {"price_transit", 4, false},
+    [WORKING] = {"working", 8, true},
+    [TOTAL_TRANSIT] = {"total_transit", 8, true},
+    [STATEMENT] = {"statement", 8, true},
+    [DONE] = {"done", 2, false},
+    [SENT] = {"sent", 4, false},
+    [OFFER_CODE] = {"offer_code", 1, false},
+    [TALLY_CODE] = {"tally_code", 1, false},
+    [SIZES] = {"sizes", 2, false},
+    [REPORT] = {"report", 4, false},
+    [FILE_BYTES] = {"file", 1, false},
+    [CHOICES] = {"choices", 2, false},
+};
+
+const char *table_text(enum table_name name) { return kinds[name].text; }
+size_t width_of(enum table_name name) { return kinds[name].width; }
+bool is_signed(enum table_name name) { return kinds[name].is_signed; }
+
+uint64_t needed(enum table_name name, struct sizes sizes)
+{
+    uint64_t k = sizes.boxes, m = sizes.grocers, n = sizes.offers, t = sizes.tallies;
+    switch (name) {
+    case PRICE:
+    case OFFER_OWNER: return n;
+    case GROCER_OWNER:
+    case STATEMENT: return m;
+    case TALLY_GROCER:
+    case TALLY_BOX:
+    case TALLY_OFFER:
+    case TALLY_COUNT: return t;
+    case KNOWN:
+    case PRICE_TRANSIT: return k * n;
+    case WORKING:
+    case TOTAL_TRANSIT: return k * m;
+    case DONE: return 6 * k * k;
+    case SENT: return 1;
+    case OFFER_CODE: return 11 * n;
+    case TALLY_CODE: return 11 * t;
+    case SIZES: return 4;
+    case REPORT: return 3;
+    default: return 0;
+    }
+}
+
+struct range width_range(enum table_name name)
+{
+    unsigned bits = 8 * (unsigned)width_of(name);
+    if (bits == 64) return (struct range){INT64_MIN, INT64_MAX};
+    if (is_signed(name)) return (struct range){-(INT64_C(1) << (bits - 1)), (INT64_C(1) << (bits - 1)) - 1};
+    return (struct range){0, (INT64_C(1) << bits) - 1};
+}
+
+struct range range_of(enum table_name name, struct sizes sizes)
+{
+    switch (name) {
+    case PRICE:
+    case KNOWN:
+    case PRICE_TRANSIT: return (struct range){0, MOST_PRICE};
+    case OFFER_OWNER:
+    case GROCER_OWNER:
+    case TALLY_BOX: return (struct range){0, sizes.boxes - 1};
+    case TALLY_GROCER: return (struct range){0, sizes.grocers - 1};
+    case TALLY_OFFER: return (struct range){0, sizes.offers - 1};
+    case TALLY_COUNT: return (struct range){-MOST_COUNT, MOST_COUNT};
+    case WORKING:
+    case TOTAL_TRANSIT:
+    case STATEMENT: return (struct range){-MOST_AMOUNT, MOST_AMOUNT};
+    case DONE: return (struct range){0, 1};
+    case SENT: return (struct range){0, MOST_SENT};
+    default: return width_range(name);
+    }
+}
+
+bool sizes_in_range(struct sizes sizes)
+{
+    return sizes.boxes >= 1 && sizes.boxes <= MOST_BOXES && sizes.grocers >= 1 && sizes.grocers <= MOST_GROCERS &&
+           sizes.offers >= 1 && sizes.offers <= MOST_OFFERS && sizes.tallies <= MOST_TALLIES;
+}
+
+static unsigned char *place_of(struct table table, size_t place)
+{
+    return (unsigned char *)table.words + place * width_of(table.name);
+}
+
+/* Words are little-endian, as on every machine that the library is made for. */
+int64_t word_at(struct table table, size_t place)
+{
+    int64_t word = 0;
+    memcpy(&word, place_of(table, place), width_of(table.name));
+    return table.name == TALLY_COUNT ? (int32_t)word : word;
+}
+
+void put_word(struct table table, size_t place, int64_t word)
+{
+    memcpy(place_of(table, place), &word, width_of(table.name));
+}
+
+bool is_short(struct table table, struct sizes sizes) { return table.length < needed(table.name, sizes); }
+
+bool words_in_range(struct table table, struct sizes sizes)
+{
+    struct range range = range_of(table.name, sizes);
+    for (size_t place = 0; place < needed(table.name, sizes); place++) {
+        int64_t word = word_at(table, place);
+        if (word < range.least || word > range.most) return false;
+    }
+    return true;
+}

@@ -1,0 +1,78 @@
+/* The tables that the entries are lent, by name: what each needs, and the range of its words. */
+#ifndef TABLES_H
+#define TABLES_H
+
+#include <stdbool.h>
+#include <stddef.h>
+#include <stdint.h>
+
+enum { MOST_BOXES = 16, MOST_GROCERS = 255, MOST_OFFERS = 500, MOST_TALLIES = 1000 };
+enum { MOST_PRICE = 9999999, MOST_COUNT = 99999, MOST_SENT = 1000000 };
+#define MOST_AMOUNT INT64_C(1000000000000000)
+
+/* K, M, N and T, as given. */
+struct sizes {
+    uint16_t boxes, grocers, offers, tallies;
+};
+
+enum table_name {
+    PRICE,
+    OFFER_OWNER,
+    GROCER_OWNER,
+    TALLY_GROCER,
+    TALLY_BOX,
+    TALLY_OFFER,
+    TALLY_COUNT,
+    JOB_TABLES, /* those before are the job's, those from here to STEP_TABLES the state's */
+    KNOWN = JOB_TABLES,
+    PRICE_TRANSIT,
+    WORKING,
+    TOTAL_TRANSIT,
+    STATEMENT,
+    DONE,
+    SENT,
+    STEP_TABLES,
+    OFFER_CODE = STEP_TABLES,
+    TALLY_CODE,
+    SIZES,
+    REPORT,
+    FILE_BYTES,
+    CHOICES,
+    ALL_TABLES
+};
+
+/* Words in memory: a lent buffer, or what should stand in one. */
+struct table {
+    enum table_name name;
+    size_t length;
+    void *words;
+};
+
+struct range {
+    int64_t least, most;
+};
+
+const char *table_text(enum table_name name);
+size_t width_of(enum table_name name);
+bool is_signed(enum table_name name);
+
+/* The words that a table needs for K, M, N and T as given. */
+uint64_t needed(enum table_name name, struct sizes sizes);
+
+/* All that a word of the table's width holds. */
+struct range width_range(enum table_name name);
+
+/* The range of a table's words; for a table that has none, that of its width. */
+struct range range_of(enum table_name name, struct sizes sizes);
+
+bool sizes_in_range(struct sizes sizes);
+int64_t word_at(struct table table, size_t place);
+void put_word(struct table table, size_t place, int64_t word);
+
+/* Whether a table of this length is too short. */
+bool is_short(struct table table, struct sizes sizes);
+
+/* Whether every word that the table needs is within its range; words past them are not looked at. */
+bool words_in_range(struct table table, struct sizes sizes);
+
+#endif

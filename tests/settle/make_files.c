@@ -1,0 +1,229 @@
+/* Writes the sample job files and, beside each, what the program settle has to print for it: make_files FOLDER.
+   Files come from the model's encoder and output from the model's reader and run. */
+#include <inttypes.h>
+#include <stdio.h>
+#include <stdlib.h>
+#include <string.h>
+
+#include "jobs.h"
+#include "model.h"
+
+enum { ROOM = 40000 };
+
+static struct job job;
+static uint8_t file[ROOM];
+
+/* Jobs that settle */
+
+static size_t e(void)
+{
+    small_evening(&job);
+    return write_file(&job, file);
+}
+
+static size_t random_file(uint64_t seed, struct sizes sizes)
+{
+    seed_random(seed);
+    random_job(&job, sizes);
+    return write_file(&job, file);
+}
+
+static size_t longest(void) { return random_file(1, LARGEST); }
+static size_t no_tallies(void) { return random_file(2, (struct sizes){5, 3, 4, 0}); }
+static size_t one_box(void) { return random_file(3, (struct sizes){1, 7, 9, 30}); }
+static size_t one_grocer(void) { return random_file(34, (struct sizes){4, 1, 6, 25}); }
+static size_t full_blocks(void) { return random_file(5, (struct sizes){6, 255, 42, 63}); }
+
+static size_t negative(void)
+{
+    random_file(36, (struct sizes){3, 5, 5, 40});
+    for (size_t t = 0; t < job.sizes.tallies; t++) job.tally[t].count = -1 - abs(job.tally[t].count) / 2;
+    return write_file(&job, file);
+}
+
+/* Each box owns one offer and one grocer, and holds a tally of every offer and every grocer. */
+static size_t every_pair(void)
+{
+    const uint16_t boxes = MOST_BOXES;
+    struct sizes sizes = {boxes, boxes, boxes, (uint16_t)(boxes * boxes)};
+    one_tally_job(&job, sizes, 1000, (struct tally){0});
+    for (uint16_t b = 0; b < boxes; b++) {
+        job.offer[b].price += b;
+        job.offer[b].owner = job.grocer_owner[b] = b;
+    }
+    for (uint16_t t = 0; t < sizes.tallies; t++) {
+        uint16_t box = t / boxes, offer = t % boxes;
+        job.tally[t] = (struct tally){offer, box, offer, t - 100, code_of_number(offer, 3)};
+    }
+    return write_file(&job, file);
+}
+
+/* 1,000 tallies at the highest price and count, all of one grocer. */
+static size_t largest_amounts(void)
+{
+    one_tally_job(&job, (struct sizes){16, 1, 1, MOST_TALLIES}, MOST_PRICE, (struct tally){.count = MOST_COUNT});
+    for (size_t t = 0; t < MOST_TALLIES; t++) job.tally[t].box = t % 16;
+    return write_file(&job, file);
+}
+
+static size_t largest_negative(void)
+{
+    largest_amounts();
+    for (size_t t = 0; t < MOST_TALLIES; t++) job.tally[t].count = -MOST_COUNT;
+    return write_file(&job, file);
+}
+
+/* Files that are refused */
+
+/* A byte of E's file, with the sums of its block made right. */
+static size_t e_with(size_t block, size_t place, uint8_t byte)
+{
+    size_t length = e();
+    file[block * BLOCK + place] = byte;
+    write_sums(file + block * BLOCK);
+    return length;
+}
+
+static size_t longer(size_t length, size_t more)
+{
+    memset(file + length, 0, more);
+    return length + more;
+}
+
+static size_t empty(void) { return 0; }
+static size_t one_byte(void) { return e() ? 1 : 0; }
+static size_t byte_short(void) { return e() - 1; }
+static size_t byte_too_long(void) { return longer(e(), 1); }
+static size_t block_short(void) { return e() - BLOCK; }
+static size_t block_too_long(void) { return longer(e(), BLOCK); }
+static size_t longest_and_a_byte(void) { return longer(longest(), 1); }
+static size_t longest_and_a_block(void) { return longer(longest(), BLOCK); }
+static size_t over_longest(void) { return longer(longest(), ROOM - MOST_FILE); }
+static size_t kind_not_due(void) { return e_with(2, 0, 3); }
+static size_t block_number_not_due(void) { return e_with(3, 2, 2); }
+static size_t boxes_17(void) { return e_with(0, 4, 17); }
+static size_t spare_byte(void) { return e_with(1, 507, 1); }
+static size_t owner_too_large(void) { return e_with(2, 5, 2); }
+static size_t bad_digit(void) { return e_with(3, 8, ':'); }
+static size_t unknown_code(void) { return e_with(3, 10, '3'); }
+
+static size_t changed_byte(void)
+{
+    size_t length = e();
+    file[BLOCK + 4]++;
+    return length;
+}
+
+static size_t price_too_large(void)
+{
+    small_evening(&job);
+    job.offer[0].price = MOST_PRICE + 1;
+    return write_file(&job, file);
+}
+
+static size_t bad_count_unknown_code(void)
+{
+    small_evening(&job);
+    job.tally[3].count = MOST_COUNT + 1;
+    job.tally[3].code = code_of("4120");
+    return write_file(&job, file);
+}
+
+static size_t shared_number(void)
+{
+    small_evening(&job);
+    job.offer[1].code = code_of("0000000412");
+    return write_file(&job, file);
+}
+
+static const struct sample {
+    const char *name;
+    size_t (*make)(void);
+    uint16_t due; /* its refusal, or 0 */
+} samples[] = {
+    {"e", e, 0},
+    {"longest", longest, 0},
+    {"no_tallies", no_tallies, 0},
+    {"one_box", one_box, 0},
+    {"one_grocer", one_grocer, 0},
+    {"full_blocks", full_blocks, 0},
+    {"negative", negative, 0},
+    {"every_pair", every_pair, 0},
+    {"largest_amounts", largest_amounts, 0},
+    {"largest_negative", largest_negative, 0},
+    {"empty", empty, 1},
+    {"one_byte", one_byte, 1},
+    {"byte_short", byte_short, 1},
+    {"byte_too_long", byte_too_long, 1},
+    {"block_short", block_short, 1},
+    {"block_too_long", block_too_long, 1},
+    {"longest_and_a_byte", longest_and_a_byte, 1},
+    {"longest_and_a_block", longest_and_a_block, 1},
+    {"over_longest", over_longest, 1},
+    {"changed_byte", changed_byte, 2},
+    {"kind_not_due", kind_not_due, 3},
+    {"block_number_not_due", block_number_not_due, 3},
+    {"boxes_17", boxes_17, 4},
+    {"spare_byte", spare_byte, 5},
+    {"owner_too_large", owner_too_large, 6},
+    {"bad_digit", bad_digit, 6},
+    {"price_too_large", price_too_large, 6},
+    {"bad_count_unknown_code", bad_count_unknown_code, 6},
+    {"shared_number", shared_number, 7},
+    {"unknown_code", unknown_code, 8},
+};
+
+/* Output */
+
+static FILE *open_file(const char *folder, const char *name, const char *ending)
+{
+    char path[500];
+    snprintf(path, sizeof path, "%s/%s.%s", folder, name, ending);
+    FILE *stream = fopen(path, "wb");
+    if (stream) return stream;
+    perror(path);
+    exit(2);
+}
+
+static void print_statements(FILE *stream)
+{
+    static struct machine machine;
+    struct step picked[MOST_STEPS];
+    struct report report = run_all(&machine, &job, (struct table){CHOICES, 0, NULL}, picked);
+    for (uint16_t g = 0; g < job.sizes.grocers; g++) {
+        if (machine.statement[g] != plain_sum(&job, g)) exit(3);
+        fprintf(stream, "%u %" PRId64 "\n", g, machine.statement[g]);
+    }
+    if (report.words != words_of_evening(&job)) exit(3);
+    fprintf(stream, "words %u\nmessages %u\nsteps %u\n", report.words, report.messages, report.steps);
+}
+
+static void make_sample(const char *folder, const struct sample *sample)
+{
+    size_t length = sample->make();
+    FILE *stream = open_file(folder, sample->name, "job");
+    fwrite(file, 1, length, stream);
+    fclose(stream);
+    memset(&job, 0, sizeof job);
+    uint16_t refusal = read_file(file, length, &job);
+    if (refusal != sample->due) {
+        fprintf(stderr, "%s: the model refuses with %u, meant is %u\n", sample->name, refusal, sample->due);
+        exit(3);
+    }
+    stream = open_file(folder, sample->name, "out");
+    if (refusal)
+        fprintf(stream, "refused %u\n", refusal);
+    else
+        print_statements(stream);
+    fclose(stream);
+}
+
+int main(int argc, char **argv)
+{
+    if (argc != 2) {
+        fputs("make_files FOLDER\n", stderr);
+        return 2;
+    }
+    for (size_t i = 0; i < sizeof samples / sizeof samples[0]; i++) make_sample(argv[1], &samples[i]);
+    return 0;
+}
