@@ -324,12 +324,13 @@ static void each_byte_of(size_t length)
     }
 }
 
-/* Blocks with each number of records. */
+/* Blocks with each number of offers and tallies, and some numbers of grocers. */
 static void each_byte(void)
 {
     unsigned stride = job_count < 1000 ? 10 : 1;
     for (uint16_t records = 1; records <= 21; records = (uint16_t)(records + stride)) {
-        random_job(&job, (struct sizes){3, (uint16_t)(12 * records), records, (uint16_t)(22 - records)});
+        uint16_t grocers = (uint16_t)(12 * records + records % 4);
+        random_job(&job, (struct sizes){3, grocers, records, (uint16_t)(22 - records)});
         each_byte_of(write_file(&job, file));
     }
 }
