@@ -3,7 +3,7 @@ ghost use mathlib.Core.List.{[]};
 ghost use Rattle.model.specs.Tables.{jobTables, stateTables};
 ghost use Rattle.picks.specs.Way.{Goes, Kept, Ended};
 
-// While choices are left and some step is ready, each choice picks a step, and it is applied.
+// While choices are left and some step is ready, each choice picks a step, and it is applied. Ready steps are counted by rows.
 fn chosen(
     boxes: u16,
     grocers: u16,
@@ -37,8 +37,9 @@ fn chosen(
         steps: 0,
     };
     let n = choices.len();
+    let mut rows = walk::rows::rows_for(n, boxes, prices, totals, done);
     for i in 0..n {
-        let ready = walk::count_ready(boxes, prices, totals, done);
+        let ready = walk::rows::ready_steps(boxes, &rows);
         if ready == 0 {
             return counts;
         }
@@ -65,6 +66,7 @@ fn chosen(
             statement,
             done,
             sent,
+            &mut rows,
             choices,
             i,
             ready,
