@@ -92,7 +92,7 @@ loop-again c =
     let below = key-below (c .before) in (
       omega arith,
       length-set (l .first) w i ∙ l .inv .1,
-      length-set (l .next) i (getD (l .first) w 0) ∙ l .inv .2,
+      length-set (l .next) i _ ∙ l .inv .2,
       first-linked n keys (l .first) i w inside refl (omega (arith, l .inv .1)) firsts,
       next-linked n keys (l .next) i (getD (l .first) w 0) (omega (arith, l .inv .2, s .pre .next-long)) (firsts w below) nexts,
     )
