@@ -48,7 +48,19 @@ pub fn apply(
     let t = tallies as usize;
     prices::marks::mark(k, kind, first, second, done);
     if kind == 1 {
-        steps::send_prices(k, n, first, second, ofirst, onext, owner, needs, known, ptransit, sent);
+        steps::send_prices(
+            k,
+            n,
+            first,
+            second,
+            ofirst,
+            onext,
+            owner,
+            needs,
+            known,
+            ptransit,
+            sent,
+        );
         return;
     }
     if kind == 2 {
@@ -112,8 +124,30 @@ pub fn apply(
         return;
     }
     if kind == 5 {
-        totals::credit::credit(k, m, first, first, gfirst, gnext, gowner, sharers, working, statement);
+        totals::credit::credit(
+            k,
+            m,
+            first,
+            first,
+            gfirst,
+            gnext,
+            gowner,
+            sharers,
+            working,
+            statement,
+        );
         return;
     }
-    totals::credit::credit(k, m, first, second, gfirst, gnext, gowner, sharers, ttransit, statement);
+    totals::credit::credit(
+        k,
+        m,
+        first,
+        second,
+        gfirst,
+        gnext,
+        gowner,
+        sharers,
+        ttransit,
+        statement,
+    );
 }
