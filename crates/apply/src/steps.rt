@@ -26,10 +26,10 @@ pub fn send_prices(
     n: usize,
     a: u16,
     b: u16,
-    first: &[u16; 16],
-    next: &[u16; 500],
     owner: &[u16],
     needs: &[u16; 500],
+    first: &[u16; 16],
+    next: &[u16; 500],
     known: &[u32],
     transit: &mut [u32],
     sent: &mut [u32],
@@ -92,16 +92,16 @@ pub fn receive_prices(
     t: usize,
     a: u16,
     b: u16,
-    ofirst: &[u16; 16],
-    onext: &[u16; 500],
-    tfirst: &[u16; 16],
-    tnext: &[u16; 1000],
     owner: &[u16],
     grocer: &[u16],
     holder: &[u16],
     offer: &[u16],
     counts: &[i32],
     needs: &[u16; 500],
+    ofirst: &[u16; 16],
+    onext: &[u16; 500],
+    tfirst: &[u16; 16],
+    tnext: &[u16; 1000],
     known: &mut [u32],
     transit: &mut [u32],
     working: &mut [i64],
@@ -137,10 +137,10 @@ pub fn send_totals(
     m: usize,
     a: u16,
     b: u16,
-    first: &[u16; 16],
-    next: &[u16; 255],
     owner: &[u16],
     sharers: &[u16; 255],
+    first: &[u16; 16],
+    next: &[u16; 255],
     working: &mut [i64],
     transit: &mut [i64],
     sent: &mut [u32],
@@ -150,6 +150,6 @@ pub fn send_totals(
     requires { ⌜ SentIn (now sent) ⌝ }
     ensures { λ _. ⌜ (now (working .exit) ≡ cleared k m a (wordIn (now (owner .entry)) (now (sharers .entry)) b a) (now (working .entry))) × (now (transit .exit) ≡ sentTotals k m a (wordIn (now (owner .entry)) (now (sharers .entry)) b a) (now (working .entry)) (now (transit .entry))) × (now (sent .exit) ≡ sentMore (now (sent .entry)) (count m (wordIn (now (owner .entry)) (now (sharers .entry)) b a))) ⌝ }
 {
-    let more = totals::send::send_totals(k, m, a, b, first, next, owner, sharers, working, transit);
+    let more = totals::send::send_totals(k, m, a, b, owner, sharers, first, next, working, transit);
     raise(sent, more);
 }

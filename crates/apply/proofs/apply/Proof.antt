@@ -116,7 +116,7 @@ returns-4 c =
     ∙ sym (totals-sent (job s) (state s) (now (s .args .needs)) (now (s .args .sharers)) (ask s) (facts s) (c .before .before .before .before .before .before .before .before .if4 .taken))
 
 credit-requires : tie.Need-credit-requires
-credit-requires c κs = let s = c .before .before .before .before .before .before .before .before .before .before .before .before .before .before .before .before .before .before .before .before .before in (credit-in (job s) (state s) (now (s .args .needs)) (now (s .args .sharers)) (ask s) (facts s) (s .args .first) (facts s .first-in), (working-in (job s) (state s) (now (s .args .needs)) (now (s .args .sharers)) (ask s) (facts s), (statement-in (job s) (state s) (now (s .args .needs)) (now (s .args .sharers)) (ask s) (facts s), s .pre .1 .grocers-linked)))
+credit-requires c κs = let s = c .before .before .before .before .before .before .before .before .before .before .before .before .before .before .before .before .before .before .before .before .before in (credit-in (job s) (state s) (now (s .args .needs)) (now (s .args .sharers)) (ask s) (facts s) (s .args .first) (facts s .first-in), ((working-in (job s) (state s) (now (s .args .needs)) (now (s .args .sharers)) (ask s) (facts s), statement-in (job s) (state s) (now (s .args .needs)) (now (s .args .sharers)) (ask s) (facts s)), s .pre .1 .grocers-linked))
 
 same-length-16 : tie.Need-same-length-16
 same-length-16 c = search needs
@@ -135,7 +135,7 @@ returns-5 c =
     ∙ sym (own-added (job s) (state s) (now (s .args .needs)) (now (s .args .sharers)) (ask s) (facts s) (c .before .before .before .before .before .if5 .taken))
 
 credit-requires-2 : tie.Need-credit-requires-2
-credit-requires-2 c κs = let s = c .before .before .before .before .before .before .before .before .before .before .before .before .before .before .before .before .before .before .before .before .before in (credit-in (job s) (state s) (now (s .args .needs)) (now (s .args .sharers)) (ask s) (facts s) (s .args .second) (facts s .second-in), (transit-in (job s) (state s) (now (s .args .needs)) (now (s .args .sharers)) (ask s) (facts s), (statement-in (job s) (state s) (now (s .args .needs)) (now (s .args .sharers)) (ask s) (facts s), s .pre .1 .grocers-linked)))
+credit-requires-2 c κs = let s = c .before .before .before .before .before .before .before .before .before .before .before .before .before .before .before .before .before .before .before .before .before in (credit-in (job s) (state s) (now (s .args .needs)) (now (s .args .sharers)) (ask s) (facts s) (s .args .second) (facts s .second-in), ((transit-in (job s) (state s) (now (s .args .needs)) (now (s .args .sharers)) (ask s) (facts s), statement-in (job s) (state s) (now (s .args .needs)) (now (s .args .sharers)) (ask s) (facts s)), s .pre .1 .grocers-linked))
 
 same-length-19 : tie.Need-same-length-19
 same-length-19 c = search needs
