@@ -11,10 +11,9 @@ use lib.Dec.{eqb, ltb}
 use lib.ListN.{length, getD, set}
 use Rattle.laws.specs.Below.{Adds, words, sum, only, count}
 use Rattle.laws.specs.Tables.{tabulate, overwrite, cell, recell}
-use Rattle.laws.proofs.Bools.{split, eqb-same, and-l}
+use Rattle.laws.proofs.Bools.{split, eqb-same}
 use Rattle.laws.proofs.Tables.{is-overwrite, is-recell, recell-cell}
 use Rattle.laws.proofs.Loops.{guarded, window, window-in, window-below, window-above}
-use Rattle.words.specs.Message.{inMessage, wordIn}
 pub use Rattle.laws.proofs.Bools.{cond-yes, cond-no}
 pub use Rattle.laws.proofs.Sums.{only-yes, only-no}
 pub use Rattle.laws.proofs.Tables.{cell-at}
@@ -69,8 +68,3 @@ module _ {A : Type 0} where
   unfolding overwrite tabulate
   overwrite-one x [] h = absurd (omega arith)
   overwrite-one x (y ∷ l) h = refl
-
--- A word of a message is of its owner.
-pub word-owner : (owners masks : List ℕ) (a b i : ℕ) → wordIn owners masks a b i ≡ true → getD owners i 0 ≡ a
-unfolding wordIn inMessage
-word-owner owners masks a b i h = eqb-true (getD owners i 0) a (and-l (eqb (getD owners i 0) a) _ h)

@@ -14,7 +14,6 @@ use Rattle.laws.proofs.Bools.{and-l, and-false}
 use Rattle.laws.proofs.Loops.{share}
 use Rattle.links.specs.Links.{Skips, Linked}
 use Rattle.links.proofs.Walks.{test-passed, goes-on}
-use Rattle.words.specs.Message.{wordIn, inMessage}
 use Rattle.totals.specs.Credit.{credited}
 use Rattle.totals.specs.Row.{brings}
 
@@ -51,11 +50,7 @@ front-over n keys v i j s test keyed x = which (decLt x i) (decLt x j)
 pub goes-to : (n : ℕ) (keys first next : List ℕ) (v i j : ℕ) → Linked n keys first next → i < n → getD keys i 0 ≡ v → j ≡ getD next i 0 → Skips n keys v (i + 1) j
 goes-to n keys first next v i j h l e to = subst (λ (x : ℕ). Skips n keys v (i + 1) x) (sym to) (goes-on n keys first next v i h l e)
 
--- A grocer whose total stands in a message to box b is box b's, and one that box a credits is box a's.
-pub word-owner : (owners masks : List ℕ) (b a g : ℕ) → wordIn owners masks b a g ≡ true → getD owners g 0 ≡ b
-unfolding wordIn inMessage
-word-owner owners masks b a g t = eqb-true (getD owners g 0) b (and-l (eqb (getD owners g 0) b) _ t)
-
+-- A grocer that box a credits is of box a.
 pub credit-owner : (owners sharers : List ℕ) (a from g : ℕ) → credited owners sharers a from g ≡ true → getD owners g 0 ≡ a
 unfolding credited
 credit-owner owners sharers a from g t = eqb-true (getD owners g 0) a (and-l (eqb (getD owners g 0) a) _ t)

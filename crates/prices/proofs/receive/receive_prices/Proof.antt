@@ -14,8 +14,9 @@ use Rattle.laws.proofs.Loops.{guarded, guarded-more, guarded-next, guarded-none
 use Rattle.links.specs.Links.{Skips}
 use Rattle.links.proofs.Walks.{goes-on, guarded-passed}
 use Rattle.words.specs.Message.{wordIn}
+use Rattle.words.proofs.Message.{word-owner}
 use Rattle.prices.specs.Prices.{receivedKnown, receivedTransit}
-use Rattle.prices.proofs.Extra.{cond-no, cell-at, row-recell, word-owner}
+use Rattle.prices.proofs.Extra.{cond-no, cell-at, row-recell}
 use Rattle.prices.proofs.receive.receive_prices.Statement.{statement}
 use Rattle.prices.proofs.receive.receive_prices.Tie as tie
 

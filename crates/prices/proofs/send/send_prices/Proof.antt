@@ -16,8 +16,9 @@ use Rattle.laws.proofs.Loops.{guarded, guarded-more, guarded-none}
 use Rattle.links.specs.Links.{Skips}
 use Rattle.links.proofs.Walks.{goes-on, count-passed, guarded-passed}
 use Rattle.words.specs.Message.{wordIn}
+use Rattle.words.proofs.Message.{word-owner}
 use Rattle.prices.specs.Prices.{sentTransit}
-use Rattle.prices.proofs.Extra.{cond-no, count-start, cell-at, row-recell, word-owner}
+use Rattle.prices.proofs.Extra.{cond-no, count-start, cell-at, row-recell}
 use Rattle.prices.proofs.send.send_prices.Statement.{statement}
 use Rattle.prices.proofs.send.send_prices.Tie as tie
 

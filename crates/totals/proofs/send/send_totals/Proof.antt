@@ -15,10 +15,11 @@ use borrow.Author.Needs.{needs}
 use Rattle.links.specs.Links.{Skips}
 use Rattle.links.proofs.Walks.{count-passed, guarded-passed}
 use Rattle.words.specs.Message.{wordIn}
+use Rattle.words.proofs.Message.{word-owner}
 use Rattle.totals.specs.Credit.{cleared, sentTotals}
 use denote.Ref.{now}
 use Rattle.totals.proofs.Extra.{count-start, cond-no, row-in, row-stored, cell-at}
-use Rattle.totals.proofs.Walks.{goes-to, word-owner}
+use Rattle.totals.proofs.Walks.{goes-to}
 use Rattle.totals.proofs.send.send_totals.Statement.{statement}
 use Rattle.totals.proofs.send.send_totals.Tie as tie
 
