@@ -146,7 +146,7 @@ pub fn send_totals(
     sent: &mut [u32],
 )
     requires { ⌜ (k ≤ 16) × (m ≤ 255) × (a < k) × (m ≤ length (now owner)) × (k * m ≤ length (now working)) × (k * m ≤ length (now transit)) ⌝ }
-    requires { ⌜ Linked m (now owner) (now first) (now next) ⌝ }
+    requires { ⌜ (b < 16) × Linked m (now owner) (now first) (now next) ⌝ }
     requires { ⌜ SentIn (now sent) ⌝ }
     ensures { λ _. ⌜ (now (working .exit) ≡ cleared k m a (wordIn (now (owner .entry)) (now (sharers .entry)) b a) (now (working .entry))) × (now (transit .exit) ≡ sentTotals k m a (wordIn (now (owner .entry)) (now (sharers .entry)) b a) (now (working .entry)) (now (transit .entry))) × (now (sent .exit) ≡ sentMore (now (sent .entry)) (count m (wordIn (now (owner .entry)) (now (sharers .entry)) b a))) ⌝ }
 {

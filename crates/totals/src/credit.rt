@@ -106,7 +106,7 @@ pub fn credit(
 )
     requires { ⌜ (k ≤ 16) × (m ≤ 255) × (from < k) × (m ≤ length (now owner)) ⌝ }
     requires { ⌜ AmountsIn (k * m) (now source) × AmountsIn m (now statement) ⌝ }
-    requires { ⌜ Linked m (now owner) (now first) (now next) ⌝ }
+    requires { ⌜ (a < 16) × Linked m (now owner) (now first) (now next) ⌝ }
     ensures { λ _. ⌜ (now (source .exit) ≡ cleared k m from (credited (now (owner .entry)) (now (sharers .entry)) a from) (now (source .entry))) × (now (statement .exit) ≡ creditAll k m from (credited (now (owner .entry)) (now (sharers .entry)) a from) (now (source .entry)) (now (statement .entry))) ⌝ }
 {
     let at = row_start(m, from);

@@ -49,7 +49,7 @@ pub fn send_totals(
     transit: &mut [i64],
 ) -> u32
     requires { ⌜ (k ≤ 16) × (m ≤ 255) × (a < k) × (m ≤ length (now owner)) × (k * m ≤ length (now working)) × (k * m ≤ length (now transit)) ⌝ }
-    requires { ⌜ Linked m (now owner) (now first) (now next) ⌝ }
+    requires { ⌜ (b < 16) × Linked m (now owner) (now first) (now next) ⌝ }
     ensures { λ r. ⌜ (r ≡ count m (wordIn (now (owner .entry)) (now (sharers .entry)) b a)) × (now (working .exit) ≡ cleared k m a (wordIn (now (owner .entry)) (now (sharers .entry)) b a) (now (working .entry))) × (now (transit .exit) ≡ sentTotals k m a (wordIn (now (owner .entry)) (now (sharers .entry)) b a) (now (working .entry)) (now (transit .entry))) ⌝ }
 {
     let at = row_start(m, a);

@@ -77,7 +77,7 @@ keyed : (s : Start) (x : ℕ) → test s x ≡ true → getD (now (s .args .owne
 keyed s = credit-owner (now (s .args .owner)) (now (s .args .sharers)) (s .args .a) (s .args .from)
 
 begin-requires : tie.Need-begin-requires Inv-loop μ-loop
-begin-requires c κs = let s = c .before .before in (s .pre .0 .3, s .pre .1 .1)
+begin-requires c κs = c .before .before .pre .1 .1
 
 loop-holds : tie.Need-loop-holds Inv-loop μ-loop
 loop-holds c =
@@ -128,7 +128,7 @@ link : (c : tie.After-index Inv-loop μ-loop) →
 link c =
     let e = c .before .before .before .before .before .before .before in
     let s = entry e in
-    goes-to (s .args .m) (now (s .args .owner)) (now (s .args .first)) (now (s .args .next)) (s .args .a) (e .before .loop .g) (c .index .result) (s .pre .1 .1) (e .loop-test .taken) (e .before .loop .inv .5 (e .loop-test .taken)) (c .index .ensures)
+    goes-to (s .args .m) (now (s .args .owner)) (now (s .args .first)) (now (s .args .next)) (s .args .a) (e .before .loop .g) (c .index .result) (s .pre .1 .1 .1) (e .loop-test .taken) (e .before .loop .inv .5 (e .loop-test .taken)) (c .index .ensures)
 
 loop-less : tie.Need-loop-less Inv-loop μ-loop
 loop-less c = omega (arith, link c .from, link c .to, c .before .before .before .before .before .before .before .loop-test .taken)

@@ -9,12 +9,6 @@ use Rattle.links.specs.Links.{Skips}
 use Rattle.totals.proofs.walk.begin.Statement.{statement}
 use Rattle.totals.proofs.walk.begin.Tie as tie
 
-search-requires : tie.Need-search-requires
-search-requires c κs = search needs
-
-returns : tie.Need-returns
-returns c = search needs
-
 index-requires : tie.Need-index-requires
 index-requires c κs = search needs
 
@@ -27,21 +21,19 @@ element-copy-out-index c = search needs
 index-requires-2 : tie.Need-index-requires-2
 index-requires-2 c κs = search needs
 
-returns-2 : tie.Need-returns-2
-returns-2 c =
-    let s = c .before .before .before .before .before in
+returns : tie.Need-returns
+returns c =
+    let s = c .before .before .before .before in
     let v = s .args .v in
     let first = now (s .args .first) in
-    subst (λ (x : ℕ). Skips (s .args .n) (now (s .args .keys)) v 0 x) (sym (c .index2 .ensures ∙ ap (λ (b : ℕ). getD first b 0) (c .before .before .index .ensures))) (s .pre .1 .begins v (omega arith))
+    subst (λ (x : ℕ). Skips (s .args .n) (now (s .args .keys)) v 0 x) (sym (c .index2 .ensures ∙ ap (λ (b : ℕ). getD first b 0) (c .before .before .index .ensures))) (s .pre .1 .begins v (s .pre .0))
 
 pub begin-spec : {M : Type 1} → statement M
 begin-spec =
     tie.close
     (tie.spec
-    search-requires
-    returns
     index-requires
     mul-index
     element-copy-out-index
     index-requires-2
-    returns-2)
+    returns)
