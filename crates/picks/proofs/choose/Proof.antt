@@ -17,7 +17,7 @@ abbrev tables : tie.Start → StateTables
 tables s = stateTables (now (s .args .known)) (now (s .args .ptransit)) (now (s .args .working)) (now (s .args .ttransit)) (now (s .args .statement)) (now (s .args .done)) (now (s .args .sent))
 
 mul-c : tie.Need-mul-c
-mul-c c = let s = c .before .before .before .before .before .before .before .before .before .before .before in omega (arith, s .pre .1 .0 .0, s .good .1 .1 .1 .1 .1 .1 .1 .1 .1 .1 .1 .1 .1 .1 .1 .1 .1 .1 .1 .1 .1 .1 .1 .0)
+mul-c c = let s = c .before .before .before .before .before .before .before .before .before .before .before in omega (arith, s .pre .1 .0 .0, s .good .1 .1 .1 .1 .1 .1 .1 .1 .1 .1 .1 .1 .1 .1 .1 .1 .1 .1 .1 .1 .1 .1 .1 .1 .1 .1 .1 .1 .1 .0)
 
 shared-slice-read-c : tie.Need-shared-slice-read-c
 shared-slice-read-c c = search needs
@@ -30,7 +30,7 @@ find-in-requires c κs =
     let s = c .before .before .before .before .before .before .before .before .before .before .before .before .before .before in (
       way-walk (job s) (tables s) (s .pre .0 .on-way) (now (s .args .needs)) (now (s .args .sharers)) (now (s .args .prices)) (now (s .args .totals)) (s .pre .0 .made),
       (
-        s .pre .1 .1,
+        s .pre .1 .1 .0,
         choice-below (job s) (tables s) (s .pre .0 .on-way) (now (s .args .needs)) (now (s .args .sharers)) (now (s .args .prices)) (now (s .args .totals)) (s .pre .0 .made) (s .args .ready) (getD (now (s .args .choices)) (s .args .i) 0) (s .pre .1 .0 .1 .0) (s .pre .1 .0 .1 .1),
       ),
     )
@@ -39,7 +39,7 @@ apply-requires : tie.Need-apply-requires
 apply-requires c κs =
     let s = c .before .before .before .before .before .before .before .before .before .before .before .before .before .before .before .before .before .before .before .before .before .before in
     let g = c .before .before .before .before .before .before .before .find-in in
-    choice-applies (job s) (tables s) (s .pre .0 .on-way) (now (s .args .needs)) (now (s .args .sharers)) (now (s .args .prices)) (now (s .args .totals)) (s .pre .0 .made) (s .args .ready) (getD (now (s .args .choices)) (s .args .i) 0) (s .pre .1 .0 .1 .0) (s .pre .1 .0 .1 .1) (g .result .kind) (g .result .first) (g .result .second) (g .ensures)
+    (choice-applies (job s) (tables s) (s .pre .0 .on-way) (now (s .args .needs)) (now (s .args .sharers)) (now (s .args .prices)) (now (s .args .totals)) (s .pre .0 .made) (s .args .ready) (getD (now (s .args .choices)) (s .args .i) 0) (s .pre .1 .0 .1 .0) (s .pre .1 .0 .1 .1) (g .result .kind) (g .result .first) (g .result .second) (g .ensures), s .pre .1 .1 .1)
 
 renew-requires : tie.Need-renew-requires
 renew-requires c κs =
@@ -47,7 +47,7 @@ renew-requires c κs =
     let g = c .before .before .before .before .before .before .before .before .before .before .before .before .before .before .before .before .before .before .before .before .before .find-in in
     let e = c .before .before .before .before .before .before .before .before .before .before .before .before .before .apply .ensures in (
       choice-marks-in (job s) (tables s) (s .pre .0 .on-way) (now (s .args .needs)) (now (s .args .sharers)) (now (s .args .prices)) (now (s .args .totals)) (s .pre .0 .made) (s .args .ready) (getD (now (s .args .choices)) (s .args .i) 0) (s .pre .1 .0 .1 .0) (s .pre .1 .0 .1 .1) (g .result .kind) (g .result .first) (g .result .second) (g .ensures) _ e,
-      choice-rows (job s) (tables s) (s .pre .0 .on-way) (now (s .args .needs)) (now (s .args .sharers)) (now (s .args .prices)) (now (s .args .totals)) (s .pre .0 .made) (s .args .ready) (getD (now (s .args .choices)) (s .args .i) 0) (s .pre .1 .0 .1 .0) (s .pre .1 .0 .1 .1) (g .result .kind) (g .result .first) (g .result .second) (g .ensures) _ e (now (s .args .rows)) (s .pre .1 .1),
+      choice-rows (job s) (tables s) (s .pre .0 .on-way) (now (s .args .needs)) (now (s .args .sharers)) (now (s .args .prices)) (now (s .args .totals)) (s .pre .0 .made) (s .args .ready) (getD (now (s .args .choices)) (s .args .i) 0) (s .pre .1 .0 .1 .0) (s .pre .1 .0 .1 .1) (g .result .kind) (g .result .first) (g .result .second) (g .ensures) _ e (now (s .args .rows)) (s .pre .1 .1 .0),
     )
 
 counted-requires : tie.Need-counted-requires
@@ -82,8 +82,8 @@ returns c =
     let s = c .before .before .before .before .before .before .before .before .before .before .before .before .before .before .before .before .before .before .before .before .before .before .before .before .before .before .before .before .before .before .before .before .before .before .before .before .before .before in
     let g = c .before .before .before .before .before .before .before .before .before .before .before .before .before .before .before .before .before .before .before .before .before .before .before .find-in in (
       choice-kept (job s) (tables s) (s .pre .0 .on-way) (now (s .args .needs)) (now (s .args .sharers)) (now (s .args .prices)) (now (s .args .totals)) (s .pre .0 .made) (s .args .ready) (getD (now (s .args .choices)) (s .args .i) 0) (s .pre .1 .0 .1 .0) (s .pre .1 .0 .1 .1) (g .result .kind) (g .result .first) (g .result .second) (g .ensures)
-      (now (s .args .choices)) (s .args .i) (s .pre .1 .0 .0) refl _ (c .before .before .before .before .before .before .before .before .before .before .before .before .before .before .before .apply .ensures) (s .args .counts .messages) (s .args .counts .steps) (c .counted .result .messages) (c .counted .result .steps)
-      (c .counted .ensures .0 (g .result .first) (g .result .second)) (c .counted .ensures .1),
+          (now (s .args .choices)) (s .args .i) (s .pre .1 .0 .0) refl _ (c .before .before .before .before .before .before .before .before .before .before .before .before .before .before .before .apply .ensures) (s .args .counts .messages) (s .args .counts .steps) (c .counted .result .messages) (c .counted .result .steps)
+          (c .counted .ensures .0 (g .result .first) (g .result .second)) (c .counted .ensures .1),
       c .before .renew .ensures,
     )
 
