@@ -11,6 +11,7 @@ use Rattle.model.specs.Steps.{kindOf}
 use Rattle.model.specs.Tables.{JobTables, jobOf, StateTables, jobLengths, stateLengths, jobShort, stateShort}
 use Rattle.model.specs.Ranges.{maxSent, jobInRange, stateInRange}
 use Rattle.model.specs.Step.{Asked, isKind, boxesFit}
+use Rattle.links.specs.Links.{Linked}
 use Rattle.totals.specs.Row.{Tallies, TalliesIn, PricesIn, AmountsIn}
 use Rattle.prices.specs.Prices as price-tables
 
@@ -24,6 +25,12 @@ pub record Applies (f : JobTables) (t : StateTables) (needs sharers : List ℕ) 
   pub sharers-are : sharers ≡ tabulate 255 (sharerWord (jobOf f))
   pub kind-in : isKind (q .kind) ≡ true
   pub boxes-fit : boxesFit (jobOf f) (kindOf (q .kind)) (q .first) (q .second) ≡ true
+
+-- Offers and grocers are linked by owner, and tallies by box.
+pub record Links (f : JobTables) (ofirst onext gfirst gnext tfirst tnext : List ℕ) : Type 0 where
+  pub offers-linked : Linked (f .offers) (f .offerOwner) ofirst onext
+  pub grocers-linked : Linked (f .grocers) (f .grocerOwner) gfirst gnext
+  pub tallies-linked : Linked (f .tallies) (f .tallyBox) tfirst tnext
 
 -- The count of words sent is there and in range.
 pub record SentIn (sent : List ℕ) : Type 0 where

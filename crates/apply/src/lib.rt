@@ -4,7 +4,7 @@ mod steps;
 ghost use mathlib.Core.Path.{_≡_};
 ghost use Rattle.model.specs.Tables.{jobTables, stateTables};
 ghost use Rattle.model.specs.Step.{asked, moved};
-ghost use Rattle.apply.specs.Apply.{Applies};
+ghost use Rattle.apply.specs.Apply.{Applies, Links};
 
 // What a step does to the tables, its mark among them. Prices are lent as one of the job's tables, and not read.
 pub fn apply(
@@ -21,6 +21,12 @@ pub fn apply(
     tcount: &[i32],
     needs: &[u16; 500],
     sharers: &[u16; 255],
+    ofirst: &[u16; 16],
+    onext: &[u16; 500],
+    gfirst: &[u16; 16],
+    gnext: &[u16; 255],
+    tfirst: &[u16; 16],
+    tnext: &[u16; 1000],
     known: &mut [u32],
     ptransit: &mut [u32],
     working: &mut [i64],
@@ -33,6 +39,7 @@ pub fn apply(
     second: u16,
 )
     requires { ⌜ Applies (jobTables boxes grocers offers tallies (now price) (now owner) (now gowner) (now tgrocer) (now tbox) (now toffer) (now tcount)) (stateTables (now known) (now ptransit) (now working) (now ttransit) (now statement) (now done) (now sent)) (now needs) (now sharers) (asked kind first second) ⌝ }
+    requires { ⌜ Links (jobTables boxes grocers offers tallies (now price) (now owner) (now gowner) (now tgrocer) (now tbox) (now toffer) (now tcount)) (now ofirst) (now onext) (now gfirst) (now gnext) (now tfirst) (now tnext) ⌝ }
     ensures { λ _. ⌜ stateTables (now (known .exit)) (now (ptransit .exit)) (now (working .exit)) (now (ttransit .exit)) (now (statement .exit)) (now (done .exit)) (now (sent .exit)) ≡ moved (jobTables boxes grocers offers tallies (now (price .entry)) (now (owner .entry)) (now (gowner .entry)) (now (tgrocer .entry)) (now (tbox .entry)) (now (toffer .entry)) (now (tcount .entry))) (stateTables (now (known .entry)) (now (ptransit .entry)) (now (working .entry)) (now (ttransit .entry)) (now (statement .entry)) (now (done .entry)) (now (sent .entry))) (asked kind first second) ⌝ }
 {
     let k = boxes as usize;
@@ -41,7 +48,19 @@ pub fn apply(
     let t = tallies as usize;
     prices::marks::mark(k, kind, first, second, done);
     if kind == 1 {
-        steps::send_prices(k, n, first, second, owner, needs, known, ptransit, sent);
+        steps::send_prices(
+            k,
+            n,
+            first,
+            second,
+            owner,
+            needs,
+            ofirst,
+            onext,
+            known,
+            ptransit,
+            sent,
+        );
         return;
     }
     if kind == 2 {
@@ -52,6 +71,8 @@ pub fn apply(
             t,
             first,
             first,
+            tfirst,
+            tnext,
             owner,
             tgrocer,
             tbox,
@@ -76,6 +97,10 @@ pub fn apply(
             toffer,
             tcount,
             needs,
+            ofirst,
+            onext,
+            tfirst,
+            tnext,
             known,
             ptransit,
             working,
@@ -90,6 +115,8 @@ pub fn apply(
             second,
             gowner,
             sharers,
+            gfirst,
+            gnext,
             working,
             ttransit,
             sent,
@@ -97,8 +124,30 @@ pub fn apply(
         return;
     }
     if kind == 5 {
-        totals::credit::credit(k, m, first, first, gowner, sharers, working, statement);
+        totals::credit::credit(
+            k,
+            m,
+            first,
+            first,
+            gowner,
+            sharers,
+            gfirst,
+            gnext,
+            working,
+            statement,
+        );
         return;
     }
-    totals::credit::credit(k, m, first, second, gowner, sharers, ttransit, statement);
+    totals::credit::credit(
+        k,
+        m,
+        first,
+        second,
+        gowner,
+        sharers,
+        gfirst,
+        gnext,
+        ttransit,
+        statement,
+    );
 }

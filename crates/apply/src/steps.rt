@@ -4,6 +4,7 @@ ghost use Prim.Native.Nat.{_*_, _≤_, _<_};
 ghost use lib.ListN.{length};
 ghost use Rattle.laws.specs.Below.{count};
 ghost use Rattle.words.specs.Message.{wordIn};
+ghost use Rattle.links.specs.Links.{Linked};
 ghost use Rattle.prices.specs.Prices.{PricesIn, sentTransit, receivedKnown, receivedTransit};
 ghost use Rattle.totals.specs.Row.{tallies, putRow, productRow};
 ghost use Rattle.totals.specs.Credit.{cleared, sentTotals};
@@ -27,15 +28,18 @@ pub fn send_prices(
     b: u16,
     owner: &[u16],
     needs: &[u16; 500],
+    first: &[u16; 16],
+    next: &[u16; 500],
     known: &[u32],
     transit: &mut [u32],
     sent: &mut [u32],
 )
     requires { ⌜ PricesIn k n a b (now owner) (now known) (now transit) ⌝ }
+    requires { ⌜ Linked n (now owner) (now first) (now next) ⌝ }
     requires { ⌜ SentIn (now sent) ⌝ }
     ensures { λ _. ⌜ (now (transit .exit) ≡ sentTransit k n a b (now (owner .entry)) (now (needs .entry)) (now (known .entry)) (now (transit .entry))) × (now (sent .exit) ≡ sentMore (now (sent .entry)) (count n (wordIn (now (owner .entry)) (now (needs .entry)) a b))) ⌝ }
 {
-    let more = prices::send::send_prices(k, n, a, b, owner, needs, known, transit);
+    let more = prices::send::send_prices(k, n, a, b, owner, needs, first, next, known, transit);
     raise(sent, more);
 }
 
@@ -47,6 +51,8 @@ pub fn multiply(
     t: usize,
     a: u16,
     from: u16,
+    first: &[u16; 16],
+    next: &[u16; 1000],
     owner: &[u16],
     grocer: &[u16],
     holder: &[u16],
@@ -56,15 +62,18 @@ pub fn multiply(
     working: &mut [i64],
 )
     requires { ⌜ MultiplyIn (tallies k m n t (now owner) (now grocer) (now holder) (now offer) (now counts)) a (now prices) (now working) ⌝ }
+    requires { ⌜ Linked t (now holder) (now first) (now next) ⌝ }
     ensures { λ _. ⌜ now (working .exit) ≡ putRow k m a (productRow (tallies k m n t (now (owner .entry)) (now (grocer .entry)) (now (holder .entry)) (now (offer .entry)) (now (counts .entry))) (now (prices .entry)) a from (now (working .entry))) (now (working .entry)) ⌝ }
 {
-    let row = totals::row::product_row(
+    totals::row::add_products(
         k,
         m,
         n,
         t,
         a,
         from,
+        first,
+        next,
         owner,
         grocer,
         holder,
@@ -73,7 +82,6 @@ pub fn multiply(
         prices,
         working,
     );
-    totals::row::put_row(k, m, a, &row, working);
 }
 
 // 3 Receive prices from box b, and add the tallies of those offers at them. They are known then, and no longer in transit.
@@ -90,11 +98,17 @@ pub fn receive_prices(
     offer: &[u16],
     counts: &[i32],
     needs: &[u16; 500],
+    ofirst: &[u16; 16],
+    onext: &[u16; 500],
+    tfirst: &[u16; 16],
+    tnext: &[u16; 1000],
     known: &mut [u32],
     transit: &mut [u32],
     working: &mut [i64],
 )
     requires { ⌜ ReceiveIn (tallies k m n t (now owner) (now grocer) (now holder) (now offer) (now counts)) a b (now known) (now transit) (now working) ⌝ }
+    requires { ⌜ Linked n (now owner) (now ofirst) (now onext) ⌝ }
+    requires { ⌜ Linked t (now holder) (now tfirst) (now tnext) ⌝ }
     ensures { λ _. ⌜ (now (known .exit) ≡ receivedKnown k n a b (now (owner .entry)) (now (needs .entry)) (now (known .entry)) (now (transit .entry))) × (now (transit .exit) ≡ receivedTransit k n a b (now (owner .entry)) (now (needs .entry)) (now (known .entry)) (now (transit .entry))) × (now (working .exit) ≡ putRow k m a (productRow (tallies k m n t (now (owner .entry)) (now (grocer .entry)) (now (holder .entry)) (now (offer .entry)) (now (counts .entry))) (now (transit .entry)) a b (now (working .entry))) (now (working .entry))) ⌝ }
 {
     multiply(
@@ -104,6 +118,8 @@ pub fn receive_prices(
         t,
         a,
         b,
+        tfirst,
+        tnext,
         owner,
         grocer,
         holder,
@@ -112,7 +128,7 @@ pub fn receive_prices(
         transit,
         working,
     );
-    prices::receive::receive_prices(k, n, a, b, owner, needs, known, transit);
+    prices::receive::receive_prices(k, n, a, b, owner, needs, ofirst, onext, known, transit);
 }
 
 // 4 Send totals of the second box's grocers for which it holds a tally. They are counted as sent.
@@ -123,14 +139,17 @@ pub fn send_totals(
     b: u16,
     owner: &[u16],
     sharers: &[u16; 255],
+    first: &[u16; 16],
+    next: &[u16; 255],
     working: &mut [i64],
     transit: &mut [i64],
     sent: &mut [u32],
 )
     requires { ⌜ (k ≤ 16) × (m ≤ 255) × (a < k) × (m ≤ length (now owner)) × (k * m ≤ length (now working)) × (k * m ≤ length (now transit)) ⌝ }
+    requires { ⌜ (b < 16) × Linked m (now owner) (now first) (now next) ⌝ }
     requires { ⌜ SentIn (now sent) ⌝ }
     ensures { λ _. ⌜ (now (working .exit) ≡ cleared k m a (wordIn (now (owner .entry)) (now (sharers .entry)) b a) (now (working .entry))) × (now (transit .exit) ≡ sentTotals k m a (wordIn (now (owner .entry)) (now (sharers .entry)) b a) (now (working .entry)) (now (transit .entry))) × (now (sent .exit) ≡ sentMore (now (sent .entry)) (count m (wordIn (now (owner .entry)) (now (sharers .entry)) b a))) ⌝ }
 {
-    let more = totals::send::send_totals(k, m, a, b, owner, sharers, working, transit);
+    let more = totals::send::send_totals(k, m, a, b, owner, sharers, first, next, working, transit);
     raise(sent, more);
 }

@@ -13,21 +13,24 @@ use lib.Seq.{drop-cons}
 use borrow.Author.Tests.{le-leb, leb-true, ne-eqb}
 use Rattle.laws.specs.Below.{count}
 use Rattle.laws.proofs.Bools.{and-true, and-l, and-r}
-use Rattle.model.specs.Steps.{kindOf, permitted}
+use Rattle.model.specs.Steps.{kindOf, Steps, State, mark, permitted}
 use Rattle.model.specs.Tables.{JobTables, jobOf, StateTables, view, stateLengths}
 use Rattle.model.specs.Ranges.{sizesInRange, jobWordsInRange, jobInRange}
 use Rattle.model.specs.Step.{asked, isKind, stepOf, moved}
 use Rattle.model.specs.Words.{sends}
 use Rattle.model.specs.Run.{nth, stepAt, places, listed, readyCount, pick}
+use Rattle.prices.specs.Marks.{MarksIn, stepsDone}
 use Rattle.walk.specs.Walk.{PlaceIn, here, listedBy, WalkIn, Found}
+use Rattle.walk.specs.Rows.{IsRows, IsRowsBut}
 use Rattle.apply.specs.Apply.{Applies}
 use Rattle.picks.specs.Way.{OnWay, Made, Kept, NoneBefore, Passed}
 use Rattle.model.proofs.Step.{range}
 use Rattle.model.proofs.Lent.{state-long}
 use Rattle.model.proofs.Reach.{effect-done}
-use Rattle.walk.proofs.InModel.{step-here, listed-is, count-is, nth-is-model}
+use Rattle.walk.proofs.InModel.{marks-are, step-here, listed-is, count-is, nth-is-model}
+use Rattle.walk.proofs.Changed.{rows-kept}
 use Rattle.picks.proofs.Left.{picked, first-picked, some-ready, none-more, none-done}
-use Rattle.picks.proofs.Way.{way-whole, way-applies, moved-view, moved-kept, kept-none}
+use Rattle.picks.proofs.Way.{way-whole, way-applies, moved-view, moved-way, moved-kept, kept-none}
 
 -- A job in range has boxes.
 pub some-box : (f : JobTables) → jobInRange f ≡ true → 1 ≤ f .boxes
@@ -103,6 +106,30 @@ module _ (f : JobTables) (t : StateTables) (o : OnWay f t) (needs sharers : List
       choice-kept cs i l h t′ et m n m′ n′ em en =
           rw (drop-cons cs i 0 l, add-one i)
           (moved-kept f t o kind a b choice-kind choice-permitted t′ et (getD cs i 0 ∷ drop (suc i) cs) m n m′ n′ some-left (ap (pick (jobOf f) (view (jobOf f) t .done)) (sym h) ∙ choice-picks) em en)
+
+      -- After it the rows that it cannot change are right.
+      module _ (t′ : StateTables) (et : t′ ≡ moved f t (asked kind a b)) where
+        choice-marks : stepsDone (f .boxes) (t′ .done) ≡ mark (stepsDone (f .boxes) (t .done)) (kindOf kind) a b
+        unfolding jobOf
+        choice-marks =
+            marks-are (jobOf f) t′
+            ∙ ap (λ (s : State). s .done) (moved-view f t o kind a b choice-kind choice-permitted t′ et)
+            ∙ effect-done (jobOf f) (view (jobOf f) t) (kindOf kind) a b
+            ∙ ap (λ (d : Steps). mark d (kindOf kind) a b) (sym (marks-are (jobOf f) t))
+
+        pub choice-rows : (rows : List ℕ) → IsRows (f .boxes) prices totals (t .done) rows → IsRowsBut (f .boxes) kind a b prices totals (t′ .done) rows
+        choice-rows rows h = rows-kept (f .boxes) kind a b prices totals (t .done) (t′ .done) rows (some-box f (o .job-in)) (g .place-in .kind-from) (g .place-in .kind-to) choice-marks h
+
+        pub choice-marks-in : MarksIn (f .boxes) kind a b (t′ .done)
+        unfolding jobOf stateLengths
+        choice-marks-in = record {
+          kind-from = g .place-in .kind-from;
+          kind-to = g .place-in .kind-to;
+          boxes-in = g .place-in .boxes-in;
+          a-in = g .place-in .a-in;
+          b-in = g .place-in .b-in;
+          done-long = state-long (jobOf f) (stateLengths t′) (way-whole f t′ (moved-way f t o kind a b choice-kind choice-permitted t′ et)) .done;
+        }
 
   -- The step of a place.
   module _ (kind a b : ℕ) (p : PlaceIn (f .boxes) kind a b) (none : NoneBefore (jobOf f) (view (jobOf f) t .done) (here (f .boxes) kind a b)) (m n : ℕ) where

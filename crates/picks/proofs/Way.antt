@@ -114,13 +114,16 @@ module _ (f : JobTables) (t : StateTables) (o : OnWay f t) where
       pub moved-view : view (jobOf f) t′ ≡ effect (jobOf f) (view (jobOf f) t) (kindOf kind) a b
       moved-view = stored-view f (o .job-in) (o .job-long) t t′ _ moved-sound moved-stored
 
+      pub moved-way : OnWay f t′
+      moved-way = stored-way f (o .job-in) (o .job-long) t t′ _ moved-sound moved-stored
+
       -- and what the run comes to, where the step is the one that it picks.
       pub moved-kept : (cs : List ℕ) (m n m′ n′ : ℕ) → eqb (readyCount (jobOf f) (view (jobOf f) t .done)) 0 ≡ false →
           pick (jobOf f) (view (jobOf f) t .done) (getD cs 0 0) ≡ stepOf (asked kind a b) → m′ ≡ m + sends (kindOf kind) a b → n′ ≡ n + 1 →
           Kept f t cs m n t′ (drop 1 cs) m′ n′
       unfolding stepOf
       moved-kept cs m n m′ n′ some q em en = record {
-        on-way = stored-way f (o .job-in) (o .job-long) t t′ _ moved-sound moved-stored;
+        on-way = moved-way;
         stored = stored-back f (o .job-in) (o .job-long) t t′ _ moved-sound moved-stored;
         same = rw (moved-view, em, en) (comes-next (jobOf f) (range f (o .job-in)) (view (jobOf f) t) cs m n (stepOf (asked kind a b)) (o .sound) some q);
       }

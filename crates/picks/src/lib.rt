@@ -8,6 +8,8 @@ ghost use Rattle.model.specs.Tables.{jobTables, jobOf, stateTables, view};
 ghost use Rattle.model.specs.Words.{sends};
 ghost use Rattle.model.specs.Run.{readyCount};
 ghost use Rattle.walk.specs.Walk.{PlaceIn, here};
+ghost use Rattle.walk.specs.Rows.{IsRows};
+ghost use Rattle.apply.specs.Apply.{Links};
 ghost use Rattle.picks.specs.Way.{Goes, Kept, NoneBefore, Passed};
 
 // Messages and steps, counted as steps are applied.
@@ -40,7 +42,7 @@ fn counted(counts: Counts, kind: u16) -> Counts
     }
 }
 
-// The step that choice i picks, one of `ready` steps, is applied.
+// The step that choice i picks, one of `ready` steps, is applied, and the rows that it can change are counted anew.
 pub fn choose(
     boxes: u16,
     grocers: u16,
@@ -57,6 +59,12 @@ pub fn choose(
     sharers: &[u16; 255],
     prices: &[[u16; 16]; 16],
     totals: &[[u16; 16]; 16],
+    ofirst: &[u16; 16],
+    onext: &[u16; 500],
+    gfirst: &[u16; 16],
+    gnext: &[u16; 255],
+    tfirst: &[u16; 16],
+    tnext: &[u16; 1000],
     known: &mut [u32],
     ptransit: &mut [u32],
     working: &mut [i64],
@@ -64,6 +72,7 @@ pub fn choose(
     statement: &mut [i64],
     done: &mut [u16],
     sent: &mut [u32],
+    rows: &mut [u16; 96],
     choices: &[u16],
     i: usize,
     ready: u16,
@@ -71,10 +80,12 @@ pub fn choose(
 ) -> Counts
     requires { ⌜ Goes (jobTables boxes grocers offers tallies (now price) (now owner) (now gowner) (now tgrocer) (now tbox) (now toffer) (now tcount)) (stateTables (now known) (now ptransit) (now working) (now ttransit) (now statement) (now done) (now sent)) (now needs) (now sharers) (now prices) (now totals) (drop i (now choices)) (counts .messages) (counts .steps) ⌝ }
     requires { ⌜ (i < length (now choices)) × ((1 ≤ ready) × (ready ≡ readyCount (jobOf (jobTables boxes grocers offers tallies (now price) (now owner) (now gowner) (now tgrocer) (now tbox) (now toffer) (now tcount))) (view (jobOf (jobTables boxes grocers offers tallies (now price) (now owner) (now gowner) (now tgrocer) (now tbox) (now toffer) (now tcount))) (stateTables (now known) (now ptransit) (now working) (now ttransit) (now statement) (now done) (now sent)) .done))) ⌝ }
-    ensures { λ r. ⌜ Kept (jobTables boxes grocers offers tallies (now (price .entry)) (now (owner .entry)) (now (gowner .entry)) (now (tgrocer .entry)) (now (tbox .entry)) (now (toffer .entry)) (now (tcount .entry))) (stateTables (now (known .entry)) (now (ptransit .entry)) (now (working .entry)) (now (ttransit .entry)) (now (statement .entry)) (now (done .entry)) (now (sent .entry))) (drop i (now (choices .entry))) (counts .messages) (counts .steps) (stateTables (now (known .exit)) (now (ptransit .exit)) (now (working .exit)) (now (ttransit .exit)) (now (statement .exit)) (now (done .exit)) (now (sent .exit))) (drop (i + 1) (now (choices .entry))) (r .messages) (r .steps) ⌝ }
+    requires { ⌜ IsRows boxes (now prices) (now totals) (now done) (now rows) ⌝ }
+    requires { ⌜ Links (jobTables boxes grocers offers tallies (now price) (now owner) (now gowner) (now tgrocer) (now tbox) (now toffer) (now tcount)) (now ofirst) (now onext) (now gfirst) (now gnext) (now tfirst) (now tnext) ⌝ }
+    ensures { λ r. ⌜ (Kept (jobTables boxes grocers offers tallies (now (price .entry)) (now (owner .entry)) (now (gowner .entry)) (now (tgrocer .entry)) (now (tbox .entry)) (now (toffer .entry)) (now (tcount .entry))) (stateTables (now (known .entry)) (now (ptransit .entry)) (now (working .entry)) (now (ttransit .entry)) (now (statement .entry)) (now (done .entry)) (now (sent .entry))) (drop i (now (choices .entry))) (counts .messages) (counts .steps) (stateTables (now (known .exit)) (now (ptransit .exit)) (now (working .exit)) (now (ttransit .exit)) (now (statement .exit)) (now (done .exit)) (now (sent .exit))) (drop (i + 1) (now (choices .entry))) (r .messages) (r .steps)) × (IsRows boxes (now (prices .entry)) (now (totals .entry)) (now (done .exit)) (now (rows .exit))) ⌝ }
 {
     let c = choices[i] % ready;
-    let p = walk::find(boxes, c, prices, totals, done);
+    let p = walk::rows::find_in(boxes, c, rows, prices, totals, done);
     let kind = p.kind;
     apply::apply(
         boxes,
@@ -90,6 +101,12 @@ pub fn choose(
         tcount,
         needs,
         sharers,
+        ofirst,
+        onext,
+        gfirst,
+        gnext,
+        tfirst,
+        tnext,
         known,
         ptransit,
         working,
@@ -101,6 +118,7 @@ pub fn choose(
         p.first,
         p.second,
     );
+    walk::rows::renew(boxes, kind, p.first, p.second, prices, totals, done, rows);
     counted(counts, kind)
 }
 
@@ -121,6 +139,12 @@ pub fn turn(
     sharers: &[u16; 255],
     prices: &[[u16; 16]; 16],
     totals: &[[u16; 16]; 16],
+    ofirst: &[u16; 16],
+    onext: &[u16; 500],
+    gfirst: &[u16; 16],
+    gnext: &[u16; 255],
+    tfirst: &[u16; 16],
+    tnext: &[u16; 1000],
     known: &mut [u32],
     ptransit: &mut [u32],
     working: &mut [i64],
@@ -134,6 +158,7 @@ pub fn turn(
     requires { ⌜ Goes (jobTables boxes grocers offers tallies (now price) (now owner) (now gowner) (now tgrocer) (now tbox) (now toffer) (now tcount)) (stateTables (now known) (now ptransit) (now working) (now ttransit) (now statement) (now done) (now sent)) (now needs) (now sharers) (now prices) (now totals) [] (counts .messages) (counts .steps) ⌝ }
     requires { ⌜ PlaceIn boxes (p .kind) (p .first) (p .second) ⌝ }
     requires { ⌜ NoneBefore (jobOf (jobTables boxes grocers offers tallies (now price) (now owner) (now gowner) (now tgrocer) (now tbox) (now toffer) (now tcount))) (view (jobOf (jobTables boxes grocers offers tallies (now price) (now owner) (now gowner) (now tgrocer) (now tbox) (now toffer) (now tcount))) (stateTables (now known) (now ptransit) (now working) (now ttransit) (now statement) (now done) (now sent)) .done) (here boxes (p .kind) (p .first) (p .second)) ⌝ }
+    requires { ⌜ Links (jobTables boxes grocers offers tallies (now price) (now owner) (now gowner) (now tgrocer) (now tbox) (now toffer) (now tcount)) (now ofirst) (now onext) (now gfirst) (now gnext) (now tfirst) (now tnext) ⌝ }
     ensures { λ r. ⌜ Passed (jobTables boxes grocers offers tallies (now (price .entry)) (now (owner .entry)) (now (gowner .entry)) (now (tgrocer .entry)) (now (tbox .entry)) (now (toffer .entry)) (now (tcount .entry))) (stateTables (now (known .entry)) (now (ptransit .entry)) (now (working .entry)) (now (ttransit .entry)) (now (statement .entry)) (now (done .entry)) (now (sent .entry))) (counts .messages) (counts .steps) (here boxes (p .kind) (p .first) (p .second)) (stateTables (now (known .exit)) (now (ptransit .exit)) (now (working .exit)) (now (ttransit .exit)) (now (statement .exit)) (now (done .exit)) (now (sent .exit))) (r .messages) (r .steps) ⌝ }
 {
     if !walk::is_listed(boxes, p, prices, totals, done) {
@@ -154,6 +179,12 @@ pub fn turn(
         tcount,
         needs,
         sharers,
+        ofirst,
+        onext,
+        gfirst,
+        gnext,
+        tfirst,
+        tnext,
         known,
         ptransit,
         working,

@@ -4,6 +4,7 @@ ghost use mathlib.Core.Bool.{cond};
 ghost use Prim.Native.Nat.{_+_, _<_};
 ghost use lib.ListN.{length, getD, set};
 ghost use Rattle.words.specs.Message.{wordIn};
+ghost use Rattle.links.specs.Links.{Linked};
 ghost use Rattle.prices.specs.Prices.{PricesIn, receivedKnown, receivedTransit};
 
 // Takes the price of offer o out of transit, in the row of box a, if a is to have it from box b.
@@ -27,7 +28,7 @@ fn receive_one(
     }
 }
 
-// Box a receives the prices that box b has sent it. They are known to it, and no longer in transit.
+// Box a receives the prices that box b has sent it, walking over the offers of b. They are known to it, and no longer in transit.
 pub fn receive_prices(
     k: usize,
     n: usize,
@@ -35,14 +36,19 @@ pub fn receive_prices(
     b: u16,
     owner: &[u16],
     needs: &[u16; 500],
+    first: &[u16; 16],
+    next: &[u16; 500],
     known: &mut [u32],
     transit: &mut [u32],
 )
     requires { ⌜ PricesIn k n a b (now owner) (now known) (now transit) ⌝ }
+    requires { ⌜ Linked n (now owner) (now first) (now next) ⌝ }
     ensures { λ r. ⌜ (now (known .exit) ≡ receivedKnown k n a b (now (owner .entry)) (now (needs .entry)) (now (known .entry)) (now (transit .entry))) × (now (transit .exit) ≡ receivedTransit k n a b (now (owner .entry)) (now (needs .entry)) (now (known .entry)) (now (transit .entry))) ⌝ }
 {
     let row = a as usize * n;
-    for o in 0..n {
+    let mut o = first[b as usize] as usize;
+    while o < n {
         receive_one(known, transit, owner, needs, row, a, b, o);
+        o = next[o] as usize;
     }
 }

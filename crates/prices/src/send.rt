@@ -5,6 +5,7 @@ ghost use Prim.Native.Nat.{_+_, _<_};
 ghost use lib.ListN.{length, getD, set};
 ghost use Rattle.laws.specs.Below.{words, only, count};
 ghost use Rattle.words.specs.Message.{wordIn};
+ghost use Rattle.links.specs.Links.{Linked};
 ghost use Rattle.prices.specs.Prices.{PricesIn, sentTransit};
 
 // Sends the price of offer o, from row `from` to row `to`, if box b is to have it from box a: 1 where it is, else 0.
@@ -29,7 +30,7 @@ fn send_one(
     0
 }
 
-// Box a sends to box b the prices of its offers that b needs. Their number.
+// Box a sends to box b the prices of its offers that b needs, walking over its own offers. Their number.
 pub fn send_prices(
     k: usize,
     n: usize,
@@ -37,17 +38,22 @@ pub fn send_prices(
     b: u16,
     owner: &[u16],
     needs: &[u16; 500],
+    first: &[u16; 16],
+    next: &[u16; 500],
     known: &[u32],
     transit: &mut [u32],
 ) -> u32
     requires { ⌜ PricesIn k n a b (now owner) (now known) (now transit) ⌝ }
+    requires { ⌜ Linked n (now owner) (now first) (now next) ⌝ }
     ensures { λ r. ⌜ (now (transit .exit) ≡ sentTransit k n a b (now (owner .entry)) (now (needs .entry)) (now (known .entry)) (now (transit .entry))) × (r ≡ count n (wordIn (now (owner .entry)) (now (needs .entry)) a b)) ⌝ }
 {
     let from = a as usize * n;
     let to = b as usize * n;
     let mut sent: u32 = 0;
-    for o in 0..n {
+    let mut o = first[a as usize] as usize;
+    while o < n {
         sent += send_one(transit, known, owner, needs, from, to, a, b, o);
+        o = next[o] as usize;
     }
     sent
 }

@@ -8,12 +8,13 @@ use lib.Dec.{eqb}
 use lib.ListN.{length, drop}
 use lib.Seq.{drop-length}
 use borrow.Author.Tests.{eq-eqb}
-use Rattle.laws.specs.Below.{count}
 use Rattle.model.specs.Tables.{JobTables, jobOf, StateTables, StateLengths, view, store, stateLengths}
 use Rattle.model.specs.Run.{readyCount, places}
-use Rattle.walk.specs.Walk.{listedBy, WalkIn}
+use Rattle.walk.specs.Walk.{WalkIn}
+use Rattle.walk.specs.Rows.{IsRows, rowSum, FewRows}
 use Rattle.picks.specs.Left.{Few}
 use Rattle.picks.specs.Way.{OnWay, Goes, Kept, Ended, NoneBefore}
+use Rattle.walk.proofs.ByRow.{rows-few, rows-ready}
 use Rattle.picks.proofs.Left.{comes-none, none-at-all}
 use Rattle.picks.proofs.Way.{way-lengths, over-stored, kept-none}
 use Rattle.picks.proofs.Pick.{way-walk, way-count}
@@ -59,19 +60,24 @@ module _ (f : JobTables) (t : StateTables) (needs sharers : List ℕ) (prices to
     pub goes-walk : WalkIn (f .boxes) (t′ .done)
     goes-walk = way-walk f t′ (k .on-way) needs sharers prices totals (g .made)
 
-    pub goes-count : (ready : ℕ) → ready ≡ count (6 * f .boxes * f .boxes) (listedBy (f .boxes) prices totals (t′ .done)) → ready ≡ readyCount (jobOf f) (view (jobOf f) t′ .done)
-    goes-count ready e = e ∙ way-count f t′ (k .on-way) needs sharers prices totals (g .made)
+    -- rows of ready steps may be added up,
+    module _ (rows : List ℕ) (h : IsRows (f .boxes) prices totals (t′ .done) rows) where
+      pub goes-few : FewRows (f .boxes) rows
+      goes-few = rows-few (f .boxes) prices totals (t′ .done) rows h (goes-walk .boxes-in)
 
-    -- choices left when no step is ready are passed over,
-    pub goes-none : (ready : ℕ) → ready ≡ count (6 * f .boxes * f .boxes) (listedBy (f .boxes) prices totals (t′ .done)) → ready ≡ 0 → Kept f t cs m n t′ [] m′ n′
-    goes-none ready e z = record {
-      on-way = k .on-way;
-      stored = k .stored;
-      same = comes-none (jobOf f) (view (jobOf f) t′) [] m′ n′ none ∙ sym (comes-none (jobOf f) (view (jobOf f) t′) cs′ m′ n′ none) ∙ k .same;
-    }
-      where
-        none : eqb (readyCount (jobOf f) (view (jobOf f) t′ .done)) 0 ≡ true
-        none = eq-eqb (readyCount (jobOf f) (view (jobOf f) t′ .done)) 0 (sym (goes-count ready e) ∙ z)
+      pub goes-count : (ready : ℕ) → ready ≡ rowSum rows (6 * f .boxes) → ready ≡ readyCount (jobOf f) (view (jobOf f) t′ .done)
+      goes-count ready e = e ∙ rows-ready (f .boxes) prices totals (t′ .done) rows h ∙ way-count f t′ (k .on-way) needs sharers prices totals (g .made)
+
+      -- choices left when no step is ready are passed over,
+      pub goes-none : (ready : ℕ) → ready ≡ rowSum rows (6 * f .boxes) → ready ≡ 0 → Kept f t cs m n t′ [] m′ n′
+      goes-none ready e z = record {
+        on-way = k .on-way;
+        stored = k .stored;
+        same = comes-none (jobOf f) (view (jobOf f) t′) [] m′ n′ none ∙ sym (comes-none (jobOf f) (view (jobOf f) t′) cs′ m′ n′ none) ∙ k .same;
+      }
+        where
+          none : eqb (readyCount (jobOf f) (view (jobOf f) t′ .done)) 0 ≡ true
+          none = eq-eqb (readyCount (jobOf f) (view (jobOf f) t′ .done)) 0 (sym (goes-count ready e) ∙ z)
 
     -- and the run ends where no place has a ready step.
     pub goes-ends : (i : ℕ) → i ≡ 6 * f .boxes * f .boxes → NoneBefore (jobOf f) (view (jobOf f) t′ .done) i → Ended f t cs m n t′ m′ n′

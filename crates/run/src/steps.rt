@@ -1,9 +1,10 @@
 // The loops of a run: while choices are left, and then one walk over all places.
 ghost use mathlib.Core.List.{[]};
 ghost use Rattle.model.specs.Tables.{jobTables, stateTables};
+ghost use Rattle.apply.specs.Apply.{Links};
 ghost use Rattle.picks.specs.Way.{Goes, Kept, Ended};
 
-// While choices are left and some step is ready, each choice picks a step, and it is applied.
+// While choices are left and some step is ready, each choice picks a step, and it is applied. Ready steps are counted by rows.
 fn chosen(
     boxes: u16,
     grocers: u16,
@@ -20,6 +21,12 @@ fn chosen(
     sharers: &[u16; 255],
     prices: &[[u16; 16]; 16],
     totals: &[[u16; 16]; 16],
+    ofirst: &[u16; 16],
+    onext: &[u16; 500],
+    gfirst: &[u16; 16],
+    gnext: &[u16; 255],
+    tfirst: &[u16; 16],
+    tnext: &[u16; 1000],
     known: &mut [u32],
     ptransit: &mut [u32],
     working: &mut [i64],
@@ -30,6 +37,7 @@ fn chosen(
     choices: &[u16],
 ) -> picks::Counts
     requires { ⌜ Goes (jobTables boxes grocers offers tallies (now price) (now owner) (now gowner) (now tgrocer) (now tbox) (now toffer) (now tcount)) (stateTables (now known) (now ptransit) (now working) (now ttransit) (now statement) (now done) (now sent)) (now needs) (now sharers) (now prices) (now totals) (now choices) 0 0 ⌝ }
+    requires { ⌜ Links (jobTables boxes grocers offers tallies (now price) (now owner) (now gowner) (now tgrocer) (now tbox) (now toffer) (now tcount)) (now ofirst) (now onext) (now gfirst) (now gnext) (now tfirst) (now tnext) ⌝ }
     ensures { λ r. ⌜ Kept (jobTables boxes grocers offers tallies (now (price .entry)) (now (owner .entry)) (now (gowner .entry)) (now (tgrocer .entry)) (now (tbox .entry)) (now (toffer .entry)) (now (tcount .entry))) (stateTables (now (known .entry)) (now (ptransit .entry)) (now (working .entry)) (now (ttransit .entry)) (now (statement .entry)) (now (done .entry)) (now (sent .entry))) (now (choices .entry)) 0 0 (stateTables (now (known .exit)) (now (ptransit .exit)) (now (working .exit)) (now (ttransit .exit)) (now (statement .exit)) (now (done .exit)) (now (sent .exit))) [] (r .messages) (r .steps) ⌝ }
 {
     let mut counts = picks::Counts {
@@ -37,8 +45,9 @@ fn chosen(
         steps: 0,
     };
     let n = choices.len();
+    let mut rows = walk::rows::rows_for(n, boxes, prices, totals, done);
     for i in 0..n {
-        let ready = walk::count_ready(boxes, prices, totals, done);
+        let ready = walk::rows::ready_steps(boxes, &rows);
         if ready == 0 {
             return counts;
         }
@@ -58,6 +67,12 @@ fn chosen(
             sharers,
             prices,
             totals,
+            ofirst,
+            onext,
+            gfirst,
+            gnext,
+            tfirst,
+            tnext,
             known,
             ptransit,
             working,
@@ -65,6 +80,7 @@ fn chosen(
             statement,
             done,
             sent,
+            &mut rows,
             choices,
             i,
             ready,
@@ -92,6 +108,12 @@ fn rest(
     sharers: &[u16; 255],
     prices: &[[u16; 16]; 16],
     totals: &[[u16; 16]; 16],
+    ofirst: &[u16; 16],
+    onext: &[u16; 500],
+    gfirst: &[u16; 16],
+    gnext: &[u16; 255],
+    tfirst: &[u16; 16],
+    tnext: &[u16; 1000],
     known: &mut [u32],
     ptransit: &mut [u32],
     working: &mut [i64],
@@ -102,6 +124,7 @@ fn rest(
     before: picks::Counts,
 ) -> picks::Counts
     requires { ⌜ Goes (jobTables boxes grocers offers tallies (now price) (now owner) (now gowner) (now tgrocer) (now tbox) (now toffer) (now tcount)) (stateTables (now known) (now ptransit) (now working) (now ttransit) (now statement) (now done) (now sent)) (now needs) (now sharers) (now prices) (now totals) [] (before .messages) (before .steps) ⌝ }
+    requires { ⌜ Links (jobTables boxes grocers offers tallies (now price) (now owner) (now gowner) (now tgrocer) (now tbox) (now toffer) (now tcount)) (now ofirst) (now onext) (now gfirst) (now gnext) (now tfirst) (now tnext) ⌝ }
     ensures { λ r. ⌜ Ended (jobTables boxes grocers offers tallies (now (price .entry)) (now (owner .entry)) (now (gowner .entry)) (now (tgrocer .entry)) (now (tbox .entry)) (now (toffer .entry)) (now (tcount .entry))) (stateTables (now (known .entry)) (now (ptransit .entry)) (now (working .entry)) (now (ttransit .entry)) (now (statement .entry)) (now (done .entry)) (now (sent .entry))) [] (before .messages) (before .steps) (stateTables (now (known .exit)) (now (ptransit .exit)) (now (working .exit)) (now (ttransit .exit)) (now (statement .exit)) (now (done .exit)) (now (sent .exit))) (r .messages) (r .steps) ⌝ }
 {
     let n = tables::checks::marks(boxes);
@@ -128,6 +151,12 @@ fn rest(
             sharers,
             prices,
             totals,
+            ofirst,
+            onext,
+            gfirst,
+            gnext,
+            tfirst,
+            tnext,
             known,
             ptransit,
             working,
@@ -145,7 +174,107 @@ fn rest(
     counts
 }
 
-// All steps of a run, from the state that the tables hold.
+// All steps of a run, from the state that the tables hold, over entries that are linked.
+fn linked_steps(
+    boxes: u16,
+    grocers: u16,
+    offers: u16,
+    tallies: u16,
+    price: &[u32],
+    owner: &[u16],
+    gowner: &[u16],
+    tgrocer: &[u16],
+    tbox: &[u16],
+    toffer: &[u16],
+    tcount: &[i32],
+    needs: &[u16; 500],
+    sharers: &[u16; 255],
+    prices: &[[u16; 16]; 16],
+    totals: &[[u16; 16]; 16],
+    ofirst: &[u16; 16],
+    onext: &[u16; 500],
+    gfirst: &[u16; 16],
+    gnext: &[u16; 255],
+    tfirst: &[u16; 16],
+    tnext: &[u16; 1000],
+    known: &mut [u32],
+    ptransit: &mut [u32],
+    working: &mut [i64],
+    ttransit: &mut [i64],
+    statement: &mut [i64],
+    done: &mut [u16],
+    sent: &mut [u32],
+    choices: &[u16],
+) -> picks::Counts
+    requires { ⌜ Goes (jobTables boxes grocers offers tallies (now price) (now owner) (now gowner) (now tgrocer) (now tbox) (now toffer) (now tcount)) (stateTables (now known) (now ptransit) (now working) (now ttransit) (now statement) (now done) (now sent)) (now needs) (now sharers) (now prices) (now totals) (now choices) 0 0 ⌝ }
+    requires { ⌜ Links (jobTables boxes grocers offers tallies (now price) (now owner) (now gowner) (now tgrocer) (now tbox) (now toffer) (now tcount)) (now ofirst) (now onext) (now gfirst) (now gnext) (now tfirst) (now tnext) ⌝ }
+    ensures { λ r. ⌜ Ended (jobTables boxes grocers offers tallies (now (price .entry)) (now (owner .entry)) (now (gowner .entry)) (now (tgrocer .entry)) (now (tbox .entry)) (now (toffer .entry)) (now (tcount .entry))) (stateTables (now (known .entry)) (now (ptransit .entry)) (now (working .entry)) (now (ttransit .entry)) (now (statement .entry)) (now (done .entry)) (now (sent .entry))) (now (choices .entry)) 0 0 (stateTables (now (known .exit)) (now (ptransit .exit)) (now (working .exit)) (now (ttransit .exit)) (now (statement .exit)) (now (done .exit)) (now (sent .exit))) (r .messages) (r .steps) ⌝ }
+{
+    let first = chosen(
+        boxes,
+        grocers,
+        offers,
+        tallies,
+        price,
+        owner,
+        gowner,
+        tgrocer,
+        tbox,
+        toffer,
+        tcount,
+        needs,
+        sharers,
+        prices,
+        totals,
+        ofirst,
+        onext,
+        gfirst,
+        gnext,
+        tfirst,
+        tnext,
+        known,
+        ptransit,
+        working,
+        ttransit,
+        statement,
+        done,
+        sent,
+        choices,
+    );
+    rest(
+        boxes,
+        grocers,
+        offers,
+        tallies,
+        price,
+        owner,
+        gowner,
+        tgrocer,
+        tbox,
+        toffer,
+        tcount,
+        needs,
+        sharers,
+        prices,
+        totals,
+        ofirst,
+        onext,
+        gfirst,
+        gnext,
+        tfirst,
+        tnext,
+        known,
+        ptransit,
+        working,
+        ttransit,
+        statement,
+        done,
+        sent,
+        first,
+    )
+}
+
+// All steps of a run, from the state that the tables hold: offers, grocers and tallies are linked once.
 pub fn all_steps(
     boxes: u16,
     grocers: u16,
@@ -174,7 +303,16 @@ pub fn all_steps(
     requires { ⌜ Goes (jobTables boxes grocers offers tallies (now price) (now owner) (now gowner) (now tgrocer) (now tbox) (now toffer) (now tcount)) (stateTables (now known) (now ptransit) (now working) (now ttransit) (now statement) (now done) (now sent)) (now needs) (now sharers) (now prices) (now totals) (now choices) 0 0 ⌝ }
     ensures { λ r. ⌜ Ended (jobTables boxes grocers offers tallies (now (price .entry)) (now (owner .entry)) (now (gowner .entry)) (now (tgrocer .entry)) (now (tbox .entry)) (now (toffer .entry)) (now (tcount .entry))) (stateTables (now (known .entry)) (now (ptransit .entry)) (now (working .entry)) (now (ttransit .entry)) (now (statement .entry)) (now (done .entry)) (now (sent .entry))) (now (choices .entry)) 0 0 (stateTables (now (known .exit)) (now (ptransit .exit)) (now (working .exit)) (now (ttransit .exit)) (now (statement .exit)) (now (done .exit)) (now (sent .exit))) (r .messages) (r .steps) ⌝ }
 {
-    let first = chosen(
+    let mut ofirst: [u16; 16] = [0; 16];
+    let mut onext: [u16; 500] = [0; 500];
+    let mut gfirst: [u16; 16] = [0; 16];
+    let mut gnext: [u16; 255] = [0; 255];
+    let mut tfirst: [u16; 16] = [0; 16];
+    let mut tnext: [u16; 1000] = [0; 1000];
+    links::link(offers as usize, owner, &mut ofirst, &mut onext);
+    links::link(grocers as usize, gowner, &mut gfirst, &mut gnext);
+    links::link(tallies as usize, tbox, &mut tfirst, &mut tnext);
+    linked_steps(
         boxes,
         grocers,
         offers,
@@ -190,6 +328,12 @@ pub fn all_steps(
         sharers,
         prices,
         totals,
+        &ofirst,
+        &onext,
+        &gfirst,
+        &gnext,
+        &tfirst,
+        &tnext,
         known,
         ptransit,
         working,
@@ -198,30 +342,5 @@ pub fn all_steps(
         done,
         sent,
         choices,
-    );
-    rest(
-        boxes,
-        grocers,
-        offers,
-        tallies,
-        price,
-        owner,
-        gowner,
-        tgrocer,
-        tbox,
-        toffer,
-        tcount,
-        needs,
-        sharers,
-        prices,
-        totals,
-        known,
-        ptransit,
-        working,
-        ttransit,
-        statement,
-        done,
-        sent,
-        first,
     )
 }

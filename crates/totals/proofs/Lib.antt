@@ -2,5 +2,6 @@
 pub mod Extra
 pub mod Rows
 pub mod Credits
+pub mod Walks
 pub mod Effect
 pub mod Given

@@ -1,26 +1,27 @@
 -- Rows: a word raised or left, and the row of products. Assumes nothing.
-use mathlib.Core.Path.{_≡_, refl, sym, ap, _∙_}
+use mathlib.Core.Path.{_≡_, refl, sym, ap, ap₂, _∙_}
 use mathlib.Core.Bool.{Bool, true, false, cond, _&&_}
 use mathlib.Core.List.{List}
 use Prim.Native.Nat.{ℕ, _+_, _*_, _/_, _%_, _<_, _≤_}
 use native.Mathlib.Nat.{le-trans, mod-lt}
+use native.Mathlib.Decide.{decLt}
 use native.Mathlib.Omega.{arith}
 use lib.Dec.{eqb, leb}
 use lib.Arith.{digits-div, digits-mod}
-use lib.ListN.{getD, set}
+use lib.ListN.{length, getD, set}
 use lib.Seq.{set-getD}
 use lib.IntN.{ℤ, pos, natAbs, _+ℤ_, _*ℤ_, +ℤ-idr}
-use borrow.Author.Tests.{le-leb}
+use borrow.Author.Tests.{eqb-true, eqb-false, ne-eqb, le-leb}
 use Rattle.laws.specs.Below.{amounts, sum, only, all}
-use Rattle.laws.specs.Tables.{overwrite, cell, recell}
+use Rattle.laws.specs.Tables.{tabulate, overwrite, cell, recell}
 use Rattle.laws.proofs.Bools.{split, eqb-same}
 use Rattle.laws.proofs.Below.{all-at, all-of, all-find, all-fails}
-use Rattle.laws.proofs.Loops.{share}
+use Rattle.laws.proofs.Loops.{share, eqb-shift}
 use Rattle.laws.proofs.Signed.{abs-times-le, only-abs}
-use Rattle.laws.proofs.Sums.{sum-cong}
-use Rattle.laws.proofs.Tables.{pos-right, cell-in, getD-tabulate, getD-overwrite}
+use Rattle.laws.proofs.Sums.{sum-cong, sum-none, only-no}
+use Rattle.laws.proofs.Tables.{pos-right, cell-in, is-recell, getD-tabulate, getD-overwrite}
 use Rattle.model.specs.Ranges.{maxAmount, around}
-use Rattle.totals.specs.Row.{Tallies, TalliesIn, PricesIn, AmountsIn, TallyIn, raised, isTaken, productAt, brings, rowOf, putRow, product, productSum}
+use Rattle.totals.specs.Row.{Tallies, TalliesIn, PricesIn, AmountsIn, TallyIn, raised, isTaken, productAt, brings, rowOf, putRow, product, productSum, productRow}
 use Rattle.totals.proofs.Extra.{under-at, up-at, around-at, row-in, cell-at, cell-abs}
 
 -- Where nothing is added the row stays, and elsewhere the word grows.
@@ -82,6 +83,53 @@ module _ (e : Tallies) (prices : List ℕ) (a from at : ℕ) (h : TalliesIn e) (
       ∙ ap (λ (x : ℕ). only amounts (eqb (getD (e .holder) i 0) a && (eqb (place i) g && eqb (getD (e .owner) (getD (e .offer) i 0) 0) from)) (getD (e .counts) i (pos 0) *ℤ pos x))
       (ap (λ (x : ℕ). getD prices (x + getD (e .offer) i 0) 0) here
       ∙ sym (cell-at (e .boxes) (e .offers) prices 0 a (getD (e .offer) i 0) ha (tally-in i l .offer-in))))
+
+  -- A tally's grocer has its word within row a.
+  pub grocer-cell : (base i : ℕ) → base ≡ a * e .grocers → i < e .tallies → base + place i < e .boxes * e .grocers
+  grocer-cell base i b l = omega (arith, b, cell-in a (e .boxes) (e .grocers) (place i) ha (under-at (e .grocers) (e .tallies) (e .grocer) i (h .grocer-in) l))
+
+  -- A table to which each tally was added in place, at its grocer in row a, is the table with the row of products in its place.
+  pub row-piled : (base : ℕ) (l l′ : List ℤ) → base ≡ a * e .grocers → e .boxes * e .grocers ≤ length l → length l′ ≡ length l →
+      ((i : ℕ) → getD l′ i (pos 0) ≡ getD l i (pos 0) +ℤ sum amounts (e .tallies) (share (λ j. base + place j) brought i)) →
+      l′ ≡ putRow (e .boxes) (e .grocers) a (productRow e prices a from l) l
+  unfolding putRow productRow amounts
+  row-piled base l l′ b long same each = is-recell (e .boxes) (e .grocers) _ l l′ (pos 0) long same inside past
+    where
+      -- Nothing is added where no tally's grocer is.
+      stays : (i : ℕ) → ((j : ℕ) → j < e .tallies → base + place j ≡ i → ⊥) → getD l′ i (pos 0) ≡ getD l i (pos 0)
+      stays i n =
+          each i
+          ∙ ap (λ (z : ℤ). getD l i (pos 0) +ℤ z) (sum-none amounts (e .tallies) (share (λ j. base + place j) brought i) (λ j q. only-no amounts (eqb (base + place j) i) (brought j) (ne-eqb (base + place j) i (n j q))))
+          ∙ +ℤ-idr (getD l i (pos 0))
+
+      here-is : (o : ℕ) → sum amounts (e .tallies) (share (λ j. base + place j) brought (a * e .grocers + o)) ≡ productSum e prices a from o
+      here-is o =
+          sum-cong amounts (e .tallies) _ (share place brought o) (λ j q.
+          ap (λ (t : Bool). only amounts t (brought j)) (ap (λ (x : ℕ). eqb (x + place j) (a * e .grocers + o)) b ∙ eqb-shift (a * e .grocers) (place j) o))
+          ∙ brought-sum o
+
+      apart : (c o j : ℕ) → (c ≡ a → ⊥) → o < e .grocers → j < e .tallies → base + place j ≡ c * e .grocers + o → ⊥
+      apart c o j n lo q r = side (decLt c a)
+        where
+          lg : place j < e .grocers
+          lg = under-at (e .grocers) (e .tallies) (e .grocer) j (h .grocer-in) q
+
+          side : Dec (c < a) → ⊥
+          side (yes s) = omega (arith, b, r, lg, row-in c a (e .grocers) s)
+          side (no s) = let s′ : a < c = omega arith in omega (arith, b, r, lg, row-in a c (e .grocers) s′)
+
+      inside : (c o : ℕ) → c < e .boxes → o < e .grocers → getD l′ (c * e .grocers + o) (pos 0)
+          ≡ cond (eqb c a) (getD (tabulate 255 (λ g. cell (e .boxes) (e .grocers) l (pos 0) a g +ℤ productSum e prices a from g)) o (pos 0)) (cell (e .boxes) (e .grocers) l (pos 0) c o)
+      inside c o lc lo =
+          split (eqb c a)
+          (λ q. rw (eqb-true c a q, eqb-same a)
+          (each (a * e .grocers + o)
+          ∙ ap₂ _+ℤ_ (sym (cell-at (e .boxes) (e .grocers) l (pos 0) a o ha lo)) (here-is o)
+          ∙ sym (getD-tabulate 255 (λ g. cell (e .boxes) (e .grocers) l (pos 0) a g +ℤ productSum e prices a from g) o (pos 0) (le-trans lo (h .grocers-in)))))
+          (λ q. rw q (stays (c * e .grocers + o) (λ j r. apart c o j (eqb-false c a q) lo r) ∙ sym (cell-at (e .boxes) (e .grocers) l (pos 0) c o lc lo)))
+
+      past : (i : ℕ) → e .boxes * e .grocers ≤ i → getD l′ i (pos 0) ≡ getD l i (pos 0)
+      past i q = stays i (λ j r s. omega (arith, grocer-cell base j b r))
 
 -- A word of a row of 255, and its size.
 pub row-word : (k m a : ℕ) (l : List ℤ) (g : ℕ) → g < 255 → getD (rowOf k m a l) g (pos 0) ≡ cell k m l (pos 0) a g

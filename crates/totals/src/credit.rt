@@ -8,11 +8,14 @@ ghost use lib.IntN.{pos, natAbs, _+ℤ_};
 ghost use Rattle.laws.specs.Below.{all};
 ghost use Rattle.laws.specs.Masks.{bit};
 ghost use Rattle.model.specs.Ranges.{maxAmount};
+ghost use Rattle.links.specs.Links.{Linked};
 ghost use Rattle.totals.specs.Row.{AmountsIn};
 ghost use Rattle.totals.specs.Credit.{CreditIn, cleared, credited, creditWord, creditAll};
 use crate::num::amount_fits;
+use crate::num::index;
 use crate::num::plus;
 use crate::num::row_start;
+use crate::walk::begin;
 
 // Whether box a, if it is the owner, adds a total of box `from` to the statement.
 fn is_credited(owner: u16, mask: u16, a: u16, from: u16) -> bool
@@ -88,7 +91,7 @@ fn credit_one(
     source[at] = 0;
 }
 
-// Steps 5 and 6 of box a: its own totals, where `from` is a, or those that box `from` has sent.
+// Steps 5 and 6 of box a: its own totals, where `from` is a, or those that box `from` has sent, over the grocers that box a owns.
 pub fn credit(
     k: usize,
     m: usize,
@@ -96,15 +99,20 @@ pub fn credit(
     from: u16,
     owner: &[u16],
     sharers: &[u16; 255],
+    first: &[u16; 16],
+    next: &[u16; 255],
     source: &mut [i64],
     statement: &mut [i64],
 )
     requires { ⌜ (k ≤ 16) × (m ≤ 255) × (from < k) × (m ≤ length (now owner)) ⌝ }
     requires { ⌜ AmountsIn (k * m) (now source) × AmountsIn m (now statement) ⌝ }
+    requires { ⌜ (a < 16) × Linked m (now owner) (now first) (now next) ⌝ }
     ensures { λ _. ⌜ (now (source .exit) ≡ cleared k m from (credited (now (owner .entry)) (now (sharers .entry)) a from) (now (source .entry))) × (now (statement .exit) ≡ creditAll k m from (credited (now (owner .entry)) (now (sharers .entry)) a from) (now (source .entry)) (now (statement .entry))) ⌝ }
 {
     let at = row_start(m, from);
-    for g in 0..m {
+    let mut g = begin(m, a, first, next, owner);
+    while g < m {
         credit_one(at + g, a, from, g, owner, sharers, source, statement);
+        g = index(next[g]);
     }
 }

@@ -3,3 +3,4 @@ pub mod credit;
 mod num;
 pub mod row;
 pub mod send;
+mod walk;

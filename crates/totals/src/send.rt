@@ -5,9 +5,12 @@ ghost use Prim.Native.Nat.{_*_, _≤_, _<_};
 ghost use lib.ListN.{length, getD, set};
 ghost use lib.IntN.{pos};
 ghost use Rattle.laws.specs.Below.{words, only, count};
+ghost use Rattle.links.specs.Links.{Linked};
 ghost use Rattle.words.specs.Message.{wordIn};
 ghost use Rattle.totals.specs.Credit.{cleared, sentTotals};
+use crate::num::index;
 use crate::num::row_start;
+use crate::walk::begin;
 
 // Sends the total of grocer g, which is at a place, if it stands in the message from box a to box b: 1 if it does, else 0.
 fn send_one(
@@ -32,7 +35,7 @@ fn send_one(
     1
 }
 
-// Step 4 of box a to box b: the number of totals sent.
+// Step 4 of box a to box b, over the grocers that box b owns: the number of totals sent.
 pub fn send_totals(
     k: usize,
     m: usize,
@@ -40,16 +43,21 @@ pub fn send_totals(
     b: u16,
     owner: &[u16],
     sharers: &[u16; 255],
+    first: &[u16; 16],
+    next: &[u16; 255],
     working: &mut [i64],
     transit: &mut [i64],
 ) -> u32
     requires { ⌜ (k ≤ 16) × (m ≤ 255) × (a < k) × (m ≤ length (now owner)) × (k * m ≤ length (now working)) × (k * m ≤ length (now transit)) ⌝ }
+    requires { ⌜ (b < 16) × Linked m (now owner) (now first) (now next) ⌝ }
     ensures { λ r. ⌜ (r ≡ count m (wordIn (now (owner .entry)) (now (sharers .entry)) b a)) × (now (working .exit) ≡ cleared k m a (wordIn (now (owner .entry)) (now (sharers .entry)) b a) (now (working .entry))) × (now (transit .exit) ≡ sentTotals k m a (wordIn (now (owner .entry)) (now (sharers .entry)) b a) (now (working .entry)) (now (transit .entry))) ⌝ }
 {
     let at = row_start(m, a);
     let mut sent: u32 = 0;
-    for g in 0..m {
+    let mut g = begin(m, b, first, next, owner);
+    while g < m {
         sent += send_one(at + g, a, b, g, owner, sharers, working, transit);
+        g = index(next[g]);
     }
     sent
 }

@@ -2,3 +2,5 @@
 pub mod Places
 pub mod Walking
 pub mod InModel
+pub mod ByRow
+pub mod Changed

@@ -1,4 +1,6 @@
 // The list of ready steps, walked by kind, first box and second box. No place is divided.
+pub mod rows;
+
 ghost use mathlib.Core.Path.{_≡_};
 ghost use Prim.Native.Nat.{_*_, _<_};
 ghost use Rattle.laws.specs.Below.{words, only, count};
@@ -63,57 +65,4 @@ fn one(test: bool) -> u16
         return 1;
     }
     0
-}
-
-// The number of ready steps.
-pub fn count_ready(k: u16, prices: &[[u16; 16]; 16], totals: &[[u16; 16]; 16], done: &[u16]) -> u16
-    requires { ⌜ WalkIn k (now done) ⌝ }
-    ensures { λ r. ⌜ r ≡ count (6 * k * k) (listedBy k (now (prices .entry)) (now (totals .entry)) (now (done .entry))) ⌝ }
-{
-    let n = tables::checks::marks(k);
-    let mut found: u16 = 0;
-    let mut p = Place {
-        kind: 1,
-        first: 0,
-        second: 0,
-    };
-    for i in 0..n {
-        let more = one(is_listed(k, p, prices, totals, done));
-        found += more;
-        let q = next(k, p);
-        p = q;
-    }
-    found
-}
-
-// The ready step that has c ready steps before it.
-pub fn find(
-    k: u16,
-    c: u16,
-    prices: &[[u16; 16]; 16],
-    totals: &[[u16; 16]; 16],
-    done: &[u16],
-) -> Place
-    requires { ⌜ WalkIn k (now done) ⌝ }
-    requires { ⌜ c < count (6 * k * k) (listedBy k (now prices) (now totals) (now done)) ⌝ }
-    ensures { λ r. ⌜ Found k (nth (6 * k * k) (listedBy k (now (prices .entry)) (now (totals .entry)) (now (done .entry))) c) (r .kind) (r .first) (r .second) ⌝ }
-{
-    let n = tables::checks::marks(k);
-    let mut left = c;
-    let mut p = Place {
-        kind: 1,
-        first: 0,
-        second: 0,
-    };
-    for i in 0..n {
-        let ready = is_listed(k, p, prices, totals, done);
-        if ready & (left == 0) {
-            return p;
-        }
-        let less = one(ready);
-        left -= less;
-        let q = next(k, p);
-        p = q;
-    }
-    p
 }

@@ -1,5 +1,7 @@
 -- `apply::apply` meets its contract. Assumes nothing.
 use mathlib.Core.Path.{refl, sym, _∙_}
+use Prim.Native.Nat.{ℕ, _<_}
+use native.Mathlib.Omega.{arith}
 use borrow.Author.Needs.{needs}
 use Rattle.model.specs.Tables.{JobTables, StateTables, jobTables, stateTables}
 use Rattle.model.specs.Step.{Asked, asked}
@@ -25,13 +27,13 @@ ask s = asked (s .args .kind) (s .args .first) (s .args .second)
 
 -- What is required, fact by fact.
 facts : (s : tie.Start) → Given (job s) (state s) (now (s .args .needs)) (now (s .args .sharers)) (ask s)
-facts s = given (job s) (state s) (now (s .args .needs)) (now (s .args .sharers)) (ask s) (s .pre)
+facts s = given (job s) (state s) (now (s .args .needs)) (now (s .args .sharers)) (ask s) (s .pre .0)
 
 mark-requires : tie.Need-mark-requires
 mark-requires c κs = let s = c .before .before .before .before .before .before .before .before .before .before .before in (marks-in (job s) (state s) (now (s .args .needs)) (now (s .args .sharers)) (ask s) (facts s), facts s .words-in .done)
 
 send-prices-requires : tie.Need-send-prices-requires
-send-prices-requires c κs = let s = c .before .before .before .before .before .before .before .before .before .before .before .before .before .before .before .before .before .before in (prices-in (job s) (state s) (now (s .args .needs)) (now (s .args .sharers)) (ask s) (facts s), sent-in (job s) (state s) (now (s .args .needs)) (now (s .args .sharers)) (ask s) (facts s))
+send-prices-requires c κs = let s = c .before .before .before .before .before .before .before .before .before .before .before .before .before .before .before .before .before .before in (prices-in (job s) (state s) (now (s .args .needs)) (now (s .args .sharers)) (ask s) (facts s), (s .pre .1 .offers-linked, sent-in (job s) (state s) (now (s .args .needs)) (now (s .args .sharers)) (ask s) (facts s)))
 
 same-length : tie.Need-same-length
 same-length c = search needs
@@ -53,7 +55,7 @@ returns c =
     ∙ sym (prices-sent (job s) (state s) (now (s .args .needs)) (now (s .args .sharers)) (ask s) (facts s) (c .before .before .before .before .before .before .before .before .if1 .taken))
 
 multiply-requires : tie.Need-multiply-requires
-multiply-requires c κs = let s = c .before .before .before .before .before .before .before .before .before .before .before .before .before .before .before .before .before .before in own-in (job s) (state s) (now (s .args .needs)) (now (s .args .sharers)) (ask s) (facts s)
+multiply-requires c κs = let s = c .before .before .before .before .before .before .before .before .before .before .before .before .before .before .before .before .before .before in (own-in (job s) (state s) (now (s .args .needs)) (now (s .args .sharers)) (ask s) (facts s), s .pre .1 .tallies-linked)
 
 same-length-5 : tie.Need-same-length-5
 same-length-5 c = search needs
@@ -72,7 +74,7 @@ returns-2 c =
     ∙ sym (own-multiplied (job s) (state s) (now (s .args .needs)) (now (s .args .sharers)) (ask s) (facts s) (c .before .before .before .before .if2 .taken))
 
 receive-prices-requires : tie.Need-receive-prices-requires
-receive-prices-requires c κs = let s = c .before .before .before .before .before .before .before .before .before .before .before .before .before .before .before .before .before .before .before .before in receive-in (job s) (state s) (now (s .args .needs)) (now (s .args .sharers)) (ask s) (facts s)
+receive-prices-requires c κs = let s = c .before .before .before .before .before .before .before .before .before .before .before .before .before .before .before .before .before .before .before .before in (receive-in (job s) (state s) (now (s .args .needs)) (now (s .args .sharers)) (ask s) (facts s), (s .pre .1 .offers-linked, s .pre .1 .tallies-linked))
 
 same-length-8 : tie.Need-same-length-8
 same-length-8 c = search needs
@@ -93,8 +95,12 @@ returns-3 c =
     tables-eq _ _ (e .0) (e .1) (e .2) refl refl (c .before .before .before .before .before .before .before .before .before .before .before .before .before .before .mark .ensures .0) refl
     ∙ sym (prices-received (job s) (state s) (now (s .args .needs)) (now (s .args .sharers)) (ask s) (facts s) (c .before .before .before .before .before .before .before .before .before .if3 .taken))
 
+-- A box of the job is below 16.
+below16 : (s : tie.Start) (b : ℕ) → b < s .args .boxes → b < 16
+below16 s b h = omega (arith, h, facts s .tallies-in .boxes-in)
+
 send-totals-requires : tie.Need-send-totals-requires
-send-totals-requires c κs = let s = c .before .before .before .before .before .before .before .before .before .before .before .before .before .before .before .before .before .before .before .before .before in (send-in (job s) (state s) (now (s .args .needs)) (now (s .args .sharers)) (ask s) (facts s), sent-in (job s) (state s) (now (s .args .needs)) (now (s .args .sharers)) (ask s) (facts s))
+send-totals-requires c κs = let s = c .before .before .before .before .before .before .before .before .before .before .before .before .before .before .before .before .before .before .before .before .before in (send-in (job s) (state s) (now (s .args .needs)) (now (s .args .sharers)) (ask s) (facts s), ((below16 s (s .args .second) (facts s .second-in), s .pre .1 .grocers-linked), sent-in (job s) (state s) (now (s .args .needs)) (now (s .args .sharers)) (ask s) (facts s)))
 
 same-length-12 : tie.Need-same-length-12
 same-length-12 c = search needs
@@ -116,7 +122,7 @@ returns-4 c =
     ∙ sym (totals-sent (job s) (state s) (now (s .args .needs)) (now (s .args .sharers)) (ask s) (facts s) (c .before .before .before .before .before .before .before .before .if4 .taken))
 
 credit-requires : tie.Need-credit-requires
-credit-requires c κs = let s = c .before .before .before .before .before .before .before .before .before .before .before .before .before .before .before .before .before .before .before .before .before in (credit-in (job s) (state s) (now (s .args .needs)) (now (s .args .sharers)) (ask s) (facts s) (s .args .first) (facts s .first-in), (working-in (job s) (state s) (now (s .args .needs)) (now (s .args .sharers)) (ask s) (facts s), statement-in (job s) (state s) (now (s .args .needs)) (now (s .args .sharers)) (ask s) (facts s)))
+credit-requires c κs = let s = c .before .before .before .before .before .before .before .before .before .before .before .before .before .before .before .before .before .before .before .before .before in (credit-in (job s) (state s) (now (s .args .needs)) (now (s .args .sharers)) (ask s) (facts s) (s .args .first) (facts s .first-in), ((working-in (job s) (state s) (now (s .args .needs)) (now (s .args .sharers)) (ask s) (facts s), statement-in (job s) (state s) (now (s .args .needs)) (now (s .args .sharers)) (ask s) (facts s)), (below16 s (s .args .first) (facts s .first-in), s .pre .1 .grocers-linked)))
 
 same-length-16 : tie.Need-same-length-16
 same-length-16 c = search needs
@@ -135,7 +141,7 @@ returns-5 c =
     ∙ sym (own-added (job s) (state s) (now (s .args .needs)) (now (s .args .sharers)) (ask s) (facts s) (c .before .before .before .before .before .if5 .taken))
 
 credit-requires-2 : tie.Need-credit-requires-2
-credit-requires-2 c κs = let s = c .before .before .before .before .before .before .before .before .before .before .before .before .before .before .before .before .before .before .before .before .before in (credit-in (job s) (state s) (now (s .args .needs)) (now (s .args .sharers)) (ask s) (facts s) (s .args .second) (facts s .second-in), (transit-in (job s) (state s) (now (s .args .needs)) (now (s .args .sharers)) (ask s) (facts s), statement-in (job s) (state s) (now (s .args .needs)) (now (s .args .sharers)) (ask s) (facts s)))
+credit-requires-2 c κs = let s = c .before .before .before .before .before .before .before .before .before .before .before .before .before .before .before .before .before .before .before .before .before in (credit-in (job s) (state s) (now (s .args .needs)) (now (s .args .sharers)) (ask s) (facts s) (s .args .second) (facts s .second-in), ((transit-in (job s) (state s) (now (s .args .needs)) (now (s .args .sharers)) (ask s) (facts s), statement-in (job s) (state s) (now (s .args .needs)) (now (s .args .sharers)) (ask s) (facts s)), (below16 s (s .args .first) (facts s .first-in), s .pre .1 .grocers-linked)))
 
 same-length-19 : tie.Need-same-length-19
 same-length-19 c = search needs

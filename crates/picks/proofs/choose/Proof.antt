@@ -6,7 +6,7 @@ use Rattle.model.specs.Tables.{JobTables, jobTables, StateTables, stateTables}
 use borrow.Author.Needs.{needs}
 use denote.Ref.{now}
 use Rattle.picks.proofs.Left.{few-so-far}
-use Rattle.picks.proofs.Pick.{way-walk, choice-below, choice-applies, choice-kept}
+use Rattle.picks.proofs.Pick.{way-walk, choice-below, choice-applies, choice-kept, choice-rows, choice-marks-in}
 use Rattle.picks.proofs.choose.Statement.{statement}
 use Rattle.picks.proofs.choose.Tie as tie
 
@@ -17,7 +17,7 @@ abbrev tables : tie.Start → StateTables
 tables s = stateTables (now (s .args .known)) (now (s .args .ptransit)) (now (s .args .working)) (now (s .args .ttransit)) (now (s .args .statement)) (now (s .args .done)) (now (s .args .sent))
 
 mul-c : tie.Need-mul-c
-mul-c c = let s = c .before .before .before .before .before .before .before .before .before .before .before in omega (arith, s .pre .1 .0, s .good .1 .1 .1 .1 .1 .1 .1 .1 .1 .1 .1 .1 .1 .1 .1 .1 .1 .1 .1 .1 .1 .1 .0)
+mul-c c = let s = c .before .before .before .before .before .before .before .before .before .before .before in omega (arith, s .pre .1 .0 .0, s .good .1 .1 .1 .1 .1 .1 .1 .1 .1 .1 .1 .1 .1 .1 .1 .1 .1 .1 .1 .1 .1 .1 .1 .1 .1 .1 .1 .1 .1 .0)
 
 shared-slice-read-c : tie.Need-shared-slice-read-c
 shared-slice-read-c c = search needs
@@ -25,23 +25,35 @@ shared-slice-read-c c = search needs
 rem-c : tie.Need-rem-c
 rem-c c = search needs
 
-find-requires : tie.Need-find-requires
-find-requires c κs =
-    let s = c .before .before .before .before .before .before .before .before .before .before .before .before .before in (
+find-in-requires : tie.Need-find-in-requires
+find-in-requires c κs =
+    let s = c .before .before .before .before .before .before .before .before .before .before .before .before .before .before in (
       way-walk (job s) (tables s) (s .pre .0 .on-way) (now (s .args .needs)) (now (s .args .sharers)) (now (s .args .prices)) (now (s .args .totals)) (s .pre .0 .made),
-      choice-below (job s) (tables s) (s .pre .0 .on-way) (now (s .args .needs)) (now (s .args .sharers)) (now (s .args .prices)) (now (s .args .totals)) (s .pre .0 .made) (s .args .ready) (getD (now (s .args .choices)) (s .args .i) 0) (s .pre .1 .1 .0) (s .pre .1 .1 .1),
+      (
+        s .pre .1 .1 .0,
+        choice-below (job s) (tables s) (s .pre .0 .on-way) (now (s .args .needs)) (now (s .args .sharers)) (now (s .args .prices)) (now (s .args .totals)) (s .pre .0 .made) (s .args .ready) (getD (now (s .args .choices)) (s .args .i) 0) (s .pre .1 .0 .1 .0) (s .pre .1 .0 .1 .1),
+      ),
     )
 
 apply-requires : tie.Need-apply-requires
 apply-requires c κs =
-    let s = c .before .before .before .before .before .before .before .before .before .before .before .before .before .before .before .before .before .before .before .before .before in
-    let g = c .before .before .before .before .before .before .before .find in
-    choice-applies (job s) (tables s) (s .pre .0 .on-way) (now (s .args .needs)) (now (s .args .sharers)) (now (s .args .prices)) (now (s .args .totals)) (s .pre .0 .made) (s .args .ready) (getD (now (s .args .choices)) (s .args .i) 0) (s .pre .1 .1 .0) (s .pre .1 .1 .1) (g .result .kind) (g .result .first) (g .result .second) (g .ensures)
+    let s = c .before .before .before .before .before .before .before .before .before .before .before .before .before .before .before .before .before .before .before .before .before .before in
+    let g = c .before .before .before .before .before .before .before .find-in in
+    (choice-applies (job s) (tables s) (s .pre .0 .on-way) (now (s .args .needs)) (now (s .args .sharers)) (now (s .args .prices)) (now (s .args .totals)) (s .pre .0 .made) (s .args .ready) (getD (now (s .args .choices)) (s .args .i) 0) (s .pre .1 .0 .1 .0) (s .pre .1 .0 .1 .1) (g .result .kind) (g .result .first) (g .result .second) (g .ensures), s .pre .1 .1 .1)
+
+renew-requires : tie.Need-renew-requires
+renew-requires c κs =
+    let s = c .before .before .before .before .before .before .before .before .before .before .before .before .before .before .before .before .before .before .before .before .before .before .before .before .before .before .before .before .before .before .before .before .before .before .before .before in
+    let g = c .before .before .before .before .before .before .before .before .before .before .before .before .before .before .before .before .before .before .before .before .before .find-in in
+    let e = c .before .before .before .before .before .before .before .before .before .before .before .before .before .apply .ensures in (
+      choice-marks-in (job s) (tables s) (s .pre .0 .on-way) (now (s .args .needs)) (now (s .args .sharers)) (now (s .args .prices)) (now (s .args .totals)) (s .pre .0 .made) (s .args .ready) (getD (now (s .args .choices)) (s .args .i) 0) (s .pre .1 .0 .1 .0) (s .pre .1 .0 .1 .1) (g .result .kind) (g .result .first) (g .result .second) (g .ensures) _ e,
+      choice-rows (job s) (tables s) (s .pre .0 .on-way) (now (s .args .needs)) (now (s .args .sharers)) (now (s .args .prices)) (now (s .args .totals)) (s .pre .0 .made) (s .args .ready) (getD (now (s .args .choices)) (s .args .i) 0) (s .pre .1 .0 .1 .0) (s .pre .1 .0 .1 .1) (g .result .kind) (g .result .first) (g .result .second) (g .ensures) _ e (now (s .args .rows)) (s .pre .1 .1 .0),
+    )
 
 counted-requires : tie.Need-counted-requires
 counted-requires c κs =
-    let s = c .before .before .before .before .before .before .before .before .before .before .before .before .before .before .before .before .before .before .before .before .before .before .before .before .before .before .before .before .before .before .before .before .before in
-    let g = c .before .before .before .before .before .before .before .before .before .before .before .before .before .before .before .before .before .before .before .find in
+    let s = c .before .before .before .before .before .before .before .before .before .before .before .before .before .before .before .before .before .before .before .before .before .before .before .before .before .before .before .before .before .before .before .before .before .before .before .before .before in
+    let g = c .before .before .before .before .before .before .before .before .before .before .before .before .before .before .before .before .before .before .before .before .before .before .find-in in
     ((g .ensures .place-in .kind-from, g .ensures .place-in .kind-to), few-so-far _ _ _ (s .args .counts .messages) (s .args .counts .steps) (s .pre .0 .few))
 
 same-length : tie.Need-same-length
@@ -67,11 +79,13 @@ same-length-7 c = search needs
 
 returns : tie.Need-returns
 returns c =
-    let s = c .before .before .before .before .before .before .before .before .before .before .before .before .before .before .before .before .before .before .before .before .before .before .before .before .before .before .before .before .before .before .before .before .before .before in
-    let g = c .before .before .before .before .before .before .before .before .before .before .before .before .before .before .before .before .before .before .before .before .find in
-    choice-kept (job s) (tables s) (s .pre .0 .on-way) (now (s .args .needs)) (now (s .args .sharers)) (now (s .args .prices)) (now (s .args .totals)) (s .pre .0 .made) (s .args .ready) (getD (now (s .args .choices)) (s .args .i) 0) (s .pre .1 .1 .0) (s .pre .1 .1 .1) (g .result .kind) (g .result .first) (g .result .second) (g .ensures)
-    (now (s .args .choices)) (s .args .i) (s .pre .1 .0) refl _ (c .before .before .before .before .before .before .before .before .before .before .before .before .apply .ensures) (s .args .counts .messages) (s .args .counts .steps) (c .counted .result .messages) (c .counted .result .steps)
-    (c .counted .ensures .0 (g .result .first) (g .result .second)) (c .counted .ensures .1)
+    let s = c .before .before .before .before .before .before .before .before .before .before .before .before .before .before .before .before .before .before .before .before .before .before .before .before .before .before .before .before .before .before .before .before .before .before .before .before .before .before in
+    let g = c .before .before .before .before .before .before .before .before .before .before .before .before .before .before .before .before .before .before .before .before .before .before .before .find-in in (
+      choice-kept (job s) (tables s) (s .pre .0 .on-way) (now (s .args .needs)) (now (s .args .sharers)) (now (s .args .prices)) (now (s .args .totals)) (s .pre .0 .made) (s .args .ready) (getD (now (s .args .choices)) (s .args .i) 0) (s .pre .1 .0 .1 .0) (s .pre .1 .0 .1 .1) (g .result .kind) (g .result .first) (g .result .second) (g .ensures)
+          (now (s .args .choices)) (s .args .i) (s .pre .1 .0 .0) refl _ (c .before .before .before .before .before .before .before .before .before .before .before .before .before .before .before .apply .ensures) (s .args .counts .messages) (s .args .counts .steps) (c .counted .result .messages) (c .counted .result .steps)
+          (c .counted .ensures .0 (g .result .first) (g .result .second)) (c .counted .ensures .1),
+      c .before .renew .ensures,
+    )
 
 pub choose-spec : {M : Type 1} → statement M
 choose-spec =
@@ -80,8 +94,9 @@ choose-spec =
     mul-c
     shared-slice-read-c
     rem-c
-    find-requires
+    find-in-requires
     apply-requires
+    renew-requires
     counted-requires
     same-length
     same-length-2

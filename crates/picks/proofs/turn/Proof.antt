@@ -26,12 +26,12 @@ same-length c = search needs
 returns : tie.Need-returns
 returns c =
     let s = c .before .before .before .before .before .before .before .before .before .before .before .before .before in
-    place-not (job s) (tables s) (s .pre .0 .on-way) (now (s .args .needs)) (now (s .args .sharers)) (now (s .args .prices)) (now (s .args .totals)) (s .pre .0 .made) (s .args .p .kind) (s .args .p .first) (s .args .p .second) (s .pre .1 .0) (s .pre .1 .1) (s .args .counts .messages) (s .args .counts .steps) (sym (c .before .is-listed .ensures) ∙ not-true _ (c .if1 .taken))
+    place-not (job s) (tables s) (s .pre .0 .on-way) (now (s .args .needs)) (now (s .args .sharers)) (now (s .args .prices)) (now (s .args .totals)) (s .pre .0 .made) (s .args .p .kind) (s .args .p .first) (s .args .p .second) (s .pre .1 .0) (s .pre .1 .1 .0) (s .args .counts .messages) (s .args .counts .steps) (sym (c .before .is-listed .ensures) ∙ not-true _ (c .if1 .taken))
 
 apply-requires : tie.Need-apply-requires
 apply-requires c κs =
     let s = c .before .before .before .before .before .before .before .before .before .before .before .before .before .before .before .before .before .before .before .before in
-    place-applies (job s) (tables s) (s .pre .0 .on-way) (now (s .args .needs)) (now (s .args .sharers)) (now (s .args .prices)) (now (s .args .totals)) (s .pre .0 .made) (s .args .p .kind) (s .args .p .first) (s .args .p .second) (s .pre .1 .0) (s .pre .1 .1) (s .args .counts .messages) (s .args .counts .steps) (sym (c .before .before .before .before .before .before .before .before .is-listed .ensures) ∙ not-false _ (c .before .before .before .before .before .before .before .if1 .left))
+    (place-applies (job s) (tables s) (s .pre .0 .on-way) (now (s .args .needs)) (now (s .args .sharers)) (now (s .args .prices)) (now (s .args .totals)) (s .pre .0 .made) (s .args .p .kind) (s .args .p .first) (s .args .p .second) (s .pre .1 .0) (s .pre .1 .1 .0) (s .args .counts .messages) (s .args .counts .steps) (sym (c .before .before .before .before .before .before .before .before .is-listed .ensures) ∙ not-false _ (c .before .before .before .before .before .before .before .if1 .left)), s .pre .1 .1 .1)
 
 counted-requires : tie.Need-counted-requires
 counted-requires c κs =
@@ -62,7 +62,7 @@ same-length-8 c = search needs
 returns-2 : tie.Need-returns-2
 returns-2 c =
     let s = c .before .before .before .before .before .before .before .before .before .before .before .before .before .before .before .before .before .before .before .before .before .before .before .before .before .before .before .before .before .before .before .before .before in
-    place-passed (job s) (tables s) (s .pre .0 .on-way) (now (s .args .needs)) (now (s .args .sharers)) (now (s .args .prices)) (now (s .args .totals)) (s .pre .0 .made) (s .args .p .kind) (s .args .p .first) (s .args .p .second) (s .pre .1 .0) (s .pre .1 .1) (s .args .counts .messages) (s .args .counts .steps) (sym (c .before .before .before .before .before .before .before .before .before .before .before .before .before .before .before .before .before .before .before .before .before .is-listed .ensures) ∙ not-false _ (c .before .before .before .before .before .before .before .before .before .before .before .before .before .before .before .before .before .before .before .before .if1 .left))
+    place-passed (job s) (tables s) (s .pre .0 .on-way) (now (s .args .needs)) (now (s .args .sharers)) (now (s .args .prices)) (now (s .args .totals)) (s .pre .0 .made) (s .args .p .kind) (s .args .p .first) (s .args .p .second) (s .pre .1 .0) (s .pre .1 .1 .0) (s .args .counts .messages) (s .args .counts .steps) (sym (c .before .before .before .before .before .before .before .before .before .before .before .before .before .before .before .before .before .before .before .before .before .is-listed .ensures) ∙ not-false _ (c .before .before .before .before .before .before .before .before .before .before .before .before .before .before .before .before .before .before .before .before .if1 .left))
     _ (c .before .before .before .before .before .before .before .before .before .before .before .before .apply .ensures) (c .counted .result .messages) (c .counted .result .steps)
     (c .counted .ensures .0 (s .args .p .first) (s .args .p .second)) (c .counted .ensures .1)
 

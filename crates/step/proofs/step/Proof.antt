@@ -12,14 +12,14 @@ use Rattle.step.proofs.step.Statement.{statement}
 use Rattle.step.proofs.step.Tie as tie
 use Rattle.step.proofs.step.Reads as reads
 use Rattle.step.proofs.step.Lts as lts
-use Rattle.apply.proofs.apply.Reads as apply-reads
+use Rattle.step.proofs.apply_linked.Reads as apply-linked-reads
 use Rattle.refuse.proofs.refusal.Reads as refusal-reads
 use Rattle.tables.proofs.masks.needs.Reads as needs-reads
 use Rattle.tables.proofs.masks.sharers.Reads as sharers-reads
 
 -- The lent tables and what is asked, at the start.
 abbrev Start : Type 0
-Start = lts.Start (refusal-reads.Asked, refusal-reads.Learnt, needs-reads.Asked, needs-reads.Learnt, sharers-reads.Asked, sharers-reads.Learnt, apply-reads.Asked, apply-reads.Learnt) reads.Pre reads.Post
+Start = lts.Start (refusal-reads.Asked, refusal-reads.Learnt, needs-reads.Asked, needs-reads.Learnt, sharers-reads.Asked, sharers-reads.Learnt, apply-linked-reads.Asked, apply-linked-reads.Learnt) reads.Pre reads.Post
 
 abbrev job : Start → JobTables
 job s = jobTables (s .args .boxes) (s .args .grocers) (s .args .offers) (s .args .tallies) (s .args .price .now) (s .args .owner .now) (s .args .gowner .now)
@@ -32,7 +32,7 @@ abbrev ask : Start → Asked
 ask s = asked (s .args .kind) (s .args .first) (s .args .second)
 
 -- Where nothing is refused the answer is 0.
-none-met : (c : lts.Else1 (refusal-reads.Asked, refusal-reads.Learnt, needs-reads.Asked, needs-reads.Learnt, sharers-reads.Asked, sharers-reads.Learnt, apply-reads.Asked, apply-reads.Learnt) reads.Pre reads.Post) → answer (job (c .before .before .before .before .before .before .before .before .before .before .before .before .before .before .before .before .before .before .before)) (state (c .before .before .before .before .before .before .before .before .before .before .before .before .before .before .before .before .before .before .before)) (ask (c .before .before .before .before .before .before .before .before .before .before .before .before .before .before .before .before .before .before .before)) ≡ 0
+none-met : (c : lts.Else1 (refusal-reads.Asked, refusal-reads.Learnt, needs-reads.Asked, needs-reads.Learnt, sharers-reads.Asked, sharers-reads.Learnt, apply-linked-reads.Asked, apply-linked-reads.Learnt) reads.Pre reads.Post) → answer (job (c .before .before .before .before .before .before .before .before .before .before .before .before .before .before .before .before .before .before .before)) (state (c .before .before .before .before .before .before .before .before .before .before .before .before .before .before .before .before .before .before .before)) (ask (c .before .before .before .before .before .before .before .before .before .before .before .before .before .before .before .before .before .before .before)) ≡ 0
 none-met c = sym (c .before .refusal .ensures) ∙ c .if1 .left
 
 -- src/lib.rt:45:9
@@ -89,8 +89,8 @@ sharers-requires c κs =
     placed-grocers (job s) (in-range (job s) (state s) (ask s) h) (job-whole (job s) (job-long (job s) (state s) (ask s) h))
 
 -- src/lib.rt:54:5
-apply-requires : tie.Need-apply-requires
-apply-requires c κs =
+apply-linked-requires : tie.Need-apply-linked-requires
+apply-linked-requires c κs =
     let s = c .before .before .before .before .before .before .before .before .before .before .before .before .before .before .before .before .before .before .before .before .before .before .before .before .before .before .before .before .before .before in
     applies (job s) (state s) (ask s) (none-met (c .before .before .before .before .before .before .before .before .before .before .before)) _ _ (c .before .before .before .before .before .before .before .before .before .before .needs .ensures ∙ need-words (job s)) (c .before .before .before .before .before .before .before .before .before .sharers .ensures ∙ sharer-words (job s))
 
@@ -127,7 +127,7 @@ returns-2 : tie.Need-returns-2
 unfolding number
 returns-2 c =
     let s = c .before .before .before .before .before .before .before .before .before .before .before .before .before .before .before .before .before .before .before .before .before .before .before .before .before .before .before .before .before .before .before .before .before .before .before .before .before .before .before .before .before .before in
-    ap (λ (t : StateTables). outcome 0 t) (c .before .before .before .before .before .before .before .before .before .before .before .apply .ensures) ∙ accepted (job s) (state s) (ask s) (none-met (c .before .before .before .before .before .before .before .before .before .before .before .before .before .before .before .before .before .before .before .before .before .before .before))
+    ap (λ (t : StateTables). outcome 0 t) (c .before .before .before .before .before .before .before .before .before .before .before .apply-linked .ensures) ∙ accepted (job s) (state s) (ask s) (none-met (c .before .before .before .before .before .before .before .before .before .before .before .before .before .before .before .before .before .before .before .before .before .before .before))
 
 pub step-spec : {M : Type 1} → statement M
 step-spec =
@@ -144,7 +144,7 @@ step-spec =
     returns
     needs-requires
     sharers-requires
-    apply-requires
+    apply-linked-requires
     same-length-8
     same-length-9
     same-length-10

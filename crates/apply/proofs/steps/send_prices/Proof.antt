@@ -11,13 +11,13 @@ use Rattle.apply.proofs.steps.send_prices.Statement.{statement}
 use Rattle.apply.proofs.steps.send_prices.Tie as tie
 
 send-prices-requires : tie.Need-send-prices-requires
-send-prices-requires c κs = c .before .before .before .before .before .pre .0
+send-prices-requires c κs = let p = c .before .before .before .before .before .pre in (p .0, p .1 .0)
 
 raise-requires : tie.Need-raise-requires
 raise-requires c κs =
     let call = c .before .before .before .send-prices in
     let s = c .before .before .before .before .before .before .before .before .before in
-    (s .pre .1, omega (arith, call .ensures .1, count-le (s .args .n) (wordIn (now (s .args .owner)) (now (s .args .needs)) (s .args .a) (s .args .b)), s .pre .0 .offers-in))
+    (s .pre .1 .1, omega (arith, call .ensures .1, count-le (s .args .n) (wordIn (now (s .args .owner)) (now (s .args .needs)) (s .args .a) (s .args .b)), s .pre .0 .offers-in))
 
 same-length : tie.Need-same-length
 same-length c = search needs

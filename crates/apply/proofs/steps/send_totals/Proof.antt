@@ -11,13 +11,13 @@ use Rattle.apply.proofs.steps.send_totals.Statement.{statement}
 use Rattle.apply.proofs.steps.send_totals.Tie as tie
 
 send-totals-requires : tie.Need-send-totals-requires
-send-totals-requires c κs = c .before .before .before .before .pre .0
+send-totals-requires c κs = let p = c .before .before .before .before .pre in (p .0, p .1 .0)
 
 raise-requires : tie.Need-raise-requires
 raise-requires c κs =
     let call = c .before .before .before .send-totals in
     let s = c .before .before .before .before .before .before .before .before in
-    (s .pre .1, omega (arith, call .ensures .0, count-le (s .args .m) (wordIn (now (s .args .owner)) (now (s .args .sharers)) (s .args .b) (s .args .a)), s .pre .0 .1))
+    (s .pre .1 .1, omega (arith, call .ensures .0, count-le (s .args .m) (wordIn (now (s .args .owner)) (now (s .args .sharers)) (s .args .b) (s .args .a)), s .pre .0 .1))
 
 same-length : tie.Need-same-length
 same-length c = search needs

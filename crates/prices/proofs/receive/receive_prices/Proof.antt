@@ -1,6 +1,6 @@
--- `prices::receive::receive_prices` meets its contract. The invariant: of the offers passed, the prices that are due are known, and no longer in transit. Assumes nothing.
+-- `prices::receive::receive_prices` meets its contract. The invariant: of the offers below the one walked to, the prices that are due are known, and no longer in transit. Assumes nothing.
 use mathlib.Core.Path.{_≡_, refl, sym, ap, _∙_}
-use mathlib.Core.Bool.{Bool, cond}
+use mathlib.Core.Bool.{Bool, true, false, cond}
 use mathlib.Core.List.{List}
 use Prim.Native.Nat.{ℕ, _<_, _≤_, _+_, _-_, _*_}
 use native.Mathlib.Omega.{arith}
@@ -11,22 +11,26 @@ use denote.Ref.{now}
 use Rattle.laws.specs.Tables.{cell}
 use Rattle.laws.proofs.Tables.{cell-in}
 use Rattle.laws.proofs.Loops.{guarded, guarded-more, guarded-next, guarded-none}
+use Rattle.links.specs.Links.{Skips}
+use Rattle.links.proofs.Walks.{goes-on, guarded-passed}
 use Rattle.words.specs.Message.{wordIn}
+use Rattle.words.proofs.Message.{word-owner}
 use Rattle.prices.specs.Prices.{receivedKnown, receivedTransit}
 use Rattle.prices.proofs.Extra.{cond-no, cell-at, row-recell}
 use Rattle.prices.proofs.receive.receive_prices.Statement.{statement}
 use Rattle.prices.proofs.receive.receive_prices.Tie as tie
 
 abbrev Inv-loop : tie.InvT-loop
-Inv-loop k n a b owner needs known₀ transit₀ row o₀ known transit o =
+Inv-loop k n a b owner needs first next known₀ transit₀ row o₀ known transit o =
     (o ≤ n)
     × (length known ≡ length known₀)
     × (length transit ≡ length transit₀)
     × ((i : ℕ) → getD known i 0 ≡ cond (guarded row o (wordIn owner needs b a) i) (getD transit₀ i 0) (getD known₀ i 0))
     × ((i : ℕ) → getD transit i 0 ≡ cond (guarded row o (wordIn owner needs b a) i) 0 (getD transit₀ i 0))
+    × (o < n → getD owner o 0 ≡ b)
 
 abbrev μ-loop : tie.MeasureT-loop
-μ-loop k n a b owner needs known₀ transit₀ row o₀ known transit o = n - o
+μ-loop k n a b owner needs first next known₀ transit₀ row o₀ known transit o = n - o
 
 abbrev Start : Type 0
 Start = tie.Start Inv-loop μ-loop
@@ -46,27 +50,55 @@ knew s i = getD (now (s .args .known)) i 0
 abbrev came : Start → ℕ → ℕ
 came s i = getD (now (s .args .transit)) i 0
 
+-- The entry of the call, from a turn of the loop.
 abbrev entry : tie.In-loop Inv-loop μ-loop → Start
-entry c = c .before .before .before .before .before
+entry e = e .before .before .before .before .before .before
+
+-- Offers in the message are of box b.
+due-theirs : (s : Start) (x : ℕ) → due s x ≡ true → getD (now (s .args .owner)) x 0 ≡ s .args .b
+due-theirs s x = word-owner (now (s .args .owner)) (now (s .args .needs)) (s .args .b) (s .args .a) x
+
+-- The first offer of box b, and the next after one of them.
+starts : (s : Start) → Skips (s .args .n) (now (s .args .owner)) (s .args .b) 0 (getD (now (s .args .first)) (s .args .b) 0)
+starts s = s .pre .1 .begins (s .args .b) (omega (arith, s .pre .0 .b-in, s .pre .0 .boxes-in))
+
+walks : (e : tie.In-loop Inv-loop μ-loop) → Skips (entry e .args .n) (now (entry e .args .owner)) (entry e .args .b) (e .before .loop .o + 1) (getD (now (entry e .args .next)) (e .before .loop .o) 0)
+walks e =
+    let s = entry e in
+    let l = e .loop-test .taken in
+    goes-on (s .args .n) (now (s .args .owner)) (now (s .args .first)) (now (s .args .next)) (s .args .b) (e .before .loop .o) (s .pre .1) l (e .before .loop .inv .5 l)
 
 -- The tables are small, and the row is inside them.
 cells : (s : Start) → s .args .k * s .args .n ≤ 8000
-cells s = mul-le-mul (s .pre .boxes-in) (s .pre .offers-in)
+cells s = mul-le-mul (s .pre .0 .boxes-in) (s .pre .0 .offers-in)
 
 row-in : (s : Start) (o : ℕ) → o < s .args .n → row s + o < s .args .k * s .args .n
-row-in s o l = cell-in (s .args .a) (s .args .k) (s .args .n) o (s .pre .a-in) l
+row-in s o l = cell-in (s .args .a) (s .args .k) (s .args .n) o (s .pre .0 .a-in) l
 
 mul-row : tie.Need-mul-row Inv-loop μ-loop
-mul-row c = let s = c .before .before .before in omega (arith, mul-le-mul-right (s .args .n) (s .pre .a-in), cells s)
+mul-row c = let s = c .before .before .before in omega (arith, mul-le-mul-right (s .args .n) (s .pre .0 .a-in), cells s)
+
+mul-o : tie.Need-mul-o Inv-loop μ-loop
+mul-o c = let s = c .before .before .before in omega (arith, s .pre .0 .b-in, s .pre .0 .boxes-in)
+
+element-copy-out-o : tie.Need-element-copy-out-o Inv-loop μ-loop
+element-copy-out-o c = let s = c .before .before .before in omega (arith, s .pre .0 .b-in, s .pre .0 .boxes-in)
+
+cast-o : tie.Need-cast-o Inv-loop μ-loop
+cast-o c = let s = c .before .before .before .before in omega (arith, starts s .to, s .pre .0 .offers-in)
 
 loop-holds : tie.Need-loop-holds Inv-loop μ-loop
 loop-holds c =
-    let s = c .before .before .before in (
-      search needs,
+    let s = c .before .before .before .before in
+    let j = getD (now (s .args .first)) (s .args .b) 0 in
+    let none : (i : ℕ) → guarded (row s) j (due s) i ≡ false =
+    λ i. guarded-passed (s .args .n) (now (s .args .owner)) (s .args .b) 0 j (starts s) (due s) (due-theirs s) (row s) i ∙ guarded-none (row s) (due s) i in (
+      starts s .to,
       refl,
       refl,
-      λ i. sym (cond-no _ (came s i) (knew s i) (guarded-none (row s) (due s) i)),
-      λ i. sym (cond-no _ 0 (came s i) (guarded-none (row s) (due s) i)),
+      λ i. sym (cond-no _ (came s i) (knew s i) (none i)),
+      λ i. sym (cond-no _ 0 (came s i) (none i)),
+      starts s .hits,
     )
 
 receive-one-requires : tie.Need-receive-one-requires Inv-loop μ-loop
@@ -75,38 +107,50 @@ receive-one-requires c κs =
     let s = entry e in
     let o = e .before .loop .o in
     let l = e .loop-test .taken in (
-      omega (arith, s .pre .a-in, s .pre .boxes-in),
+      omega (arith, s .pre .0 .a-in, s .pre .0 .boxes-in),
       (
-        omega (arith, l, s .pre .offers-in),
+        omega (arith, l, s .pre .0 .offers-in),
         (
-          omega (arith, l, s .pre .owner-long),
-          (omega (arith, row-in s o l, s .pre .known-long, e .before .loop .inv .1), omega (arith, row-in s o l, s .pre .transit-long, e .before .loop .inv .2)),
+          omega (arith, l, s .pre .0 .owner-long),
+          (omega (arith, row-in s o l, s .pre .0 .known-long, e .before .loop .inv .1), omega (arith, row-in s o l, s .pre .0 .transit-long, e .before .loop .inv .2)),
         ),
       ),
     )
 
-add-o : tie.Need-add-o Inv-loop μ-loop
-add-o c = search needs
+mul-o-2 : tie.Need-mul-o-2 Inv-loop μ-loop
+mul-o-2 c = let e = c .before .before .before .before .before .before .before in omega (arith, e .loop-test .taken, entry e .pre .0 .offers-in)
+
+element-copy-out-o-2 : tie.Need-element-copy-out-o-2 Inv-loop μ-loop
+element-copy-out-o-2 c = let e = c .before .before .before .before .before .before .before in omega (arith, e .loop-test .taken, entry e .pre .0 .offers-in)
+
+cast-o-2 : tie.Need-cast-o-2 Inv-loop μ-loop
+cast-o-2 c = let e = c .before .before .before .before .before .before .before .before in omega (arith, walks e .to, entry e .pre .0 .offers-in)
 
 loop-less : tie.Need-loop-less Inv-loop μ-loop
-loop-less c = search needs
+loop-less c = let e = c .before .before .before .before .before .before .before .before in omega (arith, walks e .from, e .loop-test .taken)
 
 loop-again : tie.Need-loop-again Inv-loop μ-loop
 loop-again c =
-    let e = c .before .before .before .before .before .before .before in
+    let e = c .before .before .before .before .before .before .before .before in
     let s = entry e in
     let o = e .before .loop .o in
+    let j = getD (now (s .args .next)) o 0 in
     let l = e .loop-test .taken in
     let inv = e .before .loop .inv in
-    let call = c .before .before .before .before .receive-one in (
-      omega (arith, l),
+    let past : (i : ℕ) → guarded (row s) (o + 1) (due s) i ≡ guarded (row s) j (due s) i =
+    λ i. sym (guarded-passed (s .args .n) (now (s .args .owner)) (s .args .b) (o + 1) j (walks e) (due s) (due-theirs s) (row s) i) in
+    let call = c .before .before .before .before .before .receive-one in (
+      walks e .to,
       call .kept .0 ∙ inv .1,
       call .kept .1 .0 ∙ inv .2,
       λ i. ap (λ (t : List ℕ). getD t i 0) (call .ensures .0)
-          ∙ guarded-more (e .before .loop .known) 0 (came s) (knew s) (row s) o (due s) (omega (arith, row-in s o l, s .pre .known-long, inv .1)) (inv .3) _
-          (inv .4 (row s + o) ∙ cond-no _ 0 (came s (row s + o)) (guarded-next (row s) o (due s))) i,
+          ∙ guarded-more (e .before .loop .known) 0 (came s) (knew s) (row s) o (due s) (omega (arith, row-in s o l, s .pre .0 .known-long, inv .1)) (inv .3) _
+          (inv .4 (row s + o) ∙ cond-no _ 0 (came s (row s + o)) (guarded-next (row s) o (due s))) i
+          ∙ ap (λ (t : Bool). cond t (came s i) (knew s i)) (past i),
       λ i. ap (λ (t : List ℕ). getD t i 0) (call .ensures .1)
-          ∙ guarded-more (e .before .loop .transit) 0 (λ x. 0) (came s) (row s) o (due s) (omega (arith, row-in s o l, s .pre .transit-long, inv .2)) (inv .4) 0 refl i,
+          ∙ guarded-more (e .before .loop .transit) 0 (λ x. 0) (came s) (row s) o (due s) (omega (arith, row-in s o l, s .pre .0 .transit-long, inv .2)) (inv .4) 0 refl i
+          ∙ ap (λ (t : Bool). cond t 0 (came s i)) (past i),
+      walks e .hits,
     )
 
 same-length : tie.Need-same-length Inv-loop μ-loop
@@ -118,15 +162,15 @@ same-length-2 c = c .before .loop .inv .2
 returns : tie.Need-returns Inv-loop μ-loop
 unfolding receivedKnown receivedTransit
 returns c =
-    let s = c .before .before .before .before .before in
+    let s = c .before .before .before .before .before .before in
     let inv = c .before .loop .inv in
     let end : c .before .loop .o ≡ s .args .n = le-antisymm (inv .0) (c .loop-test .left) in (
       row-recell (s .args .k) (s .args .n) (s .args .a) (due s) (cell (s .args .k) (s .args .n) (now (s .args .transit)) 0 (s .args .a)) (came s)
-          (now (s .args .known)) (c .before .loop .known) 0 (s .pre .a-in) (s .pre .known-long) (inv .1)
-          (λ o l. sym (cell-at (s .args .k) (s .args .n) (now (s .args .transit)) 0 (s .args .a) o (s .pre .a-in) l))
+          (now (s .args .known)) (c .before .loop .known) 0 (s .pre .0 .a-in) (s .pre .0 .known-long) (inv .1)
+          (λ o l. sym (cell-at (s .args .k) (s .args .n) (now (s .args .transit)) 0 (s .args .a) o (s .pre .0 .a-in) l))
           (λ i. inv .3 i ∙ ap (λ (m : ℕ). cond (guarded (row s) m (due s) i) (came s i) (knew s i)) end),
       row-recell (s .args .k) (s .args .n) (s .args .a) (due s) (λ o. 0) (λ i. 0)
-          (now (s .args .transit)) (c .before .loop .transit) 0 (s .pre .a-in) (s .pre .transit-long) (inv .2)
+          (now (s .args .transit)) (c .before .loop .transit) 0 (s .pre .0 .a-in) (s .pre .0 .transit-long) (inv .2)
           (λ o l. refl)
           (λ i. inv .4 i ∙ ap (λ (m : ℕ). cond (guarded (row s) m (due s) i) 0 (came s i)) end),
     )
@@ -138,9 +182,14 @@ receive-prices-spec =
     Inv-loop
     μ-loop
     mul-row
+    mul-o
+    element-copy-out-o
+    cast-o
     loop-holds
     receive-one-requires
-    add-o
+    mul-o-2
+    element-copy-out-o-2
+    cast-o-2
     loop-less
     loop-again
     same-length

@@ -1,6 +1,6 @@
--- `prices::send::send_prices` meets its contract. The invariant: of the offers passed, the prices that are due are in transit, and counted. Assumes nothing.
+-- `prices::send::send_prices` meets its contract. The invariant: of the offers below the one walked to, the prices that are due are in transit, and counted. Assumes nothing.
 use mathlib.Core.Path.{_≡_, refl, sym, ap, ap₂, _∙_}
-use mathlib.Core.Bool.{Bool, cond}
+use mathlib.Core.Bool.{Bool, true, cond}
 use mathlib.Core.List.{List}
 use Prim.Native.Nat.{ℕ, _<_, _≤_, _+_, _-_, _*_}
 use native.Mathlib.Omega.{arith}
@@ -13,21 +13,25 @@ use Rattle.laws.specs.Tables.{cell}
 use Rattle.laws.proofs.Below.{count-next, count-le, only-le}
 use Rattle.laws.proofs.Tables.{cell-in}
 use Rattle.laws.proofs.Loops.{guarded, guarded-more, guarded-none}
+use Rattle.links.specs.Links.{Skips}
+use Rattle.links.proofs.Walks.{goes-on, count-passed, guarded-passed}
 use Rattle.words.specs.Message.{wordIn}
+use Rattle.words.proofs.Message.{word-owner}
 use Rattle.prices.specs.Prices.{sentTransit}
 use Rattle.prices.proofs.Extra.{cond-no, count-start, cell-at, row-recell}
 use Rattle.prices.proofs.send.send_prices.Statement.{statement}
 use Rattle.prices.proofs.send.send_prices.Tie as tie
 
 abbrev Inv-loop : tie.InvT-loop
-Inv-loop k n a b owner needs known transit₀ from to sent₀ o₀ transit sent o =
+Inv-loop k n a b owner needs first next known transit₀ from to sent₀ o₀ transit sent o =
     (o ≤ n)
     × (sent ≡ count o (wordIn owner needs a b))
     × (length transit ≡ length transit₀)
     × ((i : ℕ) → getD transit i 0 ≡ cond (guarded to o (wordIn owner needs a b) i) (getD known (from + (i - to)) 0) (getD transit₀ i 0))
+    × (o < n → getD owner o 0 ≡ a)
 
 abbrev μ-loop : tie.MeasureT-loop
-μ-loop k n a b owner needs known transit₀ from to sent₀ o₀ transit sent o = n - o
+μ-loop k n a b owner needs first next known transit₀ from to sent₀ o₀ transit sent o = n - o
 
 abbrev Start : Type 0
 Start = tie.Start Inv-loop μ-loop
@@ -50,29 +54,60 @@ new s i = getD (now (s .args .known)) (from s + (i - to s)) 0
 abbrev old : Start → ℕ → ℕ
 old s i = getD (now (s .args .transit)) i 0
 
-abbrev entry : tie.In-loop Inv-loop μ-loop → Start
-entry c = c .before .before .before .before .before
-
 -- The tables are small, and both rows are inside them.
 cells : (s : Start) → s .args .k * s .args .n ≤ 8000
-cells s = mul-le-mul (s .pre .boxes-in) (s .pre .offers-in)
+cells s = mul-le-mul (s .pre .0 .boxes-in) (s .pre .0 .offers-in)
 
 from-in : (s : Start) (o : ℕ) → o < s .args .n → from s + o < s .args .k * s .args .n
-from-in s o l = cell-in (s .args .a) (s .args .k) (s .args .n) o (s .pre .a-in) l
+from-in s o l = cell-in (s .args .a) (s .args .k) (s .args .n) o (s .pre .0 .a-in) l
 
 to-in : (s : Start) (o : ℕ) → o < s .args .n → to s + o < s .args .k * s .args .n
-to-in s o l = cell-in (s .args .b) (s .args .k) (s .args .n) o (s .pre .b-in) l
+to-in s o l = cell-in (s .args .b) (s .args .k) (s .args .n) o (s .pre .0 .b-in) l
+
+-- The entry of the call, from a turn of the loop.
+abbrev entry : tie.In-loop Inv-loop μ-loop → Start
+entry e = e .before .before .before .before .before .before
+
+-- Offers in the message are of box a.
+due-own : (s : Start) (x : ℕ) → due s x ≡ true → getD (now (s .args .owner)) x 0 ≡ s .args .a
+due-own s x = word-owner (now (s .args .owner)) (now (s .args .needs)) (s .args .a) (s .args .b) x
+
+-- The first offer of box a, and the next after one of them.
+starts : (s : Start) → Skips (s .args .n) (now (s .args .owner)) (s .args .a) 0 (getD (now (s .args .first)) (s .args .a) 0)
+starts s = s .pre .1 .begins (s .args .a) (omega (arith, s .pre .0 .a-in, s .pre .0 .boxes-in))
+
+walks : (e : tie.In-loop Inv-loop μ-loop) → Skips (entry e .args .n) (now (entry e .args .owner)) (entry e .args .a) (e .before .loop .o + 1) (getD (now (entry e .args .next)) (e .before .loop .o) 0)
+walks e =
+    let s = entry e in
+    let l = e .loop-test .taken in
+    goes-on (s .args .n) (now (s .args .owner)) (now (s .args .first)) (now (s .args .next)) (s .args .a) (e .before .loop .o) (s .pre .1) l (e .before .loop .inv .4 l)
 
 mul-from : tie.Need-mul-from Inv-loop μ-loop
-mul-from c = let s = c .before .before .before in omega (arith, mul-le-mul-right (s .args .n) (s .pre .a-in), cells s)
+mul-from c = let s = c .before .before .before in omega (arith, mul-le-mul-right (s .args .n) (s .pre .0 .a-in), cells s)
 
 mul-to : tie.Need-mul-to Inv-loop μ-loop
-mul-to c = let s = c .before .before .before in omega (arith, mul-le-mul-right (s .args .n) (s .pre .b-in), cells s)
+mul-to c = let s = c .before .before .before in omega (arith, mul-le-mul-right (s .args .n) (s .pre .0 .b-in), cells s)
+
+mul-o : tie.Need-mul-o Inv-loop μ-loop
+mul-o c = let s = c .before .before .before in omega (arith, s .pre .0 .a-in, s .pre .0 .boxes-in)
+
+element-copy-out-o : tie.Need-element-copy-out-o Inv-loop μ-loop
+element-copy-out-o c = let s = c .before .before .before in omega (arith, s .pre .0 .a-in, s .pre .0 .boxes-in)
+
+cast-o : tie.Need-cast-o Inv-loop μ-loop
+cast-o c = let s = c .before .before .before .before in omega (arith, starts s .to, s .pre .0 .offers-in)
 
 loop-holds : tie.Need-loop-holds Inv-loop μ-loop
 loop-holds c =
-    let s = c .before .before .before in
-    (search needs, sym (count-start (due s)), refl, λ i. sym (cond-no _ (new s i) (old s i) (guarded-none (to s) (due s) i)))
+    let s = c .before .before .before .before in
+    let j = getD (now (s .args .first)) (s .args .a) 0 in
+    let own = now (s .args .owner) in (
+      starts s .to,
+      sym (count-passed (s .args .n) own (s .args .a) 0 j (starts s) (due s) (due-own s) ∙ count-start (due s)),
+      refl,
+      λ i. sym (cond-no _ (new s i) (old s i) (guarded-passed (s .args .n) own (s .args .a) 0 j (starts s) (due s) (due-own s) (to s) i ∙ guarded-none (to s) (due s) i)),
+      starts s .hits,
+    )
 
 send-one-requires : tie.Need-send-one-requires Inv-loop μ-loop
 send-one-requires c κs =
@@ -80,12 +115,12 @@ send-one-requires c κs =
     let s = entry e in
     let o = e .before .loop .o in
     let l = e .loop-test .taken in (
-      omega (arith, s .pre .b-in, s .pre .boxes-in),
+      omega (arith, s .pre .0 .b-in, s .pre .0 .boxes-in),
       (
-        omega (arith, l, s .pre .offers-in),
+        omega (arith, l, s .pre .0 .offers-in),
         (
-          omega (arith, l, s .pre .owner-long),
-          (omega (arith, from-in s o l, to-in s o l, s .pre .known-long), omega (arith, to-in s o l, s .pre .transit-long, e .before .loop .inv .2)),
+          omega (arith, l, s .pre .0 .owner-long),
+          (omega (arith, from-in s o l, to-in s o l, s .pre .0 .known-long), omega (arith, to-in s o l, s .pre .0 .transit-long, e .before .loop .inv .2)),
         ),
       ),
     )
@@ -95,28 +130,38 @@ add-sent c =
     let e = c .before .before .before .before in
     let s = entry e in
     let o = e .before .loop .o in
-    omega (arith, count-le o (due s), e .before .loop .inv .1, only-le (due s o) 1, c .before .before .send-one .ensures .0, s .pre .offers-in, e .loop-test .taken)
+    omega (arith, count-le o (due s), e .before .loop .inv .1, only-le (due s o) 1, c .before .before .send-one .ensures .0, s .pre .0 .offers-in, e .loop-test .taken)
 
-add-o : tie.Need-add-o Inv-loop μ-loop
-add-o c = search needs
+mul-o-2 : tie.Need-mul-o-2 Inv-loop μ-loop
+mul-o-2 c = let e = c .before .before .before .before in omega (arith, e .loop-test .taken, entry e .pre .0 .offers-in)
+
+element-copy-out-o-2 : tie.Need-element-copy-out-o-2 Inv-loop μ-loop
+element-copy-out-o-2 c = let e = c .before .before .before .before in omega (arith, e .loop-test .taken, entry e .pre .0 .offers-in)
+
+cast-o-2 : tie.Need-cast-o-2 Inv-loop μ-loop
+cast-o-2 c = let e = c .before .before .before .before .before in omega (arith, walks e .to, entry e .pre .0 .offers-in)
 
 loop-less : tie.Need-loop-less Inv-loop μ-loop
-loop-less c = search needs
+loop-less c = let e = c .before .before .before .before .before in omega (arith, walks e .from, e .loop-test .taken)
 
 loop-again : tie.Need-loop-again Inv-loop μ-loop
 loop-again c =
-    let e = c .before .before .before .before in
+    let e = c .before .before .before .before .before in
     let s = entry e in
     let o = e .before .loop .o in
+    let j = getD (now (s .args .next)) o 0 in
+    let own = now (s .args .owner) in
     let l = e .loop-test .taken in
     let inv = e .before .loop .inv in
-    let call = c .before .before .send-one in (
-      omega (arith, l),
-      ap₂ _+_ (inv .1) (call .ensures .0) ∙ sym (count-next o (due s)),
+    let call = c .before .before .before .send-one in (
+      walks e .to,
+      ap₂ _+_ (inv .1) (call .ensures .0) ∙ sym (count-next o (due s)) ∙ sym (count-passed (s .args .n) own (s .args .a) (o + 1) j (walks e) (due s) (due-own s)),
       call .kept .0 ∙ inv .2,
       λ i. ap (λ (t : List ℕ). getD t i 0) (call .ensures .1)
-          ∙ guarded-more (e .before .loop .transit) 0 (new s) (old s) (to s) o (due s) (omega (arith, to-in s o l, s .pre .transit-long, inv .2)) (inv .3) _
-          (ap (λ (x : ℕ). getD (now (s .args .known)) (from s + x) 0) (omega arith)) i,
+          ∙ guarded-more (e .before .loop .transit) 0 (new s) (old s) (to s) o (due s) (omega (arith, to-in s o l, s .pre .0 .transit-long, inv .2)) (inv .3) _
+          (ap (λ (x : ℕ). getD (now (s .args .known)) (from s + x) 0) (omega arith)) i
+          ∙ ap (λ (t : Bool). cond t (new s i) (old s i)) (sym (guarded-passed (s .args .n) own (s .args .a) (o + 1) j (walks e) (due s) (due-own s) (to s) i)),
+      walks e .hits,
     )
 
 same-length : tie.Need-same-length Inv-loop μ-loop
@@ -126,16 +171,16 @@ same-length c = c .before .loop .inv .2
 row-word : (s : Start) (o : ℕ) → o < s .args .n → new s (to s + o) ≡ cell (s .args .k) (s .args .n) (now (s .args .known)) 0 (s .args .a) o
 row-word s o l =
     ap (λ (x : ℕ). getD (now (s .args .known)) (from s + x) 0) (omega arith)
-    ∙ sym (cell-at (s .args .k) (s .args .n) (now (s .args .known)) 0 (s .args .a) o (s .pre .a-in) l)
+    ∙ sym (cell-at (s .args .k) (s .args .n) (now (s .args .known)) 0 (s .args .a) o (s .pre .0 .a-in) l)
 
 returns : tie.Need-returns Inv-loop μ-loop
 unfolding sentTransit
 returns c =
-    let s = c .before .before .before .before .before in
+    let s = c .before .before .before .before .before .before in
     let inv = c .before .loop .inv in
     let end : c .before .loop .o ≡ s .args .n = le-antisymm (inv .0) (c .loop-test .left) in (
       row-recell (s .args .k) (s .args .n) (s .args .b) (due s) (cell (s .args .k) (s .args .n) (now (s .args .known)) 0 (s .args .a)) (new s)
-          (now (s .args .transit)) (c .before .loop .transit) 0 (s .pre .b-in) (s .pre .transit-long) (inv .2) (row-word s)
+          (now (s .args .transit)) (c .before .loop .transit) 0 (s .pre .0 .b-in) (s .pre .0 .transit-long) (inv .2) (row-word s)
           (λ i. inv .3 i ∙ ap (λ (m : ℕ). cond (guarded (to s) m (due s) i) (new s i) (old s i)) end),
       inv .1 ∙ ap (λ (m : ℕ). count m (due s)) end,
     )
@@ -148,10 +193,15 @@ send-prices-spec =
     μ-loop
     mul-from
     mul-to
+    mul-o
+    element-copy-out-o
+    cast-o
     loop-holds
     send-one-requires
     add-sent
-    add-o
+    mul-o-2
+    element-copy-out-o-2
+    cast-o-2
     loop-less
     loop-again
     same-length

@@ -13,11 +13,11 @@ use Rattle.run.proofs.steps.rest.Statement.{statement}
 use Rattle.run.proofs.steps.rest.Tie as tie
 
 abbrev Inv-loop : tie.InvT-loop
-Inv-loop boxes grocers offers tallies price owner gowner tgrocer tbox toffer tcount needs sharers prices totals known₀ ptransit₀ working₀ ttransit₀ statement₀ done₀ sent₀ n counts₀ p₀ i₀ known ptransit working ttransit statement done sent counts p i =
+Inv-loop boxes grocers offers tallies price owner gowner tgrocer tbox toffer tcount needs sharers prices totals ofirst onext gfirst gnext tfirst tnext known₀ ptransit₀ working₀ ttransit₀ statement₀ done₀ sent₀ n counts₀ p₀ i₀ known ptransit working ttransit statement done sent counts p i =
     (i ≤ n) × ((At boxes i (p .kind) (p .first) (p .second)) × ((Kept (jobTables boxes grocers offers tallies price owner gowner tgrocer tbox toffer tcount) (stateTables known₀ ptransit₀ working₀ ttransit₀ statement₀ done₀ sent₀) [] (counts₀ .messages) (counts₀ .steps) (stateTables known ptransit working ttransit statement done sent) [] (counts .messages) (counts .steps)) × (NoneBefore (jobOf (jobTables boxes grocers offers tallies price owner gowner tgrocer tbox toffer tcount)) (view (jobOf (jobTables boxes grocers offers tallies price owner gowner tgrocer tbox toffer tcount)) (stateTables known ptransit working ttransit statement done sent) .done) i)))
 
 abbrev μ-loop : tie.MeasureT-loop
-μ-loop boxes grocers offers tallies price owner gowner tgrocer tbox toffer tcount needs sharers prices totals known₀ ptransit₀ working₀ ttransit₀ statement₀ done₀ sent₀ n counts₀ p₀ i₀ known ptransit working ttransit statement done sent counts p i = n - i
+μ-loop boxes grocers offers tallies price owner gowner tgrocer tbox toffer tcount needs sharers prices totals ofirst onext gfirst gnext tfirst tnext known₀ ptransit₀ working₀ ttransit₀ statement₀ done₀ sent₀ n counts₀ p₀ i₀ known ptransit working ttransit statement done sent counts p i = n - i
 
 abbrev job : tie.Start Inv-loop μ-loop → JobTables
 job s = jobTables (s .args .boxes) (s .args .grocers) (s .args .offers) (s .args .tallies) (now (s .args .price)) (now (s .args .owner)) (now (s .args .gowner)) (now (s .args .tgrocer)) (now (s .args .tbox)) (now (s .args .toffer)) (now (s .args .tcount))
@@ -29,20 +29,20 @@ marks-requires : tie.Need-marks-requires Inv-loop μ-loop
 marks-requires c κs = search needs
 
 loop-holds : tie.Need-loop-holds Inv-loop μ-loop
-loop-holds c = let s = c .before .before .before .before .before .before .before .before .before .before .before in (search needs, (at-first _ (goes-walk (job s) (entry s) (now (s .args .needs)) (now (s .args .sharers)) (now (s .args .prices)) (now (s .args .totals)) [] (s .args .before .messages) (s .args .before .steps) (s .pre) _ _ _ _ (goes-first (job s) (entry s) (now (s .args .needs)) (now (s .args .sharers)) (now (s .args .prices)) (now (s .args .totals)) [] (s .args .before .messages) (s .args .before .steps) (s .pre)) .some), (goes-first (job s) (entry s) (now (s .args .needs)) (now (s .args .sharers)) (now (s .args .prices)) (now (s .args .totals)) [] (s .args .before .messages) (s .args .before .steps) (s .pre), none-first (job s) (entry s))))
+loop-holds c = let s = c .before .before .before .before .before .before .before .before .before .before .before in (search needs, (at-first _ (goes-walk (job s) (entry s) (now (s .args .needs)) (now (s .args .sharers)) (now (s .args .prices)) (now (s .args .totals)) [] (s .args .before .messages) (s .args .before .steps) (s .pre .0) _ _ _ _ (goes-first (job s) (entry s) (now (s .args .needs)) (now (s .args .sharers)) (now (s .args .prices)) (now (s .args .totals)) [] (s .args .before .messages) (s .args .before .steps) (s .pre .0)) .some), (goes-first (job s) (entry s) (now (s .args .needs)) (now (s .args .sharers)) (now (s .args .prices)) (now (s .args .totals)) [] (s .args .before .messages) (s .args .before .steps) (s .pre .0), none-first (job s) (entry s))))
 
 turn-requires : tie.Need-turn-requires Inv-loop μ-loop
 turn-requires c κs =
     let s = c .before .before .before .before .before .before .before .before .before .before .before .before .before .before .before .before .before .before .before .before in
     let l = c .before .before .before .before .before .before .before .before .loop in
-    let w = goes-walk (job s) (entry s) (now (s .args .needs)) (now (s .args .sharers)) (now (s .args .prices)) (now (s .args .totals)) [] (s .args .before .messages) (s .args .before .steps) (s .pre) _ _ _ _ (l .inv .1 .1 .0) in
-    (goes-on (job s) (entry s) (now (s .args .needs)) (now (s .args .sharers)) (now (s .args .prices)) (now (s .args .totals)) [] (s .args .before .messages) (s .args .before .steps) (s .pre) _ _ _ _ (l .inv .1 .1 .0), (at-in _ (l .i) _ _ _ (w .boxes-in) (l .inv .1 .0) (omega (arith, c .before .before .before .before .before .before .before .loop-test .taken, c .before .before .before .before .before .before .before .before .before .marks .ensures)), rw (l .inv .1 .0 .place-is) (l .inv .1 .1 .1)))
+    let w = goes-walk (job s) (entry s) (now (s .args .needs)) (now (s .args .sharers)) (now (s .args .prices)) (now (s .args .totals)) [] (s .args .before .messages) (s .args .before .steps) (s .pre .0) _ _ _ _ (l .inv .1 .1 .0) in
+    (goes-on (job s) (entry s) (now (s .args .needs)) (now (s .args .sharers)) (now (s .args .prices)) (now (s .args .totals)) [] (s .args .before .messages) (s .args .before .steps) (s .pre .0) _ _ _ _ (l .inv .1 .1 .0), (at-in _ (l .i) _ _ _ (w .boxes-in) (l .inv .1 .0) (omega (arith, c .before .before .before .before .before .before .before .loop-test .taken, c .before .before .before .before .before .before .before .before .before .marks .ensures)), (rw (l .inv .1 .0 .place-is) (l .inv .1 .1 .1), s .pre .1)))
 
 next-requires : tie.Need-next-requires Inv-loop μ-loop
 next-requires c κs =
     let s = c .before .before .before .before .before .before .before .before .before .before .before .before .before .before .before .before .before .before .before .before .before .before .before .before .before .before .before .before .before .before .before .before in
     let l = c .before .before .before .before .before .before .before .before .before .before .before .before .before .before .before .before .before .before .before .before .loop in
-    let w = goes-walk (job s) (entry s) (now (s .args .needs)) (now (s .args .sharers)) (now (s .args .prices)) (now (s .args .totals)) [] (s .args .before .messages) (s .args .before .steps) (s .pre) _ _ _ _ (l .inv .1 .1 .0) in
+    let w = goes-walk (job s) (entry s) (now (s .args .needs)) (now (s .args .sharers)) (now (s .args .prices)) (now (s .args .totals)) [] (s .args .before .messages) (s .args .before .steps) (s .pre .0) _ _ _ _ (l .inv .1 .1 .0) in
     at-in _ (l .i) _ _ _ (w .boxes-in) (l .inv .1 .0) (omega (arith, c .before .before .before .before .before .before .before .before .before .before .before .before .before .before .before .before .before .before .before .loop-test .taken, c .before .before .before .before .before .before .before .before .before .before .before .before .before .before .before .before .before .before .before .before .before .marks .ensures))
 
 add-i : tie.Need-add-i Inv-loop μ-loop
@@ -63,28 +63,28 @@ loop-again c =
     )
 
 same-length : tie.Need-same-length Inv-loop μ-loop
-same-length c = let s = c .before .before .before .before .before .before .before .before .before .before .before .before .before in goes-lengths (job s) (entry s) (now (s .args .needs)) (now (s .args .sharers)) (now (s .args .prices)) (now (s .args .totals)) [] (s .args .before .messages) (s .args .before .steps) (s .pre) _ _ _ _ (c .before .loop .inv .1 .1 .0) .known
+same-length c = let s = c .before .before .before .before .before .before .before .before .before .before .before .before .before in goes-lengths (job s) (entry s) (now (s .args .needs)) (now (s .args .sharers)) (now (s .args .prices)) (now (s .args .totals)) [] (s .args .before .messages) (s .args .before .steps) (s .pre .0) _ _ _ _ (c .before .loop .inv .1 .1 .0) .known
 
 same-length-2 : tie.Need-same-length-2 Inv-loop μ-loop
-same-length-2 c = let s = c .before .before .before .before .before .before .before .before .before .before .before .before .before in goes-lengths (job s) (entry s) (now (s .args .needs)) (now (s .args .sharers)) (now (s .args .prices)) (now (s .args .totals)) [] (s .args .before .messages) (s .args .before .steps) (s .pre) _ _ _ _ (c .before .loop .inv .1 .1 .0) .priceTransit
+same-length-2 c = let s = c .before .before .before .before .before .before .before .before .before .before .before .before .before in goes-lengths (job s) (entry s) (now (s .args .needs)) (now (s .args .sharers)) (now (s .args .prices)) (now (s .args .totals)) [] (s .args .before .messages) (s .args .before .steps) (s .pre .0) _ _ _ _ (c .before .loop .inv .1 .1 .0) .priceTransit
 
 same-length-3 : tie.Need-same-length-3 Inv-loop μ-loop
-same-length-3 c = let s = c .before .before .before .before .before .before .before .before .before .before .before .before .before in goes-lengths (job s) (entry s) (now (s .args .needs)) (now (s .args .sharers)) (now (s .args .prices)) (now (s .args .totals)) [] (s .args .before .messages) (s .args .before .steps) (s .pre) _ _ _ _ (c .before .loop .inv .1 .1 .0) .working
+same-length-3 c = let s = c .before .before .before .before .before .before .before .before .before .before .before .before .before in goes-lengths (job s) (entry s) (now (s .args .needs)) (now (s .args .sharers)) (now (s .args .prices)) (now (s .args .totals)) [] (s .args .before .messages) (s .args .before .steps) (s .pre .0) _ _ _ _ (c .before .loop .inv .1 .1 .0) .working
 
 same-length-4 : tie.Need-same-length-4 Inv-loop μ-loop
-same-length-4 c = let s = c .before .before .before .before .before .before .before .before .before .before .before .before .before in goes-lengths (job s) (entry s) (now (s .args .needs)) (now (s .args .sharers)) (now (s .args .prices)) (now (s .args .totals)) [] (s .args .before .messages) (s .args .before .steps) (s .pre) _ _ _ _ (c .before .loop .inv .1 .1 .0) .totalTransit
+same-length-4 c = let s = c .before .before .before .before .before .before .before .before .before .before .before .before .before in goes-lengths (job s) (entry s) (now (s .args .needs)) (now (s .args .sharers)) (now (s .args .prices)) (now (s .args .totals)) [] (s .args .before .messages) (s .args .before .steps) (s .pre .0) _ _ _ _ (c .before .loop .inv .1 .1 .0) .totalTransit
 
 same-length-5 : tie.Need-same-length-5 Inv-loop μ-loop
-same-length-5 c = let s = c .before .before .before .before .before .before .before .before .before .before .before .before .before in goes-lengths (job s) (entry s) (now (s .args .needs)) (now (s .args .sharers)) (now (s .args .prices)) (now (s .args .totals)) [] (s .args .before .messages) (s .args .before .steps) (s .pre) _ _ _ _ (c .before .loop .inv .1 .1 .0) .statement
+same-length-5 c = let s = c .before .before .before .before .before .before .before .before .before .before .before .before .before in goes-lengths (job s) (entry s) (now (s .args .needs)) (now (s .args .sharers)) (now (s .args .prices)) (now (s .args .totals)) [] (s .args .before .messages) (s .args .before .steps) (s .pre .0) _ _ _ _ (c .before .loop .inv .1 .1 .0) .statement
 
 same-length-6 : tie.Need-same-length-6 Inv-loop μ-loop
-same-length-6 c = let s = c .before .before .before .before .before .before .before .before .before .before .before .before .before in goes-lengths (job s) (entry s) (now (s .args .needs)) (now (s .args .sharers)) (now (s .args .prices)) (now (s .args .totals)) [] (s .args .before .messages) (s .args .before .steps) (s .pre) _ _ _ _ (c .before .loop .inv .1 .1 .0) .done
+same-length-6 c = let s = c .before .before .before .before .before .before .before .before .before .before .before .before .before in goes-lengths (job s) (entry s) (now (s .args .needs)) (now (s .args .sharers)) (now (s .args .prices)) (now (s .args .totals)) [] (s .args .before .messages) (s .args .before .steps) (s .pre .0) _ _ _ _ (c .before .loop .inv .1 .1 .0) .done
 
 same-length-7 : tie.Need-same-length-7 Inv-loop μ-loop
-same-length-7 c = let s = c .before .before .before .before .before .before .before .before .before .before .before .before .before in goes-lengths (job s) (entry s) (now (s .args .needs)) (now (s .args .sharers)) (now (s .args .prices)) (now (s .args .totals)) [] (s .args .before .messages) (s .args .before .steps) (s .pre) _ _ _ _ (c .before .loop .inv .1 .1 .0) .sent
+same-length-7 c = let s = c .before .before .before .before .before .before .before .before .before .before .before .before .before in goes-lengths (job s) (entry s) (now (s .args .needs)) (now (s .args .sharers)) (now (s .args .prices)) (now (s .args .totals)) [] (s .args .before .messages) (s .args .before .steps) (s .pre .0) _ _ _ _ (c .before .loop .inv .1 .1 .0) .sent
 
 returns : tie.Need-returns Inv-loop μ-loop
-returns c = let s = c .before .before .before .before .before .before .before .before .before .before .before .before .before in let l = c .before .loop in goes-ends (job s) (entry s) (now (s .args .needs)) (now (s .args .sharers)) (now (s .args .prices)) (now (s .args .totals)) [] (s .args .before .messages) (s .args .before .steps) (s .pre) _ _ _ _ (l .inv .1 .1 .0) (l .i) (omega (arith, c .loop-test .left, l .inv .0, c .before .before .marks .ensures)) (l .inv .1 .1 .1)
+returns c = let s = c .before .before .before .before .before .before .before .before .before .before .before .before .before in let l = c .before .loop in goes-ends (job s) (entry s) (now (s .args .needs)) (now (s .args .sharers)) (now (s .args .prices)) (now (s .args .totals)) [] (s .args .before .messages) (s .args .before .steps) (s .pre .0) _ _ _ _ (l .inv .1 .1 .0) (l .i) (omega (arith, c .loop-test .left, l .inv .0, c .before .before .marks .ensures)) (l .inv .1 .1 .1)
 
 pub rest-spec : {M : Type 1} → statement M
 rest-spec =

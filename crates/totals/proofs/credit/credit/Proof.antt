@@ -1,6 +1,6 @@
--- `totals::credit::credit` meets its contract. The invariant: of the grocers passed, the totals that are credited are in the statements, and 0 where they were. Assumes nothing.
+-- `totals::credit::credit` meets its contract. The invariant: of the grocers passed, the totals that are credited are in the statements, and 0 where they were; the next one is box a's. A grocer passed over is not box a's. Assumes nothing.
 use mathlib.Core.Path.{_≡_, refl, sym, ap, ap₂, _∙_, subst}
-use mathlib.Core.Bool.{Bool, cond, _&&_}
+use mathlib.Core.Bool.{Bool, true, cond, _&&_}
 use mathlib.Core.List.{List}
 use Prim.Native.Nat.{ℕ, _≤_, _<_, _+_, _*_, _-_}
 use native.Mathlib.Nat.{le-antisymm}
@@ -10,23 +10,27 @@ use lib.ListN.{length, getD}
 use lib.IntN.{ℤ, pos, natAbs, _+ℤ_}
 use Rattle.laws.proofs.Loops.{guarded, guarded-more, guarded-next, guarded-none}
 use borrow.Author.Needs.{needs}
+use Rattle.links.specs.Links.{Skips}
+use Rattle.links.proofs.Walks.{guarded-passed}
 use Rattle.totals.specs.Credit.{credited, cleared}
 use denote.Ref.{now}
 use Rattle.totals.proofs.Extra.{around-at, cond-no, front-more, front-next, front-none, row-in, row-stored}
 use Rattle.totals.proofs.Credits.{credit-stored}
+use Rattle.totals.proofs.Walks.{front-over, goes-to, credit-owner}
 use Rattle.totals.proofs.credit.credit.Statement.{statement}
 use Rattle.totals.proofs.credit.credit.Tie as tie
 
 abbrev Inv-loop : tie.InvT-loop
-Inv-loop k m a from owner sharers source₀ statement₀ at g₀ source statement g =
+Inv-loop k m a from owner sharers first next source₀ statement₀ at g₀ source statement g =
     (g ≤ m)
     × (length source ≡ length source₀)
     × (length statement ≡ length statement₀)
     × ((i : ℕ) → getD source i (pos 0) ≡ cond (guarded at g (credited owner sharers a from) i) (pos 0) (getD source₀ i (pos 0)))
     × ((i : ℕ) → getD statement i (pos 0) ≡ cond (ltb i g && credited owner sharers a from i) (getD statement₀ i (pos 0) +ℤ getD source₀ (at + i) (pos 0)) (getD statement₀ i (pos 0)))
+    × (g < m → getD owner g 0 ≡ a)
 
 abbrev μ-loop : tie.MeasureT-loop
-μ-loop k m a from owner sharers source₀ statement₀ at g₀ source statement g = m - g
+μ-loop k m a from owner sharers first next source₀ statement₀ at g₀ source statement g = m - g
 
 abbrev Start : Type 0
 Start = tie.Start Inv-loop μ-loop
@@ -41,16 +45,16 @@ abbrev old : Start → ℕ → ℤ
 old s i = getD (now (s .args .statement)) i (pos 0)
 
 abbrev entry : tie.In-loop Inv-loop μ-loop → Start
-entry c = c .before .before .before .before
+entry c = c .before .before .before .before .before
 
 abbrev start : tie.In-loop Inv-loop μ-loop → ℕ
-start c = c .before .before .row-start .result
+start c = c .before .before .before .row-start .result
 
 -- A word of the row lies within the table.
 place : (c : tie.In-loop Inv-loop μ-loop) → start c + c .before .loop .g < entry c .args .k * entry c .args .m
 place c =
     let s = entry c in
-    omega (arith, row-in (s .args .from) (s .args .k) (s .args .m) (s .pre .0 .2), c .before .before .row-start .ensures, c .loop-test .taken)
+    omega (arith, row-in (s .args .from) (s .args .k) (s .args .m) (s .pre .0 .2), c .before .before .before .row-start .ensures, c .loop-test .taken)
 
 -- The words that a turn adds are those at the start.
 total-is : (c : tie.In-loop Inv-loop μ-loop) → getD (c .before .loop .source) (start c + c .before .loop .g) (pos 0) ≡ was (entry c) (start c + c .before .loop .g)
@@ -68,18 +72,29 @@ old-is c =
 row-start-requires : tie.Need-row-start-requires Inv-loop μ-loop
 row-start-requires c κs = (omega (arith, c .before .pre .0 .1), omega (arith, c .before .pre .0 .0, c .before .pre .0 .2))
 
+-- The totals that are credited are of box a's grocers.
+keyed : (s : Start) (x : ℕ) → test s x ≡ true → getD (now (s .args .owner)) x 0 ≡ s .args .a
+keyed s = credit-owner (now (s .args .owner)) (now (s .args .sharers)) (s .args .a) (s .args .from)
+
+begin-requires : tie.Need-begin-requires Inv-loop μ-loop
+begin-requires c κs = c .before .before .pre .1 .1
+
 loop-holds : tie.Need-loop-holds Inv-loop μ-loop
 loop-holds c =
-    let s = c .before .before in (
-      search needs,
+    let s = c .before .before .before in
+    let g = c .begin .result in
+    let at = c .before .row-start .result in
+    let k : Skips (s .args .m) (now (s .args .owner)) (s .args .a) 0 g = c .begin .ensures in (
+      k .to,
       refl,
       refl,
-      λ i. sym (cond-no _ (pos 0) (was s i) (guarded-none (c .row-start .result) (test s) i)),
-      λ i. sym (cond-no _ (old s i +ℤ was s (c .row-start .result + i)) (old s i) (front-none i (test s i))),
+      λ i. sym (cond-no _ (pos 0) (was s i) (guarded-passed (s .args .m) (now (s .args .owner)) (s .args .a) 0 g k (test s) (keyed s) at i ∙ guarded-none at (test s) i)),
+      λ i. sym (cond-no _ (old s i +ℤ was s (at + i)) (old s i) (front-over (s .args .m) (now (s .args .owner)) (s .args .a) 0 g k (test s) (keyed s) i ∙ front-none i (test s i))),
+      k .hits,
     )
 
 add-credit-one : tie.Need-add-credit-one Inv-loop μ-loop
-add-credit-one c = omega (arith, place c, entry c .pre .1 .0 .long)
+add-credit-one c = omega (arith, place c, entry c .pre .1 .0 .0 .long)
 
 credit-one-requires : tie.Need-credit-one-requires Inv-loop μ-loop
 credit-one-requires c κs =
@@ -91,33 +106,53 @@ credit-one-requires c κs =
       from-in = omega (arith, s .pre .0 .0, s .pre .0 .2);
       grocer-in = omega (arith, s .pre .0 .1, e .loop-test .taken);
       owner-long = omega (arith, s .pre .0 .3, e .loop-test .taken);
-      total-long = omega (arith, place e, s .pre .1 .0 .long, inv .1);
-      statement-long = omega (arith, s .pre .1 .1 .long, e .loop-test .taken, inv .2);
-      total-in = subst (λ (z : ℤ). natAbs z ≤ 1_000_000_000_000_000) (sym (total-is e)) (around-at 1_000_000_000_000_000 (s .args .k * s .args .m) (now (s .args .source)) (start e + g) (s .pre .1 .0 .words-in) (place e));
-      statement-in = subst (λ (z : ℤ). natAbs z ≤ 1_000_000_000_000_000) (sym (old-is e)) (around-at 1_000_000_000_000_000 (s .args .m) (now (s .args .statement)) g (s .pre .1 .1 .words-in) (e .loop-test .taken));
+      total-long = omega (arith, place e, s .pre .1 .0 .0 .long, inv .1);
+      statement-long = omega (arith, s .pre .1 .0 .1 .long, e .loop-test .taken, inv .2);
+      total-in = subst (λ (z : ℤ). natAbs z ≤ 1_000_000_000_000_000) (sym (total-is e)) (around-at 1_000_000_000_000_000 (s .args .k * s .args .m) (now (s .args .source)) (start e + g) (s .pre .1 .0 .0 .words-in) (place e));
+      statement-in = subst (λ (z : ℤ). natAbs z ≤ 1_000_000_000_000_000) (sym (old-is e)) (around-at 1_000_000_000_000_000 (s .args .m) (now (s .args .statement)) g (s .pre .1 .0 .1 .words-in) (e .loop-test .taken));
     }
 
-add-g : tie.Need-add-g Inv-loop μ-loop
-add-g c = search needs
+mul-index : tie.Need-mul-index Inv-loop μ-loop
+mul-index c = search needs
+
+element-copy-out-index : tie.Need-element-copy-out-index Inv-loop μ-loop
+element-copy-out-index c = let e = c .before .before .before .before .before in omega (arith, e .loop-test .taken, entry e .pre .0 .1)
+
+index-requires : tie.Need-index-requires Inv-loop μ-loop
+index-requires c κs = search needs
+
+-- The link goes to the next grocer of box a.
+link : (c : tie.After-index Inv-loop μ-loop) →
+    let e = c .before .before .before .before .before .before .before in
+    Skips (entry e .args .m) (now (entry e .args .owner)) (entry e .args .a) (e .before .loop .g + 1) (c .index .result)
+link c =
+    let e = c .before .before .before .before .before .before .before in
+    let s = entry e in
+    goes-to (s .args .m) (now (s .args .owner)) (now (s .args .first)) (now (s .args .next)) (s .args .a) (e .before .loop .g) (c .index .result) (s .pre .1 .1 .1) (e .loop-test .taken) (e .before .loop .inv .5 (e .loop-test .taken)) (c .index .ensures)
 
 loop-less : tie.Need-loop-less Inv-loop μ-loop
-loop-less c = search needs
+loop-less c = omega (arith, link c .from, link c .to, c .before .before .before .before .before .before .before .loop-test .taken)
 
 loop-again : tie.Need-loop-again Inv-loop μ-loop
 loop-again c =
-    let e = c .before .before .before .before .before in
+    let e = c .before .before .before .before .before .before .before in
     let s = entry e in
     let at = start e in
     let g = e .before .loop .g in
+    let h = c .index .result in
+    let k = link c in
     let inv = e .before .loop .inv in
-    let call = c .before .before .credit-one in (
-      omega (arith, e .loop-test .taken),
+    let call = c .before .before .before .before .credit-one in (
+      k .to,
       call .kept .1 .1 .1 .1 .1 .1 .0 ∙ inv .1,
       call .kept .1 .1 .1 .1 .1 .1 .1 .0 ∙ inv .2,
       λ i. ap (λ (l : List ℤ). getD l i (pos 0)) (call .ensures .0)
-          ∙ guarded-more (e .before .loop .source) (pos 0) (λ i. pos 0) (was s) at g (test s) (omega (arith, place e, s .pre .1 .0 .long, inv .1)) (inv .3) (pos 0) refl i,
+          ∙ guarded-more (e .before .loop .source) (pos 0) (λ i. pos 0) (was s) at g (test s) (omega (arith, place e, s .pre .1 .0 .0 .long, inv .1)) (inv .3) (pos 0) refl i
+          ∙ ap (λ (t : Bool). cond t (pos 0) (was s i)) (sym (guarded-passed (s .args .m) (now (s .args .owner)) (s .args .a) (g + 1) h k (test s) (keyed s) at i)),
       λ i. ap (λ (l : List ℤ). getD l i (pos 0)) (call .ensures .1)
-          ∙ front-more (e .before .loop .statement) (pos 0) (λ i. old s i +ℤ was s (at + i)) (old s) g (test s) (omega (arith, s .pre .1 .1 .long, e .loop-test .taken, inv .2)) (inv .4) _ (ap₂ _+ℤ_ (old-is e) (total-is e)) i,
+          ∙ front-more (e .before .loop .statement) (pos 0) (λ i. old s i +ℤ was s (at + i)) (old s) g (test s) (omega (arith, s .pre .1 .0 .1 .long, e .loop-test .taken, inv .2)) (inv .4) _ (ap₂ _+ℤ_ (old-is e) (total-is e)) i
+          ∙ ap (λ (t : Bool). cond t (old s i +ℤ was s (at + i)) (old s i)) (sym (front-over (s .args .m) (now (s .args .owner)) (s .args .a) (g + 1) h k (test s) (keyed s) i)),
+      k .hits,
     )
 
 same-length : tie.Need-same-length Inv-loop μ-loop
@@ -129,14 +164,14 @@ same-length-2 c = c .before .loop .inv .2
 returns : tie.Need-returns Inv-loop μ-loop
 unfolding cleared
 returns c =
-    let s = c .before .before .before .before in
+    let s = c .before .before .before .before .before in
     let k = s .args .k in
     let m = s .args .m in
-    let at = c .before .before .row-start in
+    let at = c .before .before .before .row-start in
     let inv = c .before .loop .inv in
     let done : c .before .loop .g ≡ m = le-antisymm (inv .0) (c .loop-test .left) in (
-      row-stored k m (s .args .from) (at .result) (c .before .loop .g) (now (s .args .source)) (c .before .loop .source) (pos 0) (test s) (λ i. pos 0) (λ g. pos 0) (s .pre .0 .2) (s .pre .1 .0 .long) (at .ensures) done (inv .1) (inv .3) (λ o l. refl),
-      credit-stored k m (s .args .from) (test s) (now (s .args .source)) (now (s .args .statement)) (s .pre .0 .2) (c .before .loop .statement) (at .result) (c .before .loop .g) (s .pre .1 .1 .long) (at .ensures) done (inv .2) (inv .4),
+      row-stored k m (s .args .from) (at .result) (c .before .loop .g) (now (s .args .source)) (c .before .loop .source) (pos 0) (test s) (λ i. pos 0) (λ g. pos 0) (s .pre .0 .2) (s .pre .1 .0 .0 .long) (at .ensures) done (inv .1) (inv .3) (λ o l. refl),
+      credit-stored k m (s .args .from) (test s) (now (s .args .source)) (now (s .args .statement)) (s .pre .0 .2) (c .before .loop .statement) (at .result) (c .before .loop .g) (s .pre .1 .0 .1 .long) (at .ensures) done (inv .2) (inv .4),
     )
 
 pub credit-spec : {M : Type 1} → statement M
@@ -146,10 +181,13 @@ credit-spec =
     Inv-loop
     μ-loop
     row-start-requires
+    begin-requires
     loop-holds
     add-credit-one
     credit-one-requires
-    add-g
+    mul-index
+    element-copy-out-index
+    index-requires
     loop-less
     loop-again
     same-length

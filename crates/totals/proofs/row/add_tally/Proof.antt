@@ -25,7 +25,7 @@ abbrev product : tie.Start → ℤ
 product s = productAt (now (s .args .offer)) (now (s .args .counts)) (now (s .args .prices)) (s .args .at) (s .args .i)
 
 abbrev place : tie.Start → ℕ
-place s = getD (now (s .args .grocer)) (s .args .i) 0
+place s = s .args .base + getD (now (s .args .grocer)) (s .args .i) 0
 
 count-is : (s : tie.Start) → toZ w32 (ofZ w32 (getD (now (s .args .counts)) (s .args .i) (pos 0))) ≡ getD (now (s .args .counts)) (s .args .i) (pos 0)
 count-is s = read32-abs (getD (now (s .args .counts)) (s .args .i) (pos 0)) (le-trans (s .pre .0 .count-in) (lit≤ tt))
@@ -37,11 +37,11 @@ amount-is c =
     c .amount .ensures ∙ ap₂ (λ (z : ℤ) (o : ℕ). z *ℤ pos (getD (now (s .args .prices)) (s .args .at + o) 0)) (count-is s) (c .before .before .before .index .ensures)
 
 sum-is : (c : tie.After-plus-arg) →
-    toZ w64 (ofZ w64 (getD (now (c .before .before .before .before .before .before .before .before .before .before .before .before .before .before .before .args .row)) (c .before .index2 .result) (pos 0))) +ℤ toZ w64 (ofZ w64 (c .before .before .before .amount .result))
+    toZ w64 (ofZ w64 (getD (now (c .before .before .before .before .before .before .before .before .before .before .before .before .before .before .before .args .row)) (c .before .before .before .before .before .before .before .before .before .before .before .before .before .before .before .args .base + c .before .index2 .result) (pos 0))) +ℤ toZ w64 (ofZ w64 (c .before .before .before .amount .result))
     ≡ getD (now (c .before .before .before .before .before .before .before .before .before .before .before .before .before .before .before .args .row)) (place (c .before .before .before .before .before .before .before .before .before .before .before .before .before .before .before)) (pos 0) +ℤ product (c .before .before .before .before .before .before .before .before .before .before .before .before .before .before .before)
 sum-is c =
     let s = c .before .before .before .before .before .before .before .before .before .before .before .before .before .before .before in
-    read-sum (c .plus-arg .given) (c .before .before .before .amount .ok) (ap (λ (g : ℕ). getD (now (s .args .row)) g (pos 0)) (c .before .index2 .ensures)) (amount-is (c .before .before .before))
+    read-sum (c .plus-arg .given) (c .before .before .before .amount .ok) (ap (λ (g : ℕ). getD (now (s .args .row)) (s .args .base + g) (pos 0)) (c .before .index2 .ensures)) (amount-is (c .before .before .before))
 
 is-taken-requires : tie.Need-is-taken-requires
 is-taken-requires c κs = search needs
@@ -89,11 +89,14 @@ shared-slice-read-index-2 c = search needs
 index-requires-2 : tie.Need-index-requires-2
 index-requires-2 c κs = search needs
 
+add-g : tie.Need-add-g
+add-g c = search needs
+
 mul-plus : tie.Need-mul-plus
 mul-plus c = search needs
 
-element-copy-out-plus : tie.Need-element-copy-out-plus
-element-copy-out-plus c = search needs
+slice-copy-out-plus : tie.Need-slice-copy-out-plus
+slice-copy-out-plus c = search needs
 
 plus-requires : tie.Need-plus-requires
 plus-requires c κs =
@@ -101,20 +104,23 @@ plus-requires c κs =
     fits64-as (sum-is c) (omega (
       arith,
       abs-plus (getD (now (s .args .row)) (place s) (pos 0)) (product s),
-      s .pre .1,
+      s .pre .1 .1,
       abs-times-le (getD (now (s .args .counts)) (s .args .i) (pos 0)) (pos (getD (now (s .args .prices)) (s .args .at + getD (now (s .args .offer)) (s .args .i) 0) 0)) (s .pre .0 .count-in) (s .pre .0 .price-in),
     ))
 
 mul-v : tie.Need-mul-v
 mul-v c = search needs
 
-element-set-from-v : tie.Need-element-set-from-v
-element-set-from-v c = search needs
+slice-set-from-v : tie.Need-slice-set-from-v
+slice-set-from-v c = search needs
+
+same-length : tie.Need-same-length
+same-length c = search needs
 
 returns-2 : tie.Need-returns-2
 returns-2 c =
     let s = c .before .before .before .before .before .before .before .before .before .before .before .before .before .before .before .before in
-    ap₂ (set (now (s .args .row))) (c .before .before .index2 .ensures) (read64 (c .plus .result) (c .plus .ok) ∙ c .plus .ensures ∙ sum-is (c .before))
+    ap₂ (set (now (s .args .row))) (ap (λ (g : ℕ). s .args .base + g) (c .before .before .index2 .ensures)) (read64 (c .plus .result) (c .plus .ok) ∙ c .plus .ensures ∙ sum-is (c .before))
     ∙ raised-by (now (s .args .row)) (place s) (taken s) (product s) (sym (c .before .before .before .before .before .before .before .before .before .before .is-taken .ensures) ∙ not-false (c .before .before .before .before .before .before .before .before .before .before .is-taken .result) (c .before .before .before .before .before .before .before .before .before .if1 .left))
 
 pub add-tally-spec : {M : Type 1} → statement M
@@ -135,9 +141,11 @@ add-tally-spec =
     mul-index-2
     shared-slice-read-index-2
     index-requires-2
+    add-g
     mul-plus
-    element-copy-out-plus
+    slice-copy-out-plus
     plus-requires
     mul-v
-    element-set-from-v
+    slice-set-from-v
+    same-length
     returns-2)

@@ -1,7 +1,7 @@
 -- `totals::row::product_row` meets its contract. The invariant: each word is the word at entry with the tallies passed added. Assumes nothing.
 use mathlib.Core.Path.{_≡_, sym, ap, ap₂, _∙_, subst}
 use mathlib.Core.List.{List}
-use Prim.Native.Nat.{ℕ, _≤_, _<_, _-_}
+use Prim.Native.Nat.{ℕ, _≤_, _<_, _+_, _-_}
 use native.Mathlib.Nat.{le-antisymm}
 use native.Mathlib.Omega.{arith}
 use lib.ListN.{length, getD, length-set}
@@ -79,10 +79,17 @@ loop-holds c =
     let row = c .before .row-at .result in
     (search needs, search needs, λ g. sym (ap (λ (z : ℤ). getD row g (pos 0) +ℤ z) (sum-zero (share (place s) (brought s (c .row-start .result)) g)) ∙ +ℤ-idr (getD row g (pos 0))))
 
+slice-aggregate-add-tally : tie.Need-slice-aggregate-add-tally Inv-loop μ-loop
+slice-aggregate-add-tally c = sym (c .before .before .loop .inv .1)
+
+-- Place 0 of the row is its first.
+from-0 : (x : ℕ) → 0 + x ≡ x
+from-0 x = omega arith
+
 add-tally-requires : tie.Need-add-tally-requires Inv-loop μ-loop
 add-tally-requires c κs =
     let s = entry (began (c .before)) in
-    (tally-in (tables s) (prices s) (s .args .a) (s .args .from) (began (c .before) .row-start .result) (s .pre .0) (s .pre .1 .0) (s .pre .1 .1 .1) (began (c .before) .row-start .ensures) (c .before .before .loop .i) (c .before .loop-test .taken), small (c .before))
+    (tally-in (tables s) (prices s) (s .args .a) (s .args .from) (began (c .before) .row-start .result) (s .pre .0) (s .pre .1 .0) (s .pre .1 .1 .1) (began (c .before) .row-start .ensures) (c .before .before .loop .i) (c .before .loop-test .taken), (omega (arith, grocer-in (c .before), c .before .before .loop .inv .1), rw (from-0 (place s (c .before .before .loop .i))) (small (c .before))))
 
 add-i : tie.Need-add-i Inv-loop μ-loop
 add-i c = search needs
@@ -92,13 +99,13 @@ loop-less c = search needs
 
 loop-again : tie.Need-loop-again Inv-loop μ-loop
 loop-again c =
-    let e = c .before .before in
+    let e = c .before .before .before in
     let s = entry (began e) in
     let i = e .before .loop .i in
     let row = e .before .loop .row in
     let at = began e .row-start .result in
     let inv = e .before .loop .inv in
-    let stored : c .add-tally .last .1 .1 .1 .1 .1 .1 .1 .1 .1 .1 .1 .0 ≡ raised row (place s i) (brought s at i) = c .add-tally .ensures in (
+    let stored = c .before .add-tally .ensures ∙ ap (λ (g : ℕ). raised row g (brought s at i)) (from-0 (place s i)) in (
       omega (arith, e .loop-test .taken),
       ap length stored ∙ length-set row (place s i) _ ∙ inv .1,
       λ g. ap (λ (l : List ℤ). getD l g (pos 0)) stored ∙ pile-more (began e .before .row-at .result) row (place s) (brought s at) i (inv .2) (omega (arith, grocer-in e, inv .1)) g,
@@ -126,6 +133,7 @@ product-row-spec =
     row-at-requires
     row-start-requires
     loop-holds
+    slice-aggregate-add-tally
     add-tally-requires
     add-i
     loop-less

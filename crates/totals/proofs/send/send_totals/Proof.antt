@@ -1,6 +1,6 @@
--- `totals::send::send_totals` meets its contract. The invariant: of the grocers passed, the totals in the message are in transit, counted, and 0 where they were. Assumes nothing.
+-- `totals::send::send_totals` meets its contract. The invariant: of the grocers passed, the totals in the message are in transit, counted, and 0 where they were; the next one is box b's. A grocer passed over is not box b's. Assumes nothing.
 use mathlib.Core.Path.{_≡_, refl, sym, ap, ap₂, _∙_}
-use mathlib.Core.Bool.{Bool, cond}
+use mathlib.Core.Bool.{Bool, true, false, cond}
 use mathlib.Core.List.{List}
 use Prim.Native.Nat.{ℕ, _≤_, _<_, _+_, _*_, _-_}
 use native.Mathlib.Nat.{le-antisymm}
@@ -12,24 +12,29 @@ use Rattle.laws.specs.Tables.{cell}
 use Rattle.laws.proofs.Below.{count-next, count-le, only-le}
 use Rattle.laws.proofs.Loops.{guarded, guarded-more, guarded-next, guarded-none}
 use borrow.Author.Needs.{needs}
+use Rattle.links.specs.Links.{Skips}
+use Rattle.links.proofs.Walks.{count-passed, guarded-passed}
 use Rattle.words.specs.Message.{wordIn}
+use Rattle.words.proofs.Message.{word-owner}
 use Rattle.totals.specs.Credit.{cleared, sentTotals}
 use denote.Ref.{now}
 use Rattle.totals.proofs.Extra.{count-start, cond-no, row-in, row-stored, cell-at}
+use Rattle.totals.proofs.Walks.{goes-to}
 use Rattle.totals.proofs.send.send_totals.Statement.{statement}
 use Rattle.totals.proofs.send.send_totals.Tie as tie
 
 abbrev Inv-loop : tie.InvT-loop
-Inv-loop k m a b owner sharers working₀ transit₀ at sent₀ g₀ working transit sent g =
+Inv-loop k m a b owner sharers first next working₀ transit₀ at sent₀ g₀ working transit sent g =
     (g ≤ m)
     × (sent ≡ count g (wordIn owner sharers b a))
     × (length working ≡ length working₀)
     × (length transit ≡ length transit₀)
     × ((i : ℕ) → getD working i (pos 0) ≡ cond (guarded at g (wordIn owner sharers b a) i) (pos 0) (getD working₀ i (pos 0)))
     × ((i : ℕ) → getD transit i (pos 0) ≡ cond (guarded at g (wordIn owner sharers b a) i) (getD working₀ i (pos 0)) (getD transit₀ i (pos 0)))
+    × (g < m → getD owner g 0 ≡ b)
 
 abbrev μ-loop : tie.MeasureT-loop
-μ-loop k m a b owner sharers working₀ transit₀ at sent₀ g₀ working transit sent g = m - g
+μ-loop k m a b owner sharers first next working₀ transit₀ at sent₀ g₀ working transit sent g = m - g
 
 abbrev Start : Type 0
 Start = tie.Start Inv-loop μ-loop
@@ -44,44 +49,56 @@ abbrev way : Start → ℕ → ℤ
 way s i = getD (now (s .args .transit)) i (pos 0)
 
 abbrev entry : tie.In-loop Inv-loop μ-loop → Start
-entry c = c .before .before .before .before
+entry c = c .before .before .before .before .before
 
 abbrev start : tie.In-loop Inv-loop μ-loop → ℕ
-start c = c .before .before .row-start .result
+start c = c .before .before .before .row-start .result
 
 -- A word of the row lies within a table.
 place : (c : tie.In-loop Inv-loop μ-loop) → start c + c .before .loop .g < entry c .args .k * entry c .args .m
 place c =
     let s = entry c in
-    omega (arith, row-in (s .args .a) (s .args .k) (s .args .m) (s .pre .2), c .before .before .row-start .ensures, c .loop-test .taken)
+    omega (arith, row-in (s .args .a) (s .args .k) (s .args .m) (s .pre .0 .2), c .before .before .before .row-start .ensures, c .loop-test .taken)
 
 row-start-requires : tie.Need-row-start-requires Inv-loop μ-loop
-row-start-requires c κs = (omega (arith, c .before .pre .1), omega (arith, c .before .pre .0, c .before .pre .2))
+row-start-requires c κs = (omega (arith, c .before .pre .0 .1), omega (arith, c .before .pre .0 .0, c .before .pre .0 .2))
+
+-- The totals in the message are of box b's grocers.
+keyed : (s : Start) (x : ℕ) → test s x ≡ true → getD (now (s .args .owner)) x 0 ≡ s .args .b
+keyed s = word-owner (now (s .args .owner)) (now (s .args .sharers)) (s .args .b) (s .args .a)
+
+begin-requires : tie.Need-begin-requires Inv-loop μ-loop
+begin-requires c κs = c .before .before .pre .1
 
 loop-holds : tie.Need-loop-holds Inv-loop μ-loop
 loop-holds c =
-    let s = c .before .before in (
-      search needs,
-      sym (count-start (test s)),
+    let s = c .before .before .before in
+    let g = c .begin .result in
+    let at = c .before .row-start .result in
+    let k : Skips (s .args .m) (now (s .args .owner)) (s .args .b) 0 g = c .begin .ensures in
+    let idle : (i : ℕ) → guarded at g (test s) i ≡ false = λ i. guarded-passed (s .args .m) (now (s .args .owner)) (s .args .b) 0 g k (test s) (keyed s) at i ∙ guarded-none at (test s) i in (
+      k .to,
+      sym (count-passed (s .args .m) (now (s .args .owner)) (s .args .b) 0 g k (test s) (keyed s) ∙ count-start (test s)),
       refl,
       refl,
-      λ i. sym (cond-no _ (pos 0) (was s i) (guarded-none (c .row-start .result) (test s) i)),
-      λ i. sym (cond-no _ (was s i) (way s i) (guarded-none (c .row-start .result) (test s) i)),
+      λ i. sym (cond-no _ (pos 0) (was s i) (idle i)),
+      λ i. sym (cond-no _ (was s i) (way s i) (idle i)),
+      k .hits,
     )
 
 add-send-one : tie.Need-add-send-one Inv-loop μ-loop
-add-send-one c = let s = entry c in omega (arith, place c, s .pre .4)
+add-send-one c = let s = entry c in omega (arith, place c, s .pre .0 .4)
 
 send-one-requires : tie.Need-send-one-requires Inv-loop μ-loop
 send-one-requires c κs =
     let e = c .before .before in
     let s = entry e in
     let inv = e .before .loop .inv in (
-      omega (arith, s .pre .0, s .pre .2),
-      omega (arith, s .pre .1, e .loop-test .taken),
-      omega (arith, s .pre .3, e .loop-test .taken),
-      omega (arith, place e, s .pre .4, inv .2),
-      omega (arith, place e, s .pre .5, inv .3),
+      omega (arith, s .pre .0 .0, s .pre .0 .2),
+      omega (arith, s .pre .0 .1, e .loop-test .taken),
+      omega (arith, s .pre .0 .3, e .loop-test .taken),
+      omega (arith, place e, s .pre .0 .4, inv .2),
+      omega (arith, place e, s .pre .0 .5, inv .3),
     )
 
 add-sent : tie.Need-add-sent Inv-loop μ-loop
@@ -89,30 +106,51 @@ add-sent c =
     let e = c .before .before .before .before .before in
     let s = entry e in
     let g = e .before .loop .g in
-    omega (arith, count-le g (test s), only-le (test s g) 1, c .before .before .send-one .ensures .0, e .before .loop .inv .1, e .loop-test .taken, s .pre .1)
+    omega (arith, count-le g (test s), only-le (test s g) 1, c .before .before .send-one .ensures .0, e .before .loop .inv .1, e .loop-test .taken, s .pre .0 .1)
 
-add-g : tie.Need-add-g Inv-loop μ-loop
-add-g c = search needs
+mul-index : tie.Need-mul-index Inv-loop μ-loop
+mul-index c = search needs
+
+element-copy-out-index : tie.Need-element-copy-out-index Inv-loop μ-loop
+element-copy-out-index c = let e = c .before .before .before .before .before in omega (arith, e .loop-test .taken, entry e .pre .0 .1)
+
+index-requires : tie.Need-index-requires Inv-loop μ-loop
+index-requires c κs = search needs
+
+-- The link goes to the next grocer of box b.
+link : (c : tie.After-index Inv-loop μ-loop) →
+    let e = c .before .before .before .before .before .before .before in
+    Skips (entry e .args .m) (now (entry e .args .owner)) (entry e .args .b) (e .before .loop .g + 1) (c .index .result)
+link c =
+    let e = c .before .before .before .before .before .before .before in
+    let s = entry e in
+    goes-to (s .args .m) (now (s .args .owner)) (now (s .args .first)) (now (s .args .next)) (s .args .b) (e .before .loop .g) (c .index .result) (s .pre .1 .1) (e .loop-test .taken) (e .before .loop .inv .6 (e .loop-test .taken)) (c .index .ensures)
 
 loop-less : tie.Need-loop-less Inv-loop μ-loop
-loop-less c = search needs
+loop-less c = omega (arith, link c .from, link c .to, c .before .before .before .before .before .before .before .loop-test .taken)
 
 loop-again : tie.Need-loop-again Inv-loop μ-loop
 loop-again c =
-    let e = c .before .before .before .before .before in
+    let e = c .before .before .before .before .before .before .before in
     let s = entry e in
     let at = start e in
     let g = e .before .loop .g in
+    let h = c .index .result in
+    let k = link c in
     let inv = e .before .loop .inv in
-    let call = c .before .before .send-one in (
-      omega (arith, e .loop-test .taken),
-      ap₂ _+_ (inv .1) (call .ensures .0) ∙ sym (count-next g (test s)),
+    let call = c .before .before .before .before .send-one in
+    let over : (i : ℕ) → guarded at (g + 1) (test s) i ≡ guarded at h (test s) i = λ i. sym (guarded-passed (s .args .m) (now (s .args .owner)) (s .args .b) (g + 1) h k (test s) (keyed s) at i) in (
+      k .to,
+      ap₂ _+_ (inv .1) (call .ensures .0) ∙ sym (count-next g (test s)) ∙ sym (count-passed (s .args .m) (now (s .args .owner)) (s .args .b) (g + 1) h k (test s) (keyed s)),
       call .kept .1 .1 .1 .1 .1 .1 .0 ∙ inv .2,
       call .kept .1 .1 .1 .1 .1 .1 .1 .0 ∙ inv .3,
       λ i. ap (λ (l : List ℤ). getD l i (pos 0)) (call .ensures .1)
-          ∙ guarded-more (e .before .loop .working) (pos 0) (λ i. pos 0) (was s) at g (test s) (omega (arith, place e, s .pre .4, inv .2)) (inv .4) (pos 0) refl i,
+          ∙ guarded-more (e .before .loop .working) (pos 0) (λ i. pos 0) (was s) at g (test s) (omega (arith, place e, s .pre .0 .4, inv .2)) (inv .4) (pos 0) refl i
+          ∙ ap (λ (t : Bool). cond t (pos 0) (was s i)) (over i),
       λ i. ap (λ (l : List ℤ). getD l i (pos 0)) (call .ensures .2)
-          ∙ guarded-more (e .before .loop .transit) (pos 0) (was s) (way s) at g (test s) (omega (arith, place e, s .pre .5, inv .3)) (inv .5) _ (inv .4 (at + g) ∙ cond-no _ (pos 0) (was s (at + g)) (guarded-next at g (test s))) i,
+          ∙ guarded-more (e .before .loop .transit) (pos 0) (was s) (way s) at g (test s) (omega (arith, place e, s .pre .0 .5, inv .3)) (inv .5) _ (inv .4 (at + g) ∙ cond-no _ (pos 0) (was s (at + g)) (guarded-next at g (test s))) i
+          ∙ ap (λ (t : Bool). cond t (was s i) (way s i)) (over i),
+      k .hits,
     )
 
 same-length : tie.Need-same-length Inv-loop μ-loop
@@ -124,17 +162,17 @@ same-length-2 c = c .before .loop .inv .3
 returns : tie.Need-returns Inv-loop μ-loop
 unfolding cleared sentTotals
 returns c =
-    let s = c .before .before .before .before in
+    let s = c .before .before .before .before .before in
     let k = s .args .k in
     let m = s .args .m in
     let a = s .args .a in
-    let at = c .before .before .row-start in
+    let at = c .before .before .before .row-start in
     let inv = c .before .loop .inv in
     let done : c .before .loop .g ≡ m = le-antisymm (inv .0) (c .loop-test .left) in (
       inv .1 ∙ ap (λ (n : ℕ). count n (test s)) done,
-      row-stored k m a (at .result) (c .before .loop .g) (now (s .args .working)) (c .before .loop .working) (pos 0) (test s) (λ i. pos 0) (λ g. pos 0) (s .pre .2) (s .pre .4) (at .ensures) done (inv .2) (inv .4) (λ o l. refl),
-      row-stored k m a (at .result) (c .before .loop .g) (now (s .args .transit)) (c .before .loop .transit) (pos 0) (test s) (was s) (cell k m (now (s .args .working)) (pos 0) a) (s .pre .2) (s .pre .5) (at .ensures) done (inv .3) (inv .5)
-          (λ o l. sym (cell-at k m (now (s .args .working)) (pos 0) a o (s .pre .2) l)),
+      row-stored k m a (at .result) (c .before .loop .g) (now (s .args .working)) (c .before .loop .working) (pos 0) (test s) (λ i. pos 0) (λ g. pos 0) (s .pre .0 .2) (s .pre .0 .4) (at .ensures) done (inv .2) (inv .4) (λ o l. refl),
+      row-stored k m a (at .result) (c .before .loop .g) (now (s .args .transit)) (c .before .loop .transit) (pos 0) (test s) (was s) (cell k m (now (s .args .working)) (pos 0) a) (s .pre .0 .2) (s .pre .0 .5) (at .ensures) done (inv .3) (inv .5)
+          (λ o l. sym (cell-at k m (now (s .args .working)) (pos 0) a o (s .pre .0 .2) l)),
     )
 
 pub send-totals-spec : {M : Type 1} → statement M
@@ -144,11 +182,14 @@ send-totals-spec =
     Inv-loop
     μ-loop
     row-start-requires
+    begin-requires
     loop-holds
     add-send-one
     send-one-requires
     add-sent
-    add-g
+    mul-index
+    element-copy-out-index
+    index-requires
     loop-less
     loop-again
     same-length

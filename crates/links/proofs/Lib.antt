@@ -1,0 +1,2 @@
+-- Laws of entries linked by key.
+pub mod Walks

@@ -1,0 +1,86 @@
+-- `step::apply_linked` meets its contract. Assumes nothing.
+use mathlib.Core.Path.{refl}
+use lib.ListN.{replicate}
+use denote.Ref.{now}
+use Rattle.model.specs.Tables.{JobTables, jobTables}
+use Rattle.apply.proofs.Keys.{offers-keyed, grocers-keyed, tallies-keyed}
+use borrow.Author.Needs.{needs}
+use Rattle.step.proofs.apply_linked.Statement.{statement}
+use Rattle.step.proofs.apply_linked.Tie as tie
+use Rattle.step.proofs.apply_linked.Reads as reads
+use Rattle.step.proofs.apply_linked.Lts as lts
+use Rattle.apply.proofs.apply.Reads as apply-reads
+use Rattle.links.proofs.link.Reads as link-reads
+
+-- The job's tables, as they are lent.
+abbrev job : tie.Start → JobTables
+job s =
+    jobTables (s .args .boxes) (s .args .grocers) (s .args .offers) (s .args .tallies)
+    (now (s .args .price)) (now (s .args .owner)) (now (s .args .gowner)) (now (s .args .tgrocer)) (now (s .args .tbox)) (now (s .args .toffer)) (now (s .args .tcount))
+
+slice-aggregate-link : tie.Need-slice-aggregate-link
+slice-aggregate-link c = search needs
+
+link-requires : tie.Need-link-requires
+link-requires c κs = let s = c .before .before .before .before .before .before .before .before .before .before .before .before in offers-keyed (job s) (s .pre .job-in) (s .pre .job-long) (replicate 500 0) refl
+
+slice-aggregate-link-2 : tie.Need-slice-aggregate-link-2
+slice-aggregate-link-2 c = search needs
+
+link-requires-2 : tie.Need-link-requires-2
+link-requires-2 c κs = let s = c .before .before .before .before .before .before .before .before .before .before .before .before .before .before .before .before in grocers-keyed (job s) (s .pre .job-in) (s .pre .job-long) (replicate 255 0) refl
+
+slice-aggregate-link-3 : tie.Need-slice-aggregate-link-3
+slice-aggregate-link-3 c = search needs
+
+link-requires-3 : tie.Need-link-requires-3
+link-requires-3 c κs = let s = c .before .before .before .before .before .before .before .before .before .before .before .before .before .before .before .before .before .before .before .before in tallies-keyed (job s) (s .pre .job-in) (s .pre .job-long) (replicate 1_000 0) refl
+
+apply-requires : tie.Need-apply-requires
+apply-requires c κs =
+    let s = c .before .before .before .before .before .before .before .before .before .before .before .before .before .before .before .before .before .before .before .before .before .before .before .before .before .before .before .before .before .before .before .before .before .before .before in
+    (s .pre, record { offers-linked = c .before .before .before .before .before .before .before .before .before .before .before .before .before .before .before .before .before .before .before .before .before .before .link .ensures; grocers-linked = c .before .before .before .before .before .before .before .before .before .before .before .before .before .before .before .before .before .before .link2 .ensures; tallies-linked = c .before .before .before .before .before .before .before .before .before .before .before .before .before .before .link3 .ensures })
+
+same-length : tie.Need-same-length
+same-length c = search needs
+
+same-length-2 : tie.Need-same-length-2
+same-length-2 c = search needs
+
+same-length-3 : tie.Need-same-length-3
+same-length-3 c = search needs
+
+same-length-4 : tie.Need-same-length-4
+same-length-4 c = search needs
+
+same-length-5 : tie.Need-same-length-5
+same-length-5 c = search needs
+
+same-length-6 : tie.Need-same-length-6
+same-length-6 c = search needs
+
+same-length-7 : tie.Need-same-length-7
+same-length-7 c = search needs
+
+returns : tie.Need-returns
+returns c = search needs
+
+pub apply-linked-spec : {M : Type 1} → statement M
+apply-linked-spec =
+    tie.close
+    (tie.spec
+    slice-aggregate-link
+    link-requires
+    slice-aggregate-link-2
+    link-requires-2
+    slice-aggregate-link-3
+    link-requires-3
+    apply-requires
+    same-length
+    same-length-2
+    same-length-3
+    same-length-4
+    same-length-5
+    same-length-6
+    same-length-7
+    returns)

@@ -1,0 +1,66 @@
+-- Walks over the entries of one key: those that are passed over bring nothing and change nothing. Assumes nothing.
+use mathlib.Core.Path.{_≡_, refl, sym, ap, ap₂, _∙_, subst}
+use mathlib.Core.Bool.{Bool, true, false, _&&_}
+use mathlib.Core.List.{List}
+use Prim.Native.Nat.{ℕ, zero, suc, _+_, _-_, _<_, _≤_}
+use native.Mathlib.Decide.{decLt}
+use native.Mathlib.Omega.{arith}
+use lib.Dec.{eqb, ltb}
+use lib.ListN.{getD}
+use lib.IntN.{ℤ, pos}
+use borrow.Author.Tests.{eqb-true, ne-eqb, lt-ltb, le-ltb}
+use Rattle.laws.specs.Below.{Adds, amounts, sum, only}
+use Rattle.laws.proofs.Bools.{and-l, and-false}
+use Rattle.laws.proofs.Loops.{share}
+use Rattle.links.specs.Links.{Skips, Linked}
+use Rattle.links.proofs.Walks.{test-passed, goes-on}
+use Rattle.totals.specs.Credit.{credited}
+use Rattle.totals.specs.Row.{brings}
+
+-- A sum goes on unchanged over places that bring nothing.
+module _ {A : Type 0} (w : Adds A) where
+  more : (i d : ℕ) (f : ℕ → A) → ((x : ℕ) → i ≤ x → x < d + i → f x ≡ w .none) → sum w (d + i) f ≡ sum w i f
+  unfolding sum
+  more i zero f h = ap (λ (n : ℕ). sum w n f) (zero-plus i)
+    where
+      zero-plus : (n : ℕ) → 0 + n ≡ n
+      zero-plus n = omega arith
+  more i (suc d) f h =
+      ap (λ (n : ℕ). sum w n f) (suc-plus d i) ∙ ap₂ (w .plus) (more i d f (λ x l q. h x l (omega arith))) (h (d + i) (omega arith) (omega arith)) ∙ w .idr (sum w i f)
+    where
+      suc-plus : (d n : ℕ) → suc d + n ≡ suc (d + n)
+      suc-plus d n = omega arith
+
+  pub sum-over : (i j : ℕ) (f : ℕ → A) → i ≤ j → ((x : ℕ) → i ≤ x → x < j → f x ≡ w .none) → sum w j f ≡ sum w i f
+  sum-over i j f l h = ap (λ (n : ℕ). sum w n f) (apart i j l) ∙ more i (j - i) f (λ x a b. h x a (omega arith))
+    where
+      apart : (i j : ℕ) → i ≤ j → j ≡ j - i + i
+      apart i j l = omega arith
+
+-- Nor does what a loop from the front has stored, where a test holds of entries of key v alone.
+pub front-over : (n : ℕ) (keys : List ℕ) (v i j : ℕ) (s : Skips n keys v i j) (test : ℕ → Bool) (keyed : (x : ℕ) → test x ≡ true → getD keys x 0 ≡ v) (x : ℕ) → (ltb x j && test x) ≡ (ltb x i && test x)
+front-over n keys v i j s test keyed x = which (decLt x i) (decLt x j)
+  where
+    which : Dec (x < i) → Dec (x < j) → (ltb x j && test x) ≡ (ltb x i && test x)
+    which (yes a) b = ap (λ (t : Bool). t && test x) (lt-ltb x j (omega (arith, s .from)) ∙ sym (lt-ltb x i a))
+    which (no a) (yes b) = rw (test-passed n keys v i j s test keyed x (omega arith) b) (and-false (ltb x j) ∙ sym (and-false (ltb x i)))
+    which (no a) (no b) = ap (λ (t : Bool). t && test x) (le-ltb x j (omega arith) ∙ sym (le-ltb x i (omega arith)))
+
+-- A step of a walk, where the place that it goes to is named.
+pub goes-to : (n : ℕ) (keys first next : List ℕ) (v i j : ℕ) → Linked n keys first next → i < n → getD keys i 0 ≡ v → j ≡ getD next i 0 → Skips n keys v (i + 1) j
+goes-to n keys first next v i j h l e to = subst (λ (x : ℕ). Skips n keys v (i + 1) x) (sym to) (goes-on n keys first next v i h l e)
+
+-- A grocer that box a credits is of box a.
+pub credit-owner : (owners sharers : List ℕ) (a from g : ℕ) → credited owners sharers a from g ≡ true → getD owners g 0 ≡ a
+unfolding credited
+credit-owner owners sharers a from g t = eqb-true (getD owners g 0) a (and-l (eqb (getD owners g 0) a) _ t)
+
+-- A tally of another box brings nothing to box a, at any grocer.
+pub other-share : (owner holder offer : List ℕ) (counts : List ℤ) (prices : List ℕ) (place : ℕ → ℕ) (a from at g i : ℕ) → (getD holder i 0 ≡ a → ⊥) →
+    share place (brings owner holder offer counts prices a from at) g i ≡ pos 0
+unfolding only amounts
+other-share owner holder offer counts prices place a from at g i n = rw (ne-eqb (getD holder i 0) a n) (nothing (eqb (place i) g))
+  where
+    nothing : (t : Bool) → only amounts t (pos 0) ≡ pos 0
+    nothing true = refl
+    nothing false = refl

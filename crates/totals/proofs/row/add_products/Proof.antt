@@ -1,0 +1,208 @@
+-- `totals::row::add_products` meets its contract. The invariant: each word is the word at entry with the tallies passed added; the next tally is box a's. A tally passed over is not box a's, and brings nothing.
+-- Assumes nothing.
+use mathlib.Core.Path.{_≡_, refl, sym, ap, _∙_, subst}
+use mathlib.Core.List.{List}
+use Prim.Native.Nat.{ℕ, _≤_, _<_, _+_, _*_, _-_}
+use native.Mathlib.Nat.{le-antisymm}
+use native.Mathlib.Omega.{arith}
+use lib.ListN.{length, getD, length-set}
+use lib.IntN.{ℤ, pos, natAbs, _+ℤ_, +ℤ-idr}
+use Rattle.laws.specs.Below.{amounts, sum}
+use Rattle.laws.proofs.Loops.{share, pile-more}
+use borrow.Author.Needs.{needs}
+use Rattle.links.specs.Links.{Skips}
+use Rattle.totals.specs.Row.{Tallies, tallies, brings}
+use denote.Ref.{now}
+use Rattle.totals.proofs.Extra.{around-at, sum-zero, pile-size}
+use Rattle.totals.proofs.Rows.{tally-in, brought-abs, grocer-cell, row-piled}
+use Rattle.totals.proofs.Walks.{sum-over, goes-to, other-share}
+use Rattle.totals.proofs.row.add_products.Statement.{statement}
+use Rattle.totals.proofs.row.add_products.Tie as tie
+
+abbrev Inv-loop : tie.InvT-loop
+Inv-loop k m n t a from first next owner grocer holder offer counts prices working₀ at base b i₀ working i =
+    (i ≤ t)
+    × (length working ≡ length working₀)
+    × ((p : ℕ) → getD working p (pos 0) ≡ getD working₀ p (pos 0) +ℤ sum amounts i (share (λ j. base + getD grocer j 0) (brings owner holder offer counts prices a from at) p))
+    × (i < t → getD holder i 0 ≡ a)
+
+abbrev μ-loop : tie.MeasureT-loop
+μ-loop k m n t a from first next owner grocer holder offer counts prices working₀ at base b i₀ working i = t - i
+
+abbrev Start : Type 0
+Start = tie.Start Inv-loop μ-loop
+
+abbrev tables : Start → Tallies
+tables s = tallies (s .args .k) (s .args .m) (s .args .n) (s .args .t) (now (s .args .owner)) (now (s .args .grocer)) (now (s .args .holder)) (now (s .args .offer)) (now (s .args .counts))
+
+abbrev prices : Start → List ℕ
+prices s = now (s .args .prices)
+
+abbrev brought : Start → ℕ → ℕ → ℤ
+brought s at = brings (now (s .args .owner)) (now (s .args .holder)) (now (s .args .offer)) (now (s .args .counts)) (prices s) (s .args .a) (s .args .from) at
+
+abbrev place : Start → ℕ → ℕ → ℕ
+place s base i = base + getD (now (s .args .grocer)) i 0
+
+-- The rows' starts, the entry, and the two starts' numbers.
+abbrev rows : tie.After-index2 Inv-loop μ-loop → tie.After-row-start2 Inv-loop μ-loop
+rows c = c .before .before .before
+
+abbrev entry : tie.After-row-start2 Inv-loop μ-loop → Start
+entry c = c .before .before .before .before .before .before .before
+
+abbrev at-of : tie.After-row-start2 Inv-loop μ-loop → ℕ
+at-of c = c .before .row-start .result
+
+abbrev base-of : tie.After-row-start2 Inv-loop μ-loop → ℕ
+base-of c = c .row-start2 .result
+
+-- A tally of another box adds nothing to any word.
+none : (s : Start) (at base p i j : ℕ) → Skips (s .args .t) (now (s .args .holder)) (s .args .a) i j → (x : ℕ) → i ≤ x → x < j → share (place s base) (brought s at) p x ≡ amounts .none
+unfolding amounts
+none s at base p i j k x l q = other-share (now (s .args .owner)) (now (s .args .holder)) (now (s .args .offer)) (now (s .args .counts)) (prices s) (place s base) (s .args .a) (s .args .from) at p x (k .none x l q)
+
+-- The word of a tally's grocer in row a is within the table, and small enough to add to.
+inside : (c : tie.In-loop Inv-loop μ-loop) → let r = rows (c .before .before) in place (entry r) (base-of r) (c .before .loop .i) < entry r .args .k * entry r .args .m
+inside c =
+    let r = rows (c .before .before) in
+    let s = entry r in
+    grocer-cell (tables s) (prices s) (s .args .a) (s .args .from) (at-of r) (s .pre .0) (s .pre .1 .0) (s .pre .1 .1 .1 .0) (r .before .row-start .ensures) (base-of r) (c .before .loop .i) (r .row-start2 .ensures) (c .loop-test .taken)
+
+small : (c : tie.In-loop Inv-loop μ-loop) → let r = rows (c .before .before) in natAbs (getD (c .before .loop .working) (place (entry r) (base-of r) (c .before .loop .i)) (pos 0)) ≤ 2_000_000_000_000_000
+small c =
+    let r = rows (c .before .before) in
+    let s = entry r in
+    let at = at-of r in
+    let i = c .before .loop .i in
+    let p = place s (base-of r) i in
+    omega (
+      arith,
+      s .pre .0 .tallies-in,
+      c .loop-test .taken,
+      pile-size (now (s .args .working)) (c .before .loop .working) (place s (base-of r)) (brought s at) i p 1_000_000_000_000_000 999_989_900_001 (c .before .loop .inv .2 p)
+          (around-at 1_000_000_000_000_000 (s .args .k * s .args .m) (now (s .args .working)) p (s .pre .1 .1 .0 .words-in) (inside c))
+          (λ j l. brought-abs (tables s) (prices s) (s .args .a) (s .args .from) at (s .pre .0) (s .pre .1 .0) (s .pre .1 .1 .1 .0) (r .before .row-start .ensures) j (omega (arith, l, c .loop-test .taken))),
+    )
+
+row-start-requires : tie.Need-row-start-requires Inv-loop μ-loop
+row-start-requires c κs = let s = c .before .before .before .before .before in (s .pre .0 .offers-in, omega (arith, s .pre .0 .boxes-in, s .pre .1 .1 .1 .0))
+
+row-start-requires-2 : tie.Need-row-start-requires-2 Inv-loop μ-loop
+row-start-requires-2 c κs = let s = c .before .before .before .before .before .before in (omega (arith, s .pre .0 .grocers-in), omega (arith, s .pre .0 .boxes-in, s .pre .1 .1 .1 .0))
+
+index-requires : tie.Need-index-requires Inv-loop μ-loop
+index-requires c κs = search needs
+
+mul-index : tie.Need-mul-index Inv-loop μ-loop
+mul-index c = let s = entry (c .before) in omega (arith, c .index .ensures, s .pre .0 .boxes-in, s .pre .1 .1 .1 .0)
+
+element-copy-out-index : tie.Need-element-copy-out-index Inv-loop μ-loop
+element-copy-out-index c = let s = entry (c .before) in omega (arith, c .index .ensures, s .pre .0 .boxes-in, s .pre .1 .1 .1 .0)
+
+index-requires-2 : tie.Need-index-requires-2 Inv-loop μ-loop
+index-requires-2 c κs = search needs
+
+-- The walk begins at the first tally of box a.
+first-of : (c : tie.After-index2 Inv-loop μ-loop) → let s = entry (rows c) in Skips (s .args .t) (now (s .args .holder)) (s .args .a) 0 (c .index2 .result)
+first-of c =
+    let s = entry (rows c) in
+    subst (λ (x : ℕ). Skips (s .args .t) (now (s .args .holder)) (s .args .a) 0 x) (sym (c .index2 .ensures ∙ ap (λ (b : ℕ). getD (now (s .args .first)) b 0) (c .before .before .index .ensures))) (s .pre .1 .1 .1 .1 .begins (s .args .a) (omega (arith, s .pre .0 .boxes-in, s .pre .1 .1 .1 .0)))
+
+loop-holds : tie.Need-loop-holds Inv-loop μ-loop
+loop-holds c =
+    let r = rows c in
+    let s = entry r in
+    let i = c .index2 .result in
+    let k = first-of c in
+    let piled : ℕ → ℕ → ℤ = share (place s (base-of r)) (brought s (at-of r)) in (
+      k .to,
+      refl,
+      λ p. sym (ap (λ (z : ℤ). getD (now (s .args .working)) p (pos 0) +ℤ z) (sum-over amounts 0 i (piled p) (k .from) (none s (at-of r) (base-of r) p 0 i k) ∙ sum-zero (piled p)) ∙ +ℤ-idr (getD (now (s .args .working)) p (pos 0))),
+      k .hits,
+    )
+
+add-tally-requires : tie.Need-add-tally-requires Inv-loop μ-loop
+add-tally-requires c κs =
+    let e = c .before in
+    let r = rows (e .before .before) in
+    let s = entry r in (
+      tally-in (tables s) (prices s) (s .args .a) (s .args .from) (at-of r) (s .pre .0) (s .pre .1 .0) (s .pre .1 .1 .1 .0) (r .before .row-start .ensures) (e .before .loop .i) (e .loop-test .taken),
+      (omega (arith, inside e, s .pre .1 .1 .0 .long, e .before .loop .inv .1), small e),
+    )
+
+mul-index-2 : tie.Need-mul-index-2 Inv-loop μ-loop
+mul-index-2 c = let e = c .before .before .before in omega (arith, e .loop-test .taken, entry (rows (e .before .before)) .pre .0 .tallies-in)
+
+element-copy-out-index-2 : tie.Need-element-copy-out-index-2 Inv-loop μ-loop
+element-copy-out-index-2 c = let e = c .before .before .before in omega (arith, e .loop-test .taken, entry (rows (e .before .before)) .pre .0 .tallies-in)
+
+index-requires-3 : tie.Need-index-requires-3 Inv-loop μ-loop
+index-requires-3 c κs = search needs
+
+-- The link goes to the next tally of box a.
+link : (c : tie.After-index3 Inv-loop μ-loop) →
+    let e = c .before .before .before .before .before in
+    let s = entry (rows (e .before .before)) in
+    Skips (s .args .t) (now (s .args .holder)) (s .args .a) (e .before .loop .i + 1) (c .index3 .result)
+link c =
+    let e = c .before .before .before .before .before in
+    let s = entry (rows (e .before .before)) in
+    goes-to (s .args .t) (now (s .args .holder)) (now (s .args .first)) (now (s .args .next)) (s .args .a) (e .before .loop .i) (c .index3 .result) (s .pre .1 .1 .1 .1) (e .loop-test .taken) (e .before .loop .inv .3 (e .loop-test .taken)) (c .index3 .ensures)
+
+loop-less : tie.Need-loop-less Inv-loop μ-loop
+loop-less c = omega (arith, link c .from, link c .to, c .before .before .before .before .before .loop-test .taken)
+
+loop-again : tie.Need-loop-again Inv-loop μ-loop
+loop-again c =
+    let e = c .before .before .before .before .before in
+    let r = rows (e .before .before) in
+    let s = entry r in
+    let at = at-of r in
+    let base = base-of r in
+    let i = e .before .loop .i in
+    let h = c .index3 .result in
+    let w = e .before .loop .working in
+    let inv = e .before .loop .inv in
+    let k = link c in
+    let call = c .before .before .before .add-tally in (
+      k .to,
+      ap length (call .ensures) ∙ length-set w (place s base i) _ ∙ inv .1,
+      λ p. ap (λ (l : List ℤ). getD l p (pos 0)) (call .ensures)
+          ∙ pile-more (now (s .args .working)) w (place s base) (brought s at) i (inv .2) (omega (arith, inside e, s .pre .1 .1 .0 .long, inv .1)) p
+          ∙ ap (λ (z : ℤ). getD (now (s .args .working)) p (pos 0) +ℤ z) (sym (sum-over amounts (i + 1) h (share (place s base) (brought s at) p) (k .from) (none s at base p (i + 1) h k))),
+      k .hits,
+    )
+
+same-length : tie.Need-same-length Inv-loop μ-loop
+same-length c = c .before .loop .inv .1
+
+returns : tie.Need-returns Inv-loop μ-loop
+returns c =
+    let r = rows (c .before .before) in
+    let s = entry r in
+    let inv = c .before .loop .inv in
+    row-piled (tables s) (prices s) (s .args .a) (s .args .from) (at-of r) (s .pre .0) (s .pre .1 .0) (s .pre .1 .1 .1 .0) (r .before .row-start .ensures) (base-of r) (now (s .args .working)) (c .before .loop .working) (r .row-start2 .ensures) (s .pre .1 .1 .0 .long) (inv .1)
+    (λ p. inv .2 p ∙ ap (λ (n : ℕ). getD (now (s .args .working)) p (pos 0) +ℤ sum amounts n (share (place s (base-of r)) (brought s (at-of r)) p)) (le-antisymm (inv .0) (c .loop-test .left)))
+
+pub add-products-spec : {M : Type 1} → statement M
+add-products-spec =
+    tie.close
+    (tie.spec
+    Inv-loop
+    μ-loop
+    row-start-requires
+    row-start-requires-2
+    index-requires
+    mul-index
+    element-copy-out-index
+    index-requires-2
+    loop-holds
+    add-tally-requires
+    mul-index-2
+    element-copy-out-index-2
+    index-requires-3
+    loop-less
+    loop-again
+    same-length
+    returns)

@@ -1,0 +1,39 @@
+-- `totals::walk::begin` meets its contract. Assumes nothing.
+use mathlib.Core.Path.{sym, ap, _∙_, subst}
+use Prim.Native.Nat.{ℕ}
+use native.Mathlib.Omega.{arith}
+use lib.ListN.{getD}
+use borrow.Author.Needs.{needs}
+use denote.Ref.{now}
+use Rattle.links.specs.Links.{Skips}
+use Rattle.totals.proofs.walk.begin.Statement.{statement}
+use Rattle.totals.proofs.walk.begin.Tie as tie
+
+index-requires : tie.Need-index-requires
+index-requires c κs = search needs
+
+mul-index : tie.Need-mul-index
+mul-index c = search needs
+
+element-copy-out-index : tie.Need-element-copy-out-index
+element-copy-out-index c = search needs
+
+index-requires-2 : tie.Need-index-requires-2
+index-requires-2 c κs = search needs
+
+returns : tie.Need-returns
+returns c =
+    let s = c .before .before .before .before in
+    let v = s .args .v in
+    let first = now (s .args .first) in
+    subst (λ (x : ℕ). Skips (s .args .n) (now (s .args .keys)) v 0 x) (sym (c .index2 .ensures ∙ ap (λ (b : ℕ). getD first b 0) (c .before .before .index .ensures))) (s .pre .1 .begins v (s .pre .0))
+
+pub begin-spec : {M : Type 1} → statement M
+begin-spec =
+    tie.close
+    (tie.spec
+    index-requires
+    mul-index
+    element-copy-out-index
+    index-requires-2
+    returns)

@@ -1,0 +1,224 @@
+-- Ready steps counted by rows. Assumes nothing.
+use mathlib.Core.Path.{_≡_, refl, sym, ap, _∙_}
+use mathlib.Core.Bool.{Bool, true, false, _&&_, _||_, not, false≢true}
+use mathlib.Core.List.{List}
+use Prim.Native.Nat.{ℕ, zero, suc, _+_, _-_, _*_, _/_, _%_, _≤_, _<_}
+use native.Mathlib.Omega.{arith}
+use native.Mathlib.Nat.{suc-mul, add-zero, zero-mul, mul-le-mul-right, div-add-mod', div-lt-iff-lt-mul, mod-lt}
+use lib.Dec.{eqb}
+use lib.ListN.{getD, set, length, length-set}
+use lib.Seq.{getD-set-same, getD-set-other}
+use borrow.Author.Tests.{eqb-true, eqb-false}
+use Rattle.laws.specs.Below.{words, sum, only, count}
+use Rattle.laws.proofs.Bools.{split}
+use Rattle.laws.proofs.Sums.{sum-next, sum-max}
+use Rattle.laws.proofs.Below.{count-start, count-suc, count-le}
+use Rattle.model.specs.Steps.{Steps, kindOf}
+use Rattle.prices.specs.Marks.{stepsDone}
+use Rattle.refuse.specs.Rules.{readyBy, permittedBy}
+use Rattle.walk.specs.Walk.{PlaceIn, here, listedBy, WalkIn}
+use Rattle.walk.specs.Rows.{rowOf, rowCount, RowIn, IsRows, rowSum, FewRows, changes, IsRowsBut, Renewed}
+use Rattle.walk.proofs.Places.{listed-at}
+
+-- Numbers below m, and n more.
+count-both : (n m : ℕ) (p : ℕ → Bool) → count (m + n) p ≡ count m p + count n (λ b. p (m + b))
+unfolding count sum words
+count-both zero m p = rw (add-zero m) (omega arith)
+count-both (suc n) m p = rw (more m n, count-both n m p) (omega arith)
+  where
+    more : (m n : ℕ) → m + suc n ≡ suc (m + n)
+    more m n = omega arith
+
+-- A row of k places more.
+row-more : (r k : ℕ) (p : ℕ → Bool) → count (suc r * k) p ≡ count (r * k) p + count k (λ b. p (r * k + b))
+row-more r k p = ap (λ (x : ℕ). count x p) (suc-mul r k) ∙ count-both k (r * k) p
+
+-- Rows by kind and first box.
+pub row-digits : (k r : ℕ) → rowOf k (r / k + 1) (r % k) ≡ r
+row-digits k r = ap (λ (x : ℕ). x * k + r % k) (less (r / k)) ∙ div-add-mod' r k
+  where
+    less : (x : ℕ) → x + 1 - 1 ≡ x
+    less x = omega arith
+
+pub kind-few : (k r : ℕ) → 1 ≤ k → r < 6 * k → r / k < 6
+kind-few k r some l = div-lt-iff-lt-mul {k = k} some .1 l
+
+pub row-in : (k r : ℕ) (done : List ℕ) → WalkIn k done → r < 6 * k → RowIn k (r / k + 1) (r % k) done
+row-in k r done w l = record {
+  kind-from = omega arith;
+  kind-to = omega (arith, kind-few k r (w .some) l);
+  boxes-in = w .boxes-in;
+  a-in = mod-lt r (w .some);
+  done-long = w .done-long;
+}
+
+pub row-place : (k r b : ℕ) (done : List ℕ) → WalkIn k done → r < 6 * k → b < k → PlaceIn k (r / k + 1) (r % k) b
+row-place k r b done w l lb = record {
+  boxes-in = w .boxes-in;
+  kind-from = omega arith;
+  kind-to = omega (arith, kind-few k r (w .some) l);
+  a-in = mod-lt r (w .some);
+  b-in = lb;
+}
+
+pub row-here : (k r b : ℕ) → here k (r / k + 1) (r % k) b ≡ r * k + b
+row-here k r b = ap (λ (x : ℕ). x * k + b) (row-digits k r)
+
+-- A row is one of 96.
+pub row-below : (k kind a : ℕ) → k ≤ 16 → kind ≤ 6 → 1 ≤ kind → a < k → rowOf k kind a < 96
+row-below k kind a lk to from la = omega (arith, mul-le-mul-right {m = kind - 1} {n = 5} k (omega arith))
+
+-- Few rows add up to little.
+pub rows-little : (k : ℕ) (rows : List ℕ) (r : ℕ) → FewRows k rows → r ≤ 6 * k → rowSum rows r ≤ r * 16
+unfolding rowSum
+rows-little k rows r w l = sum-max r 16 (λ i. getD rows i 0) (λ i h. w .few i (omega arith))
+
+pub rows-more : (rows : List ℕ) (r : ℕ) → rowSum rows (r + 1) ≡ rowSum rows r + getD rows r 0
+unfolding rowSum words
+rows-more rows r = sum-next words r (λ i. getD rows i 0)
+
+pub rows-none : (rows : List ℕ) → rowSum rows 0 ≡ 0
+unfolding rowSum sum words
+rows-none rows = refl
+
+module _ (k : ℕ) (prices totals : List (List ℕ)) (done : List ℕ) where
+  -- Each row has at most k ready steps.
+  pub row-le : (r : ℕ) → rowCount k prices totals done r ≤ k
+  unfolding rowCount
+  row-le r = count-le k (λ b. listedBy k prices totals done (r * k + b))
+
+  module _ (rows : List ℕ) (h : IsRows k prices totals done rows) where
+    pub rows-few : k ≤ 16 → FewRows k rows
+    rows-few lk = record { boxes-in = lk; few = λ r l. rw (h .right r l) (omega (arith, row-le r)) }
+
+    -- The counts of rows together are the count of their places.
+    pub rows-sum : (n : ℕ) → n ≤ 6 * k → rowSum rows n ≡ count (n * k) (listedBy k prices totals done)
+    unfolding rowSum rowCount sum words
+    rows-sum zero l = sym (ap (λ (x : ℕ). count x (listedBy k prices totals done)) (zero-mul k) ∙ count-start (listedBy k prices totals done))
+    rows-sum (suc n) l = rw (rows-sum n (omega arith), h .right n (omega arith)) (sym (row-more n k (listedBy k prices totals done)))
+
+    pub rows-ready : rowSum rows (6 * k) ≡ count (6 * k * k) (listedBy k prices totals done)
+    rows-ready = rows-sum (6 * k) (omega arith)
+
+    -- Searching among rows: how many are left to pass.
+    module _ (r left c : ℕ) (e : left + rowSum rows r ≡ c) where
+      -- It is in row r,
+      pub found-row : r < 6 * k → left + count (r * k) (listedBy k prices totals done) ≡ c
+      found-row l = rw (← (rows-sum r (omega arith))) e
+
+      pub found-left : r < 6 * k → left < getD rows r 0 → left < rowCount k prices totals done r
+      found-left l lt = rw (h .right r l) at lt
+
+      -- or it is not,
+      pub row-passed : getD rows r 0 ≤ left → left - getD rows r 0 + rowSum rows (r + 1) ≡ c
+      row-passed h = rw (rows-more rows r) (omega arith)
+
+    -- and past the last row there were not so many.
+    pub rows-end : (r left c : ℕ) → r ≡ 6 * k → left + rowSum rows r ≡ c → c < count (6 * k * k) (listedBy k prices totals done) → ⊥
+    rows-end r left c e s l = let t : left + rowSum rows (6 * k) ≡ c = rw e at s in omega (arith, rows-ready)
+
+  -- A step of the row, tested and counted.
+  pub opened : (kind a b : ℕ) (t : Bool) (more : ℕ) → PlaceIn k kind a b → t ≡ permittedBy k prices totals (stepsDone k done) (kindOf kind) a b → more ≡ only words t 1 →
+      more ≡ only words (listedBy k prices totals done (here k kind a b)) 1
+  opened kind a b t more i e m = m ∙ ap (λ (s : Bool). only words s 1) (e ∙ listed-at k kind a b prices totals done i)
+
+  -- Searching in row r: it begins with the places before the row,
+  module _ (r c : ℕ) where
+    pub search-first : c + count (r * k + 0) (listedBy k prices totals done) ≡ c + count (r * k) (listedBy k prices totals done)
+    search-first = ap (λ (x : ℕ). c + count x (listedBy k prices totals done)) (add-zero (r * k))
+
+    pub search-next : (x b : ℕ) → x + count (r * k + b + 1) (listedBy k prices totals done) ≡ c → x + count (r * k + (b + 1)) (listedBy k prices totals done) ≡ c
+    search-next x b h = ap (λ (y : ℕ). x + count y (listedBy k prices totals done)) (regroup (r * k) b) ∙ h
+      where
+        regroup : (y b : ℕ) → y + (b + 1) ≡ y + b + 1
+        regroup y b = omega arith
+
+    -- and ends in it.
+    pub search-end : (left b : ℕ) → b ≡ k → left + count (r * k + b) (listedBy k prices totals done) ≡ c + count (r * k) (listedBy k prices totals done) → c < rowCount k prices totals done r → ⊥
+    unfolding rowCount
+    search-end left b e h l =
+        let t : left + count (r * k + k) (listedBy k prices totals done) ≡ c + count (r * k) (listedBy k prices totals done) = rw e at h in
+        omega (arith, count-both k (r * k) (listedBy k prices totals done))
+
+  -- Rows counted one after the other: those below r.
+  pub record CountedTo (rows : List ℕ) (r : ℕ) : Type 0 where
+    pub long : length rows ≡ 96
+    pub right : (q : ℕ) → q < r → getD rows q 0 ≡ rowCount k prices totals done q
+
+  pub counted-first : (rows : List ℕ) → length rows ≡ 96 → CountedTo rows 0
+  counted-first rows e = record { long = e; right = λ q l. absurd (omega arith) }
+
+  -- A row that is counted anew has its count, and the others keep theirs.
+  renewed-at : (i r : ℕ) (rows rows′ : List ℕ) → Renewed k prices totals done i rows rows′ → (eqb r i ≡ false → getD rows r 0 ≡ rowCount k prices totals done r) → getD rows′ r 0 ≡ rowCount k prices totals done r
+  renewed-at i r rows rows′ n f =
+      split (eqb r i)
+      (λ e. rw (eqb-true r i e) (n .here))
+      (λ e. n .others r (eqb-false r i e) ∙ f e)
+
+  pub counted-next : (r i : ℕ) (rows rows′ : List ℕ) → i ≡ r → CountedTo rows r → Renewed k prices totals done i rows rows′ → CountedTo rows′ (r + 1)
+  counted-next r i rows rows′ e w n = record {
+    long = n .long;
+    right = λ q l. renewed-at i q rows rows′ n (λ f. w .right q (let ne : q ≡ i → ⊥ = eqb-false q i f in omega arith));
+  }
+
+  pub counted-all : (rows : List ℕ) (r : ℕ) → r ≡ 6 * k → CountedTo rows r → IsRows k prices totals done rows
+  counted-all rows r e w = record { long = w .long; right = λ q l. w .right q (omega arith) }
+
+  -- One row written.
+  pub written : (i found : ℕ) (rows : List ℕ) → i < 96 → length rows ≡ 96 → found ≡ rowCount k prices totals done i → Renewed k prices totals done i rows (set rows i found)
+  written i found rows l n e = record {
+    long = length-set rows i found ∙ n;
+    here = getD-set-same rows i found 0 (omega arith) ∙ e;
+    others = λ r ne. getD-set-other rows i r found 0 ne;
+  }
+
+  -- After a step: its own row, and those that it can open, are counted anew.
+  module _ (kind a b : ℕ) (rows rows₁ : List ℕ) (h : IsRowsBut k kind a b prices totals done rows) (n₁ : Renewed k prices totals done (rowOf k kind a) rows rows₁) where
+    pub renewed-sent : (rows₂ : List ℕ) → (eqb kind 1 || eqb kind 4) ≡ true → Renewed k prices totals done (rowOf k (kind + 2) b) rows₁ rows₂ → IsRows k prices totals done rows₂
+    unfolding changes
+    renewed-sent rows₂ t n₂ = record {
+      long = n₂ .long;
+      right = λ r l. renewed-at (rowOf k (kind + 2) b) r rows₁ rows₂ n₂ (λ e₂. renewed-at (rowOf k kind a) r rows rows₁ n₁ (λ e₁. h .right r l (rw (e₁, t, e₂))));
+    }
+
+    module _ (t : (eqb kind 1 || eqb kind 4) ≡ false) where
+      pub renewed-own : (not (eqb kind 2) && not (eqb kind 3)) ≡ true → IsRows k prices totals done rows₁
+      unfolding changes
+      renewed-own u = record {
+        long = n₁ .long;
+        right = λ r l. renewed-at (rowOf k kind a) r rows rows₁ n₁ (λ e₁. h .right r l (rw (e₁, t, neither (eqb kind 2) (eqb kind 3) u)));
+      }
+        where
+          neither : (x y : Bool) → (not x && not y) ≡ true → (x || y) ≡ false
+          neither true y u = absurd (false≢true u)
+          neither false true u = absurd (false≢true u)
+          neither false false u = refl
+
+      pub renewed-multiplied : (rows₂ rows₃ : List ℕ) → (not (eqb kind 2) && not (eqb kind 3)) ≡ false →
+          Renewed k prices totals done (rowOf k 4 a) rows₁ rows₂ → Renewed k prices totals done (rowOf k 5 a) rows₂ rows₃ → IsRows k prices totals done rows₃
+      unfolding changes
+      renewed-multiplied rows₂ rows₃ u n₂ n₃ = record {
+        long = n₃ .long;
+        right = λ r l. renewed-at (rowOf k 5 a) r rows₂ rows₃ n₃ (λ e₃. renewed-at (rowOf k 4 a) r rows₁ rows₂ n₂ (λ e₂. renewed-at (rowOf k kind a) r rows rows₁ n₁ (λ e₁. h .right r l (rw (e₁, t, one-of (eqb kind 2) (eqb kind 3) u, e₂, e₃)))));
+      }
+        where
+          one-of : (x y : Bool) → (not x && not y) ≡ false → (x || y) ≡ true
+          one-of true y u = refl
+          one-of false true u = refl
+          one-of false false u = absurd (false≢true (sym u))
+
+-- Kinds 1 and 4 are at most 4.
+pub sent-kind : (n : ℕ) → (eqb n 1 || eqb n 4) ≡ true → n ≤ 4
+sent-kind n h = split (eqb n 1) (λ e. omega (arith, eqb-true n 1 e)) (λ e. omega (arith, eqb-true n 4 (rw e at h)))
+
+-- Only kinds 3 and 6 ask for the second box.
+pub ready-row : (k : ℕ) (prices : List (List ℕ)) (d : Steps) (a b n : ℕ) → n ≤ 6 → (eqb n 3 || eqb n 6) ≡ false → readyBy k prices d (kindOf n) a 0 ≡ readyBy k prices d (kindOf n) a b
+unfolding readyBy kindOf
+ready-row k prices d a b zero l h = refl
+ready-row k prices d a b (suc zero) l h = refl
+ready-row k prices d a b (suc (suc zero)) l h = refl
+ready-row k prices d a b (suc (suc (suc zero))) l h = absurd (false≢true (sym h))
+ready-row k prices d a b (suc (suc (suc (suc zero)))) l h = refl
+ready-row k prices d a b (suc (suc (suc (suc (suc zero))))) l h = refl
+ready-row k prices d a b (suc (suc (suc (suc (suc (suc zero)))))) l h = absurd (false≢true (sym h))
+ready-row k prices d a b (suc (suc (suc (suc (suc (suc (suc n))))))) l h = absurd (omega arith)

@@ -1,0 +1,70 @@
+-- `walk::rows::ready_steps` meets its contract: at row r the counts of the rows before it are added. Assumes nothing.
+use mathlib.Core.Path.{_≡_, sym, ap, _∙_}
+use Prim.Native.Nat.{ℕ, _+_, _*_, _≤_, _-_}
+use native.Mathlib.Omega.{arith}
+use lib.ListN.{getD}
+use borrow.Author.Needs.{needs}
+use denote.Ref.{now}
+use Rattle.walk.specs.Rows.{rowSum}
+use Rattle.walk.proofs.ByRow.{rows-none, rows-more, rows-little}
+use Rattle.walk.proofs.rows.ready_steps.Statement.{statement}
+use Rattle.walk.proofs.rows.ready_steps.Tie as tie
+
+abbrev Inv-loop : tie.InvT-loop
+Inv-loop k rows n found₀ r₀ found r = (r ≤ n) × (found ≡ rowSum rows r)
+
+abbrev μ-loop : tie.MeasureT-loop
+μ-loop k rows n found₀ r₀ found r = n - r
+
+mul-n : tie.Need-mul-n Inv-loop μ-loop
+mul-n c = search needs
+
+loop-holds : tie.Need-loop-holds Inv-loop μ-loop
+loop-holds c = (search needs, sym (rows-none _))
+
+mul-found : tie.Need-mul-found Inv-loop μ-loop
+mul-found c = search needs
+
+element-copy-out-found : tie.Need-element-copy-out-found Inv-loop μ-loop
+element-copy-out-found c = search needs
+
+add-found : tie.Need-add-found Inv-loop μ-loop
+add-found c =
+    let l = c .before .before .loop in
+    let s = c .before .before .before in
+    omega (arith, l .inv .1, rows-little (s .args .k) (now (s .args .rows)) (l .r) (s .pre) (omega arith), s .pre .few (l .r) (omega arith))
+
+add-r : tie.Need-add-r Inv-loop μ-loop
+add-r c = search needs
+
+loop-less : tie.Need-loop-less Inv-loop μ-loop
+loop-less c = search needs
+
+loop-again : tie.Need-loop-again Inv-loop μ-loop
+loop-again c =
+    let l = c .before .before .loop in
+    let s = c .before .before .before in
+    (search needs, ap (λ (x : ℕ). x + getD (now (s .args .rows)) (l .r) 0) (l .inv .1) ∙ sym (rows-more (now (s .args .rows)) (l .r)))
+
+returns : tie.Need-returns Inv-loop μ-loop
+returns c =
+    let l = c .before .loop in
+    let s = c .before .before in
+    let end : l .r ≡ 6 * s .args .k = omega arith in
+    rw end at (l .inv .1)
+
+pub ready-steps-spec : {M : Type 1} → statement M
+ready-steps-spec =
+    tie.close
+    (tie.spec
+    Inv-loop
+    μ-loop
+    mul-n
+    loop-holds
+    mul-found
+    element-copy-out-found
+    add-found
+    add-r
+    loop-less
+    loop-again
+    returns)

@@ -1,0 +1,57 @@
+-- The ready steps counted by rows: a row has the places of one kind and one first box.
+use mathlib.Core.Path.{_≡_}
+use mathlib.Core.Bool.{Bool, false, cond, _||_}
+use mathlib.Core.List.{List}
+use Prim.Native.Nat.{ℕ, _+_, _-_, _*_, _≤_, _<_}
+use lib.Dec.{eqb}
+use lib.ListN.{length, getD}
+use Rattle.laws.specs.Below.{words, sum, count}
+use Rattle.walk.specs.Walk.{listedBy}
+
+-- The row of a kind and a first box, of k boxes.
+abbrev pub rowOf : ℕ → ℕ → ℕ → ℕ
+rowOf k kind a = (kind - 1) * k + a
+
+-- How many steps of row r are ready.
+unfoldable pub rowCount : ℕ → List (List ℕ) → List (List ℕ) → List ℕ → ℕ → ℕ
+rowCount k prices totals done r = count k (λ b. listedBy k prices totals done (r * k + b))
+
+-- What the count of a row requires: a kind from 1 to 6, at most 16 boxes, box a one of them, and marks as many as they need.
+pub record RowIn (k kind a : ℕ) (done : List ℕ) : Type 0 where
+  pub kind-from : 1 ≤ kind
+  pub kind-to : kind ≤ 6
+  pub boxes-in : k ≤ 16
+  pub a-in : a < k
+  pub done-long : 6 * k * k ≤ length done
+
+-- Each of the 6 × k rows has its count, in a table of 96.
+pub record IsRows (k : ℕ) (prices totals : List (List ℕ)) (done rows : List ℕ) : Type 0 where
+  pub long : length rows ≡ 96
+  pub right : (r : ℕ) → r < 6 * k → getD rows r 0 ≡ rowCount k prices totals done r
+
+-- The counts of the first n rows together.
+unfoldable pub rowSum : List ℕ → ℕ → ℕ
+rowSum rows n = sum words n (λ r. getD rows r 0)
+
+-- Counts of rows that are at most 16.
+pub record FewRows (k : ℕ) (rows : List ℕ) : Type 0 where
+  pub boxes-in : k ≤ 16
+  pub few : (r : ℕ) → r < 6 * k → getD rows r 0 ≤ 16
+
+-- The rows that a step can change: its own; after a message is sent, the receiver's; after prices are multiplied, kinds 4 and 5 of the box.
+unfoldable pub changes : ℕ → ℕ → ℕ → ℕ → ℕ → Bool
+changes k kind a b r =
+    eqb r (rowOf k kind a)
+    || cond (eqb kind 1 || eqb kind 4) (eqb r (rowOf k (kind + 2) b))
+    (cond (eqb kind 2 || eqb kind 3) (eqb r (rowOf k 4 a) || eqb r (rowOf k 5 a)) false)
+
+-- Each row that a step cannot change has its count.
+pub record IsRowsBut (k kind a b : ℕ) (prices totals : List (List ℕ)) (done rows : List ℕ) : Type 0 where
+  pub long : length rows ≡ 96
+  pub right : (r : ℕ) → r < 6 * k → changes k kind a b r ≡ false → getD rows r 0 ≡ rowCount k prices totals done r
+
+-- Row i has its count now, and the others are as they were.
+pub record Renewed (k : ℕ) (prices totals : List (List ℕ)) (done : List ℕ) (i : ℕ) (rows rows′ : List ℕ) : Type 0 where
+  pub long : length rows′ ≡ 96
+  pub here : getD rows′ i 0 ≡ rowCount k prices totals done i
+  pub others : (r : ℕ) → (r ≡ i → ⊥) → getD rows′ r 0 ≡ getD rows r 0
