@@ -82,8 +82,8 @@ returns c =
     let s = c .before .before .before .before .before .before .before .before .before .before .before .before .before .before .before .before .before .before .before .before .before .before .before .before .before .before .before .before .before .before .before .before .before .before .before .before .before .before in
     let g = c .before .before .before .before .before .before .before .before .before .before .before .before .before .before .before .before .before .before .before .before .before .before .before .find-in in (
       choice-kept (job s) (tables s) (s .pre .0 .on-way) (now (s .args .needs)) (now (s .args .sharers)) (now (s .args .prices)) (now (s .args .totals)) (s .pre .0 .made) (s .args .ready) (getD (now (s .args .choices)) (s .args .i) 0) (s .pre .1 .0 .1 .0) (s .pre .1 .0 .1 .1) (g .result .kind) (g .result .first) (g .result .second) (g .ensures)
-      (now (s .args .choices)) (s .args .i) (s .pre .1 .0 .0) refl _ (c .before .before .before .before .before .before .before .before .before .before .before .before .before .before .before .apply .ensures) (s .args .counts .messages) (s .args .counts .steps) (c .counted .result .messages) (c .counted .result .steps)
-      (c .counted .ensures .0 (g .result .first) (g .result .second)) (c .counted .ensures .1),
+          (now (s .args .choices)) (s .args .i) (s .pre .1 .0 .0) refl _ (c .before .before .before .before .before .before .before .before .before .before .before .before .before .before .before .apply .ensures) (s .args .counts .messages) (s .args .counts .steps) (c .counted .result .messages) (c .counted .result .steps)
+          (c .counted .ensures .0 (g .result .first) (g .result .second)) (c .counted .ensures .1),
       c .before .renew .ensures,
     )
 

@@ -34,9 +34,12 @@ add-found : tie.Need-add-found Inv-loop μ-loop
 add-found c =
     let l = c .before .before .before .loop in
     let s = c .before .before .before .before .before .before in
-    omega (arith, counted-fits (λ i. listedBy _ _ _ _ (rowOf _ _ _ * _ + i)) (l .b) (l .found) (c .one .result) (l .inv .1)
-    (opened _ _ _ _ (s .args .kind) (s .args .a) (l .b) (c .before .is-open .result) (c .one .result) (search needs) (c .before .is-open .ensures) (c .one .ensures))
-    (omega (arith, s .pre .boxes-in, c .before .before .loop-test .taken)))
+    omega (
+      arith,
+      counted-fits (λ i. listedBy _ _ _ _ (rowOf _ _ _ * _ + i)) (l .b) (l .found) (c .one .result) (l .inv .1)
+          (opened _ _ _ _ (s .args .kind) (s .args .a) (l .b) (c .before .is-open .result) (c .one .result) (search needs) (c .before .is-open .ensures) (c .one .ensures))
+          (omega (arith, s .pre .boxes-in, c .before .before .loop-test .taken)),
+    )
 
 add-b : tie.Need-add-b Inv-loop μ-loop
 add-b c = search needs
@@ -50,7 +53,7 @@ loop-again c =
     let s = c .before .before .before .before .before .before in (
       search needs,
       counted (λ i. listedBy _ _ _ _ (rowOf _ _ _ * _ + i)) (l .b) (l .found) (c .one .result) (l .inv .1)
-      (opened _ _ _ _ (s .args .kind) (s .args .a) (l .b) (c .before .is-open .result) (c .one .result) (search needs) (c .before .is-open .ensures) (c .one .ensures)),
+          (opened _ _ _ _ (s .args .kind) (s .args .a) (l .b) (c .before .is-open .result) (c .one .result) (search needs) (c .before .is-open .ensures) (c .one .ensures)),
     )
 
 returns : tie.Need-returns Inv-loop μ-loop

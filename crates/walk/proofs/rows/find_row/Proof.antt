@@ -69,7 +69,7 @@ loop-again c =
     let s = c .before .before .before .before .before .before in (
       search needs,
       search-next (s .args .k) _ _ _ (s .args .r) _ _ (l .b)
-      (passed (listedBy _ _ _ _) (s .args .r * s .args .k + l .b) (l .left) _ (l .inv .1) _ _ (c .before .before .is-listed .ensures ∙ ap (listedBy _ _ _ _) (row-here (s .args .k) (s .args .r) (l .b))) (c .one .ensures) (c .before .if1 .left)),
+          (passed (listedBy _ _ _ _) (s .args .r * s .args .k + l .b) (l .left) _ (l .inv .1) _ _ (c .before .before .is-listed .ensures ∙ ap (listedBy _ _ _ _) (row-here (s .args .k) (s .args .r) (l .b))) (c .one .ensures) (c .before .if1 .left)),
     )
 
 returns-2 : tie.Need-returns-2 Inv-loop μ-loop
