@@ -12,7 +12,7 @@ use borrow.Author.Tests.{eqb-true, eqb-false}
 use Rattle.laws.specs.Below.{words, sum, only, count}
 use Rattle.laws.proofs.Bools.{split}
 use Rattle.laws.proofs.Sums.{sum-next, sum-max}
-use Rattle.laws.proofs.Below.{count-start, count-suc, count-le}
+use Rattle.laws.proofs.Below.{count-start, count-le}
 use Rattle.model.specs.Steps.{Steps, kindOf}
 use Rattle.prices.specs.Marks.{stepsDone}
 use Rattle.refuse.specs.Rules.{readyBy, permittedBy}

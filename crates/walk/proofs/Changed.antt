@@ -12,11 +12,11 @@ use Rattle.laws.specs.Below.{count}
 use Rattle.laws.proofs.Bools.{no-true, and-l, and-r, or-off}
 use Rattle.laws.proofs.Below.{all-cong, count-cong}
 use Rattle.model.specs.Steps.{Kind, sendPrices, multiplyOwn, receivePrices, sendTotals, addOwn, receiveTotals, Steps, number, kindOf, mark}
-use Rattle.model.proofs.Cursor.{number-place}
 use Rattle.prices.specs.Marks.{stepsDone}
 use Rattle.refuse.specs.Rules.{receivedFrom, multipliedBy, readyBy, permittedBy}
 use Rattle.walk.specs.Walk.{listedBy}
 use Rattle.walk.specs.Rows.{rowOf, rowCount, IsRows, changes, IsRowsBut}
+use Rattle.model.proofs.Cursor.{number-place}
 use Rattle.walk.proofs.ByRow.{kind-few}
 
 -- The step of kind n, boxes a and b, does not change kind n′ of box a′.

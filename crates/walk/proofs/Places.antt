@@ -3,16 +3,12 @@ use mathlib.Core.Path.{_≡_, ap, _∙_}
 use mathlib.Core.List.{List}
 use Prim.Native.Nat.{ℕ, suc, _+_, _-_, _*_, _/_, _%_, _≤_, _<_}
 use native.Mathlib.Omega.{arith}
-use native.Mathlib.Nat.{suc-mul, add-zero, mul-le-mul, div-lt-iff-lt-mul}
+use native.Mathlib.Nat.{suc-mul, add-zero, div-lt-iff-lt-mul}
 use lib.Arith.{digits-div, digits-mod}
 use Rattle.model.specs.Steps.{kindOf}
 use Rattle.prices.specs.Marks.{stepsDone}
 use Rattle.refuse.specs.Rules.{permittedBy}
 use Rattle.walk.specs.Walk.{PlaceIn, Next, here, listedBy}
-
--- At most 16 boxes have at most 1,536 places.
-pub room : (k : ℕ) → k ≤ 16 → 6 * k * k ≤ 1536
-room k h = omega (arith, mul-le-mul h h)
 
 -- The last place of a kind is followed by the first of the next.
 last-kind : (m q : ℕ) → (suc m * suc q) * suc q ≡ (m * suc q + q) * suc q + q + 1

@@ -65,7 +65,3 @@ module _ (p : ℕ → Bool) (i left c : ℕ) (e : left + count i p ≡ c) where
 
     pub passed : left - less + count (i + 1) p ≡ c
     passed = rw (count-next i p, ← r, ← s) (let f = less-fits in omega arith)
-
--- Past the last place c was not found, so there were not so many.
-pub found-some : (p : ℕ → Bool) (n left c : ℕ) → left + count n p ≡ c → c < count n p → ⊥
-found-some p n left c e h = omega arith

@@ -1,11 +1,9 @@
-// The list of ready steps, walked by kind, first box and second box. No place is divided.
+// The list of ready steps, walked by kind, first box and second box.
 pub mod rows;
 
 ghost use mathlib.Core.Path.{_≡_};
-ghost use Prim.Native.Nat.{_*_, _<_};
-ghost use Rattle.laws.specs.Below.{words, only, count};
-ghost use Rattle.model.specs.Run.{nth};
-ghost use Rattle.walk.specs.Walk.{PlaceIn, Next, listedBy, here, WalkIn, Found};
+ghost use Rattle.laws.specs.Below.{words, only};
+ghost use Rattle.walk.specs.Walk.{PlaceIn, Next, listedBy, here, WalkIn};
 
 // A place among the steps: kind, first box and second box.
 pub struct Place {

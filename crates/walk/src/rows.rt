@@ -3,14 +3,14 @@ use crate::Place;
 use crate::is_listed;
 use crate::one;
 ghost use mathlib.Core.Path.{_≡_};
-ghost use Prim.Native.Nat.{ℕ, _+_, _*_, _≤_, _<_};
+ghost use Prim.Native.Nat.{_+_, _*_, _≤_, _<_};
 ghost use lib.ListN.{length};
 ghost use Rattle.laws.specs.Below.{count};
 ghost use Rattle.model.specs.Steps.{kindOf};
 ghost use Rattle.model.specs.Run.{nth};
 ghost use Rattle.prices.specs.Marks.{MarksIn, stepsDone};
 ghost use Rattle.refuse.specs.Rules.{readyBy, permittedBy};
-ghost use Rattle.walk.specs.Walk.{PlaceIn, listedBy, WalkIn, Found};
+ghost use Rattle.walk.specs.Walk.{listedBy, WalkIn, Found};
 ghost use Rattle.walk.specs.Rows.{rowOf, rowCount, RowIn, IsRows, rowSum, FewRows, IsRowsBut, Renewed};
 
 // Whether a step is permitted. `first` is whether the steps done make the row's first step ready: only kinds 3 and 6 ask for the second box.
@@ -123,11 +123,11 @@ pub fn ready_steps(k: u16, rows: &[u16; 96]) -> u16
     ensures { λ r. ⌜ r ≡ rowSum (now (rows .entry)) (6 * k) ⌝ }
 {
     let n = 6 * (k as usize);
-    let mut found: u16 = 0;
+    let mut ready: u16 = 0;
     for r in 0..n {
-        found += rows[r];
+        ready += rows[r];
     }
-    found
+    ready
 }
 
 // The ready step of row r that has c ready steps of the row before it.

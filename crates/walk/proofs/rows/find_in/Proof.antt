@@ -1,11 +1,10 @@
 -- `walk::rows::find_in` meets its contract: at row r, what is left to pass and the rows before it make c. Assumes nothing.
-use mathlib.Core.Path.{_≡_, sym, ap, _∙_}
+use mathlib.Core.Path.{_≡_}
 use Prim.Native.Nat.{_+_, _*_, _≤_, _<_, _-_}
 use native.Mathlib.Omega.{arith}
-use lib.ListN.{getD}
 use borrow.Author.Needs.{needs}
-use denote.Ref.{now}
 use Rattle.walk.specs.Rows.{rowSum}
+use denote.Ref.{now}
 use Rattle.walk.proofs.ByRow.{rows-none, found-row, found-left, row-passed, rows-end}
 use Rattle.walk.proofs.rows.find_in.Statement.{statement}
 use Rattle.walk.proofs.rows.find_in.Tie as tie

@@ -4,17 +4,17 @@ use Prim.Native.Nat.{ℕ, _+_, _*_, _≤_, _-_}
 use native.Mathlib.Omega.{arith}
 use lib.ListN.{getD}
 use borrow.Author.Needs.{needs}
-use denote.Ref.{now}
 use Rattle.walk.specs.Rows.{rowSum}
+use denote.Ref.{now}
 use Rattle.walk.proofs.ByRow.{rows-none, rows-more, rows-little}
 use Rattle.walk.proofs.rows.ready_steps.Statement.{statement}
 use Rattle.walk.proofs.rows.ready_steps.Tie as tie
 
 abbrev Inv-loop : tie.InvT-loop
-Inv-loop k rows n found₀ r₀ found r = (r ≤ n) × (found ≡ rowSum rows r)
+Inv-loop k rows n ready₀ r₀ ready r = (r ≤ n) × (ready ≡ rowSum rows r)
 
 abbrev μ-loop : tie.MeasureT-loop
-μ-loop k rows n found₀ r₀ found r = n - r
+μ-loop k rows n ready₀ r₀ ready r = n - r
 
 mul-n : tie.Need-mul-n Inv-loop μ-loop
 mul-n c = search needs
@@ -22,14 +22,14 @@ mul-n c = search needs
 loop-holds : tie.Need-loop-holds Inv-loop μ-loop
 loop-holds c = (search needs, sym (rows-none _))
 
-mul-found : tie.Need-mul-found Inv-loop μ-loop
-mul-found c = search needs
+mul-ready : tie.Need-mul-ready Inv-loop μ-loop
+mul-ready c = search needs
 
-element-copy-out-found : tie.Need-element-copy-out-found Inv-loop μ-loop
-element-copy-out-found c = search needs
+element-copy-out-ready : tie.Need-element-copy-out-ready Inv-loop μ-loop
+element-copy-out-ready c = search needs
 
-add-found : tie.Need-add-found Inv-loop μ-loop
-add-found c =
+add-ready : tie.Need-add-ready Inv-loop μ-loop
+add-ready c =
     let l = c .before .before .loop in
     let s = c .before .before .before in
     omega (arith, l .inv .1, rows-little (s .args .k) (now (s .args .rows)) (l .r) (s .pre) (omega arith), s .pre .few (l .r) (omega arith))
@@ -61,9 +61,9 @@ ready-steps-spec =
     μ-loop
     mul-n
     loop-holds
-    mul-found
-    element-copy-out-found
-    add-found
+    mul-ready
+    element-copy-out-ready
+    add-ready
     add-r
     loop-less
     loop-again

@@ -1,5 +1,4 @@
 -- `walk::rows::renew` meets its contract: the rows that the step can change are counted anew. Assumes nothing.
-use native.Mathlib.Omega.{arith}
 use borrow.Author.Needs.{needs}
 use Rattle.walk.proofs.ByRow.{sent-kind, renewed-sent, renewed-own, renewed-multiplied}
 use Rattle.walk.proofs.rows.renew.Statement.{statement}
