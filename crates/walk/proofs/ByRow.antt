@@ -10,12 +10,12 @@ use lib.ListN.{getD, set, length, length-set}
 use lib.Seq.{getD-set-same, getD-set-other}
 use borrow.Author.Tests.{eqb-true, eqb-false}
 use Rattle.laws.specs.Below.{words, sum, only, count}
-use Rattle.laws.proofs.Bools.{split}
+use Rattle.laws.proofs.Bools.{split, and-false}
 use Rattle.laws.proofs.Sums.{sum-next, sum-max}
-use Rattle.laws.proofs.Below.{count-start, count-le}
-use Rattle.model.specs.Steps.{Steps, kindOf}
+use Rattle.laws.proofs.Below.{count-start, any-false, count-none, count-le}
+use Rattle.model.specs.Steps.{Kind, Steps, kindOf}
 use Rattle.prices.specs.Marks.{stepsDone}
-use Rattle.refuse.specs.Rules.{readyBy, permittedBy}
+use Rattle.refuse.specs.Rules.{fitsBy, readyBy, permittedBy}
 use Rattle.walk.specs.Walk.{PlaceIn, here, listedBy, WalkIn}
 use Rattle.walk.specs.Rows.{rowOf, rowCount, RowIn, IsRows, rowSum, FewRows, changes, IsRowsBut, Renewed}
 use Rattle.walk.proofs.Places.{listed-at}
@@ -81,6 +81,18 @@ pub rows-none : (rows : List ℕ) → rowSum rows 0 ≡ 0
 unfolding rowSum sum words
 rows-none rows = refl
 
+-- Only kinds 3 and 6 ask for the second box.
+pub ready-row : (k : ℕ) (prices : List (List ℕ)) (d : Steps) (a b n : ℕ) → n ≤ 6 → (eqb n 3 || eqb n 6) ≡ false → readyBy k prices d (kindOf n) a 0 ≡ readyBy k prices d (kindOf n) a b
+unfolding readyBy kindOf
+ready-row k prices d a b zero l h = refl
+ready-row k prices d a b (suc zero) l h = refl
+ready-row k prices d a b (suc (suc zero)) l h = refl
+ready-row k prices d a b (suc (suc (suc zero))) l h = absurd (false≢true (sym h))
+ready-row k prices d a b (suc (suc (suc (suc zero)))) l h = refl
+ready-row k prices d a b (suc (suc (suc (suc (suc zero))))) l h = refl
+ready-row k prices d a b (suc (suc (suc (suc (suc (suc zero)))))) l h = absurd (false≢true (sym h))
+ready-row k prices d a b (suc (suc (suc (suc (suc (suc (suc n))))))) l h = absurd (omega arith)
+
 module _ (k : ℕ) (prices totals : List (List ℕ)) (done : List ℕ) where
   -- Each row has at most k ready steps.
   pub row-le : (r : ℕ) → rowCount k prices totals done r ≤ k
@@ -121,6 +133,17 @@ module _ (k : ℕ) (prices totals : List (List ℕ)) (done : List ℕ) where
   pub opened : (kind a b : ℕ) (t : Bool) (more : ℕ) → PlaceIn k kind a b → t ≡ permittedBy k prices totals (stepsDone k done) (kindOf kind) a b → more ≡ only words t 1 →
       more ≡ only words (listedBy k prices totals done (here k kind a b)) 1
   opened kind a b t more i e m = m ∙ ap (λ (s : Bool). only words s 1) (e ∙ listed-at k kind a b prices totals done i)
+
+  -- A row whose first step is not made ready has none, where its kind does not ask for the second box.
+  not-ready : (q : Kind) (a b : ℕ) → readyBy k prices (stepsDone k done) q a b ≡ false → permittedBy k prices totals (stepsDone k done) q a b ≡ false
+  unfolding permittedBy
+  not-ready q a b e = rw (e, and-false (not (stepsDone k done q a b))) (and-false (fitsBy prices totals q a b))
+
+  pub closed-row : (kind a : ℕ) → RowIn k kind a done → (eqb kind 3 || eqb kind 6) ≡ false → readyBy k prices (stepsDone k done) (kindOf kind) a 0 ≡ false → 0 ≡ rowCount k prices totals done (rowOf k kind a)
+  unfolding rowCount
+  closed-row kind a w asks e = sym (count-none k _ (any-false k _ (λ b l.
+      sym (listed-at k kind a b prices totals done (record { boxes-in = w .boxes-in; kind-from = w .kind-from; kind-to = w .kind-to; a-in = w .a-in; b-in = l }))
+      ∙ not-ready (kindOf kind) a b (sym (ready-row k prices (stepsDone k done) a b kind (w .kind-to) asks) ∙ e))))
 
   -- Searching in row r: it begins with the places before the row,
   module _ (r c : ℕ) where
@@ -210,15 +233,3 @@ module _ (k : ℕ) (prices totals : List (List ℕ)) (done : List ℕ) where
 -- Kinds 1 and 4 are at most 4.
 pub sent-kind : (n : ℕ) → (eqb n 1 || eqb n 4) ≡ true → n ≤ 4
 sent-kind n h = split (eqb n 1) (λ e. omega (arith, eqb-true n 1 e)) (λ e. omega (arith, eqb-true n 4 (rw e at h)))
-
--- Only kinds 3 and 6 ask for the second box.
-pub ready-row : (k : ℕ) (prices : List (List ℕ)) (d : Steps) (a b n : ℕ) → n ≤ 6 → (eqb n 3 || eqb n 6) ≡ false → readyBy k prices d (kindOf n) a 0 ≡ readyBy k prices d (kindOf n) a b
-unfolding readyBy kindOf
-ready-row k prices d a b zero l h = refl
-ready-row k prices d a b (suc zero) l h = refl
-ready-row k prices d a b (suc (suc zero)) l h = refl
-ready-row k prices d a b (suc (suc (suc zero))) l h = absurd (false≢true (sym h))
-ready-row k prices d a b (suc (suc (suc (suc zero)))) l h = refl
-ready-row k prices d a b (suc (suc (suc (suc (suc zero))))) l h = refl
-ready-row k prices d a b (suc (suc (suc (suc (suc (suc zero)))))) l h = absurd (false≢true (sym h))
-ready-row k prices d a b (suc (suc (suc (suc (suc (suc (suc n))))))) l h = absurd (omega arith)

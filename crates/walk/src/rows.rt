@@ -40,7 +40,7 @@ fn is_open(
     first
 }
 
-// The number of ready steps of one kind and first box.
+// The number of ready steps of one kind and first box: none where its first step is not made ready and the kind does not ask for the second box.
 fn count_row(
     k: u16,
     kind: u16,
@@ -53,6 +53,10 @@ fn count_row(
     ensures { λ r. ⌜ r ≡ rowCount k (now (prices .entry)) (now (totals .entry)) (now (done .entry)) (rowOf k kind a) ⌝ }
 {
     let first = refuse::rules::is_ready(k, kind, a, 0, prices, done);
+    let asks = (kind == 3) | (kind == 6);
+    if !asks & !first {
+        return 0;
+    }
     let mut found: u16 = 0;
     for b in 0..k {
         let more = one(is_open(k, kind, a, b, first, prices, totals, done));
