@@ -15,10 +15,10 @@ use mir.Val.{SFits, toZ, ofZ}
 use borrow.Author.Tests.{eqb-true, eqb-false, lt-ltb, le-ltb, ltb-true, leb-true}
 use Rattle.laws.specs.Below.{words, amounts, sum, only, all, count}
 use Rattle.laws.specs.Tables.{cell, recell}
-use Rattle.laws.proofs.Bools.{split, and-l, and-r, and-false, and-one}
+use Rattle.laws.proofs.Bools.{split, and-l, and-r, and-false}
 use Rattle.laws.proofs.Below.{all-at}
 use Rattle.laws.proofs.Signed.{abs-plus, sum-abs, only-abs, fits64-as, read64}
-use Rattle.laws.proofs.Tables.{cell-in, is-recell, recell-cong}
+use Rattle.laws.proofs.Tables.{cell-in, is-recell}
 use Rattle.laws.proofs.Loops.{share, stored-more, front-here, front-else, guarded, window, window-in, window-below, window-above}
 use Rattle.model.specs.Ranges.{upTo, under, around}
 pub use Rattle.laws.proofs.Bools.{cond-yes, cond-no}
@@ -83,16 +83,6 @@ module _ {A : Type 0} where
 
       past : (i : ℕ) → k * m ≤ i → getD l′ i z ≡ getD l i z
       past i q = whole i ∙ cond-no _ (new i) (getD l i z) (ap (λ (b : Bool). b && test (i - a * m)) (window-above (a * m) m i (omega (arith, row-in a k m ha))))
-
-  -- The same where the whole row is stored.
-  pub row-put : (k m a at g : ℕ) (l l′ : List A) (z : A) (new f : ℕ → A) →
-      a < k → k * m ≤ length l → at ≡ a * m → g ≡ m → length l′ ≡ length l →
-      ((i : ℕ) → getD l′ i z ≡ cond (guarded at g (λ o. true) i) (new i) (getD l i z)) →
-      ((o : ℕ) → o < m → new (a * m + o) ≡ f o) →
-      l′ ≡ recell k m (λ c o. cond (eqb c a) (f o) (cell k m l z c o)) l
-  row-put k m a at g l l′ z new f ha long here done same h e =
-      row-stored k m a at g l l′ z (λ o. true) new f ha long here done same h e
-      ∙ recell-cong k m _ (λ c o. cond (eqb c a) (f o) (cell k m l z c o)) l (λ c o lc lo. ap (λ (t : Bool). cond t (f o) (cell k m l z c o)) (and-one (eqb c a)))
 
 -- A loop that goes through a list from its front, and stores the new word where a test of the place holds.
 module _ {A : Type 0} (w : List A) (d : A) (new old : ℕ → A) (o : ℕ) (test : ℕ → Bool) (inside : o < length w) (h : (i : ℕ) → getD w i d ≡ cond (ltb i o && test i) (new i) (old i)) where

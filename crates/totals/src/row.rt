@@ -1,4 +1,4 @@
-// The row of a box: multiplied, held to its range, and put in its place.
+// The row of a box: multiplied, and held to its range.
 ghost use mathlib.Core.Path.{_≡_};
 ghost use Prim.Native.Nat.{_+_, _*_, _≤_, _<_};
 ghost use lib.ListN.{length, getD, set};
@@ -26,19 +26,6 @@ pub fn row_fits(row: &[i64; 255], m: usize) -> bool
         }
     }
     true
-}
-
-// Row a of a table of amounts becomes the first m words of a row.
-pub fn put_row(k: usize, m: usize, a: u16, row: &[i64; 255], working: &mut [i64])
-    requires { ⌜ (k ≤ 16) × (m ≤ 255) × (a < k) × (k * m ≤ length (now working)) ⌝ }
-    ensures { λ _. ⌜ now (working .exit) ≡ putRow k m a (now (row .entry)) (now (working .entry)) ⌝ }
-{
-    let at = row_start(m, a);
-    for g in 0..m {
-        let i = at + g;
-        let v = row[g];
-        working[i] = v;
-    }
 }
 
 // Row a of a table of amounts.
