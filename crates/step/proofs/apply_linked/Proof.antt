@@ -7,10 +7,6 @@ use Rattle.apply.proofs.Keys.{offers-keyed, grocers-keyed, tallies-keyed}
 use borrow.Author.Needs.{needs}
 use Rattle.step.proofs.apply_linked.Statement.{statement}
 use Rattle.step.proofs.apply_linked.Tie as tie
-use Rattle.step.proofs.apply_linked.Reads as reads
-use Rattle.step.proofs.apply_linked.Lts as lts
-use Rattle.apply.proofs.apply.Reads as apply-reads
-use Rattle.links.proofs.link.Reads as link-reads
 
 -- The job's tables, as they are lent.
 abbrev job : tie.Start → JobTables
