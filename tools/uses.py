@@ -1,6 +1,6 @@
 #!/usr/bin/env python3
 """uses.py FILE..: write the `use` lines of antt files anew: one line for each module, names sorted as declared, unused names left out.
-Names are looked up in crates/*/specs and crates/*/proofs of the repository around FILE; other names keep the module they came from."""
+Names are looked up in crates/*/specs and crates/*/proofs of the repository around FILE; names of the kit keep the module they came from. Where two crates declare one name, look at the result."""
 import re, sys, os, glob
 root=os.environ.get('ROOT','.')
 def decls(path):
@@ -86,7 +86,7 @@ def fix(path, extra=()):
         base=n.split(' as ')[-1]
         if not used(base,text): continue
         if n not in have and re.search(r'(?m)^\s*(?:unfoldable |abbrev )*(?:pub )?'+re.escape(n)+r'(?: \{[^}]*\})? :',text): continue
-        if n in index and ' as ' not in n and mod not in places.get(n,()): mod=index[n]
+        if n in index and ' as ' not in n and mod.startswith('Rattle·') and mod not in places.get(n,()): mod=index[n]
         if mod.endswith(me) and f'Rattle·{crate}·' in mod and ('specs' in mod)==('/specs/' in path): continue
         got.setdefault(mod,[])
         if n not in got[mod]: got[mod].append(n)
