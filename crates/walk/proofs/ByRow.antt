@@ -14,7 +14,7 @@ use Rattle.laws.proofs.Bools.{split, and-false}
 use Rattle.laws.proofs.Sums.{sum-next, sum-max}
 use Rattle.laws.proofs.Below.{count-start, any-false, count-none, count-le}
 use Rattle.model.specs.Steps.{Kind, Steps, kindOf}
-use Rattle.prices.specs.Marks.{stepsDone}
+use Rattle.prices.specs.Marks.{MarksIn, stepsDone}
 use Rattle.refuse.specs.Rules.{fitsBy, readyBy, permittedBy}
 use Rattle.walk.specs.Walk.{PlaceIn, here, listedBy, WalkIn}
 use Rattle.walk.specs.Rows.{rowOf, rowCount, RowIn, IsRows, rowSum, FewRows, changes, IsRowsBut, Renewed}
@@ -60,6 +60,12 @@ row-place k r b done w l lb = record {
   a-in = mod-lt r (w .some);
   b-in = lb;
 }
+
+-- The marks that its test looks at.
+pub marks-at : (k r b : ℕ) (done : List ℕ) → WalkIn k done → r < 6 * k → b < k → MarksIn k (r / k + 1) (r % k) b done
+marks-at k r b done w l lb =
+    let p = row-place k r b done w l lb in
+    record { kind-from = p .kind-from; kind-to = p .kind-to; boxes-in = p .boxes-in; a-in = p .a-in; b-in = p .b-in; done-long = w .done-long }
 
 pub row-here : (k r b : ℕ) → here k (r / k + 1) (r % k) b ≡ r * k + b
 row-here k r b = ap (λ (x : ℕ). x * k + b) (row-digits k r)

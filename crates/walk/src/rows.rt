@@ -1,6 +1,5 @@
 // The ready steps counted by rows. Row (kind - 1) * k + a has the places of one kind and of first box a.
 use crate::Place;
-use crate::is_listed;
 use crate::one;
 ghost use mathlib.Core.Path.{_≡_};
 ghost use Prim.Native.Nat.{_+_, _*_, _≤_, _<_};
@@ -149,16 +148,16 @@ fn find_row(
 {
     let kind = r / k + 1;
     let a = r % k;
+    let first = refuse::rules::is_ready(k, kind, a, 0, prices, done);
     let mut left = c;
     for b in 0..k {
-        let p = Place {
-            kind: kind,
-            first: a,
-            second: b,
-        };
-        let ready = is_listed(k, p, prices, totals, done);
+        let ready = is_open(k, kind, a, b, first, prices, totals, done);
         if ready & (left == 0) {
-            return p;
+            return Place {
+                kind: kind,
+                first: a,
+                second: b,
+            };
         }
         let less = one(ready);
         left -= less;
