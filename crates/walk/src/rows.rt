@@ -12,7 +12,27 @@ ghost use Rattle.refuse.specs.Rules.{readyBy, permittedBy};
 ghost use Rattle.walk.specs.Walk.{listedBy, WalkIn, Found};
 ghost use Rattle.walk.specs.Rows.{rowOf, rowCount, RowIn, IsRows, rowSum, FewRows, IsRowsBut, Renewed};
 
-// Whether a step is permitted. `first` is whether the steps done make the row's first step ready: only kinds 3 and 6 ask for the second box.
+// Whether the steps done make a step ready. `first` is whether they make the row's first step ready: only kinds 3 and 6 ask for the second box.
+fn ready_in_row(
+    k: u16,
+    kind: u16,
+    a: u16,
+    b: u16,
+    first: bool,
+    prices: &[[u16; 16]; 16],
+    done: &[u16],
+) -> bool
+    requires { ⌜ MarksIn k kind a b (now done) ⌝ }
+    requires { ⌜ first ≡ readyBy k (now prices) (stepsDone k (now done)) (kindOf kind) a 0 ⌝ }
+    ensures { λ r. ⌜ r ≡ readyBy k (now (prices .entry)) (stepsDone k (now (done .entry))) (kindOf kind) a b ⌝ }
+{
+    if (kind == 3) | (kind == 6) {
+        return refuse::rules::is_ready(k, kind, a, b, prices, done);
+    }
+    first
+}
+
+// Whether a step is permitted. No branch depends on the tables, since none could be foreseen.
 fn is_open(
     k: u16,
     kind: u16,
@@ -27,16 +47,10 @@ fn is_open(
     requires { ⌜ first ≡ readyBy k (now prices) (stepsDone k (now done)) (kindOf kind) a 0 ⌝ }
     ensures { λ r. ⌜ r ≡ permittedBy k (now (prices .entry)) (now (totals .entry)) (stepsDone k (now (done .entry))) (kindOf kind) a b ⌝ }
 {
-    if !refuse::rules::fits(kind, a, b, prices, totals) {
-        return false;
-    }
-    if refuse::rules::is_marked(k, kind, a, b, done) {
-        return false;
-    }
-    if (kind == 3) | (kind == 6) {
-        return refuse::rules::is_ready(k, kind, a, b, prices, done);
-    }
-    first
+    let fit = refuse::rules::fits(kind, a, b, prices, totals);
+    let marked = refuse::rules::is_marked(k, kind, a, b, done);
+    let ready = ready_in_row(k, kind, a, b, first, prices, done);
+    fit & (!marked & ready)
 }
 
 // The number of ready steps of one kind and first box: none where its first step is not made ready and the kind does not ask for the second box.
