@@ -5,7 +5,7 @@ use native.Mathlib.Omega.{arith}
 use lib.IntN.{pos, negsuc}
 use mir.Syntax.{w32}
 use mir.Facts.{toZ-ofZ}
-use Rattle.show.proofs.Extra.{below-zero, from-zero, sfits-pos, turned}
+use Rattle.laws.proofs.Signs.{below-zero, from-zero, sfits-pos, turned}
 use Rattle.reconcile_cases.proofs.second.size.Statement.{statement}
 use Rattle.reconcile_cases.proofs.second.size.Tie as tie
 
