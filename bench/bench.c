@@ -384,7 +384,7 @@ static const struct item items[] = {
     { "read", "reader, the longest file", READ, 0, 0 },
     { "write", "writer, the same job", WRITE, 0, 0 },
     { "step1", "step 1, send prices", STEP, 1, 0 },
-    { "step2", "step 2, sweep own", STEP, 2, 0 },
+    { "step2", "step 2, multiply own", STEP, 2, 0 },
     { "step3", "step 3, receive prices", STEP, 3, 0 },
     { "step4", "step 4, send totals", STEP, 4, 0 },
     { "step5", "step 5, own totals", STEP, 5, 0 },
