@@ -16,4 +16,3 @@ pub mod Tables
 pub mod Prime
 pub mod Detect
 pub mod Damage
-pub mod Cases

@@ -1,21 +1,230 @@
 -- The table of ◆ cases holds. Assumes nothing.
-use Rattle.model.specs.Tables.{jobOf}
-use Rattle.guarantees.specs.Cases.{Cases}
+use mathlib.Core.Path.{_≡_, refl, sym, ap, fun-ext, _∙_}
+use mathlib.Core.Bool.{true, false}
+use mathlib.Core.List.{List, [], _∷_}
+use Prim.Native.Nat.{ℕ, zero, suc, _<_, _≤_}
+use native.Mathlib.Omega.{arith}
+use lib.Dec.{ltb}
+use lib.IntN.{ℤ, pos}
+use borrow.Author.Tests.{ltb-true, ltb-false}
+use Rattle.laws.proofs.Bools.{split}
+use Rattle.laws.proofs.Tables.{word-past}
+use Rattle.laws.specs.Below.{words, amounts, sum, only, any, all, find}
+use Rattle.laws.specs.Checks.{firstMet}
+use Rattle.laws.specs.Tables.{tabulate, word}
+use Rattle.model.specs.Job.{Job, plainSum}
+use Rattle.model.specs.Words.{ownerWords, messages, stepCount}
+use Rattle.model.specs.Tables.{JobTables, jobOf}
+use Rattle.model.specs.Cases.{jobE}
+use Rattle.format.specs.Codes.{isPlace, isCode, value, number, written, dropZeros, sameOffer}
+use Rattle.format.specs.Job.{FileJob, badSizes, badOffer, badOwner, badTally, badRecords, names, placeOf, shared, unnamed}
+use Rattle.format.specs.Blocks.{firstSum, secondSum}
+use Rattle.format.specs.File.{encode, decode}
+use Rattle.format.specs.Refusals.{jobRefusal, fileRefusal}
+use Rattle.guarantees.specs.Demand3.{jobRead, owed, Holds}
+use Rattle.guarantees.specs.Settle.{digitsOf, decimal, signedDecimal, line, grocerLines, settledText, blankJob, printed}
+use Rattle.guarantees.specs.Cases.{code, alone, fileE, textE, Cases}
 use Rattle.model.proofs.Step.{range}
 use Rattle.model.proofs.Quiet.{no-tallies-words, no-tallies-steps}
+use Rattle.format.proofs.Same.{SameWords, place-same}
+use Rattle.format.proofs.Write.{written-accepted, read-back}
+use Rattle.guarantees.proofs.Settle.{given, settle}
 use Rattle.model.proofs.Cases as Settlement
-use Rattle.format.proofs.Cases as File
+
+-- ---- codes and sums
+
+zeros : number (code (48 ∷ 48 ∷ 48 ∷ [])) ≡ 0
+unfolding number value
+zeros = refl
+
+zeros-dropped : dropZeros (written (code (48 ∷ 48 ∷ 48 ∷ []))) ≡ 48 ∷ []
+unfolding dropZeros written tabulate
+zeros-dropped = refl
+
+agree : sameOffer (code (48 ∷ 52 ∷ 49 ∷ 50 ∷ [])) (code (52 ∷ 49 ∷ 50 ∷ [])) ≡ true
+unfolding sameOffer number value
+agree = refl
+
+apart : sameOffer (code (52 ∷ 49 ∷ 50 ∷ 48 ∷ [])) (code (52 ∷ 49 ∷ 50 ∷ [])) ≡ false
+unfolding sameOffer number value
+apart = refl
+
+ten-digits : isCode (code (48 ∷ 49 ∷ 50 ∷ 51 ∷ 52 ∷ 53 ∷ 54 ∷ 55 ∷ 56 ∷ 57 ∷ [])) ≡ true
+unfolding isCode isPlace all
+ten-digits = refl
+
+no-digits : isCode (code []) ≡ false
+unfolding isCode isPlace all
+no-digits = refl
+
+eleven-digits : isCode (code (48 ∷ 49 ∷ 50 ∷ 51 ∷ 52 ∷ 53 ∷ 54 ∷ 55 ∷ 56 ∷ 57 ∷ 48 ∷ [])) ≡ false
+unfolding isCode isPlace all
+eleven-digits = refl
+
+byte-0-first : firstSum (alone 0) ≡ 255
+unfolding firstSum sum words
+byte-0-first = refl
+
+byte-0-second : secondSum (alone 0) ≡ 64_019
+unfolding secondSum sum words
+byte-0-second = refl
+
+byte-507-first : firstSum (alone 507) ≡ 255
+unfolding firstSum sum words
+byte-507-first = refl
+
+byte-507-second : secondSum (alone 507) ≡ 255
+unfolding secondSum sum words
+byte-507-second = refl
+
+-- ---- E
+
+-- The writer takes E's job, and so its file is accepted.
+pub e-written : jobRefusal fileE ≡ 0
+unfolding fileE jobRefusal firstMet badSizes badRecords badOffer badOwner badTally isCode isPlace names shared unnamed sameOffer number value any all
+e-written = refl
+
+pub e-accepted : fileRefusal (encode fileE) ≡ 0
+e-accepted = written-accepted fileE e-written
+
+e-owed-0 : owed fileE 0 ≡ pos 2250
+unfolding fileE owed placeOf names sameOffer number value find any sum only amounts
+e-owed-0 = refl
+
+e-owed-1 : owed fileE 1 ≡ pos 2500
+unfolding fileE owed placeOf names sameOffer number value find any sum only amounts
+e-owed-1 = refl
+
+-- Two numbers are below 2, four below 4.
+below-2 : (P : ℕ → Type 0) → P 0 → P 1 → (i : ℕ) → i < 2 → P i
+below-2 P a b zero l = a
+below-2 P a b (suc zero) l = b
+below-2 P a b (suc (suc i)) l = absurd (omega arith)
+
+below-4 : (P : ℕ → Type 0) → P 0 → P 1 → P 2 → P 3 → (i : ℕ) → i < 4 → P i
+below-4 P a b c d zero l = a
+below-4 P a b c d (suc zero) l = b
+below-4 P a b c d (suc (suc zero)) l = c
+below-4 P a b c d (suc (suc (suc zero))) l = d
+below-4 P a b c d (suc (suc (suc (suc i)))) l = absurd (omega arith)
+
+e-tables : Holds fileE jobE
+unfolding fileE jobOf word placeOf names sameOffer number value find any
+e-tables = record {
+  boxes = refl;
+  grocers = refl;
+  offers = refl;
+  tallies = refl;
+  price = below-2 (λ o. jobOf jobE .price o ≡ fileE .offer o .price) refl refl;
+  offerOwner = below-2 (λ o. jobOf jobE .offerOwner o ≡ fileE .offer o .owner) refl refl;
+  grocerOwner = below-2 (λ g. jobOf jobE .grocerOwner g ≡ fileE .grocerOwner g) refl refl;
+  tallyGrocer = below-4 (λ t. jobOf jobE .tallyGrocer t ≡ fileE .tally t .grocer) refl refl refl refl;
+  tallyBox = below-4 (λ t. jobOf jobE .tallyBox t ≡ fileE .tally t .box) refl refl refl refl;
+  tallyCount = below-4 (λ t. jobOf jobE .tallyCount t ≡ fileE .tally t .count) refl refl refl refl;
+  tallyOffer = below-4 (λ t. jobOf jobE .tallyOffer t ≡ placeOf fileE t) refl refl refl refl;
+}
+
+-- ---- what `settle` prints for E
+
+-- Two tables of one length with the same words.
+words-same : {A : Type 0} (n m : ℕ) (x y : List A) (z : A) → n ≡ m → ((i : ℕ) → i < n → word n x z i ≡ word m y z i) → word n x z ≡ word m y z
+words-same n m x y z e h =
+    fun-ext (λ i. split (ltb i n)
+    (λ l. h i (ltb-true i n l))
+    (λ l. let g : n ≤ i = ltb-false i n l in word-past n x z i g ∙ sym (word-past m y z i (omega arith))))
+
+-- Tables that hold one job are one job.
+module _ (j k : FileJob) (s : SameWords j k) (ok : jobRefusal k ≡ 0) (a b : JobTables) (p : Holds j a) (q : Holds k b) where
+  size : {x y u v : ℕ} → x ≡ u → u ≡ v → y ≡ v → x ≡ y
+  size e f g = e ∙ f ∙ sym g
+
+  same-job : jobOf a ≡ jobOf b
+  unfolding jobOf
+  same-job =
+      let eo = size (p .offers) (s .sizes .offers) (q .offers) in
+      let eg = size (p .grocers) (s .sizes .grocers) (q .grocers) in
+      let et = size (p .tallies) (s .sizes .tallies) (q .tallies) in
+      let price = words-same (a .offers) (b .offers) (a .price) (b .price) 0 eo (λ i l. p .price i (first-offer i l) ∙ s .offer i (offer-in i l) .price ∙ sym (q .price i (offer-in i l))) in
+      let offerOwner = words-same (a .offers) (b .offers) (a .offerOwner) (b .offerOwner) 0 eo (λ i l. p .offerOwner i (first-offer i l) ∙ s .offer i (offer-in i l) .owner ∙ sym (q .offerOwner i (offer-in i l))) in
+      let grocerOwner = words-same (a .grocers) (b .grocers) (a .grocerOwner) (b .grocerOwner) 0 eg (λ i l. p .grocerOwner i (first-grocer i l) ∙ s .grocerOwner i (grocer-in i l) ∙ sym (q .grocerOwner i (grocer-in i l))) in
+      let tallyGrocer = words-same (a .tallies) (b .tallies) (a .tallyGrocer) (b .tallyGrocer) 0 et (λ i l. p .tallyGrocer i (first-tally i l) ∙ s .tally i (tally-in i l) .grocer ∙ sym (q .tallyGrocer i (tally-in i l))) in
+      let tallyBox = words-same (a .tallies) (b .tallies) (a .tallyBox) (b .tallyBox) 0 et (λ i l. p .tallyBox i (first-tally i l) ∙ s .tally i (tally-in i l) .box ∙ sym (q .tallyBox i (tally-in i l))) in
+      let tallyOffer = words-same (a .tallies) (b .tallies) (a .tallyOffer) (b .tallyOffer) 0 et (λ i l. p .tallyOffer i (first-tally i l) ∙ place-same j k s ok i (tally-in i l) ∙ sym (q .tallyOffer i (tally-in i l))) in
+      let tallyCount = words-same (a .tallies) (b .tallies) (a .tallyCount) (b .tallyCount) (pos 0) et (λ i l. p .tallyCount i (first-tally i l) ∙ s .tally i (tally-in i l) .count ∙ sym (q .tallyCount i (tally-in i l))) in
+      λ i. record {
+        boxes = size (p .boxes) (s .sizes .boxes) (q .boxes) i;
+        grocers = eg i;
+        offers = eo i;
+        tallies = et i;
+        price = price i;
+        offerOwner = offerOwner i;
+        grocerOwner = grocerOwner i;
+        tallyGrocer = tallyGrocer i;
+        tallyBox = tallyBox i;
+        tallyOffer = tallyOffer i;
+        tallyCount = tallyCount i;
+      }
+    where
+      first-offer : (i : ℕ) → i < a .offers → i < j .offers
+      first-offer i l = omega (arith, p .offers)
+
+      offer-in : (i : ℕ) → i < a .offers → i < k .offers
+      offer-in i l = omega (arith, p .offers, s .sizes .offers)
+
+      first-grocer : (i : ℕ) → i < a .grocers → i < j .grocers
+      first-grocer i l = omega (arith, p .grocers)
+
+      grocer-in : (i : ℕ) → i < a .grocers → i < k .grocers
+      grocer-in i l = omega (arith, p .grocers, s .sizes .grocers)
+
+      first-tally : (i : ℕ) → i < a .tallies → i < j .tallies
+      first-tally i l = omega (arith, p .tallies)
+
+      tally-in : (i : ℕ) → i < a .tallies → i < k .tallies
+      tally-in i l = omega (arith, p .tallies, s .sizes .tallies)
+
+-- The job that the reader leaves of E's file is E.
+e-same : jobOf (jobRead (encode fileE) blankJob) ≡ jobOf jobE
+e-same = same-job (decode (encode fileE)) fileE (read-back fileE e-written) e-written (jobRead (encode fileE) blankJob) jobE (given (encode fileE) e-accepted .holds) e-tables
+
+e-amount : (g : ℕ) → owed (decode (encode fileE)) g ≡ plainSum (jobOf jobE) g
+e-amount g = sym (given (encode fileE) e-accepted .sums g) ∙ ap (λ (j : Job). plainSum j g) e-same
+
+e-text : settledText 2 (plainSum (jobOf jobE)) 3 3 10 ≡ textE
+unfolding settledText grocerLines line decimal digitsOf signedDecimal
+e-text = rw (Settlement.cases .e-amount-0, Settlement.cases .e-amount-1)
+
+e-printed : printed (encode fileE) ≡ textE
+unfolding fileE plainSum
+e-printed =
+    settle .accepted (encode fileE) e-accepted
+    ∙ text-same (read-back fileE e-written .sizes .grocers) (fun-ext e-amount)
+    (ap ownerWords e-same ∙ Settlement.cases .e-words) (ap messages e-same ∙ Settlement.cases .e-messages) (ap stepCount e-same ∙ Settlement.cases .e-steps)
+    ∙ e-text
+  where
+    text-same : {m m′ w w′ c c′ n n′ : ℕ} {f f′ : ℕ → ℤ} → m ≡ m′ → f ≡ f′ → w ≡ w′ → c ≡ c′ → n ≡ n′ → settledText m f w c n ≡ settledText m′ f′ w′ c′ n′
+    text-same a b c d e = λ i. settledText (a i) (b i) (c i) (d i) (e i)
 
 pub cases : Cases
 unfolding jobOf
 cases = record {
-  zeros = File.zeros-number;
-  agree = File.agree;
-  apart = File.apart;
+  zeros = zeros;
+  zeros-dropped = zeros-dropped;
+  agree = agree;
+  apart = apart;
+  ten-digits = ten-digits;
+  no-digits = no-digits;
+  eleven-digits = eleven-digits;
+  e-accepted = e-accepted;
+  e-owed-0 = e-owed-0;
+  e-owed-1 = e-owed-1;
+  e-tables = e-tables;
+  e-printed = e-printed;
   settlement = Settlement.cases;
   quiet = λ f ok none. (no-tallies-words (jobOf f) (range f ok) none, no-tallies-steps (jobOf f) (range f ok) none);
-  byte-0-first = File.byte-0-first;
-  byte-0-second = File.byte-0-second;
-  byte-507-first = File.byte-507-first;
-  byte-507-second = File.byte-507-second;
+  byte-0-first = byte-0-first;
+  byte-0-second = byte-0-second;
+  byte-507-first = byte-507-first;
+  byte-507-second = byte-507-second;
+  longest = refl;
 }

@@ -4,6 +4,7 @@ use mathlib.Core.List.{List, [], _∷_}
 use mathlib.Core.Logic.{inl, inr}
 use mathlib.Core.Bool.{Bool}
 use Prim.Native.Nat.{ℕ, zero, suc}
+use native.Mathlib.Omega.{arith}
 use lib.IntN.{ℤ}
 use borrow.Author.Tests.{ne-eqb}
 use Rattle.laws.specs.Checks.{firstMet}
@@ -12,7 +13,9 @@ use Rattle.model.specs.Tables.{JobTables, StateTables}
 use Rattle.model.specs.Step.{Asked, outcome, stepped, answer, after, refusals}
 use Rattle.model.specs.Run.{RunAnswer, refused, reported, runRefusals, ran}
 use Rattle.model.specs.Reconcile.{TallyRecord, refused as notOwed, deskRefusals, deskAnswer, reconciled}
-use Rattle.guarantees.specs.Demand1.{IsFirst, Demand1}
+use Rattle.format.specs.First.{firstOf}
+use Rattle.guarantees.specs.Demand1.{IsFirst, IsFirstOf, Demand1}
+use Rattle.format.proofs.Firsts.{below-hit, below-none}
 use Rattle.format.proofs.Tables.{read-refused, write-refused}
 
 first-is : (rs : List (Bool × ℕ)) → IsFirst rs (firstMet rs)
@@ -22,6 +25,12 @@ first-is (r ∷ rs) =
     split (r .0)
     (λ e. inl (e, rw e))
     (λ e. inr (e, rw e (first-is rs)))
+
+first-check : (ns : List ℕ) → IsFirstOf ns (firstOf ns)
+unfolding IsFirstOf firstOf
+first-check [] = refl
+first-check (zero ∷ ns) = inr (refl, first-check ns)
+first-check (suc n ∷ ns) = inl (λ e. omega arith, refl)
 
 step-refused : (f : JobTables) (t : StateTables) (q : Asked) → (firstMet (refusals f t q) ≡ 0 → ⊥) → stepped f t q ≡ outcome (firstMet (refusals f t q)) t
 unfolding stepped after answer
@@ -49,6 +58,9 @@ desk-refused m n wanted prices records h = desk-no (firstMet (deskRefusals m n w
 pub demand1 : Demand1
 demand1 = record {
   first = first-is;
+  firstCheck = first-check;
+  firstBlock = λ n k h l before met. below-hit h k n (h k) l (below-none h k before) refl met;
+  noBlock = λ n h none. below-none h n none;
   step = step-refused;
   run = run-refused;
   desk = desk-refused;

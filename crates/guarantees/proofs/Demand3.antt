@@ -1,5 +1,5 @@
--- An accepted file gives a job in range. Assumes nothing.
-use mathlib.Core.Path.{_≡_, ap, ap₂, _∙_}
+-- An accepted file gives a job in range that holds what it says, and demand 3 holds. Assumes nothing.
+use mathlib.Core.Path.{_≡_, refl, ap, ap₂, _∙_}
 use mathlib.Core.List.{List}
 use mathlib.Core.Bool.{Bool, true, false, _&&_}
 use Prim.Native.Nat.{ℕ, _<_, _≤_}
@@ -15,13 +15,13 @@ use Rattle.laws.proofs.Tables.{word-in, long-overwrite, getD-overwrite}
 use Rattle.model.specs.Job.{heldBy, held, amount, plainSum}
 use Rattle.model.specs.Tables.{jobOf, jobLengths, jobShort}
 use Rattle.model.specs.Ranges.{upTo, under, around, sizesInRange, jobWordsInRange, jobInRange}
-use Rattle.format.specs.Job.{FileJob, placeOf}
+use Rattle.format.specs.Job.{FileJob, names, placeOf}
 use Rattle.format.specs.File.{decode}
-use Rattle.format.specs.Tables.{FileTables, ReaderTables, fileJobOf, readRefusal, readResult, storeRead}
-use Rattle.guarantees.specs.Demand3.{jobRead, owed, Accepted}
+use Rattle.format.specs.Tables.{FileTables, ReaderTables, ReadOutcome, fileJobOf, readRefusal, readResult, storeRead}
+use Rattle.guarantees.specs.Demand3.{jobRead, owed, Holds, Accepted, Demand3Holds}
 use Rattle.model.proofs.Demand3.{demand3, run-is-list}
-use Rattle.format.proofs.Range.{InRange}
-use Rattle.format.proofs.Accept.{accepted-range}
+use Rattle.format.proofs.Range.{InRange, fine, only-place}
+use Rattle.format.proofs.Accept.{job-accepted, accepted-range}
 use Rattle.format.proofs.Tables.{read-file, Long, long-tables, read-long, read-range, read-place, read-job, read-accepted}
 use Rattle.format.proofs.Same.{SameWords}
 
@@ -106,7 +106,11 @@ module _ (f : List ℕ) (l : ReaderTables) (ok : readRefusal f l ≡ 0) where
   unfolding held heldBy jobOf jobRead fileJobOf
   its-box t h = rw (word-in (decode f .tallies) (tables .tallyBox) 0 t h) (and-true (eqb-same (getD (tables .tallyBox) t 0)) (lt-ltb (getD (tables .tallyBox) t 0) (decode f .boxes) (range .tally t h .box)))
 
-  -- its grocer is the file's,
+  -- and is the file's; so are its grocer,
+  its-own-box : (t : ℕ) → t < decode f .tallies → jobOf (jobRead f l) .tallyBox t ≡ decode f .tally t .box
+  unfolding jobOf jobRead fileJobOf
+  its-own-box t h = word-in (decode f .tallies) (tables .tallyBox) 0 t h ∙ same .tally t h .box
+
   its-grocer : (t : ℕ) → t < decode f .tallies → jobOf (jobRead f l) .tallyGrocer t ≡ decode f .tally t .grocer
   unfolding jobOf jobRead fileJobOf
   its-grocer t h = word-in (decode f .tallies) (tables .tallyGrocer) 0 t h ∙ same .tally t h .grocer
@@ -126,7 +130,40 @@ module _ (f : List ℕ) (l : ReaderTables) (ok : readRefusal f l ≡ 0) where
   unfolding jobOf jobRead fileJobOf
   its-price o h = word-in (decode f .offers) (tables .price) 0 o h ∙ same .offer o h .price
 
-  -- and its amount is count × price of that offer.
+  its-owner : (o : ℕ) → o < decode f .offers → jobOf (jobRead f l) .offerOwner o ≡ decode f .offer o .owner
+  unfolding jobOf jobRead fileJobOf
+  its-owner o h = word-in (decode f .offers) (tables .offerOwner) 0 o h ∙ same .offer o h .owner
+
+  grocer-owner : (g : ℕ) → g < decode f .grocers → jobOf (jobRead f l) .grocerOwner g ≡ decode f .grocerOwner g
+  unfolding jobOf jobRead fileJobOf
+  grocer-owner g h = word-in (decode f .grocers) (tables .grocerOwner) 0 g h ∙ same .grocerOwner g h
+
+  holds-ok : Holds (decode f) (jobRead f l)
+  unfolding jobRead
+  holds-ok = record {
+    boxes = refl;
+    grocers = refl;
+    offers = refl;
+    tallies = refl;
+    price = its-price;
+    offerOwner = its-owner;
+    grocerOwner = grocer-owner;
+    tallyGrocer = its-grocer;
+    tallyBox = its-own-box;
+    tallyCount = its-count;
+    tallyOffer = its-place;
+  }
+
+  -- The code of a tally names the offer at its place, and no other.
+  named-ok : (t : ℕ) → t < decode f .tallies → (placeOf (decode f) t < decode f .offers) × (names (decode f) t (placeOf (decode f) t) ≡ true)
+  unfolding names
+  named-ok t h = let r = accepted-range f (read-file f l ok) in (r .place t h, r .named t h)
+
+  other-ok : (t i : ℕ) → t < decode f .tallies → i < decode f .offers → names (decode f) t i ≡ true → placeOf (decode f) t ≡ i
+  unfolding names
+  other-ok t i h m e = only-place (decode f) t (fine (decode f) (job-accepted f (read-file f l ok)) .shared) i m e
+
+  -- The amount of a tally is count × price of that offer.
   its-amount : (t : ℕ) → t < decode f .tallies →
       amount (jobOf (jobRead f l)) (jobOf (jobRead f l) .price (jobOf (jobRead f l) .tallyOffer t)) t ≡ decode f .tally t .count *ℤ pos (decode f .offer (placeOf (decode f) t) .price)
   unfolding amount
@@ -145,9 +182,16 @@ module _ (f : List ℕ) (l : ReaderTables) (ok : readRefusal f l ≡ 0) where
 -- Every file that the reader accepts.
 pub accepted : (f : List ℕ) (l : ReaderTables) → readRefusal f l ≡ 0 → Accepted f l
 accepted f l ok = record {
+  holds = holds-ok f l ok;
+  named = named-ok f l ok;
+  noOther = other-ok f l ok;
+  answer = ap (λ (o : ReadOutcome). o .answer) (read-accepted f l ok);
   inRange = range-ok f l ok;
   whole = whole-ok f l ok;
   steps = demand3 (jobRead f l) (range-ok f l ok) (whole-ok f l ok);
   run = run-is-list (jobRead f l) (range-ok f l ok) (whole-ok f l ok);
   sums = sums-ok f l ok;
 }
+
+pub demand3-holds : Demand3Holds
+demand3-holds = record { files = accepted; lists = demand3; runs = run-is-list }

@@ -1,7 +1,8 @@
 -- The proofs of the demands.
+
 pub mod Demand1
 pub mod Demand2
 pub mod Demand3
+pub mod Settle
 pub mod Cases
 pub mod Strength
-pub mod Settle

@@ -1,18 +1,18 @@
 -- What settle prints are the amounts owed. Assumes nothing.
 use mathlib.Core.Path.{_≡_, refl, sym, ap, ap₂, _∙_}
-use mathlib.Core.Bool.{false, _||_}
+use mathlib.Core.Bool.{false}
 use mathlib.Core.List.{List, [], _∷_, _++_, map}
 use Prim.Native.Nat.{ℕ, zero, suc, _+_, _-_, _*_, _/_, _%_, _^_, _<_, _≤_}
 use native.Mathlib.Omega.{arith}
 use native.Mathlib.Nat.{pow-suc, mul-le-mul, le-refl}
 use lib.Dec.{ltb}
-use lib.IntN.{ℤ, pos}
+use lib.IntN.{ℤ, pos, negsuc, negℤ}
 use lib.ListN.{getD, length, take, replicate, length-replicate}
 use lib.Seq.{getD-take, length-take-le}
-use borrow.Author.Tests.{lt-ltb, le-ltb, ltb-false, ltb-true}
+use borrow.Author.Tests.{lt-ltb, le-ltb, ne-eqb}
 use Rattle.laws.proofs.Bools.{split}
 use Rattle.laws.proofs.Tables.{word-in}
-use Rattle.model.specs.Job.{Job, plainSum}
+use Rattle.model.specs.Job.{Job}
 use Rattle.model.specs.Words.{ownerWords, messages, stepCount}
 use Rattle.model.specs.Tables.{JobTables, StateTables, jobOf, view, stateLengths, stateShort, lentShort}
 use Rattle.model.specs.Run.{RunAnswer, finished, reported, run, ran}
@@ -21,11 +21,11 @@ use Rattle.model.specs.Demand3.{whole}
 use Rattle.format.specs.File.{decode}
 use Rattle.format.specs.Refusals.{fileRefusal}
 use Rattle.format.specs.Tables.{ReaderTables, ReadOutcome, shortTables, shortReader, readRefusal}
+use Rattle.guarantees.specs.Demand3.{jobRead, owed, Accepted}
+use Rattle.guarantees.specs.Settle.{digitsOf, decimal, signedDecimal, line, grocerLines, settledText, refusedText, blankJob, blankState, runText, jobText, readText, printed, valueOf, amountOf, Settle}
 use Rattle.format.proofs.Order.{reader-file}
 use Rattle.format.proofs.Accept.{long, accepted-range}
 use Rattle.format.proofs.Tables.{read-accepted, read-refused}
-use Rattle.guarantees.specs.Demand3.{jobRead, owed, Accepted}
-use Rattle.guarantees.specs.Settle.{digitsOf, decimal, signedDecimal, line, grocerLines, settledText, refusedText, blankJob, blankState, runText, jobText, readText, printed, valueOf, Settle}
 use Rattle.guarantees.proofs.Demand3.{accepted}
 
 -- ---- a printed number is the number
@@ -51,6 +51,30 @@ below-power (suc n) = omega (arith, below-power n, pow-suc 10 (suc n))
 number-reads : (n : ℕ) → valueOf (decimal n) 0 ≡ n
 unfolding decimal
 number-reads n = value-digits n n (below-power n)
+
+-- A number's digits begin with one.
+begins : (k n : ℕ) → (c : ℕ) × (s : List ℕ) × (digitsOf (suc k) n ≡ c ∷ s) × (48 ≤ c)
+unfolding digitsOf
+begins zero n =
+    split (ltb n 10)
+    (λ e. (48 + n, [], rw e, omega arith))
+    (λ e. (48 + n % 10, [], rw e, omega arith))
+begins (suc k) n =
+    split (ltb n 10)
+    (λ e. (48 + n, [], rw e, omega arith))
+    (λ e. let (c, s, f, h) = begins k (n / 10) in (c, s ++ ((48 + n % 10) ∷ []), rw (e, f), h))
+
+-- A text that begins with a digit says the number of its digits.
+plain-amount : (t s : List ℕ) (c : ℕ) → t ≡ c ∷ s → 48 ≤ c → amountOf t ≡ pos (valueOf t 0)
+unfolding amountOf
+plain-amount t s c e h = rw (e, ne-eqb c 45 (λ z. omega arith))
+
+amount-reads : (z : ℤ) → amountOf (signedDecimal z) ≡ z
+unfolding signedDecimal decimal
+amount-reads (pos n) =
+    let (c, s, e, h) = begins n n in
+    plain-amount (digitsOf (suc n) n) s c e h ∙ ap pos (number-reads n)
+amount-reads (negsuc n) = unfold amountOf in ap (λ (m : ℕ). negℤ (pos m)) (number-reads (suc n))
 
 -- ---- the blank buffers are long enough
 
@@ -122,7 +146,7 @@ module _ (file : List ℕ) (ok : fileRefusal file ≡ 0) where
   read-ok : readRefusal file blankJob ≡ 0
   read-ok = reader-file file blankJob blank-reader ∙ ok
 
-  given : Accepted file blankJob
+  pub given : Accepted file blankJob
   given = accepted file blankJob read-ok
 
   abbrev job : JobTables
@@ -176,4 +200,4 @@ cut-is file n ok h cut =
     omega (arith, same 8 (omega arith), same 9 (omega arith), same 10 (omega arith), same 11 (omega arith))
 
 pub settle : Settle
-settle = record { accepted = settled-is; refused = refused-is; cut = cut-is; reads = number-reads }
+settle = record { accepted = settled-is; refused = refused-is; cut = cut-is; reads = number-reads; readsAmount = amount-reads }

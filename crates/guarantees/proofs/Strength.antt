@@ -1,134 +1,110 @@
 -- No impostor meets a contract. Assumes nothing.
 use mathlib.Core.Path.{_≡_, refl, sym, ap, _∙_}
 use mathlib.Core.Bool.{Bool, true, false, cond}
-use mathlib.Core.List.{List, []}
-use Prim.Native.Nat.{ℕ, suc}
+use mathlib.Core.List.{List, [], _∷_, map}
+use Prim.Native.Nat.{ℕ, _<_}
 use native.Mathlib.Omega.{arith}
-use lib.IntN.{ℤ, pos, natAbs}
+use lib.IntN.{pos, natAbs}
 use lib.ListN.{getD}
-use Rattle.laws.specs.Below.{all}
-use Rattle.laws.specs.Tables.{tabulate, overwrite, recell}
+use Rattle.laws.specs.Below.{words, amounts, sum, only, any, all, count}
+use Rattle.laws.specs.Checks.{firstMet}
+use Rattle.laws.specs.Tables.{tabulate, overwrite, word, cell, recell}
 use Rattle.laws.proofs.Bools.{or-off}
-use Rattle.laws.proofs.Tables.{length-tabulate}
+use Rattle.laws.proofs.Tables.{word-in}
+use Rattle.model.specs.Job.{heldBy, held, needs, shares, priceWord, totalWord, pricesDue, totalsDue, amount, plainSum}
+use Rattle.model.specs.Steps.{number, kindOf, mark, oneBox, fits, hasStep, multiplied, ready, permitted, fresh, products, received, effect}
 use Rattle.model.specs.Words.{ownerWords, messages, stepCount}
-use Rattle.model.specs.Tables.{JobTables, StateTables, jobOf, store, jobLengths, stateLengths, jobShort, stateShort, lentShort}
-use Rattle.model.specs.Ranges.{upTo, under, around, sizesInRange, jobWordsInRange, jobInRange}
-use Rattle.model.specs.Step.{Asked, Outcome, asked, after, freshTables, stepped}
-use Rattle.model.specs.Run.{RunAnswer, RunOutcome, finished, refused, reported, ran}
-use Rattle.model.specs.Cases.{jobE, freshE, oneBoxJob, empty}
-use Rattle.format.specs.Tables.{ReaderTables, ReadOutcome, ReadAnswer, sizes, refused as notRead, fileTables, readerTables, shortTables, shortReader, readResult}
-use Rattle.format.specs.File.{decode, encode}
-use Rattle.guarantees.specs.Strength.{IsStep, IsRun, Strength}
-use Rattle.model.proofs.Demand3.{run-is-list}
-use Rattle.model.proofs.Cases.{cases, examples}
-use Rattle.format.proofs.Cases.{e-job, e-accepted}
+use Rattle.model.specs.Tables.{JobTables, StateTables, jobOf, view, store, jobLengths, stateLengths, jobShort, stateShort, lentShort}
+use Rattle.model.specs.Ranges.{upTo, under, around, sizesInRange, jobWordsInRange, jobInRange, stateInRange}
+use Rattle.model.specs.Step.{asked, isKind, boxesFit, stepRules, moved, refusals, answer, after, freshTables, stepped, Outcome}
+use Rattle.model.specs.Run.{RunAnswer, RunOutcome, finished, refused, reported, run, ran}
+use Rattle.model.specs.Requests.{Request, left}
+use Rattle.model.specs.Demand3.{whole}
+use Rattle.model.specs.Cases.{jobE, freshE, oneBoxJob}
+use Rattle.format.specs.File.{encode}
+use Rattle.format.specs.Tables.{ReaderTables, ReadOutcome, sizes, shortReader, readResult}
+use Rattle.guarantees.specs.Cases.{fileE}
+use Rattle.guarantees.specs.Strength.{Strength}
+use Rattle.model.proofs.Demand3.{demand3, run-is-list}
 use Rattle.format.proofs.Order.{reader-file}
 use Rattle.format.proofs.Tables.{read-accepted}
+use Rattle.format.proofs.Write.{read-back}
+use Rattle.guarantees.proofs.Cases.{e-written, e-accepted}
+use Rattle.model.proofs.Cases as Settlement
 
-module _ (step : JobTables → StateTables → Asked → Outcome) (is : IsStep step) where
-  -- Step 2 of box 0 is accepted on a fresh state of E.
-  accepts : step jobE freshE (asked 2 0 0) .answer ≡ 0
-  unfolding stepped
-  accepts = ap (λ o. o .answer) (is jobE freshE (asked 2 0 0)) ∙ examples .begins
+-- Step 2 of box 0 on a fresh state of E.
+own-working : after jobE freshE (asked 2 0 0) .working ≡ pos 1500 ∷ pos 0 ∷ pos 0 ∷ pos 0 ∷ []
+unfolding jobOf view store word cell recell overwrite tabulate jobShort stateShort jobLengths stateLengths lentShort jobInRange sizesInRange jobWordsInRange stateInRange upTo under around firstMet refusals stepRules answer after moved isKind boxesFit oneBox stepped freshTables fresh effect products received number kindOf mark fits hasStep multiplied ready permitted heldBy held needs shares priceWord totalWord pricesDue totalsDue amount sum only words amounts any all count
+own-working = refl
 
-  not-refused : (n : ℕ) → ((q : Asked) → step jobE freshE q .answer ≡ n) → 0 ≡ n
-  not-refused n h = sym accepts ∙ h (asked 2 0 0)
+own-marks : after jobE freshE (asked 2 0 0) .done ≡ 0 ∷ 0 ∷ 0 ∷ 0 ∷ 1 ∷ 0 ∷ 0 ∷ 0 ∷ 0 ∷ 0 ∷ 0 ∷ 0 ∷ 0 ∷ 0 ∷ 0 ∷ 0 ∷ 0 ∷ 0 ∷ 0 ∷ 0 ∷ 0 ∷ 0 ∷ 0 ∷ 0 ∷ []
+unfolding jobOf view store word cell recell overwrite tabulate jobShort stateShort jobLengths stateLengths lentShort jobInRange sizesInRange jobWordsInRange stateInRange upTo under around firstMet refusals stepRules answer after moved isKind boxesFit oneBox stepped freshTables fresh effect products received number kindOf mark fits hasStep multiplied ready permitted heldBy held needs shares priceWord totalWord pricesDue totalsDue amount sum only words amounts any all count
+own-marks = refl
 
-  leaves : step jobE freshE (asked 2 0 0) .tables ≡ after jobE freshE (asked 2 0 0)
-  unfolding stepped
-  leaves = ap (λ o. o .tables) (is jobE freshE (asked 2 0 0))
+own-statement : after jobE freshE (asked 2 0 0) .statement ≡ pos 0 ∷ pos 0 ∷ []
+unfolding jobOf view store word cell recell overwrite tabulate jobShort stateShort jobLengths stateLengths lentShort jobInRange sizesInRange jobWordsInRange stateInRange upTo under around firstMet refusals stepRules answer after moved isKind boxesFit oneBox stepped freshTables fresh effect products received number kindOf mark fits hasStep multiplied ready permitted heldBy held needs shares priceWord totalWord pricesDue totalsDue amount sum only words amounts any all count
+own-statement = refl
 
-  nothing-done : ((q : Asked) → step jobE freshE q .tables ≡ freshE) → ⊥
-  nothing-done h =
-      let e : _≡_ {A = ℕ} 1 0 = sym (examples .marked) ∙ ap (λ (t : StateTables). getD (t .done) 4 0) (sym leaves ∙ h (asked 2 0 0)) ∙ examples .unmarked in
-      omega arith
-
-  sums-made : ((q : Asked) → step jobE freshE q .answer ≡ 0 → getD (step jobE freshE q .tables .statement) 0 (pos 0) ≡ pos 2250) → ⊥
-  sums-made h =
-      let e : pos 0 ≡ pos 2250 = sym (examples .not-yet) ∙ ap (λ (t : StateTables). getD (t .statement) 0 (pos 0)) (sym leaves) ∙ h (asked 2 0 0) accepts in
-      let n : _≡_ {A = ℕ} 0 2250 = ap natAbs e in
-      omega arith
+fresh-working : freshE .working ≡ pos 0 ∷ pos 0 ∷ pos 0 ∷ pos 0 ∷ []
+unfolding jobOf view store word cell recell overwrite tabulate jobShort stateShort jobLengths stateLengths lentShort jobInRange sizesInRange jobWordsInRange stateInRange upTo under around firstMet refusals stepRules answer after moved isKind boxesFit oneBox stepped freshTables fresh effect products received number kindOf mark fits hasStep multiplied ready permitted heldBy held needs shares priceWord totalWord pricesDue totalsDue amount sum only words amounts any all count
+fresh-working = refl
 
 -- The words of a report.
 reported-words : RunAnswer → ℕ
 reported-words (finished w m n) = w
 reported-words (refused n) = 0
 
--- What a reader's answer says: 0 sizes, 1 a refusal.
-turned-down : ReadAnswer → ℕ
-turned-down (sizes k m n t) = 0
-turned-down (notRead n) = 1
+module _ (f : JobTables) (t : StateTables) (choices : List ℕ) (ok : jobInRange f ≡ true) (enough : lentShort f t ≡ false) where
+  long : jobShort (jobOf f) (jobLengths f) ≡ false
+  unfolding lentShort
+  long = or-off (jobShort (jobOf f) (jobLengths f)) (stateShort (jobOf f) (stateLengths t)) enough .0
 
--- Tables as long as the largest job needs.
-abbrev zeros : ℕ → List ℕ
-zeros n = tabulate n (λ i. 0)
+  -- The steps that the run takes.
+  abbrev list : List Request
+  list = map (whole (jobOf f)) (run (jobOf f) choices)
 
-roomy : ReaderTables
-roomy =
-    readerTables (fileTables (zeros 500) (zeros 500) (zeros 5_500) (zeros 255) (zeros 1_000) (zeros 1_000) (zeros 11_000) (tabulate 1_000 (λ (i : ℕ). pos 0))) (zeros 1_000)
+  -- It reports the words of the owner tables,
+  counted : (w m n : ℕ) → ran f t choices .answer ≡ finished w m n → w ≡ ownerWords (jobOf f)
+  unfolding reported reported-words
+  counted w m n e =
+      let report = finished (ownerWords (jobOf f)) (messages (jobOf f)) (stepCount (jobOf f)) in
+      ap reported-words (sym e ∙ run-is-list f ok long t choices .answer ∙ ap (λ (b : Bool). reported (cond b 20 0) report) enough)
 
-roomy-long : shortReader roomy ≡ false
-unfolding shortReader shortTables roomy
-roomy-long = simp (length-tabulate)
+  -- and leaves the plain sums.
+  pub run-leaves : (g : ℕ) → g < f .grocers → getD (ran f t choices .tables .statement) g (pos 0) ≡ plainSum (jobOf f) g
+  unfolding view jobOf
+  run-leaves g h =
+      ap (λ (s : StateTables). getD (s .statement) g (pos 0)) (run-is-list f ok long t choices .tables enough)
+      ∙ sym (word-in (f .grocers) (left f t list .statement) (pos 0) g h)
+      ∙ demand3 f ok long t list .finish (run-is-list f ok long t choices .allDone) .statements g h
+
+-- E's plain sum is 2250, that of the job of one box 30.
+one-amount : plainSum (jobOf oneBoxJob) 0 ≡ pos 30
+unfolding jobOf word heldBy held amount plainSum sum only amounts
+one-amount = refl
+
+sums-differ : pos 2250 ≡ pos 30 → ⊥
+sums-differ e = let n : _≡_ {A = ℕ} 2250 30 = ap natAbs e in omega arith
 
 -- E's file is read.
-e-read : readResult (encode e-job) roomy .answer ≡ sizes (decode (encode e-job) .boxes) (decode (encode e-job) .grocers) (decode (encode e-job) .offers) (decode (encode e-job) .tallies)
-e-read = ap (λ (o : ReadOutcome). o .answer) (read-accepted (encode e-job) roomy (reader-file (encode e-job) roomy roomy-long ∙ e-accepted))
-
--- E and the job of one box are in range, and their fresh states are lent whole.
-e-range : jobInRange jobE ≡ true
-unfolding jobInRange sizesInRange jobWordsInRange upTo under around all
-e-range = refl
-
-one-range : jobInRange oneBoxJob ≡ true
-unfolding jobInRange sizesInRange jobWordsInRange upTo under around all
-one-range = refl
-
-e-whole : lentShort jobE freshE ≡ false
-unfolding lentShort jobShort stateShort jobOf jobLengths stateLengths freshTables store recell overwrite tabulate
-e-whole = refl
-
-one-whole : lentShort oneBoxJob (freshTables oneBoxJob empty) ≡ false
-unfolding lentShort jobShort stateShort jobOf jobLengths stateLengths freshTables store recell overwrite tabulate
-one-whole = refl
-
-module _ (run : JobTables → StateTables → List ℕ → RunOutcome) (is : IsRun run) where
-  -- The amount that a run leaves for grocer 0.
-  abbrev amount : JobTables → StateTables → ℤ
-  amount f t = getD (run f t [] .tables .statement) 0 (pos 0)
-
-  amount-of : (f : JobTables) (t : StateTables) (zs : List ℤ) → ran f t [] .tables .statement ≡ zs → amount f t ≡ getD zs 0 (pos 0)
-  amount-of f t zs e = ap (λ (o : RunOutcome). getD (o .tables .statement) 0 (pos 0)) (is f t []) ∙ ap (λ (l : List ℤ). getD l 0 (pos 0)) e
-
-  not-fixed : (z : ℤ) → ((f : JobTables) (t : StateTables) → jobInRange f ≡ true → lentShort f t ≡ false → amount f t ≡ z) → ⊥
-  not-fixed z h =
-      let one = freshTables oneBoxJob empty in
-      let e : pos 2250 ≡ z = sym (amount-of jobE freshE _ (examples .e-leaves)) ∙ h jobE freshE e-range e-whole in
-      let o : pos 30 ≡ z = sym (amount-of oneBoxJob one _ (examples .one-leaves)) ∙ h oneBoxJob one one-range one-whole in
-      let n : _≡_ {A = ℕ} 2250 30 = ap natAbs (e ∙ sym o) in
-      omega arith
-
-  counted : (f : JobTables) (t : StateTables) (choices : List ℕ) → jobInRange f ≡ true → lentShort f t ≡ false →
-      (w m n : ℕ) → run f t choices .answer ≡ finished w m n → w ≡ ownerWords (jobOf f)
-  unfolding lentShort reported reported-words
-  counted f t choices ok whole w m n e =
-      let short = or-off (jobShort (jobOf f) (jobLengths f)) (stateShort (jobOf f) (stateLengths t)) whole in
-      let report = finished (ownerWords (jobOf f)) (messages (jobOf f)) (stepCount (jobOf f)) in
-      let r : ran f t choices .answer ≡ report = run-is-list f ok (short .0) t choices .answer ∙ ap (λ (b : Bool). reported (cond b 20 0) report) whole in
-      ap reported-words (sym e ∙ ap (λ (o : RunOutcome). o .answer) (is f t choices) ∙ r)
+e-read : (l : ReaderTables) → shortReader l ≡ false → readResult (encode fileE) l .answer ≡ sizes 2 2 2 4
+unfolding fileE
+e-read l h =
+    let z = read-back fileE e-written .sizes in
+    ap (λ (o : ReadOutcome). o .answer) (read-accepted (encode fileE) l (reader-file (encode fileE) l h ∙ e-accepted))
+    ∙ (λ i. sizes (z .boxes i) (z .grocers i) (z .offers i) (z .tallies i))
 
 pub strength : Strength
-unfolding turned-down
+unfolding stepped
 strength = record {
-  saysNotReady = λ step is h. clash (not-refused step is 26 h);
-  saysDone = λ step is h. clash (not-refused step is 25 h);
-  doesNothing = nothing-done;
-  sumsFirst = λ step is h. sums-made step is (λ q e. h q e ∙ cases .e-amount-0);
-  madeUpCount = counted;
-  fixedStatement = not-fixed;
-  turnsDown = λ read is h. let down = h (encode e-job) roomy in
-      clash (ap turned-down (sym e-read ∙ ap (λ (o : ReadOutcome). o .answer) (sym (is (encode e-job) roomy)) ∙ down .1));
+  accepts = λ o e. ap (λ (x : Outcome). x .answer) e ∙ Settlement.examples .begins;
+  works = λ o e. ap (λ (x : Outcome). x .tables .working) e ∙ own-working;
+  before = fresh-working;
+  marks = λ o e. ap (λ (x : Outcome). x .tables .done) e ∙ own-marks;
+  notYet = λ o e. ap (λ (x : Outcome). x .tables .statement) e ∙ own-statement;
+  reports = λ o f t choices e ok enough w m n a. counted f t choices ok enough w m n (sym (ap (λ (x : RunOutcome). x .answer) e) ∙ a);
+  counts = λ f ok long t rs. demand3 f ok long t rs .wordsSent;
+  statements = λ o f t choices e ok enough g h. ap (λ (x : RunOutcome). getD (x .tables .statement) g (pos 0)) e ∙ run-leaves f t choices ok enough g h;
+  differ = λ e. sums-differ (sym (Settlement.cases .e-amount-0) ∙ e ∙ one-amount);
+  reads = λ o l e h. ap (λ (x : ReadOutcome). x .answer) e ∙ e-read l h;
 }
-  where
-    clash : {n : ℕ} → 0 ≡ suc n → ⊥
-    clash e = omega arith

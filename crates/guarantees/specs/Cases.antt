@@ -5,11 +5,17 @@ use mathlib.Core.Bool.{true, false, cond}
 use Prim.Native.Nat.{ℕ, _*_}
 use lib.Dec.{eqb}
 use lib.ListN.{getD, length}
+use lib.IntN.{pos, negsuc}
 use Rattle.model.specs.Words.{ownerWords, stepCount}
 use Rattle.model.specs.Tables.{JobTables, jobOf}
 use Rattle.model.specs.Ranges.{jobInRange}
-use Rattle.format.specs.Codes.{Code, number, sameOffer}
-use Rattle.format.specs.Blocks.{firstSum, secondSum}
+use Rattle.format.specs.Codes.{Code, isCode, number, written, dropZeros, sameOffer}
+use Rattle.format.specs.Job.{FileJob, Offer, Tally}
+use Rattle.format.specs.Blocks.{blockCount, firstSum, secondSum}
+use Rattle.format.specs.File.{encode}
+use Rattle.format.specs.Refusals.{fileRefusal}
+use Rattle.guarantees.specs.Demand3.{owed, Holds}
+use Rattle.guarantees.specs.Settle.{printed}
 use Rattle.model.specs.Cases as Settlement
 
 -- A code by its digits.
@@ -20,12 +26,60 @@ code l = record { size = length l; digit = λ k. getD l k 0 }
 abbrev pub alone : ℕ → ℕ → ℕ
 alone p q = cond (eqb q p) 255 0
 
+-- E's offers: "00412" 500 owner 0, "77" 1250 owner 1.
+abbrev pub offersE : List Offer
+offersE =
+    record { price = 500; owner = 0; code = code (48 ∷ 48 ∷ 52 ∷ 49 ∷ 50 ∷ []) } ∷
+    record { price = 1250; owner = 1; code = code (55 ∷ 55 ∷ []) } ∷ []
+
+-- Its tallies (grocer, box, code, count): (0,0,"412",3) (1,0,"077",2) (0,1,"77",−1) (0,1,"0412",4).
+abbrev pub talliesE : List Tally
+talliesE =
+    record { grocer = 0; box = 0; code = code (52 ∷ 49 ∷ 50 ∷ []); count = pos 3 } ∷
+    record { grocer = 1; box = 0; code = code (48 ∷ 55 ∷ 55 ∷ []); count = pos 2 } ∷
+    record { grocer = 0; box = 1; code = code (55 ∷ 55 ∷ []); count = negsuc 0 } ∷
+    record { grocer = 0; box = 1; code = code (48 ∷ 52 ∷ 49 ∷ 50 ∷ []); count = pos 4 } ∷ []
+
+-- E as its file says it: K 2, grocer owners 1, 0.
+unfoldable pub fileE : FileJob
+fileE =
+    record {
+      boxes = 2;
+      grocers = 2;
+      offers = 2;
+      tallies = 4;
+      offer = λ i. getD offersE i (record { price = 0; owner = 0; code = code [] });
+      grocerOwner = λ i. getD (1 ∷ 0 ∷ []) i 0;
+      tally = λ i. getD talliesE i (record { grocer = 0; box = 0; code = code []; count = pos 0 });
+    }
+
+-- What 01 prints for E, a line each: "0 2250", "1 2500", "words 3", "messages 3", "steps 10".
+abbrev pub textE : List ℕ
+textE =
+    48 ∷ 32 ∷ 50 ∷ 50 ∷ 53 ∷ 48 ∷ 10
+    ∷ 49 ∷ 32 ∷ 50 ∷ 53 ∷ 48 ∷ 48 ∷ 10
+    ∷ 119 ∷ 111 ∷ 114 ∷ 100 ∷ 115 ∷ 32 ∷ 51 ∷ 10
+    ∷ 109 ∷ 101 ∷ 115 ∷ 115 ∷ 97 ∷ 103 ∷ 101 ∷ 115 ∷ 32 ∷ 51 ∷ 10
+    ∷ 115 ∷ 116 ∷ 101 ∷ 112 ∷ 115 ∷ 32 ∷ 49 ∷ 48 ∷ 10 ∷ []
+
 pub record Cases : Type 0 where
   -- "000" is 0.
   pub zeros : number (code (48 ∷ 48 ∷ 48 ∷ [])) ≡ 0
+  pub zeros-dropped : dropZeros (written (code (48 ∷ 48 ∷ 48 ∷ []))) ≡ 48 ∷ []
   -- "0412" and "412" agree; "4120" does not.
   pub agree : sameOffer (code (48 ∷ 52 ∷ 49 ∷ 50 ∷ [])) (code (52 ∷ 49 ∷ 50 ∷ [])) ≡ true
   pub apart : sameOffer (code (52 ∷ 49 ∷ 50 ∷ 48 ∷ [])) (code (52 ∷ 49 ∷ 50 ∷ [])) ≡ false
+  -- Without ◆: 10 digits pass; 0 or 11 do not.
+  pub ten-digits : isCode (code (48 ∷ 49 ∷ 50 ∷ 51 ∷ 52 ∷ 53 ∷ 54 ∷ 55 ∷ 56 ∷ 57 ∷ [])) ≡ true
+  pub no-digits : isCode (code []) ≡ false
+  pub eleven-digits : isCode (code (48 ∷ 49 ∷ 50 ∷ 51 ∷ 52 ∷ 53 ∷ 54 ∷ 55 ∷ 56 ∷ 57 ∷ 48 ∷ [])) ≡ false
+  -- E's file is accepted, and what it says is owed; its tables have each tally's place by its code.
+  pub e-accepted : fileRefusal (encode fileE) ≡ 0
+  pub e-owed-0 : owed fileE 0 ≡ pos 2250
+  pub e-owed-1 : owed fileE 1 ≡ pos 2500
+  pub e-tables : Holds fileE Settlement.jobE
+  -- What `settle` prints for it.
+  pub e-printed : printed (encode fileE) ≡ textE
   -- E's amounts, words and steps; T = 0 for K 2; one tally in another box; the same tally twice; the largest amount and its negative.
   pub settlement : Settlement.Cases
   -- T = 0: 2 × K steps, no words, whatever the job.
@@ -35,3 +89,5 @@ pub record Cases : Type 0 where
   pub byte-0-second : secondSum (alone 0) ≡ 64_019
   pub byte-507-first : firstSum (alone 507) ≡ 255
   pub byte-507-second : secondSum (alone 507) ≡ 255
+  -- Without ◆: the longest file has 74 blocks.
+  pub longest : blockCount 500 1_000 ≡ 74

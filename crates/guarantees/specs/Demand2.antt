@@ -13,8 +13,7 @@ use Rattle.format.specs.Codes.{Code, isCode, written, dropZeros, sameOffer}
 use Rattle.format.specs.Job.{placeOf}
 use Rattle.format.specs.Blocks.{blocks, blockCount}
 use Rattle.format.specs.File.{decode}
-use Rattle.format.specs.Refusals.{fileRefusal}
-use Rattle.format.specs.Tables.{FileTables, ReaderTables, fileJobOf, shortReader, readRefusal, readResult, sizes, writeRefusal, writeResult, wrote}
+use Rattle.format.specs.Tables.{FileTables, ReaderTables, fileJobOf, storeRead, shortReader, readRefusal, readResult, sizes, refused, writeRefusal, writeResult, wrote}
 
 -- A file's words are bytes.
 unfoldable pub Bytes : List ℕ → Type 0
@@ -25,8 +24,11 @@ pub record Demand2 : Type 0 where
   pub writeRead : (file : List ℕ) (l : ReaderTables) → Bytes file → readRefusal file l ≡ 0 → (out : List ℕ) → length file ≤ length out →
       writeResult (decode file .boxes) (decode file .grocers) (decode file .offers) (decode file .tallies) (readResult file l .tables .job) out
       ≡ record { answer = wrote (length file); out = file ++ drop (length file) out }
-  -- Reading what was written gives K, M, N and T, and into the tables it was written from every word as it was, digits as written; beside them the places.
-  pub readWrite : (k m n t : ℕ) (r : ReaderTables) (out : List ℕ) → writeRefusal k m n t (r .job) out ≡ 0 → shortReader r ≡ false →
+  -- Reading what was written gives K, M, N and T and, in whatever tables, the words of the job that was written, digits as written; beside them the places.
+  pub readWrite : (k m n t : ℕ) (l : FileTables) (out : List ℕ) → writeRefusal k m n t l out ≡ 0 → (r : ReaderTables) → shortReader r ≡ false →
+      readResult (take (512 * blockCount n t) (writeResult k m n t l out .out)) r ≡ record { answer = sizes k m n t; tables = storeRead (fileJobOf k m n t l) r }
+  -- Into the tables it was written from: every word is as it was.
+  pub readOwn : (k m n t : ℕ) (r : ReaderTables) (out : List ℕ) → writeRefusal k m n t (r .job) out ≡ 0 → shortReader r ≡ false →
       readResult (take (512 * blockCount n t) (writeResult k m n t (r .job) out .out)) r
       ≡ record { answer = sizes k m n t; tables = record { job = r .job; tallyOffer = overwrite t (placeOf (fileJobOf k m n t (r .job))) (r .tallyOffer) } }
   -- What was written are bytes: the file that reading takes back is one that a disk can hold.
@@ -34,7 +36,7 @@ pub record Demand2 : Type 0 where
   -- Two codes name one offer exactly when they agree after leading zeros are dropped.
   pub codes : (c d : Code) → isCode c ≡ true → isCode d ≡ true → (sameOffer c d ≡ true) ↔ (dropZeros (written c) ≡ dropZeros (written d))
   -- In an accepted file, changing one or two bytes of one block always gives refusal 2: f′ differs from f at most at bytes i and j of block k, and somewhere.
-  pub damage : (f f′ : List ℕ) → Bytes f → Bytes f′ → fileRefusal f ≡ 0 → (k i j : ℕ) → k < blocks (decode f) → i < 512 → j < 512 → length f′ ≡ length f →
-      ((p : ℕ) → (p ≡ 512 * k + i → ⊥) → (p ≡ 512 * k + j → ⊥) → getD f′ p 0 ≡ getD f p 0) → (f′ ≡ f → ⊥) → fileRefusal f′ ≡ 2
+  pub damage : (f f′ : List ℕ) (l : ReaderTables) → Bytes f → Bytes f′ → readRefusal f l ≡ 0 → (k i j : ℕ) → k < blocks (decode f) → i < 512 → j < 512 → length f′ ≡ length f →
+      ((p : ℕ) → (p ≡ 512 * k + i → ⊥) → (p ≡ 512 * k + j → ⊥) → getD f′ p 0 ≡ getD f p 0) → (f′ ≡ f → ⊥) → readResult f′ l ≡ record { answer = refused 2; tables = l }
   -- An accepted step, in whatever state, leaves what its line says, written into the tables; words past the needed length stay.
   pub step : (f : JobTables) (t : StateTables) (q : Asked) → answer f t q ≡ 0 → stepped f t q .tables ≡ store (jobOf f) (does (jobOf f) (view (jobOf f) t) (stepOf q)) t

@@ -1,8 +1,8 @@
--- An accepted job: what step and run are lent of a file that the reader has accepted.
+-- Demand 3, of every job in range and so of every accepted file: what step and run are lent of a file that the reader has accepted.
 use mathlib.Core.Path.{_≡_}
 use mathlib.Core.List.{List}
 use mathlib.Core.Bool.{true, false}
-use Prim.Native.Nat.{ℕ}
+use Prim.Native.Nat.{ℕ, _<_}
 use lib.Dec.{eqb}
 use lib.IntN.{ℤ, pos, _*ℤ_}
 use Rattle.laws.specs.Below.{sum, only, amounts}
@@ -11,9 +11,9 @@ use Rattle.model.specs.Tables.{JobTables, jobTables, StateTables, jobOf, jobLen
 use Rattle.model.specs.Ranges.{jobInRange}
 use Rattle.model.specs.Requests.{Request}
 use Rattle.model.specs.Demand3.{Demand3, RunIsList}
-use Rattle.format.specs.Job.{FileJob, placeOf}
+use Rattle.format.specs.Job.{FileJob, names, placeOf}
 use Rattle.format.specs.File.{decode}
-use Rattle.format.specs.Tables.{ReaderTables, readResult}
+use Rattle.format.specs.Tables.{ReaderTables, sizes, readRefusal, readResult}
 
 -- The job's tables after the reader has read a file into the tables l: K, M, N and T as it answers them, the words it stored, and the places it found; no digits.
 unfoldable pub jobRead : List ℕ → ReaderTables → JobTables
@@ -27,8 +27,31 @@ jobRead file l =
 unfoldable pub owed : FileJob → ℕ → ℤ
 owed j g = sum amounts (j .tallies) (λ t. only amounts (eqb (j .tally t .grocer) g) (j .tally t .count *ℤ pos (j .offer (placeOf j t) .price)))
 
--- An accepted file gives a job that the settlement takes.
+-- A job's tables hold what its file says.
+pub record Holds (j : FileJob) (f : JobTables) : Type 0 where
+  pub boxes : f .boxes ≡ j .boxes
+  pub grocers : f .grocers ≡ j .grocers
+  pub offers : f .offers ≡ j .offers
+  pub tallies : f .tallies ≡ j .tallies
+  -- Prices and owners.
+  pub price : (o : ℕ) → o < j .offers → jobOf f .price o ≡ j .offer o .price
+  pub offerOwner : (o : ℕ) → o < j .offers → jobOf f .offerOwner o ≡ j .offer o .owner
+  pub grocerOwner : (g : ℕ) → g < j .grocers → jobOf f .grocerOwner g ≡ j .grocerOwner g
+  -- Each tally's grocer, box and count,
+  pub tallyGrocer : (t : ℕ) → t < j .tallies → jobOf f .tallyGrocer t ≡ j .tally t .grocer
+  pub tallyBox : (t : ℕ) → t < j .tallies → jobOf f .tallyBox t ≡ j .tally t .box
+  pub tallyCount : (t : ℕ) → t < j .tallies → jobOf f .tallyCount t ≡ j .tally t .count
+  -- and the place of the offer its code names.
+  pub tallyOffer : (t : ℕ) → t < j .tallies → jobOf f .tallyOffer t ≡ placeOf j t
+
+-- "An accepted job holds what a file without a refusal says, each tally with the place of the offer its code names."
 pub record Accepted (file : List ℕ) (l : ReaderTables) : Type 0 where
+  pub holds : Holds (decode file) (jobRead file l)
+  -- The code of each tally names the offer at its place, and no other.
+  pub named : (t : ℕ) → t < decode file .tallies → (placeOf (decode file) t < decode file .offers) × (names (decode file) t (placeOf (decode file) t) ≡ true)
+  pub noOther : (t i : ℕ) → t < decode file .tallies → i < decode file .offers → names (decode file) t i ≡ true → placeOf (decode file) t ≡ i
+  -- The reader answers K, M, N and T.
+  pub answer : readResult file l .answer ≡ sizes (decode file .boxes) (decode file .grocers) (decode file .offers) (decode file .tallies)
   -- Every word is in range, and every table is as long as it must be.
   pub inRange : jobInRange (jobRead file l) ≡ true
   pub whole : jobShort (jobOf (jobRead file l)) (jobLengths (jobRead file l)) ≡ false
@@ -37,3 +60,12 @@ pub record Accepted (file : List ℕ) (l : ReaderTables) : Type 0 where
   pub run : (t : StateTables) (choices : List ℕ) → RunIsList (jobRead file l) t choices
   -- The plain sum is what the file says is owed.
   pub sums : (g : ℕ) → plainSum (jobOf (jobRead file l)) g ≡ owed (decode file) g
+
+-- Demand 3 whole. A caller knows its hypotheses: the reader accepted the file; or the tables are in range and as long as they must be, as conditions 20 and 21 say.
+pub record Demand3Holds : Type 0 where
+  -- Of every file that the reader accepts, whatever its tables held,
+  pub files : (file : List ℕ) (l : ReaderTables) → readRefusal file l ≡ 0 → Accepted file l
+  -- of every list of step requests, from a fresh state in whatever buffers,
+  pub lists : (f : JobTables) → jobInRange f ≡ true → jobShort (jobOf f) (jobLengths f) ≡ false → (t : StateTables) (rs : List Request) → Demand3 f t rs
+  -- and of every run.
+  pub runs : (f : JobTables) → jobInRange f ≡ true → jobShort (jobOf f) (jobLengths f) ≡ false → (t : StateTables) (choices : List ℕ) → RunIsList f t choices

@@ -1,7 +1,8 @@
 -- The demands as a reader meets them. Each statement is about the definitions that the public calls' contracts cite.
+
 pub mod Demand1
 pub mod Demand2
 pub mod Demand3
+pub mod Settle
 pub mod Cases
 pub mod Strength
-pub mod Settle

@@ -3,8 +3,8 @@ use mathlib.Core.Path.{_≡_}
 use mathlib.Core.Bool.{cond}
 use mathlib.Core.List.{List, [], _∷_, _++_}
 use Prim.Native.Nat.{ℕ, zero, suc, _+_, _-_, _*_, _/_, _%_, _<_}
-use lib.Dec.{ltb}
-use lib.IntN.{ℤ, pos, negsuc}
+use lib.Dec.{ltb, eqb}
+use lib.IntN.{ℤ, pos, negsuc, negℤ}
 use lib.ListN.{getD, length, take, replicate}
 use Rattle.model.specs.Words.{ownerWords, messages, stepCount}
 use Rattle.model.specs.Tables.{JobTables, StateTables, stateTables, jobOf}
@@ -14,7 +14,7 @@ use Rattle.format.specs.Refusals.{fileRefusal}
 use Rattle.format.specs.Tables.{ReadAnswer, sizes, refused as notRead, ReaderTables, fileTables, readerTables, readResult}
 use Rattle.guarantees.specs.Demand3.{jobRead, owed}
 
--- The decimal digits of n, at most k of them, in ASCII and without leading zeros.
+-- The last k decimal digits of n in ASCII; all of them, without leading zeros, where k are enough.
 unfoldable pub digitsOf : ℕ → ℕ → List ℕ
 digitsOf zero n = []
 digitsOf (suc k) n = cond (ltb n 10) ((48 + n) ∷ []) (digitsOf k (n / 10) ++ ((48 + n % 10) ∷ []))
@@ -91,6 +91,11 @@ unfoldable pub valueOf : List ℕ → ℕ → ℕ
 valueOf [] n = n
 valueOf (d ∷ ds) n = valueOf ds (10 * n + (d - 48))
 
+-- The amount that a text says: after a minus sign a negative one.
+unfoldable pub amountOf : List ℕ → ℤ
+amountOf [] = pos 0
+amountOf (c ∷ s) = cond (eqb c 45) (negℤ (pos (valueOf s 0))) (pos (valueOf (c ∷ s) 0))
+
 pub record Settle : Type 0 where
   -- An accepted file: each grocer's line says what the file says is owed; then the words of the owner tables, the messages, and 2 × K + 2 × (messages) steps.
   pub accepted : (file : List ℕ) → fileRefusal file ≡ 0 →
@@ -103,5 +108,6 @@ pub record Settle : Type 0 where
   pub refused : (file : List ℕ) → (fileRefusal file ≡ 0 → ⊥) → printed file ≡ refusedText (fileRefusal file)
   -- Cut short anywhere, an accepted file is refused.
   pub cut : (file : List ℕ) (n : ℕ) → fileRefusal file ≡ 0 → n < length file → fileRefusal (take n file) ≡ 0 → ⊥
-  -- A printed number is the number.
+  -- A printed number is the number, and a printed amount the amount.
   pub reads : (n : ℕ) → valueOf (decimal n) 0 ≡ n
+  pub readsAmount : (z : ℤ) → amountOf (signedDecimal z) ≡ z
