@@ -1,6 +1,6 @@
 -- An accepted file gives a job in range that holds what it says, and demand 3 holds. Assumes nothing.
-use mathlib.Core.Path.{_≡_, refl, ap, ap₂, _∙_}
-use mathlib.Core.List.{List}
+use mathlib.Core.Path.{_≡_, refl, ap, ap₂, _∙_, sym}
+use mathlib.Core.List.{List, map}
 use mathlib.Core.Bool.{Bool, true, false, _&&_}
 use Prim.Native.Nat.{ℕ, _<_, _≤_}
 use lib.Dec.{eqb, ltb, leb}
@@ -13,12 +13,15 @@ use Rattle.laws.proofs.Sums.{sum-cong}
 use Rattle.laws.proofs.Below.{all-of}
 use Rattle.laws.proofs.Tables.{word-in, long-overwrite, getD-overwrite}
 use Rattle.model.specs.Job.{heldBy, held, amount, plainSum}
-use Rattle.model.specs.Tables.{jobOf, jobLengths, jobShort}
+use Rattle.model.specs.Tables.{jobOf, jobLengths, jobShort, JobTables, StateTables, view, lentShort}
 use Rattle.model.specs.Ranges.{upTo, under, around, sizesInRange, jobWordsInRange, jobInRange}
 use Rattle.format.specs.Job.{FileJob, names, placeOf}
 use Rattle.format.specs.File.{decode}
 use Rattle.format.specs.Tables.{FileTables, ReaderTables, ReadOutcome, fileJobOf, readRefusal, readResult, storeRead}
 use Rattle.guarantees.specs.Demand3.{jobRead, owed, Holds, Accepted, Demand3Holds}
+use Rattle.model.specs.Requests.{left}
+use Rattle.model.specs.Run.{run, ran}
+use Rattle.model.specs.Demand3.{whole}
 use Rattle.model.proofs.Demand3.{demand3, run-is-list}
 use Rattle.format.proofs.Range.{InRange, fine, only-place}
 use Rattle.format.proofs.Accept.{job-accepted, accepted-range}
@@ -178,6 +181,17 @@ module _ (f : List ℕ) (l : ReaderTables) (ok : readRefusal f l ≡ 0) where
       (λ t. only amounts (held (jobOf (jobRead f l)) t && eqb (jobOf (jobRead f l) .tallyGrocer t) g) (amount (jobOf (jobRead f l)) (jobOf (jobRead f l) .price (jobOf (jobRead f l) .tallyOffer t)) t))
       (λ t. only amounts (eqb (decode f .tally t .grocer) g) (decode f .tally t .count *ℤ pos (decode f .offer (placeOf (decode f) t) .price)))
       (λ t h. ap₂ (λ (x : Bool) (y : ℤ). only amounts x y) (ap₂ (λ (x : Bool) (y : ℕ). x && eqb y g) (its-box t h) (its-grocer t h)) (its-amount t h))
+
+-- A run of a job in range leaves every grocer's plain sum.
+pub run-leaves : (f : JobTables) (t : StateTables) (choices : List ℕ) → jobInRange f ≡ true → jobShort (jobOf f) (jobLengths f) ≡ false → lentShort f t ≡ false →
+    (g : ℕ) → g < f .grocers → getD (ran f t choices .tables .statement) g (pos 0) ≡ plainSum (jobOf f) g
+unfolding view jobOf
+run-leaves f t choices ok long enough g h =
+    let list = map (whole (jobOf f)) (run (jobOf f) choices) in
+    let is = run-is-list f ok long t choices in
+    ap (λ (s : StateTables). getD (s .statement) g (pos 0)) (is .tables enough)
+    ∙ sym (word-in (f .grocers) (left f t list .statement) (pos 0) g h)
+    ∙ demand3 f ok long t list .finish (is .allDone) .statements g h
 
 -- Every file that the reader accepts.
 pub accepted : (f : List ℕ) (l : ReaderTables) → readRefusal f l ≡ 0 → Accepted f l

@@ -1,7 +1,7 @@
 -- What settle prints are the amounts owed. Assumes nothing.
 use mathlib.Core.Path.{_≡_, refl, sym, ap, ap₂, _∙_}
 use mathlib.Core.Bool.{false}
-use mathlib.Core.List.{List, [], _∷_, _++_, map}
+use mathlib.Core.List.{List, [], _∷_, _++_}
 use Prim.Native.Nat.{ℕ, zero, suc, _+_, _-_, _*_, _/_, _%_, _^_, _<_, _≤_}
 use native.Mathlib.Omega.{arith}
 use native.Mathlib.Nat.{pow-suc, mul-le-mul, le-refl}
@@ -11,12 +11,10 @@ use lib.ListN.{getD, length, take, replicate, length-replicate}
 use lib.Seq.{getD-take, length-take-le}
 use borrow.Author.Tests.{lt-ltb, le-ltb, ne-eqb}
 use Rattle.laws.proofs.Bools.{split}
-use Rattle.laws.proofs.Tables.{word-in}
 use Rattle.model.specs.Job.{Job}
 use Rattle.model.specs.Words.{ownerWords, messages, stepCount}
-use Rattle.model.specs.Tables.{JobTables, StateTables, jobOf, view, stateLengths, stateShort, lentShort}
-use Rattle.model.specs.Run.{RunAnswer, finished, reported, run, ran}
-use Rattle.model.specs.Requests.{Request, left}
+use Rattle.model.specs.Tables.{JobTables, StateTables, jobOf, stateLengths, stateShort, lentShort}
+use Rattle.model.specs.Run.{RunAnswer, finished, reported, ran}
 use Rattle.model.specs.Demand3.{whole}
 use Rattle.format.specs.File.{decode}
 use Rattle.format.specs.Refusals.{fileRefusal}
@@ -26,7 +24,7 @@ use Rattle.guarantees.specs.Settle.{digitsOf, decimal, signedDecimal, li
 use Rattle.format.proofs.Order.{reader-file}
 use Rattle.format.proofs.Accept.{long, accepted-range}
 use Rattle.format.proofs.Tables.{read-accepted, read-refused}
-use Rattle.guarantees.proofs.Demand3.{accepted}
+use Rattle.guarantees.proofs.Demand3.{run-leaves, accepted}
 
 -- ---- a printed number is the number
 
@@ -152,10 +150,6 @@ module _ (file : List ℕ) (ok : fileRefusal file ≡ 0) where
   abbrev job : JobTables
   job = jobRead file blankJob
 
-  -- The steps that the run with no choices takes.
-  abbrev list : List Request
-  list = map (whole (jobOf job)) (run (jobOf job) [])
-
   lent-ok : lentShort job blankState ≡ false
   unfolding lentShort jobOf jobRead
   lent-ok =
@@ -169,12 +163,8 @@ module _ (file : List ℕ) (ok : fileRefusal file ≡ 0) where
 
   -- and each statement is what the file says is owed.
   amount-is : (g : ℕ) → g < decode file .grocers → getD (ran job blankState [] .tables .statement) g (pos 0) ≡ owed (decode file) g
-  unfolding view jobOf jobRead
-  amount-is g h =
-      ap (λ (t : StateTables). getD (t .statement) g (pos 0)) (given .run blankState [] .tables lent-ok)
-      ∙ sym (word-in (decode file .grocers) (left job blankState list .statement) (pos 0) g h)
-      ∙ given .steps blankState list .finish (given .run blankState [] .allDone) .statements g h
-      ∙ given .sums g
+  unfolding jobRead
+  amount-is g h = run-leaves job blankState [] (given .inRange) (given .whole) lent-ok g h ∙ given .sums g
 
   settled-is : printed file ≡ settledText (decode file .grocers) (owed (decode file)) (ownerWords (jobOf job)) (messages (jobOf job)) (stepCount (jobOf job))
   unfolding printed readText jobText runText jobRead
