@@ -1,4 +1,4 @@
-# What the test scripts share: named checks, and the last line 'N passed, M failed'.
+# What the gate and its tests share: named checks, and the last line 'N passed, M failed'.
 passed=0 failed=0
 
 fail() { # fail TEXT
@@ -10,6 +10,15 @@ check() { # check TEXT COMMAND..
     local text=$1
     shift
     if "$@"; then passed=$((passed + 1)); else fail "$text"; fi
+}
+
+gives() { # gives STATUS OUTPUT ERRORS COMMAND..: whether a command ends so and writes the bytes of these two files
+    local due=$1 output=$2 errors=$3 status
+    shift 3
+    timeout 60 "$@" >$out/output 2>$out/errors
+    status=$?
+    [ $status -eq "$due" ] || echo "status $status, not $due: $*"
+    cmp "$output" $out/output && cmp "$errors" $out/errors && [ $status -eq "$due" ]
 }
 
 add_result() { # add_result TEXT LOG STATUS: add the last line of a test's log
