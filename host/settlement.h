@@ -6,7 +6,8 @@
  *   number of words given, also where that number is 0.
  * - Buffers of one call do not overlap, also where they are only read.
  * - More words than needed may be lent. Words of a table past its needed length are neither read nor written.
- * No call keeps a pointer, uses a heap or has data of its own: calls on different buffers may run at once.
+ * No call keeps a pointer, uses a heap or has data of its own: calls on different buffers may run at once. A call needs
+ * less than 32 KiB of stack.
  *
  * ANSWERS
  * 0: accepted. Any other number is a refusal, the first condition met in the order that stands at each call;

@@ -1,4 +1,4 @@
-# What the gate and its tests share: named checks, and the last line 'N passed, M failed'.
+# What the gate, its tests and the benchmark share: named checks, the last line 'N passed, M failed', and what they need.
 passed=0 failed=0
 
 fail() { # fail TEXT
@@ -43,6 +43,12 @@ need() { # need TEST PACKAGE..: install Debian packages where a test does not ho
 need_compiler() {
     need 'command -v gcc' gcc
     need 'test -e /usr/include/stdio.h' libc6-dev
+}
+
+library() { # library NAME: target/staticlib/libNAME.a, made anew where a file of the crates is newer
+    local lib=target/staticlib/lib$1.a
+    [ -e "$lib" ] && [ -z "$(find crates crates.txt -type f -newer "$lib" -print -quit)" ] && return
+    rt staticlib "$1"
 }
 
 finish() { # the last line, and the exit status
