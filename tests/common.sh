@@ -45,7 +45,7 @@ need_compiler() {
     need 'test -e /usr/include/stdio.h' libc6-dev
 }
 
-library() { # library NAME: target/staticlib/libNAME.a, made anew where a file of the crates is newer
+build_library() { # build_library NAME: target/staticlib/libNAME.a, made anew where a file of the crates is newer
     local lib=target/staticlib/lib$1.a
     [ -e "$lib" ] && [ -z "$(find crates crates.txt -type f -newer "$lib" -print -quit)" ] && return
     rt staticlib "$1"
