@@ -21,6 +21,9 @@ gives() { # gives STATUS OUTPUT ERRORS COMMAND..: whether a command ends so and 
     cmp "$output" $out/output && cmp "$errors" $out/errors && [ $status -eq "$due" ]
 }
 
+# In front of a command: it runs with 32 KiB of stack in all.
+small_stack=(bash -c 'ulimit -s 32 && exec env -i LD_BIND_NOW=1 "$@"' -)
+
 add_result() { # add_result TEXT LOG STATUS: add the last line of a test's log
     local line
     line=$(tail -n 1 "$2" | grep -E '^[0-9]+ passed, [0-9]+ failed$')
