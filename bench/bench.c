@@ -1,5 +1,6 @@
 /* Our calls beside those of the plain C program, in one run: first that both give the same, then how long each takes.
-   bench              the table
+   bench              that they agree, and the table
+   bench --agree      that they agree, alone
    bench --ours NAME  ours alone, once, on the work of this name: for callgrind
    bench --names      the names */
 #define _POSIX_C_SOURCE 200809L
@@ -9,12 +10,6 @@
 #include <stdlib.h>
 #include <string.h>
 #include <time.h>
-
-typedef uint16_t read_call(READ_PARAMETERS);
-typedef size_t write_call(WRITE_PARAMETERS);
-typedef uint16_t step_call(STEP_PARAMETERS);
-typedef uint16_t run_call(RUN_PARAMETERS);
-typedef uint16_t reconcile_call(RECONCILE_PARAMETERS);
 
 struct calls {
     read_call *read;
@@ -328,7 +323,7 @@ static double clock_time(void)
 /* Medians of one work. The ratios are taken round by round, of calls that follow each other, so that a machine that
    slows down or speeds up counts for both. */
 struct result {
-    double ratio, growth, plain_growth, ours, plain;
+    double ratio, growth, plain_growth;
 };
 
 enum { OURS, PLAIN, OURS_TENTH, PLAIN_TENTH, TIMES };
@@ -365,11 +360,8 @@ static struct result measure(const struct work whole[JOBS], const struct work te
         timed(&plain, &whole[warm], &room[1 - warm % 2]);
     }
     unsigned n = rounds(whole, tenth, t);
-    struct result r = { median_ratio(t[OURS], t[PLAIN], n), median_ratio(t[OURS], t[OURS_TENTH], n),
-                        median_ratio(t[PLAIN], t[PLAIN_TENTH], n), 0, 0 };
-    r.ours = median(t[OURS], n);
-    r.plain = median(t[PLAIN], n);
-    return r;
+    return (struct result){ median_ratio(t[OURS], t[PLAIN], n), median_ratio(t[OURS], t[OURS_TENTH], n),
+                            median_ratio(t[PLAIN], t[PLAIN_TENTH], n) };
 }
 
 /* ---- the works that are measured ---- */
@@ -442,20 +434,35 @@ static void agree_and_accept(const struct work *w, const struct item *item)
         fail("a work that is measured is refused");
 }
 
+/* Every job of a work, whole and a tenth of it. */
+static void prepare_all(const struct item *item, struct work whole[JOBS], struct work tenth[JOBS])
+{
+    for (unsigned k = 0; k < JOBS; k++) {
+        prepare(&whole[k], item, true, k);
+        prepare(&tenth[k], item, false, k);
+    }
+}
+
+static struct work whole_jobs[JOBS], tenth_jobs[JOBS];
+
+static void agree_on_works(void)
+{
+    for (unsigned i = 0; i < ITEMS; i++) {
+        prepare_all(&items[i], whole_jobs, tenth_jobs);
+        for (unsigned k = 0; k < JOBS; k++) {
+            agree_and_accept(&whole_jobs[k], &items[i]);
+            agree_and_accept(&tenth_jobs[k], &items[i]);
+        }
+    }
+}
+
 static void table(void)
 {
-    static struct work whole[JOBS], tenth[JOBS];
-    printf("%-31s | %6s | %6s | %8s | %9s | %9s\n", "what", "ours/C", "growth", "C's own", "ours, ns", "C, ns");
+    printf("%-31s | %6s | %6s | %8s\n", "what", "ours/C", "growth", "C's own");
     for (unsigned i = 0; i < ITEMS; i++) {
-        for (unsigned k = 0; k < JOBS; k++) {
-            prepare(&whole[k], &items[i], true, k);
-            prepare(&tenth[k], &items[i], false, k);
-            agree_and_accept(&whole[k], &items[i]);
-            agree_and_accept(&tenth[k], &items[i]);
-        }
-        struct result r = measure(whole, tenth);
-        printf("%-31s | %6.2f | %6.2f | %8.2f | %9.0f | %9.0f\n", items[i].what, r.ratio, r.growth, r.plain_growth,
-               r.ours, r.plain);
+        prepare_all(&items[i], whole_jobs, tenth_jobs);
+        struct result r = measure(whole_jobs, tenth_jobs);
+        printf("%-31s | %6.2f | %6.2f | %8.2f\n", items[i].what, r.ratio, r.growth, r.plain_growth);
         fflush(stdout);
     }
 }
@@ -475,9 +482,16 @@ static int ours_alone(const char *name)
     return 2;
 }
 
+static int usage(void)
+{
+    fputs("usage: bench [--agree | --names | --ours NAME]\n", stderr);
+    return 2;
+}
+
 int main(int argc, char **argv)
 {
     static struct work w;
+    bool agree_alone = argc == 2 && !strcmp(argv[1], "--agree");
     if (argc == 3 && !strcmp(argv[1], "--ours"))
         return ours_alone(argv[2]);
     if (argc == 2 && !strcmp(argv[1], "--names")) {
@@ -485,8 +499,12 @@ int main(int argc, char **argv)
             puts(items[i].name);
         return 0;
     }
+    if (argc != 1 && !agree_alone)
+        return usage();
     agree_at_random(&w);
+    agree_on_works();
     printf("both sides agree, answers and tables, in %lu calls\n", compared);
-    table();
+    if (!agree_alone)
+        table();
     return 0;
 }

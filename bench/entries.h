@@ -1,18 +1,18 @@
-/* The calls that are measured: ours, from the two archives, and those of the plain C program, with the same parameters.
-   A slice is a pointer and then its number of words. The answer is 0, or the number of the refusal. */
+/* The calls that are measured: ours, those of host/settlement.h and two of the crate bench_entries, and beside each the one
+   of the plain C program. A slice is a pointer and then its number of words. The answer is 0, or the number of the refusal. */
 #ifndef ENTRIES_H
 #define ENTRIES_H
-#include <stddef.h>
-#include <stdint.h>
+#include "settlement.h"
 
-enum { BOXES = 16, GROCERS = 255, OFFERS = 500, TALLIES = 1000, CODE = 11, BLOCK = 512, BLOCKS = 74, FILE_BYTES = BLOCK * BLOCKS };
-
-#define READ_PARAMETERS                                                                                               \
-    const uint8_t *file, size_t file_len, uint32_t *price, size_t price_len, uint16_t *offer_owner,                   \
-        size_t offer_owner_len, uint8_t *offer_code, size_t offer_code_len, uint16_t *grocer_owner,                   \
-        size_t grocer_owner_len, uint16_t *tally_grocer, size_t tally_grocer_len, uint16_t *tally_box,                \
-        size_t tally_box_len, uint8_t *tally_code, size_t tally_code_len, int32_t *tally_count,                       \
-        size_t tally_count_len, uint16_t *tally_offer, size_t tally_offer_len, uint16_t *sizes, size_t sizes_len
+enum {
+    BOXES = SETTLEMENT_MAX_BOXES,
+    GROCERS = SETTLEMENT_MAX_GROCERS,
+    OFFERS = SETTLEMENT_MAX_OFFERS,
+    TALLIES = SETTLEMENT_MAX_TALLIES,
+    CODE = SETTLEMENT_CODE,
+    BLOCK = 512,
+    FILE_BYTES = SETTLEMENT_MAX_FILE
+};
 
 /* The answer of the writer is the file's length, or the number of the refusal. */
 #define WRITE_PARAMETERS                                                                                              \
@@ -22,34 +22,22 @@ enum { BOXES = 16, GROCERS = 255, OFFERS = 500, TALLIES = 1000, CODE = 11, BLOCK
         size_t tally_grocer_len, const uint16_t *tally_box, size_t tally_box_len, const uint8_t *tally_code,          \
         size_t tally_code_len, const int32_t *tally_count, size_t tally_count_len, uint8_t *out, size_t out_len
 
-#define TABLE_PARAMETERS                                                                                              \
-    uint16_t boxes, uint16_t grocers, uint16_t offers, uint16_t tallies, const uint32_t *price, size_t price_len,     \
-        const uint16_t *offer_owner, size_t offer_owner_len, const uint16_t *grocer_owner, size_t grocer_owner_len,   \
-        const uint16_t *tally_grocer, size_t tally_grocer_len, const uint16_t *tally_box, size_t tally_box_len,       \
-        const uint16_t *tally_offer, size_t tally_offer_len, const int32_t *tally_count, size_t tally_count_len,      \
-        uint32_t *known, size_t known_len, uint32_t *price_transit, size_t price_transit_len, int64_t *working,       \
-        size_t working_len, int64_t *total_transit, size_t total_transit_len, int64_t *statement,                     \
-        size_t statement_len, uint16_t *done, size_t done_len, uint32_t *sent, size_t sent_len
-
-#define STEP_PARAMETERS TABLE_PARAMETERS, uint16_t kind, uint16_t first, uint16_t second
-#define RUN_PARAMETERS TABLE_PARAMETERS, const uint16_t *choices, size_t choices_len, uint32_t *report, size_t report_len
-
 /* The fields of the records are lent apart; the call makes the list of records of them. `owed` takes the amount. */
 #define RECONCILE_PARAMETERS                                                                                          \
     const uint16_t *grocer, size_t grocer_len, const uint16_t *box, size_t box_len, const uint16_t *place,            \
         size_t place_len, const int32_t *count, size_t count_len, const uint32_t *price, size_t price_len,            \
         uint16_t grocers, uint16_t offers, uint16_t wanted, int64_t *owed, size_t owed_len
 
-uint16_t settlement_read(READ_PARAMETERS);
-uint16_t settlement_step(STEP_PARAMETERS);
-uint16_t settlement_run(RUN_PARAMETERS);
-size_t bench_write(WRITE_PARAMETERS);
-uint16_t bench_reconcile(RECONCILE_PARAMETERS);
+typedef __typeof__(settlement_read) read_call;
+typedef __typeof__(settlement_step) step_call;
+typedef __typeof__(settlement_run) run_call;
+typedef size_t write_call(WRITE_PARAMETERS);
+typedef uint16_t reconcile_call(RECONCILE_PARAMETERS);
 
-uint16_t plain_read(READ_PARAMETERS);
-uint16_t plain_step(STEP_PARAMETERS);
-uint16_t plain_run(RUN_PARAMETERS);
-size_t plain_write(WRITE_PARAMETERS);
-uint16_t plain_reconcile(RECONCILE_PARAMETERS);
+write_call bench_write, plain_write;
+reconcile_call bench_reconcile, plain_reconcile;
+read_call plain_read;
+step_call plain_step;
+run_call plain_run;
 
 #endif

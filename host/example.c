@@ -1,4 +1,4 @@
-/* A floor program: settles a job twice, by steps in an order of its own and by one run, and compares the statements.
+/* A host program: settles a job twice, by steps in an order of its own and by one run, and compares the statements.
  *
  *   example [FILE]    the job file, or standard input
  *

@@ -6,7 +6,8 @@
  *   number of words given, also where that number is 0.
  * - Buffers of one call do not overlap, also where they are only read.
  * - More words than needed may be lent. Words of a table past its needed length are neither read nor written.
- * No call keeps a pointer, uses a heap or has data of its own.
+ * No call keeps a pointer, uses a heap or has data of its own: calls on different buffers may run at once. A call needs
+ * less than 32 KiB of stack.
  *
  * ANSWERS
  * 0: accepted. Any other number is a refusal, the first condition met in the order that stands at each call;
@@ -15,8 +16,8 @@
  *
  * NUMBERS
  * Boxes, grocers, offers, tallies and places are numbered from 0. K boxes 1 to 16, M grocers 1 to 255, N offers 1 to
- * 500, T tallies 0 to 1,000. A price is 0 to 9,999,999 tenths of a cent, a count -99,999 to 99,999, an amount within
- * +-10^15 tenths of a cent.
+ * 500, T tallies 0 to 1,000. Owners and boxes are below K, tally_grocer below M, tally_offer below N. A price is 0 to
+ * 9,999,999 tenths of a cent, a count -99,999 to 99,999, an amount within +-10^15 tenths of a cent.
  *
  * TABLES OF A JOB             words  word i
  *   price         uint32_t    N      price of offer i
@@ -120,6 +121,10 @@ uint16_t settlement_read(
  *   5  add own totals     adds its working totals of its own grocers to their   as 4
  *                         statements; they become 0
  *   6  receive totals     receives them from second into its statements         once second has sent (4)
+ *
+ * An accepted step writes what its line says, and no other word: its word of done becomes 1; 1 puts the prices into
+ * price_transit, 4 the totals into total_transit, and both raise sent by the number of words in the message; 3 puts the
+ * prices into known; 3 and 6 set the words that they receive to 0 in price_transit or total_transit.
  *
  * Needed lengths are the words of the tables above, from K, M, N and T as given; sent 1.
  *

@@ -1,4 +1,4 @@
-# What the test scripts share: named checks, and the last line 'N passed, M failed'.
+# What the gate, its tests and the benchmark share: named checks, the last line 'N passed, M failed', and what they need.
 passed=0 failed=0
 
 fail() { # fail TEXT
@@ -11,6 +11,18 @@ check() { # check TEXT COMMAND..
     shift
     if "$@"; then passed=$((passed + 1)); else fail "$text"; fi
 }
+
+gives() { # gives STATUS OUTPUT ERRORS COMMAND..: whether a command ends so and writes the bytes of these two files
+    local due=$1 output=$2 errors=$3 status
+    shift 3
+    timeout 60 "$@" >$out/output 2>$out/errors
+    status=$?
+    [ $status -eq "$due" ] || echo "status $status, not $due: $*"
+    cmp "$output" $out/output && cmp "$errors" $out/errors && [ $status -eq "$due" ]
+}
+
+# In front of a command: it runs with 32 KiB of stack in all.
+small_stack=(bash -c 'ulimit -s 32 && exec env -i LD_BIND_NOW=1 "$@"' -)
 
 add_result() { # add_result TEXT LOG STATUS: add the last line of a test's log
     local line
@@ -34,6 +46,12 @@ need() { # need TEST PACKAGE..: install Debian packages where a test does not ho
 need_compiler() {
     need 'command -v gcc' gcc
     need 'test -e /usr/include/stdio.h' libc6-dev
+}
+
+build_library() { # build_library NAME: target/staticlib/libNAME.a, made anew where a file of the crates is newer
+    local lib=target/staticlib/lib$1.a
+    [ -e "$lib" ] && [ -z "$(find crates crates.txt -type f -newer "$lib" -print -quit)" ] && return
+    rt staticlib "$1"
 }
 
 finish() { # the last line, and the exit status

@@ -1,15 +1,15 @@
 #!/usr/bin/env python3
 """Writes docs/GATE.md on standard output from what .ci/run printed: python3 tools/gate_times.py LOG > docs/GATE.md
 
-LOG must be whole: its last lines are 'gate: N s' and 'N passed, M failed'. What failed is said."""
+LOG must be whole and of a gate that passed: its last lines are 'gate: N s' and 'N passed, 0 failed'."""
 import re
 import sys
 
 
 def whole(lines):
     """The gate's seconds and its last line, or why the log cannot be used."""
-    if len(lines) < 2 or not re.fullmatch(r"\d+ passed, \d+ failed", lines[-1]):
-        sys.exit("gate_times.py: the log does not end with 'N passed, M failed'")
+    if len(lines) < 2 or not re.fullmatch(r"\d+ passed, 0 failed", lines[-1]):
+        sys.exit("gate_times.py: the log does not end with 'N passed, 0 failed'")
     took = re.fullmatch(r"gate: (\d+) s", lines[-2])
     if not took:
         sys.exit("gate_times.py: the line before the last is not 'gate: N s'")
@@ -29,12 +29,9 @@ def main():
             edits.setdefault(m[1], []).append(int(m[2]))
     print("# Gate times\n")
     print("Made by `.ci/run > gate.log` and `python3 tools/gate_times.py gate.log > docs/GATE.md`.")
-    print("Two crates are proved at a time where two processors are free, so the whole is less than the sum.\n")
+    print("Crates are proved side by side, one for each processor and at most four, so the whole is less than the sum.\n")
     count = sum(map(len, edits.values()))
     print(f"Whole: {seconds // 60} min {seconds % 60} s; {len(proved)} crates, {count} edits that must fail; `{verdict}`.\n")
-    failed = [m[1] for line in lines if (m := re.fullmatch(r"rt: (\S+) NOT PROVED .*", line))]
-    if failed:
-        print("Not proved in this run: " + ", ".join(f"`{name}`" for name in failed) + ".\n")
     print("| crate | proof, s | edits | edits, s |")
     print("|---|--:|--:|--:|")
     for name in sorted(proved, key=proved.get, reverse=True):

@@ -1,8 +1,9 @@
 #!/usr/bin/env python3
 """uses.py FILE..: write the `use` lines of antt files anew: one line for each module, names sorted as declared, unused names left out.
-Names are looked up in crates/*/specs and crates/*/proofs of the repository around FILE; names of the kit keep the module they came from. Where two crates declare one name, look at the result."""
+With ADD=1 in the environment, also names that are used and not imported.
+Names are looked up in crates/*/specs and crates/*/proofs of the repository that FILE stands in: its root is what stands before the
+last /crates/ of FILE's path. Names of the kit keep the module they came from. Where two crates declare one name, look at the result."""
 import re, sys, os, glob
-root=os.environ.get('ROOT','.')
 def decls(path):
     out=[]
     indata=False
@@ -28,7 +29,7 @@ def put(n,path):
 EXT={'lib.Dec':'eqb ltb leb','borrow.Author.Tests':'lt-ltb le-ltb ltb-true ltb-false eqb-true eqb-false ne-eqb eq-eqb le-leb lt-leb leb-true leb-false not-true not-false',
 'mathlib.Core.Path':'_≡_ refl sym ap ap₂ _∙_ subst','mathlib.Core.Bool':'Bool true false cond _&&_ _||_ not false≢true','Prim.Native.Nat':'ℕ zero suc _+_ _-_ _*_ _/_ _%_ _^_ _<_ _≤_ min',
 'lib.ListN':'length getD take drop','native.Mathlib.Omega':'arith','lib.IntN':'ℤ pos negsuc natAbs _+ℤ_ _*ℤ_ +ℤ-idl +ℤ-idr','mathlib.Core.List':'List [] _∷_ _++_ map','lib.Count':'ones'}
-def build(crate):
+def build(root,crate):
     if os.environ.get('ADD'):
         for m,ns in EXT.items():
             for n in ns.split(): index.setdefault(n,m)
@@ -63,8 +64,9 @@ def used(n,body):
         return True
     return False
 def fix(path, extra=()):
-    crate=path.split('/crates/')[1].split('/')[0]
-    index.clear(); places.clear(); build(crate)
+    root,_,inside=path.rpartition('/crates/')
+    crate=inside.split('/')[0]
+    index.clear(); places.clear(); build(root,crate)
     lines=open(path).read().split('\n')
     head=[];uses=[];aliases=[];body=[];i=0
     for l in lines:
@@ -100,4 +102,8 @@ def fix(path, extra=()):
     out=head+[f'use {m}.{{{", ".join(got[m])}}}' for m in order]+aliases
     open(path,'w').write('\n'.join(out)+'\n\n'+full.strip('\n')+'\n')
 if __name__=='__main__':
+    if not sys.argv[1:]: sys.exit('usage: uses.py FILE..')
+    for p in sys.argv[1:]:
+        if '/crates/' not in os.path.abspath(p): sys.exit(f'uses.py: {p} does not stand in a folder crates/')
+        if not os.path.isfile(p): sys.exit(f'uses.py: there is no file {p}')
     for p in sys.argv[1:]: fix(os.path.abspath(p))

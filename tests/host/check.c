@@ -70,6 +70,10 @@ int close_checks(void)
 {
     static const char *const names[ENTRIES] = {"reader", "step", "run"};
     for (unsigned entry = 0; entry < ENTRIES; entry++) print_answers(names[entry], answers[entry]);
+    if (passed + failed == 0) {
+        printf("FAILED: no group's name has the text \"%s\"\n", only_groups);
+        failed++;
+    }
     printf("%lu passed, %lu failed\n", passed, failed);
     return failed ? 1 : 0;
 }

@@ -140,7 +140,7 @@ void random_job(struct job *job, struct sizes sizes)
     }
 }
 
-void small_evening(struct job *job)
+void sample_job(struct job *job)
 {
     memset(job, 0, sizeof *job);
     job->sizes = (struct sizes){2, 2, 2, 4};

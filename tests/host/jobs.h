@@ -26,7 +26,7 @@ extern const struct sizes TINY, SMALL, MEDIUM, LARGEST;
 void random_job(struct job *job, struct sizes sizes);
 
 /* E of the specification. */
-void small_evening(struct job *job);
+void sample_job(struct job *job);
 
 /* A job with one offer, one grocer and tallies alike, each with its own owner. */
 void one_tally_job(struct job *job, struct sizes sizes, uint32_t price, struct tally tally);

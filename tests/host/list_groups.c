@@ -1,35 +1,35 @@
 /* Lists of step requests on random jobs, and single requests on arbitrary states. */
-#include "evening.h"
 #include "groups.h"
+#include "settling.h"
 
-static struct evening evening;
+static struct settlement settlement;
 
 static bool is_marked(uint16_t kind, uint16_t first, uint16_t second)
 {
-    return lent_word(&evening, DONE, mark_place(&evening, (struct step){kind, first, second})) == 1;
+    return lent_word(&settlement, DONE, mark_place(&settlement, (struct step){kind, first, second})) == 1;
 }
 
 static bool is_added(const struct tally *tally)
 {
-    uint16_t owner = evening.job.offer[tally->place].owner;
-    if (owner == tally->box) return is_marked(SWEEP_OWN, owner, owner);
+    uint16_t owner = settlement.job.offer[tally->place].owner;
+    if (owner == tally->box) return is_marked(MULTIPLY_OWN, owner, owner);
     return is_marked(RECEIVE_PRICES, tally->box, owner);
 }
 
 /* Statements, working totals and totals in transit are the sum over the tallies already added, grocer by grocer. */
 static void running_sum(void)
 {
-    const struct job *job = &evening.job;
+    const struct job *job = &settlement.job;
     int64_t sum[MOST_GROCERS] = {0};
     for (size_t t = 0; t < job->sizes.tallies; t++) {
         const struct tally *tally = &job->tally[t];
         if (is_added(tally)) sum[tally->grocer] += (int64_t)tally->count * job->offer[tally->place].price;
     }
     for (size_t g = 0; g < job->sizes.grocers; g++) {
-        int64_t have = lent_word(&evening, STATEMENT, g);
+        int64_t have = lent_word(&settlement, STATEMENT, g);
         for (size_t b = 0; b < job->sizes.boxes; b++)
-            have += lent_word(&evening, WORKING, b * job->sizes.grocers + g) +
-                    lent_word(&evening, TOTAL_TRANSIT, b * job->sizes.grocers + g);
+            have += lent_word(&settlement, WORKING, b * job->sizes.grocers + g) +
+                    lent_word(&settlement, TOTAL_TRANSIT, b * job->sizes.grocers + g);
         expect(have == sum[g], "running sum of grocer %zu is %lld, should be %lld", g, (long long)have,
                (long long)sum[g]);
     }
@@ -37,7 +37,7 @@ static void running_sum(void)
 
 static struct step random_step(void)
 {
-    uint16_t boxes = evening.job.sizes.boxes;
+    uint16_t boxes = settlement.job.sizes.boxes;
     return (struct step){(uint16_t)(1 + below(6)), (uint16_t)below(boxes), (uint16_t)below(boxes)};
 }
 
@@ -46,7 +46,7 @@ static struct step some_step_of_job(void)
 {
     for (;;) {
         struct step step = random_step();
-        if (evening.machine.has[step.kind][step.first][step.second]) return step;
+        if (settlement.machine.has[step.kind][step.first][step.second]) return step;
     }
 }
 
@@ -54,15 +54,15 @@ static struct step wild_step(void)
 {
     struct step step = random_step();
     if (one_in(2)) step.kind = wild_number(6);
-    if (one_in(2)) step.first = wild_number(evening.job.sizes.boxes);
-    if (one_in(2)) step.second = wild_number(evening.job.sizes.boxes);
+    if (one_in(2)) step.first = wild_number(settlement.job.sizes.boxes);
+    if (one_in(2)) step.second = wild_number(settlement.job.sizes.boxes);
     return step;
 }
 
 static struct step random_request(void)
 {
     uint32_t draw = below(10);
-    if (draw < 5) return some_ready_step(&evening);
+    if (draw < 5) return some_ready_step(&settlement);
     if (draw < 8) return some_step_of_job();
     return draw == 8 ? random_step() : wild_step();
 }
@@ -72,29 +72,29 @@ static void lend_short(void)
 {
     for (uint32_t tables = 1 + below(2); tables > 0; tables--) {
         enum table_name name = below(STEP_TABLES);
-        uint64_t need = needed(name, evening.job.sizes);
-        if (need > 0) evening.lending.lend[name] = one_in(2) ? need - 1 : below((uint32_t)need);
+        uint64_t need = needed(name, settlement.job.sizes);
+        if (need > 0) settlement.lending.lend[name] = one_in(2) ? need - 1 : below((uint32_t)need);
     }
 }
 
 static void ask_short(struct step step)
 {
     lend_short();
-    ask(&evening, step);
-    lend_whole(&evening.lending);
+    ask(&settlement, step);
+    lend_whole(&settlement.lending);
 }
 
 static void ask_damaged(struct step step)
 {
     enum table_name name = below(STEP_TABLES);
-    uint64_t need = needed(name, evening.job.sizes);
+    uint64_t need = needed(name, settlement.job.sizes);
     if (need == 0) return;
     size_t place = below((uint32_t)need);
-    int64_t kept = word_at(evening.lending.twin[name], place);
-    put_both(&evening.lending, name, place, range_of(name, evening.job.sizes).most + 1 + below(9));
-    uint16_t answer = ask(&evening, step);
+    int64_t kept = word_at(settlement.lending.twin[name], place);
+    put_both(&settlement.lending, name, place, range_of(name, settlement.job.sizes).most + 1 + below(9));
+    uint16_t answer = ask(&settlement, step);
     expect(answer == 21, "a word of %s out of range was answered %u", table_text(name), answer);
-    put_both(&evening.lending, name, place, kept);
+    put_both(&settlement.lending, name, place, kept);
 }
 
 static void next_request(void)
@@ -105,7 +105,7 @@ static void next_request(void)
         ask_short(step);
     else if (draw == 1)
         ask_damaged(step);
-    else if (ask(&evening, step) == 0)
+    else if (ask(&settlement, step) == 0)
         running_sum();
 }
 
@@ -113,22 +113,23 @@ static void finish(void)
 {
     struct step ready[MOST_STEPS];
     size_t length;
-    while ((length = ready_steps(&evening.machine, ready)) > 0)
-        if (ask(&evening, ready[below((uint32_t)length)]) != 0) break;
+    while ((length = ready_steps(&settlement.machine, ready)) > 0)
+        if (ask(&settlement, ready[below((uint32_t)length)]) != 0) break;
     running_sum();
-    expect_plain_sums(&evening);
-    expect(lent_word(&evening, SENT, 0) == words_of_evening(&evening.job), "words sent %lld, should be %u",
-           (long long)lent_word(&evening, SENT, 0), words_of_evening(&evening.job));
-    for (unsigned i = 0; i < 3; i++) expect(ask(&evening, random_request()) != 0, "a step after the last was accepted");
+    expect_plain_sums(&settlement);
+    expect(lent_word(&settlement, SENT, 0) == words_of_job(&settlement.job), "words sent %lld, should be %u",
+           (long long)lent_word(&settlement, SENT, 0), words_of_job(&settlement.job));
+    for (unsigned i = 0; i < 3; i++)
+        expect(ask(&settlement, random_request()) != 0, "a step after the last was accepted");
 }
 
 static void try_list(struct sizes sizes, uint32_t requests)
 {
-    random_job(&evening.job, sizes);
-    open_evening(&evening, SPARE, 0);
+    random_job(&settlement.job, sizes);
+    open_settlement(&settlement, SPARE, 0);
     while (requests-- > 0) next_request();
     finish();
-    close_evening(&evening);
+    close_settlement(&settlement);
 }
 
 static void small_lists(void)
@@ -173,37 +174,37 @@ static void random_state(void)
     uint32_t all = below(12);
     for (unsigned name = JOB_TABLES; name < STEP_TABLES; name++) {
         uint32_t manner = all < 6 ? all : below(6);
-        for (size_t place = 0; place < needed(name, evening.job.sizes); place++)
-            put_both(&evening.lending, name, place, random_state_word(range_of(name, evening.job.sizes), manner));
+        for (size_t place = 0; place < needed(name, settlement.job.sizes); place++)
+            put_both(&settlement.lending, name, place, random_state_word(range_of(name, settlement.job.sizes), manner));
     }
 }
 
 /* Half of the time, marks that make a step ready. */
 static void make_ready(struct step step)
 {
-    uint16_t boxes = evening.job.sizes.boxes;
+    uint16_t boxes = settlement.job.sizes.boxes;
     if (step.kind < 1 || step.kind > 6 || step.first >= boxes || step.second >= boxes || one_in(2)) return;
-    set_mark(&evening, (struct step){SWEEP_OWN, step.first, step.first});
+    set_mark(&settlement, (struct step){MULTIPLY_OWN, step.first, step.first});
     for (uint16_t other = 0; other < boxes; other++)
-        set_mark(&evening, (struct step){RECEIVE_PRICES, step.first, other});
-    set_mark(&evening, (struct step){SEND_PRICES, step.second, step.first});
-    set_mark(&evening, (struct step){SEND_TOTALS, step.second, step.first});
-    put_both(&evening.lending, DONE, mark_place(&evening, step), 0);
+        set_mark(&settlement, (struct step){RECEIVE_PRICES, step.first, other});
+    set_mark(&settlement, (struct step){SEND_PRICES, step.second, step.first});
+    set_mark(&settlement, (struct step){SEND_TOTALS, step.second, step.first});
+    put_both(&settlement.lending, DONE, mark_place(&settlement, step), 0);
 }
 
 static void try_states(struct sizes sizes, unsigned requests)
 {
-    random_job(&evening.job, sizes);
-    open_evening(&evening, SPARE, 0);
+    random_job(&settlement.job, sizes);
+    open_settlement(&settlement, SPARE, 0);
     while (requests-- > 0) {
         struct step step = random_request();
         if (one_in(2)) random_state();
         make_ready(step);
         if (one_in(20)) lend_short();
-        ask_on_words(&evening, evening.job.sizes, step);
-        lend_whole(&evening.lending);
+        ask_on_words(&settlement, settlement.job.sizes, step);
+        lend_whole(&settlement.lending);
     }
-    close_evening(&evening);
+    close_settlement(&settlement);
 }
 
 static void arbitrary_states(void)

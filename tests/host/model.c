@@ -27,7 +27,7 @@ struct message {
     uint16_t number[MOST_OFFERS];
 };
 
-static bool is_message_step(unsigned kind) { return kind != SWEEP_OWN && kind != ADD_OWN; }
+static bool is_message_step(unsigned kind) { return kind != MULTIPLY_OWN && kind != ADD_OWN; }
 static bool is_send(unsigned kind) { return kind == SEND_PRICES || kind == SEND_TOTALS; }
 static bool carries_prices(unsigned kind) { return kind == SEND_PRICES || kind == RECEIVE_PRICES; }
 
@@ -80,7 +80,7 @@ static void note_steps(struct machine *machine)
 
 static bool all_tallies_added(const struct machine *machine, uint16_t box)
 {
-    if (!machine->done[SWEEP_OWN][box][box]) return false;
+    if (!machine->done[MULTIPLY_OWN][box][box]) return false;
     for (uint16_t from = 0; from < machine->job->sizes.boxes; from++)
         if (machine->has[RECEIVE_PRICES][box][from] && !machine->done[RECEIVE_PRICES][box][from]) return false;
     return true;
@@ -210,7 +210,7 @@ static void act(struct machine *machine, struct step step)
     struct message message = message_of(machine, step);
     switch (step.kind) {
     case SEND_PRICES: send_prices(machine, &message); break;
-    case SWEEP_OWN: add_tallies(machine, step.first, step.first); break;
+    case MULTIPLY_OWN: add_tallies(machine, step.first, step.first); break;
     case RECEIVE_PRICES: receive_prices(machine, &message); break;
     case SEND_TOTALS: send_totals(machine, &message); break;
     case ADD_OWN: add_own(machine, step.first); break;
@@ -508,7 +508,7 @@ static bool holds_grocer(const struct job *job, size_t box, size_t grocer)
     return false;
 }
 
-uint32_t words_of_evening(const struct job *job)
+uint32_t words_of_job(const struct job *job)
 {
     uint32_t words = 0;
     for (size_t b = 0; b < job->sizes.boxes; b++) {

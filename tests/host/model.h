@@ -1,12 +1,12 @@
-/* The settlement told once more, from its specification alone: the job as plain structs, words under way as envelopes,
-   the six steps, the run, and the job file. The tests hold the proved library to it. */
+/* A model of the settlement in C that shares no code with the library: the job as plain structs, words under
+   way as envelopes, the six steps, the run, and the job file. The tests hold the proved library to it. */
 #ifndef MODEL_H
 #define MODEL_H
 
 #include "tables.h"
 
 enum { BLOCK = 512, MOST_BLOCKS = 74, MOST_FILE = BLOCK * MOST_BLOCKS, FIELD = 10 };
-enum { SEND_PRICES = 1, SWEEP_OWN, RECEIVE_PRICES, SEND_TOTALS, ADD_OWN, RECEIVE_TOTALS, KINDS };
+enum { SEND_PRICES = 1, MULTIPLY_OWN, RECEIVE_PRICES, SEND_TOTALS, ADD_OWN, RECEIVE_TOTALS, KINDS };
 enum { MOST_STEPS = 6 * MOST_BOXES * MOST_BOXES };
 
 struct code {
@@ -47,7 +47,7 @@ struct post {
     struct envelope envelope[MOST_BOXES * MOST_OFFERS];
 };
 
-/* The boxes in the middle of an evening. */
+/* The boxes in the middle of a settlement. */
 struct machine {
     const struct job *job;
     uint16_t needs[MOST_OFFERS], sharers[MOST_GROCERS];
@@ -89,8 +89,8 @@ void read_state_words(struct machine *machine, const struct job *job, const stru
 /* The plain sum of count x price of one grocer. */
 int64_t plain_sum(const struct job *job, uint16_t grocer);
 
-/* The words that a whole evening sends, counted pair by pair from the owners and tallies. */
-uint32_t words_of_evening(const struct job *job);
+/* The words that a whole settlement sends, counted pair by pair from the owners and tallies. */
+uint32_t words_of_job(const struct job *job);
 
 /* The job file: its refusal, or 0 and the job; a job as a file, and its length; a block's two sums. */
 uint16_t read_file(const uint8_t *file, size_t length, struct job *job);

@@ -1,8 +1,8 @@
 /* The reader: each refusal, their order, short buffers, random files and damaged ones. */
 #include <string.h>
 
-#include "evening.h"
 #include "groups.h"
+#include "settling.h"
 
 static struct job job;
 static struct lending lending;
@@ -34,9 +34,9 @@ static void expect_answer(size_t length, uint16_t due)
     expect(answer == due, "reader answered %u, the specification says %u", answer, due);
 }
 
-static size_t write_small_evening(void)
+static size_t write_sample_job(void)
 {
-    small_evening(&job);
+    sample_job(&job);
     return write_file(&job, file);
 }
 
@@ -126,9 +126,9 @@ static void apply(const struct edit *edit)
 }
 
 /* E's file with two edits, the earlier one last; the sums are right except where an edit is about them. */
-static size_t edit_small_evening(const struct edit *earlier, const struct edit *later)
+static size_t edit_sample_job(const struct edit *earlier, const struct edit *later)
 {
-    size_t length = write_small_evening();
+    size_t length = write_sample_job();
     if (!breaks_sums(later)) apply(later);
     if (!breaks_sums(earlier)) apply(earlier);
     for (size_t at = 0; at < length; at += BLOCK) write_sums(file + at);
@@ -141,7 +141,7 @@ static void each_refusal(void)
 {
     for (size_t i = 0; i < EDITS; i++) {
         at_case("%s", edits[i].what);
-        expect_answer(edit_small_evening(&edits[i], &edits[i]), edits[i].number);
+        expect_answer(edit_sample_job(&edits[i], &edits[i]), edits[i].number);
     }
 }
 
@@ -156,13 +156,13 @@ static void order_of_refusals(void)
         for (size_t i = 0; i < j; i++) {
             if (same_bytes(&edits[i], &edits[j])) continue;
             at_case("%s, and %s", edits[i].what, edits[j].what);
-            expect_answer(edit_small_evening(&edits[i], &edits[j]), edits[i].number);
+            expect_answer(edit_sample_job(&edits[i], &edits[j]), edits[i].number);
         }
 }
 
 static void lengths(void)
 {
-    size_t whole = write_small_evening();
+    size_t whole = write_sample_job();
     for (size_t length = 0; length <= whole; length++) {
         at_case("first %zu bytes of E", length);
         expect_answer(length, length == whole ? 0 : 1);
@@ -179,7 +179,7 @@ static void block_count_in_order(void)
 {
     for (size_t i = 0; i < EDITS; i++) {
         if (edits[i].number == 1) continue;
-        size_t length = edit_small_evening(&edits[i], &edits[i]);
+        size_t length = edit_sample_job(&edits[i], &edits[i]);
         bool before = edits[i].block == 0;
         at_case("%s, and a block too many", edits[i].what);
         memset(file + length, 0, BLOCK);
@@ -197,7 +197,7 @@ static void short_buffers(void)
         size_t need = needed(name, LARGEST);
         if (lending.table[name].length == 0 || name == FILE_BYTES) continue;
         for (unsigned way = 0; way < 4; way++) {
-            size_t length = way < 2 ? write_small_evening() : way == 2 ? 0 : 100;
+            size_t length = way < 2 ? write_sample_job() : way == 2 ? 0 : 100;
             at_case("%s short", table_text(name));
             lending.lend[name] = way == 0 ? need - 1 : way == 1 ? 0 : below((uint32_t)need);
             expect_answer(length, 20);
@@ -205,7 +205,7 @@ static void short_buffers(void)
         }
         at_case("%s just long enough", table_text(name));
         lending.lend[name] = need;
-        expect_answer(write_small_evening(), 0);
+        expect_answer(write_sample_job(), 0);
         lend_whole(&lending);
     }
 }
@@ -260,7 +260,7 @@ static void change_and_ask(size_t length, size_t place)
 
 static void changed_bytes(void)
 {
-    size_t length = write_small_evening();
+    size_t length = write_sample_job();
     for (unsigned round = 0; round < 4; round++)
         for (size_t place = 0; place < length; place++) change_and_ask(length, place);
     for (unsigned long i = 0; i < job_count / 4 + 1; i++) {

@@ -1,23 +1,23 @@
 /* The run: its refusals, its choices, its report, and a list of steps that ends alike. */
-#include "evening.h"
 #include "groups.h"
+#include "settling.h"
 
-static struct evening evening;
+static struct settlement settlement;
 static struct picks picks;
 
 /* A run of the job with these many choices; the state buffers hold anything before. */
-static void open_run(size_t choices) { open_evening(&evening, SPARE, choices); }
+static void open_run(size_t choices) { open_settlement(&settlement, SPARE, choices); }
 
 static void scramble_state(void)
 {
     for (unsigned name = JOB_TABLES; name < STEP_TABLES; name++)
-        for (size_t place = 0; place < needed(name, evening.job.sizes); place++)
-            put_both(&evening.lending, name, place, (int64_t)random_word());
+        for (size_t place = 0; place < needed(name, settlement.job.sizes); place++)
+            put_both(&settlement.lending, name, place, (int64_t)random_word());
 }
 
 static void expect_run(uint16_t due)
 {
-    uint16_t answer = ask_run(&evening, evening.job.sizes, &picks);
+    uint16_t answer = ask_run(&settlement, settlement.job.sizes, &picks);
     expect(answer == due, "run answered %u, the specification says %u", answer, due);
 }
 
@@ -25,8 +25,8 @@ static void expect_report(uint32_t words, uint32_t messages, uint32_t steps)
 {
     uint32_t due[] = {words, messages, steps};
     for (size_t i = 0; i < 3; i++)
-        expect(lent_word(&evening, REPORT, i) == due[i], "report[%zu] is %lld, should be %u", i,
-               (long long)lent_word(&evening, REPORT, i), due[i]);
+        expect(lent_word(&settlement, REPORT, i) == due[i], "report[%zu] is %lld, should be %u", i,
+               (long long)lent_word(&settlement, REPORT, i), due[i]);
 }
 
 /* The cases of the specification */
@@ -38,34 +38,34 @@ static void run_case(const char *what, uint32_t words, uint32_t messages, uint32
     scramble_state();
     expect_run(0);
     expect_report(words, messages, steps);
-    expect_plain_sums(&evening);
+    expect_plain_sums(&settlement);
 }
 
 static void expect_statement(uint16_t grocer, int64_t amount)
 {
-    expect(lent_word(&evening, STATEMENT, grocer) == amount, "statement %u is %lld, should be %lld", grocer,
-           (long long)lent_word(&evening, STATEMENT, grocer), (long long)amount);
+    expect(lent_word(&settlement, STATEMENT, grocer) == amount, "statement %u is %lld, should be %lld", grocer,
+           (long long)lent_word(&settlement, STATEMENT, grocer), (long long)amount);
 }
 
 static void one_tally_case(const char *what, uint16_t tallies, uint32_t price, int32_t count, int64_t amount)
 {
-    one_tally_job(&evening.job, (struct sizes){2, 1, 1, tallies}, price, (struct tally){0, 1, 0, count, {0, {0}}});
+    one_tally_job(&settlement.job, (struct sizes){2, 1, 1, tallies}, price, (struct tally){0, 1, 0, count, {0, {0}}});
     run_case(what, 1, 1, 6);
     expect_statement(0, amount);
-    close_evening(&evening);
+    close_settlement(&settlement);
 }
 
 static void cases(void)
 {
-    small_evening(&evening.job);
+    sample_job(&settlement.job);
     run_case("E", 3, 3, 10);
     expect_statement(0, 2250);
     expect_statement(1, 2500);
-    close_evening(&evening);
+    close_settlement(&settlement);
     for (uint16_t boxes = 1; boxes <= MOST_BOXES; boxes++) {
-        one_tally_job(&evening.job, (struct sizes){boxes, 3, 3, 0}, 1, (struct tally){0});
+        one_tally_job(&settlement.job, (struct sizes){boxes, 3, 3, 0}, 1, (struct tally){0});
         run_case("no tallies", 0, 0, 2u * boxes);
-        close_evening(&evening);
+        close_settlement(&settlement);
     }
     one_tally_case("one tally", 1, 30, 5, 150);
     one_tally_case("the same tally twice", 2, 30, 5, 300);
@@ -80,16 +80,16 @@ static void cases(void)
 static void refused_run(enum table_name name, size_t lend)
 {
     at_case("%s of %zu words", table_text(name), lend);
-    evening.lending.lend[name] = lend;
+    settlement.lending.lend[name] = lend;
     expect_run(20);
-    lend_whole(&evening.lending);
+    lend_whole(&settlement.lending);
 }
 
 static void short_buffers(void)
 {
     for (unsigned long round = 0; round < 10 + job_count / 100; round++) {
         struct sizes sizes = sizes_with_tallies(round % 4 ? TINY : MEDIUM);
-        random_job(&evening.job, sizes);
+        random_job(&settlement.job, sizes);
         open_run(below(5));
         scramble_state();
         for (unsigned name = 0; name < ALL_TABLES; name++) {
@@ -100,30 +100,31 @@ static void short_buffers(void)
             refused_run(name, below((uint32_t)need));
         }
         for (unsigned name = 0; name < ALL_TABLES; name++)
-            if (evening.lending.lend[name] > 0 && name != CHOICES) evening.lending.lend[name] = needed(name, sizes);
+            if (settlement.lending.lend[name] > 0 && name != CHOICES)
+                settlement.lending.lend[name] = needed(name, sizes);
         at_case("every buffer just long enough");
         expect_run(0);
-        close_evening(&evening);
+        close_settlement(&settlement);
     }
 }
 
 /* A word of the job out of range, alone and with a short buffer. */
 static void out_of_range(enum table_name name, size_t place, int64_t word)
 {
-    int64_t kept = word_at(evening.lending.twin[name], place);
+    int64_t kept = word_at(settlement.lending.twin[name], place);
     at_case("%s[%zu] = %lld", table_text(name), place, (long long)word);
-    put_both(&evening.lending, name, place, word);
+    put_both(&settlement.lending, name, place, word);
     expect_run(21);
     refused_run(REPORT, 2);
     refused_run(SENT, 0);
-    put_both(&evening.lending, name, place, kept);
+    put_both(&settlement.lending, name, place, kept);
 }
 
 static void words_out_of_range(void)
 {
     for (unsigned long round = 0; round < 10 + job_count / 100; round++) {
         struct sizes sizes = sizes_with_tallies(round % 4 ? TINY : MEDIUM);
-        random_job(&evening.job, sizes);
+        random_job(&settlement.job, sizes);
         open_run(0);
         scramble_state();
         for (unsigned name = 0; name < JOB_TABLES; name++) {
@@ -135,14 +136,14 @@ static void words_out_of_range(void)
         }
         at_case("every word put back");
         expect_run(0);
-        close_evening(&evening);
+        close_settlement(&settlement);
     }
 }
 
 static void expect_for_sizes(const struct sizes tried[], size_t count, uint16_t due)
 {
     for (size_t i = 0; i < count; i++) {
-        evening.job.sizes = tried[i];
+        settlement.job.sizes = tried[i];
         at_case("K %u, M %u, N %u, T %u", tried[i].boxes, tried[i].grocers, tried[i].offers, tried[i].tallies);
         expect_run(due);
     }
@@ -153,11 +154,11 @@ static void sizes_out_of_range(void)
     static const struct sizes none[] = {{0, 2, 2, 4}, {2, 0, 2, 4}, {2, 2, 0, 4}, {0, 0, 0, 0}};
     static const struct sizes more[] = {{17, 2, 2, 4},   {2, 256, 2, 4},   {2, 2, 501, 4},
                                         {2, 2, 2, 1001}, {16, 2, 4096, 4}, {65535, 65535, 65535, 65535}};
-    small_evening(&evening.job);
+    sample_job(&settlement.job);
     open_run(3);
     expect_for_sizes(none, 4, 21);
     expect_for_sizes(more, 6, 20);
-    close_evening(&evening);
+    close_settlement(&settlement);
 }
 
 /* Random runs */
@@ -175,36 +176,36 @@ static size_t random_choice_count(void)
 static void random_choices(void)
 {
     uint32_t manner = below(4);
-    for (size_t i = 0; i < evening.lending.table[CHOICES].length; i++) {
+    for (size_t i = 0; i < settlement.lending.table[CHOICES].length; i++) {
         uint16_t choice = manner == 0 ? 65535 : manner == 1 ? (uint16_t)below(8) : (uint16_t)random_word();
-        put_both(&evening.lending, CHOICES, i, choice);
+        put_both(&settlement.lending, CHOICES, i, choice);
     }
 }
 
 /* The picked steps, asked one by one from a fresh state, leave the words that the run left. */
 static void list_ends_alike(void)
 {
-    start_fresh(&evening.machine, &evening.job);
-    lend_state(&evening);
+    start_fresh(&settlement.machine, &settlement.job);
+    lend_state(&settlement);
     for (size_t i = 0; i < picks.length; i++)
-        expect(ask(&evening, picks.step[i]) == 0, "the run's step %zu was refused in the list", i);
-    expect_plain_sums(&evening);
-    expect(lent_word(&evening, SENT, 0) == lent_word(&evening, REPORT, 0),
+        expect(ask(&settlement, picks.step[i]) == 0, "the run's step %zu was refused in the list", i);
+    expect_plain_sums(&settlement);
+    expect(lent_word(&settlement, SENT, 0) == lent_word(&settlement, REPORT, 0),
            "words sent in the list and the run's report differ");
-    expect(picks.length == (size_t)lent_word(&evening, REPORT, 2), "steps in the list and the run's report differ");
+    expect(picks.length == (size_t)lent_word(&settlement, REPORT, 2), "steps in the list and the run's report differ");
 }
 
 static void try_run(struct sizes sizes, bool as_list)
 {
-    random_job(&evening.job, sizes);
+    random_job(&settlement.job, sizes);
     open_run(random_choice_count());
     scramble_state();
     random_choices();
     expect_run(0);
-    expect_plain_sums(&evening);
-    expect_report(words_of_evening(&evening.job), (uint32_t)(picks.length / 2 - sizes.boxes), (uint32_t)picks.length);
+    expect_plain_sums(&settlement);
+    expect_report(words_of_job(&settlement.job), (uint32_t)(picks.length / 2 - sizes.boxes), (uint32_t)picks.length);
     if (as_list) list_ends_alike();
-    close_evening(&evening);
+    close_settlement(&settlement);
 }
 
 static void random_runs(void)
@@ -230,17 +231,17 @@ static void from_file_to_statements(void)
     size_t lengths[ALL_TABLES];
     for (unsigned name = 0; name < ALL_TABLES; name++) lengths[name] = needed(name, LARGEST);
     lengths[FILE_BYTES] = MOST_FILE;
-    open_lending(&evening.lending, lengths);
+    open_lending(&settlement.lending, lengths);
     for (unsigned long i = 0; i < 10 + job_count / 20; i++) {
         at_case("file %lu", i);
-        random_job(&evening.job, random_sizes(i % 8 ? SMALL : LARGEST));
-        expect(ask_read(&evening.lending, file, write_file(&evening.job, file)) == 0, "the file was refused");
-        struct sizes read = {(uint16_t)lent_word(&evening, SIZES, 0), (uint16_t)lent_word(&evening, SIZES, 1),
-                             (uint16_t)lent_word(&evening, SIZES, 2), (uint16_t)lent_word(&evening, SIZES, 3)};
-        expect(ask_run(&evening, read, &picks) == 0, "the run was refused");
-        expect_plain_sums(&evening);
+        random_job(&settlement.job, random_sizes(i % 8 ? SMALL : LARGEST));
+        expect(ask_read(&settlement.lending, file, write_file(&settlement.job, file)) == 0, "the file was refused");
+        struct sizes read = {(uint16_t)lent_word(&settlement, SIZES, 0), (uint16_t)lent_word(&settlement, SIZES, 1),
+                             (uint16_t)lent_word(&settlement, SIZES, 2), (uint16_t)lent_word(&settlement, SIZES, 3)};
+        expect(ask_run(&settlement, read, &picks) == 0, "the run was refused");
+        expect_plain_sums(&settlement);
     }
-    close_evening(&evening);
+    close_settlement(&settlement);
 }
 
 /* State buffers that nothing was written to: a memory checker sees a run that looks at them. */
@@ -250,13 +251,13 @@ static void blank_state(void)
     lend_exactly = true;
     for (unsigned long i = 0; i < 20; i++) {
         at_case("blank state %lu", i);
-        random_job(&evening.job, random_sizes(i % 4 ? TINY : SMALL));
-        open_evening(&evening, 0, random_choice_count());
+        random_job(&settlement.job, random_sizes(i % 4 ? TINY : SMALL));
+        open_settlement(&settlement, 0, random_choice_count());
         random_choices();
-        evening.lending.blank = true;
+        settlement.lending.blank = true;
         expect_run(0);
-        expect_plain_sums(&evening);
-        close_evening(&evening);
+        expect_plain_sums(&settlement);
+        close_settlement(&settlement);
     }
     lend_exactly = exactly;
 }

@@ -1,8 +1,8 @@
 /* One step on jobs that are written out: each refusal, their order, and results at the edges of their ranges. */
-#include "evening.h"
 #include "groups.h"
+#include "settling.h"
 
-static struct evening evening;
+static struct settlement settlement;
 
 /* Plights: requests on E with some steps done, and their refusals */
 
@@ -16,7 +16,7 @@ struct plight {
 
 static const struct plight plights[] = {
     {.what = "send prices, permitted", .step = {1, 0, 1}, .number = 0},
-    {.what = "sweep own, permitted", .step = {2, 1, 1}, .number = 0},
+    {.what = "multiply own, permitted", .step = {2, 1, 1}, .number = 0},
     {.what = "receive prices, permitted", .step = {3, 0, 1}, .number = 0, .done = {{1, 1, 0}}},
     {.what = "send totals, permitted", .step = {4, 0, 1}, .number = 0, .done = {{2, 0, 0}, {3, 0, 1}}},
     {.what = "add own, permitted", .step = {5, 0, 0}, .number = 0, .done = {{2, 0, 0}, {3, 0, 1}}},
@@ -31,11 +31,11 @@ static const struct plight plights[] = {
     {.what = "receipt of 1 from 1", .step = {3, 1, 1}, .number = 23},
     {.what = "totals 1 to 1", .step = {4, 1, 1}, .number = 23, .done = {{2, 1, 1}, {3, 1, 0}}},
     {.what = "totals of 0 from 0", .step = {6, 0, 0}, .number = 23},
-    {.what = "sweep of 0 and 1", .step = {2, 0, 1}, .number = 23},
+    {.what = "multiply own of 0 and 1", .step = {2, 0, 1}, .number = 23},
     {.what = "own of 1 and 0", .step = {5, 1, 0}, .number = 23},
     {.what = "first box 2", .step = {1, 2, 0}, .number = 23},
     {.what = "second box 2", .step = {1, 0, 2}, .number = 23},
-    {.what = "sweep of box 2", .step = {2, 2, 2}, .number = 23},
+    {.what = "multiply own of box 2", .step = {2, 2, 2}, .number = 23},
     {.what = "own of box 65,535", .step = {5, 65535, 65535}, .number = 23},
     {.what = "first box 256", .step = {1, 256, 1}, .number = 23},
     {.what = "second box 65,535", .step = {6, 1, 65535}, .number = 23},
@@ -46,7 +46,7 @@ static const struct plight plights[] = {
     {.what = "empty receipt, not ready", .step = {6, 0, 1}, .number = 24},
     {.what = "empty receipt, marked", .step = {6, 0, 1}, .number = 24, .marked = true, .large = true},
     {.what = "send prices repeated", .step = {1, 0, 1}, .number = 25, .marked = true},
-    {.what = "sweep repeated", .step = {2, 0, 0}, .number = 25, .marked = true},
+    {.what = "multiply own repeated", .step = {2, 0, 0}, .number = 25, .marked = true},
     {.what = "receipt repeated", .step = {3, 0, 1}, .number = 25, .marked = true, .done = {{1, 1, 0}}},
     {.what = "receipt marked, not ready", .step = {3, 0, 1}, .number = 25, .marked = true},
     {.what = "totals repeated", .step = {4, 0, 1}, .number = 25, .marked = true, .done = {{2, 0, 0}, {3, 0, 1}}},
@@ -70,20 +70,20 @@ static const struct plight plights[] = {
     {.what = "receipt before sending, the other way sent", .step = {3, 0, 1}, .number = 26, .done = {{1, 0, 1}}},
     {.what = "receipt before sending, its result too large", .step = {3, 1, 0}, .number = 26, .large = true},
     {.what = "totals before anything", .step = {4, 0, 1}, .number = 26},
-    {.what = "totals after the own sweep only", .step = {4, 0, 1}, .number = 26, .done = {{2, 0, 0}}},
+    {.what = "totals after multiply own only", .step = {4, 0, 1}, .number = 26, .done = {{2, 0, 0}}},
     {.what = "totals after the receipt only", .step = {4, 0, 1}, .number = 26, .done = {{3, 0, 1}}},
-    {.what = "totals after the other box's sweep",
+    {.what = "totals after the other box's multiply own",
      .step = {4, 0, 1},
      .number = 26,
      .large = true,
      .done = {{2, 1, 1}, {3, 0, 1}}},
     {.what = "own before anything", .step = {5, 1, 1}, .number = 26, .large = true},
-    {.what = "own after the sweep only", .step = {5, 1, 1}, .number = 26, .done = {{2, 1, 1}}},
+    {.what = "own totals after multiply own only", .step = {5, 1, 1}, .number = 26, .done = {{2, 1, 1}}},
     {.what = "own after the receipt only", .step = {5, 0, 0}, .number = 26, .done = {{3, 0, 1}}},
     {.what = "receipt of totals before sending", .step = {6, 1, 0}, .number = 26, .large = true},
     {.what = "receipt of totals, own added", .step = {6, 1, 0}, .number = 26, .done = {{5, 0, 0}, {5, 1, 1}}},
     {.what = "send prices, the count full", .step = {1, 0, 1}, .number = 21, .large = true},
-    {.what = "sweep, its result too large", .step = {2, 0, 0}, .number = 21, .large = true},
+    {.what = "multiply own, its result too large", .step = {2, 0, 0}, .number = 21, .large = true},
     {.what = "receipt, its result too large", .step = {3, 1, 0}, .number = 21, .large = true, .done = {{1, 0, 1}}},
     {.what = "totals, the count full", .step = {4, 0, 1}, .number = 21, .large = true, .done = {{2, 0, 0}, {3, 0, 1}}},
     {.what = "own, its result too large",
@@ -102,7 +102,7 @@ enum { PLIGHTS = sizeof plights / sizeof plights[0] };
 /* Every amount and the count at the end of its range, prices above 0: no step that adds stays within. */
 static void make_large(void)
 {
-    struct lending *lending = &evening.lending;
+    struct lending *lending = &settlement.lending;
     for (size_t place = 0; place < 4; place++) {
         put_both(lending, KNOWN, place, 1);
         put_both(lending, PRICE_TRANSIT, place, 1);
@@ -115,12 +115,12 @@ static void make_large(void)
 
 static void open_plight(const struct plight *plight, const char *and)
 {
-    small_evening(&evening.job);
-    open_evening(&evening, SPARE, 0);
+    sample_job(&settlement.job);
+    open_settlement(&settlement, SPARE, 0);
     at_case("%s%s", plight->what, and);
     for (unsigned i = 0; i < 3; i++)
-        if (plight->done[i].kind) set_mark(&evening, plight->done[i]);
-    if (plight->marked) set_mark(&evening, plight->step);
+        if (plight->done[i].kind) set_mark(&settlement, plight->done[i]);
+    if (plight->marked) set_mark(&settlement, plight->step);
     if (plight->large) make_large();
 }
 
@@ -128,8 +128,8 @@ static void each_plight(void)
 {
     for (size_t i = 0; i < PLIGHTS; i++) {
         open_plight(&plights[i], "");
-        expect_step(&evening, plights[i].step, plights[i].number);
-        close_evening(&evening);
+        expect_step(&settlement, plights[i].step, plights[i].number);
+        close_settlement(&settlement);
     }
 }
 
@@ -138,16 +138,16 @@ static void plights_with_earlier_faults(void)
 {
     for (size_t i = 0; i < PLIGHTS; i++)
         for (unsigned name = 0; name < STEP_TABLES; name++) {
-            struct lending *lending = &evening.lending;
+            struct lending *lending = &settlement.lending;
             size_t need = needed(name, (struct sizes){2, 2, 2, 4});
             open_plight(&plights[i], ", and an earlier fault");
             lending->lend[name] = need - 1;
-            expect_step(&evening, plights[i].step, 20);
-            put_both(lending, name, below((uint32_t)need), range_of(name, evening.job.sizes).most + 1);
-            expect_step(&evening, plights[i].step, 20);
+            expect_step(&settlement, plights[i].step, 20);
+            put_both(lending, name, below((uint32_t)need), range_of(name, settlement.job.sizes).most + 1);
+            expect_step(&settlement, plights[i].step, 20);
             lend_whole(lending);
-            expect_step(&evening, plights[i].step, 21);
-            close_evening(&evening);
+            expect_step(&settlement, plights[i].step, 21);
+            close_settlement(&settlement);
         }
 }
 
@@ -175,20 +175,21 @@ static const struct late lates[] = {
 static void open_late(struct step step, int sign, uint16_t tallies)
 {
     uint16_t box = step.kind == SEND_PRICES || step.kind == RECEIVE_PRICES;
-    one_tally_job(&evening.job, (struct sizes){2, 1, 1, tallies}, 3, (struct tally){0, box, 0, 7 * sign, {0, {0}}});
-    evening.job.tally[1].box = !box;
-    open_evening(&evening, SPARE, 0);
-    put_both(&evening.lending, PRICE_TRANSIT, 1, 3);
-    put_both(&evening.lending, WORKING, 1, 100 * sign);
-    put_both(&evening.lending, TOTAL_TRANSIT, 0, 100 * sign);
-    put_both(&evening.lending, KNOWN, 0, 3);
+    one_tally_job(&settlement.job, (struct sizes){2, 1, 1, tallies}, 3, (struct tally){0, box, 0, 7 * sign, {0, {0}}});
+    settlement.job.tally[1].box = !box;
+    open_settlement(&settlement, SPARE, 0);
+    put_both(&settlement.lending, PRICE_TRANSIT, 1, 3);
+    put_both(&settlement.lending, WORKING, 1, 100 * sign);
+    put_both(&settlement.lending, TOTAL_TRANSIT, 0, 100 * sign);
+    put_both(&settlement.lending, KNOWN, 0, 3);
 }
 
 /* Every mark of two boxes but one, so that this step is ready. */
 static void mark_all_but(struct step step)
 {
-    for (size_t place = 0; place < needed(DONE, evening.job.sizes); place++) put_both(&evening.lending, DONE, place, 1);
-    put_both(&evening.lending, DONE, mark_place(&evening, step), 0);
+    for (size_t place = 0; place < needed(DONE, settlement.job.sizes); place++)
+        put_both(&settlement.lending, DONE, place, 1);
+    put_both(&settlement.lending, DONE, mark_place(&settlement, step), 0);
 }
 
 static void late_case(const struct late *late, int sign, uint16_t tallies, bool beyond)
@@ -197,9 +198,9 @@ static void late_case(const struct late *late, int sign, uint16_t tallies, bool 
     at_case("%s, %s, sign %d, %u tallies", late->what, beyond ? "beyond" : "just fits", sign, tallies);
     open_late(late->step, sign, tallies);
     mark_all_but(late->step);
-    put_both(&evening.lending, late->name, late->place, sign * (late->just_fits + beyond));
-    expect_step(&evening, late->step, beyond ? 21 : 0);
-    close_evening(&evening);
+    put_both(&settlement.lending, late->name, late->place, sign * (late->just_fits + beyond));
+    expect_step(&settlement, late->step, beyond ? 21 : 0);
+    close_settlement(&settlement);
 }
 
 static void late_refusals(void)
@@ -212,43 +213,43 @@ static void late_refusals(void)
 static void sums_on_the_way(void)
 {
     at_case("a sum beyond the range on the way");
-    one_tally_job(&evening.job, (struct sizes){1, 1, 1, 1000}, MOST_PRICE,
+    one_tally_job(&settlement.job, (struct sizes){1, 1, 1, 1000}, MOST_PRICE,
                   (struct tally){0, 0, 0, MOST_COUNT, {0, {0}}});
-    for (size_t t = 500; t < 1000; t++) evening.job.tally[t].count = -MOST_COUNT;
-    open_evening(&evening, SPARE, 0);
-    put_both(&evening.lending, WORKING, 0, MOST_AMOUNT);
-    expect_step(&evening, (struct step){2, 0, 0}, 0);
-    close_evening(&evening);
+    for (size_t t = 500; t < 1000; t++) settlement.job.tally[t].count = -MOST_COUNT;
+    open_settlement(&settlement, SPARE, 0);
+    put_both(&settlement.lending, WORKING, 0, MOST_AMOUNT);
+    expect_step(&settlement, (struct step){2, 0, 0}, 0);
+    close_settlement(&settlement);
 
     at_case("the last of 255 statements beyond its range");
-    one_tally_job(&evening.job, (struct sizes){1, 255, 1, 0}, 1, (struct tally){0});
-    open_evening(&evening, SPARE, 0);
+    one_tally_job(&settlement.job, (struct sizes){1, 255, 1, 0}, 1, (struct tally){0});
+    open_settlement(&settlement, SPARE, 0);
     for (size_t g = 0; g < 255; g++) {
-        put_both(&evening.lending, WORKING, g, -1);
-        put_both(&evening.lending, STATEMENT, g, 5);
+        put_both(&settlement.lending, WORKING, g, -1);
+        put_both(&settlement.lending, STATEMENT, g, 5);
     }
-    put_both(&evening.lending, DONE, mark_place(&evening, (struct step){2, 0, 0}), 1);
-    put_both(&evening.lending, STATEMENT, 254, -MOST_AMOUNT);
-    expect_step(&evening, (struct step){5, 0, 0}, 21);
-    put_both(&evening.lending, STATEMENT, 254, 1 - MOST_AMOUNT);
-    expect_step(&evening, (struct step){5, 0, 0}, 0);
-    close_evening(&evening);
+    put_both(&settlement.lending, DONE, mark_place(&settlement, (struct step){2, 0, 0}), 1);
+    put_both(&settlement.lending, STATEMENT, 254, -MOST_AMOUNT);
+    expect_step(&settlement, (struct step){5, 0, 0}, 21);
+    put_both(&settlement.lending, STATEMENT, 254, 1 - MOST_AMOUNT);
+    expect_step(&settlement, (struct step){5, 0, 0}, 0);
+    close_settlement(&settlement);
 }
 
 /* Two boxes hold a tally of offer 0 and grocer 0; box 0 owns the offers, box 1 the grocers. */
 static void open_beside(struct step step, int sign)
 {
-    one_tally_job(&evening.job, (struct sizes){2, 3, 3, 2}, 5, (struct tally){0, 0, 0, sign, {0, {0}}});
-    evening.job.tally[1].box = 1;
-    open_evening(&evening, SPARE, 0);
+    one_tally_job(&settlement.job, (struct sizes){2, 3, 3, 2}, 5, (struct tally){0, 0, 0, sign, {0, {0}}});
+    settlement.job.tally[1].box = 1;
+    open_settlement(&settlement, SPARE, 0);
     mark_all_but(step);
     for (size_t place = 0; place < 6; place++) {
         int64_t amount = place % 3 == 0 ? 0 : sign * MOST_AMOUNT;
-        put_both(&evening.lending, KNOWN, place, MOST_PRICE);
-        put_both(&evening.lending, PRICE_TRANSIT, place, MOST_PRICE);
-        put_both(&evening.lending, WORKING, place, amount);
-        put_both(&evening.lending, TOTAL_TRANSIT, place, amount);
-        if (place < 3) put_both(&evening.lending, STATEMENT, place, amount);
+        put_both(&settlement.lending, KNOWN, place, MOST_PRICE);
+        put_both(&settlement.lending, PRICE_TRANSIT, place, MOST_PRICE);
+        put_both(&settlement.lending, WORKING, place, amount);
+        put_both(&settlement.lending, TOTAL_TRANSIT, place, amount);
+        if (place < 3) put_both(&settlement.lending, STATEMENT, place, amount);
     }
 }
 
@@ -260,8 +261,8 @@ static void words_outside_messages(void)
         for (int sign = -1; sign <= 1; sign += 2) {
             at_case("step %u beside words of %d x 10^15", steps[i].kind, sign);
             open_beside(steps[i], sign);
-            expect_step(&evening, steps[i], 0);
-            close_evening(&evening);
+            expect_step(&settlement, steps[i], 0);
+            close_settlement(&settlement);
         }
 }
 

@@ -1,33 +1,33 @@
 /* One step on tables that are short or hold words out of range, and on K, M, N and T that do not fit them. */
-#include "evening.h"
 #include "groups.h"
+#include "settling.h"
 
-static struct evening evening;
+static struct settlement settlement;
 
-/* A state in the middle of a random job's evening. */
+/* A state in the middle of a random job's settlement. */
 static void advance(uint32_t steps)
 {
     struct step ready[MOST_STEPS];
     size_t length;
-    while (steps-- > 0 && (length = ready_steps(&evening.machine, ready)) > 0)
-        request(&evening.machine, ready[below((uint32_t)length)]);
-    lend_state(&evening);
+    while (steps-- > 0 && (length = ready_steps(&settlement.machine, ready)) > 0)
+        request(&settlement.machine, ready[below((uint32_t)length)]);
+    lend_state(&settlement);
 }
 
 static void open_middle(struct sizes most)
 {
-    random_job(&evening.job, sizes_with_tallies(most));
-    open_evening(&evening, SPARE, 0);
+    random_job(&settlement.job, sizes_with_tallies(most));
+    open_settlement(&settlement, SPARE, 0);
     advance(below(20));
 }
 
 static void short_by(enum table_name name, size_t length)
 {
     at_case("%s of %zu words", table_text(name), length);
-    evening.lending.lend[name] = length;
-    expect_step(&evening, some_ready_step(&evening), 20);
-    expect_step(&evening, (struct step){9, 99, 99}, 20);
-    lend_whole(&evening.lending);
+    settlement.lending.lend[name] = length;
+    expect_step(&settlement, some_ready_step(&settlement), 20);
+    expect_step(&settlement, (struct step){9, 99, 99}, 20);
+    lend_whole(&settlement.lending);
 }
 
 static void short_buffers(void)
@@ -35,35 +35,35 @@ static void short_buffers(void)
     for (unsigned long round = 0; round < 20 + job_count / 50; round++)
         for (unsigned name = 0; name < STEP_TABLES; name++) {
             open_middle(round % 4 ? SMALL : MEDIUM);
-            size_t need = needed(name, evening.job.sizes);
+            size_t need = needed(name, settlement.job.sizes);
             short_by(name, need - 1);
             short_by(name, 0);
             short_by(name, below((uint32_t)need));
             at_case("%s of %zu words, all needed", table_text(name), need);
-            evening.lending.lend[name] = need;
-            ask(&evening, some_ready_step(&evening));
-            close_evening(&evening);
+            settlement.lending.lend[name] = need;
+            ask(&settlement, some_ready_step(&settlement));
+            close_settlement(&settlement);
         }
 }
 
 /* A word of a table replaced; asked; and put back. */
 static void with_word(enum table_name name, size_t place, int64_t word, bool inside)
 {
-    struct step step = some_ready_step(&evening);
-    int64_t kept = word_at(evening.lending.twin[name], place);
+    struct step step = some_ready_step(&settlement);
+    int64_t kept = word_at(settlement.lending.twin[name], place);
     at_case("%s[%zu] = %lld", table_text(name), place, (long long)word);
-    put_both(&evening.lending, name, place, word);
+    put_both(&settlement.lending, name, place, word);
     if (inside)
-        ask_on_words(&evening, evening.job.sizes, step);
+        ask_on_words(&settlement, settlement.job.sizes, step);
     else
-        expect_step(&evening, step, 21);
-    put_both(&evening.lending, name, place, kept);
-    lend_state(&evening);
+        expect_step(&settlement, step, 21);
+    put_both(&settlement.lending, name, place, kept);
+    lend_state(&settlement);
 }
 
 static void edges_of_word(enum table_name name, size_t place)
 {
-    struct range range = range_of(name, evening.job.sizes), width = width_range(name);
+    struct range range = range_of(name, settlement.job.sizes), width = width_range(name);
     with_word(name, place, range.most, true);
     with_word(name, place, range.least, true);
     with_word(name, place, range.most + 1, false);
@@ -78,11 +78,11 @@ static void words_out_of_range(void)
     for (unsigned long round = 0; round < 5 + job_count / 100; round++)
         for (unsigned name = 0; name < STEP_TABLES; name++) {
             open_middle(round % 4 ? SMALL : MEDIUM);
-            size_t need = needed(name, evening.job.sizes);
+            size_t need = needed(name, settlement.job.sizes);
             edges_of_word(name, 0);
             edges_of_word(name, need - 1);
             edges_of_word(name, below((uint32_t)need));
-            close_evening(&evening);
+            close_settlement(&settlement);
         }
 }
 
@@ -90,9 +90,9 @@ static void words_out_of_range(void)
 static void expect_for_sizes(const struct sizes tried[], size_t count, uint16_t due)
 {
     for (size_t i = 0; i < count; i++) {
-        evening.job.sizes = tried[i];
+        settlement.job.sizes = tried[i];
         at_case("K %u, M %u, N %u, T %u", tried[i].boxes, tried[i].grocers, tried[i].offers, tried[i].tallies);
-        expect_step(&evening, (struct step){2, 0, 0}, due);
+        expect_step(&settlement, (struct step){2, 0, 0}, due);
     }
 }
 
@@ -105,9 +105,9 @@ static void sizes_out_of_range(void)
         {16, 255, 501, 1000}, {16, 256, 500, 1000}, {17, 255, 500, 1000}};
     size_t lengths[ALL_TABLES];
     for (unsigned name = 0; name < ALL_TABLES; name++) lengths[name] = needed(name, (struct sizes){17, 256, 501, 1001});
-    open_lending(&evening.lending, lengths);
+    open_lending(&settlement.lending, lengths);
     expect_for_sizes(tried, sizeof tried / sizeof tried[0], 21);
-    close_evening(&evening);
+    close_settlement(&settlement);
 }
 
 /* Tables of one word for each grocer, offer or tally are as long as can be, the others short of lengths that are small
@@ -130,25 +130,25 @@ static void lengths_that_wrap(void)
     size_t lengths[ALL_TABLES];
     for (unsigned name = 0; name < ALL_TABLES; name++)
         lengths[name] = needed(name, (struct sizes){0, 65535, 65535, 65535}) ? 65535 : 40000;
-    open_lending(&evening.lending, lengths);
+    open_lending(&settlement.lending, lengths);
     expect_for_sizes(tried, sizeof tried / sizeof tried[0], 20);
-    close_evening(&evening);
+    close_settlement(&settlement);
 }
 
 /* A random job's words and random sizes beside it. */
 static void arbitrary_sizes(void)
 {
     for (unsigned long i = 0; i < job_count; i++) {
-        random_job(&evening.job, random_sizes(TINY));
-        open_evening(&evening, SPARE, 0);
-        struct sizes sizes = evening.job.sizes;
+        random_job(&settlement.job, random_sizes(TINY));
+        open_settlement(&settlement, SPARE, 0);
+        struct sizes sizes = settlement.job.sizes;
         if (one_in(2)) sizes.boxes = wild_number(sizes.boxes);
         if (one_in(2)) sizes.grocers = wild_number(sizes.grocers);
         if (one_in(2)) sizes.offers = wild_number(sizes.offers);
         if (one_in(2)) sizes.tallies = wild_number(sizes.tallies);
         at_case("K %u, M %u, N %u, T %u", sizes.boxes, sizes.grocers, sizes.offers, sizes.tallies);
-        ask_on_words(&evening, sizes, some_ready_step(&evening));
-        close_evening(&evening);
+        ask_on_words(&settlement, sizes, some_ready_step(&settlement));
+        close_settlement(&settlement);
     }
 }
 

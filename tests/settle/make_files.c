@@ -17,7 +17,7 @@ static uint8_t file[ROOM];
 
 static size_t e(void)
 {
-    small_evening(&job);
+    sample_job(&job);
     return write_file(&job, file);
 }
 
@@ -116,14 +116,14 @@ static size_t changed_byte(void)
 
 static size_t price_too_large(void)
 {
-    small_evening(&job);
+    sample_job(&job);
     job.offer[0].price = MOST_PRICE + 1;
     return write_file(&job, file);
 }
 
 static size_t bad_count_unknown_code(void)
 {
-    small_evening(&job);
+    sample_job(&job);
     job.tally[3].count = MOST_COUNT + 1;
     job.tally[3].code = code_of("4120");
     return write_file(&job, file);
@@ -131,7 +131,7 @@ static size_t bad_count_unknown_code(void)
 
 static size_t shared_number(void)
 {
-    small_evening(&job);
+    sample_job(&job);
     job.offer[1].code = code_of("0000000412");
     return write_file(&job, file);
 }
@@ -194,7 +194,7 @@ static void print_statements(FILE *stream)
         if (machine.statement[g] != plain_sum(&job, g)) exit(3);
         fprintf(stream, "%u %" PRId64 "\n", g, machine.statement[g]);
     }
-    if (report.words != words_of_evening(&job)) exit(3);
+    if (report.words != words_of_job(&job)) exit(3);
     fprintf(stream, "words %u\nmessages %u\nsteps %u\n", report.words, report.messages, report.steps);
 }
 

@@ -12,7 +12,7 @@ use Rattle.model.specs.Reconcile.{TallyRecord, DeskAnswer, owed, refused, recon
 use Rattle.reconcile.specs.Records.{tallyRecord}
 use Rattle.reconcile.specs.declared.Tally.{Tally}
 
--- The writer's answer as one number: the file's length, which is 1,024 or more, or the refusal's number, which is 20 or less.
+-- The writer's answer as one number: the file's length, which is 1,536 or more, or the refusal's number, which is 20 or less.
 unfoldable pub writeNumber : WriteAnswer → ℕ
 writeNumber (wrote n) = n
 writeNumber (notWritten n) = n

@@ -1,100 +1,100 @@
-#include "evening.h"
+#include "settling.h"
 
 #include <string.h>
 
 static size_t spare_words(uint32_t spare) { return below(spare + 1); }
 
-void open_evening(struct evening *evening, uint32_t spare, size_t choices)
+void open_settlement(struct settlement *settlement, uint32_t spare, size_t choices)
 {
     size_t lengths[ALL_TABLES] = {0};
     for (unsigned name = 0; name < STEP_TABLES; name++)
-        lengths[name] = needed(name, evening->job.sizes) + spare_words(spare);
-    lengths[REPORT] = needed(REPORT, evening->job.sizes) + spare_words(spare);
+        lengths[name] = needed(name, settlement->job.sizes) + spare_words(spare);
+    lengths[REPORT] = needed(REPORT, settlement->job.sizes) + spare_words(spare);
     lengths[CHOICES] = choices;
-    open_lending(&evening->lending, lengths);
-    write_job_words(&evening->job, evening->lending.twin);
-    start_fresh(&evening->machine, &evening->job);
-    lend_state(evening);
+    open_lending(&settlement->lending, lengths);
+    write_job_words(&settlement->job, settlement->lending.twin);
+    start_fresh(&settlement->machine, &settlement->job);
+    lend_state(settlement);
 }
 
-void close_evening(struct evening *evening) { close_lending(&evening->lending); }
+void close_settlement(struct settlement *settlement) { close_lending(&settlement->lending); }
 
-void lend_state(struct evening *evening)
+void lend_state(struct settlement *settlement)
 {
-    write_state_words(&evening->machine, evening->lending.twin);
-    copy_twins(&evening->lending);
+    write_state_words(&settlement->machine, settlement->lending.twin);
+    copy_twins(&settlement->lending);
 }
 
-int64_t lent_word(const struct evening *evening, enum table_name name, size_t place)
+int64_t lent_word(const struct settlement *settlement, enum table_name name, size_t place)
 {
-    return word_at(evening->lending.table[name], place);
+    return word_at(settlement->lending.table[name], place);
 }
 
-void expect_plain_sums(const struct evening *evening)
+void expect_plain_sums(const struct settlement *settlement)
 {
-    for (uint16_t g = 0; g < evening->job.sizes.grocers; g++) {
-        int64_t statement = lent_word(evening, STATEMENT, g), sum = plain_sum(&evening->job, g);
+    for (uint16_t g = 0; g < settlement->job.sizes.grocers; g++) {
+        int64_t statement = lent_word(settlement, STATEMENT, g), sum = plain_sum(&settlement->job, g);
         expect(statement == sum, "statement %u is %lld, the plain sum %lld", g, (long long)statement, (long long)sum);
     }
 }
 
-static uint16_t compare_step(struct evening *evening, struct sizes sizes, struct step step, uint16_t due)
+static uint16_t compare_step(struct settlement *settlement, struct sizes sizes, struct step step, uint16_t due)
 {
-    uint16_t answer = call_step(&evening->lending, sizes, step);
+    uint16_t answer = call_step(&settlement->lending, sizes, step);
     expect(answer == due, "step %u of %u and %u answered %u, should be %u", step.kind, step.first, step.second, answer,
            due);
-    compare_with_twins(&evening->lending);
+    compare_with_twins(&settlement->lending);
     return answer;
 }
 
-uint16_t ask(struct evening *evening, struct step step)
+uint16_t ask(struct settlement *settlement, struct step step)
 {
     struct table tables[ALL_TABLES];
-    twins_as_lent(&evening->lending, tables);
-    uint16_t due = step_tables_refusal(evening->job.sizes, tables);
-    if (!due) due = request(&evening->machine, step);
-    if (!due) write_state_words(&evening->machine, evening->lending.twin);
-    return compare_step(evening, evening->job.sizes, step, due);
+    twins_as_lent(&settlement->lending, tables);
+    uint16_t due = step_tables_refusal(settlement->job.sizes, tables);
+    if (!due) due = request(&settlement->machine, step);
+    if (!due) write_state_words(&settlement->machine, settlement->lending.twin);
+    return compare_step(settlement, settlement->job.sizes, step, due);
 }
 
-uint16_t ask_on_words(struct evening *evening, struct sizes sizes, struct step step)
+uint16_t ask_on_words(struct settlement *settlement, struct sizes sizes, struct step step)
 {
     static struct job job;
     static struct machine machine;
     struct table tables[ALL_TABLES];
-    twins_as_lent(&evening->lending, tables);
+    twins_as_lent(&settlement->lending, tables);
     uint16_t due = step_tables_refusal(sizes, tables);
     if (!due) {
         read_job_words(&job, sizes, tables);
         read_state_words(&machine, &job, tables);
         due = request(&machine, step);
-        if (!due) write_state_words(&machine, evening->lending.twin);
+        if (!due) write_state_words(&machine, settlement->lending.twin);
     }
-    return compare_step(evening, sizes, step, due);
+    return compare_step(settlement, sizes, step, due);
 }
 
-void expect_step(struct evening *evening, struct step step, uint16_t due)
+void expect_step(struct settlement *settlement, struct step step, uint16_t due)
 {
-    uint16_t answer = ask_on_words(evening, evening->job.sizes, step);
+    uint16_t answer = ask_on_words(settlement, settlement->job.sizes, step);
     expect(answer == due, "step answered %u, the specification says %u", answer, due);
 }
 
-struct step some_ready_step(const struct evening *evening)
+struct step some_ready_step(const struct settlement *settlement)
 {
     struct step ready[MOST_STEPS];
-    size_t length = ready_steps(&evening->machine, ready);
+    size_t length = ready_steps(&settlement->machine, ready);
     return length ? ready[below((uint32_t)length)] : (struct step){1, 0, 0};
 }
 
-size_t mark_place(const struct evening *evening, struct step step)
+size_t mark_place(const struct settlement *settlement, struct step step)
 {
-    uint16_t boxes = evening->job.sizes.boxes;
+    uint16_t boxes = settlement->job.sizes.boxes;
     return ((step.kind - 1u) * boxes + step.first) * (size_t)boxes + step.second;
 }
 
-void set_mark(struct evening *evening, struct step step)
+void set_mark(struct settlement *settlement, struct step step)
 {
-    put_both(&evening->lending, DONE, mark_place(evening, step), 1);
+    put_both(&settlement->lending, DONE, mark_place(settlement, step), 1);
 }
 
 static void write_report(struct table table, struct report report)
@@ -104,24 +104,24 @@ static void write_report(struct table table, struct report report)
     put_word(table, 2, report.steps);
 }
 
-uint16_t ask_run(struct evening *evening, struct sizes sizes, struct picks *picks)
+uint16_t ask_run(struct settlement *settlement, struct sizes sizes, struct picks *picks)
 {
     static struct job job;
     static struct machine machine;
     struct table tables[ALL_TABLES];
-    twins_as_lent(&evening->lending, tables);
+    twins_as_lent(&settlement->lending, tables);
     uint16_t due = run_tables_refusal(sizes, tables);
     picks->length = 0;
     if (!due) {
         read_job_words(&job, sizes, tables);
         struct report report = run_all(&machine, &job, tables[CHOICES], picks->step);
         picks->length = report.steps;
-        write_state_words(&machine, evening->lending.twin);
-        write_report(evening->lending.twin[REPORT], report);
+        write_state_words(&machine, settlement->lending.twin);
+        write_report(settlement->lending.twin[REPORT], report);
     }
-    uint16_t answer = call_run(&evening->lending, sizes);
+    uint16_t answer = call_run(&settlement->lending, sizes);
     expect(answer == due, "run answered %u, should be %u", answer, due);
-    compare_with_twins(&evening->lending);
+    compare_with_twins(&settlement->lending);
     return answer;
 }
 

@@ -1,11 +1,11 @@
 /* A job lent to the library, with the model beside it: each call is asked of both, and all that they leave compared. */
-#ifndef EVENING_H
-#define EVENING_H
+#ifndef SETTLING_H
+#define SETTLING_H
 
 #include "jobs.h"
 #include "lending.h"
 
-struct evening {
+struct settlement {
     struct job job;         /* set it, then open */
     struct machine machine; /* the model's state, which requests carry on */
     struct lending lending;
@@ -15,40 +15,40 @@ struct evening {
 enum { SPARE = 6 };
 
 /* Lends the job's tables and a fresh state; the buffers have up to this many spare words, and room for the choices. */
-void open_evening(struct evening *evening, uint32_t spare, size_t choices);
-void close_evening(struct evening *evening);
+void open_settlement(struct settlement *settlement, uint32_t spare, size_t choices);
+void close_settlement(struct settlement *settlement);
 
 /* Writes the model's state to the buffers. */
-void lend_state(struct evening *evening);
+void lend_state(struct settlement *settlement);
 
 /* A word as the library left it. */
-int64_t lent_word(const struct evening *evening, enum table_name name, size_t place);
+int64_t lent_word(const struct settlement *settlement, enum table_name name, size_t place);
 
 /* Checks that every statement is the plain sum of its grocer. */
-void expect_plain_sums(const struct evening *evening);
+void expect_plain_sums(const struct settlement *settlement);
 
 /* One request of the list: the answer, which is also the model's unless a difference was found. */
-uint16_t ask(struct evening *evening, struct step step);
+uint16_t ask(struct settlement *settlement, struct step step);
 
 /* One request on whatever words are lent; the model's state is read from them, not carried on. */
-uint16_t ask_on_words(struct evening *evening, struct sizes sizes, struct step step);
+uint16_t ask_on_words(struct settlement *settlement, struct sizes sizes, struct step step);
 
 /* The same, and the answer is held to a number that is known without the model. */
-void expect_step(struct evening *evening, struct step step, uint16_t due);
+void expect_step(struct settlement *settlement, struct step step, uint16_t due);
 
 /* A ready step of the model's state; where there is none, one that is refused. */
-struct step some_ready_step(const struct evening *evening);
+struct step some_ready_step(const struct settlement *settlement);
 
 /* The place of a step's mark, and the mark set. */
-size_t mark_place(const struct evening *evening, struct step step);
-void set_mark(struct evening *evening, struct step step);
+size_t mark_place(const struct settlement *settlement, struct step step);
+void set_mark(struct settlement *settlement, struct step step);
 
 /* A run on whatever words are lent; the steps that the model picks. */
 struct picks {
     size_t length;
     struct step step[MOST_STEPS];
 };
-uint16_t ask_run(struct evening *evening, struct sizes sizes, struct picks *picks);
+uint16_t ask_run(struct settlement *settlement, struct sizes sizes, struct picks *picks);
 
 /* Buffers for the reader, with up to this many spare words each, and room for a file of this length. */
 void open_reading(struct lending *lending, uint32_t spare, size_t length);
