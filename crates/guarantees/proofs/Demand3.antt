@@ -17,12 +17,12 @@ use Rattle.model.specs.Tables.{jobOf, jobLengths, jobShort}
 use Rattle.model.specs.Ranges.{upTo, under, around, sizesInRange, jobWordsInRange, jobInRange}
 use Rattle.format.specs.Job.{FileJob, placeOf}
 use Rattle.format.specs.File.{decode}
-use Rattle.format.specs.Tables.{FileTables, ReaderTables, fileJobOf, readRefusal, readResult, storeRead}
+use Rattle.format.specs.Tables.{FileTables, ReaderTables, Long, fileJobOf, readRefusal, readResult, storeRead}
 use Rattle.guarantees.specs.Demand3.{jobRead, owed, Accepted}
 use Rattle.model.proofs.Demand3.{demand3, run-is-list}
 use Rattle.format.proofs.Range.{InRange}
 use Rattle.format.proofs.Accept.{accepted-range}
-use Rattle.format.proofs.Tables.{read-file, Long, long-tables, read-long, read-range, read-place, read-job, read-accepted}
+use Rattle.format.proofs.Tables.{read-file, long-tables, read-long, read-range, read-place, read-job, read-accepted}
 use Rattle.format.proofs.Same.{SameWords}
 
 up-all : (m n : ℕ) (l : List ℕ) → ((i : ℕ) → i < n → getD l i 0 ≤ m) → upTo m n l ≡ true
