@@ -55,7 +55,7 @@ names_re=lambda n: re.compile(r'(?<![^\s(){};,«»←])'+re.escape(n)+r'(?![^\s(
 def used(n,body):
     if '_' in n and n!='_':
         parts=[x for x in n.split('_') if x]
-        return all(names_re(x).search(body) for x in parts)
+        return bool(names_re(n).search(body)) or all(names_re(x).search(body) for x in parts)
     if n=='[]': return '[]' in body
     for m in names_re(n).finditer(body):
         before=body[max(0,body.rfind('\n',0,m.start())+1):m.start()]

@@ -9,6 +9,7 @@ use lib.ListN.{getD}
 use lib.IntN.{ℤ, natAbs}
 use Rattle.laws.specs.Below.{all, count}
 use Rattle.laws.specs.Tables.{cell}
+use Rattle.laws.proofs.Checks.{one-left}
 use Rattle.model.specs.Job.{priceWord, totalWord}
 use Rattle.model.specs.Steps.{kindOf}
 use Rattle.model.specs.Tables.{JobTables, jobOf, StateTables, stateTables, stateLengths}
@@ -24,9 +25,9 @@ use Rattle.prices.proofs.Marked.{marks-bits}
 use Rattle.totals.proofs.Rows.{put-range}
 use Rattle.totals.proofs.Credits.{cleared-range, sent-range, credit-range}
 use Rattle.totals.proofs.Effect.{talliesOf}
-use Rattle.apply.proofs.Extra.{one-left, cell-up, recell-up, set-up}
 use Rattle.apply.proofs.Given.{Given, given}
 use Rattle.apply.proofs.Moved.{prices-sent, own-multiplied, prices-received, totals-sent, own-added, totals-received}
+use Rattle.apply.proofs.Ranges.{cell-up, recell-up, set-up}
 use Rattle.prices.proofs.Effect as price-laws
 use Rattle.totals.proofs.Effect as total-laws
 

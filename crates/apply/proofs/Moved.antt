@@ -5,6 +5,7 @@ use mathlib.Core.List.{List}
 use Prim.Native.Nat.{ℕ}
 use lib.IntN.{ℤ}
 use Rattle.laws.specs.Below.{count}
+use Rattle.laws.proofs.Tables.{overwrite-one}
 use Rattle.model.specs.Steps.{Kind, State, effect, oneBox, kindOf, sendPrices, multiplyOwn, receivePrices, sendTotals, addOwn, receiveTotals}
 use Rattle.model.specs.Tables.{JobTables, jobOf, StateTables, stateTables, stateLengths, view, store}
 use Rattle.model.specs.Step.{Asked, moved}
@@ -14,7 +15,6 @@ use Rattle.prices.specs.Marks.{marked}
 use Rattle.totals.specs.Row.{putRow, productRow}
 use Rattle.totals.specs.Credit.{cleared, sentTotals, credited, creditAll}
 use Rattle.apply.specs.Apply.{sentMore}
-use Rattle.prices.proofs.Extra.{overwrite-one}
 use Rattle.prices.proofs.Effect.{tables-eq, known-stays, price-transit-stays, working-stays, total-transit-stays, statement-stays, sent-stays, step-marked}
 use Rattle.totals.proofs.Effect.{talliesOf, multiplied-working, received-working, added-working, added-statement, totals-received-statement}
 use Rattle.apply.proofs.Given.{Given}

@@ -1,6 +1,5 @@
 -- Laws that the checks of a file are proved with.
 pub mod Signs
-pub mod Extra
 pub mod Places
 pub mod KindNumbers
 pub mod SpareWalk

@@ -1,28 +1,27 @@
 -- The refusals of a file's form at their places, and what a file is that has none of them. Assumes nothing.
-use Prim.Native.Nat.{ℕ, _+_, _*_, _-_, _/_, _%_, _≤_, _<_}
 use mathlib.Core.Path.{_≡_, refl, sym, _∙_, ap, subst}
 use mathlib.Core.Bool.{true, false, not}
 use mathlib.Core.List.{List, [], _∷_}
+use Prim.Native.Nat.{ℕ, _+_, _*_, _-_, _/_, _%_, _≤_, _<_}
 use native.Mathlib.Omega.{arith}
 use lib.Dec.{ltb, eqb}
 use lib.ListN.{getD, length}
-use borrow.Author.Tests.{ltb-false, leb-false, eqb-false, eq-eqb, ne-eqb}
+use borrow.Author.Tests.{ltb-false, eqb-false, eq-eqb, ne-eqb}
 use Rattle.laws.specs.Below.{any}
 use Rattle.laws.specs.Checks.{firstMet}
 use Rattle.laws.proofs.Below.{any-none}
-use Rattle.laws.proofs.Checks.{none-of}
+use Rattle.laws.proofs.Checks.{none-of, unmet, one-met, one-off}
+use Rattle.laws.proofs.Bools.{or-off}
 use Rattle.format.specs.First.{firstOf, firstBelow}
-use Rattle.format.specs.Job.{badSizes, badOwner, shared, unnamed}
-use Rattle.format.specs.Blocks.{BlockKind, offerBlock, grocerBlock, tallyBlock, blocks, offersAt, grocersAt, talliesAt, kindAt, records}
+use Rattle.format.specs.Job.{badSizes, shared, unnamed}
+use Rattle.format.specs.Blocks.{BlockKind, offerBlock, tallyBlock, blocks, offersAt, talliesAt, kindAt, records}
 use Rattle.format.specs.File.{decode}
 use Rattle.format.specs.Refusals.{badLength, badCount, badHeader, badRecord, headerRefusal, blockRefusal, fileRefusal}
-use Rattle.format.proofs.Extra.{or-off, unmet}
-use Rattle.format.proofs.Firsts.{each, hit, next, alone, below-at}
-use Rattle.format.proofs.Accept.{even}
-use Rattle.format.proofs.Plan.{kind-offers, kind-grocers, kind-tallies}
-use Rattle.format.proofs.Range.{SizesIn, OfferIn, TallyIn, sizes-in, offer-in, tally-in}
 use Rattle.blocks.specs.Shape.{shapeRefusal}
-use Rattle.blocks.proofs.Extra.{first-split, one-met, one-off}
+use Rattle.format.proofs.Firsts.{each, hit, next, alone, below-at, first-split}
+use Rattle.format.proofs.Accept.{even}
+use Rattle.format.proofs.Plan.{kind-offers, kind-tallies}
+use Rattle.format.proofs.Range.{SizesIn, OfferIn, TallyIn, sizes-in, offer-in, tally-in}
 
 -- A length that is not refused: at least one block, and at most 74.
 pub length-in : (f : List ℕ) → badLength f ≡ false → (512 ≤ length f) × (length f ≤ 37888)
@@ -88,11 +87,7 @@ shape-refused f n = file-shape f ∙ hit (shapeRefusal f) _ n
 -- ---- a file whose form is not refused
 
 module _ (f : List ℕ) (ok : shapeRefusal f ≡ 0) where
-  -- None of the four refuses.
-  pub shape-right : badLength f ≡ false
-  unfolding shapeRefusal
-  shape-right = unmet _ refl (each _ ok 0) .0
-
+  -- None of its parts refuses.
   pub shape-top : headerRefusal f ≡ 0
   unfolding shapeRefusal
   shape-top = each _ ok 1
@@ -132,11 +127,6 @@ module _ (f : List ℕ) (ok : shapeRefusal f ≡ 0) where
   shape-offer i h =
       let e : 21 * (i / 21) + i % 21 ≡ i = omega arith in
       offer-in (decode f) (decode f .offer i) (rw e at (inner (offersAt + i / 21) (offerBlock (i / 21)) (omega arith) (omega arith) (kind-offers (decode f .offers) (i / 21) (omega arith)) (i % 21) (omega arith)))
-
-  -- each grocer's owner is,
-  pub shape-owner : (i : ℕ) → i < decode f .grocers → decode f .grocerOwner i < decode f .boxes
-  unfolding badRecord badOwner
-  shape-owner i h = leb-false _ _ (inner (grocersAt (decode f .offers)) grocerBlock (omega arith) (omega arith) (kind-grocers (decode f .offers)) i h)
 
   -- and each tally's fields are.
   pub shape-tally : (i : ℕ) → i < decode f .tallies → TallyIn (decode f) (decode f .tally i)

@@ -1,23 +1,23 @@
 -- A block's spare bytes, found by walking its records. Assumes nothing.
-use Prim.Native.Nat.{ℕ, _+_, _*_, _-_, _/_, _%_, _≤_, _<_}
 use mathlib.Core.Path.{_≡_, ap, _∙_}
 use mathlib.Core.Bool.{Bool, true, _&&_, _||_}
 use mathlib.Core.List.{List}
+use Prim.Native.Nat.{ℕ, _+_, _*_, _-_, _/_, _%_, _≤_, _<_}
 use native.Mathlib.Omega.{arith}
 use native.Mathlib.Nat.{mod-lt, div-add-mod', le-div-iff-mul-le}
 use lib.Dec.{leb}
 use lib.Arith.{digits-mod}
 use borrow.Author.Tests.{le-leb, leb-true, leb-false}
 use Rattle.laws.specs.Below.{any}
-use Rattle.laws.proofs.Bools.{split, and-true, and-l, and-r}
+use Rattle.laws.proofs.Bools.{split, and-true, and-l, and-r, same-test, or-l, or-r}
 use Rattle.laws.proofs.Below.{any-at, any-find}
+use Rattle.laws.proofs.Tables.{row-in}
 use Rattle.format.specs.Bytes.{from, after}
 use Rattle.format.specs.Blocks.{BlockKind, kindAt, records, recordSize, fieldSize, spare}
 use Rattle.format.specs.File.{decode}
 use Rattle.format.specs.Refusals.{spareUsed}
 use Rattle.blocks.specs.Due.{Due}
 use Rattle.blocks.specs.Shape.{used, spareIn}
-use Rattle.blocks.proofs.Extra.{same-test, or-l, or-r, row-in}
 use Rattle.blocks.proofs.Places.{from-after}
 
 module _ (n z w : ℕ) (g : ℕ → ℕ) (room : n * z ≤ 504) (within : w ≤ z) (some : 0 < z) where

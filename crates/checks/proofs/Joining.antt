@@ -1,18 +1,18 @@
 -- What the checks so far say, for those that follow. Assumes nothing.
-use Prim.Native.Nat.{ℕ}
 use mathlib.Core.Path.{_≡_, refl}
 use mathlib.Core.Bool.{false, _||_}
 use mathlib.Core.List.{List, [], _∷_}
+use Prim.Native.Nat.{ℕ}
 use Rattle.laws.specs.Below.{any}
 use Rattle.laws.specs.Checks.{firstMet}
 use Rattle.laws.proofs.Below.{any-none}
+use Rattle.laws.proofs.Bools.{or-off}
 use Rattle.format.specs.Job.{FileJob, badSizes, badOffer, badOwner, badTally, badRecords, shared, unnamed}
 use Rattle.format.specs.Refusals.{jobRefusal}
-use Rattle.format.specs.Tables.{FileTables, fileJobOf, shortTables, shortWriter}
-use Rattle.format.proofs.Extra.{or-off}
-use Rattle.format.proofs.Range.{offer-in, tally-in}
-use Rattle.format.proofs.Tables.{Long, long-tables}
+use Rattle.format.specs.Tables.{FileTables, Long, fileJobOf, shortTables, shortWriter}
 use Rattle.checks.specs.Rows.{Codes, HasCodes}
+use Rattle.format.proofs.Range.{offer-in, tally-in}
+use Rattle.format.proofs.Tables.{long-tables}
 
 -- Where 20 is not met no table is short.
 pub long-enough : (m n t : ℕ) (l : FileTables) (out : List ℕ) → shortWriter m n t l out ≡ false → Long m n t l

@@ -1,5 +1,4 @@
 -- Laws that the proofs of the checks cite.
-pub mod Extra
 pub mod Tests
 pub mod Naming
 pub mod Joining

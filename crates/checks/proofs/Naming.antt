@@ -1,8 +1,8 @@
 -- The numbers of the codes, and what they say of 7 and 8. Assumes nothing.
-use Prim.Native.Nat.{ℕ, _<_}
 use mathlib.Core.Path.{_≡_, sym, ap, ap₂, _∙_}
 use mathlib.Core.Bool.{Bool, true, false, not}
 use mathlib.Core.List.{List, [], _∷_}
+use Prim.Native.Nat.{ℕ, _<_}
 use native.Mathlib.Omega.{arith}
 use lib.Dec.{eqb}
 use lib.ListN.{getD}
@@ -10,12 +10,12 @@ use Rattle.laws.specs.Below.{any, find}
 use Rattle.laws.specs.Checks.{firstMet}
 use Rattle.laws.specs.Tables.{overwrite}
 use Rattle.laws.proofs.Tables.{getD-overwrite}
+use Rattle.laws.proofs.Below.{any-cong, find-cong}
 use Rattle.index.specs.Index.{sharesNumber, placeOf as placeIn}
 use Rattle.format.specs.Codes.{number, sameOffer}
 use Rattle.format.specs.Job.{FileJob, names, placeOf, shared, unnamed}
-use Rattle.format.proofs.Extra.{any-cong, find-cong}
-use Rattle.format.proofs.Range.{unnamed-place}
 use Rattle.checks.specs.Rows.{codeOf, HasCodes}
+use Rattle.format.proofs.Range.{unnamed-place}
 
 module _ (j : FileJob) (code tcode : List ℕ) (n t : ℕ) (has : HasCodes j code tcode n t) (old : List ℕ) where
   number-is : (i : ℕ) → i < n → getD (overwrite n (λ i. number (codeOf code i)) old) i 0 ≡ number (j .offer i .code)

@@ -1,8 +1,7 @@
 // The writer's refusal: "The writer checks 20, 4, 6, 7, 8."
 ghost use mathlib.Core.Path.{_≡_};
 ghost use Rattle.format.specs.Refusals.{jobRefusal};
-ghost use Rattle.format.specs.Tables.{fileTables, fileJobOf, writeRefusal};
-ghost use Rattle.format.proofs.Tables.{Long};
+ghost use Rattle.format.specs.Tables.{fileTables, fileJobOf, writeRefusal, Long};
 use crate::codes::codes_refusal;
 use crate::records::bad_records;
 use crate::sizes::bad_sizes;

@@ -2,8 +2,9 @@
 ghost use mathlib.Core.Path.{_≡_};
 ghost use Prim.Native.Nat.{_*_, _≤_};
 ghost use Rattle.format.specs.Job.{badSizes};
-ghost use Rattle.format.specs.Blocks.{blocksFor, blockCount};
+ghost use Rattle.format.specs.Blocks.{blockCount};
 ghost use Rattle.format.specs.Tables.{FileTables, fileTables, fileJobOf, shortWriter};
+use blocks::plan::block_count;
 
 // A 16-bit number as a size.
 pub fn size_of(x: u16) -> usize
@@ -12,20 +13,12 @@ pub fn size_of(x: u16) -> usize
     x as usize
 }
 
-// How many blocks n records of 24 bytes take.
-pub fn blocks_for(n: usize) -> usize
-    requires { ⌜ n ≤ 65535 ⌝ }
-    ensures { λ r. ⌜ r ≡ blocksFor n ⌝ }
-{
-    (n + 20) / 21
-}
-
 // The length of the file of n offers and t tallies.
 pub fn file_length(n: usize, t: usize) -> usize
     requires { ⌜ (n ≤ 65535) × (t ≤ 65535) ⌝ }
     ensures { λ r. ⌜ r ≡ 512 * blockCount n t ⌝ }
 {
-    512 * (1 + blocks_for(n) + 1 + blocks_for(t))
+    512 * block_count(n, t)
 }
 
 // 20: whether a table, or the buffer for the file, is shorter than K, M, N and T as given need.
@@ -64,11 +57,9 @@ pub fn short_writer(
 pub fn bad_sizes(boxes: u16, grocers: u16, offers: u16, tallies: u16) -> bool
     ensures { λ r. ⌜ ((l : FileTables) → r ≡ badSizes (fileJobOf boxes grocers offers tallies l)) ⌝ }
 {
-    (boxes < 1)
-        | (16 < boxes)
-        | (grocers < 1)
-        | (255 < grocers)
-        | (offers < 1)
-        | (500 < offers)
-        | (1000 < tallies)
+    let k = size_of(boxes);
+    let m = size_of(grocers);
+    let n = size_of(offers);
+    let t = size_of(tallies);
+    blocks::plan::bad_sizes(k, m, n, t)
 }

@@ -9,14 +9,13 @@ use native.Mathlib.Omega.{arith}
 use lib.ListN.{length, getD, set, length-set}
 use lib.Seq.{getD-set-same, getD-set-other}
 use Rattle.laws.specs.Tables.{tabulate, overwrite, recell}
-use Rattle.laws.proofs.Tables.{is-overwrite, is-recell, getD-overwrite, getD-past, getD-tabulate, length-overwrite}
+use Rattle.laws.proofs.Tables.{is-overwrite, is-recell, getD-overwrite, getD-past, getD-tabulate, length-overwrite, getD-recell}
 use Rattle.format.specs.Bytes.{from, after, word32}
 use Rattle.format.specs.Codes.{Code, readCode, codeBytes, isCode, value, number}
 use Rattle.format.specs.File.{recordAt}
 use Rattle.format.specs.Tables.{storeCodes}
-use Rattle.format.proofs.Extra.{getD-recell}
-use Rattle.format.proofs.Codes.{code-is, value-bound, value-next}
 use Rattle.fills.specs.Fills.{Copied, codesIn}
+use Rattle.format.proofs.Codes.{code-is, value-bound, value-next}
 
 module _ {A : Type 0} where
   -- Nothing is written yet.

@@ -1,24 +1,23 @@
 -- A file that the reader does not refuse is the file of the job that it says, and the writer takes that job. Assumes nothing.
-use Prim.Native.Nat.{ℕ, _+_, _*_, _-_, _/_, _%_, _<_}
 use mathlib.Core.Path.{_≡_, refl, sym, _∙_, ap, subst}
 use mathlib.Core.Bool.{Bool, true, false, not, _&&_}
 use mathlib.Core.List.{List, [], _∷_}
+use Prim.Native.Nat.{ℕ, _+_, _*_, _-_, _/_, _%_, _<_}
 use native.Mathlib.Omega.{arith}
 use native.Mathlib.Decide.{ℕ-discrete}
 use lib.Dec.{eqb}
 use lib.ListN.{getD, length}
 use borrow.Author.Tests.{eqb-true, not-false}
 use Rattle.laws.specs.Below.{any}
-use Rattle.laws.proofs.Bools.{no-true}
+use Rattle.laws.proofs.Bools.{no-true, or-off}
 use Rattle.laws.proofs.Below.{any-none}
-use Rattle.laws.proofs.Checks.{none-of}
+use Rattle.laws.proofs.Checks.{none-of, unmet}
 use Rattle.format.specs.First.{firstBelow}
 use Rattle.format.specs.Bytes.{from, after, word16}
 use Rattle.format.specs.Job.{badSizes, shared, unnamed}
 use Rattle.format.specs.Blocks.{BlockKind, offerBlock, grocerBlock, tallyBlock, blocks, offersAt, grocersAt, talliesAt, kindAt, kindNumber, records, spare, firstSum, secondSum}
 use Rattle.format.specs.File.{encode, decode}
 use Rattle.format.specs.Refusals.{badLength, badCount, sumsDiffer, notDue, badHeader, spareUsed, badRecord, headerRefusal, blockRefusal, fileRefusal, jobRefusal}
-use Rattle.format.proofs.Extra.{or-off, unmet}
 use Rattle.format.proofs.Firsts.{each, below-at}
 use Rattle.format.proofs.Order.{shared-refused, unnamed-refused}
 use Rattle.format.proofs.Plan.{kind-offers, kind-grocers, kind-tallies}

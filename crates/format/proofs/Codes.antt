@@ -1,21 +1,20 @@
 -- Two codes name one offer where they agree after leading zeros are dropped, and only there. Assumes nothing.
-use Prim.Native.Nat.{ℕ, zero, suc, _+_, _-_, _*_, _^_, _≤_, _<_}
 use mathlib.Core.Path.{_≡_, refl, sym, _∙_, ap}
 use mathlib.Core.Logic.{_↔_}
 use mathlib.Core.Bool.{true, cond, _&&_}
 use mathlib.Core.List.{List, [], _∷_, _++_}
+use Prim.Native.Nat.{ℕ, zero, suc, _+_, _-_, _*_, _^_, _≤_, _<_}
 use native.Mathlib.Omega.{arith}
 use native.Mathlib.Nat.{pow-suc, pow-le-pow-right, lt-of-lt-of-le}
 use native.Mathlib.Numerals.{add-one}
 use lib.Dec.{leb, eqb, lit<}
-use lib.ListN.{length}
 use borrow.Author.Tests.{lt-ltb, le-ltb, leb-true, eqb-true, eq-eqb}
 use Rattle.laws.specs.Below.{all}
 use Rattle.laws.specs.Tables.{tabulate}
 use Rattle.laws.proofs.Bools.{split, and-l, and-r}
 use Rattle.laws.proofs.Below.{all-at, all-cong}
+use Rattle.laws.proofs.Tables.{tabulate-snoc}
 use Rattle.format.specs.Codes.{Code, isPlace, isCode, value, number, written, dropZeros, sameOffer}
-use Rattle.format.proofs.Extra.{tabulate-snoc}
 
 -- The first n bytes are ASCII digits.
 abbrev pub Digits : (ℕ → ℕ) → ℕ → Type 0
@@ -81,11 +80,6 @@ value-below g (suc n) v =
 -- n digits, at most k, write a number below 10 to the power k.
 pub value-bound : (g : ℕ → ℕ) (n k : ℕ) → Digits g n → n ≤ k → value n g < 10 ^ k
 value-bound g n k v h = lt-of-lt-of-le (value-below g n v) (pow-le-pow-right (lit< tt) h)
-
--- A code's number has at most ten digits.
-pub number-below : (c : Code) → isCode c ≡ true → number c < 10 ^ 10
-unfolding number
-number-below c h = let i = code-is c h in value-bound (c .digit) (c .size) 10 (i .digits) (i .few)
 
 -- ---- digits without the zeros that stand first, nothing being left of zeros only
 
@@ -184,17 +178,6 @@ same-offer c d hc hd =
       λ e. drop-written _ _ (p .some) ∙ ap orZero (same-strip _ _ _ _ (p .digits) (q .digits) (eqb-true _ _ e)) ∙ sym (drop-written _ _ (q .some)),
       λ e. eq-eqb _ _ (sym (count-drop _ _ (p .some)) ∙ ap (count 0) e ∙ count-drop _ _ (q .some)),
     )
-
--- Something is left of a code.
-or-zero-some : (l : List ℕ) → 1 ≤ length (orZero l)
-unfolding orZero
-or-zero-some [] = omega arith
-or-zero-some (d ∷ ds) = omega arith
-
--- Dropping zeros leaves a digit at least.
-pub drop-some : (c : Code) → isCode c ≡ true → 1 ≤ length (dropZeros (written c))
-unfolding written
-drop-some c h = rw (drop-written (c .digit) (c .size) (code-is c h .some)) (or-zero-some _)
 
 -- Two codes that name one offer as a third does name one offer.
 pub same-trans : (a b c : Code) → sameOffer a c ≡ true → sameOffer b c ≡ true → sameOffer a b ≡ true

@@ -1,8 +1,8 @@
 -- In an accepted file a change of one or two bytes of one block gives refusal 2. Assumes nothing.
-use Prim.Native.Nat.{ℕ, _+_, _*_, _-_, _/_, _≤_, _<_}
 use mathlib.Core.Path.{_≡_, refl, sym, _∙_, ap}
 use mathlib.Core.Bool.{true}
 use mathlib.Core.List.{List, [], _∷_}
+use Prim.Native.Nat.{ℕ, _+_, _*_, _-_, _/_, _≤_, _<_}
 use native.Mathlib.Omega.{arith}
 use native.Mathlib.Decide.{ℕ-discrete}
 use lib.ListN.{getD, length, set, length-set}
@@ -10,16 +10,16 @@ use lib.Seq.{ext-getD, getD-set-same, getD-set-other}
 use borrow.Author.Tests.{eq-eqb, ne-eqb}
 use Rattle.laws.specs.Below.{any}
 use Rattle.laws.specs.Checks.{firstMet}
+use Rattle.laws.proofs.Below.{any-cong}
 use Rattle.format.specs.First.{firstOf, firstBelow}
 use Rattle.format.specs.Bytes.{from, after, word16}
 use Rattle.format.specs.Blocks.{BlockKind, header, offerBlock, grocerBlock, tallyBlock, blocks, offersAt, grocersAt, talliesAt, kindAt, records, firstSum, secondSum}
 use Rattle.format.specs.File.{readOffer, readTally, recordAt, decode}
 use Rattle.format.specs.Refusals.{badLength, badCount, sumsDiffer, notDue, badHeader, spareUsed, badRecord, headerRefusal, blockRefusal, fileRefusal}
-use Rattle.format.proofs.Extra.{any-cong}
 use Rattle.format.proofs.Firsts.{each, below-none, below-hit}
 use Rattle.format.proofs.Words.{first-cong, second-cong}
 use Rattle.format.proofs.Plan.{At, at-header, at-offers, at-grocers, at-tallies, kind-at, Sizes, kind-same, records-same, spare-same}
-use Rattle.format.proofs.Accept.{long, top, below, sizes, clean-all, accepted-range}
+use Rattle.format.proofs.Accept.{long, top, below, clean-all, accepted-range}
 use Rattle.format.proofs.Same.{OfferWords, TallyWords, sizes-same, offer-same, owner-same, tally-same}
 use Rattle.format.proofs.Detect.{seen}
 

@@ -1,18 +1,17 @@
 -- Two files of which one has at most two bytes of a block set anew, and in both of which the block's stored sums agree, are equal:
 -- a change of one or two bytes of a block whose sums agree is always seen. Assumes nothing.
-use Prim.Native.Nat.{ℕ, _+_, _-_, _*_, _%_, _≤_, _<_}
 use mathlib.Core.Path.{_≡_, sym, _∙_, ap, subst}
 use mathlib.Core.List.{List}
+use Prim.Native.Nat.{ℕ, _+_, _-_, _*_, _%_, _≤_, _<_}
 use native.Mathlib.Omega.{arith}
 use native.Mathlib.Nat.{mul-add, add-mul}
 use native.Mathlib.Decide.{decLt, ℕ-discrete}
 use lib.ListN.{getD, set, length, length-set}
 use lib.Seq.{getD-set-same, getD-set-other, set-set, set-getD, set-comm}
 use Rattle.laws.specs.Below.{words, sum}
-use Rattle.laws.proofs.Sums.{sum-cong}
+use Rattle.laws.proofs.Sums.{sum-cong, sum-change}
 use Rattle.format.specs.Bytes.{from, after, word16}
 use Rattle.format.specs.Blocks.{firstSum, secondSum}
-use Rattle.format.proofs.Extra.{sum-change}
 use Rattle.format.proofs.Prime.{no-change}
 
 abbrev byteAt : List ℕ → ℕ → ℕ

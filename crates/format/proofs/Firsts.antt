@@ -1,7 +1,7 @@
 -- Laws of the first refusal of several. Assumes nothing.
-use Prim.Native.Nat.{ℕ, zero, suc, _+_, _<_}
 use mathlib.Core.Path.{_≡_, refl, sym, _∙_, ap}
-use mathlib.Core.List.{List, [], _∷_}
+use mathlib.Core.List.{List, [], _∷_, _++_}
+use Prim.Native.Nat.{ℕ, zero, suc, _+_, _<_}
 use native.Mathlib.Omega.{arith}
 use native.Mathlib.Numerals.{add-one}
 use native.Mathlib.Decide.{ℕ-discrete}
@@ -69,3 +69,10 @@ pub below-none : (h : ℕ → ℕ) (n : ℕ) → ((k : ℕ) → k < n → h k �
 unfolding firstBelow
 below-none h zero f = refl
 below-none h (suc n) f = two-next _ _ (below-none h n (λ k l. f k (omega arith))) ∙ f n (omega arith)
+
+-- The first refusal of two lists, one after the other.
+pub first-split : (l r : List ℕ) → firstOf (l ++ r) ≡ firstOf (firstOf l ∷ r)
+unfolding firstOf
+first-split [] r = refl
+first-split (zero ∷ l) r = first-split l r
+first-split (suc n ∷ l) r = refl

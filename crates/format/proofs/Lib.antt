@@ -1,5 +1,4 @@
 -- The laws of the job file.
-pub mod Extra
 pub mod Firsts
 pub mod Order
 pub mod Words

@@ -1,23 +1,21 @@
 -- A job that is not refused is in range: sizes, every field, and the place of each tally's offer. Assumes nothing.
-use Prim.Native.Nat.{ℕ, _≤_, _<_}
 use mathlib.Core.Path.{_≡_, refl, sym}
 use mathlib.Core.Bool.{true, false, not, _||_}
 use mathlib.Core.List.{[], _∷_}
+use Prim.Native.Nat.{ℕ, _≤_, _<_}
 use native.Mathlib.Omega.{arith}
 use native.Mathlib.Decide.{decLt, ℕ-discrete}
 use lib.Dec.{leb, ltb, eqb}
 use lib.IntN.{natAbs}
 use borrow.Author.Tests.{ltb-false, leb-false, not-false, eq-eqb, ne-eqb}
 use Rattle.laws.specs.Below.{any}
-use Rattle.laws.proofs.Bools.{split, clash}
-use Rattle.laws.proofs.Below.{any-at, any-none, find-passes, find-none}
-use Rattle.laws.proofs.Checks.{none-of}
+use Rattle.laws.proofs.Bools.{split, clash, or-off}
+use Rattle.laws.proofs.Below.{any-at, any-none, find-passes, find-none, any-false}
+use Rattle.laws.proofs.Checks.{none-of, unmet, none-met}
 use Rattle.format.specs.Codes.{isCode, sameOffer}
 use Rattle.format.specs.Job.{FileJob, Offer, Tally, badSizes, badOffer, badOwner, badTally, badRecords, names, placeOf, shared, unnamed}
-use Rattle.format.specs.Blocks.{blocks}
 use Rattle.format.specs.Refusals.{jobRefusal}
 use Rattle.format.proofs.Codes.{same-trans}
-use Rattle.format.proofs.Extra.{or-off, unmet, none-met, any-false}
 
 -- K, M, N and T within their values.
 pub record SizesIn (j : FileJob) : Type 0 where
@@ -179,7 +177,3 @@ in-range j e =
       place = λ t h. named-place j t (n t h) .0;
       named = λ t h. named-place j t (n t h) .1;
     }
-
--- "The longest file has 74 blocks": no job that is not refused has a longer one.
-pub blocks-most : (j : FileJob) → jobRefusal j ≡ 0 → blocks j ≤ 74
-blocks-most j e = let s = in-range j e .sizes in omega arith

@@ -1,27 +1,26 @@
 -- A file whose blocks are as due is the file of the job that it says. Assumes nothing.
-use Prim.Native.Nat.{ℕ, _+_, _*_, _-_, _/_, _%_, _≤_, _<_}
 use mathlib.Core.Path.{_≡_, sym, _∙_, ap}
 use mathlib.Core.Bool.{true, false, cond}
 use mathlib.Core.List.{List, [], _∷_, _++_}
+use Prim.Native.Nat.{ℕ, _+_, _*_, _-_, _/_, _%_, _≤_, _<_}
 use native.Mathlib.Omega.{arith}
 use native.Mathlib.Decide.{decLt}
 use native.Mathlib.Nat.{div-add-mod}
 use lib.Dec.{leb, ltb}
 use lib.ListN.{getD, length}
 use lib.Seq.{ext-getD}
-use borrow.Author.Tests.{lt-ltb, le-ltb, leb-false}
 use mir.Syntax.{w32}
 use mir.Val.{toZ, ofZ}
 use mir.Facts.{ofZ-toZ}
+use borrow.Author.Tests.{lt-ltb, le-ltb, leb-false}
 use Rattle.laws.specs.Tables.{tabulate}
-use Rattle.laws.proofs.Bools.{split}
+use Rattle.laws.proofs.Bools.{split, or-off}
 use Rattle.laws.proofs.Tables.{getD-tabulate, length-tabulate}
 use Rattle.format.specs.Bytes.{from, after, word16, word32, bytes16, bytes32}
 use Rattle.format.specs.Codes.{codeBytes}
 use Rattle.format.specs.Job.{FileJob}
 use Rattle.format.specs.Blocks.{BlockKind, header, offerBlock, grocerBlock, tallyBlock, blocks, offersAt, talliesAt, kindAt, kindNumber, records, recordSize, fieldSize, headerBytes, offerBytes, tallyBytes, recordBytes, spare, firstSum, secondSum}
 use Rattle.format.specs.File.{recordByte, bodyByte, blockByte, encode, readOffer, readTally, recordAt, decode}
-use Rattle.format.proofs.Extra.{or-off}
 use Rattle.format.proofs.Words.{bytes-word16, bytes-word32, first-cong, second-cong}
 use Rattle.format.proofs.Plan.{At, at-header, at-offers, at-grocers, at-tallies, kind-at}
 

@@ -1,14 +1,14 @@
 -- Two jobs with the same words are refused alike. Assumes nothing.
-use Prim.Native.Nat.{ℕ, _<_}
 use mathlib.Core.Path.{_≡_, _∙_, ap, ap₂}
 use mathlib.Core.Bool.{true, not}
-use lib.Dec.{eqb}
+use Prim.Native.Nat.{ℕ, _<_}
 use native.Mathlib.Omega.{arith}
+use lib.Dec.{eqb}
 use Rattle.laws.specs.Below.{any, find}
+use Rattle.laws.proofs.Below.{any-cong, find-cong}
 use Rattle.format.specs.Codes.{Code, isCode, number, sameOffer}
 use Rattle.format.specs.Job.{FileJob, Offer, Tally, badSizes, badOffer, badOwner, badTally, names, placeOf, shared, unnamed}
 use Rattle.format.specs.Refusals.{jobRefusal}
-use Rattle.format.proofs.Extra.{any-cong, find-cong}
 use Rattle.format.proofs.Codes.{code-cong, number-cong}
 use Rattle.format.proofs.Plan.{Sizes}
 use Rattle.format.proofs.Range.{fine, fine-job, offer-in, tally-in}

@@ -1,8 +1,8 @@
 -- Reader and writer over lent tables: writing what was read gives the file, and reading what was written gives the words. Assumes nothing.
-use Prim.Native.Nat.{ℕ, suc, _+_, _*_, _≤_, _<_}
 use mathlib.Core.Path.{_≡_, refl, sym, _∙_, ap}
 use mathlib.Core.Bool.{false}
 use mathlib.Core.List.{List, [], _∷_, _++_}
+use Prim.Native.Nat.{ℕ, suc, _+_, _*_, _≤_, _<_}
 use native.Mathlib.Omega.{arith}
 use native.Mathlib.Decide.{ℕ-discrete}
 use lib.Dec.{ltb}
@@ -11,16 +11,16 @@ use lib.Seq.{take-at}
 use lib.IntN.{pos}
 use borrow.Author.Tests.{ltb-false, le-ltb, ne-eqb}
 use Rattle.laws.specs.Tables.{tabulate, overwrite, recell}
-use Rattle.laws.proofs.Tables.{getD-overwrite, getD-tabulate, long-overwrite}
-use Rattle.laws.proofs.Checks.{none-of}
+use Rattle.laws.proofs.Tables.{getD-overwrite, getD-tabulate, long-overwrite, overwrite-same, overwrite-as, recell-same, recell-as, getD-recell}
+use Rattle.laws.proofs.Checks.{none-of, unmet}
+use Rattle.laws.proofs.Bools.{or-off}
 use Rattle.format.specs.Bytes.{from}
 use Rattle.format.specs.Codes.{Code, codeBytes, readCode}
 use Rattle.format.specs.Job.{FileJob, placeOf}
 use Rattle.format.specs.Blocks.{blockCount}
 use Rattle.format.specs.File.{encode, decode}
 use Rattle.format.specs.Refusals.{fileRefusal, jobRefusal}
-use Rattle.format.specs.Tables.{FileTables, ReaderTables, shortTables, fileJobOf, storeCodes, store, storeRead, sizes, refused, ReadOutcome, shortReader, readRefusal, readResult, wrote, notWritten, shortWriter, writeRefusal, writeResult}
-use Rattle.format.proofs.Extra.{or-off, unmet, overwrite-same, overwrite-cong, recell-same, recell-cong, getD-recell}
+use Rattle.format.specs.Tables.{FileTables, ReaderTables, shortTables, Long, fileJobOf, storeCodes, store, storeRead, sizes, refused, ReadOutcome, shortReader, readRefusal, readResult, wrote, notWritten, shortWriter, writeRefusal, writeResult}
 use Rattle.format.proofs.Firsts.{each}
 use Rattle.format.proofs.Order.{reader-file, writer-job}
 use Rattle.format.proofs.Range.{InRange, in-range}
@@ -65,7 +65,7 @@ module _ (j : FileJob) (l : FileTables) where
 -- Jobs with the same words are stored alike.
 codes-same : (n m : ℕ) (c d : ℕ → Code) (l : List ℕ) → n ≡ m → ((i : ℕ) → i < m → SameCode (c i) (d i)) → storeCodes n c l ≡ storeCodes m d l
 unfolding storeCodes
-codes-same n m c d l e h = recell-cong n m 11 _ _ l e (λ i p q r. ap (λ (x : List ℕ). getD x p 0) (code-bytes (c i) (d i) (h i q)))
+codes-same n m c d l e h = recell-as n m 11 _ _ l e (λ i p q r. ap (λ (x : List ℕ). getD x p 0) (code-bytes (c i) (d i) (h i q)))
 
 module _ (a b : FileJob) (s : SameWords a b) where
   -- The same tables come of both,
@@ -73,14 +73,14 @@ module _ (a b : FileJob) (s : SameWords a b) where
   unfolding store
   store-same l =
       let z = s .sizes in
-      let e₀ = overwrite-cong (a .offers) (b .offers) (λ i. a .offer i .price) (λ i. b .offer i .price) (l .price) (z .offers) (λ i h. s .offer i h .price) in
-      let e₁ = overwrite-cong (a .offers) (b .offers) (λ i. a .offer i .owner) (λ i. b .offer i .owner) (l .offerOwner) (z .offers) (λ i h. s .offer i h .owner) in
+      let e₀ = overwrite-as (a .offers) (b .offers) (λ i. a .offer i .price) (λ i. b .offer i .price) (l .price) (z .offers) (λ i h. s .offer i h .price) in
+      let e₁ = overwrite-as (a .offers) (b .offers) (λ i. a .offer i .owner) (λ i. b .offer i .owner) (l .offerOwner) (z .offers) (λ i h. s .offer i h .owner) in
       let e₂ = codes-same (a .offers) (b .offers) (λ i. a .offer i .code) (λ i. b .offer i .code) (l .offerCode) (z .offers) (λ i h. s .offer i h .code) in
-      let e₃ = overwrite-cong (a .grocers) (b .grocers) (a .grocerOwner) (b .grocerOwner) (l .grocerOwner) (z .grocers) (s .grocerOwner) in
-      let e₄ = overwrite-cong (a .tallies) (b .tallies) (λ i. a .tally i .grocer) (λ i. b .tally i .grocer) (l .tallyGrocer) (z .tallies) (λ i h. s .tally i h .grocer) in
-      let e₅ = overwrite-cong (a .tallies) (b .tallies) (λ i. a .tally i .box) (λ i. b .tally i .box) (l .tallyBox) (z .tallies) (λ i h. s .tally i h .box) in
+      let e₃ = overwrite-as (a .grocers) (b .grocers) (a .grocerOwner) (b .grocerOwner) (l .grocerOwner) (z .grocers) (s .grocerOwner) in
+      let e₄ = overwrite-as (a .tallies) (b .tallies) (λ i. a .tally i .grocer) (λ i. b .tally i .grocer) (l .tallyGrocer) (z .tallies) (λ i h. s .tally i h .grocer) in
+      let e₅ = overwrite-as (a .tallies) (b .tallies) (λ i. a .tally i .box) (λ i. b .tally i .box) (l .tallyBox) (z .tallies) (λ i h. s .tally i h .box) in
       let e₆ = codes-same (a .tallies) (b .tallies) (λ i. a .tally i .code) (λ i. b .tally i .code) (l .tallyCode) (z .tallies) (λ i h. s .tally i h .code) in
-      let e₇ = overwrite-cong (a .tallies) (b .tallies) (λ i. a .tally i .count) (λ i. b .tally i .count) (l .tallyCount) (z .tallies) (λ i h. s .tally i h .count) in
+      let e₇ = overwrite-as (a .tallies) (b .tallies) (λ i. a .tally i .count) (λ i. b .tally i .count) (l .tallyCount) (z .tallies) (λ i h. s .tally i h .count) in
       λ i. record { price = e₀ i; offerOwner = e₁ i; offerCode = e₂ i; grocerOwner = e₃ i; tallyGrocer = e₄ i; tallyBox = e₅ i; tallyCode = e₆ i; tallyCount = e₇ i }
 
   -- the places too.
@@ -88,7 +88,7 @@ module _ (a b : FileJob) (s : SameWords a b) where
   unfolding storeRead
   store-read-same ok l =
       let e₀ = store-same (l .job) in
-      let e₁ = overwrite-cong (a .tallies) (b .tallies) (placeOf a) (placeOf b) (l .tallyOffer) (s .sizes .tallies) (place-same a b s ok) in
+      let e₁ = overwrite-as (a .tallies) (b .tallies) (placeOf a) (placeOf b) (l .tallyOffer) (s .sizes .tallies) (place-same a b s ok) in
       λ i. record { job = e₀ i; tallyOffer = e₁ i }
 
 -- ---- what the calls give, by their refusal
@@ -124,17 +124,6 @@ module _ (k m n t : ℕ) (l : FileTables) (out : List ℕ) where
   write-refused e = rw (ne-eqb (writeRefusal k m n t l out) 0 e)
 
 -- ---- lengths
-
--- Each table has the words that K, M, N and T need.
-pub record Long (m n t : ℕ) (l : FileTables) : Type 0 where
-  pub price : n ≤ length (l .price)
-  pub offerOwner : n ≤ length (l .offerOwner)
-  pub offerCode : n * 11 ≤ length (l .offerCode)
-  pub grocerOwner : m ≤ length (l .grocerOwner)
-  pub tallyGrocer : t ≤ length (l .tallyGrocer)
-  pub tallyBox : t ≤ length (l .tallyBox)
-  pub tallyCode : t * 11 ≤ length (l .tallyCode)
-  pub tallyCount : t ≤ length (l .tallyCount)
 
 -- No table is short.
 pub long-tables : (m n t : ℕ) (l : FileTables) → shortTables m n t l ≡ false → Long m n t l
@@ -215,11 +204,6 @@ module _ (k m n t : ℕ) (l : FileTables) (out : List ℕ) (ok : writeRefusal k 
   written-job : jobRefusal (fileJobOf k m n t l) ≡ 0
   unfolding writeRefusal
   written-job = each _ ok 1
-
-  -- The writer answers 512 bytes for each block.
-  pub written-length : writeResult k m n t l out .answer ≡ wrote (512 * blockCount n t)
-  unfolding fileJobOf
-  written-length = rw (write-accepted k m n t l out ok) (ap wrote (long-is (fileJobOf k m n t l) written-job))
 
   -- The writer's file is the front of its buffer.
   pub written-file : take (length (encode (fileJobOf k m n t l))) (writeResult k m n t l out .out) ≡ encode (fileJobOf k m n t l)

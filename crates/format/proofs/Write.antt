@@ -1,28 +1,29 @@
 -- The file of a job that the writer takes is accepted, and says that job. Assumes nothing.
-use Prim.Native.Nat.{ℕ, _+_, _*_, _-_, _/_, _%_, _≤_, _<_}
 use mathlib.Core.Path.{_≡_, refl, sym, _∙_, ap}
 use mathlib.Core.Bool.{false, not, _&&_}
 use mathlib.Core.List.{[], _∷_, _++_}
+use Prim.Native.Nat.{ℕ, _+_, _*_, _-_, _/_, _%_, _≤_, _<_}
 use native.Mathlib.Omega.{arith}
 use lib.Dec.{eqb}
 use lib.ListN.{getD, length, List·getD-append}
 use lib.Seq.{getD-append-add}
 use lib.Arith.{digits-div, digits-mod}
-use borrow.Author.Tests.{lt-ltb, le-ltb, lt-leb, eq-eqb, ne-eqb}
 use mir.Syntax.{w32}
 use mir.Val.{ofZ}
+use borrow.Author.Tests.{lt-ltb, le-ltb, lt-leb, eq-eqb, ne-eqb}
 use Rattle.laws.specs.Tables.{tabulate}
 use Rattle.laws.proofs.Bools.{split}
 use Rattle.laws.proofs.Signed.{read32-abs}
 use Rattle.laws.proofs.Tables.{getD-tabulate, length-tabulate}
+use Rattle.laws.proofs.Checks.{none-met}
+use Rattle.laws.proofs.Below.{any-false}
 use Rattle.format.specs.First.{firstBelow}
 use Rattle.format.specs.Bytes.{from, after, word16, bytes32}
 use Rattle.format.specs.Codes.{codeBytes}
-use Rattle.format.specs.Job.{FileJob, Offer, Tally, shared, unnamed}
+use Rattle.format.specs.Job.{FileJob, Offer, Tally}
 use Rattle.format.specs.Blocks.{BlockKind, header, offerBlock, grocerBlock, tallyBlock, blocks, offersAt, grocersAt, talliesAt, kindAt, kindNumber, records, recordSize, fieldSize, headerBytes, offerBytes, tallyBytes, recordBytes, spare, firstSum, secondSum}
 use Rattle.format.specs.File.{recordByte, bodyByte, blockByte, encode, readOffer, readTally, recordAt, decode}
 use Rattle.format.specs.Refusals.{badLength, badCount, sumsDiffer, notDue, badHeader, spareUsed, badRecord, headerRefusal, blockRefusal, fileRefusal, jobRefusal}
-use Rattle.format.proofs.Extra.{none-met, any-false}
 use Rattle.format.proofs.Firsts.{below-none}
 use Rattle.format.proofs.Order.{file-accepted}
 use Rattle.format.proofs.Words.{word-bytes16, word-bytes32, first-cong, second-cong}

@@ -1,7 +1,7 @@
 -- The lent tables of the reader and of the writer, and what each call gives: answer and tables, for every input.
-use Prim.Native.Nat.{ℕ, _*_}
 use mathlib.Core.Bool.{Bool, cond, _||_}
 use mathlib.Core.List.{List, [], _∷_, _++_}
+use Prim.Native.Nat.{ℕ, _*_, _≤_}
 use lib.Dec.{ltb, eqb}
 use lib.IntN.{ℤ, pos}
 use lib.ListN.{getD, length, drop}
@@ -47,6 +47,17 @@ shortTables m n t l =
     ltb (length (l .price)) n ∷ ltb (length (l .offerOwner)) n ∷ ltb (length (l .offerCode)) (n * 11) ∷
     ltb (length (l .grocerOwner)) m ∷
     ltb (length (l .tallyGrocer)) t ∷ ltb (length (l .tallyBox)) t ∷ ltb (length (l .tallyCode)) (t * 11) ∷ ltb (length (l .tallyCount)) t ∷ [])
+
+-- Each table has the words that K, M, N and T need.
+pub record Long (m n t : ℕ) (l : FileTables) : Type 0 where
+  pub price : n ≤ length (l .price)
+  pub offerOwner : n ≤ length (l .offerOwner)
+  pub offerCode : n * 11 ≤ length (l .offerCode)
+  pub grocerOwner : m ≤ length (l .grocerOwner)
+  pub tallyGrocer : t ≤ length (l .tallyGrocer)
+  pub tallyBox : t ≤ length (l .tallyBox)
+  pub tallyCode : t * 11 ≤ length (l .tallyCode)
+  pub tallyCount : t ≤ length (l .tallyCount)
 
 -- The job that tables hold, for K, M, N and T as given: digits as written, "and not the place".
 unfoldable pub fileJobOf : ℕ → ℕ → ℕ → ℕ → FileTables → FileJob

@@ -1,22 +1,22 @@
 -- Laws of the tables of a fresh state. Assumes nothing.
-use mathlib.Core.Path.{_≡_, refl, sym, ap, _∙_}
+use mathlib.Core.Path.{_≡_, sym, ap, _∙_}
 use mathlib.Core.List.{List}
-use mathlib.Core.Bool.{Bool, true, false, cond, _&&_}
+use mathlib.Core.Bool.{Bool, false, cond, _&&_}
 use Prim.Native.Nat.{ℕ, _+_, _*_, _/_, _%_, _≤_, _<_}
 use native.Mathlib.Omega.{arith}
 use lib.Arith.{digits-div, digits-mod}
 use lib.Dec.{eqb, ltb}
 use lib.ListN.{length, getD, set}
 use lib.Seq.{getD-set-same, getD-set-other}
-use borrow.Author.Tests.{eqb-true, eqb-false, ne-eqb, lt-ltb, le-ltb, ltb-true, ltb-false}
 use lib.IntN.{ℤ, pos}
+use borrow.Author.Tests.{eqb-true, eqb-false, ne-eqb, lt-ltb, le-ltb, ltb-true, ltb-false}
 use Rattle.laws.specs.Tables.{overwrite, recell, word}
-use Rattle.model.specs.Steps.{fresh}
-use Rattle.model.specs.Tables.{JobTables, jobTables, jobOf, StateTables, stateTables, store}
-use Rattle.model.specs.Step.{freshTables}
-use Rattle.fresh.specs.Fresh.{ownPrices}
 use Rattle.laws.proofs.Bools.{split, and-false, eqb-same}
 use Rattle.laws.proofs.Tables.{is-overwrite, over-over, recell-cong, word-in, cell-in}
+use Rattle.model.specs.Steps.{fresh}
+use Rattle.model.specs.Tables.{jobTables, jobOf, StateTables, stateTables, store}
+use Rattle.model.specs.Step.{freshTables}
+use Rattle.fresh.specs.Fresh.{ownPrices}
 
 -- A loop that makes words z, one a turn: the first i are z, the others as they were.
 module _ {A : Type 0} (l₀ l : List A) (z d : A) (i : ℕ) (same : length l ≡ length l₀) (h : (p : ℕ) → getD l p d ≡ cond (ltb p i) z (getD l₀ p d)) where

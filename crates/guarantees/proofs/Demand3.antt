@@ -17,7 +17,7 @@ use Rattle.model.specs.Tables.{jobOf, jobLengths, jobShort, JobTables, StateTab
 use Rattle.model.specs.Ranges.{upTo, under, around, sizesInRange, jobWordsInRange, jobInRange}
 use Rattle.format.specs.Job.{FileJob, names, placeOf}
 use Rattle.format.specs.File.{decode}
-use Rattle.format.specs.Tables.{FileTables, ReaderTables, ReadOutcome, fileJobOf, readRefusal, readResult, storeRead}
+use Rattle.format.specs.Tables.{FileTables, ReaderTables, ReadOutcome, Long, fileJobOf, readRefusal, readResult, storeRead}
 use Rattle.guarantees.specs.Demand3.{jobRead, owed, Holds, Accepted, Demand3Holds}
 use Rattle.model.specs.Requests.{left}
 use Rattle.model.specs.Run.{run, ran}
@@ -25,7 +25,7 @@ use Rattle.model.specs.Demand3.{whole}
 use Rattle.model.proofs.Demand3.{demand3, run-is-list}
 use Rattle.format.proofs.Range.{InRange, fine, only-place}
 use Rattle.format.proofs.Accept.{job-accepted, accepted-range}
-use Rattle.format.proofs.Tables.{read-file, Long, long-tables, read-long, read-range, read-place, read-job, read-accepted}
+use Rattle.format.proofs.Tables.{read-file, long-tables, read-long, read-range, read-place, read-job, read-accepted}
 use Rattle.format.proofs.Same.{SameWords}
 
 up-all : (m n : ℕ) (l : List ℕ) → ((i : ℕ) → i < n → getD l i 0 ≤ m) → upTo m n l ≡ true

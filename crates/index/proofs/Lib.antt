@@ -1,5 +1,4 @@
 -- The laws of the sort and of the look-up.
-pub mod Extra
 pub mod Sorting
 pub mod Digits
 pub mod Looking

@@ -5,14 +5,13 @@ use mathlib.Core.Bool.{Bool, true, false, cond}
 use Prim.Native.Nat.{ℕ, _+_, _-_, _*_, _/_, _^_, _<_, _≤_}
 use native.Mathlib.Omega.{arith}
 use lib.ListN.{getD}
-use mir.Val.{boolByte}
 use lib.Dec.{eqb, ltb, leb}
+use mir.Val.{boolByte}
 use borrow.Author.Tests.{eqb-true, eqb-false, eq-eqb, ltb-true, ltb-false, leb-true, leb-false, lt-ltb, le-ltb}
 use Rattle.laws.specs.Below.{any}
 use Rattle.laws.proofs.Bools.{split, clash, eqb-same, no-true}
-use Rattle.laws.proofs.Below.{any-at, any-find, find-none, find-only}
+use Rattle.laws.proofs.Below.{any-at, any-find, find-none, find-only, count-some, count-two}
 use Rattle.index.specs.Index.{times, keyAt, Ascending, IsIndex, sharesNumber, placeOf, Bracket}
-use Rattle.index.proofs.Extra.{count-some, count-two}
 
 module _ {keys places numbers : List ℕ} {n : ℕ} (x : IsIndex keys places numbers n) where
   key-at : (i : ℕ) → i < n → getD keys i 0 ≡ getD numbers (getD places i 0) 0

@@ -1,14 +1,14 @@
 -- Laws of any, all and count over the numbers below a bound. Assumes nothing.
-use mathlib.Core.Path.{_≡_, refl, sym, ap₂, _∙_}
+use mathlib.Core.Path.{_≡_, refl, sym, ap, ap₂, _∙_}
 use mathlib.Core.Bool.{Bool, true, false, cond, _&&_, _||_, false≢true}
 use Prim.Native.Nat.{ℕ, zero, suc, _+_, _<_, _≤_}
 use native.Mathlib.Omega.{arith}
 use native.Mathlib.Numerals.{add-one}
-use lib.Dec.{eqb}
-use borrow.Author.Tests.{eqb-true, eqb-false}
+use lib.Dec.{eqb, ltb}
+use borrow.Author.Tests.{eqb-true, eqb-false, ltb-true, ltb-false}
 use Rattle.laws.specs.Below.{words, sum, only, any, all, count, find}
 use Rattle.laws.proofs.Bools.{split, clash, no-true, and-true, and-l, and-r, and-one, or-true, or-false}
-use Rattle.laws.proofs.Sums.{sum-cong, sum-none, sum-max, sum-next}
+use Rattle.laws.proofs.Sums.{sum-cong, sum-none, sum-one, sum-max, sum-next}
 
 -- One place more, as code counts.
 pub any-next : (n : ℕ) (p : ℕ → Bool) → any (n + 1) p ≡ (any n p || p n)
@@ -18,6 +18,10 @@ any-next n p = rw (add-one n)
 pub all-next : (n : ℕ) (p : ℕ → Bool) → all (n + 1) p ≡ (all n p && p n)
 unfolding all
 all-next n p = rw (add-one n)
+
+pub all-start : (p : ℕ → Bool) → all 0 p ≡ true
+unfolding all
+all-start p = refl
 
 pub count-next : (n : ℕ) (p : ℕ → Bool) → count (n + 1) p ≡ count n p + only words (p n) 1
 unfolding count words
@@ -43,6 +47,14 @@ counts-none e = rw e
 -- A search in a loop, one test a turn.
 pub any-more : (i : ℕ) (p : ℕ → Bool) (a b : Bool) → a ≡ any i p → b ≡ p i → (a || b) ≡ any (i + 1) p
 any-more i p a b h e = rw (h, e) (sym (any-next i p))
+
+-- The same where every number is to pass.
+pub all-more : (i : ℕ) (p : ℕ → Bool) (a b : Bool) → a ≡ all i p → b ≡ p i → (a && b) ≡ all (i + 1) p
+all-more i p a b h e = ap₂ _&&_ h e ∙ sym (all-next i p)
+
+-- A search ends: all n numbers are looked at.
+pub any-end : (i n : ℕ) (p : ℕ → Bool) (a : Bool) → i ≡ n → a ≡ any i p → a ≡ any n p
+any-end i n p a e h = h ∙ ap (λ (k : ℕ). any k p) e
 
 -- Tests that agree below the bound.
 pub any-cong : (n : ℕ) (p q : ℕ → Bool) → ((i : ℕ) → i < n → p i ≡ q i) → any n p ≡ any n q
@@ -160,6 +172,59 @@ count-zero (suc n) p i l h =
     (λ e. rw (eqb-true i n e) f)
     (λ e. let ne : i ≡ n → ⊥ = eqb-false i n e in count-zero n p i (omega arith) (omega arith)))
 
+-- A number that passes is counted.
+pub count-at : (n : ℕ) (p : ℕ → Bool) (i : ℕ) → i < n → p i ≡ true → 0 < count n p
+count-at n p i l h =
+    split (eqb (count n p) 0)
+    (λ e. absurd (clash h (count-zero n p i l (eqb-true (count n p) 0 e))))
+    (λ e. let ne : count n p ≡ 0 → ⊥ = eqb-false (count n p) 0 e in omega arith)
+
+-- Where some are counted, some number passes.
+pub count-some : (n : ℕ) (p : ℕ → Bool) → 0 < count n p → any n p ≡ true
+count-some n p h = split (any n p) (λ e. e) (λ e. absurd (omega (arith, count-none n p e)))
+
+-- A number that passes is counted behind those before it.
+pub count-lt : (n : ℕ) (p : ℕ → Bool) (i : ℕ) → i < n → p i ≡ true → count i p < count n p
+count-lt zero p i l h = absurd (omega arith)
+count-lt (suc n) p i l h =
+    split (eqb i n)
+    (λ q. let e : i ≡ n = eqb-true i n q in rw e (omega (arith, count-suc n p, counts-one (rw e at h))))
+    (λ q. let ne : i ≡ n → ⊥ = eqb-false i n q in omega (arith, count-suc n p, count-lt n p i (omega arith) h))
+
+-- Each place below the count has a number that passes, with so many before it.
+pub count-where : (n : ℕ) (p : ℕ → Bool) (i : ℕ) → i < count n p → (y : ℕ) × (y < n) × (p y ≡ true) × (count y p ≡ i)
+count-where zero p i l = absurd (omega (arith, count-le 0 p))
+count-where (suc n) p i l =
+    split (ltb i (count n p))
+    (λ q. let (y, m, h, e) = count-where n p i (ltb-true i (count n p) q) in (y, omega arith, h, e))
+    (λ q. let g : count n p ≤ i = ltb-false i (count n p) q in
+    split (p n)
+    (λ f. (n, omega arith, f, omega (arith, count-suc n p, counts-one f)))
+    (λ f. absurd (omega (arith, count-suc n p, counts-none f))))
+
+-- The test of one number that does not pass is changed, and no other.
+pub count-one-more : (n k : ℕ) (p q : ℕ → Bool) → k < n → p k ≡ false → ((i : ℕ) → i < n → (i ≡ k → ⊥) → q i ≡ p i) → count n q ≡ count n p + only words (q k) 1
+unfolding count words
+count-one-more n k p q l off h =
+    sum-one words n k (λ i. only words (p i) 1) (λ i. only words (q i) 1) (only words (q k) 1) l
+    (omega (arith, counts-none off))
+    (λ i m ne. ap (λ (t : Bool). only words t 1) (h i m ne))
+
+-- Just one number passes.
+pub count-one : (n : ℕ) (p : ℕ → Bool) (k : ℕ) → k < n → p k ≡ true → ((i : ℕ) → i < n → p i ≡ true → i ≡ k) → count n p ≡ 1
+count-one n p k l h one =
+    count-one-more n k (λ i. false) p l refl (λ i m ne. no-true (p i) (λ e. ne (one i m e)))
+    ∙ omega (arith, count-none n (λ i. false) (any-false n (λ i. false) (λ i m. refl)), counts-one h)
+
+-- Where one is counted, no two numbers pass.
+pub count-two : (n : ℕ) (p : ℕ → Bool) (i k : ℕ) → i < n → k < n → p i ≡ true → p k ≡ true → count n p ≡ 1 → i ≡ k
+count-two n p i k li lk hi hk e =
+    split (ltb i k)
+    (λ q. absurd (omega (arith, count-at k p i (ltb-true i k q) hi, count-lt n p k lk hk)))
+    (λ q. split (ltb k i)
+    (λ r. absurd (omega (arith, count-at i p k (ltb-true k i r) hk, count-lt n p i li hi)))
+    (λ r. omega (arith, ltb-false i k q, ltb-false k i r)))
+
 -- What is found passes, where some number passes.
 pub find-passes : (n : ℕ) (p : ℕ → Bool) → any n p ≡ true → (find n p < n) × (p (find n p) ≡ true)
 unfolding any find
@@ -177,19 +242,6 @@ find-none (suc n) p h =
     split (any n p)
     (λ e. absurd (false≢true (sym h ∙ rw e)))
     (λ e. rw e (split (p n) (λ f. absurd (false≢true (sym h ∙ rw (e, f)))) (λ f. rw f)))
-
--- No number before the one found passes.
-pub find-first : (n : ℕ) (p : ℕ → Bool) (i : ℕ) → i < find n p → p i ≡ false
-unfolding any find
-find-first zero p i l = absurd (omega arith)
-find-first (suc n) p i l =
-    split (any n p)
-    (λ e. find-first n p i (rw e at l))
-    (λ e. split (p n)
-    (λ f. any-none n p i (rw (e, f) at l) e)
-    (λ f. split (eqb i n)
-    (λ q. rw (eqb-true i n q) f)
-    (λ q. let ne : i ≡ n → ⊥ = eqb-false i n q in let l′ : i < suc n = rw (e, f) at l in any-none n p i (omega arith) e)))
 
 -- The only number that passes is the one found.
 pub find-only : (n : ℕ) (p : ℕ → Bool) (k : ℕ) → k < n → p k ≡ true → ((i : ℕ) → i < n → p i ≡ true → i ≡ k) → find n p ≡ k

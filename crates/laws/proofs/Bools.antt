@@ -1,9 +1,11 @@
 -- Tests: what follows from a test and its parts. Assumes nothing.
-use mathlib.Core.Path.{_≡_, refl, sym, ap, _∙_}
+use mathlib.Core.Path.{_≡_, refl, sym, _∙_}
 use mathlib.Core.Bool.{Bool, true, false, cond, _&&_, _||_, not, false≢true}
-use Prim.Native.Nat.{ℕ}
-use lib.Dec.{eqb}
-use borrow.Author.Tests.{eq-eqb}
+use Prim.Native.Nat.{ℕ, _<_}
+use native.Mathlib.Decide.{decLt}
+use native.Mathlib.Omega.{arith}
+use lib.Dec.{eqb, ltb, leb}
+use borrow.Author.Tests.{eq-eqb, lt-ltb, le-ltb, le-leb, lt-leb}
 
 -- A test goes one way or the other, and each way has its equation.
 pub split {ℓ} : {P : Type ℓ} (t : Bool) → (t ≡ true → P) → (t ≡ false → P) → P
@@ -18,6 +20,12 @@ no-true false h = refl
 -- True and false at once.
 pub clash : {t : Bool} → t ≡ true → t ≡ false → ⊥
 clash p q = false≢true (sym q ∙ p)
+
+-- Two tests that follow from each other.
+pub same-test : (a b : Bool) → (a ≡ true → b ≡ true) → (b ≡ true → a ≡ true) → a ≡ b
+same-test true b f g = sym (f refl)
+same-test false true f g = absurd (clash (g refl) refl)
+same-test false false f g = refl
 
 pub eqb-same : (a : ℕ) → eqb a a ≡ true
 eqb-same a = eq-eqb a a refl
@@ -64,6 +72,13 @@ pub or-false : (a : Bool) → (a || false) ≡ a
 or-false true = refl
 or-false false = refl
 
+-- One of two tests holds.
+pub or-l : (a b : Bool) → a ≡ true → (a || b) ≡ true
+or-l a b e = rw e
+
+pub or-r : (a b : Bool) → b ≡ true → (a || b) ≡ true
+or-r a b e = rw e (or-true a)
+
 -- A second test that follows from its own premise keeps a disjunction.
 pub or-more : (t u u′ : Bool) → (u ≡ true → u′ ≡ true) → (t || u) ≡ true → (t || u′) ≡ true
 or-more true u u′ f h = refl
@@ -84,6 +99,19 @@ cond-yes t x y e = rw e
 
 pub cond-no : {A : Type 0} (t : Bool) (x y : A) → t ≡ false → cond t x y ≡ y
 cond-no t x y e = rw e
+
+-- What holds of both holds of the one chosen.
+pub cond-either : {A : Type 0} (P : A → Type 0) (t : Bool) (x y : A) → P x → P y → P (cond t x y)
+cond-either P true x y p q = p
+cond-either P false x y p q = q
+
+-- A choice by a test of two numbers, without a branch.
+pub cond-or : (k n : ℕ) (a b : Bool) → ((ltb k n && a) || (leb n k && b)) ≡ cond (ltb k n) a b
+cond-or k n a b = go (decLt k n)
+  where
+    go : Dec (k < n) → ((ltb k n && a) || (leb n k && b)) ≡ cond (ltb k n) a b
+    go (yes l) = rw (lt-ltb k n l, lt-leb n k l) (or-false a)
+    go (no m) = rw (le-ltb k n (omega arith), le-leb n k (omega arith))
 
 pub and-comm : (a b : Bool) → (a && b) ≡ (b && a)
 and-comm true true = refl

@@ -1,25 +1,22 @@
 -- Laws for loops over tables: words that are stored or added to, one a turn. Assumes nothing.
 use mathlib.Core.Path.{_≡_, refl, sym, ap, ap₂, _∙_, subst}
-use mathlib.Core.List.{List, [], _∷_}
-use mathlib.Core.Bool.{Bool, true, false, cond, _&&_, _||_}
+use mathlib.Core.List.{List}
+use mathlib.Core.Bool.{Bool, true, false, cond, _&&_}
 use Prim.Native.Nat.{ℕ, zero, suc, _+_, _-_, _*_, _≤_, _<_}
-use native.Mathlib.Nat.{le-refl, le-trans}
+use native.Mathlib.Nat.{le-refl}
 use native.Mathlib.Decide.{ℕ-discrete, decLt}
 use native.Mathlib.Omega.{arith}
-use borrow.Author.Tests.{eq-eqb, ne-eqb, lt-ltb, le-ltb, le-leb, lt-leb}
 use lib.Dec.{eqb, ltb, leb}
 use lib.IntN.{ℤ, pos, natAbs, _+ℤ_, +ℤ-idr, +ℤ-assoc}
 use lib.ListN.{length, getD, set, replicate}
 use lib.Seq.{getD-set-same, getD-set-other}
+use borrow.Author.Tests.{eqb-true, eqb-false, eq-eqb, ne-eqb, lt-ltb, le-ltb, le-leb, lt-leb}
 use Rattle.laws.specs.Below.{amounts, sum, only}
-use Rattle.laws.proofs.Bools.{and-false}
+use Rattle.laws.specs.Tables.{cell, recell}
+use Rattle.laws.proofs.Bools.{split, eqb-same, and-false, cond-no}
 use Rattle.laws.proofs.Sums.{sum-next, only-yes, only-no}
-use Rattle.laws.proofs.Signed.{abs-plus, sum-abs}
-
-only-small : (b : Bool) (z : ℤ) → natAbs (only amounts b z) ≤ natAbs z
-unfolding only amounts
-only-small true z = le-refl (natAbs z)
-only-small false z = omega arith
+use Rattle.laws.proofs.Signed.{abs-plus, sum-abs, only-abs}
+use Rattle.laws.proofs.Tables.{row-in, cell-at, is-recell}
 
 -- Z is added to the word at j: what the word at i is then.
 pub add-at : (w : List ℤ) (j i : ℕ) (z : ℤ) → j < length w → getD (set w j (getD w j (pos 0) +ℤ z)) i (pos 0) ≡ getD w i (pos 0) +ℤ only amounts (eqb j i) z
@@ -62,6 +59,30 @@ front-else g k n = go (decLt k g)
     go : Dec (k < g) → ltb k (g + 1) ≡ ltb k g
     go (yes l) = lt-ltb k (g + 1) (omega arith) ∙ sym (lt-ltb k g l)
     go (no m) = le-ltb k (g + 1) (omega arith) ∙ sym (le-ltb k g (omega arith))
+
+-- A loop that goes through a list from its front, and stores the new word where a test of the place holds.
+module _ {A : Type 0} (w : List A) (d : A) (new old : ℕ → A) (o : ℕ) (test : ℕ → Bool) (inside : o < length w) (h : (i : ℕ) → getD w i d ≡ cond (ltb i o && test i) (new i) (old i)) where
+  front-away : (i : ℕ) → (o ≡ i → ⊥) → (ltb i (o + 1) && test i) ≡ (ltb i o && test i)
+  front-away i n = ap (λ (b : Bool). b && test i) (front-else o i n)
+
+  pub front-more : (v : A) → v ≡ new o → (i : ℕ) → getD (cond (test o) (set w o v) w) i d ≡ cond (ltb i (o + 1) && test i) (new i) (old i)
+  front-more v e i = go (test o) refl
+    where
+      go : (b : Bool) → test o ≡ b → getD (cond b (set w o v) w) i d ≡ cond (ltb i (o + 1) && test i) (new i) (old i)
+      go true t = stored-more w d new old (λ i. ltb i o && test i) (λ i. ltb i (o + 1) && test i) o inside h (ap₂ _&&_ (front-here o) t) front-away v e i
+      go false t = h i ∙ ap (λ (b : Bool). cond b (new i) (old i)) (which (ℕ-discrete o i))
+        where
+          which : Dec (o ≡ i) → (ltb i o && test i) ≡ (ltb i (o + 1) && test i)
+          which (yes q) = let f : test i ≡ false = rw q at t in rw f (and-false (ltb i o) ∙ sym (and-false (ltb i (o + 1))))
+          which (no n) = sym (front-away i n)
+
+-- The word of the place that is next is not stored yet.
+pub front-next : (o : ℕ) (t : Bool) → (ltb o o && t) ≡ false
+front-next o t = ap (λ (b : Bool). b && t) (le-ltb o o (le-refl o))
+
+-- Nor is any word before the first place.
+pub front-none : (i : ℕ) (t : Bool) → (ltb i 0 && t) ≡ false
+front-none i t = ap (λ (b : Bool). b && t) (le-ltb i 0 (omega arith))
 
 -- The g words from a place on.
 abbrev pub window : ℕ → ℕ → ℕ → Bool
@@ -106,19 +127,18 @@ module _ (w₀ w : List ℤ) (place : ℕ → ℕ) (z : ℕ → ℤ) (t : ℕ) w
       ∙ +ℤ-assoc (getD w₀ i (pos 0)) (sum amounts t (share place z i)) (share place z i t)
       ∙ ap (λ (y : ℤ). getD w₀ i (pos 0) +ℤ y) (sym (sum-next amounts t (share place z i)))
 
-  -- What turn t writes is of size at most b + t × m + m, for words of size b at the start and amounts of size m.
-  pub pile-abs : (i b m : ℕ) → getD w i (pos 0) ≡ getD w₀ i (pos 0) +ℤ sum amounts t (share place z i) → natAbs (getD w₀ i (pos 0)) ≤ b → ((s : ℕ) → s < t + 1 → natAbs (z s) ≤ m)
-      → natAbs (getD w i (pos 0) +ℤ z t) ≤ b + t * m + m
-  pile-abs i b m e hb hm =
-      omega (
-        arith,
-        abs-plus (getD w i (pos 0)) (z t),
-        ap natAbs e,
-        abs-plus (getD w₀ i (pos 0)) (sum amounts t (share place z i)),
-        hb,
-        hm t (omega arith),
-        sum-abs t m (share place z i) (λ s l. le-trans (only-small (eqb (place s) i) (z s)) (hm s (omega arith))),
-      )
+-- A word that amounts of size m are added to, t of them, is of size at most b + t × m, if it was of size b.
+pub pile-size : (w₀ w : List ℤ) (place : ℕ → ℕ) (z : ℕ → ℤ) (t i b m : ℕ) →
+    getD w i (pos 0) ≡ getD w₀ i (pos 0) +ℤ sum amounts t (share place z i) → natAbs (getD w₀ i (pos 0)) ≤ b → ((s : ℕ) → s < t → natAbs (z s) ≤ m) →
+    natAbs (getD w i (pos 0)) ≤ b + t * m
+pile-size w₀ w place z t i b m e hb hm =
+    omega (
+      arith,
+      ap natAbs e,
+      abs-plus (getD w₀ i (pos 0)) (sum amounts t (share place z i)),
+      hb,
+      sum-abs t m (share place z i) (λ s l. only-abs (eqb (place s) i) (z s) m (hm s l)),
+    )
 
 -- The same number added on both sides of a test.
 pub eqb-shift : (x m n : ℕ) → eqb (x + m) (x + n) ≡ eqb m n
@@ -159,3 +179,38 @@ guarded-next at o test = ap (λ (b : Bool). b && test (at + o - at)) (window-abo
 -- Nor is any word before the first column.
 pub guarded-none : (at : ℕ) (test : ℕ → Bool) (k : ℕ) → guarded at 0 test k ≡ false
 guarded-none at test k = ap (λ (b : Bool). b && test (k - at)) (window-none at k)
+
+-- Row a, gone through to its end: the word of row c and column o is stored where c is a and the test of the column holds.
+guarded-row : (m a c o : ℕ) (test : ℕ → Bool) → o < m → guarded (a * m) m test (c * m + o) ≡ (eqb c a && test o)
+guarded-row m a c o test l =
+    split (eqb c a)
+    (λ e. rw (eqb-true c a e) (ap₂ _&&_ (window-in (a * m) m (a * m + o) (omega arith) (omega arith) ∙ sym (eqb-same a)) (ap test (omega arith))))
+    (λ e. ap (λ (b : Bool). b && test (c * m + o - a * m)) (apart (decLt c a) (eqb-false c a e)) ∙ sym (ap (λ (b : Bool). b && test o) e))
+  where
+    apart : Dec (c < a) → (c ≡ a → ⊥) → window (a * m) m (c * m + o) ≡ false
+    apart (yes h) n = window-below (a * m) m (c * m + o) (omega (arith, row-in c a m h))
+    apart (no h) n = let h′ : a < c = omega arith in window-above (a * m) m (c * m + o) (omega (arith, row-in a c m h′))
+
+-- A table in which a loop has stored row a, where a test of the column holds: by row and column.
+module _ {A : Type 0} where
+  pub row-stored : (k m a at g : ℕ) (l l′ : List A) (z : A) (test : ℕ → Bool) (new f : ℕ → A) →
+      a < k → k * m ≤ length l → at ≡ a * m → g ≡ m → length l′ ≡ length l →
+      ((i : ℕ) → getD l′ i z ≡ cond (guarded at g test i) (new i) (getD l i z)) →
+      ((o : ℕ) → o < m → new (a * m + o) ≡ f o) →
+      l′ ≡ recell k m (λ c o. cond (eqb c a && test o) (f o) (cell k m l z c o)) l
+  row-stored k m a at g l l′ z test new f ha long here done same h e =
+      is-recell k m (λ c o. cond (eqb c a && test o) (f o) (cell k m l z c o)) l l′ z long same inside past
+    where
+      whole : (i : ℕ) → getD l′ i z ≡ cond (guarded (a * m) m test i) (new i) (getD l i z)
+      whole i = h i ∙ ap₂ (λ (x y : ℕ). cond (guarded x y test i) (new i) (getD l i z)) here done
+
+      inside : (c o : ℕ) → c < k → o < m → getD l′ (c * m + o) z ≡ cond (eqb c a && test o) (f o) (cell k m l z c o)
+      inside c o lc lo =
+          whole (c * m + o)
+          ∙ rw (guarded-row m a c o test lo, cell-at k m l z c o lc lo)
+          (split (eqb c a)
+          (λ q. ap (λ (x : A). cond (eqb c a && test o) x (getD l (c * m + o) z)) (rw (eqb-true c a q) (e o lo)))
+          (λ q. rw q))
+
+      past : (i : ℕ) → k * m ≤ i → getD l′ i z ≡ getD l i z
+      past i q = whole i ∙ cond-no _ (new i) (getD l i z) (ap (λ (b : Bool). b && test (i - a * m)) (window-above (a * m) m i (omega (arith, row-in a k m ha))))

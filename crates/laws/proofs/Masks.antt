@@ -1,8 +1,8 @@
 -- Shifts and masks, and the bits of a word. Assumes nothing.
 use mathlib.Core.Path.{_≡_, refl, sym, ap, ap₂, _∙_}
 use mathlib.Core.Bool.{Bool, true, false, not, _||_, _&&_}
-use Prim.Native.Nat.{ℕ, zero, suc, _+_, _-_, _*_, _/_, _%_, _^_, _≤_, _<_, zero-le, suc-le-suc, min, max}
-use native.Mathlib.Nat.{le-refl, le-of-suc-le-suc, not-suc-le-zero, div-one, div-div-eq-div-mul, pow-succ', mod-eq-of-lt, one-mul}
+use Prim.Native.Nat.{ℕ, zero, suc, _+_, _-_, _*_, _/_, _%_, _^_, _<_, zero-le, suc-le-suc, min, max}
+use native.Mathlib.Nat.{le-of-suc-le-suc, not-suc-le-zero, div-one, div-div-eq-div-mul, pow-succ', mod-eq-of-lt, one-mul}
 use native.Mathlib.Omega.{arith}
 use lib.Dec.{eqb, eqb·zero-suc, eqb·suc-zero, eqb·suc-suc, lit<}
 use lib.Bits.{bitAnd, bitOr, and-mask, and-step, or-step, or-zero-r}
@@ -11,7 +11,7 @@ use lib.Pow.{pow-pos, pow-lt}
 use Rattle.laws.specs.Below.{words, sum, only, count}
 use Rattle.laws.specs.Masks.{bit, maskOf, without}
 use Rattle.laws.proofs.Bools.{and-false, and-one, or-false}
-use Rattle.laws.proofs.Below.{count-first}
+use Rattle.laws.proofs.Below.{only-le, count-first}
 
 abbrev one : Bool → ℕ
 one b = only words b 1
@@ -21,20 +21,14 @@ pub bit-test : (b w : ℕ) → eqb (bitAnd (w / 2 ^ b) 1) 1 ≡ bit b w
 unfolding bit
 bit-test b w = ap (λ (n : ℕ). eqb n 1) (and-mask (w / 2 ^ b) 1)
 
--- 1 where a test holds, else 0.
-one-le : (b : Bool) → one b ≤ 1
-unfolding only words
-one-le true = le-refl 1
-one-le false = zero-le
-
 -- The lowest bit of a mask, and the rest.
 low-bit : (n : ℕ) (f : ℕ → Bool) → maskOf (suc n) f % 2 ≡ one (f 0)
 unfolding maskOf
-low-bit n f = omega (arith, one-le (f 0))
+low-bit n f = omega (arith, only-le (f 0) 1)
 
 high-bits : (n : ℕ) (f : ℕ → Bool) → maskOf (suc n) f / 2 ≡ maskOf n (λ b. f (suc b))
 unfolding maskOf
-high-bits n f = omega (arith, one-le (f 0))
+high-bits n f = omega (arith, only-le (f 0) 1)
 
 pub mask-cong : (n : ℕ) (f g : ℕ → Bool) → ((k : ℕ) → k < n → f k ≡ g k) → maskOf n f ≡ maskOf n g
 unfolding maskOf
@@ -49,7 +43,7 @@ mask-none (suc n) = ap (λ (x : ℕ). 0 + 2 * x) (mask-none n)
 pub mask-lt : (n : ℕ) (f : ℕ → Bool) → maskOf n f < 2 ^ n
 unfolding maskOf
 mask-lt zero f = lit< tt
-mask-lt (suc n) f = omega (arith, one-le (f 0), mask-lt n (λ b. f (suc b)), pow-succ' 2 n)
+mask-lt (suc n) f = omega (arith, only-le (f 0) 1, mask-lt n (λ b. f (suc b)), pow-succ' 2 n)
 
 bit-zero : (w : ℕ) → bit 0 w ≡ eqb (w % 2) 1
 unfolding bit
@@ -59,7 +53,8 @@ bit-suc : (b w : ℕ) → bit (suc b) w ≡ bit b (w / 2)
 unfolding bit
 bit-suc b w = ap (λ (x : ℕ). eqb (x % 2) 1) (ap (λ (m : ℕ). w / m) (pow-succ' 2 b) ∙ sym (div-div-eq-div-mul w 2 (2 ^ b)))
 
-one-is : (b : Bool) → eqb (one b) 1 ≡ b
+-- A test by its word of 0 or 1, and such a word by its test.
+pub one-is : (b : Bool) → eqb (one b) 1 ≡ b
 unfolding only words
 one-is true = refl
 one-is false = refl
@@ -70,7 +65,7 @@ bit-mask zero b f l = absurd (not-suc-le-zero l)
 bit-mask (suc n) zero f l = bit-zero (maskOf (suc n) f) ∙ ap (λ (x : ℕ). eqb x 1) (low-bit n f) ∙ one-is (f 0)
 bit-mask (suc n) (suc b) f l = bit-suc b (maskOf (suc n) f) ∙ ap (bit b) (high-bits n f) ∙ bit-mask n b (λ k. f (suc k)) (le-of-suc-le-suc l)
 
-one-bit : (x : ℕ) → x < 2 → one (eqb x 1) ≡ x
+pub one-bit : (x : ℕ) → x < 2 → one (eqb x 1) ≡ x
 unfolding only words
 one-bit zero l = refl
 one-bit (suc zero) l = refl
@@ -123,16 +118,12 @@ unfolding maskOf ones lib.Count.onesIn count sum only words
 ones-mask zero f = refl
 ones-mask (suc n) f = ones-step (maskOf (suc n) f) ∙ ap₂ _+_ (low-bit n f) (ap ones (high-bits n f) ∙ ones-mask n (λ k. f (suc k))) ∙ sym (count-first n f)
 
--- So the ones of any word of n bits.
-pub ones-bits : (n w : ℕ) → w < 2 ^ n → ones w ≡ count n (λ b. bit b w)
-ones-bits n w l = ap ones (sym (mask-bits n w l)) ∙ ones-mask n (λ b. bit b w)
-
 -- 1 << b in 16 bits, as the code has it.
 pub shl-one : (b : ℕ) → b < 16 → (1 * 2 ^ b) % 2 ^ 16 ≡ 2 ^ b
 shl-one b l = ap (λ (x : ℕ). x % 2 ^ 16) (one-mul (2 ^ b)) ∙ mod-eq-of-lt (pow-lt l)
 
 one-min : (b : Bool) → min (one b) 1 ≡ one b
-one-min b = omega (arith, one-le b)
+one-min b = omega (arith, only-le b 1)
 
 min-none : (x : ℕ) → min x 0 ≡ 0
 min-none x = omega arith

@@ -1,19 +1,19 @@
 -- The size of a whole number, natAbs, and what fits an i64 or an i32. `omega` reads natAbs z as an unknown number,
 -- so a bound on a sum or a product is had by giving `omega` these laws, applied. Assumes nothing.
 use mathlib.Core.Path.{_≡_, refl, sym, ap₂, _∙_, subst}
-use mathlib.Core.Bool.{Bool, true, false, cond}
-use Prim.Native.Nat.{ℕ, zero, suc, _+_, _-_, _*_, _^_, _≤_, _<_}
+use mathlib.Core.Bool.{Bool, true, false, _||_}
+use Prim.Native.Nat.{ℕ, zero, suc, _+_, _*_, _^_, _≤_, _<_}
 use native.Mathlib.Nat.{le-refl, le-trans, le-of-eq, le-suc, lt-of-le-of-lt, mul-le-mul}
 use native.Mathlib.Omega.{arith}
 use lib.Dec.{T, ltb, leb, lit<, leb·suc-suc}
-use borrow.Author.Tests.{lt-leb, le-leb, ltb-true, ltb-false}
 use lib.IntN.{ℤ, pos, negsuc, negℤ, natAbs, subℕ, _+ℤ_, _*ℤ_}
 use lib.Signed.{mag, leZ, ltZ}
 use mir.Syntax.{w32, w64}
 use mir.Val.{SFits, toZ, ofZ}
 use mir.Facts.{toZ-ofZ}
+use borrow.Author.Tests.{lt-leb, le-leb, ltb-true, ltb-false}
 use Rattle.laws.specs.Below.{amounts, sum, only}
-use Rattle.laws.proofs.Bools.{split}
+use Rattle.laws.proofs.Bools.{split, or-false}
 
 -- |a − b| ≤ a + b
 abs-sub : (a b : ℕ) → natAbs (subℕ a b) ≤ a + b
@@ -83,6 +83,10 @@ read32-abs z h = read32 z (lt-of-le-of-lt (le-trans (mag-le z) h) (lit< tt))
 pub read-sum : {x y x′ y′ : ℤ} → mag x < 2 ^ 63 → mag y < 2 ^ 63 → x ≡ x′ → y ≡ y′ → toZ w64 (ofZ w64 x) +ℤ toZ w64 (ofZ w64 y) ≡ x′ +ℤ y′
 read-sum {x} {y} hx hy ex ey = ap₂ _+ℤ_ (read64 x hx ∙ ex) (read64 y hy ∙ ey)
 
+-- It fits where both are in range.
+pub sum-fits : (x y : ℤ) (b : ℕ) → b ≤ 4_000_000_000_000_000_000 → natAbs x ≤ b → natAbs y ≤ b → mag x < 2 ^ 63 → mag y < 2 ^ 63 → SFits w64 (toZ w64 (ofZ w64 x) +ℤ toZ w64 (ofZ w64 y))
+sum-fits x y b hb hx hy mx my = fits64-as (read-sum {x = x} {y = y} mx my refl refl) (omega (arith, abs-plus x y))
+
 -- A range test as code makes it, x > l and then x >= −l, and the size.
 pub over-by : (l : ℕ) (z : ℤ) → ltZ (pos l) z ≡ true → leb (natAbs z) l ≡ false
 over-by l (pos n) e = lt-leb n l (ltb-true l n e)
@@ -91,3 +95,8 @@ over-by l (negsuc n) e = absurd (subst T (sym e) tt)
 pub not-over-by : (l : ℕ) (z : ℤ) → ltZ (pos (suc l)) z ≡ false → leZ (negsuc l) z ≡ leb (natAbs z) (suc l)
 not-over-by l (pos n) e = sym (le-leb n (suc l) (ltb-false (suc l) n e))
 not-over-by l (negsuc n) e = sym (leb·suc-suc n l)
+
+-- Both tests at once, x < −l or x > l.
+pub outside-by : (l : ℕ) (z : ℤ) → (ltZ z (negsuc l) || ltZ (pos (suc l)) z) ≡ ltb (suc l) (natAbs z)
+outside-by l (pos n) = refl
+outside-by l (negsuc n) = or-false (ltb l n) ∙ sym (leb·suc-suc (suc l) n)

@@ -1,7 +1,8 @@
 -- Laws of sums over the numbers below a bound, one for words and amounts alike. Assumes nothing.
 use mathlib.Core.Path.{_≡_, refl, sym, ap, ap₂, _∙_, subst}
 use mathlib.Core.Bool.{Bool, true, false, cond, _&&_}
-use Prim.Native.Nat.{ℕ, zero, suc, _+_, _*_, _<_, _≤_}
+use Prim.Native.Nat.{ℕ, zero, suc, _+_, _-_, _*_, _<_, _≤_}
+use native.Mathlib.Decide.{ℕ-discrete}
 use native.Mathlib.Omega.{arith}
 use native.Mathlib.Numerals.{add-one}
 use lib.Dec.{eqb}
@@ -10,7 +11,11 @@ use Rattle.laws.specs.Below.{Adds, words, sum, only}
 use Rattle.laws.proofs.Bools.{split, eqb-same}
 
 module _ {A : Type 0} (w : Adds A) where
-  -- One term more, as code counts.
+  -- No term, and one term more as code counts.
+  pub sum-start : (f : ℕ → A) → sum w 0 f ≡ w .none
+  unfolding sum
+  sum-start f = refl
+
   pub sum-next : (n : ℕ) (f : ℕ → A) → sum w (n + 1) f ≡ w .plus (sum w n f) (f n)
   unfolding sum
   sum-next n f = rw (add-one n)
@@ -24,6 +29,25 @@ module _ {A : Type 0} (w : Adds A) where
   unfolding sum
   sum-none zero f h = refl
   sum-none (suc n) f h = ap₂ (w .plus) (sum-none n f (λ i l. h i (omega arith))) (h n (omega arith)) ∙ w .idr (w .none)
+
+  sum-on : (i d : ℕ) (f : ℕ → A) → ((x : ℕ) → i ≤ x → x < d + i → f x ≡ w .none) → sum w (d + i) f ≡ sum w i f
+  unfolding sum
+  sum-on i zero f h = ap (λ (n : ℕ). sum w n f) (zero-plus i)
+    where
+      zero-plus : (n : ℕ) → 0 + n ≡ n
+      zero-plus n = omega arith
+  sum-on i (suc d) f h =
+      ap (λ (n : ℕ). sum w n f) (suc-plus d i) ∙ ap₂ (w .plus) (sum-on i d f (λ x l q. h x l (omega arith))) (h (d + i) (omega arith) (omega arith)) ∙ w .idr (sum w i f)
+    where
+      suc-plus : (d n : ℕ) → suc d + n ≡ suc (d + n)
+      suc-plus d n = omega arith
+
+  -- A sum goes on unchanged over places that bring nothing.
+  pub sum-over : (i j : ℕ) (f : ℕ → A) → i ≤ j → ((x : ℕ) → i ≤ x → x < j → f x ≡ w .none) → sum w j f ≡ sum w i f
+  sum-over i j f l h = ap (λ (n : ℕ). sum w n f) (apart i j l) ∙ sum-on i (j - i) f (λ x a b. h x a (omega arith))
+    where
+      apart : (i j : ℕ) → i ≤ j → j ≡ j - i + i
+      apart i j l = omega arith
 
   -- Four terms, the middle two exchanged.
   middle : (a b c d : A) → w .plus (w .plus a b) (w .plus c d) ≡ w .plus (w .plus a c) (w .plus b d)
@@ -128,3 +152,22 @@ sum-tight (suc n) f g h e i l =
     (λ q. rw (eqb-true i n q) (omega (arith, sum-le n f g (λ i l. h i (omega arith)), h n (omega arith))))
     (λ q. let ne : i ≡ n → ⊥ = eqb-false i n q in
     sum-tight n f g (λ i l. h i (omega arith)) (omega (arith, h n (omega arith))) i (omega arith))
+
+-- A term and those before it are within the whole.
+pub sum-within : (c m : ℕ) (f : ℕ → ℕ) → c < m → sum words c f + f c ≤ sum words m f
+unfolding sum words
+sum-within c zero f l = absurd (omega arith)
+sum-within c (suc m) f l =
+    split (eqb c m)
+    (λ q. rw (eqb-true c m q) (omega arith))
+    (λ q. let ne : c ≡ m → ⊥ = eqb-false c m q in omega (arith, sum-within c m f (omega arith)))
+
+-- Two sums that differ at one place i only.
+pub sum-change : (n i : ℕ) (f g : ℕ → ℕ) → i < n → ((k : ℕ) → k < n → (k ≡ i → ⊥) → g k ≡ f k) → sum words n g + f i ≡ sum words n f + g i
+unfolding sum words
+sum-change zero i f g l h = absurd (omega arith)
+sum-change (suc n) i f g l h =
+    elim (ℕ-discrete n i) [
+      | yes e ↦ rw (e, sum-cong words i g f (λ k m. h k (omega arith) (omega arith))) (omega arith)
+      | no d ↦ let r = sum-change n i f g (omega (arith, d)) (λ k m q. h k (omega arith) q) in rw (h n (omega arith) d) (omega arith)
+    ]

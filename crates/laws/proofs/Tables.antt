@@ -1,12 +1,12 @@
 -- Laws of tables: lengths, words, rows and columns, and lists written in front of a rest. Assumes nothing.
 use mathlib.Core.Path.{_≡_, refl, sym, ap, ap₂, _∙_, subst}
-use mathlib.Core.List.{List, [], _∷_, _++_}
-use mathlib.Core.Bool.{Bool, true, false, cond, _&&_}
-use Prim.Native.Nat.{ℕ, zero, suc, _+_, _-_, _*_, _/_, _%_, _<_, _≤_, min}
-use native.Mathlib.Nat.{div-add-mod', mod-lt, div-lt-iff-lt-mul, mul-le-mul-right}
+use mathlib.Core.List.{List, [], _∷_, _++_, append-assoc}
+use mathlib.Core.Bool.{cond, _&&_}
+use Prim.Native.Nat.{ℕ, zero, suc, _+_, _-_, _*_, _/_, _%_, _<_, _≤_}
+use native.Mathlib.Nat.{div-add-mod', mod-lt, div-lt-iff-lt-mul, mul-le-mul-right, add-mul, one-mul}
 use native.Mathlib.Omega.{arith}
-use lib.ListN.{length, getD, take, drop, length-append, length-drop, length-take, List·getD-append}
-use lib.Seq.{ext-getD, getD-append-add, getD-drop, drop-at}
+use lib.ListN.{length, getD, set, take, drop, length-append, length-drop, length-take, List·getD-append}
+use lib.Seq.{ext-getD, getD-append-add, getD-take, getD-drop, drop-at}
 use lib.Arith.{digits-div, digits-mod}
 use lib.Dec.{ltb}
 use borrow.Author.Tests.{lt-ltb, le-ltb, ltb-true, ltb-false}
@@ -25,6 +25,10 @@ cell-in b n m o lb lo = omega (arith, mul-le-mul-right m lb)
 -- A row is within the table.
 pub row-in : (b n m : ℕ) → b < n → b * m + m ≤ n * m
 row-in b n m lb = omega (arith, mul-le-mul-right m lb)
+
+-- The place of the next row of z words.
+pub row-next : (i z : ℕ) → (i + 1) * z ≡ i * z + z
+row-next i z = rw (add-mul i 1 z, one-mul z)
 
 module _ {A : Type 0} where
   pub length-tabulate : (n : ℕ) (f : ℕ → A) → length (tabulate n f) ≡ n
@@ -48,6 +52,12 @@ module _ {A : Type 0} where
   unfolding tabulate
   tabulate-cong zero f g h = refl
   tabulate-cong (suc n) f g h = ap₂ _∷_ (h 0 (omega arith)) (tabulate-cong n (λ i. f (suc i)) (λ i. g (suc i)) (λ i l. h (suc i) (omega arith)))
+
+  -- One word more at the end.
+  pub tabulate-snoc : (n : ℕ) (f : ℕ → A) → tabulate (suc n) f ≡ tabulate n f ++ (f n ∷ [])
+  unfolding tabulate
+  tabulate-snoc zero f = refl
+  tabulate-snoc (suc n) f = ap (λ (l : List A). f 0 ∷ l) (tabulate-snoc n (λ i. f (suc i)))
 
   pub getD-overwrite : (n : ℕ) (f : ℕ → A) (l : List A) (i : ℕ) (z : A) → i < n → getD (overwrite n f l) i z ≡ f i
   unfolding overwrite
@@ -75,12 +85,25 @@ module _ {A : Type 0} where
   unfolding overwrite
   overwrite-cong n f g l h = ap (λ (x : List A). x ++ drop n l) (tabulate-cong n f g h)
 
+  -- The same where the bound goes by another name.
+  pub overwrite-as : (n m : ℕ) (f g : ℕ → A) (l : List A) → n ≡ m → ((i : ℕ) → i < m → f i ≡ g i) → overwrite n f l ≡ overwrite m g l
+  overwrite-as n m f g l e h = ap (λ (k : ℕ). overwrite k f l) e ∙ overwrite-cong m f g l h
+
+  -- One word written at the front.
+  pub overwrite-one : (x : A) (l : List A) → 1 ≤ length l → overwrite 1 (λ i. x) l ≡ set l 0 x
+  unfolding overwrite tabulate
+  overwrite-one x [] h = absurd (omega arith)
+  overwrite-one x (y ∷ l) h = refl
+
   -- By row and column.
   pub recell-cong : (n m : ℕ) (f g : ℕ → ℕ → A) (l : List A) → ((b o : ℕ) → b < n → o < m → f b o ≡ g b o) → recell n m f l ≡ recell n m g l
   unfolding recell
   recell-cong n m f g l h =
       overwrite-cong (n * m) (λ i. f (i / m) (i % m)) (λ i. g (i / m) (i % m)) l
       (λ i k. h (i / m) (i % m) (div-lt-iff-lt-mul (pos-right n m i k) .1 k) (mod-lt i (pos-right n m i k)))
+
+  pub recell-as : (n n′ m : ℕ) (f g : ℕ → ℕ → A) (l : List A) → n ≡ n′ → ((b o : ℕ) → b < n′ → o < m → f b o ≡ g b o) → recell n m f l ≡ recell n′ m g l
+  recell-as n n′ m f g l e h = ap (λ (k : ℕ). recell k m f l) e ∙ recell-cong n′ m f g l h
 
   -- The last writing counts.
   pub over-over : (n : ℕ) (f g : ℕ → A) (l : List A) → overwrite n f (overwrite n g l) ≡ overwrite n f l
@@ -104,31 +127,44 @@ module _ {A : Type 0} where
       is-overwrite (n * m) (λ i. f (i / m) (i % m)) l l′ z h e (λ i k.
       rw (div-add-mod' i m) at (inside (i / m) (i % m) (div-lt-iff-lt-mul (pos-right n m i k) .1 k) (mod-lt i (pos-right n m i k)))) past
 
-  -- A table that is written as it reads.
-  pub recell-cell : (n m : ℕ) (l : List A) (z : A) → n * m ≤ length l → recell n m (cell n m l z) l ≡ l
-  unfolding cell
-  recell-cell n m l z h =
-      sym (is-recell n m (cell n m l z) l l z h refl
-      (λ b o lb lo. rw (lt-ltb b n lb, lt-ltb o m lo))
-      (λ i k. refl))
+  -- A table written with the words that it has, by place, and by row and column.
+  pub overwrite-same : (n : ℕ) (f : ℕ → A) (l : List A) (z : A) → n ≤ length l → ((i : ℕ) → i < n → f i ≡ getD l i z) → overwrite n f l ≡ l
+  overwrite-same n f l z h e = sym (is-overwrite n f l l z h refl (λ i k. sym (e i k)) (λ i k. refl))
 
-  -- A table written anew reads as it was written, inside its bounds.
-  pub cell-recell : (n m : ℕ) (f : ℕ → ℕ → A) (l : List A) (z : A) (b o : ℕ) →
-      cell n m (recell n m f l) z b o ≡ cond (ltb b n && ltb o m) (f b o) z
-  unfolding cell recell
-  cell-recell n m f l z b o =
-      split (ltb b n && ltb o m)
-      (λ e.
-      let lb : b < n = ltb-true b n (and-l (ltb b n) _ e) in
-      let lo : o < m = ltb-true o m (and-r (ltb b n) _ e) in
-      rw e (getD-overwrite (n * m) (λ i. f (i / m) (i % m)) l (b * m + o) z (cell-in b n m o lb lo)
-      ∙ rw (digits-div b lo, digits-mod b lo)))
-      (λ e. rw e)
+  pub recell-same : (n m : ℕ) (f : ℕ → ℕ → A) (l : List A) (z : A) → n * m ≤ length l → ((b o : ℕ) → b < n → o < m → f b o ≡ getD l (b * m + o) z) → recell n m f l ≡ l
+  recell-same n m f l z h e = sym (is-recell n m f l l z h refl (λ b o p q. sym (e b o p q)) (λ i k. refl))
 
   -- A cell inside the table.
   pub cell-at : (n m : ℕ) (l : List A) (z : A) (b o : ℕ) → b < n → o < m → cell n m l z b o ≡ getD l (b * m + o) z
   unfolding cell
   cell-at n m l z b o lb lo = rw (lt-ltb b n lb, lt-ltb o m lo)
+
+  -- A word of a row of the table, and nothing past its columns.
+  pub cell-in-row : (n m : ℕ) (l : List A) (z : A) (b o : ℕ) → b < n → cell n m l z b o ≡ cond (ltb o m) (getD l (b * m + o) z) z
+  unfolding cell
+  cell-in-row n m l z b o lb = rw (lt-ltb b n lb)
+
+  -- A table that is written as it reads.
+  pub recell-cell : (n m : ℕ) (l : List A) (z : A) → n * m ≤ length l → recell n m (cell n m l z) l ≡ l
+  recell-cell n m l z h = recell-same n m (cell n m l z) l z h (cell-at n m l z)
+
+  -- Row b, column o of a table written anew.
+  pub getD-recell : (n m : ℕ) (f : ℕ → ℕ → A) (l : List A) (b o : ℕ) (z : A) → b < n → o < m → getD (recell n m f l) (b * m + o) z ≡ f b o
+  unfolding recell
+  getD-recell n m f l b o z lb lo =
+      getD-overwrite (n * m) (λ i. f (i / m) (i % m)) l (b * m + o) z (cell-in b n m o lb lo) ∙ rw (digits-div b lo, digits-mod b lo)
+
+  -- A table written anew reads as it was written, inside its bounds.
+  pub cell-recell : (n m : ℕ) (f : ℕ → ℕ → A) (l : List A) (z : A) (b o : ℕ) →
+      cell n m (recell n m f l) z b o ≡ cond (ltb b n && ltb o m) (f b o) z
+  unfolding cell
+  cell-recell n m f l z b o =
+      split (ltb b n && ltb o m)
+      (λ e.
+      let lb : b < n = ltb-true b n (and-l (ltb b n) _ e) in
+      let lo : o < m = ltb-true o m (and-r (ltb b n) _ e) in
+      rw e (getD-recell n m f l b o z lb lo))
+      (λ e. rw e)
 
   pub word-overwrite : (n : ℕ) (f : ℕ → A) (l : List A) (z : A) (i : ℕ) → word n (overwrite n f l) z i ≡ cond (ltb i n) (f i) z
   unfolding word
@@ -144,13 +180,6 @@ module _ {A : Type 0} where
   pub word-past : (n : ℕ) (l : List A) (z : A) (i : ℕ) → n ≤ i → word n l z i ≡ z
   unfolding word
   word-past n l z i h = rw (le-ltb i n h)
-
-  -- The first n words of a list, read below n.
-  pub getD-take : (n : ℕ) (l : List A) (i : ℕ) (z : A) → i < n → getD (take n l) i z ≡ getD l i z
-  getD-take zero l i z h = absurd (omega arith)
-  getD-take (suc n) [] i z h = refl
-  getD-take (suc n) (x ∷ l) zero z h = refl
-  getD-take (suc n) (x ∷ l) (suc i) z h = getD-take n l i z (omega arith)
 
   -- A part that holds the table reads as the whole.
   pub word-take : (m n : ℕ) (l : List A) (z : A) (i : ℕ) → m ≤ n → word m (take n l) z i ≡ word m l z i
@@ -177,10 +206,6 @@ module _ {A : Type 0} where
   drop-take (suc m) zero l h = absurd (omega arith)
   drop-take (suc m) (suc n) [] h = refl
   drop-take (suc m) (suc n) (x ∷ l) h = drop-take m n l (omega arith)
-
-  append-assoc : (x y z : List A) → (x ++ y) ++ z ≡ x ++ (y ++ z)
-  append-assoc [] y z = refl
-  append-assoc (a ∷ x) y z = ap (λ (r : List A). a ∷ r) (append-assoc x y z)
 
   -- A table written into its lent part, with the rest behind it, is the whole list written.
   pub overwrite-take : (m n : ℕ) (f : ℕ → A) (l : List A) → m ≤ n → overwrite m f (take n l) ++ drop n l ≡ overwrite m f l

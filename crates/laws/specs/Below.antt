@@ -5,7 +5,7 @@ use Prim.Native.Nat.{ℕ, zero, suc, _+_}
 use native.Mathlib.Nat.{add-assoc, add-comm, add-zero}
 use lib.IntN.{ℤ, pos, _+ℤ_, +ℤ-assoc, +ℤ-comm, +ℤ-idr}
 
--- Numbers that add up: a sum, a zero, and the three laws that make the order of adding idle.
+-- Numbers that add up: a sum, a zero, and the three laws that make the order of adding not matter.
 pub record Adds (A : Type 0) : Type 0 where
   pub plus : A → A → A
   pub none : A

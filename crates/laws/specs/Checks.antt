@@ -3,6 +3,7 @@ use mathlib.Core.List.{List, [], _∷_}
 use mathlib.Core.Bool.{Bool, true, false, cond, _&&_, _||_}
 use Prim.Native.Nat.{ℕ}
 
+-- a, or one of the tests bs.
 abbrev pub anyFrom : Bool → List Bool → Bool
 anyFrom a [] = a
 anyFrom a (b ∷ bs) = anyFrom (a || b) bs
@@ -12,6 +13,7 @@ abbrev pub anyOf : List Bool → Bool
 anyOf [] = false
 anyOf (b ∷ bs) = anyFrom b bs
 
+-- a, and each of the tests bs.
 abbrev pub allFrom : Bool → List Bool → Bool
 allFrom a [] = a
 allFrom a (b ∷ bs) = allFrom (a && b) bs

@@ -1,6 +1,6 @@
 -- Laws of walks over entries linked by key. Assumes nothing.
 use mathlib.Core.Path.{_≡_, refl, sym, ap, _∙_, subst}
-use mathlib.Core.Bool.{Bool, true, false, _&&_}
+use mathlib.Core.Bool.{Bool, true, false}
 use mathlib.Core.List.{List}
 use Prim.Native.Nat.{ℕ, zero, suc, _+_, _-_, _≤_, _<_}
 use native.Mathlib.Decide.{ℕ-discrete, decLt}
@@ -58,25 +58,6 @@ next-linked n keys next i j long s h x l m = go (ℕ-discrete i x)
 -- A step of a walk over key v: from a place of the key to the next of it.
 pub goes-on : (n : ℕ) (keys first next : List ℕ) (v i : ℕ) → Linked n keys first next → i < n → getD keys i 0 ≡ v → Skips n keys v (i + 1) (getD next i 0)
 goes-on n keys first next v i h l e = subst (λ (y : ℕ). Skips n keys y (i + 1) (getD next i 0)) e (h .goes i l)
-
--- The places that a walk over key v meets: the first, and the next of each.
-pub data Meets (n : ℕ) (first next : List ℕ) (v : ℕ) : ℕ → Type 0 where
-  begin : Meets n first next v (getD first v 0)
-  onward : {i : ℕ} → Meets n first next v i → i < n → Meets n first next v (getD next i 0)
-
--- A walk meets every place of its key.
-module _ (n : ℕ) (keys first next : List ℕ) (v : ℕ) (h : Linked n keys first next) (x : ℕ) (l : x < n) (e : getD keys x 0 ≡ v) where
-  from-here : (fuel i j : ℕ) → n ≤ i + fuel → i ≤ x → Skips n keys v i j → Meets n first next v j → Meets n first next v x
-  from-here zero i j f m s met = absurd (omega arith)
-  from-here (suc fuel) i j f m s met = go (λ b p. from-here fuel (j + 1) (getD next j 0) (omega (arith, s .from)) b (goes-on n keys first next v j h p (s .hits p)) (onward met p)) (decLt x j) (ℕ-discrete j x)
-    where
-      go : (j + 1 ≤ x → j < n → Meets n first next v x) → Dec (x < j) → Dec (j ≡ x) → Meets n first next v x
-      go later (yes b) d = absurd (s .none x m b e)
-      go later (no b) (yes p) = subst (λ (y : ℕ). Meets n first next v y) p met
-      go later (no b) (no d) = later (omega arith) (omega arith)
-
-  pub meets-all : v < 16 → Meets n first next v x
-  meets-all k = from-here (n + 1) 0 (getD first v 0) (omega arith) (omega arith) (h .begins v k) begin
 
 -- Where a test holds of entries of key v alone, it fails at each entry passed over; so these are not counted, and nothing is stored for them.
 module _ (n : ℕ) (keys : List ℕ) (v i j : ℕ) (s : Skips n keys v i j) (test : ℕ → Bool) (keyed : (x : ℕ) → test x ≡ true → getD keys x 0 ≡ v) where

@@ -6,27 +6,14 @@ use native.Mathlib.Omega.{arith}
 use native.Mathlib.Nat.{le-trans, le-div-iff-mul-le, div-mul-le-self, div-lt-iff-lt-mul}
 use lib.Dec.{eqb}
 use borrow.Author.Tests.{eqb-true, eqb-false, ne-eqb}
-use Rattle.laws.specs.Below.{words, sum, only, count}
-use Rattle.laws.proofs.Sums.{sum-none}
+use Rattle.laws.specs.Below.{count}
+use Rattle.laws.proofs.Below.{any-false, count-none, count-lt}
 use Rattle.laws.proofs.Bools.{split, eqb-same, and-false}
 use Rattle.laws.proofs.Tables.{pos-right}
 use Rattle.model.specs.Job.{Job}
 use Rattle.model.specs.Run.{nth, stepAt, places, listed}
 use Rattle.model.specs.Steps.{Kind, number, kindOf, Steps, mark, hasStep, multiplied, ready, permitted, sendPrices, multiplyOwn, receivePrices, sendTotals, addOwn, receiveTotals}
 use Rattle.model.proofs.Reach.{mark-more, mark-it}
-
--- One that passes is counted.
-passed : (p : ℕ → Bool) (q n : ℕ) → q < n → p q ≡ true → count q p < count n p
-unfolding count sum only words
-passed p q zero l h = absurd (omega arith)
-passed p q (suc n) l h =
-    split (eqb q n)
-    (λ f. rw (← (eqb-true q n f), h) (omega arith))
-    (λ f. let d : q ≡ n → ⊥ = eqb-false q n f in omega (arith, passed p q n (omega arith) h))
-
-count-below : (q : ℕ) (p : ℕ → Bool) → ((i : ℕ) → i < q → p i ≡ false) → count q p ≡ 0
-unfolding count only words
-count-below q p none = sum-none words q (λ i. only words (p i) 1) (λ i l. rw (none i l))
 
 -- Numbers of kinds by place.
 pub number-place : (n : ℕ) → n < 6 → number (kindOf (suc n)) ≡ suc n
@@ -39,6 +26,11 @@ number-place (suc (suc (suc (suc zero)))) h = refl
 number-place (suc (suc (suc (suc (suc zero))))) h = refl
 number-place (suc (suc (suc (suc (suc (suc n)))))) h = absurd (omega arith)
 
+-- A number from 1 to 6 is that of its kind.
+pub number-kind : (n : ℕ) → 1 ≤ n → n ≤ 6 → number (kindOf n) ≡ n
+number-kind zero h l = absurd (omega arith)
+number-kind (suc n) h l = number-place n (omega arith)
+
 -- A number that passes and has c such numbers below it is the one that is meant.
 pub nth-is : (n : ℕ) (p : ℕ → Bool) (c q : ℕ) → q < n → p q ≡ true → count q p ≡ c → nth n p c ≡ q
 unfolding nth
@@ -48,11 +40,11 @@ nth-is (suc n) p c q l h e =
     (λ f. let i : q ≡ n = eqb-true q n f in
     rw (← i, h, e, eqb-same c))
     (λ f. let d : q ≡ n → ⊥ = eqb-false q n f in
-    rw (ne-eqb (count n p) c (λ z. omega (arith, passed p q n (omega arith) h)), and-false (p n)) (nth-is n p c q (omega arith) h e))
+    rw (ne-eqb (count n p) c (λ z. omega (arith, count-lt n p q (omega arith) h)), and-false (p n)) (nth-is n p c q (omega arith) h e))
 
 -- Where nothing below q passes, q is the first.
 pub nth-first : (n : ℕ) (p : ℕ → Bool) (q : ℕ) → q < n → p q ≡ true → ((i : ℕ) → i < q → p i ≡ false) → nth n p 0 ≡ q
-nth-first n p q l h none = nth-is n p 0 q l h (count-below q p none)
+nth-first n p q l h none = nth-is n p 0 q l h (count-none q p (any-false q p none))
 
 -- A mark of a kind makes no step of the same or an earlier kind ready.
 pub ready-earlier : (j : Job) (d : Steps) (k : Kind) (a b : ℕ) (k′ : Kind) (a′ b′ : ℕ) → number k′ ≤ number k → ready j (mark d k a b) k′ a′ b′ ≡ ready j d k′ a′ b′

@@ -1,6 +1,6 @@
 -- Demand 3 holds of every job in range, whatever the buffers held and whatever is requested. Assumes nothing.
 use mathlib.Core.Path.{_≡_, refl, sym, ap, _∙_}
-use mathlib.Core.Bool.{Bool, true, false, cond, _&&_, not}
+use mathlib.Core.Bool.{true, false, cond, _&&_, not}
 use mathlib.Core.List.{List, [], _∷_, map}
 use Prim.Native.Nat.{ℕ, _*_}
 use native.Mathlib.Omega.{arith}
@@ -40,10 +40,6 @@ asks j [] = []
 asks j (r ∷ rs) = cond (not (lendsShort j r) && isKind (r .asked .kind)) (stepOf (r .asked) ∷ asks j rs) (asks j rs)
 
 -- A request is refused by number 0 just where it is permitted.
-three : (x y z : Bool) → (x && (y && z)) ≡ (x && y && z)
-three true y z = refl
-three false y z = refl
-
 pub refusal-zero : (j : Job) (d : Steps) (r : Request) → eqb (refusalOf j d r) 0 ≡ permittedRequest j d r
 unfolding refusalOf permittedRequest stepOf
 refusal-zero j d r =

@@ -69,11 +69,6 @@ module _ (j : Job) (g c : ℕ) where
   total-grows d receiveTotals a b p = omega arith
 
 -- Sums over the steps of a list.
-over-none : (xs : List Step) → over (λ k a b. 0) xs ≡ 0
-unfolding over
-over-none [] = refl
-over-none (x ∷ xs) = rw (over-none xs)
-
 over-plus : (f g : Kind → ℕ → ℕ → ℕ) (xs : List Step) → over (λ k a b. f k a b + g k a b) xs ≡ over f xs + over g xs
 unfolding over
 over-plus f g [] = refl

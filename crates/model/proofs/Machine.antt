@@ -1,5 +1,4 @@
 -- Lists of steps on states: each is attempted, and does what it does where it is permitted.
-use mathlib.Core.Path.{_≡_}
 use mathlib.Core.List.{List, [], _∷_}
 use mathlib.Core.Bool.{Bool, cond}
 use Prim.Native.Nat.{ℕ, _+_}

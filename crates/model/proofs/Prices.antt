@@ -38,7 +38,7 @@ module _ (j : Job) (d : Steps) (a b : ℕ) where
       (λ e. split (eqb (j .offerOwner o) b)
       (λ f. rw (eqb-true x a e, eqb-true (j .offerOwner o) b f) (simp (eqb-same, h1, h3, and-false, and-one) (arriving (eqb b a) (needs j o a) (j .price o))))
       (λ f. simp (f, and-false)))
-      (λ e. simp (e, and-false))
+      (λ e. simp e)
 
   pub receive-transit : d sendPrices b a ≡ true → d receivePrices a b ≡ false → (x o : ℕ) →
       effect j (stateOf j d) receivePrices a b .priceTransit x o ≡ stateOf j (mark d receivePrices a b) .priceTransit x o
@@ -48,4 +48,4 @@ module _ (j : Job) (d : Steps) (a b : ℕ) where
       (λ e. split (eqb (j .offerOwner o) b)
       (λ f. rw (eqb-true x a e, eqb-true (j .offerOwner o) b f) (simp (eqb-same, h1, h3, and-false, and-one) (emptied (not (eqb b a) && needs j o a) (j .price o))))
       (λ f. simp (f, and-false)))
-      (λ e. simp (e, and-false))
+      (λ e. simp e)

@@ -1,9 +1,9 @@
 -- Until all steps are done, some step is permitted. Assumes nothing.
 use mathlib.Core.Path.{_≡_, refl, sym, _∙_}
-use mathlib.Core.Bool.{Bool, true, false, _&&_, _||_, not, false≢true}
+use mathlib.Core.Bool.{true, false, _||_, not, false≢true}
 use Prim.Native.Nat.{ℕ}
 use lib.Dec.{ltb}
-use Rattle.laws.proofs.Bools.{split, and-l, eqb-same}
+use Rattle.laws.proofs.Bools.{split, and-l, and-swap, eqb-same}
 use Rattle.laws.proofs.Below.{all-find}
 use Rattle.model.specs.Job.{Job, pricesDue, totalsDue}
 use Rattle.model.specs.Steps.{Kind, sendPrices, multiplyOwn, receivePrices, sendTotals, addOwn, receiveTotals, Steps, fits, hasStep, multiplied, ready, permitted}
@@ -16,19 +16,13 @@ module _ (j : Job) (d : Steps) where
   permits k a b h n y = record { kind = k; first = a; second = b; holds = simp (h, n, y) }
 
   -- A message that can be received can be sent.
-  turn : (x y z : Bool) → (x && (y && z)) ≡ true → (y && (x && z)) ≡ true
-  turn true true z h = h
-  turn true false z h = h
-  turn false true z h = h
-  turn false false z h = h
-
   receive-turn : (a b : ℕ) → hasStep j receivePrices a b ≡ true → hasStep j sendPrices b a ≡ true
   unfolding hasStep fits
-  receive-turn a b h = turn (ltb a (j .boxes)) (ltb b (j .boxes)) (pricesDue j b a) h
+  receive-turn a b h = and-swap (ltb b (j .boxes)) (ltb a (j .boxes)) (pricesDue j b a) ∙ h
 
   totals-turn : (a b : ℕ) → hasStep j receiveTotals a b ≡ true → hasStep j sendTotals b a ≡ true
   unfolding hasStep fits
-  totals-turn a b h = turn (ltb a (j .boxes)) (ltb b (j .boxes)) (totalsDue j b a) h
+  totals-turn a b h = and-swap (ltb b (j .boxes)) (ltb a (j .boxes)) (totalsDue j b a) ∙ h
 
   receipt : (a b : ℕ) → hasStep j receivePrices a b ≡ true → d receivePrices a b ≡ false → SomeStep (permitted j d)
   unfolding ready

@@ -1,13 +1,13 @@
 -- The closed form of a job in range is within the ranges of a state. Assumes nothing.
 use mathlib.Core.Path.{_≡_, refl, sym, _∙_}
-use mathlib.Core.Bool.{Bool, true, false, cond, _&&_, not}
+use mathlib.Core.Bool.{Bool, true, false, _&&_, not}
 use Prim.Native.Nat.{ℕ, _<_, _≤_, _*_}
 use native.Mathlib.Omega.{arith}
 use native.Mathlib.Nat.{mul-le-mul}
 use lib.Dec.{eqb}
 use lib.IntN.{ℤ, pos, natAbs}
 use Rattle.laws.specs.Below.{words, amounts, sum, only, count}
-use Rattle.laws.proofs.Bools.{split}
+use Rattle.laws.proofs.Bools.{split, cond-either}
 use Rattle.laws.proofs.Sums.{sum-cong, sum-max}
 use Rattle.laws.proofs.Signed.{abs-times, sum-abs, only-abs}
 use Rattle.laws.proofs.Below.{count-le}
@@ -35,18 +35,6 @@ pub record Within (s : State) : Type 0 where
   pub totalTransit≤ : (b g : ℕ) → natAbs (s .totalTransit b g) ≤ maxAmount
   pub statement≤ : (g : ℕ) → natAbs (s .statement g) ≤ maxAmount
   pub sent≤ : s .sent ≤ maxSent
-
-cond-le : (t : Bool) (x m : ℕ) → x ≤ m → cond t x 0 ≤ m
-cond-le true x m h = h
-cond-le false x m h = omega arith
-
-cond-abs : (t : Bool) (x : ℤ) (m : ℕ) → natAbs x ≤ m → natAbs (cond t x (pos 0)) ≤ m
-cond-abs true x m h = h
-cond-abs false x m h = omega arith
-
-cond-abs′ : (t : Bool) (x : ℤ) (m : ℕ) → natAbs x ≤ m → natAbs (cond t (pos 0) x) ≤ m
-cond-abs′ true x m h = omega arith
-cond-abs′ false x m h = h
 
 module _ (j : Job) (v : Limits j) where
   amount-abs : (o t : ℕ) → natAbs (amount j (j .price o) t) ≤ 999_989_900_001
@@ -81,17 +69,17 @@ module _ (j : Job) (v : Limits j) where
   sent-max d a b =
       omega (
         arith,
-        cond-le (d sendPrices a b) (count (j .offers) (priceWord j a b)) 500 (omega (arith, count-le (j .offers) (priceWord j a b), v .offers≤)),
-        cond-le (d sendTotals a b) (count (j .grocers) (totalWord j a b)) 255 (omega (arith, count-le (j .grocers) (totalWord j a b), v .grocers≤)),
+        cond-either (λ (n : ℕ). n ≤ 500) (d sendPrices a b) (count (j .offers) (priceWord j a b)) 0 (omega (arith, count-le (j .offers) (priceWord j a b), v .offers≤)) (omega arith),
+        cond-either (λ (n : ℕ). n ≤ 255) (d sendTotals a b) (count (j .grocers) (totalWord j a b)) 0 (omega (arith, count-le (j .grocers) (totalWord j a b), v .grocers≤)) (omega arith),
       )
 
   pub form-within : InRange j → (d : Steps) → Within (stateOf j d)
   unfolding stateOf
   form-within r d = record {
-    known≤ = λ b o. cond-le (knows j d b o) (j .price o) 9_999_999 (v .price≤ o);
-    priceTransit≤ = λ b o. cond-le (onWay j d b o) (j .price o) 9_999_999 (v .price≤ o);
-    working≤ = λ b g. cond-abs′ (gone j d b g) (partOf j (added j d) b g) 1_000_000_000_000_000 (part-abs (added j d) b g);
-    totalTransit≤ = λ b g. cond-abs (gone j d b g && not (arrived j d b g)) (partOf j (λ t. true) b g) 1_000_000_000_000_000 (part-abs (λ t. true) b g);
+    known≤ = λ b o. cond-either (λ (p : ℕ). p ≤ maxPrice) (knows j d b o) (j .price o) 0 (v .price≤ o) (omega arith);
+    priceTransit≤ = λ b o. cond-either (λ (p : ℕ). p ≤ maxPrice) (onWay j d b o) (j .price o) 0 (v .price≤ o) (omega arith);
+    working≤ = λ b g. cond-either (λ (z : ℤ). natAbs z ≤ maxAmount) (gone j d b g) (pos 0) (partOf j (added j d) b g) (omega arith) (part-abs (added j d) b g);
+    totalTransit≤ = λ b g. cond-either (λ (z : ℤ). natAbs z ≤ maxAmount) (gone j d b g && not (arrived j d b g)) (partOf j (λ t. true) b g) (pos 0) (part-abs (λ t. true) b g) (omega arith);
     statement≤ = λ g. statement-abs d g;
     sent≤ = sent-small;
   }

@@ -1,12 +1,12 @@
 -- A request in a list that begins fresh: its answer and the tables it leaves, in terms of the state. Assumes nothing.
 use mathlib.Core.Path.{_≡_, refl, sym, _∙_}
-use mathlib.Core.Bool.{Bool, true, false, cond, _&&_, _||_, not}
+use mathlib.Core.Bool.{Bool, true, false, cond, _&&_, not}
 use mathlib.Core.List.{[], _∷_, _++_}
 use Prim.Native.Nat.{ℕ}
 use lib.Dec.{eqb}
 use borrow.Author.Tests.{eqb-true}
 use Rattle.laws.specs.Checks.{firstMet}
-use Rattle.laws.proofs.Bools.{or-off, split, clash, and-true, and-r}
+use Rattle.laws.proofs.Bools.{or-off, split, and-true, and-r}
 use Rattle.model.specs.Job.{Job}
 use Rattle.model.specs.Requests.{Request, lentJob, lentState, lendsShort, answerTo, serve}
 use Rattle.model.specs.Tables.{JobTables, jobOf, StateTables, view, store, JobLengths, StateLengths, jobLengths, stateLengths, jobShort, stateShort, lentShort}

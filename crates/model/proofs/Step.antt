@@ -1,18 +1,19 @@
 -- The step on tables as lent, in a list that begins fresh: its answer, and the tables that it leaves. Assumes nothing.
 use mathlib.Core.Path.{_≡_}
-use mathlib.Core.Bool.{Bool, true, false, cond}
+use mathlib.Core.Bool.{true, false, cond}
 use mathlib.Core.List.{List, [], _∷_}
 use Prim.Native.Nat.{ℕ, suc, _*_, _/_, _%_, _<_, _≤_}
 use native.Mathlib.Omega.{arith}
 use lib.Dec.{ltb, leb}
+use lib.Seq.{getD-take}
 use lib.ListN.{getD, take}
 use lib.IntN.{ℤ, pos, natAbs}
 use borrow.Author.Tests.{le-ltb, ltb-true, ltb-false, le-leb, leb-true}
 use Rattle.laws.specs.Tables.{overwrite, recell}
 use Rattle.laws.proofs.Checks.{any-each}
-use Rattle.laws.proofs.Bools.{split, and-true, and-l, and-r}
+use Rattle.laws.proofs.Bools.{split, and-true, and-l, and-r, cond-either}
 use Rattle.laws.proofs.Below.{all-at, all-of, all-cong}
-use Rattle.laws.proofs.Tables.{getD-overwrite, long-overwrite, word-in, word-past, getD-take}
+use Rattle.laws.proofs.Tables.{getD-overwrite, long-overwrite, word-in, word-past}
 use Rattle.model.specs.Job.{Job}
 use Rattle.model.specs.Tables.{JobTables, jobOf, StateTables, store, stateLengths, stateShort}
 use Rattle.model.specs.Ranges.{upTo, under, around, sizesInRange, jobWordsInRange, jobInRange, stateInRange}
@@ -33,11 +34,11 @@ pub around-at : (m n : ℕ) (l : List ℤ) (i : ℕ) → around m n l ≡ true �
 unfolding around
 around-at m n l i h k = leb-true (natAbs (getD l i (pos 0))) m (all-at n (λ i. leb (natAbs (getD l i (pos 0))) m) i k h)
 
-up-over : (m n : ℕ) (f : ℕ → ℕ) (l : List ℕ) → ((i : ℕ) → f i ≤ m) → upTo m n (overwrite n f l) ≡ true
+pub up-over : (m n : ℕ) (f : ℕ → ℕ) (l : List ℕ) → ((i : ℕ) → f i ≤ m) → upTo m n (overwrite n f l) ≡ true
 unfolding upTo
 up-over m n f l h = all-of n (λ i. leb (getD (overwrite n f l) i 0) m) (λ i k. rw (getD-overwrite n f l i 0 k) (le-leb (f i) m (h i)))
 
-around-over : (m n : ℕ) (f : ℕ → ℤ) (l : List ℤ) → ((i : ℕ) → natAbs (f i) ≤ m) → around m n (overwrite n f l) ≡ true
+pub around-over : (m n : ℕ) (f : ℕ → ℤ) (l : List ℤ) → ((i : ℕ) → natAbs (f i) ≤ m) → around m n (overwrite n f l) ≡ true
 unfolding around
 around-over m n f l h = all-of n (λ i. leb (natAbs (getD (overwrite n f l) i (pos 0))) m) (λ i k. rw (getD-overwrite n f l i (pos 0) k) (le-leb (natAbs (f i)) m (h i)))
 
@@ -99,12 +100,8 @@ ok-store f s t w =
     (around-over 1_000_000_000_000_000 (f .boxes * f .grocers) (λ i. s .working (i / f .grocers) (i % f .grocers)) (t .working) (λ i. w .working≤ (i / f .grocers) (i % f .grocers))))
     (around-over 1_000_000_000_000_000 (f .boxes * f .grocers) (λ i. s .totalTransit (i / f .grocers) (i % f .grocers)) (t .totalTransit) (λ i. w .totalTransit≤ (i / f .grocers) (i % f .grocers))))
     (around-over 1_000_000_000_000_000 (f .grocers) (s .statement) (t .statement) (w .statement≤)))
-    (up-over 1 (6 * f .boxes * f .boxes) (λ i. cond (s .done (kindOf (suc (i / f .boxes / f .boxes))) (i / f .boxes % f .boxes) (i % f .boxes)) 1 0) (t .done) (λ i. cond-one (s .done (kindOf (suc (i / f .boxes / f .boxes))) (i / f .boxes % f .boxes) (i % f .boxes)))))
+    (up-over 1 (6 * f .boxes * f .boxes) (λ i. cond (s .done (kindOf (suc (i / f .boxes / f .boxes))) (i / f .boxes % f .boxes) (i % f .boxes)) 1 0) (t .done) (λ i. cond-either (λ (n : ℕ). n ≤ 1) (s .done (kindOf (suc (i / f .boxes / f .boxes))) (i / f .boxes % f .boxes) (i % f .boxes)) 1 0 (omega arith) (omega arith))))
     (up-over 1_000_000 1 (λ i. s .sent) (t .sent) (λ i. w .sent≤))
-  where
-    cond-one : (t : Bool) → cond t 1 0 ≤ 1
-    cond-one true = omega arith
-    cond-one false = omega arith
 
 -- The tables that hold a written state are whole.
 pub whole-store : (j : Job) (s : State) (t : StateTables) → stateShort j (stateLengths (store j s t)) ≡ false

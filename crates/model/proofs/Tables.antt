@@ -1,6 +1,6 @@
 -- Tables and states: what is written is read again, and a state of the closed form has nothing outside the job's bounds. Assumes nothing.
 use mathlib.Core.Path.{_≡_, refl, sym, ap, _∙_}
-use mathlib.Core.Bool.{Bool, true, false, cond, _&&_}
+use mathlib.Core.Bool.{true, false, cond, _&&_}
 use Prim.Native.Nat.{ℕ, suc, _+_, _<_, _*_, _-_, _/_, _%_}
 use native.Mathlib.Omega.{arith}
 use native.Mathlib.Nat.{mul-le-mul-right}
@@ -8,9 +8,10 @@ use lib.Dec.{eqb, ltb}
 use lib.IntN.{pos}
 use lib.Arith.{digits-div, digits-mod}
 use borrow.Author.Tests.{ne-eqb, eqb-true, ltb-true, ltb-false, lt-ltb}
-use Rattle.laws.specs.Below.{amounts, only}
+use Rattle.laws.specs.Below.{words, amounts, only}
 use Rattle.laws.proofs.Below.{any-find}
 use Rattle.laws.proofs.Bools.{split, and-true, and-l, and-r, and-false, no-true, clash, cond-same}
+use Rattle.laws.proofs.Masks.{one-is}
 use Rattle.laws.proofs.Sums.{sum-none}
 use Rattle.laws.proofs.Tables.{cell-recell, word-overwrite}
 use Rattle.model.specs.Job.{heldBy, Job, needs, shares}
@@ -40,10 +41,6 @@ kind-six sendTotals = omega arith
 kind-six addOwn = omega arith
 kind-six receiveTotals = omega arith
 
-bit-one : (t : Bool) → eqb (cond t 1 0) 1 ≡ t
-bit-one true = refl
-bit-one false = refl
-
 -- The state s inside the job's bounds, and 0 outside.
 unfoldable pub clip : Job → State → State
 clip j s = record {
@@ -57,7 +54,7 @@ clip j s = record {
 }
 
 pub view-store : (j : Job) (s : State) (t : StateTables) → view j (store j s t) ≡ clip j s
-unfolding view store clip
+unfolding view store clip only words
 view-store j s t =
     state-eq (view j (store j s t)) (clip j s)
     (cell-recell (j .boxes) (j .offers) (s .known) (t .known) 0)
@@ -81,7 +78,7 @@ view-store j s t =
           digits-mod (number k - 1) la,
           kind-place k,
         )
-        (split (ltb b (j .boxes)) (λ f. rw f (bit-one (s .done k a b))) (λ f. rw f)))
+        (split (ltb b (j .boxes)) (λ f. rw f (one-is (s .done k a b))) (λ f. rw f)))
         (λ e. rw e)
 
 -- Nothing stands outside the job's bounds.

@@ -57,7 +57,7 @@ module _ (j : Job) (r : InRange j) (d : Steps) (c : Closed j d) (a b : ℕ) (sen
       part-grows j (added j d) (added j (mark d receivePrices a b)) (received j (stateOf j d) a b a) (priceWord j b a) a g
       (λ t l y. let e : j .tallyBox t ≡ a = held-box j t a y in rw e (split (eqb (j .offerOwner (j .tallyOffer t)) b)
       (λ f. split (eqb (j .offerOwner (j .tallyOffer t)) a)
-      (λ u. simp (f, u, and-false, +ℤ-idr))
+      (λ u. simp (f, u, +ℤ-idr))
       (λ u. simp (eqb-true (j .offerOwner (j .tallyOffer t)) b f, eqb-same, rw (eqb-true (j .offerOwner (j .tallyOffer t)) b f) at u, h, sent, needs-at j t a l y, +ℤ-idl)))
       (λ f. simp (f, and-false, +ℤ-idr))))
 

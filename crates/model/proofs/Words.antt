@@ -1,6 +1,6 @@
 -- The words of a finished job are those of the owner tables. Assumes nothing.
-use mathlib.Core.Path.{_≡_, ap₂, _∙_, refl, sym, ap}
-use mathlib.Core.Bool.{Bool, false, _&&_, not, true}
+use mathlib.Core.Path.{_≡_, ap₂, _∙_, sym, ap}
+use mathlib.Core.Bool.{Bool, false, _&&_, not}
 use Prim.Native.Nat.{ℕ, _+_, _<_, _-_, _≤_}
 use native.Mathlib.Omega.{arith}
 use lib.Dec.{eqb}

@@ -37,10 +37,11 @@ module _ (j : Job) where
   unfoldable pub shares : ℕ → ℕ → Bool
   shares g b = any (j .tallies) (λ t. heldBy t b && eqb (j .tallyGrocer t) g)
 
-  -- Needs and sharers are kept as 16-bit words with one bit for each box.
+  -- Needs and sharers are kept as 16-bit words with one bit for each box: the needs of offer o.
   unfoldable pub needWord : ℕ → ℕ
   needWord o = maskOf 16 (needs o)
 
+  -- The sharers of grocer g.
   unfoldable pub sharerWord : ℕ → ℕ
   sharerWord g = maskOf 16 (shares g)
 

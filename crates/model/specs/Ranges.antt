@@ -9,15 +9,19 @@ use Rattle.laws.specs.Below.{all}
 use Rattle.laws.specs.Checks.{allOf}
 use Rattle.model.specs.Tables.{JobTables, StateTables}
 
+-- Boxes, K: 1 to 16.
 abbrev pub maxBoxes : ℕ
 maxBoxes = 16
 
+-- Grocers, M: 1 to 255.
 abbrev pub maxGrocers : ℕ
 maxGrocers = 255
 
+-- Offers, N: 1 to 500.
 abbrev pub maxOffers : ℕ
 maxOffers = 500
 
+-- Tallies, T: 0 to 1,000.
 abbrev pub maxTallies : ℕ
 maxTallies = 1_000
 
@@ -33,6 +37,7 @@ maxCount = 99_999
 abbrev pub maxAmount : ℕ
 maxAmount = 1_000_000_000_000_000
 
+-- The count of words sent is 0 to 1,000,000.
 abbrev pub maxSent : ℕ
 maxSent = 1_000_000
 
@@ -75,7 +80,7 @@ jobWordsInRange f =
 unfoldable pub jobInRange : JobTables → Bool
 jobInRange f = sizesInRange f && jobWordsInRange f
 
--- Condition 21 is not met by the state's tables: a done mark is 0 or 1, the count of words sent 0 to 1,000,000.
+-- Condition 21 is not met by the state's tables: a done mark is 0 or 1.
 unfoldable pub stateInRange : JobTables → StateTables → Bool
 stateInRange f t =
     allOf (

@@ -15,6 +15,7 @@ pub record Asked : Type 0 where
   pub first : ℕ
   pub second : ℕ
 
+-- The step asked for, as a contract names it.
 abbrev pub asked : ℕ → ℕ → ℕ → Asked
 asked k a b = record { kind = k; first = a; second = b }
 
@@ -73,6 +74,7 @@ pub record Outcome : Type 0 where
   pub answer : ℕ
   pub tables : StateTables
 
+-- What a call gives, as a contract names it.
 abbrev pub outcome : ℕ → StateTables → Outcome
 outcome n t = record { answer = n; tables = t }
 

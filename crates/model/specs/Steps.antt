@@ -20,7 +20,7 @@ number sendTotals = 4
 number addOwn = 5
 number receiveTotals = 6
 
--- The kind of a number from 1 to 6.
+-- The kind of a number from 1 to 6. Other numbers are refused with 22 before the kind matters.
 unfoldable pub kindOf : ℕ → Kind
 kindOf zero = sendPrices
 kindOf (suc zero) = sendPrices

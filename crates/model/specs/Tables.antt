@@ -123,6 +123,7 @@ pub record StateLengths : Type 0 where
   pub done : ℕ
   pub sent : ℕ
 
+-- The lengths of the job's tables as they are lent.
 unfoldable pub jobLengths : JobTables → JobLengths
 jobLengths f = record {
   price = length (f .price);
@@ -134,6 +135,7 @@ jobLengths f = record {
   tallyCount = length (f .tallyCount);
 }
 
+-- The lengths of the state's tables as they are lent.
 unfoldable pub stateLengths : StateTables → StateLengths
 stateLengths t = record {
   known = length (t .known);

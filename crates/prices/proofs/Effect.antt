@@ -1,27 +1,22 @@
 -- The lists that the calls leave are the model's: the tables with the effect of step 1 or 3 written into them. Assumes nothing.
-use mathlib.Core.Path.{_≡_, refl, sym, ap, _∙_}
-use mathlib.Core.Bool.{_&&_}
+use mathlib.Core.Path.{_≡_, refl, ap, _∙_}
 use mathlib.Core.List.{List}
 use Prim.Native.Nat.{ℕ, _+_, _<_, _≤_}
 use native.Mathlib.Omega.{arith}
-use lib.Dec.{eqb, ltb}
 use lib.IntN.{ℤ, pos}
 use lib.ListN.{getD, set}
-use borrow.Author.Tests.{ltb-true, eqb-true}
 use Rattle.laws.specs.Below.{count}
-use Rattle.laws.specs.Tables.{tabulate, overwrite, cell}
-use Rattle.laws.proofs.Bools.{split, and-r, cond-same}
+use Rattle.laws.specs.Tables.{tabulate, overwrite, recell}
 use Rattle.laws.proofs.Below.{count-cong}
-use Rattle.laws.proofs.Tables.{recell-cong, cell-recell, word-in}
+use Rattle.laws.proofs.Tables.{recell-cong, word-in, recell-cell, overwrite-same, overwrite-one}
 use Rattle.model.specs.Job.{Job, needWord, priceWord}
 use Rattle.model.specs.Steps.{Kind, State, effect, received, sendPrices, multiplyOwn, receivePrices, sendTotals, addOwn, receiveTotals}
 use Rattle.model.specs.Tables.{JobTables, jobOf, StateTables, stateTables, stateLengths, view, store}
-use Rattle.model.proofs.Lent.{StateLong}
 use Rattle.words.specs.Message.{wordIn}
-use Rattle.words.proofs.Message.{price-word}
 use Rattle.prices.specs.Prices.{sentTransit, receivedKnown, receivedTransit}
 use Rattle.prices.specs.Marks.{stepsDone, marked}
-use Rattle.prices.proofs.Extra.{cell-out, recell-same, overwrite-same, overwrite-one}
+use Rattle.model.proofs.Lent.{StateLong}
+use Rattle.words.proofs.Message.{price-word}
 
 -- Tables are equal where each of them is.
 pub tables-eq : (t u : StateTables) → t .known ≡ u .known → t .priceTransit ≡ u .priceTransit → t .working ≡ u .working → t .totalTransit ≡ u .totalTransit
@@ -41,31 +36,31 @@ tables-eq t u k p w q m d n =
 module _ (j : Job) (s : State) (t : StateTables) (l : StateLong (j .boxes) (j .grocers) (j .offers) (stateLengths t)) where
   pub known-stays : s .known ≡ view j t .known → store j s t .known ≡ t .known
   unfolding view store stateLengths
-  known-stays e = recell-same (j .boxes) (j .offers) (t .known) 0 (s .known) e (l .known)
+  known-stays e = ap (λ (f : ℕ → ℕ → ℕ). recell (j .boxes) (j .offers) f (t .known)) e ∙ recell-cell (j .boxes) (j .offers) (t .known) 0 (l .known)
 
   pub price-transit-stays : s .priceTransit ≡ view j t .priceTransit → store j s t .priceTransit ≡ t .priceTransit
   unfolding view store stateLengths
-  price-transit-stays e = recell-same (j .boxes) (j .offers) (t .priceTransit) 0 (s .priceTransit) e (l .priceTransit)
+  price-transit-stays e = ap (λ (f : ℕ → ℕ → ℕ). recell (j .boxes) (j .offers) f (t .priceTransit)) e ∙ recell-cell (j .boxes) (j .offers) (t .priceTransit) 0 (l .priceTransit)
 
   pub working-stays : s .working ≡ view j t .working → store j s t .working ≡ t .working
   unfolding view store stateLengths
-  working-stays e = recell-same (j .boxes) (j .grocers) (t .working) (pos 0) (s .working) e (l .working)
+  working-stays e = ap (λ (f : ℕ → ℕ → ℤ). recell (j .boxes) (j .grocers) f (t .working)) e ∙ recell-cell (j .boxes) (j .grocers) (t .working) (pos 0) (l .working)
 
   pub total-transit-stays : s .totalTransit ≡ view j t .totalTransit → store j s t .totalTransit ≡ t .totalTransit
   unfolding view store stateLengths
-  total-transit-stays e = recell-same (j .boxes) (j .grocers) (t .totalTransit) (pos 0) (s .totalTransit) e (l .totalTransit)
+  total-transit-stays e = ap (λ (f : ℕ → ℕ → ℤ). recell (j .boxes) (j .grocers) f (t .totalTransit)) e ∙ recell-cell (j .boxes) (j .grocers) (t .totalTransit) (pos 0) (l .totalTransit)
 
   pub statement-stays : s .statement ≡ view j t .statement → store j s t .statement ≡ t .statement
   unfolding view store stateLengths
   statement-stays e =
-      overwrite-same (j .grocers) (t .statement) (pos 0) (s .statement)
-      (λ i h. ap (λ (g : ℕ → ℤ). g i) e ∙ word-in (j .grocers) (t .statement) (pos 0) i h) (l .statement)
+      overwrite-same (j .grocers) (s .statement) (t .statement) (pos 0) (l .statement)
+      (λ i h. ap (λ (g : ℕ → ℤ). g i) e ∙ word-in (j .grocers) (t .statement) (pos 0) i h)
 
   pub sent-stays : s .sent ≡ view j t .sent → store j s t .sent ≡ t .sent
   unfolding view store stateLengths
   sent-stays e =
-      overwrite-same 1 (t .sent) 0 (λ i. s .sent)
-      (λ i h. e ∙ word-in 1 (t .sent) 0 0 (omega arith) ∙ ap (λ (k : ℕ). getD (t .sent) k 0) (omega arith)) (l .sent)
+      overwrite-same 1 (λ i. s .sent) (t .sent) 0 (l .sent)
+      (λ i h. e ∙ word-in 1 (t .sent) 0 0 (omega arith) ∙ ap (λ (k : ℕ). getD (t .sent) k 0) (omega arith))
 
 -- Every step is marked as done.
 pub step-marked : (j : Job) (t : StateTables) (q : Kind) (a b : ℕ) → store j (effect j (view j t) q a b) t .done ≡ marked (j .boxes) q a b (t .done)
@@ -113,19 +108,6 @@ module _ (f : JobTables) (t : StateTables) (masks : List ℕ) (a b : ℕ) (la : 
       ≡ receivedTransit (f .boxes) (f .offers) a b (f .offerOwner) masks (t .known) (t .priceTransit)
   unfolding store effect view receivedTransit jobOf
   received-transit = recell-cong (f .boxes) (f .offers) _ _ (t .priceTransit) (λ c o lc lo. rw (due b a o la lo))
-
-  -- The prices that box a knows then, at which step 3 multiplies.
-  pub received-cell : (c o : ℕ) → cell (f .boxes) (f .offers) (receivedKnown (f .boxes) (f .offers) a b (f .offerOwner) masks (t .known) (t .priceTransit)) 0 c o
-      ≡ received (jobOf f) (view (jobOf f) t) a b c o
-  unfolding received receivedKnown view jobOf
-  received-cell c o =
-      cell-recell (f .boxes) (f .offers) _ (t .known) 0 c o
-      ∙ split (ltb c (f .boxes) && ltb o (f .offers))
-      (λ h. rw (h, due b a o la (ltb-true o (f .offers) (and-r (ltb c (f .boxes)) _ h))))
-      (λ h. rw (h, cell-out (f .boxes) (f .offers) (t .known) 0 c o h)
-      (split (eqb c a)
-      (λ q. rw (q, ← (eqb-true c a q), cell-out (f .boxes) (f .offers) (t .priceTransit) 0 c o h) (sym (cond-same (priceWord (jobOf f) b c o) 0)))
-      (λ q. rw q)))
 
   module _ (l : StateLong (f .boxes) (f .grocers) (f .offers) (stateLengths t)) where
     -- All tables after step 1: prices in transit, the mark and the count.

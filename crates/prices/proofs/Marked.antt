@@ -1,8 +1,8 @@
 -- The marks after a step are the old list with one word set. Assumes nothing.
-use mathlib.Core.Path.{_≡_, refl, sym, ap, _∙_}
-use mathlib.Core.Bool.{Bool, true, false, cond, _&&_}
+use mathlib.Core.Path.{_≡_, sym, ap, _∙_}
+use mathlib.Core.Bool.{true, false, cond, _&&_}
 use mathlib.Core.List.{List}
-use Prim.Native.Nat.{ℕ, zero, suc, _+_, _-_, _*_, _/_, _%_, _<_, _≤_}
+use Prim.Native.Nat.{ℕ, suc, _+_, _-_, _*_, _/_, _%_, _<_, _≤_}
 use native.Mathlib.Nat.{mul-le-mul, div-add-mod', mod-lt, div-lt-iff-lt-mul}
 use native.Mathlib.Omega.{arith}
 use lib.ListN.{length, getD, set, length-set}
@@ -10,13 +10,16 @@ use lib.Seq.{getD-set-same, getD-set-other}
 use lib.Arith.{digits-div, digits-mod}
 use lib.Dec.{eqb, leb}
 use borrow.Author.Tests.{lt-ltb, eqb-true, eqb-false, leb-true}
+use Rattle.laws.specs.Below.{words, only}
 use Rattle.laws.specs.Tables.{cell, recell}
-use Rattle.laws.proofs.Bools.{split, and-l, and-r, no-true, eqb-same}
-use Rattle.laws.proofs.Below.{all-at, all-of}
-use Rattle.laws.proofs.Tables.{cell-in, getD-overwrite, is-recell}
+use Rattle.laws.proofs.Masks.{one-bit}
+use Rattle.laws.proofs.Bools.{split, and-l, and-r, no-true, eqb-same, cond-either}
+use Rattle.laws.proofs.Below.{all-at}
+use Rattle.laws.proofs.Tables.{cell-in, is-recell}
 use Rattle.model.specs.Steps.{Kind, number, kindOf, mark}
 use Rattle.model.specs.Ranges.{upTo}
 use Rattle.prices.specs.Marks.{placeOf, stepsDone, marked}
+use Rattle.model.proofs.Step.{up-over}
 use Rattle.model.proofs.Tables.{kind-place, kind-six}
 use Rattle.model.proofs.Cursor.{number-place}
 
@@ -29,17 +32,6 @@ place-in k kind a b lq la lb = cell-in ((kind - 1) * k + a) (6 * k) k b (row-in 
 
 pub marks-few : (k : ℕ) → k ≤ 16 → 6 * k * k ≤ 1536
 marks-few k l = mul-le-mul {n₂ = 96} {m₂ = 16} (omega arith) l
-
--- A number from 1 to 6 is that of its kind.
-pub number-kind : (n : ℕ) → 1 ≤ n → n ≤ 6 → number (kindOf n) ≡ n
-number-kind zero h l = absurd (omega arith)
-number-kind (suc n) h l = number-place n (omega arith)
-
--- A word that is 0 or 1.
-bit-word : (v : ℕ) → v ≤ 1 → cond (eqb v 1) 1 0 ≡ v
-bit-word zero h = refl
-bit-word (suc zero) h = refl
-bit-word (suc (suc v)) h = absurd (omega arith)
 
 -- A step is done where its word is 1.
 pub done-word : (k : ℕ) (q : Kind) (a b : ℕ) (done : List ℕ) → a < k → b < k → stepsDone k done q a b ≡ eqb (getD done (placeOf k (number q) a b) 0) 1
@@ -66,11 +58,11 @@ module _ (k : ℕ) (q : Kind) (a b : ℕ) (done : List ℕ) (la : a < k) (lb : b
   -- At any other place the word is the old one.
   mark-there : (r c : ℕ) → r < 6 * k → c < k → (r * k + c ≡ place → ⊥) →
       cond (mark (stepsDone k done) q a b (kindOf (suc (r / k))) (r % k) c) 1 0 ≡ getD done (r * k + c) 0
-  unfolding mark stepsDone cell upTo
+  unfolding mark stepsDone cell upTo only words
   mark-there r c lr lc ne =
       rw (new, back, div-add-mod' r k, lt-ltb (r % k) k (mod-lt r some), lt-ltb r (6 * k) lr, lt-ltb c k lc)
-      (bit-word (getD done (r * k + c) 0)
-      (leb-true (getD done (r * k + c) 0) 1 (all-at (6 * k * k) (λ i. leb (getD done i 0) 1) (r * k + c) (cell-in r (6 * k) k c lr lc) bits)))
+      (one-bit (getD done (r * k + c) 0)
+      (omega (arith, leb-true (getD done (r * k + c) 0) 1 (all-at (6 * k * k) (λ i. leb (getD done i 0) 1) (r * k + c) (cell-in r (6 * k) k c lr lc) bits))))
     where
       some : 0 < k
       some = omega arith
@@ -111,12 +103,7 @@ module _ (k : ℕ) (q : Kind) (a b : ℕ) (done : List ℕ) (la : a < k) (lb : b
 
 -- Marks with one step more are 0 or 1.
 pub marks-bits : (k : ℕ) (q : Kind) (a b : ℕ) (done : List ℕ) → upTo 1 (6 * k * k) (marked k q a b done) ≡ true
-unfolding upTo marked recell
+unfolding marked recell
 marks-bits k q a b done =
-    all-of (6 * k * k) (λ i. leb (getD (marked k q a b done) i 0) 1) (λ i l.
-    rw (getD-overwrite (6 * k * k) (λ i. cond (mark (stepsDone k done) q a b (kindOf (suc (i / k / k))) (i / k % k) (i % k)) 1 0) done i 0 l)
-    (one-or-none (mark (stepsDone k done) q a b (kindOf (suc (i / k / k))) (i / k % k) (i % k))))
-  where
-    one-or-none : (t : Bool) → leb (cond t 1 0) 1 ≡ true
-    one-or-none true = refl
-    one-or-none false = refl
+    up-over 1 (6 * k * k) _ done (λ i.
+    cond-either (λ (n : ℕ). n ≤ 1) (mark (stepsDone k done) q a b (kindOf (suc (i / k / k))) (i / k % k) (i % k)) 1 0 (omega arith) (omega arith))

@@ -14,17 +14,16 @@ use Rattle.laws.specs.Below.{any, find}
 use Rattle.laws.specs.Checks.{firstMet}
 use Rattle.laws.specs.Tables.{overwrite}
 use Rattle.laws.proofs.Bools.{split}
-use Rattle.laws.proofs.Below.{any-next, any-at, find-passes, find-none}
+use Rattle.laws.proofs.Below.{any-next, any-at, find-passes, find-none, any-cong, find-cong}
 use Rattle.laws.proofs.Tables.{getD-overwrite}
 use Rattle.format.specs.Codes.{number, sameOffer}
 use Rattle.format.specs.Job.{FileJob, names, placeOf, shared, unnamed}
 use Rattle.format.specs.Blocks.{offersAt, talliesAt}
 use Rattle.format.specs.File.{decode, readOffer, readTally}
-use Rattle.format.proofs.Extra.{any-cong, find-cong}
-use Rattle.format.proofs.Range.{unnamed-place}
 use Rattle.index.specs.Index.{sharesNumber, placeOf as placeIn}
 use Rattle.fills.specs.Fills.{Holds, codesIn}
 use Rattle.reader.specs.Sound.{Sound, Placed, lastRefusal}
+use Rattle.format.proofs.Range.{unnamed-place}
 
 -- ---- records in the file
 

@@ -9,17 +9,17 @@ use lib.ListN.{length, getD}
 use borrow.Author.Tests.{ltb-false}
 use Rattle.laws.specs.Tables.{overwrite}
 use Rattle.laws.proofs.Tables.{overwrite-cong}
+use Rattle.laws.proofs.Bools.{or-off}
 use Rattle.format.specs.Bytes.{from, word16, word32}
 use Rattle.format.specs.Job.{placeOf}
 use Rattle.format.specs.Blocks.{offersAt, grocersAt, talliesAt}
 use Rattle.format.specs.File.{recordAt, decode, readOffer, readTally}
 use Rattle.format.specs.Refusals.{fileRefusal}
 use Rattle.format.specs.Tables.{ReaderTables, storeCodes, store, storeRead, ReadAnswer, sizes, refused, shortTables, shortReader, readRefusal, readResult}
-use Rattle.format.proofs.Order.{reader-20, reader-file}
-use Rattle.format.proofs.Tables.{read-accepted, read-refused, long-tables}
-use Rattle.format.proofs.Extra.{or-off}
 use Rattle.fills.specs.Fills.{Holds, bytesIn, codesIn, countsIn}
 use Rattle.reader.specs.Sound.{Sound, Placed}
+use Rattle.format.proofs.Order.{reader-20, reader-file}
+use Rattle.format.proofs.Tables.{read-accepted, read-refused, long-tables}
 use Rattle.reader.proofs.Places.{offers-held, tallies-held}
 
 -- The tables where each is filled from the file: m grocers, n offers, t tallies, whose first block is `first`.

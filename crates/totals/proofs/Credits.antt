@@ -1,22 +1,23 @@
 -- Statements: the words that are credited, and their range. Assumes nothing.
 use mathlib.Core.Path.{_≡_, sym, ap, _∙_}
-use mathlib.Core.Bool.{Bool, true, false, cond, _&&_}
+use mathlib.Core.Bool.{Bool, true, cond, _&&_}
 use mathlib.Core.List.{List}
 use Prim.Native.Nat.{ℕ, _+_, _*_, _/_, _%_, _<_, _≤_}
 use native.Mathlib.Omega.{arith}
 use lib.Dec.{eqb, ltb, leb}
 use lib.ListN.{length, getD}
 use lib.IntN.{ℤ, pos, natAbs, _+ℤ_}
-use borrow.Author.Tests.{lt-ltb, le-ltb, le-leb, eqb-true, ne-eqb}
+use borrow.Author.Tests.{lt-ltb, le-ltb, eqb-true, ne-eqb}
 use Rattle.laws.specs.Below.{all}
 use Rattle.laws.specs.Tables.{cell, recell}
-use Rattle.laws.proofs.Bools.{split, eqb-same, and-one}
-use Rattle.laws.proofs.Below.{all-of, all-cong}
-use Rattle.laws.proofs.Tables.{getD-overwrite, is-overwrite, word-in}
+use Rattle.laws.proofs.Bools.{split, eqb-same, and-one, cond-either}
+use Rattle.laws.proofs.Below.{all-cong}
+use Rattle.laws.proofs.Tables.{getD-overwrite, is-overwrite, word-in, cell-at}
 use Rattle.model.specs.Ranges.{around}
 use Rattle.words.specs.Message.{inMessage, wordIn}
 use Rattle.totals.specs.Credit.{cleared, sentTotals, credited, creditWord, creditAll}
-use Rattle.totals.proofs.Extra.{cell-at, cell-abs}
+use Rattle.model.proofs.Step.{around-over}
+use Rattle.totals.proofs.Rows.{cell-abs}
 
 module _ (k m from : ℕ) (p : ℕ → Bool) (totals statement : List ℤ) (h : from < k) where
   -- A statement as it is credited.
@@ -41,24 +42,18 @@ unfolding around creditAll
 credit-range n k m from p totals statement =
     all-cong m _ _ (λ g l. ap (λ (z : ℤ). leb (natAbs z) n) (getD-overwrite m (creditWord k m from p totals statement) statement g (pos 0) l))
 
--- A table written by row and column is in range where each of its words is.
-cells-range : (n k m : ℕ) (f : ℕ → ℕ → ℤ) (l : List ℤ) → ((c g : ℕ) → natAbs (f c g) ≤ n) → around n (k * m) (recell k m f l) ≡ true
-unfolding around recell
-cells-range n k m f l h =
-    all-of (k * m) _ (λ i q. rw (getD-overwrite (k * m) (λ i. f (i / m) (i % m)) l i (pos 0) q) (le-leb (natAbs (f (i / m) (i % m))) n (h (i / m) (i % m))))
-
-either-abs : (t : Bool) (x y : ℤ) (n : ℕ) → natAbs x ≤ n → natAbs y ≤ n → natAbs (cond t x y) ≤ n
-either-abs true x y n hx hy = hx
-either-abs false x y n hx hy = hy
-
 -- Totals that are cleared or sent stay in range.
 pub cleared-range : (n k m a : ℕ) (p : ℕ → Bool) (l : List ℤ) → around n (k * m) l ≡ true → around n (k * m) (cleared k m a p l) ≡ true
-unfolding cleared
-cleared-range n k m a p l h = cells-range n k m _ l (λ c g. either-abs (eqb c a && p g) (pos 0) (cell k m l (pos 0) c g) n (omega arith) (cell-abs n k m l c g h))
+unfolding cleared recell
+cleared-range n k m a p l h =
+    around-over n (k * m) _ l (λ i.
+    cond-either (λ (z : ℤ). natAbs z ≤ n) (eqb (i / m) a && p (i % m)) (pos 0) (cell k m l (pos 0) (i / m) (i % m)) (omega arith) (cell-abs n k m l (i / m) (i % m) h))
 
 pub sent-range : (n k m a : ℕ) (p : ℕ → Bool) (w l : List ℤ) → around n (k * m) w ≡ true → around n (k * m) l ≡ true → around n (k * m) (sentTotals k m a p w l) ≡ true
-unfolding sentTotals
-sent-range n k m a p w l hw h = cells-range n k m _ l (λ c g. either-abs (eqb c a && p g) (cell k m w (pos 0) a g) (cell k m l (pos 0) c g) n (cell-abs n k m w a g hw) (cell-abs n k m l c g h))
+unfolding sentTotals recell
+sent-range n k m a p w l hw h =
+    around-over n (k * m) _ l (λ i.
+    cond-either (λ (z : ℤ). natAbs z ≤ n) (eqb (i / m) a && p (i % m)) (cell k m w (pos 0) a (i % m)) (cell k m l (pos 0) (i / m) (i % m)) (cell-abs n k m w a (i % m) hw) (cell-abs n k m l (i / m) (i % m) h))
 
 -- A box credits its own totals where it owns the grocer.
 pub credited-own : (owners sharers : List ℕ) (a g : ℕ) → credited owners sharers a a g ≡ eqb (getD owners g 0) a

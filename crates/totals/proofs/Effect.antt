@@ -2,13 +2,13 @@
 use mathlib.Core.Path.{_≡_, refl, sym, ap, _∙_}
 use mathlib.Core.Bool.{Bool, true, false, cond, _&&_}
 use mathlib.Core.List.{List}
-use Prim.Native.Nat.{ℕ, _+_, _*_, _<_, _≤_}
+use Prim.Native.Nat.{ℕ, _+_, _<_, _≤_}
 use native.Mathlib.Omega.{arith}
-use lib.Dec.{eqb, ltb, leb}
+use lib.Dec.{eqb, ltb}
 use lib.ListN.{getD}
-use lib.IntN.{ℤ, pos, natAbs, _+ℤ_, _*ℤ_}
+use lib.IntN.{ℤ, pos, _+ℤ_, _*ℤ_}
 use borrow.Author.Tests.{lt-ltb, ne-eqb, eqb-true}
-use Rattle.laws.specs.Below.{amounts, only, all, count}
+use Rattle.laws.specs.Below.{amounts, only, count}
 use Rattle.laws.specs.Tables.{tabulate, overwrite, word, cell, recell}
 use Rattle.laws.proofs.Bools.{split, eqb-same}
 use Rattle.laws.proofs.Below.{count-cong}
@@ -17,15 +17,13 @@ use Rattle.laws.proofs.Tables.{recell-cong, overwrite-cong, getD-tabulate, word
 use Rattle.model.specs.Job.{heldBy, needs, amount, sharerWord, priceWord, totalWord}
 use Rattle.model.specs.Steps.{products, received, effect, multiplyOwn, receivePrices, sendTotals, addOwn, receiveTotals}
 use Rattle.model.specs.Tables.{JobTables, jobOf, StateTables, view, store}
-use Rattle.model.specs.Ranges.{maxAmount, around}
 use Rattle.words.specs.Message.{wordIn}
 use Rattle.totals.specs.Row.{Tallies, tallies, TalliesIn, putRow, product, productSum, productRow}
 use Rattle.totals.specs.Credit.{cleared, sentTotals, credited, creditWord, creditAll}
 use Rattle.model.proofs.Parts.{needs-at}
 use Rattle.words.proofs.Message.{total-word}
-use Rattle.totals.proofs.Extra.{under-at}
-use Rattle.totals.proofs.Rows.{put-range}
-use Rattle.totals.proofs.Credits.{credited-own, credited-other, credit-range}
+use Rattle.totals.proofs.Credits.{credited-own, credited-other}
+use Rattle.model.proofs.Step.{under-at}
 
 -- The tables of tallies of a job.
 abbrev pub talliesOf : JobTables → Tallies
@@ -82,12 +80,6 @@ module _ (f : JobTables) (h : TalliesIn (talliesOf f)) (a : ℕ) (la : a < f .bo
       (λ i l _. rw (word-in (f .offers) (f .offerOwner) 0 (getD (f .tallyOffer) i 0) (offer-in i l)))
       (λ o _. refl) (t .working)
 
-  -- Whether the working totals stay in range is told by the row.
-  pub multiplied-range : (t : StateTables) (b : ℕ) → around maxAmount (f .boxes * f .grocers) (t .working) ≡ true →
-      around maxAmount (f .boxes * f .grocers) (store (jobOf f) (effect (jobOf f) (view (jobOf f) t) multiplyOwn a b) t .working)
-      ≡ around maxAmount (f .grocers) (productRow (talliesOf f) (t .known) a a (t .working))
-  multiplied-range t b ok = rw (multiplied-working t b) (put-range maxAmount (f .boxes) (f .grocers) a _ (t .working) la ok)
-
   -- The offer of a tally, as the model reads it: its owner, and that box a needs it if it holds the tally.
   owner-is : (i : ℕ) → i < f .tallies → jobOf f .offerOwner (getD (f .tallyOffer) i 0) ≡ getD (f .offerOwner) (getD (f .tallyOffer) i 0) 0
   unfolding jobOf
@@ -119,11 +111,6 @@ module _ (f : JobTables) (h : TalliesIn (talliesOf f)) (a : ℕ) (la : a < f .bo
     unfolding store effect view jobOf
     received-working =
         put-is (t .priceTransit) b (received (jobOf f) (view (jobOf f) t) a b a) (priceWord (jobOf f) b a) received-offer received-price (t .working)
-
-    pub received-range : around maxAmount (f .boxes * f .grocers) (t .working) ≡ true →
-        around maxAmount (f .boxes * f .grocers) (store (jobOf f) (effect (jobOf f) (view (jobOf f) t) receivePrices a b) t .working)
-        ≡ around maxAmount (f .grocers) (productRow (talliesOf f) (t .priceTransit) a b (t .working))
-    received-range ok = rw received-working (put-range maxAmount (f .boxes) (f .grocers) a _ (t .working) la ok)
 
 module _ (f : JobTables) (t : StateTables) (masks : List ℕ) (a b : ℕ) (la : a < f .boxes) (lb : b < f .boxes)
     (lk : f .boxes ≤ 16) (lm : f .grocers ≤ 255) (e : masks ≡ tabulate 255 (sharerWord (jobOf f))) where
@@ -164,10 +151,6 @@ module _ (f : JobTables) (t : StateTables) (masks : List ℕ) (a b : ℕ) (la : 
   unfolding store effect view creditAll creditWord jobOf
   added-statement = overwrite-cong (f .grocers) _ _ (t .statement) (λ g lg. rw (own g lg))
 
-  pub added-range : around maxAmount (f .grocers) (store (jobOf f) (effect (jobOf f) (view (jobOf f) t) addOwn a b) t .statement)
-      ≡ all (f .grocers) (λ g. leb (natAbs (creditWord (f .boxes) (f .grocers) a (credited (f .grocerOwner) masks a a) (t .working) (t .statement) g)) maxAmount)
-  added-range = rw added-statement (credit-range maxAmount (f .boxes) (f .grocers) a (credited (f .grocerOwner) masks a a) (t .working) (t .statement))
-
   module _ (ne : a ≡ b → ⊥) where
     other : (g : ℕ) → g < f .grocers → credited (f .grocerOwner) masks a b g ≡ totalWord (jobOf f) b a g
     other g lg = credited-other (f .grocerOwner) masks a b g ne ∙ due b a g lb lg
@@ -182,7 +165,3 @@ module _ (f : JobTables) (t : StateTables) (masks : List ℕ) (a b : ℕ) (la : 
         ≡ creditAll (f .boxes) (f .grocers) b (credited (f .grocerOwner) masks a b) (t .totalTransit) (t .statement)
     unfolding store effect view creditAll creditWord jobOf
     totals-received-statement = overwrite-cong (f .grocers) _ _ (t .statement) (λ g lg. rw (other g lg))
-
-    pub totals-received-range : around maxAmount (f .grocers) (store (jobOf f) (effect (jobOf f) (view (jobOf f) t) receiveTotals a b) t .statement)
-        ≡ all (f .grocers) (λ g. leb (natAbs (creditWord (f .boxes) (f .grocers) b (credited (f .grocerOwner) masks a b) (t .totalTransit) (t .statement) g)) maxAmount)
-    totals-received-range = rw totals-received-statement (credit-range maxAmount (f .boxes) (f .grocers) b (credited (f .grocerOwner) masks a b) (t .totalTransit) (t .statement))

@@ -2,15 +2,14 @@
 use mathlib.Core.Path.{_≡_}
 use mathlib.Core.Bool.{true, _&&_}
 use mathlib.Core.List.{[], _∷_}
-use Prim.Native.Nat.{_*_}
 use lib.Dec.{leb}
 use borrow.Author.Tests.{leb-true}
 use Rattle.laws.proofs.Bools.{and-l, and-r}
 use Rattle.laws.proofs.Checks.{each-of}
-use Rattle.model.specs.Tables.{JobTables, jobLengths, StateTables, stateLengths}
-use Rattle.model.specs.Ranges.{maxBoxes, maxGrocers, maxOffers, maxTallies, maxPrice, maxCount, maxAmount, maxSent, upTo, under, around, sizesInRange, jobWordsInRange, jobInRange, stateInRange}
-use Rattle.totals.specs.Row.{TalliesIn, PricesIn, AmountsIn}
-use Rattle.model.proofs.Lent.{JobLong, StateLong}
+use Rattle.model.specs.Tables.{JobTables, jobLengths}
+use Rattle.model.specs.Ranges.{maxBoxes, maxGrocers, maxOffers, maxTallies, maxPrice, maxCount, upTo, under, around, sizesInRange, jobWordsInRange, jobInRange}
+use Rattle.totals.specs.Row.{TalliesIn}
+use Rattle.model.proofs.Lent.{JobLong}
 use Rattle.totals.proofs.Effect.{talliesOf}
 
 -- The tables of tallies of a job that is lent whole and in range.
@@ -45,32 +44,4 @@ tallies-given f l ok =
       grocer-in = w .1 .1 .1 .0;
       offer-in = w .1 .1 .1 .1 .1 .0;
       count-in = w .1 .1 .1 .1 .1 .1 .0;
-    }
-
--- The tables of a state that is lent whole and in range.
-pub record StateGiven (f : JobTables) (t : StateTables) : Type 0 where
-  pub known : PricesIn (f .boxes) (f .offers) (t .known)
-  pub price-transit : PricesIn (f .boxes) (f .offers) (t .priceTransit)
-  pub working : AmountsIn (f .boxes * f .grocers) (t .working)
-  pub total-transit : AmountsIn (f .boxes * f .grocers) (t .totalTransit)
-  pub statement : AmountsIn (f .grocers) (t .statement)
-
-pub state-given : (f : JobTables) (t : StateTables) → StateLong (f .boxes) (f .grocers) (f .offers) (stateLengths t) → stateInRange f t ≡ true → StateGiven f t
-unfolding stateInRange stateLengths
-state-given f t l ok =
-    let w = each-of (
-    upTo maxPrice (f .boxes * f .offers) (t .known)
-    ∷ upTo maxPrice (f .boxes * f .offers) (t .priceTransit)
-    ∷ around maxAmount (f .boxes * f .grocers) (t .working)
-    ∷ around maxAmount (f .boxes * f .grocers) (t .totalTransit)
-    ∷ around maxAmount (f .grocers) (t .statement)
-    ∷ upTo 1 (6 * f .boxes * f .boxes) (t .done)
-    ∷ upTo maxSent 1 (t .sent)
-    ∷ []) ok in
-    record {
-      known = record { long = l .known; words-in = w .0 };
-      price-transit = record { long = l .priceTransit; words-in = w .1 .0 };
-      working = record { long = l .working; words-in = w .1 .1 .0 };
-      total-transit = record { long = l .totalTransit; words-in = w .1 .1 .1 .0 };
-      statement = record { long = l .statement; words-in = w .1 .1 .1 .1 .0 };
     }

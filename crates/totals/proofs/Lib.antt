@@ -1,5 +1,4 @@
 -- The laws of totals that belong to no one function.
-pub mod Extra
 pub mod Rows
 pub mod Credits
 pub mod Walks

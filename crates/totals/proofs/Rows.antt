@@ -6,23 +6,23 @@ use Prim.Native.Nat.{ℕ, _+_, _*_, _/_, _%_, _<_, _≤_}
 use native.Mathlib.Nat.{le-trans, mod-lt}
 use native.Mathlib.Decide.{decLt}
 use native.Mathlib.Omega.{arith}
-use lib.Dec.{eqb, leb}
+use lib.Dec.{eqb, ltb, leb}
 use lib.Arith.{digits-div, digits-mod}
 use lib.ListN.{length, getD, set}
 use lib.Seq.{set-getD}
 use lib.IntN.{ℤ, pos, natAbs, _+ℤ_, _*ℤ_, +ℤ-idr}
-use borrow.Author.Tests.{eqb-true, eqb-false, ne-eqb, le-leb}
+use borrow.Author.Tests.{eqb-true, eqb-false, ne-eqb, ltb-true, le-leb}
 use Rattle.laws.specs.Below.{amounts, sum, only, all}
 use Rattle.laws.specs.Tables.{tabulate, overwrite, cell, recell}
-use Rattle.laws.proofs.Bools.{split, eqb-same}
+use Rattle.laws.proofs.Bools.{split, eqb-same, and-l, and-r}
 use Rattle.laws.proofs.Below.{all-at, all-of, all-find, all-fails}
 use Rattle.laws.proofs.Loops.{share, eqb-shift}
 use Rattle.laws.proofs.Signed.{abs-times-le, only-abs}
 use Rattle.laws.proofs.Sums.{sum-cong, sum-none, only-no}
-use Rattle.laws.proofs.Tables.{pos-right, cell-in, is-recell, getD-tabulate, getD-overwrite}
+use Rattle.laws.proofs.Tables.{pos-right, cell-in, is-recell, getD-tabulate, getD-overwrite, row-in, cell-at}
 use Rattle.model.specs.Ranges.{maxAmount, around}
 use Rattle.totals.specs.Row.{Tallies, TalliesIn, PricesIn, AmountsIn, TallyIn, raised, isTaken, productAt, brings, rowOf, putRow, product, productSum, productRow}
-use Rattle.totals.proofs.Extra.{under-at, up-at, around-at, row-in, cell-at, cell-abs}
+use Rattle.model.proofs.Step.{under-at, up-at, around-at}
 
 -- Where nothing is added the row stays, and elsewhere the word grows.
 pub raised-not : (l : List ℤ) (g : ℕ) (t : Bool) (z : ℤ) → t ≡ false → l ≡ raised l g (only amounts t z)
@@ -130,6 +130,14 @@ module _ (e : Tallies) (prices : List ℕ) (a from at : ℕ) (h : TalliesIn e) (
 
       past : (i : ℕ) → e .boxes * e .grocers ≤ i → getD l′ i (pos 0) ≡ getD l i (pos 0)
       past i q = stays i (λ j r s. omega (arith, grocer-cell base j b r))
+
+-- The words of a table of amounts in range are in range, and so is what stands for a word outside it.
+pub cell-abs : (b k m : ℕ) (l : List ℤ) (c o : ℕ) → around b (k * m) l ≡ true → natAbs (cell k m l (pos 0) c o) ≤ b
+unfolding cell
+cell-abs b k m l c o h =
+    split (ltb c k && ltb o m)
+    (λ e. rw e (around-at b (k * m) l (c * m + o) h (cell-in c k m o (ltb-true c k (and-l (ltb c k) _ e)) (ltb-true o m (and-r (ltb c k) _ e)))))
+    (λ e. rw e (omega arith))
 
 -- A word of a row of 255, and its size.
 pub row-word : (k m a : ℕ) (l : List ℤ) (g : ℕ) → g < 255 → getD (rowOf k m a l) g (pos 0) ≡ cell k m l (pos 0) a g

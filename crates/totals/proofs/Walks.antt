@@ -1,43 +1,23 @@
 -- Walks over the entries of one key: those that are passed over bring nothing and change nothing. Assumes nothing.
-use mathlib.Core.Path.{_≡_, refl, sym, ap, ap₂, _∙_, subst}
+use mathlib.Core.Path.{_≡_, refl, sym, ap, _∙_, subst}
 use mathlib.Core.Bool.{Bool, true, false, _&&_}
 use mathlib.Core.List.{List}
-use Prim.Native.Nat.{ℕ, zero, suc, _+_, _-_, _<_, _≤_}
+use Prim.Native.Nat.{ℕ, _+_, _<_}
 use native.Mathlib.Decide.{decLt}
 use native.Mathlib.Omega.{arith}
 use lib.Dec.{eqb, ltb}
 use lib.ListN.{getD}
 use lib.IntN.{ℤ, pos}
 use borrow.Author.Tests.{eqb-true, ne-eqb, lt-ltb, le-ltb}
-use Rattle.laws.specs.Below.{Adds, amounts, sum, only}
+use Rattle.laws.specs.Below.{amounts, only}
 use Rattle.laws.proofs.Bools.{and-l, and-false}
 use Rattle.laws.proofs.Loops.{share}
 use Rattle.links.specs.Links.{Skips, Linked}
-use Rattle.links.proofs.Walks.{test-passed, goes-on}
 use Rattle.totals.specs.Credit.{credited}
 use Rattle.totals.specs.Row.{brings}
+use Rattle.links.proofs.Walks.{test-passed, goes-on}
 
--- A sum goes on unchanged over places that bring nothing.
-module _ {A : Type 0} (w : Adds A) where
-  more : (i d : ℕ) (f : ℕ → A) → ((x : ℕ) → i ≤ x → x < d + i → f x ≡ w .none) → sum w (d + i) f ≡ sum w i f
-  unfolding sum
-  more i zero f h = ap (λ (n : ℕ). sum w n f) (zero-plus i)
-    where
-      zero-plus : (n : ℕ) → 0 + n ≡ n
-      zero-plus n = omega arith
-  more i (suc d) f h =
-      ap (λ (n : ℕ). sum w n f) (suc-plus d i) ∙ ap₂ (w .plus) (more i d f (λ x l q. h x l (omega arith))) (h (d + i) (omega arith) (omega arith)) ∙ w .idr (sum w i f)
-    where
-      suc-plus : (d n : ℕ) → suc d + n ≡ suc (d + n)
-      suc-plus d n = omega arith
-
-  pub sum-over : (i j : ℕ) (f : ℕ → A) → i ≤ j → ((x : ℕ) → i ≤ x → x < j → f x ≡ w .none) → sum w j f ≡ sum w i f
-  sum-over i j f l h = ap (λ (n : ℕ). sum w n f) (apart i j l) ∙ more i (j - i) f (λ x a b. h x a (omega arith))
-    where
-      apart : (i j : ℕ) → i ≤ j → j ≡ j - i + i
-      apart i j l = omega arith
-
--- Nor does what a loop from the front has stored, where a test holds of entries of key v alone.
+-- What a loop from the front has stored goes on unchanged, where a test holds of entries of key v alone.
 pub front-over : (n : ℕ) (keys : List ℕ) (v i j : ℕ) (s : Skips n keys v i j) (test : ℕ → Bool) (keyed : (x : ℕ) → test x ≡ true → getD keys x 0 ≡ v) (x : ℕ) → (ltb x j && test x) ≡ (ltb x i && test x)
 front-over n keys v i j s test keyed x = which (decLt x i) (decLt x j)
   where

@@ -1,13 +1,10 @@
 // The row of a box: multiplied, and held to its range.
 ghost use mathlib.Core.Path.{_≡_};
 ghost use Prim.Native.Nat.{_+_, _*_, _≤_, _<_};
-ghost use lib.ListN.{length, getD, set};
-ghost use mathlib.Core.Bool.{_&&_};
-ghost use lib.Dec.{eqb};
-ghost use lib.IntN.{pos, natAbs, _+ℤ_, _*ℤ_};
-ghost use Rattle.laws.specs.Below.{amounts, only};
+ghost use lib.ListN.{length, getD};
+ghost use lib.IntN.{pos, natAbs};
 ghost use Rattle.links.specs.Links.{Linked};
-ghost use Rattle.model.specs.Ranges.{maxPrice, maxCount, maxAmount, around};
+ghost use Rattle.model.specs.Ranges.{maxAmount, around};
 ghost use Rattle.totals.specs.Row.{tallies, TalliesIn, PricesIn, AmountsIn, TallyIn, isTaken, raised, brings, productRow, rowOf, putRow};
 use crate::num::amount;
 use crate::num::amount_fits;

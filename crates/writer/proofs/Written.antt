@@ -1,27 +1,28 @@
 -- The blocks put one after the other are the file of the tables' job. Assumes nothing.
-use Prim.Native.Nat.{ℕ, _+_, _*_, _≤_, _<_}
 use mathlib.Core.Path.{_≡_, refl, sym, ap, ap₂, _∙_}
 use mathlib.Core.Bool.{false}
 use mathlib.Core.List.{List, [], _∷_, _++_}
+use Prim.Native.Nat.{ℕ, _+_, _*_, _≤_, _<_}
 use native.Mathlib.Omega.{arith}
 use lib.ListN.{length, getD, drop}
 use borrow.Author.Tests.{ltb-false}
 use Rattle.laws.specs.Tables.{tabulate}
 use Rattle.laws.proofs.Tables.{length-tabulate}
+use Rattle.laws.proofs.Bools.{or-off}
+use Rattle.laws.proofs.Checks.{unmet}
 use Rattle.format.specs.Bytes.{bytes16}
 use Rattle.format.specs.Job.{FileJob}
 use Rattle.format.specs.Blocks.{BlockKind, header, offerBlock, grocerBlock, tallyBlock, blocksFor, blockCount, grocersAt, talliesAt, kindAt, kindNumber, records, recordSize, headerBytes, offerBytes, tallyBytes, recordBytes}
 use Rattle.format.specs.File.{bodyByte, blockByte, encode}
 use Rattle.format.specs.Refusals.{jobRefusal}
 use Rattle.format.specs.Tables.{FileTables, fileJobOf, wrote, notWritten, shortTables, shortWriter, writeRefusal, writeResult}
-use Rattle.format.proofs.Extra.{or-off, unmet}
+use Rattle.checks.specs.Rows.{offerOf, tallyOf}
+use Rattle.writer.specs.Puts.{put, bytesOf, bodyOf, recordBody, blocksOf}
+use Rattle.writer.specs.Ready.{Ready}
 use Rattle.format.proofs.Firsts.{each}
 use Rattle.format.proofs.Plan.{kind-header, kind-offers, kind-grocers, kind-tallies}
 use Rattle.format.proofs.Range.{in-range}
 use Rattle.format.proofs.Tables.{long-tables, write-accepted, write-refused}
-use Rattle.checks.specs.Rows.{offerOf, tallyOf}
-use Rattle.writer.specs.Puts.{put, bytesOf, bodyOf, recordBody, blocksOf}
-use Rattle.writer.specs.Ready.{Ready}
 use Rattle.writer.proofs.Puts.{put-none, put-front}
 use Rattle.writer.proofs.Blocks.{body-is, blocks-behind, block-behind}
 

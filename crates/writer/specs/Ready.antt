@@ -1,10 +1,9 @@
 -- What the writer's checks leave where none refuses, for the functions that put the file.
-use Prim.Native.Nat.{ℕ, _*_, _≤_}
 use mathlib.Core.List.{List}
+use Prim.Native.Nat.{ℕ, _*_, _≤_}
 use lib.ListN.{length}
 use Rattle.format.specs.Blocks.{blockCount}
-use Rattle.format.specs.Tables.{FileTables}
-use Rattle.format.proofs.Tables.{Long}
+use Rattle.format.specs.Tables.{FileTables, Long}
 use Rattle.writer.specs.Puts.{Small}
 
 -- K, M, N and T are in range, each table and the buffer are long enough, and each word that takes one byte fits it.

@@ -13,7 +13,7 @@ use crate::block::put_grocer_block;
 use crate::block::put_header;
 use crate::block::put_offer_block;
 use crate::block::put_tally_block;
-use checks::sizes::blocks_for;
+use blocks::plan::blocks_for;
 
 // All offer blocks, of n offers.
 fn put_offer_blocks(out: &mut [u8], n: usize, price: &[u32], owner: &[u16], code: &[u8])

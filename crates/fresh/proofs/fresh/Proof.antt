@@ -1,12 +1,13 @@
+-- `fresh::fresh` meets its contract. Assumes nothing.
 use mathlib.Core.Path.{ap, _∙_}
 use Prim.Native.Nat.{_*_}
 use native.Mathlib.Nat.{mul-le-mul}
 use native.Mathlib.Omega.{arith}
+use borrow.Author.Needs.{needs}
 use Rattle.laws.proofs.Tables.{long-overwrite, getD-overwrite}
 use Rattle.model.specs.Tables.{stateTables}
 use Rattle.fresh.specs.Fresh.{ownPrices}
 use Rattle.fresh.proofs.Made.{fresh-is}
-use borrow.Author.Needs.{needs}
 use Rattle.fresh.proofs.fresh.Statement.{statement}
 use Rattle.fresh.proofs.fresh.Tie as tie
 use Rattle.fresh.proofs.fresh.Reads as reads
@@ -16,15 +17,12 @@ use Rattle.fresh.proofs.zero16.Reads as zero16-reads
 use Rattle.fresh.proofs.zero32.Reads as zero32-reads
 use Rattle.fresh.proofs.zero64.Reads as zero64-reads
 
--- src/lib.rt:84:19
 mul-zero32 : tie.Need-mul-zero32
 mul-zero32 c = search needs
 
--- src/lib.rt:84:5
 zero32-requires : tie.Need-zero32-requires
 zero32-requires c κs = search needs
 
--- src/lib.rt:85:5
 own-prices-requires : tie.Need-own-prices-requires
 own-prices-requires c κs =
     let s = c .before .before .before .before .before .before .before .before .before .before .before in
@@ -39,79 +37,60 @@ own-prices-requires c κs =
       zero = λ i l. rw e (getD-overwrite (s .args .boxes * s .args .offers) (λ i. 0) (s .args .known .now) i 0 l);
     }
 
--- src/lib.rt:86:22
 mul-zero32-2 : tie.Need-mul-zero32-2
 mul-zero32-2 c = search needs
 
--- src/lib.rt:86:5
 zero32-requires-2 : tie.Need-zero32-requires-2
 zero32-requires-2 c κs = search needs
 
--- src/lib.rt:87:21
 mul-zero64 : tie.Need-mul-zero64
 mul-zero64 c = search needs
 
--- src/lib.rt:87:5
 zero64-requires : tie.Need-zero64-requires
 zero64-requires c κs = search needs
 
--- src/lib.rt:88:22
 mul-zero64-2 : tie.Need-mul-zero64-2
 mul-zero64-2 c = search needs
 
--- src/lib.rt:88:5
 zero64-requires-2 : tie.Need-zero64-requires-2
 zero64-requires-2 c κs = search needs
 
--- src/lib.rt:89:5
 zero64-requires-3 : tie.Need-zero64-requires-3
 zero64-requires-3 c κs = search needs
 
--- src/lib.rt:90:18
 mul-zero16 : tie.Need-mul-zero16
 mul-zero16 c = search needs
 
--- src/lib.rt:90:18
 mul-zero16-2 : tie.Need-mul-zero16-2
 mul-zero16-2 c = let s = c .before .before .before .before .before .before .before .before .before .before .before .before .before .before .before .before .before .before .before .before .before .before .before .before .before .before .before .before in omega (arith, s .pre .boxes≤, mul-le-mul (s .pre .boxes≤) (s .pre .boxes≤))
 
--- src/lib.rt:90:5
 zero16-requires : tie.Need-zero16-requires
 zero16-requires c κs = search needs
 
--- src/lib.rt:91:5
 zero32-requires-3 : tie.Need-zero32-requires-3
 zero32-requires-3 c κs = search needs
 
--- src/lib.rt:60:1
 same-length : tie.Need-same-length
 same-length c = search needs
 
--- src/lib.rt:60:1
 same-length-2 : tie.Need-same-length-2
 same-length-2 c = search needs
 
--- src/lib.rt:60:1
 same-length-3 : tie.Need-same-length-3
 same-length-3 c = search needs
 
--- src/lib.rt:60:1
 same-length-4 : tie.Need-same-length-4
 same-length-4 c = search needs
 
--- src/lib.rt:60:1
 same-length-5 : tie.Need-same-length-5
 same-length-5 c = search needs
 
--- src/lib.rt:60:1
 same-length-6 : tie.Need-same-length-6
 same-length-6 c = search needs
 
--- src/lib.rt:60:1
 same-length-7 : tie.Need-same-length-7
 same-length-7 c = search needs
 
--- src/lib.rt:60:1
 returns : tie.Need-returns
 returns c =
     let s = c .before .before .before .before .before .before .before .before .before .before .before .before .before .before .before .before .before .before .before .before .before .before .before .before .before .before .before .before .before .before .before .before .before .before .before in

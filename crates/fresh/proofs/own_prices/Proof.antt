@@ -1,3 +1,4 @@
+-- `fresh::own_prices` meets its contract. The invariant: of the first o offers each owner knows the price, and all else of the table is 0. Assumes nothing.
 use mathlib.Core.Path.{_≡_, refl, sym, ap, _∙_}
 use mathlib.Core.Bool.{cond, _&&_}
 use Prim.Native.Nat.{ℕ, _+_, _-_, _*_, _≤_, _<_}
@@ -24,58 +25,47 @@ Inv-loop k n price owner known₀ o₀ known o =
 abbrev μ-loop : tie.MeasureT-loop
 μ-loop k n price owner known₀ o₀ known o = n - o
 
--- src/lib.rt:53:5
 loop-holds : tie.Need-loop-holds Inv-loop μ-loop
 loop-holds c =
     let s = c .before .before .before in
     (omega arith, refl, (λ b p lb lp. s .pre .zero (b * s .args .n + p) (cell-in b (s .args .k) (s .args .n) p lb lp) ∙ sym (rw (le-ltb p 0 (omega arith)))), λ i l. refl)
 
--- src/lib.rt:54:26
 mul-place : tie.Need-mul-place Inv-loop μ-loop
 mul-place c = search needs
 
--- src/lib.rt:54:26
 shared-slice-read-place : tie.Need-shared-slice-read-place Inv-loop μ-loop
 shared-slice-read-place c = search needs
 
--- src/lib.rt:54:13
 place-requires : tie.Need-place-requires Inv-loop μ-loop
 place-requires c κs =
     let s = c .before .before .before .before .before .before in
     let l = s .pre .owner< (c .before .before .loop .o) (omega arith) in
     (s .pre .offers≤, (omega (arith, s .pre .boxes≤), omega arith))
 
--- src/lib.rt:55:20
 mul-known : tie.Need-mul-known Inv-loop μ-loop
 mul-known c = search needs
 
--- src/lib.rt:55:20
 shared-slice-read-known : tie.Need-shared-slice-read-known Inv-loop μ-loop
 shared-slice-read-known c = search needs
 
--- src/lib.rt:55:9
 mul-known-2 : tie.Need-mul-known-2 Inv-loop μ-loop
 mul-known-2 c =
     let s = c .before .before .before .before .before .before .before .before in
     let l = s .pre .owner< (c .before .before .before .before .loop .o) (omega arith) in
     omega (arith, c .before .place .ensures, s .pre .offers≤, cell-in (getD (s .args .owner .now) (c .before .before .before .before .loop .o) 0) 16 (s .args .n) (c .before .before .before .before .loop .o) (omega (arith, s .pre .boxes≤)) (omega arith))
 
--- src/lib.rt:55:9
 slice-write-known : tie.Need-slice-write-known Inv-loop μ-loop
 slice-write-known c =
     let s = c .before .before .before .before .before .before .before .before in
     let l = s .pre .owner< (c .before .before .before .before .loop .o) (omega arith) in
     omega (arith, c .before .place .ensures, c .before .before .before .before .loop .inv .1, s .pre .knownLong, cell-in _ (s .args .k) (s .args .n) (c .before .before .before .before .loop .o) l (omega arith))
 
--- src/lib.rt:53:9
 add-o : tie.Need-add-o Inv-loop μ-loop
 add-o c = search needs
 
--- src/lib.rt:53:5
 loop-less : tie.Need-loop-less Inv-loop μ-loop
 loop-less c = search needs
 
--- src/lib.rt:53:5
 loop-again : tie.Need-loop-again Inv-loop μ-loop
 loop-again c =
     let s = c .before .before .before .before .before .before .before .before in
@@ -91,11 +81,9 @@ loop-again c =
           ∙ own-past (s .args .k) (s .args .n) (s .args .price .now) (s .args .owner .now) (s .args .known .now) (b .loop .known) (b .loop .o) lo l long (b .loop .inv .2) i h (b .loop .inv .3 i h),
     )
 
--- src/lib.rt:49:1
 same-length : tie.Need-same-length Inv-loop μ-loop
 same-length c = c .before .loop .inv .1
 
--- src/lib.rt:49:1
 returns : tie.Need-returns Inv-loop μ-loop
 unfolding ownPrices
 returns c =

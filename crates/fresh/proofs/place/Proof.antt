@@ -1,4 +1,4 @@
-use Prim.Native.Nat.{_*_}
+-- `fresh::place` meets its contract. Assumes nothing.
 use native.Mathlib.Nat.{mul-le-mul-right}
 use native.Mathlib.Omega.{arith}
 use borrow.Author.Needs.{needs}
@@ -7,15 +7,12 @@ use Rattle.fresh.proofs.place.Tie as tie
 use Rattle.fresh.proofs.place.Reads as reads
 use Rattle.fresh.proofs.place.Lts as lts
 
--- src/lib.rt:45:5
 mul-result : tie.Need-mul-result
 mul-result c = omega (arith, mul-le-mul-right (c .args .n) (c .pre .1 .0))
 
--- src/lib.rt:45:5
 add-result : tie.Need-add-result
 add-result c = omega (arith, mul-le-mul-right (c .args .n) (c .pre .1 .0))
 
--- src/lib.rt:41:1
 returns : tie.Need-returns
 returns c = search needs
 

@@ -1,12 +1,12 @@
+-- `fresh::zero32` meets its contract. The invariant: the first i words are 0, and the others are as they were. Assumes nothing.
 use mathlib.Core.Path.{_≡_, refl, ap, _∙_}
 use mathlib.Core.Bool.{cond}
 use Prim.Native.Nat.{ℕ, _-_, _≤_}
-use lib.Dec.{ltb}
-use lib.IntN.{pos}
-use lib.ListN.{length, getD, length-set}
-use Rattle.laws.specs.Tables.{overwrite}
 use native.Mathlib.Omega.{arith}
+use lib.Dec.{ltb}
+use lib.ListN.{length, getD, length-set}
 use borrow.Author.Needs.{needs}
+use Rattle.laws.specs.Tables.{overwrite}
 use Rattle.fresh.proofs.Made.{zeroed-more, zeroed, zeroed-none}
 use Rattle.fresh.proofs.zero32.Statement.{statement}
 use Rattle.fresh.proofs.zero32.Tie as tie
@@ -19,27 +19,21 @@ Inv-loop s₀ n i₀ s i = (i ≤ n) × (length s ≡ length s₀) × ((p : ℕ)
 abbrev μ-loop : tie.MeasureT-loop
 μ-loop s₀ n i₀ s i = n - i
 
--- src/lib.rt:25:5
 loop-holds : tie.Need-loop-holds Inv-loop μ-loop
 loop-holds c = (search needs, refl, zeroed-none (c .args .s .now) 0 0)
 
--- src/lib.rt:26:9
 mul-s : tie.Need-mul-s Inv-loop μ-loop
 mul-s c = search needs
 
--- src/lib.rt:26:9
 slice-write-s : tie.Need-slice-write-s Inv-loop μ-loop
 slice-write-s c = search needs
 
--- src/lib.rt:25:9
 add-i : tie.Need-add-i Inv-loop μ-loop
 add-i c = search needs
 
--- src/lib.rt:25:5
 loop-less : tie.Need-loop-less Inv-loop μ-loop
 loop-less c = search needs
 
--- src/lib.rt:25:5
 loop-again : tie.Need-loop-again Inv-loop μ-loop
 loop-again c =
     let b = c .before in (
@@ -48,11 +42,9 @@ loop-again c =
       zeroed-more (b .before .args .s .now) (b .loop .s) 0 0 (b .loop .i) (b .loop .inv .1) (b .loop .inv .2) (omega (arith, b .loop .inv .1)),
     )
 
--- src/lib.rt:21:1
 same-length : tie.Need-same-length Inv-loop μ-loop
 same-length c = c .before .loop .inv .1
 
--- src/lib.rt:21:1
 returns : tie.Need-returns Inv-loop μ-loop
 returns c =
     let b = c .before in

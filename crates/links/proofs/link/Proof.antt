@@ -1,10 +1,9 @@
 -- `links::link` meets its contract. The invariant: the entries from i on are linked. Assumes nothing.
-use mathlib.Core.Path.{_≡_, refl, sym, ap, _∙_, subst}
+use mathlib.Core.Path.{_≡_, refl, sym, _∙_, subst}
 use Prim.Native.Nat.{ℕ, _<_, _≤_, _+_, _-_}
 use native.Mathlib.Omega.{arith}
+use lib.ListN.{length, getD, length-set, getD-replicate}
 use borrow.Author.Needs.{needs}
-use lib.ListN.{length, getD, set, length-set, getD-replicate}
-use mathlib.Core.List.{List}
 use Rattle.links.specs.Links.{Skips}
 use Rattle.links.proofs.Walks.{skips-end, first-linked, next-linked}
 use Rattle.links.proofs.link.Statement.{statement}

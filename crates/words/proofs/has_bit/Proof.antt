@@ -1,15 +1,14 @@
-use Rattle.laws.proofs.Masks.{bit-test}
+-- `words::has_bit` meets its contract. Assumes nothing.
 use borrow.Author.Needs.{needs}
+use Rattle.laws.proofs.Masks.{bit-test}
 use Rattle.words.proofs.has_bit.Statement.{statement}
 use Rattle.words.proofs.has_bit.Tie as tie
 use Rattle.words.proofs.has_bit.Reads as reads
 use Rattle.words.proofs.has_bit.Lts as lts
 
--- src/lib.rt:12:6
 shr-result : tie.Need-shr-result
 shr-result c = search needs
 
--- src/lib.rt:8:1
 returns : tie.Need-returns
 returns c = bit-test (c .args .b) (c .args .w)
 

@@ -1,19 +1,18 @@
+-- `words::in_message` meets its contract. Assumes nothing.
 use mathlib.Core.Path.{ap}
 use mathlib.Core.Bool.{Bool, _&&_, not}
 use lib.Dec.{eqb}
-use Rattle.words.specs.Message.{inMessage}
 use borrow.Author.Needs.{needs}
+use Rattle.words.specs.Message.{inMessage}
 use Rattle.words.proofs.in_message.Statement.{statement}
 use Rattle.words.proofs.in_message.Tie as tie
 use Rattle.words.proofs.in_message.Reads as reads
 use Rattle.words.proofs.in_message.Lts as lts
 use Rattle.words.proofs.has_bit.Reads as has-bit-reads
 
--- src/lib.rt:20:36
 has-bit-requires : tie.Need-has-bit-requires
 has-bit-requires c κs = search needs
 
--- src/lib.rt:16:1
 returns : tie.Need-returns
 unfolding inMessage
 returns c = ap (λ (x : Bool). eqb (c .before .args .owner) (c .before .args .a) && (not (eqb (c .before .args .owner) (c .before .args .b)) && x)) (c .has-bit .ensures)

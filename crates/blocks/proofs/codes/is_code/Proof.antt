@@ -1,17 +1,17 @@
 -- `blocks::codes::is_code` meets its contract. Assumes nothing.
-use Prim.Native.Nat.{ℕ, _+_, _≤_, _-_}
 use mathlib.Core.Bool.{cond, _&&_}
 use mathlib.Core.List.{List}
 use mathlib.Core.Path.{sym, ap, _∙_, _≡_, refl}
+use Prim.Native.Nat.{ℕ, _+_, _≤_, _-_}
 use native.Mathlib.Nat.{add-zero, add-assoc}
 use native.Mathlib.Omega.{arith}
 use lib.Dec.{leb, ltb, eqb}
 use lib.ListN.{getD}
+use borrow.Author.Needs.{needs}
 use Rattle.laws.specs.Below.{all}
+use Rattle.laws.proofs.Below.{all-more}
 use Rattle.format.specs.Bytes.{from}
 use Rattle.format.specs.Codes.{isPlace, isCode, readCode}
-use Rattle.blocks.proofs.Extra.{all-more}
-use borrow.Author.Needs.{needs}
 use Rattle.blocks.proofs.codes.is_code.Statement.{statement}
 use Rattle.blocks.proofs.codes.is_code.Tie as tie
 

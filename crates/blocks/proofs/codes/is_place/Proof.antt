@@ -1,5 +1,5 @@
 -- `blocks::codes::is_place` meets its contract. Assumes nothing.
-use Rattle.blocks.proofs.Extra.{cond-or}
+use Rattle.laws.proofs.Bools.{cond-or}
 use Rattle.blocks.proofs.codes.is_place.Statement.{statement}
 use Rattle.blocks.proofs.codes.is_place.Tie as tie
 

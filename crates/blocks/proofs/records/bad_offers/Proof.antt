@@ -1,13 +1,13 @@
 -- `blocks::records::bad_offers` meets its contract. Assumes nothing.
-use Prim.Native.Nat.{_+_, _*_, _-_, _≤_}
 use mathlib.Core.Path.{_≡_, refl, ap, _∙_}
+use Prim.Native.Nat.{_+_, _*_, _-_, _≤_}
 use native.Mathlib.Omega.{arith}
+use borrow.Author.Needs.{needs}
 use Rattle.laws.specs.Below.{any}
+use Rattle.laws.proofs.Below.{any-end, any-more}
 use Rattle.format.specs.Job.{badOffer}
 use Rattle.format.specs.File.{decode}
 use Rattle.blocks.proofs.Places.{offer-at}
-use Rattle.blocks.proofs.Extra.{any-end, any-more}
-use borrow.Author.Needs.{needs}
 use Rattle.blocks.proofs.records.bad_offers.Statement.{statement}
 use Rattle.blocks.proofs.records.bad_offers.Tie as tie
 

@@ -1,14 +1,14 @@
 -- `blocks::records::bad_owners` meets its contract. Assumes nothing.
-use Prim.Native.Nat.{_-_, _≤_}
 use mathlib.Core.Path.{_≡_, refl, ap₂, _∙_}
+use Prim.Native.Nat.{_-_, _≤_}
 use native.Mathlib.Omega.{arith}
 use lib.Dec.{leb}
+use borrow.Author.Needs.{needs}
 use Rattle.laws.specs.Below.{any}
+use Rattle.laws.proofs.Below.{any-end, any-more}
 use Rattle.format.specs.Job.{badOwner}
 use Rattle.format.specs.File.{decode}
 use Rattle.blocks.proofs.Places.{owner-at}
-use Rattle.blocks.proofs.Extra.{any-end, any-more}
-use borrow.Author.Needs.{needs}
 use Rattle.blocks.proofs.records.bad_owners.Statement.{statement}
 use Rattle.blocks.proofs.records.bad_owners.Tie as tie
 

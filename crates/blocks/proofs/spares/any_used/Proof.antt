@@ -1,12 +1,12 @@
 -- `blocks::spares::any_used` meets its contract. Assumes nothing.
-use Prim.Native.Nat.{_-_, _≤_}
 use mathlib.Core.Path.{_≡_, refl}
+use Prim.Native.Nat.{_-_, _≤_}
 use native.Mathlib.Omega.{arith}
+use borrow.Author.Needs.{needs}
 use Rattle.laws.specs.Below.{any}
+use Rattle.laws.proofs.Below.{any-end, any-more}
 use Rattle.format.specs.Bytes.{from}
 use Rattle.blocks.specs.Shape.{used}
-use Rattle.blocks.proofs.Extra.{any-end, any-more}
-use borrow.Author.Needs.{needs}
 use Rattle.blocks.proofs.spares.any_used.Statement.{statement}
 use Rattle.blocks.proofs.spares.any_used.Tie as tie
 

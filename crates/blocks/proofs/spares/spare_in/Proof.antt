@@ -1,15 +1,16 @@
 -- `blocks::spares::spare_in` meets its contract. Assumes nothing.
-use Prim.Native.Nat.{ℕ, _+_, _*_, _-_, _≤_}
 use mathlib.Core.Path.{_≡_, refl, sym, ap, ap₂, _∙_}
 use mathlib.Core.Bool.{_||_}
+use Prim.Native.Nat.{ℕ, _+_, _*_, _-_, _≤_}
 use native.Mathlib.Omega.{arith}
+use borrow.Author.Needs.{needs}
 use Rattle.laws.specs.Below.{any}
+use Rattle.laws.proofs.Below.{any-more}
+use Rattle.laws.proofs.Tables.{row-next, row-in}
 use Rattle.format.specs.Bytes.{from, after}
 use Rattle.blocks.specs.Shape.{used}
-use Rattle.blocks.proofs.Extra.{any-more, row-next, row-in}
 use Rattle.blocks.proofs.Places.{from-after}
 use Rattle.blocks.proofs.SpareWalk.{spare-walk}
-use borrow.Author.Needs.{needs}
 use Rattle.blocks.proofs.spares.spare_in.Statement.{statement}
 use Rattle.blocks.proofs.spares.spare_in.Tie as tie
 

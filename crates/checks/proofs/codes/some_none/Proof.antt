@@ -1,18 +1,18 @@
 -- `checks::codes::some_none` meets its contract. The invariant: the tests of the first i codes are joined. Assumes nothing.
-use Prim.Native.Nat.{ℕ, _≤_, _-_}
 use mathlib.Core.Path.{_≡_, refl, subst}
 use mathlib.Core.Bool.{false}
 use mathlib.Core.List.{List}
+use Prim.Native.Nat.{ℕ, _≤_, _-_}
 use native.Mathlib.Omega.{arith}
 use native.Mathlib.Nat.{le-antisymm}
 use lib.Dec.{eqb}
-use denote.Ref.{now}
 use borrow.Author.Needs.{needs}
 use Rattle.laws.specs.Below.{any}
+use Rattle.laws.proofs.Below.{any-more}
 use Rattle.index.specs.Index.{IsIndex, sharesNumber, placeOf}
 use Rattle.format.specs.Codes.{number}
 use Rattle.checks.specs.Rows.{codeOf}
-use Rattle.checks.proofs.Extra.{any-more}
+use denote.Ref.{now}
 use Rattle.checks.proofs.codes.some_none.Statement.{statement}
 use Rattle.checks.proofs.codes.some_none.Tie as tie
 

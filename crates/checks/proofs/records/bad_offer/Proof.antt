@@ -7,31 +7,24 @@ use Rattle.checks.proofs.records.bad_offer.Reads as reads
 use Rattle.checks.proofs.records.bad_offer.Lts as lts
 use Rattle.blocks.proofs.codes.is_code.Reads as is-code-reads
 
--- src/records.rt:27:14
 mul-at : tie.Need-mul-at
 mul-at c = search needs
 
--- src/records.rt:28:18
 mul-result : tie.Need-mul-result
 mul-result c = search needs
 
--- src/records.rt:28:18
 shared-slice-read-result : tie.Need-shared-slice-read-result
 shared-slice-read-result c = search needs
 
--- src/records.rt:28:40
 mul-result-2 : tie.Need-mul-result-2
 mul-result-2 c = search needs
 
--- src/records.rt:28:40
 shared-slice-read-result-2 : tie.Need-shared-slice-read-result-2
 shared-slice-read-result-2 c = search needs
 
--- src/records.rt:28:53
 is-code-requires : tie.Need-is-code-requires
 is-code-requires c κs = search needs
 
--- src/records.rt:23:1
 returns : tie.Need-returns
 returns c = λ j e. offer-tests j _ _ _ e (c .is-code .ensures)
 

@@ -1,15 +1,15 @@
 -- `checks::records::bad_owners` meets its contract. The invariant: the tests of the first i places are joined. Assumes nothing.
-use Prim.Native.Nat.{ℕ, _≤_, _-_}
 use mathlib.Core.Path.{_≡_, refl, subst}
+use Prim.Native.Nat.{ℕ, _≤_, _-_}
 use native.Mathlib.Omega.{arith}
 use native.Mathlib.Nat.{le-antisymm}
 use lib.ListN.{getD}
-use denote.Ref.{now}
 use borrow.Author.Needs.{needs}
 use Rattle.laws.specs.Below.{any}
+use Rattle.laws.proofs.Below.{any-more}
 use Rattle.format.specs.Job.{FileJob, badOwner}
+use denote.Ref.{now}
 use Rattle.checks.proofs.Tests.{owner-test}
-use Rattle.checks.proofs.Extra.{any-more}
 use Rattle.checks.proofs.records.bad_owners.Statement.{statement}
 use Rattle.checks.proofs.records.bad_owners.Tie as tie
 use Rattle.checks.proofs.records.bad_owners.Reads as reads
@@ -21,34 +21,27 @@ Inv-loop boxes m gowner bad₀ i₀ bad i = (i ≤ m) × ((j : FileJob) → j .b
 abbrev μ-loop : tie.MeasureT-loop
 μ-loop boxes m gowner bad₀ i₀ bad i = m - i
 
--- src/records.rt:69:5
 loop-holds : tie.Need-loop-holds Inv-loop μ-loop
 unfolding any
 loop-holds c = (omega arith, λ j e. refl)
 
--- src/records.rt:70:31
 mul-bad : tie.Need-mul-bad Inv-loop μ-loop
 mul-bad c = search needs
 
--- src/records.rt:70:31
 shared-slice-read-bad : tie.Need-shared-slice-read-bad Inv-loop μ-loop
 shared-slice-read-bad c = search needs
 
--- src/records.rt:71:9
 add-i : tie.Need-add-i Inv-loop μ-loop
 add-i c = search needs
 
--- src/records.rt:69:5
 loop-less : tie.Need-loop-less Inv-loop μ-loop
 loop-less c = search needs
 
--- src/records.rt:69:5
 loop-again : tie.Need-loop-again Inv-loop μ-loop
 loop-again c =
     let l = c .before .before in
     (omega arith, λ j e. any-more (l .loop .i) _ _ _ (l .loop .inv .1 j e) (owner-test j _ _ e))
 
--- src/records.rt:63:1
 returns : tie.Need-returns Inv-loop μ-loop
 returns c =
     let l = c .before in

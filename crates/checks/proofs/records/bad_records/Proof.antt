@@ -1,8 +1,8 @@
 -- `checks::records::bad_records` meets its contract. Assumes nothing.
 use mathlib.Core.Path.{refl}
-use denote.Ref.{now}
 use borrow.Author.Needs.{needs}
 use Rattle.format.specs.Tables.{fileTables, fileJobOf}
+use denote.Ref.{now}
 use Rattle.checks.proofs.Tests.{record-tests}
 use Rattle.checks.proofs.records.bad_records.Statement.{statement}
 use Rattle.checks.proofs.records.bad_records.Tie as tie
@@ -13,31 +13,24 @@ use Rattle.checks.proofs.records.bad_owners.Reads as bad-owners-reads
 use Rattle.checks.proofs.records.bad_tallies.Reads as bad-tallies-reads
 use Rattle.checks.proofs.sizes.size_of.Reads as size-of-reads
 
--- src/records.rt:116:9
 size-of-requires : tie.Need-size-of-requires
 size-of-requires c κs = search needs
 
--- src/records.rt:117:9
 size-of-requires-2 : tie.Need-size-of-requires-2
 size-of-requires-2 c κs = search needs
 
--- src/records.rt:118:9
 size-of-requires-3 : tie.Need-size-of-requires-3
 size-of-requires-3 c κs = search needs
 
--- src/records.rt:119:5
 bad-offers-requires : tie.Need-bad-offers-requires
 bad-offers-requires c κs = search needs
 
--- src/records.rt:120:11
 bad-owners-requires : tie.Need-bad-owners-requires
 bad-owners-requires c κs = search needs
 
--- src/records.rt:121:11
 bad-tallies-requires : tie.Need-bad-tallies-requires
 bad-tallies-requires c κs = search needs
 
--- src/records.rt:99:1
 returns : tie.Need-returns
 unfolding fileJobOf
 returns c =

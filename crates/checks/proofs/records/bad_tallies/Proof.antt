@@ -1,14 +1,14 @@
 -- `checks::records::bad_tallies` meets its contract. The invariant: the tests of the first i places are joined. Assumes nothing.
-use Prim.Native.Nat.{ℕ, _≤_, _-_}
 use mathlib.Core.Path.{_≡_, refl, subst}
+use Prim.Native.Nat.{ℕ, _≤_, _-_}
 use native.Mathlib.Omega.{arith}
 use native.Mathlib.Nat.{le-antisymm}
-use denote.Ref.{now}
 use borrow.Author.Needs.{needs}
 use Rattle.laws.specs.Below.{any}
+use Rattle.laws.proofs.Below.{any-more}
 use Rattle.format.specs.Job.{FileJob, badTally}
 use Rattle.checks.specs.Rows.{tallyOf}
-use Rattle.checks.proofs.Extra.{any-more}
+use denote.Ref.{now}
 use Rattle.checks.proofs.records.bad_tallies.Statement.{statement}
 use Rattle.checks.proofs.records.bad_tallies.Tie as tie
 use Rattle.checks.proofs.records.bad_tallies.Reads as reads
@@ -21,30 +21,24 @@ Inv-loop boxes grocers t tgrocer tbox tcode tcount bad₀ i₀ bad i = (i ≤ t)
 abbrev μ-loop : tie.MeasureT-loop
 μ-loop boxes grocers t tgrocer tbox tcode tcount bad₀ i₀ bad i = t - i
 
--- src/records.rt:91:5
 loop-holds : tie.Need-loop-holds Inv-loop μ-loop
 unfolding any
 loop-holds c = (omega arith, λ j e f. refl)
 
--- src/records.rt:92:21
 bad-tally-requires : tie.Need-bad-tally-requires Inv-loop μ-loop
 bad-tally-requires c κs = search needs
 
--- src/records.rt:93:9
 add-i : tie.Need-add-i Inv-loop μ-loop
 add-i c = search needs
 
--- src/records.rt:91:5
 loop-less : tie.Need-loop-less Inv-loop μ-loop
 loop-less c = search needs
 
--- src/records.rt:91:5
 loop-again : tie.Need-loop-again Inv-loop μ-loop
 loop-again c =
     let l = c .before .before in
     (omega arith, λ j e f. any-more (l .loop .i) _ _ _ (l .loop .inv .1 j e f) (c .bad-tally .ensures j e f))
 
--- src/records.rt:77:1
 returns : tie.Need-returns Inv-loop μ-loop
 returns c =
     let l = c .before in

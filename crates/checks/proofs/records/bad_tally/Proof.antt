@@ -6,8 +6,8 @@ use lib.ListN.{getD}
 use mir.Syntax.{w32}
 use mir.Val.{SFits}
 use mir.Facts.{toZ-ofZ}
-use denote.Ref.{now}
 use borrow.Author.Needs.{needs}
+use denote.Ref.{now}
 use Rattle.checks.proofs.Tests.{tally-tests}
 use Rattle.checks.proofs.records.bad_tally.Statement.{statement}
 use Rattle.checks.proofs.records.bad_tally.Tie as tie
@@ -16,43 +16,33 @@ use Rattle.checks.proofs.records.bad_tally.Lts as lts
 use Rattle.blocks.proofs.codes.is_code.Reads as is-code-reads
 use Rattle.checks.proofs.records.bad_count.Reads as bad-count-reads
 
--- src/records.rt:44:14
 mul-at : tie.Need-mul-at
 mul-at c = search needs
 
--- src/records.rt:45:17
 mul-result : tie.Need-mul-result
 mul-result c = search needs
 
--- src/records.rt:45:17
 shared-slice-read-result : tie.Need-shared-slice-read-result
 shared-slice-read-result c = search needs
 
--- src/records.rt:45:41
 mul-result-2 : tie.Need-mul-result-2
 mul-result-2 c = search needs
 
--- src/records.rt:45:41
 shared-slice-read-result-2 : tie.Need-shared-slice-read-result-2
 shared-slice-read-result-2 c = search needs
 
--- src/records.rt:45:53
 is-code-requires : tie.Need-is-code-requires
 is-code-requires c κs = search needs
 
--- src/records.rt:45:84
 mul-bad-count : tie.Need-mul-bad-count
 mul-bad-count c = search needs
 
--- src/records.rt:45:84
 shared-slice-copy-out-bad-count : tie.Need-shared-slice-copy-out-bad-count
 shared-slice-copy-out-bad-count c = search needs
 
--- src/records.rt:45:74
 bad-count-requires : tie.Need-bad-count-requires
 bad-count-requires c κs = search needs
 
--- src/records.rt:32:1
 returns : tie.Need-returns
 returns c =
     let s = c .before .before .before .before .before .before .before .before in

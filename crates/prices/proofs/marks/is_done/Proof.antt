@@ -4,11 +4,12 @@ use Prim.Native.Nat.{ℕ, _*_, _<_}
 use native.Mathlib.Omega.{arith}
 use lib.Dec.{eqb}
 use lib.ListN.{getD}
-use denote.Ref.{now}
+use borrow.Author.Needs.{needs}
 use Rattle.model.specs.Steps.{kindOf}
 use Rattle.prices.specs.Marks.{placeOf}
-use Rattle.prices.proofs.Marked.{place-in, marks-few, number-kind, done-word}
-use borrow.Author.Needs.{needs}
+use denote.Ref.{now}
+use Rattle.model.proofs.Cursor.{number-kind}
+use Rattle.prices.proofs.Marked.{place-in, marks-few, done-word}
 use Rattle.prices.proofs.marks.is_done.Statement.{statement}
 use Rattle.prices.proofs.marks.is_done.Tie as tie
 

@@ -3,11 +3,12 @@ use mathlib.Core.Path.{_≡_, sym, ap, _∙_}
 use Prim.Native.Nat.{ℕ, _*_, _<_}
 use native.Mathlib.Omega.{arith}
 use lib.ListN.{set}
-use denote.Ref.{now}
+use borrow.Author.Needs.{needs}
 use Rattle.model.specs.Steps.{number, kindOf}
 use Rattle.prices.specs.Marks.{placeOf}
-use Rattle.prices.proofs.Marked.{place-in, marks-few, number-kind, marks-set}
-use borrow.Author.Needs.{needs}
+use denote.Ref.{now}
+use Rattle.model.proofs.Cursor.{number-kind}
+use Rattle.prices.proofs.Marked.{place-in, marks-few, marks-set}
 use Rattle.prices.proofs.marks.mark.Statement.{statement}
 use Rattle.prices.proofs.marks.mark.Tie as tie
 

@@ -1,10 +1,10 @@
 -- `prices::receive::receive_one` meets its contract. Assumes nothing.
 use mathlib.Core.Path.{_≡_, sym, _∙_}
 use mathlib.Core.Bool.{Bool, true, false}
-use denote.Ref.{now}
-use Rattle.words.specs.Message.{wordIn}
-use Rattle.prices.proofs.Extra.{cond-yes, cond-no}
 use borrow.Author.Needs.{needs}
+use Rattle.laws.proofs.Bools.{cond-yes, cond-no}
+use Rattle.words.specs.Message.{wordIn}
+use denote.Ref.{now}
 use Rattle.prices.proofs.receive.receive_one.Statement.{statement}
 use Rattle.prices.proofs.receive.receive_one.Tie as tie
 

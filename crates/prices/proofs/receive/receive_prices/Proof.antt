@@ -5,18 +5,18 @@ use mathlib.Core.List.{List}
 use Prim.Native.Nat.{ℕ, _<_, _≤_, _+_, _-_, _*_}
 use native.Mathlib.Omega.{arith}
 use native.Mathlib.Nat.{le-antisymm, mul-le-mul, mul-le-mul-right}
-use borrow.Author.Needs.{needs}
 use lib.ListN.{length, getD}
-use denote.Ref.{now}
+use borrow.Author.Needs.{needs}
 use Rattle.laws.specs.Tables.{cell}
-use Rattle.laws.proofs.Tables.{cell-in}
-use Rattle.laws.proofs.Loops.{guarded, guarded-more, guarded-next, guarded-none}
+use Rattle.laws.proofs.Tables.{cell-in, cell-at}
+use Rattle.laws.proofs.Loops.{guarded, guarded-more, guarded-next, guarded-none, row-stored}
+use Rattle.laws.proofs.Bools.{cond-no}
 use Rattle.links.specs.Links.{Skips}
-use Rattle.links.proofs.Walks.{goes-on, guarded-passed}
 use Rattle.words.specs.Message.{wordIn}
-use Rattle.words.proofs.Message.{word-owner}
 use Rattle.prices.specs.Prices.{receivedKnown, receivedTransit}
-use Rattle.prices.proofs.Extra.{cond-no, cell-at, row-recell}
+use denote.Ref.{now}
+use Rattle.links.proofs.Walks.{goes-on, guarded-passed}
+use Rattle.words.proofs.Message.{word-owner}
 use Rattle.prices.proofs.receive.receive_prices.Statement.{statement}
 use Rattle.prices.proofs.receive.receive_prices.Tie as tie
 
@@ -165,14 +165,11 @@ returns c =
     let s = c .before .before .before .before .before .before in
     let inv = c .before .loop .inv in
     let end : c .before .loop .o ≡ s .args .n = le-antisymm (inv .0) (c .loop-test .left) in (
-      row-recell (s .args .k) (s .args .n) (s .args .a) (due s) (cell (s .args .k) (s .args .n) (now (s .args .transit)) 0 (s .args .a)) (came s)
-          (now (s .args .known)) (c .before .loop .known) 0 (s .pre .0 .a-in) (s .pre .0 .known-long) (inv .1)
-          (λ o l. sym (cell-at (s .args .k) (s .args .n) (now (s .args .transit)) 0 (s .args .a) o (s .pre .0 .a-in) l))
-          (λ i. inv .3 i ∙ ap (λ (m : ℕ). cond (guarded (row s) m (due s) i) (came s i) (knew s i)) end),
-      row-recell (s .args .k) (s .args .n) (s .args .a) (due s) (λ o. 0) (λ i. 0)
-          (now (s .args .transit)) (c .before .loop .transit) 0 (s .pre .0 .a-in) (s .pre .0 .transit-long) (inv .2)
-          (λ o l. refl)
-          (λ i. inv .4 i ∙ ap (λ (m : ℕ). cond (guarded (row s) m (due s) i) 0 (came s i)) end),
+      row-stored (s .args .k) (s .args .n) (s .args .a) (row s) (c .before .loop .o) (now (s .args .known)) (c .before .loop .known) 0
+          (due s) (came s) (cell (s .args .k) (s .args .n) (now (s .args .transit)) 0 (s .args .a)) (s .pre .0 .a-in) (s .pre .0 .known-long) refl end (inv .1) (inv .3)
+          (λ o l. sym (cell-at (s .args .k) (s .args .n) (now (s .args .transit)) 0 (s .args .a) o (s .pre .0 .a-in) l)),
+      row-stored (s .args .k) (s .args .n) (s .args .a) (row s) (c .before .loop .o) (now (s .args .transit)) (c .before .loop .transit) 0
+          (due s) (λ i. 0) (λ o. 0) (s .pre .0 .a-in) (s .pre .0 .transit-long) refl end (inv .2) (inv .4) (λ o l. refl),
     )
 
 pub receive-prices-spec : {M : Type 1} → statement M

@@ -1,11 +1,12 @@
 -- `prices::send::send_one` meets its contract. Assumes nothing.
 use mathlib.Core.Path.{_≡_, sym, _∙_}
 use mathlib.Core.Bool.{Bool, true, false}
-use denote.Ref.{now}
-use Rattle.laws.specs.Below.{words}
-use Rattle.words.specs.Message.{wordIn}
-use Rattle.prices.proofs.Extra.{cond-yes, cond-no, only-yes, only-no}
 use borrow.Author.Needs.{needs}
+use Rattle.laws.specs.Below.{words}
+use Rattle.laws.proofs.Bools.{cond-yes, cond-no}
+use Rattle.laws.proofs.Sums.{only-yes, only-no}
+use Rattle.words.specs.Message.{wordIn}
+use denote.Ref.{now}
 use Rattle.prices.proofs.send.send_one.Statement.{statement}
 use Rattle.prices.proofs.send.send_one.Tie as tie
 

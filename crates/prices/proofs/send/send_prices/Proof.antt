@@ -5,20 +5,20 @@ use mathlib.Core.List.{List}
 use Prim.Native.Nat.{ℕ, _<_, _≤_, _+_, _-_, _*_}
 use native.Mathlib.Omega.{arith}
 use native.Mathlib.Nat.{le-antisymm, mul-le-mul, mul-le-mul-right}
-use borrow.Author.Needs.{needs}
 use lib.ListN.{length, getD}
-use denote.Ref.{now}
+use borrow.Author.Needs.{needs}
 use Rattle.laws.specs.Below.{count}
 use Rattle.laws.specs.Tables.{cell}
-use Rattle.laws.proofs.Below.{count-next, count-le, only-le}
-use Rattle.laws.proofs.Tables.{cell-in}
-use Rattle.laws.proofs.Loops.{guarded, guarded-more, guarded-none}
+use Rattle.laws.proofs.Below.{count-next, count-le, only-le, count-start}
+use Rattle.laws.proofs.Tables.{cell-in, cell-at}
+use Rattle.laws.proofs.Loops.{guarded, guarded-more, guarded-none, row-stored}
+use Rattle.laws.proofs.Bools.{cond-no}
 use Rattle.links.specs.Links.{Skips}
-use Rattle.links.proofs.Walks.{goes-on, count-passed, guarded-passed}
 use Rattle.words.specs.Message.{wordIn}
-use Rattle.words.proofs.Message.{word-owner}
 use Rattle.prices.specs.Prices.{sentTransit}
-use Rattle.prices.proofs.Extra.{cond-no, count-start, cell-at, row-recell}
+use denote.Ref.{now}
+use Rattle.links.proofs.Walks.{goes-on, count-passed, guarded-passed}
+use Rattle.words.proofs.Message.{word-owner}
 use Rattle.prices.proofs.send.send_prices.Statement.{statement}
 use Rattle.prices.proofs.send.send_prices.Tie as tie
 
@@ -179,9 +179,8 @@ returns c =
     let s = c .before .before .before .before .before .before in
     let inv = c .before .loop .inv in
     let end : c .before .loop .o ≡ s .args .n = le-antisymm (inv .0) (c .loop-test .left) in (
-      row-recell (s .args .k) (s .args .n) (s .args .b) (due s) (cell (s .args .k) (s .args .n) (now (s .args .known)) 0 (s .args .a)) (new s)
-          (now (s .args .transit)) (c .before .loop .transit) 0 (s .pre .0 .b-in) (s .pre .0 .transit-long) (inv .2) (row-word s)
-          (λ i. inv .3 i ∙ ap (λ (m : ℕ). cond (guarded (to s) m (due s) i) (new s i) (old s i)) end),
+      row-stored (s .args .k) (s .args .n) (s .args .b) (to s) (c .before .loop .o) (now (s .args .transit)) (c .before .loop .transit) 0
+          (due s) (new s) (cell (s .args .k) (s .args .n) (now (s .args .known)) 0 (s .args .a)) (s .pre .0 .b-in) (s .pre .0 .transit-long) refl end (inv .2) (inv .3) (row-word s),
       inv .1 ∙ ap (λ (m : ℕ). count m (due s)) end,
     )
 

@@ -8,16 +8,18 @@ use native.Mathlib.Omega.{arith}
 use lib.Dec.{ltb}
 use lib.ListN.{length, getD}
 use lib.IntN.{ℤ, pos, natAbs, _+ℤ_}
-use Rattle.laws.proofs.Loops.{guarded, guarded-more, guarded-next, guarded-none}
 use borrow.Author.Needs.{needs}
+use Rattle.laws.proofs.Loops.{guarded, guarded-more, guarded-next, guarded-none, front-more, front-next, front-none, row-stored}
+use Rattle.laws.proofs.Bools.{cond-no}
+use Rattle.laws.proofs.Tables.{row-in}
 use Rattle.links.specs.Links.{Skips}
-use Rattle.links.proofs.Walks.{guarded-passed}
 use Rattle.totals.specs.Credit.{credited, cleared}
+use Rattle.links.proofs.Walks.{guarded-passed}
 use denote.Ref.{now}
-use Rattle.totals.proofs.Extra.{around-at, cond-no, front-more, front-next, front-none, row-in, row-stored}
 use Rattle.totals.proofs.Credits.{credit-stored}
 use Rattle.totals.proofs.Walks.{front-over, goes-to, credit-owner}
 use Rattle.totals.proofs.credit.credit.Statement.{statement}
+use Rattle.model.proofs.Step.{around-at}
 use Rattle.totals.proofs.credit.credit.Tie as tie
 
 abbrev Inv-loop : tie.InvT-loop

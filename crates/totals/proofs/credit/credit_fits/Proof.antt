@@ -7,17 +7,18 @@ use native.Mathlib.Omega.{arith}
 use lib.Dec.{leb}
 use lib.IntN.{ℤ, natAbs}
 use borrow.Author.Tests.{not-true, not-false}
+use borrow.Author.Needs.{needs}
 use Rattle.laws.specs.Below.{all}
 use Rattle.laws.proofs.Bools.{and-true}
-use Rattle.laws.proofs.Below.{all-next, all-fails}
+use Rattle.laws.proofs.Below.{all-next, all-fails, all-start}
 use Rattle.laws.proofs.Signed.{read64}
-use borrow.Author.Needs.{needs}
+use Rattle.laws.proofs.Tables.{row-in}
 use Rattle.model.specs.Ranges.{maxAmount}
 use Rattle.totals.specs.Credit.{credited, creditWord}
 use denote.Ref.{now}
-use Rattle.totals.proofs.Extra.{all-zero, around-at, row-in}
 use Rattle.totals.proofs.Credits.{credit-at}
 use Rattle.totals.proofs.credit.credit_fits.Statement.{statement}
+use Rattle.model.proofs.Step.{around-at}
 use Rattle.totals.proofs.credit.credit_fits.Tie as tie
 
 abbrev Inv-loop : tie.InvT-loop
@@ -59,7 +60,7 @@ row-start-requires : tie.Need-row-start-requires Inv-loop μ-loop
 row-start-requires c κs = (omega (arith, c .before .pre .0 .1), omega (arith, c .before .pre .0 .0, c .before .pre .0 .2))
 
 loop-holds : tie.Need-loop-holds Inv-loop μ-loop
-loop-holds c = (search needs, all-zero (within (c .before .before)))
+loop-holds c = (search needs, all-start (within (c .before .before)))
 
 add-credit-word : tie.Need-add-credit-word Inv-loop μ-loop
 add-credit-word c = omega (arith, place c, entry c .pre .1 .0 .long)

@@ -1,15 +1,15 @@
 -- `totals::credit::credit_one` meets its contract. Assumes nothing.
-use mathlib.Core.Path.{_≡_, sym, ap, _∙_}
+use mathlib.Core.Path.{_≡_, refl, sym, ap, _∙_}
 use mathlib.Core.Bool.{Bool, true, false}
 use lib.Dec.{lit≤}
 use lib.ListN.{getD, set}
 use lib.IntN.{ℤ, pos, _+ℤ_}
 use borrow.Author.Tests.{not-true, not-false}
-use Rattle.laws.proofs.Signed.{read64}
-use Rattle.totals.specs.Credit.{credited}
 use borrow.Author.Needs.{needs}
+use Rattle.laws.proofs.Signed.{read64, read-sum, sum-fits}
+use Rattle.laws.proofs.Bools.{cond-yes, cond-no}
+use Rattle.totals.specs.Credit.{credited}
 use denote.Ref.{now}
-use Rattle.totals.proofs.Extra.{cond-yes, cond-no, sum-read, sum-fits}
 use Rattle.totals.proofs.credit.credit_one.Statement.{statement}
 use Rattle.totals.proofs.credit.credit_one.Tie as tie
 
@@ -91,7 +91,7 @@ returns-2 c =
     let is : test s ≡ true = sym (told (c .before .before .before .before)) ∙ not-false (c .before .before .before .before .is-credited .result) (c .before .before .before .if1 .left) in (
       sym (cond-yes (test s) (set (now (s .args .source)) (s .args .at) (pos 0)) (now (s .args .source)) is),
       ap (λ (z : ℤ). set (now (s .args .statement)) (s .args .g) z)
-          (read64 (c .plus .result) (c .plus .ok) ∙ c .plus .ensures ∙ sum-read (old s) (total s) (c .before .before .plus-arg .given) (c .before .plus-arg2 .given))
+          (read64 (c .plus .result) (c .plus .ok) ∙ c .plus .ensures ∙ read-sum {x = old s} {y = total s} (c .before .before .plus-arg .given) (c .before .plus-arg2 .given) refl refl)
           ∙ sym (cond-yes (test s) (set (now (s .args .statement)) (s .args .g) (old s +ℤ total s)) (now (s .args .statement)) is),
     )
 

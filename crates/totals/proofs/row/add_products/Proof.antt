@@ -7,16 +7,17 @@ use native.Mathlib.Nat.{le-antisymm}
 use native.Mathlib.Omega.{arith}
 use lib.ListN.{length, getD, length-set}
 use lib.IntN.{ℤ, pos, natAbs, _+ℤ_, +ℤ-idr}
-use Rattle.laws.specs.Below.{amounts, sum}
-use Rattle.laws.proofs.Loops.{share, pile-more}
 use borrow.Author.Needs.{needs}
+use Rattle.laws.specs.Below.{amounts, sum}
+use Rattle.laws.proofs.Loops.{share, pile-more, pile-size}
+use Rattle.laws.proofs.Sums.{sum-start, sum-over}
 use Rattle.links.specs.Links.{Skips}
 use Rattle.totals.specs.Row.{Tallies, tallies, brings}
 use denote.Ref.{now}
-use Rattle.totals.proofs.Extra.{around-at, sum-zero, pile-size}
 use Rattle.totals.proofs.Rows.{tally-in, brought-abs, grocer-cell, row-piled}
-use Rattle.totals.proofs.Walks.{sum-over, goes-to, other-share}
+use Rattle.totals.proofs.Walks.{goes-to, other-share}
 use Rattle.totals.proofs.row.add_products.Statement.{statement}
+use Rattle.model.proofs.Step.{around-at}
 use Rattle.totals.proofs.row.add_products.Tie as tie
 
 abbrev Inv-loop : tie.InvT-loop
@@ -110,6 +111,7 @@ first-of c =
     subst (λ (x : ℕ). Skips (s .args .t) (now (s .args .holder)) (s .args .a) 0 x) (sym (c .index2 .ensures ∙ ap (λ (b : ℕ). getD (now (s .args .first)) b 0) (c .before .before .index .ensures))) (s .pre .1 .1 .1 .1 .begins (s .args .a) (omega (arith, s .pre .0 .boxes-in, s .pre .1 .1 .1 .0)))
 
 loop-holds : tie.Need-loop-holds Inv-loop μ-loop
+unfolding amounts
 loop-holds c =
     let r = rows c in
     let s = entry r in
@@ -118,7 +120,7 @@ loop-holds c =
     let piled : ℕ → ℕ → ℤ = share (place s (base-of r)) (brought s (at-of r)) in (
       k .to,
       refl,
-      λ p. sym (ap (λ (z : ℤ). getD (now (s .args .working)) p (pos 0) +ℤ z) (sum-over amounts 0 i (piled p) (k .from) (none s (at-of r) (base-of r) p 0 i k) ∙ sum-zero (piled p)) ∙ +ℤ-idr (getD (now (s .args .working)) p (pos 0))),
+      λ p. sym (ap (λ (z : ℤ). getD (now (s .args .working)) p (pos 0) +ℤ z) (sum-over amounts 0 i (piled p) (k .from) (none s (at-of r) (base-of r) p 0 i k) ∙ sum-start amounts (piled p)) ∙ +ℤ-idr (getD (now (s .args .working)) p (pos 0))),
       k .hits,
     )
 

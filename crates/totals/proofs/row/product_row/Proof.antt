@@ -6,13 +6,13 @@ use native.Mathlib.Nat.{le-antisymm}
 use native.Mathlib.Omega.{arith}
 use lib.ListN.{length, getD, length-set}
 use lib.IntN.{ℤ, pos, natAbs, _+ℤ_, +ℤ-idr}
-use Rattle.laws.specs.Below.{amounts, sum}
-use Rattle.laws.proofs.Loops.{share, pile-more}
-use Rattle.laws.proofs.Tables.{is-tabulate}
 use borrow.Author.Needs.{needs}
+use Rattle.laws.specs.Below.{amounts, sum}
+use Rattle.laws.proofs.Loops.{share, pile-more, pile-size}
+use Rattle.laws.proofs.Tables.{is-tabulate}
+use Rattle.laws.proofs.Sums.{sum-start}
 use Rattle.totals.specs.Row.{Tallies, tallies, brings, raised, productRow}
 use denote.Ref.{now}
-use Rattle.totals.proofs.Extra.{sum-zero, pile-size}
 use Rattle.totals.proofs.Rows.{tally-in, brought-abs, brought-sum, row-word, row-size}
 use Rattle.totals.proofs.row.product_row.Statement.{statement}
 use Rattle.totals.proofs.row.product_row.Tie as tie
@@ -74,10 +74,11 @@ row-start-requires : tie.Need-row-start-requires Inv-loop μ-loop
 row-start-requires c κs = let s = c .before .before .before .before .before .before in (s .pre .0 .offers-in, omega (arith, s .pre .0 .boxes-in, s .pre .1 .1 .1))
 
 loop-holds : tie.Need-loop-holds Inv-loop μ-loop
+unfolding amounts
 loop-holds c =
     let s = c .before .before .before .before .before .before .before in
     let row = c .before .row-at .result in
-    (search needs, search needs, λ g. sym (ap (λ (z : ℤ). getD row g (pos 0) +ℤ z) (sum-zero (share (place s) (brought s (c .row-start .result)) g)) ∙ +ℤ-idr (getD row g (pos 0))))
+    (search needs, search needs, λ g. sym (ap (λ (z : ℤ). getD row g (pos 0) +ℤ z) (sum-start amounts (share (place s) (brought s (c .row-start .result)) g)) ∙ +ℤ-idr (getD row g (pos 0))))
 
 slice-aggregate-add-tally : tie.Need-slice-aggregate-add-tally Inv-loop μ-loop
 slice-aggregate-add-tally c = sym (c .before .before .loop .inv .1)

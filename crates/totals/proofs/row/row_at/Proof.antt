@@ -8,13 +8,13 @@ use lib.ListN.{length, getD, length-set}
 use lib.Dec.{ltb}
 use lib.IntN.{pos}
 use borrow.Author.Tests.{le-ltb}
+use borrow.Author.Needs.{needs}
 use Rattle.laws.proofs.Signed.{read64}
 use Rattle.laws.proofs.Loops.{getD-zeros, stored-more, front-here, front-else}
-use Rattle.laws.proofs.Tables.{is-tabulate}
-use borrow.Author.Needs.{needs}
+use Rattle.laws.proofs.Tables.{is-tabulate, row-in, cell-in-row}
+use Rattle.laws.proofs.Bools.{cond-no}
 use Rattle.totals.specs.Row.{rowOf}
 use denote.Ref.{now}
-use Rattle.totals.proofs.Extra.{row-in, cell-in-row, cond-no}
 use Rattle.totals.proofs.row.row_at.Statement.{statement}
 use Rattle.totals.proofs.row.row_at.Tie as tie
 

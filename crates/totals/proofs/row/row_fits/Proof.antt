@@ -8,14 +8,13 @@ use lib.ListN.{getD}
 use lib.Dec.{leb}
 use lib.IntN.{ℤ, pos, natAbs}
 use borrow.Author.Tests.{not-true, not-false}
+use borrow.Author.Needs.{needs}
 use Rattle.laws.specs.Below.{all}
 use Rattle.laws.proofs.Signed.{read64}
-use Rattle.laws.proofs.Below.{all-next, all-fails}
+use Rattle.laws.proofs.Below.{all-next, all-fails, all-start}
 use Rattle.laws.proofs.Bools.{and-true}
-use borrow.Author.Needs.{needs}
 use Rattle.model.specs.Ranges.{maxAmount, around}
 use denote.Ref.{now}
-use Rattle.totals.proofs.Extra.{all-zero}
 use Rattle.totals.proofs.row.row_fits.Statement.{statement}
 use Rattle.totals.proofs.row.row_fits.Tie as tie
 
@@ -35,7 +34,7 @@ word c =
     ∙ ap (λ (z : ℤ). leb (natAbs z) maxAmount) (read64 (getD (now (c .before .before .before .before .args .row)) (c .before .before .before .loop .g) (pos 0)) (c .before .amount-fits-arg .given))
 
 loop-holds : tie.Need-loop-holds Inv-loop μ-loop
-loop-holds c = (search needs, all-zero _)
+loop-holds c = (search needs, all-start _)
 
 mul-amount-fits : tie.Need-mul-amount-fits Inv-loop μ-loop
 mul-amount-fits c = search needs

@@ -4,11 +4,12 @@ use mathlib.Core.Bool.{Bool, true, false}
 use lib.ListN.{getD, set}
 use lib.IntN.{ℤ, pos}
 use borrow.Author.Tests.{not-true, not-false}
-use Rattle.laws.proofs.Signed.{read64}
-use Rattle.words.specs.Message.{wordIn}
 use borrow.Author.Needs.{needs}
+use Rattle.laws.proofs.Signed.{read64}
+use Rattle.laws.proofs.Bools.{cond-yes, cond-no}
+use Rattle.laws.proofs.Below.{counts-one, counts-none}
+use Rattle.words.specs.Message.{wordIn}
 use denote.Ref.{now}
-use Rattle.totals.proofs.Extra.{cond-yes, cond-no, only-one, only-none}
 use Rattle.totals.proofs.send.send_one.Statement.{statement}
 use Rattle.totals.proofs.send.send_one.Tie as tie
 
@@ -39,7 +40,7 @@ returns : tie.Need-returns
 returns c =
     let s = c .before .before .before .before .before in
     let is : test s ≡ false = sym (told (c .before)) ∙ not-true (c .before .in-message .result) (c .if1 .taken) in (
-      only-none (test s) is,
+      sym (counts-none is),
       sym (cond-no (test s) (set (now (s .args .working)) (s .args .at) (pos 0)) (now (s .args .working)) is),
       sym (cond-no (test s) (set (now (s .args .transit)) (s .args .at) (getD (now (s .args .working)) (s .args .at) (pos 0))) (now (s .args .transit)) is),
     )
@@ -73,7 +74,7 @@ returns-2 c =
     let s = c .before .before .before .before .before .before in
     let w = now (s .args .working) in
     let is : test s ≡ true = sym (told (c .before .before)) ∙ not-false (c .before .before .in-message .result) (c .before .if1 .left) in (
-      only-one (test s) is,
+      sym (counts-one is),
       sym (cond-yes (test s) (set w (s .args .at) (pos 0)) w is),
       ap (λ (z : ℤ). set (now (s .args .transit)) (s .args .at) z) (read64 (getD w (s .args .at) (pos 0)) (c .v .given))
           ∙ sym (cond-yes (test s) (set (now (s .args .transit)) (s .args .at) (getD w (s .args .at) (pos 0))) (now (s .args .transit)) is),

@@ -7,18 +7,19 @@ use native.Mathlib.Nat.{le-antisymm}
 use native.Mathlib.Omega.{arith}
 use lib.ListN.{length, getD}
 use lib.IntN.{ℤ, pos}
+use borrow.Author.Needs.{needs}
 use Rattle.laws.specs.Below.{count}
 use Rattle.laws.specs.Tables.{cell}
-use Rattle.laws.proofs.Below.{count-next, count-le, only-le}
-use Rattle.laws.proofs.Loops.{guarded, guarded-more, guarded-next, guarded-none}
-use borrow.Author.Needs.{needs}
+use Rattle.laws.proofs.Below.{count-next, count-le, only-le, count-start}
+use Rattle.laws.proofs.Loops.{guarded, guarded-more, guarded-next, guarded-none, row-stored}
+use Rattle.laws.proofs.Bools.{cond-no}
+use Rattle.laws.proofs.Tables.{row-in, cell-at}
 use Rattle.links.specs.Links.{Skips}
-use Rattle.links.proofs.Walks.{count-passed, guarded-passed}
 use Rattle.words.specs.Message.{wordIn}
-use Rattle.words.proofs.Message.{word-owner}
 use Rattle.totals.specs.Credit.{cleared, sentTotals}
+use Rattle.links.proofs.Walks.{count-passed, guarded-passed}
+use Rattle.words.proofs.Message.{word-owner}
 use denote.Ref.{now}
-use Rattle.totals.proofs.Extra.{count-start, cond-no, row-in, row-stored, cell-at}
 use Rattle.totals.proofs.Walks.{goes-to}
 use Rattle.totals.proofs.send.send_totals.Statement.{statement}
 use Rattle.totals.proofs.send.send_totals.Tie as tie

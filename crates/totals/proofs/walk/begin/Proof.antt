@@ -1,11 +1,10 @@
 -- `totals::walk::begin` meets its contract. Assumes nothing.
 use mathlib.Core.Path.{sym, ap, _∙_, subst}
 use Prim.Native.Nat.{ℕ}
-use native.Mathlib.Omega.{arith}
 use lib.ListN.{getD}
 use borrow.Author.Needs.{needs}
-use denote.Ref.{now}
 use Rattle.links.specs.Links.{Skips}
+use denote.Ref.{now}
 use Rattle.totals.proofs.walk.begin.Statement.{statement}
 use Rattle.totals.proofs.walk.begin.Tie as tie
 
