@@ -20,15 +20,17 @@ use Rattle.model.specs.Step.{asked, isKind, stepOf, moved}
 use Rattle.model.specs.Words.{sends}
 use Rattle.model.specs.Run.{nth, stepAt, places, listed, readyCount, pick}
 use Rattle.prices.specs.Marks.{MarksIn, stepsDone}
+use Rattle.refuse.specs.Rules.{permittedBy}
 use Rattle.walk.specs.Walk.{PlaceIn, here, listedBy, WalkIn, Found}
-use Rattle.walk.specs.Rows.{IsRows, IsRowsBut}
+use Rattle.walk.specs.Rows.{IsRows, RowsBefore}
 use Rattle.apply.specs.Apply.{Applies}
 use Rattle.picks.specs.Way.{OnWay, Made, Kept, NoneBefore, Passed}
 use Rattle.model.proofs.Step.{range}
 use Rattle.model.proofs.Lent.{state-long}
 use Rattle.model.proofs.Reach.{effect-done}
 use Rattle.walk.proofs.InModel.{marks-are, step-here, listed-is, count-is, nth-is-model}
-use Rattle.walk.proofs.Changed.{rows-kept}
+use Rattle.refuse.proofs.InModel.{permitted-is}
+use Rattle.walk.proofs.Changed.{rows-before}
 use Rattle.picks.proofs.Left.{picked, first-picked, some-ready, none-more, none-done}
 use Rattle.picks.proofs.Way.{way-whole, way-applies, moved-view, moved-way, moved-kept, kept-none}
 
@@ -107,7 +109,7 @@ module _ (f : JobTables) (t : StateTables) (o : OnWay f t) (needs sharers : List
           rw (drop-cons cs i 0 l, add-one i)
           (moved-kept f t o kind a b choice-kind choice-permitted t′ et (getD cs i 0 ∷ drop (suc i) cs) m n m′ n′ some-left (ap (pick (jobOf f) (view (jobOf f) t .done)) (sym h) ∙ choice-picks) em en)
 
-      -- After it the rows that it cannot change are right.
+      -- After it the rows are those of before.
       module _ (t′ : StateTables) (et : t′ ≡ moved f t (asked kind a b)) where
         choice-marks : stepsDone (f .boxes) (t′ .done) ≡ mark (stepsDone (f .boxes) (t .done)) (kindOf kind) a b
         unfolding jobOf
@@ -117,8 +119,15 @@ module _ (f : JobTables) (t : StateTables) (o : OnWay f t) (needs sharers : List
             ∙ effect-done (jobOf f) (view (jobOf f) t) (kindOf kind) a b
             ∙ ap (λ (d : Steps). mark d (kindOf kind) a b) (sym (marks-are (jobOf f) t))
 
-        pub choice-rows : (rows : List ℕ) → IsRows (f .boxes) prices totals (t .done) rows → IsRowsBut (f .boxes) kind a b prices totals (t′ .done) rows
-        choice-rows rows h = rows-kept (f .boxes) kind a b prices totals (t .done) (t′ .done) rows (some-box f (o .job-in)) (g .place-in .kind-from) (g .place-in .kind-to) choice-marks h
+        choice-open : permittedBy (f .boxes) prices totals (stepsDone (f .boxes) (t .done)) (kindOf kind) a b ≡ true
+        unfolding jobOf
+        choice-open =
+            permitted-is (jobOf f) prices totals (w .prices-are) (w .totals-are) (range f (o .job-in) .boxes≤) (stepsDone (f .boxes) (t .done)) (kindOf kind) a b (g .place-in .a-in) (g .place-in .b-in)
+            ∙ ap (λ (d : Steps). permitted (jobOf f) d (kindOf kind) a b) (marks-are (jobOf f) t)
+            ∙ choice-permitted
+
+        pub choice-rows : (rows : List ℕ) → IsRows (f .boxes) prices totals (t .done) rows → RowsBefore (f .boxes) kind a b prices totals (t′ .done) rows
+        choice-rows rows h = rows-before (f .boxes) kind a b prices totals (t .done) (t′ .done) rows choice-marks choice-open h
 
         pub choice-marks-in : MarksIn (f .boxes) kind a b (t′ .done)
         unfolding jobOf stateLengths

@@ -1,49 +1,71 @@
--- The whole answer, by the tests that led to it. Assumes nothing.
-use mathlib.Core.Path.{_≡_, sym, _∙_}
-use mathlib.Core.Bool.{Bool, true, false, _&&_, _||_, not}
-use mathlib.Core.List.{[], _∷_}
+-- The conditions 20 and 21, and the whole answer in two parts. Assumes nothing.
+use mathlib.Core.Path.{_≡_, refl, sym, _∙_}
+use mathlib.Core.Bool.{Bool, true, false, cond, _&&_, _||_, not}
 use Prim.Native.Nat.{ℕ}
-use borrow.Author.Tests.{not-false}
+use native.Mathlib.Omega.{arith}
 use Rattle.laws.specs.Checks.{firstMet}
-use Rattle.laws.proofs.Bools.{and-l, and-r}
-use Rattle.laws.proofs.Checks.{none-of}
+use Rattle.laws.proofs.Bools.{and-l, and-r, or-off}
 use Rattle.model.specs.Tables.{JobTables, jobOf, jobLengths, jobShort, StateTables, stateLengths, stateShort, lentShort}
 use Rattle.model.specs.Ranges.{jobInRange, stateInRange}
 use Rattle.model.specs.Step.{Asked, refusals, answer}
 use Rattle.tables.specs.Sizes.{sizes}
-use Rattle.refuse.specs.Late.{laterRules, Held}
+use Rattle.refuse.specs.Late.{earlyRules, laterRules, Held}
 use Rattle.tables.proofs.Sizes.{short-sizes, range-sizes}
+use Rattle.refuse.proofs.Extra.{met-first}
 
-module _ (f : JobTables) (t : StateTables) (q : Asked) (x y : Bool) (ex : x ≡ jobShort (jobOf f) (jobLengths f))
+module _ (f : JobTables) (t : StateTables) (x y : Bool) (ex : x ≡ jobShort (jobOf f) (jobLengths f))
     (ey : y ≡ stateShort (jobOf (sizes (f .boxes) (f .grocers) (f .offers))) (stateLengths t)) where
   -- 20: a table is lent short.
-  pub refused-short : (x || y) ≡ true → 20 ≡ answer f t q
-  unfolding answer refusals firstMet lentShort
-  refused-short h = rw (sym ex, sym (ey ∙ short-sizes f (stateLengths t)), h)
+  pub met-short : (x || y) ≡ true → 20 ≡ firstMet (earlyRules f t)
+  unfolding earlyRules firstMet lentShort
+  met-short h = rw (sym ex, sym (ey ∙ short-sizes f (stateLengths t)), h)
 
   module _ (h : (x || y) ≡ false) where
     pub job-long : jobShort (jobOf f) (jobLengths f) ≡ false
-    job-long = sym ex ∙ none-of (x ∷ y ∷ []) h .0
+    job-long = sym ex ∙ or-off x y h .0
 
     pub state-long : stateShort (jobOf (sizes (f .boxes) (f .grocers) (f .offers))) (stateLengths t) ≡ false
-    state-long = sym ey ∙ none-of (x ∷ y ∷ []) h .1 .0
+    state-long = sym ey ∙ or-off x y h .1
 
     module _ (u v : Bool) (eu : u ≡ jobInRange f) (ev : v ≡ stateInRange (sizes (f .boxes) (f .grocers) (f .offers)) t) where
       -- 21: a word is out of range.
-      pub refused-range : not (u && v) ≡ true → 21 ≡ answer f t q
-      unfolding answer refusals firstMet lentShort
-      refused-range g = rw (sym ex, sym (ey ∙ short-sizes f (stateLengths t)), h, sym eu, sym (ev ∙ range-sizes f t), g)
+      pub met-range : not (u && v) ≡ true → 21 ≡ firstMet (earlyRules f t)
+      unfolding earlyRules firstMet lentShort
+      met-range g = rw (sym ex, sym (ey ∙ short-sizes f (stateLengths t)), h, sym eu, sym (ev ∙ range-sizes f t), g)
 
-      module _ (g : not (u && v) ≡ false) where
-        pub held : Held f t
-        held = record {
-          job-long = job-long;
-          state-long = sym (short-sizes f (stateLengths t)) ∙ state-long;
-          job-in = sym eu ∙ and-l u v (not-false (u && v) g);
-          state-in = sym (range-sizes f t) ∙ sym ev ∙ and-r u v (not-false (u && v) g);
+      -- Neither.
+      pub met-none : not (u && v) ≡ false → 0 ≡ firstMet (earlyRules f t)
+      unfolding earlyRules firstMet lentShort
+      met-none g = rw (sym ex, sym (ey ∙ short-sizes f (stateLengths t)), h, sym eu, sym (ev ∙ range-sizes f t), g)
+
+module _ (f : JobTables) (t : StateTables) where
+  -- One of 20 and 21 is met: it is the answer.
+  pub answer-early : (q : Asked) (r : ℕ) → r ≡ firstMet (earlyRules f t) → (r ≡ 0 → ⊥) → r ≡ answer f t q
+  unfolding answer refusals earlyRules laterRules
+  answer-early q r e n = e ∙ sym (met-first (earlyRules f t) (laterRules f t q) (λ z. n (e ∙ z)))
+
+  neither : (a b : Bool) → cond {A = ℕ} a 20 (cond (not b) 21 0) ≡ 0 → (a ≡ false) × (b ≡ true)
+  neither true b h = absurd (omega arith)
+  neither false true h = (refl, refl)
+  neither false false h = absurd (omega arith)
+
+  -- Neither is met: the tables are whole and in range, and the later conditions decide.
+  module _ (z : firstMet (earlyRules f t) ≡ 0) where
+    both : (lentShort f t ≡ false) × ((jobInRange f && stateInRange f t) ≡ true)
+    unfolding earlyRules firstMet
+    both = neither (lentShort f t) (jobInRange f && stateInRange f t) z
+
+    pub held : Held f t
+    unfolding lentShort
+    held =
+        let l = or-off (jobShort (jobOf f) (jobLengths f)) (stateShort (jobOf f) (stateLengths t)) (both .0) in
+        record {
+          job-long = l .0;
+          state-long = l .1;
+          job-in = and-l (jobInRange f) (stateInRange f t) (both .1);
+          state-in = and-r (jobInRange f) (stateInRange f t) (both .1);
         }
 
-        -- The later conditions.
-        pub refused-later : (r : ℕ) → r ≡ firstMet (laterRules f t q) → r ≡ answer f t q
-        unfolding answer refusals firstMet lentShort laterRules
-        refused-later r e = rw (sym ex, sym (ey ∙ short-sizes f (stateLengths t)), h, sym eu, sym (ev ∙ range-sizes f t), g) e
+    pub answer-later : (q : Asked) (r : ℕ) → r ≡ firstMet (laterRules f t q) → r ≡ answer f t q
+    unfolding answer refusals firstMet laterRules
+    answer-later q r e = rw (both .0, both .1) e

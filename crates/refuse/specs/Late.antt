@@ -1,15 +1,19 @@
--- The conditions after 20 and 21, and what their tests require.
+-- The conditions of a step in two parts, and what the tests of the second require.
 use mathlib.Core.Path.{_≡_}
-use mathlib.Core.Bool.{Bool, true, false, not}
+use mathlib.Core.Bool.{Bool, true, false, _&&_, not}
 use mathlib.Core.List.{List, [], _∷_, _++_}
 use Prim.Native.Nat.{ℕ}
 use Rattle.laws.specs.Tables.{tabulate}
-use Rattle.model.specs.Job.{sharerWord}
+use Rattle.model.specs.Job.{needWord, sharerWord}
 use Rattle.model.specs.Steps.{kindOf}
-use Rattle.model.specs.Tables.{JobTables, jobOf, jobLengths, jobShort, StateTables, stateLengths, stateShort, view}
+use Rattle.model.specs.Tables.{JobTables, jobOf, jobLengths, jobShort, StateTables, stateLengths, stateShort, lentShort, view}
 use Rattle.model.specs.Ranges.{jobInRange, stateInRange}
 use Rattle.model.specs.Step.{Asked, isKind, boxesFit, stepRules, moved}
 use Rattle.model.specs.Local.{priceTable, totalTable}
+
+-- Conditions 20 and 21.
+unfoldable pub earlyRules : JobTables → StateTables → List (Bool × ℕ)
+earlyRules f t = (lentShort f t, 20) ∷ (not (jobInRange f && stateInRange f t), 21) ∷ []
 
 -- Conditions 22 to 26, and the late 21.
 unfoldable pub laterRules : JobTables → StateTables → Asked → List (Bool × ℕ)
@@ -21,6 +25,11 @@ pub record Held (f : JobTables) (t : StateTables) : Type 0 where
   pub state-long : stateShort (jobOf f) (stateLengths t) ≡ false
   pub job-in : jobInRange f ≡ true
   pub state-in : stateInRange f t ≡ true
+
+-- Need words and sharer words are the job's.
+pub record Words (f : JobTables) (needs sharers : List ℕ) : Type 0 where
+  pub needs-are : needs ≡ tabulate 500 (needWord (jobOf f))
+  pub sharers-are : sharers ≡ tabulate 255 (sharerWord (jobOf f))
 
 -- What the test of the finished tables requires: neither 20 nor 21, sharers' words and tables of messages of the job, and a kind with boxes that fit it.
 pub record Finishing (f : JobTables) (t : StateTables) (sharers : List ℕ) (prices totals : List (List ℕ)) (q : Asked) : Type 0 where

@@ -1,20 +1,17 @@
--- Where no condition is met: what the step that is applied asks, and what the definition leaves. Assumes nothing.
-use mathlib.Core.Path.{_≡_, refl}
+-- What the two parts of a refusal say of the step: refused, or applied and accepted. Assumes nothing.
+use mathlib.Core.Path.{_≡_, refl, sym, ap, _∙_}
 use mathlib.Core.List.{List}
-use mathlib.Core.Bool.{Bool, true, false, cond, _&&_, _||_, not}
+use mathlib.Core.Bool.{Bool, true, false, cond, not}
 use Prim.Native.Nat.{ℕ, suc}
 use native.Mathlib.Omega.{arith}
-use lib.Dec.{eqb}
 use borrow.Author.Tests.{not-false, ne-eqb}
 use Rattle.laws.specs.Checks.{firstMet}
-use Rattle.laws.specs.Tables.{tabulate}
-use Rattle.laws.proofs.Bools.{and-l, and-r, or-off}
-use Rattle.model.specs.Job.{needWord, sharerWord}
 use Rattle.model.specs.Steps.{kindOf}
-use Rattle.model.specs.Tables.{JobTables, StateTables, jobOf, view, jobLengths, stateLengths, jobShort, stateShort, lentShort}
-use Rattle.model.specs.Ranges.{jobInRange, stateInRange}
-use Rattle.model.specs.Step.{Asked, isKind, boxesFit, stepRules, moved, refusals, answer, after, outcome, stepped}
+use Rattle.model.specs.Tables.{JobTables, StateTables, jobOf}
+use Rattle.model.specs.Step.{Asked, isKind, boxesFit, stepRules, moved, answer, after, outcome, stepped}
+use Rattle.refuse.specs.Late.{earlyRules, laterRules, Held, Words}
 use Rattle.apply.specs.Apply.{Applies}
+use Rattle.refuse.proofs.Refused.{answer-early, answer-later}
 
 -- A condition that is met answers its number; so an answer 0 met none.
 past : (c : Bool) (n rest : ℕ) → cond c (suc n) rest ≡ 0 → (c ≡ false) × (rest ≡ 0)
@@ -22,50 +19,41 @@ past true n rest h = absurd (let z : suc n ≡ 0 = h in omega arith)
 past false n rest h = (refl, h)
 
 module _ (f : JobTables) (t : StateTables) (q : Asked) where
-  -- A refused step.
-  pub refused : (answer f t q ≡ 0 → ⊥) → outcome (answer f t q) t ≡ stepped f t q
+  -- A refused step: its tables are as they were.
+  refused : (r : ℕ) → r ≡ answer f t q → (r ≡ 0 → ⊥) → outcome r t ≡ stepped f t q
   unfolding stepped after
-  refused n = rw (ne-eqb (answer f t q) 0 n)
+  refused r e n = rw (ne-eqb (answer f t q) 0 (λ z. n (e ∙ z))) (ap (λ (x : ℕ). outcome x t) e)
 
-  module _ (h : answer f t q ≡ 0) where
-    -- An accepted step.
-    pub accepted : outcome 0 (moved f t q) ≡ stepped f t q
-    unfolding stepped after
-    accepted = rw h
+  -- 20 or 21 is met.
+  pub refused-early : (r : ℕ) → r ≡ firstMet (earlyRules f t) → (r ≡ 0 → ⊥) → outcome r t ≡ stepped f t q
+  refused-early r e n = refused r (answer-early f t q r e n) n
 
-    short : lentShort f t ≡ false
-    unfolding answer refusals firstMet
-    short = past (lentShort f t) 19 _ h .0
+  module _ (z : firstMet (earlyRules f t) ≡ 0) where
+    -- A later condition is met.
+    pub refused-later : (r : ℕ) → r ≡ firstMet (laterRules f t q) → (r ≡ 0 → ⊥) → outcome r t ≡ stepped f t q
+    refused-later r e n = refused r (answer-later f t z q r e) n
 
-    ranges : (jobInRange f && stateInRange f t) ≡ true
-    unfolding answer refusals firstMet
-    ranges = not-false _ (past (not (jobInRange f && stateInRange f t)) 20 _ (past (lentShort f t) 19 _ h .1) .0)
+    -- None is.
+    module _ (r : ℕ) (e : r ≡ firstMet (laterRules f t q)) (h : r ≡ 0) where
+      pub accepted : outcome 0 (moved f t q) ≡ stepped f t q
+      unfolding stepped after
+      accepted = rw (sym (answer-later f t z q r e) ∙ h)
 
-    kind : isKind (q .kind) ≡ true
-    unfolding answer refusals firstMet stepRules
-    kind = not-false _ (past (not (isKind (q .kind))) 21 _ (past (not (jobInRange f && stateInRange f t)) 20 _ (past (lentShort f t) 19 _ h .1) .1) .0)
+      kind-next : (isKind (q .kind) ≡ true) × (boxesFit (jobOf f) (kindOf (q .kind)) (q .first) (q .second) ≡ true)
+      unfolding firstMet laterRules stepRules
+      kind-next =
+          let k = past (not (isKind (q .kind))) 21 _ (sym e ∙ h) in
+          (not-false _ (k .0), not-false _ (past (not (boxesFit (jobOf f) (kindOf (q .kind)) (q .first) (q .second))) 22 _ (k .1) .0))
 
-    boxes : boxesFit (jobOf f) (kindOf (q .kind)) (q .first) (q .second) ≡ true
-    unfolding answer refusals firstMet stepRules
-    boxes = not-false _ (past (not (boxesFit (jobOf f) (kindOf (q .kind)) (q .first) (q .second))) 22 _ (past (not (isKind (q .kind))) 21 _ (past (not (jobInRange f && stateInRange f t)) 20 _ (past (lentShort f t) 19 _ h .1) .1) .1) .0)
-
-    pub in-range : jobInRange f ≡ true
-    in-range = and-l (jobInRange f) (stateInRange f t) ranges
-
-    pub job-long : jobShort (jobOf f) (jobLengths f) ≡ false
-    unfolding lentShort
-    job-long = or-off (jobShort (jobOf f) (jobLengths f)) (stateShort (jobOf f) (stateLengths t)) short .0
-
-    -- What is asked of the step that is applied.
-    pub applies : (needs sharers : List ℕ) → needs ≡ tabulate 500 (needWord (jobOf f)) → sharers ≡ tabulate 255 (sharerWord (jobOf f)) → Applies f t needs sharers q
-    unfolding lentShort
-    applies needs sharers n s = record {
-      job-in = in-range;
-      job-long = job-long;
-      state-long = or-off (jobShort (jobOf f) (jobLengths f)) (stateShort (jobOf f) (stateLengths t)) short .1;
-      state-in = and-r (jobInRange f) (stateInRange f t) ranges;
-      needs-are = n;
-      sharers-are = s;
-      kind-in = kind;
-      boxes-fit = boxes;
-    }
+      -- What is asked of the step that is applied.
+      pub applies : Held f t → (needs sharers : List ℕ) → Words f needs sharers → Applies f t needs sharers q
+      applies o needs sharers w = record {
+        job-in = o .job-in;
+        job-long = o .job-long;
+        state-long = o .state-long;
+        state-in = o .state-in;
+        needs-are = w .needs-are;
+        sharers-are = w .sharers-are;
+        kind-in = kind-next .0;
+        boxes-fit = kind-next .1;
+      }

@@ -114,7 +114,7 @@ pub fn step(
         (stateTables (now (known .entry)) (now (ptransit .entry)) (now (working .entry)) (now (ttransit .entry)) (now (statement .entry)) (now (done .entry)) (now (sent .entry)))
         (asked kind first second) ⌝ }
 {
-    let r = refuse::refusal(
+    let early = refuse::early_refusal(
         boxes,
         grocers,
         offers,
@@ -133,6 +133,33 @@ pub fn step(
         statement,
         done,
         sent,
+    );
+    if early != 0 {
+        return Answer::Refused(early);
+    }
+    let needing = tables::masks::needs(boxes, tallies, tbox, toffer);
+    let sharing = tables::masks::sharers(boxes, tallies, tbox, tgrocer);
+    let r = refuse::later_refusal(
+        boxes,
+        grocers,
+        offers,
+        tallies,
+        price,
+        owner,
+        gowner,
+        tgrocer,
+        tbox,
+        toffer,
+        tcount,
+        known,
+        ptransit,
+        working,
+        ttransit,
+        statement,
+        done,
+        sent,
+        &needing,
+        &sharing,
         kind,
         first,
         second,
@@ -140,8 +167,6 @@ pub fn step(
     if r != 0 {
         return Answer::Refused(r);
     }
-    let needing = tables::masks::needs(boxes, tallies, tbox, toffer);
-    let sharing = tables::masks::sharers(boxes, tallies, tbox, tgrocer);
     apply_linked(
         boxes,
         grocers,

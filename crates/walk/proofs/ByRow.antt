@@ -1,9 +1,10 @@
 -- Ready steps counted by rows. Assumes nothing.
 use mathlib.Core.Path.{_≡_, refl, sym, ap, _∙_}
-use mathlib.Core.Bool.{Bool, true, false, _&&_, _||_, not, false≢true}
+use mathlib.Core.Bool.{Bool, true, false, cond, _&&_, _||_, not, false≢true}
 use mathlib.Core.List.{List}
 use Prim.Native.Nat.{ℕ, zero, suc, _+_, _-_, _*_, _/_, _%_, _≤_, _<_}
 use native.Mathlib.Omega.{arith}
+use native.Mathlib.Numerals.{add-one}
 use native.Mathlib.Nat.{suc-mul, add-zero, zero-mul, mul-le-mul-right, div-add-mod', div-lt-iff-lt-mul, mod-lt}
 use lib.Dec.{eqb}
 use lib.ListN.{getD, set, length, length-set}
@@ -17,8 +18,20 @@ use Rattle.model.specs.Steps.{Kind, Steps, kindOf}
 use Rattle.prices.specs.Marks.{MarksIn, stepsDone}
 use Rattle.refuse.specs.Rules.{fitsBy, readyBy, permittedBy}
 use Rattle.walk.specs.Walk.{PlaceIn, here, listedBy, WalkIn}
-use Rattle.walk.specs.Rows.{rowOf, rowCount, RowIn, IsRows, rowSum, FewRows, changes, IsRowsBut, Renewed}
+use Rattle.walk.specs.Rows.{rowOf, rowCount, RowIn, IsRows, rowSum, FewRows, Renewed}
 use Rattle.walk.proofs.Places.{listed-at}
+
+-- The rows that a step can change: its own; after a message is sent, the receiver's; after prices are multiplied, kinds 4 and 5 of the box.
+unfoldable pub changes : ℕ → ℕ → ℕ → ℕ → ℕ → Bool
+changes k kind a b r =
+    eqb r (rowOf k kind a)
+    || cond (eqb kind 1 || eqb kind 4) (eqb r (rowOf k (kind + 2) b))
+    (cond (eqb kind 2 || eqb kind 3) (eqb r (rowOf k 4 a) || eqb r (rowOf k 5 a)) false)
+
+-- Each row that a step cannot change has its count.
+pub record IsRowsBut (k kind a b : ℕ) (prices totals : List (List ℕ)) (done rows : List ℕ) : Type 0 where
+  pub long : length rows ≡ 96
+  pub right : (r : ℕ) → r < 6 * k → changes k kind a b r ≡ false → getD rows r 0 ≡ rowCount k prices totals done r
 
 -- Numbers below m, and n more.
 count-both : (n m : ℕ) (p : ℕ → Bool) → count (m + n) p ≡ count m p + count n (λ b. p (m + b))
@@ -87,6 +100,23 @@ pub rows-none : (rows : List ℕ) → rowSum rows 0 ≡ 0
 unfolding rowSum sum words
 rows-none rows = refl
 
+-- The rows of kinds: k rows each, of six kinds.
+pub kind-rows : (k from q : ℕ) → from ≡ q * k → q < 6 → from + k ≤ 6 * k
+kind-rows k from q e l = omega (arith, mul-le-mul-right {m = q} {n = 5} k (omega arith))
+
+pub kind-next : (k from q : ℕ) → from ≡ q * k → from + k ≡ (q + 1) * k
+kind-next k from q e = rw (add-one q, suc-mul q k) (ap (λ (x : ℕ). x + k) e)
+
+-- Rows added from row r on.
+pub rows-start : (rows : List ℕ) (r : ℕ) → 0 + rowSum rows r ≡ rowSum rows (r + 0)
+rows-start rows r = rw (add-zero r) (omega arith)
+
+pub rows-next : (rows : List ℕ) (r a ready : ℕ) → ready + rowSum rows r ≡ rowSum rows (r + a) → ready + getD rows (r + a) 0 + rowSum rows r ≡ rowSum rows (r + (a + 1))
+rows-next rows r a ready h = omega (arith, ap (rowSum rows) (regroup r a) ∙ rows-more rows (r + a))
+  where
+    regroup : (r a : ℕ) → r + (a + 1) ≡ r + a + 1
+    regroup r a = omega arith
+
 -- Only kinds 3 and 6 ask for the second box.
 pub ready-row : (k : ℕ) (prices : List (List ℕ)) (d : Steps) (a b n : ℕ) → n ≤ 6 → (eqb n 3 || eqb n 6) ≡ false → readyBy k prices d (kindOf n) a 0 ≡ readyBy k prices d (kindOf n) a b
 unfolding readyBy kindOf
@@ -98,6 +128,11 @@ ready-row k prices d a b (suc (suc (suc (suc zero)))) l h = refl
 ready-row k prices d a b (suc (suc (suc (suc (suc zero))))) l h = refl
 ready-row k prices d a b (suc (suc (suc (suc (suc (suc zero)))))) l h = absurd (false≢true (sym h))
 ready-row k prices d a b (suc (suc (suc (suc (suc (suc (suc n))))))) l h = absurd (omega arith)
+
+-- A step that is not made ready is not permitted.
+pub not-ready : (k : ℕ) (prices totals : List (List ℕ)) (d : Steps) (q : Kind) (a b : ℕ) → readyBy k prices d q a b ≡ false → permittedBy k prices totals d q a b ≡ false
+unfolding permittedBy
+not-ready k prices totals d q a b e = rw (e, and-false (not (d q a b))) (and-false (fitsBy prices totals q a b))
 
 module _ (k : ℕ) (prices totals : List (List ℕ)) (done : List ℕ) where
   -- Each row has at most k ready steps.
@@ -131,6 +166,10 @@ module _ (k : ℕ) (prices totals : List (List ℕ)) (done : List ℕ) where
       pub row-passed : getD rows r 0 ≤ left → left - getD rows r 0 + rowSum rows (r + 1) ≡ c
       row-passed h = rw (rows-more rows r) (omega arith)
 
+    -- Rows passed together: those from row r on, as far as row q.
+    pub rows-passed : (r q left found c : ℕ) → left + rowSum rows r ≡ c → found + rowSum rows r ≡ rowSum rows q → found ≤ left → left - found + rowSum rows q ≡ c
+    rows-passed r q left found c e f l = omega (arith, e, f)
+
     -- and past the last row there were not so many.
     pub rows-end : (r left c : ℕ) → r ≡ 6 * k → left + rowSum rows r ≡ c → c < count (6 * k * k) (listedBy k prices totals done) → ⊥
     rows-end r left c e s l = let t : left + rowSum rows (6 * k) ≡ c = rw e at s in omega (arith, rows-ready)
@@ -141,15 +180,15 @@ module _ (k : ℕ) (prices totals : List (List ℕ)) (done : List ℕ) where
   opened kind a b t more i e m = m ∙ ap (λ (s : Bool). only words s 1) (e ∙ listed-at k kind a b prices totals done i)
 
   -- A row whose first step is not made ready has none, where its kind does not ask for the second box.
-  not-ready : (q : Kind) (a b : ℕ) → readyBy k prices (stepsDone k done) q a b ≡ false → permittedBy k prices totals (stepsDone k done) q a b ≡ false
-  unfolding permittedBy
-  not-ready q a b e = rw (e, and-false (not (stepsDone k done q a b))) (and-false (fitsBy prices totals q a b))
-
   pub closed-row : (kind a : ℕ) → RowIn k kind a done → (eqb kind 3 || eqb kind 6) ≡ false → readyBy k prices (stepsDone k done) (kindOf kind) a 0 ≡ false → 0 ≡ rowCount k prices totals done (rowOf k kind a)
   unfolding rowCount
   closed-row kind a w asks e = sym (count-none k _ (any-false k _ (λ b l.
       sym (listed-at k kind a b prices totals done (record { boxes-in = w .boxes-in; kind-from = w .kind-from; kind-to = w .kind-to; a-in = w .a-in; b-in = l }))
-      ∙ not-ready (kindOf kind) a b (sym (ready-row k prices (stepsDone k done) a b kind (w .kind-to) asks) ∙ e))))
+      ∙ not-ready k prices totals (stepsDone k done) (kindOf kind) a b (sym (ready-row k prices (stepsDone k done) a b kind (w .kind-to) asks) ∙ e))))
+
+  -- So the first step of a row that has one is made ready.
+  pub open-row : (kind a : ℕ) → RowIn k kind a done → 1 ≤ rowCount k prices totals done (rowOf k kind a) → (eqb kind 3 || eqb kind 6) ≡ false → true ≡ readyBy k prices (stepsDone k done) (kindOf kind) a 0
+  open-row kind a w some asks = split (readyBy k prices (stepsDone k done) (kindOf kind) a 0) sym (λ e. absurd (omega (arith, closed-row kind a w asks e)))
 
   -- Searching in row r: it begins with the places before the row,
   module _ (r c : ℕ) where
@@ -239,3 +278,7 @@ module _ (k : ℕ) (prices totals : List (List ℕ)) (done : List ℕ) where
 -- Kinds 1 and 4 are at most 4.
 pub sent-kind : (n : ℕ) → (eqb n 1 || eqb n 4) ≡ true → n ≤ 4
 sent-kind n h = split (eqb n 1) (λ e. omega (arith, eqb-true n 1 e)) (λ e. omega (arith, eqb-true n 4 (rw e at h)))
+
+-- A kind that is 2 or 3 is at most 3.
+pub multiply-kind : (n : ℕ) → (not (eqb n 2) && not (eqb n 3)) ≡ false → n ≤ 3
+multiply-kind n h = split (eqb n 2) (λ e. omega (arith, eqb-true n 2 e)) (λ e. split (eqb n 3) (λ f. omega (arith, eqb-true n 3 f)) (λ f. absurd (false≢true (sym (rw (e, f) at h)))))

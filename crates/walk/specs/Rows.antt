@@ -1,11 +1,13 @@
 -- The ready steps counted by rows: a row has the places of one kind and one first box.
 use mathlib.Core.Path.{_≡_}
-use mathlib.Core.Bool.{Bool, false, cond, _||_}
+use mathlib.Core.Bool.{true}
 use mathlib.Core.List.{List}
-use Prim.Native.Nat.{ℕ, _+_, _-_, _*_, _≤_, _<_}
-use lib.Dec.{eqb}
+use Prim.Native.Nat.{ℕ, suc, _+_, _-_, _*_, _/_, _%_, _≤_, _<_}
 use lib.ListN.{length, getD}
 use Rattle.laws.specs.Below.{words, sum, count}
+use Rattle.model.specs.Steps.{Steps, kindOf, mark}
+use Rattle.prices.specs.Marks.{stepsDone}
+use Rattle.refuse.specs.Rules.{permittedBy}
 use Rattle.walk.specs.Walk.{listedBy}
 
 -- The row of a kind and a first box, of k boxes.
@@ -38,17 +40,22 @@ pub record FewRows (k : ℕ) (rows : List ℕ) : Type 0 where
   pub boxes-in : k ≤ 16
   pub few : (r : ℕ) → r < 6 * k → getD rows r 0 ≤ 16
 
--- The rows that a step can change: its own; after a message is sent, the receiver's; after prices are multiplied, kinds 4 and 5 of the box.
-unfoldable pub changes : ℕ → ℕ → ℕ → ℕ → ℕ → Bool
-changes k kind a b r =
-    eqb r (rowOf k kind a)
-    || cond (eqb kind 1 || eqb kind 4) (eqb r (rowOf k (kind + 2) b))
-    (cond (eqb kind 2 || eqb kind 3) (eqb r (rowOf k 4 a) || eqb r (rowOf k 5 a)) false)
-
--- Each row that a step cannot change has its count.
-pub record IsRowsBut (k kind a b : ℕ) (prices totals : List (List ℕ)) (done rows : List ℕ) : Type 0 where
+-- A row of a kind and a first box with a ready step to take away.
+pub record OneReady (k kind a : ℕ) (rows : List ℕ) : Type 0 where
+  pub kind-from : 1 ≤ kind
+  pub kind-to : kind ≤ 6
+  pub boxes-in : k ≤ 16
+  pub a-in : a < k
   pub long : length rows ≡ 96
-  pub right : (r : ℕ) → r < 6 * k → changes k kind a b r ≡ false → getD rows r 0 ≡ rowCount k prices totals done r
+  pub some : 1 ≤ getD rows (rowOf k kind a) 0
+
+-- The counts of rows from before a step was marked as done: it was one of the ready steps.
+pub record RowsBefore (k kind a b : ℕ) (prices totals : List (List ℕ)) (done rows : List ℕ) : Type 0 where
+  pub steps : Steps  -- those done before it
+  pub marked : stepsDone k done ≡ mark steps (kindOf kind) a b
+  pub was-ready : permittedBy k prices totals steps (kindOf kind) a b ≡ true
+  pub long : length rows ≡ 96
+  pub right : (r : ℕ) → r < 6 * k → getD rows r 0 ≡ count k (permittedBy k prices totals steps (kindOf (suc (r / k))) (r % k))
 
 -- Row i has its count now, and the others are as they were.
 pub record Renewed (k : ℕ) (prices totals : List (List ℕ)) (done : List ℕ) (i : ℕ) (rows rows′ : List ℕ) : Type 0 where

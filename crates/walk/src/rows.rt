@@ -2,17 +2,19 @@
 use crate::Place;
 use crate::one;
 ghost use mathlib.Core.Path.{_≡_};
-ghost use Prim.Native.Nat.{_+_, _*_, _≤_, _<_};
-ghost use lib.ListN.{length};
-ghost use Rattle.laws.specs.Below.{count};
+ghost use mathlib.Core.Bool.{false, _||_};
+ghost use Prim.Native.Nat.{_+_, _-_, _*_, _≤_, _<_};
+ghost use lib.Dec.{eqb};
+ghost use lib.ListN.{length, getD, set};
+ghost use Rattle.laws.specs.Below.{words, only, count};
 ghost use Rattle.model.specs.Steps.{kindOf};
 ghost use Rattle.model.specs.Run.{nth};
 ghost use Rattle.prices.specs.Marks.{MarksIn, stepsDone};
 ghost use Rattle.refuse.specs.Rules.{readyBy, permittedBy};
 ghost use Rattle.walk.specs.Walk.{listedBy, WalkIn, Found};
-ghost use Rattle.walk.specs.Rows.{rowOf, rowCount, RowIn, IsRows, rowSum, FewRows, IsRowsBut, Renewed};
+ghost use Rattle.walk.specs.Rows.{rowOf, rowCount, RowIn, IsRows, rowSum, FewRows, OneReady, RowsBefore, Renewed};
 
-// Whether the steps done make a step ready. `first` is whether they make the row's first step ready: only kinds 3 and 6 ask for the second box.
+// Whether the steps done make a step ready. Only kinds 3 and 6 ask for the second box; of the others `first` is whether the row's first step is made ready.
 fn ready_in_row(
     k: u16,
     kind: u16,
@@ -23,7 +25,7 @@ fn ready_in_row(
     done: &[u16],
 ) -> bool
     requires { ⌜ MarksIn k kind a b (now done) ⌝ }
-    requires { ⌜ first ≡ readyBy k (now prices) (stepsDone k (now done)) (kindOf kind) a 0 ⌝ }
+    requires { ⌜ ((eqb kind 3 || eqb kind 6) ≡ false → first ≡ readyBy k (now prices) (stepsDone k (now done)) (kindOf kind) a 0) ⌝ }
     ensures { λ r. ⌜ r ≡ readyBy k (now (prices .entry)) (stepsDone k (now (done .entry))) (kindOf kind) a b ⌝ }
 {
     if (kind == 3) | (kind == 6) {
@@ -44,7 +46,7 @@ fn is_open(
     done: &[u16],
 ) -> bool
     requires { ⌜ MarksIn k kind a b (now done) ⌝ }
-    requires { ⌜ first ≡ readyBy k (now prices) (stepsDone k (now done)) (kindOf kind) a 0 ⌝ }
+    requires { ⌜ ((eqb kind 3 || eqb kind 6) ≡ false → first ≡ readyBy k (now prices) (stepsDone k (now done)) (kindOf kind) a 0) ⌝ }
     ensures { λ r. ⌜ r ≡ permittedBy k (now (prices .entry)) (now (totals .entry)) (stepsDone k (now (done .entry))) (kindOf kind) a b ⌝ }
 {
     let fit = refuse::rules::fits(kind, a, b, prices, totals);
@@ -147,7 +149,7 @@ pub fn ready_steps(k: u16, rows: &[u16; 96]) -> u16
     ready
 }
 
-// The ready step of row r that has c ready steps of the row before it.
+// The ready step of row r that has c ready steps of the row before it. Where the kind does not ask for the second box, a row with a ready step has its first made ready.
 fn find_row(
     k: u16,
     r: u16,
@@ -162,10 +164,9 @@ fn find_row(
 {
     let kind = r / k + 1;
     let a = r % k;
-    let first = refuse::rules::is_ready(k, kind, a, 0, prices, done);
     let mut left = c;
     for b in 0..k {
-        let ready = is_open(k, kind, a, b, first, prices, totals, done);
+        let ready = is_open(k, kind, a, b, true, prices, totals, done);
         if ready & (left == 0) {
             return Place {
                 kind: kind,
@@ -183,9 +184,25 @@ fn find_row(
     }
 }
 
-// The ready step that has c ready steps before it: rows are passed, and then places of one row.
-pub fn find_in(
+// The ready steps of k rows from one on.
+fn ready_rows(k: u16, from: u16, rows: &[u16; 96]) -> u16
+    requires { ⌜ FewRows k (now rows) ⌝ }
+    requires { ⌜ from + k ≤ 6 * k ⌝ }
+    ensures { λ r. ⌜ r + rowSum (now (rows .entry)) from ≡ rowSum (now (rows .entry)) (from + k) ⌝ }
+{
+    let n = k as usize;
+    let first = from as usize;
+    let mut sum: u16 = 0;
+    for a in 0..n {
+        sum += rows[first + a];
+    }
+    sum
+}
+
+// The ready step that has c ready steps before it from a row on: rows are passed, and then places of one row.
+fn find_from(
     k: u16,
+    from: u16,
     c: u16,
     rows: &[u16; 96],
     prices: &[[u16; 16]; 16],
@@ -194,12 +211,12 @@ pub fn find_in(
 ) -> Place
     requires { ⌜ WalkIn k (now done) ⌝ }
     requires { ⌜ IsRows k (now prices) (now totals) (now done) (now rows) ⌝ }
-    requires { ⌜ c < count (6 * k * k) (listedBy k (now prices) (now totals) (now done)) ⌝ }
-    ensures { λ r. ⌜ Found k (nth (6 * k * k) (listedBy k (now (prices .entry)) (now (totals .entry)) (now (done .entry))) c) (r .kind) (r .first) (r .second) ⌝ }
+    requires { ⌜ (from ≤ 6 * k) × (c + rowSum (now rows) from < count (6 * k * k) (listedBy k (now prices) (now totals) (now done))) ⌝ }
+    ensures { λ r. ⌜ Found k (nth (6 * k * k) (listedBy k (now (prices .entry)) (now (totals .entry)) (now (done .entry))) (c + rowSum (now (rows .entry)) from)) (r .kind) (r .first) (r .second) ⌝ }
 {
     let n = 6 * k;
     let mut left = c;
-    for r in 0..n {
+    for r in from..n {
         let i = r as usize;
         let found = rows[i];
         if left < found {
@@ -214,7 +231,67 @@ pub fn find_in(
     }
 }
 
-// After a step is marked the rows that it can change are counted anew.
+// The ready step that has c ready steps before it: kinds are passed, then rows of one kind, and then places of one row.
+pub fn find_in(
+    k: u16,
+    c: u16,
+    rows: &[u16; 96],
+    prices: &[[u16; 16]; 16],
+    totals: &[[u16; 16]; 16],
+    done: &[u16],
+) -> Place
+    requires { ⌜ WalkIn k (now done) ⌝ }
+    requires { ⌜ IsRows k (now prices) (now totals) (now done) (now rows) ⌝ }
+    requires { ⌜ c < count (6 * k * k) (listedBy k (now prices) (now totals) (now done)) ⌝ }
+    ensures { λ r. ⌜ Found k (nth (6 * k * k) (listedBy k (now (prices .entry)) (now (totals .entry)) (now (done .entry))) c) (r .kind) (r .first) (r .second) ⌝ }
+{
+    let mut left = c;
+    let mut from: u16 = 0;
+    for q in 0..6u16 {
+        let found = ready_rows(k, from, rows);
+        if left < found {
+            return find_from(k, from, left, rows, prices, totals, done);
+        }
+        left -= found;
+        from += k;
+    }
+    Place {
+        kind: 1,
+        first: 0,
+        second: 0,
+    }
+}
+
+// A row has one ready step less: its own is done.
+fn one_less(k: u16, kind: u16, a: u16, rows: &mut [u16; 96])
+    requires { ⌜ OneReady k kind a (now rows) ⌝ }
+    ensures { λ _. ⌜ now (rows .exit) ≡ set (now (rows .entry)) (rowOf k kind a) (getD (now (rows .entry)) (rowOf k kind a) 0 - 1) ⌝ }
+{
+    let r = ((kind - 1) * k + a) as usize;
+    rows[r] -= 1;
+}
+
+// A row has one ready step more where this one of it is ready.
+fn one_more(
+    k: u16,
+    kind: u16,
+    a: u16,
+    b: u16,
+    prices: &[[u16; 16]; 16],
+    totals: &[[u16; 16]; 16],
+    done: &[u16],
+    rows: &mut [u16; 96],
+)
+    requires { ⌜ MarksIn k kind a b (now done) ⌝ }
+    requires { ⌜ (length (now rows) ≡ 96) × (getD (now rows) (rowOf k kind a) 0 ≤ 16) ⌝ }
+    ensures { λ _. ⌜ now (rows .exit) ≡ set (now (rows .entry)) (rowOf k kind a) (getD (now (rows .entry)) (rowOf k kind a) 0 + only words (permittedBy k (now (prices .entry)) (now (totals .entry)) (stepsDone k (now (done .entry))) (kindOf kind) a b) 1) ⌝ }
+{
+    let more = one(refuse::rules::permitted(k, kind, a, b, prices, totals, done));
+    let r = ((kind - 1) * k + a) as usize;
+    rows[r] += more;
+}
+
+// After a step is marked: its own row has one ready step less, a receiver's one more, and where it was the last that its box had to multiply, the rows that this opens are counted anew.
 pub fn renew(
     k: u16,
     kind: u16,
@@ -226,15 +303,18 @@ pub fn renew(
     rows: &mut [u16; 96],
 )
     requires { ⌜ MarksIn k kind a b (now done) ⌝ }
-    requires { ⌜ IsRowsBut k kind a b (now prices) (now totals) (now done) (now rows) ⌝ }
+    requires { ⌜ RowsBefore k kind a b (now prices) (now totals) (now done) (now rows) ⌝ }
     ensures { λ _. ⌜ IsRows k (now (prices .entry)) (now (totals .entry)) (now (done .entry)) (now (rows .exit)) ⌝ }
 {
-    renew_row(k, kind, a, prices, totals, done, rows);
+    one_less(k, kind, a, rows);
     if (kind == 1) | (kind == 4) {
-        renew_row(k, kind + 2, b, prices, totals, done, rows);
+        one_more(k, kind + 2, b, a, prices, totals, done, rows);
         return;
     }
     if (kind != 2) & (kind != 3) {
+        return;
+    }
+    if !refuse::rules::multiplied(k, a, prices, done) {
         return;
     }
     renew_row(k, 4, a, prices, totals, done, rows);

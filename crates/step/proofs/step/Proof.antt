@@ -1,139 +1,152 @@
+-- `step::step` meets its contract: refused in one of two parts, or applied. Assumes nothing.
 use mathlib.Core.Path.{_≡_, sym, ap, _∙_}
-use Prim.Native.Nat.{ℕ}
+use borrow.Author.Needs.{needs}
+use Rattle.laws.specs.Checks.{firstMet}
 use Rattle.model.specs.Tables.{JobTables, jobTables, StateTables, stateTables}
-use Rattle.model.specs.Step.{Asked, asked, answer, outcome}
+use Rattle.model.specs.Step.{Asked, asked, outcome}
+use Rattle.refuse.specs.Late.{earlyRules, Held, Words}
+use Rattle.step.specs.Answer.{number}
 use Rattle.tables.proofs.Whole.{job-whole}
 use Rattle.tables.proofs.Holders.{need-words, sharer-words}
 use Rattle.tables.proofs.InJob.{placed-offers, placed-grocers}
-use Rattle.step.specs.Answer.{number}
-use Rattle.step.proofs.Zero.{refused, accepted, in-range, job-long, applies}
-use borrow.Author.Needs.{needs}
+use Rattle.refuse.proofs.Refused.{held}
+use Rattle.step.proofs.Zero.{refused-early, refused-later, accepted, applies}
+use denote.Ref.{now}
 use Rattle.step.proofs.step.Statement.{statement}
 use Rattle.step.proofs.step.Tie as tie
-use Rattle.step.proofs.step.Reads as reads
-use Rattle.step.proofs.step.Lts as lts
-use Rattle.step.proofs.apply_linked.Reads as apply-linked-reads
-use Rattle.refuse.proofs.refusal.Reads as refusal-reads
-use Rattle.tables.proofs.masks.needs.Reads as needs-reads
-use Rattle.tables.proofs.masks.sharers.Reads as sharers-reads
 
 -- The lent tables and what is asked, at the start.
-abbrev Start : Type 0
-Start = lts.Start (refusal-reads.Asked, refusal-reads.Learnt, needs-reads.Asked, needs-reads.Learnt, sharers-reads.Asked, sharers-reads.Learnt, apply-linked-reads.Asked, apply-linked-reads.Learnt) reads.Pre reads.Post
+abbrev job : tie.Start → JobTables
+job s = jobTables (s .args .boxes) (s .args .grocers) (s .args .offers) (s .args .tallies) (now (s .args .price)) (now (s .args .owner)) (now (s .args .gowner)) (now (s .args .tgrocer)) (now (s .args .tbox)) (now (s .args .toffer)) (now (s .args .tcount))
 
-abbrev job : Start → JobTables
-job s = jobTables (s .args .boxes) (s .args .grocers) (s .args .offers) (s .args .tallies) (s .args .price .now) (s .args .owner .now) (s .args .gowner .now)
-    (s .args .tgrocer .now) (s .args .tbox .now) (s .args .toffer .now) (s .args .tcount .now)
+abbrev state : tie.Start → StateTables
+state s = stateTables (now (s .args .known)) (now (s .args .ptransit)) (now (s .args .working)) (now (s .args .ttransit)) (now (s .args .statement)) (now (s .args .done)) (now (s .args .sent))
 
-abbrev state : Start → StateTables
-state s = stateTables (s .args .known .now) (s .args .ptransit .now) (s .args .working .now) (s .args .ttransit .now) (s .args .statement .now) (s .args .done .now) (s .args .sent .now)
-
-abbrev ask : Start → Asked
+abbrev ask : tie.Start → Asked
 ask s = asked (s .args .kind) (s .args .first) (s .args .second)
 
--- Where nothing is refused the answer is 0.
-none-met : (c : lts.Else1 (refusal-reads.Asked, refusal-reads.Learnt, needs-reads.Asked, needs-reads.Learnt, sharers-reads.Asked, sharers-reads.Learnt, apply-linked-reads.Asked, apply-linked-reads.Learnt) reads.Pre reads.Post) → answer (job (c .before .before .before .before .before .before .before .before .before .before .before .before .before .before .before .before .before .before .before)) (state (c .before .before .before .before .before .before .before .before .before .before .before .before .before .before .before .before .before .before .before)) (ask (c .before .before .before .before .before .before .before .before .before .before .before .before .before .before .before .before .before .before .before)) ≡ 0
-none-met c = sym (c .before .refusal .ensures) ∙ c .if1 .left
+abbrev entry : tie.Else1 → tie.Start
+entry e = e .before .before .before .before .before .before .before .before .before .before .before .before .before .before .before .before .before .before .before
 
--- src/lib.rt:45:9
-refusal-requires : tie.Need-refusal-requires
-refusal-requires c κs = search needs
+-- Neither 20 nor 21 is met.
+none-early : (e : tie.Else1) → firstMet (earlyRules (job (entry e)) (state (entry e))) ≡ 0
+none-early e = sym (e .before .early-refusal .ensures) ∙ e .if1 .left
 
--- src/lib.rt:50:9
+whole : (e : tie.Else1) → Held (job (entry e)) (state (entry e))
+whole e = held (job (entry e)) (state (entry e)) (none-early e)
+
+-- The need words and sharer words that are made.
+made : (c : tie.After-sharers) → Words (job (entry (c .before .before))) (c .before .needs .result) (c .sharers .result)
+made c = record {
+  needs-are = c .before .needs .ensures ∙ need-words (job (entry (c .before .before)));
+  sharers-are = c .sharers .ensures ∙ sharer-words (job (entry (c .before .before)));
+}
+
+early-refusal-requires : tie.Need-early-refusal-requires
+early-refusal-requires c κs = search needs
+
 same-length : tie.Need-same-length
 same-length c = search needs
 
--- src/lib.rt:50:9
 same-length-2 : tie.Need-same-length-2
 same-length-2 c = search needs
 
--- src/lib.rt:50:9
 same-length-3 : tie.Need-same-length-3
 same-length-3 c = search needs
 
--- src/lib.rt:50:9
 same-length-4 : tie.Need-same-length-4
 same-length-4 c = search needs
 
--- src/lib.rt:50:9
 same-length-5 : tie.Need-same-length-5
 same-length-5 c = search needs
 
--- src/lib.rt:50:9
 same-length-6 : tie.Need-same-length-6
 same-length-6 c = search needs
 
--- src/lib.rt:50:9
 same-length-7 : tie.Need-same-length-7
 same-length-7 c = search needs
 
--- src/lib.rt:50:9
 returns : tie.Need-returns
 unfolding number
-returns c =
-    let s = c .before .before .before .before .before .before .before .before .before .before .before .before .before .before .before .before .before .before .before in
-    ap (λ (n : ℕ). outcome n (state s)) (c .before .refusal .ensures) ∙ refused (job s) (state s) (ask s) (λ e. c .if1 .taken (c .before .refusal .ensures ∙ e))
+returns c = let s = c .before .before .before .before .before .before .before .before .before .before .before .before .before .before .before .before .before .before .before in refused-early (job s) (state s) (ask s) _ (c .before .early-refusal .ensures) (c .if1 .taken)
 
--- src/lib.rt:52:19
 needs-requires : tie.Need-needs-requires
-needs-requires c κs =
-    let s = c .before .before .before .before .before .before .before .before .before .before .before .before .before .before .before .before .before .before .before in
-    let h = none-met c in
-    placed-offers (job s) (in-range (job s) (state s) (ask s) h) (job-whole (job s) (job-long (job s) (state s) (ask s) h))
+needs-requires c κs = placed-offers (job (entry c)) (whole c .job-in) (job-whole (job (entry c)) (whole c .job-long))
 
--- src/lib.rt:53:19
 sharers-requires : tie.Need-sharers-requires
-sharers-requires c κs =
-    let s = c .before .before .before .before .before .before .before .before .before .before .before .before .before .before .before .before .before .before .before .before in
-    let h = none-met (c .before) in
-    placed-grocers (job s) (in-range (job s) (state s) (ask s) h) (job-whole (job s) (job-long (job s) (state s) (ask s) h))
+sharers-requires c κs = let e = c .before in placed-grocers (job (entry e)) (whole e .job-in) (job-whole (job (entry e)) (whole e .job-long))
 
--- src/lib.rt:54:5
-apply-linked-requires : tie.Need-apply-linked-requires
-apply-linked-requires c κs =
-    let s = c .before .before .before .before .before .before .before .before .before .before .before .before .before .before .before .before .before .before .before .before .before .before .before .before .before .before .before .before .before .before in
-    applies (job s) (state s) (ask s) (none-met (c .before .before .before .before .before .before .before .before .before .before .before)) _ _ (c .before .before .before .before .before .before .before .before .before .before .needs .ensures ∙ need-words (job s)) (c .before .before .before .before .before .before .before .before .before .sharers .ensures ∙ sharer-words (job s))
+later-refusal-requires : tie.Need-later-refusal-requires
+later-refusal-requires c κs = let w = c .before .before .before .before .before .before .before .before .before in (whole (w .before .before), made w)
 
--- src/lib.rt:15:1
 same-length-8 : tie.Need-same-length-8
 same-length-8 c = search needs
 
--- src/lib.rt:15:1
 same-length-9 : tie.Need-same-length-9
 same-length-9 c = search needs
 
--- src/lib.rt:15:1
 same-length-10 : tie.Need-same-length-10
 same-length-10 c = search needs
 
--- src/lib.rt:15:1
 same-length-11 : tie.Need-same-length-11
 same-length-11 c = search needs
 
--- src/lib.rt:15:1
 same-length-12 : tie.Need-same-length-12
 same-length-12 c = search needs
 
--- src/lib.rt:15:1
 same-length-13 : tie.Need-same-length-13
 same-length-13 c = search needs
 
--- src/lib.rt:15:1
 same-length-14 : tie.Need-same-length-14
 same-length-14 c = search needs
 
--- src/lib.rt:15:1
 returns-2 : tie.Need-returns-2
 unfolding number
 returns-2 c =
-    let s = c .before .before .before .before .before .before .before .before .before .before .before .before .before .before .before .before .before .before .before .before .before .before .before .before .before .before .before .before .before .before .before .before .before .before .before .before .before .before .before .before .before .before in
-    ap (λ (t : StateTables). outcome 0 t) (c .before .before .before .before .before .before .before .before .before .before .before .apply-linked .ensures) ∙ accepted (job s) (state s) (ask s) (none-met (c .before .before .before .before .before .before .before .before .before .before .before .before .before .before .before .before .before .before .before .before .before .before .before))
+    let e = c .before .before .before .before .before .before .before .before .before .before .before .before .before in
+    refused-later (job (entry e)) (state (entry e)) (ask (entry e)) (none-early e) _ (c .before .later-refusal .ensures) (c .if2 .taken)
+
+apply-linked-requires : tie.Need-apply-linked-requires
+apply-linked-requires c κs =
+    let i = c .before .before .before .before .before .before .before .before .before in
+    let w = i .before .before .before .before .before .before .before .before .before .before .before in
+    let e = w .before .before in
+    applies (job (entry e)) (state (entry e)) (ask (entry e)) (none-early e) _ (i .before .later-refusal .ensures) (i .if2 .left) (whole e) _ _ (made w)
+
+same-length-15 : tie.Need-same-length-15
+same-length-15 c = search needs
+
+same-length-16 : tie.Need-same-length-16
+same-length-16 c = search needs
+
+same-length-17 : tie.Need-same-length-17
+same-length-17 c = search needs
+
+same-length-18 : tie.Need-same-length-18
+same-length-18 c = search needs
+
+same-length-19 : tie.Need-same-length-19
+same-length-19 c = search needs
+
+same-length-20 : tie.Need-same-length-20
+same-length-20 c = search needs
+
+same-length-21 : tie.Need-same-length-21
+same-length-21 c = search needs
+
+returns-3 : tie.Need-returns-3
+unfolding number
+returns-3 c =
+    let a = c .before .before .before .before .before .before .before .before .before .before .before in
+    let i = a .before .before .before .before .before .before .before .before .before .before in
+    let e = i .before .before .before .before .before .before .before .before .before .before .before .before .before in
+    ap (λ (t : StateTables). outcome 0 t) (a .apply-linked .ensures) ∙ accepted (job (entry e)) (state (entry e)) (ask (entry e)) (none-early e) _ (i .before .later-refusal .ensures) (i .if2 .left)
 
 pub step-spec : {M : Type 1} → statement M
 step-spec =
     tie.close
     (tie.spec
-    refusal-requires
+    early-refusal-requires
     same-length
     same-length-2
     same-length-3
@@ -144,7 +157,7 @@ step-spec =
     returns
     needs-requires
     sharers-requires
-    apply-linked-requires
+    later-refusal-requires
     same-length-8
     same-length-9
     same-length-10
@@ -152,4 +165,13 @@ step-spec =
     same-length-12
     same-length-13
     same-length-14
-    returns-2)
+    returns-2
+    apply-linked-requires
+    same-length-15
+    same-length-16
+    same-length-17
+    same-length-18
+    same-length-19
+    same-length-20
+    same-length-21
+    returns-3)

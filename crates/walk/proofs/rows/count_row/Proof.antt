@@ -3,10 +3,10 @@ use mathlib.Core.Path.{_≡_, refl, sym, _∙_}
 use mathlib.Core.Bool.{_||_, not}
 use Prim.Native.Nat.{_+_, _*_, _≤_, _-_}
 use native.Mathlib.Omega.{arith}
-use Rattle.laws.specs.Below.{count, sum, words}
 use lib.Dec.{eqb}
 use borrow.Author.Tests.{not-true}
 use borrow.Author.Needs.{needs}
+use Rattle.laws.specs.Below.{count, sum, words}
 use Rattle.laws.proofs.Bools.{and-l, and-r}
 use Rattle.walk.specs.Walk.{listedBy}
 use Rattle.walk.specs.Rows.{rowOf, rowCount}
@@ -37,7 +37,7 @@ unfolding count sum words
 loop-holds c = (search needs, refl)
 
 is-open-requires : tie.Need-is-open-requires Inv-loop μ-loop
-is-open-requires c κs = (search needs, c .before .before .before .is-ready .ensures)
+is-open-requires c κs = (search needs, λ asks. c .before .before .before .is-ready .ensures)
 
 one-requires : tie.Need-one-requires Inv-loop μ-loop
 one-requires c κs = search needs

@@ -4,24 +4,25 @@ use mathlib.Core.Bool.{Bool}
 use Prim.Native.Nat.{ℕ, _+_, _*_, _/_, _%_, _≤_, _<_, _-_}
 use native.Mathlib.Omega.{arith}
 use lib.Arith.{digits-lt}
-use Rattle.laws.specs.Below.{count}
 use borrow.Author.Needs.{needs}
-use denote.Ref.{now}
+use Rattle.laws.specs.Below.{count}
 use Rattle.model.specs.Steps.{kindOf}
 use Rattle.prices.specs.Marks.{stepsDone}
 use Rattle.refuse.specs.Rules.{permittedBy}
 use Rattle.walk.specs.Walk.{listedBy}
+use Rattle.walk.specs.Rows.{rowOf, rowCount}
+use denote.Ref.{now}
 use Rattle.walk.proofs.Walking.{found-here, less-fits, passed}
 use Rattle.walk.proofs.Places.{listed-at}
-use Rattle.walk.proofs.ByRow.{kind-few, row-place, marks-at, row-here, search-first, search-next, search-end}
+use Rattle.walk.proofs.ByRow.{row-digits, kind-few, row-in, row-place, marks-at, row-here, open-row, search-first, search-next, search-end}
 use Rattle.walk.proofs.rows.find_row.Statement.{statement}
 use Rattle.walk.proofs.rows.find_row.Tie as tie
 
 abbrev Inv-loop : tie.InvT-loop
-Inv-loop k r c prices totals done kind a first left₀ b₀ left b = (b ≤ k) × (left + count (r * k + b) (listedBy k prices totals done) ≡ c + count (r * k) (listedBy k prices totals done))
+Inv-loop k r c prices totals done kind a left₀ b₀ left b = (b ≤ k) × (left + count (r * k + b) (listedBy k prices totals done) ≡ c + count (r * k) (listedBy k prices totals done))
 
 abbrev μ-loop : tie.MeasureT-loop
-μ-loop k r c prices totals done kind a first left₀ b₀ left b = k - b
+μ-loop k r c prices totals done kind a left₀ b₀ left b = k - b
 
 abbrev Start : Type 0
 Start = tie.Start Inv-loop μ-loop
@@ -33,6 +34,10 @@ open-at : (s : Start) (b : ℕ) → b < s .args .k → (t : Bool) →
 open-at s b l t e =
     e ∙ listed-at (s .args .k) (s .args .r / s .args .k + 1) (s .args .r % s .args .k) b _ _ _ (row-place (s .args .k) (s .args .r) b _ (s .pre .0) (s .pre .1 .0) l)
     ∙ ap (listedBy _ _ _ _) (row-here (s .args .k) (s .args .r) b)
+
+-- The row has a ready step.
+some-ready : (s : Start) → 1 ≤ rowCount (s .args .k) (now (s .args .prices)) (now (s .args .totals)) (now (s .args .done)) (rowOf (s .args .k) (s .args .r / s .args .k + 1) (s .args .r % s .args .k))
+some-ready s = rw (row-digits (s .args .k) (s .args .r)) (omega (arith, s .pre .1 .1))
 
 div-kind : tie.Need-div-kind Inv-loop μ-loop
 div-kind c = search needs
@@ -46,22 +51,19 @@ rem-a : tie.Need-rem-a Inv-loop μ-loop
 rem-a c = search needs
 
 loop-holds : tie.Need-loop-holds Inv-loop μ-loop
-loop-holds c = let s = c .before .before in (search needs, search-first (s .args .k) _ _ _ (s .args .r) (s .args .c))
-
-is-ready-requires : tie.Need-is-ready-requires Inv-loop μ-loop
-is-ready-requires c κs =
-    let s = c .before in
-    marks-at (s .args .k) (s .args .r) 0 _ (s .pre .0) (s .pre .1 .0) (s .pre .0 .some)
+loop-holds c = let s = c .before in (search needs, search-first (s .args .k) _ _ _ (s .args .r) (s .args .c))
 
 is-open-requires : tie.Need-is-open-requires Inv-loop μ-loop
 is-open-requires c κs =
-    let s = c .before .before .before .before in
-    (marks-at (s .args .k) (s .args .r) (c .before .loop .b) _ (s .pre .0) (s .pre .1 .0) (c .loop-test .taken), c .before .before .is-ready .ensures)
+    let s = c .before .before .before in (
+      marks-at (s .args .k) (s .args .r) (c .before .loop .b) _ (s .pre .0) (s .pre .1 .0) (c .loop-test .taken),
+      open-row (s .args .k) _ _ _ (s .args .r / s .args .k + 1) (s .args .r % s .args .k) (row-in (s .args .k) (s .args .r) _ (s .pre .0) (s .pre .1 .0)) (some-ready s),
+    )
 
 returns : tie.Need-returns Inv-loop μ-loop
 returns c =
     let l = c .before .before .before .loop in
-    let s = c .before .before .before .before .before .before in
+    let s = c .before .before .before .before .before in
     let lb = c .before .before .loop-test .taken in
     record {
       place-in = row-place (s .args .k) (s .args .r) (l .b) _ (s .pre .0) (s .pre .1 .0) lb;
@@ -76,7 +78,7 @@ one-requires c κs = search needs
 sub-left : tie.Need-sub-left Inv-loop μ-loop
 sub-left c =
     let l = c .before .before .before .before .loop in
-    let s = c .before .before .before .before .before .before .before in
+    let s = c .before .before .before .before .before .before in
     less-fits (listedBy _ _ _ _) (s .args .r * s .args .k + l .b) (l .left) _ (l .inv .1) _ _ (open-at s (l .b) (c .before .before .before .loop-test .taken) _ (c .before .before .is-open .ensures)) (c .one .ensures) (c .before .if1 .left)
 
 add-b : tie.Need-add-b Inv-loop μ-loop
@@ -88,7 +90,7 @@ loop-less c = search needs
 loop-again : tie.Need-loop-again Inv-loop μ-loop
 loop-again c =
     let l = c .before .before .before .before .loop in
-    let s = c .before .before .before .before .before .before .before in (
+    let s = c .before .before .before .before .before .before in (
       search needs,
       search-next (s .args .k) _ _ _ (s .args .r) _ _ (l .b)
           (passed (listedBy _ _ _ _) (s .args .r * s .args .k + l .b) (l .left) _ (l .inv .1) _ _ (open-at s (l .b) (c .before .before .before .loop-test .taken) _ (c .before .before .is-open .ensures)) (c .one .ensures) (c .before .if1 .left)),
@@ -97,7 +99,7 @@ loop-again c =
 returns-2 : tie.Need-returns-2 Inv-loop μ-loop
 returns-2 c =
     let l = c .before .loop in
-    let s = c .before .before .before .before in
+    let s = c .before .before .before in
     absurd (search-end (s .args .k) _ _ _ (s .args .r) (s .args .c) (l .left) (l .b) (omega arith) (l .inv .1) (s .pre .1 .1))
 
 pub find-row-spec : {M : Type 1} → statement M
@@ -109,7 +111,6 @@ find-row-spec =
     div-kind
     add-kind
     rem-a
-    is-ready-requires
     loop-holds
     is-open-requires
     returns

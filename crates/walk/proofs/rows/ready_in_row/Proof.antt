@@ -14,7 +14,7 @@ returns c = c .is-ready .ensures
 returns-2 : tie.Need-returns-2
 returns-2 c =
     let s = c .before .before in
-    s .pre .1 ∙ ready-row _ _ _ (s .args .a) (s .args .b) (s .args .kind) (s .pre .0 .kind-to) (c .if1 .left)
+    s .pre .1 (c .if1 .left) ∙ ready-row _ _ _ (s .args .a) (s .args .b) (s .args .kind) (s .pre .0 .kind-to) (c .if1 .left)
 
 pub ready-in-row-spec : {M : Type 1} → statement M
 ready-in-row-spec = tie.close (tie.spec is-ready-requires returns returns-2)

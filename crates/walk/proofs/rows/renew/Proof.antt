@@ -1,52 +1,84 @@
--- `walk::rows::renew` meets its contract: the rows that the step can change are counted anew. Assumes nothing.
+-- `walk::rows::renew` meets its contract: the rows that the step can change are right again. Assumes nothing.
+use mathlib.Core.Path.{sym, _∙_}
+use borrow.Author.Tests.{not-true}
 use borrow.Author.Needs.{needs}
-use Rattle.walk.proofs.ByRow.{sent-kind, renewed-sent, renewed-own, renewed-multiplied}
+use Rattle.walk.proofs.ByRow.{renewed-sent, renewed-own, renewed-multiplied, sent-kind, multiply-kind}
+use Rattle.walk.proofs.Changed.{rows-kept, one-ready, own-renewed, closed-4, closed-5, receiver-few, receiver-renewed}
 use Rattle.walk.proofs.rows.renew.Statement.{statement}
 use Rattle.walk.proofs.rows.renew.Tie as tie
 
-renew-row-requires : tie.Need-renew-row-requires
-renew-row-requires c κs = search needs
+one-less-requires : tie.Need-one-less-requires
+one-less-requires c κs = let s = c .before .before in one-ready (s .args .k) (s .args .kind) (s .args .a) (s .args .b) _ _ _ _ (s .pre .0) (s .pre .1)
 
-add-renew-row : tie.Need-add-renew-row
-add-renew-row c = search needs
+add-one-more : tie.Need-add-one-more
+add-one-more c = search needs
 
-renew-row-requires-2 : tie.Need-renew-row-requires-2
-renew-row-requires-2 c κs =
+one-more-requires : tie.Need-one-more-requires
+one-more-requires c κs =
     let s = c .before .before .before .before .before in
     let to = sent-kind (s .args .kind) (c .before .if1 .taken) in
-    (search needs, c .before .before .renew-row .ensures .long)
+    let own = own-renewed (s .args .k) (s .args .kind) (s .args .a) (s .args .b) _ _ _ _ (s .pre .0) (s .pre .1) _ (c .before .before .one-less .ensures) in
+    (search needs, (own .long, receiver-few (s .args .k) (s .args .kind) (s .args .a) (s .args .b) _ _ _ _ (s .pre .0) (s .pre .1) _ (c .before .before .one-less .ensures) (c .before .if1 .taken)))
 
 returns : tie.Need-returns
 returns c =
-    let s = c .before .before .before .before .before .before in
-    renewed-sent _ _ _ _ (s .args .kind) (s .args .a) (s .args .b) _ _ (s .pre .1) (c .before .before .before .renew-row .ensures) _ (c .before .before .if1 .taken) (c .renew-row2 .ensures)
+    let i = c .before .before in
+    let s = i .before .before .before .before in
+    renewed-sent (s .args .k) _ _ _ (s .args .kind) (s .args .a) (s .args .b) _ _
+    (rows-kept (s .args .k) (s .args .kind) (s .args .a) (s .args .b) _ _ _ _ (s .pre .0) (s .pre .1))
+    (own-renewed (s .args .k) (s .args .kind) (s .args .a) (s .args .b) _ _ _ _ (s .pre .0) (s .pre .1) _ (i .before .one-less .ensures)) _ (i .if1 .taken)
+    (receiver-renewed (s .args .k) (s .args .kind) (s .args .a) (s .args .b) _ _ _ _ (s .pre .0) (s .pre .1) _ (i .before .one-less .ensures) (i .if1 .taken) _ (c .one-more .ensures))
 
 returns-2 : tie.Need-returns-2
 returns-2 c =
     let s = c .before .before .before .before .before in
-    renewed-own _ _ _ _ (s .args .kind) (s .args .a) (s .args .b) _ _ (s .pre .1) (c .before .before .renew-row .ensures) (c .before .if1 .left) (c .if2 .taken)
+    renewed-own (s .args .k) _ _ _ (s .args .kind) (s .args .a) (s .args .b) _ _
+    (rows-kept (s .args .k) (s .args .kind) (s .args .a) (s .args .b) _ _ _ _ (s .pre .0) (s .pre .1))
+    (own-renewed (s .args .k) (s .args .kind) (s .args .a) (s .args .b) _ _ _ _ (s .pre .0) (s .pre .1) _ (c .before .before .one-less .ensures)) (c .before .if1 .left) (c .if2 .taken)
 
-renew-row-requires-3 : tie.Need-renew-row-requires-3
-renew-row-requires-3 c κs = search needs
-
-renew-row-requires-4 : tie.Need-renew-row-requires-4
-renew-row-requires-4 c κs = search needs
+multiplied-requires : tie.Need-multiplied-requires
+multiplied-requires c κs = search needs
 
 returns-3 : tie.Need-returns-3
 returns-3 c =
-    let e = c .before .before .before .before in
+    let e = c .before .before in
     let s = e .before .before .before .before .before in
-    renewed-multiplied _ _ _ _ (s .args .kind) (s .args .a) (s .args .b) _ _ (s .pre .1) (e .before .before .renew-row .ensures) (e .before .if1 .left) _ _ (e .if2 .left) (c .before .before .renew-row3 .ensures) (c .renew-row4 .ensures)
+    let off = sym (c .before .multiplied .ensures) ∙ not-true _ (c .if3 .taken) in
+    renewed-multiplied (s .args .k) _ _ _ (s .args .kind) (s .args .a) (s .args .b) _ _
+    (rows-kept (s .args .k) (s .args .kind) (s .args .a) (s .args .b) _ _ _ _ (s .pre .0) (s .pre .1))
+    (own-renewed (s .args .k) (s .args .kind) (s .args .a) (s .args .b) _ _ _ _ (s .pre .0) (s .pre .1) _ (e .before .before .one-less .ensures)) (e .before .if1 .left) _ _ (e .if2 .left)
+    (closed-4 (s .args .k) (s .args .kind) (s .args .a) (s .args .b) _ _ _ _ (s .pre .0) (s .pre .1) _ (e .before .before .one-less .ensures) off (multiply-kind (s .args .kind) (e .if2 .left)))
+    (closed-5 (s .args .k) (s .args .kind) (s .args .a) (s .args .b) _ _ _ _ (s .pre .0) (s .pre .1) _ (e .before .before .one-less .ensures) off (multiply-kind (s .args .kind) (e .if2 .left)))
+
+renew-row-requires : tie.Need-renew-row-requires
+renew-row-requires c κs =
+    let e = c .before .before .before in
+    let s = e .before .before .before .before .before in
+    (search needs, own-renewed (s .args .k) (s .args .kind) (s .args .a) (s .args .b) _ _ _ _ (s .pre .0) (s .pre .1) _ (e .before .before .one-less .ensures) .long)
+
+renew-row-requires-2 : tie.Need-renew-row-requires-2
+renew-row-requires-2 c κs = search needs
+
+returns-4 : tie.Need-returns-4
+returns-4 c =
+    let e = c .before .before .before .before .before .before in
+    let s = e .before .before .before .before .before in
+    renewed-multiplied (s .args .k) _ _ _ (s .args .kind) (s .args .a) (s .args .b) _ _
+    (rows-kept (s .args .k) (s .args .kind) (s .args .a) (s .args .b) _ _ _ _ (s .pre .0) (s .pre .1))
+    (own-renewed (s .args .k) (s .args .kind) (s .args .a) (s .args .b) _ _ _ _ (s .pre .0) (s .pre .1) _ (e .before .before .one-less .ensures)) (e .before .if1 .left) _ _ (e .if2 .left)
+    (c .before .before .renew-row .ensures) (c .renew-row2 .ensures)
 
 pub renew-spec : {M : Type 1} → statement M
 renew-spec =
     tie.close
     (tie.spec
-    renew-row-requires
-    add-renew-row
-    renew-row-requires-2
+    one-less-requires
+    add-one-more
+    one-more-requires
     returns
     returns-2
-    renew-row-requires-3
-    renew-row-requires-4
-    returns-3)
+    multiplied-requires
+    returns-3
+    renew-row-requires
+    renew-row-requires-2
+    returns-4)

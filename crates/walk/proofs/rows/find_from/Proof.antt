@@ -1,0 +1,80 @@
+-- `walk::rows::find_from` meets its contract: at row r, what is left to pass and the rows before it make the place that is meant. Assumes nothing.
+use mathlib.Core.Path.{_≡_, refl}
+use Prim.Native.Nat.{_+_, _*_, _≤_, _<_, _-_}
+use native.Mathlib.Omega.{arith}
+use borrow.Author.Needs.{needs}
+use Rattle.walk.specs.Rows.{rowSum}
+use denote.Ref.{now}
+use Rattle.walk.proofs.ByRow.{found-row, found-left, row-passed, rows-end}
+use Rattle.walk.proofs.rows.find_from.Statement.{statement}
+use Rattle.walk.proofs.rows.find_from.Tie as tie
+
+abbrev Inv-loop : tie.InvT-loop
+Inv-loop k from c rows prices totals done n left₀ r₀ left r = (r ≤ n) × (left + rowSum rows r ≡ c + rowSum rows from)
+
+abbrev μ-loop : tie.MeasureT-loop
+μ-loop k from c rows prices totals done n left₀ r₀ left r = n - r
+
+mul-n : tie.Need-mul-n Inv-loop μ-loop
+mul-n c = search needs
+
+loop-holds : tie.Need-loop-holds Inv-loop μ-loop
+loop-holds c = (search needs, refl)
+
+cast-i : tie.Need-cast-i Inv-loop μ-loop
+cast-i c = search needs
+
+mul-found : tie.Need-mul-found Inv-loop μ-loop
+mul-found c = search needs
+
+element-copy-out-found : tie.Need-element-copy-out-found Inv-loop μ-loop
+element-copy-out-found c = search needs
+
+find-row-requires : tie.Need-find-row-requires Inv-loop μ-loop
+find-row-requires c κs =
+    let l = c .before .before .before .loop in
+    let s = c .before .before .before .before .before in
+    let lr : l .r < 6 * s .args .k = omega arith in
+    (s .pre .0, (lr, found-left (s .args .k) _ _ _ _ (s .pre .1 .0) (l .r) (l .left) _ (l .inv .1) lr (c .if1 .taken)))
+
+returns : tie.Need-returns Inv-loop μ-loop
+returns c =
+    let l = c .before .before .before .before .loop in
+    let s = c .before .before .before .before .before .before in
+    rw (found-row (s .args .k) _ _ _ _ (s .pre .1 .0) (l .r) (l .left) _ (l .inv .1) (omega arith)) at (c .find-row .ensures)
+
+add-r : tie.Need-add-r Inv-loop μ-loop
+add-r c = search needs
+
+loop-less : tie.Need-loop-less Inv-loop μ-loop
+loop-less c = search needs
+
+loop-again : tie.Need-loop-again Inv-loop μ-loop
+loop-again c =
+    let l = c .before .before .before .loop in
+    let s = c .before .before .before .before .before in
+    (search needs, row-passed (s .args .k) _ _ _ _ (s .pre .1 .0) (l .r) (l .left) _ (l .inv .1) (c .if1 .left))
+
+returns-2 : tie.Need-returns-2 Inv-loop μ-loop
+returns-2 c =
+    let l = c .before .loop in
+    let s = c .before .before .before in
+    absurd (rows-end (s .args .k) _ _ _ _ (s .pre .1 .0) (l .r) (l .left) (s .args .c + rowSum (now (s .args .rows)) (s .args .from)) (omega arith) (l .inv .1) (s .pre .1 .1 .1))
+
+pub find-from-spec : {M : Type 1} → statement M
+find-from-spec =
+    tie.close
+    (tie.spec
+    Inv-loop
+    μ-loop
+    mul-n
+    loop-holds
+    cast-i
+    mul-found
+    element-copy-out-found
+    find-row-requires
+    returns
+    add-r
+    loop-less
+    loop-again
+    returns-2)
