@@ -94,7 +94,28 @@ fn box_line(
 }
 
 // The lines of all boxes.
-fn box_lines(j: Job) {
+fn box_lines(
+    price: &[u32; 500],
+    owner: &[u16; 500],
+    gowner: &[u16; 255],
+    tgrocer: &[u16; 1000],
+    tbox: &[u16; 1000],
+    toffer: &[u16; 1000],
+    tcount: &[i32; 1000],
+) {
+    show::line(
+        b"tallies of offer 100 in its owner's box",
+        held(tbox, toffer, 1000, at(owner, 100), 100),
+    );
+    let mut b: u16 = 0;
+    while b < 16 {
+        box_line(price, owner, gowner, tgrocer, tbox, toffer, tcount, b);
+        b += 1;
+    }
+}
+
+// The lines of a job.
+fn job_lines(j: Job) {
     let price = j.price;
     let owner = j.owner;
     let gowner = j.gowner;
@@ -102,18 +123,12 @@ fn box_lines(j: Job) {
     let tbox = j.tbox;
     let toffer = j.toffer;
     let tcount = j.tcount;
-    show::line(
-        b"tallies of offer 100 in its owner's box",
-        held(&tbox, &toffer, 1000, at(&owner, 100), 100),
+    box_lines(
+        &price, &owner, &gowner, &tgrocer, &tbox, &toffer, &tcount,
     );
-    for b in 0..16u16 {
-        box_line(
-            &price, &owner, &gowner, &tgrocer, &tbox, &toffer, &tcount, b,
-        );
-    }
 }
 
 // The books of the largest job.
 pub fn largest() {
-    box_lines(large_job::job::largest());
+    job_lines(large_job::job::largest());
 }

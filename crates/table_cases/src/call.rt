@@ -1,15 +1,10 @@
 // One call for the tables of messages of a small job, each table of the job lent whole or without its last word.
+use crate::lines::table_lines;
+use crate::lines::tell;
 use attempts::reads::cut;
 use small_job::job::Job;
 use tables::messages::Answer;
 use tables::messages::message_tables;
-
-// What a call gave: its answer, and both tables.
-pub struct Made {
-    pub answer: Answer,
-    pub prices: [[u16; 16]; 16],
-    pub totals: [[u16; 16]; 16],
-}
 
 // The call with table `which` of the seven of the job, from 0, lent without its last word.
 fn cut_job(
@@ -75,8 +70,8 @@ fn lend(
     )
 }
 
-// The tables of a job, table `which` of its seven a word too short; 7 for none. Both were full of sevens.
-pub fn tables_short(j: Job, which: u64) -> Made {
+// The lines of a job's tables, table `which` of its seven a word too short; 7 for none. Both were full of sevens.
+pub fn tables_short(name: &[u8], j: Job, which: u64, shown: bool) {
     let price = j.price;
     let owner = j.owner;
     let gowner = j.gowner;
@@ -102,9 +97,8 @@ pub fn tables_short(j: Job, which: u64) -> Made {
         &mut totals,
         which,
     );
-    Made {
-        answer: answer,
-        prices: prices,
-        totals: totals,
+    tell(name, answer, prices, totals);
+    if shown {
+        table_lines(prices, totals);
     }
 }

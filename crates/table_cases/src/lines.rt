@@ -1,6 +1,4 @@
 // What the program writes of tables of messages.
-use crate::call::Made;
-use crate::call::tables_short;
 use crate::second::differ;
 use attempts::differ::add;
 use attempts::job::wide16;
@@ -62,10 +60,7 @@ pub fn answer_text(name: &[u8], a: Answer) {
 }
 
 // The answer, and how many words of both tables are not the sevens that they were.
-pub fn tell(name: &[u8], m: Made) {
-    let answer = m.answer;
-    let prices = m.prices;
-    let totals = m.totals;
+pub fn tell(name: &[u8], answer: Answer, prices: [[u16; 16]; 16], totals: [[u16; 16]; 16]) {
     let sevens = [[7u16; 16]; 16];
     answer_text(name, answer);
     show::line(
@@ -74,12 +69,8 @@ pub fn tell(name: &[u8], m: Made) {
     );
 }
 
-// Both tables of E.
-pub fn small() {
-    let m = tables_short(small_job::job::small(), 7);
-    let prices = m.prices;
-    let totals = m.totals;
-    tell(b"E", m);
+// Both tables of two boxes.
+pub fn table_lines(prices: [[u16; 16]; 16], totals: [[u16; 16]; 16]) {
     show::text(b"prices\n");
     print_corner(prices);
     sum_lines(prices);

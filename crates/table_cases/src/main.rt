@@ -2,15 +2,15 @@
 mod call;
 mod large;
 mod lines;
-mod refused;
 mod second;
 mod sizes;
+mod small;
 
 fn main() {
-    lines::small();
-    refused::short();
-    refused::job_words();
-    refused::sizes();
+    small::whole();
+    small::short();
+    small::job_words();
+    small::sizes();
     sizes::size_cases();
     large::largest();
 }

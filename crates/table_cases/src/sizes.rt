@@ -1,5 +1,4 @@
 // K, M, N and T out of range, each in turn, with tables that are long enough: 21.
-use crate::call::Made;
 use crate::lines::tell;
 use tables::messages::message_tables;
 
@@ -22,14 +21,7 @@ fn size_case(name: &[u8], boxes: u16, grocers: u16, offers: u16, tallies: u16) {
         &mut prices,
         &mut totals,
     );
-    tell(
-        name,
-        Made {
-            answer: answer,
-            prices: prices,
-            totals: totals,
-        },
-    );
+    tell(name, answer, prices, totals);
 }
 
 // Each size above its values, with both ends of them.

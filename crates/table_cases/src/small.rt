@@ -1,12 +1,16 @@
-// Each condition of 20 and 21 in turn on E's tables.
+// E's tables, and each condition of 20 and 21 in turn.
 use crate::call::tables_short;
-use crate::lines::tell;
 use small_job::beyond::job_beyond;
 use small_job::job::small;
 
+// Both tables of E.
+pub fn whole() {
+    tables_short(b"E", small(), 7, true);
+}
+
 // E with table `which` of the job lent without its last word.
 fn cut(name: &[u8], which: u64) {
-    tell(name, tables_short(small(), which));
+    tables_short(name, small(), which, false);
 }
 
 // The seven tables of the job; and 20 comes before 21.
@@ -18,15 +22,17 @@ pub fn short() {
     cut(b"3 tally boxes", 4);
     cut(b"3 tally places", 5);
     cut(b"3 tally counts", 6);
-    tell(
+    tables_short(
         b"1 price, a tally box out of range",
-        tables_short(job_beyond(4), 0),
+        job_beyond(4),
+        0,
+        false,
     );
 }
 
 // E with the last word of a table of the job just out of its range.
 fn beyond(name: &[u8], which: u64) {
-    tell(name, tables_short(job_beyond(which), 7));
+    tables_short(name, job_beyond(which), 7, false);
 }
 
 // A word of each table of the job.
@@ -48,7 +54,7 @@ fn sized(name: &[u8], boxes: u16, grocers: u16, offers: u16, tallies: u16) {
     j.grocers = grocers;
     j.offers = offers;
     j.tallies = tallies;
-    tell(name, tables_short(j, 7));
+    tables_short(name, j, 7, false);
 }
 
 // Fewer tallies, and sizes for which a table is short (20) or that are out of range (21).
