@@ -148,8 +148,24 @@ fn lend(
     which: u64,
 ) -> Answer {
     cut_job(
-        boxes, grocers, offers, tallies, price, owner, gowner, tgrocer, tbox, toffer, tcount, b,
-        loffers, lgrocers, starts, pgrocers, pcounts, which,
+        boxes,
+        grocers,
+        offers,
+        tallies,
+        price,
+        owner,
+        gowner,
+        tgrocer,
+        tbox,
+        toffer,
+        tcount,
+        b,
+        loffers,
+        lgrocers,
+        starts,
+        pgrocers,
+        pcounts,
+        which,
     )
 }
 
@@ -172,8 +188,24 @@ fn book_job(
     let toffer = j.toffer;
     let tcount = j.tcount;
     lend(
-        j.boxes, j.grocers, j.offers, j.tallies, &price, &owner, &gowner, &tgrocer, &tbox, &toffer,
-        &tcount, b, loffers, lgrocers, starts, pgrocers, pcounts, which,
+        j.boxes,
+        j.grocers,
+        j.offers,
+        j.tallies,
+        &price,
+        &owner,
+        &gowner,
+        &tgrocer,
+        &tbox,
+        &toffer,
+        &tcount,
+        b,
+        loffers,
+        lgrocers,
+        starts,
+        pgrocers,
+        pcounts,
+        which,
     )
 }
 

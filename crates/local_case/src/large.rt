@@ -40,7 +40,16 @@ fn wrong_in(
             let counts = differ_counts(pcounts, &[2_000_000_001i32; 1000]);
             let past = add(not_written(pgrocers, many), one(counts != many));
             let packed = packed_wrong(
-                tgrocer, tbox, toffer, tcount, b, loffers, lgrocers, starts, pgrocers, pcounts,
+                tgrocer,
+                tbox,
+                toffer,
+                tcount,
+                b,
+                loffers,
+                lgrocers,
+                starts,
+                pgrocers,
+                pcounts,
             );
             add(add(lists, first), add(past, packed))
         }
@@ -84,8 +93,19 @@ fn box_line(
         &mut pcounts,
     );
     let wrong = wrong_in(
-        answer, owner, gowner, tgrocer, tbox, toffer, tcount, b, &loffers, &lgrocers, &starts,
-        &pgrocers, &pcounts,
+        answer,
+        owner,
+        gowner,
+        tgrocer,
+        tbox,
+        toffer,
+        tcount,
+        b,
+        &loffers,
+        &lgrocers,
+        &starts,
+        &pgrocers,
+        &pcounts,
     );
     show::text(b"largest job, box");
     show::next(wide16(b));
@@ -123,9 +143,7 @@ fn job_lines(j: Job) {
     let tbox = j.tbox;
     let toffer = j.toffer;
     let tcount = j.tcount;
-    box_lines(
-        &price, &owner, &gowner, &tgrocer, &tbox, &toffer, &tcount,
-    );
+    box_lines(&price, &owner, &gowner, &tgrocer, &tbox, &toffer, &tcount);
 }
 
 // The books of the largest job.

@@ -43,21 +43,29 @@ fn tables_lines(t: Tables) {
     print_counts(b"  packed counts", &pcounts);
 }
 
-// How many words of the five tables differ.
-fn changed(s: Tables, t: Tables) -> u64 {
+// How many words of the local lists and the starts differ.
+fn lists(s: Tables, t: Tables) -> u64 {
     let a = s.offers;
     let b = t.offers;
     let c = s.grocers;
     let d = t.grocers;
     let e = s.starts;
     let f = t.starts;
-    let g = s.pgrocers;
-    let h = t.pgrocers;
-    let i = s.pcounts;
-    let j = t.pcounts;
-    let lists = add(differ16(&a, &b), differ16(&c, &d));
-    let packed = add(differ16(&g, &h), differ_counts(&i, &j));
-    add(add(lists, differ16(&e, &f)), packed)
+    add(add(differ16(&a, &b), differ16(&c, &d)), differ16(&e, &f))
+}
+
+// How many words of the packed lists differ.
+fn packed(s: Tables, t: Tables) -> u64 {
+    let a = s.pgrocers;
+    let b = t.pgrocers;
+    let c = s.pcounts;
+    let d = t.pcounts;
+    add(differ16(&a, &b), differ_counts(&c, &d))
+}
+
+// How many words of the five tables differ.
+fn changed(s: Tables, t: Tables) -> u64 {
+    add(lists(s, t), packed(s, t))
 }
 
 // The name and the answer, with no end of the line.

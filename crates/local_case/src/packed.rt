@@ -21,7 +21,10 @@ fn in_job(
     let mut t: usize = 0;
     while t < 1_000 {
         let place = (at(tbox, t) == b) & (at(toffer, t) == o);
-        sum = add(sum, one(place & (at(tgrocer, t) == g) & (count_at(tcount, t) == c)));
+        sum = add(
+            sum,
+            one(place & (at(tgrocer, t) == g) & (count_at(tcount, t) == c)),
+        );
         t += 1;
     }
     sum
@@ -42,7 +45,10 @@ fn in_book(
     while p < 1_000 {
         let inside = (begin <= p) & (p < end);
         let grocer = at_word(lgrocers, at_word(pgrocers, p));
-        sum = add(sum, one(inside & (grocer == g) & (count_at(pcounts, p as usize) == c)));
+        sum = add(
+            sum,
+            one(inside & (grocer == g) & (count_at(pcounts, p as usize) == c)),
+        );
         p += 1;
     }
     sum

@@ -31,10 +31,5 @@ pub fn order() {
     one_case(b"1 price, box 2", small(), 2, 0);
     one_case(b"2 starts, box 2", small(), 2, 9);
     one_case(b"price 10000000, box 2", job_beyond(0), 2, 12);
-    one_case(
-        b"2 starts, price 10000000, box 2",
-        job_beyond(0),
-        2,
-        9,
-    );
+    one_case(b"2 starts, price 10000000, box 2", job_beyond(0), 2, 9);
 }

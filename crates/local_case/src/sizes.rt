@@ -50,14 +50,7 @@ pub fn size_cases() {
     size_case(b"N 501", 1, 1, 501, 0, 0);
     size_case(b"T 1001", 1, 1, 1, 1_001, 0);
     size_case(b"K 1, M 1, N 1, T 0", 1, 1, 1, 0, 0);
-    size_case(
-        b"K 16, M 255, N 500, T 1000, box 0",
-        16,
-        255,
-        500,
-        1_000,
-        0,
-    );
+    size_case(b"K 16, M 255, N 500, T 1000, box 0", 16, 255, 500, 1_000, 0);
     size_case(
         b"K 16, M 255, N 500, T 1000, box 15",
         16,

@@ -65,8 +65,20 @@ fn lend(
     which: u64,
 ) -> Answer {
     cut_job(
-        boxes, grocers, offers, tallies, price, owner, gowner, tgrocer, tbox, toffer, tcount, prices,
-        totals, which,
+        boxes,
+        grocers,
+        offers,
+        tallies,
+        price,
+        owner,
+        gowner,
+        tgrocer,
+        tbox,
+        toffer,
+        tcount,
+        prices,
+        totals,
+        which,
     )
 }
 

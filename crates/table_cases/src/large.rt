@@ -56,9 +56,7 @@ fn job_lines(j: Job) {
     let tbox = j.tbox;
     let toffer = j.toffer;
     let tcount = j.tcount;
-    both(
-        &price, &owner, &gowner, &tgrocer, &tbox, &toffer, &tcount,
-    );
+    both(&price, &owner, &gowner, &tgrocer, &tbox, &toffer, &tcount);
 }
 
 // The largest job.

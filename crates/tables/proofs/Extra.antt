@@ -18,7 +18,6 @@ use Rattle.laws.proofs.Bools.{split}
 use Rattle.laws.proofs.Below.{count-le}
 use Rattle.laws.proofs.Tables.{length-tabulate, getD-tabulate, is-tabulate, tabulate-cong}
 use Rattle.laws.proofs.Masks.{mask-bits, bit-mask, mask-without, ones-without}
-
 pub use Rattle.laws.proofs.Below.{any-cong}
 
 -- A list of the same word has it everywhere, where it stands for what is past the end too.
