@@ -1,10 +1,12 @@
 -- What the three calls of the host give: a number, 0 where the call is accepted and else the refusal's, and the lent words.
+use mathlib.Core.Path.{_≡_}
 use mathlib.Core.Bool.{cond}
 use mathlib.Core.List.{List, [], _∷_, _++_}
 use Prim.Native.Nat.{ℕ}
 use lib.Dec.{ltb}
 use lib.ListN.{length, drop}
 use Rattle.model.specs.Tables.{JobTables, StateTables}
+use Rattle.model.specs.Step.{Asked, outcome, stepped}
 use Rattle.model.specs.Run.{RunAnswer, finished, refused, ran}
 use Rattle.format.specs.Tables.{ReadAnswer, sizes, refused as notRead, ReaderTables, readResult}
 
@@ -47,3 +49,12 @@ runAs (refused r) t p = hostRun r t p
 -- The host's run: 20 also where the report is shorter than three words.
 unfoldable pub ranByHost : JobTables → StateTables → List ℕ → List ℕ → HostRun
 ranByHost f t choices p = cond (ltb (length p) 3) (hostRun 20 t p) (runAs (ran f t choices .answer) (ran f t choices .tables) p)
+
+-- A refused call has changed no lent word. `host-refused` in proofs/Refused.antt proves it.
+pub record HostRefused : Type 0 where
+  -- The reader leaves its tables and the buffer for sizes as they were;
+  pub read : (file : List ℕ) (l : ReaderTables) (s : List ℕ) → (readByHost file l s .answer ≡ 0 → ⊥) → readByHost file l s ≡ hostRead (readByHost file l s .answer) l s
+  -- a step, the state's tables;
+  pub step : (f : JobTables) (t : StateTables) (q : Asked) → (stepped f t q .answer ≡ 0 → ⊥) → stepped f t q ≡ outcome (stepped f t q .answer) t
+  -- a run, the state's tables and the report.
+  pub run : (f : JobTables) (t : StateTables) (choices p : List ℕ) → (ranByHost f t choices p .answer ≡ 0 → ⊥) → ranByHost f t choices p ≡ hostRun (ranByHost f t choices p .answer) t p

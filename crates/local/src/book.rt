@@ -92,7 +92,8 @@ fn refusal(
     0
 }
 
-// The local book of box b, written into the five tables lent.
+// The local book of box b, written into the five tables lent. One thing is left open, as 01 leaves it: the order of the
+// tallies inside an offer's packed list.
 pub fn book(
     boxes: u16,
     grocers: u16,

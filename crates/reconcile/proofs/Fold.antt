@@ -1,11 +1,13 @@
 -- The serial sum over the records is the model's answer, and every answer on the way can be added to.
 --     sums-to       the code's opening and one record after the other give what the model says
+--     amounts-in-range   an amount that is owed is in range
 --     after         the answer after i records; after-first, after-next, after-last, after-summable are what the walk cites
 -- Assumes nothing.
-use mathlib.Core.Path.{_≡_, refl, sym, ap, _∙_}
+use mathlib.Core.Path.{_≡_, refl, sym, ap, _∙_, subst}
 use mathlib.Core.List.{List, [], _∷_, _++_}
 use mathlib.Core.Bool.{Bool, true, false, cond, _&&_, not}
 use Prim.Native.Nat.{ℕ, suc, _+_, _*_, _<_, _≤_}
+use native.Mathlib.Nat.{le-refl}
 use native.Mathlib.Numerals.{add-one}
 use native.Mathlib.Omega.{arith}
 use lib.ListN.{getD, length, take, length-take}
@@ -18,12 +20,13 @@ use Rattle.laws.proofs.Bools.{and-comm}
 use Rattle.laws.proofs.Checks.{each-of}
 use Rattle.laws.proofs.Signed.{abs-plus, only-abs}
 use Rattle.model.specs.Ranges.{maxBoxes, maxGrocers, maxOffers, maxTallies, maxPrice, maxCount, maxAmount, upTo}
-use Rattle.model.specs.Reconcile.{TallyRecord, recordInRange, recordsInRange, serialAmount, deskRefusals, deskAnswer, reconciled}
+use Rattle.model.specs.Reconcile.{TallyRecord, recordInRange, recordsInRange, serialAmount, DeskAnswer, owed, refused, deskRefusals, deskAnswer, reconciled}
 use Rattle.model.proofs.Step.{up-at}
 use Rattle.reconcile.specs.declared.Tally.{Tally}
 use Rattle.reconcile.specs.declared.Answer.{Answer}
 use Rattle.reconcile.specs.declared.Answer.the-variants.{Owed, Refused}
 use Rattle.reconcile.specs.Records.{recordOf, recordsOf, answerOf}
+use Rattle.reconcile.specs.Plain.{AmountsInRange}
 use Rattle.reconcile.specs.Serial.{headInRange, opened, share, withRecord, withRecords, Summable}
 use Rattle.reconcile.proofs.Amounts.{product-abs}
 
@@ -114,6 +117,24 @@ module _ (m n g : ℕ) (ps : List ℕ) where
       let e = each-of ((leb 1 m && leb m maxGrocers) ∷ (leb 1 n && leb n maxOffers) ∷ upTo maxPrice n ps ∷ leb len maxTallies ∷ ltb g m ∷ []) eh in
       let few : len ≤ 1000 = leb-true len 1000 (e .1 .1 .1 .0) in
       amount-summable (ltb-false (length ps) n eb) (e .1 .1 .0) rs (pos 0) (omega arith)
+
+  pub all-summable : (rs : List TallyRecord) → Summable n ps (withRecords m n g ps (opened m n g ps (length rs)) rs)
+  unfolding opened
+  all-summable rs = open-summable (ltb (length ps) n) (headInRange m n g ps (length rs)) (length rs) rs refl refl (le-refl (length rs))
+
+-- ---- an amount that is owed is in range
+abbrev amountOf : DeskAnswer → ℤ
+amountOf (owed z) = z
+amountOf (refused k) = pos 0
+
+owed-in : (n : ℕ) (ps : List ℕ) (a : Answer) (z : ℤ) → Summable n ps a → answerOf a ≡ owed z → natAbs z ≤ maxAmount
+unfolding Summable answerOf
+owed-in n ps (Owed y) z s e = subst (λ (x : ℤ). natAbs x ≤ maxAmount) (ap amountOf e) (s .0)
+owed-in n ps (Refused k) z s e = subst (λ (x : ℤ). natAbs x ≤ maxAmount) (ap amountOf e) (omega arith)
+
+pub amounts-in-range : AmountsInRange
+unfolding AmountsInRange
+amounts-in-range m n g ps rs z e = owed-in n ps (withRecords m n g ps (opened m n g ps (length rs)) rs) z (all-summable m n g ps rs) (sums-to m n g ps rs ∙ e)
 
 -- ---- the lent list
 -- A record to read past the end, which none does.

@@ -63,28 +63,11 @@ fn open(len: usize, price: &[u32], grocers: u16, offers: u16, wanted: u16) -> An
     if price.len() < n {
         return Answer::Refused(20);
     }
-    if grocers < 1 {
-        return Answer::Refused(21);
+    let sizes = ((1 <= grocers) & (grocers <= 255)) & ((1 <= offers) & (offers <= 500));
+    if sizes & upto32(price, n, 9_999_999) & (len <= 1000) & (wanted < grocers) {
+        return Answer::Owed(0);
     }
-    if grocers > 255 {
-        return Answer::Refused(21);
-    }
-    if offers < 1 {
-        return Answer::Refused(21);
-    }
-    if offers > 500 {
-        return Answer::Refused(21);
-    }
-    if !upto32(price, n, 9_999_999) {
-        return Answer::Refused(21);
-    }
-    if len > 1000 {
-        return Answer::Refused(21);
-    }
-    if wanted >= grocers {
-        return Answer::Refused(21);
-    }
-    Answer::Owed(0)
+    Answer::Refused(21)
 }
 
 // The serial sum: the answer with one record more; out of range it is refused, of another grocer passed over.

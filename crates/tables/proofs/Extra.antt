@@ -1,6 +1,6 @@
 -- Laws of searches, lists and masks that belong to no one crate. Assumes nothing.
 use mathlib.Core.Path.{_≡_, refl, sym, ap, ap₂, _∙_}
-use mathlib.Core.Bool.{Bool, cond, _&&_, _||_, not}
+use mathlib.Core.Bool.{cond, _&&_, not}
 use mathlib.Core.List.{List, []}
 use Prim.Native.Nat.{ℕ, zero, suc, _/_, _%_, _^_, _<_, _≤_}
 use native.Mathlib.Nat.{mod-lt}
@@ -11,7 +11,7 @@ use lib.Dec.{eqb, lit<}
 use lib.Bits.{bitAnd, and-mask}
 use lib.Count.{ones}
 use borrow.Author.Tests.{eqb-true, eqb-false}
-use Rattle.laws.specs.Below.{words, only, any, count}
+use Rattle.laws.specs.Below.{words, only, count}
 use Rattle.laws.specs.Masks.{bit, without}
 use Rattle.laws.specs.Tables.{tabulate}
 use Rattle.laws.proofs.Bools.{split}

@@ -8,20 +8,19 @@ use lib.ListN.{getD, length}
 use lib.Seq.{getD-set-same, getD-set-other}
 use lib.Dec.{eqb, ltb}
 use lib.Bits.{bitOr}
-use borrow.Author.Tests.{ltb-true, eqb-true, eqb-false}
 use lib.Count.{ones}
+use borrow.Author.Tests.{ltb-true, eqb-true, eqb-false}
 use Rattle.laws.specs.Below.{sum, words, any}
 use Rattle.laws.specs.Masks.{without}
 use Rattle.laws.specs.Tables.{tabulate, word}
 use Rattle.laws.proofs.Bools.{split, eqb-same, and-false, and-one, or-false}
 use Rattle.laws.proofs.Sums.{sum-next}
-use Rattle.laws.proofs.Below.{any-next}
+use Rattle.laws.proofs.Below.{any-next, any-cong}
 use Rattle.laws.proofs.Masks.{mask-cong, mask-none, mask-or}
 use Rattle.laws.proofs.Tables.{word-in, tabulate-cong}
 use Rattle.model.specs.Job.{heldBy, needs, shares, needWord, sharerWord}
 use Rattle.model.specs.Tables.{JobTables, jobOf}
 use Rattle.tables.specs.Masks.{marked, holds, holderWord, othersSum}
-use Rattle.tables.proofs.Extra.{any-cong}
 
 -- The box of a tally is b, and b is below k.
 held-in : (k b i : ℕ) → ltb b k ≡ true → (eqb b i && ltb i k) ≡ eqb b i

@@ -2,6 +2,7 @@
 -- that sum to the ones of the need words and the sharer words, and no word just where no message is due. Assumes nothing.
 use mathlib.Core.Path.{_≡_, refl, sym, ap, ap₂, _∙_}
 use mathlib.Core.Bool.{Bool, true, false, _&&_, not}
+use mathlib.Core.Logic.{_⊎_, inl, inr}
 use Prim.Native.Nat.{ℕ, _+_, _<_, _≤_}
 use native.Mathlib.Omega.{arith}
 use native.Mathlib.Nat.{le-refl}
@@ -15,10 +16,13 @@ use Rattle.laws.proofs.Sums.{sum-cong, sum-none, sum-swap, sum-only, sum-pick}
 use Rattle.laws.proofs.Below.{any-find, count-none, count-zero}
 use Rattle.model.specs.Job.{Job, needs, shares, needWord, sharerWord, priceWord, totalWord, pricesDue, totalsDue}
 use Rattle.model.specs.Words.{ownerWords}
+use Rattle.model.specs.Tables.{jobOf}
 use Rattle.model.specs.Local.{priceTable, totalTable}
+use Rattle.tables.specs.Messages.{cellAt, lineSum, tableSum}
+use Rattle.tables.specs.Sums.{TableSums, MessageSums}
 use Rattle.model.proofs.Range.{InRange}
 use Rattle.model.proofs.Words.{needs-past, shares-past, ones-others}
-use Rattle.tables.specs.Messages.{cellAt, lineSum, tableSum}
+use Rattle.model.proofs.Step.{range}
 use Rattle.tables.proofs.Extra.{rows-at}
 
 -- None is counted where none passes.
@@ -172,3 +176,22 @@ module _ (j : Job) (r : InRange j) where
   pub tables-sum : tableSum (priceTable j) + tableSum (totalTable j) ≡ ownerWords j
   unfolding ownerWords
   tables-sum = ap₂ (λ (x y : ℕ). x + y) price-sum total-sum
+
+  -- Boxes from K on have 0 in both.
+  past : (a b : ℕ) → a < 16 → b < 16 → (j .boxes ≤ a) ⊎ (j .boxes ≤ b) → (cellAt (priceTable j) a b ≡ 0) × (cellAt (totalTable j) a b ≡ 0)
+  past a b la lb (inl h) = (price-row-past j a b la lb r h, total-row-past j a b la lb h)
+  past a b la lb (inr h) = (price-column-past j a b la lb h, total-column-past j a b la lb r h)
+
+  table-sums : TableSums j
+  table-sums = record {
+    past = past;
+    self = λ a l. (price-self j a l, total-self j a l);
+    row = price-row-sum;
+    column = total-column-sum;
+    whole = tables-sum;
+  }
+
+-- All of this of every job in range.
+pub message-sums : MessageSums
+unfolding MessageSums
+message-sums f ok = table-sums (jobOf f) (range f ok)

@@ -11,7 +11,7 @@ use Rattle.model.specs.Tables.{JobTables, jobOf, jobLengths, jobShort}
 use Rattle.model.specs.Ranges.{jobInRange}
 use Rattle.model.specs.Local.{priceTable, totalTable}
 use Rattle.tables.specs.Refusals.{jobRefusals}
-use Rattle.tables.specs.Answers.{MessagesAnswer, refused, said, messagesAnswer, messages, messageTables}
+use Rattle.tables.specs.Answers.{refused, said, messagesAnswer, messages, messageTables, MessagesGiven}
 use Rattle.tables.specs.declared.messages.Answer.the-variants.{Made, Refused}
 
 two-tests : (a b : Bool) → cond {A = ℕ} a 20 (cond (not b) 21 0) ≡ 0 → (a ≡ false) × (b ≡ true)
@@ -40,3 +40,11 @@ module _ (f : JobTables) where
       messages (said (Made w)) p′ t′ ≡ messageTables f p t
   unfolding messageTables said messagesAnswer
   messages-made p t p′ t′ w n e h ep et ew = rw (sym e, h, ep, et, ew)
+
+-- A call by whether it is refused.
+pub messages-given : MessagesGiven
+unfolding messageTables said messagesAnswer
+messages-given = record {
+  refusal = λ f p t h. sym (messages-refused f p t (firstMet (jobRefusals f)) refl h);
+  accepted = λ f p t h. rw h;
+}

@@ -5,14 +5,14 @@ use mathlib.Core.List.{List, []}
 use Prim.Native.Nat.{ℕ, _+_, _^_, _<_, _≤_}
 use native.Mathlib.Nat.{add-zero}
 use native.Mathlib.Omega.{arith}
-use lib.ListN.{getD, set, replicate}
+use lib.ListN.{length, getD, set, replicate, List·getD-eq-default}
 use lib.Dec.{eqb, ltb}
 use borrow.Author.Tests.{lt-ltb, le-ltb, ltb-true, ltb-false, ne-eqb, eqb-true, eqb-false}
 use Rattle.laws.specs.Below.{words, only, sum, count}
 use Rattle.laws.specs.Masks.{bit, without}
 use Rattle.laws.specs.Tables.{tabulate}
 use Rattle.laws.proofs.Bools.{split, eqb-same, and-false}
-use Rattle.laws.proofs.Sums.{sum-next}
+use Rattle.laws.proofs.Sums.{sum-next, sum-none}
 use Rattle.laws.proofs.Below.{count-next, count-le, only-le}
 use Rattle.tables.specs.Messages.{between, sends, sentTable, cellAt, lineSum, tableSum}
 use Rattle.tables.proofs.Extra.{bit-without, rows-cong, rows-at, rows-set}
@@ -152,6 +152,12 @@ module _ (back : Bool) (t : List (List ℕ)) (x : ℕ) where
   pub line-whole : lineTo 16 back t x ≡ lineSum back t x
   unfolding lineTo lineSum
   line-whole = refl
+
+-- A line past the table has no word.
+pub line-past : (back : Bool) (t : List (List ℕ)) (x : ℕ) → length t ≤ 16 → ((i : ℕ) → length (getD t i []) ≤ 16) → 16 ≤ x → lineSum back t x ≡ 0
+unfolding lineSum words
+line-past false t x rows columns h = sum-none words 16 (λ y. cellAt t x y) (λ y l. ap (λ (r : List ℕ). getD r y 0) (List·getD-eq-default t [] {n = x} (omega arith)))
+line-past true t x rows columns h = sum-none words 16 (λ y. cellAt t y x) (λ y l. List·getD-eq-default (getD t y []) 0 {n = x} (omega (arith, columns y)))
 
 -- The first n rows.
 unfoldable pub rowsTo : ℕ → List (List ℕ) → ℕ

@@ -1,4 +1,5 @@
 -- The tables of messages as a call gives them: its answer, and both tables.
+use mathlib.Core.Path.{_≡_}
 use mathlib.Core.Bool.{cond}
 use mathlib.Core.List.{List}
 use Prim.Native.Nat.{ℕ, zero, suc}
@@ -40,3 +41,10 @@ unfoldable pub messageTables : JobTables → List (List ℕ) → List (List ℕ)
 messageTables f prices totals =
     let n = firstMet (jobRefusals f) in
     messages (messagesAnswer n (ownerWords (jobOf f))) (cond (eqb n 0) (priceTable (jobOf f)) prices) (cond (eqb n 0) (totalTable (jobOf f)) totals)
+
+-- What a call comes to. `messages-given` in proofs/Refused.antt proves it.
+pub record MessagesGiven : Type 0 where
+  -- A refused call answers the first condition met, and leaves both tables as they were;
+  pub refusal : (f : JobTables) (p t : List (List ℕ)) → (firstMet (jobRefusals f) ≡ 0 → ⊥) → messageTables f p t ≡ messages (refused (firstMet (jobRefusals f))) p t
+  -- any other answers the words of the job, and leaves its two tables, whatever they held.
+  pub accepted : (f : JobTables) (p t : List (List ℕ)) → firstMet (jobRefusals f) ≡ 0 → messageTables f p t ≡ messages (made (ownerWords (jobOf f))) (priceTable (jobOf f)) (totalTable (jobOf f))

@@ -2,5 +2,6 @@
 pub mod Sizes
 pub mod Masks
 pub mod Messages
+pub mod Sums
 pub mod Refusals
 pub mod Answers

@@ -1,3 +1,4 @@
+// Conditions 20 and 21 on the tables of a job and of a state.
 ghost use mathlib.Core.Path.{_≡_};
 ghost use mathlib.Core.Bool.{false};
 ghost use mathlib.Core.List.{[]};

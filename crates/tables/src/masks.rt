@@ -1,9 +1,10 @@
+// Need words and sharer words, one bit for each box, and the words of a job by them.
 ghost use mathlib.Core.Path.{_≡_};
 ghost use Prim.Native.Nat.{ℕ, _+_, _*_, _^_, _≤_, _<_};
 ghost use lib.ListN.{length, getD};
 ghost use lib.Bits.{bitOr};
 ghost use lib.Count.{ones};
-ghost use Rattle.laws.specs.Masks.{bit, without};
+ghost use Rattle.laws.specs.Masks.{without};
 ghost use Rattle.laws.specs.Tables.{tabulate};
 ghost use Rattle.tables.specs.Masks.{marked, holderWord, Placed, othersSum, Owned};
 

@@ -1,3 +1,4 @@
+// The tables of messages: the words from each box to each other box, their sums, and the public call that makes both.
 ghost use mathlib.Core.Path.{_≡_};
 ghost use mathlib.Core.Bool.{false, true, cond};
 ghost use Prim.Native.Nat.{_+_, _≤_, _<_};
@@ -86,11 +87,13 @@ fn wide(x: u16) -> u32
     x as u32
 }
 
-// The sum of row x of a table, or where `back` of column x.
+// The sum of row x of a table, or where `back` of column x; 0 where it has none.
 fn line_sum(table: [[u16; 16]; 16], back: bool, x: usize) -> u32
-    requires { ⌜ x < 16 ⌝ }
     ensures { λ r. ⌜ (r ≡ lineSum back table x) × (r ≤ 1048560) ⌝ }
 {
+    if x >= 16 {
+        return 0;
+    }
     let mut sum: u32 = 0;
     for y in 0..16 {
         let from = pick(back, y, x);
@@ -100,17 +103,15 @@ fn line_sum(table: [[u16; 16]; 16], back: bool, x: usize) -> u32
     sum
 }
 
-// The words that box a sends: its row of a table.
+// The words that box a sends: its row of a table, 0 from box 16 on.
 pub fn row_sum(table: [[u16; 16]; 16], a: usize) -> u32
-    requires { ⌜ a < 16 ⌝ }
     ensures { λ r. ⌜ r ≡ lineSum false table a ⌝ }
 {
     line_sum(table, false, a)
 }
 
-// The words that box b receives: its column of a table.
+// The words that box b receives: its column of a table, 0 from box 16 on.
 pub fn column_sum(table: [[u16; 16]; 16], b: usize) -> u32
-    requires { ⌜ b < 16 ⌝ }
     ensures { λ r. ⌜ r ≡ lineSum true table b ⌝ }
 {
     line_sum(table, true, b)

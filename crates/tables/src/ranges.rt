@@ -1,3 +1,4 @@
+// Whether a number, and whether the first words of a table, are in a range.
 ghost use mathlib.Core.Path.{_≡_};
 ghost use Prim.Native.Nat.{_≤_};
 ghost use lib.ListN.{length};

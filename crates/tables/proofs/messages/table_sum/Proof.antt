@@ -18,7 +18,7 @@ loop-holds : tie.Need-loop-holds Inv-loop μ-loop
 loop-holds c = (search needs, sym (rows-none _), search needs)
 
 line-sum-requires : tie.Need-line-sum-requires Inv-loop μ-loop
-line-sum-requires c κs = c .loop-test .taken
+line-sum-requires c κs = search needs
 
 add-sum : tie.Need-add-sum Inv-loop μ-loop
 add-sum c = omega (arith, c .line-sum .ensures .1, c .before .before .loop .inv .2, c .before .before .loop .inv .0)

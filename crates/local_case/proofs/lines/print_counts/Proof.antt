@@ -1,16 +1,16 @@
--- `local_case::print_counts` meets its contract. Assumes nothing.
+-- `local_case::lines::print_counts` meets its contract. Assumes nothing.
 use Prim.Native.Nat.{_≤_, _-_}
 use native.Mathlib.Omega.{arith}
 use lib.ListN.{length}
 use borrow.Author.Needs.{needs}
-use Rattle.local_case.proofs.print_counts.Statement.{statement}
-use Rattle.local_case.proofs.print_counts.Tie as tie
+use Rattle.local_case.proofs.lines.print_counts.Statement.{statement}
+use Rattle.local_case.proofs.lines.print_counts.Tie as tie
 
 abbrev Inv-loop : tie.InvT-loop
-Inv-loop name counts n i₀ i = i ≤ length counts
+Inv-loop name counts i₀ i = i ≤ length counts
 
 abbrev μ-loop : tie.MeasureT-loop
-μ-loop name counts n i₀ i = length counts - i
+μ-loop name counts i₀ i = length counts - i
 
 text-requires : tie.Need-text-requires Inv-loop μ-loop
 text-requires c κs = search needs

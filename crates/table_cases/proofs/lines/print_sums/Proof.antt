@@ -1,15 +1,15 @@
--- `table_cases::print_sums` is safe and ends. Assumes nothing.
+-- `table_cases::lines::print_sums` is safe and ends. Assumes nothing.
 use native.Mathlib.Omega.{arith}
 use borrow.Author.Needs.{needs}
 use Prim.Native.Nat.{_≤_, _-_}
-use Rattle.table_cases.proofs.print_sums.Statement.{statement}
-use Rattle.table_cases.proofs.print_sums.Tie as tie
+use Rattle.table_cases.proofs.lines.print_sums.Statement.{statement}
+use Rattle.table_cases.proofs.lines.print_sums.Tie as tie
 
 abbrev Inv-loop : tie.InvT-loop
-Inv-loop name table back x₀ x = x ≤ 16
+Inv-loop name table back x₀ x = x ≤ 17
 
 abbrev μ-loop : tie.MeasureT-loop
-μ-loop name table back x₀ x = 16 - x
+μ-loop name table back x₀ x = 17 - x
 
 text-requires : tie.Need-text-requires Inv-loop μ-loop
 text-requires c κs = search needs

@@ -1,16 +1,16 @@
--- `local_case::print_words` meets its contract. Assumes nothing.
+-- `local_case::lines::print_words` meets its contract. Assumes nothing.
 use Prim.Native.Nat.{_≤_, _-_}
 use native.Mathlib.Omega.{arith}
 use lib.ListN.{length}
 use borrow.Author.Needs.{needs}
-use Rattle.local_case.proofs.print_words.Statement.{statement}
-use Rattle.local_case.proofs.print_words.Tie as tie
+use Rattle.local_case.proofs.lines.print_words.Statement.{statement}
+use Rattle.local_case.proofs.lines.print_words.Tie as tie
 
 abbrev Inv-loop : tie.InvT-loop
-Inv-loop name words n i₀ i = i ≤ length words
+Inv-loop name words i₀ i = i ≤ length words
 
 abbrev μ-loop : tie.MeasureT-loop
-μ-loop name words n i₀ i = length words - i
+μ-loop name words i₀ i = length words - i
 
 text-requires : tie.Need-text-requires Inv-loop μ-loop
 text-requires c κs = search needs
@@ -18,14 +18,14 @@ text-requires c κs = search needs
 loop-holds : tie.Need-loop-holds Inv-loop μ-loop
 loop-holds c = omega arith
 
-mul-wide : tie.Need-mul-wide Inv-loop μ-loop
-mul-wide c = search needs
+mul-wide16 : tie.Need-mul-wide16 Inv-loop μ-loop
+mul-wide16 c = search needs
 
-shared-slice-read-wide : tie.Need-shared-slice-read-wide Inv-loop μ-loop
-shared-slice-read-wide c = search needs
+shared-slice-read-wide16 : tie.Need-shared-slice-read-wide16 Inv-loop μ-loop
+shared-slice-read-wide16 c = search needs
 
-wide-requires : tie.Need-wide-requires Inv-loop μ-loop
-wide-requires c κs = search needs
+wide16-requires : tie.Need-wide16-requires Inv-loop μ-loop
+wide16-requires c κs = search needs
 
 next-requires : tie.Need-next-requires Inv-loop μ-loop
 next-requires c κs = search needs
@@ -53,9 +53,9 @@ print-words-spec =
     μ-loop
     text-requires
     loop-holds
-    mul-wide
-    shared-slice-read-wide
-    wide-requires
+    mul-wide16
+    shared-slice-read-wide16
+    wide16-requires
     next-requires
     add-i
     loop-less

@@ -1,0 +1,47 @@
+-- `table_cases::second::table_wrong` is safe and ends. Assumes nothing.
+use native.Mathlib.Omega.{arith}
+use borrow.Author.Needs.{needs}
+use Prim.Native.Nat.{_-_}
+use Rattle.table_cases.proofs.second.table_wrong.Statement.{statement}
+use Rattle.table_cases.proofs.second.table_wrong.Tie as tie
+
+abbrev Inv-loop : tie.InvT-loop
+Inv-loop table back owners boxes items n₀ k₀ n k = Unit {0}
+
+abbrev μ-loop : tie.MeasureT-loop
+μ-loop table back owners boxes items n₀ k₀ n k = 256 - k
+
+loop-holds : tie.Need-loop-holds Inv-loop μ-loop
+loop-holds c = tt
+
+cell-wrong-requires : tie.Need-cell-wrong-requires Inv-loop μ-loop
+cell-wrong-requires c κs = search needs
+
+add-requires : tie.Need-add-requires Inv-loop μ-loop
+add-requires c κs = search needs
+
+add-k : tie.Need-add-k Inv-loop μ-loop
+add-k c = omega arith
+
+loop-less : tie.Need-loop-less Inv-loop μ-loop
+loop-less c = omega arith
+
+loop-again : tie.Need-loop-again Inv-loop μ-loop
+loop-again c = tt
+
+returns : tie.Need-returns Inv-loop μ-loop
+returns c = tt
+
+pub table-wrong-spec : {M : Type 1} → statement M
+table-wrong-spec =
+    tie.close
+    (tie.spec
+    Inv-loop
+    μ-loop
+    loop-holds
+    cell-wrong-requires
+    add-requires
+    add-k
+    loop-less
+    loop-again
+    returns)
