@@ -1,5 +1,6 @@
 // The small job E, its file, and the writer's answer for jobs of its lengths.
 use crate::patch::put_code;
+use show::wide16;
 use writer::Answer;
 
 // A job of 2 grocers, 2 offers and 4 tallies, with the sizes that the writer is told.
@@ -43,11 +44,6 @@ pub fn small() -> SmallJob {
         tcode: tcode,
         tcount: tcount,
     }
-}
-
-// A 16-bit number as a count.
-pub fn wide16(x: u16) -> u64 {
-    x as u64
 }
 
 // The writer's refusal, 0 where it wrote.

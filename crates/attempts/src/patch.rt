@@ -1,16 +1,12 @@
 // Bytes of a file changed, and both sums of a block made anew.
 ghost use Prim.Native.Nat.{_≤_};
 use crate::differ::add;
+use show::wide8;
 
 // Both sums of a block.
 struct Sums {
     first: u64,
     second: u64,
-}
-
-// A byte as a number.
-fn wide(x: u8) -> u64 {
-    x as u64
 }
 
 // The low byte of a number.
@@ -52,7 +48,7 @@ fn both_sums(f: &[u8], at: usize) -> Sums
     let mut second: u64 = 0;
     let mut i: usize = 0;
     while i < 508 {
-        first = add(first, wide(get(f, at + i)));
+        first = add(first, wide8(get(f, at + i)));
         second = add(second, first);
         i += 1;
     }
@@ -74,6 +70,14 @@ pub fn seal(f: &mut [u8], block: usize)
     set(f, at + 509, low(first / 256));
     set(f, at + 510, low(second));
     set(f, at + 511, low(second / 256));
+}
+
+// Makes both sums of the four blocks of E's file anew.
+pub fn seal_all(f: &mut [u8]) {
+    seal(f, 0);
+    seal(f, 1);
+    seal(f, 2);
+    seal(f, 3);
 }
 
 // The first sum of a block made wrong.

@@ -5,8 +5,8 @@ use crate::differ::differ_counts;
 use crate::differ::differ8;
 use crate::differ::differ16;
 use crate::differ::differ32;
-use crate::job::wide16;
 use reader::Answer;
+use show::wide16;
 
 // An answer, 0 where nothing was refused, and how many lent words are not as they were.
 pub struct Seen {

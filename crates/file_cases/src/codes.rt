@@ -3,9 +3,9 @@ use crate::lines::byte_case;
 use crate::lines::code_case;
 use crate::lines::codes_case;
 use crate::lines::read_case;
-use crate::lines::seal_all;
 use attempts::job::small_file;
 use attempts::patch::put_code;
+use attempts::patch::seal_all;
 
 // The number of digits: 1 to 10.
 pub fn code_cases() {

@@ -2,7 +2,7 @@
 ghost use Prim.Native.Nat.{_≤_};
 use attempts::job::small_file;
 use attempts::patch::put_code;
-use attempts::patch::seal;
+use attempts::patch::seal_all;
 use attempts::patch::set;
 use attempts::patch::set32;
 use attempts::reads::read_marked;
@@ -11,14 +11,6 @@ use attempts::reads::tell;
 // Reads a file.
 pub fn read_case(name: &[u8], f: &[u8]) {
     tell(name, read_marked(f));
-}
-
-// Makes the sums of all four blocks of E's file anew.
-pub fn seal_all(f: &mut [u8]) {
-    seal(f, 0);
-    seal(f, 1);
-    seal(f, 2);
-    seal(f, 3);
 }
 
 // E's file with one other byte and right sums.

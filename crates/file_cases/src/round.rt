@@ -3,19 +3,10 @@ use attempts::differ::differ8;
 use attempts::job::length_of;
 use attempts::job::refusal_of;
 use attempts::job::small_file;
-use attempts::job::wide16;
 use attempts::reads::read_marked;
 use attempts::reads::show_answer;
-
-// A 32-bit number as a count.
-fn wide32(x: u32) -> u64 {
-    x as u64
-}
-
-// A count with its sign.
-fn wide_count(z: i32) -> i64 {
-    z as i64
-}
+use show::wide16;
+use show::wide32;
 
 // Two words of a table.
 fn show_two(name: &[u8], s: &[u16; 500]) {
@@ -76,10 +67,10 @@ fn show_tally_codes(code: &[u8; 11000]) {
 // The four counts.
 fn show_counts(count: &[i32; 1000]) {
     show::text(b"tally counts");
-    show::next_signed(wide_count(count[0]));
-    show::next_signed(wide_count(count[1]));
-    show::next_signed(wide_count(count[2]));
-    show::next_signed(wide_count(count[3]));
+    show::next_count(count[0]);
+    show::next_count(count[1]);
+    show::next_count(count[2]);
+    show::next_count(count[3]);
     show::end();
 }
 

@@ -2,6 +2,7 @@
 use crate::seen::read_first;
 use attempts::job::small_file;
 use attempts::patch::seal;
+use attempts::patch::seal_all;
 use attempts::patch::set;
 use attempts::reads::Seen;
 use attempts::reads::read_marked;
@@ -38,10 +39,7 @@ pub fn read_random(seed: u64) -> Seen {
 pub fn read_sealed(seed: u64) -> Seen {
     let mut f = [0u8; 2048];
     fill(&mut f, 0, 2048, seed);
-    seal(&mut f, 0);
-    seal(&mut f, 1);
-    seal(&mut f, 2);
-    seal(&mut f, 3);
+    seal_all(&mut f);
     read_marked(&f)
 }
 

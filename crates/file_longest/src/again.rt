@@ -10,11 +10,7 @@ use attempts::differ::differ32;
 use attempts::job::length_of;
 use attempts::job::refusal_of;
 use attempts::reads::show_answer;
-
-// A byte as a number.
-fn wide(x: u8) -> u64 {
-    x as u64
-}
+use show::wide8;
 
 // The length of a file, its bytes added up, and the sums on the way added up.
 pub fn show_sums(f: &[u8; 37888]) {
@@ -22,7 +18,7 @@ pub fn show_sums(f: &[u8; 37888]) {
     let mut second: u64 = 0;
     let mut i: usize = 0;
     while i < 37888 {
-        first = add(first, wide(f[i]));
+        first = add(first, wide8(f[i]));
         second = add(second, first);
         i += 1;
     }

@@ -1,12 +1,13 @@
 // E settled by a list of step requests, in an order of its own, and by runs: the tables end alike, word for word.
-use crate::call::odd;
-use crate::call::run_whole;
 use attempts::differ::add;
 use attempts::differ::one;
 use small_job::ask::ask;
+use small_job::ask::refusal_of;
+use small_job::ask::run_whole;
 use small_job::differ::changed;
 use small_job::job::State;
 use small_job::job::fresh;
+use small_job::job::odd;
 use small_job::job::small;
 
 // A state, and how many requests were refused on the way to it.
@@ -24,7 +25,7 @@ fn go(w: Way, kind: u16, first: u16, second: u16) -> Way {
     let refused = w.refused;
     Way {
         state: state,
-        refused: add(refused, one(answer != 0)),
+        refused: add(refused, one(refusal_of(answer) != 0)),
     }
 }
 

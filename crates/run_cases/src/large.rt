@@ -1,73 +1,10 @@
 // Jobs of up to 16 boxes, 255 grocers, 500 offers and 1,000 tallies. Every count is -1.
 use crate::fill::fill;
 use crate::fill::fill_prices;
-use crate::fill::plain_sum;
 use crate::lines::answer_text;
-use attempts::differ::add;
-use attempts::differ::one;
-use attempts::job::wide16;
-
-// A grocer's statement beside the plain sum of its prices, whose negative it is.
-fn one_line(g: u16, amount: i64, sum: u64) {
-    show::number(wide16(g));
-    show::next_signed(amount);
-    show::text(b", by a plain sum -");
-    show::number(sum);
-    show::end();
-}
-
-// 1 where an amount is not the negative of a plain sum.
-fn other(amount: i64, sum: u64) -> u64 {
-    if sum < 1_000_000_000_000_000 {
-        let s = sum as i64;
-        return one(amount != 0 - s);
-    }
-    1
-}
-
-// The line of a grocer, where it is to be shown; 1 where its statement is not the plain sum.
-fn grocer(g: u16, statement: &[i64; 255], sum: u64, shown: bool) -> u64 {
-    let i = g as usize;
-    if i < 255 {
-        let amount = statement[i];
-        if shown {
-            one_line(g, amount, sum);
-        }
-        return other(amount, sum);
-    }
-    1
-}
-
-// Every grocer is shown, or the first and the last.
-fn is_shown(g: u16, grocers: u16, every: bool) -> bool {
-    if every {
-        return true;
-    }
-    if g == 0 {
-        return true;
-    }
-    add(wide16(g), 1) == wide16(grocers)
-}
-
-// The lines of grocers, and how many statements differ from the plain sum.
-fn statement_lines(
-    statement: &[i64; 255],
-    price: &[u32; 500],
-    tgrocer: &[u16; 1000],
-    toffer: &[u16; 1000],
-    grocers: u16,
-    tallies: u16,
-    every: bool,
-) {
-    let mut n: u64 = 0;
-    let mut g: u16 = 0;
-    while g < grocers {
-        let sum = plain_sum(price, tgrocer, toffer, tallies, g);
-        n = add(n, grocer(g, statement, sum, is_shown(g, grocers, every)));
-        g += 1;
-    }
-    show::line(b"statements that differ from the plain sum", n);
-}
+use crate::sums::statement_lines;
+use small_job::ask::Call;
+use small_job::ask::lend;
 
 // A job run with the choices given.
 fn settle(
@@ -85,6 +22,7 @@ fn settle(
     choices: &[u16],
     every: bool,
 ) {
+    let tcount = [-1i32; 1000];
     let mut known = [4_000_000_001u32; 8000];
     let mut ptransit = [4_000_000_001u32; 8000];
     let mut working = [9_000_000_000_000_000_000i64; 4080];
@@ -92,7 +30,7 @@ fn settle(
     let mut statement = [9_000_000_000_000_000_000i64; 255];
     let mut done = [60_001u16; 1536];
     let mut sent = [4_000_000_001u32; 1];
-    let answer = run::run(
+    let answer = lend(
         boxes,
         grocers,
         offers,
@@ -103,7 +41,7 @@ fn settle(
         tgrocer,
         tbox,
         toffer,
-        &[-1i32; 1000],
+        &tcount,
         &mut known,
         &mut ptransit,
         &mut working,
@@ -111,11 +49,21 @@ fn settle(
         &mut statement,
         &mut done,
         &mut sent,
+        Call::Run,
         choices,
     );
     answer_text(name, answer);
     show::end();
-    statement_lines(&statement, price, tgrocer, toffer, grocers, tallies, every);
+    statement_lines(
+        &statement,
+        price,
+        tgrocer,
+        toffer,
+        &tcount,
+        grocers,
+        tallies,
+        every,
+    );
 }
 
 // 16 boxes, each with an offer and a grocer of its own and a tally of every offer: every pair exchanges messages.

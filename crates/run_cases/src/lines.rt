@@ -1,16 +1,19 @@
 // What the program writes of a run.
-use crate::call::Ran;
-use attempts::job::wide16;
-use run::Answer;
+use crate::sums::statement_lines;
+use show::wide16;
+use show::wide32;
+use small_job::ask::Answer;
+use small_job::ask::Outcome;
 use small_job::differ::changed;
+use small_job::job::Job;
 use small_job::job::State;
 use small_job::lines::state_lines;
-use small_job::lines::wide32;
 
 // The name and the answer, with no end of the line.
 pub fn answer_text(name: &[u8], a: Answer) {
     show::text(name);
     match a {
+        Answer::Accepted => show::text(b": accepted"),
         Answer::Finished(words, messages, steps) => {
             show::text(b": words");
             show::next(wide32(words));
@@ -26,18 +29,35 @@ pub fn answer_text(name: &[u8], a: Answer) {
     }
 }
 
-// A finished run with every word of the state, or the refusal and how many words are not as they were.
-pub fn tell(name: &[u8], before: State, r: Ran) {
-    let answer = r.answer;
-    let state = r.state;
+// The statements of a small job beside the second sum.
+fn small_statements(j: Job, s: State) {
+    let statement = s.statement;
+    let price = j.price;
+    let tgrocer = j.tgrocer;
+    let toffer = j.toffer;
+    let tcount = j.tcount;
+    statement_lines(
+        &statement,
+        &price,
+        &tgrocer,
+        &toffer,
+        &tcount,
+        j.grocers,
+        j.tallies,
+        true,
+    );
+}
+
+// A refusal with how many words are not as they were; else every word of the state, and its statements beside the second sum.
+pub fn tell(name: &[u8], j: Job, before: State, o: Outcome) {
+    let answer = o.answer;
+    let state = o.state;
     answer_text(name, answer);
-    match answer {
-        Answer::Finished(_, _, _) => {
-            show::end();
-            state_lines(state);
-        }
-        Answer::Refused(_) => {
-            show::line(b", words changed", changed(state, before));
-        }
+    if let Answer::Refused(_) = answer {
+        show::line(b", words changed", changed(state, before));
+        return;
     }
+    show::end();
+    state_lines(state);
+    small_statements(j, state);
 }

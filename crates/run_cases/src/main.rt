@@ -1,6 +1,5 @@
 // Cases of the run: E with and without choices, beside a list of steps, every refusal, 16 boxes that all exchange messages, the largest job.
 mod alike;
-mod call;
 mod fill;
 mod large;
 mod lines;
@@ -8,7 +7,9 @@ mod ranges;
 mod short;
 mod sizes;
 mod small;
+mod sums;
 
+// Each line is a case and what it gave, words of a state, or a statement beside its second sum.
 fn main() {
     small::choices();
     alike::alike();

@@ -1,20 +1,21 @@
 // One word out of range, in turn: of a table of the job, 21; of a table of the state, no refusal.
-use crate::call::odd;
-use crate::call::run_whole;
 use crate::lines::answer_text;
 use crate::lines::tell;
+use small_job::ask::run_whole;
 use small_job::beyond::amount_beyond;
 use small_job::beyond::job_beyond;
 use small_job::beyond::state_beyond;
 use small_job::differ::changed;
 use small_job::job::State;
 use small_job::job::fresh;
+use small_job::job::odd;
 use small_job::job::small;
 
 // E with a table of the job changed.
 fn with_job(name: &[u8], which: u64) {
+    let j = job_beyond(which);
     let s = odd();
-    tell(name, s, run_whole(job_beyond(which), s, &[]));
+    tell(name, j, s, run_whole(j, s, &[]));
 }
 
 // E over a state, beside E over a fresh state.

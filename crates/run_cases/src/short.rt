@@ -1,14 +1,20 @@
 // Each of the fourteen tables of E a word too short, in turn: 20. The state's buffers hold words that no state has.
-use crate::call::odd;
-use crate::call::run_short;
 use crate::lines::tell;
+use small_job::ask::run_short;
 use small_job::beyond::job_beyond;
+use small_job::job::Job;
+use small_job::job::odd;
 use small_job::job::small;
 
-// A run of E with choices, table `which` of the fourteen lent without its last word.
-fn short(name: &[u8], which: u64) {
+// A run of a job with choices, table `which` of the fourteen lent without its last word.
+fn short_job(name: &[u8], j: Job, which: u64) {
     let s = odd();
-    tell(name, s, run_short(small(), s, which, &[1, 2]));
+    tell(name, j, s, run_short(j, s, which, &[1, 2]));
+}
+
+// A run of E.
+fn short(name: &[u8], which: u64) {
+    short_job(name, small(), which);
 }
 
 // The seven tables of the job; and 20 comes before 21.
@@ -20,12 +26,7 @@ pub fn job_tables() {
     short(b"3 tally boxes", 4);
     short(b"3 tally places", 5);
     short(b"3 tally counts", 6);
-    let s = odd();
-    tell(
-        b"1 price, a tally box out of range",
-        s,
-        run_short(job_beyond(4), s, 0, &[]),
-    );
+    short_job(b"1 price, a tally box out of range", job_beyond(4), 0);
 }
 
 // The seven tables of the state.

@@ -1,46 +1,13 @@
-// K, M, N and T out of range, each in turn, with tables that are long enough: 21.
+// K, M, N and T out of range, each in turn, with tables of zeros that are long enough: 21.
 use crate::lines::answer_text;
-use small_job::differ::not_zero;
+use small_job::ask::Call;
+use small_job::zeros::on_zeros;
 
-// A run, every table all zeros and long enough.
+// A run.
 fn size_case(name: &[u8], boxes: u16, grocers: u16, offers: u16, tallies: u16) {
-    let mut known = [0u32; 8000];
-    let mut ptransit = [0u32; 8000];
-    let mut working = [0i64; 4080];
-    let mut ttransit = [0i64; 4080];
-    let mut statement = [0i64; 256];
-    let mut done = [0u16; 1734];
-    let mut sent = [0u32; 1];
-    let answer = run::run(
-        boxes,
-        grocers,
-        offers,
-        tallies,
-        &[0u32; 501],
-        &[0u16; 501],
-        &[0u16; 256],
-        &[0u16; 1001],
-        &[0u16; 1001],
-        &[0u16; 1001],
-        &[0i32; 1001],
-        &mut known,
-        &mut ptransit,
-        &mut working,
-        &mut ttransit,
-        &mut statement,
-        &mut done,
-        &mut sent,
-        &[],
-    );
-    let changed = not_zero(
-        &known,
-        &ptransit,
-        &working,
-        &ttransit,
-        &statement,
-        &done,
-        &sent,
-    );
+    let z = on_zeros(boxes, grocers, offers, tallies, Call::Run);
+    let answer = z.answer;
+    let changed = z.changed;
     answer_text(name, answer);
     show::line(b", words changed", changed);
 }

@@ -1,14 +1,14 @@
 // The run of E. The state's buffers hold words that no state has.
-use crate::call::odd;
-use crate::call::run_whole;
 use crate::lines::tell;
+use small_job::ask::run_whole;
 use small_job::job::Job;
+use small_job::job::odd;
 use small_job::job::small;
 
 // A job of E's tables run with the choices given.
 fn settle(name: &[u8], j: Job, choices: &[u16]) {
     let s = odd();
-    tell(name, s, run_whole(j, s, choices));
+    tell(name, j, s, run_whole(j, s, choices));
 }
 
 // E run with the sizes and choices given.

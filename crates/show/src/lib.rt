@@ -7,6 +7,21 @@ pub fn text(s: &[u8]) {
     io::write_all(1, s);
 }
 
+// A byte as a number to print.
+pub fn wide8(x: u8) -> u64 {
+    x as u64
+}
+
+// A 16-bit word as a number to print.
+pub fn wide16(x: u16) -> u64 {
+    x as u64
+}
+
+// A 32-bit word as a number to print.
+pub fn wide32(x: u32) -> u64 {
+    x as u64
+}
+
 // A number in decimal.
 pub fn number(n: u64) {
     io::print_decimal(1, n);
@@ -45,7 +60,7 @@ pub fn next_signed(z: i64) {
 }
 
 // A count as a whole number.
-fn wide_count(x: i32) -> i64 {
+pub fn wide_count(x: i32) -> i64 {
     x as i64
 }
 

@@ -57,28 +57,3 @@ fn marks(s: State, t: State) -> u64 {
 pub fn changed(s: State, t: State) -> u64 {
     add(add(prices(s, t), amounts(s, t)), marks(s, t))
 }
-
-// How many words of a large state's tables are not 0.
-pub fn not_zero(
-    known: &[u32; 8000],
-    ptransit: &[u32; 8000],
-    working: &[i64; 4080],
-    ttransit: &[i64; 4080],
-    statement: &[i64; 256],
-    done: &[u16; 1734],
-    sent: &[u32; 1],
-) -> u64 {
-    let prices = add(
-        differ32(known, &[0u32; 8000]),
-        differ32(ptransit, &[0u32; 8000]),
-    );
-    let totals = add(
-        differ64(working, &[0i64; 4080]),
-        differ64(ttransit, &[0i64; 4080]),
-    );
-    let rest = add(
-        differ64(statement, &[0i64; 256]),
-        differ16(done, &[0u16; 1734]),
-    );
-    add(add(prices, totals), add(rest, differ32(sent, &[0u32; 1])))
-}

@@ -56,3 +56,17 @@ pub fn fresh() -> State {
         sent: [0],
     }
 }
+
+// Words that no state has.
+pub fn odd() -> State {
+    let amount = 9_000_000_000_000_000_000i64;
+    State {
+        known: [4_000_000_001; 4],
+        ptransit: [4_000_000_001; 4],
+        working: [amount; 4],
+        ttransit: [amount; 4],
+        statement: [amount; 2],
+        done: [60_001; 24],
+        sent: [4_000_000_001],
+    }
+}

@@ -1,11 +1,7 @@
 // What programs write of a small job: every word of a state.
 use crate::job::State;
-use attempts::job::wide16;
-
-// A 32-bit word as a number to print.
-pub fn wide32(x: u32) -> u64 {
-    x as u64
-}
+use show::wide16;
+use show::wide32;
 
 // A line of four prices.
 fn price_line(name: &[u8], p: [u32; 4]) {

@@ -1,8 +1,10 @@
 // What the program writes: a line for a case, and E's state behind a request.
-use attempts::job::wide16;
+use show::wide16;
+use small_job::ask::Answer;
 use small_job::ask::Outcome;
 use small_job::ask::ask;
 use small_job::ask::ask_short;
+use small_job::ask::refusal_of;
 use small_job::differ::changed;
 use small_job::job::Job;
 use small_job::job::State;
@@ -11,12 +13,12 @@ use small_job::job::small;
 use small_job::lines::state_lines;
 
 // The request and its answer.
-fn request_line(kind: u16, first: u16, second: u16, answer: u64) {
+fn request_line(kind: u16, first: u16, second: u16, answer: Answer) {
     show::text(b"step");
     show::next(wide16(kind));
     show::next(wide16(first));
     show::next(wide16(second));
-    show::line(b":", answer);
+    show::line(b":", refusal_of(answer));
 }
 
 // One request of E, with every word of the state behind it.
@@ -30,10 +32,10 @@ pub fn take(s: State, kind: u16, first: u16, second: u16) -> State {
 }
 
 // The line of a case: its name, the answer, and how many words of the state are not as they were.
-pub fn answer_line(name: &[u8], answer: u64, changed: u64) {
+pub fn answer_line(name: &[u8], answer: Answer, changed: u64) {
     show::text(name);
     show::text(b":");
-    show::next(answer);
+    show::next(refusal_of(answer));
     show::line(b", words changed", changed);
 }
 

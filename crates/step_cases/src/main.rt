@@ -7,6 +7,7 @@ mod refusals;
 mod short;
 mod sizes;
 
+// Each line is a case and what it gave, or words of a state.
 fn main() {
     orders::by_kind();
     orders::second_first();

@@ -1,50 +1,14 @@
-// K, M, N and T out of range, each in turn, with tables that are long enough: 21.
+// K, M, N and T out of range, each in turn, with tables of zeros that are long enough: 21.
 use crate::lines::answer_line;
-use small_job::ask::refusal_of;
-use small_job::differ::not_zero;
+use small_job::ask::Call;
+use small_job::zeros::on_zeros;
 
-// Step 2 of box 0, every table all zeros and long enough.
+// Step 2 of box 0.
 fn size_case(name: &[u8], boxes: u16, grocers: u16, offers: u16, tallies: u16) {
-    let mut known = [0u32; 8000];
-    let mut ptransit = [0u32; 8000];
-    let mut working = [0i64; 4080];
-    let mut ttransit = [0i64; 4080];
-    let mut statement = [0i64; 256];
-    let mut done = [0u16; 1734];
-    let mut sent = [0u32; 1];
-    let answer = step::step(
-        boxes,
-        grocers,
-        offers,
-        tallies,
-        &[0u32; 501],
-        &[0u16; 501],
-        &[0u16; 256],
-        &[0u16; 1001],
-        &[0u16; 1001],
-        &[0u16; 1001],
-        &[0i32; 1001],
-        &mut known,
-        &mut ptransit,
-        &mut working,
-        &mut ttransit,
-        &mut statement,
-        &mut done,
-        &mut sent,
-        2,
-        0,
-        0,
-    );
-    let changed = not_zero(
-        &known,
-        &ptransit,
-        &working,
-        &ttransit,
-        &statement,
-        &done,
-        &sent,
-    );
-    answer_line(name, refusal_of(answer), changed);
+    let z = on_zeros(boxes, grocers, offers, tallies, Call::Step(2, 0, 0));
+    let answer = z.answer;
+    let changed = z.changed;
+    answer_line(name, answer, changed);
 }
 
 // Each size below and above its values, and at both ends of them.

@@ -12,6 +12,7 @@ use attempts::reads::Seen;
 use attempts::reads::tell;
 use attempts::writes::write_marked;
 use attempts::writes::write_short;
+use show::wide8;
 
 // Writes a job.
 fn write_case(name: &[u8], j: SmallJob) {
@@ -147,14 +148,9 @@ pub fn write_one(name: &[u8], which: u64) {
 
 // The byte behind a file, and the last byte of its buffer.
 fn show_behind(out: &[u8; 2560], end: usize) {
-    show::next(wide(get(out, end)));
-    show::next(wide(get(out, 2559)));
+    show::next(wide8(get(out, end)));
+    show::next(wide8(get(out, 2559)));
     show::end();
-}
-
-// A byte as a number.
-fn wide(x: u8) -> u64 {
-    x as u64
 }
 
 // E with so many tallies written into a longer buffer: the file's length, and two bytes behind it, which keep their mark.

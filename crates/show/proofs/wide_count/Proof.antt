@@ -1,4 +1,4 @@
--- `show::wide_count` meets its contract: a 32-bit number is a 64-bit number. Assumes nothing.
+-- `show::wide_count` is safe and ends: a 32-bit number is a 64-bit number. Assumes nothing.
 use native.Mathlib.Nat.{lt-of-lt-of-le}
 use lib.Dec.{lit≤}
 use Rattle.laws.proofs.Signed.{read32}

@@ -19,8 +19,8 @@ add-get c = omega arith
 get-requires : tie.Need-get-requires Inv-loop μ-loop
 get-requires c κs = tt
 
-wide-requires : tie.Need-wide-requires Inv-loop μ-loop
-wide-requires c κs = tt
+wide8-requires : tie.Need-wide8-requires Inv-loop μ-loop
+wide8-requires c κs = tt
 
 add-requires : tie.Need-add-requires Inv-loop μ-loop
 add-requires c κs = tt
@@ -49,7 +49,7 @@ both-sums-spec =
     loop-holds
     add-get
     get-requires
-    wide-requires
+    wide8-requires
     add-requires
     add-requires-2
     add-i

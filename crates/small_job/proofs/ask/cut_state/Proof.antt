@@ -1,6 +1,6 @@
 -- `small_job::ask::cut_state` is safe and ends: each part is no longer than its table. Assumes nothing.
-use native.Mathlib.Omega.{arith}
 use mathlib.Core.Path.{sym}
+use native.Mathlib.Omega.{arith}
 use lib.Seq.{length-take-le}
 use borrow.Author.Needs.{needs}
 use Rattle.small_job.proofs.ask.cut_state.Statement.{statement}
@@ -27,50 +27,50 @@ cut-requires-6 c κs = search needs
 cut-requires-7 : tie.Need-cut-requires-7
 cut-requires-7 c κs = search needs
 
-slice-relend-prefix-step : tie.Need-slice-relend-prefix-step
-slice-relend-prefix-step c = search needs
+slice-relend-prefix-lend : tie.Need-slice-relend-prefix-lend
+slice-relend-prefix-lend c = search needs
 
-slice-aggregate-step : tie.Need-slice-aggregate-step
-slice-aggregate-step c = sym (length-take-le _ _ (omega arith))
+slice-aggregate-lend : tie.Need-slice-aggregate-lend
+slice-aggregate-lend c = sym (length-take-le _ _ (omega arith))
 
-slice-relend-prefix-step-2 : tie.Need-slice-relend-prefix-step-2
-slice-relend-prefix-step-2 c = search needs
+slice-relend-prefix-lend-2 : tie.Need-slice-relend-prefix-lend-2
+slice-relend-prefix-lend-2 c = search needs
 
-slice-aggregate-step-2 : tie.Need-slice-aggregate-step-2
-slice-aggregate-step-2 c = sym (length-take-le _ _ (omega arith))
+slice-aggregate-lend-2 : tie.Need-slice-aggregate-lend-2
+slice-aggregate-lend-2 c = sym (length-take-le _ _ (omega arith))
 
-slice-relend-prefix-step-3 : tie.Need-slice-relend-prefix-step-3
-slice-relend-prefix-step-3 c = search needs
+slice-relend-prefix-lend-3 : tie.Need-slice-relend-prefix-lend-3
+slice-relend-prefix-lend-3 c = search needs
 
-slice-aggregate-step-3 : tie.Need-slice-aggregate-step-3
-slice-aggregate-step-3 c = sym (length-take-le _ _ (omega arith))
+slice-aggregate-lend-3 : tie.Need-slice-aggregate-lend-3
+slice-aggregate-lend-3 c = sym (length-take-le _ _ (omega arith))
 
-slice-relend-prefix-step-4 : tie.Need-slice-relend-prefix-step-4
-slice-relend-prefix-step-4 c = search needs
+slice-relend-prefix-lend-4 : tie.Need-slice-relend-prefix-lend-4
+slice-relend-prefix-lend-4 c = search needs
 
-slice-aggregate-step-4 : tie.Need-slice-aggregate-step-4
-slice-aggregate-step-4 c = sym (length-take-le _ _ (omega arith))
+slice-aggregate-lend-4 : tie.Need-slice-aggregate-lend-4
+slice-aggregate-lend-4 c = sym (length-take-le _ _ (omega arith))
 
-slice-relend-prefix-step-5 : tie.Need-slice-relend-prefix-step-5
-slice-relend-prefix-step-5 c = search needs
+slice-relend-prefix-lend-5 : tie.Need-slice-relend-prefix-lend-5
+slice-relend-prefix-lend-5 c = search needs
 
-slice-aggregate-step-5 : tie.Need-slice-aggregate-step-5
-slice-aggregate-step-5 c = sym (length-take-le _ _ (omega arith))
+slice-aggregate-lend-5 : tie.Need-slice-aggregate-lend-5
+slice-aggregate-lend-5 c = sym (length-take-le _ _ (omega arith))
 
-slice-relend-prefix-step-6 : tie.Need-slice-relend-prefix-step-6
-slice-relend-prefix-step-6 c = search needs
+slice-relend-prefix-lend-6 : tie.Need-slice-relend-prefix-lend-6
+slice-relend-prefix-lend-6 c = search needs
 
-slice-aggregate-step-6 : tie.Need-slice-aggregate-step-6
-slice-aggregate-step-6 c = sym (length-take-le _ _ (omega arith))
+slice-aggregate-lend-6 : tie.Need-slice-aggregate-lend-6
+slice-aggregate-lend-6 c = sym (length-take-le _ _ (omega arith))
 
-slice-relend-prefix-step-7 : tie.Need-slice-relend-prefix-step-7
-slice-relend-prefix-step-7 c = search needs
+slice-relend-prefix-lend-7 : tie.Need-slice-relend-prefix-lend-7
+slice-relend-prefix-lend-7 c = search needs
 
-slice-aggregate-step-7 : tie.Need-slice-aggregate-step-7
-slice-aggregate-step-7 c = sym (length-take-le _ _ (omega arith))
+slice-aggregate-lend-7 : tie.Need-slice-aggregate-lend-7
+slice-aggregate-lend-7 c = sym (length-take-le _ _ (omega arith))
 
-step-requires : tie.Need-step-requires
-step-requires c κs = search needs
+lend-requires : tie.Need-lend-requires
+lend-requires c κs = search needs
 
 same-length : tie.Need-same-length
 same-length c = search needs
@@ -107,21 +107,21 @@ cut-state-spec =
     cut-requires-5
     cut-requires-6
     cut-requires-7
-    slice-relend-prefix-step
-    slice-aggregate-step
-    slice-relend-prefix-step-2
-    slice-aggregate-step-2
-    slice-relend-prefix-step-3
-    slice-aggregate-step-3
-    slice-relend-prefix-step-4
-    slice-aggregate-step-4
-    slice-relend-prefix-step-5
-    slice-aggregate-step-5
-    slice-relend-prefix-step-6
-    slice-aggregate-step-6
-    slice-relend-prefix-step-7
-    slice-aggregate-step-7
-    step-requires
+    slice-relend-prefix-lend
+    slice-aggregate-lend
+    slice-relend-prefix-lend-2
+    slice-aggregate-lend-2
+    slice-relend-prefix-lend-3
+    slice-aggregate-lend-3
+    slice-relend-prefix-lend-4
+    slice-aggregate-lend-4
+    slice-relend-prefix-lend-5
+    slice-aggregate-lend-5
+    slice-relend-prefix-lend-6
+    slice-aggregate-lend-6
+    slice-relend-prefix-lend-7
+    slice-aggregate-lend-7
+    lend-requires
     same-length
     same-length-2
     same-length-3

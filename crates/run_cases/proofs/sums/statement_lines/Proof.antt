@@ -1,24 +1,27 @@
--- `run_cases::large::statement_lines` is safe and ends. Assumes nothing.
+-- `run_cases::sums::statement_lines` is safe and ends. Assumes nothing.
+use Prim.Native.Nat.{_-_}
 use native.Mathlib.Omega.{arith}
 use borrow.Author.Needs.{needs}
-use Prim.Native.Nat.{_≤_, _-_}
-use Rattle.run_cases.proofs.large.statement_lines.Statement.{statement}
-use Rattle.run_cases.proofs.large.statement_lines.Tie as tie
+use Rattle.run_cases.proofs.sums.statement_lines.Statement.{statement}
+use Rattle.run_cases.proofs.sums.statement_lines.Tie as tie
 
 abbrev Inv-loop : tie.InvT-loop
-Inv-loop statement price tgrocer toffer grocers tallies every n₀ g₀ sum n g = g ≤ grocers
+Inv-loop statement price tgrocer toffer tcount grocers tallies every n₀ g₀ shown n g = Unit {0}
 
 abbrev μ-loop : tie.MeasureT-loop
-μ-loop statement price tgrocer toffer grocers tallies every n₀ g₀ sum n g = grocers - g
+μ-loop statement price tgrocer toffer tcount grocers tallies every n₀ g₀ shown n g = grocers - g
 
 loop-holds : tie.Need-loop-holds Inv-loop μ-loop
-loop-holds c = omega arith
+loop-holds c = tt
 
-plain-sum-requires : tie.Need-plain-sum-requires Inv-loop μ-loop
-plain-sum-requires c κs = search needs
+sums-of-requires : tie.Need-sums-of-requires Inv-loop μ-loop
+sums-of-requires c κs = search needs
 
 is-shown-requires : tie.Need-is-shown-requires Inv-loop μ-loop
 is-shown-requires c κs = search needs
+
+amount-at-requires : tie.Need-amount-at-requires Inv-loop μ-loop
+amount-at-requires c κs = search needs
 
 grocer-requires : tie.Need-grocer-requires Inv-loop μ-loop
 grocer-requires c κs = search needs
@@ -33,7 +36,7 @@ loop-less : tie.Need-loop-less Inv-loop μ-loop
 loop-less c = omega arith
 
 loop-again : tie.Need-loop-again Inv-loop μ-loop
-loop-again c = omega arith
+loop-again c = tt
 
 slice-aggregate-line : tie.Need-slice-aggregate-line Inv-loop μ-loop
 slice-aggregate-line c = search needs
@@ -51,8 +54,9 @@ statement-lines-spec =
     Inv-loop
     μ-loop
     loop-holds
-    plain-sum-requires
+    sums-of-requires
     is-shown-requires
+    amount-at-requires
     grocer-requires
     add-requires
     add-g
