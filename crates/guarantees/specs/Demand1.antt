@@ -23,7 +23,7 @@ unfoldable pub IsFirstOf : List ℕ → ℕ → Type 0
 IsFirstOf [] n = n ≡ 0
 IsFirstOf (m ∷ ms) n = ((m ≡ 0 → ⊥) × (n ≡ m)) ⊎ ((m ≡ 0) × IsFirstOf ms n)
 
--- No refusal is lost or made up, and a refused call of the settlement, the file or the desk leaves every lent word. The same of a box's local book is in crates/local/specs/Book.antt, of the tables of messages in crates/tables/specs/Answers.antt, of the calls for C in crates/host/specs.
+-- No refusal is lost or made up, and a refused call of the settlement, the file or the desk leaves every lent word. The same of a box's local book is `BookGiven` in crates/local/specs/Book.antt, of the tables of words `MessagesGiven` in crates/tables/specs/Answers.antt, of the calls for C `HostRefused` in crates/host/specs/Host.antt.
 pub record Demand1 : Type 0 where
   -- In every list of conditions the first one met is the one refused;
   pub first : (rs : List (Bool × ℕ)) → IsFirst rs (firstMet rs)

@@ -7,7 +7,7 @@ use crate::second::starts_wrong;
 use attempts::differ::add;
 use attempts::differ::differ_counts;
 use attempts::differ::one;
-use attempts::job::wide16;
+use show::wide16;
 use large_job::job::Job;
 use large_job::search::at;
 use large_job::search::held;

@@ -4,7 +4,7 @@ use crate::call::Tables;
 use attempts::differ::add;
 use attempts::differ::differ_counts;
 use attempts::differ::differ16;
-use attempts::job::wide16;
+use show::wide16;
 use local::book::Answer;
 
 // A line of words.

@@ -2,7 +2,7 @@
 use attempts::differ::add;
 use attempts::differ::differ16;
 use attempts::differ::one;
-use attempts::job::wide16;
+use show::wide16;
 use large_job::search::at;
 use large_job::search::at_word;
 use large_job::search::held;

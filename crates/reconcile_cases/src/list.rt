@@ -2,11 +2,6 @@
 use reconcile::Answer;
 use reconcile::Tally;
 
-// A 16-bit word as a number to print.
-fn wide(x: u16) -> u64 {
-    x as u64
-}
-
 // A record by its fields.
 pub fn tally(grocer: u16, tbox: u16, place: u16, count: i32) -> Tally {
     Tally {
@@ -44,7 +39,7 @@ pub fn line(name: &[u8], a: Answer) {
         }
         Answer::Refused(n) => {
             show::text(b": refused");
-            show::next(wide(n));
+            show::next(show::wide16(n));
         }
     }
     show::end();

@@ -1,8 +1,8 @@
 // What the program writes of tables of messages.
 use crate::second::differ;
 use attempts::differ::add;
-use attempts::job::wide16;
-use small_job::lines::wide32;
+use show::wide16;
+use show::wide32;
 use tables::messages::Answer;
 use tables::messages::column_sum;
 use tables::messages::row_sum;

@@ -1,7 +1,7 @@
 // A second count of the words between boxes: a word for each first tally of a box and an offer, or a grocer, of another box.
 use attempts::differ::add;
 use attempts::differ::one;
-use attempts::job::wide16;
+use show::wide16;
 use large_job::search::at;
 use large_job::search::at_word;
 use large_job::search::held;
