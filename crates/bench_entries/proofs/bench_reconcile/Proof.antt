@@ -11,12 +11,10 @@ use Rattle.bench_entries.proofs.records.Reads as records-reads
 use Rattle.bench_entries.proofs.tell.Reads as tell-reads
 use Rattle.reconcile.proofs.reconcile_few.Reads as reconcile-few-reads
 
--- src/lib.rt:135:9
 returns : tie.Need-returns
 unfolding shortFields
 returns c = told-short _ _ _ _ _ _ _ _ _ (c .if1 .taken)
 
--- src/lib.rt:137:9
 records-requires : tie.Need-records-requires
 unfolding shortFields
 records-requires c κs =
@@ -24,11 +22,9 @@ records-requires c κs =
     let w = fields-whole (now (x .grocer)) (now (x .tbox)) (now (x .place)) (now (x .count)) (now (x .owed)) (c .if1 .left) in
     (w .0, w .1)
 
--- src/lib.rt:138:9
 reconcile-few-requires : tie.Need-reconcile-few-requires
 reconcile-few-requires c κs = search needs
 
--- src/lib.rt:139:5
 tell-requires : tie.Need-tell-requires
 unfolding shortFields
 tell-requires c κs =
@@ -36,11 +32,9 @@ tell-requires c κs =
     let x = k .before .before .before .before .before .args in
     fields-whole (now (x .grocer)) (now (x .tbox)) (now (x .place)) (now (x .count)) (now (x .owed)) (k .if1 .left) .2
 
--- src/lib.rt:118:1
 same-length : tie.Need-same-length
 same-length c = search needs
 
--- src/lib.rt:118:1
 returns-2 : tie.Need-returns-2
 unfolding shortFields
 returns-2 c =

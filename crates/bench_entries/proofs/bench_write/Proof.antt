@@ -9,19 +9,15 @@ use Rattle.bench_entries.proofs.bench_write.Lts as lts
 use Rattle.bench_entries.proofs.number.Reads as number-reads
 use Rattle.writer.proofs.write.Reads as write-reads
 
--- src/lib.rt:37:9
 write-requires : tie.Need-write-requires
 write-requires c κs = search needs
 
--- src/lib.rt:52:5
 number-requires : tie.Need-number-requires
 number-requires c κs = search needs
 
--- src/lib.rt:19:1
 same-length : tie.Need-same-length
 same-length c = search needs
 
--- src/lib.rt:19:1
 returns : tie.Need-returns
 unfolding writtenAs
 returns c = rw (sym (c .before .before .before .write .ensures), c .number .ensures)

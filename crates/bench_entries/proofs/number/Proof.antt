@@ -6,24 +6,19 @@ use Rattle.bench_entries.proofs.number.Tie as tie
 use Rattle.bench_entries.proofs.number.Reads as reads
 use Rattle.bench_entries.proofs.number.Lts as lts
 
--- src/lib.rt:13:23
 enum-known-a : tie.Need-enum-known-a
 enum-known-a c = search needs
 
--- src/lib.rt:14:25
 enum-known-a-2 : tie.Need-enum-known-a-2
 enum-known-a-2 c = search needs
 
--- src/lib.rt:14:31
 cast-result : tie.Need-cast-result
 cast-result c = search needs
 
--- src/lib.rt:9:1
 returns : tie.Need-returns
 unfolding writeNumber
 returns c = rw (c .before .a .given .1)
 
--- src/lib.rt:9:1
 returns-2 : tie.Need-returns-2
 unfolding writeNumber
 returns-2 c = rw (c .before .a2 .given .1)

@@ -20,31 +20,24 @@ Inv-loop grocer tbox place count n list₀ i₀ list i = (i ≤ n) × (length li
 abbrev μ-loop : tie.MeasureT-loop
 μ-loop grocer tbox place count n list₀ i₀ list i = n - i
 
--- src/lib.rt:87:5
 loop-holds : tie.Need-loop-holds Inv-loop μ-loop
 loop-holds c = (search needs, refl, λ p h. absurd (omega (arith, h)))
 
--- src/lib.rt:88:13
 tally-requires : tie.Need-tally-requires Inv-loop μ-loop
 tally-requires c κs = (c .loop-test .taken, c .before .before .before .before .before .pre .1)
 
--- src/lib.rt:89:9
 mul-list : tie.Need-mul-list Inv-loop μ-loop
 mul-list c = omega (arith, c .before .before .loop .inv .0, c .before .before .before .before .before .before .pre .0)
 
--- src/lib.rt:89:9
 array-set-from-list : tie.Need-array-set-from-list Inv-loop μ-loop
 array-set-from-list c = omega (arith, c .before .loop-test .taken, c .before .before .before .before .before .before .pre .0)
 
--- src/lib.rt:87:9
 add-i : tie.Need-add-i Inv-loop μ-loop
 add-i c = omega (arith, c .before .before .loop .inv .0, c .before .before .before .before .before .before .pre .0)
 
--- src/lib.rt:87:5
 loop-less : tie.Need-loop-less Inv-loop μ-loop
 loop-less c = omega (arith, c .before .loop-test .taken)
 
--- src/lib.rt:87:5
 loop-again : tie.Need-loop-again Inv-loop μ-loop
 loop-again c =
     let e = c .before in
@@ -58,7 +51,6 @@ loop-again c =
           (omega (arith, inv .1, e .loop-test .taken, s .pre .0)) (c .tally .ensures) (inv .2),
     )
 
--- src/lib.rt:74:1
 returns : tie.Need-returns Inv-loop μ-loop
 returns c =
     let b = c .before in

@@ -7,39 +7,30 @@ use Rattle.bench_entries.proofs.tally.Tie as tie
 use Rattle.bench_entries.proofs.tally.Reads as reads
 use Rattle.bench_entries.proofs.tally.Lts as lts
 
--- src/lib.rt:66:17
 mul-t6 : tie.Need-mul-t6
 mul-t6 c = search needs
 
--- src/lib.rt:66:17
 shared-slice-read-t8 : tie.Need-shared-slice-read-t8
 shared-slice-read-t8 c = search needs
 
--- src/lib.rt:67:20
 mul-t9 : tie.Need-mul-t9
 mul-t9 c = search needs
 
--- src/lib.rt:67:20
 shared-slice-read-t11 : tie.Need-shared-slice-read-t11
 shared-slice-read-t11 c = search needs
 
--- src/lib.rt:68:16
 mul-t12 : tie.Need-mul-t12
 mul-t12 c = search needs
 
--- src/lib.rt:68:16
 shared-slice-read-t14 : tie.Need-shared-slice-read-t14
 shared-slice-read-t14 c = search needs
 
--- src/lib.rt:69:16
 mul-t15 : tie.Need-mul-t15
 mul-t15 c = search needs
 
--- src/lib.rt:69:16
 shared-slice-copy-out-t17 : tie.Need-shared-slice-copy-out-t17
 shared-slice-copy-out-t17 c = search needs
 
--- src/lib.rt:60:1
 returns : tie.Need-returns
 unfolding lentTally
 returns c = rw (read32 _ (c .t17 .given))

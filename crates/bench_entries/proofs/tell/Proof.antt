@@ -9,29 +9,23 @@ use Rattle.bench_entries.proofs.tell.Tie as tie
 use Rattle.bench_entries.proofs.tell.Reads as reads
 use Rattle.bench_entries.proofs.tell.Lts as lts
 
--- src/lib.rt:100:33
 enum-known-a : tie.Need-enum-known-a
 enum-known-a c = search needs
 
--- src/lib.rt:101:13
 slice-set-from-z : tie.Need-slice-set-from-z
 slice-set-from-z c = search needs
 
--- src/lib.rt:104:36
 enum-known-a-2 : tie.Need-enum-known-a-2
 enum-known-a-2 c = search needs
 
--- src/lib.rt:95:1
 same-length : tie.Need-same-length
 same-length c = search needs
 
--- src/lib.rt:95:1
 returns : tie.Need-returns
 returns c =
     let k = c .before .before .before in
     told-amount _ _ _ _ (c .before .a .given .1) (put-one (k .args .owed .now) _ _ (k .pre) (read64 _ (c .known-told .given .0 .1)))
 
--- src/lib.rt:95:1
 returns-2 : tie.Need-returns-2
 unfolding toldAs answerOf
 returns-2 c = rw (c .before .a2 .given .1)
