@@ -4,7 +4,6 @@ use mathlib.Core.Bool.{Bool, true, false, cond, _&&_, _||_, not, false≢true}
 use mathlib.Core.List.{List}
 use Prim.Native.Nat.{ℕ, zero, suc, _+_, _-_, _*_, _/_, _%_, _≤_, _<_}
 use native.Mathlib.Omega.{arith}
-use native.Mathlib.Numerals.{add-one}
 use native.Mathlib.Nat.{suc-mul, add-zero, zero-mul, mul-le-mul-right, div-add-mod', div-lt-iff-lt-mul, mod-lt}
 use lib.Dec.{eqb}
 use lib.ListN.{getD, set, length, length-set}
@@ -100,23 +99,6 @@ pub rows-none : (rows : List ℕ) → rowSum rows 0 ≡ 0
 unfolding rowSum sum words
 rows-none rows = refl
 
--- The rows of kinds: k rows each, of six kinds.
-pub kind-rows : (k from q : ℕ) → from ≡ q * k → q < 6 → from + k ≤ 6 * k
-kind-rows k from q e l = omega (arith, mul-le-mul-right {m = q} {n = 5} k (omega arith))
-
-pub kind-next : (k from q : ℕ) → from ≡ q * k → from + k ≡ (q + 1) * k
-kind-next k from q e = rw (add-one q, suc-mul q k) (ap (λ (x : ℕ). x + k) e)
-
--- Rows added from row r on.
-pub rows-start : (rows : List ℕ) (r : ℕ) → 0 + rowSum rows r ≡ rowSum rows (r + 0)
-rows-start rows r = rw (add-zero r) (omega arith)
-
-pub rows-next : (rows : List ℕ) (r a ready : ℕ) → ready + rowSum rows r ≡ rowSum rows (r + a) → ready + getD rows (r + a) 0 + rowSum rows r ≡ rowSum rows (r + (a + 1))
-rows-next rows r a ready h = omega (arith, ap (rowSum rows) (regroup r a) ∙ rows-more rows (r + a))
-  where
-    regroup : (r a : ℕ) → r + (a + 1) ≡ r + a + 1
-    regroup r a = omega arith
-
 -- Only kinds 3 and 6 ask for the second box.
 pub ready-row : (k : ℕ) (prices : List (List ℕ)) (d : Steps) (a b n : ℕ) → n ≤ 6 → (eqb n 3 || eqb n 6) ≡ false → readyBy k prices d (kindOf n) a 0 ≡ readyBy k prices d (kindOf n) a b
 unfolding readyBy kindOf
@@ -165,10 +147,6 @@ module _ (k : ℕ) (prices totals : List (List ℕ)) (done : List ℕ) where
       -- or it is not,
       pub row-passed : getD rows r 0 ≤ left → left - getD rows r 0 + rowSum rows (r + 1) ≡ c
       row-passed h = rw (rows-more rows r) (omega arith)
-
-    -- Rows passed together: those from row r on, as far as row q.
-    pub rows-passed : (r q left found c : ℕ) → left + rowSum rows r ≡ c → found + rowSum rows r ≡ rowSum rows q → found ≤ left → left - found + rowSum rows q ≡ c
-    rows-passed r q left found c e f l = omega (arith, e, f)
 
     -- and past the last row there were not so many.
     pub rows-end : (r left c : ℕ) → r ≡ 6 * k → left + rowSum rows r ≡ c → c < count (6 * k * k) (listedBy k prices totals done) → ⊥

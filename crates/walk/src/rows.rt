@@ -184,54 +184,7 @@ fn find_row(
     }
 }
 
-// The ready steps of k rows from one on.
-fn ready_rows(k: u16, from: u16, rows: &[u16; 96]) -> u16
-    requires { ⌜ FewRows k (now rows) ⌝ }
-    requires { ⌜ from + k ≤ 6 * k ⌝ }
-    ensures { λ r. ⌜ r + rowSum (now (rows .entry)) from ≡ rowSum (now (rows .entry)) (from + k) ⌝ }
-{
-    let n = k as usize;
-    let first = from as usize;
-    let mut sum: u16 = 0;
-    for a in 0..n {
-        sum += rows[first + a];
-    }
-    sum
-}
-
-// The ready step that has c ready steps before it from a row on: rows are passed, and then places of one row.
-fn find_from(
-    k: u16,
-    from: u16,
-    c: u16,
-    rows: &[u16; 96],
-    prices: &[[u16; 16]; 16],
-    totals: &[[u16; 16]; 16],
-    done: &[u16],
-) -> Place
-    requires { ⌜ WalkIn k (now done) ⌝ }
-    requires { ⌜ IsRows k (now prices) (now totals) (now done) (now rows) ⌝ }
-    requires { ⌜ (from ≤ 6 * k) × (c + rowSum (now rows) from < count (6 * k * k) (listedBy k (now prices) (now totals) (now done))) ⌝ }
-    ensures { λ r. ⌜ Found k (nth (6 * k * k) (listedBy k (now (prices .entry)) (now (totals .entry)) (now (done .entry))) (c + rowSum (now (rows .entry)) from)) (r .kind) (r .first) (r .second) ⌝ }
-{
-    let n = 6 * k;
-    let mut left = c;
-    for r in from..n {
-        let i = r as usize;
-        let found = rows[i];
-        if left < found {
-            return find_row(k, r, left, prices, totals, done);
-        }
-        left -= found;
-    }
-    Place {
-        kind: 1,
-        first: 0,
-        second: 0,
-    }
-}
-
-// The ready step that has c ready steps before it: kinds are passed, then rows of one kind, and then places of one row.
+// The ready step that has c ready steps before it: rows are passed, and then places of one row.
 pub fn find_in(
     k: u16,
     c: u16,
@@ -245,15 +198,15 @@ pub fn find_in(
     requires { ⌜ c < count (6 * k * k) (listedBy k (now prices) (now totals) (now done)) ⌝ }
     ensures { λ r. ⌜ Found k (nth (6 * k * k) (listedBy k (now (prices .entry)) (now (totals .entry)) (now (done .entry))) c) (r .kind) (r .first) (r .second) ⌝ }
 {
+    let n = 6 * k;
     let mut left = c;
-    let mut from: u16 = 0;
-    for q in 0..6u16 {
-        let found = ready_rows(k, from, rows);
+    for r in 0..n {
+        let i = r as usize;
+        let found = rows[i];
         if left < found {
-            return find_from(k, from, left, rows, prices, totals, done);
+            return find_row(k, r, left, prices, totals, done);
         }
         left -= found;
-        from += k;
     }
     Place {
         kind: 1,
