@@ -7,11 +7,11 @@ use crate::second::starts_wrong;
 use attempts::differ::add;
 use attempts::differ::differ_counts;
 use attempts::differ::one;
-use show::wide16;
 use large_job::job::Job;
 use large_job::search::at;
 use large_job::search::held;
 use local::book::Answer;
+use show::wide16;
 
 // How many words of a book are not those due, or 1 where it was refused.
 fn wrong_in(

@@ -4,8 +4,8 @@ use crate::call::Tables;
 use attempts::differ::add;
 use attempts::differ::differ_counts;
 use attempts::differ::differ16;
-use show::wide16;
 use local::book::Answer;
+use show::wide16;
 
 // A line of words.
 fn print_words(name: &[u8], words: &[u16]) {

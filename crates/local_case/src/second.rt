@@ -2,10 +2,10 @@
 use attempts::differ::add;
 use attempts::differ::differ16;
 use attempts::differ::one;
-use show::wide16;
 use large_job::search::at;
 use large_job::search::at_word;
 use large_job::search::held;
+use show::wide16;
 
 // The number as a word, 65,535 where it is none.
 pub fn word(i: usize) -> u16 {

@@ -1,10 +1,10 @@
 // A second count of the words between boxes: a word for each first tally of a box and an offer, or a grocer, of another box.
 use attempts::differ::add;
 use attempts::differ::one;
-use show::wide16;
 use large_job::search::at;
 use large_job::search::at_word;
 use large_job::search::held;
+use show::wide16;
 
 // The count in row a, column b of a table, 65,535 where there is none.
 fn cell(table: [[u16; 16]; 16], a: usize, b: usize) -> u16 {

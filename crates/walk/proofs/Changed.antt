@@ -2,7 +2,7 @@
 use mathlib.Core.Path.{_≡_, refl, sym, ap, ap₂, _∙_}
 use mathlib.Core.Bool.{Bool, true, false, cond, _&&_, _||_, not}
 use mathlib.Core.List.{List}
-use Prim.Native.Nat.{ℕ, zero, suc, _+_, _-_, _*_, _/_, _%_, _≤_, _<_}
+use Prim.Native.Nat.{ℕ, suc, _+_, _-_, _*_, _/_, _%_, _≤_, _<_}
 use native.Mathlib.Omega.{arith}
 use native.Mathlib.Nat.{div-add-mod'}
 use lib.Arith.{digits-div, digits-mod, digits-lt}
@@ -11,14 +11,13 @@ use lib.ListN.{getD, set}
 use borrow.Author.Tests.{eqb-true, eqb-false, not-true}
 use Rattle.laws.specs.Below.{words, only, count}
 use Rattle.laws.proofs.Bools.{split, no-true, clash, and-true, and-l, and-r, and-false, or-more, or-off}
-use Rattle.laws.proofs.Sums.{sum-one}
-use Rattle.laws.proofs.Below.{any-false, all-at, all-of, all-cong, count-cong, count-none, count-le, counts-one, counts-none}
+use Rattle.laws.proofs.Below.{any-false, all-at, all-of, all-cong, count-cong, count-none, count-le, counts-one, count-one-more}
 use Rattle.model.specs.Steps.{Kind, sendPrices, multiplyOwn, receivePrices, sendTotals, addOwn, receiveTotals, Steps, number, kindOf, mark}
 use Rattle.prices.specs.Marks.{MarksIn, stepsDone}
 use Rattle.refuse.specs.Rules.{due, fitsBy, receivedFrom, multipliedBy, readyBy, permittedBy}
 use Rattle.walk.specs.Walk.{listedBy}
 use Rattle.walk.specs.Rows.{rowOf, rowCount, IsRows, OneReady, RowsBefore, Renewed}
-use Rattle.model.proofs.Cursor.{number-place}
+use Rattle.model.proofs.Cursor.{number-place, number-kind}
 use Rattle.model.proofs.Reach.{mark-more, mark-it}
 use Rattle.walk.proofs.ByRow.{changes, IsRowsBut, kind-few, row-below, not-ready, written, sent-kind}
 
@@ -105,11 +104,6 @@ module _ (k kind a b r : ℕ) (h : changes k kind a b r ≡ false) where
     received-5 = λ e. not-row 5 a (received-offs e .1);
   }
 
--- One number more is counted.
-count-one-more : (n k : ℕ) (p q : ℕ → Bool) → k < n → p k ≡ false → ((i : ℕ) → i < n → (i ≡ k → ⊥) → q i ≡ p i) → count n q ≡ count n p + only words (q k) 1
-unfolding count words
-count-one-more n k p q l e h = sum-one words n k (λ i. only words (p i) 1) (λ i. only words (q i) 1) (only words (q k) 1) l (omega (arith, counts-none e)) (λ i m d. rw (h i m d))
-
 -- The step's own row: one ready step less, since it is done.
 ready-own : (k : ℕ) (prices totals : List (List ℕ)) (d : Steps) (q : Kind) (a b c : ℕ) → readyBy k prices (mark d q a b) q a c ≡ readyBy k prices d q a c
 unfolding readyBy number
@@ -184,10 +178,6 @@ rows-before k kind a b prices totals done done′ rows e was h = record {
   long = h .long;
   right = λ r l. h .right r l ∙ row-steps k prices totals done r;
 }
-
-number-kind : (n : ℕ) → 1 ≤ n → n ≤ 6 → number (kindOf n) ≡ n
-number-kind zero h l = absurd (omega arith)
-number-kind (suc n) h l = number-place n (omega arith)
 
 module _ (k kind a b : ℕ) (prices totals : List (List ℕ)) (done rows : List ℕ) (m : MarksIn k kind a b done) (h : RowsBefore k kind a b prices totals done rows) where
   -- The counts of rows before a step are those after it, but for the rows that it can change.
