@@ -12,12 +12,12 @@ use Rattle.laws.proofs.Checks.{none-of}
 use Rattle.laws.proofs.Tables.{word-in}
 use Rattle.model.specs.Tables.{JobTables, jobOf, jobLengths, jobShort}
 use Rattle.model.specs.Ranges.{jobInRange}
-use Rattle.model.specs.Local.{localOffers, localGrocers, BookLengths, bookShort, bookRefusals}
-use Rattle.model.proofs.Step.{range, limits}
-use Rattle.tables.proofs.Whole.{JobWhole, job-whole}
+use Rattle.model.specs.Local.{BookLengths, bookShort, bookRefusals}
 use Rattle.local.specs.Sort.{at, inFront}
 use Rattle.local.specs.Lists.{localList, heldOf, TalliesIn, OwnersIn, PlacesIn}
 use Rattle.local.specs.Book.{bookSizes}
+use Rattle.model.proofs.Step.{range, limits}
+use Rattle.tables.proofs.Whole.{JobWhole, job-whole}
 use Rattle.local.proofs.Packing.{at-front}
 use Rattle.local.proofs.Modelled.{list-le, list-in}
 
