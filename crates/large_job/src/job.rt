@@ -1,5 +1,5 @@
 // The largest job, its tables filled by rules.
-ghost use Prim.Native.Nat.{_<_};
+use crate::fill::fill;
 
 // The tables of a job of 16 boxes.
 pub struct Job {
@@ -10,28 +10,6 @@ pub struct Job {
     pub tbox: [u16; 1000],
     pub toffer: [u16; 1000],
     pub tcount: [i32; 1000],
-}
-
-// The quotient of a place, modulo m.
-fn share(t: usize, by: usize, m: usize) -> u16
-    requires { ⌜ (0 < by) × (0 < m) ⌝ }
-{
-    let q = (t / by) % m;
-    if q < 65_536 {
-        return q as u16;
-    }
-    0
-}
-
-// Word t becomes t / by modulo m.
-fn fill(a: &mut [u16], by: usize, m: usize)
-    requires { ⌜ (0 < by) × (0 < m) ⌝ }
-{
-    let mut t: usize = 0;
-    while t < a.len() {
-        a[t] = share(t, by, m);
-        t += 1;
-    }
 }
 
 // The count of the tally at a place, from -3 to 3.

@@ -1,8 +1,8 @@
 // Jobs of up to 16 boxes, 255 grocers, 500 offers and 1,000 tallies. Every count is -1.
-use crate::fill::fill;
 use crate::fill::fill_prices;
 use crate::lines::answer_text;
 use crate::sums::statement_lines;
+use large_job::fill::fill;
 use small_job::ask::Call;
 use small_job::ask::lend;
 

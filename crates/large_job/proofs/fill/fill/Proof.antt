@@ -1,11 +1,11 @@
--- `run_cases::fill::fill` is safe and ends. Assumes nothing.
+-- `large_job::fill::fill` is safe and ends. Assumes nothing.
 use native.Mathlib.Omega.{arith}
 use borrow.Author.Needs.{needs}
 use Prim.Native.Nat.{_-_}
 use mathlib.Core.Path.{_≡_}
 use lib.ListN.{length}
-use Rattle.run_cases.proofs.fill.fill.Statement.{statement}
-use Rattle.run_cases.proofs.fill.fill.Tie as tie
+use Rattle.large_job.proofs.fill.fill.Statement.{statement}
+use Rattle.large_job.proofs.fill.fill.Tie as tie
 
 abbrev Inv-loop : tie.InvT-loop
 Inv-loop a₀ by m t₀ a t = length a ≡ length a₀
