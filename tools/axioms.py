@@ -1,6 +1,6 @@
 #!/usr/bin/env python3
-"""What each program of crates.txt assumes, with the libraries in it, from the logs in target/log. A build logs it where the program is
-proved anew: run .ci/run before."""
+"""What each program of crates.txt assumes, with the libraries in it, from the logs in target/log: what the prover said when the program
+was last proved. Run .ci/run before."""
 import re
 from pathlib import Path
 
@@ -10,7 +10,7 @@ nothing, missing = [], []
 for name in names:
     if not (root / "crates" / name / "src" / "main.rt").exists():
         continue
-    log = root / "target" / "log" / f"{name}.out"
+    log = root / "target" / "log" / f"{name}.say"
     text = log.read_text() if log.exists() else ""
     if "logic=proved" not in text:
         missing.append(name)
