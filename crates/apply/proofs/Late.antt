@@ -21,7 +21,7 @@ use Rattle.prices.specs.Marks.{marked}
 use Rattle.totals.specs.Row.{productRow}
 use Rattle.totals.specs.Credit.{credited, creditWord}
 use Rattle.apply.specs.Apply.{Applies}
-use Rattle.prices.proofs.Marked.{marks-bits}
+use Rattle.prices.proofs.Marked.{marked-bits}
 use Rattle.totals.proofs.Rows.{put-range}
 use Rattle.totals.proofs.Credits.{cleared-range, sent-range, credit-range}
 use Rattle.totals.proofs.Effect.{talliesOf}
@@ -69,7 +69,7 @@ module _ (f : JobTables) (t : StateTables) (needs sharers : List ℕ) (q : Asked
   facts = given f t needs sharers q h
 
   marks : upTo 1 (6 * f .boxes * f .boxes) (marked (f .boxes) (kindOf (q .kind)) (q .first) (q .second) (t .done)) ≡ true
-  marks = marks-bits (f .boxes) (kindOf (q .kind)) (q .first) (q .second) (t .done)
+  marks = marked-bits (f .boxes) (kindOf (q .kind)) (q .first) (q .second) (t .done)
 
   -- 1: the count of words sent.
   pub late-prices-sent : q .kind ≡ 1 → stateInRange f (moved f t q) ≡ leb (getD (t .sent) 0 0 + count (f .offers) (priceWord (jobOf f) (q .first) (q .second))) maxSent

@@ -1,5 +1,5 @@
 -- What the benchmark's entry points give: a number for the answer, and the lent words.
-use Prim.Native.Nat.{ℕ, _≤_, _<_}
+use Prim.Native.Nat.{ℕ, _≤_}
 use mathlib.Core.Bool.{Bool, cond}
 use mathlib.Core.List.{List, [], _∷_}
 use lib.Dec.{ltb}
@@ -14,14 +14,15 @@ use Rattle.reconcile.specs.declared.Tally.{Tally}
 
 -- The writer's answer as one number: the file's length, which is 1,536 or more, or the refusal's number, which is 20 or less.
 unfoldable pub writeNumber : WriteAnswer → ℕ
-writeNumber (wrote n) = n
-writeNumber (notWritten n) = n
+writeNumber (wrote bytes) = bytes
+writeNumber (notWritten number) = number
 
 -- A number, and the buffer for the file as it is afterwards.
 pub record Written : Type 0 where
   pub answer : ℕ
   pub out : List ℕ
 
+-- The same, as a contract names it.
 abbrev pub written : ℕ → List ℕ → Written
 written n l = record { answer = n; out = l }
 
@@ -55,13 +56,14 @@ pub record Told : Type 0 where
   pub answer : ℕ
   pub owed : List ℤ
 
+-- The same, as a contract names it.
 abbrev pub told : ℕ → List ℤ → Told
 told n l = record { answer = n; owed = l }
 
 -- The desk's answer as a number; the amount is put in front of the lent words.
 unfoldable pub toldAs : DeskAnswer → List ℤ → Told
-toldAs (owed z) l = told 0 (overwrite 1 (λ i. z) l)
-toldAs (refused n) l = told n l
+toldAs (owed amount) l = told 0 (overwrite 1 (λ i. amount) l)
+toldAs (refused number) l = told number l
 
 -- What the reconciliation gives for fields that are lent apart.
 unfoldable pub toldBy : ℕ → ℕ → ℕ → List ℕ → (grocer box place : List ℕ) → (count owed : List ℤ) → Told

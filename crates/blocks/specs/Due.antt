@@ -2,7 +2,7 @@
 use Prim.Native.Nat.{ℕ, _≤_}
 use mathlib.Core.Path.{_≡_}
 use mathlib.Core.List.{List}
-use Rattle.format.specs.Blocks.{kindAt, kindNumber, records}
+use Rattle.format.specs.Blocks.{kindAt, blockKindNumber, records}
 use Rattle.format.specs.File.{decode}
 use Rattle.blocks.specs.declared.plan.Sizes.{Sizes}
 
@@ -22,6 +22,6 @@ pub record Most (s : Sizes) : Type 0 where
 
 -- Block k is due to be of the kind with number x and to have n records, which are at most 255.
 pub record Due (f : List ℕ) (k x n : ℕ) : Type 0 where
-  pub kind : x ≡ kindNumber (kindAt (decode f .offers) k)
+  pub kind : x ≡ blockKindNumber (kindAt (decode f .offers) k)
   pub count : n ≡ records (decode f) (kindAt (decode f .offers) k)
   pub few : n ≤ 255

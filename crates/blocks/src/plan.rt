@@ -4,7 +4,7 @@ ghost use Prim.Native.Nat.{_+_, _*_, _-_, _≤_, min};
 ghost use lib.ListN.{length};
 ghost use Rattle.format.specs.Bytes.{from};
 ghost use Rattle.format.specs.Job.{FileJob, badSizes};
-ghost use Rattle.format.specs.Blocks.{blocksFor, blockCount, kindAt, kindNumber, records};
+ghost use Rattle.format.specs.Blocks.{blocksFor, blockCount, kindAt, blockKindNumber, records};
 ghost use Rattle.format.specs.File.{decode};
 ghost use Rattle.format.specs.Refusals.{notDue};
 ghost use Rattle.blocks.specs.Due.{Is, Most, Due};
@@ -64,7 +64,7 @@ pub fn block_count(n: usize, t: usize) -> usize
 // The number of the kind of block k, in a file of n offers.
 pub fn kind_at(n: usize, k: usize) -> usize
     requires { ⌜ n ≤ 65535 ⌝ }
-    ensures { λ r. ⌜ r ≡ kindNumber (kindAt n k) ⌝ }
+    ensures { λ r. ⌜ r ≡ blockKindNumber (kindAt n k) ⌝ }
 {
     let grocers = 1 + blocks_for(n);
     if k < 1 {
@@ -97,7 +97,7 @@ fn part(n: usize, b: usize) -> usize
 // How many records block k has, which is not the header.
 pub fn records_at(k: usize, kind: usize, s: Sizes) -> usize
     requires { ⌜ (k ≤ 73) × Most s ⌝ }
-    requires { ⌜ (1 ≤ k) × (kind ≡ kindNumber (kindAt (s .offers) k)) ⌝ }
+    requires { ⌜ (1 ≤ k) × (kind ≡ blockKindNumber (kindAt (s .offers) k)) ⌝ }
     ensures { λ r. ⌜ ((j : FileJob) → j .grocers ≡ s .grocers → j .offers ≡ s .offers → j .tallies ≡ s .tallies → r ≡ records j (kindAt (s .offers) k)) × (r ≤ 255) ⌝ }
 {
     if kind == 1 {

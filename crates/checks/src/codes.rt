@@ -9,7 +9,7 @@ ghost use Rattle.laws.specs.Below.{any};
 ghost use Rattle.laws.specs.Tables.{overwrite};
 ghost use Rattle.laws.specs.Checks.{firstMet};
 ghost use Rattle.index.specs.Index.{IsIndex, sharesNumber, placeOf};
-ghost use Rattle.format.specs.Codes.{number, isCode};
+ghost use Rattle.format.specs.Codes.{codeNumber, isCode};
 ghost use Rattle.format.specs.Job.{FileJob, shared, unnamed};
 ghost use Rattle.checks.specs.Rows.{codeOf, Codes, HasCodes};
 use fills::code::number_at;
@@ -20,7 +20,7 @@ use index::look::place;
 fn number_all(code: &[u8], n: usize, numbers: &mut [u64])
     requires { ⌜ (n * 11 ≤ length (now code)) × (n ≤ length (now numbers)) ⌝ }
     requires { ⌜ Codes (now code) n ⌝ }
-    ensures { λ _. ⌜ now (numbers .exit) ≡ overwrite n (λ i. number (codeOf (now (code .entry)) i)) (now (numbers .entry)) ⌝ }
+    ensures { λ _. ⌜ now (numbers .exit) ≡ overwrite n (λ i. codeNumber (codeOf (now (code .entry)) i)) (now (numbers .entry)) ⌝ }
 {
     let mut i: usize = 0;
     while i < n {
@@ -33,7 +33,7 @@ fn number_all(code: &[u8], n: usize, numbers: &mut [u64])
 fn names_none(keys: &[u64], places: &[u16], n: usize, tcode: &[u8], i: usize) -> bool
     requires { ⌜ (n ≤ 500) × ((n ≤ length (now keys)) × (n ≤ length (now places))) ⌝ }
     requires { ⌜ (i * 11 + 11 ≤ length (now tcode)) × (isCode (codeOf (now tcode) i) ≡ true) ⌝ }
-    ensures { λ r. ⌜ ((numbers : List ℕ) → IsIndex (now (keys .entry)) (now (places .entry)) numbers n → sharesNumber numbers n ≡ false → r ≡ eqb (placeOf numbers n (number (codeOf (now (tcode .entry)) i))) n) ⌝ }
+    ensures { λ r. ⌜ ((numbers : List ℕ) → IsIndex (now (keys .entry)) (now (places .entry)) numbers n → sharesNumber numbers n ≡ false → r ≡ eqb (placeOf numbers n (codeNumber (codeOf (now (tcode .entry)) i))) n) ⌝ }
 {
     let number = number_at(tcode, i * 11);
     let at = place(keys, places, n, number);
@@ -44,7 +44,7 @@ fn names_none(keys: &[u64], places: &[u16], n: usize, tcode: &[u8], i: usize) ->
 fn some_none(keys: &[u64], places: &[u16], n: usize, tcode: &[u8], t: usize) -> bool
     requires { ⌜ (n ≤ 500) × ((n ≤ length (now keys)) × (n ≤ length (now places))) ⌝ }
     requires { ⌜ (t * 11 ≤ length (now tcode)) × Codes (now tcode) t ⌝ }
-    ensures { λ r. ⌜ ((numbers : List ℕ) → IsIndex (now (keys .entry)) (now (places .entry)) numbers n → sharesNumber numbers n ≡ false → r ≡ any t (λ i. eqb (placeOf numbers n (number (codeOf (now (tcode .entry)) i))) n)) ⌝ }
+    ensures { λ r. ⌜ ((numbers : List ℕ) → IsIndex (now (keys .entry)) (now (places .entry)) numbers n → sharesNumber numbers n ≡ false → r ≡ any t (λ i. eqb (placeOf numbers n (codeNumber (codeOf (now (tcode .entry)) i))) n)) ⌝ }
 {
     let mut bad = false;
     let mut i: usize = 0;

@@ -11,7 +11,7 @@ use lib.Seq.{getD-set-same, getD-set-other}
 use Rattle.laws.specs.Tables.{tabulate, overwrite, recell}
 use Rattle.laws.proofs.Tables.{is-overwrite, is-recell, getD-overwrite, getD-past, getD-tabulate, length-overwrite, getD-recell}
 use Rattle.format.specs.Bytes.{from, after, word32}
-use Rattle.format.specs.Codes.{Code, readCode, codeBytes, isCode, value, number}
+use Rattle.format.specs.Codes.{Code, readCode, codeBytes, isCode, value, codeNumber}
 use Rattle.format.specs.File.{recordAt}
 use Rattle.format.specs.Tables.{storeCodes}
 use Rattle.fills.specs.Fills.{Copied, codesIn}
@@ -124,6 +124,6 @@ unfolding value
 part-none d = refl
 
 -- All digits are read.
-pub part-all : (c : Code) (i v : ℕ) → v ≡ value i (c .digit) → i ≡ c .size → v ≡ number c
-unfolding number
+pub part-all : (c : Code) (i v : ℕ) → v ≡ value i (c .digit) → i ≡ c .size → v ≡ codeNumber c
+unfolding codeNumber
 part-all c i v e q = rw q at e

@@ -4,7 +4,7 @@ ghost use mathlib.Core.Bool.{true};
 ghost use Prim.Native.Nat.{_+_, _-_, _≤_};
 ghost use lib.ListN.{length};
 ghost use Rattle.format.specs.Bytes.{from};
-ghost use Rattle.format.specs.Codes.{readCode, isCode, number};
+ghost use Rattle.format.specs.Codes.{readCode, isCode, codeNumber};
 ghost use Rattle.fills.specs.Fills.{Copied};
 use blocks::bytes::size;
 
@@ -20,7 +20,7 @@ fn digit(x: u8) -> u64
 pub fn number_at(f: &[u8], at: usize) -> u64
     requires { ⌜ at + 11 ≤ length (now f) ⌝ }
     requires { ⌜ isCode (readCode (from (now f) at)) ≡ true ⌝ }
-    ensures { λ r. ⌜ r ≡ number (readCode (from (now (f .entry)) at)) ⌝ }
+    ensures { λ r. ⌜ r ≡ codeNumber (readCode (from (now (f .entry)) at)) ⌝ }
 {
     let n = size(f[at]);
     let mut value: u64 = 0;

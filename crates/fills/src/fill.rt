@@ -5,7 +5,7 @@ ghost use Prim.Native.Nat.{ℕ, _+_, _*_, _≤_, _<_};
 ghost use lib.ListN.{length, getD};
 ghost use Rattle.laws.specs.Tables.{overwrite};
 ghost use Rattle.format.specs.Bytes.{from, word16, word32};
-ghost use Rattle.format.specs.Codes.{isCode, number};
+ghost use Rattle.format.specs.Codes.{isCode, codeNumber};
 ghost use Rattle.format.specs.File.{recordAt};
 ghost use Rattle.format.specs.Tables.{storeCodes};
 ghost use Rattle.fills.specs.Fills.{Holds, bytesIn, codesIn, countsIn};
@@ -75,7 +75,7 @@ pub fn fill_numbers(f: &[u8], first: usize, place: usize, n: usize, numbers: &mu
     requires { ⌜ Holds (now f) first n ⌝ }
     requires { ⌜ (place ≤ 13) × (n ≤ length (now numbers)) ⌝ }
     requires { ⌜ ((i : ℕ) → i < n → isCode (codesIn (now f) first place i) ≡ true) ⌝ }
-    ensures { λ _. ⌜ now (numbers .exit) ≡ overwrite n (λ i. number (codesIn (now (f .entry)) first place i)) (now (numbers .entry)) ⌝ }
+    ensures { λ _. ⌜ now (numbers .exit) ≡ overwrite n (λ i. codeNumber (codesIn (now (f .entry)) first place i)) (now (numbers .entry)) ⌝ }
 {
     let mut i: usize = 0;
     while i < n {

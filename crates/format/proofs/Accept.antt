@@ -15,7 +15,7 @@ use Rattle.laws.proofs.Checks.{none-of, unmet}
 use Rattle.format.specs.First.{firstBelow}
 use Rattle.format.specs.Bytes.{from, after, word16}
 use Rattle.format.specs.Job.{badSizes, shared, unnamed}
-use Rattle.format.specs.Blocks.{BlockKind, offerBlock, grocerBlock, tallyBlock, blocks, offersAt, grocersAt, talliesAt, kindAt, kindNumber, records, spare, firstSum, secondSum}
+use Rattle.format.specs.Blocks.{BlockKind, offerBlock, grocerBlock, tallyBlock, blocks, offersAt, grocersAt, talliesAt, kindAt, blockKindNumber, records, spare, firstSum, secondSum}
 use Rattle.format.specs.File.{encode, decode}
 use Rattle.format.specs.Refusals.{badLength, badCount, sumsDiffer, notDue, badHeader, spareUsed, badRecord, headerRefusal, blockRefusal, fileRefusal, jobRefusal}
 use Rattle.format.proofs.Firsts.{each, below-at}
@@ -37,7 +37,7 @@ clean f k a b c =
     let g = from f (512 * k) in
     let z = kindAt (decode f .offers) k in
     let s = none-of (not (eqb (firstSum g) (word16 (after g 508))) ∷ not (eqb (secondSum g) (word16 (after g 510))) ∷ []) a in
-    let d = none-of (not (eqb (g 0) (kindNumber z)) ∷ not (eqb (word16 (after g 2)) k) ∷ not (eqb (g 1) (records (decode f) z)) ∷ []) b in
+    let d = none-of (not (eqb (g 0) (blockKindNumber z)) ∷ not (eqb (word16 (after g 2)) k) ∷ not (eqb (g 1) (records (decode f) z)) ∷ []) b in
     record {
       first = even _ _ (s .0);
       second = even _ _ (s .1 .0);

@@ -14,7 +14,7 @@ use Rattle.laws.specs.Tables.{tabulate}
 use Rattle.laws.proofs.Bools.{split, and-l, and-r}
 use Rattle.laws.proofs.Below.{all-at, all-cong}
 use Rattle.laws.proofs.Tables.{tabulate-snoc}
-use Rattle.format.specs.Codes.{Code, isPlace, isCode, value, number, written, dropZeros, sameOffer}
+use Rattle.format.specs.Codes.{Code, isPlace, isCode, value, codeNumber, written, dropZeros, sameOffer}
 
 -- The first n bytes are ASCII digits.
 abbrev pub Digits : (ℕ → ℕ) → ℕ → Type 0
@@ -171,7 +171,7 @@ count-drop g n l = ap (count 0) (drop-written g n l) ∙ count-zero _ ∙ count-
 
 -- Two codes name one offer exactly when they agree once leading zeros are dropped.
 pub same-offer : (c d : Code) → isCode c ≡ true → isCode d ≡ true → (sameOffer c d ≡ true) ↔ (dropZeros (written c) ≡ dropZeros (written d))
-unfolding sameOffer number written
+unfolding sameOffer codeNumber written
 same-offer c d hc hd =
     let p = code-is c hc in
     let q = code-is d hd in (
@@ -182,11 +182,11 @@ same-offer c d hc hd =
 -- Two codes that name one offer as a third does name one offer.
 pub same-trans : (a b c : Code) → sameOffer a c ≡ true → sameOffer b c ≡ true → sameOffer a b ≡ true
 unfolding sameOffer
-same-trans a b c p q = eq-eqb (number a) (number b) (eqb-true (number a) (number c) p ∙ sym (eqb-true (number b) (number c) q))
+same-trans a b c p q = eq-eqb (codeNumber a) (codeNumber b) (eqb-true (codeNumber a) (codeNumber c) p ∙ sym (eqb-true (codeNumber b) (codeNumber c) q))
 
 -- Codes of one size and one field name the same offers.
-pub number-cong : (c d : Code) → isCode d ≡ true → c .size ≡ d .size → ((k : ℕ) → k < 10 → c .digit k ≡ d .digit k) → number c ≡ number d
-unfolding number
+pub number-cong : (c d : Code) → isCode d ≡ true → c .size ≡ d .size → ((k : ℕ) → k < 10 → c .digit k ≡ d .digit k) → codeNumber c ≡ codeNumber d
+unfolding codeNumber
 number-cong c d v e h =
     let i = code-is d v in
     rw e (value-cong (d .size) (c .digit) (d .digit) (λ k l. h k (omega (arith, i .few))))

@@ -8,7 +8,7 @@ use native.Mathlib.Nat.{mul-add, add-mul}
 use native.Mathlib.Decide.{decLt, ℕ-discrete}
 use lib.ListN.{getD, set, length, length-set}
 use lib.Seq.{getD-set-same, getD-set-other, set-set, set-getD, set-comm}
-use Rattle.laws.specs.Below.{words, sum}
+use Rattle.laws.specs.Below.{naturals, sum}
 use Rattle.laws.proofs.Sums.{sum-cong, sum-change}
 use Rattle.format.specs.Bytes.{from, after, word16}
 use Rattle.format.specs.Blocks.{firstSum, secondSum}
@@ -29,7 +29,7 @@ weighed p b = (508 - p) * b
 
 -- The sum over the block at `at`, before it is taken modulo 65,521.
 abbrev total : (ℕ → ℕ → ℕ) → List ℕ → ℕ → ℕ
-total term f at = sum words 508 (λ p. term p (getD f (at + p) 0))
+total term f at = sum naturals 508 (λ p. term p (getD f (at + p) 0))
 
 -- Both sums of the block at `at` are as stored.
 pub record Agrees (f : List ℕ) (at : ℕ) : Type 0 where
@@ -38,7 +38,7 @@ pub record Agrees (f : List ℕ) (at : ℕ) : Type 0 where
 
 -- A byte that is set past the first 508 is not in their sum.
 total-out : (term : ℕ → ℕ → ℕ) (f : List ℕ) (at i x : ℕ) → 508 ≤ i → total term (set f (at + i) x) at ≡ total term f at
-total-out term f at i x h = sum-cong words 508 _ _ (λ p l. ap (term p) (getD-set-other f (at + i) (at + p) x 0 (omega arith)))
+total-out term f at i x h = sum-cong naturals 508 _ _ (λ p l. ap (term p) (getD-set-other f (at + i) (at + p) x 0 (omega arith)))
 
 -- A byte that is set among them changes their sum by what it counts.
 total-set : (term : ℕ → ℕ → ℕ) (f : List ℕ) (at i x : ℕ) → at + i < length f → i < 508 → total term (set f (at + i) x) at + term i (byteAt f (at + i)) ≡ total term f at + term i x

@@ -19,7 +19,7 @@ use Rattle.laws.proofs.Tables.{getD-tabulate, length-tabulate}
 use Rattle.format.specs.Bytes.{from, after, word16, word32, bytes16, bytes32}
 use Rattle.format.specs.Codes.{codeBytes}
 use Rattle.format.specs.Job.{FileJob}
-use Rattle.format.specs.Blocks.{BlockKind, header, offerBlock, grocerBlock, tallyBlock, blocks, offersAt, talliesAt, kindAt, kindNumber, records, recordSize, fieldSize, headerBytes, offerBytes, tallyBytes, recordBytes, spare, firstSum, secondSum}
+use Rattle.format.specs.Blocks.{BlockKind, header, offerBlock, grocerBlock, tallyBlock, blocks, offersAt, talliesAt, kindAt, blockKindNumber, records, recordSize, fieldSize, headerBytes, offerBytes, tallyBytes, recordBytes, spare, firstSum, secondSum}
 use Rattle.format.specs.File.{recordByte, bodyByte, blockByte, encode, readOffer, readTally, recordAt, decode}
 use Rattle.format.proofs.Words.{bytes-word16, bytes-word32, first-cong, second-cong}
 use Rattle.format.proofs.Plan.{At, at-header, at-offers, at-grocers, at-tallies, kind-at}
@@ -69,7 +69,7 @@ field-read f l w p c e h q z = ap (λ (x : List ℕ). getD x c 0) e ∙ getD-tab
 pub record Clean (f : List ℕ) (k : ℕ) : Type 0 where
   pub first : firstSum (from f (512 * k)) ≡ word16 (after (from f (512 * k)) 508)
   pub second : secondSum (from f (512 * k)) ≡ word16 (after (from f (512 * k)) 510)
-  pub kinds : from f (512 * k) 0 ≡ kindNumber (kindAt (decode f .offers) k)
+  pub kinds : from f (512 * k) 0 ≡ blockKindNumber (kindAt (decode f .offers) k)
   pub count : from f (512 * k) 1 ≡ records (decode f) (kindAt (decode f .offers) k)
   pub number : word16 (after (from f (512 * k)) 2) ≡ k
   pub clear : (s : ℕ) → s < 504 → spare (decode f) (kindAt (decode f .offers) k) s ≡ true → from f (512 * k) (4 + s) ≡ 0
@@ -118,13 +118,13 @@ module _ (f : List ℕ) (bytes : (p : ℕ) → getD f p 0 < 256) (mark : getD f 
       z : BlockKind
       z = kindAt (decode f .offers) k
 
-      front : (kindNumber z ∷ records (decode f) z ∷ bytes16 k) ≡ tabulate 4 (from f (512 * k))
+      front : (blockKindNumber z ∷ records (decode f) z ∷ bytes16 k) ≡ tabulate 4 (from f (512 * k))
       front =
           let e₀ : k % 256 ≡ from f (512 * k) 2 = omega (arith, c .number, bytes (512 * k + 2)) in
           let e₁ : k / 256 ≡ from f (512 * k) 3 = omega (arith, c .number, bytes (512 * k + 2)) in
           rw (e₀, e₁, ← (c .kinds), ← (c .count))
 
-      later : 4 ≤ q → cond (ltb q 4) (getD (kindNumber z ∷ records (decode f) z ∷ bytes16 k) q 0) (recordByte (decode f) z (q - 4)) ≡ from f (512 * k) q
+      later : 4 ≤ q → cond (ltb q 4) (getD (blockKindNumber z ∷ records (decode f) z ∷ bytes16 k) q 0) (recordByte (decode f) z (q - 4)) ≡ from f (512 * k) q
       later h =
           let e : 4 + (q - 4) ≡ q = omega arith in
           rw (le-ltb q 4 h)

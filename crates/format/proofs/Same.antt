@@ -6,7 +6,7 @@ use native.Mathlib.Omega.{arith}
 use lib.Dec.{eqb}
 use Rattle.laws.specs.Below.{any, find}
 use Rattle.laws.proofs.Below.{any-cong, find-cong}
-use Rattle.format.specs.Codes.{Code, isCode, number, sameOffer}
+use Rattle.format.specs.Codes.{Code, isCode, codeNumber, sameOffer}
 use Rattle.format.specs.Job.{FileJob, Offer, Tally, badSizes, badOffer, badOwner, badTally, names, placeOf, shared, unnamed}
 use Rattle.format.specs.Refusals.{jobRefusal}
 use Rattle.format.proofs.Codes.{code-cong, number-cong}
@@ -41,7 +41,7 @@ pub record SameWords (a b : FileJob) : Type 0 where
 same-code : (a b : Code) → SameCode a b → isCode a ≡ isCode b
 same-code a b s = code-cong a b (s .size) (s .digit)
 
-same-number : (a b : Code) → SameCode a b → isCode b ≡ true → number a ≡ number b
+same-number : (a b : Code) → SameCode a b → isCode b ≡ true → codeNumber a ≡ codeNumber b
 same-number a b s h = number-cong a b h (s .size) (s .digit)
 
 -- A record's refusal goes by the sizes and the record.
@@ -67,10 +67,10 @@ module _ (a b : FileJob) (z : Sizes a b) where
   tally-same o p w = rw (z .boxes, z .grocers, w .grocer, w .box, w .count, same-code (o .code) (p .code) (w .code))
 
 module _ (a b : FileJob) (s : SameWords a b) (ok : jobRefusal b ≡ 0) where
-  offer-number : (i : ℕ) → i < b .offers → number (a .offer i .code) ≡ number (b .offer i .code)
+  offer-number : (i : ℕ) → i < b .offers → codeNumber (a .offer i .code) ≡ codeNumber (b .offer i .code)
   offer-number i h = same-number _ _ (s .offer i h .code) (offer-in b (b .offer i) (fine b ok .offer i h) .code)
 
-  tally-number : (i : ℕ) → i < b .tallies → number (a .tally i .code) ≡ number (b .tally i .code)
+  tally-number : (i : ℕ) → i < b .tallies → codeNumber (a .tally i .code) ≡ codeNumber (b .tally i .code)
   tally-number i h = same-number _ _ (s .tally i h .code) (tally-in b (b .tally i) (fine b ok .tally i h) .code)
 
   names-same : (t : ℕ) → t < b .tallies → (i : ℕ) → i < b .offers → names a t i ≡ names b t i

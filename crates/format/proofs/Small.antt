@@ -16,7 +16,7 @@ use Rattle.laws.proofs.Tables.{getD-tabulate, length-tabulate}
 use Rattle.format.specs.Bytes.{bytes16, bytes32}
 use Rattle.format.specs.Codes.{Code, isCode, codeBytes}
 use Rattle.format.specs.Job.{FileJob}
-use Rattle.format.specs.Blocks.{BlockKind, header, offerBlock, grocerBlock, tallyBlock, blocks, kindAt, kindNumber, records, recordSize, headerBytes, offerBytes, tallyBytes, recordBytes, spare, firstSum, secondSum}
+use Rattle.format.specs.Blocks.{BlockKind, header, offerBlock, grocerBlock, tallyBlock, blocks, kindAt, blockKindNumber, records, recordSize, headerBytes, offerBytes, tallyBytes, recordBytes, spare, firstSum, secondSum}
 use Rattle.format.specs.File.{recordByte, bodyByte, blockByte, encode}
 use Rattle.format.specs.Refusals.{jobRefusal}
 use Rattle.format.proofs.Codes.{code-is}
@@ -116,7 +116,7 @@ module _ (j : FileJob) (ok : jobRefusal j ≡ 0) where
   count-small grocerBlock = omega (arith, range .sizes .grocers-most)
   count-small (tallyBlock b) = omega arith
 
-  kind-small : (b : BlockKind) → kindNumber b < 256
+  kind-small : (b : BlockKind) → blockKindNumber b < 256
   kind-small header = omega arith
   kind-small (offerBlock b) = omega arith
   kind-small grocerBlock = omega arith

@@ -3,7 +3,7 @@ use Prim.Native.Nat.{ℕ, _+_, _-_, _*_, _/_, _%_, _<_}
 use mathlib.Core.Path.{_≡_, ap}
 use mathlib.Core.List.{[], _∷_}
 use native.Mathlib.Omega.{arith}
-use Rattle.laws.specs.Below.{words}
+use Rattle.laws.specs.Below.{naturals}
 use Rattle.laws.proofs.Sums.{sum-cong}
 use Rattle.format.specs.Bytes.{bytes16, bytes32}
 use Rattle.format.specs.Blocks.{firstSum, secondSum}
@@ -38,9 +38,9 @@ word-bytes32 v = omega arith
 -- The first sum goes by the first 508 bytes.
 pub first-cong : (g h : ℕ → ℕ) → ((k : ℕ) → k < 508 → g k ≡ h k) → firstSum g ≡ firstSum h
 unfolding firstSum
-first-cong g h e = ap (λ (n : ℕ). n % 65521) (sum-cong words 508 g h e)
+first-cong g h e = ap (λ (n : ℕ). n % 65521) (sum-cong naturals 508 g h e)
 
 -- The second sum likewise.
 pub second-cong : (g h : ℕ → ℕ) → ((k : ℕ) → k < 508 → g k ≡ h k) → secondSum g ≡ secondSum h
 unfolding secondSum
-second-cong g h e = ap (λ (n : ℕ). n % 65521) (sum-cong words 508 (λ p. (508 - p) * g p) (λ p. (508 - p) * h p) (λ p l. ap (λ (x : ℕ). (508 - p) * x) (e p l)))
+second-cong g h e = ap (λ (n : ℕ). n % 65521) (sum-cong naturals 508 (λ p. (508 - p) * g p) (λ p. (508 - p) * h p) (λ p l. ap (λ (x : ℕ). (508 - p) * x) (e p l)))

@@ -21,7 +21,7 @@ use Rattle.format.specs.First.{firstBelow}
 use Rattle.format.specs.Bytes.{from, after, word16, bytes32}
 use Rattle.format.specs.Codes.{codeBytes}
 use Rattle.format.specs.Job.{FileJob, Offer, Tally}
-use Rattle.format.specs.Blocks.{BlockKind, header, offerBlock, grocerBlock, tallyBlock, blocks, offersAt, grocersAt, talliesAt, kindAt, kindNumber, records, recordSize, fieldSize, headerBytes, offerBytes, tallyBytes, recordBytes, spare, firstSum, secondSum}
+use Rattle.format.specs.Blocks.{BlockKind, header, offerBlock, grocerBlock, tallyBlock, blocks, offersAt, grocersAt, talliesAt, kindAt, blockKindNumber, records, recordSize, fieldSize, headerBytes, offerBytes, tallyBytes, recordBytes, spare, firstSum, secondSum}
 use Rattle.format.specs.File.{recordByte, bodyByte, blockByte, encode, readOffer, readTally, recordAt, decode}
 use Rattle.format.specs.Refusals.{badLength, badCount, sumsDiffer, notDue, badHeader, spareUsed, badRecord, headerRefusal, blockRefusal, fileRefusal, jobRefusal}
 use Rattle.format.proofs.Firsts.{below-none}
@@ -195,7 +195,7 @@ module _ (j : FileJob) (ok : jobRefusal j ≡ 0) where
   unfolding notDue bodyByte
   due-fine k h = rw (kind-is k, eq-eqb _ _ kind-due, eq-eqb _ _ number-due, eq-eqb _ _ count-due)
     where
-      kind-due : from (encode j) (512 * k) 0 ≡ kindNumber (kindAt (j .offers) k)
+      kind-due : from (encode j) (512 * k) 0 ≡ blockKindNumber (kindAt (j .offers) k)
       kind-due = body-at j k 0 h (omega arith)
 
       number-due : word16 (after (from (encode j) (512 * k)) 2) ≡ k

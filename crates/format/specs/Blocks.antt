@@ -5,7 +5,7 @@ use mathlib.Core.List.{List, [], _∷_, _++_}
 use lib.Dec.{leb, ltb}
 use mir.Syntax.{w32}
 use mir.Val.{ofZ}
-use Rattle.laws.specs.Below.{words, sum}
+use Rattle.laws.specs.Below.{naturals, sum}
 use Rattle.format.specs.Bytes.{bytes16, bytes32}
 use Rattle.format.specs.Codes.{codeBytes}
 use Rattle.format.specs.Job.{FileJob, Offer, Tally}
@@ -50,11 +50,11 @@ kindAt n k =
     (tallyBlock (k - talliesAt n))))
 
 -- "Byte 0 kind (0 header, 1 offers, 2 grocers, 3 tallies)"
-abbrev pub kindNumber : BlockKind → ℕ
-kindNumber header = 0
-kindNumber (offerBlock b) = 1
-kindNumber grocerBlock = 2
-kindNumber (tallyBlock b) = 3
+abbrev pub blockKindNumber : BlockKind → ℕ
+blockKindNumber header = 0
+blockKindNumber (offerBlock b) = 1
+blockKindNumber grocerBlock = 2
+blockKindNumber (tallyBlock b) = 3
 
 -- "byte 1 number of records"
 abbrev pub records : FileJob → BlockKind → ℕ
@@ -102,8 +102,8 @@ spare j b s = leb (records j b) (s / recordSize b) || leb (fieldSize b) (s % rec
 
 -- "The first sum is bytes 0–507 added modulo 65,521"
 unfoldable pub firstSum : (ℕ → ℕ) → ℕ
-firstSum g = sum words 508 g % 65521
+firstSum g = sum naturals 508 g % 65521
 
 -- "the second adds (508 − place) × byte, same modulus"
 unfoldable pub secondSum : (ℕ → ℕ) → ℕ
-secondSum g = sum words 508 (λ p. (508 - p) * g p) % 65521
+secondSum g = sum naturals 508 (λ p. (508 - p) * g p) % 65521

@@ -26,8 +26,8 @@ value zero d = 0
 value (suc n) d = value n d * 10 + (d n - 48)
 
 -- The number of a code.
-unfoldable pub number : Code → ℕ
-number c = value (c .size) (c .digit)
+unfoldable pub codeNumber : Code → ℕ
+codeNumber c = value (c .size) (c .digit)
 
 -- The digits as written.
 unfoldable pub written : Code → List ℕ
@@ -41,7 +41,7 @@ dropZeros (d ∷ e ∷ ds) = cond (eqb d 48) (dropZeros (e ∷ ds)) (d ∷ e ∷
 
 -- These two codes name one offer: every look-up goes through this definition.
 unfoldable pub sameOffer : Code → Code → Bool
-sameOffer c d = eqb (number c) (number d)
+sameOffer c d = eqb (codeNumber c) (codeNumber d)
 
 -- A code in eleven bytes, in the file as in a table: the digit count, then the field of ten.
 unfoldable pub codeBytes : Code → List ℕ

@@ -10,7 +10,7 @@ use Rattle.laws.specs.Tables.{tabulate}
 use Rattle.format.specs.Bytes.{from, after, word16, word32, bytes16}
 use Rattle.format.specs.Codes.{readCode}
 use Rattle.format.specs.Job.{FileJob, Offer, Tally}
-use Rattle.format.specs.Blocks.{BlockKind, blocks, offersAt, grocersAt, talliesAt, kindAt, kindNumber, records, recordSize, recordBytes, spare, firstSum, secondSum}
+use Rattle.format.specs.Blocks.{BlockKind, blocks, offersAt, grocersAt, talliesAt, kindAt, blockKindNumber, records, recordSize, recordBytes, spare, firstSum, secondSum}
 
 -- Byte 4 + s of a block: a byte of a record's field, or a spare 0.
 unfoldable pub recordByte : FileJob → BlockKind → ℕ → ℕ
@@ -20,7 +20,7 @@ recordByte j b s = cond (spare j b s) 0 (getD (recordBytes j b (s / recordSize b
 unfoldable pub bodyByte : FileJob → ℕ → ℕ → ℕ
 bodyByte j k p =
     let b = kindAt (j .offers) k in
-    cond (ltb p 4) (getD (kindNumber b ∷ records j b ∷ bytes16 k) p 0) (recordByte j b (p - 4))
+    cond (ltb p 4) (getD (blockKindNumber b ∷ records j b ∷ bytes16 k) p 0) (recordByte j b (p - 4))
 
 -- Byte p of a block whose first 508 are g: "508–509 first sum, 510–511 second sum".
 unfoldable pub blockByte : (ℕ → ℕ) → ℕ → ℕ

@@ -9,7 +9,7 @@ use Rattle.laws.specs.Checks.{anyOf, firstMet}
 use Rattle.format.specs.First.{firstOf, firstBelow}
 use Rattle.format.specs.Bytes.{from, after, word16}
 use Rattle.format.specs.Job.{FileJob, badSizes, badOffer, badOwner, badTally, badRecords, shared, unnamed}
-use Rattle.format.specs.Blocks.{BlockKind, header, offerBlock, grocerBlock, tallyBlock, blocks, kindAt, kindNumber, records, spare, firstSum, secondSum}
+use Rattle.format.specs.Blocks.{BlockKind, header, offerBlock, grocerBlock, tallyBlock, blocks, kindAt, blockKindNumber, records, spare, firstSum, secondSum}
 use Rattle.format.specs.File.{decode}
 
 -- 1: "length 0, not a multiple of 512, over 74 blocks".
@@ -28,7 +28,7 @@ sumsDiffer g = anyOf (not (eqb (firstSum g) (word16 (after g 508))) ∷ not (eqb
 unfoldable pub notDue : FileJob → ℕ → (ℕ → ℕ) → Bool
 notDue j k g =
     let b = kindAt (j .offers) k in
-    anyOf (not (eqb (g 0) (kindNumber b)) ∷ not (eqb (word16 (after g 2)) k) ∷ not (eqb (g 1) (records j b)) ∷ [])
+    anyOf (not (eqb (g 0) (blockKindNumber b)) ∷ not (eqb (word16 (after g 2)) k) ∷ not (eqb (g 1) (records j b)) ∷ [])
 
 -- 4: "byte 5, K, M, N or T outside its values".
 unfoldable pub badHeader : List ℕ → Bool

@@ -103,7 +103,7 @@ storeRead j l = record { job = store j (l .job); tallyOffer = overwrite (j .tall
 -- What the reader answers: K, M, N and T, or a refusal's number.
 pub data ReadAnswer : Type 0 where
   sizes : (boxes grocers offers tallies : ℕ) → ReadAnswer
-  refused : ℕ → ReadAnswer
+  refused : (number : ℕ) → ReadAnswer
 
 -- The reader's answer with its tables as they are afterwards.
 pub record ReadOutcome : Type 0 where
@@ -129,8 +129,8 @@ readResult f l =
 
 -- What the writer answers: the file's length, or a refusal's number.
 pub data WriteAnswer : Type 0 where
-  wrote : ℕ → WriteAnswer
-  notWritten : ℕ → WriteAnswer
+  wrote : (bytes : ℕ) → WriteAnswer
+  notWritten : (number : ℕ) → WriteAnswer
 
 -- The writer's answer with the buffer for the file as it is afterwards.
 pub record WriteOutcome : Type 0 where

@@ -14,7 +14,7 @@ use Rattle.laws.specs.Tables.{overwrite, recell, word}
 use Rattle.laws.proofs.Bools.{split, and-false, eqb-same}
 use Rattle.laws.proofs.Tables.{is-overwrite, over-over, recell-cong, word-in, cell-in}
 use Rattle.model.specs.Steps.{fresh}
-use Rattle.model.specs.Tables.{jobTables, jobOf, StateTables, stateTables, store}
+use Rattle.model.specs.Tables.{jobTables, jobOf, StateTables, stateTables, store, marksOf}
 use Rattle.model.specs.Step.{freshTables}
 use Rattle.fresh.specs.Fresh.{ownPrices}
 
@@ -100,6 +100,6 @@ module _ (k m n : ℕ) (price owner : List ℕ) (t : StateTables) (tallies : ℕ
       (overwrite (k * m) (λ i. pos 0) (t .working)) (overwrite (k * m) (λ i. pos 0) (t .totalTransit)) (overwrite m (λ i. pos 0) (t .statement))
       (overwrite (6 * k * k) (λ i. 0) (t .done)) (overwrite 1 (λ i. 0) (t .sent))
       ≡ freshTables (jobTables k m n tallies price owner gowner tgrocer tbox toffer tcount) t
-  unfolding freshTables store fresh jobOf recell
+  unfolding freshTables store fresh jobOf recell marksOf
   fresh-is = λ i. stateTables (fresh-known i) (overwrite (k * n) (λ i. 0) (t .priceTransit)) (overwrite (k * m) (λ i. pos 0) (t .working)) (overwrite (k * m) (λ i. pos 0) (t .totalTransit)) (overwrite m (λ i. pos 0) (t .statement))
       (overwrite (6 * k * k) (λ i. 0) (t .done)) (overwrite 1 (λ i. 0) (t .sent))

@@ -9,20 +9,20 @@ use lib.IntN.{ℤ, pos}
 use borrow.Author.Tests.{ltb-true, ltb-false}
 use Rattle.laws.proofs.Bools.{split}
 use Rattle.laws.proofs.Tables.{word-past}
-use Rattle.laws.specs.Below.{words, amounts, sum, only, any, all, find}
+use Rattle.laws.specs.Below.{naturals, integers, sum, only, any, all, find}
 use Rattle.laws.specs.Checks.{firstMet}
 use Rattle.laws.specs.Tables.{tabulate, word}
 use Rattle.model.specs.Job.{Job, plainSum}
-use Rattle.model.specs.Words.{ownerWords, messages, stepCount}
+use Rattle.model.specs.Words.{ownerWords, messageCount, stepCount}
 use Rattle.model.specs.Tables.{JobTables, jobOf}
 use Rattle.model.specs.Cases.{jobE}
-use Rattle.format.specs.Codes.{isPlace, isCode, value, number, written, dropZeros, sameOffer}
+use Rattle.format.specs.Codes.{isPlace, isCode, value, codeNumber, written, dropZeros, sameOffer}
 use Rattle.format.specs.Job.{FileJob, badSizes, badOffer, badOwner, badTally, badRecords, names, placeOf, shared, unnamed}
 use Rattle.format.specs.Blocks.{firstSum, secondSum}
 use Rattle.format.specs.File.{encode, decode}
 use Rattle.format.specs.Refusals.{jobRefusal, fileRefusal}
-use Rattle.guarantees.specs.Demand3.{jobRead, owed, Holds}
-use Rattle.guarantees.specs.Settle.{digitsOf, decimal, signedDecimal, line, grocerLines, settledText, blankJob, printed}
+use Rattle.guarantees.specs.Demand3.{owedByFile, Holds}
+use Rattle.printing.specs.Printed.{jobRead, digitsOf, decimal, signedDecimal, line, grocerLines, settledText, blankJob, printed}
 use Rattle.guarantees.specs.Cases.{code, alone, fileE, textE, Cases}
 use Rattle.model.proofs.Step.{range}
 use Rattle.model.proofs.Quiet.{no-tallies-words, no-tallies-steps}
@@ -33,8 +33,8 @@ use Rattle.model.proofs.Cases as Settlement
 
 -- ---- codes and sums
 
-zeros : number (code (48 ∷ 48 ∷ 48 ∷ [])) ≡ 0
-unfolding number value
+zeros : codeNumber (code (48 ∷ 48 ∷ 48 ∷ [])) ≡ 0
+unfolding codeNumber value
 zeros = refl
 
 zeros-dropped : dropZeros (written (code (48 ∷ 48 ∷ 48 ∷ []))) ≡ 48 ∷ []
@@ -42,11 +42,11 @@ unfolding dropZeros written tabulate
 zeros-dropped = refl
 
 agree : sameOffer (code (48 ∷ 52 ∷ 49 ∷ 50 ∷ [])) (code (52 ∷ 49 ∷ 50 ∷ [])) ≡ true
-unfolding sameOffer number value
+unfolding sameOffer codeNumber value
 agree = refl
 
 apart : sameOffer (code (52 ∷ 49 ∷ 50 ∷ 48 ∷ [])) (code (52 ∷ 49 ∷ 50 ∷ [])) ≡ false
-unfolding sameOffer number value
+unfolding sameOffer codeNumber value
 apart = refl
 
 ten-digits : isCode (code (48 ∷ 49 ∷ 50 ∷ 51 ∷ 52 ∷ 53 ∷ 54 ∷ 55 ∷ 56 ∷ 57 ∷ [])) ≡ true
@@ -62,37 +62,37 @@ unfolding isCode isPlace all
 eleven-digits = refl
 
 byte-0-first : firstSum (alone 0) ≡ 255
-unfolding firstSum sum words
+unfolding firstSum sum naturals
 byte-0-first = refl
 
 byte-0-second : secondSum (alone 0) ≡ 64_019
-unfolding secondSum sum words
+unfolding secondSum sum naturals
 byte-0-second = refl
 
 byte-507-first : firstSum (alone 507) ≡ 255
-unfolding firstSum sum words
+unfolding firstSum sum naturals
 byte-507-first = refl
 
 byte-507-second : secondSum (alone 507) ≡ 255
-unfolding secondSum sum words
+unfolding secondSum sum naturals
 byte-507-second = refl
 
 -- ---- E
 
 -- The writer takes E's job, and so its file is accepted.
 pub e-written : jobRefusal fileE ≡ 0
-unfolding fileE jobRefusal firstMet badSizes badRecords badOffer badOwner badTally isCode isPlace names shared unnamed sameOffer number value any all
+unfolding fileE jobRefusal firstMet badSizes badRecords badOffer badOwner badTally isCode isPlace names shared unnamed sameOffer codeNumber value any all
 e-written = refl
 
 pub e-accepted : fileRefusal (encode fileE) ≡ 0
 e-accepted = written-accepted fileE e-written
 
-e-owed-0 : owed fileE 0 ≡ pos 2250
-unfolding fileE owed placeOf names sameOffer number value find any sum only amounts
+e-owed-0 : owedByFile fileE 0 ≡ pos 2250
+unfolding fileE owedByFile placeOf names sameOffer codeNumber value find any sum only integers
 e-owed-0 = refl
 
-e-owed-1 : owed fileE 1 ≡ pos 2500
-unfolding fileE owed placeOf names sameOffer number value find any sum only amounts
+e-owed-1 : owedByFile fileE 1 ≡ pos 2500
+unfolding fileE owedByFile placeOf names sameOffer codeNumber value find any sum only integers
 e-owed-1 = refl
 
 -- Two numbers are below 2, four below 4.
@@ -109,7 +109,7 @@ below-4 P a b c d (suc (suc (suc zero))) l = d
 below-4 P a b c d (suc (suc (suc (suc i)))) l = absurd (omega arith)
 
 e-tables : Holds fileE jobE
-unfolding fileE jobOf word placeOf names sameOffer number value find any
+unfolding fileE jobOf word placeOf names sameOffer codeNumber value find any
 e-tables = record {
   boxes = refl;
   grocers = refl;
@@ -187,7 +187,7 @@ module _ (j k : FileJob) (s : SameWords j k) (ok : jobRefusal k ≡ 0) (a b : Jo
 e-same : jobOf (jobRead (encode fileE) blankJob) ≡ jobOf jobE
 e-same = same-job (decode (encode fileE)) fileE (read-back fileE e-written) e-written (jobRead (encode fileE) blankJob) jobE (given (encode fileE) e-accepted .holds) e-tables
 
-e-amount : (g : ℕ) → owed (decode (encode fileE)) g ≡ plainSum (jobOf jobE) g
+e-amount : (g : ℕ) → owedByFile (decode (encode fileE)) g ≡ plainSum (jobOf jobE) g
 e-amount g = sym (given (encode fileE) e-accepted .sums g) ∙ ap (λ (j : Job). plainSum j g) e-same
 
 e-text : settledText 2 (plainSum (jobOf jobE)) 3 3 10 ≡ textE
@@ -199,7 +199,7 @@ unfolding fileE plainSum
 e-printed =
     settle .accepted (encode fileE) e-accepted
     ∙ text-same (read-back fileE e-written .sizes .grocers) (fun-ext e-amount)
-    (ap ownerWords e-same ∙ Settlement.cases .e-words) (ap messages e-same ∙ Settlement.cases .e-messages) (ap stepCount e-same ∙ Settlement.cases .e-steps)
+    (ap ownerWords e-same ∙ Settlement.cases .e-words) (ap messageCount e-same ∙ Settlement.cases .e-messages) (ap stepCount e-same ∙ Settlement.cases .e-steps)
     ∙ e-text
   where
     text-same : {m m′ w w′ c c′ n n′ : ℕ} {f f′ : ℕ → ℤ} → m ≡ m′ → f ≡ f′ → w ≡ w′ → c ≡ c′ → n ≡ n′ → settledText m f w c n ≡ settledText m′ f′ w′ c′ n′

@@ -1,5 +1,5 @@
 -- Demand 1 holds. Assumes nothing.
-use mathlib.Core.Path.{_≡_, refl}
+use mathlib.Core.Path.{_≡_, refl, sym, _∙_}
 use mathlib.Core.List.{List, [], _∷_}
 use mathlib.Core.Logic.{inl, inr}
 use mathlib.Core.Bool.{Bool}
@@ -9,14 +9,22 @@ use lib.IntN.{ℤ}
 use borrow.Author.Tests.{ne-eqb}
 use Rattle.laws.specs.Checks.{firstMet}
 use Rattle.laws.proofs.Bools.{split}
-use Rattle.model.specs.Tables.{JobTables, StateTables}
-use Rattle.model.specs.Step.{Asked, outcome, stepped, answer, after, refusals}
+use Rattle.model.specs.Tables.{JobTables, StateTables, jobOf}
+use Rattle.model.specs.Local.{bookRefusals}
+use Rattle.tables.specs.Refusals.{jobRefusals}
+use Rattle.tables.specs.Answers.{said}
+use Rattle.local.specs.Book.{bookLengths}
+use Rattle.model.specs.Step.{Asked, refused as notDone, outcome, stepped, stepRefusal, stepTables, refusals}
 use Rattle.model.specs.Run.{RunAnswer, refused, reported, runRefusals, ran}
 use Rattle.model.specs.Reconcile.{TallyRecord, refused as notOwed, deskRefusals, deskAnswer, reconciled}
 use Rattle.format.specs.First.{firstOf}
 use Rattle.guarantees.specs.Demand1.{IsFirst, IsFirstOf, Demand1}
+use Rattle.model.proofs.Refusal.{refused-number}
 use Rattle.format.proofs.Firsts.{below-hit, below-none}
 use Rattle.format.proofs.Tables.{read-refused, write-refused}
+use Rattle.tables.proofs.Refused.{messages-refused}
+use Rattle.guarantees.proofs.Book.{answer-no}
+use Rattle.guarantees.proofs.Host as H
 
 first-is : (rs : List (Bool × ℕ)) → IsFirst rs (firstMet rs)
 unfolding IsFirst firstMet
@@ -32,9 +40,9 @@ first-check [] = refl
 first-check (zero ∷ ns) = inr (refl, first-check ns)
 first-check (suc n ∷ ns) = inl (λ e. omega arith, refl)
 
-step-refused : (f : JobTables) (t : StateTables) (q : Asked) → (firstMet (refusals f t q) ≡ 0 → ⊥) → stepped f t q ≡ outcome (firstMet (refusals f t q)) t
-unfolding stepped after answer
-step-refused f t q n = rw (ne-eqb (firstMet (refusals f t q)) 0 n)
+step-refused : (f : JobTables) (t : StateTables) (q : Asked) → (firstMet (refusals f t q) ≡ 0 → ⊥) → stepped f t q ≡ outcome (notDone (firstMet (refusals f t q))) t
+unfolding stepped stepTables stepRefusal
+step-refused f t q n = rw (ne-eqb (firstMet (refusals f t q)) 0 n, refused-number (firstMet (refusals f t q)) n)
 
 reported-no : (n : ℕ) (r : RunAnswer) → (n ≡ 0 → ⊥) → reported n r ≡ refused n
 unfolding reported
@@ -56,6 +64,7 @@ unfolding reconciled
 desk-refused m n wanted prices records h = desk-no (firstMet (deskRefusals m n wanted prices records)) _ h
 
 pub demand1 : Demand1
+unfolding said
 demand1 = record {
   first = first-is;
   firstCheck = first-check;
@@ -66,4 +75,12 @@ demand1 = record {
   desk = desk-refused;
   reader = read-refused;
   writer = write-refused;
+  book = λ f b before r after w h. (w .answer ∙ answer-no (firstMet (bookRefusals f (bookLengths before) b)) (jobOf f) b h, w .unchanged h);
+  messageTables = λ f p t h. sym (messages-refused f p t (firstMet (jobRefusals f)) refl h);
+  firstRead = H.first-read;
+  firstStep = H.first-step;
+  firstRun = H.first-run;
+  hostRead = H.read-refused;
+  hostStep = H.step-refused;
+  hostRun = H.run-refused;
 }

@@ -1,28 +1,35 @@
 -- Demand 2 holds. Assumes nothing.
-use mathlib.Core.Path.{_≡_, sym, ap, _∙_}
-use mathlib.Core.List.{List}
-use mathlib.Core.Bool.{false}
-use Prim.Native.Nat.{ℕ, _*_}
+use mathlib.Core.Path.{_≡_, refl, sym, ap, ap₂, _∙_}
+use mathlib.Core.List.{List, [], _∷_, _++_}
+use mathlib.Core.Bool.{true, false}
+use Prim.Native.Nat.{ℕ, _*_, _<_, _≤_}
 use native.Mathlib.Omega.{arith}
-use lib.ListN.{take}
+use lib.Dec.{eqb}
+use lib.ListN.{take, drop, length, getD, length-append}
 use Rattle.laws.specs.Tables.{overwrite}
 use Rattle.laws.proofs.Bools.{no-true}
-use Rattle.model.specs.Steps.{does}
+use Rattle.model.specs.Steps.{effectOf}
 use Rattle.model.specs.Tables.{JobTables, StateTables, jobOf, view, store}
-use Rattle.model.specs.Step.{Asked, stepOf, stepped, answer, after, moved}
+use Rattle.model.specs.Step.{Asked, stepOf, accepted, stepAnswer, isAccepted, stepped, stepRefusal, stepTables, moved}
+use Rattle.model.proofs.Refusal.{accepted-zero}
 use Rattle.format.specs.Job.{placeOf}
 use Rattle.format.specs.Blocks.{blockCount}
 use Rattle.format.specs.Refusals.{fileRefusal}
-use Rattle.format.specs.Tables.{ReaderTables, fileJobOf, shortReader, readRefusal, readResult, sizes, refused, writeRefusal, writeResult}
+use Rattle.format.specs.Tables.{ReaderTables, FileTables, ReadAnswer, ReadOutcome, WriteAnswer, WriteOutcome, wrote, notWritten, fileJobOf, shortReader, readRefusal, readResult, sizes, refused, writeRefusal, writeResult}
 use Rattle.guarantees.specs.Demand2.{Bytes, Demand2}
 use Rattle.format.proofs.Codes.{same-offer}
 use Rattle.format.proofs.Damage.{damaged}
 use Rattle.format.proofs.Order.{reader-20, reader-file}
-use Rattle.format.proofs.Tables.{read-buffer, read-own, read-written, read-file, read-refused, write-read, written-bytes}
+use Rattle.format.proofs.Tables.{read-buffer, read-own, read-written, read-file, read-accepted, read-refused, write-read, written-bytes}
 
-step-does : (f : JobTables) (t : StateTables) (q : Asked) → answer f t q ≡ 0 → stepped f t q .tables ≡ store (jobOf f) (does (jobOf f) (view (jobOf f) t) (stepOf q)) t
-unfolding stepped after moved stepOf
-step-does f t q h = rw h
+-- An answer that accepts is that of no condition met.
+step-zero : (n : ℕ) → stepAnswer n ≡ accepted → eqb n 0 ≡ true
+unfolding isAccepted
+step-zero n h = sym (accepted-zero n) ∙ ap isAccepted h
+
+step-does : (f : JobTables) (t : StateTables) (q : Asked) → stepped f t q .answer ≡ accepted → stepped f t q .tables ≡ store (jobOf f) (effectOf (jobOf f) (view (jobOf f) t) (stepOf q)) t
+unfolding stepped stepTables moved stepOf
+step-does f t q h = rw (step-zero (stepRefusal f t q) h)
 
 read-own-buffer : (k m n t : ℕ) (r : ReaderTables) (out : List ℕ) → writeRefusal k m n t (r .job) out ≡ 0 → shortReader r ≡ false →
     readResult (take (512 * blockCount n t) (writeResult k m n t (r .job) out .out)) r
@@ -42,10 +49,43 @@ read-two f l h e =
     let r : readRefusal f l ≡ 2 = reader-file f l h ∙ e in
     read-refused f l (λ z. let w : _≡_ {A = ℕ} 2 0 = sym r ∙ z in omega arith) ∙ ap (λ (n : ℕ). record { answer = refused n; tables = l }) r
 
+-- Writing what an outcome of the reader holds.
+abbrev again : ReadAnswer → FileTables → List ℕ → WriteOutcome
+again (sizes k m n t) j out = writeResult k m n t j out
+again (refused r) j out = record { answer = notWritten r; out = out }
+
+-- The length that the writer answers.
+abbrev longOf : WriteAnswer → ℕ
+longOf (wrote n) = n
+longOf (notWritten n) = n
+
+take-front : (a b : List ℕ) → take (length a) (a ++ b) ≡ a
+take-front [] b = refl
+take-front (x ∷ a) b = ap {B = List ℕ} (λ r. x ∷ r) (take-front a b)
+
+again-read : (f : List ℕ) (l : ReaderTables) → ((p : ℕ) → getD f p 0 < 256) → readRefusal f l ≡ 0 → (out : List ℕ) → length f ≤ length out →
+    again (readResult f l .answer) (readResult f l .tables .job) out ≡ record { answer = wrote (length f); out = f ++ drop (length f) out }
+again-read f l bytes ok out room =
+    ap (λ (a : ReadAnswer). again a (readResult f l .tables .job) out) (ap (λ (o : ReadOutcome). o .answer) (read-accepted f l ok))
+    ∙ write-read f l ok bytes out room
+
+one-file : (f f′ : List ℕ) (l : ReaderTables) → ((p : ℕ) → getD f p 0 < 256) → ((p : ℕ) → getD f′ p 0 < 256) → readRefusal f l ≡ 0 → readRefusal f′ l ≡ 0 →
+    readResult f l ≡ readResult f′ l → f ≡ f′
+one-file f f′ l bytes bytes′ ok ok′ same =
+    let out : List ℕ = f ++ f′ in
+    let same-write = sym (again-read f l bytes ok out (omega (arith, length-append f f′)))
+    ∙ ap (λ (o : ReadOutcome). again (o .answer) (o .tables .job) out) same
+    ∙ again-read f′ l bytes′ ok′ out (omega (arith, length-append f f′)) in
+    let long : length f ≡ length f′ = ap (λ (w : WriteOutcome). longOf (w .answer)) same-write in
+    sym (take-front f (drop (length f) out))
+    ∙ ap₂ (λ (n : ℕ) (r : List ℕ). take n r) long (ap (λ (w : WriteOutcome). w .out) same-write)
+    ∙ take-front f′ (drop (length f′) out)
+
 pub demand2 : Demand2
 unfolding Bytes
 demand2 = record {
   writeRead = λ file l bytes ok out room. write-read file l ok bytes out room;
+  oneFile = one-file;
   readWrite = read-buffer;
   readOwn = read-own-buffer;
   writtenBytes = written-bytes;

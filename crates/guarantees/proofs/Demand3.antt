@@ -1,27 +1,29 @@
 -- An accepted file gives a job in range that holds what it says, and demand 3 holds. Assumes nothing.
 use mathlib.Core.Path.{_≡_, refl, ap, ap₂, _∙_, sym}
-use mathlib.Core.List.{List, map}
-use mathlib.Core.Bool.{Bool, true, false, _&&_}
+use mathlib.Core.List.{List}
+use mathlib.Core.Bool.{true, false, _&&_}
 use Prim.Native.Nat.{ℕ, _<_, _≤_}
+use native.Mathlib.Omega.{arith}
 use lib.Dec.{eqb, ltb, leb}
 use lib.ListN.{length, getD}
 use lib.IntN.{ℤ, pos, natAbs, _*ℤ_}
 use borrow.Author.Tests.{lt-ltb, le-leb, le-ltb}
-use Rattle.laws.specs.Below.{only, amounts}
-use Rattle.laws.proofs.Bools.{and-true, eqb-same}
+use Rattle.laws.specs.Below.{only, integers, sum}
+use Rattle.laws.proofs.Bools.{and-true, eqb-same, and-l, and-r}
 use Rattle.laws.proofs.Sums.{sum-cong}
-use Rattle.laws.proofs.Below.{all-of}
+use Rattle.laws.proofs.Below.{all-of, all-at}
 use Rattle.laws.proofs.Tables.{word-in, long-overwrite, getD-overwrite}
 use Rattle.model.specs.Job.{heldBy, held, amount, plainSum}
-use Rattle.model.specs.Tables.{jobOf, jobLengths, jobShort, JobTables, StateTables, view, lentShort}
+use Rattle.model.specs.Tables.{jobOf, jobLengths, jobShort, JobTables}
 use Rattle.model.specs.Ranges.{upTo, under, around, sizesInRange, jobWordsInRange, jobInRange}
 use Rattle.format.specs.Job.{FileJob, names, placeOf}
 use Rattle.format.specs.File.{decode}
+use Rattle.format.specs.Refusals.{fileRefusal}
+use Rattle.model.proofs.Listed.{steps-counted}
 use Rattle.format.specs.Tables.{FileTables, ReaderTables, ReadOutcome, Long, fileJobOf, readRefusal, readResult, storeRead}
-use Rattle.guarantees.specs.Demand3.{jobRead, owed, Holds, Accepted, Demand3Holds}
-use Rattle.model.specs.Requests.{left}
-use Rattle.model.specs.Run.{run, ran}
-use Rattle.model.specs.Demand3.{whole}
+use Rattle.printing.specs.Printed.{jobRead}
+use Rattle.guarantees.specs.Demand3.{owedByFile, Holds, Accepted, Demand3Holds}
+use Rattle.model.specs.Run.{run}
 use Rattle.model.proofs.Demand3.{demand3, run-is-list}
 use Rattle.format.proofs.Range.{InRange, fine, only-place}
 use Rattle.format.proofs.Accept.{job-accepted, accepted-range}
@@ -40,15 +42,127 @@ around-all : (m n : ℕ) (l : List ℤ) → ((i : ℕ) → i < n → natAbs (get
 unfolding around
 around-all m n l h = all-of n (λ i. leb (natAbs (getD l i (pos 0))) m) (λ i k. le-leb (natAbs (getD l i (pos 0))) m (h i k))
 
+-- In range every tally counts.
+pub all-held : (f : JobTables) → jobInRange f ≡ true → (t : ℕ) → t < f .tallies → held (jobOf f) t ≡ true
+unfolding held heldBy jobOf jobInRange jobWordsInRange under
+all-held f ok t l =
+    rw (word-in (f .tallies) (f .tallyBox) 0 t l)
+    (and-true (eqb-same (getD (f .tallyBox) t 0)) (all-at (f .tallies) (λ i. ltb (getD (f .tallyBox) i 0) (f .boxes)) t l (box-words ok)))
+  where
+    box-words : jobInRange f ≡ true → under (f .boxes) (f .tallies) (f .tallyBox) ≡ true
+    box-words ok = let w = and-r (sizesInRange f) (jobWordsInRange f) ok in search (and-l, and-r) depth 12
+
+-- Count × price of tally t.
+abbrev price-of : JobTables → ℕ → ℤ
+price-of f t = jobOf f .tallyCount t *ℤ pos (jobOf f .price (jobOf f .tallyOffer t))
+
+size-of : (f : JobTables) → jobOf f .tallies ≡ f .tallies
+unfolding jobOf
+size-of f = refl
+
+plain-all : (f : JobTables) → jobInRange f ≡ true → (g : ℕ) → plainSum (jobOf f) g
+    ≡ sum integers (f .tallies) (λ t. only integers (eqb (jobOf f .tallyGrocer t) g) (jobOf f .tallyCount t *ℤ pos (jobOf f .price (jobOf f .tallyOffer t))))
+unfolding plainSum amount
+plain-all f ok g =
+    ap (λ (n : ℕ). sum integers n (λ t. only integers (held (jobOf f) t && eqb (jobOf f .tallyGrocer t) g) (price-of f t))) (size-of f)
+    ∙ sum-cong integers (f .tallies) (λ t. only integers (held (jobOf f) t && eqb (jobOf f .tallyGrocer t) g) (price-of f t))
+    (λ t. only integers (eqb (jobOf f .tallyGrocer t) g) (price-of f t)) (λ t l. rw (all-held f ok t l))
+
+-- Tables that hold what a file without a refusal says.
+module _ (file : List ℕ) (ok : fileRefusal file ≡ 0) (f : JobTables) (h : Holds (decode file) f) where
+  abbrev job : FileJob
+  job = decode file
+
+  in-file : InRange job
+  in-file = accepted-range file ok
+
+  offer-in : (o : ℕ) → o < f .offers → o < job .offers
+  offer-in o l = omega (arith, h .offers)
+
+  grocer-in : (g : ℕ) → g < f .grocers → g < job .grocers
+  grocer-in g l = omega (arith, h .grocers)
+
+  tally-in : (t : ℕ) → t < f .tallies → t < job .tallies
+  tally-in t l = omega (arith, h .tallies)
+
+  -- The words of the tables are the file's.
+  price-at : (o : ℕ) → o < f .offers → getD (f .price) o 0 ≡ job .offer o .price
+  unfolding jobOf
+  price-at o l = sym (word-in (f .offers) (f .price) 0 o l) ∙ h .price o (offer-in o l)
+
+  owner-at : (o : ℕ) → o < f .offers → getD (f .offerOwner) o 0 ≡ job .offer o .owner
+  unfolding jobOf
+  owner-at o l = sym (word-in (f .offers) (f .offerOwner) 0 o l) ∙ h .offerOwner o (offer-in o l)
+
+  grocer-owner-at : (g : ℕ) → g < f .grocers → getD (f .grocerOwner) g 0 ≡ job .grocerOwner g
+  unfolding jobOf
+  grocer-owner-at g l = sym (word-in (f .grocers) (f .grocerOwner) 0 g l) ∙ h .grocerOwner g (grocer-in g l)
+
+  grocer-at : (t : ℕ) → t < f .tallies → getD (f .tallyGrocer) t 0 ≡ job .tally t .grocer
+  unfolding jobOf
+  grocer-at t l = sym (word-in (f .tallies) (f .tallyGrocer) 0 t l) ∙ h .tallyGrocer t (tally-in t l)
+
+  box-at : (t : ℕ) → t < f .tallies → getD (f .tallyBox) t 0 ≡ job .tally t .box
+  unfolding jobOf
+  box-at t l = sym (word-in (f .tallies) (f .tallyBox) 0 t l) ∙ h .tallyBox t (tally-in t l)
+
+  place-at : (t : ℕ) → t < f .tallies → getD (f .tallyOffer) t 0 ≡ placeOf job t
+  unfolding jobOf
+  place-at t l = sym (word-in (f .tallies) (f .tallyOffer) 0 t l) ∙ h .tallyOffer t (tally-in t l)
+
+  count-at : (t : ℕ) → t < f .tallies → getD (f .tallyCount) t (pos 0) ≡ job .tally t .count
+  unfolding jobOf
+  count-at t l = sym (word-in (f .tallies) (f .tallyCount) (pos 0) t l) ∙ h .tallyCount t (tally-in t l)
+
+  sizes-ok : sizesInRange f ≡ true
+  unfolding sizesInRange
+  sizes-ok =
+      let s = in-file .sizes in
+      and-true (and-true (and-true
+      (and-true (le-leb 1 (f .boxes) (omega (arith, h .boxes, s .boxes-some))) (le-leb (f .boxes) 16 (omega (arith, h .boxes, s .boxes-most))))
+      (and-true (le-leb 1 (f .grocers) (omega (arith, h .grocers, s .grocers-some))) (le-leb (f .grocers) 255 (omega (arith, h .grocers, s .grocers-most)))))
+      (and-true (le-leb 1 (f .offers) (omega (arith, h .offers, s .offers-some))) (le-leb (f .offers) 500 (omega (arith, h .offers, s .offers-most)))))
+      (le-leb (f .tallies) 1000 (omega (arith, h .tallies, s .tallies-most)))
+
+  words-ok : jobWordsInRange f ≡ true
+  unfolding jobWordsInRange
+  words-ok =
+      and-true (and-true (and-true (and-true (and-true (and-true
+      (up-all 9_999_999 (f .offers) (f .price) (λ o l. omega (arith, price-at o l, in-file .offer o (offer-in o l) .price)))
+      (under-all (f .boxes) (f .offers) (f .offerOwner) (λ o l. omega (arith, h .boxes, owner-at o l, in-file .offer o (offer-in o l) .owner))))
+      (under-all (f .boxes) (f .grocers) (f .grocerOwner) (λ g l. omega (arith, h .boxes, grocer-owner-at g l, in-file .grocerOwner g (grocer-in g l)))))
+      (under-all (f .grocers) (f .tallies) (f .tallyGrocer) (λ t l. omega (arith, h .grocers, grocer-at t l, in-file .tally t (tally-in t l) .grocer))))
+      (under-all (f .boxes) (f .tallies) (f .tallyBox) (λ t l. omega (arith, h .boxes, box-at t l, in-file .tally t (tally-in t l) .box))))
+      (under-all (f .offers) (f .tallies) (f .tallyOffer) (λ t l. omega (arith, h .offers, place-at t l, in-file .place t (tally-in t l)))))
+      (around-all 99_999 (f .tallies) (f .tallyCount) (λ t l. rw (count-at t l) (in-file .tally t (tally-in t l) .count)))
+
+  pub range-ok : jobInRange f ≡ true
+  unfolding jobInRange
+  range-ok = and-true sizes-ok words-ok
+
+  -- The amount of a tally is count × price of the offer its code names.
+  its-amount : (t : ℕ) → t < f .tallies → price-of f t ≡ job .tally t .count *ℤ pos (job .offer (placeOf job t) .price)
+  its-amount t l =
+      let p : placeOf job t < job .offers = in-file .place t (tally-in t l) in
+      ap₂ (λ (x : ℤ) (y : ℕ). x *ℤ pos y) (h .tallyCount t (tally-in t l)) (ap (λ (o : ℕ). jobOf f .price o) (h .tallyOffer t (tally-in t l)) ∙ h .price (placeOf job t) p)
+
+  pub sums-ok : (g : ℕ) → plainSum (jobOf f) g ≡ owedByFile job g
+  unfolding plainSum owedByFile
+  sums-ok g =
+      plain-all f range-ok g
+      ∙ sum-cong integers (f .tallies) _ (λ t. only integers (eqb (job .tally t .grocer) g) (job .tally t .count *ℤ pos (job .offer (placeOf job t) .price)))
+      (λ t l. ap₂ (λ (x : ℕ) (y : ℤ). only integers (eqb x g) y) (h .tallyGrocer t (tally-in t l)) (its-amount t l))
+      ∙ ap (λ (n : ℕ). sum integers n (λ t. only integers (eqb (job .tally t .grocer) g) (job .tally t .count *ℤ pos (job .offer (placeOf job t) .price)))) (h .tallies)
+
 module _ (f : List ℕ) (l : ReaderTables) (ok : readRefusal f l ≡ 0) where
   -- The tables that the reader leaves, and the job that they hold.
   abbrev tables : FileTables
   tables = readResult f l .tables .job
 
-  abbrev job : FileJob
-  job = fileJobOf (decode f .boxes) (decode f .grocers) (decode f .offers) (decode f .tallies) tables
+  abbrev read-job-of : FileJob
+  read-job-of = fileJobOf (decode f .boxes) (decode f .grocers) (decode f .offers) (decode f .tallies) tables
 
-  range : InRange job
+  range : InRange read-job-of
   range = read-range f l ok
 
   long : Long (decode f .grocers) (decode f .offers) (decode f .tallies) tables
@@ -61,32 +175,6 @@ module _ (f : List ℕ) (l : ReaderTables) (ok : readRefusal f l ≡ 0) where
   place-long : decode f .tallies ≤ length (readResult f l .tables .tallyOffer)
   unfolding storeRead
   place-long = rw (read-accepted f l ok) (long-overwrite (decode f .tallies) (placeOf (decode f)) (l .tallyOffer))
-
-  sizes-ok : sizesInRange (jobRead f l) ≡ true
-  unfolding sizesInRange jobRead fileJobOf
-  sizes-ok =
-      let s = range .sizes in
-      and-true (and-true (and-true
-      (and-true (le-leb 1 (decode f .boxes) (s .boxes-some)) (le-leb (decode f .boxes) 16 (s .boxes-most)))
-      (and-true (le-leb 1 (decode f .grocers) (s .grocers-some)) (le-leb (decode f .grocers) 255 (s .grocers-most))))
-      (and-true (le-leb 1 (decode f .offers) (s .offers-some)) (le-leb (decode f .offers) 500 (s .offers-most))))
-      (le-leb (decode f .tallies) 1000 (s .tallies-most))
-
-  words-ok : jobWordsInRange (jobRead f l) ≡ true
-  unfolding jobWordsInRange jobRead fileJobOf
-  words-ok =
-      and-true (and-true (and-true (and-true (and-true (and-true
-      (up-all 9_999_999 (decode f .offers) (tables .price) (λ i h. range .offer i h .price))
-      (under-all (decode f .boxes) (decode f .offers) (tables .offerOwner) (λ i h. range .offer i h .owner)))
-      (under-all (decode f .boxes) (decode f .grocers) (tables .grocerOwner) (λ i h. range .grocerOwner i h)))
-      (under-all (decode f .grocers) (decode f .tallies) (tables .tallyGrocer) (λ i h. range .tally i h .grocer)))
-      (under-all (decode f .boxes) (decode f .tallies) (tables .tallyBox) (λ i h. range .tally i h .box)))
-      (under-all (decode f .offers) (decode f .tallies) (readResult f l .tables .tallyOffer) place-below))
-      (around-all 99_999 (decode f .tallies) (tables .tallyCount) (λ i h. range .tally i h .count))
-
-  range-ok : jobInRange (jobRead f l) ≡ true
-  unfolding jobInRange
-  range-ok = and-true sizes-ok words-ok
 
   whole-ok : jobShort (jobOf (jobRead f l)) (jobLengths (jobRead f l)) ≡ false
   unfolding jobShort jobOf jobLengths jobRead
@@ -101,15 +189,10 @@ module _ (f : List ℕ) (l : ReaderTables) (ok : readRefusal f l ≡ 0) where
         le-ltb (length (tables .tallyCount)) (decode f .tallies) (long .tallyCount),
       )
 
-  same : SameWords job (decode f)
+  same : SameWords read-job-of (decode f)
   same = read-job f l ok
 
-  -- A tally of the tables is one of the file: its box holds it,
-  its-box : (t : ℕ) → t < decode f .tallies → held (jobOf (jobRead f l)) t ≡ true
-  unfolding held heldBy jobOf jobRead fileJobOf
-  its-box t h = rw (word-in (decode f .tallies) (tables .tallyBox) 0 t h) (and-true (eqb-same (getD (tables .tallyBox) t 0)) (lt-ltb (getD (tables .tallyBox) t 0) (decode f .boxes) (range .tally t h .box)))
-
-  -- and is the file's; so are its grocer,
+  -- Each word is the file's: a tally's box,
   its-own-box : (t : ℕ) → t < decode f .tallies → jobOf (jobRead f l) .tallyBox t ≡ decode f .tally t .box
   unfolding jobOf jobRead fileJobOf
   its-own-box t h = word-in (decode f .tallies) (tables .tallyBox) 0 t h ∙ same .tally t h .box
@@ -166,32 +249,8 @@ module _ (f : List ℕ) (l : ReaderTables) (ok : readRefusal f l ≡ 0) where
   unfolding names
   other-ok t i h m e = only-place (decode f) t (fine (decode f) (job-accepted f (read-file f l ok)) .shared) i m e
 
-  -- The amount of a tally is count × price of that offer.
-  its-amount : (t : ℕ) → t < decode f .tallies →
-      amount (jobOf (jobRead f l)) (jobOf (jobRead f l) .price (jobOf (jobRead f l) .tallyOffer t)) t ≡ decode f .tally t .count *ℤ pos (decode f .offer (placeOf (decode f) t) .price)
-  unfolding amount
-  its-amount t h =
-      let p : placeOf (decode f) t < decode f .offers = accepted-range f (read-file f l ok) .place t h in
-      ap₂ (λ (x : ℤ) (y : ℕ). x *ℤ pos y) (its-count t h) (ap (λ (o : ℕ). jobOf (jobRead f l) .price o) (its-place t h) ∙ its-price (placeOf (decode f) t) p)
-
-  sums-ok : (g : ℕ) → plainSum (jobOf (jobRead f l)) g ≡ owed (decode f) g
-  unfolding plainSum owed jobOf jobRead
-  sums-ok g =
-      sum-cong amounts (decode f .tallies)
-      (λ t. only amounts (held (jobOf (jobRead f l)) t && eqb (jobOf (jobRead f l) .tallyGrocer t) g) (amount (jobOf (jobRead f l)) (jobOf (jobRead f l) .price (jobOf (jobRead f l) .tallyOffer t)) t))
-      (λ t. only amounts (eqb (decode f .tally t .grocer) g) (decode f .tally t .count *ℤ pos (decode f .offer (placeOf (decode f) t) .price)))
-      (λ t h. ap₂ (λ (x : Bool) (y : ℤ). only amounts x y) (ap₂ (λ (x : Bool) (y : ℕ). x && eqb y g) (its-box t h) (its-grocer t h)) (its-amount t h))
-
--- A run of a job in range leaves every grocer's plain sum.
-pub run-leaves : (f : JobTables) (t : StateTables) (choices : List ℕ) → jobInRange f ≡ true → jobShort (jobOf f) (jobLengths f) ≡ false → lentShort f t ≡ false →
-    (g : ℕ) → g < f .grocers → getD (ran f t choices .tables .statement) g (pos 0) ≡ plainSum (jobOf f) g
-unfolding view jobOf
-run-leaves f t choices ok long enough g h =
-    let list = map (whole (jobOf f)) (run (jobOf f) choices) in
-    let is = run-is-list f ok long t choices in
-    ap (λ (s : StateTables). getD (s .statement) g (pos 0)) (is .tables enough)
-    ∙ sym (word-in (f .grocers) (left f t list .statement) (pos 0) g h)
-    ∙ demand3 f ok long t list .finish (is .allDone) .statements g h
+in-range : (f : List ℕ) (l : ReaderTables) → readRefusal f l ≡ 0 → jobInRange (jobRead f l) ≡ true
+in-range f l ok = range-ok f (read-file f l ok) (jobRead f l) (holds-ok f l ok)
 
 -- Every file that the reader accepts.
 pub accepted : (f : List ℕ) (l : ReaderTables) → readRefusal f l ≡ 0 → Accepted f l
@@ -200,12 +259,20 @@ accepted f l ok = record {
   named = named-ok f l ok;
   noOther = other-ok f l ok;
   answer = ap (λ (o : ReadOutcome). o .answer) (read-accepted f l ok);
-  inRange = range-ok f l ok;
+  inRange = in-range f l ok;
   whole = whole-ok f l ok;
-  steps = demand3 (jobRead f l) (range-ok f l ok) (whole-ok f l ok);
-  run = run-is-list (jobRead f l) (range-ok f l ok) (whole-ok f l ok);
-  sums = sums-ok f l ok;
+  steps = demand3 (jobRead f l) (in-range f l ok) (whole-ok f l ok);
+  run = run-is-list (jobRead f l) (in-range f l ok) (whole-ok f l ok);
+  sums = sums-ok f (read-file f l ok) (jobRead f l) (holds-ok f l ok);
 }
 
 pub demand3-holds : Demand3Holds
-demand3-holds = record { files = accepted; lists = demand3; runs = run-is-list }
+demand3-holds = record {
+  files = accepted;
+  lists = demand3;
+  runs = run-is-list;
+  anyTables = range-ok;
+  anySums = sums-ok;
+  plainSums = plain-all;
+  stepsCounted = steps-counted;
+}

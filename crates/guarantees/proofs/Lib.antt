@@ -1,8 +1,12 @@
 -- The proofs of the demands.
 
+pub mod Book
+pub mod Tables
+pub mod Desk
+pub mod Host
 pub mod Demand1
 pub mod Demand2
 pub mod Demand3
+pub mod Calls
 pub mod Settle
 pub mod Cases
-pub mod Strength

@@ -12,19 +12,21 @@ use lib.Seq.{getD-take, length-take-le}
 use borrow.Author.Tests.{lt-ltb, le-ltb, ne-eqb}
 use Rattle.laws.proofs.Bools.{split}
 use Rattle.model.specs.Job.{Job}
-use Rattle.model.specs.Words.{ownerWords, messages, stepCount}
+use Rattle.model.specs.Words.{ownerWords, messageCount, stepCount}
 use Rattle.model.specs.Tables.{JobTables, StateTables, jobOf, stateLengths, stateShort, lentShort}
 use Rattle.model.specs.Run.{RunAnswer, finished, reported, ran}
-use Rattle.model.specs.Demand3.{whole}
 use Rattle.format.specs.File.{decode}
 use Rattle.format.specs.Refusals.{fileRefusal}
 use Rattle.format.specs.Tables.{ReaderTables, ReadOutcome, shortTables, shortReader, readRefusal}
-use Rattle.guarantees.specs.Demand3.{jobRead, owed, Accepted}
-use Rattle.guarantees.specs.Settle.{digitsOf, decimal, signedDecimal, line, grocerLines, settledText, refusedText, blankJob, blankState, runText, jobText, readText, printed, valueOf, amountOf, Settle}
+use Rattle.guarantees.specs.Demand3.{owedByFile, Accepted}
+use Rattle.printing.specs.Printed.{jobRead, digitsOf, decimal, signedDecimal, line, grocerLines, settledText, refusedText, blankJob, blankState, runText, jobText, readText, printed}
+use Rattle.guarantees.specs.Settle.{valueOf, amountOf, Settle}
+use Rattle.printing.proofs.Digits.{below-power}
 use Rattle.format.proofs.Order.{reader-file}
 use Rattle.format.proofs.Accept.{long, accepted-range}
 use Rattle.format.proofs.Tables.{read-accepted, read-refused}
-use Rattle.guarantees.proofs.Demand3.{run-leaves, accepted}
+use Rattle.model.proofs.Demand3.{run-is-list}
+use Rattle.guarantees.proofs.Demand3.{accepted}
 
 -- ---- a printed number is the number
 
@@ -40,11 +42,6 @@ value-digits (suc k) n h =
     split (ltb n 10)
     (λ e. rw e (omega arith))
     (λ e. rw e (value-more (digitsOf (suc k) (n / 10)) (48 + n % 10) 0 ∙ omega (arith, value-digits k (n / 10) (omega (arith, pow-suc 10 (suc k))))))
-
--- N + 1 digits are enough for n.
-pub below-power : (n : ℕ) → n < 10 ^ suc n
-below-power zero = omega arith
-below-power (suc n) = omega (arith, below-power n, pow-suc 10 (suc n))
 
 number-reads : (n : ℕ) → valueOf (decimal n) 0 ≡ n
 unfolding decimal
@@ -157,21 +154,21 @@ module _ (file : List ℕ) (ok : fileRefusal file ≡ 0) where
       rw (given .whole, blank-state (jobOf job) (s .boxes-most) (s .grocers-most) (s .offers-most))
 
   -- The run is not refused: its answer is the job's words, messages and steps,
-  answer-is : ran job blankState [] .answer ≡ finished (ownerWords (jobOf job)) (messages (jobOf job)) (stepCount (jobOf job))
+  answer-is : ran job blankState [] .answer ≡ finished (ownerWords (jobOf job)) (messageCount (jobOf job)) (stepCount (jobOf job))
   unfolding reported
   answer-is = given .run blankState [] .answer ∙ rw lent-ok
 
   -- and each statement is what the file says is owed.
-  amount-is : (g : ℕ) → g < decode file .grocers → getD (ran job blankState [] .tables .statement) g (pos 0) ≡ owed (decode file) g
+  amount-is : (g : ℕ) → g < decode file .grocers → getD (ran job blankState [] .tables .statement) g (pos 0) ≡ owedByFile (decode file) g
   unfolding jobRead
-  amount-is g h = run-leaves job blankState [] (given .inRange) (given .whole) lent-ok g h ∙ given .sums g
+  amount-is g h = run-is-list job (given .inRange) (given .whole) blankState [] .statements lent-ok g h ∙ given .sums g
 
-  settled-is : printed file ≡ settledText (decode file .grocers) (owed (decode file)) (ownerWords (jobOf job)) (messages (jobOf job)) (stepCount (jobOf job))
+  settled-is : printed file ≡ settledText (decode file .grocers) (owedByFile (decode file)) (ownerWords (jobOf job)) (messageCount (jobOf job)) (stepCount (jobOf job))
   unfolding printed readText jobText runText jobRead
   settled-is =
       ap (λ (o : ReadOutcome). readText file (o .answer)) (read-accepted file blankJob read-ok)
       ∙ ap (λ (a : RunAnswer). runText (decode file .grocers) a (ran job blankState [] .tables .statement)) answer-is
-      ∙ text-cong (decode file .grocers) (λ g. getD (ran job blankState [] .tables .statement) g (pos 0)) (owed (decode file)) (ownerWords (jobOf job)) (messages (jobOf job)) (stepCount (jobOf job)) amount-is
+      ∙ text-cong (decode file .grocers) (λ g. getD (ran job blankState [] .tables .statement) g (pos 0)) (owedByFile (decode file)) (ownerWords (jobOf job)) (messageCount (jobOf job)) (stepCount (jobOf job)) amount-is
 
 refused-is : (file : List ℕ) → (fileRefusal file ≡ 0 → ⊥) → printed file ≡ refusedText (fileRefusal file)
 unfolding printed readText

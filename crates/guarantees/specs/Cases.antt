@@ -9,13 +9,13 @@ use lib.IntN.{pos, negsuc}
 use Rattle.model.specs.Words.{ownerWords, stepCount}
 use Rattle.model.specs.Tables.{JobTables, jobOf}
 use Rattle.model.specs.Ranges.{jobInRange}
-use Rattle.format.specs.Codes.{Code, isCode, number, written, dropZeros, sameOffer}
+use Rattle.format.specs.Codes.{Code, isCode, codeNumber, written, dropZeros, sameOffer}
 use Rattle.format.specs.Job.{FileJob, Offer, Tally}
 use Rattle.format.specs.Blocks.{blockCount, firstSum, secondSum}
 use Rattle.format.specs.File.{encode}
 use Rattle.format.specs.Refusals.{fileRefusal}
-use Rattle.guarantees.specs.Demand3.{owed, Holds}
-use Rattle.guarantees.specs.Settle.{printed}
+use Rattle.guarantees.specs.Demand3.{owedByFile, Holds}
+use Rattle.printing.specs.Printed.{printed}
 use Rattle.model.specs.Cases as Settlement
 
 -- A code by its digits.
@@ -62,9 +62,10 @@ textE =
     ∷ 109 ∷ 101 ∷ 115 ∷ 115 ∷ 97 ∷ 103 ∷ 101 ∷ 115 ∷ 32 ∷ 51 ∷ 10
     ∷ 115 ∷ 116 ∷ 101 ∷ 112 ∷ 115 ∷ 32 ∷ 49 ∷ 48 ∷ 10 ∷ []
 
+-- The table.
 pub record Cases : Type 0 where
   -- "000" is 0.
-  pub zeros : number (code (48 ∷ 48 ∷ 48 ∷ [])) ≡ 0
+  pub zeros : codeNumber (code (48 ∷ 48 ∷ 48 ∷ [])) ≡ 0
   pub zeros-dropped : dropZeros (written (code (48 ∷ 48 ∷ 48 ∷ []))) ≡ 48 ∷ []
   -- "0412" and "412" agree; "4120" does not.
   pub agree : sameOffer (code (48 ∷ 52 ∷ 49 ∷ 50 ∷ [])) (code (52 ∷ 49 ∷ 50 ∷ [])) ≡ true
@@ -75,8 +76,8 @@ pub record Cases : Type 0 where
   pub eleven-digits : isCode (code (48 ∷ 49 ∷ 50 ∷ 51 ∷ 52 ∷ 53 ∷ 54 ∷ 55 ∷ 56 ∷ 57 ∷ 48 ∷ [])) ≡ false
   -- E's file is accepted, and what it says is owed; its tables have each tally's place by its code.
   pub e-accepted : fileRefusal (encode fileE) ≡ 0
-  pub e-owed-0 : owed fileE 0 ≡ pos 2250
-  pub e-owed-1 : owed fileE 1 ≡ pos 2500
+  pub e-owed-0 : owedByFile fileE 0 ≡ pos 2250
+  pub e-owed-1 : owedByFile fileE 1 ≡ pos 2500
   pub e-tables : Holds fileE Settlement.jobE
   -- What `settle` prints for it.
   pub e-printed : printed (encode fileE) ≡ textE

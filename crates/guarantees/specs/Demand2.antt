@@ -6,25 +6,31 @@ use mathlib.Core.Logic.{_↔_}
 use Prim.Native.Nat.{ℕ, _+_, _*_, _<_, _≤_}
 use lib.ListN.{length, getD, drop, take}
 use Rattle.laws.specs.Tables.{overwrite}
-use Rattle.model.specs.Steps.{does}
+use Rattle.model.specs.Steps.{effectOf}
 use Rattle.model.specs.Tables.{JobTables, StateTables, jobOf, view, store}
-use Rattle.model.specs.Step.{Asked, stepOf, answer, stepped}
+use Rattle.model.specs.Step.{Asked, stepOf, accepted, stepped}
 use Rattle.format.specs.Codes.{Code, isCode, written, dropZeros, sameOffer}
 use Rattle.format.specs.Job.{placeOf}
 use Rattle.format.specs.Blocks.{blocks, blockCount}
 use Rattle.format.specs.File.{decode}
-use Rattle.format.specs.Tables.{FileTables, ReaderTables, fileJobOf, storeRead, shortReader, readRefusal, readResult, sizes, refused, writeRefusal, writeResult, wrote}
+use Rattle.format.specs.Tables.{FileTables, ReaderTables, fileJobOf, storeRead, shortReader, readRefusal, readResult, sizes, refused}
+use Rattle.format.specs.Tables.{writeRefusal, writeResult, wrote}
 
 -- A file's words are bytes.
 unfoldable pub Bytes : List ℕ → Type 0
 Bytes file = (p : ℕ) → getD file p 0 < 256
 
+-- Demand 2 whole.
 pub record Demand2 : Type 0 where
   -- Writing what was read gives the file, byte for byte, in front of the rest of the buffer.
   pub writeRead : (file : List ℕ) (l : ReaderTables) → Bytes file → readRefusal file l ≡ 0 → (out : List ℕ) → length file ≤ length out →
       writeResult (decode file .boxes) (decode file .grocers) (decode file .offers) (decode file .tallies) (readResult file l .tables .job) out
       ≡ record { answer = wrote (length file); out = file ++ drop (length file) out }
-  -- Reading what was written gives K, M, N and T and, in whatever tables, the words of the job that was written, digits as written; beside them the places.
+  -- Each job has one file: two accepted files that read alike are equal.
+  pub oneFile : (f f′ : List ℕ) (l : ReaderTables) → Bytes f → Bytes f′ → readRefusal f l ≡ 0 → readRefusal f′ l ≡ 0 →
+      readResult f l ≡ readResult f′ l → f ≡ f′
+  -- Reading what was written gives K, M, N and T and, in whatever tables, the words of the job that was written, digits as written;
+  -- beside them the places.
   pub readWrite : (k m n t : ℕ) (l : FileTables) (out : List ℕ) → writeRefusal k m n t l out ≡ 0 → (r : ReaderTables) → shortReader r ≡ false →
       readResult (take (512 * blockCount n t) (writeResult k m n t l out .out)) r ≡ record { answer = sizes k m n t; tables = storeRead (fileJobOf k m n t l) r }
   -- Into the tables it was written from: every word is as it was.
@@ -32,11 +38,16 @@ pub record Demand2 : Type 0 where
       readResult (take (512 * blockCount n t) (writeResult k m n t (r .job) out .out)) r
       ≡ record { answer = sizes k m n t; tables = record { job = r .job; tallyOffer = overwrite t (placeOf (fileJobOf k m n t (r .job))) (r .tallyOffer) } }
   -- What was written are bytes: the file that reading takes back is one that a disk can hold.
-  pub writtenBytes : (k m n t : ℕ) (l : FileTables) (out : List ℕ) → writeRefusal k m n t l out ≡ 0 → Bytes (take (512 * blockCount n t) (writeResult k m n t l out .out))
+  pub writtenBytes : (k m n t : ℕ) (l : FileTables) (out : List ℕ) → writeRefusal k m n t l out ≡ 0 →
+      Bytes (take (512 * blockCount n t) (writeResult k m n t l out .out))
   -- Two codes name one offer exactly when they agree after leading zeros are dropped.
   pub codes : (c d : Code) → isCode c ≡ true → isCode d ≡ true → (sameOffer c d ≡ true) ↔ (dropZeros (written c) ≡ dropZeros (written d))
-  -- In an accepted file, changing one or two bytes of one block always gives refusal 2: f′ differs from f at most at bytes i and j of block k, and somewhere.
-  pub damage : (f f′ : List ℕ) (l : ReaderTables) → Bytes f → Bytes f′ → readRefusal f l ≡ 0 → (k i j : ℕ) → k < blocks (decode f) → i < 512 → j < 512 → length f′ ≡ length f →
-      ((p : ℕ) → (p ≡ 512 * k + i → ⊥) → (p ≡ 512 * k + j → ⊥) → getD f′ p 0 ≡ getD f p 0) → (f′ ≡ f → ⊥) → readResult f′ l ≡ record { answer = refused 2; tables = l }
+  -- In an accepted file, changing one or two bytes of one block always gives refusal 2:
+  -- f′ differs from f at most at bytes i and j of block k, and somewhere.
+  pub damage : (f f′ : List ℕ) (l : ReaderTables) → Bytes f → Bytes f′ → readRefusal f l ≡ 0 →
+      (k i j : ℕ) → k < blocks (decode f) → i < 512 → j < 512 → length f′ ≡ length f →
+      ((p : ℕ) → (p ≡ 512 * k + i → ⊥) → (p ≡ 512 * k + j → ⊥) → getD f′ p 0 ≡ getD f p 0) → (f′ ≡ f → ⊥) →
+      readResult f′ l ≡ record { answer = refused 2; tables = l }
   -- An accepted step, in whatever state, leaves what its line says, written into the tables; words past the needed length stay.
-  pub step : (f : JobTables) (t : StateTables) (q : Asked) → answer f t q ≡ 0 → stepped f t q .tables ≡ store (jobOf f) (does (jobOf f) (view (jobOf f) t) (stepOf q)) t
+  pub step : (f : JobTables) (t : StateTables) (q : Asked) → stepped f t q .answer ≡ accepted →
+      stepped f t q .tables ≡ store (jobOf f) (effectOf (jobOf f) (view (jobOf f) t) (stepOf q)) t

@@ -5,27 +5,22 @@ use mathlib.Core.Bool.{true, false}
 use Prim.Native.Nat.{ℕ, _<_}
 use lib.Dec.{eqb}
 use lib.IntN.{ℤ, pos, _*ℤ_}
-use Rattle.laws.specs.Below.{sum, only, amounts}
-use Rattle.model.specs.Job.{plainSum}
-use Rattle.model.specs.Tables.{JobTables, jobTables, StateTables, jobOf, jobLengths, jobShort}
+use Rattle.laws.specs.Below.{sum, only, integers}
+use Rattle.model.specs.Job.{Job, plainSum}
+use Rattle.model.specs.Words.{StepsCounted}
+use Rattle.model.specs.Tables.{JobTables, StateTables, jobOf, jobLengths, jobShort}
 use Rattle.model.specs.Ranges.{jobInRange}
 use Rattle.model.specs.Requests.{Request}
 use Rattle.model.specs.Demand3.{Demand3, RunIsList}
 use Rattle.format.specs.Job.{FileJob, names, placeOf}
 use Rattle.format.specs.File.{decode}
+use Rattle.printing.specs.Printed.{jobRead}
+use Rattle.format.specs.Refusals.{fileRefusal}
 use Rattle.format.specs.Tables.{ReaderTables, sizes, readRefusal, readResult}
 
--- The job's tables after the reader has read a file into the tables l: K, M, N and T as it answers them, the words it stored, and the places it found; no digits.
-unfoldable pub jobRead : List ℕ → ReaderTables → JobTables
-jobRead file l =
-    let j = decode file in
-    let r = readResult file l .tables in
-    jobTables (j .boxes) (j .grocers) (j .offers) (j .tallies) (r .job .price) (r .job .offerOwner) (r .job .grocerOwner)
-    (r .job .tallyGrocer) (r .job .tallyBox) (r .tallyOffer) (r .job .tallyCount)
-
 -- What grocer g is owed by a file's job: count × price over its tallies, each at the price of the offer that its code names.
-unfoldable pub owed : FileJob → ℕ → ℤ
-owed j g = sum amounts (j .tallies) (λ t. only amounts (eqb (j .tally t .grocer) g) (j .tally t .count *ℤ pos (j .offer (placeOf j t) .price)))
+unfoldable pub owedByFile : FileJob → ℕ → ℤ
+owedByFile j g = sum integers (j .tallies) (λ t. only integers (eqb (j .tally t .grocer) g) (j .tally t .count *ℤ pos (j .offer (placeOf j t) .price)))
 
 -- A job's tables hold what its file says.
 pub record Holds (j : FileJob) (f : JobTables) : Type 0 where
@@ -59,9 +54,10 @@ pub record Accepted (file : List ℕ) (l : ReaderTables) : Type 0 where
   pub steps : (t : StateTables) (rs : List Request) → Demand3 (jobRead file l) t rs
   pub run : (t : StateTables) (choices : List ℕ) → RunIsList (jobRead file l) t choices
   -- The plain sum is what the file says is owed.
-  pub sums : (g : ℕ) → plainSum (jobOf (jobRead file l)) g ≡ owed (decode file) g
+  pub sums : (g : ℕ) → plainSum (jobOf (jobRead file l)) g ≡ owedByFile (decode file) g
 
--- Demand 3 whole. A caller knows its hypotheses: the reader accepted the file; or the tables are in range and as long as they must be, as conditions 20 and 21 say.
+-- Demand 3 whole. A caller knows its hypotheses: the reader accepted the file; or the tables are in range and as long as they
+-- must be, as conditions 20 and 21 say.
 pub record Demand3Holds : Type 0 where
   -- Of every file that the reader accepts, whatever its tables held,
   pub files : (file : List ℕ) (l : ReaderTables) → readRefusal file l ≡ 0 → Accepted file l
@@ -69,3 +65,12 @@ pub record Demand3Holds : Type 0 where
   pub lists : (f : JobTables) → jobInRange f ≡ true → jobShort (jobOf f) (jobLengths f) ≡ false → (t : StateTables) (rs : List Request) → Demand3 f t rs
   -- and of every run.
   pub runs : (f : JobTables) → jobInRange f ≡ true → jobShort (jobOf f) (jobLengths f) ≡ false → (t : StateTables) (choices : List ℕ) → RunIsList f t choices
+  -- An accepted job in whatever tables: tables that hold what a file without a refusal says are in range,
+  pub anyTables : (file : List ℕ) → fileRefusal file ≡ 0 → (f : JobTables) → Holds (decode file) f → jobInRange f ≡ true
+  -- and their plain sums are what the file says is owed.
+  pub anySums : (file : List ℕ) → fileRefusal file ≡ 0 → (f : JobTables) → Holds (decode file) f → (g : ℕ) → plainSum (jobOf f) g ≡ owedByFile (decode file) g
+  -- In range every tally counts: the plain sum is count × price over all tallies of the grocer.
+  pub plainSums : (f : JobTables) → jobInRange f ≡ true → (g : ℕ) → plainSum (jobOf f) g
+      ≡ sum integers (f .tallies) (λ t. only integers (eqb (jobOf f .tallyGrocer t) g) (jobOf f .tallyCount t *ℤ pos (jobOf f .price (jobOf f .tallyOffer t))))
+  -- The steps a job has, counted one by one, are 2 × K + 2 × (messages).
+  pub stepsCounted : (j : Job) → StepsCounted j

@@ -6,7 +6,7 @@ use lib.ListN.{length, set}
 use borrow.Author.Tests.{lt-ltb, le-ltb}
 use Rattle.laws.proofs.Bools.{cond-yes, cond-no}
 use Rattle.model.specs.Tables.{JobTables, StateTables}
-use Rattle.model.specs.Step.{Outcome, outcome}
+use Rattle.model.specs.Step.{Asked, StepAnswer, Outcome, outcome, stepped}
 use Rattle.model.specs.Run.{RunAnswer, RunOutcome, ran}
 use Rattle.format.specs.Tables.{ReadAnswer, ReadOutcome, ReaderTables, readResult}
 use Rattle.reader.specs.Answer.{answerOf as readAnswer}
@@ -15,12 +15,14 @@ use Rattle.reader.specs.declared.Answer.the-variants.{Job, Refused as NotRead}
 use Rattle.run.specs.Run.{answerOf as runAnswer}
 use Rattle.run.specs.declared.Answer.{Answer as RunnerAnswer}
 use Rattle.run.specs.declared.Answer.the-variants.{Finished, Refused as NotRun}
-use Rattle.host.specs.Host.{hostRead, readAs, readByHost, hostRun, runAs, ranByHost}
+use Rattle.host.specs.Host.{hostRead, readAs, readByHost, hostRun, runAs, ranByHost, hostStep, stepNumber, steppedByHost}
 use Rattle.host.proofs.Put.{put-three, put-four}
 
 -- The number of what the step gave.
-pub step-told : (o : Outcome) (r n : ℕ) (t : StateTables) → r ≡ n → outcome n t ≡ o → outcome r t ≡ o
-step-told o r n t e h = rw e h
+pub step-told : (f : JobTables) (u : StateTables) (q : Asked) (a : StepAnswer) (r : ℕ) (t : StateTables) → r ≡ stepNumber a → outcome a t ≡ stepped f u q →
+    hostStep r t ≡ steppedByHost f u q
+unfolding steppedByHost
+step-told f u q a r t e h = rw e (ap (λ (o : Outcome). hostStep (stepNumber (o .answer)) (o .tables)) h)
 
 -- The sizes of an accepted file, told.
 pub told-sizes : (a : ReaderAnswer) (k m n t : ℕ) (s : List ℕ) → 4 ≤ length s → a ≡ Job k m n t → (l : ReaderTables) →

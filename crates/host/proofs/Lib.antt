@@ -1,4 +1,3 @@
 -- What the three calls give, from what the calls under them give.
 pub mod Put
 pub mod Gives
-pub mod Refused

@@ -1,12 +1,11 @@
 -- What the three calls of the host give: a number, 0 where the call is accepted and else the refusal's, and the lent words.
-use mathlib.Core.Path.{_≡_}
 use mathlib.Core.Bool.{cond}
 use mathlib.Core.List.{List, [], _∷_, _++_}
 use Prim.Native.Nat.{ℕ}
 use lib.Dec.{ltb}
 use lib.ListN.{length, drop}
 use Rattle.model.specs.Tables.{JobTables, StateTables}
-use Rattle.model.specs.Step.{Asked, outcome, stepped}
+use Rattle.model.specs.Step.{Asked, StepAnswer, accepted, refused as notDone, stepped}
 use Rattle.model.specs.Run.{RunAnswer, finished, refused, ran}
 use Rattle.format.specs.Tables.{ReadAnswer, sizes, refused as notRead, ReaderTables, readResult}
 
@@ -20,13 +19,14 @@ pub record HostRead : Type 0 where
   pub tables : ReaderTables
   pub sizes : List ℕ
 
+-- The same, as a contract names it.
 abbrev pub hostRead : ℕ → ReaderTables → List ℕ → HostRead
 hostRead n l s = record { answer = n; tables = l; sizes = s }
 
 -- The reader's answer as a number; K, M, N and T go into the buffer for sizes.
 unfoldable pub readAs : ReadAnswer → ReaderTables → List ℕ → HostRead
-readAs (sizes k m n t) l s = hostRead 0 l (put (k ∷ m ∷ n ∷ t ∷ []) s)
-readAs (notRead r) l s = hostRead r l s
+readAs (sizes boxes grocers offers tallies) l s = hostRead 0 l (put (boxes ∷ grocers ∷ offers ∷ tallies ∷ []) s)
+readAs (notRead number) l s = hostRead number l s
 
 -- The host's reader: 20 also where the buffer for sizes is shorter than four words.
 unfoldable pub readByHost : List ℕ → ReaderTables → List ℕ → HostRead
@@ -38,23 +38,33 @@ pub record HostRun : Type 0 where
   pub tables : StateTables
   pub report : List ℕ
 
+-- The same, as a contract names it.
 abbrev pub hostRun : ℕ → StateTables → List ℕ → HostRun
 hostRun n t p = record { answer = n; tables = t; report = p }
 
 -- The run's answer as a number; words sent, messages and steps go into the report.
 unfoldable pub runAs : RunAnswer → StateTables → List ℕ → HostRun
-runAs (finished w m n) t p = hostRun 0 t (put (w ∷ m ∷ n ∷ []) p)
-runAs (refused r) t p = hostRun r t p
+runAs (finished words messages steps) t p = hostRun 0 t (put (words ∷ messages ∷ steps ∷ []) p)
+runAs (refused number) t p = hostRun number t p
 
 -- The host's run: 20 also where the report is shorter than three words.
 unfoldable pub ranByHost : JobTables → StateTables → List ℕ → List ℕ → HostRun
 ranByHost f t choices p = cond (ltb (length p) 3) (hostRun 20 t p) (runAs (ran f t choices .answer) (ran f t choices .tables) p)
 
--- A refused call has changed no lent word. `host-refused` in proofs/Refused.antt proves it.
-pub record HostRefused : Type 0 where
-  -- The reader leaves its tables and the buffer for sizes as they were;
-  pub read : (file : List ℕ) (l : ReaderTables) (s : List ℕ) → (readByHost file l s .answer ≡ 0 → ⊥) → readByHost file l s ≡ hostRead (readByHost file l s .answer) l s
-  -- a step, the state's tables;
-  pub step : (f : JobTables) (t : StateTables) (q : Asked) → (stepped f t q .answer ≡ 0 → ⊥) → stepped f t q ≡ outcome (stepped f t q .answer) t
-  -- a run, the state's tables and the report.
-  pub run : (f : JobTables) (t : StateTables) (choices p : List ℕ) → (ranByHost f t choices p .answer ≡ 0 → ⊥) → ranByHost f t choices p ≡ hostRun (ranByHost f t choices p .answer) t p
+-- What `settlement_step` gives: the number, and the state's tables.
+pub record HostStep : Type 0 where
+  pub answer : ℕ
+  pub tables : StateTables
+
+-- The same, as a contract names it.
+abbrev pub hostStep : ℕ → StateTables → HostStep
+hostStep n t = record { answer = n; tables = t }
+
+-- The step's answer as a number: 0 where the request is accepted.
+unfoldable pub stepNumber : StepAnswer → ℕ
+stepNumber accepted = 0
+stepNumber (notDone n) = n
+
+-- The host's step.
+unfoldable pub steppedByHost : JobTables → StateTables → Asked → HostStep
+steppedByHost f t q = hostStep (stepNumber (stepped f t q .answer)) (stepped f t q .tables)

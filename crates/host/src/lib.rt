@@ -3,12 +3,12 @@ ghost use mathlib.Core.Path.{_≡_};
 ghost use Prim.Native.Nat.{_≤_};
 ghost use lib.ListN.{length};
 ghost use Rattle.model.specs.Tables.{jobTables, StateTables, stateTables};
-ghost use Rattle.model.specs.Step.{asked, outcome, stepped};
+ghost use Rattle.model.specs.Step.{asked};
 ghost use Rattle.format.specs.Tables.{fileTables, ReaderTables, readerTables};
 ghost use Rattle.reader.specs.Answer.{answerOf as readAnswer};
-ghost use Rattle.step.specs.Answer.{number};
+ghost use Rattle.step.specs.Answer.{answerOf as stepAnswer};
 ghost use Rattle.run.specs.Run.{answerOf as runAnswer};
-ghost use Rattle.host.specs.Host.{hostRead, readAs, readByHost, hostRun, runAs, ranByHost};
+ghost use Rattle.host.specs.Host.{hostRead, readAs, readByHost, hostRun, runAs, ranByHost, hostStep, stepNumber, steppedByHost};
 
 // The number of the reader's answer; K, M, N and T of an accepted file go in front of the buffer.
 fn tell_sizes(a: reader::Answer, sizes: &mut [u16]) -> u16
@@ -38,7 +38,11 @@ fn tell_report(a: run::Answer, report: &mut [u32]) -> u16
     ensures { λ r. ⌜ ((t : StateTables) → hostRun r t (now (report .exit)) ≡ runAs (runAnswer a) t (now (report .entry))) ⌝ }
 {
     match a {
-        run::Answer::Finished(words, messages, steps) => {
+        run::Answer::Finished {
+            words,
+            messages,
+            steps,
+        } => {
             report[0] = words;
             report[1] = messages;
             report[2] = steps;
@@ -50,7 +54,7 @@ fn tell_report(a: run::Answer, report: &mut [u32]) -> u16
 
 // The number of the step's answer.
 fn step_number(a: step::Answer) -> u16
-    ensures { λ r. ⌜ r ≡ number a ⌝ }
+    ensures { λ r. ⌜ r ≡ stepNumber (stepAnswer a) ⌝ }
 {
     match a {
         step::Answer::Accepted => 0,
@@ -123,9 +127,9 @@ pub extern "C" fn settlement_step(
     first: u16,
     second: u16,
 ) -> u16
-    ensures { λ r. ⌜ outcome r
+    ensures { λ r. ⌜ hostStep r
         (stateTables (now (known .exit)) (now (ptransit .exit)) (now (working .exit)) (now (ttransit .exit)) (now (statement .exit)) (now (done .exit)) (now (sent .exit)))
-        ≡ stepped
+        ≡ steppedByHost
         (jobTables boxes grocers offers tallies (now (price .entry)) (now (owner .entry)) (now (gowner .entry)) (now (tgrocer .entry)) (now (tbox .entry)) (now (toffer .entry)) (now (tcount .entry)))
         (stateTables (now (known .entry)) (now (ptransit .entry)) (now (working .entry)) (now (ttransit .entry)) (now (statement .entry)) (now (done .entry)) (now (sent .entry)))
         (asked kind first second) ⌝ }

@@ -6,7 +6,7 @@ use native.Mathlib.Omega.{arith}
 use native.Mathlib.Numerals.{add-one}
 use lib.Dec.{eqb, ltb}
 use borrow.Author.Tests.{eqb-true, eqb-false, ltb-true, ltb-false}
-use Rattle.laws.specs.Below.{words, sum, only, any, all, count, find}
+use Rattle.laws.specs.Below.{naturals, sum, only, any, all, count, find}
 use Rattle.laws.proofs.Bools.{split, clash, no-true, and-true, and-l, and-r, and-one, or-true, or-false}
 use Rattle.laws.proofs.Sums.{sum-cong, sum-none, sum-one, sum-max, sum-next}
 
@@ -23,25 +23,25 @@ pub all-start : (p : ℕ → Bool) → all 0 p ≡ true
 unfolding all
 all-start p = refl
 
-pub count-next : (n : ℕ) (p : ℕ → Bool) → count (n + 1) p ≡ count n p + only words (p n) 1
-unfolding count words
-count-next n p = sum-next words n (λ i. only words (p i) 1)
+pub count-next : (n : ℕ) (p : ℕ → Bool) → count (n + 1) p ≡ count n p + only naturals (p n) 1
+unfolding count naturals
+count-next n p = sum-next naturals n (λ i. only naturals (p i) 1)
 
 pub count-start : (p : ℕ → Bool) → count 0 p ≡ 0
-unfolding count sum words
+unfolding count sum naturals
 count-start p = refl
 
-pub count-suc : (n : ℕ) (p : ℕ → Bool) → count (suc n) p ≡ count n p + only words (p n) 1
-unfolding count sum words
+pub count-suc : (n : ℕ) (p : ℕ → Bool) → count (suc n) p ≡ count n p + only naturals (p n) 1
+unfolding count sum naturals
 count-suc n p = refl
 
 -- What one number adds to a count.
-pub counts-one : {t : Bool} → t ≡ true → only words t 1 ≡ 1
-unfolding only words
+pub counts-one : {t : Bool} → t ≡ true → only naturals t 1 ≡ 1
+unfolding only naturals
 counts-one e = rw e
 
-pub counts-none : {t : Bool} → t ≡ false → only words t 1 ≡ 0
-unfolding only words
+pub counts-none : {t : Bool} → t ≡ false → only naturals t 1 ≡ 0
+unfolding only naturals
 counts-none e = rw e
 
 -- A search in a loop, one test a turn.
@@ -127,30 +127,30 @@ all-fails n p i l e = no-true (all n p) (λ q. clash (all-at n p i l q) e)
 
 pub count-cong : (n : ℕ) (p q : ℕ → Bool) → ((i : ℕ) → i < n → p i ≡ q i) → count n p ≡ count n q
 unfolding count
-count-cong n p q h = sum-cong words n (λ i. only words (p i) 1) (λ i. only words (q i) 1) (λ i l. rw (h i l))
+count-cong n p q h = sum-cong naturals n (λ i. only naturals (p i) 1) (λ i. only naturals (q i) 1) (λ i l. rw (h i l))
 
 pub count-none : (n : ℕ) (p : ℕ → Bool) → any n p ≡ false → count n p ≡ 0
-unfolding count only words
-count-none n p h = sum-none words n (λ i. only words (p i) 1) (λ i l. rw (any-none n p i l h))
+unfolding count only naturals
+count-none n p h = sum-none naturals n (λ i. only naturals (p i) 1) (λ i l. rw (any-none n p i l h))
 
-pub only-le : (t : Bool) (x : ℕ) → only words t x ≤ x
-unfolding only words
+pub only-le : (t : Bool) (x : ℕ) → only naturals t x ≤ x
+unfolding only naturals
 only-le true x = omega arith
 only-le false x = omega arith
 
 pub count-le : (n : ℕ) (p : ℕ → Bool) → count n p ≤ n
 unfolding count
-count-le n p = omega (arith, sum-max n 1 (λ i. only words (p i) 1) (λ i l. only-le (p i) 1))
+count-le n p = omega (arith, sum-max n 1 (λ i. only naturals (p i) 1) (λ i l. only-le (p i) 1))
 
 -- The first number counted apart.
-pub count-first : (n : ℕ) (p : ℕ → Bool) → count (suc n) p ≡ only words (p 0) 1 + count n (λ i. p (suc i))
-unfolding count sum words
+pub count-first : (n : ℕ) (p : ℕ → Bool) → count (suc n) p ≡ only naturals (p 0) 1 + count n (λ i. p (suc i))
+unfolding count sum naturals
 count-first zero p = omega arith
 count-first (suc n) p = rw (count-first n p) (omega arith)
 
 -- Numbers past n that do not pass are not counted.
 pub count-past : (n m : ℕ) (p : ℕ → Bool) → ((i : ℕ) → n ≤ i → p i ≡ false) → count (m + n) p ≡ count n p
-unfolding count sum words only
+unfolding count sum naturals only
 count-past n zero p h = rw (zero-plus n)
   where
     zero-plus : (n : ℕ) → 0 + n ≡ n
@@ -162,7 +162,7 @@ count-past n (suc m) p h = rw (suc-plus m n, h (m + n) (omega arith)) (omega (ar
 
 -- No number counted: none passes.
 pub count-zero : (n : ℕ) (p : ℕ → Bool) (i : ℕ) → i < n → count n p ≡ 0 → p i ≡ false
-unfolding count sum only words
+unfolding count sum only naturals
 count-zero zero p i l h = absurd (omega arith)
 count-zero (suc n) p i l h =
     split (p n)
@@ -203,12 +203,12 @@ count-where (suc n) p i l =
     (λ f. absurd (omega (arith, count-suc n p, counts-none f))))
 
 -- The test of one number that does not pass is changed, and no other.
-pub count-one-more : (n k : ℕ) (p q : ℕ → Bool) → k < n → p k ≡ false → ((i : ℕ) → i < n → (i ≡ k → ⊥) → q i ≡ p i) → count n q ≡ count n p + only words (q k) 1
-unfolding count words
+pub count-one-more : (n k : ℕ) (p q : ℕ → Bool) → k < n → p k ≡ false → ((i : ℕ) → i < n → (i ≡ k → ⊥) → q i ≡ p i) → count n q ≡ count n p + only naturals (q k) 1
+unfolding count naturals
 count-one-more n k p q l off h =
-    sum-one words n k (λ i. only words (p i) 1) (λ i. only words (q i) 1) (only words (q k) 1) l
+    sum-one naturals n k (λ i. only naturals (p i) 1) (λ i. only naturals (q i) 1) (only naturals (q k) 1) l
     (omega (arith, counts-none off))
-    (λ i m ne. ap (λ (t : Bool). only words t 1) (h i m ne))
+    (λ i m ne. ap (λ (t : Bool). only naturals t 1) (h i m ne))
 
 -- Just one number passes.
 pub count-one : (n : ℕ) (p : ℕ → Bool) (k : ℕ) → k < n → p k ≡ true → ((i : ℕ) → i < n → p i ≡ true → i ≡ k) → count n p ≡ 1

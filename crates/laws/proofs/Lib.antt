@@ -2,6 +2,7 @@
 pub mod Bools
 pub mod Sums
 pub mod Below
+pub mod Ascending
 pub mod Tables
 pub mod Signed
 pub mod Signs

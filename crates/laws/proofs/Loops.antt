@@ -11,7 +11,7 @@ use lib.IntN.{ℤ, pos, natAbs, _+ℤ_, +ℤ-idr, +ℤ-assoc}
 use lib.ListN.{length, getD, set, replicate}
 use lib.Seq.{getD-set-same, getD-set-other}
 use borrow.Author.Tests.{eqb-true, eqb-false, eq-eqb, ne-eqb, lt-ltb, le-ltb, le-leb, lt-leb}
-use Rattle.laws.specs.Below.{amounts, sum, only}
+use Rattle.laws.specs.Below.{integers, sum, only}
 use Rattle.laws.specs.Tables.{cell, recell}
 use Rattle.laws.proofs.Bools.{split, eqb-same, and-false, cond-no}
 use Rattle.laws.proofs.Sums.{sum-next, only-yes, only-no}
@@ -19,18 +19,18 @@ use Rattle.laws.proofs.Signed.{abs-plus, sum-abs, only-abs}
 use Rattle.laws.proofs.Tables.{row-in, cell-at, is-recell}
 
 -- Z is added to the word at j: what the word at i is then.
-pub add-at : (w : List ℤ) (j i : ℕ) (z : ℤ) → j < length w → getD (set w j (getD w j (pos 0) +ℤ z)) i (pos 0) ≡ getD w i (pos 0) +ℤ only amounts (eqb j i) z
-unfolding amounts
+pub add-at : (w : List ℤ) (j i : ℕ) (z : ℤ) → j < length w → getD (set w j (getD w j (pos 0) +ℤ z)) i (pos 0) ≡ getD w i (pos 0) +ℤ only integers (eqb j i) z
+unfolding integers
 add-at w j i z l = go (ℕ-discrete j i)
   where
-    go : Dec (j ≡ i) → getD (set w j (getD w j (pos 0) +ℤ z)) i (pos 0) ≡ getD w i (pos 0) +ℤ only amounts (eqb j i) z
+    go : Dec (j ≡ i) → getD (set w j (getD w j (pos 0) +ℤ z)) i (pos 0) ≡ getD w i (pos 0) +ℤ only integers (eqb j i) z
     go (yes e) =
-        subst (λ (k : ℕ). getD (set w j (getD w j (pos 0) +ℤ z)) k (pos 0) ≡ getD w k (pos 0) +ℤ only amounts (eqb j k) z) e
-        (getD-set-same w j (getD w j (pos 0) +ℤ z) (pos 0) l ∙ ap (λ (x : ℤ). getD w j (pos 0) +ℤ x) (sym (only-yes amounts (eqb j j) z (eq-eqb j j refl))))
+        subst (λ (k : ℕ). getD (set w j (getD w j (pos 0) +ℤ z)) k (pos 0) ≡ getD w k (pos 0) +ℤ only integers (eqb j k) z) e
+        (getD-set-same w j (getD w j (pos 0) +ℤ z) (pos 0) l ∙ ap (λ (x : ℤ). getD w j (pos 0) +ℤ x) (sym (only-yes integers (eqb j j) z (eq-eqb j j refl))))
     go (no n) =
         getD-set-other w j i (getD w j (pos 0) +ℤ z) (pos 0) (λ e. n (sym e))
         ∙ sym (+ℤ-idr (getD w i (pos 0)))
-        ∙ ap (λ (x : ℤ). getD w i (pos 0) +ℤ x) (sym (only-no amounts (eqb j i) z (ne-eqb j i n)))
+        ∙ ap (λ (x : ℤ). getD w i (pos 0) +ℤ x) (sym (only-no integers (eqb j i) z (ne-eqb j i n)))
 
 -- A list of zeros has zero everywhere, past its end too.
 pub getD-zeros : {A : Type 0} (n k : ℕ) (d : A) → getD (replicate n d) k d ≡ d
@@ -115,27 +115,27 @@ window-else at g k n = ap (λ (x : Bool). leb at k && x) (sym (ap (λ (m : ℕ).
 
 -- A loop that adds z t to the word at `place t` in turn t. w₀ is the table where the loop begins, and w after t turns.
 abbrev pub share : (ℕ → ℕ) → (ℕ → ℤ) → ℕ → ℕ → ℤ
-share place z i t = only amounts (eqb (place t) i) (z t)
+share place z i t = only integers (eqb (place t) i) (z t)
 
 module _ (w₀ w : List ℤ) (place : ℕ → ℕ) (z : ℕ → ℤ) (t : ℕ) where
-  pub pile-more : ((i : ℕ) → getD w i (pos 0) ≡ getD w₀ i (pos 0) +ℤ sum amounts t (share place z i)) → place t < length w
-      → (i : ℕ) → getD (set w (place t) (getD w (place t) (pos 0) +ℤ z t)) i (pos 0) ≡ getD w₀ i (pos 0) +ℤ sum amounts (t + 1) (share place z i)
-  unfolding amounts
+  pub pile-more : ((i : ℕ) → getD w i (pos 0) ≡ getD w₀ i (pos 0) +ℤ sum integers t (share place z i)) → place t < length w
+      → (i : ℕ) → getD (set w (place t) (getD w (place t) (pos 0) +ℤ z t)) i (pos 0) ≡ getD w₀ i (pos 0) +ℤ sum integers (t + 1) (share place z i)
+  unfolding integers
   pile-more h l i =
       add-at w (place t) i (z t) l
       ∙ ap (λ (y : ℤ). y +ℤ share place z i t) (h i)
-      ∙ +ℤ-assoc (getD w₀ i (pos 0)) (sum amounts t (share place z i)) (share place z i t)
-      ∙ ap (λ (y : ℤ). getD w₀ i (pos 0) +ℤ y) (sym (sum-next amounts t (share place z i)))
+      ∙ +ℤ-assoc (getD w₀ i (pos 0)) (sum integers t (share place z i)) (share place z i t)
+      ∙ ap (λ (y : ℤ). getD w₀ i (pos 0) +ℤ y) (sym (sum-next integers t (share place z i)))
 
 -- A word that amounts of size m are added to, t of them, is of size at most b + t × m, if it was of size b.
 pub pile-size : (w₀ w : List ℤ) (place : ℕ → ℕ) (z : ℕ → ℤ) (t i b m : ℕ) →
-    getD w i (pos 0) ≡ getD w₀ i (pos 0) +ℤ sum amounts t (share place z i) → natAbs (getD w₀ i (pos 0)) ≤ b → ((s : ℕ) → s < t → natAbs (z s) ≤ m) →
+    getD w i (pos 0) ≡ getD w₀ i (pos 0) +ℤ sum integers t (share place z i) → natAbs (getD w₀ i (pos 0)) ≤ b → ((s : ℕ) → s < t → natAbs (z s) ≤ m) →
     natAbs (getD w i (pos 0)) ≤ b + t * m
 pile-size w₀ w place z t i b m e hb hm =
     omega (
       arith,
       ap natAbs e,
-      abs-plus (getD w₀ i (pos 0)) (sum amounts t (share place z i)),
+      abs-plus (getD w₀ i (pos 0)) (sum integers t (share place z i)),
       hb,
       sum-abs t m (share place z i) (λ s l. only-abs (eqb (place s) i) (z s) m (hm s l)),
     )

@@ -8,13 +8,13 @@ use lib.Dec.{eqb, eqb·zero-suc, eqb·suc-zero, eqb·suc-suc, lit<}
 use lib.Bits.{bitAnd, bitOr, and-mask, and-step, or-step, or-zero-r}
 use lib.Count.{ones, ones-step}
 use lib.Pow.{pow-pos, pow-lt}
-use Rattle.laws.specs.Below.{words, sum, only, count}
+use Rattle.laws.specs.Below.{naturals, sum, only, count}
 use Rattle.laws.specs.Masks.{bit, maskOf, without}
 use Rattle.laws.proofs.Bools.{and-false, and-one, or-false}
 use Rattle.laws.proofs.Below.{only-le, count-first}
 
 abbrev one : Bool → ℕ
-one b = only words b 1
+one b = only naturals b 1
 
 -- The code's test, (w >> b) & 1 == 1.
 pub bit-test : (b w : ℕ) → eqb (bitAnd (w / 2 ^ b) 1) 1 ≡ bit b w
@@ -36,7 +36,7 @@ mask-cong zero f g h = refl
 mask-cong (suc n) f g h = ap₂ (λ (x y : ℕ). x + 2 * y) (ap one (h 0 (suc-le-suc zero-le))) (mask-cong n (λ b. f (suc b)) (λ b. g (suc b)) (λ k l. h (suc k) (suc-le-suc l)))
 
 pub mask-none : (n : ℕ) → maskOf n (λ b. false) ≡ 0
-unfolding maskOf only words
+unfolding maskOf only naturals
 mask-none zero = refl
 mask-none (suc n) = ap (λ (x : ℕ). 0 + 2 * x) (mask-none n)
 
@@ -55,7 +55,7 @@ bit-suc b w = ap (λ (x : ℕ). eqb (x % 2) 1) (ap (λ (m : ℕ). w / m) (pow-su
 
 -- A test by its word of 0 or 1, and such a word by its test.
 pub one-is : (b : Bool) → eqb (one b) 1 ≡ b
-unfolding only words
+unfolding only naturals
 one-is true = refl
 one-is false = refl
 
@@ -66,7 +66,7 @@ bit-mask (suc n) zero f l = bit-zero (maskOf (suc n) f) ∙ ap (λ (x : ℕ). eq
 bit-mask (suc n) (suc b) f l = bit-suc b (maskOf (suc n) f) ∙ ap (bit b) (high-bits n f) ∙ bit-mask n b (λ k. f (suc k)) (le-of-suc-le-suc l)
 
 pub one-bit : (x : ℕ) → x < 2 → one (eqb x 1) ≡ x
-unfolding only words
+unfolding only naturals
 one-bit zero l = refl
 one-bit (suc zero) l = refl
 one-bit (suc (suc x)) l = absurd (not-suc-le-zero (le-of-suc-le-suc (le-of-suc-le-suc l)))
@@ -82,7 +82,7 @@ mask-bits (suc n) w l =
     ∙ omega arith
 
 one-max : (b : Bool) → max (one b) 1 ≡ one (b || true)
-unfolding only words
+unfolding only naturals
 one-max true = refl
 one-max false = refl
 
@@ -114,7 +114,7 @@ mask-or (suc n) (suc b) f l =
 
 -- The ones of a mask are counted.
 pub ones-mask : (n : ℕ) (f : ℕ → Bool) → ones (maskOf n f) ≡ count n f
-unfolding maskOf ones lib.Count.onesIn count sum only words
+unfolding maskOf ones lib.Count.onesIn count sum only naturals
 ones-mask zero f = refl
 ones-mask (suc n) f = ones-step (maskOf (suc n) f) ∙ ap₂ _+_ (low-bit n f) (ap ones (high-bits n f) ∙ ones-mask n (λ k. f (suc k))) ∙ sym (count-first n f)
 
@@ -129,7 +129,7 @@ min-none : (x : ℕ) → min x 0 ≡ 0
 min-none x = omega arith
 
 one-false : one false ≡ 0
-unfolding only words
+unfolding only naturals
 one-false = refl
 
 not-low-half : (n : ℕ) → ((2 ^ suc n - 1) - 2 ^ 0) / 2 ≡ 2 ^ n - 1

@@ -12,7 +12,7 @@ use mir.Syntax.{w32, w64}
 use mir.Val.{SFits, toZ, ofZ}
 use mir.Facts.{toZ-ofZ}
 use borrow.Author.Tests.{lt-leb, le-leb, ltb-true, ltb-false}
-use Rattle.laws.specs.Below.{amounts, sum, only}
+use Rattle.laws.specs.Below.{integers, sum, only}
 use Rattle.laws.proofs.Bools.{split, or-false}
 
 -- |a − b| ≤ a + b
@@ -43,13 +43,13 @@ pub abs-times-le : (a b : ℤ) {m n : ℕ} → natAbs a ≤ m → natAbs b ≤ n
 abs-times-le a b h k = le-trans (le-of-eq (abs-times a b)) (mul-le-mul h k)
 
 -- n terms of at most m each.
-pub sum-abs : (n m : ℕ) (f : ℕ → ℤ) → ((i : ℕ) → i < n → natAbs (f i) ≤ m) → natAbs (sum amounts n f) ≤ n * m
-unfolding sum amounts
+pub sum-abs : (n m : ℕ) (f : ℕ → ℤ) → ((i : ℕ) → i < n → natAbs (f i) ≤ m) → natAbs (sum integers n f) ≤ n * m
+unfolding sum integers
 sum-abs zero m f h = omega arith
-sum-abs (suc n) m f h = omega (arith, abs-plus (sum amounts n f) (f n), sum-abs n m f (λ i l. h i (omega arith)), h n (omega arith))
+sum-abs (suc n) m f h = omega (arith, abs-plus (sum integers n f) (f n), sum-abs n m f (λ i l. h i (omega arith)), h n (omega arith))
 
-pub only-abs : (t : Bool) (x : ℤ) (m : ℕ) → natAbs x ≤ m → natAbs (only amounts t x) ≤ m
-unfolding only amounts
+pub only-abs : (t : Bool) (x : ℤ) (m : ℕ) → natAbs x ≤ m → natAbs (only integers t x) ≤ m
+unfolding only integers
 only-abs true x m h = h
 only-abs false x m h = omega arith
 

@@ -4,10 +4,10 @@ use mathlib.Core.Bool.{Bool, true, false, cond, _&&_}
 use Prim.Native.Nat.{ℕ, zero, suc, _+_, _-_, _*_, _<_, _≤_}
 use native.Mathlib.Decide.{ℕ-discrete}
 use native.Mathlib.Omega.{arith}
-use native.Mathlib.Numerals.{add-one}
+use native.Mathlib.Numerals.{add-one, unary-clauses}
 use lib.Dec.{eqb}
 use borrow.Author.Tests.{eqb-true, eqb-false, ne-eqb}
-use Rattle.laws.specs.Below.{Adds, words, sum, only}
+use Rattle.laws.specs.Below.{Adds, naturals, sum, only}
 use Rattle.laws.proofs.Bools.{split, eqb-same}
 
 module _ {A : Type 0} (w : Adds A) where
@@ -60,6 +60,25 @@ module _ {A : Type 0} (w : Adds A) where
   unfolding sum
   sum-plus zero f g = sym (w .idr (w .none))
   sum-plus (suc n) f g = ap (λ (x : A). w .plus x (w .plus (f n) (g n))) (sum-plus n f g) ∙ middle (sum w n f) (sum w n g) (f n) (g n)
+
+  -- A sum of n × m terms goes by rows of m.
+  sum-behind : (n m : ℕ) (f : ℕ → A) → sum w (n + m) f ≡ w .plus (sum w n f) (sum w m (λ i. f (n + i)))
+  unfolding sum
+  sum-behind n zero f = simp unary-clauses (sym (w .idr (sum w n f)))
+  sum-behind n (suc m) f =
+      simp unary-clauses (ap (λ (x : A). w .plus x (f (n + m))) (sum-behind n m f) ∙ w .assoc (sum w n f) (sum w m (λ i. f (n + i))) (f (n + m)))
+
+  pub sum-digits : (n m : ℕ) (f : ℕ → A) → sum w (n * m) f ≡ sum w n (λ a. sum w m (λ b. f (a * m + b)))
+  unfolding sum
+  sum-digits zero m f = ap (λ (k : ℕ). sum w k f) (no-row m)
+    where
+      no-row : (m : ℕ) → 0 * m ≡ 0
+      no-row m = omega arith
+  sum-digits (suc n) m f =
+      ap (λ (k : ℕ). sum w k f) (one-row n m) ∙ sum-behind (n * m) m f ∙ ap (λ (x : A). w .plus x (sum w m (λ b. f (n * m + b)))) (sum-digits n m f)
+    where
+      one-row : (n m : ℕ) → suc n * m ≡ n * m + m
+      one-row n m = omega arith
 
   -- Two sums change places.
   pub sum-swap : (n m : ℕ) (f : ℕ → ℕ → A) → sum w n (λ i. sum w m (λ k. f i k)) ≡ sum w m (λ k. sum w n (λ i. f i k))
@@ -127,25 +146,25 @@ module _ {A : Type 0} (w : Adds A) where
   only-no t x e = rw e
 
 -- Sums of words.
-pub sum-ones : (n : ℕ) → sum words n (λ i. 1) ≡ n
-unfolding sum words
+pub sum-ones : (n : ℕ) → sum naturals n (λ i. 1) ≡ n
+unfolding sum naturals
 sum-ones zero = refl
 sum-ones (suc n) = rw (sum-ones n) (omega arith)
 
 -- n terms of at most m each.
-pub sum-max : (n m : ℕ) (f : ℕ → ℕ) → ((i : ℕ) → i < n → f i ≤ m) → sum words n f ≤ n * m
-unfolding sum words
+pub sum-max : (n m : ℕ) (f : ℕ → ℕ) → ((i : ℕ) → i < n → f i ≤ m) → sum naturals n f ≤ n * m
+unfolding sum naturals
 sum-max zero m f h = omega arith
 sum-max (suc n) m f h = omega (arith, sum-max n m f (λ i l. h i (omega arith)), h n (omega arith))
 
-pub sum-le : (n : ℕ) (f g : ℕ → ℕ) → ((i : ℕ) → i < n → f i ≤ g i) → sum words n f ≤ sum words n g
-unfolding sum words
+pub sum-le : (n : ℕ) (f g : ℕ → ℕ) → ((i : ℕ) → i < n → f i ≤ g i) → sum naturals n f ≤ sum naturals n g
+unfolding sum naturals
 sum-le zero f g h = omega arith
 sum-le (suc n) f g h = omega (arith, sum-le n f g (λ i l. h i (omega arith)), h n (omega arith))
 
 -- Where each term is at most the other's and the sum is not less, no term is less.
-pub sum-tight : (n : ℕ) (f g : ℕ → ℕ) → ((i : ℕ) → i < n → f i ≤ g i) → sum words n g ≤ sum words n f → (i : ℕ) → i < n → g i ≤ f i
-unfolding sum words
+pub sum-tight : (n : ℕ) (f g : ℕ → ℕ) → ((i : ℕ) → i < n → f i ≤ g i) → sum naturals n g ≤ sum naturals n f → (i : ℕ) → i < n → g i ≤ f i
+unfolding sum naturals
 sum-tight zero f g h e i l = absurd (omega arith)
 sum-tight (suc n) f g h e i l =
     split (eqb i n)
@@ -154,8 +173,8 @@ sum-tight (suc n) f g h e i l =
     sum-tight n f g (λ i l. h i (omega arith)) (omega (arith, h n (omega arith))) i (omega arith))
 
 -- A term and those before it are within the whole.
-pub sum-within : (c m : ℕ) (f : ℕ → ℕ) → c < m → sum words c f + f c ≤ sum words m f
-unfolding sum words
+pub sum-within : (c m : ℕ) (f : ℕ → ℕ) → c < m → sum naturals c f + f c ≤ sum naturals m f
+unfolding sum naturals
 sum-within c zero f l = absurd (omega arith)
 sum-within c (suc m) f l =
     split (eqb c m)
@@ -163,11 +182,11 @@ sum-within c (suc m) f l =
     (λ q. let ne : c ≡ m → ⊥ = eqb-false c m q in omega (arith, sum-within c m f (omega arith)))
 
 -- Two sums that differ at one place i only.
-pub sum-change : (n i : ℕ) (f g : ℕ → ℕ) → i < n → ((k : ℕ) → k < n → (k ≡ i → ⊥) → g k ≡ f k) → sum words n g + f i ≡ sum words n f + g i
-unfolding sum words
+pub sum-change : (n i : ℕ) (f g : ℕ → ℕ) → i < n → ((k : ℕ) → k < n → (k ≡ i → ⊥) → g k ≡ f k) → sum naturals n g + f i ≡ sum naturals n f + g i
+unfolding sum naturals
 sum-change zero i f g l h = absurd (omega arith)
 sum-change (suc n) i f g l h =
     elim (ℕ-discrete n i) [
-      | yes e ↦ rw (e, sum-cong words i g f (λ k m. h k (omega arith) (omega arith))) (omega arith)
+      | yes e ↦ rw (e, sum-cong naturals i g f (λ k m. h k (omega arith) (omega arith))) (omega arith)
       | no d ↦ let r = sum-change n i f g (omega (arith, d)) (λ k m q. h k (omega arith) q) in rw (h n (omega arith) d) (omega arith)
     ]

@@ -7,7 +7,7 @@ use native.Mathlib.Decide.{ℕ-discrete, decLt}
 use native.Mathlib.Omega.{arith}
 use lib.ListN.{length, getD, set}
 use lib.Seq.{getD-set-same, getD-set-other}
-use Rattle.laws.specs.Below.{words, only, count}
+use Rattle.laws.specs.Below.{naturals, only, count}
 use Rattle.laws.proofs.Bools.{no-true, and-false}
 use Rattle.laws.proofs.Below.{count-suc, counts-none}
 use Rattle.laws.proofs.Loops.{window, window-in, window-below, window-above, guarded}
@@ -70,7 +70,7 @@ module _ (n : ℕ) (keys : List ℕ) (v i j : ℕ) (s : Skips n keys v i j) (tes
       let p : m ≡ suc (i + d) = omega arith in
       ap (λ (y : ℕ). count y test) p ∙ count-suc (i + d) test ∙ fall (test-passed (i + d) (omega arith) (omega arith)) ∙ count-up d (i + d) refl (omega arith)
     where
-      fall : test (i + d) ≡ false → count (i + d) test + only words (test (i + d)) 1 ≡ count (i + d) test
+      fall : test (i + d) ≡ false → count (i + d) test + only naturals (test (i + d)) 1 ≡ count (i + d) test
       fall t = ap (λ (y : ℕ). count (i + d) test + y) (counts-none t) ∙ omega arith
 
   pub count-passed : count j test ≡ count i test

@@ -1,26 +1,21 @@
 -- The call of the local book, by the first refusal that is met. Assumes nothing.
-use mathlib.Core.Path.{_≡_, refl, sym, ap, _∙_}
+use mathlib.Core.Path.{_≡_, refl, ap, _∙_}
 use mathlib.Core.Bool.{true}
 use mathlib.Core.List.{List, _++_}
 use Prim.Native.Nat.{ℕ, zero, suc, _<_, _≤_}
 use native.Mathlib.Omega.{arith}
 use lib.ListN.{length, drop}
 use lib.Seq.{drop-at}
-use lib.Dec.{eqb}
-use borrow.Author.Tests.{eqb-true, eqb-false}
 use Rattle.laws.specs.Checks.{firstMet}
 use Rattle.laws.specs.Tables.{tabulate, overwrite}
-use Rattle.laws.proofs.Bools.{split}
 use Rattle.laws.proofs.Tables.{length-tabulate, length-overwrite}
-use Rattle.model.specs.Job.{Job}
 use Rattle.model.specs.Tables.{JobTables, jobOf}
 use Rattle.model.specs.Ranges.{jobInRange}
 use Rattle.model.specs.Local.{localOffers, localGrocers, start, bookRefusals}
 use Rattle.local.specs.Sort.{at, inFront}
 use Rattle.local.specs.Lists.{localList, heldOf}
 use Rattle.local.specs.Pack.{packedTallies, packedStart, packedNumber, packedCount}
-use Rattle.local.specs.Book.{refused, said, bookAnswer, BookTables, bookLengths, SamePast, Written, Booked, BookGiven}
-use Rattle.local.specs.declared.book.Answer.{Answer}
+use Rattle.local.specs.Book.{said, bookAnswer, BookTables, bookLengths, SamePast, Written, Booked}
 use Rattle.local.specs.declared.book.Answer.the-variants.{Book, Refused}
 use Rattle.local.proofs.Modelled.{offers-are, grocers-are, starts-model, total-model, packed-model}
 use Rattle.local.proofs.Packing.{packed-le}
@@ -96,28 +91,3 @@ module _ (f : JobTables) (b : ℕ) (before : BookTables) where
       written = λ z. written;
       unchanged = λ z. absurd (z ok);
     }
-
--- ---- what a call comes to
-answer-no : (n : ℕ) (j : Job) (b : ℕ) → (n ≡ 0 → ⊥) → bookAnswer n j b ≡ refused n
-unfolding bookAnswer
-answer-no zero j b h = absurd (h refl)
-answer-no (suc n) j b h = refl
-
-module _ (f : JobTables) (b : ℕ) (before : BookTables) (r r′ : Answer) (after after′ : BookTables) (w : Booked f b before r after) (w′ : Booked f b before r′ after′) where
-  abbrev first : ℕ
-  first = firstMet (bookRefusals f (bookLengths before) b)
-
-  same-lists : (after .localOffers ≡ after′ .localOffers) × (after .localGrocers ≡ after′ .localGrocers) × (after .starts ≡ after′ .starts)
-  same-lists =
-      split (eqb first 0)
-      (λ e. let v = w .written (eqb-true first 0 e) in let v′ = w′ .written (eqb-true first 0 e) in
-      (v .offers ∙ sym (v′ .offers), v .grocers ∙ sym (v′ .grocers), v .starts ∙ sym (v′ .starts)))
-      (λ e. let same : after ≡ after′ = w .unchanged (eqb-false first 0 e) ∙ sym (w′ .unchanged (eqb-false first 0 e)) in
-      (ap (λ (t : BookTables). t .localOffers) same, ap (λ (t : BookTables). t .localGrocers) same, ap (λ (t : BookTables). t .starts) same))
-
-pub book-given : BookGiven
-book-given = record {
-  refusal = λ f b before r after w h. (w .answer ∙ answer-no (firstMet (bookRefusals f (bookLengths before) b)) (jobOf f) b h, w .unchanged h);
-  answers = λ f b before r r′ after after′ w w′. w .answer ∙ sym (w′ .answer);
-  lists = λ f b before r r′ after after′ w w′. same-lists f b before r r′ after after′ w w′;
-}

@@ -8,7 +8,7 @@ use lib.Dec.{eqb}
 use lib.ListN.{length, getD}
 use lib.IntN.{ℤ, pos}
 use borrow.Author.Tests.{eqb-true, eq-eqb, ne-eqb, lt-ltb}
-use Rattle.laws.specs.Below.{words, only, any, count, find}
+use Rattle.laws.specs.Below.{naturals, only, any, count, find, ascending}
 use Rattle.laws.proofs.Bools.{split, clash, and-one}
 use Rattle.laws.proofs.Sums.{sum-cong}
 use Rattle.laws.proofs.Below.{count-cong, find-only, find-passes, find-none}
@@ -17,12 +17,13 @@ use Rattle.laws.proofs.Tables.{overwrite-cong, length-tabulate, getD-tabulate, 
 use Rattle.model.specs.Job.{heldBy, needs, shares, priceWord, totalWord}
 use Rattle.model.specs.Tables.{JobTables, jobOf}
 use Rattle.model.specs.Ranges.{jobInRange}
-use Rattle.model.specs.Local.{ascending, localOffers, localGrocers, localGrocer, ofOffer, start, starts, Packed}
+use Rattle.model.specs.Local.{localOffers, localGrocers, localGrocer, ofOffer, start, starts, Packed}
 use Rattle.tables.proofs.Extra.{any-cong}
 use Rattle.local.specs.Sort.{at, inFront, begin, keyCount, sorted}
 use Rattle.local.specs.Lists.{localList, heldOf, classOf, numberIn}
 use Rattle.local.specs.Pack.{tallyKey, packedTallies, packedStart, packedNumber, packedCount}
-use Rattle.local.proofs.Extra.{ascending-cong, chained-cong, find-cong}
+use Rattle.laws.proofs.Ascending.{ascending-cong}
+use Rattle.local.proofs.Extra.{chained-cong, find-cong}
 use Rattle.local.proofs.Sorting.{begin-suc, length-sorted, sorted-in, sorted-once, part-once}
 use Rattle.local.proofs.Placing.{begin-le}
 use Rattle.local.proofs.Listing.{sorted-list}
@@ -42,7 +43,7 @@ list-cong k n b owner owner′ marked marked′ ho hm =
 
 module _ (k n : ℕ) (owner : ℕ → ℕ) (marked : ℕ → Bool) (b : ℕ) where
   abbrev class : ℕ → ℕ
-  class x = classOf k b (owner x) (only words (marked x) 1)
+  class x = classOf k b (owner x) (only naturals (marked x) 1)
 
   as-sorted : sorted class n (k + 1) ≡ localList k n owner marked b
   as-sorted = sorted-list k b n owner class marked (λ x l. refl)
@@ -136,7 +137,7 @@ module _ (f : JobTables) (ok : jobInRange f ≡ true) (b : ℕ) (hb : b < f .box
   pub start-model : (i : ℕ) → i ≤ l → packedStart (f .tallyBox) (f .tallyOffer) (f .tallies) list l b i ≡ start (jobOf f) b i
   unfolding packedStart begin keyCount start jobOf
   start-model i h =
-      sum-cong words i (λ c. count (f .tallies) (λ t. eqb (key t) c)) (λ c. count (jobOf f .tallies) (ofOffer (jobOf f) b c))
+      sum-cong naturals i (λ c. count (f .tallies) (λ t. eqb (key t) c)) (λ c. count (jobOf f .tallies) (ofOffer (jobOf f) b c))
       (λ c hc. count-cong (f .tallies) (λ t. eqb (key t) c) (ofOffer (jobOf f) b c) (λ t ht. key-of c t (omega arith) ht))
 
   -- The starts are the model's.
@@ -159,13 +160,13 @@ module _ (f : JobTables) (ok : jobInRange f ≡ true) (b : ℕ) (hb : b < f .box
 
   -- Each tally of an offer stands once in the offer's list.
   tally-once : (k t : ℕ) → k < l → t < f .tallies →
-      count (start (jobOf f) b (suc k) - start (jobOf f) b k) (λ i. eqb (tally (start (jobOf f) b k + i)) t) ≡ only words (ofOffer (jobOf f) b k t) 1
+      count (start (jobOf f) b (suc k) - start (jobOf f) b k) (λ i. eqb (tally (start (jobOf f) b k + i)) t) ≡ only naturals (ofOffer (jobOf f) b k t) 1
   unfolding packedTallies packedStart
   tally-once k t hk ht =
       ap (λ (n : ℕ). count n (λ i. eqb (tally (start (jobOf f) b k + i)) t)) (omega (arith, start-model k (omega arith), start-model (suc k) hk, begin-suc key (f .tallies) k))
       ∙ ap (λ (s : ℕ). count (keyCount key (f .tallies) k) (λ i. eqb (tally (s + i)) t)) (sym (start-model k (omega arith)))
       ∙ part-once key (f .tallies) l k t hk ht
-      ∙ ap (λ (u : Bool). only words u 1) (key-of k t hk ht)
+      ∙ ap (λ (u : Bool). only naturals u 1) (key-of k t hk ht)
 
   module _ (names more : List ℕ) (g : ℕ) (names-are : names ≡ inFront (localGrocers (jobOf f) b) more) (g-is : g ≡ length (localGrocers (jobOf f) b)) where
     name-at : (i : ℕ) → i < g → at names i ≡ at (localGrocers (jobOf f) b) i

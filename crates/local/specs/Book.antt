@@ -14,13 +14,13 @@ use Rattle.local.specs.declared.book.Answer.the-variants.{Book, Refused}
 
 -- What the call says: how many local offers, local grocers and tallies the box has, or the number of a refusal.
 pub data BookAnswer : Type 0 where
-  book : ℕ → ℕ → ℕ → BookAnswer
-  refused : ℕ → BookAnswer
+  book : (offers grocers tallies : ℕ) → BookAnswer
+  refused : (number : ℕ) → BookAnswer
 
 -- What each case of the answer says.
 unfoldable pub said : Answer → BookAnswer
 said (Book offers grocers tallies) = book offers grocers tallies
-said (Refused n) = refused n
+said (Refused number) = refused number
 
 -- What is due: the first refusal that is met, or the numbers of the box.
 unfoldable pub bookAnswer : ℕ → Job → ℕ → BookAnswer
@@ -83,14 +83,3 @@ pub record Booked (f : JobTables) (b : ℕ) (before : BookTables) (r : Answer) (
   pub answer : said r ≡ bookAnswer (firstMet (bookRefusals f (bookLengths before) b)) (jobOf f) b
   pub written : firstMet (bookRefusals f (bookLengths before) b) ≡ 0 → Written (jobOf f) b before after
   pub unchanged : (firstMet (bookRefusals f (bookLengths before) b) ≡ 0 → ⊥) → after ≡ before
-
--- What a call comes to, whoever meets `Booked`. `book-given` in proofs/Booking.antt proves it.
-pub record BookGiven : Type 0 where
-  -- A refused call answers the first of the refusals, and leaves its five tables as they were.
-  pub refusal : (f : JobTables) (b : ℕ) (before : BookTables) (r : Answer) (after : BookTables) → Booked f b before r after →
-      (firstMet (bookRefusals f (bookLengths before) b) ≡ 0 → ⊥) → (said r ≡ refused (firstMet (bookRefusals f (bookLengths before) b))) × (after ≡ before)
-  -- Nothing is open but the packed lists of a call that is not refused: two calls that are lent the same agree in the answer,
-  pub answers : (f : JobTables) (b : ℕ) (before : BookTables) (r r′ : Answer) (after after′ : BookTables) → Booked f b before r after → Booked f b before r′ after′ → said r ≡ said r′
-  -- the local offers, the local grocers and the starts.
-  pub lists : (f : JobTables) (b : ℕ) (before : BookTables) (r r′ : Answer) (after after′ : BookTables) → Booked f b before r after → Booked f b before r′ after′ →
-      (after .localOffers ≡ after′ .localOffers) × (after .localGrocers ≡ after′ .localGrocers) × (after .starts ≡ after′ .starts)

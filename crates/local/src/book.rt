@@ -9,7 +9,11 @@ use crate::pack::pack;
 
 // How many local offers, local grocers and tallies the box has; or the number of the refusal, and no lent word is changed.
 pub enum Answer {
-    Book(u16, u16, u16),
+    Book {
+        offers: u16,
+        grocers: u16,
+        tallies: u16,
+    },
     Refused(u16),
 }
 
@@ -167,5 +171,9 @@ pub fn book(
         pgrocers,
         pcounts,
     );
-    Answer::Book(l, g, n)
+    Answer::Book {
+        offers: l,
+        grocers: g,
+        tallies: n,
+    }
 }

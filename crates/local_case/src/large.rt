@@ -30,13 +30,17 @@ fn wrong_in(
     pcounts: &[i32; 1000],
 ) -> u64 {
     match answer {
-        Answer::Book(l, g, n) => {
-            let many = wide16(n);
+        Answer::Book {
+            offers,
+            grocers,
+            tallies,
+        } => {
+            let many = wide16(tallies);
             let lists = add(
-                list_wrong(loffers, l, owner, tbox, toffer, b),
-                list_wrong(lgrocers, g, gowner, tbox, tgrocer, b),
+                list_wrong(loffers, offers, owner, tbox, toffer, b),
+                list_wrong(lgrocers, grocers, gowner, tbox, tgrocer, b),
             );
-            let first = starts_wrong(starts, loffers, l, tbox, toffer, b);
+            let first = starts_wrong(starts, loffers, offers, tbox, toffer, b);
             let counts = differ_counts(pcounts, &[2_000_000_001i32; 1000]);
             let past = add(not_written(pgrocers, many), one(counts != many));
             let packed = packed_wrong(

@@ -72,13 +72,17 @@ fn changed(s: Tables, t: Tables) -> u64 {
 pub fn answer_text(name: &[u8], a: Answer) {
     show::text(name);
     match a {
-        Answer::Book(l, g, n) => {
+        Answer::Book {
+            offers,
+            grocers,
+            tallies,
+        } => {
             show::text(b": offers");
-            show::next(wide16(l));
+            show::next(wide16(offers));
             show::text(b" grocers");
-            show::next(wide16(g));
+            show::next(wide16(grocers));
             show::text(b" tallies");
-            show::next(wide16(n));
+            show::next(wide16(tallies));
         }
         Answer::Refused(n) => {
             show::text(b": refused");
@@ -93,7 +97,7 @@ pub fn tell(name: &[u8], before: Tables, r: Booked) {
     let tables = r.tables;
     answer_text(name, answer);
     match answer {
-        Answer::Book(_, _, _) => {
+        Answer::Book { .. } => {
             show::end();
             tables_lines(tables);
         }

@@ -3,21 +3,22 @@ use mathlib.Core.Path.{refl}
 use lib.Count.{ones}
 use Rattle.laws.specs.Masks.{maskOf, without}
 use Rattle.laws.specs.Checks.{firstMet}
-use Rattle.laws.specs.Below.{words, amounts, sum, only, any, all, count, find}
+use Rattle.laws.specs.Below.{naturals, integers, sum, only, any, all, count, find, ascending}
 use Rattle.laws.specs.Tables.{tabulate, overwrite, word, cell, recell}
-use Rattle.model.specs.Local.{ascending, chained, localOffers, localGrocers, ofOffer, start, starts, priceTable, totalTable}
+use Rattle.model.specs.Local.{chained, localOffers, localGrocers, ofOffer, start, starts, priceTable, totalTable}
 use Rattle.model.specs.Reconcile.{recordInRange, recordsInRange, serialAmount, deskRefusals, deskAnswer, reconciled}
 use Rattle.model.specs.Job.{heldBy, held, needs, shares, needWord, sharerWord, priceWord, totalWord, pricesDue, totalsDue, amount, plainSum}
-use Rattle.model.specs.Tables.{jobOf, view, store, jobLengths, stateLengths, jobShort, stateShort, lentShort}
-use Rattle.model.specs.Run.{nth, stepAt, places, listed, readyCount, pick, picks, afterSteps, run, reported, runRefusals, runState, ran}
+use Rattle.model.specs.Tables.{jobOf, stepsDone, marksOf, view, store, jobLengths, stateLengths, jobShort, stateShort, lentShort}
+use Rattle.model.specs.Run.{readySteps, readyCount, pick, picks, afterSteps, run, reported, runRefusals, runState, ran}
 use Rattle.model.specs.Ranges.{upTo, under, around, sizesInRange, jobWordsInRange, jobInRange, stateInRange}
-use Rattle.model.specs.Step.{isKind, boxesFit, stepRules, moved, refusals, answer, after, freshTables, stepped}
-use Rattle.model.specs.Words.{over, ownerWords, messages, stepCount, sends}
-use Rattle.model.specs.Steps.{number, kindOf, mark, oneBox, fits, hasStep, multiplied, ready, permitted, fresh, products, received, effect}
+use Rattle.model.specs.Step.{isKind, boxesFit, stepRules, moved, refusals, stepRefusal, stepTables, freshTables, stepAnswer, stepped}
+use Rattle.model.specs.Words.{over, ownerWords, messageCount, stepCount, messagesOf}
+use Rattle.model.specs.Boxes.{knows, priceOnWay, gone, arrived, partOf, paid, sentOf, stateByRules}
+use Rattle.model.specs.Steps.{doneBy, added, kindNumber, kindOf, mark, oneBox, fits, hasStep, multiplied, ready, permitted, fresh, products, received, effect, stepAt, listOf}
 use Rattle.model.specs.Cases.{Cases, Examples}
 
 pub cases : Cases
-unfolding jobOf view store word cell recell overwrite tabulate jobShort stateShort jobLengths stateLengths lentShort jobInRange sizesInRange jobWordsInRange stateInRange upTo under around firstMet refusals stepRules answer after moved isKind boxesFit oneBox stepped freshTables fresh effect products received number kindOf mark fits hasStep multiplied ready permitted heldBy held needs shares needWord sharerWord priceWord totalWord pricesDue totalsDue amount plainSum maskOf without sum only words amounts any all count find ownerWords messages stepCount over sends run runState afterSteps picks pick nth stepAt places listed readyCount ran runRefusals reported ascending chained localOffers localGrocers ofOffer start starts priceTable totalTable reconciled deskAnswer deskRefusals recordsInRange recordInRange serialAmount ones lib.Count.onesIn
+unfolding jobOf stepsDone marksOf view store word cell recell overwrite tabulate jobShort stateShort jobLengths stateLengths lentShort jobInRange sizesInRange jobWordsInRange stateInRange upTo under around firstMet refusals stepRules stepRefusal stepTables moved isKind boxesFit oneBox stepAnswer stepped freshTables fresh effect products received kindNumber kindOf mark fits hasStep multiplied ready permitted heldBy held needs shares needWord sharerWord priceWord totalWord pricesDue totalsDue amount plainSum maskOf without sum only naturals integers any all count find ownerWords messageCount stepCount over messagesOf run runState afterSteps picks pick stepAt listOf readySteps readyCount ran runRefusals reported ascending chained localOffers localGrocers ofOffer start starts priceTable totalTable reconciled deskAnswer deskRefusals recordsInRange recordInRange serialAmount ones lib.Count.onesIn
 cases = record {
   e-amount-0 = refl;
   e-amount-1 = refl;
@@ -37,7 +38,7 @@ cases = record {
 }
 
 pub examples : Examples
-unfolding jobOf view store word cell recell overwrite tabulate jobShort stateShort jobLengths stateLengths lentShort jobInRange sizesInRange jobWordsInRange stateInRange upTo under around firstMet refusals stepRules answer after moved isKind boxesFit oneBox stepped freshTables fresh effect products received number kindOf mark fits hasStep multiplied ready permitted heldBy held needs shares needWord sharerWord priceWord totalWord pricesDue totalsDue amount plainSum maskOf without sum only words amounts any all count find ownerWords messages stepCount over sends run runState afterSteps picks pick nth stepAt places listed readyCount ran runRefusals reported ascending chained localOffers localGrocers ofOffer start starts priceTable totalTable reconciled deskAnswer deskRefusals recordsInRange recordInRange serialAmount ones lib.Count.onesIn
+unfolding doneBy stateByRules knows priceOnWay gone arrived partOf paid sentOf added jobOf stepsDone marksOf view store word cell recell overwrite tabulate jobShort stateShort jobLengths stateLengths lentShort jobInRange sizesInRange jobWordsInRange stateInRange upTo under around firstMet refusals stepRules stepRefusal stepTables moved isKind boxesFit oneBox stepAnswer stepped freshTables fresh effect products received kindNumber kindOf mark fits hasStep multiplied ready permitted heldBy held needs shares needWord sharerWord priceWord totalWord pricesDue totalsDue amount plainSum maskOf without sum only naturals integers any all count find ownerWords messageCount stepCount over messagesOf run runState afterSteps picks pick stepAt listOf readySteps readyCount ran runRefusals reported ascending chained localOffers localGrocers ofOffer start starts priceTable totalTable reconciled deskAnswer deskRefusals recordsInRange recordInRange serialAmount ones lib.Count.onesIn
 examples = record {
   needs-away = refl;
   words-away = refl;
@@ -57,12 +58,23 @@ examples = record {
   prices-1-0 = refl;
   totals-0-1 = refl;
   totals-1-0 = refl;
+  two-words = refl;
+  one-message = refl;
+  two-report = refl;
+  e-ready = refl;
+  e-pick = refl;
+  e-working = refl;
+  e-on-way = refl;
+  e-unknown = refl;
+  e-sent = refl;
   no-kind = refl;
   to-itself = refl;
   not-sent = refl;
   no-message = refl;
   repeated = refl;
   begins = refl;
+  no-work = refl;
+  works = refl;
   unmarked = refl;
   marked = refl;
   not-yet = refl;

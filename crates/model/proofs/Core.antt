@@ -4,13 +4,13 @@ use mathlib.Core.Bool.{true, false, _&&_, not}
 use Prim.Native.Nat.{ℕ, _<_}
 use lib.Dec.{eqb, ltb}
 use borrow.Author.Tests.{not-true, eqb-true, ltb-true}
-use Rattle.laws.specs.Below.{words, amounts, sum, only}
+use Rattle.laws.specs.Below.{naturals, integers, sum, only}
 use Rattle.laws.proofs.Bools.{and-l, and-r, and-false, or-false, no-true, clash, cond-same}
 use Rattle.laws.proofs.Sums.{sum-none}
 use Rattle.model.specs.Job.{Job}
 use Rattle.model.specs.Steps.{Kind, sendPrices, multiplyOwn, receivePrices, sendTotals, addOwn, receiveTotals, Steps, mark, State, fits, hasStep, added, ready, permitted, fresh, effect}
 use Rattle.model.proofs.Range.{InRange}
-use Rattle.model.proofs.ClosedForm.{knows, onWay, gone, arrived, paid, sentOf, stateOf, Closed}
+use Rattle.model.specs.Boxes.{knows, priceOnWay, gone, arrived, paid, sentOf, stateByRules, Closed}
 use Rattle.model.proofs.Parts.{part-zero, leaves}
 use Rattle.model.proofs.Prices as P
 use Rattle.model.proofs.Totals as W
@@ -36,18 +36,18 @@ state-eq s t k p w q m e n =
     }
 
 -- A fresh state is that of no steps.
-pub fresh-form : (j : Job) → fresh j ≡ stateOf j (λ k a b. false)
-unfolding fresh stateOf knows onWay gone arrived added paid sentOf only words amounts
+pub fresh-form : (j : Job) → fresh j ≡ stateByRules j (λ k a b. false)
+unfolding fresh stateByRules knows priceOnWay gone arrived added paid sentOf only naturals integers
 fresh-form j =
-    state-eq (fresh j) (stateOf j (λ k a b. false))
+    state-eq (fresh j) (stateByRules j (λ k a b. false))
     (λ b o. rw (and-false, or-false))
     (λ b o. simp (and-false))
     (λ b g. simp (cond-same, part-zero j (added j (λ k a b. false)) b g (λ t. cond-same (eqb (j .offerOwner (j .tallyOffer t)) (j .tallyBox t)) false)))
     (λ b g. simp (cond-same))
-    (λ g. sym (sum-none amounts (j .boxes) (paid j (λ k a b. false) g) (λ b l. simp (cond-same))))
+    (λ g. sym (sum-none integers (j .boxes) (paid j (λ k a b. false) g) (λ b l. simp (cond-same))))
     refl
-    (sym (sum-none words (j .boxes) (λ a. sum words (j .boxes) (sentOf j (λ k a b. false) a)) (λ a l.
-    sum-none words (j .boxes) (sentOf j (λ k a b. false) a) (λ b m. refl))))
+    (sym (sum-none naturals (j .boxes) (λ a. sum naturals (j .boxes) (sentOf j (λ k a b. false) a)) (λ a l.
+    sum-none naturals (j .boxes) (sentOf j (λ k a b. false) a) (λ b m. refl))))
 
 pub first< : (j : Job) (k : Kind) (a b : ℕ) → hasStep j k a b ≡ true → a < j .boxes
 unfolding hasStep
@@ -80,37 +80,37 @@ module _ (j : Job) (r : InRange j) (d : Steps) (c : Closed j d) where
   not-yet : (k : Kind) (a b : ℕ) (k′ : Kind) (a′ b′ : ℕ) → d k a b ≡ false → (ready j d k′ a′ b′ ≡ true → d k a b ≡ true) → d k′ a′ b′ ≡ false
   not-yet k a b k′ a′ b′ h f = no-true (d k′ a′ b′) (λ q. clash (f (c .inOrder k′ a′ b′ q)) h)
 
-  pub step-form : (k : Kind) (a b : ℕ) → Permit j d k a b → effect j (stateOf j d) k a b ≡ stateOf j (mark d k a b)
-  unfolding effect stateOf mark knows onWay added gone arrived paid sentOf ready hasStep fits
+  pub step-form : (k : Kind) (a b : ℕ) → Permit j d k a b → effect j (stateByRules j d) k a b ≡ stateByRules j (mark d k a b)
+  unfolding effect stateByRules mark knows priceOnWay added gone arrived paid sentOf ready hasStep fits
   step-form sendPrices a b p =
-      state-eq (effect j (stateOf j d) sendPrices a b) (stateOf j (mark d sendPrices a b))
+      state-eq (effect j (stateByRules j d) sendPrices a b) (stateByRules j (mark d sendPrices a b))
       (λ x o. refl)
       (P.send-transit j d a b (p .fresh-one) (not-yet sendPrices a b receivePrices b a (p .fresh-one) (λ q. q)))
       (λ x g. refl) (λ x g. refl) (λ g. refl) refl
       (S.sent-prices j d a b (first< j sendPrices a b (p .has)) (second< j sendPrices a b (p .has)) (p .fresh-one))
   step-form multiplyOwn a b p =
-      subst (λ (b : ℕ). d multiplyOwn a b ≡ false → effect j (stateOf j d) multiplyOwn a b ≡ stateOf j (mark d multiplyOwn a b)) (one-box j a b (p .has))
-      (λ h. state-eq (effect j (stateOf j d) multiplyOwn a a) (stateOf j (mark d multiplyOwn a a))
+      subst (λ (b : ℕ). d multiplyOwn a b ≡ false → effect j (stateByRules j d) multiplyOwn a b ≡ stateByRules j (mark d multiplyOwn a b)) (one-box j a b (p .has))
+      (λ h. state-eq (effect j (stateByRules j d) multiplyOwn a a) (stateByRules j (mark d multiplyOwn a a))
       (λ x o. refl) (λ x o. refl)
       (λ x g. W.multiply-working j r d c a h x g)
       (λ x g. refl) (λ g. refl) refl refl)
       (p .fresh-one)
   step-form receivePrices a b p =
-      state-eq (effect j (stateOf j d) receivePrices a b) (stateOf j (mark d receivePrices a b))
+      state-eq (effect j (stateByRules j d) receivePrices a b) (stateByRules j (mark d receivePrices a b))
       (P.receive-known j d a b (p .is-ready) (p .fresh-one))
       (P.receive-transit j d a b (p .is-ready) (p .fresh-one))
       (W.receive-working j r d c a b (p .is-ready) (p .fresh-one))
       (λ x g. refl) (λ g. refl) refl refl
   step-form sendTotals a b p =
-      state-eq (effect j (stateOf j d) sendTotals a b) (stateOf j (mark d sendTotals a b))
+      state-eq (effect j (stateByRules j d) sendTotals a b) (stateByRules j (mark d sendTotals a b))
       (λ x o. refl) (λ x o. refl)
       (W.send-working j r d c a b (p .fresh-one))
       (λ x g. W.send-transit j r d c a b (p .fresh-one) x g (λ _. leaves j r d a g (p .is-ready)) (not-yet sendTotals a b receiveTotals b a (p .fresh-one) (λ q. q)))
       (λ g. refl) refl
       (S.sent-totals j d a b (first< j sendTotals a b (p .has)) (second< j sendTotals a b (p .has)) (p .fresh-one))
   step-form addOwn a b p =
-      subst (λ (b : ℕ). d addOwn a b ≡ false → effect j (stateOf j d) addOwn a b ≡ stateOf j (mark d addOwn a b)) (one-box j a b (p .has))
-      (λ h. state-eq (effect j (stateOf j d) addOwn a a) (stateOf j (mark d addOwn a a))
+      subst (λ (b : ℕ). d addOwn a b ≡ false → effect j (stateByRules j d) addOwn a b ≡ stateByRules j (mark d addOwn a b)) (one-box j a b (p .has))
+      (λ h. state-eq (effect j (stateByRules j d) addOwn a a) (stateByRules j (mark d addOwn a a))
       (λ x o. refl) (λ x o. refl)
       (λ x g. W.add-working j r d a h g x)
       (λ x g. W.add-transit j r d a h g x)
@@ -118,7 +118,7 @@ module _ (j : Job) (r : InRange j) (d : Steps) (c : Closed j d) where
       refl refl)
       (p .fresh-one)
   step-form receiveTotals a b p =
-      state-eq (effect j (stateOf j d) receiveTotals a b) (stateOf j (mark d receiveTotals a b))
+      state-eq (effect j (stateByRules j d) receiveTotals a b) (stateByRules j (mark d receiveTotals a b))
       (λ x o. refl) (λ x o. refl) (λ x g. refl)
       (λ x g. W.receive-totals j d a b (p .fresh-one) g x)
       (λ g. W.receive-statement j d a b (p .fresh-one) g (p .is-ready) (second< j receiveTotals a b (p .has)))

@@ -7,14 +7,14 @@ use native.Mathlib.Omega.{arith}
 use lib.Dec.{eqb}
 use lib.ListN.{length}
 use borrow.Author.Tests.{lt-ltb}
-use Rattle.laws.specs.Below.{words, sum, only, count}
+use Rattle.laws.specs.Below.{naturals, sum, only, count}
 use Rattle.laws.proofs.Bools.{split, eqb-same, and-one}
 use Rattle.laws.proofs.Sums.{sum-cong, sum-none, table-one, sum-swap, sum-pick, sum-ones, sum-le, sum-tight}
 use Rattle.model.specs.Job.{Job, pricesDue, totalsDue}
 use Rattle.model.specs.Steps.{Kind, sendPrices, multiplyOwn, receivePrices, sendTotals, addOwn, receiveTotals, Steps, mark, State, fits, hasStep, Step}
-use Rattle.model.specs.Words.{messages, over, stepCount, sends}
+use Rattle.model.specs.Words.{messageCount, over, stepCount, messagesOf}
 use Rattle.model.specs.Demand3.{AllDone}
-use Rattle.model.proofs.ClosedForm.{Closed}
+use Rattle.model.specs.Boxes.{Closed}
 use Rattle.model.proofs.Machine.{attempt, attemptAll, taken, sizeOf, size, permits}
 use Rattle.model.proofs.Reach.{effect-done}
 use Rattle.model.proofs.Core.{Permit, permit, first<, second<}
@@ -22,9 +22,9 @@ use Rattle.model.proofs.Sent.{sent-other}
 
 module _ (j : Job) (d : Steps) (k : Kind) (a b : ℕ) (h : d k a b ≡ false) (la : a < j .boxes) (lb : b < j .boxes) where
   grows : sizeOf j (mark d k a b) k ≡ sizeOf j d k + 1
-  unfolding sizeOf count mark only words
+  unfolding sizeOf count mark only naturals
   grows =
-      table-one words (j .boxes) (j .boxes) a b (λ x y. only words (d k x y) 1) (λ x y. only words (mark d k a b k x y) 1) 1 la lb
+      table-one naturals (j .boxes) (j .boxes) a b (λ x y. only naturals (d k x y) 1) (λ x y. only naturals (mark d k a b k x y) 1) 1 la lb
       (simp (eqb-same, h))
       (λ x y ne. simp (eqb-same, sent-other a b x y ne))
 
@@ -68,8 +68,8 @@ module _ (j : Job) where
   unfoldable pub sentSize : Steps → ℕ
   sentSize d = sizeOf j d sendPrices + sizeOf j d sendTotals
 
-  permit-sends : (d : Steps) (k : Kind) (a b : ℕ) → Permit j d k a b → sentSize (mark d k a b) ≡ sentSize d + sends k a b
-  unfolding sentSize sizeOf mark sends
+  permit-sends : (d : Steps) (k : Kind) (a b : ℕ) → Permit j d k a b → sentSize (mark d k a b) ≡ sentSize d + messagesOf k a b
+  unfolding sentSize sizeOf mark messagesOf
   permit-sends d sendPrices a b p = omega (arith, grows j d sendPrices a b (p .fresh-one) (first< j sendPrices a b (p .has)) (second< j sendPrices a b (p .has)))
   permit-sends d multiplyOwn a b p = omega arith
   permit-sends d receivePrices a b p = omega arith
@@ -77,46 +77,46 @@ module _ (j : Job) where
   permit-sends d addOwn a b p = omega arith
   permit-sends d receiveTotals a b p = omega arith
 
-  pub trace-sends : (s : State) (qs : List Step) → sentSize (attemptAll j s qs .done) ≡ over sends (taken j s qs) + sentSize (s .done)
-  trace-sends s qs = trace-over sends sentSize permit-sends s qs
+  pub trace-sends : (s : State) (qs : List Step) → sentSize (attemptAll j s qs .done) ≡ over messagesOf (taken j s qs) + sentSize (s .done)
+  trace-sends s qs = trace-over messagesOf sentSize permit-sends s qs
 
   pub sends-none : sentSize (λ k a b. false) ≡ 0
-  unfolding sentSize sizeOf count only words
+  unfolding sentSize sizeOf count only naturals
   sends-none = simp none
     where
-      none : sum words (j .boxes) (λ a. sum words (j .boxes) (λ b. 0)) ≡ 0
-      none = sum-none words (j .boxes) (λ a. sum words (j .boxes) (λ b. 0)) (λ a l. sum-none words (j .boxes) (λ b. 0) (λ b m. refl))
+      none : sum naturals (j .boxes) (λ a. sum naturals (j .boxes) (λ b. 0)) ≡ 0
+      none = sum-none naturals (j .boxes) (λ a. sum naturals (j .boxes) (λ b. 0)) (λ a l. sum-none naturals (j .boxes) (λ b. 0) (λ b m. refl))
 
   pub size-none : size j (λ k a b. false) ≡ 0
-  unfolding size sizeOf count only words
+  unfolding size sizeOf count only naturals
   size-none = simp none
     where
-      none : sum words (j .boxes) (λ a. sum words (j .boxes) (λ b. 0)) ≡ 0
-      none = sum-none words (j .boxes) (λ a. sum words (j .boxes) (λ b. 0)) (λ a l. sum-none words (j .boxes) (λ b. 0) (λ b m. refl))
+      none : sum naturals (j .boxes) (λ a. sum naturals (j .boxes) (λ b. 0)) ≡ 0
+      none = sum-none naturals (j .boxes) (λ a. sum naturals (j .boxes) (λ b. 0)) (λ a l. sum-none naturals (j .boxes) (λ b. 0) (λ b m. refl))
 
 module _ (j : Job) where
   -- In the job's own boxes the bounds pass.
-  inside : (k : Kind) (p : ℕ → ℕ → Bool) → ((a b : ℕ) → fits j k a b ≡ p a b) → sizeOf j (hasStep j) k ≡ sum words (j .boxes) (λ a. count (j .boxes) (λ b. p a b))
+  inside : (k : Kind) (p : ℕ → ℕ → Bool) → ((a b : ℕ) → fits j k a b ≡ p a b) → sizeOf j (hasStep j) k ≡ sum naturals (j .boxes) (λ a. count (j .boxes) (λ b. p a b))
   unfolding sizeOf count hasStep
   inside k p e =
-      sum-cong words (j .boxes) (λ a. sum words (j .boxes) (λ b. only words (hasStep j k a b) 1)) (λ a. sum words (j .boxes) (λ b. only words (p a b) 1))
-      (λ a l. sum-cong words (j .boxes) (λ b. only words (hasStep j k a b) 1) (λ b. only words (p a b) 1)
+      sum-cong naturals (j .boxes) (λ a. sum naturals (j .boxes) (λ b. only naturals (hasStep j k a b) 1)) (λ a. sum naturals (j .boxes) (λ b. only naturals (p a b) 1))
+      (λ a l. sum-cong naturals (j .boxes) (λ b. only naturals (hasStep j k a b) 1) (λ b. only naturals (p a b) 1)
       (λ b m. simp (lt-ltb a (j .boxes) l, lt-ltb b (j .boxes) m, e a b)))
 
-  turned : (p : ℕ → ℕ → Bool) → sum words (j .boxes) (λ a. count (j .boxes) (λ b. p b a)) ≡ sum words (j .boxes) (λ a. count (j .boxes) (λ b. p a b))
+  turned : (p : ℕ → ℕ → Bool) → sum naturals (j .boxes) (λ a. count (j .boxes) (λ b. p b a)) ≡ sum naturals (j .boxes) (λ a. count (j .boxes) (λ b. p a b))
   unfolding count
-  turned p = sum-swap words (j .boxes) (j .boxes) (λ a b. only words (p b a) 1)
+  turned p = sum-swap naturals (j .boxes) (j .boxes) (λ a b. only naturals (p b a) 1)
 
-  own-boxes : sum words (j .boxes) (λ a. count (j .boxes) (λ b. eqb a b)) ≡ j .boxes
+  own-boxes : sum naturals (j .boxes) (λ a. count (j .boxes) (λ b. eqb a b)) ≡ j .boxes
   unfolding count only
   own-boxes =
-      sum-cong words (j .boxes) (λ a. sum words (j .boxes) (λ b. only words (eqb a b) 1)) (λ a. 1)
-      (λ a l. simp and-one at (sum-pick words (j .boxes) a true 1 l))
+      sum-cong naturals (j .boxes) (λ a. sum naturals (j .boxes) (λ b. only naturals (eqb a b) 1)) (λ a. 1)
+      (λ a l. simp and-one at (sum-pick naturals (j .boxes) a true 1 l))
       ∙ sum-ones (j .boxes)
 
   -- A job has 2 × K + 2 × (messages) steps.
   pub steps-number : size j (hasStep j) ≡ stepCount j
-  unfolding size stepCount messages fits
+  unfolding size stepCount messageCount fits
   steps-number =
       omega (
         arith,
@@ -132,17 +132,17 @@ module _ (j : Job) where
       )
 
 -- The messages of the job are its steps 1 and 4.
-pub sends-number : (j : Job) → sentSize j (hasStep j) ≡ messages j
-unfolding sentSize messages fits
+pub sends-number : (j : Job) → sentSize j (hasStep j) ≡ messageCount j
+unfolding sentSize messageCount fits
 sends-number j = omega (arith, inside j sendPrices (pricesDue j) (λ a b. refl), inside j sendTotals (totalsDue j) (λ a b. refl))
 
-bit-le : (t u : Bool) → (t ≡ true → u ≡ true) → only words t 1 ≤ only words u 1
-unfolding only words
+bit-le : (t u : Bool) → (t ≡ true → u ≡ true) → only naturals t 1 ≤ only naturals u 1
+unfolding only naturals
 bit-le true u f = rw (f refl) (omega arith)
 bit-le false u f = omega arith
 
-bit-back : (t u : Bool) → only words t 1 ≤ only words u 1 → t ≡ true → u ≡ true
-unfolding only words
+bit-back : (t u : Bool) → only naturals t 1 ≤ only naturals u 1 → t ≡ true → u ≡ true
+unfolding only naturals
 bit-back t true h e = refl
 bit-back t false h e = absurd (let z : 1 ≤ 0 = rw e at h in omega arith)
 
@@ -150,16 +150,16 @@ module _ (j : Job) (d e : Steps) (sub : (k : Kind) (a b : ℕ) → d k a b ≡ t
   table-le : (k : Kind) → sizeOf j d k ≤ sizeOf j e k
   unfolding sizeOf count
   table-le k =
-      sum-le (j .boxes) (λ a. sum words (j .boxes) (λ b. only words (d k a b) 1)) (λ a. sum words (j .boxes) (λ b. only words (e k a b) 1))
-      (λ a l. sum-le (j .boxes) (λ b. only words (d k a b) 1) (λ b. only words (e k a b) 1) (λ b m. bit-le (d k a b) (e k a b) (sub k a b)))
+      sum-le (j .boxes) (λ a. sum naturals (j .boxes) (λ b. only naturals (d k a b) 1)) (λ a. sum naturals (j .boxes) (λ b. only naturals (e k a b) 1))
+      (λ a l. sum-le (j .boxes) (λ b. only naturals (d k a b) 1) (λ b. only naturals (e k a b) 1) (λ b m. bit-le (d k a b) (e k a b) (sub k a b)))
 
   table-tight : (k : Kind) → sizeOf j e k ≤ sizeOf j d k → (a b : ℕ) → a < j .boxes → b < j .boxes → e k a b ≡ true → d k a b ≡ true
   unfolding sizeOf count
   table-tight k h a b la lb =
       bit-back (e k a b) (d k a b)
-      (sum-tight (j .boxes) (λ b. only words (d k a b) 1) (λ b. only words (e k a b) 1) (λ b m. bit-le (d k a b) (e k a b) (sub k a b))
-      (sum-tight (j .boxes) (λ a. sum words (j .boxes) (λ b. only words (d k a b) 1)) (λ a. sum words (j .boxes) (λ b. only words (e k a b) 1))
-      (λ a l. sum-le (j .boxes) (λ b. only words (d k a b) 1) (λ b. only words (e k a b) 1) (λ b m. bit-le (d k a b) (e k a b) (sub k a b)))
+      (sum-tight (j .boxes) (λ b. only naturals (d k a b) 1) (λ b. only naturals (e k a b) 1) (λ b m. bit-le (d k a b) (e k a b) (sub k a b))
+      (sum-tight (j .boxes) (λ a. sum naturals (j .boxes) (λ b. only naturals (d k a b) 1)) (λ a. sum naturals (j .boxes) (λ b. only naturals (e k a b) 1))
+      (λ a l. sum-le (j .boxes) (λ b. only naturals (d k a b) 1) (λ b. only naturals (e k a b) 1) (λ b m. bit-le (d k a b) (e k a b) (sub k a b)))
       h a la)
       b lb)
 

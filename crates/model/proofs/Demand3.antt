@@ -2,36 +2,38 @@
 use mathlib.Core.Path.{_≡_, refl, sym, ap, _∙_}
 use mathlib.Core.Bool.{true, false, cond, _&&_, not}
 use mathlib.Core.List.{List, [], _∷_, map}
-use Prim.Native.Nat.{ℕ, _*_}
+use Prim.Native.Nat.{ℕ, _*_, _<_}
 use native.Mathlib.Omega.{arith}
 use lib.Dec.{eqb}
-use lib.ListN.{length}
+use lib.ListN.{length, getD}
+use lib.IntN.{pos}
 use borrow.Author.Tests.{le-ltb}
+use Rattle.laws.proofs.Tables.{getD-overwrite}
 use Rattle.laws.proofs.Bools.{split}
 use Rattle.laws.specs.Checks.{firstMet}
-use Rattle.model.specs.Job.{Job}
-use Rattle.model.specs.Requests.{Request, lendsShort, answerTo, serve, serveAll, acceptedFrom, left, accepted, doneIn}
+use Rattle.model.specs.Job.{Job, plainSum}
+use Rattle.model.specs.Requests.{Request, lendsShort, answerTo, serve, serveAll, acceptedFrom, tablesAfter, acceptedIn, doneIn, answersFrom, answersIn}
 use Rattle.model.specs.Tables.{JobTables, jobOf, StateTables, view, store, jobLengths, jobShort, stateShort, lentShort}
 use Rattle.model.specs.Run.{run, runState, reported, runRefusals, ran, finished}
 use Rattle.model.specs.Ranges.{jobInRange}
-use Rattle.model.specs.Step.{isKind, stepOf, freshTables}
-use Rattle.model.specs.Words.{over, wordsOf, ownerWords, messages, stepCount}
-use Rattle.model.specs.Steps.{Step, Steps, doneBy, State, hasStep, fresh, does, Kind, number, sendPrices, multiplyOwn, receivePrices, sendTotals, addOwn, receiveTotals}
-use Rattle.model.specs.Demand3.{AllDone, permittedRequest, refusalOf, Demand3, whole, RunIsList}
+use Rattle.model.specs.Step.{isKind, stepOf, freshTables, stepAnswer}
+use Rattle.model.specs.Words.{over, wordsOf, ownerWords, messageCount, stepCount, messagesOf}
+use Rattle.model.specs.Steps.{Step, Steps, doneBy, State, hasStep, fresh, effectOf, Kind, kindNumber, sendPrices, multiplyOwn, receivePrices, sendTotals, addOwn, receiveTotals, mark, permitted, kindOf}
+use Rattle.model.specs.Demand3.{AllDone, permittedRequest, refusalOf, Demand3, wholeRequest, RunIsList, answersByRules}
 use Rattle.model.proofs.Running.{running}
 use Rattle.model.proofs.Trace.{trace-sent}
 use Rattle.model.proofs.Counting.{steps-number, all-of-size, size-le}
 use Rattle.model.proofs.Finish.{all-steps, end-price-transit, end-total-transit, end-working, end-statement}
-use Rattle.model.proofs.Lists.{marked, sound, form, closed, taken-size, all-reached}
+use Rattle.model.proofs.Lists.{marked, sound, form, closed, taken-size, all-reached, all-sends}
 use Rattle.model.proofs.Progress.{progress}
-use Rattle.model.proofs.ClosedForm.{stateOf, Closed}
+use Rattle.model.specs.Boxes.{stateByRules, Closed, Sound}
 use Rattle.model.proofs.Run.{run-done, run-reached, run-taken, run-length, run-sends}
 use Rattle.model.proofs.Step.{range, ok-store}
 use Rattle.model.proofs.Served.{allowed, within, view-is, next, one-answer, one-serve, one-sound}
 use Rattle.model.proofs.Words.{end-sent}
 use Rattle.model.proofs.EachWord.{each-word, one-price, one-total}
-use Rattle.model.proofs.Refusal.{rules-zero}
-use Rattle.model.proofs.Reach.{Sound, sound-fresh, kind-back}
+use Rattle.model.proofs.Refusal.{accepted-zero, rules-zero}
+use Rattle.model.proofs.Reach.{sound-fresh, kind-back, effect-done}
 use Rattle.model.proofs.Machine.{permits, attempt, attemptAll, taken, reached, doneOf, size}
 
 -- The steps that a list of requests asks for: those whose kind is one and that lend enough.
@@ -78,20 +80,35 @@ module _ (f : JobTables) (ok : jobInRange f ≡ true) (long : jobShort (jobOf f)
   unfolding acceptedFrom asks taken
   all-accepted s o [] = refl
   all-accepted s o (r ∷ rs) =
-      rw (one-answer f ok long t s o r, refusal-zero (jobOf f) (s .done) r, one-serve f ok long t s o r, all-accepted (next f ok long t s r) (one-sound f ok long t s o r) rs)
+      rw (one-answer f ok long t s o r, accepted-zero (refusalOf (jobOf f) (s .done) r), refusal-zero (jobOf f) (s .done) r, one-serve f ok long t s o r, all-accepted (next f ok long t s r) (one-sound f ok long t s o r) rs)
       (sym (one-taken s r (asks (jobOf f) rs)))
+
+  -- The steps done after a request.
+  next-done : (s : State) (r : Request) →
+      next f ok long t s r .done ≡ cond (permittedRequest (jobOf f) (s .done) r) (mark (s .done) (stepOf (r .asked) .kind) (r .asked .first) (r .asked .second)) (s .done)
+  unfolding next allowed permittedRequest stepOf
+  next-done s r =
+      split (not (lendsShort (jobOf f) r) && (isKind (r .asked .kind) && permitted (jobOf f) (s .done) (kindOf (r .asked .kind)) (r .asked .first) (r .asked .second)))
+      (λ e. rw (e, effect-done (jobOf f) s (kindOf (r .asked .kind)) (r .asked .first) (r .asked .second)))
+      (λ e. rw e)
+
+  all-answers : (s : State) → Sound (jobOf f) s → (rs : List Request) → answersFrom f (store (jobOf f) s t) rs ≡ answersByRules (jobOf f) (s .done) rs
+  unfolding answersFrom answersByRules stepOf
+  all-answers s o [] = refl
+  all-answers s o (r ∷ rs) =
+      rw (one-answer f ok long t s o r, one-serve f ok long t s o r, all-answers (next f ok long t s r) (one-sound f ok long t s o r) rs, next-done s r)
 
   module _ (rs : List Request) where
     -- The state that the list leaves.
     reach : Sound (jobOf f) (reached (jobOf f) (asks (jobOf f) rs))
     reach = sound (jobOf f) (range f ok) (asks (jobOf f) rs)
 
-    pub left-is : left f t rs ≡ store (jobOf f) (reached (jobOf f) (asks (jobOf f) rs)) t
-    unfolding left freshTables reached
+    pub left-is : tablesAfter f t rs ≡ store (jobOf f) (reached (jobOf f) (asks (jobOf f) rs)) t
+    unfolding tablesAfter freshTables reached
     left-is = all-serve (fresh (jobOf f)) (sound-fresh (jobOf f)) rs
 
-    pub accepted-is : accepted f t rs ≡ taken (jobOf f) (fresh (jobOf f)) (asks (jobOf f) rs)
-    unfolding accepted freshTables
+    pub accepted-is : acceptedIn f t rs ≡ taken (jobOf f) (fresh (jobOf f)) (asks (jobOf f) rs)
+    unfolding acceptedIn freshTables
     accepted-is = all-accepted (fresh (jobOf f)) (sound-fresh (jobOf f)) rs
 
     pub done-is : doneIn f t rs ≡ doneOf (jobOf f) (asks (jobOf f) rs)
@@ -101,27 +118,31 @@ module _ (f : JobTables) (ok : jobInRange f ≡ true) (long : jobShort (jobOf f)
     marked-is : reached (jobOf f) (asks (jobOf f) rs) .done ≡ doneIn f t rs
     marked-is = marked (jobOf f) (range f ok) (asks (jobOf f) rs) ∙ sym done-is
 
-    pub view-left : view (jobOf f) (left f t rs) ≡ reached (jobOf f) (asks (jobOf f) rs)
+    pub view-left : view (jobOf f) (tablesAfter f t rs) ≡ reached (jobOf f) (asks (jobOf f) rs)
     view-left = ap (view (jobOf f)) left-is ∙ view-is f ok long t (reached (jobOf f) (asks (jobOf f) rs)) reach
 
     -- The state of the list is the closed form of the steps done.
-    state-is : view (jobOf f) (left f t rs) ≡ stateOf (jobOf f) (doneIn f t rs)
-    state-is = view-left ∙ form (jobOf f) (range f ok) (asks (jobOf f) rs) ∙ ap (stateOf (jobOf f)) (sym done-is)
+    state-is : view (jobOf f) (tablesAfter f t rs) ≡ stateByRules (jobOf f) (doneIn f t rs)
+    state-is = view-left ∙ form (jobOf f) (range f ok) (asks (jobOf f) rs) ∙ ap (stateByRules (jobOf f)) (sym done-is)
 
     closed-is : Closed (jobOf f) (doneIn f t rs)
     closed-is = rw done-is (closed (jobOf f) (range f ok) (asks (jobOf f) rs))
 
-    answer-of : (r : Request) → answerTo f (left f t rs) r ≡ refusalOf (jobOf f) (doneIn f t rs) r
+    list-is : answersIn f t rs ≡ answersByRules (jobOf f) (λ k a b. false) rs
+    unfolding answersIn freshTables fresh
+    list-is = all-answers (fresh (jobOf f)) (sound-fresh (jobOf f)) rs
+
+    answer-of : (r : Request) → answerTo f (tablesAfter f t rs) r ≡ stepAnswer (refusalOf (jobOf f) (doneIn f t rs) r)
     answer-of r =
         ap (λ (u : StateTables). answerTo f u r) left-is
         ∙ one-answer f ok long t (reached (jobOf f) (asks (jobOf f) rs)) reach r
-        ∙ ap (λ (d : Steps). refusalOf (jobOf f) d r) marked-is
+        ∙ ap (λ (d : Steps). stepAnswer (refusalOf (jobOf f) d r)) marked-is
 
-    served-is : (r : Request) → serve f (left f t rs) r ≡ store (jobOf f) (next f ok long t (reached (jobOf f) (asks (jobOf f) rs)) r) t
+    served-is : (r : Request) → serve f (tablesAfter f t rs) r ≡ store (jobOf f) (next f ok long t (reached (jobOf f) (asks (jobOf f) rs)) r) t
     served-is r = ap (λ (u : StateTables). serve f u r) left-is ∙ one-serve f ok long t (reached (jobOf f) (asks (jobOf f) rs)) reach r
 
     next-yes : (r : Request) → permittedRequest (jobOf f) (doneIn f t rs) r ≡ true →
-        next f ok long t (reached (jobOf f) (asks (jobOf f) rs)) r ≡ does (jobOf f) (reached (jobOf f) (asks (jobOf f) rs)) (stepOf (r .asked))
+        next f ok long t (reached (jobOf f) (asks (jobOf f) rs)) r ≡ effectOf (jobOf f) (reached (jobOf f) (asks (jobOf f) rs)) (stepOf (r .asked))
     unfolding next allowed permittedRequest stepOf
     next-yes r h = rw (marked-is, h)
 
@@ -130,63 +151,42 @@ module _ (f : JobTables) (ok : jobInRange f ≡ true) (long : jobShort (jobOf f)
     next-not r h = rw (marked-is, h)
 
     does-is : (r : Request) → permittedRequest (jobOf f) (doneIn f t rs) r ≡ true →
-        view (jobOf f) (serve f (left f t rs) r) ≡ does (jobOf f) (view (jobOf f) (left f t rs)) (stepOf (r .asked))
+        view (jobOf f) (serve f (tablesAfter f t rs) r) ≡ effectOf (jobOf f) (view (jobOf f) (tablesAfter f t rs)) (stepOf (r .asked))
     does-is r h =
         ap (view (jobOf f)) (served-is r)
         ∙ view-is f ok long t (next f ok long t (reached (jobOf f) (asks (jobOf f) rs)) r) (one-sound f ok long t (reached (jobOf f) (asks (jobOf f) rs)) reach r)
         ∙ next-yes r h
-        ∙ ap (λ (s : State). does (jobOf f) s (stepOf (r .asked))) (sym view-left)
+        ∙ ap (λ (s : State). effectOf (jobOf f) s (stepOf (r .asked))) (sym view-left)
 
-    keeps-is : (r : Request) → permittedRequest (jobOf f) (doneIn f t rs) r ≡ false → serve f (left f t rs) r ≡ left f t rs
+    keeps-is : (r : Request) → permittedRequest (jobOf f) (doneIn f t rs) r ≡ false → serve f (tablesAfter f t rs) r ≡ tablesAfter f t rs
     keeps-is r h = served-is r ∙ ap (λ (s : State). store (jobOf f) s t) (next-not r h) ∙ sym left-is
 
-    words-is : view (jobOf f) (left f t rs) .sent ≡ over (wordsOf (jobOf f)) (accepted f t rs)
+    words-is : view (jobOf f) (tablesAfter f t rs) .sent ≡ over (wordsOf (jobOf f)) (acceptedIn f t rs)
     unfolding reached fresh
     words-is = ap (λ (s : State). s .sent) view-left ∙ trace-sent (jobOf f) (fresh (jobOf f)) (asks (jobOf f) rs) ∙ rw accepted-is (omega arith)
 
-    size-is : size (jobOf f) (doneIn f t rs) ≡ length (accepted f t rs)
+    size-is : size (jobOf f) (doneIn f t rs) ≡ length (acceptedIn f t rs)
     size-is = ap (size (jobOf f)) done-is ∙ taken-size (jobOf f) (range f ok) (asks (jobOf f) rs) ∙ ap length (sym accepted-is)
 
     -- All done: the state is that of all steps.
-    pub all-is : AllDone (jobOf f) (doneIn f t rs) → view (jobOf f) (left f t rs) ≡ stateOf (jobOf f) (hasStep (jobOf f))
-    all-is h = state-is ∙ ap (stateOf (jobOf f)) (all-steps (jobOf f) (doneIn f t rs) closed-is h)
+    pub all-is : AllDone (jobOf f) (doneIn f t rs) → view (jobOf f) (tablesAfter f t rs) ≡ stateByRules (jobOf f) (hasStep (jobOf f))
+    all-is h = state-is ∙ ap (stateByRules (jobOf f)) (all-steps (jobOf f) (doneIn f t rs) closed-is h)
+
+    count-is : AllDone (jobOf f) (doneIn f t rs) → length (acceptedIn f t rs) ≡ stepCount (jobOf f)
+    count-is h = sym size-is ∙ ap (size (jobOf f)) (all-steps (jobOf f) (doneIn f t rs) closed-is h) ∙ steps-number (jobOf f)
+
+    sends-is : AllDone (jobOf f) (doneIn f t rs) → over messagesOf (acceptedIn f t rs) ≡ messageCount (jobOf f)
+    sends-is h = ap (over messagesOf) accepted-is ∙ all-sends (jobOf f) (range f ok) (asks (jobOf f) rs) (rw done-is at h)
+
+    owner-is : AllDone (jobOf f) (doneIn f t rs) → over (wordsOf (jobOf f)) (acceptedIn f t rs) ≡ ownerWords (jobOf f)
+    owner-is h = sym words-is ∙ ap (λ (s : State). s .sent) (all-is h) ∙ end-sent (jobOf f) (range f ok)
 
 -- A run's state is that of all steps.
-pub run-all : (f : JobTables) → jobInRange f ≡ true → (cs : List ℕ) → runState (jobOf f) cs ≡ stateOf (jobOf f) (hasStep (jobOf f))
+pub run-all : (f : JobTables) → jobInRange f ≡ true → (cs : List ℕ) → runState (jobOf f) cs ≡ stateByRules (jobOf f) (hasStep (jobOf f))
 run-all f ok cs = run-reached (jobOf f) (range f ok) cs ∙ all-reached (jobOf f) (range f ok) (run (jobOf f) cs) (run-done (jobOf f) (range f ok) cs)
 
-pub demand3 : (f : JobTables) → jobInRange f ≡ true → jobShort (jobOf f) (jobLengths f) ≡ false → (t : StateTables) (rs : List Request) → Demand3 f t rs
-unfolding jobOf
-demand3 f ok long t rs = record {
-  answers = answer-of f ok long t rs;
-  accepts = λ r. rw (answer-of f ok long t rs r) (refusal-zero (jobOf f) (doneIn f t rs) r);
-  does = does-is f ok long t rs;
-  keeps = keeps-is f ok long t rs;
-  stays = left-is f ok long t rs ∙ ap (λ (s : State). store (jobOf f) s t) (sym (view-left f ok long t rs));
-  inRange = rw (left-is f ok long t rs) (ok-store f (reached (jobOf f) (asks (jobOf f) rs)) t (within f ok long t (reached (jobOf f) (asks (jobOf f) rs)) (reach f ok long t rs)));
-  marks = λ k a b i. (ap (λ (s : State). s .done) (view-left f ok long t rs) ∙ marked-is f ok long t rs) i k a b;
-  wordsSent = words-is f ok long t rs;
-  runningSum = λ g. rw (state-is f ok long t rs) (running (jobOf f) (range f ok) (doneIn f t rs) (closed-is f ok long t rs) g);
-  goesOn = progress (jobOf f) (doneIn f t rs);
-  atMost = omega (arith, size-is f ok long t rs, size-le (jobOf f) (doneIn f t rs) (hasStep (jobOf f)) (closed-is f ok long t rs .steps), steps-number (jobOf f));
-  allDone = λ h. sym (size-is f ok long t rs) ∙ ap (size (jobOf f)) (all-steps (jobOf f) (doneIn f t rs) (closed-is f ok long t rs) h) ∙ steps-number (jobOf f);
-  allTaken = λ e. all-of-size (jobOf f) (doneIn f t rs) (closed-is f ok long t rs) (size-is f ok long t rs ∙ e ∙ sym (steps-number (jobOf f)));
-  finish = λ h. rw (all-is f ok long t rs h) (record {
-    statements = end-statement (jobOf f) (range f ok);
-    noWorking = λ b g lb lg. end-working (jobOf f) (range f ok) b g lb lg;
-    noTotals = end-total-transit (jobOf f);
-    noPrices = end-price-transit (jobOf f);
-    wordsSent = end-sent (jobOf f) (range f ok);
-  });
-  onePrice = λ h o b l. rw (accepted-is f ok long t rs) (one-price (jobOf f) (range f ok) (asks (jobOf f) rs) (rw (done-is f ok long t rs) at h) o b l);
-  oneTotal = λ h g b l. rw (accepted-is f ok long t rs) (one-total (jobOf f) (range f ok) (asks (jobOf f) rs) (rw (done-is f ok long t rs) at h) g b l);
-  eachWord = rw (accepted-is f ok long t rs) (each-word (jobOf f) (fresh (jobOf f)) (asks (jobOf f) rs));
-  agree = λ u ps h e. all-is f ok long u ps e ∙ sym (all-is f ok long t rs h);
-  runAgrees = λ cs h. run-all f ok cs ∙ sym (all-is f ok long t rs h);
-}
-
-kind-named : (k : Kind) → isKind (number k) ≡ true
-unfolding isKind number
+kind-named : (k : Kind) → isKind (kindNumber k) ≡ true
+unfolding isKind kindNumber
 kind-named sendPrices = refl
 kind-named multiplyOwn = refl
 kind-named receivePrices = refl
@@ -196,8 +196,8 @@ kind-named receiveTotals = refl
 
 -- A request for a step that lends of each table what it needs asks for the step.
 module _ (j : Job) where
-  whole-lends : (x : Step) → lendsShort j (whole j x) ≡ false
-  unfolding lendsShort whole jobShort stateShort
+  whole-lends : (x : Step) → lendsShort j (wholeRequest j x) ≡ false
+  unfolding lendsShort wholeRequest jobShort stateShort
   whole-lends x =
       rw (
         le-ltb (j .offers) (j .offers) (omega arith),
@@ -208,15 +208,15 @@ module _ (j : Job) where
         le-ltb (6 * j .boxes * j .boxes) (6 * j .boxes * j .boxes) (omega arith),
       )
 
-  whole-step : (x : Step) → stepOf (whole j x .asked) ≡ x
-  unfolding stepOf whole
+  whole-step : (x : Step) → stepOf (wholeRequest j x .asked) ≡ x
+  unfolding stepOf wholeRequest
   whole-step x = λ i. record { kind = kind-back (x .kind) i; first = x .first; second = x .second }
 
-  whole-kind : (x : Step) → isKind (whole j x .asked .kind) ≡ true
-  unfolding whole
+  whole-kind : (x : Step) → isKind (wholeRequest j x .asked .kind) ≡ true
+  unfolding wholeRequest
   whole-kind x = kind-named (x .kind)
 
-  asks-whole : (xs : List Step) → asks j (map (whole j) xs) ≡ xs
+  asks-whole : (xs : List Step) → asks j (map (wholeRequest j) xs) ≡ xs
   unfolding asks
   asks-whole [] = refl
   asks-whole (x ∷ xs) = rw (whole-lends x, whole-kind x, whole-step x, asks-whole xs)
@@ -229,7 +229,7 @@ module _ (f : JobTables) (ok : jobInRange f ≡ true) (t : StateTables) (cs : Li
   unfolding runRefusals firstMet
   run-number = rw ok
 
-  ran-answer : ran f t cs .answer ≡ reported (cond (lentShort f t) 20 0) (finished (ownerWords (jobOf f)) (messages (jobOf f)) (stepCount (jobOf f)))
+  ran-answer : ran f t cs .answer ≡ reported (cond (lentShort f t) 20 0) (finished (ownerWords (jobOf f)) (messageCount (jobOf f)) (stepCount (jobOf f)))
   unfolding ran
   ran-answer = rw (run-number, run-sent, run-sends (jobOf f) (range f ok) cs, run-length (jobOf f) (range f ok) cs)
 
@@ -241,12 +241,63 @@ module _ (f : JobTables) (ok : jobInRange f ≡ true) (t : StateTables) (cs : Li
   unfolding ran
   ran-keeps h = rw (run-number, h)
 
+-- The tables that a run leaves hold the state of all steps.
+run-view : (f : JobTables) (ok : jobInRange f ≡ true) → jobShort (jobOf f) (jobLengths f) ≡ false → (u : StateTables) (cs : List ℕ) → lentShort f u ≡ false →
+    view (jobOf f) (ran f u cs .tables) ≡ stateByRules (jobOf f) (hasStep (jobOf f))
+run-view f ok long u cs n =
+    ap (view (jobOf f)) (ran-tables f ok u cs n ∙ ap (λ (s : State). store (jobOf f) s u) (run-reached (jobOf f) (range f ok) cs))
+    ∙ view-is f ok long u (reached (jobOf f) (run (jobOf f) cs)) (sound (jobOf f) (range f ok) (run (jobOf f) cs))
+    ∙ all-reached (jobOf f) (range f ok) (run (jobOf f) cs) (run-done (jobOf f) (range f ok) cs)
+
+run-statement : (f : JobTables) → jobInRange f ≡ true → (t : StateTables) (cs : List ℕ) → lentShort f t ≡ false → (g : ℕ) → g < f .grocers →
+    getD (ran f t cs .tables .statement) g (pos 0) ≡ plainSum (jobOf f) g
+unfolding store jobOf
+run-statement f ok t cs n g l =
+    rw (ran-tables f ok t cs n) (getD-overwrite (f .grocers) (runState (jobOf f) cs .statement) (t .statement) g (pos 0) l)
+    ∙ ap (λ (s : State). s .statement g) (run-all f ok cs)
+    ∙ end-statement (jobOf f) (range f ok) g l
+
+pub demand3 : (f : JobTables) → jobInRange f ≡ true → jobShort (jobOf f) (jobLengths f) ≡ false → (t : StateTables) (rs : List Request) → Demand3 f t rs
+unfolding jobOf reported
+demand3 f ok long t rs = record {
+  answers = list-is f ok long t rs;
+  nextAnswer = answer-of f ok long t rs;
+  accepts = λ r. rw (answer-of f ok long t rs r, accepted-zero (refusalOf (jobOf f) (doneIn f t rs) r)) (refusal-zero (jobOf f) (doneIn f t rs) r);
+  does = does-is f ok long t rs;
+  keeps = keeps-is f ok long t rs;
+  holds = state-is f ok long t rs;
+  stays = left-is f ok long t rs ∙ ap (λ (s : State). store (jobOf f) s t) (sym (view-left f ok long t rs));
+  inRange = rw (left-is f ok long t rs) (ok-store f (reached (jobOf f) (asks (jobOf f) rs)) t (within f ok long t (reached (jobOf f) (asks (jobOf f) rs)) (reach f ok long t rs)));
+  marks = λ k a b i. (ap (λ (s : State). s .done) (view-left f ok long t rs) ∙ marked-is f ok long t rs) i k a b;
+  wordsSent = words-is f ok long t rs;
+  runningSum = λ g. rw (state-is f ok long t rs) (running (jobOf f) (range f ok) (doneIn f t rs) (closed-is f ok long t rs) g);
+  goesOn = progress (jobOf f) (doneIn f t rs);
+  atMost = omega (arith, size-is f ok long t rs, size-le (jobOf f) (doneIn f t rs) (hasStep (jobOf f)) (closed-is f ok long t rs .steps), steps-number (jobOf f));
+  allDone = count-is f ok long t rs;
+  allTaken = λ e. all-of-size (jobOf f) (doneIn f t rs) (closed-is f ok long t rs) (size-is f ok long t rs ∙ e ∙ sym (steps-number (jobOf f)));
+  finish = λ h. rw (all-is f ok long t rs h) (record {
+    statements = end-statement (jobOf f) (range f ok);
+    noWorking = λ b g lb lg. end-working (jobOf f) (range f ok) b g lb lg;
+    noTotals = end-total-transit (jobOf f);
+    noPrices = end-price-transit (jobOf f);
+    wordsSent = end-sent (jobOf f) (range f ok);
+  });
+  onePrice = λ h o b l. rw (accepted-is f ok long t rs) (one-price (jobOf f) (range f ok) (asks (jobOf f) rs) (rw (done-is f ok long t rs) at h) o b l);
+  oneTotal = λ h g b l. rw (accepted-is f ok long t rs) (one-total (jobOf f) (range f ok) (asks (jobOf f) rs) (rw (done-is f ok long t rs) at h) g b l);
+  eachWord = rw (accepted-is f ok long t rs) (each-word (jobOf f) (fresh (jobOf f)) (asks (jobOf f) rs));
+  sameSteps = λ h u ps e. count-is f ok long u ps e ∙ sym (count-is f ok long t rs h);
+  sameState = λ h u ps e. all-is f ok long u ps e ∙ sym (all-is f ok long t rs h);
+  runState = λ h u cs n. run-view f ok long u cs n ∙ sym (all-is f ok long t rs h);
+  runReport = λ h u cs n. ran-answer f ok u cs ∙ rw (n, owner-is f ok long t rs h, sends-is f ok long t rs h, count-is f ok long t rs h);
+}
+
 -- A run is the list of the steps it picks.
 pub run-is-list : (f : JobTables) → jobInRange f ≡ true → jobShort (jobOf f) (jobLengths f) ≡ false → (t : StateTables) (cs : List ℕ) → RunIsList f t cs
 run-is-list f ok long t cs = record {
   answer = ran-answer f ok t cs;
-  accepted = accepted-is f ok long t (map (whole (jobOf f)) (run (jobOf f) cs)) ∙ rw (asks-whole (jobOf f) (run (jobOf f) cs)) (run-taken (jobOf f) (range f ok) cs);
-  allDone = rw (done-is f ok long t (map (whole (jobOf f)) (run (jobOf f) cs)), asks-whole (jobOf f) (run (jobOf f) cs)) (run-done (jobOf f) (range f ok) cs);
-  tables = λ h. ran-tables f ok t cs h ∙ sym (left-is f ok long t (map (whole (jobOf f)) (run (jobOf f) cs)) ∙ rw (asks-whole (jobOf f) (run (jobOf f) cs), ← (run-reached (jobOf f) (range f ok) cs)));
+  accepted = accepted-is f ok long t (map (wholeRequest (jobOf f)) (run (jobOf f) cs)) ∙ rw (asks-whole (jobOf f) (run (jobOf f) cs)) (run-taken (jobOf f) (range f ok) cs);
+  allDone = rw (done-is f ok long t (map (wholeRequest (jobOf f)) (run (jobOf f) cs)), asks-whole (jobOf f) (run (jobOf f) cs)) (run-done (jobOf f) (range f ok) cs);
+  tables = λ h. ran-tables f ok t cs h ∙ sym (left-is f ok long t (map (wholeRequest (jobOf f)) (run (jobOf f) cs)) ∙ rw (asks-whole (jobOf f) (run (jobOf f) cs), ← (run-reached (jobOf f) (range f ok) cs)));
+  statements = run-statement f ok t cs;
   keeps = ran-keeps f ok t cs;
 }

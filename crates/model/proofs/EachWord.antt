@@ -6,7 +6,7 @@ use Prim.Native.Nat.{ℕ, _+_, _<_}
 use native.Mathlib.Omega.{arith}
 use lib.Dec.{eqb, ltb}
 use borrow.Author.Tests.{lt-ltb, ltb-true, ltb-false, eqb-true, ne-eqb, eq-eqb}
-use Rattle.laws.specs.Below.{words, sum, only, any, all, count}
+use Rattle.laws.specs.Below.{naturals, sum, only, any, all, count}
 use Rattle.laws.proofs.Sums.{sum-cong, sum-none, sum-plus, sum-pick}
 use Rattle.laws.proofs.Bools.{split, clash, eqb-same, and-r, and-false}
 use Rattle.laws.proofs.Below.{any-at}
@@ -33,10 +33,10 @@ own-total j g c = simp eqb-same
 module _ (j : Job) (o c : ℕ) where
   -- The price of offer o was sent to box c, as far as box c, another box than the owner, needs it.
   unfoldable pub priceSent : Steps → ℕ
-  priceSent d = only words (d sendPrices (j .offerOwner o) c && (not (eqb (j .offerOwner o) c) && needs j o c)) 1
+  priceSent d = only naturals (d sendPrices (j .offerOwner o) c && (not (eqb (j .offerOwner o) c) && needs j o c)) 1
 
   price-grows : (d : Steps) (k : Kind) (a b : ℕ) → Permit j d k a b → priceSent (mark d k a b) ≡ priceSent d + priceTo j o c k a b
-  unfolding priceSent mark priceTo priceWord only words
+  unfolding priceSent mark priceTo priceWord only naturals
   price-grows d sendPrices a b p =
       split (eqb b c)
       (λ e. split (eqb (j .offerOwner o) a)
@@ -52,10 +52,10 @@ module _ (j : Job) (o c : ℕ) where
 module _ (j : Job) (g c : ℕ) where
   -- The part total of grocer g was sent from box c, as far as box c, another box than the owner, has one.
   unfoldable pub totalSent : Steps → ℕ
-  totalSent d = only words (d sendTotals c (j .grocerOwner g) && (not (eqb (j .grocerOwner g) c) && shares j g c)) 1
+  totalSent d = only naturals (d sendTotals c (j .grocerOwner g) && (not (eqb (j .grocerOwner g) c) && shares j g c)) 1
 
   total-grows : (d : Steps) (k : Kind) (a b : ℕ) → Permit j d k a b → totalSent (mark d k a b) ≡ totalSent d + totalFrom j g c k a b
-  unfolding totalSent mark totalFrom totalWord only words
+  unfolding totalSent mark totalFrom totalWord only naturals
   total-grows d sendTotals a b p =
       split (eqb a c)
       (λ e. split (eqb (j .grocerOwner g) b)
@@ -74,39 +74,39 @@ unfolding over
 over-plus f g [] = refl
 over-plus f g (x ∷ xs) = rw (over-plus f g xs) (omega arith)
 
-over-sum : (n : ℕ) (f : ℕ → Kind → ℕ → ℕ → ℕ) (xs : List Step) → over (λ k a b. sum words n (λ i. f i k a b)) xs ≡ sum words n (λ i. over (f i) xs)
-unfolding over words
-over-sum n f [] = sym (sum-none words n (λ i. 0) (λ i l. refl))
+over-sum : (n : ℕ) (f : ℕ → Kind → ℕ → ℕ → ℕ) (xs : List Step) → over (λ k a b. sum naturals n (λ i. f i k a b)) xs ≡ sum naturals n (λ i. over (f i) xs)
+unfolding over naturals
+over-sum n f [] = sym (sum-none naturals n (λ i. 0) (λ i l. refl))
 over-sum n f (x ∷ xs) =
-    ap (λ (y : ℕ). sum words n (λ i. f i (x .kind) (x .first) (x .second)) + y) (over-sum n f xs)
-    ∙ sym (sum-plus words n (λ i. f i (x .kind) (x .first) (x .second)) (λ i. over (f i) xs))
+    ap (λ (y : ℕ). sum naturals n (λ i. f i (x .kind) (x .first) (x .second)) + y) (over-sum n f xs)
+    ∙ sym (sum-plus naturals n (λ i. f i (x .kind) (x .first) (x .second)) (λ i. over (f i) xs))
 
 module _ (j : Job) where
   -- The words of a step, one by one.
   unfoldable pub oneByOne : Kind → ℕ → ℕ → ℕ
   oneByOne k a b =
-      sum words (j .offers) (λ o. sum words (j .boxes) (λ c. priceTo j o c k a b))
-      + sum words (j .grocers) (λ g. sum words (j .boxes) (λ c. totalFrom j g c k a b))
+      sum naturals (j .offers) (λ o. sum naturals (j .boxes) (λ c. priceTo j o c k a b))
+      + sum naturals (j .grocers) (λ g. sum naturals (j .boxes) (λ c. totalFrom j g c k a b))
 
-  no-words : (n : ℕ) → sum words n (λ i. sum words (j .boxes) (λ c. 0)) ≡ 0
-  unfolding words
-  no-words n = sum-none words n (λ i. sum words (j .boxes) (λ c. 0)) (λ i l. sum-none words (j .boxes) (λ c. 0) (λ c m. refl))
+  no-words : (n : ℕ) → sum naturals n (λ i. sum naturals (j .boxes) (λ c. 0)) ≡ 0
+  unfolding naturals
+  no-words n = sum-none naturals n (λ i. sum naturals (j .boxes) (λ c. 0)) (λ i l. sum-none naturals (j .boxes) (λ c. 0) (λ c m. refl))
 
   step-words : (k : Kind) (a b : ℕ) → a < j .boxes → b < j .boxes → wordsOf j k a b ≡ oneByOne k a b
   unfolding wordsOf oneByOne priceTo totalFrom count
   step-words sendPrices a b la lb =
       sym (rw (no-words (j .grocers)) (omega (
         arith,
-        sum-cong words (j .offers) (λ o. sum words (j .boxes) (λ c. only words (eqb b c && priceWord j a b o) 1)) (λ o. only words (priceWord j a b o) 1)
-            (λ o l. sum-pick words (j .boxes) b (priceWord j a b o) 1 lb),
+        sum-cong naturals (j .offers) (λ o. sum naturals (j .boxes) (λ c. only naturals (eqb b c && priceWord j a b o) 1)) (λ o. only naturals (priceWord j a b o) 1)
+            (λ o l. sum-pick naturals (j .boxes) b (priceWord j a b o) 1 lb),
       )))
   step-words multiplyOwn a b la lb = sym (rw (no-words (j .offers), no-words (j .grocers)))
   step-words receivePrices a b la lb = sym (rw (no-words (j .offers), no-words (j .grocers)))
   step-words sendTotals a b la lb =
       sym (rw (no-words (j .offers)) (omega (
         arith,
-        sum-cong words (j .grocers) (λ g. sum words (j .boxes) (λ c. only words (eqb a c && totalWord j a b g) 1)) (λ g. only words (totalWord j a b g) 1)
-            (λ g l. sum-pick words (j .boxes) a (totalWord j a b g) 1 la),
+        sum-cong naturals (j .grocers) (λ g. sum naturals (j .boxes) (λ c. only naturals (eqb a c && totalWord j a b g) 1)) (λ g. only naturals (totalWord j a b g) 1)
+            (λ g l. sum-pick naturals (j .boxes) a (totalWord j a b g) 1 la),
       )))
   step-words addOwn a b la lb = sym (rw (no-words (j .offers), no-words (j .grocers)))
   step-words receiveTotals a b la lb = sym (rw (no-words (j .offers), no-words (j .grocers)))
@@ -128,19 +128,19 @@ module _ (j : Job) where
   -- The words of the steps of a list, one by one.
   pub each-word : (s : State) (qs : List Step) →
       over (wordsOf j) (taken j s qs)
-      ≡ sum words (j .offers) (λ o. sum words (j .boxes) (λ c. over (priceTo j o c) (taken j s qs)))
-      + sum words (j .grocers) (λ g. sum words (j .boxes) (λ c. over (totalFrom j g c) (taken j s qs)))
+      ≡ sum naturals (j .offers) (λ o. sum naturals (j .boxes) (λ c. over (priceTo j o c) (taken j s qs)))
+      + sum naturals (j .grocers) (λ g. sum naturals (j .boxes) (λ c. over (totalFrom j g c) (taken j s qs)))
   unfolding oneByOne
   each-word s qs =
       taken-words s qs
-      ∙ over-plus (λ k a b. sum words (j .offers) (λ o. sum words (j .boxes) (λ c. priceTo j o c k a b))) (λ k a b. sum words (j .grocers) (λ g. sum words (j .boxes) (λ c. totalFrom j g c k a b))) (taken j s qs)
+      ∙ over-plus (λ k a b. sum naturals (j .offers) (λ o. sum naturals (j .boxes) (λ c. priceTo j o c k a b))) (λ k a b. sum naturals (j .grocers) (λ g. sum naturals (j .boxes) (λ c. totalFrom j g c k a b))) (taken j s qs)
       ∙ ap₂ (λ (x y : ℕ). x + y) (both (j .offers) (priceTo j)) (both (j .grocers) (totalFrom j))
     where
-      both : (n : ℕ) (f : ℕ → ℕ → Kind → ℕ → ℕ → ℕ) → over (λ k a b. sum words n (λ i. sum words (j .boxes) (λ c. f i c k a b))) (taken j s qs)
-          ≡ sum words n (λ i. sum words (j .boxes) (λ c. over (f i c) (taken j s qs)))
+      both : (n : ℕ) (f : ℕ → ℕ → Kind → ℕ → ℕ → ℕ) → over (λ k a b. sum naturals n (λ i. sum naturals (j .boxes) (λ c. f i c k a b))) (taken j s qs)
+          ≡ sum naturals n (λ i. sum naturals (j .boxes) (λ c. over (f i c) (taken j s qs)))
       both n f =
-          over-sum n (λ i k a b. sum words (j .boxes) (λ c. f i c k a b)) (taken j s qs)
-          ∙ sum-cong words n (λ i. over (λ k a b. sum words (j .boxes) (λ c. f i c k a b)) (taken j s qs)) (λ i. sum words (j .boxes) (λ c. over (f i c) (taken j s qs)))
+          over-sum n (λ i k a b. sum naturals (j .boxes) (λ c. f i c k a b)) (taken j s qs)
+          ∙ sum-cong naturals n (λ i. over (λ k a b. sum naturals (j .boxes) (λ c. f i c k a b)) (taken j s qs)) (λ i. sum naturals (j .boxes) (λ c. over (f i c) (taken j s qs)))
           (λ i l. over-sum (j .boxes) (f i) (taken j s qs))
 
 -- In a list that does all steps.
@@ -175,14 +175,14 @@ module _ (j : Job) (r : InRange j) (qs : List Step) (all : AllDone j (doneOf j q
       word : (not (eqb (j .grocerOwner g) c) && shares j g c) ≡ true → totalWord j c (j .grocerOwner g) g ≡ true
       word e = own-total j g c ∙ e
 
-  pub one-price : (o c : ℕ) → o < j .offers → over (priceTo j o c) (taken j (fresh j) qs) ≡ only words (not (eqb (j .offerOwner o) c) && needs j o c) 1
-  unfolding priceSent only words fresh
+  pub one-price : (o c : ℕ) → o < j .offers → over (priceTo j o c) (taken j (fresh j) qs) ≡ only naturals (not (eqb (j .offerOwner o) c) && needs j o c) 1
+  unfolding priceSent only naturals fresh
   one-price o c l =
       sym (trace-over j (priceTo j o c) (priceSent j o c) (price-grows j o c) (fresh j) qs ∙ omega arith)
       ∙ rw (end-done, price-due o c l)
 
-  pub one-total : (g c : ℕ) → g < j .grocers → over (totalFrom j g c) (taken j (fresh j) qs) ≡ only words (not (eqb (j .grocerOwner g) c) && shares j g c) 1
-  unfolding totalSent only words fresh
+  pub one-total : (g c : ℕ) → g < j .grocers → over (totalFrom j g c) (taken j (fresh j) qs) ≡ only naturals (not (eqb (j .grocerOwner g) c) && shares j g c) 1
+  unfolding totalSent only naturals fresh
   one-total g c l =
       sym (trace-over j (totalFrom j g c) (totalSent j g c) (total-grows j g c) (fresh j) qs ∙ omega arith)
       ∙ rw (end-done, total-due g c l)

@@ -5,7 +5,7 @@ use Prim.Native.Nat.{ℕ, _<_}
 use lib.Dec.{eqb, ltb}
 use lib.IntN.{pos}
 use borrow.Author.Tests.{lt-ltb}
-use Rattle.laws.specs.Below.{amounts, only}
+use Rattle.laws.specs.Below.{integers, only}
 use Rattle.laws.proofs.Bools.{split, and-false, no-true, clash, eqb-same, and-one, cond-same, not-both, and-swap}
 use Rattle.laws.proofs.Below.{any-at}
 use Rattle.laws.proofs.Sums.{sum-cong}
@@ -13,7 +13,7 @@ use Rattle.model.specs.Job.{Job, shares, totalWord, pricesDue, totalsDue
 use Rattle.model.specs.Steps.{Kind, sendPrices, receivePrices, sendTotals, addOwn, receiveTotals, Steps, fits, hasStep, added}
 use Rattle.model.specs.Demand3.{AllDone}
 use Rattle.model.proofs.Range.{InRange}
-use Rattle.model.proofs.ClosedForm.{onWay, gone, arrived, partOf, paid, stateOf, Closed}
+use Rattle.model.specs.Boxes.{priceOnWay, gone, arrived, partOf, paid, stateByRules, Closed}
 use Rattle.model.proofs.Parts.{part-none}
 use Rattle.model.proofs.Running.{by-box}
 
@@ -37,12 +37,12 @@ module _ (j : Job) where
   unfolding hasStep fits
   totals-turn a b = and-swap (ltb a (j .boxes)) (ltb b (j .boxes)) (totalsDue j b a)
 
-  pub end-price-transit : (b o : ℕ) → stateOf j (hasStep j) .priceTransit b o ≡ 0
-  unfolding stateOf onWay
+  pub end-price-transit : (b o : ℕ) → stateByRules j (hasStep j) .priceTransit b o ≡ 0
+  unfolding stateByRules priceOnWay
   end-price-transit b o = simp (prices-turn, not-both, and-false)
 
-  pub end-total-transit : (b g : ℕ) → stateOf j (hasStep j) .totalTransit b g ≡ pos 0
-  unfolding stateOf gone arrived
+  pub end-total-transit : (b g : ℕ) → stateByRules j (hasStep j) .totalTransit b g ≡ pos 0
+  unfolding stateByRules gone arrived
   end-total-transit b g = split (eqb (j .grocerOwner g) b) (λ e. simp (e, not-both)) (λ e. simp (e, totals-turn, not-both))
 
   module _ (r : InRange j) (b g : ℕ) (lb : b < j .boxes) (lg : g < j .grocers) where
@@ -56,8 +56,8 @@ module _ (j : Job) where
         simp (lt-ltb b (j .boxes) lb, lt-ltb (j .grocerOwner g) (j .boxes) (r .grocerOwner< g lg))
         (any-at (j .grocers) (totalWord j b (j .grocerOwner g)) g lg (simp (eqb-same, e, s)))
 
-    pub end-working : stateOf j (hasStep j) .working b g ≡ pos 0
-    unfolding stateOf gone
+    pub end-working : stateByRules j (hasStep j) .working b g ≡ pos 0
+    unfolding stateByRules gone
     end-working =
         split (eqb (j .grocerOwner g) b)
         (λ e. simp (e, has-own))
@@ -66,7 +66,7 @@ module _ (j : Job) where
         (λ s. simp (e, part-none j (added j (hasStep j)) b g s, cond-same)))
 
     pub end-paid : paid j (hasStep j) g b ≡ partOf j (λ t. true) b g
-    unfolding paid arrived only amounts
+    unfolding paid arrived only integers
     end-paid =
         split (eqb (j .grocerOwner g) b)
         (λ e. simp (e, has-own))
@@ -74,9 +74,9 @@ module _ (j : Job) where
         (λ s. simp (e, totals-turn, has-totals e s))
         (λ s. simp (part-none j (λ t. true) b g s, cond-same)))
 
-  pub end-statement : InRange j → (g : ℕ) → g < j .grocers → stateOf j (hasStep j) .statement g ≡ plainSum j g
-  unfolding stateOf plainSum
+  pub end-statement : InRange j → (g : ℕ) → g < j .grocers → stateByRules j (hasStep j) .statement g ≡ plainSum j g
+  unfolding stateByRules plainSum
   end-statement r g l =
-      sum-cong amounts (j .boxes) (paid j (hasStep j) g) (λ b. partOf j (λ t. true) b g) (λ b m. end-paid r b g m l)
+      sum-cong integers (j .boxes) (paid j (hasStep j) g) (λ b. partOf j (λ t. true) b g) (λ b m. end-paid r b g m l)
       ∙ by-box j (λ t. true) g
       ∙ simp and-one

@@ -1,22 +1,26 @@
 -- Parts of tables that are lent: long enough, they hold what the whole holds, and what is written into them is written into the whole. Assumes nothing.
 use mathlib.Core.Path.{_≡_}
-use mathlib.Core.Bool.{false, cond, _&&_}
-use mathlib.Core.List.{[], _∷_}
-use Prim.Native.Nat.{ℕ, suc, _+_, _-_, _*_, _/_, _%_, _≤_}
-use lib.ListN.{take-append-drop}
-use lib.Dec.{eqb, ltb}
+use mathlib.Core.Bool.{false, cond}
+use mathlib.Core.List.{List, [], _∷_}
+use Prim.Native.Nat.{ℕ, _*_, _/_, _%_, _≤_}
+use native.Mathlib.Omega.{arith}
+use lib.ListN.{take, take-append-drop}
+use lib.Seq.{getD-take}
+use lib.Dec.{ltb}
 use lib.IntN.{pos}
-use borrow.Author.Tests.{ltb-false}
+use borrow.Author.Tests.{ltb-true, ltb-false}
 use Rattle.laws.specs.Tables.{recell}
+use Rattle.laws.proofs.Bools.{split}
 use Rattle.laws.proofs.Checks.{none-of}
 use Rattle.laws.proofs.Tables.{over-over, word-take, cell-take, overwrite-take, long-take}
 use Rattle.model.specs.Job.{Job}
 use Rattle.model.specs.Requests.{lentJob, lentState, returned}
-use Rattle.model.specs.Tables.{JobTables, jobOf, StateTables, view, store, JobLengths, StateLengths, jobLengths, stateLengths, jobShort, stateShort}
+use Rattle.model.specs.Tables.{JobTables, jobOf, StateTables, stepsDone, marksOf, view, store, JobLengths, StateLengths, jobLengths, stateLengths, jobShort, stateShort}
 use Rattle.model.specs.Ranges.{sizesInRange, jobWordsInRange, jobInRange, stateInRange}
-use Rattle.model.specs.Steps.{number, kindOf, State}
+use Rattle.model.specs.Steps.{Kind, kindNumber, stepPlace, atPlace, State}
 use Rattle.model.proofs.Step.{up-take, under-take, around-take}
 use Rattle.model.proofs.Core.{state-eq}
+use Rattle.model.proofs.Tables.{place-in, kind-six}
 
 -- What a length test of a lent part says.
 le-of : (m n : ℕ) → ltb n m ≡ false → m ≤ n
@@ -146,6 +150,16 @@ lent-state-short j t n h =
       long-take 1 (n .sent) (t .sent) (l .sent),
     )
 
+-- Of the marks the first that K boxes need are read.
+marks-take : (k n : ℕ) (marks : List ℕ) (q : Kind) (a b : ℕ) → 6 * k * k ≤ n → stepsDone k (take n marks) q a b ≡ stepsDone k marks q a b
+unfolding stepsDone
+marks-take k n marks q a b l =
+    split (ltb a k)
+    (λ e. rw e (split (ltb b k)
+    (λ f. rw (f, getD-take n marks (stepPlace k (kindNumber q) a b) 0 (omega (arith, place-in k (kindNumber q) a b (kind-six q) (ltb-true a k e) (ltb-true b k f)))))
+    (λ f. rw f)))
+    (λ e. rw e)
+
 -- The state that lent tables hold, where they are long enough.
 module _ (j : Job) (t : StateTables) (n : StateLengths) (l : StateLong (j .boxes) (j .grocers) (j .offers) n) where
   pub lent-view : view j (lentState t n) ≡ view j t
@@ -157,19 +171,19 @@ module _ (j : Job) (t : StateTables) (n : StateLengths) (l : StateLong (j .boxes
       (λ b g. cell-take (j .boxes) (j .grocers) (n .working) (t .working) (pos 0) b g (l .working))
       (λ b g. cell-take (j .boxes) (j .grocers) (n .totalTransit) (t .totalTransit) (pos 0) b g (l .totalTransit))
       (λ g. word-take (j .grocers) (n .statement) (t .statement) (pos 0) g (l .statement))
-      (λ i k a b. ltb a (j .boxes) && eqb (cell-take (6 * j .boxes) (j .boxes) (n .done) (t .done) 0 ((number k - 1) * j .boxes + a) b (l .done) i) 1)
+      (λ i k a b. marks-take (j .boxes) (n .done) (t .done) k a b (l .done) i)
       (word-take 1 (n .sent) (t .sent) 0 0 (l .sent))
 
   -- A state that is written into the lent part is written into the whole.
   pub lent-store : (s : State) → returned t n (store j s (lentState t n)) ≡ store j s t
-  unfolding returned store lentState recell
+  unfolding returned store lentState recell marksOf
   lent-store s = λ i. record {
     known = overwrite-take (j .boxes * j .offers) (n .known) (λ k. s .known (k / j .offers) (k % j .offers)) (t .known) (l .known) i;
     priceTransit = overwrite-take (j .boxes * j .offers) (n .priceTransit) (λ k. s .priceTransit (k / j .offers) (k % j .offers)) (t .priceTransit) (l .priceTransit) i;
     working = overwrite-take (j .boxes * j .grocers) (n .working) (λ k. s .working (k / j .grocers) (k % j .grocers)) (t .working) (l .working) i;
     totalTransit = overwrite-take (j .boxes * j .grocers) (n .totalTransit) (λ k. s .totalTransit (k / j .grocers) (k % j .grocers)) (t .totalTransit) (l .totalTransit) i;
     statement = overwrite-take (j .grocers) (n .statement) (s .statement) (t .statement) (l .statement) i;
-    done = overwrite-take (6 * j .boxes * j .boxes) (n .done) (λ k. cond (s .done (kindOf (suc (k / j .boxes / j .boxes))) (k / j .boxes % j .boxes) (k % j .boxes)) 1 0) (t .done) (l .done) i;
+    done = overwrite-take (6 * j .boxes * j .boxes) (n .done) (λ k. cond (atPlace (j .boxes) (s .done) k) 1 0) (t .done) (l .done) i;
     sent = overwrite-take 1 (n .sent) (λ k. s .sent) (t .sent) (l .sent) i;
   }
 
@@ -203,13 +217,13 @@ lent-back t n = λ i. record {
 
 -- A state written twice is the one written last.
 pub store-store : (j : Job) (s r : State) (t : StateTables) → store j s (store j r t) ≡ store j s t
-unfolding store recell
+unfolding store recell marksOf
 store-store j s r t = λ i. record {
   known = over-over (j .boxes * j .offers) (λ k. s .known (k / j .offers) (k % j .offers)) (λ k. r .known (k / j .offers) (k % j .offers)) (t .known) i;
   priceTransit = over-over (j .boxes * j .offers) (λ k. s .priceTransit (k / j .offers) (k % j .offers)) (λ k. r .priceTransit (k / j .offers) (k % j .offers)) (t .priceTransit) i;
   working = over-over (j .boxes * j .grocers) (λ k. s .working (k / j .grocers) (k % j .grocers)) (λ k. r .working (k / j .grocers) (k % j .grocers)) (t .working) i;
   totalTransit = over-over (j .boxes * j .grocers) (λ k. s .totalTransit (k / j .grocers) (k % j .grocers)) (λ k. r .totalTransit (k / j .grocers) (k % j .grocers)) (t .totalTransit) i;
   statement = over-over (j .grocers) (s .statement) (r .statement) (t .statement) i;
-  done = over-over (6 * j .boxes * j .boxes) (λ k. cond (s .done (kindOf (suc (k / j .boxes / j .boxes))) (k / j .boxes % j .boxes) (k % j .boxes)) 1 0) (λ k. cond (r .done (kindOf (suc (k / j .boxes / j .boxes))) (k / j .boxes % j .boxes) (k % j .boxes)) 1 0) (t .done) i;
+  done = over-over (6 * j .boxes * j .boxes) (λ k. cond (atPlace (j .boxes) (s .done) k) 1 0) (λ k. cond (atPlace (j .boxes) (r .done) k) 1 0) (t .done) i;
   sent = over-over 1 (λ k. s .sent) (λ k. r .sent) (t .sent) i;
 }

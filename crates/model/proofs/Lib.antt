@@ -1,7 +1,6 @@
 -- The theory of demand 3.
 pub mod Range
 pub mod Machine
-pub mod ClosedForm
 pub mod Prices
 pub mod Parts
 pub mod Totals
@@ -14,6 +13,7 @@ pub mod Running
 pub mod Finish
 pub mod Words
 pub mod Counting
+pub mod Listed
 pub mod Lists
 pub mod EachWord
 pub mod Tables

@@ -7,11 +7,11 @@ use Rattle.laws.proofs.Bools.{or-false}
 use Rattle.model.specs.Job.{Job}
 use Rattle.model.specs.Steps.{hasStep, fresh, Step, doneBy}
 use Rattle.model.specs.Demand3.{AllDone}
-use Rattle.model.specs.Words.{over, messages, stepCount, sends}
+use Rattle.model.specs.Words.{over, messageCount, stepCount, messagesOf}
 use Rattle.model.proofs.Range.{InRange}
-use Rattle.model.proofs.ClosedForm.{stateOf, Closed}
+use Rattle.model.specs.Boxes.{stateByRules, Closed, Sound}
 use Rattle.model.proofs.Machine.{taken, size, doneOf, reached}
-use Rattle.model.proofs.Reach.{Sound, sound-all, sound-fresh}
+use Rattle.model.proofs.Reach.{sound-all, sound-fresh}
 use Rattle.model.proofs.Trace.{trace-done}
 use Rattle.model.proofs.Finish.{all-steps}
 use Rattle.model.proofs.Counting.{trace-size, size-none, sentSize, trace-sends, sends-none, steps-number, sends-number}
@@ -27,8 +27,8 @@ module _ (j : Job) (r : InRange j) (qs : List Step) where
   sound = sound-all j r (fresh j) qs (sound-fresh j)
 
   -- The state is that of the steps done.
-  pub form : reached j qs ≡ stateOf j (doneOf j qs)
-  form = sound .form ∙ ap (stateOf j) marked
+  pub form : reached j qs ≡ stateByRules j (doneOf j qs)
+  form = sound .form ∙ ap (stateByRules j) marked
 
   pub closed : Closed j (doneOf j qs)
   closed = rw marked at (sound .closed)
@@ -38,14 +38,14 @@ module _ (j : Job) (r : InRange j) (qs : List Step) where
   taken-size = ap (size j) (sym marked) ∙ trace-size j (fresh j) qs ∙ rw (size-none j) (omega arith)
 
   -- All done: the state is that of all steps.
-  pub all-reached : AllDone j (doneOf j qs) → reached j qs ≡ stateOf j (hasStep j)
-  all-reached f = form ∙ ap (stateOf j) (all-steps j (doneOf j qs) closed f)
+  pub all-reached : AllDone j (doneOf j qs) → reached j qs ≡ stateByRules j (hasStep j)
+  all-reached f = form ∙ ap (stateByRules j) (all-steps j (doneOf j qs) closed f)
 
   -- As many steps are taken as the job has, and as many messages sent.
   pub all-length : AllDone j (doneOf j qs) → length (taken j (fresh j) qs) ≡ stepCount j
   all-length f = sym taken-size ∙ ap (size j) (all-steps j (doneOf j qs) closed f) ∙ steps-number j
 
-  pub all-sends : AllDone j (doneOf j qs) → over sends (taken j (fresh j) qs) ≡ messages j
+  pub all-sends : AllDone j (doneOf j qs) → over messagesOf (taken j (fresh j) qs) ≡ messageCount j
   unfolding reached fresh
   all-sends f =
       sym (ap (sentSize j) (sym marked) ∙ trace-sends j (fresh j) qs ∙ rw (sends-none j) (omega arith))

@@ -2,9 +2,9 @@
 use mathlib.Core.List.{List, [], _∷_}
 use mathlib.Core.Bool.{Bool, cond}
 use Prim.Native.Nat.{ℕ, _+_}
-use Rattle.laws.specs.Below.{words, sum, count}
+use Rattle.laws.specs.Below.{naturals, sum, count}
 use Rattle.model.specs.Job.{Job}
-use Rattle.model.specs.Steps.{Kind, sendPrices, multiplyOwn, receivePrices, sendTotals, addOwn, receiveTotals, Steps, Step, State, doneBy, permitted, fresh, does}
+use Rattle.model.specs.Steps.{Kind, sendPrices, multiplyOwn, receivePrices, sendTotals, addOwn, receiveTotals, Steps, Step, State, doneBy, permitted, fresh, effectOf}
 
 module _ (j : Job) where
   -- The step is permitted in the state s.
@@ -13,7 +13,7 @@ module _ (j : Job) where
 
   -- The state that an attempt leaves.
   unfoldable pub attempt : State → Step → State
-  attempt s x = cond (permits s x) (does j s x) s
+  attempt s x = cond (permits s x) (effectOf j s x) s
 
   unfoldable pub attemptAll : State → List Step → State
   attemptAll s [] = s
@@ -34,7 +34,7 @@ module _ (j : Job) where
 
   -- How many steps of one kind a set has, among the job's boxes.
   unfoldable pub sizeOf : Steps → Kind → ℕ
-  sizeOf d k = sum words (j .boxes) (λ a. count (j .boxes) (λ b. d k a b))
+  sizeOf d k = sum naturals (j .boxes) (λ a. count (j .boxes) (λ b. d k a b))
 
   -- How many steps a set has, all kinds together.
   unfoldable pub size : Steps → ℕ

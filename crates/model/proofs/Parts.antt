@@ -5,14 +5,14 @@ use Prim.Native.Nat.{ℕ, _<_}
 use lib.Dec.{eqb}
 use lib.IntN.{pos, _+ℤ_}
 use borrow.Author.Tests.{eqb-true, lt-ltb}
-use Rattle.laws.specs.Below.{amounts, only}
+use Rattle.laws.specs.Below.{integers, only}
 use Rattle.laws.proofs.Bools.{split, and-true, and-l, and-r, and-false, eqb-same}
 use Rattle.laws.proofs.Below.{any-at, all-at, any-none}
 use Rattle.laws.proofs.Sums.{sum-cong, sum-none, sum-plus}
 use Rattle.model.specs.Job.{heldBy, Job, needs, shares, priceWord, pricesDue, amount}
 use Rattle.model.specs.Steps.{multiplyOwn, receivePrices, sendTotals, addOwn, Steps, fits, hasStep, added, multiplied, ready, products}
 use Rattle.model.proofs.Range.{InRange, held-box, held-lt}
-use Rattle.model.proofs.ClosedForm.{gone, partOf, Closed}
+use Rattle.model.specs.Boxes.{gone, partOf, Closed}
 
 module _ (j : Job) where
   pub needs-at : (t b : ℕ) → t < j .tallies → heldBy j t b ≡ true → needs j (j .tallyOffer t) b ≡ true
@@ -27,23 +27,23 @@ module _ (j : Job) where
 
   -- A box without a tally of g has nothing of it.
   pub part-none : (p : ℕ → Bool) (b g : ℕ) → shares j g b ≡ false → partOf j p b g ≡ pos 0
-  unfolding partOf shares only amounts
+  unfolding partOf shares only integers
   part-none p b g h =
-      sum-none amounts (j .tallies) (λ t. only amounts (heldBy j t b && eqb (j .tallyGrocer t) g && p t) (amount j (j .price (j .tallyOffer t)) t))
+      sum-none integers (j .tallies) (λ t. only integers (heldBy j t b && eqb (j .tallyGrocer t) g && p t) (amount j (j .price (j .tallyOffer t)) t))
       (λ t l. rw (any-none (j .tallies) (λ t. heldBy j t b && eqb (j .tallyGrocer t) g) t l h))
 
   pub part-zero : (p : ℕ → Bool) (b g : ℕ) → ((t : ℕ) → p t ≡ false) → partOf j p b g ≡ pos 0
-  unfolding partOf only amounts
+  unfolding partOf only integers
   part-zero p b g h =
-      sum-none amounts (j .tallies) (λ t. only amounts (heldBy j t b && eqb (j .tallyGrocer t) g && p t) (amount j (j .price (j .tallyOffer t)) t))
+      sum-none integers (j .tallies) (λ t. only integers (heldBy j t b && eqb (j .tallyGrocer t) g && p t) (amount j (j .price (j .tallyOffer t)) t))
       (λ t l. simp (h t, and-false))
 
   -- Two tests that agree on the tallies of box b and grocer g give the same part total.
   pub part-same : (p q : ℕ → Bool) (b g : ℕ) → ((t : ℕ) → t < j .tallies → heldBy j t b ≡ true → j .tallyGrocer t ≡ g → p t ≡ q t) → partOf j p b g ≡ partOf j q b g
   unfolding partOf
   part-same p q b g h =
-      sum-cong amounts (j .tallies) (λ t. only amounts (heldBy j t b && eqb (j .tallyGrocer t) g && p t) (amount j (j .price (j .tallyOffer t)) t))
-      (λ t. only amounts (heldBy j t b && eqb (j .tallyGrocer t) g && q t) (amount j (j .price (j .tallyOffer t)) t))
+      sum-cong integers (j .tallies) (λ t. only integers (heldBy j t b && eqb (j .tallyGrocer t) g && p t) (amount j (j .price (j .tallyOffer t)) t))
+      (λ t. only integers (heldBy j t b && eqb (j .tallyGrocer t) g && q t) (amount j (j .price (j .tallyOffer t)) t))
       (λ t l. split (heldBy j t b && eqb (j .tallyGrocer t) g)
       (λ e. rw (h t l ((and-l (heldBy j t b) _ e)) (eqb-true (j .tallyGrocer t) g (and-r (heldBy j t b) _ e))))
       (λ e. rw e))
@@ -51,27 +51,27 @@ module _ (j : Job) where
   -- What multiplying adds: of each tally of box b either the one test or the other passes, and the box knows the prices of those that pass.
   pub part-grows : (p p′ : ℕ → Bool) (know : ℕ → ℕ) (q : ℕ → Bool) (b g : ℕ) →
       ((t : ℕ) → t < j .tallies → heldBy j t b ≡ true →
-      only amounts (p′ t) (amount j (j .price (j .tallyOffer t)) t)
-      ≡ only amounts (p t) (amount j (j .price (j .tallyOffer t)) t) +ℤ only amounts (q (j .tallyOffer t)) (amount j (know (j .tallyOffer t)) t)) →
+      only integers (p′ t) (amount j (j .price (j .tallyOffer t)) t)
+      ≡ only integers (p t) (amount j (j .price (j .tallyOffer t)) t) +ℤ only integers (q (j .tallyOffer t)) (amount j (know (j .tallyOffer t)) t)) →
       partOf j p′ b g ≡ partOf j p b g +ℤ products j know q b g
-  unfolding partOf products amounts only
+  unfolding partOf products integers only
   part-grows p p′ know q b g h =
-      sum-cong amounts (j .tallies) (λ t. only amounts (heldBy j t b && eqb (j .tallyGrocer t) g && p′ t) (amount j (j .price (j .tallyOffer t)) t))
-      (λ t. only amounts (heldBy j t b && eqb (j .tallyGrocer t) g && p t) (amount j (j .price (j .tallyOffer t)) t)
-      +ℤ only amounts (heldBy j t b && eqb (j .tallyGrocer t) g && q (j .tallyOffer t)) (amount j (know (j .tallyOffer t)) t))
+      sum-cong integers (j .tallies) (λ t. only integers (heldBy j t b && eqb (j .tallyGrocer t) g && p′ t) (amount j (j .price (j .tallyOffer t)) t))
+      (λ t. only integers (heldBy j t b && eqb (j .tallyGrocer t) g && p t) (amount j (j .price (j .tallyOffer t)) t)
+      +ℤ only integers (heldBy j t b && eqb (j .tallyGrocer t) g && q (j .tallyOffer t)) (amount j (know (j .tallyOffer t)) t))
       (λ t l. split (heldBy j t b && eqb (j .tallyGrocer t) g)
       (λ e. rw e (h t l ((and-l (heldBy j t b) (eqb (j .tallyGrocer t) g) e))))
       (λ e. rw e))
-      ∙ sum-plus amounts (j .tallies)
-      (λ t. only amounts (heldBy j t b && eqb (j .tallyGrocer t) g && p t) (amount j (j .price (j .tallyOffer t)) t))
-      (λ t. only amounts (heldBy j t b && eqb (j .tallyGrocer t) g && q (j .tallyOffer t)) (amount j (know (j .tallyOffer t)) t))
+      ∙ sum-plus integers (j .tallies)
+      (λ t. only integers (heldBy j t b && eqb (j .tallyGrocer t) g && p t) (amount j (j .price (j .tallyOffer t)) t))
+      (λ t. only integers (heldBy j t b && eqb (j .tallyGrocer t) g && q (j .tallyOffer t)) (amount j (know (j .tallyOffer t)) t))
 
   -- Where no tally passes nothing is added.
   pub products-none : (know : ℕ → ℕ) (q : ℕ → Bool) (b g : ℕ) →
       ((t : ℕ) → t < j .tallies → heldBy j t b ≡ true → j .tallyGrocer t ≡ g → q (j .tallyOffer t) ≡ false) → products j know q b g ≡ pos 0
-  unfolding products only amounts
+  unfolding products only integers
   products-none know q b g h =
-      sum-none amounts (j .tallies) (λ t. only amounts (heldBy j t b && eqb (j .tallyGrocer t) g && q (j .tallyOffer t)) (amount j (know (j .tallyOffer t)) t))
+      sum-none integers (j .tallies) (λ t. only integers (heldBy j t b && eqb (j .tallyGrocer t) g && q (j .tallyOffer t)) (amount j (know (j .tallyOffer t)) t))
       (λ t l. split (heldBy j t b && eqb (j .tallyGrocer t) g)
       (λ e. simp (e, h t l ((and-l (heldBy j t b) _ e)) (eqb-true (j .tallyGrocer t) g (and-r (heldBy j t b) _ e))))
       (λ e. rw e))

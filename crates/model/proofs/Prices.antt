@@ -7,7 +7,7 @@ use borrow.Author.Tests.{eqb-true}
 use Rattle.laws.proofs.Bools.{split, and-false, eqb-same, and-one}
 use Rattle.model.specs.Job.{Job, needs, priceWord}
 use Rattle.model.specs.Steps.{sendPrices, receivePrices, Steps, mark, received, effect}
-use Rattle.model.proofs.ClosedForm.{knows, onWay, stateOf}
+use Rattle.model.specs.Boxes.{knows, priceOnWay, stateByRules}
 
 -- u: the box is the owner; n: it needs the offer
 arriving : (u n : Bool) (p : ℕ) → cond (not u && n) (cond (not u && n) p 0) (cond (u || false) p 0) ≡ cond (u || n) p 0
@@ -21,8 +21,8 @@ emptied false p = refl
 
 module _ (j : Job) (d : Steps) (a b : ℕ) where
   pub send-transit : d sendPrices a b ≡ false → d receivePrices b a ≡ false → (x o : ℕ) →
-      effect j (stateOf j d) sendPrices a b .priceTransit x o ≡ stateOf j (mark d sendPrices a b) .priceTransit x o
-  unfolding effect received stateOf mark onWay knows priceWord
+      effect j (stateByRules j d) sendPrices a b .priceTransit x o ≡ stateByRules j (mark d sendPrices a b) .priceTransit x o
+  unfolding effect received stateByRules mark priceOnWay knows priceWord
   send-transit h1 h3 x o =
       split (eqb x b)
       (λ e. split (eqb (j .offerOwner o) a)
@@ -31,8 +31,8 @@ module _ (j : Job) (d : Steps) (a b : ℕ) where
       (λ e. simp (e, and-false))
 
   pub receive-known : d sendPrices b a ≡ true → d receivePrices a b ≡ false → (x o : ℕ) →
-      effect j (stateOf j d) receivePrices a b .known x o ≡ stateOf j (mark d receivePrices a b) .known x o
-  unfolding effect received stateOf mark onWay knows priceWord
+      effect j (stateByRules j d) receivePrices a b .known x o ≡ stateByRules j (mark d receivePrices a b) .known x o
+  unfolding effect received stateByRules mark priceOnWay knows priceWord
   receive-known h1 h3 x o =
       split (eqb x a)
       (λ e. split (eqb (j .offerOwner o) b)
@@ -41,8 +41,8 @@ module _ (j : Job) (d : Steps) (a b : ℕ) where
       (λ e. simp e)
 
   pub receive-transit : d sendPrices b a ≡ true → d receivePrices a b ≡ false → (x o : ℕ) →
-      effect j (stateOf j d) receivePrices a b .priceTransit x o ≡ stateOf j (mark d receivePrices a b) .priceTransit x o
-  unfolding effect received stateOf mark onWay knows priceWord
+      effect j (stateByRules j d) receivePrices a b .priceTransit x o ≡ stateByRules j (mark d receivePrices a b) .priceTransit x o
+  unfolding effect received stateByRules mark priceOnWay knows priceWord
   receive-transit h1 h3 x o =
       split (eqb x a)
       (λ e. split (eqb (j .offerOwner o) b)

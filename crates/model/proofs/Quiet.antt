@@ -6,12 +6,12 @@ use native.Mathlib.Omega.{arith}
 use lib.Dec.{eqb}
 use lib.Count.{ones}
 use Rattle.laws.specs.Masks.{without}
-use Rattle.laws.specs.Below.{words, any, count}
+use Rattle.laws.specs.Below.{naturals, any, count}
 use Rattle.laws.proofs.Sums.{sum-none}
 use Rattle.laws.proofs.Bools.{and-false}
 use Rattle.laws.proofs.Below.{count-none, any-false}
 use Rattle.model.specs.Job.{Job, needs, shares, needWord, sharerWord, priceWord, totalWord, pricesDue, totalsDue}
-use Rattle.model.specs.Words.{ownerWords, messages, stepCount}
+use Rattle.model.specs.Words.{ownerWords, messageCount, stepCount}
 use Rattle.model.proofs.Range.{InRange}
 use Rattle.model.proofs.Words.{ones-others}
 
@@ -37,10 +37,10 @@ module _ (j : Job) (r : InRange j) (none : j .tallies ≡ 0) where
       ∙ count-none (j .boxes) (λ b. not (eqb (j .grocerOwner g) b) && shares j g b) (any-false (j .boxes) (λ b. not (eqb (j .grocerOwner g) b) && shares j g b) (λ b _. rw (no-shares g b) (and-false (not (eqb (j .grocerOwner g) b)))))
 
   pub no-tallies-words : ownerWords j ≡ 0
-  unfolding ownerWords words
+  unfolding ownerWords naturals
   no-tallies-words = ap₂ (λ (x y : ℕ). x + y)
-      (sum-none words (j .offers) (λ o. ones (without (j .offerOwner o) (needWord j o))) no-price-words)
-      (sum-none words (j .grocers) (λ g. ones (without (j .grocerOwner g) (sharerWord j g))) no-total-words)
+      (sum-none naturals (j .offers) (λ o. ones (without (j .offerOwner o) (needWord j o))) no-price-words)
+      (sum-none naturals (j .grocers) (λ g. ones (without (j .grocerOwner g) (sharerWord j g))) no-total-words)
 
   no-prices-due : (a b : ℕ) → pricesDue j a b ≡ false
   unfolding pricesDue priceWord
@@ -51,10 +51,10 @@ module _ (j : Job) (r : InRange j) (none : j .tallies ≡ 0) where
   no-totals-due a b = any-false (j .grocers) (totalWord j a b) (λ g _. rw (no-shares g a) (simp and-false))
 
   pub no-tallies-steps : stepCount j ≡ 2 * j .boxes
-  unfolding stepCount messages words
+  unfolding stepCount messageCount naturals
   no-tallies-steps =
       omega (
         arith,
-        sum-none words (j .boxes) (λ a. count (j .boxes) (λ b. pricesDue j a b)) (λ a l. count-none (j .boxes) (λ b. pricesDue j a b) (any-false (j .boxes) (λ b. pricesDue j a b) (λ b _. no-prices-due a b))),
-        sum-none words (j .boxes) (λ a. count (j .boxes) (λ b. totalsDue j a b)) (λ a l. count-none (j .boxes) (λ b. totalsDue j a b) (any-false (j .boxes) (λ b. totalsDue j a b) (λ b _. no-totals-due a b))),
+        sum-none naturals (j .boxes) (λ a. count (j .boxes) (λ b. pricesDue j a b)) (λ a l. count-none (j .boxes) (λ b. pricesDue j a b) (any-false (j .boxes) (λ b. pricesDue j a b) (λ b _. no-prices-due a b))),
+        sum-none naturals (j .boxes) (λ a. count (j .boxes) (λ b. totalsDue j a b)) (λ a l. count-none (j .boxes) (λ b. totalsDue j a b) (any-false (j .boxes) (λ b. totalsDue j a b) (λ b _. no-totals-due a b))),
       )

@@ -8,15 +8,15 @@ use borrow.Author.Tests.{eqb-true}
 use Rattle.laws.proofs.Bools.{split, and-true, and-l, and-r, or-true, eqb-same, or-more}
 use Rattle.laws.proofs.Below.{all-at, all-of}
 use Rattle.model.specs.Job.{Job}
-use Rattle.model.specs.Steps.{Kind, sendPrices, multiplyOwn, receivePrices, sendTotals, addOwn, receiveTotals, number, kindOf, Steps, mark, State, hasStep, multiplied, ready, fresh, effect, Step}
+use Rattle.model.specs.Steps.{Kind, sendPrices, multiplyOwn, receivePrices, sendTotals, addOwn, receiveTotals, kindNumber, kindOf, Steps, mark, State, hasStep, multiplied, ready, fresh, effect, Step}
 use Rattle.model.proofs.Range.{InRange}
-use Rattle.model.proofs.ClosedForm.{stateOf, Closed}
+use Rattle.model.specs.Boxes.{stateByRules, Closed, Sound}
 use Rattle.model.proofs.Machine.{attempt, attemptAll, permits}
 use Rattle.model.proofs.Core.{fresh-form, Permit, permit, step-form}
 
 -- A kind is told by its number.
-pub kind-back : (k : Kind) → kindOf (number k) ≡ k
-unfolding kindOf number
+pub kind-back : (k : Kind) → kindOf (kindNumber k) ≡ k
+unfolding kindOf kindNumber
 kind-back sendPrices = refl
 kind-back multiplyOwn = refl
 kind-back receivePrices = refl
@@ -24,7 +24,7 @@ kind-back sendTotals = refl
 kind-back addOwn = refl
 kind-back receiveTotals = refl
 
-pub number-one : (k k′ : Kind) → number k ≡ number k′ → k ≡ k′
+pub number-one : (k k′ : Kind) → kindNumber k ≡ kindNumber k′ → k ≡ k′
 number-one k k′ e = sym (kind-back k) ∙ ap kindOf e ∙ kind-back k′
 
 module _ (d : Steps) (k : Kind) (a b : ℕ) where
@@ -32,17 +32,17 @@ module _ (d : Steps) (k : Kind) (a b : ℕ) where
   pub mark-cases : (Q : Kind → ℕ → ℕ → Type 0) (k′ : Kind) (a′ b′ : ℕ) → Q k a b → (d k′ a′ b′ ≡ true → Q k′ a′ b′) → mark d k a b k′ a′ b′ ≡ true → Q k′ a′ b′
   unfolding mark
   mark-cases Q k′ a′ b′ new old =
-      split (eqb (number k′) (number k) && (eqb a′ a && eqb b′ b))
+      split (eqb (kindNumber k′) (kindNumber k) && (eqb a′ a && eqb b′ b))
       (λ e h. rw (
-        number-one k′ k (eqb-true (number k′) (number k) (and-l (eqb (number k′) (number k)) _ e)),
-        eqb-true a′ a (and-l (eqb a′ a) _ (and-r (eqb (number k′) (number k)) _ e)),
-        eqb-true b′ b (and-r (eqb a′ a) _ (and-r (eqb (number k′) (number k)) _ e)),
+        number-one k′ k (eqb-true (kindNumber k′) (kindNumber k) (and-l (eqb (kindNumber k′) (kindNumber k)) _ e)),
+        eqb-true a′ a (and-l (eqb a′ a) _ (and-r (eqb (kindNumber k′) (kindNumber k)) _ e)),
+        eqb-true b′ b (and-r (eqb a′ a) _ (and-r (eqb (kindNumber k′) (kindNumber k)) _ e)),
       ) new)
       (λ e h. old (rw e at h))
 
   pub mark-more : (k′ : Kind) (a′ b′ : ℕ) → d k′ a′ b′ ≡ true → mark d k a b k′ a′ b′ ≡ true
   unfolding mark
-  mark-more k′ a′ b′ h = rw h (or-true (eqb (number k′) (number k) && (eqb a′ a && eqb b′ b)))
+  mark-more k′ a′ b′ h = rw h (or-true (eqb (kindNumber k′) (kindNumber k) && (eqb a′ a && eqb b′ b)))
 
   pub mark-it : mark d k a b k a b ≡ true
   unfolding mark
@@ -77,11 +77,6 @@ closed-mark j d k a b c p = record {
       (mark-cases d k a b (λ k a b. ready j d k a b ≡ true) k′ a′ b′ (p .is-ready) (c .inOrder k′ a′ b′) h);
 }
 
--- A state that a list of requests can leave.
-pub record Sound (j : Job) (s : State) : Type 0 where
-  pub form : s ≡ stateOf j (s .done)
-  pub closed : Closed j (s .done)
-
 pub effect-done : (j : Job) (s : State) (k : Kind) (a b : ℕ) → effect j s k a b .done ≡ mark (s .done) k a b
 unfolding effect
 effect-done j s sendPrices a b = refl
@@ -98,7 +93,7 @@ sound-fresh j = record { form = fresh-form j; closed = closed-none j }
 module _ (j : Job) (r : InRange j) where
   pub sound-effect : (s : State) (k : Kind) (a b : ℕ) → Sound j s → Permit j (s .done) k a b → Sound j (effect j s k a b)
   sound-effect s k a b o p = record {
-    form = ap (λ (t : State). effect j t k a b) (o .form) ∙ step-form j r (s .done) (o .closed) k a b p ∙ ap (stateOf j) (sym (effect-done j s k a b));
+    form = ap (λ (t : State). effect j t k a b) (o .form) ∙ step-form j r (s .done) (o .closed) k a b p ∙ ap (stateByRules j) (sym (effect-done j s k a b));
     closed = rw (effect-done j s k a b) (closed-mark j (s .done) k a b (o .closed) p);
   }
 

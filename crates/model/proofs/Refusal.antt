@@ -1,15 +1,28 @@
 -- No refusal, number 0, is met just where the step that is asked for is permitted. Assumes nothing.
 use mathlib.Core.Path.{_≡_, refl, sym, ap, _∙_}
 use mathlib.Core.Bool.{Bool, true, false, cond, _&&_, not, false≢true}
-use Prim.Native.Nat.{ℕ}
+use Prim.Native.Nat.{ℕ, zero, suc}
+use native.Mathlib.Omega.{arith}
 use lib.Dec.{eqb, ltb}
-use borrow.Author.Tests.{eqb-true}
+use borrow.Author.Tests.{eqb-true, ne-eqb}
 use Rattle.laws.proofs.Bools.{split, no-true, clash, eqb-same}
 use Rattle.laws.proofs.Below.{any-find}
 use Rattle.laws.specs.Checks.{firstMet}
 use Rattle.model.specs.Job.{Job, priceWord, totalWord, pricesDue, totalsDue}
 use Rattle.model.specs.Steps.{Kind, sendPrices, multiplyOwn, receivePrices, sendTotals, addOwn, receiveTotals, Steps, fits, hasStep, ready, permitted, kindOf, oneBox}
-use Rattle.model.specs.Step.{isKind, boxesFit, Asked, stepRules}
+use Rattle.model.specs.Step.{isKind, boxesFit, Asked, stepRules, refused, stepAnswer, isAccepted}
+
+-- An answer accepts just where no condition is met,
+pub accepted-zero : (n : ℕ) → isAccepted (stepAnswer n) ≡ eqb n 0
+unfolding isAccepted stepAnswer
+accepted-zero zero = refl
+accepted-zero (suc n) = rw (ne-eqb (suc n) 0 (λ e. omega arith))
+
+-- and else says the number of the first that is.
+pub refused-number : (n : ℕ) → (n ≡ 0 → ⊥) → stepAnswer n ≡ refused n
+unfolding stepAnswer
+refused-number zero h = absurd (h refl)
+refused-number (suc n) h = refl
 
 -- No box sends to itself.
 module _ (j : Job) where

@@ -1,6 +1,6 @@
 -- A run does every step of the job, and every request that it picks is accepted. Assumes nothing.
 use mathlib.Core.Path.{_≡_, refl, sym, ap, _∙_, subst}
-use mathlib.Core.Bool.{Bool, true, false, cond, _&&_}
+use mathlib.Core.Bool.{true, false}
 use mathlib.Core.List.{List, _∷_}
 use Prim.Native.Nat.{ℕ, zero, suc, _+_, _<_, _≤_, _*_, _-_, _%_}
 use native.Mathlib.Omega.{arith}
@@ -9,46 +9,33 @@ use lib.Dec.{eqb}
 use lib.ListN.{length, getD, drop}
 use lib.Arith.{digits-div, digits-mod}
 use borrow.Author.Tests.{eqb-true, eqb-false}
-use Rattle.laws.specs.Below.{words, sum, only, count}
-use Rattle.laws.proofs.Bools.{split, and-l, clash}
+use Rattle.laws.proofs.Bools.{split, clash}
 use Rattle.laws.proofs.Below.{count-zero}
 use Rattle.model.specs.Job.{Job}
-use Rattle.model.specs.Steps.{Kind, number, Steps, State, hasStep, permitted, fresh, Step, does}
-use Rattle.model.specs.Run.{nth, stepAt, places, listed, readyCount, pick, picks, run, afterSteps, runState}
+use Rattle.model.specs.Steps.{Kind, kindNumber, Steps, State, hasStep, permitted, fresh, Step, effectOf, stepAt, places}
+use Rattle.model.specs.Run.{listed, readyCount, pick, picks, run, afterSteps, runState}
 use Rattle.model.specs.Demand3.{AllDone, SomeStep}
-use Rattle.model.specs.Words.{messages, over, stepCount, sends}
+use Rattle.model.specs.Words.{messageCount, over, stepCount, messagesOf}
 use Rattle.model.proofs.Range.{InRange}
 use Rattle.model.proofs.Machine.{attempt, attemptAll, size, taken, doneOf, permits, reached}
-use Rattle.model.proofs.Reach.{Sound, sound-fresh, effect-done, sound-effect}
+use Rattle.model.specs.Boxes.{Sound}
+use Rattle.model.proofs.Reach.{sound-fresh, effect-done, sound-effect}
 use Rattle.model.proofs.Core.{first<, second<, Permit, permit}
 use Rattle.model.proofs.Lists.{marked, all-length, all-sends}
 use Rattle.model.proofs.Tables.{kind-place, kind-six}
 use Rattle.model.proofs.Progress.{progress}
+use Rattle.laws.proofs.Ascending.{nth-passes}
+use Rattle.model.proofs.Listed.{ready-count, pick-is}
 use Rattle.model.proofs.Counting.{size-mark, size-le, all-of-size, steps-number}
-
-pub nth-passes : (n : ℕ) (p : ℕ → Bool) (c : ℕ) → c < count n p → (nth n p c < n) × (p (nth n p c) ≡ true)
-unfolding nth count sum only words
-nth-passes zero p c l = absurd (omega arith)
-nth-passes (suc n) p c l =
-    split (p n && eqb (count n p) c)
-    (λ e. rw e (omega arith, and-l (p n) _ e))
-    (λ e. rw e (let (a, b) = nth-passes n p c (below e) in (omega arith, b)))
-  where
-    below : (p n && eqb (count n p) c) ≡ false → c < count n p
-    below e =
-        split (p n)
-        (λ f. let ne : count n p ≡ c → ⊥ = eqb-false (count n p) c (rw f at e) in
-        let l′ : c < count n p + cond true 1 0 = rw f at l in omega arith)
-        (λ f. let l′ : c < count n p + cond {A = ℕ} false 1 0 = rw f at l in omega arith)
 
 module _ (j : Job) (d : Steps) where
   -- A permitted step has its place in the list of ready steps.
-  place : (k : Kind) (a b : ℕ) → permitted j d k a b ≡ true → (i : ℕ) × (i < places j) × (listed j d i ≡ true)
-  unfolding places listed stepAt
+  place : (k : Kind) (a b : ℕ) → permitted j d k a b ≡ true → (i : ℕ) × (i < places (j .boxes)) × (listed j d i ≡ true)
+  unfolding listed stepAt
   place k a b h = (
-    ((number k - 1) * j .boxes + a) * j .boxes + b,
+    ((kindNumber k - 1) * j .boxes + a) * j .boxes + b,
     omega (arith, lb, mul-le-mul-right (j .boxes) row),
-    rw (digits-div ((number k - 1) * j .boxes + a) lb, digits-mod ((number k - 1) * j .boxes + a) lb, digits-div (number k - 1) la, digits-mod (number k - 1) la, kind-place k) h,
+    rw (digits-div ((kindNumber k - 1) * j .boxes + a) lb, digits-mod ((kindNumber k - 1) * j .boxes + a) lb, digits-div (kindNumber k - 1) la, digits-mod (kindNumber k - 1) la, kind-place k) h,
   )
     where
       la : a < j .boxes
@@ -57,25 +44,26 @@ module _ (j : Job) (d : Steps) where
       lb : b < j .boxes
       lb = second< j k a b (permit j d k a b h .has)
 
-      row : (number k - 1) * j .boxes + a < 6 * j .boxes
+      row : (kindNumber k - 1) * j .boxes + a < 6 * j .boxes
       row = omega (arith, la, mul-le-mul-right (j .boxes) (kind-six k))
 
   -- No step is ready: all are done.
   none-ready : readyCount j d ≡ 0 → AllDone j d
-  unfolding AllDone readyCount
+  unfolding AllDone
   none-ready z k a b h =
       split (d k a b)
       (λ e. e)
       (λ e. let x : SomeStep (permitted j d) = progress j d k a b h e in
       let (i, l, f) = place (x .kind) (x .first) (x .second) (x .holds) in
-      absurd (clash f (count-zero (places j) (listed j d) i l z)))
+      absurd (clash f (count-zero (places (j .boxes)) (listed j d) i l (sym (ready-count j d) ∙ z))))
 
   -- What is picked is permitted.
-  picked : (c : ℕ) → eqb (readyCount j d) 0 ≡ false → permitted j d (pick j d c .kind) (pick j d c .first) (pick j d c .second) ≡ true
-  unfolding pick readyCount listed
+  pub picked : (c : ℕ) → eqb (readyCount j d) 0 ≡ false → permitted j d (pick j d c .kind) (pick j d c .first) (pick j d c .second) ≡ true
+  unfolding listed
   picked c h =
       let ne : readyCount j d ≡ 0 → ⊥ = eqb-false (readyCount j d) 0 h in
-      nth-passes (places j) (listed j d) (c % readyCount j d) (mod-lt c (omega arith)) .1
+      let l : c % readyCount j d < readyCount j d = mod-lt c (omega arith) in
+      rw (pick-is j d c) (nth-passes (places (j .boxes)) (listed j d) (c % readyCount j d) (omega (arith, ready-count j d)) .1)
 
 module _ (j : Job) where
   -- A step that is picked is permitted,
@@ -84,11 +72,11 @@ module _ (j : Job) where
   pick-permitted s c h = picked j (s .done) c h
 
   -- so an attempt does it.
-  attempt-does : (s : State) (x : Step) → permits j s x ≡ true → attempt j s x ≡ does j s x
+  attempt-does : (s : State) (x : Step) → permits j s x ≡ true → attempt j s x ≡ effectOf j s x
   unfolding attempt
   attempt-does s x h = rw h
 
-  pick-does : (s : State) (c : ℕ) → eqb (readyCount j (s .done)) 0 ≡ false → attempt j s (pick j (s .done) c) ≡ does j s (pick j (s .done) c)
+  pick-does : (s : State) (c : ℕ) → eqb (readyCount j (s .done)) 0 ≡ false → attempt j s (pick j (s .done) c) ≡ effectOf j s (pick j (s .done) c)
   pick-does s c h = attempt-does s (pick j (s .done) c) (pick-permitted s c h)
 
   picks-taken : (n : ℕ) (s : State) (cs : List ℕ) → taken j s (picks j n s cs) ≡ picks j n s cs
@@ -98,7 +86,7 @@ module _ (j : Job) where
       split (eqb (readyCount j (s .done)) 0)
       (λ e. rw e)
       (λ e. rw (e, pick-permitted s (getD cs 0 0) e, pick-does s (getD cs 0 0) e)
-      (ap (λ (l : List Step). pick j (s .done) (getD cs 0 0) ∷ l) (picks-taken n (does j s (pick j (s .done) (getD cs 0 0))) (drop 1 cs))))
+      (ap (λ (l : List Step). pick j (s .done) (getD cs 0 0) ∷ l) (picks-taken n (effectOf j s (pick j (s .done) (getD cs 0 0))) (drop 1 cs))))
 
   picks-after : (n : ℕ) (s : State) (cs : List ℕ) → afterSteps j s (picks j n s cs) ≡ attemptAll j s (picks j n s cs)
   unfolding picks afterSteps attemptAll
@@ -106,15 +94,15 @@ module _ (j : Job) where
   picks-after (suc n) s cs =
       split (eqb (readyCount j (s .done)) 0)
       (λ e. rw e)
-      (λ e. rw e (picks-after n (does j s (pick j (s .done) (getD cs 0 0))) (drop 1 cs)
-      ∙ ap (λ (u : State). attemptAll j u (picks j n (does j s (pick j (s .done) (getD cs 0 0))) (drop 1 cs))) (sym (pick-does s (getD cs 0 0) e))))
+      (λ e. rw e (picks-after n (effectOf j s (pick j (s .done) (getD cs 0 0))) (drop 1 cs)
+      ∙ ap (λ (u : State). attemptAll j u (picks j n (effectOf j s (pick j (s .done) (getD cs 0 0))) (drop 1 cs))) (sym (pick-does s (getD cs 0 0) e))))
 
 module _ (j : Job) (r : InRange j) where
-  sound-does : (s : State) (x : Step) → Sound j s → permits j s x ≡ true → Sound j (does j s x)
+  sound-does : (s : State) (x : Step) → Sound j s → permits j s x ≡ true → Sound j (effectOf j s x)
   unfolding permits
   sound-does s x o h = sound-effect j r s (x .kind) (x .first) (x .second) o (permit j (s .done) (x .kind) (x .first) (x .second) h)
 
-  size-does : (s : State) (x : Step) → permits j s x ≡ true → size j (does j s x .done) ≡ size j (s .done) + 1
+  size-does : (s : State) (x : Step) → permits j s x ≡ true → size j (effectOf j s x .done) ≡ size j (s .done) + 1
   unfolding permits
   size-does s x h =
       let p : Permit j (s .done) (x .kind) (x .first) (x .second) = permit j (s .done) (x .kind) (x .first) (x .second) h in
@@ -127,8 +115,8 @@ module _ (j : Job) (r : InRange j) where
   picks-all (suc n) s cs o h =
       split (eqb (readyCount j (s .done)) 0)
       (λ e. rw e (none-ready j (s .done) (eqb-true (readyCount j (s .done)) 0 e)))
-      (λ e. rw e (subst (λ (u : State). AllDone j (attemptAll j u (picks j n (does j s (pick j (s .done) (getD cs 0 0))) (drop 1 cs)) .done)) (sym (pick-does j s (getD cs 0 0) e))
-      (picks-all n (does j s (pick j (s .done) (getD cs 0 0))) (drop 1 cs)
+      (λ e. rw e (subst (λ (u : State). AllDone j (attemptAll j u (picks j n (effectOf j s (pick j (s .done) (getD cs 0 0))) (drop 1 cs)) .done)) (sym (pick-does j s (getD cs 0 0) e))
+      (picks-all n (effectOf j s (pick j (s .done) (getD cs 0 0))) (drop 1 cs)
       (sound-does s (pick j (s .done) (getD cs 0 0)) o (pick-permitted j s (getD cs 0 0) e))
       (omega (arith, size-does s (pick j (s .done) (getD cs 0 0)) (pick-permitted j s (getD cs 0 0) e))))))
 
@@ -149,5 +137,5 @@ module _ (j : Job) (r : InRange j) where
   pub run-length : (cs : List ℕ) → length (run j cs) ≡ stepCount j
   run-length cs = ap length (sym (run-taken cs)) ∙ all-length j r (run j cs) (run-done cs)
 
-  pub run-sends : (cs : List ℕ) → over sends (run j cs) ≡ messages j
-  run-sends cs = ap (over sends) (sym (run-taken cs)) ∙ all-sends j r (run j cs) (run-done cs)
+  pub run-sends : (cs : List ℕ) → over messagesOf (run j cs) ≡ messageCount j
+  run-sends cs = ap (over messagesOf) (sym (run-taken cs)) ∙ all-sends j r (run j cs) (run-done cs)

@@ -5,46 +5,46 @@ use Prim.Native.Nat.{ℕ, _<_}
 use lib.Dec.{eqb, ltb}
 use lib.IntN.{ℤ, pos, _+ℤ_, +ℤ-idl, +ℤ-idr}
 use borrow.Author.Tests.{ne-eqb, lt-ltb, ltb-true}
-use Rattle.laws.specs.Below.{amounts, sum, only}
+use Rattle.laws.specs.Below.{integers, sum, only}
 use Rattle.laws.proofs.Bools.{split, no-true, clash, eqb-same, and-false, and-one, and-assoc}
 use Rattle.laws.proofs.Sums.{sum-cong, sum-none, sum-plus, sum-swap, sum-pick}
 use Rattle.model.specs.Job.{heldBy, Job, amount, held}
 use Rattle.model.specs.Steps.{receiveTotals, Steps, added, ready}
 use Rattle.model.specs.Demand3.{together, addedSum}
 use Rattle.model.proofs.Range.{InRange}
-use Rattle.model.proofs.ClosedForm.{gone, arrived, partOf, paid, stateOf, Closed}
+use Rattle.model.specs.Boxes.{gone, arrived, partOf, paid, stateByRules, Closed}
 use Rattle.model.proofs.Parts.{part-full, gone-added}
 
-only-false : (x : ℤ) → pos 0 ≡ only amounts false x
-unfolding only amounts
+only-false : (x : ℤ) → pos 0 ≡ only integers false x
+unfolding only integers
 only-false x = refl
 
 -- Of the boxes just its own holds a tally, if one does.
-one-holder : (j : Job) (t : ℕ) (u : Bool) (x : ℤ) → sum amounts (j .boxes) (λ b. only amounts (heldBy j t b && u) x) ≡ only amounts (held j t && u) x
-unfolding held heldBy amounts
+one-holder : (j : Job) (t : ℕ) (u : Bool) (x : ℤ) → sum integers (j .boxes) (λ b. only integers (heldBy j t b && u) x) ≡ only integers (held j t && u) x
+unfolding held heldBy integers
 one-holder j t u x =
-    sum-cong amounts (j .boxes) (λ b. only amounts (eqb (j .tallyBox t) b && ltb b (j .boxes) && u) x) (λ b. only amounts (eqb (j .tallyBox t) b && u) x)
+    sum-cong integers (j .boxes) (λ b. only integers (eqb (j .tallyBox t) b && ltb b (j .boxes) && u) x) (λ b. only integers (eqb (j .tallyBox t) b && u) x)
     (λ b l. rw (lt-ltb b (j .boxes) l, and-one (eqb (j .tallyBox t) b)))
     ∙ split (ltb (j .tallyBox t) (j .boxes))
-    (λ e. sum-pick amounts (j .boxes) (j .tallyBox t) u x (ltb-true (j .tallyBox t) (j .boxes) e) ∙ simp (e, eqb-same))
-    (λ e. sum-none amounts (j .boxes) (λ b. only amounts (eqb (j .tallyBox t) b && u) x) (λ b l. nothing b l e) ∙ simp (e, and-false) (empty x))
+    (λ e. sum-pick integers (j .boxes) (j .tallyBox t) u x (ltb-true (j .tallyBox t) (j .boxes) e) ∙ simp (e, eqb-same))
+    (λ e. sum-none integers (j .boxes) (λ b. only integers (eqb (j .tallyBox t) b && u) x) (λ b l. nothing b l e) ∙ simp (e, and-false) (empty x))
   where
-    empty : (x : ℤ) → pos 0 ≡ only amounts false x
+    empty : (x : ℤ) → pos 0 ≡ only integers false x
     empty x = only-false x
 
-    nothing : (b : ℕ) → b < j .boxes → ltb (j .tallyBox t) (j .boxes) ≡ false → only amounts (eqb (j .tallyBox t) b && u) x ≡ pos 0
+    nothing : (b : ℕ) → b < j .boxes → ltb (j .tallyBox t) (j .boxes) ≡ false → only integers (eqb (j .tallyBox t) b && u) x ≡ pos 0
     nothing b l e = rw (ne-eqb (j .tallyBox t) b (λ q. clash (lt-ltb (j .tallyBox t) (j .boxes) (rw q l)) e)) (sym (only-false x))
 
 -- Part totals of all boxes make a sum over tallies.
 pub by-box : (j : Job) (p : ℕ → Bool) (g : ℕ) →
-    sum amounts (j .boxes) (λ b. partOf j p b g)
-    ≡ sum amounts (j .tallies) (λ t. only amounts (held j t && eqb (j .tallyGrocer t) g && p t) (amount j (j .price (j .tallyOffer t)) t))
+    sum integers (j .boxes) (λ b. partOf j p b g)
+    ≡ sum integers (j .tallies) (λ t. only integers (held j t && eqb (j .tallyGrocer t) g && p t) (amount j (j .price (j .tallyOffer t)) t))
 unfolding partOf
 by-box j p g =
-    sum-swap amounts (j .boxes) (j .tallies) (λ b t. only amounts (heldBy j t b && eqb (j .tallyGrocer t) g && p t) (amount j (j .price (j .tallyOffer t)) t))
-    ∙ sum-cong amounts (j .tallies)
-    (λ t. sum amounts (j .boxes) (λ b. only amounts (heldBy j t b && eqb (j .tallyGrocer t) g && p t) (amount j (j .price (j .tallyOffer t)) t)))
-    (λ t. only amounts (held j t && eqb (j .tallyGrocer t) g && p t) (amount j (j .price (j .tallyOffer t)) t))
+    sum-swap integers (j .boxes) (j .tallies) (λ b t. only integers (heldBy j t b && eqb (j .tallyGrocer t) g && p t) (amount j (j .price (j .tallyOffer t)) t))
+    ∙ sum-cong integers (j .tallies)
+    (λ t. sum integers (j .boxes) (λ b. only integers (heldBy j t b && eqb (j .tallyGrocer t) g && p t) (amount j (j .price (j .tallyOffer t)) t)))
+    (λ t. only integers (held j t && eqb (j .tallyGrocer t) g && p t) (amount j (j .price (j .tallyOffer t)) t))
     (λ t l. simp and-assoc (one-holder j t (eqb (j .tallyGrocer t) g && p t) (amount j (j .price (j .tallyOffer t)) t)))
 
 one-place : (t : Bool) (v : ℤ) → (pos 0 +ℤ cond (not t) v (pos 0)) +ℤ cond t v (pos 0) ≡ v
@@ -59,17 +59,17 @@ module _ (j : Job) (r : InRange j) (d : Steps) (c : Closed j d) where
       (λ e h. rw e (rw e at h))
       (λ e h. rw e (c .inOrder receiveTotals (j .grocerOwner g) b (rw e at h)))
 
-  box-running : (b g : ℕ) → (stateOf j d .working b g +ℤ stateOf j d .totalTransit b g) +ℤ paid j d g b ≡ partOf j (added j d) b g
-  unfolding stateOf paid only amounts
+  box-running : (b g : ℕ) → (stateByRules j d .working b g +ℤ stateByRules j d .totalTransit b g) +ℤ paid j d g b ≡ partOf j (added j d) b g
+  unfolding stateByRules paid only integers
   box-running b g =
       split (gone j d b g)
       (λ e. simp (e, part-full j d b g (gone-added j r d c b g e)) (one-place (arrived j d b g) (partOf j (λ t. true) b g)))
       (λ e. simp (e, no-true (arrived j d b g) (λ q. clash (arrived-gone b g q) e), +ℤ-idr))
 
-  pub running : (g : ℕ) → together j (stateOf j d) g ≡ addedSum j d g
-  unfolding amounts stateOf together addedSum
+  pub running : (g : ℕ) → together j (stateByRules j d) g ≡ addedSum j d g
+  unfolding integers stateByRules together addedSum
   running g =
-      ap (λ (x : ℤ). x +ℤ stateOf j d .statement g) (sym (sum-plus amounts (j .boxes) (λ b. stateOf j d .working b g) (λ b. stateOf j d .totalTransit b g)))
-      ∙ sym (sum-plus amounts (j .boxes) (λ b. stateOf j d .working b g +ℤ stateOf j d .totalTransit b g) (paid j d g))
-      ∙ sum-cong amounts (j .boxes) (λ b. (stateOf j d .working b g +ℤ stateOf j d .totalTransit b g) +ℤ paid j d g b) (λ b. partOf j (added j d) b g) (λ b l. box-running b g)
+      ap (λ (x : ℤ). x +ℤ stateByRules j d .statement g) (sym (sum-plus integers (j .boxes) (λ b. stateByRules j d .working b g) (λ b. stateByRules j d .totalTransit b g)))
+      ∙ sym (sum-plus integers (j .boxes) (λ b. stateByRules j d .working b g +ℤ stateByRules j d .totalTransit b g) (paid j d g))
+      ∙ sum-cong integers (j .boxes) (λ b. (stateByRules j d .working b g +ℤ stateByRules j d .totalTransit b g) +ℤ paid j d g b) (λ b. partOf j (added j d) b g) (λ b l. box-running b g)
       ∙ by-box j (added j d) g

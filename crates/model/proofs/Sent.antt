@@ -5,12 +5,12 @@ use Prim.Native.Nat.{ℕ, _<_}
 use native.Mathlib.Omega.{arith}
 use lib.Dec.{eqb}
 use borrow.Author.Tests.{eqb-true}
-use Rattle.laws.specs.Below.{words, only, count}
+use Rattle.laws.specs.Below.{naturals, only, count}
 use Rattle.laws.proofs.Bools.{split, eqb-same}
 use Rattle.laws.proofs.Sums.{table-one}
 use Rattle.model.specs.Job.{Job, priceWord, totalWord}
 use Rattle.model.specs.Steps.{sendPrices, sendTotals, Steps, mark, effect}
-use Rattle.model.proofs.ClosedForm.{sentOf, stateOf}
+use Rattle.model.specs.Boxes.{sentOf, stateByRules}
 
 -- Not both boxes are the same.
 pub sent-other : (a b i k : ℕ) → (i ≡ a → k ≡ b → ⊥) → (eqb i a && eqb k b) ≡ false
@@ -21,17 +21,17 @@ sent-other a b i k h =
 
 module _ (j : Job) (d : Steps) (a b : ℕ) where
   pub sent-prices : a < j .boxes → b < j .boxes → d sendPrices a b ≡ false →
-      effect j (stateOf j d) sendPrices a b .sent ≡ stateOf j (mark d sendPrices a b) .sent
-  unfolding effect stateOf mark sentOf only words
+      effect j (stateByRules j d) sendPrices a b .sent ≡ stateByRules j (mark d sendPrices a b) .sent
+  unfolding effect stateByRules mark sentOf only naturals
   sent-prices la lb h =
-      sym (table-one words (j .boxes) (j .boxes) a b (sentOf j d) (sentOf j (mark d sendPrices a b)) (count (j .offers) (priceWord j a b)) la lb
+      sym (table-one naturals (j .boxes) (j .boxes) a b (sentOf j d) (sentOf j (mark d sendPrices a b)) (count (j .offers) (priceWord j a b)) la lb
       (simp (eqb-same, h) (omega arith))
       (λ i k ne. simp (sent-other a b i k ne)))
 
   pub sent-totals : a < j .boxes → b < j .boxes → d sendTotals a b ≡ false →
-      effect j (stateOf j d) sendTotals a b .sent ≡ stateOf j (mark d sendTotals a b) .sent
-  unfolding effect stateOf mark sentOf only words
+      effect j (stateByRules j d) sendTotals a b .sent ≡ stateByRules j (mark d sendTotals a b) .sent
+  unfolding effect stateByRules mark sentOf only naturals
   sent-totals la lb h =
-      sym (table-one words (j .boxes) (j .boxes) a b (sentOf j d) (sentOf j (mark d sendTotals a b)) (count (j .grocers) (totalWord j a b)) la lb
+      sym (table-one naturals (j .boxes) (j .boxes) a b (sentOf j d) (sentOf j (mark d sendTotals a b)) (count (j .grocers) (totalWord j a b)) la lb
       (simp (eqb-same, h) (omega arith))
       (λ i k ne. simp (sent-other a b i k ne)))

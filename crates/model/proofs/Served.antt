@@ -1,5 +1,5 @@
 -- A request in a list that begins fresh: its answer and the tables it leaves, in terms of the state. Assumes nothing.
-use mathlib.Core.Path.{_≡_, refl, sym, _∙_}
+use mathlib.Core.Path.{_≡_, refl, sym, ap, _∙_}
 use mathlib.Core.Bool.{Bool, true, false, cond, _&&_, not}
 use mathlib.Core.List.{[], _∷_, _++_}
 use Prim.Native.Nat.{ℕ}
@@ -11,7 +11,7 @@ use Rattle.model.specs.Job.{Job}
 use Rattle.model.specs.Requests.{Request, lentJob, lentState, lendsShort, answerTo, serve}
 use Rattle.model.specs.Tables.{JobTables, jobOf, StateTables, view, store, JobLengths, StateLengths, jobLengths, stateLengths, jobShort, stateShort, lentShort}
 use Rattle.model.specs.Ranges.{jobInRange, stateInRange}
-use Rattle.model.specs.Step.{Asked, isKind, boxesFit, stepRules, moved, refusals, answer, after, stepped}
+use Rattle.model.specs.Step.{Asked, isKind, boxesFit, stepRules, moved, refusals, stepRefusal, stepTables, stepAnswer, stepped}
 use Rattle.model.specs.Steps.{kindOf, Steps, State, fits, ready, permitted, effect}
 use Rattle.model.specs.Demand3.{refusalOf}
 use Rattle.model.proofs.Tables.{view-store, held-form}
@@ -20,7 +20,8 @@ use Rattle.model.proofs.Step.{range, limits, ok-store, whole-store}
 use Rattle.model.proofs.Core.{permit}
 use Rattle.model.proofs.Lent.{job-long, state-long, lent-job-short, lent-job, lent-job-range, lent-state-short, lent-view, lent-store, lent-state-range, lent-back, store-store}
 use Rattle.model.proofs.Refusal.{rules-zero}
-use Rattle.model.proofs.Reach.{Sound, sound-effect}
+use Rattle.model.specs.Boxes.{Sound}
+use Rattle.model.proofs.Reach.{sound-effect}
 
 -- The late 21 comes after conditions 22 to 26.
 then-last : (i x f d r c : Bool) →
@@ -56,8 +57,8 @@ module _ (f : JobTables) (u : StateTables) (j : Job) (s : State) (q : Asked)
   unfolding allowed
   zero-is = rules-zero j (s .done) q
 
-  pub answer-is : answer f u q ≡ firstMet (stepRules j (s .done) q)
-  unfolding answer refusals firstMet
+  pub answer-is : stepRefusal f u q ≡ firstMet (stepRules j (s .done) q)
+  unfolding stepRefusal refusals firstMet
   answer-is =
       rw (short, inside, job, holds, moved-is)
       (rules-then j (s .done) q (not (stateInRange f (store j (effect j s (kindOf (q .kind)) (q .first) (q .second)) u)))
@@ -65,8 +66,8 @@ module _ (f : JobTables) (u : StateTables) (j : Job) (s : State) (q : Asked)
       (λ e. rw (zero-is, e, late e) (sym (eqb-true (firstMet (stepRules j (s .done) q)) 0 (zero-is ∙ e))))
       (λ e. rw (zero-is, e)))
 
-  pub after-is : after f u q ≡ cond (allowed j s q) (store j (effect j s (kindOf (q .kind)) (q .first) (q .second)) u) u
-  unfolding after
+  pub after-is : stepTables f u q ≡ cond (allowed j s q) (store j (effect j s (kindOf (q .kind)) (q .first) (q .second)) u) u
+  unfolding stepTables
   after-is = rw (answer-is, zero-is, moved-is)
 
 module _ (f : JobTables) (ok : jobInRange f ≡ true) (long : jobShort (jobOf f) (jobLengths f) ≡ false) (t : StateTables) where
@@ -104,12 +105,12 @@ module _ (f : JobTables) (ok : jobInRange f ≡ true) (long : jobShort (jobOf f)
 
   -- A request that lends short.
   module _ (s : State) (r : Request) (y : lendsShort (jobOf f) r ≡ true) where
-    short-answer : answer (lentJob f (r .job)) (lentState (store (jobOf f) s t) (r .state)) (r .asked) ≡ 20
-    unfolding answer refusals firstMet
+    short-answer : stepRefusal (lentJob f (r .job)) (lentState (store (jobOf f) s t) (r .state)) (r .asked) ≡ 20
+    unfolding stepRefusal refusals firstMet
     short-answer = rw (short-is s r, y)
 
-    short-after : after (lentJob f (r .job)) (lentState (store (jobOf f) s t) (r .state)) (r .asked) ≡ lentState (store (jobOf f) s t) (r .state)
-    unfolding after
+    short-after : stepTables (lentJob f (r .job)) (lentState (store (jobOf f) s t) (r .state)) (r .asked) ≡ lentState (store (jobOf f) s t) (r .state)
+    unfolding stepTables
     short-after = rw short-answer
 
   -- A request that lends enough.
@@ -148,11 +149,11 @@ module _ (f : JobTables) (ok : jobInRange f ≡ true) (long : jobShort (jobOf f)
         stateInRange (lentJob f (r .job)) (store (jobOf f) (effect (jobOf f) s (kindOf (r .asked .kind)) (r .asked .first) (r .asked .second)) (lentState (store (jobOf f) s t) (r .state))) ≡ true
     late-is e = same-range _ ∙ ok-store f _ _ (within _ (sound-allowed s (r .asked) o e))
 
-    whole-answer : answer (lentJob f (r .job)) (lentState (store (jobOf f) s t) (r .state)) (r .asked) ≡ firstMet (stepRules (jobOf f) (s .done) (r .asked))
+    whole-answer : stepRefusal (lentJob f (r .job)) (lentState (store (jobOf f) s t) (r .state)) (r .asked) ≡ firstMet (stepRules (jobOf f) (s .done) (r .asked))
     whole-answer =
         answer-is (lentJob f (r .job)) (lentState (store (jobOf f) s t) (r .state)) (jobOf f) s (r .asked) job-is lent-is no-short (and-true range-is states-is) late-is
 
-    whole-after : after (lentJob f (r .job)) (lentState (store (jobOf f) s t) (r .state)) (r .asked)
+    whole-after : stepTables (lentJob f (r .job)) (lentState (store (jobOf f) s t) (r .state)) (r .asked)
         ≡ cond (allowed (jobOf f) s (r .asked)) (store (jobOf f) (effect (jobOf f) s (kindOf (r .asked .kind)) (r .asked .first) (r .asked .second)) (lentState (store (jobOf f) s t) (r .state)))
         (lentState (store (jobOf f) s t) (r .state))
     whole-after =
@@ -162,12 +163,12 @@ module _ (f : JobTables) (ok : jobInRange f ≡ true) (long : jobShort (jobOf f)
   unfoldable pub next : State → Request → State
   next s r = cond (not (lendsShort (jobOf f) r) && allowed (jobOf f) s (r .asked)) (effect (jobOf f) s (kindOf (r .asked .kind)) (r .asked .first) (r .asked .second)) s
 
-  pub one-answer : (s : State) → Sound (jobOf f) s → (r : Request) → answerTo f (store (jobOf f) s t) r ≡ refusalOf (jobOf f) (s .done) r
+  pub one-answer : (s : State) → Sound (jobOf f) s → (r : Request) → answerTo f (store (jobOf f) s t) r ≡ stepAnswer (refusalOf (jobOf f) (s .done) r)
   unfolding answerTo stepped refusalOf
   one-answer s o r =
-      split (lendsShort (jobOf f) r)
+      ap stepAnswer (split (lendsShort (jobOf f) r)
       (λ e. short-answer s r e ∙ rw e)
-      (λ e. whole-answer s o r e ∙ rw e)
+      (λ e. whole-answer s o r e ∙ rw e))
 
   pub one-serve : (s : State) → Sound (jobOf f) s → (r : Request) → serve f (store (jobOf f) s t) r ≡ store (jobOf f) (next s r) t
   unfolding serve stepped next

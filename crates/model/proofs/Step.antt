@@ -2,7 +2,7 @@
 use mathlib.Core.Path.{_≡_}
 use mathlib.Core.Bool.{true, false, cond}
 use mathlib.Core.List.{List, [], _∷_}
-use Prim.Native.Nat.{ℕ, suc, _*_, _/_, _%_, _<_, _≤_}
+use Prim.Native.Nat.{ℕ, _*_, _/_, _%_, _<_, _≤_}
 use native.Mathlib.Omega.{arith}
 use lib.Dec.{ltb, leb}
 use lib.Seq.{getD-take}
@@ -15,9 +15,9 @@ use Rattle.laws.proofs.Bools.{split, and-true, and-l, and-r, cond-either}
 use Rattle.laws.proofs.Below.{all-at, all-of, all-cong}
 use Rattle.laws.proofs.Tables.{getD-overwrite, long-overwrite, word-in, word-past}
 use Rattle.model.specs.Job.{Job}
-use Rattle.model.specs.Tables.{JobTables, jobOf, StateTables, store, stateLengths, stateShort}
+use Rattle.model.specs.Tables.{JobTables, jobOf, StateTables, store, marksOf, stateLengths, stateShort}
 use Rattle.model.specs.Ranges.{upTo, under, around, sizesInRange, jobWordsInRange, jobInRange, stateInRange}
-use Rattle.model.specs.Steps.{kindOf, State}
+use Rattle.model.specs.Steps.{places, Steps, atPlace, State}
 use Rattle.model.proofs.Range.{InRange}
 use Rattle.model.proofs.Ranges.{Limits, Within}
 
@@ -90,6 +90,12 @@ module _ (f : JobTables) (ok : jobInRange f ≡ true) where
         (λ e. rw (word-past (f .tallies) (f .tallyCount) (pos 0) t (ltb-false t (f .tallies) e)) (omega arith));
   }
 
+-- Marks are 0 or 1.
+pub marks-bits : (k : ℕ) (d : Steps) (marks : List ℕ) → upTo 1 (6 * k * k) (marksOf k d marks) ≡ true
+unfolding marksOf
+marks-bits k d marks =
+    up-over 1 (places k) (λ i. cond (atPlace k d i) 1 0) marks (λ i. cond-either (λ (n : ℕ). n ≤ 1) (atPlace k d i) 1 0 (omega arith) (omega arith))
+
 -- What a state within its ranges is written to is in range.
 pub ok-store : (f : JobTables) (s : State) (t : StateTables) → Within s → stateInRange f (store (jobOf f) s t) ≡ true
 unfolding stateInRange store recell jobOf
@@ -100,12 +106,12 @@ ok-store f s t w =
     (around-over 1_000_000_000_000_000 (f .boxes * f .grocers) (λ i. s .working (i / f .grocers) (i % f .grocers)) (t .working) (λ i. w .working≤ (i / f .grocers) (i % f .grocers))))
     (around-over 1_000_000_000_000_000 (f .boxes * f .grocers) (λ i. s .totalTransit (i / f .grocers) (i % f .grocers)) (t .totalTransit) (λ i. w .totalTransit≤ (i / f .grocers) (i % f .grocers))))
     (around-over 1_000_000_000_000_000 (f .grocers) (s .statement) (t .statement) (w .statement≤)))
-    (up-over 1 (6 * f .boxes * f .boxes) (λ i. cond (s .done (kindOf (suc (i / f .boxes / f .boxes))) (i / f .boxes % f .boxes) (i % f .boxes)) 1 0) (t .done) (λ i. cond-either (λ (n : ℕ). n ≤ 1) (s .done (kindOf (suc (i / f .boxes / f .boxes))) (i / f .boxes % f .boxes) (i % f .boxes)) 1 0 (omega arith) (omega arith))))
+    (marks-bits (f .boxes) (s .done) (t .done)))
     (up-over 1_000_000 1 (λ i. s .sent) (t .sent) (λ i. w .sent≤))
 
 -- The tables that hold a written state are whole.
 pub whole-store : (j : Job) (s : State) (t : StateTables) → stateShort j (stateLengths (store j s t)) ≡ false
-unfolding stateShort stateLengths store recell
+unfolding stateShort stateLengths store recell marksOf
 whole-store j s t =
     any-each (_ ∷ _ ∷ _ ∷ _ ∷ _ ∷ _ ∷ _ ∷ []) (
       le-ltb _ _ (long-overwrite (j .boxes * j .offers) _ (t .known)),

@@ -1,30 +1,29 @@
 -- Tables and states: what is written is read again, and a state of the closed form has nothing outside the job's bounds. Assumes nothing.
 use mathlib.Core.Path.{_≡_, refl, sym, ap, _∙_}
 use mathlib.Core.Bool.{true, false, cond, _&&_}
-use Prim.Native.Nat.{ℕ, suc, _+_, _<_, _*_, _-_, _/_, _%_}
+use mathlib.Core.List.{List}
+use Prim.Native.Nat.{ℕ, suc, _+_, _<_, _*_, _-_}
 use native.Mathlib.Omega.{arith}
-use native.Mathlib.Nat.{mul-le-mul-right}
 use lib.Dec.{eqb, ltb}
 use lib.IntN.{pos}
 use lib.Arith.{digits-div, digits-mod}
 use borrow.Author.Tests.{ne-eqb, eqb-true, ltb-true, ltb-false, lt-ltb}
-use Rattle.laws.specs.Below.{words, amounts, only}
+use Rattle.laws.specs.Below.{naturals, integers, only}
 use Rattle.laws.proofs.Below.{any-find}
 use Rattle.laws.proofs.Bools.{split, and-true, and-l, and-r, and-false, no-true, clash, cond-same}
 use Rattle.laws.proofs.Masks.{one-is}
 use Rattle.laws.proofs.Sums.{sum-none}
-use Rattle.laws.proofs.Tables.{cell-recell, word-overwrite}
+use Rattle.laws.proofs.Tables.{cell-in, cell-recell, word-overwrite, getD-overwrite}
 use Rattle.model.specs.Job.{heldBy, Job, needs, shares}
-use Rattle.model.specs.Steps.{Kind, number, Steps, State, added, kindOf, sendPrices, multiplyOwn, receivePrices, sendTotals, addOwn, receiveTotals}
-use Rattle.model.specs.Tables.{view, store, StateTables}
+use Rattle.model.specs.Steps.{Kind, kindNumber, stepPlace, places, stepAt, Steps, atPlace, State, added, kindOf, sendPrices, multiplyOwn, receivePrices, sendTotals, addOwn, receiveTotals}
+use Rattle.model.specs.Tables.{view, store, StateTables, stepsDone, marksOf}
 use Rattle.model.proofs.Range.{InRange, held-lt}
-use Rattle.model.proofs.ClosedForm.{knows, onWay, paid, stateOf, Closed}
+use Rattle.model.specs.Boxes.{knows, priceOnWay, paid, stateByRules, Closed, Sound}
 use Rattle.model.proofs.Parts.{part-none}
-use Rattle.model.proofs.Reach.{Sound}
 use Rattle.model.proofs.Core.{state-eq, first<, second<}
 
-pub kind-place : (k : Kind) → kindOf (suc (number k - 1)) ≡ k
-unfolding kindOf number
+pub kind-place : (k : Kind) → kindOf (suc (kindNumber k - 1)) ≡ k
+unfolding kindOf kindNumber
 kind-place sendPrices = refl
 kind-place multiplyOwn = refl
 kind-place receivePrices = refl
@@ -32,14 +31,40 @@ kind-place sendTotals = refl
 kind-place addOwn = refl
 kind-place receiveTotals = refl
 
-pub kind-six : (k : Kind) → number k - 1 < 6
-unfolding number
+pub kind-six : (k : Kind) → kindNumber k - 1 < 6
+unfolding kindNumber
 kind-six sendPrices = omega arith
 kind-six multiplyOwn = omega arith
 kind-six receivePrices = omega arith
 kind-six sendTotals = omega arith
 kind-six addOwn = omega arith
 kind-six receiveTotals = omega arith
+
+-- A step has its place among the marks,
+pub place-in : (k kind a b : ℕ) → kind - 1 < 6 → a < k → b < k → stepPlace k kind a b < places k
+place-in k kind a b h la lb = cell-in ((kind - 1) * k + a) (6 * k) k b (cell-in (kind - 1) 6 k a h la) lb
+
+-- and at its place is the step.
+pub step-at : (k : ℕ) (q : Kind) (a b : ℕ) → a < k → b < k → stepAt k (stepPlace k (kindNumber q) a b) ≡ record { kind = q; first = a; second = b }
+unfolding stepAt
+step-at k q a b la lb =
+    rw (digits-div ((kindNumber q - 1) * k + a) lb, digits-mod ((kindNumber q - 1) * k + a) lb, digits-div (kindNumber q - 1) la, digits-mod (kindNumber q - 1) la, kind-place q)
+
+-- What is marked is what was to be marked, of steps that have a place.
+pub marks-back : (k : ℕ) (d : Steps) (marks : List ℕ) (q : Kind) (a b : ℕ) → stepsDone k (marksOf k d marks) q a b ≡ (ltb a k && (ltb b k && d q a b))
+unfolding stepsDone marksOf only naturals
+marks-back k d marks q a b =
+    split (ltb a k)
+    (λ e. rw e (split (ltb b k)
+    (λ f. let la : a < k = ltb-true a k e in
+    let lb : b < k = ltb-true b k f in
+    rw (
+      f,
+      getD-overwrite (places k) (λ i. cond (atPlace k d i) 1 0) marks (stepPlace k (kindNumber q) a b) 0 (place-in k (kindNumber q) a b (kind-six q) la lb),
+      step-at k q a b la lb,
+    ) (one-is (d q a b)))
+    (λ f. rw f)))
+    (λ e. rw e)
 
 -- The state s inside the job's bounds, and 0 outside.
 unfoldable pub clip : Job → State → State
@@ -54,7 +79,7 @@ clip j s = record {
 }
 
 pub view-store : (j : Job) (s : State) (t : StateTables) → view j (store j s t) ≡ clip j s
-unfolding view store clip only words
+unfolding view store clip only naturals
 view-store j s t =
     state-eq (view j (store j s t)) (clip j s)
     (cell-recell (j .boxes) (j .offers) (s .known) (t .known) 0)
@@ -66,20 +91,7 @@ view-store j s t =
     (word-overwrite 1 (λ i. s .sent) (t .sent) 0 0)
   where
     marks : (k : Kind) (a b : ℕ) → view j (store j s t) .done k a b ≡ clip j s .done k a b
-    marks k a b =
-        split (ltb a (j .boxes))
-        (λ e.
-        let la : a < j .boxes = ltb-true a (j .boxes) e in
-        rw (
-          e,
-          cell-recell (6 * j .boxes) (j .boxes) (λ r b. cond (s .done (kindOf (suc (r / j .boxes))) (r % j .boxes) b) 1 0) (t .done) 0 ((number k - 1) * j .boxes + a) b,
-          lt-ltb ((number k - 1) * j .boxes + a) (6 * j .boxes) (omega (arith, mul-le-mul-right (j .boxes) (kind-six k))),
-          digits-div (number k - 1) la,
-          digits-mod (number k - 1) la,
-          kind-place k,
-        )
-        (split (ltb b (j .boxes)) (λ f. rw f (one-is (s .done k a b))) (λ f. rw f)))
-        (λ e. rw e)
+    marks k a b = marks-back (j .boxes) (s .done) (t .done) k a b
 
 -- Nothing stands outside the job's bounds.
 module _ (j : Job) (r : InRange j) where
@@ -99,10 +111,10 @@ module _ (j : Job) (r : InRange j) where
       (lt-ltb b (j .boxes) (held-lt j t b (and-l (heldBy j t b) _ e)))
       (lt-ltb g (j .grocers) (rw (eqb-true (j .tallyGrocer t) g (and-r (heldBy j t b) _ e)) at (r .grocer< t l)))) h)
 
-  clip-form : (d : Steps) → Closed j d → clip j (stateOf j d) ≡ stateOf j d
-  unfolding clip stateOf knows onWay paid only amounts
+  clip-form : (d : Steps) → Closed j d → clip j (stateByRules j d) ≡ stateByRules j d
+  unfolding clip stateByRules knows priceOnWay paid only integers
   clip-form d c =
-      state-eq (clip j (stateOf j d)) (stateOf j d)
+      state-eq (clip j (stateByRules j d)) (stateByRules j d)
       (λ b o. split (ltb b (j .boxes) && ltb o (j .offers))
       (λ e. rw e)
       (λ e. rw e (split (ltb o (j .offers))
@@ -119,7 +131,7 @@ module _ (j : Job) (r : InRange j) where
       (λ e. simp (e, part-none j (λ t. true) b g (shares-out b g e), cond-same)))
       (λ g. split (ltb g (j .grocers))
       (λ e. rw e)
-      (λ e. rw e (sym (sum-none amounts (j .boxes) (paid j d g)
+      (λ e. rw e (sym (sum-none integers (j .boxes) (paid j d g)
       (λ b l. simp (part-none j (λ t. true) b g (shares-out b g (rw e (and-false (ltb b (j .boxes))))), cond-same))))))
       (λ i k a b. marks k a b i)
       refl

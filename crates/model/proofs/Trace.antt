@@ -7,7 +7,7 @@ use native.Mathlib.Omega.{arith}
 use lib.Dec.{eqb}
 use Rattle.laws.proofs.Bools.{split, or-turn}
 use Rattle.model.specs.Job.{Job}
-use Rattle.model.specs.Steps.{Kind, sendPrices, multiplyOwn, receivePrices, sendTotals, addOwn, receiveTotals, number, mark, State, effect, Step, doneBy}
+use Rattle.model.specs.Steps.{Kind, sendPrices, multiplyOwn, receivePrices, sendTotals, addOwn, receiveTotals, kindNumber, mark, State, effect, Step, doneBy}
 use Rattle.model.specs.Words.{wordsOf, over}
 use Rattle.model.proofs.Machine.{attempt, attemptAll, taken, permits}
 use Rattle.model.proofs.Reach.{effect-done}
@@ -28,7 +28,7 @@ module _ (j : Job) where
   one-done s q rest k a b =
       split (permits j s q)
       (λ e. rw (e, effect-done j s (q .kind) (q .first) (q .second))
-      (or-turn (eqb (number k) (number (q .kind)) && (eqb a (q .first) && eqb b (q .second))) (doneBy rest k a b) (s .done k a b)))
+      (or-turn (eqb (kindNumber k) (kindNumber (q .kind)) && (eqb a (q .first) && eqb b (q .second))) (doneBy rest k a b) (s .done k a b)))
       (λ e. rw e)
 
   -- Done marks are the accepted requests, and those there were.

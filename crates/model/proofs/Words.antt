@@ -6,7 +6,7 @@ use native.Mathlib.Omega.{arith}
 use lib.Dec.{eqb}
 use lib.Count.{ones}
 use borrow.Author.Tests.{lt-ltb}
-use Rattle.laws.specs.Below.{words, sum, only, count}
+use Rattle.laws.specs.Below.{naturals, sum, only, count}
 use Rattle.laws.proofs.Bools.{and-comm, split, cond-same, no-true, and-l}
 use Rattle.laws.proofs.Sums.{sum-cong, sum-plus, sum-swap, sum-pick, sum-front}
 use Rattle.laws.specs.Masks.{maskOf, without}
@@ -16,7 +16,7 @@ use Rattle.model.specs.Job.{Job, needs, shares, priceWord, totalWord, pr
 use Rattle.model.specs.Steps.{fits, hasStep}
 use Rattle.model.specs.Words.{ownerWords}
 use Rattle.model.proofs.Range.{InRange, held-lt}
-use Rattle.model.proofs.ClosedForm.{sentOf, stateOf}
+use Rattle.model.specs.Boxes.{sentOf, stateByRules}
 
 -- Boxes from K on hold nothing.
 module _ (j : Job) where
@@ -49,7 +49,7 @@ ones-others k a p h l past =
 module _ (j : Job) where
   -- A message that is not due has no words.
   send-len : (a b : ℕ) → a < j .boxes → b < j .boxes → sentOf j (hasStep j) a b ≡ count (j .offers) (priceWord j a b) + count (j .grocers) (totalWord j a b)
-  unfolding sentOf hasStep fits pricesDue totalsDue only words
+  unfolding sentOf hasStep fits pricesDue totalsDue only naturals
   send-len a b la lb =
       ap₂ (λ (x y : ℕ). x + y)
       (split (pricesDue j a b)
@@ -60,33 +60,33 @@ module _ (j : Job) where
       (λ e. simp (count-none (j .grocers) (totalWord j a b) e, cond-same)))
 
   price-words : InRange j →
-      sum words (j .boxes) (λ a. sum words (j .boxes) (λ b. count (j .offers) (priceWord j a b)))
-      ≡ sum words (j .offers) (λ o. count (j .boxes) (λ b. not (eqb (j .offerOwner o) b) && needs j o b))
+      sum naturals (j .boxes) (λ a. sum naturals (j .boxes) (λ b. count (j .offers) (priceWord j a b)))
+      ≡ sum naturals (j .offers) (λ o. count (j .boxes) (λ b. not (eqb (j .offerOwner o) b) && needs j o b))
   unfolding count priceWord
   price-words r =
-      sum-front words (j .boxes) (j .boxes) (j .offers) (λ a b o. only words (priceWord j a b o) 1)
-      ∙ sum-cong words (j .offers)
-      (λ o. sum words (j .boxes) (λ a. sum words (j .boxes) (λ b. only words (priceWord j a b o) 1)))
-      (λ o. sum words (j .boxes) (λ b. only words (not (eqb (j .offerOwner o) b) && needs j o b) 1))
-      (λ o l. sum-swap words (j .boxes) (j .boxes) (λ a b. only words (priceWord j a b o) 1)
-      ∙ sum-cong words (j .boxes)
-      (λ b. sum words (j .boxes) (λ a. only words (priceWord j a b o) 1))
-      (λ b. only words (not (eqb (j .offerOwner o) b) && needs j o b) 1)
-      (λ b m. sum-pick words (j .boxes) (j .offerOwner o) (not (eqb (j .offerOwner o) b) && needs j o b) 1 (r .owner< o l)))
+      sum-front naturals (j .boxes) (j .boxes) (j .offers) (λ a b o. only naturals (priceWord j a b o) 1)
+      ∙ sum-cong naturals (j .offers)
+      (λ o. sum naturals (j .boxes) (λ a. sum naturals (j .boxes) (λ b. only naturals (priceWord j a b o) 1)))
+      (λ o. sum naturals (j .boxes) (λ b. only naturals (not (eqb (j .offerOwner o) b) && needs j o b) 1))
+      (λ o l. sum-swap naturals (j .boxes) (j .boxes) (λ a b. only naturals (priceWord j a b o) 1)
+      ∙ sum-cong naturals (j .boxes)
+      (λ b. sum naturals (j .boxes) (λ a. only naturals (priceWord j a b o) 1))
+      (λ b. only naturals (not (eqb (j .offerOwner o) b) && needs j o b) 1)
+      (λ b m. sum-pick naturals (j .boxes) (j .offerOwner o) (not (eqb (j .offerOwner o) b) && needs j o b) 1 (r .owner< o l)))
 
   total-words : InRange j →
-      sum words (j .boxes) (λ a. sum words (j .boxes) (λ b. count (j .grocers) (totalWord j a b)))
-      ≡ sum words (j .grocers) (λ g. count (j .boxes) (λ b. not (eqb (j .grocerOwner g) b) && shares j g b))
+      sum naturals (j .boxes) (λ a. sum naturals (j .boxes) (λ b. count (j .grocers) (totalWord j a b)))
+      ≡ sum naturals (j .grocers) (λ g. count (j .boxes) (λ b. not (eqb (j .grocerOwner g) b) && shares j g b))
   unfolding count totalWord
   total-words r =
-      sum-front words (j .boxes) (j .boxes) (j .grocers) (λ a b g. only words (totalWord j a b g) 1)
-      ∙ sum-cong words (j .grocers)
-      (λ g. sum words (j .boxes) (λ a. sum words (j .boxes) (λ b. only words (totalWord j a b g) 1)))
-      (λ g. sum words (j .boxes) (λ a. only words (not (eqb (j .grocerOwner g) a) && shares j g a) 1))
-      (λ g l. sum-cong words (j .boxes)
-      (λ a. sum words (j .boxes) (λ b. only words (totalWord j a b g) 1))
-      (λ a. only words (not (eqb (j .grocerOwner g) a) && shares j g a) 1)
-      (λ a m. sum-pick words (j .boxes) (j .grocerOwner g) (not (eqb (j .grocerOwner g) a) && shares j g a) 1 (r .grocerOwner< g l)))
+      sum-front naturals (j .boxes) (j .boxes) (j .grocers) (λ a b g. only naturals (totalWord j a b g) 1)
+      ∙ sum-cong naturals (j .grocers)
+      (λ g. sum naturals (j .boxes) (λ a. sum naturals (j .boxes) (λ b. only naturals (totalWord j a b g) 1)))
+      (λ g. sum naturals (j .boxes) (λ a. only naturals (not (eqb (j .grocerOwner g) a) && shares j g a) 1))
+      (λ g l. sum-cong naturals (j .boxes)
+      (λ a. sum naturals (j .boxes) (λ b. only naturals (totalWord j a b g) 1))
+      (λ a. only naturals (not (eqb (j .grocerOwner g) a) && shares j g a) 1)
+      (λ a m. sum-pick naturals (j .boxes) (j .grocerOwner g) (not (eqb (j .grocerOwner g) a) && shares j g a) 1 (r .grocerOwner< g l)))
 
   need-ones : InRange j → (o : ℕ) → o < j .offers → ones (without (j .offerOwner o) (needWord j o)) ≡ count (j .boxes) (λ b. not (eqb (j .offerOwner o) b) && needs j o b)
   unfolding needWord
@@ -96,19 +96,19 @@ module _ (j : Job) where
   unfolding sharerWord
   sharer-ones r g l = ones-others (j .boxes) (j .grocerOwner g) (shares j g) (r .boxes≤) (r .grocerOwner< g l) (shares-past j g)
 
-  pub end-sent : InRange j → stateOf j (hasStep j) .sent ≡ ownerWords j
-  unfolding stateOf ownerWords words
+  pub end-sent : InRange j → stateByRules j (hasStep j) .sent ≡ ownerWords j
+  unfolding stateByRules ownerWords naturals
   end-sent r =
-      sum-cong words (j .boxes) (λ a. sum words (j .boxes) (sentOf j (hasStep j) a)) (λ a. price a + total a)
-      (λ a l. sum-cong words (j .boxes) (sentOf j (hasStep j) a) (λ b. count (j .offers) (priceWord j a b) + count (j .grocers) (totalWord j a b)) (λ b m. send-len a b l m)
-      ∙ sum-plus words (j .boxes) (λ b. count (j .offers) (priceWord j a b)) (λ b. count (j .grocers) (totalWord j a b)))
-      ∙ sum-plus words (j .boxes) price total
+      sum-cong naturals (j .boxes) (λ a. sum naturals (j .boxes) (sentOf j (hasStep j) a)) (λ a. price a + total a)
+      (λ a l. sum-cong naturals (j .boxes) (sentOf j (hasStep j) a) (λ b. count (j .offers) (priceWord j a b) + count (j .grocers) (totalWord j a b)) (λ b m. send-len a b l m)
+      ∙ sum-plus naturals (j .boxes) (λ b. count (j .offers) (priceWord j a b)) (λ b. count (j .grocers) (totalWord j a b)))
+      ∙ sum-plus naturals (j .boxes) price total
       ∙ ap₂ (λ (x y : ℕ). x + y)
-      (price-words r ∙ sym (sum-cong words (j .offers) (λ o. ones (without (j .offerOwner o) (needWord j o))) (λ o. count (j .boxes) (λ b. not (eqb (j .offerOwner o) b) && needs j o b)) (need-ones r)))
-      (total-words r ∙ sym (sum-cong words (j .grocers) (λ g. ones (without (j .grocerOwner g) (sharerWord j g))) (λ g. count (j .boxes) (λ b. not (eqb (j .grocerOwner g) b) && shares j g b)) (sharer-ones r)))
+      (price-words r ∙ sym (sum-cong naturals (j .offers) (λ o. ones (without (j .offerOwner o) (needWord j o))) (λ o. count (j .boxes) (λ b. not (eqb (j .offerOwner o) b) && needs j o b)) (need-ones r)))
+      (total-words r ∙ sym (sum-cong naturals (j .grocers) (λ g. ones (without (j .grocerOwner g) (sharerWord j g))) (λ g. count (j .boxes) (λ b. not (eqb (j .grocerOwner g) b) && shares j g b)) (sharer-ones r)))
     where
       price : ℕ → ℕ
-      price a = sum words (j .boxes) (λ b. count (j .offers) (priceWord j a b))
+      price a = sum naturals (j .boxes) (λ b. count (j .offers) (priceWord j a b))
 
       total : ℕ → ℕ
-      total a = sum words (j .boxes) (λ b. count (j .grocers) (totalWord j a b))
+      total a = sum naturals (j .boxes) (λ b. count (j .grocers) (totalWord j a b))

@@ -1,25 +1,33 @@
 -- The ◆ cases of 01 that concern the settlement, in 01's order, and other small examples that say what the definitions mean.
 use mathlib.Core.Path.{_≡_}
 use mathlib.Core.List.{List, [], _∷_}
-use Prim.Native.Nat.{ℕ, _*_}
+use mathlib.Core.Bool.{cond}
+use Prim.Native.Nat.{ℕ}
+use lib.Dec.{eqb}
 use lib.IntN.{ℤ, pos, negsuc}
 use lib.ListN.{getD}
-use Rattle.model.specs.Job.{Job, needWord, plainSum}
-use Rattle.model.specs.Words.{ownerWords, messages, stepCount}
+use Rattle.laws.specs.Tables.{tabulate}
+use Rattle.model.specs.Job.{needWord, plainSum}
+use Rattle.model.specs.Steps.{Kind, sendPrices, multiplyOwn, Step, Steps, doneBy}
+use Rattle.model.specs.Boxes.{stateByRules}
+use Rattle.model.specs.Words.{ownerWords, messageCount, stepCount}
 use Rattle.model.specs.Tables.{JobTables, StateTables, jobTables, stateTables, jobOf}
-use Rattle.model.specs.Step.{asked, answer, after, freshTables}
-use Rattle.model.specs.Run.{runState, finished, ran}
+use Rattle.model.specs.Step.{asked, accepted, refused, stepped, freshTables}
+use Rattle.model.specs.Run.{readySteps, pick, runState, finished, ran}
 use Rattle.model.specs.Local.{localOffers, localGrocers, starts, priceTable, totalTable}
-use Rattle.model.specs.Reconcile.{TallyRecord, owed, refused, reconciled}
+use Rattle.model.specs.Reconcile.{TallyRecord, owed, refused as notOwed, reconciled}
 
 -- E, "Settling one small evening".
 abbrev pub jobE : JobTables
-jobE = jobTables 2 2 2 4 (500 ∷ 1250 ∷ []) (0 ∷ 1 ∷ []) (1 ∷ 0 ∷ []) (0 ∷ 1 ∷ 0 ∷ 0 ∷ []) (0 ∷ 0 ∷ 1 ∷ 1 ∷ []) (0 ∷ 1 ∷ 1 ∷ 0 ∷ []) (pos 3 ∷ pos 2 ∷ negsuc 0 ∷ pos 4 ∷ [])
+jobE =
+    jobTables 2 2 2 4 (500 ∷ 1250 ∷ []) (0 ∷ 1 ∷ []) (1 ∷ 0 ∷ [])
+    (0 ∷ 1 ∷ 0 ∷ 0 ∷ []) (0 ∷ 0 ∷ 1 ∷ 1 ∷ []) (0 ∷ 1 ∷ 1 ∷ 0 ∷ []) (pos 3 ∷ pos 2 ∷ negsuc 0 ∷ pos 4 ∷ [])
 
--- Buffers without a word, and a fresh state of E.
+-- Buffers without a word.
 abbrev pub empty : StateTables
 empty = stateTables [] [] [] [] [] [] []
 
+-- A fresh state of E.
 abbrev pub freshE : StateTables
 freshE = freshTables jobE empty
 
@@ -36,7 +44,7 @@ pub record Cases : Type 0 where
   pub e-statement-1 : runState (jobOf jobE) [] .statement 1 ≡ pos 2500
   -- Its words and steps, and what a run reports: words 3, messages 3, steps 10.
   pub e-words : ownerWords (jobOf jobE) ≡ 3
-  pub e-messages : messages (jobOf jobE) ≡ 3
+  pub e-messages : messageCount (jobOf jobE) ≡ 3
   pub e-steps : stepCount (jobOf jobE) ≡ 10
   pub e-report : ran jobE freshE [] .answer ≡ finished 3 3 10
   -- T = 0: 2 × K steps, no words. Here K 2; proofs/Quiet.antt has it for every K.
@@ -61,9 +69,30 @@ oneBoxJob = jobTables 1 1 1 2 (10 ∷ []) (0 ∷ []) (0 ∷ []) (0 ∷ 0 ∷ [])
 
 -- E with working totals at their limit.
 abbrev pub fullE : StateTables
-fullE = stateTables (500 ∷ 0 ∷ 0 ∷ 1250 ∷ []) (0 ∷ 0 ∷ 0 ∷ 0 ∷ []) (pos 1_000_000_000_000_000 ∷ pos 0 ∷ pos 0 ∷ pos 0 ∷ []) (pos 0 ∷ pos 0 ∷ pos 0 ∷ pos 0 ∷ [])
-    (pos 0 ∷ pos 0 ∷ []) (0 ∷ 0 ∷ 0 ∷ 0 ∷ 0 ∷ 0 ∷ 0 ∷ 0 ∷ 0 ∷ 0 ∷ 0 ∷ 0 ∷ 0 ∷ 0 ∷ 0 ∷ 0 ∷ 0 ∷ 0 ∷ 0 ∷ 0 ∷ 0 ∷ 0 ∷ 0 ∷ 0 ∷ []) (0 ∷ [])
+fullE =
+    stateTables (500 ∷ 0 ∷ 0 ∷ 1250 ∷ []) (0 ∷ 0 ∷ 0 ∷ 0 ∷ []) (pos 1_000_000_000_000_000 ∷ pos 0 ∷ pos 0 ∷ pos 0 ∷ []) (pos 0 ∷ pos 0 ∷ pos 0 ∷ pos 0 ∷ [])
+    (pos 0 ∷ pos 0 ∷ []) (tabulate 24 (λ i. 0)) (0 ∷ [])
 
+-- Two offers of box 0, both with a tally in box 1, which owns the grocer.
+abbrev pub twoOffers : JobTables
+twoOffers = jobTables 2 1 2 2 (10 ∷ 20 ∷ []) (0 ∷ 0 ∷ []) (1 ∷ []) (0 ∷ 0 ∷ []) (1 ∷ 1 ∷ []) (0 ∷ 1 ∷ []) (pos 1 ∷ pos 1 ∷ [])
+
+-- A step by its kind and boxes.
+abbrev pub ofKind : Kind → ℕ → ℕ → Step
+ofKind k a b = record { kind = k; first = a; second = b }
+
+-- Steps done in E: box 0 has multiplied its own and sent its prices to box 1.
+abbrev pub begunE : Steps
+begunE = doneBy (ofKind multiplyOwn 0 0 ∷ ofKind sendPrices 0 1 ∷ [])
+
+-- Records handed to the desk: two of grocer 0, one of grocer 1 between them.
+abbrev pub handed : List TallyRecord
+handed =
+    record { grocer = 0; tallyBox = 0; place = 0; count = pos 3 }
+    ∷ record { grocer = 1; tallyBox = 0; place = 1; count = pos 2 }
+    ∷ record { grocer = 0; tallyBox = 15; place = 1; count = negsuc 0 } ∷ []
+
+-- Small examples that say what the definitions mean.
 pub record Examples : Type 0 where
   -- The owner is not among the needs: bits 1 and 2, two price words; two totals; a tally of count 0 is one like any other.
   pub needs-away : needWord (jobOf ownerWithout) 0 ≡ 6
@@ -88,25 +117,40 @@ pub record Examples : Type 0 where
   pub prices-1-0 : getD (getD (priceTable (jobOf jobE)) 1 []) 0 0 ≡ 1
   pub totals-0-1 : getD (getD (totalTable (jobOf jobE)) 0 []) 1 0 ≡ 1
   pub totals-1-0 : getD (getD (totalTable (jobOf jobE)) 1 []) 0 0 ≡ 0
+  -- Two offers of box 0 that box 1 needs, and a grocer of box 1: 2 words, 1 message, 6 steps.
+  pub two-words : ownerWords (jobOf twoOffers) ≡ 2
+  pub one-message : messageCount (jobOf twoOffers) ≡ 1
+  pub two-report : ran twoOffers (freshTables twoOffers empty) [] .answer ≡ finished 2 1 6
+  -- The ready steps of a fresh state of E: both messages of prices, and step 2 of both boxes. Choice 6 picks the one that 2 picks.
+  pub e-ready : readySteps (jobOf jobE) (doneBy []) ≡ ofKind sendPrices 0 1 ∷ ofKind sendPrices 1 0 ∷ ofKind multiplyOwn 0 0 ∷ ofKind multiplyOwn 1 1 ∷ []
+  pub e-pick : pick (jobOf jobE) (doneBy []) 6 ≡ ofKind multiplyOwn 0 0
+  -- What E's boxes hold once box 0 has multiplied its own and sent its prices: 3 × 500 worked, 500 on its way to box 1, which does not know it yet.
+  pub e-working : stateByRules (jobOf jobE) begunE .working 0 0 ≡ pos 1500
+  pub e-on-way : stateByRules (jobOf jobE) begunE .priceTransit 1 0 ≡ 500
+  pub e-unknown : stateByRules (jobOf jobE) begunE .known 1 0 ≡ 0
+  pub e-sent : stateByRules (jobOf jobE) begunE .sent ≡ 1
   -- Refusals of a step on a fresh state of E: kind 9 with box 99; message 0 to 0; receipt before sending; no such message; a step repeated.
-  pub no-kind : answer jobE freshE (asked 9 99 0) ≡ 22
-  pub to-itself : answer jobE freshE (asked 1 0 0) ≡ 23
-  pub not-sent : answer jobE freshE (asked 3 1 0) ≡ 26
-  pub no-message : answer jobE freshE (asked 4 1 0) ≡ 24
-  pub repeated : answer jobE (after jobE freshE (asked 2 0 0)) (asked 2 0 0) ≡ 25
-  -- A step accepted on a fresh state of E sets its mark, where there was none; the statements are not made yet.
-  pub begins : answer jobE freshE (asked 2 0 0) ≡ 0
-  pub unmarked : getD (freshE .done) 4 0 ≡ 0
-  pub marked : getD (after jobE freshE (asked 2 0 0) .done) 4 0 ≡ 1
-  pub not-yet : getD (after jobE freshE (asked 2 0 0) .statement) 0 (pos 0) ≡ pos 0
+  pub no-kind : stepped jobE freshE (asked 9 99 0) .answer ≡ refused 22
+  pub to-itself : stepped jobE freshE (asked 1 0 0) .answer ≡ refused 23
+  pub not-sent : stepped jobE freshE (asked 3 1 0) .answer ≡ refused 26
+  pub no-message : stepped jobE freshE (asked 4 1 0) .answer ≡ refused 24
+  pub repeated : stepped jobE (stepped jobE freshE (asked 2 0 0) .tables) (asked 2 0 0) .answer ≡ refused 25
+  -- Step 2 of box 0, accepted on a fresh state of E: 3 × 500 is in its working totals, where there was nothing;
+  pub begins : stepped jobE freshE (asked 2 0 0) .answer ≡ accepted
+  pub no-work : freshE .working ≡ pos 0 ∷ pos 0 ∷ pos 0 ∷ pos 0 ∷ []
+  pub works : stepped jobE freshE (asked 2 0 0) .tables .working ≡ pos 1500 ∷ pos 0 ∷ pos 0 ∷ pos 0 ∷ []
+  -- its mark alone is set, where there was none, and the statements are not made yet.
+  pub unmarked : freshE .done ≡ tabulate 24 (λ i. 0)
+  pub marked : stepped jobE freshE (asked 2 0 0) .tables .done ≡ tabulate 24 (λ i. cond (eqb i 4) 1 0)
+  pub not-yet : stepped jobE freshE (asked 2 0 0) .tables .statement ≡ pos 0 ∷ pos 0 ∷ []
   -- The statements that a run leaves of E and of the job of one box.
   pub e-leaves : ran jobE freshE [] .tables .statement ≡ pos 2250 ∷ pos 2500 ∷ []
   pub one-leaves : ran oneBoxJob (freshTables oneBoxJob empty) [] .tables .statement ≡ pos 30 ∷ []
   -- A state without a word; a result beyond ±10^15.
-  pub short : answer jobE empty (asked 9 99 0) ≡ 20
-  pub too-much : answer jobE fullE (asked 2 0 0) ≡ 21
-  pub still-fits : answer jobE fullE (asked 2 1 1) ≡ 0
+  pub short : stepped jobE empty (asked 9 99 0) .answer ≡ refused 20
+  pub too-much : stepped jobE fullE (asked 2 0 0) .answer ≡ refused 21
+  pub still-fits : stepped jobE fullE (asked 2 1 1) .answer ≡ accepted
   -- The desk: tallies of other grocers are passed over; a wanted grocer not below M; prices lent short.
-  pub desk : reconciled 2 2 0 (500 ∷ 1250 ∷ []) (record { grocer = 0; tallyBox = 0; place = 0; count = pos 3 } ∷ record { grocer = 1; tallyBox = 0; place = 1; count = pos 2 } ∷ record { grocer = 0; tallyBox = 15; place = 1; count = negsuc 0 } ∷ []) ≡ owed (pos 250)
-  pub desk-21 : reconciled 2 2 2 (500 ∷ 1250 ∷ []) [] ≡ refused 21
-  pub desk-20 : reconciled 2 2 2 (500 ∷ []) [] ≡ refused 20
+  pub desk : reconciled 2 2 0 (500 ∷ 1250 ∷ []) handed ≡ owed (pos 250)
+  pub desk-21 : reconciled 2 2 2 (500 ∷ 1250 ∷ []) [] ≡ notOwed 21
+  pub desk-20 : reconciled 2 2 2 (500 ∷ []) [] ≡ notOwed 20

@@ -1,21 +1,22 @@
 -- Demand 3: one statement about every list of step requests.
 use mathlib.Core.Path.{_≡_}
-use mathlib.Core.List.{List, map}
+use mathlib.Core.List.{List, [], _∷_, map}
 use mathlib.Core.Bool.{Bool, true, false, cond, _&&_, not}
 use Prim.Native.Nat.{ℕ, _+_, _*_, _<_, _≤_}
-use lib.ListN.{length}
+use lib.ListN.{getD, length}
 use lib.Dec.{eqb}
 use lib.IntN.{ℤ, pos, _+ℤ_}
-use Rattle.laws.specs.Below.{sum, only, amounts, words}
+use Rattle.laws.specs.Below.{sum, only, integers, naturals}
 use Rattle.laws.specs.Checks.{firstMet}
 use Rattle.model.specs.Job.{Job, held, needs, shares, amount, plainSum}
-use Rattle.model.specs.Steps.{Kind, Steps, Step, State, number, hasStep, permitted, added, does}
-use Rattle.model.specs.Words.{over, wordsOf, priceTo, totalFrom, ownerWords, messages, stepCount}
+use Rattle.model.specs.Steps.{Kind, Steps, Step, State, kindNumber, mark, hasStep, permitted, added, effectOf}
+use Rattle.model.specs.Boxes.{stateByRules}
+use Rattle.model.specs.Words.{over, wordsOf, priceTo, totalFrom, messagesOf, ownerWords, messageCount, stepCount}
 use Rattle.model.specs.Tables.{JobTables, jobOf, StateTables, view, store, lentShort}
 use Rattle.model.specs.Ranges.{stateInRange}
-use Rattle.model.specs.Step.{isKind, stepOf, stepRules}
-use Rattle.model.specs.Run.{run, runState, ran, reported, finished}
-use Rattle.model.specs.Requests.{Request, lendsShort, answerTo, serve, left, accepted, doneIn}
+use Rattle.model.specs.Step.{isKind, stepOf, stepRules, StepAnswer, stepAnswer, isAccepted}
+use Rattle.model.specs.Run.{run, ran, reported, finished}
+use Rattle.model.specs.Requests.{Request, lendsShort, answerTo, serve, tablesAfter, answersIn, acceptedIn, doneIn}
 
 -- Some step of a set.
 pub record SomeStep (d : Steps) : Type 0 where
@@ -32,19 +33,27 @@ module _ (j : Job) where
   -- A request is permitted when its step is and no buffer is shorter than its table.
   unfoldable pub permittedRequest : Steps → Request → Bool
   permittedRequest d r =
-      not (lendsShort j r) && (isKind (r .asked .kind) && permitted j d (stepOf (r .asked) .kind) (stepOf (r .asked) .first) (stepOf (r .asked) .second))
+      let q = stepOf (r .asked) in
+      not (lendsShort j r) && (isKind (r .asked .kind) && permitted j d (q .kind) (q .first) (q .second))
 
   -- What refuses a request where the steps of d are done: 20, 22 to 26 in this order, and never 21.
   unfoldable pub refusalOf : Steps → Request → ℕ
   refusalOf d r = cond (lendsShort j r) 20 (firstMet (stepRules j d (r .asked)))
 
+  -- The answers to the requests of a list by the rules alone, where the steps of d are done: a permitted request adds its step.
+  unfoldable pub answersByRules : Steps → List Request → List StepAnswer
+  answersByRules d [] = []
+  answersByRules d (r ∷ rs) =
+      let q = stepOf (r .asked) in
+      stepAnswer (refusalOf d r) ∷ answersByRules (cond (permittedRequest d r) (mark d (q .kind) (q .first) (q .second)) d) rs
+
   -- Statements, working totals and totals in transit of grocer g together.
   unfoldable pub together : State → ℕ → ℤ
-  together s g = (sum amounts (j .boxes) (λ b. s .working b g) +ℤ sum amounts (j .boxes) (λ b. s .totalTransit b g)) +ℤ s .statement g
+  together s g = (sum integers (j .boxes) (λ b. s .working b g) +ℤ sum integers (j .boxes) (λ b. s .totalTransit b g)) +ℤ s .statement g
 
   -- The sum of count × price over the tallies of grocer g already added.
   unfoldable pub addedSum : Steps → ℕ → ℤ
-  addedSum d g = sum amounts (j .tallies) (λ t. only amounts (held j t && eqb (j .tallyGrocer t) g && added j d t) (amount j (j .price (j .tallyOffer t)) t))
+  addedSum d g = sum integers (j .tallies) (λ t. only integers (held j t && eqb (j .tallyGrocer t) g && added j d t) (amount j (j .price (j .tallyOffer t)) t))
 
 -- A finished settlement.
 pub record Finished (j : Job) (s : State) : Type 0 where
@@ -57,54 +66,68 @@ pub record Finished (j : Job) (s : State) : Type 0 where
   -- The words sent are those of the owner tables.
   pub wordsSent : s .sent ≡ ownerWords j
 
--- What holds after every list of requests rs, from a fresh state of the job in the buffers t. `left` are the tables that the list leaves.
-pub record Demand3 (f : JobTables) (t : StateTables) (rs : List Request) : Type 0 where
-  -- The next request is answered by its refusal number over the steps done in the list: 21 is never met.
-  pub answers : (r : Request) → answerTo f (left f t rs) r ≡ refusalOf (jobOf f) (doneIn f t rs) r
+-- What holds after the list rs of requests on the job tables f, from a fresh state of the job in the buffers t, where
+-- job is what the tables f hold, accepted are the steps accepted in the list, done is the set of them,
+-- tables are the state's tables that the list leaves, and state is what they hold. `Demand3` below fills these in.
+pub record AfterList (f : JobTables) (t : StateTables) (rs : List Request)
+    (job : Job) (accepted : List Step) (done : Steps) (tables : StateTables) (state : State) : Type 0 where
+  -- Every request of the list, from the first to the last, is answered as the rules say, from the requests before it alone.
+  pub answers : answersIn f t rs ≡ answersByRules job (λ k a b. false) rs
+  -- One more request is answered by the first condition met over the steps done: 20, 22 to 26, and never 21.
+  pub nextAnswer : (r : Request) → answerTo f tables r ≡ stepAnswer (refusalOf job done r)
   -- It is accepted just where it is permitted.
-  pub accepts : (r : Request) → eqb (answerTo f (left f t rs) r) 0 ≡ permittedRequest (jobOf f) (doneIn f t rs) r
+  pub accepts : (r : Request) → isAccepted (answerTo f tables r) ≡ permittedRequest job done r
   -- An accepted request does what its step does; any other leaves the tables as they were.
-  pub does : (r : Request) → permittedRequest (jobOf f) (doneIn f t rs) r ≡ true →
-      view (jobOf f) (serve f (left f t rs) r) ≡ does (jobOf f) (view (jobOf f) (left f t rs)) (stepOf (r .asked))
-  pub keeps : (r : Request) → permittedRequest (jobOf f) (doneIn f t rs) r ≡ false → serve f (left f t rs) r ≡ left f t rs
+  pub does : (r : Request) → permittedRequest job done r ≡ true → view job (serve f tables r) ≡ effectOf job state (stepOf (r .asked))
+  pub keeps : (r : Request) → permittedRequest job done r ≡ false → serve f tables r ≡ tables
+  -- Every box holds what the rules say, told from the steps done alone.
+  pub holds : state ≡ stateByRules job done
   -- The tables are the state that they hold, written into the buffers t: words past the needed length stay.
-  pub stays : left f t rs ≡ store (jobOf f) (view (jobOf f) (left f t rs)) t
+  pub stays : tables ≡ store job state t
   -- Every word is in range.
-  pub inRange : stateInRange f (left f t rs) ≡ true
+  pub inRange : stateInRange f tables ≡ true
   -- The marks are the steps done in the list.
-  pub marks : (k : Kind) (a b : ℕ) → view (jobOf f) (left f t rs) .done k a b ≡ doneIn f t rs k a b
+  pub marks : (k : Kind) (a b : ℕ) → state .done k a b ≡ done k a b
   -- After every list the count of words sent is the number sent in it.
-  pub wordsSent : view (jobOf f) (left f t rs) .sent ≡ over (wordsOf (jobOf f)) (accepted f t rs)
+  pub wordsSent : state .sent ≡ over (wordsOf job) accepted
   -- At each moment statements, working totals and totals in transit together make the sum over the tallies already added.
-  pub runningSum : (g : ℕ) → together (jobOf f) (view (jobOf f) (left f t rs)) g ≡ addedSum (jobOf f) (doneIn f t rs) g
+  pub runningSum : (g : ℕ) → together job state g ≡ addedSum job done g
   -- While a step of the job is not done, some step is permitted.
-  pub goesOn : (k : Kind) (a b : ℕ) → hasStep (jobOf f) k a b ≡ true → doneIn f t rs k a b ≡ false → SomeStep (permitted (jobOf f) (doneIn f t rs))
+  pub goesOn : (k : Kind) (a b : ℕ) → hasStep job k a b ≡ true → done k a b ≡ false → SomeStep (permitted job done)
   -- At most 2 × K + 2 × (messages) requests are accepted, and all steps are done just where so many were.
-  pub atMost : length (accepted f t rs) ≤ stepCount (jobOf f)
-  pub allDone : AllDone (jobOf f) (doneIn f t rs) → length (accepted f t rs) ≡ stepCount (jobOf f)
-  pub allTaken : length (accepted f t rs) ≡ stepCount (jobOf f) → AllDone (jobOf f) (doneIn f t rs)
+  pub atMost : length accepted ≤ stepCount job
+  pub allDone : AllDone job done → length accepted ≡ stepCount job
+  pub allTaken : length accepted ≡ stepCount job → AllDone job done
   -- All done: the settlement is finished.
-  pub finish : AllDone (jobOf f) (doneIn f t rs) → Finished (jobOf f) (view (jobOf f) (left f t rs))
+  pub finish : AllDone job done → Finished job state
   -- All done: exactly one price was sent for each offer to each box that needs it and does not own it, and no other;
-  pub onePrice : AllDone (jobOf f) (doneIn f t rs) → (o b : ℕ) → o < f .offers →
-      over (priceTo (jobOf f) o b) (accepted f t rs) ≡ only words (not (eqb (jobOf f .offerOwner o) b) && needs (jobOf f) o b) 1
+  pub onePrice : AllDone job done → (o b : ℕ) → o < job .offers →
+      over (priceTo job o b) accepted ≡ only naturals (not (eqb (job .offerOwner o) b) && needs job o b) 1
   -- exactly one part total of each grocer from each box that has one and does not own it, and no other.
-  pub oneTotal : AllDone (jobOf f) (doneIn f t rs) → (g b : ℕ) → g < f .grocers →
-      over (totalFrom (jobOf f) g b) (accepted f t rs) ≡ only words (not (eqb (jobOf f .grocerOwner g) b) && shares (jobOf f) g b) 1
+  pub oneTotal : AllDone job done → (g b : ℕ) → g < job .grocers →
+      over (totalFrom job g b) accepted ≡ only naturals (not (eqb (job .grocerOwner g) b) && shares job g b) 1
   -- At any time the words sent are these prices and part totals, added up.
-  pub eachWord : over (wordsOf (jobOf f)) (accepted f t rs)
-      ≡ sum words (f .offers) (λ o. sum words (f .boxes) (λ b. over (priceTo (jobOf f) o b) (accepted f t rs)))
-      + sum words (f .grocers) (λ g. sum words (f .boxes) (λ b. over (totalFrom (jobOf f) g b) (accepted f t rs)))
-  -- Any two lists that do all steps leave the same state, whatever their order and their buffers' old words,
-  pub agree : (u : StateTables) (ps : List Request) → AllDone (jobOf f) (doneIn f t rs) → AllDone (jobOf f) (doneIn f u ps) →
-      view (jobOf f) (left f u ps) ≡ view (jobOf f) (left f t rs)
-  -- and a run leaves it too, whatever its choices.
-  pub runAgrees : (choices : List ℕ) → AllDone (jobOf f) (doneIn f t rs) → runState (jobOf f) choices ≡ view (jobOf f) (left f t rs)
+  pub eachWord : over (wordsOf job) accepted
+      ≡ sum naturals (job .offers) (λ o. sum naturals (job .boxes) (λ b. over (priceTo job o b) accepted))
+      + sum naturals (job .grocers) (λ g. sum naturals (job .boxes) (λ b. over (totalFrom job g b) accepted))
+  -- Another list that does all steps, in whatever buffers, ends after the same number of accepted steps
+  pub sameSteps : AllDone job done → (u : StateTables) (ps : List Request) → AllDone job (doneIn f u ps) → length (acceptedIn f u ps) ≡ length accepted
+  -- and leaves the same state, equal statements among it;
+  pub sameState : AllDone job done → (u : StateTables) (ps : List Request) → AllDone job (doneIn f u ps) → view job (tablesAfter f u ps) ≡ state
+  -- so does a run, whatever its choices and its buffers held: its tables hold this state,
+  pub runState : AllDone job done → (u : StateTables) (choices : List ℕ) → lentShort f u ≡ false → view job (ran f u choices .tables) ≡ state
+  -- and it reports the words, the messages and the number of the steps accepted in the list.
+  pub runReport : AllDone job done → (u : StateTables) (choices : List ℕ) → lentShort f u ≡ false →
+      ran f u choices .answer ≡ finished (over (wordsOf job) accepted) (over messagesOf accepted) (length accepted)
+
+-- Demand 3: what holds after the list rs of requests on the job tables f, from a fresh state in the buffers t.
+abbrev pub Demand3 : JobTables → StateTables → List Request → Type 0
+Demand3 f t rs = AfterList f t rs (jobOf f) (acceptedIn f t rs) (doneIn f t rs) (tablesAfter f t rs) (view (jobOf f) (tablesAfter f t rs))
 
 -- The request for a step that lends of each table what it needs.
-unfoldable pub whole : Job → Step → Request
-whole j x = record {
-  asked = record { kind = number (x .kind); first = x .first; second = x .second };
+unfoldable pub wholeRequest : Job → Step → Request
+wholeRequest j x = record {
+  asked = record { kind = kindNumber (x .kind); first = x .first; second = x .second };
   job = record {
     price = j .offers;
     offerOwner = j .offers;
@@ -128,10 +151,12 @@ whole j x = record {
 -- A run is the list of the steps it picks, until all are done.
 pub record RunIsList (f : JobTables) (t : StateTables) (choices : List ℕ) : Type 0 where
   -- Only 20 refuses it; else it reports the words of the owner tables, the messages and the steps of the job.
-  pub answer : ran f t choices .answer ≡ reported (cond (lentShort f t) 20 0) (finished (ownerWords (jobOf f)) (messages (jobOf f)) (stepCount (jobOf f)))
+  pub answer : ran f t choices .answer ≡ reported (cond (lentShort f t) 20 0) (finished (ownerWords (jobOf f)) (messageCount (jobOf f)) (stepCount (jobOf f)))
   -- Requests for its steps are all accepted, do all steps, and leave its tables.
-  pub accepted : accepted f t (map (whole (jobOf f)) (run (jobOf f) choices)) ≡ run (jobOf f) choices
-  pub allDone : AllDone (jobOf f) (doneIn f t (map (whole (jobOf f)) (run (jobOf f) choices)))
-  pub tables : lentShort f t ≡ false → ran f t choices .tables ≡ left f t (map (whole (jobOf f)) (run (jobOf f) choices))
+  pub accepted : acceptedIn f t (map (wholeRequest (jobOf f)) (run (jobOf f) choices)) ≡ run (jobOf f) choices
+  pub allDone : AllDone (jobOf f) (doneIn f t (map (wholeRequest (jobOf f)) (run (jobOf f) choices)))
+  pub tables : lentShort f t ≡ false → ran f t choices .tables ≡ tablesAfter f t (map (wholeRequest (jobOf f)) (run (jobOf f) choices))
+  -- It leaves every grocer's plain sum in the statements.
+  pub statements : lentShort f t ≡ false → (g : ℕ) → g < f .grocers → getD (ran f t choices .tables .statement) g (pos 0) ≡ plainSum (jobOf f) g
   -- A refusal changes no word.
   pub keeps : lentShort f t ≡ true → ran f t choices .tables ≡ t

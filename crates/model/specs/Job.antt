@@ -3,7 +3,7 @@ use mathlib.Core.Bool.{Bool, _&&_, not}
 use Prim.Native.Nat.{ℕ}
 use lib.Dec.{eqb, ltb}
 use lib.IntN.{ℤ, pos, _*ℤ_}
-use Rattle.laws.specs.Below.{any, sum, only, amounts}
+use Rattle.laws.specs.Below.{any, sum, only, integers}
 use Rattle.laws.specs.Masks.{maskOf}
 
 -- Grocers are rows, offers are columns, a tally is one coordinate entry held by one box. Each table is a function of the place, from 0.
@@ -25,7 +25,7 @@ module _ (j : Job) where
   unfoldable pub heldBy : ℕ → ℕ → Bool
   heldBy t b = eqb (j .tallyBox t) b && ltb b (j .boxes)
 
-  -- Some box holds tally t: its own.
+  -- Tally t counts: some box of the job, its own, holds it. In a job in range every tally counts.
   unfoldable pub held : ℕ → Bool
   held t = heldBy t (j .tallyBox t)
 
@@ -65,6 +65,6 @@ module _ (j : Job) where
   unfoldable pub amount : ℕ → ℕ → ℤ
   amount p t = j .tallyCount t *ℤ pos p
 
-  -- The plain sum of grocer g: count × price over all its tallies. What every statement must come to.
+  -- The plain sum of grocer g: count × price over all its tallies that count. What every statement must come to.
   unfoldable pub plainSum : ℕ → ℤ
-  plainSum g = sum amounts (j .tallies) (λ t. only amounts (held t && eqb (j .tallyGrocer t) g) (amount (j .price (j .tallyOffer t)) t))
+  plainSum g = sum integers (j .tallies) (λ t. only integers (held t && eqb (j .tallyGrocer t) g) (amount (j .price (j .tallyOffer t)) t))

@@ -1,6 +1,7 @@
 -- The definitions of the settlement, in the order in which docs/READING.md reads them.
 pub mod Job
 pub mod Steps
+pub mod Boxes
 pub mod Words
 pub mod Tables
 pub mod Ranges

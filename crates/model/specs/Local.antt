@@ -1,22 +1,17 @@
 -- The local book of a box (its local matrix, packed by offer), and the tables of words between boxes.
 use mathlib.Core.Path.{_≡_}
 use mathlib.Core.List.{List, [], _∷_, _++_}
-use mathlib.Core.Bool.{Bool, cond, _&&_, _||_, not}
+use mathlib.Core.Bool.{Bool, _&&_, _||_, not}
 use Prim.Native.Nat.{ℕ, zero, suc, _+_, _-_, _<_}
 use lib.ListN.{getD, length}
 use lib.Dec.{eqb, ltb}
 use lib.IntN.{ℤ, pos}
-use Rattle.laws.specs.Below.{sum, only, words, count, find}
+use Rattle.laws.specs.Below.{sum, only, naturals, count, find, ascending}
 use Rattle.laws.specs.Tables.{tabulate}
 use Rattle.laws.specs.Checks.{anyOf}
 use Rattle.model.specs.Job.{Job, heldBy, priceWord, totalWord}
 use Rattle.model.specs.Tables.{JobTables, jobOf, jobLengths, jobShort}
 use Rattle.model.specs.Ranges.{jobInRange}
-
--- The numbers below n that pass p, ascending.
-unfoldable pub ascending : ℕ → (ℕ → Bool) → List ℕ
-ascending zero p = []
-ascending (suc n) p = ascending n p ++ cond (p n) (n ∷ []) []
 
 -- The lists f 0, f 1, .. f (n − 1), one behind the other.
 unfoldable pub chained : ℕ → (ℕ → List ℕ) → List ℕ
@@ -42,7 +37,7 @@ module _ (j : Job) (b : ℕ) where
 
   -- Where the list of local offer i begins: behind the tallies of those before it.
   unfoldable pub start : ℕ → ℕ
-  start i = sum words i (λ k. count (j .tallies) (ofOffer k))
+  start i = sum naturals i (λ k. count (j .tallies) (ofOffer k))
 
   -- Starts: one more than local offers, the first 0.
   unfoldable pub starts : List ℕ
@@ -54,7 +49,7 @@ pub record Packed (j : Job) (b : ℕ) (grocers : List ℕ) (counts : List ℤ) :
   pub grocer : (i : ℕ) → i < start j b (length (localOffers j b)) → getD grocers i 0 ≡ localGrocer j b (j .tallyGrocer (tally i))
   pub counted : (i : ℕ) → i < start j b (length (localOffers j b)) → getD counts i (pos 0) ≡ j .tallyCount (tally i)
   pub once : (k t : ℕ) → k < length (localOffers j b) → t < j .tallies →
-      count (start j b (suc k) - start j b k) (λ i. eqb (tally (start j b k + i)) t) ≡ only words (ofOffer j b k t) 1
+      count (start j b (suc k) - start j b k) (λ i. eqb (tally (start j b k + i)) t) ≡ only naturals (ofOffer j b k t) 1
 
 module _ (j : Job) where
   -- The words from each box to each other box form 16 rows of 16 counts; the row is the sender. One such table for prices

@@ -5,7 +5,7 @@ use Prim.Native.Nat.{ℕ, zero, suc}
 use lib.ListN.{getD, length}
 use lib.Dec.{eqb, ltb, leb}
 use lib.IntN.{ℤ, pos, natAbs, _+ℤ_, _*ℤ_}
-use Rattle.laws.specs.Below.{only, amounts}
+use Rattle.laws.specs.Below.{only, integers}
 use Rattle.laws.specs.Checks.{firstMet, allOf}
 use Rattle.model.specs.Ranges.{maxBoxes, maxGrocers, maxOffers, maxTallies, maxPrice, maxCount, upTo}
 
@@ -28,12 +28,12 @@ recordsInRange m n (r ∷ rs) = recordInRange m n r && recordsInRange m n rs
 -- The serial amount of grocer g: count × price over its records. Tallies of other grocers are passed over.
 unfoldable pub serialAmount : List ℕ → ℕ → List TallyRecord → ℤ
 serialAmount prices g [] = pos 0
-serialAmount prices g (r ∷ rs) = only amounts (eqb (r .grocer) g) (r .count *ℤ pos (getD prices (r .place) 0)) +ℤ serialAmount prices g rs
+serialAmount prices g (r ∷ rs) = only integers (eqb (r .grocer) g) (r .count *ℤ pos (getD prices (r .place) 0)) +ℤ serialAmount prices g rs
 
--- What the desk answers.
+-- What the desk answers: the amount owed, or the number of the refusal.
 pub data DeskAnswer : Type 0 where
-  owed : ℤ → DeskAnswer
-  refused : ℕ → DeskAnswer
+  owed : (amount : ℤ) → DeskAnswer
+  refused : (number : ℕ) → DeskAnswer
 
 -- The refusals of the desk, for M, N, the grocer wanted, the prices and the records.
 unfoldable pub deskRefusals : ℕ → ℕ → ℕ → List ℕ → List TallyRecord → List (Bool × ℕ)
@@ -52,6 +52,7 @@ deskRefusals m n g prices rs =
     )
     ∷ []
 
+-- The answer by the number of the first condition met: the amount where none is.
 unfoldable pub deskAnswer : ℕ → ℤ → DeskAnswer
 deskAnswer zero z = owed z
 deskAnswer (suc n) z = refused (suc n)

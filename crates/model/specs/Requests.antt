@@ -1,13 +1,11 @@
 -- Lists of step requests: each lends a part of the host's tables, and the next one finds the whole state.
 use mathlib.Core.List.{List, [], _∷_, _++_}
 use mathlib.Core.Bool.{Bool, cond, _||_}
-use Prim.Native.Nat.{ℕ}
 use lib.ListN.{take, drop}
-use lib.Dec.{eqb}
 use Rattle.model.specs.Job.{Job}
 use Rattle.model.specs.Steps.{Step, Steps, doneBy}
 use Rattle.model.specs.Tables.{JobTables, StateTables, JobLengths, StateLengths, jobShort, stateShort}
-use Rattle.model.specs.Step.{Asked, stepOf, stepped, freshTables}
+use Rattle.model.specs.Step.{Asked, stepOf, StepAnswer, isAccepted, stepped, freshTables}
 
 -- A request: what it asks for, and how many words it lends of each of the fourteen tables.
 pub record Request : Type 0 where
@@ -61,7 +59,7 @@ lendsShort j r = jobShort j (r .job) || stateShort j (r .state)
 
 module _ (f : JobTables) where
   -- The answer to a request: the step's, on the tables as lent.
-  unfoldable pub answerTo : StateTables → Request → ℕ
+  unfoldable pub answerTo : StateTables → Request → StepAnswer
   answerTo t r = stepped (lentJob f (r .job)) (lentState t (r .state)) (r .asked) .answer
 
   -- The host's tables after a request: the step's, put back.
@@ -76,16 +74,26 @@ module _ (f : JobTables) where
   -- The steps of the requests that were accepted, in order.
   unfoldable pub acceptedFrom : StateTables → List Request → List Step
   acceptedFrom t [] = []
-  acceptedFrom t (r ∷ rs) = cond (eqb (answerTo t r) 0) (stepOf (r .asked) ∷ acceptedFrom (serve t r) rs) (acceptedFrom (serve t r) rs)
+  acceptedFrom t (r ∷ rs) =
+      cond (isAccepted (answerTo t r)) (stepOf (r .asked) ∷ acceptedFrom (serve t r) rs) (acceptedFrom (serve t r) rs)
+
+  -- The answers to the requests of a list, in order.
+  unfoldable pub answersFrom : StateTables → List Request → List StepAnswer
+  answersFrom t [] = []
+  answersFrom t (r ∷ rs) = answerTo t r ∷ answersFrom (serve t r) rs
 
   -- The tables that a list of requests leaves. The first is lent a fresh state of the job, whatever the buffers t held before.
-  unfoldable pub left : StateTables → List Request → StateTables
-  left t rs = serveAll (freshTables f t) rs
+  unfoldable pub tablesAfter : StateTables → List Request → StateTables
+  tablesAfter t rs = serveAll (freshTables f t) rs
+
+  -- The answers to the list.
+  unfoldable pub answersIn : StateTables → List Request → List StepAnswer
+  answersIn t rs = answersFrom (freshTables f t) rs
 
   -- The steps accepted in a list.
-  unfoldable pub accepted : StateTables → List Request → List Step
-  accepted t rs = acceptedFrom (freshTables f t) rs
+  unfoldable pub acceptedIn : StateTables → List Request → List Step
+  acceptedIn t rs = acceptedFrom (freshTables f t) rs
 
   -- A step, a kind with its boxes, is done once a request for it in the list was accepted.
   unfoldable pub doneIn : StateTables → List Request → Steps
-  doneIn t rs = doneBy (accepted t rs)
+  doneIn t rs = doneBy (acceptedIn t rs)

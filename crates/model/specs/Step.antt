@@ -1,7 +1,7 @@
--- The step entry: its answer for every input, and the tables that it leaves. THE definition that the step's contract cites.
+-- The step: its refusals in order, its answer for every input, and the tables that it leaves.
 use mathlib.Core.List.{List, [], _∷_, _++_}
-use mathlib.Core.Bool.{Bool, cond, _&&_, not}
-use Prim.Native.Nat.{ℕ}
+use mathlib.Core.Bool.{Bool, true, false, cond, _&&_, not}
+use Prim.Native.Nat.{ℕ, zero, suc}
 use lib.Dec.{eqb, ltb, leb}
 use Rattle.laws.specs.Checks.{firstMet}
 use Rattle.model.specs.Job.{Job}
@@ -57,27 +57,42 @@ module _ (f : JobTables) (t : StateTables) where
       ++ (not (stateInRange f (moved q)), 21)
       ∷ []
 
-  -- The answer: 0 where the request is accepted, else the number of the refusal.
-  unfoldable pub answer : Asked → ℕ
-  answer q = firstMet (refusals q)
+  -- The number of the first condition met, or 0 where none is.
+  unfoldable pub stepRefusal : Asked → ℕ
+  stepRefusal q = firstMet (refusals q)
 
   -- The tables that the step leaves: a refusal changes no word.
-  unfoldable pub after : Asked → StateTables
-  after q = cond (eqb (answer q) 0) (moved q) t
+  unfoldable pub stepTables : Asked → StateTables
+  stepTables q = cond (eqb (stepRefusal q) 0) (moved q) t
 
 -- A fresh state of the job, written into the tables t.
 unfoldable pub freshTables : JobTables → StateTables → StateTables
 freshTables f t = store (jobOf f) (fresh (jobOf f)) t
 
--- What a call gives: its answer, and the state's tables.
+-- What a step answers: the request is accepted, or refused under a number.
+pub data StepAnswer : Type 0 where
+  accepted : StepAnswer
+  refused : (number : ℕ) → StepAnswer
+
+-- The answer by the number of the first condition met: accepted where none is.
+unfoldable pub stepAnswer : ℕ → StepAnswer
+stepAnswer zero = accepted
+stepAnswer (suc n) = refused (suc n)
+
+-- The request is accepted.
+unfoldable pub isAccepted : StepAnswer → Bool
+isAccepted accepted = true
+isAccepted (refused n) = false
+
+-- What a step gives: its answer, and the state's tables.
 pub record Outcome : Type 0 where
-  pub answer : ℕ
+  pub answer : StepAnswer
   pub tables : StateTables
 
--- What a call gives, as a contract names it.
-abbrev pub outcome : ℕ → StateTables → Outcome
-outcome n t = record { answer = n; tables = t }
+-- What a step gives, as a contract names it.
+abbrev pub outcome : StepAnswer → StateTables → Outcome
+outcome a t = record { answer = a; tables = t }
 
--- The step.
+-- The step: THE definition that its contract cites.
 unfoldable pub stepped : JobTables → StateTables → Asked → Outcome
-stepped f t q = outcome (answer f t q) (after f t q)
+stepped f t q = outcome (stepAnswer (stepRefusal f t q)) (stepTables f t q)

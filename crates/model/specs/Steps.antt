@@ -1,10 +1,10 @@
 -- The steps: which a job has, when each is ready, and what each does to the state.
-use mathlib.Core.List.{List, [], _∷_}
+use mathlib.Core.List.{List, [], _∷_, map}
 use mathlib.Core.Bool.{Bool, true, false, cond, _&&_, _||_, not}
-use Prim.Native.Nat.{ℕ, zero, suc, _+_}
+use Prim.Native.Nat.{ℕ, zero, suc, _+_, _-_, _*_, _/_, _%_}
 use lib.Dec.{eqb, ltb}
 use lib.IntN.{ℤ, pos, _+ℤ_}
-use Rattle.laws.specs.Below.{sum, only, amounts, all, count}
+use Rattle.laws.specs.Below.{sum, only, integers, all, count, ascending}
 use Rattle.model.specs.Job.{Job, heldBy, priceWord, totalWord, pricesDue, totalsDue, amount}
 
 -- The six kinds of step. Multiplying is 01's sweep: count × price of tallies, added into working totals.
@@ -12,13 +12,13 @@ pub data Kind : Type 0 where
   sendPrices multiplyOwn receivePrices sendTotals addOwn receiveTotals : Kind
 
 -- The number of a kind, 1 to 6.
-unfoldable pub number : Kind → ℕ
-number sendPrices = 1
-number multiplyOwn = 2
-number receivePrices = 3
-number sendTotals = 4
-number addOwn = 5
-number receiveTotals = 6
+unfoldable pub kindNumber : Kind → ℕ
+kindNumber sendPrices = 1
+kindNumber multiplyOwn = 2
+kindNumber receivePrices = 3
+kindNumber sendTotals = 4
+kindNumber addOwn = 5
+kindNumber receiveTotals = 6
 
 -- The kind of a number from 1 to 6. Other numbers are refused with 22 before the kind matters.
 unfoldable pub kindOf : ℕ → Kind
@@ -36,14 +36,34 @@ pub record Step : Type 0 where
   pub first : ℕ
   pub second : ℕ
 
+-- Where k boxes have a table of marks, each kind with each two boxes has its place in it: by kind, first box, second box.
+abbrev pub stepPlace : ℕ → ℕ → ℕ → ℕ → ℕ
+stepPlace k kind a b = ((kind - 1) * k + a) * k + b
+
+-- The number of these places.
+abbrev pub places : ℕ → ℕ
+places k = 6 * k * k
+
+-- The step at place i.
+unfoldable pub stepAt : ℕ → ℕ → Step
+stepAt k i = record { kind = kindOf (suc (i / k / k)); first = i / k % k; second = i % k }
+
 -- A set of steps: kind, first box, second box.
 abbrev pub Steps : Type 0
 Steps = Kind → ℕ → ℕ → Bool
 
 -- The set d with one step more.
 unfoldable pub mark : Steps → Kind → ℕ → ℕ → Steps
-unfolding number
-mark d k a b = λ k′ a′ b′. eqb (number k′) (number k) && (eqb a′ a && eqb b′ b) || d k′ a′ b′
+unfolding kindNumber
+mark d k a b = λ k′ a′ b′. eqb (kindNumber k′) (kindNumber k) && (eqb a′ a && eqb b′ b) || d k′ a′ b′
+
+-- The step at place i is in the set d.
+abbrev pub atPlace : ℕ → Steps → ℕ → Bool
+atPlace k d i = d (stepAt k i .kind) (stepAt k i .first) (stepAt k i .second)
+
+-- The steps of a set as a list, in the order of their places.
+unfoldable pub listOf : ℕ → Steps → List Step
+listOf k d = map (stepAt k) (ascending (places k) (atPlace k d))
 
 -- The steps of a list, as a set.
 unfoldable pub doneBy : List Step → Steps
@@ -122,8 +142,8 @@ module _ (j : Job) where
   -- Count × price over the tallies of box a and grocer g whose offer passes p, at the prices that the box knows.
   unfoldable pub products : (ℕ → ℕ) → (ℕ → Bool) → ℕ → ℕ → ℤ
   products know p a g =
-      sum amounts (j .tallies) (λ t.
-      only amounts (heldBy j t a && eqb (j .tallyGrocer t) g && p (j .tallyOffer t)) (amount j (know (j .tallyOffer t)) t))
+      sum integers (j .tallies) (λ t.
+      only integers (heldBy j t a && eqb (j .tallyGrocer t) g && p (j .tallyOffer t)) (amount j (know (j .tallyOffer t)) t))
 
   -- What box c knows of offer o once box a has received the prices from box b.
   unfoldable pub received : State → ℕ → ℕ → ℕ → ℕ → ℕ
@@ -193,5 +213,5 @@ module _ (j : Job) where
   }
 
   -- The effect of a step.
-  abbrev pub does : State → Step → State
-  does s x = effect s (x .kind) (x .first) (x .second)
+  abbrev pub effectOf : State → Step → State
+  effectOf s x = effect s (x .kind) (x .first) (x .second)

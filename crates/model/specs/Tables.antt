@@ -1,14 +1,14 @@
 -- The tables as they are lent, the job and the state that they hold, and how long each must be.
 use mathlib.Core.List.{List, [], _∷_}
 use mathlib.Core.Bool.{Bool, cond, _&&_, _||_}
-use Prim.Native.Nat.{ℕ, suc, _+_, _-_, _*_, _/_, _%_}
-use lib.ListN.{length}
+use Prim.Native.Nat.{ℕ, _*_}
+use lib.ListN.{getD, length}
 use lib.Dec.{eqb, ltb}
 use lib.IntN.{ℤ, pos}
 use Rattle.laws.specs.Tables.{overwrite, word, cell, recell}
 use Rattle.laws.specs.Checks.{anyOf}
 use Rattle.model.specs.Job.{Job}
-use Rattle.model.specs.Steps.{number, kindOf, State}
+use Rattle.model.specs.Steps.{kindNumber, stepPlace, places, Steps, atPlace, State}
 
 -- The job's tables: K, M, N and T as given, and seven lent slices.
 pub record JobTables : Type 0 where
@@ -78,6 +78,14 @@ stateTables known priceTransit working totalTransit statement done sent = record
   sent = sent;
 }
 
+-- The steps that a table of marks says are done, of k boxes: those with a 1 at their place.
+unfoldable pub stepsDone : ℕ → List ℕ → Steps
+stepsDone k marks = λ q a b. ltb a k && (ltb b k && eqb (getD marks (stepPlace k (kindNumber q) a b) 0) 1)
+
+-- The table of marks with the steps of d marked, and all others not.
+unfoldable pub marksOf : ℕ → Steps → List ℕ → List ℕ
+marksOf k d marks = overwrite (places k) (λ i. cond (atPlace k d i) 1 0) marks
+
 module _ (j : Job) where
   -- The state that the tables hold.
   unfoldable pub view : StateTables → State
@@ -87,7 +95,7 @@ module _ (j : Job) where
     working = cell (j .boxes) (j .grocers) (t .working) (pos 0);
     totalTransit = cell (j .boxes) (j .grocers) (t .totalTransit) (pos 0);
     statement = word (j .grocers) (t .statement) (pos 0);
-    done = λ k a b. ltb a (j .boxes) && eqb (cell (6 * j .boxes) (j .boxes) (t .done) 0 ((number k - 1) * j .boxes + a) b) 1;
+    done = stepsDone (j .boxes) (t .done);
     sent = word 1 (t .sent) 0 0;
   }
 
@@ -99,7 +107,7 @@ module _ (j : Job) where
     working = recell (j .boxes) (j .grocers) (s .working) (t .working);
     totalTransit = recell (j .boxes) (j .grocers) (s .totalTransit) (t .totalTransit);
     statement = overwrite (j .grocers) (s .statement) (t .statement);
-    done = recell (6 * j .boxes) (j .boxes) (λ r b. cond (s .done (kindOf (suc (r / j .boxes))) (r % j .boxes) b) 1 0) (t .done);
+    done = marksOf (j .boxes) (s .done) (t .done);
     sent = overwrite 1 (λ i. s .sent) (t .sent);
   }
 

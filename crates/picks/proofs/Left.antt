@@ -1,37 +1,40 @@
 -- One step more of a run: what is left of it, and what it comes to. Assumes nothing.
-use mathlib.Core.Path.{_≡_, refl, ap, _∙_}
+use mathlib.Core.Path.{_≡_, refl, sym, ap, _∙_}
 use mathlib.Core.Bool.{true, false}
 use mathlib.Core.List.{List, [], _∷_}
-use Prim.Native.Nat.{ℕ, zero, suc, _+_, _%_, _<_, _≤_}
+use Prim.Native.Nat.{ℕ, zero, suc, _+_, _<_, _≤_}
 use native.Mathlib.Omega.{arith}
-use native.Mathlib.Nat.{mod-lt, zero-mod}
+use native.Mathlib.Nat.{zero-mod}
 use lib.Dec.{eqb}
 use lib.ListN.{length, getD, drop}
 use borrow.Author.Tests.{eqb-true, eqb-false, eq-eqb, ne-eqb}
-use Rattle.laws.specs.Below.{any, count}
+use Rattle.laws.specs.Below.{any, nth}
 use Rattle.laws.proofs.Bools.{split, clash, no-true}
 use Rattle.laws.proofs.Below.{count-none, any-false, count-zero, any-find}
 use Rattle.model.specs.Job.{Job}
-use Rattle.model.specs.Steps.{Kind, Steps, State, Step, mark, hasStep, permitted, does}
-use Rattle.model.specs.Words.{over, sends, stepCount}
-use Rattle.model.specs.Run.{nth, stepAt, places, listed, readyCount, pick, picks, afterSteps}
+use Rattle.model.specs.Steps.{Kind, Steps, State, Step, mark, hasStep, permitted, effectOf, stepAt, places}
+use Rattle.model.specs.Words.{over, messagesOf, stepCount}
+use Rattle.model.specs.Run.{listed, readyCount, pick, picks, afterSteps}
 use Rattle.model.specs.Demand3.{AllDone}
-use Rattle.picks.specs.Left.{left, comesTo, whole, Few}
+use Rattle.picks.specs.Left.{stepsLeft, comesTo, whole, Few}
 use Rattle.picks.specs.Way.{NoneBefore}
 use Rattle.model.proofs.Range.{InRange}
 use Rattle.model.proofs.Machine.{size}
 use Rattle.model.proofs.Core.{first<, second<, Permit, permit}
-use Rattle.model.proofs.Reach.{Sound, effect-done, sound-effect}
+use Rattle.model.specs.Boxes.{Sound}
+use Rattle.model.proofs.Reach.{effect-done, sound-effect}
 use Rattle.model.proofs.Counting.{size-mark, size-le, all-of-size, steps-number}
-use Rattle.model.proofs.Run.{nth-passes}
-use Rattle.model.proofs.Cursor.{nth-first, listed-kept, listed-done}
+use Rattle.model.proofs.Listed.{ready-count, pick-is}
+use Rattle.model.proofs.Run.{picked}
+use Rattle.laws.proofs.Ascending.{nth-first}
+use Rattle.model.proofs.Cursor.{listed-kept, listed-done}
 
 same-whole : {s s′ : State} {m m′ n n′ : ℕ} → s ≡ s′ → m ≡ m′ → n ≡ n′ → whole s m n ≡ whole s′ m′ n′
 same-whole p q r = λ i. record { state = p i; messages = q i; steps = r i }
 
 -- One step more, and none, where there is room.
 picks-next : (j : Job) (n : ℕ) (s : State) (cs : List ℕ) → eqb (readyCount j (s .done)) 0 ≡ false →
-    picks j (suc n) s cs ≡ pick j (s .done) (getD cs 0 0) ∷ picks j n (does j s (pick j (s .done) (getD cs 0 0))) (drop 1 cs)
+    picks j (suc n) s cs ≡ pick j (s .done) (getD cs 0 0) ∷ picks j n (effectOf j s (pick j (s .done) (getD cs 0 0))) (drop 1 cs)
 unfolding picks
 picks-next j n s cs e = rw e
 
@@ -41,26 +44,19 @@ picks-none j zero s cs e = refl
 picks-none j (suc n) s cs e = rw e
 
 module _ (j : Job) where
-  -- What is picked is permitted.
-  pub picked : (d : Steps) (c : ℕ) → eqb (readyCount j d) 0 ≡ false → permitted j d (pick j d c .kind) (pick j d c .first) (pick j d c .second) ≡ true
-  unfolding pick readyCount listed
-  picked d c h =
-      let ne : readyCount j d ≡ 0 → ⊥ = eqb-false (readyCount j d) 0 h in
-      nth-passes (places j) (listed j d) (c % readyCount j d) (mod-lt c (omega arith)) .1
-
   -- No step is ready where all are done.
   all-none : (d : Steps) → AllDone j d → readyCount j d ≡ 0
-  unfolding AllDone readyCount listed
-  all-none d h = count-none (places j) (listed j d) (any-false (places j) (listed j d) (λ i l. done-not (stepAt j i .kind) (stepAt j i .first) (stepAt j i .second)))
+  unfolding AllDone listed
+  all-none d h = ready-count j d ∙ count-none (places (j .boxes)) (listed j d) (any-false (places (j .boxes)) (listed j d) (λ i l. done-not (stepAt (j .boxes) i .kind) (stepAt (j .boxes) i .first) (stepAt (j .boxes) i .second)))
     where
       done-not : (k : Kind) (a b : ℕ) → permitted j d k a b ≡ false
       done-not k a b = no-true (permitted j d k a b) (λ e. let p = permit j d k a b e in clash (h k a b (p .has)) (p .fresh-one))
 
   module _ (r : InRange j) where
-    does-sound : (s : State) (x : Step) → Sound j s → permitted j (s .done) (x .kind) (x .first) (x .second) ≡ true → Sound j (does j s x)
+    does-sound : (s : State) (x : Step) → Sound j s → permitted j (s .done) (x .kind) (x .first) (x .second) ≡ true → Sound j (effectOf j s x)
     does-sound s x o h = sound-effect j r s (x .kind) (x .first) (x .second) o (permit j (s .done) (x .kind) (x .first) (x .second) h)
 
-    does-size : (s : State) (x : Step) → permitted j (s .done) (x .kind) (x .first) (x .second) ≡ true → size j (does j s x .done) ≡ size j (s .done) + 1
+    does-size : (s : State) (x : Step) → permitted j (s .done) (x .kind) (x .first) (x .second) ≡ true → size j (effectOf j s x .done) ≡ size j (s .done) + 1
     does-size s x h =
         let p : Permit j (s .done) (x .kind) (x .first) (x .second) = permit j (s .done) (x .kind) (x .first) (x .second) h in
         rw (effect-done j s (x .kind) (x .first) (x .second))
@@ -82,30 +78,30 @@ module _ (j : Job) where
         split (eqb (readyCount j (s .done)) 0)
         (λ e. rw e)
         (λ e. let x = pick j (s .done) (getD cs 0 0) in
-        let p : permitted j (s .done) (x .kind) (x .first) (x .second) ≡ true = picked (s .done) (getD cs 0 0) e in
-        rw e (ap (λ (l : List Step). x ∷ l) (room-same n m (does j s x) (drop 1 cs) (does-sound s x o p) (omega (arith, does-size s x p)) (omega (arith, does-size s x p)))))
+        let p : permitted j (s .done) (x .kind) (x .first) (x .second) ≡ true = picked j (s .done) (getD cs 0 0) e in
+        rw e (ap (λ (l : List Step). x ∷ l) (room-same n m (effectOf j s x) (drop 1 cs) (does-sound s x o p) (omega (arith, does-size s x p)) (omega (arith, does-size s x p)))))
 
     -- What is left of a run, one step unfolded.
     pub left-next : (s : State) (cs : List ℕ) → Sound j s → eqb (readyCount j (s .done)) 0 ≡ false →
-        left j s cs ≡ pick j (s .done) (getD cs 0 0) ∷ left j (does j s (pick j (s .done) (getD cs 0 0))) (drop 1 cs)
-    unfolding left
+        stepsLeft j s cs ≡ pick j (s .done) (getD cs 0 0) ∷ stepsLeft j (effectOf j s (pick j (s .done) (getD cs 0 0))) (drop 1 cs)
+    unfolding stepsLeft
     left-next s cs o e =
         room-same (stepCount j) (suc (stepCount j)) s cs o (omega (arith, steps-number j)) (omega (arith, steps-number j)) ∙ picks-next j (stepCount j) s cs e
 
     -- A step that is done is counted, and what the run comes to is the same.
     pub comes-next : (s : State) (cs : List ℕ) (m n : ℕ) (x : Step) → Sound j s → eqb (readyCount j (s .done)) 0 ≡ false → pick j (s .done) (getD cs 0 0) ≡ x →
-        comesTo j (does j s x) (drop 1 cs) (m + sends (x .kind) (x .first) (x .second)) (n + 1) ≡ comesTo j s cs m n
+        comesTo j (effectOf j s x) (drop 1 cs) (m + messagesOf (x .kind) (x .first) (x .second)) (n + 1) ≡ comesTo j s cs m n
     unfolding comesTo afterSteps over
     comes-next s cs m n x o e p =
         rw (left-next s cs o e, p)
-        (same-whole refl (omega arith) (more n (length (left j (does j s x) (drop 1 cs)))))
+        (same-whole refl (omega arith) (more n (length (stepsLeft j (effectOf j s x) (drop 1 cs)))))
       where
         more : (n l : ℕ) → n + 1 + l ≡ n + suc l
         more n l = omega arith
 
 -- Where no step is ready nothing is left.
-pub left-none : (j : Job) (s : State) (cs : List ℕ) → eqb (readyCount j (s .done)) 0 ≡ true → left j s cs ≡ []
-unfolding left
+pub left-none : (j : Job) (s : State) (cs : List ℕ) → eqb (readyCount j (s .done)) 0 ≡ true → stepsLeft j s cs ≡ []
+unfolding stepsLeft
 left-none j s cs e = picks-none j (stepCount j) s cs e
 
 pub comes-none : (j : Job) (s : State) (cs : List ℕ) (m n : ℕ) → eqb (readyCount j (s .done)) 0 ≡ true → comesTo j s cs m n ≡ whole s m n
@@ -118,14 +114,13 @@ unfolding comesTo
 few-so-far j s cs m n w = (omega (arith, w .messages-few), omega (arith, w .steps-few))
 
 -- Without choices the first ready step is picked.
-pub first-picked : (j : Job) (d : Steps) (i : ℕ) → i < places j → listed j d i ≡ true → NoneBefore j d i → pick j d 0 ≡ stepAt j i
-unfolding pick NoneBefore
-first-picked j d i l h none = ap (stepAt j) (ap (nth (places j) (listed j d)) (zero-mod (readyCount j d)) ∙ nth-first (places j) (listed j d) i l h none)
+pub first-picked : (j : Job) (d : Steps) (i : ℕ) → i < places (j .boxes) → listed j d i ≡ true → NoneBefore j d i → pick j d 0 ≡ stepAt (j .boxes) i
+unfolding NoneBefore
+first-picked j d i l h none = pick-is j d 0 ∙ ap (stepAt (j .boxes)) (ap (nth (places (j .boxes)) (listed j d)) (zero-mod (readyCount j d)) ∙ nth-first (places (j .boxes)) (listed j d) i l h none)
 
 -- Some step is ready where one is listed.
-pub some-ready : (j : Job) (d : Steps) (i : ℕ) → i < places j → listed j d i ≡ true → eqb (readyCount j d) 0 ≡ false
-unfolding readyCount
-some-ready j d i l h = ne-eqb (count (places j) (listed j d)) 0 (λ z. clash h (count-zero (places j) (listed j d) i l z))
+pub some-ready : (j : Job) (d : Steps) (i : ℕ) → i < places (j .boxes) → listed j d i ≡ true → eqb (readyCount j d) 0 ≡ false
+some-ready j d i l h = ne-eqb (readyCount j d) 0 (λ z. clash h (count-zero (places (j .boxes)) (listed j d) i l (sym (ready-count j d) ∙ z)))
 
 -- One place more without a ready step: it is not ready, or it is done now.
 pub none-more : (j : Job) (d : Steps) (i : ℕ) → NoneBefore j d i → listed j d i ≡ false → NoneBefore j d (i + 1)
@@ -135,15 +130,15 @@ none-more j d i none h x l =
     (λ e. rw (eqb-true x i e) h)
     (λ e. let ne : x ≡ i → ⊥ = eqb-false x i e in none x (omega arith))
 
-pub none-done : (j : Job) (d : Steps) (i : ℕ) → i < places j → NoneBefore j d i → NoneBefore j (mark d (stepAt j i .kind) (stepAt j i .first) (stepAt j i .second)) (i + 1)
+pub none-done : (j : Job) (d : Steps) (i : ℕ) → i < places (j .boxes) → NoneBefore j d i → NoneBefore j (mark d (stepAt (j .boxes) i .kind) (stepAt (j .boxes) i .first) (stepAt (j .boxes) i .second)) (i + 1)
 unfolding NoneBefore
 none-done j d i l none =
-    none-more j (mark d (stepAt j i .kind) (stepAt j i .first) (stepAt j i .second)) i (λ x h. listed-kept j d i l x h (none x h)) (listed-done j d i l)
+    none-more j (mark d (stepAt (j .boxes) i .kind) (stepAt (j .boxes) i .first) (stepAt (j .boxes) i .second)) i (λ x h. listed-kept j d i l x h (none x h)) (listed-done j d i l)
 
 -- No place has a ready step: none is ready.
-pub none-at-all : (j : Job) (d : Steps) → NoneBefore j d (places j) → eqb (readyCount j d) 0 ≡ true
-unfolding NoneBefore readyCount
-none-at-all j d none = eq-eqb (count (places j) (listed j d)) 0 (count-none (places j) (listed j d) (any-no (places j) none))
+pub none-at-all : (j : Job) (d : Steps) → NoneBefore j d (places (j .boxes)) → eqb (readyCount j d) 0 ≡ true
+unfolding NoneBefore
+none-at-all j d none = eq-eqb (readyCount j d) 0 (ready-count j d ∙ count-none (places (j .boxes)) (listed j d) (any-no (places (j .boxes)) none))
   where
     any-no : (n : ℕ) → ((i : ℕ) → i < n → listed j d i ≡ false) → any n (listed j d) ≡ false
     any-no n h = no-true (any n (listed j d)) (λ q. let (i, l, e) = any-find n (listed j d) q in clash e (h i l))

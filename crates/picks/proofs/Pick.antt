@@ -11,15 +11,15 @@ use lib.Dec.{eqb}
 use lib.ListN.{length, getD, drop}
 use lib.Seq.{drop-cons}
 use borrow.Author.Tests.{le-leb, leb-true, ne-eqb}
-use Rattle.laws.specs.Below.{count}
+use Rattle.laws.specs.Below.{count, nth}
 use Rattle.laws.proofs.Bools.{and-true, and-l, and-r}
-use Rattle.model.specs.Steps.{kindOf, Steps, State, mark, permitted}
-use Rattle.model.specs.Tables.{JobTables, jobOf, StateTables, view, stateLengths}
+use Rattle.model.specs.Steps.{kindOf, Steps, State, mark, permitted, stepAt, places}
+use Rattle.model.specs.Tables.{JobTables, jobOf, StateTables, view, stateLengths, stepsDone}
 use Rattle.model.specs.Ranges.{sizesInRange, jobWordsInRange, jobInRange}
 use Rattle.model.specs.Step.{asked, isKind, stepOf, moved}
-use Rattle.model.specs.Words.{sends}
-use Rattle.model.specs.Run.{nth, stepAt, places, listed, readyCount, pick}
-use Rattle.prices.specs.Marks.{MarksIn, stepsDone}
+use Rattle.model.specs.Words.{messagesOf}
+use Rattle.model.specs.Run.{listed, readyCount, pick}
+use Rattle.prices.specs.Marks.{MarksIn}
 use Rattle.refuse.specs.Rules.{permittedBy}
 use Rattle.walk.specs.Walk.{PlaceIn, here, listedBy, WalkIn, Found}
 use Rattle.walk.specs.Rows.{IsRows, RowsBefore}
@@ -31,7 +31,9 @@ use Rattle.model.proofs.Reach.{effect-done}
 use Rattle.walk.proofs.InModel.{marks-are, step-here, listed-is, count-is, nth-is-model}
 use Rattle.refuse.proofs.InModel.{permitted-is}
 use Rattle.walk.proofs.Changed.{rows-before}
-use Rattle.picks.proofs.Left.{picked, first-picked, some-ready, none-more, none-done}
+use Rattle.model.proofs.Listed.{pick-is}
+use Rattle.model.proofs.Run.{picked}
+use Rattle.picks.proofs.Left.{first-picked, some-ready, none-more, none-done}
 use Rattle.picks.proofs.Way.{way-whole, way-applies, moved-view, moved-way, moved-kept, kept-none}
 
 -- A job in range has boxes.
@@ -67,16 +69,16 @@ module _ (f : JobTables) (t : StateTables) (o : OnWay f t) (needs sharers : List
   unfolding jobOf
   way-count = count-is (jobOf f) prices totals (w .prices-are) (w .totals-are) (range f (o .job-in) .boxes≤) (some-box f (o .job-in)) t
 
-  way-nth : (c : ℕ) → nth (6 * f .boxes * f .boxes) (listedBy (f .boxes) prices totals (t .done)) c ≡ nth (places (jobOf f)) (listed (jobOf f) (view (jobOf f) t .done)) c
+  way-nth : (c : ℕ) → nth (6 * f .boxes * f .boxes) (listedBy (f .boxes) prices totals (t .done)) c ≡ nth (places (jobOf f .boxes)) (listed (jobOf f) (view (jobOf f) t .done)) c
   unfolding jobOf
   way-nth c = nth-is-model (jobOf f) prices totals (w .prices-are) (w .totals-are) (range f (o .job-in) .boxes≤) (some-box f (o .job-in)) t c
 
-  step-at : (kind a b : ℕ) → PlaceIn (f .boxes) kind a b → stepAt (jobOf f) (here (f .boxes) kind a b) ≡ stepOf (asked kind a b)
+  step-at : (kind a b : ℕ) → PlaceIn (f .boxes) kind a b → stepAt (jobOf f .boxes) (here (f .boxes) kind a b) ≡ stepOf (asked kind a b)
   unfolding jobOf stepOf
   step-at kind a b p = step-here (jobOf f) kind a b p
 
-  in-places : (kind a b : ℕ) → PlaceIn (f .boxes) kind a b → here (f .boxes) kind a b < places (jobOf f)
-  unfolding jobOf places
+  in-places : (kind a b : ℕ) → PlaceIn (f .boxes) kind a b → here (f .boxes) kind a b < places (jobOf f .boxes)
+  unfolding jobOf
   in-places kind a b p = place-below (f .boxes) kind a b p
 
   -- The step of a choice.
@@ -89,9 +91,8 @@ module _ (f : JobTables) (t : StateTables) (o : OnWay f t) (needs sharers : List
 
     module _ (kind a b : ℕ) (g : Found (f .boxes) (nth (6 * f .boxes * f .boxes) (listedBy (f .boxes) prices totals (t .done)) (choice % ready)) kind a b) where
       choice-picks : pick (jobOf f) (view (jobOf f) t .done) choice ≡ stepOf (asked kind a b)
-      unfolding pick
       choice-picks =
-          rw (← e) (ap (stepAt (jobOf f)) (sym (way-nth (choice % ready)) ∙ sym (g .place-is)) ∙ step-at kind a b (g .place-in))
+          pick-is (jobOf f) (view (jobOf f) t .done) choice ∙ rw (← e) (ap (stepAt (jobOf f .boxes)) (sym (way-nth (choice % ready)) ∙ sym (g .place-is)) ∙ step-at kind a b (g .place-in))
 
       choice-kind : isKind kind ≡ true
       choice-kind = place-kind (f .boxes) kind a b (g .place-in)
@@ -104,7 +105,7 @@ module _ (f : JobTables) (t : StateTables) (o : OnWay f t) (needs sharers : List
       choice-applies = way-applies f t o kind a b choice-kind choice-permitted needs sharers (w .needs-are) (w .sharers-are)
 
       pub choice-kept : (cs : List ℕ) (i : ℕ) → i < length cs → choice ≡ getD cs i 0 → (t′ : StateTables) → t′ ≡ moved f t (asked kind a b) →
-          (m n m′ n′ : ℕ) → m′ ≡ m + sends (kindOf kind) a b → n′ ≡ n + 1 → Kept f t (drop i cs) m n t′ (drop (i + 1) cs) m′ n′
+          (m n m′ n′ : ℕ) → m′ ≡ m + messagesOf (kindOf kind) a b → n′ ≡ n + 1 → Kept f t (drop i cs) m n t′ (drop (i + 1) cs) m′ n′
       choice-kept cs i l h t′ et m n m′ n′ em en =
           rw (drop-cons cs i 0 l, add-one i)
           (moved-kept f t o kind a b choice-kind choice-permitted t′ et (getD cs i 0 ∷ drop (suc i) cs) m n m′ n′ some-left (ap (pick (jobOf f) (view (jobOf f) t .done)) (sym h) ∙ choice-picks) em en)
@@ -162,7 +163,7 @@ module _ (f : JobTables) (t : StateTables) (o : OnWay f t) (needs sharers : List
       place-applies = way-applies f t o kind a b (place-kind (f .boxes) kind a b p) place-permitted needs sharers (w .needs-are) (w .sharers-are)
 
       pub place-passed : (t′ : StateTables) → t′ ≡ moved f t (asked kind a b) →
-          (m′ n′ : ℕ) → m′ ≡ m + sends (kindOf kind) a b → n′ ≡ n + 1 → Passed f t m n (here (f .boxes) kind a b) t′ m′ n′
+          (m′ n′ : ℕ) → m′ ≡ m + messagesOf (kindOf kind) a b → n′ ≡ n + 1 → Passed f t m n (here (f .boxes) kind a b) t′ m′ n′
       unfolding stepOf
       place-passed t′ et m′ n′ em en = record {
         kept = moved-kept f t o kind a b (place-kind (f .boxes) kind a b p) place-permitted t′ et [] m n m′ n′

@@ -2,7 +2,7 @@
 use mathlib.Core.Path.{_≡_, refl, sym, ap, ap₂, _∙_}
 use mathlib.Core.Bool.{Bool, true, false, cond, not}
 use mathlib.Core.List.{List}
-use Prim.Native.Nat.{ℕ, suc, _+_, _*_, _/_, _%_}
+use Prim.Native.Nat.{ℕ, _+_, _*_, _/_, _%_}
 use lib.Dec.{eqb}
 use lib.ListN.{getD, drop}
 use Rattle.laws.specs.Tables.{tabulate, recell}
@@ -10,16 +10,17 @@ use Rattle.laws.specs.Checks.{firstMet}
 use Rattle.laws.proofs.Bools.{and-true}
 use Rattle.laws.proofs.Tables.{length-overwrite}
 use Rattle.model.specs.Job.{Job, needWord, sharerWord}
-use Rattle.model.specs.Steps.{kindOf, Steps, State, fits, ready, permitted, effect}
-use Rattle.model.specs.Tables.{JobTables, jobOf, StateTables, view, store, jobLengths, jobShort, stateLengths, stateShort}
+use Rattle.model.specs.Steps.{kindOf, Steps, atPlace, State, fits, ready, permitted, effect}
+use Rattle.model.specs.Tables.{JobTables, jobOf, StateTables, marksOf, view, store, jobLengths, jobShort, stateLengths, stateShort}
 use Rattle.model.specs.Ranges.{jobInRange, stateInRange}
 use Rattle.model.specs.Step.{asked, isKind, stepOf, boxesFit, stepRules, moved}
-use Rattle.model.specs.Words.{sends}
+use Rattle.model.specs.Words.{messagesOf}
 use Rattle.model.specs.Run.{readyCount, pick}
 use Rattle.apply.specs.Apply.{Applies}
 use Rattle.picks.specs.Way.{OnWay, Kept}
 use Rattle.model.proofs.Core.{permit}
-use Rattle.model.proofs.Reach.{Sound, sound-effect}
+use Rattle.model.specs.Boxes.{Sound}
+use Rattle.model.proofs.Reach.{sound-effect}
 use Rattle.model.proofs.Refusal.{rules-zero}
 use Rattle.model.proofs.Step.{range, ok-store, whole-store}
 use Rattle.model.proofs.Lent.{state-long, store-store}
@@ -44,7 +45,7 @@ module _ (f : JobTables) (ok : jobInRange f ≡ true) (long : jobShort (jobOf f)
 
 -- What is written into whole tables leaves their lengths.
 store-lengths : (j : Job) (s : State) (t : StateTables) → stateShort j (stateLengths t) ≡ false → stateLengths (store j s t) ≡ stateLengths t
-unfolding stateLengths store recell
+unfolding stateLengths store recell marksOf
 store-lengths j s t h =
     let l = state-long j (stateLengths t) h in
     λ i. record {
@@ -53,7 +54,7 @@ store-lengths j s t h =
       working = length-overwrite (j .boxes * j .grocers) (λ k. s .working (k / j .grocers) (k % j .grocers)) (t .working) (l .working) i;
       totalTransit = length-overwrite (j .boxes * j .grocers) (λ k. s .totalTransit (k / j .grocers) (k % j .grocers)) (t .totalTransit) (l .totalTransit) i;
       statement = length-overwrite (j .grocers) (s .statement) (t .statement) (l .statement) i;
-      done = length-overwrite (6 * j .boxes * j .boxes) (λ k. cond (s .done (kindOf (suc (k / j .boxes / j .boxes))) (k / j .boxes % j .boxes) (k % j .boxes)) 1 0) (t .done) (l .done) i;
+      done = length-overwrite (6 * j .boxes * j .boxes) (λ k. cond (atPlace (j .boxes) (s .done) k) 1 0) (t .done) (l .done) i;
       sent = length-overwrite 1 (λ k. s .sent) (t .sent) (l .sent) i;
     }
 
@@ -119,7 +120,7 @@ module _ (f : JobTables) (t : StateTables) (o : OnWay f t) where
 
       -- and what the run comes to, where the step is the one that it picks.
       pub moved-kept : (cs : List ℕ) (m n m′ n′ : ℕ) → eqb (readyCount (jobOf f) (view (jobOf f) t .done)) 0 ≡ false →
-          pick (jobOf f) (view (jobOf f) t .done) (getD cs 0 0) ≡ stepOf (asked kind a b) → m′ ≡ m + sends (kindOf kind) a b → n′ ≡ n + 1 →
+          pick (jobOf f) (view (jobOf f) t .done) (getD cs 0 0) ≡ stepOf (asked kind a b) → m′ ≡ m + messagesOf (kindOf kind) a b → n′ ≡ n + 1 →
           Kept f t cs m n t′ (drop 1 cs) m′ n′
       unfolding stepOf
       moved-kept cs m n m′ n′ some q em en = record {

@@ -4,12 +4,12 @@ use Prim.Native.Nat.{ℕ, _+_, _≤_}
 use lib.ListN.{length}
 use Rattle.model.specs.Job.{Job}
 use Rattle.model.specs.Steps.{Step, State}
-use Rattle.model.specs.Words.{over, sends, stepCount}
+use Rattle.model.specs.Words.{over, messagesOf, stepCount}
 use Rattle.model.specs.Run.{picks, afterSteps}
 
 -- The steps that a run picks from the state s on, with the choices cs: at most as many as the job has.
-unfoldable pub left : Job → State → List ℕ → List Step
-left j s cs = picks j (stepCount j) s cs
+unfoldable pub stepsLeft : Job → State → List ℕ → List Step
+stepsLeft j s cs = picks j (stepCount j) s cs
 
 -- What a run comes to: its last state, and the messages and steps counted.
 pub record Whole : Type 0 where
@@ -23,7 +23,7 @@ whole s m n = record { state = s; messages = m; steps = n }
 
 -- What it comes to from the state s on, with the choices cs, where m messages and n steps are counted before.
 unfoldable pub comesTo : Job → State → List ℕ → ℕ → ℕ → Whole
-comesTo j s cs m n = whole (afterSteps j s (left j s cs)) (m + over sends (left j s cs)) (n + length (left j s cs))
+comesTo j s cs m n = whole (afterSteps j s (stepsLeft j s cs)) (m + over messagesOf (stepsLeft j s cs)) (n + length (stepsLeft j s cs))
 
 -- Few enough messages and steps to count.
 pub record Few (w : Whole) : Type 0 where

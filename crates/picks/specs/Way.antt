@@ -11,7 +11,7 @@ use Rattle.model.specs.Ranges.{jobInRange}
 use Rattle.model.specs.Local.{priceTable, totalTable}
 use Rattle.model.specs.Run.{listed}
 use Rattle.picks.specs.Left.{whole, comesTo, Few}
-use Rattle.model.proofs.Reach.{Sound}
+use Rattle.model.specs.Boxes.{Sound}
 
 -- The job's tables are whole and in range, and the state's hold a state that a list of steps can leave.
 pub record OnWay (f : JobTables) (t : StateTables) : Type 0 where

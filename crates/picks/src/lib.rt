@@ -5,7 +5,7 @@ ghost use Prim.Native.Nat.{ℕ, _+_, _≤_, _<_};
 ghost use lib.ListN.{length, drop};
 ghost use Rattle.model.specs.Steps.{kindOf};
 ghost use Rattle.model.specs.Tables.{jobTables, jobOf, stateTables, view};
-ghost use Rattle.model.specs.Words.{sends};
+ghost use Rattle.model.specs.Words.{messagesOf};
 ghost use Rattle.model.specs.Run.{readyCount};
 ghost use Rattle.walk.specs.Walk.{PlaceIn, here};
 ghost use Rattle.walk.specs.Rows.{IsRows};
@@ -21,7 +21,7 @@ pub struct Counts {
 // The messages that a step of this kind sends.
 fn sent_by(kind: u16) -> u32
     requires { ⌜ (1 ≤ kind) × (kind ≤ 6) ⌝ }
-    ensures { λ r. ⌜ ((a b : ℕ) → r ≡ sends (kindOf kind) a b) ⌝ }
+    ensures { λ r. ⌜ ((a b : ℕ) → r ≡ messagesOf (kindOf kind) a b) ⌝ }
 {
     if (kind == 1) | (kind == 4) {
         return 1;
@@ -33,7 +33,7 @@ fn sent_by(kind: u16) -> u32
 fn counted(counts: Counts, kind: u16) -> Counts
     requires { ⌜ (1 ≤ kind) × (kind ≤ 6) ⌝ }
     requires { ⌜ (counts .messages ≤ 65535) × (counts .steps ≤ 65535) ⌝ }
-    ensures { λ r. ⌜ (((a b : ℕ) → r .messages ≡ counts .messages + sends (kindOf kind) a b)) × (r .steps ≡ counts .steps + 1) ⌝ }
+    ensures { λ r. ⌜ (((a b : ℕ) → r .messages ≡ counts .messages + messagesOf (kindOf kind) a b)) × (r .steps ≡ counts .steps + 1) ⌝ }
 {
     let more = sent_by(kind);
     Counts {

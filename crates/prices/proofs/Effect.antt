@@ -11,10 +11,10 @@ use Rattle.laws.proofs.Below.{count-cong}
 use Rattle.laws.proofs.Tables.{recell-cong, word-in, recell-cell, overwrite-same, overwrite-one}
 use Rattle.model.specs.Job.{Job, needWord, priceWord}
 use Rattle.model.specs.Steps.{Kind, State, effect, received, sendPrices, multiplyOwn, receivePrices, sendTotals, addOwn, receiveTotals}
-use Rattle.model.specs.Tables.{JobTables, jobOf, StateTables, stateTables, stateLengths, view, store}
+use Rattle.model.specs.Tables.{JobTables, jobOf, StateTables, stateTables, stateLengths, view, store, stepsDone}
 use Rattle.words.specs.Message.{wordIn}
 use Rattle.prices.specs.Prices.{sentTransit, receivedKnown, receivedTransit}
-use Rattle.prices.specs.Marks.{stepsDone, marked}
+use Rattle.prices.specs.Marks.{marked}
 use Rattle.model.proofs.Lent.{StateLong}
 use Rattle.words.proofs.Message.{price-word}
 

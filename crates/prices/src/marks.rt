@@ -3,14 +3,15 @@ ghost use mathlib.Core.Path.{_≡_};
 ghost use mathlib.Core.Bool.{true};
 ghost use Prim.Native.Nat.{_*_, _≤_, _<_};
 ghost use lib.ListN.{set};
-ghost use Rattle.model.specs.Steps.{kindOf};
+ghost use Rattle.model.specs.Steps.{kindOf, stepPlace};
 ghost use Rattle.model.specs.Ranges.{upTo};
-ghost use Rattle.prices.specs.Marks.{MarksIn, placeOf, stepsDone, marked};
+ghost use Rattle.model.specs.Tables.{stepsDone};
+ghost use Rattle.prices.specs.Marks.{MarksIn, marked};
 
 // The place of a step among the marks.
 fn place(k: usize, kind: u16, a: u16, b: u16) -> usize
     requires { ⌜ (1 ≤ kind) × ((kind ≤ 6) × ((k ≤ 16) × ((a < k) × (b < k)))) ⌝ }
-    ensures { λ r. ⌜ r ≡ placeOf k kind a b ⌝ }
+    ensures { λ r. ⌜ r ≡ stepPlace k kind a b ⌝ }
 {
     ((kind as usize - 1) * k + a as usize) * k + b as usize
 }
@@ -19,7 +20,7 @@ fn place(k: usize, kind: u16, a: u16, b: u16) -> usize
 pub fn mark(k: usize, kind: u16, a: u16, b: u16, done: &mut [u16])
     requires { ⌜ MarksIn k kind a b (now done) ⌝ }
     requires { ⌜ upTo 1 (6 * k * k) (now done) ≡ true ⌝ }
-    ensures { λ r. ⌜ (now (done .exit) ≡ marked k (kindOf kind) a b (now (done .entry))) × (now (done .exit) ≡ set (now (done .entry)) (placeOf k kind a b) 1) ⌝ }
+    ensures { λ r. ⌜ (now (done .exit) ≡ marked k (kindOf kind) a b (now (done .entry))) × (now (done .exit) ≡ set (now (done .entry)) (stepPlace k kind a b) 1) ⌝ }
 {
     let i = place(k, kind, a, b);
     done[i] = 1;

@@ -3,7 +3,7 @@ ghost use mathlib.Core.Path.{_≡_};
 ghost use mathlib.Core.Bool.{cond};
 ghost use Prim.Native.Nat.{_+_, _<_};
 ghost use lib.ListN.{length, getD, set};
-ghost use Rattle.laws.specs.Below.{words, only, count};
+ghost use Rattle.laws.specs.Below.{naturals, only, count};
 ghost use Rattle.words.specs.Message.{wordIn};
 ghost use Rattle.links.specs.Links.{Linked};
 ghost use Rattle.prices.specs.Prices.{PricesIn, sentTransit};
@@ -21,7 +21,7 @@ fn send_one(
     o: usize,
 ) -> u32
     requires { ⌜ (b < 16) × ((o < 500) × ((o < length (now owner)) × ((from + o < length (now known)) × (to + o < length (now transit))))) ⌝ }
-    ensures { λ r. ⌜ (r ≡ only words (wordIn (now (owner .entry)) (now (needs .entry)) a b o) 1) × (now (transit .exit) ≡ cond (wordIn (now (owner .entry)) (now (needs .entry)) a b o) (set (now (transit .entry)) (to + o) (getD (now (known .entry)) (from + o) 0)) (now (transit .entry))) ⌝ }
+    ensures { λ r. ⌜ (r ≡ only naturals (wordIn (now (owner .entry)) (now (needs .entry)) a b o) 1) × (now (transit .exit) ≡ cond (wordIn (now (owner .entry)) (now (needs .entry)) a b o) (set (now (transit .entry)) (to + o) (getD (now (known .entry)) (from + o) 0)) (now (transit .entry))) ⌝ }
 {
     if words::in_message(owner[o], needs[o], a, b) {
         transit[to + o] = known[from + o];

@@ -16,7 +16,7 @@ use Rattle.laws.specs.Tables.{overwrite}
 use Rattle.laws.proofs.Bools.{split}
 use Rattle.laws.proofs.Below.{any-next, any-at, find-passes, find-none, any-cong, find-cong}
 use Rattle.laws.proofs.Tables.{getD-overwrite}
-use Rattle.format.specs.Codes.{number, sameOffer}
+use Rattle.format.specs.Codes.{codeNumber, sameOffer}
 use Rattle.format.specs.Job.{FileJob, names, placeOf, shared, unnamed}
 use Rattle.format.specs.Blocks.{offersAt, talliesAt}
 use Rattle.format.specs.File.{decode, readOffer, readTally}
@@ -51,7 +51,7 @@ module _ {f : List ℕ} (s : Sound f) where
 
 -- The numbers of the offers, in a list.
 abbrev pub Numbers : List ℕ → FileJob → ℕ → Type 0
-Numbers numbers j n = (i : ℕ) → i < n → getD numbers i 0 ≡ number (j .offer i .code)
+Numbers numbers j n = (i : ℕ) → i < n → getD numbers i 0 ≡ codeNumber (j .offer i .code)
 
 module _ (j : FileJob) (n : ℕ) (numbers : List ℕ) (e : n ≡ j .offers) (right : Numbers numbers j n) where
   -- Two of them are one exactly where two offers share a number.
@@ -59,14 +59,14 @@ module _ (j : FileJob) (n : ℕ) (numbers : List ℕ) (e : n ≡ j .offers) (rig
   unfolding sharesNumber shared sameOffer
   shared-is =
       any-cong n _ _ (λ i l. any-cong i _ _ (λ k m. ap₂ eqb (right k (omega arith)) (right i l)))
-      ∙ ap (λ (m : ℕ). any m (λ i. any i (λ k. eqb (number (j .offer k .code)) (number (j .offer i .code))))) e
+      ∙ ap (λ (m : ℕ). any m (λ i. any i (λ k. eqb (codeNumber (j .offer k .code)) (codeNumber (j .offer i .code))))) e
 
   -- The place of a tally's number is the place of its offer.
-  pub place-is : (t : ℕ) → placeIn numbers n (number (j .tally t .code)) ≡ placeOf j t
+  pub place-is : (t : ℕ) → placeIn numbers n (codeNumber (j .tally t .code)) ≡ placeOf j t
   unfolding placeIn placeOf names sameOffer
   place-is t =
-      find-cong n _ _ (λ i l. ap (λ (x : ℕ). eqb x (number (j .tally t .code))) (right i l))
-      ∙ ap (λ (m : ℕ). find m (λ i. eqb (number (j .offer i .code)) (number (j .tally t .code)))) e
+      find-cong n _ _ (λ i l. ap (λ (x : ℕ). eqb x (codeNumber (j .tally t .code))) (right i l))
+      ∙ ap (λ (m : ℕ). find m (λ i. eqb (codeNumber (j .offer i .code)) (codeNumber (j .tally t .code)))) e
 
 -- A place is at most N.
 pub place-most : (j : FileJob) (t : ℕ) → placeOf j t ≤ j .offers
@@ -128,9 +128,9 @@ placed-end {j} {l} i t a b p = subst (λ (k : ℕ). Placed j l k) (le-antisymm a
 -- ---- 7 and 8
 
 -- Words filled with the numbers of the codes in the file are the offers' numbers.
-pub numbers-right : (f l numbers : List ℕ) (n : ℕ) → numbers ≡ overwrite n (λ i. number (codesIn f offersAt 5 i)) l → Numbers numbers (decode f) n
+pub numbers-right : (f l numbers : List ℕ) (n : ℕ) → numbers ≡ overwrite n (λ i. codeNumber (codesIn f offersAt 5 i)) l → Numbers numbers (decode f) n
 numbers-right f l numbers n e i h =
-    ap (λ (x : List ℕ). getD x i 0) e ∙ getD-overwrite n (λ i. number (codesIn f offersAt 5 i)) l i 0 h ∙ ap number (offer-code f i)
+    ap (λ (x : List ℕ). getD x i 0) e ∙ getD-overwrite n (λ i. codeNumber (codesIn f offersAt 5 i)) l i 0 h ∙ ap codeNumber (offer-code f i)
 
 -- Two offers share a number: 7.
 pub last-7 : (j : FileJob) → shared j ≡ true → 7 ≡ lastRefusal j

@@ -5,8 +5,8 @@ use Rattle.reader.specs.declared.Answer.the-variants.{Job, Refused}
 
 -- `Job` is K, M, N and T of an accepted file, `Refused` a refusal's number.
 abbrev pub answerOf : Answer → ReadAnswer
-answerOf (Job k m n t) = sizes k m n t
-answerOf (Refused n) = refused n
+answerOf (Job boxes grocers offers tallies) = sizes boxes grocers offers tallies
+answerOf (Refused number) = refused number
 
 -- An answer, and the tables as they are afterwards.
 abbrev pub outcome : Answer → ReaderTables → ReadOutcome

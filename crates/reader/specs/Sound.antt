@@ -5,7 +5,7 @@ use mathlib.Core.List.{List, [], _∷_}
 use Prim.Native.Nat.{ℕ, _*_, _<_, _≤_}
 use lib.ListN.{length, getD}
 use Rattle.laws.specs.Checks.{firstMet}
-use Rattle.format.specs.Codes.{isCode, number}
+use Rattle.format.specs.Codes.{isCode, codeNumber}
 use Rattle.format.specs.Job.{FileJob, placeOf, shared, unnamed}
 use Rattle.format.specs.Blocks.{blocks}
 use Rattle.format.specs.File.{decode}
@@ -30,7 +30,7 @@ pub record Ready (f keys order : List ℕ) (n : ℕ) : Type 0 where
   pub numbers : List ℕ
   pub index : IsIndex keys order numbers n
   pub apart : sharesNumber numbers n ≡ false
-  pub right : (i : ℕ) → i < n → getD numbers i 0 ≡ number (decode f .offer i .code)
+  pub right : (i : ℕ) → i < n → getD numbers i 0 ≡ codeNumber (decode f .offer i .code)
 
 -- The first t words are the places of the offers that the first t tallies name.
 pub record Placed (j : FileJob) (places : List ℕ) (t : ℕ) : Type 0 where

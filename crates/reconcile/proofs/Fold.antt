@@ -26,7 +26,6 @@ use Rattle.reconcile.specs.declared.Tally.{Tally}
 use Rattle.reconcile.specs.declared.Answer.{Answer}
 use Rattle.reconcile.specs.declared.Answer.the-variants.{Owed, Refused}
 use Rattle.reconcile.specs.Records.{recordOf, recordsOf, answerOf}
-use Rattle.reconcile.specs.Plain.{AmountsInRange}
 use Rattle.reconcile.specs.Serial.{headInRange, opened, share, withRecord, withRecords, Summable}
 use Rattle.reconcile.proofs.Amounts.{product-abs}
 
@@ -132,8 +131,7 @@ unfolding Summable answerOf
 owed-in n ps (Owed y) z s e = subst (λ (x : ℤ). natAbs x ≤ maxAmount) (ap amountOf e) (s .0)
 owed-in n ps (Refused k) z s e = subst (λ (x : ℤ). natAbs x ≤ maxAmount) (ap amountOf e) (omega arith)
 
-pub amounts-in-range : AmountsInRange
-unfolding AmountsInRange
+pub amounts-in-range : (m n g : ℕ) (ps : List ℕ) (rs : List TallyRecord) (z : ℤ) → reconciled m n g ps rs ≡ owed z → natAbs z ≤ maxAmount
 amounts-in-range m n g ps rs z e = owed-in n ps (withRecords m n g ps (opened m n g ps (length rs)) rs) z (all-summable m n g ps rs) (sums-to m n g ps rs ∙ e)
 
 -- ---- the lent list

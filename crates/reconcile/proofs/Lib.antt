@@ -3,5 +3,4 @@ pub mod Amounts
 pub mod Cut
 pub mod Fold
 pub mod More
-pub mod Plain
 pub mod Walk

@@ -9,7 +9,7 @@ use lib.IntN.{ℤ, pos, natAbs, _+ℤ_, _*ℤ_, +ℤ-idr}
 use borrow.Author.Tests.{eq-eqb, ne-eqb}
 use mir.Syntax.{w64}
 use mir.Val.{ofZ, toZ}
-use Rattle.laws.specs.Below.{only, amounts}
+use Rattle.laws.specs.Below.{only, integers}
 use Rattle.laws.proofs.Signed.{read64-abs}
 use Rattle.model.specs.Ranges.{maxPrice, maxCount, maxAmount, upTo}
 use Rattle.model.specs.Reconcile.{TallyRecord, recordInRange}
@@ -49,7 +49,7 @@ module _ (m n g : ℕ) (ps : List ℕ) (a : Answer) (r : TallyRecord) where
 
       -- Another grocer's.
       pub passed : (r .grocer ≡ g → ⊥) → Owed (toZ w64 (ofZ w64 z)) ≡ withRecord m n g ps a r
-      unfolding withRecord only amounts
+      unfolding withRecord only integers
       passed f = rw (e, h, sum-read, ne-eqb (r .grocer) g f, +ℤ-idr z)
 
       module _ (c : ℤ) (ec : c ≡ r .count) where

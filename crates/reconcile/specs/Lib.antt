@@ -1,4 +1,3 @@
--- The call's records and answers in the model's words, the serial sum as code makes it, and the plain sum.
-pub mod Plain
+-- The call's records and answers in the model's words, and the serial sum as code makes it.
 pub mod Records
 pub mod Serial

@@ -11,6 +11,7 @@ use Rattle.reconcile.specs.declared.Answer.the-variants.{Owed, Refused}
 abbrev pub tallyRecord : ℕ → ℕ → ℕ → ℤ → TallyRecord
 tallyRecord g b o c = record { grocer = g; tallyBox = b; place = o; count = c }
 
+-- A lent record by its fields.
 abbrev pub recordOf : Tally → TallyRecord
 recordOf t = tallyRecord (t .grocer) (t .«tally_box») (t .place) (t .count)
 
@@ -21,5 +22,5 @@ recordsOf (t ∷ ts) = recordOf t ∷ recordsOf ts
 
 -- An amount owed, or the number of the refusal.
 unfoldable pub answerOf : Answer → DeskAnswer
-answerOf (Owed z) = owed z
-answerOf (Refused n) = refused n
+answerOf (Owed amount) = owed amount
+answerOf (Refused number) = refused number

@@ -6,7 +6,7 @@ use Prim.Native.Nat.{ℕ, _≤_}
 use lib.ListN.{getD, length}
 use lib.Dec.{eqb, ltb, leb}
 use lib.IntN.{ℤ, pos, natAbs, _+ℤ_, _*ℤ_}
-use Rattle.laws.specs.Below.{only, amounts}
+use Rattle.laws.specs.Below.{only, integers}
 use Rattle.laws.specs.Checks.{allOf}
 use Rattle.model.specs.Ranges.{maxGrocers, maxOffers, maxTallies, maxPrice, maxAmount, upTo}
 use Rattle.model.specs.Reconcile.{TallyRecord, recordInRange}
@@ -24,7 +24,7 @@ opened m n g prices len = cond (ltb (length prices) n) (Refused 20) (cond (headI
 
 -- What one record adds to the amount of grocer g.
 abbrev pub share : List ℕ → ℕ → TallyRecord → ℤ
-share prices g r = only amounts (eqb (r .grocer) g) (r .count *ℤ pos (getD prices (r .place) 0))
+share prices g r = only integers (eqb (r .grocer) g) (r .count *ℤ pos (getD prices (r .place) 0))
 
 -- An answer with one record more. A refusal stays.
 unfoldable pub withRecord : ℕ → ℕ → ℕ → List ℕ → Answer → TallyRecord → Answer

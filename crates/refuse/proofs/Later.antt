@@ -8,11 +8,10 @@ use Rattle.laws.specs.Checks.{firstMet}
 use Rattle.laws.specs.Tables.{tabulate}
 use Rattle.model.specs.Job.{sharerWord}
 use Rattle.model.specs.Steps.{kindOf, Steps, fits, ready}
-use Rattle.model.specs.Tables.{JobTables, jobOf, StateTables, view}
+use Rattle.model.specs.Tables.{JobTables, jobOf, StateTables, view, stepsDone}
 use Rattle.model.specs.Ranges.{stateInRange}
 use Rattle.model.specs.Step.{Asked, isKind, boxesFit, stepRules, moved}
 use Rattle.model.specs.Local.{priceTable, totalTable}
-use Rattle.prices.specs.Marks.{stepsDone}
 use Rattle.refuse.specs.Rules.{rulesBy}
 use Rattle.refuse.specs.Late.{laterRules, Held, Finishing}
 use Rattle.model.proofs.Step.{range}

@@ -7,7 +7,7 @@ use Rattle.laws.specs.Checks.{firstMet}
 use Rattle.laws.proofs.Bools.{and-l, and-r, or-off}
 use Rattle.model.specs.Tables.{JobTables, jobOf, jobLengths, jobShort, StateTables, stateLengths, stateShort, lentShort}
 use Rattle.model.specs.Ranges.{jobInRange, stateInRange}
-use Rattle.model.specs.Step.{Asked, refusals, answer}
+use Rattle.model.specs.Step.{Asked, refusals, stepRefusal}
 use Rattle.tables.specs.Sizes.{sizes}
 use Rattle.refuse.specs.Late.{earlyRules, laterRules, Held}
 use Rattle.tables.proofs.Sizes.{short-sizes, range-sizes}
@@ -40,8 +40,8 @@ module _ (f : JobTables) (t : StateTables) (x y : Bool) (ex : x ≡ jobShort (jo
 
 module _ (f : JobTables) (t : StateTables) where
   -- One of 20 and 21 is met: it is the answer.
-  pub answer-early : (q : Asked) (r : ℕ) → r ≡ firstMet (earlyRules f t) → (r ≡ 0 → ⊥) → r ≡ answer f t q
-  unfolding answer refusals earlyRules laterRules
+  pub answer-early : (q : Asked) (r : ℕ) → r ≡ firstMet (earlyRules f t) → (r ≡ 0 → ⊥) → r ≡ stepRefusal f t q
+  unfolding stepRefusal refusals earlyRules laterRules
   answer-early q r e n = e ∙ sym (met-first (earlyRules f t) (laterRules f t q) (λ z. n (e ∙ z)))
 
   neither : (a b : Bool) → cond {A = ℕ} a 20 (cond (not b) 21 0) ≡ 0 → (a ≡ false) × (b ≡ true)
@@ -66,6 +66,6 @@ module _ (f : JobTables) (t : StateTables) where
           state-in = and-r (jobInRange f) (stateInRange f t) (both .1);
         }
 
-    pub answer-later : (q : Asked) (r : ℕ) → r ≡ firstMet (laterRules f t q) → r ≡ answer f t q
-    unfolding answer refusals firstMet laterRules
+    pub answer-later : (q : Asked) (r : ℕ) → r ≡ firstMet (laterRules f t q) → r ≡ stepRefusal f t q
+    unfolding stepRefusal refusals firstMet laterRules
     answer-later q r e = rw (both .0, both .1) e

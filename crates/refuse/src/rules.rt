@@ -5,7 +5,8 @@ ghost use lib.ListN.{length};
 ghost use Rattle.laws.specs.Checks.{firstMet};
 ghost use Rattle.model.specs.Steps.{kindOf, oneBox};
 ghost use Rattle.model.specs.Step.{asked, isKind};
-ghost use Rattle.prices.specs.Marks.{MarksIn, stepsDone};
+ghost use Rattle.model.specs.Tables.{stepsDone};
+ghost use Rattle.prices.specs.Marks.{MarksIn};
 ghost use Rattle.refuse.specs.Rules.{wordsTo, due, fitsBy, boxesFitBy, receivedFrom, multipliedBy, readyBy, permittedBy, rulesBy, BoxIn};
 
 // How many words a table of messages has from box a to box b.

@@ -18,13 +18,13 @@ use Rattle.model.specs.Steps.{State, fresh}
 use Rattle.model.specs.Tables.{JobTables, jobOf, StateTables, view, store, jobLengths, stateLengths, jobShort, stateShort, lentShort}
 use Rattle.model.specs.Ranges.{jobInRange}
 use Rattle.model.specs.Step.{freshTables}
-use Rattle.model.specs.Words.{over, sends, messages, stepCount}
+use Rattle.model.specs.Words.{over, messagesOf, messageCount, stepCount}
 use Rattle.model.specs.Run.{run, runState, RunAnswer, finished, refused, reported, runRefusals, ran}
 use Rattle.tables.specs.Masks.{holderWord, Placed, Owned}
 use Rattle.tables.specs.Messages.{sentTable}
 use Rattle.tables.specs.Sizes.{sizes}
 use Rattle.fresh.specs.Fresh.{FreshIn}
-use Rattle.picks.specs.Left.{Whole, whole, comesTo, left, Few}
+use Rattle.picks.specs.Left.{Whole, whole, comesTo, stepsLeft, Few}
 use Rattle.picks.specs.Way.{Made, Goes, Ended}
 use Rattle.run.specs.declared.Answer.the-variants.{Finished, Refused}
 use Rattle.run.specs.Run.{Begins, Settled, answerOf, given}
@@ -40,8 +40,8 @@ use Rattle.tables.proofs.InJob.{placed-offers, placed-grocers, owned-offers, ow
 use Rattle.picks.proofs.Way.{stored-view, stored-way}
 
 -- A job in range has at most 512 messages.
-messages-few : (j : Job) → InRange j → messages j ≤ 512
-unfolding messages
+messages-few : (j : Job) → InRange j → messageCount j ≤ 512
+unfolding messageCount
 messages-few j r =
     omega (
       arith,
@@ -51,9 +51,9 @@ messages-few j r =
     )
 
 -- What a run comes to from a fresh state is the whole run.
-from-fresh : (j : Job) (cs : List ℕ) → comesTo j (fresh j) cs 0 0 ≡ whole (runState j cs) (over sends (run j cs)) (length (run j cs))
-unfolding comesTo left runState run
-from-fresh j cs = λ i. record { state = runState j cs; messages = zero-plus (over sends (run j cs)) i; steps = zero-plus (length (run j cs)) i }
+from-fresh : (j : Job) (cs : List ℕ) → comesTo j (fresh j) cs 0 0 ≡ whole (runState j cs) (over messagesOf (run j cs)) (length (run j cs))
+unfolding comesTo stepsLeft runState run
+from-fresh j cs = λ i. record { state = runState j cs; messages = zero-plus (over messagesOf (run j cs)) i; steps = zero-plus (length (run j cs)) i }
   where
     zero-plus : (n : ℕ) → 0 + n ≡ n
     zero-plus n = omega arith
@@ -129,7 +129,7 @@ module _ (f : JobTables) (t : StateTables) (g : Begins f t) where
 
       -- and where it ends all is settled.
       module _ (cs : List ℕ) (t″ : StateTables) (m n : ℕ) (k : Ended f t′ cs 0 0 t″ m n) where
-        ends-whole : whole (view (jobOf f) t″) m n ≡ whole (runState (jobOf f) cs) (over sends (run (jobOf f) cs)) (length (run (jobOf f) cs))
+        ends-whole : whole (view (jobOf f) t″) m n ≡ whole (runState (jobOf f) cs) (over messagesOf (run (jobOf f) cs)) (length (run (jobOf f) cs))
         ends-whole = k .ends ∙ ap (λ (s : State). comesTo (jobOf f) s cs 0 0) fresh-view ∙ from-fresh (jobOf f) cs
 
         pub ends-settled : Settled f t cs t″ m n

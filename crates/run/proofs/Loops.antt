@@ -9,9 +9,9 @@ use lib.ListN.{length, drop}
 use lib.Seq.{drop-length}
 use borrow.Author.Tests.{eq-eqb}
 use Rattle.model.specs.Tables.{JobTables, jobOf, StateTables, StateLengths, view, store, stateLengths}
-use Rattle.model.specs.Run.{readyCount, places}
+use Rattle.model.specs.Run.{readyCount}
 use Rattle.walk.specs.Walk.{WalkIn}
-use Rattle.walk.specs.Rows.{IsRows, rowSum, FewRows}
+use Rattle.walk.specs.Rows.{IsRows, rowsTotal, FewRows}
 use Rattle.picks.specs.Left.{Few}
 use Rattle.picks.specs.Way.{OnWay, Goes, Kept, Ended, NoneBefore}
 use Rattle.walk.proofs.ByRow.{rows-few, rows-ready}
@@ -65,11 +65,11 @@ module _ (f : JobTables) (t : StateTables) (needs sharers : List ℕ) (prices to
       pub goes-few : FewRows (f .boxes) rows
       goes-few = rows-few (f .boxes) prices totals (t′ .done) rows h (goes-walk .boxes-in)
 
-      pub goes-count : (ready : ℕ) → ready ≡ rowSum rows (6 * f .boxes) → ready ≡ readyCount (jobOf f) (view (jobOf f) t′ .done)
+      pub goes-count : (ready : ℕ) → ready ≡ rowsTotal rows (6 * f .boxes) → ready ≡ readyCount (jobOf f) (view (jobOf f) t′ .done)
       goes-count ready e = e ∙ rows-ready (f .boxes) prices totals (t′ .done) rows h ∙ way-count f t′ (k .on-way) needs sharers prices totals (g .made)
 
       -- choices left when no step is ready are passed over,
-      pub goes-none : (ready : ℕ) → ready ≡ rowSum rows (6 * f .boxes) → ready ≡ 0 → Kept f t cs m n t′ [] m′ n′
+      pub goes-none : (ready : ℕ) → ready ≡ rowsTotal rows (6 * f .boxes) → ready ≡ 0 → Kept f t cs m n t′ [] m′ n′
       goes-none ready e z = record {
         on-way = k .on-way;
         stored = k .stored;
@@ -81,7 +81,7 @@ module _ (f : JobTables) (t : StateTables) (needs sharers : List ℕ) (prices to
 
     -- and the run ends where no place has a ready step.
     pub goes-ends : (i : ℕ) → i ≡ 6 * f .boxes * f .boxes → NoneBefore (jobOf f) (view (jobOf f) t′ .done) i → Ended f t cs m n t′ m′ n′
-    unfolding jobOf places
+    unfolding jobOf
     goes-ends i e none = record {
       stored = k .stored;
       ends = sym (comes-none (jobOf f) (view (jobOf f) t′) cs′ m′ n′ (none-at-all (jobOf f) (view (jobOf f) t′ .done) (rw e at none))) ∙ k .same;

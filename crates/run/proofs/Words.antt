@@ -9,7 +9,7 @@ use borrow.Author.Tests.{eqb-true, eqb-false}
 use Rattle.laws.specs.Checks.{firstMet}
 use Rattle.laws.proofs.Bools.{split}
 use Rattle.model.specs.Tables.{JobTables, jobOf, StateTables, lentShort}
-use Rattle.model.specs.Words.{ownerWords, messages, stepCount}
+use Rattle.model.specs.Words.{ownerWords, messageCount, stepCount}
 use Rattle.model.specs.Run.{RunAnswer, RunOutcome, finished, refused, reported, runRefusals, ran}
 use Rattle.run.specs.declared.Answer.the-variants.{Finished}
 use Rattle.run.specs.Run.{Begins, answerOf, given}
@@ -19,7 +19,7 @@ use Rattle.run.proofs.Ends.{begins, refused-said}
 -- The numbers of a run by the job's tables.
 pub record Reported (f : JobTables) (w m n : ℕ) : Type 0 where
   pub words-are : w ≡ ownerWords (jobOf f)
-  pub messages-are : m ≡ messages (jobOf f)
+  pub messages-are : m ≡ messageCount (jobOf f)
   pub steps-are : n ≡ stepCount (jobOf f)
 
 -- An answer that is finished is no refusal,
@@ -27,7 +27,7 @@ no-refusal : (w m n k : ℕ) → finished w m n ≡ refused k → ⊥
 no-refusal w m n k e = let z : _≡_ {A = ℕ} 0 1 = cc in omega arith
 
 -- and has its own numbers.
-same-numbers : (f : JobTables) (w m n : ℕ) → finished w m n ≡ finished (ownerWords (jobOf f)) (messages (jobOf f)) (stepCount (jobOf f)) → Reported f w m n
+same-numbers : (f : JobTables) (w m n : ℕ) → finished w m n ≡ finished (ownerWords (jobOf f)) (messageCount (jobOf f)) (stepCount (jobOf f)) → Reported f w m n
 same-numbers f w m n e = record { words-are = cc; messages-are = cc; steps-are = cc }
 
 -- Nothing is lent short where a run may begin.

@@ -9,7 +9,11 @@ ghost use Rattle.run.specs.Run.{Begins, Settled, answerOf, given};
 
 // What a run answers: words sent, messages and steps; or the number of the condition that refuses it.
 pub enum Answer {
-    Finished(u32, u32, u32),
+    Finished {
+        words: u32,
+        messages: u32,
+        steps: u32,
+    },
     Refused(u16),
 }
 
@@ -220,5 +224,9 @@ pub fn run(
         sent,
         choices,
     );
-    Answer::Finished(sent[0], counts.messages, counts.steps)
+    Answer::Finished {
+        words: sent[0],
+        messages: counts.messages,
+        steps: counts.steps,
+    }
 }

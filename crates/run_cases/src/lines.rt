@@ -14,7 +14,11 @@ pub fn answer_text(name: &[u8], a: Answer) {
     show::text(name);
     match a {
         Answer::Accepted => show::text(b": accepted"),
-        Answer::Finished(words, messages, steps) => {
+        Answer::Finished {
+            words,
+            messages,
+            steps,
+        } => {
             show::text(b": words");
             show::next(wide32(words));
             show::text(b" messages");

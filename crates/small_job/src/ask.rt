@@ -2,7 +2,6 @@
 use crate::job::Job;
 use crate::job::State;
 use attempts::reads::cut;
-use show::wide16;
 
 // What is asked: a step by its kind, first and second box, or a run.
 pub enum Call {
@@ -13,7 +12,11 @@ pub enum Call {
 // What was answered: a step was accepted, a run finished with its words, messages and steps, or a condition was met.
 pub enum Answer {
     Accepted,
-    Finished(u32, u32, u32),
+    Finished {
+        words: u32,
+        messages: u32,
+        steps: u32,
+    },
     Refused(u16),
 }
 
@@ -21,15 +24,6 @@ pub enum Answer {
 pub struct Outcome {
     pub answer: Answer,
     pub state: State,
-}
-
-// The refusal's number, 0 where nothing was refused.
-pub fn refusal_of(a: Answer) -> u64 {
-    match a {
-        Answer::Accepted => 0,
-        Answer::Finished(_, _, _) => 0,
-        Answer::Refused(n) => wide16(n),
-    }
 }
 
 // A step's answer.
@@ -43,7 +37,15 @@ fn of_step(a: step::Answer) -> Answer {
 // A run's answer.
 fn of_run(a: run::Answer) -> Answer {
     match a {
-        run::Answer::Finished(words, messages, steps) => Answer::Finished(words, messages, steps),
+        run::Answer::Finished {
+            words,
+            messages,
+            steps,
+        } => Answer::Finished {
+            words,
+            messages,
+            steps,
+        },
         run::Answer::Refused(n) => Answer::Refused(n),
     }
 }

@@ -13,8 +13,7 @@ use Rattle.format.proofs.Accept.{accepted-range}
 use Rattle.reader.specs.declared.Answer.{Answer}
 use Rattle.reader.specs.declared.Answer.the-variants.{Job, Refused}
 use Rattle.reader.specs.Answer.{answerOf, outcome}
-use Rattle.guarantees.specs.Demand3.{jobRead}
-use Rattle.guarantees.specs.Settle.{blankJob, blankState, refusedText, runText, jobText, readText, printed}
+use Rattle.printing.specs.Printed.{jobRead, blankJob, blankState, refusedText, runText, jobText, readText, printed}
 
 -- A run from blank buffers with no choices says what is printed of its job.
 pub run-text : (f : JobTables) (a : RunAnswer) (t : StateTables) → given a t ≡ ran f blankState [] → runText (f .grocers) a (t .statement) ≡ jobText f

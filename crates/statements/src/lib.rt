@@ -6,7 +6,7 @@ ghost use Rattle.io.specs.Counts.{Counts};
 ghost use Rattle.model.specs.Tables.{jobTables};
 ghost use Rattle.run.specs.Run.{answerOf};
 ghost use Rattle.text.specs.Puts.{Put};
-ghost use Rattle.guarantees.specs.Settle.{runText, jobText, printed};
+ghost use Rattle.printing.specs.Printed.{runText, jobText, printed};
 use text::lines::put_refused;
 use text::lines::put_settled;
 
@@ -16,9 +16,11 @@ fn put_answer(out: &mut [u8], grocers: u16, statement: &[i64], a: run::Answer) -
     ensures { λ r. ⌜ Put 0 (runText grocers (answerOf a) (now (statement .entry))) (now (out .entry)) (now (out .exit)) r ⌝ }
 {
     match a {
-        run::Answer::Finished(words, messages, steps) => {
-            put_settled(out, grocers as usize, statement, words, messages, steps)
-        }
+        run::Answer::Finished {
+            words,
+            messages,
+            steps,
+        } => put_settled(out, grocers as usize, statement, words, messages, steps),
         run::Answer::Refused(n) => put_refused(out, n),
     }
 }

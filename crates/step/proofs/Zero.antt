@@ -8,7 +8,8 @@ use borrow.Author.Tests.{not-false, ne-eqb}
 use Rattle.laws.specs.Checks.{firstMet}
 use Rattle.model.specs.Steps.{kindOf}
 use Rattle.model.specs.Tables.{JobTables, StateTables, jobOf}
-use Rattle.model.specs.Step.{Asked, isKind, boxesFit, stepRules, moved, answer, after, outcome, stepped}
+use Rattle.model.specs.Step.{Asked, isKind, boxesFit, stepRules, moved, stepRefusal, stepTables, StepAnswer, accepted, refused, stepAnswer, outcome, stepped}
+use Rattle.model.proofs.Refusal.{refused-number}
 use Rattle.refuse.specs.Late.{earlyRules, laterRules, Held, Words}
 use Rattle.apply.specs.Apply.{Applies}
 use Rattle.refuse.proofs.Refused.{answer-early, answer-later}
@@ -20,24 +21,25 @@ past false n rest h = (refl, h)
 
 module _ (f : JobTables) (t : StateTables) (q : Asked) where
   -- A refused step: its tables are as they were.
-  refused : (r : ℕ) → r ≡ answer f t q → (r ≡ 0 → ⊥) → outcome r t ≡ stepped f t q
-  unfolding stepped after
-  refused r e n = rw (ne-eqb (answer f t q) 0 (λ z. n (e ∙ z))) (ap (λ (x : ℕ). outcome x t) e)
+  refused-by : (r : ℕ) → r ≡ stepRefusal f t q → (r ≡ 0 → ⊥) → outcome (refused r) t ≡ stepped f t q
+  unfolding stepped stepTables
+  refused-by r e n =
+      rw (ne-eqb (stepRefusal f t q) 0 (λ z. n (e ∙ z))) (ap (λ (a : StepAnswer). outcome a t) (sym (refused-number r n) ∙ ap stepAnswer e))
 
   -- 20 or 21 is met.
-  pub refused-early : (r : ℕ) → r ≡ firstMet (earlyRules f t) → (r ≡ 0 → ⊥) → outcome r t ≡ stepped f t q
-  refused-early r e n = refused r (answer-early f t q r e n) n
+  pub refused-early : (r : ℕ) → r ≡ firstMet (earlyRules f t) → (r ≡ 0 → ⊥) → outcome (refused r) t ≡ stepped f t q
+  refused-early r e n = refused-by r (answer-early f t q r e n) n
 
   module _ (z : firstMet (earlyRules f t) ≡ 0) where
     -- A later condition is met.
-    pub refused-later : (r : ℕ) → r ≡ firstMet (laterRules f t q) → (r ≡ 0 → ⊥) → outcome r t ≡ stepped f t q
-    refused-later r e n = refused r (answer-later f t z q r e) n
+    pub refused-later : (r : ℕ) → r ≡ firstMet (laterRules f t q) → (r ≡ 0 → ⊥) → outcome (refused r) t ≡ stepped f t q
+    refused-later r e n = refused-by r (answer-later f t z q r e) n
 
     -- None is.
     module _ (r : ℕ) (e : r ≡ firstMet (laterRules f t q)) (h : r ≡ 0) where
-      pub accepted : outcome 0 (moved f t q) ≡ stepped f t q
-      unfolding stepped after
-      accepted = rw (sym (answer-later f t z q r e) ∙ h)
+      pub accepted-by : outcome accepted (moved f t q) ≡ stepped f t q
+      unfolding stepped stepTables stepAnswer
+      accepted-by = rw (sym (answer-later f t z q r e) ∙ h)
 
       kind-next : (isKind (q .kind) ≡ true) × (boxesFit (jobOf f) (kindOf (q .kind)) (q .first) (q .second) ≡ true)
       unfolding firstMet laterRules stepRules

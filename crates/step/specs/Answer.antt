@@ -1,9 +1,9 @@
--- The number of an answer of the step.
-use Prim.Native.Nat.{ℕ}
+-- What the step answers, in the model's words.
+use Rattle.model.specs.Step.{StepAnswer, accepted, refused}
 use Rattle.step.specs.declared.Answer.{Answer}
 use Rattle.step.specs.declared.Answer.the-variants.{Accepted, Refused}
 
--- 0 where the request is accepted, else the number of the refusal.
-unfoldable pub number : Answer → ℕ
-number Accepted = 0
-number (Refused n) = n
+-- The request is accepted, or refused under a number.
+unfoldable pub answerOf : Answer → StepAnswer
+answerOf Accepted = accepted
+answerOf (Refused n) = refused n

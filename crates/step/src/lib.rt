@@ -3,7 +3,7 @@ ghost use mathlib.Core.Path.{_≡_};
 ghost use Rattle.model.specs.Tables.{jobTables, stateTables};
 ghost use Rattle.model.specs.Step.{asked, moved, outcome, stepped};
 ghost use Rattle.apply.specs.Apply.{Applies};
-ghost use Rattle.step.specs.Answer.{number};
+ghost use Rattle.step.specs.Answer.{answerOf};
 
 // A request is accepted, or refused under the number of the first condition met.
 pub enum Answer {
@@ -107,7 +107,7 @@ pub fn step(
     first: u16,
     second: u16,
 ) -> Answer
-    ensures { λ r. ⌜ outcome (number r)
+    ensures { λ r. ⌜ outcome (answerOf r)
         (stateTables (now (known .exit)) (now (ptransit .exit)) (now (working .exit)) (now (ttransit .exit)) (now (statement .exit)) (now (done .exit)) (now (sent .exit)))
         ≡ stepped
         (jobTables boxes grocers offers tallies (now (price .entry)) (now (owner .entry)) (now (gowner .entry)) (now (tgrocer .entry)) (now (tbox .entry)) (now (toffer .entry)) (now (tcount .entry)))

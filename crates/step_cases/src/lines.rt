@@ -4,7 +4,6 @@ use small_job::ask::Answer;
 use small_job::ask::Outcome;
 use small_job::ask::ask;
 use small_job::ask::ask_short;
-use small_job::ask::refusal_of;
 use small_job::differ::changed;
 use small_job::job::Job;
 use small_job::job::State;
@@ -12,13 +11,27 @@ use small_job::job::fresh;
 use small_job::job::small;
 use small_job::lines::state_lines;
 
+// The answer in words, behind a space: a step that is accepted and one that is refused are told apart.
+fn answer_text(answer: Answer) {
+    match answer {
+        Answer::Accepted => show::text(b" accepted"),
+        Answer::Finished { .. } => show::text(b" finished"),
+        Answer::Refused(n) => {
+            show::text(b" refused");
+            show::next(wide16(n));
+        }
+    }
+}
+
 // The request and its answer.
 fn request_line(kind: u16, first: u16, second: u16, answer: Answer) {
     show::text(b"step");
     show::next(wide16(kind));
     show::next(wide16(first));
     show::next(wide16(second));
-    show::line(b":", refusal_of(answer));
+    show::text(b":");
+    answer_text(answer);
+    show::end();
 }
 
 // One request of E, with every word of the state behind it.
@@ -35,7 +48,7 @@ pub fn take(s: State, kind: u16, first: u16, second: u16) -> State {
 pub fn answer_line(name: &[u8], answer: Answer, changed: u64) {
     show::text(name);
     show::text(b":");
-    show::next(refusal_of(answer));
+    answer_text(answer);
     show::line(b", words changed", changed);
 }
 

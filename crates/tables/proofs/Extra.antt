@@ -11,7 +11,7 @@ use lib.Dec.{eqb, lit<}
 use lib.Bits.{bitAnd, and-mask}
 use lib.Count.{ones}
 use borrow.Author.Tests.{eqb-true, eqb-false}
-use Rattle.laws.specs.Below.{words, only, count}
+use Rattle.laws.specs.Below.{naturals, only, count}
 use Rattle.laws.specs.Masks.{bit, without}
 use Rattle.laws.specs.Tables.{tabulate}
 use Rattle.laws.proofs.Bools.{split}
@@ -41,8 +41,8 @@ module _ (a w : ℕ) (l : a < 16) (h : w < 2 ^ 16) where
   ones-max = omega (arith, count-without, count-le 16 (λ b. bit b w && not (eqb a b)))
 
 -- The code's bit as a number, (w >> b) & 1.
-pub bit-word : (b w : ℕ) → bitAnd (w / 2 ^ b) 1 ≡ only words (bit b w) 1
-unfolding bit only words
+pub bit-word : (b w : ℕ) → bitAnd (w / 2 ^ b) 1 ≡ only naturals (bit b w) 1
+unfolding bit only naturals
 bit-word b w = and-mask (w / 2 ^ b) 1 ∙ low (w / 2 ^ b % 2) (mod-lt (w / 2 ^ b) (lit< tt))
   where
     low : (x : ℕ) → x < 2 → x ≡ cond (eqb x 1) 1 0

@@ -10,7 +10,7 @@ use lib.Dec.{eqb, ltb}
 use lib.Bits.{bitOr}
 use lib.Count.{ones}
 use borrow.Author.Tests.{ltb-true, eqb-true, eqb-false}
-use Rattle.laws.specs.Below.{sum, words, any}
+use Rattle.laws.specs.Below.{sum, naturals, any}
 use Rattle.laws.specs.Masks.{without}
 use Rattle.laws.specs.Tables.{tabulate, word}
 use Rattle.laws.proofs.Bools.{split, eqb-same, and-false, and-one, or-false}
@@ -105,9 +105,9 @@ module _ (f : JobTables) where
 
 -- The ones without the owners' bits, one word more.
 pub others-none : (owners masks : List ℕ) → othersSum 0 owners masks ≡ 0
-unfolding othersSum sum words
+unfolding othersSum sum naturals
 others-none owners masks = refl
 
 pub others-next : (n : ℕ) (owners masks : List ℕ) → othersSum (n + 1) owners masks ≡ othersSum n owners masks + ones (without (getD owners n 0) (getD masks n 0))
-unfolding othersSum words
-others-next n owners masks = sum-next words n (λ i. ones (without (getD owners i 0) (getD masks i 0)))
+unfolding othersSum naturals
+others-next n owners masks = sum-next naturals n (λ i. ones (without (getD owners i 0) (getD masks i 0)))

@@ -7,7 +7,7 @@ use native.Mathlib.Omega.{arith}
 use lib.ListN.{getD}
 use lib.Dec.{eqb}
 use lib.Count.{ones}
-use Rattle.laws.specs.Below.{words}
+use Rattle.laws.specs.Below.{naturals}
 use Rattle.laws.specs.Masks.{bit, maskOf, without}
 use Rattle.laws.specs.Tables.{tabulate}
 use Rattle.laws.proofs.Sums.{sum-cong}
@@ -103,5 +103,5 @@ module _ (f : JobTables) (ok : jobInRange f ≡ true) where
   unfolding othersSum ownerWords jobOf
   word-total =
       ap₂ (λ (x y : ℕ). x + y)
-      (sum-cong words (f .offers) _ _ (λ o l. ap₂ (λ (x y : ℕ). ones (without x y)) (sym (word-in (f .offers) (f .offerOwner) 0 o l)) (getD-tabulate 500 _ o 0 (let r = offers-room in omega arith) ∙ need-word f o)))
-      (sum-cong words (f .grocers) _ _ (λ g l. ap₂ (λ (x y : ℕ). ones (without x y)) (sym (word-in (f .grocers) (f .grocerOwner) 0 g l)) (getD-tabulate 255 _ g 0 (let r = grocers-room in omega arith) ∙ sharer-word f g)))
+      (sum-cong naturals (f .offers) _ _ (λ o l. ap₂ (λ (x y : ℕ). ones (without x y)) (sym (word-in (f .offers) (f .offerOwner) 0 o l)) (getD-tabulate 500 _ o 0 (let r = offers-room in omega arith) ∙ need-word f o)))
+      (sum-cong naturals (f .grocers) _ _ (λ g l. ap₂ (λ (x y : ℕ). ones (without x y)) (sym (word-in (f .grocers) (f .grocerOwner) 0 g l)) (getD-tabulate 255 _ g 0 (let r = grocers-room in omega arith) ∙ sharer-word f g)))

@@ -2,33 +2,29 @@
 -- that sum to the ones of the need words and the sharer words, and no word just where no message is due. Assumes nothing.
 use mathlib.Core.Path.{_≡_, refl, sym, ap, ap₂, _∙_}
 use mathlib.Core.Bool.{Bool, true, false, _&&_, not}
-use mathlib.Core.Logic.{_⊎_, inl, inr}
 use Prim.Native.Nat.{ℕ, _+_, _<_, _≤_}
 use native.Mathlib.Omega.{arith}
 use native.Mathlib.Nat.{le-refl}
 use lib.Dec.{eqb}
 use lib.Count.{ones}
 use borrow.Author.Tests.{ne-eqb}
-use Rattle.laws.specs.Below.{words, sum, only, any, count}
+use Rattle.laws.specs.Below.{naturals, sum, only, any, count}
 use Rattle.laws.specs.Masks.{maskOf, without}
 use Rattle.laws.proofs.Bools.{split, clash, and-one, and-false}
 use Rattle.laws.proofs.Sums.{sum-cong, sum-none, sum-swap, sum-only, sum-pick}
 use Rattle.laws.proofs.Below.{any-find, count-none, count-zero}
 use Rattle.model.specs.Job.{Job, needs, shares, needWord, sharerWord, priceWord, totalWord, pricesDue, totalsDue}
 use Rattle.model.specs.Words.{ownerWords}
-use Rattle.model.specs.Tables.{jobOf}
 use Rattle.model.specs.Local.{priceTable, totalTable}
-use Rattle.tables.specs.Messages.{cellAt, lineSum, tableSum}
-use Rattle.tables.specs.Sums.{TableSums, MessageSums}
+use Rattle.tables.specs.Messages.{cellAt, rowSum, columnSum, tableSum}
 use Rattle.model.proofs.Range.{InRange}
 use Rattle.model.proofs.Words.{needs-past, shares-past, ones-others}
-use Rattle.model.proofs.Step.{range}
 use Rattle.tables.proofs.Extra.{rows-at}
 
 -- None is counted where none passes.
 count-zeros : (n : ℕ) (p : ℕ → Bool) → ((i : ℕ) → i < n → p i ≡ false) → count n p ≡ 0
-unfolding count only words
-count-zeros n p h = sum-none words n (λ i. only words (p i) 1) (λ i l. rw (h i l))
+unfolding count only naturals
+count-zeros n p h = sum-none naturals n (λ i. only naturals (p i) 1) (λ i l. rw (h i l))
 
 count-any : (n : ℕ) (p : ℕ → Bool) → eqb (count n p) 0 ≡ not (any n p)
 count-any n p =
@@ -36,12 +32,12 @@ count-any n p =
     (λ e. let (i, l, q) = any-find n p e in rw e (ne-eqb (count n p) 0 (λ z. clash q (count-zero n p i l z))))
     (λ e. rw (e, count-none n p e))
 
-only-and : (a b : Bool) (x : ℕ) → only words (a && b) x ≡ only words a (only words b x)
+only-and : (a b : Bool) (x : ℕ) → only naturals (a && b) x ≡ only naturals a (only naturals b x)
 unfolding only
 only-and true b x = refl
 only-and false b x = refl
 
-only-true : (x : ℕ) → only words true x ≡ x
+only-true : (x : ℕ) → only naturals true x ≡ x
 unfolding only
 only-true x = refl
 
@@ -64,23 +60,23 @@ module _ (n : ℕ) (owner : ℕ → ℕ) (p : ℕ → ℕ → Bool) where
   no-self x = count-zeros n (wordAt x x) (λ i l. split (eqb (owner i) x) (λ e. simp e) (λ e. simp e))
 
   module _ (lt : (i : ℕ) → i < n → owner i < 16) (past : (i b : ℕ) → 16 ≤ b → p i b ≡ false) where
-    owner-sum : (x : ℕ) → sum words 16 (λ y. count n (wordAt x y)) ≡ sum words n (λ i. only words (eqb (owner i) x) (others i))
+    owner-sum : (x : ℕ) → sum naturals 16 (λ y. count n (wordAt x y)) ≡ sum naturals n (λ i. only naturals (eqb (owner i) x) (others i))
     unfolding count
     owner-sum x =
-        sum-swap words 16 n (λ y i. only words (wordAt x y i) 1)
-        ∙ sum-cong words n (λ i. sum words 16 (λ y. only words (wordAt x y i) 1)) (λ i. only words (eqb (owner i) x) (others i)) (λ i l.
-        sum-cong words 16 (λ y. only words (wordAt x y i) 1) (λ y. only words (eqb (owner i) x) (only words (not (eqb (owner i) y) && p i y) 1))
+        sum-swap naturals 16 n (λ y i. only naturals (wordAt x y i) 1)
+        ∙ sum-cong naturals n (λ i. sum naturals 16 (λ y. only naturals (wordAt x y i) 1)) (λ i. only naturals (eqb (owner i) x) (others i)) (λ i l.
+        sum-cong naturals 16 (λ y. only naturals (wordAt x y i) 1) (λ y. only naturals (eqb (owner i) x) (only naturals (not (eqb (owner i) y) && p i y) 1))
         (λ y m. only-and (eqb (owner i) x) (not (eqb (owner i) y) && p i y) 1)
-        ∙ sum-only words 16 (eqb (owner i) x) (λ y. only words (not (eqb (owner i) y) && p i y) 1)
-        ∙ ap (only words (eqb (owner i) x)) (sym (ones-others 16 (owner i) (p i) (le-refl 16) (lt i l) (past i))))
+        ∙ sum-only naturals 16 (eqb (owner i) x) (λ y. only naturals (not (eqb (owner i) y) && p i y) 1)
+        ∙ ap (only naturals (eqb (owner i) x)) (sym (ones-others 16 (owner i) (p i) (le-refl 16) (lt i l) (past i))))
 
-    whole-sum : sum words 16 (λ x. sum words 16 (λ y. count n (wordAt x y))) ≡ sum words n others
+    whole-sum : sum naturals 16 (λ x. sum naturals 16 (λ y. count n (wordAt x y))) ≡ sum naturals n others
     whole-sum =
-        sum-cong words 16 (λ x. sum words 16 (λ y. count n (wordAt x y))) (λ x. sum words n (λ i. only words (eqb (owner i) x) (others i))) (λ x l. owner-sum x)
-        ∙ sum-swap words 16 n (λ x i. only words (eqb (owner i) x) (others i))
-        ∙ sum-cong words n (λ i. sum words 16 (λ x. only words (eqb (owner i) x) (others i))) others (λ i l.
-        sum-cong words 16 (λ x. only words (eqb (owner i) x) (others i)) (λ x. only words (eqb (owner i) x && true) (others i)) (λ x m. rw (and-one (eqb (owner i) x)))
-        ∙ sum-pick words 16 (owner i) true (others i) (lt i l)
+        sum-cong naturals 16 (λ x. sum naturals 16 (λ y. count n (wordAt x y))) (λ x. sum naturals n (λ i. only naturals (eqb (owner i) x) (others i))) (λ x l. owner-sum x)
+        ∙ sum-swap naturals 16 n (λ x i. only naturals (eqb (owner i) x) (others i))
+        ∙ sum-cong naturals n (λ i. sum naturals 16 (λ x. only naturals (eqb (owner i) x) (others i))) others (λ i l.
+        sum-cong naturals 16 (λ x. only naturals (eqb (owner i) x) (others i)) (λ x. only naturals (eqb (owner i) x && true) (others i)) (λ x m. rw (and-one (eqb (owner i) x)))
+        ∙ sum-pick naturals 16 (owner i) true (others i) (lt i l)
         ∙ only-true (others i))
 
 module _ (j : Job) (a b : ℕ) (la : a < 16) (lb : b < 16) where
@@ -143,55 +139,36 @@ module _ (j : Job) (r : InRange j) where
   shares-out g b h = shares-past j g b (omega (arith, r .boxes≤))
 
   -- A box's row of the price table sums to the ones in the need words of its own offers, the owner's bit left out.
-  pub price-row-sum : (a : ℕ) → a < 16 → lineSum false (priceTable j) a ≡ sum words (j .offers) (λ o. only words (eqb (j .offerOwner o) a) (ones (without (j .offerOwner o) (needWord j o))))
-  unfolding lineSum priceWord needWord
+  pub price-row-sum : (a : ℕ) → a < 16 → rowSum (priceTable j) a ≡ sum naturals (j .offers) (λ o. only naturals (eqb (j .offerOwner o) a) (ones (without (j .offerOwner o) (needWord j o))))
+  unfolding rowSum priceWord needWord
   price-row-sum a l =
-      sum-cong words 16 (λ b. cellAt (priceTable j) a b) (λ b. count (j .offers) (priceWord j a b)) (λ b m. price-cell j a b l m)
+      sum-cong naturals 16 (λ b. cellAt (priceTable j) a b) (λ b. count (j .offers) (priceWord j a b)) (λ b m. price-cell j a b l m)
       ∙ owner-sum (j .offers) (j .offerOwner) (needs j) offer-owner needs-out a
 
   -- Its column of the totals table sums likewise over the sharers of its own grocers.
-  pub total-column-sum : (b : ℕ) → b < 16 → lineSum true (totalTable j) b ≡ sum words (j .grocers) (λ g. only words (eqb (j .grocerOwner g) b) (ones (without (j .grocerOwner g) (sharerWord j g))))
-  unfolding lineSum totalWord sharerWord
+  pub total-column-sum : (b : ℕ) → b < 16 → columnSum (totalTable j) b ≡ sum naturals (j .grocers) (λ g. only naturals (eqb (j .grocerOwner g) b) (ones (without (j .grocerOwner g) (sharerWord j g))))
+  unfolding columnSum totalWord sharerWord
   total-column-sum b l =
-      sum-cong words 16 (λ a. cellAt (totalTable j) a b) (λ a. count (j .grocers) (totalWord j a b)) (λ a m. total-cell j a b m l)
+      sum-cong naturals 16 (λ a. cellAt (totalTable j) a b) (λ a. count (j .grocers) (totalWord j a b)) (λ a m. total-cell j a b m l)
       ∙ owner-sum (j .grocers) (j .grocerOwner) (shares j) grocer-owner shares-out b
 
   -- Each table sums to its part of the word total,
-  pub price-sum : tableSum (priceTable j) ≡ sum words (j .offers) (λ o. ones (without (j .offerOwner o) (needWord j o)))
-  unfolding tableSum lineSum priceWord needWord
+  pub price-sum : tableSum (priceTable j) ≡ sum naturals (j .offers) (λ o. ones (without (j .offerOwner o) (needWord j o)))
+  unfolding tableSum rowSum priceWord needWord
   price-sum =
-      sum-cong words 16 (λ a. sum words 16 (λ b. cellAt (priceTable j) a b)) (λ a. sum words 16 (λ b. count (j .offers) (priceWord j a b)))
-      (λ a l. sum-cong words 16 (λ b. cellAt (priceTable j) a b) (λ b. count (j .offers) (priceWord j a b)) (λ b m. price-cell j a b l m))
+      sum-cong naturals 16 (λ a. sum naturals 16 (λ b. cellAt (priceTable j) a b)) (λ a. sum naturals 16 (λ b. count (j .offers) (priceWord j a b)))
+      (λ a l. sum-cong naturals 16 (λ b. cellAt (priceTable j) a b) (λ b. count (j .offers) (priceWord j a b)) (λ b m. price-cell j a b l m))
       ∙ whole-sum (j .offers) (j .offerOwner) (needs j) offer-owner needs-out
 
-  pub total-sum : tableSum (totalTable j) ≡ sum words (j .grocers) (λ g. ones (without (j .grocerOwner g) (sharerWord j g)))
-  unfolding tableSum lineSum totalWord sharerWord
+  pub total-sum : tableSum (totalTable j) ≡ sum naturals (j .grocers) (λ g. ones (without (j .grocerOwner g) (sharerWord j g)))
+  unfolding tableSum rowSum totalWord sharerWord
   total-sum =
-      sum-cong words 16 (λ a. sum words 16 (λ b. cellAt (totalTable j) a b)) (λ a. sum words 16 (λ b. count (j .grocers) (totalWord j a b)))
-      (λ a l. sum-cong words 16 (λ b. cellAt (totalTable j) a b) (λ b. count (j .grocers) (totalWord j a b)) (λ b m. total-cell j a b l m))
-      ∙ sum-swap words 16 16 (λ a b. count (j .grocers) (totalWord j a b))
+      sum-cong naturals 16 (λ a. sum naturals 16 (λ b. cellAt (totalTable j) a b)) (λ a. sum naturals 16 (λ b. count (j .grocers) (totalWord j a b)))
+      (λ a l. sum-cong naturals 16 (λ b. cellAt (totalTable j) a b) (λ b. count (j .grocers) (totalWord j a b)) (λ b m. total-cell j a b l m))
+      ∙ sum-swap naturals 16 16 (λ a b. count (j .grocers) (totalWord j a b))
       ∙ whole-sum (j .grocers) (j .grocerOwner) (shares j) grocer-owner shares-out
 
   -- and both together to the words of the job by the owner tables.
   pub tables-sum : tableSum (priceTable j) + tableSum (totalTable j) ≡ ownerWords j
   unfolding ownerWords
   tables-sum = ap₂ (λ (x y : ℕ). x + y) price-sum total-sum
-
-  -- Boxes from K on have 0 in both.
-  past : (a b : ℕ) → a < 16 → b < 16 → (j .boxes ≤ a) ⊎ (j .boxes ≤ b) → (cellAt (priceTable j) a b ≡ 0) × (cellAt (totalTable j) a b ≡ 0)
-  past a b la lb (inl h) = (price-row-past j a b la lb r h, total-row-past j a b la lb h)
-  past a b la lb (inr h) = (price-column-past j a b la lb h, total-column-past j a b la lb r h)
-
-  table-sums : TableSums j
-  table-sums = record {
-    past = past;
-    self = λ a l. (price-self j a l, total-self j a l);
-    row = price-row-sum;
-    column = total-column-sum;
-    whole = tables-sum;
-  }
-
--- All of this of every job in range.
-pub message-sums : MessageSums
-unfolding MessageSums
-message-sums f ok = table-sums (jobOf f) (range f ok)

@@ -11,7 +11,7 @@ use Rattle.model.specs.Tables.{JobTables, jobOf, jobLengths, jobShort}
 use Rattle.model.specs.Ranges.{jobInRange}
 use Rattle.model.specs.Local.{priceTable, totalTable}
 use Rattle.tables.specs.Refusals.{jobRefusals}
-use Rattle.tables.specs.Answers.{refused, said, messagesAnswer, messages, messageTables, MessagesGiven}
+use Rattle.tables.specs.Answers.{refused, said, messagesAnswer, tablesGiven, messageTables}
 use Rattle.tables.specs.declared.messages.Answer.the-variants.{Made, Refused}
 
 two-tests : (a b : Bool) → cond {A = ℕ} a 20 (cond (not b) 21 0) ≡ 0 → (a ≡ false) × (b ≡ true)
@@ -31,20 +31,12 @@ module _ (f : JobTables) where
   accepted h = two-tests (jobShort (jobOf f) (jobLengths f)) (jobInRange f) h
 
   -- A refusal leaves both tables.
-  pub messages-refused : (p t : List (List ℕ)) (n : ℕ) → n ≡ firstMet (jobRefusals f) → (n ≡ 0 → ⊥) → messages (said (Refused n)) p t ≡ messageTables f p t
+  pub messages-refused : (p t : List (List ℕ)) (n : ℕ) → n ≡ firstMet (jobRefusals f) → (n ≡ 0 → ⊥) → tablesGiven (said (Refused n)) p t ≡ messageTables f p t
   unfolding messageTables said
   messages-refused p t n e h = rw (sym e, ne-eqb n 0 h, answer-no n (ownerWords (jobOf f)) h)
 
   -- No refusal: both tables are the job's, and so are the words.
   pub messages-made : (p t p′ t′ : List (List ℕ)) (w n : ℕ) → n ≡ firstMet (jobRefusals f) → n ≡ 0 → p′ ≡ priceTable (jobOf f) → t′ ≡ totalTable (jobOf f) → w ≡ ownerWords (jobOf f) →
-      messages (said (Made w)) p′ t′ ≡ messageTables f p t
+      tablesGiven (said (Made w)) p′ t′ ≡ messageTables f p t
   unfolding messageTables said messagesAnswer
   messages-made p t p′ t′ w n e h ep et ew = rw (sym e, h, ep, et, ew)
-
--- A call by whether it is refused.
-pub messages-given : MessagesGiven
-unfolding messageTables said messagesAnswer
-messages-given = record {
-  refusal = λ f p t h. sym (messages-refused f p t (firstMet (jobRefusals f)) refl h);
-  accepted = λ f p t h. rw h;
-}

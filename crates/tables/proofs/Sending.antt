@@ -8,13 +8,13 @@ use native.Mathlib.Omega.{arith}
 use lib.ListN.{length, getD, set, replicate, List·getD-eq-default}
 use lib.Dec.{eqb, ltb}
 use borrow.Author.Tests.{lt-ltb, le-ltb, ltb-true, ltb-false, ne-eqb, eqb-true, eqb-false}
-use Rattle.laws.specs.Below.{words, only, sum, count}
+use Rattle.laws.specs.Below.{naturals, only, sum, count}
 use Rattle.laws.specs.Masks.{bit, without}
 use Rattle.laws.specs.Tables.{tabulate}
 use Rattle.laws.proofs.Bools.{split, eqb-same, and-false}
 use Rattle.laws.proofs.Sums.{sum-next, sum-none}
 use Rattle.laws.proofs.Below.{count-next, count-le, only-le}
-use Rattle.tables.specs.Messages.{between, sends, sentTable, cellAt, lineSum, tableSum}
+use Rattle.tables.specs.Messages.{between, sends, sentTable, cellAt, rowSum, columnSum, tableSum}
 use Rattle.tables.proofs.Extra.{bit-without, rows-cong, rows-at, rows-set}
 
 -- The side of a cell that holds, and the side that owns.
@@ -32,14 +32,14 @@ module _ (back : Bool) (n : ℕ) (owners masks : List ℕ) where
 
   -- Those, and the words of owner n with the boxes below i.
   unfoldable pub passing : ℕ → ℕ → ℕ → ℕ
-  passing i a b = before a b + only words (ltb (holder back a b) i && sends back (getD owners n 0) (getD masks n 0) a b) 1
+  passing i a b = before a b + only naturals (ltb (holder back a b) i && sends back (getD owners n 0) (getD masks n 0) a b) 1
 
   abbrev pub passingTable : ℕ → List (List ℕ)
   passingTable i = tabulate 16 (λ a. tabulate 16 (passing i a))
 
   -- No box yet.
   pub passing-none : sentTable back n owners masks ≡ passingTable 0
-  unfolding sentTable passing only words
+  unfolding sentTable passing only naturals
   passing-none = rows-cong 16 16 _ _ (λ a b l k. sym (rw (le-ltb (holder back a b) 0 (omega arith)) (add-zero (before a b))))
 
   -- All sixteen.
@@ -51,8 +51,8 @@ module _ (back : Bool) (n : ℕ) (owners masks : List ℕ) where
 -- The words of one owner o whose word is w, at a cell whose owning side is x and whose holding side is y, in the turn of box i.
 module _ (o w i : ℕ) (lo : o < 16) (hw : w < 2 ^ 16) (li : i < 16) where
   cell-here : (m x y : ℕ) → x ≡ o → y ≡ i →
-      m + only words (ltb y i && between o w x y) 1 + only words (bit i (without o w)) 1 ≡ m + only words (ltb y (i + 1) && between o w x y) 1
-  unfolding between only words
+      m + only naturals (ltb y i && between o w x y) 1 + only naturals (bit i (without o w)) 1 ≡ m + only naturals (ltb y (i + 1) && between o w x y) 1
+  unfolding between only naturals
   cell-here m x y ex ey =
       rw (ex, ey, le-ltb i i (omega arith), lt-ltb i (i + 1) (omega arith), eqb-same o, bit-without o w lo hw i li, and-comm (bit i w) (not (eqb o i)))
       (ap (λ (z : ℕ). z + cond (not (eqb o i) && bit i w) 1 0) (add-zero m))
@@ -63,10 +63,10 @@ module _ (o w i : ℕ) (lo : o < 16) (hw : w < 2 ^ 16) (li : i < 16) where
       and-comm false true = refl
       and-comm false false = refl
 
-  cell-else : (m x y : ℕ) → (x ≡ o → y ≡ i → ⊥) → m + only words (ltb y (i + 1) && between o w x y) 1 ≡ m + only words (ltb y i && between o w x y) 1
+  cell-else : (m x y : ℕ) → (x ≡ o → y ≡ i → ⊥) → m + only naturals (ltb y (i + 1) && between o w x y) 1 ≡ m + only naturals (ltb y i && between o w x y) 1
   unfolding between
   cell-else m x y h =
-      ap (λ (t : Bool). m + only words t 1)
+      ap (λ (t : Bool). m + only naturals t 1)
       (split (eqb y i)
       (λ e. rw (ne-eqb o x (λ q. h (sym q) (eqb-true y i e))) (and-false (ltb y (i + 1)) ∙ sym (and-false (ltb y i))))
       (λ e. ap (λ (t : Bool). t && between o w x y) (same-test y (eqb-false y i e))))
@@ -97,7 +97,7 @@ module _ (back : Bool) (n : ℕ) (owners masks : List ℕ) (lo : getD owners n 0
   abbrev to : ℕ
   to = cond back (getD owners n 0) i
 
-  pub passing-here : passing back n owners masks i from to + only words (bit i (without (getD owners n 0) (getD masks n 0))) 1 ≡ passing back n owners masks (i + 1) from to
+  pub passing-here : passing back n owners masks i from to + only naturals (bit i (without (getD owners n 0) (getD masks n 0))) 1 ≡ passing back n owners masks (i + 1) from to
   unfolding passing sends
   passing-here =
       cell-here (getD owners n 0) (getD masks n 0) i lo hw li (before back n owners masks from to) (cond back to from) (cond back from to)
@@ -117,7 +117,7 @@ module _ (back : Bool) (n : ℕ) (owners masks : List ℕ) (lo : getD owners n 0
   to-in = side back (getD owners n 0) i lo li
 
   -- The turn as code makes it.
-  pub passing-more : (m : ℕ) → m ≡ only words (bit i (without (getD owners n 0) (getD masks n 0))) 1 →
+  pub passing-more : (m : ℕ) → m ≡ only naturals (bit i (without (getD owners n 0) (getD masks n 0))) 1 →
       set (passingTable back n owners masks i) from (set (getD (passingTable back n owners masks i) from []) to (cellAt (passingTable back n owners masks i) from to + m)) ≡ passingTable back n owners masks (i + 1)
   passing-more m e =
       rows-set 16 16 (passing back n owners masks i) (passing back n owners masks (i + 1)) 0 from to (cellAt (passingTable back n owners masks i) from to + m) from-in to-in
@@ -125,7 +125,7 @@ module _ (back : Bool) (n : ℕ) (owners masks : List ℕ) (lo : getD owners n 0
       passing-else
 
   -- A word that is raised was at most n.
-  pub passing-max : cellAt (passingTable back n owners masks i) from to + only words (bit i (without (getD owners n 0) (getD masks n 0))) 1 ≤ n + 1
+  pub passing-max : cellAt (passingTable back n owners masks i) from to + only naturals (bit i (without (getD owners n 0) (getD masks n 0))) 1 ≤ n + 1
   unfolding passing
   passing-max =
       rw (rows-at 16 16 (passing back n owners masks i) 0 from to from-in to-in, passing-here)
@@ -133,44 +133,46 @@ module _ (back : Bool) (n : ℕ) (owners masks : List ℕ) (lo : getD owners n 0
 
 -- No owner yet.
 pub sent-none : (back : Bool) (owners masks : List ℕ) → replicate 16 (replicate 16 0) ≡ sentTable back 0 owners masks
-unfolding sentTable tabulate count sum words
+unfolding sentTable tabulate count sum naturals
 sent-none back owners masks = refl
 
 -- The first n counts of a row or a column, summed.
 unfoldable pub lineTo : ℕ → Bool → List (List ℕ) → ℕ → ℕ
-lineTo n back t x = sum words n (λ y. cellAt t (cond back y x) (cond back x y))
+lineTo n back t x = sum naturals n (λ y. cellAt t (cond back y x) (cond back x y))
 
 module _ (back : Bool) (t : List (List ℕ)) (x : ℕ) where
   pub line-none : lineTo 0 back t x ≡ 0
-  unfolding lineTo sum words
+  unfolding lineTo sum naturals
   line-none = refl
 
   pub line-next : (n : ℕ) → lineTo (n + 1) back t x ≡ lineTo n back t x + cellAt t (cond back n x) (cond back x n)
-  unfolding lineTo words
-  line-next n = sum-next words n (λ y. cellAt t (cond back y x) (cond back x y))
+  unfolding lineTo naturals
+  line-next n = sum-next naturals n (λ y. cellAt t (cond back y x) (cond back x y))
 
-  pub line-whole : lineTo 16 back t x ≡ lineSum back t x
-  unfolding lineTo lineSum
-  line-whole = refl
+-- All sixteen: what a box sends, or where `back` what it receives.
+pub line-whole : (back : Bool) (t : List (List ℕ)) (x : ℕ) → lineTo 16 back t x ≡ cond back (columnSum t x) (rowSum t x)
+unfolding lineTo rowSum columnSum
+line-whole false t x = refl
+line-whole true t x = refl
 
 -- A line past the table has no word.
-pub line-past : (back : Bool) (t : List (List ℕ)) (x : ℕ) → length t ≤ 16 → ((i : ℕ) → length (getD t i []) ≤ 16) → 16 ≤ x → lineSum back t x ≡ 0
-unfolding lineSum words
-line-past false t x rows columns h = sum-none words 16 (λ y. cellAt t x y) (λ y l. ap (λ (r : List ℕ). getD r y 0) (List·getD-eq-default t [] {n = x} (omega arith)))
-line-past true t x rows columns h = sum-none words 16 (λ y. cellAt t y x) (λ y l. List·getD-eq-default (getD t y []) 0 {n = x} (omega (arith, columns y)))
+pub line-past : (back : Bool) (t : List (List ℕ)) (x : ℕ) → length t ≤ 16 → ((i : ℕ) → length (getD t i []) ≤ 16) → 16 ≤ x → cond back (columnSum t x) (rowSum t x) ≡ 0
+unfolding rowSum columnSum naturals
+line-past false t x rows columns h = sum-none naturals 16 (λ y. cellAt t x y) (λ y l. ap (λ (r : List ℕ). getD r y 0) (List·getD-eq-default t [] {n = x} (omega arith)))
+line-past true t x rows columns h = sum-none naturals 16 (λ y. cellAt t y x) (λ y l. List·getD-eq-default (getD t y []) 0 {n = x} (omega (arith, columns y)))
 
 -- The first n rows.
 unfoldable pub rowsTo : ℕ → List (List ℕ) → ℕ
-rowsTo n t = sum words n (λ a. lineSum false t a)
+rowsTo n t = sum naturals n (λ a. rowSum t a)
 
 module _ (t : List (List ℕ)) where
   pub rows-none : rowsTo 0 t ≡ 0
-  unfolding rowsTo sum words
+  unfolding rowsTo sum naturals
   rows-none = refl
 
-  pub rows-next : (n : ℕ) → rowsTo (n + 1) t ≡ rowsTo n t + lineSum false t n
-  unfolding rowsTo words
-  rows-next n = sum-next words n (λ a. lineSum false t a)
+  pub rows-next : (n : ℕ) → rowsTo (n + 1) t ≡ rowsTo n t + rowSum t n
+  unfolding rowsTo naturals
+  rows-next n = sum-next naturals n (λ a. rowSum t a)
 
   pub rows-whole : rowsTo 16 t ≡ tableSum t
   unfolding rowsTo tableSum

@@ -2,6 +2,5 @@
 pub mod Sizes
 pub mod Masks
 pub mod Messages
-pub mod Sums
 pub mod Refusals
 pub mod Answers

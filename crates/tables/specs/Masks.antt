@@ -6,7 +6,7 @@ use lib.ListN.{getD, set, length}
 use lib.Dec.{eqb, ltb}
 use lib.Bits.{bitOr}
 use lib.Count.{ones}
-use Rattle.laws.specs.Below.{any, sum, words}
+use Rattle.laws.specs.Below.{any, sum, naturals}
 use Rattle.laws.specs.Masks.{maskOf, without}
 
 -- The words after one tally of box b and place p: bit b of the word at p is set, where b is below k.
@@ -30,7 +30,7 @@ pub record Placed (k n size : ℕ) (boxes places : List ℕ) : Type 0 where
 
 -- The ones in the first n words, each without its owner's bit.
 unfoldable pub othersSum : ℕ → List ℕ → List ℕ → ℕ
-othersSum n owners masks = sum words n (λ i. ones (without (getD owners i 0) (getD masks i 0)))
+othersSum n owners masks = sum naturals n (λ i. ones (without (getD owners i 0) (getD masks i 0)))
 
 -- What the sum asks: tables long enough, and owners below 16.
 pub record Owned (n : ℕ) (owners masks : List ℕ) : Type 0 where

@@ -1,10 +1,10 @@
 -- Tables of messages by owners and words of holders: 16 rows of 16 counts, the row is the sender.
-use mathlib.Core.Bool.{Bool, false, cond, _&&_, not}
+use mathlib.Core.Bool.{Bool, cond, _&&_, not}
 use mathlib.Core.List.{List, []}
 use Prim.Native.Nat.{ℕ}
 use lib.ListN.{getD}
 use lib.Dec.{eqb}
-use Rattle.laws.specs.Below.{sum, words, count}
+use Rattle.laws.specs.Below.{sum, naturals, count}
 use Rattle.laws.specs.Masks.{bit}
 use Rattle.laws.specs.Tables.{tabulate}
 
@@ -24,10 +24,14 @@ sentTable back n owners masks = tabulate 16 (λ a. tabulate 16 (λ b. count n (�
 abbrev pub cellAt : List (List ℕ) → ℕ → ℕ → ℕ
 cellAt t a b = getD (getD t a []) b 0
 
--- What box x sends in all, the sum of its row; or where `back` what it receives, the sum of its column.
-unfoldable pub lineSum : Bool → List (List ℕ) → ℕ → ℕ
-lineSum back t x = sum words 16 (λ y. cellAt t (cond back y x) (cond back x y))
+-- What box a sends in all: the sum of its row.
+unfoldable pub rowSum : List (List ℕ) → ℕ → ℕ
+rowSum t a = sum naturals 16 (λ b. cellAt t a b)
+
+-- What box b receives in all: the sum of its column.
+unfoldable pub columnSum : List (List ℕ) → ℕ → ℕ
+columnSum t b = sum naturals 16 (λ a. cellAt t a b)
 
 -- The words of a table in all.
 unfoldable pub tableSum : List (List ℕ) → ℕ
-tableSum t = sum words 16 (λ a. lineSum false t a)
+tableSum t = sum naturals 16 (λ a. rowSum t a)

@@ -2,12 +2,12 @@
 ghost use mathlib.Core.Path.{_≡_};
 ghost use mathlib.Core.Bool.{false, true, cond};
 ghost use Prim.Native.Nat.{_+_, _≤_, _<_};
-ghost use Rattle.laws.specs.Below.{words, only};
+ghost use Rattle.laws.specs.Below.{naturals, only};
 ghost use Rattle.laws.specs.Masks.{bit};
 ghost use Rattle.model.specs.Tables.{jobTables};
 ghost use Rattle.tables.specs.Masks.{Owned};
-ghost use Rattle.tables.specs.Messages.{sentTable, lineSum, tableSum};
-ghost use Rattle.tables.specs.Answers.{said, messages, messageTables};
+ghost use Rattle.tables.specs.Messages.{sentTable, rowSum, columnSum, tableSum};
+ghost use Rattle.tables.specs.Answers.{said, tablesGiven, messageTables};
 use crate::checks::job_refusal;
 use crate::masks::clear_bit;
 use crate::masks::needs;
@@ -17,7 +17,7 @@ use crate::masks::word_total;
 // 1 where bit b of the word is set, else 0.
 fn bit_word(word: u16, b: usize) -> u16
     requires { ⌜ b < 16 ⌝ }
-    ensures { λ r. ⌜ r ≡ only words (bit b word) 1 ⌝ }
+    ensures { λ r. ⌜ r ≡ only naturals (bit b word) 1 ⌝ }
 {
     (word >> b) & 1
 }
@@ -89,7 +89,7 @@ fn wide(x: u16) -> u32
 
 // The sum of row x of a table, or where `back` of column x; 0 where it has none.
 fn line_sum(table: [[u16; 16]; 16], back: bool, x: usize) -> u32
-    ensures { λ r. ⌜ (r ≡ lineSum back table x) × (r ≤ 1048560) ⌝ }
+    ensures { λ r. ⌜ (r ≡ cond back (columnSum table x) (rowSum table x)) × (r ≤ 1048560) ⌝ }
 {
     if x >= 16 {
         return 0;
@@ -105,14 +105,14 @@ fn line_sum(table: [[u16; 16]; 16], back: bool, x: usize) -> u32
 
 // The words that box a sends: its row of a table, 0 from box 16 on.
 pub fn row_sum(table: [[u16; 16]; 16], a: usize) -> u32
-    ensures { λ r. ⌜ r ≡ lineSum false table a ⌝ }
+    ensures { λ r. ⌜ r ≡ rowSum table a ⌝ }
 {
     line_sum(table, false, a)
 }
 
 // The words that box b receives: its column of a table, 0 from box 16 on.
 pub fn column_sum(table: [[u16; 16]; 16], b: usize) -> u32
-    ensures { λ r. ⌜ r ≡ lineSum true table b ⌝ }
+    ensures { λ r. ⌜ r ≡ columnSum table b ⌝ }
 {
     line_sum(table, true, b)
 }
@@ -152,7 +152,7 @@ pub fn message_tables(
     prices: &mut [[u16; 16]; 16],
     totals: &mut [[u16; 16]; 16],
 ) -> Answer
-    ensures { λ r. ⌜ messages (said r) (now (prices .exit)) (now (totals .exit))
+    ensures { λ r. ⌜ tablesGiven (said r) (now (prices .exit)) (now (totals .exit))
         ≡ messageTables (jobTables boxes grocers offers tallies (now (price .entry)) (now (owner .entry)) (now (gowner .entry))
         (now (tgrocer .entry)) (now (tbox .entry)) (now (toffer .entry)) (now (tcount .entry)))
         (now (prices .entry)) (now (totals .entry)) ⌝ }

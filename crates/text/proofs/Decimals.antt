@@ -14,8 +14,8 @@ use mir.Val.{SFits}
 use borrow.Author.Tests.{lt-ltb, ltb-true, ltb-false}
 use Rattle.io.specs.Digits.{digits, glyph, Fewest}
 use Rattle.laws.proofs.Bools.{split}
-use Rattle.guarantees.specs.Settle.{digitsOf, decimal, signedDecimal, line, grocerLines}
-use Rattle.guarantees.proofs.Settle.{below-power}
+use Rattle.printing.specs.Printed.{digitsOf, decimal, signedDecimal, line, grocerLines}
+use Rattle.printing.proofs.Digits.{below-power}
 use Rattle.text.specs.Puts.{put, Put}
 use Rattle.text.proofs.Puts.{behind, reworded}
 

@@ -2,7 +2,7 @@
 ghost use Prim.Native.Nat.{_+_, _≤_, _<_};
 ghost use lib.IntN.{pos};
 ghost use lib.ListN.{length, getD};
-ghost use Rattle.guarantees.specs.Settle.{decimal, signedDecimal, line, grocerLines, settledText, refusedText};
+ghost use Rattle.printing.specs.Printed.{decimal, signedDecimal, line, grocerLines, settledText, refusedText};
 ghost use Rattle.text.specs.Puts.{Put};
 use crate::numbers::put_amount;
 use crate::numbers::put_byte;

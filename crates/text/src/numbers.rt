@@ -2,7 +2,7 @@
 ghost use mathlib.Core.List.{[], _∷_};
 ghost use Prim.Native.Nat.{_+_, _≤_, _<_};
 ghost use lib.ListN.{length};
-ghost use Rattle.guarantees.specs.Settle.{decimal, signedDecimal};
+ghost use Rattle.printing.specs.Printed.{decimal, signedDecimal};
 ghost use Rattle.text.specs.Puts.{Put};
 
 // One byte.

@@ -8,7 +8,7 @@ use lib.Dec.{eqb, ltb}
 use lib.ListN.{getD}
 use lib.IntN.{ℤ, pos, _+ℤ_, _*ℤ_}
 use borrow.Author.Tests.{lt-ltb, ne-eqb, eqb-true}
-use Rattle.laws.specs.Below.{amounts, only, count}
+use Rattle.laws.specs.Below.{integers, only, count}
 use Rattle.laws.specs.Tables.{tabulate, overwrite, word, cell, recell}
 use Rattle.laws.proofs.Bools.{split, eqb-same}
 use Rattle.laws.proofs.Below.{count-cong}
@@ -31,8 +31,8 @@ talliesOf f =
     tallies (f .boxes) (f .grocers) (f .offers) (f .tallies) (f .offerOwner) (f .tallyGrocer) (f .tallyBox) (f .tallyOffer) (f .tallyCount)
 
 -- One tally, as the model adds it and as the call does.
-only-same : (h l g p o : Bool) (x y : ℤ) → l ≡ true → (h ≡ true → p ≡ o) → (p ≡ true → x ≡ y) → only amounts (h && l && g && p) x ≡ only amounts (h && (g && o)) y
-unfolding only amounts
+only-same : (h l g p o : Bool) (x y : ℤ) → l ≡ true → (h ≡ true → p ≡ o) → (p ≡ true → x ≡ y) → only integers (h && l && g && p) x ≡ only integers (h && (g && o)) y
+unfolding only integers
 only-same false l g p o x y el eo ex = refl
 only-same true l false p o x y el eo ex = rw el
 only-same true l true p o x y el eo ex = rw (el, ← (eo refl)) (split p (λ e. rw e (ex e)) (λ e. rw e))
@@ -45,7 +45,7 @@ module _ (f : JobTables) (h : TalliesIn (talliesOf f)) (a : ℕ) (la : a < f .bo
     products-are : (g : ℕ) → products (jobOf f) know p a g ≡ productSum (talliesOf f) prices a from g
     unfolding products productSum product amount jobOf heldBy
     products-are g =
-        sum-cong amounts (f .tallies) _ _ (λ i l.
+        sum-cong integers (f .tallies) _ _ (λ i l.
         rw (
           word-in (f .tallies) (f .tallyBox) 0 i l,
           word-in (f .tallies) (f .tallyGrocer) 0 i l,

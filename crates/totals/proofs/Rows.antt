@@ -12,7 +12,7 @@ use lib.ListN.{length, getD, set}
 use lib.Seq.{set-getD}
 use lib.IntN.{ℤ, pos, natAbs, _+ℤ_, _*ℤ_, +ℤ-idr}
 use borrow.Author.Tests.{eqb-true, eqb-false, ne-eqb, ltb-true, le-leb}
-use Rattle.laws.specs.Below.{amounts, sum, only, all}
+use Rattle.laws.specs.Below.{integers, sum, only, all}
 use Rattle.laws.specs.Tables.{tabulate, overwrite, cell, recell}
 use Rattle.laws.proofs.Bools.{split, eqb-same, and-l, and-r}
 use Rattle.laws.proofs.Below.{all-at, all-of, all-find, all-fails}
@@ -25,17 +25,17 @@ use Rattle.totals.specs.Row.{Tallies, TalliesIn, PricesIn, AmountsIn, Ta
 use Rattle.model.proofs.Step.{under-at, up-at, around-at}
 
 -- Where nothing is added the row stays, and elsewhere the word grows.
-pub raised-not : (l : List ℤ) (g : ℕ) (t : Bool) (z : ℤ) → t ≡ false → l ≡ raised l g (only amounts t z)
-unfolding only amounts
+pub raised-not : (l : List ℤ) (g : ℕ) (t : Bool) (z : ℤ) → t ≡ false → l ≡ raised l g (only integers t z)
+unfolding only integers
 raised-not l g t z e = rw e (sym (ap (λ (x : ℤ). set l g x) (+ℤ-idr (getD l g (pos 0))) ∙ set-getD l g (pos 0)))
 
-pub raised-by : (l : List ℤ) (g : ℕ) (t : Bool) (z : ℤ) → t ≡ true → set l g (getD l g (pos 0) +ℤ z) ≡ raised l g (only amounts t z)
-unfolding only amounts
+pub raised-by : (l : List ℤ) (g : ℕ) (t : Bool) (z : ℤ) → t ≡ true → set l g (getD l g (pos 0) +ℤ z) ≡ raised l g (only integers t z)
+unfolding only integers
 raised-by l g t z e = rw e
 
 -- A test of the grocer before the others.
-only-swap : (h g o : Bool) (z : ℤ) → only amounts g (only amounts (h && o) z) ≡ only amounts (h && (g && o)) z
-unfolding only amounts
+only-swap : (h g o : Bool) (z : ℤ) → only integers g (only integers (h && o) z) ≡ only integers (h && (g && o)) z
+unfolding only integers
 only-swap true true o z = refl
 only-swap true false o z = refl
 only-swap false true o z = refl
@@ -75,12 +75,12 @@ module _ (e : Tallies) (prices : List ℕ) (a from at : ℕ) (h : TalliesIn e) (
       (abs-times-le (getD (e .counts) i (pos 0)) (pos (getD prices (at + getD (e .offer) i 0) 0)) (t .count-in) (t .price-in))
 
   -- The sums that are added to a row, grocer by grocer.
-  pub brought-sum : (g : ℕ) → sum amounts (e .tallies) (share place brought g) ≡ productSum e prices a from g
+  pub brought-sum : (g : ℕ) → sum integers (e .tallies) (share place brought g) ≡ productSum e prices a from g
   unfolding productSum product
   brought-sum g =
-      sum-cong amounts (e .tallies) (share place brought g) _ (λ i l.
+      sum-cong integers (e .tallies) (share place brought g) _ (λ i l.
       only-swap (eqb (getD (e .holder) i 0) a) (eqb (place i) g) (eqb (getD (e .owner) (getD (e .offer) i 0) 0) from) (productAt (e .offer) (e .counts) prices at i)
-      ∙ ap (λ (x : ℕ). only amounts (eqb (getD (e .holder) i 0) a && (eqb (place i) g && eqb (getD (e .owner) (getD (e .offer) i 0) 0) from)) (getD (e .counts) i (pos 0) *ℤ pos x))
+      ∙ ap (λ (x : ℕ). only integers (eqb (getD (e .holder) i 0) a && (eqb (place i) g && eqb (getD (e .owner) (getD (e .offer) i 0) 0) from)) (getD (e .counts) i (pos 0) *ℤ pos x))
       (ap (λ (x : ℕ). getD prices (x + getD (e .offer) i 0) 0) here
       ∙ sym (cell-at (e .boxes) (e .offers) prices 0 a (getD (e .offer) i 0) ha (tally-in i l .offer-in))))
 
@@ -90,22 +90,22 @@ module _ (e : Tallies) (prices : List ℕ) (a from at : ℕ) (h : TalliesIn e) (
 
   -- A table to which each tally was added in place, at its grocer in row a, is the table with the row of products in its place.
   pub row-piled : (base : ℕ) (l l′ : List ℤ) → base ≡ a * e .grocers → e .boxes * e .grocers ≤ length l → length l′ ≡ length l →
-      ((i : ℕ) → getD l′ i (pos 0) ≡ getD l i (pos 0) +ℤ sum amounts (e .tallies) (share (λ j. base + place j) brought i)) →
+      ((i : ℕ) → getD l′ i (pos 0) ≡ getD l i (pos 0) +ℤ sum integers (e .tallies) (share (λ j. base + place j) brought i)) →
       l′ ≡ putRow (e .boxes) (e .grocers) a (productRow e prices a from l) l
-  unfolding putRow productRow amounts
+  unfolding putRow productRow integers
   row-piled base l l′ b long same each = is-recell (e .boxes) (e .grocers) _ l l′ (pos 0) long same inside past
     where
       -- Nothing is added where no tally's grocer is.
       stays : (i : ℕ) → ((j : ℕ) → j < e .tallies → base + place j ≡ i → ⊥) → getD l′ i (pos 0) ≡ getD l i (pos 0)
       stays i n =
           each i
-          ∙ ap (λ (z : ℤ). getD l i (pos 0) +ℤ z) (sum-none amounts (e .tallies) (share (λ j. base + place j) brought i) (λ j q. only-no amounts (eqb (base + place j) i) (brought j) (ne-eqb (base + place j) i (n j q))))
+          ∙ ap (λ (z : ℤ). getD l i (pos 0) +ℤ z) (sum-none integers (e .tallies) (share (λ j. base + place j) brought i) (λ j q. only-no integers (eqb (base + place j) i) (brought j) (ne-eqb (base + place j) i (n j q))))
           ∙ +ℤ-idr (getD l i (pos 0))
 
-      here-is : (o : ℕ) → sum amounts (e .tallies) (share (λ j. base + place j) brought (a * e .grocers + o)) ≡ productSum e prices a from o
+      here-is : (o : ℕ) → sum integers (e .tallies) (share (λ j. base + place j) brought (a * e .grocers + o)) ≡ productSum e prices a from o
       here-is o =
-          sum-cong amounts (e .tallies) _ (share place brought o) (λ j q.
-          ap (λ (t : Bool). only amounts t (brought j)) (ap (λ (x : ℕ). eqb (x + place j) (a * e .grocers + o)) b ∙ eqb-shift (a * e .grocers) (place j) o))
+          sum-cong integers (e .tallies) _ (share place brought o) (λ j q.
+          ap (λ (t : Bool). only integers t (brought j)) (ap (λ (x : ℕ). eqb (x + place j) (a * e .grocers + o)) b ∙ eqb-shift (a * e .grocers) (place j) o))
           ∙ brought-sum o
 
       apart : (c o j : ℕ) → (c ≡ a → ⊥) → o < e .grocers → j < e .tallies → base + place j ≡ c * e .grocers + o → ⊥

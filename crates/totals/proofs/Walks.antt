@@ -9,7 +9,7 @@ use lib.Dec.{eqb, ltb}
 use lib.ListN.{getD}
 use lib.IntN.{ℤ, pos}
 use borrow.Author.Tests.{eqb-true, ne-eqb, lt-ltb, le-ltb}
-use Rattle.laws.specs.Below.{amounts, only}
+use Rattle.laws.specs.Below.{integers, only}
 use Rattle.laws.proofs.Bools.{and-l, and-false}
 use Rattle.laws.proofs.Loops.{share}
 use Rattle.links.specs.Links.{Skips, Linked}
@@ -38,9 +38,9 @@ credit-owner owners sharers a from g t = eqb-true (getD owners g 0) a (and-l (eq
 -- A tally of another box brings nothing to box a, at any grocer.
 pub other-share : (owner holder offer : List ℕ) (counts : List ℤ) (prices : List ℕ) (place : ℕ → ℕ) (a from at g i : ℕ) → (getD holder i 0 ≡ a → ⊥) →
     share place (brings owner holder offer counts prices a from at) g i ≡ pos 0
-unfolding only amounts
+unfolding only integers
 other-share owner holder offer counts prices place a from at g i n = rw (ne-eqb (getD holder i 0) a n) (nothing (eqb (place i) g))
   where
-    nothing : (t : Bool) → only amounts t (pos 0) ≡ pos 0
+    nothing : (t : Bool) → only integers t (pos 0) ≡ pos 0
     nothing true = refl
     nothing false = refl

@@ -6,7 +6,7 @@ use Prim.Native.Nat.{ℕ, _+_, _*_, _≤_, _<_}
 use lib.ListN.{length, getD, set}
 use lib.Dec.{eqb}
 use lib.IntN.{ℤ, pos, natAbs, _+ℤ_, _*ℤ_}
-use Rattle.laws.specs.Below.{amounts, sum, only}
+use Rattle.laws.specs.Below.{integers, sum, only}
 use Rattle.laws.specs.Tables.{tabulate, cell, recell}
 use Rattle.model.specs.Ranges.{maxBoxes, maxGrocers, maxOffers, maxTallies, maxPrice, maxCount, maxAmount, upTo, under, around}
 
@@ -83,7 +83,7 @@ productAt offer counts prices at i = getD counts i (pos 0) *ℤ pos (getD prices
 
 -- What tally i brings to the row of box a: that where it is taken, else nothing.
 abbrev pub brings : List ℕ → List ℕ → List ℕ → List ℤ → List ℕ → ℕ → ℕ → ℕ → ℕ → ℤ
-brings owner holder offer counts prices a from at i = only amounts (isTaken owner holder offer a from i) (productAt offer counts prices at i)
+brings owner holder offer counts prices a from at i = only integers (isTaken owner holder offer a from i) (productAt offer counts prices at i)
 
 -- Tally i of these tables, with n prices from a place on.
 pub record TallyIn (owner grocer holder offer : List ℕ) (counts : List ℤ) (prices : List ℕ) (n at i : ℕ) : Type 0 where
@@ -106,8 +106,8 @@ module _ (e : Tallies) (prices : List ℕ) (a from : ℕ) where
   -- The sum of these over the tallies of box a and grocer g whose offers box `from` owns.
   unfoldable pub productSum : ℕ → ℤ
   productSum g =
-      sum amounts (e .tallies) (λ i.
-      only amounts (eqb (getD (e .holder) i 0) a && (eqb (getD (e .grocer) i 0) g && eqb (getD (e .owner) (getD (e .offer) i 0) 0) from)) (product i))
+      sum integers (e .tallies) (λ i.
+      only integers (eqb (getD (e .holder) i 0) a && (eqb (getD (e .grocer) i 0) g && eqb (getD (e .owner) (getD (e .offer) i 0) 0) from)) (product i))
 
   -- Row a of the working totals with these sums added, each at its grocer.
   unfoldable pub productRow : List ℤ → List ℤ

@@ -4,7 +4,7 @@ ghost use mathlib.Core.Bool.{cond};
 ghost use Prim.Native.Nat.{_*_, _≤_, _<_};
 ghost use lib.ListN.{length, getD, set};
 ghost use lib.IntN.{pos};
-ghost use Rattle.laws.specs.Below.{words, only, count};
+ghost use Rattle.laws.specs.Below.{naturals, only, count};
 ghost use Rattle.links.specs.Links.{Linked};
 ghost use Rattle.words.specs.Message.{wordIn};
 ghost use Rattle.totals.specs.Credit.{cleared, sentTotals};
@@ -24,7 +24,7 @@ fn send_one(
     transit: &mut [i64],
 ) -> u32
     requires { ⌜ (a < 16) × (g < 255) × (g < length (now owner)) × (at < length (now working)) × (at < length (now transit)) ⌝ }
-    ensures { λ r. ⌜ (r ≡ only words (wordIn (now (owner .entry)) (now (sharers .entry)) b a g) 1) × (now (working .exit) ≡ cond (wordIn (now (owner .entry)) (now (sharers .entry)) b a g) (set (now (working .entry)) at (pos 0)) (now (working .entry))) × (now (transit .exit) ≡ cond (wordIn (now (owner .entry)) (now (sharers .entry)) b a g) (set (now (transit .entry)) at (getD (now (working .entry)) at (pos 0))) (now (transit .entry))) ⌝ }
+    ensures { λ r. ⌜ (r ≡ only naturals (wordIn (now (owner .entry)) (now (sharers .entry)) b a g) 1) × (now (working .exit) ≡ cond (wordIn (now (owner .entry)) (now (sharers .entry)) b a g) (set (now (working .entry)) at (pos 0)) (now (working .entry))) × (now (transit .exit) ≡ cond (wordIn (now (owner .entry)) (now (sharers .entry)) b a g) (set (now (transit .entry)) at (getD (now (working .entry)) at (pos 0))) (now (transit .entry))) ⌝ }
 {
     if !words::in_message(owner[g], sharers[g], b, a) {
         return 0;

@@ -9,15 +9,16 @@ use lib.Dec.{eqb}
 use lib.ListN.{getD, set, length, length-set}
 use lib.Seq.{getD-set-same, getD-set-other}
 use borrow.Author.Tests.{eqb-true, eqb-false}
-use Rattle.laws.specs.Below.{words, sum, only, count}
+use Rattle.laws.specs.Below.{naturals, sum, only, count}
 use Rattle.laws.proofs.Bools.{split, and-false}
 use Rattle.laws.proofs.Sums.{sum-next, sum-max}
 use Rattle.laws.proofs.Below.{count-start, any-false, count-none, count-le}
 use Rattle.model.specs.Steps.{Kind, Steps, kindOf}
-use Rattle.prices.specs.Marks.{MarksIn, stepsDone}
+use Rattle.model.specs.Tables.{stepsDone}
+use Rattle.prices.specs.Marks.{MarksIn}
 use Rattle.refuse.specs.Rules.{fitsBy, readyBy, permittedBy}
 use Rattle.walk.specs.Walk.{PlaceIn, here, listedBy, WalkIn}
-use Rattle.walk.specs.Rows.{rowOf, rowCount, RowIn, IsRows, rowSum, FewRows, Renewed}
+use Rattle.walk.specs.Rows.{rowOf, rowCount, RowIn, IsRows, rowsTotal, FewRows, Renewed}
 use Rattle.walk.proofs.Places.{listed-at}
 
 -- The rows that a step can change: its own; after a message is sent, the receiver's; after prices are multiplied, kinds 4 and 5 of the box.
@@ -34,7 +35,7 @@ pub record IsRowsBut (k kind a b : ℕ) (prices totals : List (List ℕ)) (done 
 
 -- Numbers below m, and n more.
 count-both : (n m : ℕ) (p : ℕ → Bool) → count (m + n) p ≡ count m p + count n (λ b. p (m + b))
-unfolding count sum words
+unfolding count sum naturals
 count-both zero m p = rw (add-zero m) (omega arith)
 count-both (suc n) m p = rw (more m n, count-both n m p) (omega arith)
   where
@@ -87,16 +88,16 @@ pub row-below : (k kind a : ℕ) → k ≤ 16 → kind ≤ 6 → 1 ≤ kind → 
 row-below k kind a lk to from la = omega (arith, mul-le-mul-right {m = kind - 1} {n = 5} k (omega arith))
 
 -- Few rows add up to little.
-pub rows-little : (k : ℕ) (rows : List ℕ) (r : ℕ) → FewRows k rows → r ≤ 6 * k → rowSum rows r ≤ r * 16
-unfolding rowSum
+pub rows-little : (k : ℕ) (rows : List ℕ) (r : ℕ) → FewRows k rows → r ≤ 6 * k → rowsTotal rows r ≤ r * 16
+unfolding rowsTotal
 rows-little k rows r w l = sum-max r 16 (λ i. getD rows i 0) (λ i h. w .few i (omega arith))
 
-pub rows-more : (rows : List ℕ) (r : ℕ) → rowSum rows (r + 1) ≡ rowSum rows r + getD rows r 0
-unfolding rowSum words
-rows-more rows r = sum-next words r (λ i. getD rows i 0)
+pub rows-more : (rows : List ℕ) (r : ℕ) → rowsTotal rows (r + 1) ≡ rowsTotal rows r + getD rows r 0
+unfolding rowsTotal naturals
+rows-more rows r = sum-next naturals r (λ i. getD rows i 0)
 
-pub rows-none : (rows : List ℕ) → rowSum rows 0 ≡ 0
-unfolding rowSum sum words
+pub rows-none : (rows : List ℕ) → rowsTotal rows 0 ≡ 0
+unfolding rowsTotal sum naturals
 rows-none rows = refl
 
 -- Only kinds 3 and 6 ask for the second box.
@@ -127,16 +128,16 @@ module _ (k : ℕ) (prices totals : List (List ℕ)) (done : List ℕ) where
     rows-few lk = record { boxes-in = lk; few = λ r l. rw (h .right r l) (omega (arith, row-le r)) }
 
     -- The counts of rows together are the count of their places.
-    pub rows-sum : (n : ℕ) → n ≤ 6 * k → rowSum rows n ≡ count (n * k) (listedBy k prices totals done)
-    unfolding rowSum rowCount sum words
+    pub rows-sum : (n : ℕ) → n ≤ 6 * k → rowsTotal rows n ≡ count (n * k) (listedBy k prices totals done)
+    unfolding rowsTotal rowCount sum naturals
     rows-sum zero l = sym (ap (λ (x : ℕ). count x (listedBy k prices totals done)) (zero-mul k) ∙ count-start (listedBy k prices totals done))
     rows-sum (suc n) l = rw (rows-sum n (omega arith), h .right n (omega arith)) (sym (row-more n k (listedBy k prices totals done)))
 
-    pub rows-ready : rowSum rows (6 * k) ≡ count (6 * k * k) (listedBy k prices totals done)
+    pub rows-ready : rowsTotal rows (6 * k) ≡ count (6 * k * k) (listedBy k prices totals done)
     rows-ready = rows-sum (6 * k) (omega arith)
 
     -- Searching among rows: how many are left to pass.
-    module _ (r left c : ℕ) (e : left + rowSum rows r ≡ c) where
+    module _ (r left c : ℕ) (e : left + rowsTotal rows r ≡ c) where
       -- It is in row r,
       pub found-row : r < 6 * k → left + count (r * k) (listedBy k prices totals done) ≡ c
       found-row l = rw (← (rows-sum r (omega arith))) e
@@ -145,17 +146,17 @@ module _ (k : ℕ) (prices totals : List (List ℕ)) (done : List ℕ) where
       found-left l lt = rw (h .right r l) at lt
 
       -- or it is not,
-      pub row-passed : getD rows r 0 ≤ left → left - getD rows r 0 + rowSum rows (r + 1) ≡ c
+      pub row-passed : getD rows r 0 ≤ left → left - getD rows r 0 + rowsTotal rows (r + 1) ≡ c
       row-passed h = rw (rows-more rows r) (omega arith)
 
     -- and past the last row there were not so many.
-    pub rows-end : (r left c : ℕ) → r ≡ 6 * k → left + rowSum rows r ≡ c → c < count (6 * k * k) (listedBy k prices totals done) → ⊥
-    rows-end r left c e s l = let t : left + rowSum rows (6 * k) ≡ c = rw e at s in omega (arith, rows-ready)
+    pub rows-end : (r left c : ℕ) → r ≡ 6 * k → left + rowsTotal rows r ≡ c → c < count (6 * k * k) (listedBy k prices totals done) → ⊥
+    rows-end r left c e s l = let t : left + rowsTotal rows (6 * k) ≡ c = rw e at s in omega (arith, rows-ready)
 
   -- A step of the row, tested and counted.
-  pub opened : (kind a b : ℕ) (t : Bool) (more : ℕ) → PlaceIn k kind a b → t ≡ permittedBy k prices totals (stepsDone k done) (kindOf kind) a b → more ≡ only words t 1 →
-      more ≡ only words (listedBy k prices totals done (here k kind a b)) 1
-  opened kind a b t more i e m = m ∙ ap (λ (s : Bool). only words s 1) (e ∙ listed-at k kind a b prices totals done i)
+  pub opened : (kind a b : ℕ) (t : Bool) (more : ℕ) → PlaceIn k kind a b → t ≡ permittedBy k prices totals (stepsDone k done) (kindOf kind) a b → more ≡ only naturals t 1 →
+      more ≡ only naturals (listedBy k prices totals done (here k kind a b)) 1
+  opened kind a b t more i e m = m ∙ ap (λ (s : Bool). only naturals s 1) (e ∙ listed-at k kind a b prices totals done i)
 
   -- A row whose first step is not made ready has none, where its kind does not ask for the second box.
   pub closed-row : (kind a : ℕ) → RowIn k kind a done → (eqb kind 3 || eqb kind 6) ≡ false → readyBy k prices (stepsDone k done) (kindOf kind) a 0 ≡ false → 0 ≡ rowCount k prices totals done (rowOf k kind a)

@@ -9,11 +9,12 @@ use lib.Arith.{digits-div, digits-mod, digits-lt}
 use lib.Dec.{eqb}
 use lib.ListN.{getD, set}
 use borrow.Author.Tests.{eqb-true, eqb-false, not-true}
-use Rattle.laws.specs.Below.{words, only, count}
+use Rattle.laws.specs.Below.{naturals, only, count}
 use Rattle.laws.proofs.Bools.{split, no-true, clash, and-true, and-l, and-r, and-false, or-more, or-off}
 use Rattle.laws.proofs.Below.{any-false, all-at, all-of, all-cong, count-cong, count-none, count-le, counts-one, count-one-more}
-use Rattle.model.specs.Steps.{Kind, sendPrices, multiplyOwn, receivePrices, sendTotals, addOwn, receiveTotals, Steps, number, kindOf, mark}
-use Rattle.prices.specs.Marks.{MarksIn, stepsDone}
+use Rattle.model.specs.Steps.{Kind, sendPrices, multiplyOwn, receivePrices, sendTotals, addOwn, receiveTotals, Steps, kindNumber, kindOf, mark}
+use Rattle.model.specs.Tables.{stepsDone}
+use Rattle.prices.specs.Marks.{MarksIn}
 use Rattle.refuse.specs.Rules.{due, fitsBy, receivedFrom, multipliedBy, readyBy, permittedBy}
 use Rattle.walk.specs.Walk.{listedBy}
 use Rattle.walk.specs.Rows.{rowOf, rowCount, IsRows, OneReady, RowsBefore, Renewed}
@@ -32,30 +33,30 @@ pub record Away (n a b n′ a′ : ℕ) : Type 0 where
   pub received-5 : n ≡ 3 → n′ ≡ 5 → a′ ≡ a → ⊥
 
 -- A mark of another step.
-mark-first : (d : Steps) (q : Kind) (a b : ℕ) (q′ : Kind) (a′ b′ : ℕ) → (number q′ ≡ number q → a′ ≡ a → ⊥) → mark d q a b q′ a′ b′ ≡ d q′ a′ b′
+mark-first : (d : Steps) (q : Kind) (a b : ℕ) (q′ : Kind) (a′ b′ : ℕ) → (kindNumber q′ ≡ kindNumber q → a′ ≡ a → ⊥) → mark d q a b q′ a′ b′ ≡ d q′ a′ b′
 unfolding mark
 mark-first d q a b q′ a′ b′ h =
-    rw (no-true (eqb (number q′) (number q) && (eqb a′ a && eqb b′ b))
-    (λ t. h (eqb-true (number q′) (number q) (and-l (eqb (number q′) (number q)) _ t)) (eqb-true a′ a (and-l (eqb a′ a) (eqb b′ b) (and-r (eqb (number q′) (number q)) _ t)))))
+    rw (no-true (eqb (kindNumber q′) (kindNumber q) && (eqb a′ a && eqb b′ b))
+    (λ t. h (eqb-true (kindNumber q′) (kindNumber q) (and-l (eqb (kindNumber q′) (kindNumber q)) _ t)) (eqb-true a′ a (and-l (eqb a′ a) (eqb b′ b) (and-r (eqb (kindNumber q′) (kindNumber q)) _ t)))))
 
-mark-second : (d : Steps) (q : Kind) (a b : ℕ) (q′ : Kind) (a′ b′ : ℕ) → (number q′ ≡ number q → b′ ≡ b → ⊥) → mark d q a b q′ a′ b′ ≡ d q′ a′ b′
+mark-second : (d : Steps) (q : Kind) (a b : ℕ) (q′ : Kind) (a′ b′ : ℕ) → (kindNumber q′ ≡ kindNumber q → b′ ≡ b → ⊥) → mark d q a b q′ a′ b′ ≡ d q′ a′ b′
 unfolding mark
 mark-second d q a b q′ a′ b′ h =
-    rw (no-true (eqb (number q′) (number q) && (eqb a′ a && eqb b′ b))
-    (λ t. h (eqb-true (number q′) (number q) (and-l (eqb (number q′) (number q)) _ t)) (eqb-true b′ b (and-r (eqb a′ a) (eqb b′ b) (and-r (eqb (number q′) (number q)) _ t)))))
+    rw (no-true (eqb (kindNumber q′) (kindNumber q) && (eqb a′ a && eqb b′ b))
+    (λ t. h (eqb-true (kindNumber q′) (kindNumber q) (and-l (eqb (kindNumber q′) (kindNumber q)) _ t)) (eqb-true b′ b (and-r (eqb a′ a) (eqb b′ b) (and-r (eqb (kindNumber q′) (kindNumber q)) _ t)))))
 
 module _ (k : ℕ) (prices totals : List (List ℕ)) (d : Steps) (q : Kind) (a b : ℕ) where
   -- What box a′ has multiplied.
-  multiplied-away : (a′ : ℕ) → (number q ≡ 2 → a′ ≡ a → ⊥) → (number q ≡ 3 → a′ ≡ a → ⊥) → multipliedBy k prices (mark d q a b) a′ ≡ multipliedBy k prices d a′
-  unfolding multipliedBy receivedFrom number
+  multiplied-away : (a′ : ℕ) → (kindNumber q ≡ 2 → a′ ≡ a → ⊥) → (kindNumber q ≡ 3 → a′ ≡ a → ⊥) → multipliedBy k prices (mark d q a b) a′ ≡ multipliedBy k prices d a′
+  unfolding multipliedBy receivedFrom kindNumber
   multiplied-away a′ own received =
       rw (mark-first d q a b multiplyOwn a′ a′ (λ e. own (sym e)))
       (ap (λ (t : Bool). d multiplyOwn a′ a′ && t)
       (all-cong k (receivedFrom prices (mark d q a b) a′) (receivedFrom prices d a′)
       (λ c l. rw (mark-first d q a b receivePrices a′ c (λ e. received (sym e))))))
 
-  ready-away : (q′ : Kind) (a′ b′ : ℕ) → Away (number q) a b (number q′) a′ → readyBy k prices (mark d q a b) q′ a′ b′ ≡ readyBy k prices d q′ a′ b′
-  unfolding readyBy number
+  ready-away : (q′ : Kind) (a′ b′ : ℕ) → Away (kindNumber q) a b (kindNumber q′) a′ → readyBy k prices (mark d q a b) q′ a′ b′ ≡ readyBy k prices d q′ a′ b′
+  unfolding readyBy kindNumber
   ready-away sendPrices a′ b′ w = refl
   ready-away multiplyOwn a′ b′ w = refl
   ready-away receivePrices a′ b′ w = mark-second d q a b sendPrices b′ a′ (λ e. w .prices (sym e) refl)
@@ -64,7 +65,7 @@ module _ (k : ℕ) (prices totals : List (List ℕ)) (d : Steps) (q : Kind) (a b
   ready-away receiveTotals a′ b′ w = mark-second d q a b sendTotals b′ a′ (λ e. w .totals (sym e) refl)
 
   -- A step that is not changed is permitted as before.
-  pub permitted-away : (q′ : Kind) (a′ b′ : ℕ) → Away (number q) a b (number q′) a′ → permittedBy k prices totals (mark d q a b) q′ a′ b′ ≡ permittedBy k prices totals d q′ a′ b′
+  pub permitted-away : (q′ : Kind) (a′ b′ : ℕ) → Away (kindNumber q) a b (kindNumber q′) a′ → permittedBy k prices totals (mark d q a b) q′ a′ b′ ≡ permittedBy k prices totals d q′ a′ b′
   unfolding permittedBy
   permitted-away q′ a′ b′ w = rw (mark-first d q a b q′ a′ b′ (w .own), ready-away q′ a′ b′ w)
 
@@ -106,7 +107,7 @@ module _ (k kind a b r : ℕ) (h : changes k kind a b r ≡ false) where
 
 -- The step's own row: one ready step less, since it is done.
 ready-own : (k : ℕ) (prices totals : List (List ℕ)) (d : Steps) (q : Kind) (a b c : ℕ) → readyBy k prices (mark d q a b) q a c ≡ readyBy k prices d q a c
-unfolding readyBy number
+unfolding readyBy kindNumber
 ready-own k prices totals d sendPrices a b c = refl
 ready-own k prices totals d multiplyOwn a b c = refl
 ready-own k prices totals d receivePrices a b c = mark-first d receivePrices a b sendPrices c a (λ e l. omega arith)
@@ -133,20 +134,20 @@ module _ (k : ℕ) (prices totals : List (List ℕ)) (d : Steps) (q : Kind) (a b
   undone = not-true (d q a b) (and-l (not (d q a b)) (readyBy k prices d q a b) (and-r (fitsBy prices totals q a b) (not (d q a b) && readyBy k prices d q a b) was))
 
   -- The receiver's row: one ready step more where the receipt of this message is permitted. It is of kind q′, which is ready once q is done.
-  module _ (q′ : Kind) (differs : number q′ ≡ number q → ⊥) (once : (e : Steps) (c : ℕ) → readyBy k prices e q′ b c ≡ e q c b) where
+  module _ (q′ : Kind) (differs : kindNumber q′ ≡ kindNumber q → ⊥) (once : (e : Steps) (c : ℕ) → readyBy k prices e q′ b c ≡ e q c b) where
     receiver-others : (c : ℕ) → (c ≡ a → ⊥) → permittedBy k prices totals (mark d q a b) q′ b c ≡ permittedBy k prices totals d q′ b c
     unfolding permittedBy
     receiver-others c ne = rw (mark-first d q a b q′ b c (λ e l. differs e), once (mark d q a b) c, once d c, mark-first d q a b q c b (λ e. ne))
 
-    pub receiver-more : a < k → count k (permittedBy k prices totals (mark d q a b) q′ b) ≡ count k (permittedBy k prices totals d q′ b) + only words (permittedBy k prices totals (mark d q a b) q′ b a) 1
+    pub receiver-more : a < k → count k (permittedBy k prices totals (mark d q a b) q′ b) ≡ count k (permittedBy k prices totals d q′ b) + only naturals (permittedBy k prices totals (mark d q a b) q′ b a) 1
     receiver-more l =
         count-one-more k a (permittedBy k prices totals d q′ b) (permittedBy k prices totals (mark d q a b) q′ b) l (not-ready k prices totals d q′ b a (once d a ∙ undone)) (λ c m ne. receiver-others c ne)
 
 -- The same by the numbers of kinds: 3 receives what 1 sends, and 6 what 4 sends.
 sent-more : (k : ℕ) (prices totals : List (List ℕ)) (d : Steps) (kind a b : ℕ) → (eqb kind 1 || eqb kind 4) ≡ true → permittedBy k prices totals d (kindOf kind) a b ≡ true → a < k →
     count k (permittedBy k prices totals (mark d (kindOf kind) a b) (kindOf (kind + 2)) b)
-    ≡ count k (permittedBy k prices totals d (kindOf (kind + 2)) b) + only words (permittedBy k prices totals (mark d (kindOf kind) a b) (kindOf (kind + 2)) b a) 1
-unfolding kindOf readyBy number
+    ≡ count k (permittedBy k prices totals d (kindOf (kind + 2)) b) + only naturals (permittedBy k prices totals (mark d (kindOf kind) a b) (kindOf (kind + 2)) b a) 1
+unfolding kindOf readyBy kindNumber
 sent-more k prices totals d kind a b sends was l =
     split (eqb kind 1)
     (λ e. let f = eqb-true kind 1 e in rw f (receiver-more k prices totals d sendPrices a b (rw f at was) receivePrices (λ g. omega arith) (λ s c. refl) l))
@@ -184,7 +185,7 @@ module _ (k kind a b : ℕ) (prices totals : List (List ℕ)) (done rows : List 
   pub rows-kept : IsRowsBut k kind a b prices totals done rows
   rows-kept = record { long = h .long; right = λ r l f. h .right r l ∙ same r l f ∙ sym (row-steps k prices totals done r) }
     where
-      away : (r : ℕ) → r < 6 * k → changes k kind a b r ≡ false → Away (number (kindOf kind)) a b (number (kindOf (suc (r / k)))) (r % k)
+      away : (r : ℕ) → r < 6 * k → changes k kind a b r ≡ false → Away (kindNumber (kindOf kind)) a b (kindNumber (kindOf (suc (r / k)))) (r % k)
       away r l f = rw (number-kind kind (m .kind-from) (m .kind-to), number-place (r / k) (kind-few k r (omega (arith, m .a-in)) l)) (changes-away k kind a b r f)
 
       same : (r : ℕ) → r < 6 * k → changes k kind a b r ≡ false →
@@ -278,12 +279,12 @@ module _ (k kind a b : ℕ) (prices totals : List (List ℕ)) (done rows : List 
       receiver-few = omega (arith, receiver-then, count-le k (permittedBy k prices totals (h .steps) (kindOf (kind + 2)) b), m .boxes-in)
 
       pub receiver-renewed : (rows₂ : List ℕ) →
-          rows₂ ≡ set rows₁ (rowOf k (kind + 2) b) (getD rows₁ (rowOf k (kind + 2) b) 0 + only words (permittedBy k prices totals (stepsDone k done) (kindOf (kind + 2)) b a) 1) →
+          rows₂ ≡ set rows₁ (rowOf k (kind + 2) b) (getD rows₁ (rowOf k (kind + 2) b) 0 + only naturals (permittedBy k prices totals (stepsDone k done) (kindOf (kind + 2)) b a) 1) →
           Renewed k prices totals done (rowOf k (kind + 2) b) rows₁ rows₂
       receiver-renewed rows₂ e₂ =
           rw e₂ (written k prices totals done (rowOf k (kind + 2) b) _ rows₁ (row-below k (kind + 2) b (m .boxes-in) (omega (arith, to-4)) (omega arith) (m .b-in)) (own-renewed .long) right)
         where
-          right : getD rows₁ (rowOf k (kind + 2) b) 0 + only words (permittedBy k prices totals (stepsDone k done) (kindOf (kind + 2)) b a) 1 ≡ rowCount k prices totals done (rowOf k (kind + 2) b)
+          right : getD rows₁ (rowOf k (kind + 2) b) 0 + only naturals (permittedBy k prices totals (stepsDone k done) (kindOf (kind + 2)) b a) 1 ≡ rowCount k prices totals done (rowOf k (kind + 2) b)
           right =
               rw (receiver-then, h .marked)
               (sym (row-now (kind + 2) b (omega arith) (omega (arith, to-4)) (m .b-in)

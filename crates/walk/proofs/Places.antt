@@ -6,7 +6,7 @@ use native.Mathlib.Omega.{arith}
 use native.Mathlib.Nat.{suc-mul, add-zero, div-lt-iff-lt-mul}
 use lib.Arith.{digits-div, digits-mod}
 use Rattle.model.specs.Steps.{kindOf}
-use Rattle.prices.specs.Marks.{stepsDone}
+use Rattle.model.specs.Tables.{stepsDone}
 use Rattle.refuse.specs.Rules.{permittedBy}
 use Rattle.walk.specs.Walk.{PlaceIn, Next, here, listedBy}
 

@@ -6,12 +6,11 @@ use native.Mathlib.Omega.{arith}
 use native.Mathlib.Nat.{zero-mul, add-zero}
 use lib.Dec.{eqb}
 use borrow.Author.Tests.{eqb-true, eqb-false}
-use Rattle.laws.specs.Below.{words, only, count}
+use Rattle.laws.specs.Below.{naturals, only, count, nth}
 use Rattle.laws.proofs.Bools.{split, and-l, and-r}
 use Rattle.laws.proofs.Below.{count-next, count-le, only-le}
-use Rattle.model.specs.Run.{nth}
 use Rattle.walk.specs.Walk.{PlaceIn, Next, here}
-use Rattle.model.proofs.Cursor.{nth-is}
+use Rattle.laws.proofs.Ascending.{nth-is}
 use Rattle.walk.proofs.Places.{place-in}
 
 -- The walk is at place i.
@@ -39,7 +38,7 @@ pub at-in : (k i kind a b : ℕ) → k ≤ 16 → At k i kind a b → i < 6 * k 
 at-in k i kind a b lk w l = place-in k kind a b (w .a-in) (w .b-in) lk (w .kind-from) (rw (w .place-is) l)
 
 -- Counting: what was found so far.
-module _ (p : ℕ → Bool) (i found more : ℕ) (e : found ≡ count i p) (m : more ≡ only words (p i) 1) where
+module _ (p : ℕ → Bool) (i found more : ℕ) (e : found ≡ count i p) (m : more ≡ only naturals (p i) 1) where
   pub counted-fits : i < 1536 → found + more < 65536
   counted-fits h = omega (arith, count-le i p, only-le (p i) 1)
 
@@ -55,9 +54,9 @@ module _ (p : ℕ → Bool) (i left c : ℕ) (e : left + count i p ≡ c) where
       (let z : left ≡ 0 = eqb-true left 0 (and-r ready (eqb left 0) h) in omega arith)
 
   -- It is not here.
-  module _ (ready : Bool) (less : ℕ) (r : ready ≡ p i) (s : less ≡ only words ready 1) (h : (ready && eqb left 0) ≡ false) where
+  module _ (ready : Bool) (less : ℕ) (r : ready ≡ p i) (s : less ≡ only naturals ready 1) (h : (ready && eqb left 0) ≡ false) where
     pub less-fits : less ≤ left
-    unfolding only words
+    unfolding only naturals
     less-fits =
         split ready
         (λ y. let ne : left ≡ 0 → ⊥ = eqb-false left 0 (rw y at h) in rw (s, y) (omega arith))

@@ -4,9 +4,9 @@ use mathlib.Core.Bool.{true}
 use mathlib.Core.List.{List}
 use Prim.Native.Nat.{ℕ, suc, _+_, _-_, _*_, _/_, _%_, _≤_, _<_}
 use lib.ListN.{length, getD}
-use Rattle.laws.specs.Below.{words, sum, count}
+use Rattle.laws.specs.Below.{naturals, sum, count}
 use Rattle.model.specs.Steps.{Steps, kindOf, mark}
-use Rattle.prices.specs.Marks.{stepsDone}
+use Rattle.model.specs.Tables.{stepsDone}
 use Rattle.refuse.specs.Rules.{permittedBy}
 use Rattle.walk.specs.Walk.{listedBy}
 
@@ -32,8 +32,8 @@ pub record IsRows (k : ℕ) (prices totals : List (List ℕ)) (done rows : List 
   pub right : (r : ℕ) → r < 6 * k → getD rows r 0 ≡ rowCount k prices totals done r
 
 -- The counts of the first n rows together.
-unfoldable pub rowSum : List ℕ → ℕ → ℕ
-rowSum rows n = sum words n (λ r. getD rows r 0)
+unfoldable pub rowsTotal : List ℕ → ℕ → ℕ
+rowsTotal rows n = sum naturals n (λ r. getD rows r 0)
 
 -- Counts of rows that are at most 16.
 pub record FewRows (k : ℕ) (rows : List ℕ) : Type 0 where

@@ -4,8 +4,8 @@ use mathlib.Core.Bool.{Bool}
 use mathlib.Core.List.{List}
 use Prim.Native.Nat.{ℕ, suc, _+_, _*_, _/_, _%_, _≤_, _<_}
 use lib.ListN.{length}
-use Rattle.model.specs.Steps.{kindOf}
-use Rattle.prices.specs.Marks.{placeOf, stepsDone}
+use Rattle.model.specs.Steps.{kindOf, stepPlace}
+use Rattle.model.specs.Tables.{stepsDone}
 use Rattle.refuse.specs.Rules.{permittedBy}
 
 -- A step of k boxes: a kind from 1 to 6, and two of the boxes.
@@ -18,7 +18,7 @@ pub record PlaceIn (k kind a b : ℕ) : Type 0 where
 
 -- The number of its place.
 abbrev pub here : ℕ → ℕ → ℕ → ℕ → ℕ
-here k kind a b = placeOf k kind a b
+here k kind a b = stepPlace k kind a b
 
 -- The next place: its number is one more.
 pub record Next (k kind a b kind′ a′ b′ : ℕ) : Type 0 where

@@ -2,7 +2,7 @@
 pub mod rows;
 
 ghost use mathlib.Core.Path.{_≡_};
-ghost use Rattle.laws.specs.Below.{words, only};
+ghost use Rattle.laws.specs.Below.{naturals, only};
 ghost use Rattle.walk.specs.Walk.{PlaceIn, Next, listedBy, here, WalkIn};
 
 // A place among the steps: kind, first box and second box.
@@ -57,7 +57,7 @@ pub fn is_listed(
 
 // 1 for a test that holds, else 0.
 fn one(test: bool) -> u16
-    ensures { λ r. ⌜ r ≡ only words test 1 ⌝ }
+    ensures { λ r. ⌜ r ≡ only naturals test 1 ⌝ }
 {
     if test {
         return 1;

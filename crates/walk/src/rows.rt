@@ -6,13 +6,13 @@ ghost use mathlib.Core.Bool.{false, _||_};
 ghost use Prim.Native.Nat.{_+_, _-_, _*_, _≤_, _<_};
 ghost use lib.Dec.{eqb};
 ghost use lib.ListN.{length, getD, set};
-ghost use Rattle.laws.specs.Below.{words, only, count};
+ghost use Rattle.laws.specs.Below.{naturals, only, count, nth};
 ghost use Rattle.model.specs.Steps.{kindOf};
-ghost use Rattle.model.specs.Run.{nth};
-ghost use Rattle.prices.specs.Marks.{MarksIn, stepsDone};
+ghost use Rattle.model.specs.Tables.{stepsDone};
+ghost use Rattle.prices.specs.Marks.{MarksIn};
 ghost use Rattle.refuse.specs.Rules.{readyBy, permittedBy};
 ghost use Rattle.walk.specs.Walk.{listedBy, WalkIn, Found};
-ghost use Rattle.walk.specs.Rows.{rowOf, rowCount, RowIn, IsRows, rowSum, FewRows, OneReady, RowsBefore, Renewed};
+ghost use Rattle.walk.specs.Rows.{rowOf, rowCount, RowIn, IsRows, rowsTotal, FewRows, OneReady, RowsBefore, Renewed};
 
 // Whether the steps done make a step ready. Only kinds 3 and 6 ask for the second box; of the others `first` is whether the row's first step is made ready.
 fn ready_in_row(
@@ -139,7 +139,7 @@ pub fn rows_for(
 // The number of ready steps: the rows together.
 pub fn ready_steps(k: u16, rows: &[u16; 96]) -> u16
     requires { ⌜ FewRows k (now rows) ⌝ }
-    ensures { λ r. ⌜ r ≡ rowSum (now (rows .entry)) (6 * k) ⌝ }
+    ensures { λ r. ⌜ r ≡ rowsTotal (now (rows .entry)) (6 * k) ⌝ }
 {
     let n = 6 * (k as usize);
     let mut ready: u16 = 0;
@@ -237,7 +237,7 @@ fn one_more(
 )
     requires { ⌜ MarksIn k kind a b (now done) ⌝ }
     requires { ⌜ (length (now rows) ≡ 96) × (getD (now rows) (rowOf k kind a) 0 ≤ 16) ⌝ }
-    ensures { λ _. ⌜ now (rows .exit) ≡ set (now (rows .entry)) (rowOf k kind a) (getD (now (rows .entry)) (rowOf k kind a) 0 + only words (permittedBy k (now (prices .entry)) (now (totals .entry)) (stepsDone k (now (done .entry))) (kindOf kind) a b) 1) ⌝ }
+    ensures { λ _. ⌜ now (rows .exit) ≡ set (now (rows .entry)) (rowOf k kind a) (getD (now (rows .entry)) (rowOf k kind a) 0 + only naturals (permittedBy k (now (prices .entry)) (now (totals .entry)) (stepsDone k (now (done .entry))) (kindOf kind) a b) 1) ⌝ }
 {
     let more = one(refuse::rules::permitted(k, kind, a, b, prices, totals, done));
     let r = ((kind - 1) * k + a) as usize;

@@ -13,7 +13,7 @@ use borrow.Author.Tests.{lt-ltb, le-ltb, ltb-true, le-leb, lt-leb, leb-true}
 use Rattle.laws.proofs.Bools.{split}
 use Rattle.format.specs.Bytes.{from, bytes16}
 use Rattle.format.specs.Job.{FileJob}
-use Rattle.format.specs.Blocks.{BlockKind, header, offerBlock, grocerBlock, tallyBlock, kindAt, kindNumber, records, recordSize, fieldSize, recordBytes, spare, firstSum, secondSum}
+use Rattle.format.specs.Blocks.{BlockKind, header, offerBlock, grocerBlock, tallyBlock, kindAt, blockKindNumber, records, recordSize, fieldSize, recordBytes, spare, firstSum, secondSum}
 use Rattle.format.specs.File.{recordByte, bodyByte, blockByte}
 use Rattle.format.proofs.Plan.{fields-length}
 use Rattle.format.proofs.Words.{first-cong, second-cong}
@@ -48,7 +48,7 @@ record-is j b s =
         ]
 
 -- Block k of a job's file is its head, its records and zeros.
-pub body-is : (j : FileJob) (k p : ℕ) → bodyByte j k p ≡ bodyOf (kindNumber (kindAt (j .offers) k) ∷ records j (kindAt (j .offers) k) ∷ bytes16 k) (recordSize (kindAt (j .offers) k)) (records j (kindAt (j .offers) k)) (λ r. bytesOf (recordBytes j (kindAt (j .offers) k) r)) p
+pub body-is : (j : FileJob) (k p : ℕ) → bodyByte j k p ≡ bodyOf (blockKindNumber (kindAt (j .offers) k) ∷ records j (kindAt (j .offers) k) ∷ bytes16 k) (recordSize (kindAt (j .offers) k)) (records j (kindAt (j .offers) k)) (λ r. bytesOf (recordBytes j (kindAt (j .offers) k) r)) p
 unfolding bodyByte bodyOf
 body-is j k p = rw (record-is j (kindAt (j .offers) k) (p - 4))
 

@@ -12,7 +12,7 @@ use Rattle.laws.proofs.Bools.{or-off}
 use Rattle.laws.proofs.Checks.{unmet}
 use Rattle.format.specs.Bytes.{bytes16}
 use Rattle.format.specs.Job.{FileJob}
-use Rattle.format.specs.Blocks.{BlockKind, header, offerBlock, grocerBlock, tallyBlock, blocksFor, blockCount, grocersAt, talliesAt, kindAt, kindNumber, records, recordSize, headerBytes, offerBytes, tallyBytes, recordBytes}
+use Rattle.format.specs.Blocks.{BlockKind, header, offerBlock, grocerBlock, tallyBlock, blocksFor, blockCount, grocersAt, talliesAt, kindAt, blockKindNumber, records, recordSize, headerBytes, offerBytes, tallyBytes, recordBytes}
 use Rattle.format.specs.File.{bodyByte, blockByte, encode}
 use Rattle.format.specs.Refusals.{jobRefusal}
 use Rattle.format.specs.Tables.{FileTables, fileJobOf, wrote, notWritten, shortTables, shortWriter, writeRefusal, writeResult}
@@ -27,8 +27,8 @@ use Rattle.writer.proofs.Puts.{put-none, put-front}
 use Rattle.writer.proofs.Blocks.{body-is, blocks-behind, block-behind}
 
 -- The body of a block whose kind is known.
-kind-body : (j : FileJob) (k p : ℕ) (b : BlockKind) → kindAt (j .offers) k ≡ b → bodyByte j k p ≡ bodyOf (kindNumber b ∷ records j b ∷ bytes16 k) (recordSize b) (records j b) (λ r. bytesOf (recordBytes j b r)) p
-kind-body j k p b e = body-is j k p ∙ ap (λ (b : BlockKind). bodyOf (kindNumber b ∷ records j b ∷ bytes16 k) (recordSize b) (records j b) (λ r. bytesOf (recordBytes j b r)) p) e
+kind-body : (j : FileJob) (k p : ℕ) (b : BlockKind) → kindAt (j .offers) k ≡ b → bodyByte j k p ≡ bodyOf (blockKindNumber b ∷ records j b ∷ bytes16 k) (recordSize b) (records j b) (λ r. bytesOf (recordBytes j b r)) p
+kind-body j k p b e = body-is j k p ∙ ap (λ (b : BlockKind). bodyOf (blockKindNumber b ∷ records j b ∷ bytes16 k) (recordSize b) (records j b) (λ r. bytesOf (recordBytes j b r)) p) e
 
 module _ (k m n t : ℕ) (l : FileTables) where
   header-body : (p : ℕ) → bodyOf (0 ∷ 1 ∷ bytes16 0) 504 1 (λ _. bytesOf (k ∷ 1 ∷ bytes16 m ++ bytes16 n ++ bytes16 t)) p ≡ bodyByte (fileJobOf k m n t l) 0 p

@@ -7,8 +7,8 @@ use Rattle.writer.specs.declared.Answer.the-variants.{Wrote, Refused}
 
 -- Each answer as the format has it: the file's length, or a refusal's number.
 abbrev pub answerOf : Answer → WriteAnswer
-answerOf (Wrote n) = wrote n
-answerOf (Refused n) = notWritten n
+answerOf (Wrote bytes) = wrote bytes
+answerOf (Refused number) = notWritten number
 
 -- The answer with the buffer as it is afterwards.
 abbrev pub outcomeOf : Answer → List ℕ → WriteOutcome

@@ -32,7 +32,7 @@ same-length-7 : tie.Need-same-length-7
 same-length-7 c = search needs
 
 returns : tie.Need-returns
-returns c = step-told _ _ _ _ (c .step-number .ensures) (c .before .before .before .before .before .before .before .before .before .before .before .before .step .ensures)
+returns c = step-told _ _ _ _ _ _ (c .step-number .ensures) (c .before .before .before .before .before .before .before .before .before .before .before .before .step .ensures)
 
 pub settlement-step-spec : {M : Type 1} → statement M
 settlement-step-spec =

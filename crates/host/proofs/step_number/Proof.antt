@@ -1,6 +1,7 @@
 -- `host::step_number` meets its contract. Assumes nothing.
 use borrow.Author.Needs.{needs}
-use Rattle.step.specs.Answer.{number}
+use Rattle.step.specs.Answer.{answerOf}
+use Rattle.host.specs.Host.{stepNumber}
 use Rattle.host.proofs.step_number.Statement.{statement}
 use Rattle.host.proofs.step_number.Tie as tie
 
@@ -11,11 +12,11 @@ enum-known-a : tie.Need-enum-known-a
 enum-known-a c = search needs
 
 returns : tie.Need-returns
-unfolding number
+unfolding answerOf stepNumber
 returns c = search needs
 
 returns-2 : tie.Need-returns-2
-unfolding number
+unfolding answerOf stepNumber
 returns-2 c = search needs
 
 pub step-number-spec : {M : Type 1} → statement M

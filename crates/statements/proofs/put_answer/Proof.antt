@@ -4,7 +4,7 @@ use denote.Ref.{now}
 use Rattle.run.specs.declared.Answer.{Answer}
 use Rattle.run.specs.Run.{answerOf}
 use Rattle.text.proofs.Puts.{reworded}
-use Rattle.guarantees.specs.Settle.{runText}
+use Rattle.printing.specs.Printed.{runText}
 use borrow.Author.Needs.{needs}
 use Rattle.statements.proofs.put_answer.Statement.{statement}
 use Rattle.statements.proofs.put_answer.Tie as tie

@@ -3,7 +3,7 @@ use denote.Ref.{now}
 use Rattle.model.specs.Tables.{JobTables, jobTables, StateTables, stateTables}
 use Rattle.run.specs.Run.{answerOf}
 use Rattle.text.proofs.Puts.{reworded}
-use Rattle.guarantees.specs.Settle.{blankState}
+use Rattle.printing.specs.Printed.{blankState}
 use Rattle.statements.proofs.Texts.{run-text}
 use borrow.Author.Needs.{needs}
 use Rattle.statements.proofs.put_job.Statement.{statement}

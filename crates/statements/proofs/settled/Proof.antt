@@ -4,7 +4,7 @@ use Prim.Native.Nat.{ℕ}
 use denote.Ref.{now}
 use Rattle.format.specs.Tables.{ReaderTables, fileTables, readerTables}
 use Rattle.text.proofs.Puts.{reworded, shown}
-use Rattle.guarantees.specs.Settle.{blankJob}
+use Rattle.printing.specs.Printed.{blankJob}
 use Rattle.statements.proofs.Texts.{refused-text, grocers-few, job-text}
 use borrow.Author.Needs.{needs}
 use Rattle.statements.proofs.settled.Statement.{statement}

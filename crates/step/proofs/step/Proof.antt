@@ -3,14 +3,14 @@ use mathlib.Core.Path.{_≡_, sym, ap, _∙_}
 use borrow.Author.Needs.{needs}
 use Rattle.laws.specs.Checks.{firstMet}
 use Rattle.model.specs.Tables.{JobTables, jobTables, StateTables, stateTables}
-use Rattle.model.specs.Step.{Asked, asked, outcome}
+use Rattle.model.specs.Step.{Asked, asked, outcome, accepted}
 use Rattle.refuse.specs.Late.{earlyRules, Held, Words}
-use Rattle.step.specs.Answer.{number}
+use Rattle.step.specs.Answer.{answerOf}
 use Rattle.tables.proofs.Whole.{job-whole}
 use Rattle.tables.proofs.Holders.{need-words, sharer-words}
 use Rattle.tables.proofs.InJob.{placed-offers, placed-grocers}
 use Rattle.refuse.proofs.Refused.{held}
-use Rattle.step.proofs.Zero.{refused-early, refused-later, accepted, applies}
+use Rattle.step.proofs.Zero.{refused-early, refused-later, accepted-by, applies}
 use denote.Ref.{now}
 use Rattle.step.proofs.step.Statement.{statement}
 use Rattle.step.proofs.step.Tie as tie
@@ -67,7 +67,7 @@ same-length-7 : tie.Need-same-length-7
 same-length-7 c = search needs
 
 returns : tie.Need-returns
-unfolding number
+unfolding answerOf
 returns c = let s = c .before .before .before .before .before .before .before .before .before .before .before .before .before .before .before .before .before .before .before in refused-early (job s) (state s) (ask s) _ (c .before .early-refusal .ensures) (c .if1 .taken)
 
 needs-requires : tie.Need-needs-requires
@@ -101,7 +101,7 @@ same-length-14 : tie.Need-same-length-14
 same-length-14 c = search needs
 
 returns-2 : tie.Need-returns-2
-unfolding number
+unfolding answerOf
 returns-2 c =
     let e = c .before .before .before .before .before .before .before .before .before .before .before .before .before in
     refused-later (job (entry e)) (state (entry e)) (ask (entry e)) (none-early e) _ (c .before .later-refusal .ensures) (c .if2 .taken)
@@ -135,12 +135,12 @@ same-length-21 : tie.Need-same-length-21
 same-length-21 c = search needs
 
 returns-3 : tie.Need-returns-3
-unfolding number
+unfolding answerOf
 returns-3 c =
     let a = c .before .before .before .before .before .before .before .before .before .before .before in
     let i = a .before .before .before .before .before .before .before .before .before .before in
     let e = i .before .before .before .before .before .before .before .before .before .before .before .before .before in
-    ap (λ (t : StateTables). outcome 0 t) (a .apply-linked .ensures) ∙ accepted (job (entry e)) (state (entry e)) (ask (entry e)) (none-early e) _ (i .before .later-refusal .ensures) (i .if2 .left)
+    ap (λ (t : StateTables). outcome accepted t) (a .apply-linked .ensures) ∙ accepted-by (job (entry e)) (state (entry e)) (ask (entry e)) (none-early e) _ (i .before .later-refusal .ensures) (i .if2 .left)
 
 pub step-spec : {M : Type 1} → statement M
 step-spec =

@@ -1,14 +1,14 @@
 -- `walk::one` meets its contract. Assumes nothing.
-use Rattle.laws.specs.Below.{words, only}
+use Rattle.laws.specs.Below.{naturals, only}
 use Rattle.walk.proofs.one.Statement.{statement}
 use Rattle.walk.proofs.one.Tie as tie
 
 returns : tie.Need-returns
-unfolding only words
+unfolding only naturals
 returns c = rw (c .if1 .taken)
 
 returns-2 : tie.Need-returns-2
-unfolding only words
+unfolding only naturals
 returns-2 c = rw (c .if1 .left)
 
 pub one-spec : {M : Type 1} → statement M

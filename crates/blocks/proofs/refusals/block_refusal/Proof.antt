@@ -3,7 +3,7 @@ use Prim.Native.Nat.{ℕ}
 use mathlib.Core.Path.{_≡_, sym, ap, _∙_}
 use Rattle.laws.specs.Below.{any}
 use Rattle.laws.specs.Checks.{firstMet}
-use Rattle.format.specs.Blocks.{kindAt, kindNumber, records}
+use Rattle.format.specs.Blocks.{kindAt, blockKindNumber, records}
 use Rattle.format.specs.File.{decode}
 use Rattle.format.specs.Refusals.{blockRefusal, badRecord}
 use Rattle.blocks.specs.Due.{Due}
@@ -18,7 +18,7 @@ due c =
     let j = decode (s .args .f .now) in
     let i = s .pre .1 .0 in
     record {
-      kind = c .before .kind-at .ensures ∙ ap (λ (n : ℕ). kindNumber (kindAt n (s .args .k))) (i .offers);
+      kind = c .before .kind-at .ensures ∙ ap (λ (n : ℕ). blockKindNumber (kindAt n (s .args .k))) (i .offers);
       count = c .records-at .ensures .0 j (sym (i .grocers)) (sym (i .offers)) (sym (i .tallies)) ∙ ap (λ (n : ℕ). records j (kindAt n (s .args .k))) (i .offers);
       few = c .records-at .ensures .1;
     }

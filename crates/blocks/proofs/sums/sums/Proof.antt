@@ -3,7 +3,7 @@ use Prim.Native.Nat.{_≤_, _*_, _-_}
 use mathlib.Core.Path.{_≡_, refl}
 use native.Mathlib.Omega.{arith}
 use native.Mathlib.Nat.{mul-le-mul}
-use Rattle.laws.specs.Below.{words, sum}
+use Rattle.laws.specs.Below.{naturals, sum}
 use Rattle.laws.proofs.Sums.{sum-next}
 use Rattle.format.specs.Bytes.{from}
 use Rattle.format.specs.Blocks.{firstSum, secondSum}
@@ -12,7 +12,7 @@ use Rattle.blocks.proofs.sums.sums.Statement.{statement}
 use Rattle.blocks.proofs.sums.sums.Tie as tie
 
 abbrev Inv-loop : tie.InvT-loop
-Inv-loop f at first₀ second₀ weight₀ i₀ first second weight i = (i ≤ 508) × (weight ≡ 508 - i) × (first ≤ 255 * i) × (second ≤ 129540 * i) × (first ≡ sum words i (from f at)) × (second ≡ sum words i (λ p. (508 - p) * from f at p))
+Inv-loop f at first₀ second₀ weight₀ i₀ first second weight i = (i ≤ 508) × (weight ≡ 508 - i) × (first ≤ 255 * i) × (second ≤ 129540 * i) × (first ≡ sum naturals i (from f at)) × (second ≡ sum naturals i (λ p. (508 - p) * from f at p))
 
 abbrev μ-loop : tie.MeasureT-loop
 μ-loop f at first₀ second₀ weight₀ i₀ first second weight i = 508 - i
@@ -26,7 +26,7 @@ prod : (c : tie.After-wide Inv-loop μ-loop) → c .before .before .before .loop
 prod c = mul-le-mul {n₂ = 508} {m₂ = 255} (omega arith) (byte c)
 
 loop-holds : tie.Need-loop-holds Inv-loop μ-loop
-unfolding sum words
+unfolding sum naturals
 loop-holds c = (omega arith, omega arith, omega arith, omega arith, refl, refl)
 
 add-wide : tie.Need-add-wide Inv-loop μ-loop
@@ -57,7 +57,7 @@ loop-less : tie.Need-loop-less Inv-loop μ-loop
 loop-less c = omega arith
 
 loop-again : tie.Need-loop-again Inv-loop μ-loop
-unfolding words
+unfolding naturals
 loop-again c =
     let b = byte c in
     let p = prod c in

@@ -7,7 +7,7 @@ use denote.Ref.{now}
 use borrow.Author.Needs.{needs}
 use Rattle.laws.specs.Below.{any}
 use Rattle.index.specs.Index.{sharesNumber, placeOf}
-use Rattle.format.specs.Codes.{number}
+use Rattle.format.specs.Codes.{codeNumber}
 use Rattle.format.specs.Job.{FileJob, shared, unnamed}
 use Rattle.checks.specs.Rows.{codeOf, HasCodes}
 use Rattle.checks.proofs.Naming.{shared-is, unnamed-is, seven, eight, neither}
@@ -34,7 +34,7 @@ unnamed-at c j h =
     let f = b .before .before .before .before .before in
     sym (
     c .some-none .ensures _ (b .build .ensures) (sym (e .before .shared .ensures _ _ (b .build .ensures)) ∙ e .if1 .left)
-    ∙ ap (λ (l : List ℕ). any (a .t) (λ i. eqb (placeOf l (a .n) (number (codeOf (now (a .tcode)) i))) (a .n))) (f .number-all .ensures)
+    ∙ ap (λ (l : List ℕ). any (a .t) (λ i. eqb (placeOf l (a .n) (codeNumber (codeOf (now (a .tcode)) i))) (a .n))) (f .number-all .ensures)
     ∙ unnamed-is j _ _ _ _ h _)
 
 slice-aggregate-number-all : tie.Need-slice-aggregate-number-all

@@ -5,14 +5,14 @@ use native.Mathlib.Omega.{arith}
 use lib.ListN.{length, length-set}
 use borrow.Author.Needs.{needs}
 use Rattle.laws.specs.Tables.{overwrite}
-use Rattle.format.specs.Codes.{number}
+use Rattle.format.specs.Codes.{codeNumber}
 use Rattle.fills.proofs.Filling.{fill-none, fill-more, fill-end}
 use Rattle.checks.specs.Rows.{codeOf}
 use Rattle.checks.proofs.codes.number_all.Statement.{statement}
 use Rattle.checks.proofs.codes.number_all.Tie as tie
 
 abbrev Inv-loop : tie.InvT-loop
-Inv-loop code n numbers₀ i₀ numbers i = (i ≤ n) × (length numbers ≡ length numbers₀) × (numbers ≡ overwrite i (λ i. number (codeOf code i)) numbers₀)
+Inv-loop code n numbers₀ i₀ numbers i = (i ≤ n) × (length numbers ≡ length numbers₀) × (numbers ≡ overwrite i (λ i. codeNumber (codeOf code i)) numbers₀)
 
 abbrev μ-loop : tie.MeasureT-loop
 μ-loop code n numbers₀ i₀ numbers i = n - i

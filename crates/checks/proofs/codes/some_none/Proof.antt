@@ -10,7 +10,7 @@ use borrow.Author.Needs.{needs}
 use Rattle.laws.specs.Below.{any}
 use Rattle.laws.proofs.Below.{any-more}
 use Rattle.index.specs.Index.{IsIndex, sharesNumber, placeOf}
-use Rattle.format.specs.Codes.{number}
+use Rattle.format.specs.Codes.{codeNumber}
 use Rattle.checks.specs.Rows.{codeOf}
 use denote.Ref.{now}
 use Rattle.checks.proofs.codes.some_none.Statement.{statement}
@@ -18,7 +18,7 @@ use Rattle.checks.proofs.codes.some_none.Tie as tie
 
 abbrev Inv-loop : tie.InvT-loop
 Inv-loop keys places n tcode t bad₀ i₀ bad i =
-    (i ≤ t) × ((numbers : List ℕ) → IsIndex keys places numbers n → sharesNumber numbers n ≡ false → bad ≡ any i (λ i. eqb (placeOf numbers n (number (codeOf tcode i))) n))
+    (i ≤ t) × ((numbers : List ℕ) → IsIndex keys places numbers n → sharesNumber numbers n ≡ false → bad ≡ any i (λ i. eqb (placeOf numbers n (codeNumber (codeOf tcode i))) n))
 
 abbrev μ-loop : tie.MeasureT-loop
 μ-loop keys places n tcode t bad₀ i₀ bad i = t - i
@@ -48,7 +48,7 @@ returns : tie.Need-returns Inv-loop μ-loop
 returns c =
     let l = c .before in
     let s = l .before .before .before .before in
-    λ numbers x d. subst (λ (i : ℕ). l .loop .bad ≡ any i (λ i. eqb (placeOf numbers (s .args .n) (number (codeOf (now (s .args .tcode)) i))) (s .args .n))) (le-antisymm (l .loop .inv .0) (c .loop-test .left)) (l .loop .inv .1 numbers x d)
+    λ numbers x d. subst (λ (i : ℕ). l .loop .bad ≡ any i (λ i. eqb (placeOf numbers (s .args .n) (codeNumber (codeOf (now (s .args .tcode)) i))) (s .args .n))) (le-antisymm (l .loop .inv .0) (c .loop-test .left)) (l .loop .inv .1 numbers x d)
 
 pub some-none-spec : {M : Type 1} → statement M
 some-none-spec =

@@ -5,14 +5,14 @@ use native.Mathlib.Omega.{arith}
 use lib.ListN.{length, length-set}
 use borrow.Author.Needs.{needs}
 use Rattle.laws.specs.Tables.{overwrite}
-use Rattle.format.specs.Codes.{isCode, number}
+use Rattle.format.specs.Codes.{isCode, codeNumber}
 use Rattle.fills.specs.Fills.{codesIn}
 use Rattle.fills.proofs.Filling.{fill-none, fill-more, fill-end, code-in}
 use Rattle.fills.proofs.fill.fill_numbers.Statement.{statement}
 use Rattle.fills.proofs.fill.fill_numbers.Tie as tie
 
 abbrev Inv-loop : tie.InvT-loop
-Inv-loop f first place n numbers₀ i₀ numbers i = (i ≤ n) × (length numbers ≡ length numbers₀) × (numbers ≡ overwrite i (λ k. number (codesIn f first place k)) numbers₀)
+Inv-loop f first place n numbers₀ i₀ numbers i = (i ≤ n) × (length numbers ≡ length numbers₀) × (numbers ≡ overwrite i (λ k. codeNumber (codesIn f first place k)) numbers₀)
 
 abbrev μ-loop : tie.MeasureT-loop
 μ-loop f first place n numbers₀ i₀ numbers i = n - i
@@ -50,7 +50,7 @@ loop-again c =
     let l = c .before .before .before in
     let s = l .before .before .before in
     let e = code-in (s .args .f .now) (s .args .first) (l .loop .i) (s .args .place) (c .before .record-at .result) (c .before .record-at .ensures) in
-    (omega arith, simp length-set (l .loop .inv .1), fill-more _ (l .loop .i) _ _ _ (l .loop .inv .2) (omega arith) (c .number-at .ensures ∙ ap number e))
+    (omega arith, simp length-set (l .loop .inv .1), fill-more _ (l .loop .i) _ _ _ (l .loop .inv .2) (omega arith) (c .number-at .ensures ∙ ap codeNumber e))
 
 same-length : tie.Need-same-length Inv-loop μ-loop
 same-length c = c .before .loop .inv .1

@@ -5,16 +5,16 @@ use native.Mathlib.Omega.{arith}
 use lib.Dec.{eqb}
 use lib.ListN.{getD}
 use borrow.Author.Needs.{needs}
-use Rattle.model.specs.Steps.{kindOf}
-use Rattle.prices.specs.Marks.{placeOf}
+use Rattle.model.specs.Steps.{kindOf, stepPlace}
 use denote.Ref.{now}
 use Rattle.model.proofs.Cursor.{number-kind}
-use Rattle.prices.proofs.Marked.{place-in, marks-few, done-word}
+use Rattle.prices.proofs.Marked.{marks-few, done-word}
+use Rattle.model.proofs.Tables.{place-in}
 use Rattle.prices.proofs.marks.is_done.Statement.{statement}
 use Rattle.prices.proofs.marks.is_done.Tie as tie
 
 -- The place is among the marks.
-inside : (s : tie.Start) → placeOf (s .args .k) (s .args .kind) (s .args .a) (s .args .b) < 6 * s .args .k * s .args .k
+inside : (s : tie.Start) → stepPlace (s .args .k) (s .args .kind) (s .args .a) (s .args .b) < 6 * s .args .k * s .args .k
 inside s = let p = s .pre in place-in (s .args .k) (s .args .kind) (s .args .a) (s .args .b) (omega (arith, p .kind-to)) (p .a-in) (p .b-in)
 
 place-requires : tie.Need-place-requires
@@ -33,7 +33,7 @@ returns c =
     let marks = now (s .args .done) in
     ap (λ (i : ℕ). eqb (getD marks i 0) 1) (c .before .place .ensures)
     ∙ sym (done-word (s .args .k) (kindOf (s .args .kind)) (s .args .a) (s .args .b) marks (p .a-in) (p .b-in)
-    ∙ ap (λ (n : ℕ). eqb (getD marks (placeOf (s .args .k) n (s .args .a) (s .args .b)) 0) 1) (number-kind (s .args .kind) (p .kind-from) (p .kind-to)))
+    ∙ ap (λ (n : ℕ). eqb (getD marks (stepPlace (s .args .k) n (s .args .a) (s .args .b)) 0) 1) (number-kind (s .args .kind) (p .kind-from) (p .kind-to)))
 
 pub is-done-spec : {M : Type 1} → statement M
 is-done-spec = tie.close (tie.spec place-requires mul-result shared-slice-read-result returns)

@@ -4,16 +4,16 @@ use Prim.Native.Nat.{ℕ, _*_, _<_}
 use native.Mathlib.Omega.{arith}
 use lib.ListN.{set}
 use borrow.Author.Needs.{needs}
-use Rattle.model.specs.Steps.{number, kindOf}
-use Rattle.prices.specs.Marks.{placeOf}
+use Rattle.model.specs.Steps.{kindNumber, kindOf, stepPlace}
 use denote.Ref.{now}
 use Rattle.model.proofs.Cursor.{number-kind}
-use Rattle.prices.proofs.Marked.{place-in, marks-few, marks-set}
+use Rattle.prices.proofs.Marked.{marks-few, marks-set}
+use Rattle.model.proofs.Tables.{place-in}
 use Rattle.prices.proofs.marks.mark.Statement.{statement}
 use Rattle.prices.proofs.marks.mark.Tie as tie
 
 -- The place is among the marks.
-inside : (s : tie.Start) → placeOf (s .args .k) (s .args .kind) (s .args .a) (s .args .b) < 6 * s .args .k * s .args .k
+inside : (s : tie.Start) → stepPlace (s .args .k) (s .args .kind) (s .args .a) (s .args .b) < 6 * s .args .k * s .args .k
 inside s = let p = s .pre .0 in place-in (s .args .k) (s .args .kind) (s .args .a) (s .args .b) (omega (arith, p .kind-to)) (p .a-in) (p .b-in)
 
 place-requires : tie.Need-place-requires
@@ -34,9 +34,9 @@ returns c =
     let p = s .pre .0 in
     let q = kindOf (s .args .kind) in
     let old = now (s .args .done) in
-    let here : set old (c .place .result) 1 ≡ set old (placeOf (s .args .k) (s .args .kind) (s .args .a) (s .args .b)) 1 = ap (λ (i : ℕ). set old i 1) (c .place .ensures) in
-    let same : set old (placeOf (s .args .k) (number q) (s .args .a) (s .args .b)) 1 ≡ set old (placeOf (s .args .k) (s .args .kind) (s .args .a) (s .args .b)) 1 =
-    ap (λ (n : ℕ). set old (placeOf (s .args .k) n (s .args .a) (s .args .b)) 1) (number-kind (s .args .kind) (p .kind-from) (p .kind-to)) in
+    let here : set old (c .place .result) 1 ≡ set old (stepPlace (s .args .k) (s .args .kind) (s .args .a) (s .args .b)) 1 = ap (λ (i : ℕ). set old i 1) (c .place .ensures) in
+    let same : set old (stepPlace (s .args .k) (kindNumber q) (s .args .a) (s .args .b)) 1 ≡ set old (stepPlace (s .args .k) (s .args .kind) (s .args .a) (s .args .b)) 1 =
+    ap (λ (n : ℕ). set old (stepPlace (s .args .k) n (s .args .a) (s .args .b)) 1) (number-kind (s .args .kind) (p .kind-from) (p .kind-to)) in
     (here ∙ sym same ∙ sym (marks-set (s .args .k) q (s .args .a) (s .args .b) old (p .a-in) (p .b-in) (p .done-long) (s .pre .1)), here)
 
 pub mark-spec : {M : Type 1} → statement M

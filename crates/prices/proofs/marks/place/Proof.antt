@@ -1,7 +1,8 @@
 -- `prices::marks::place` meets its contract. Assumes nothing.
 use Prim.Native.Nat.{_+_, _-_, _*_, _<_}
 use native.Mathlib.Omega.{arith}
-use Rattle.prices.proofs.Marked.{row-in, place-in, marks-few}
+use Rattle.prices.proofs.Marked.{row-in, marks-few}
+use Rattle.model.proofs.Tables.{place-in}
 use borrow.Author.Needs.{needs}
 use Rattle.prices.proofs.marks.place.Statement.{statement}
 use Rattle.prices.proofs.marks.place.Tie as tie

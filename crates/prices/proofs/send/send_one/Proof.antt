@@ -2,7 +2,7 @@
 use mathlib.Core.Path.{_≡_, sym, _∙_}
 use mathlib.Core.Bool.{Bool, true, false}
 use borrow.Author.Needs.{needs}
-use Rattle.laws.specs.Below.{words}
+use Rattle.laws.specs.Below.{naturals}
 use Rattle.laws.proofs.Bools.{cond-yes, cond-no}
 use Rattle.laws.proofs.Sums.{only-yes, only-no}
 use Rattle.words.specs.Message.{wordIn}
@@ -51,18 +51,18 @@ same-length : tie.Need-same-length
 same-length c = search needs
 
 returns : tie.Need-returns
-unfolding wordIn words
+unfolding wordIn naturals
 returns c =
     let s = c .before .before .before .before .before .before .before .before in
     let e : due s ≡ true = sym (c .before .before .in-message .ensures) ∙ c .before .if1 .taken in
-    (sym (only-yes words (due s) 1 e), sym (cond-yes (due s) _ _ e))
+    (sym (only-yes naturals (due s) 1 e), sym (cond-yes (due s) _ _ e))
 
 returns-2 : tie.Need-returns-2
-unfolding wordIn words
+unfolding wordIn naturals
 returns-2 c =
     let s = c .before .before .before .before .before .before .before in
     let e : due s ≡ false = sym (c .before .in-message .ensures) ∙ c .if1 .left in
-    (sym (only-no words (due s) 1 e), sym (cond-no (due s) _ _ e))
+    (sym (only-no naturals (due s) 1 e), sym (cond-no (due s) _ _ e))
 
 pub send-one-spec : {M : Type 1} → statement M
 send-one-spec =

@@ -2,7 +2,7 @@
 use mathlib.Core.Path.{refl, ap, _∙_}
 use native.Mathlib.Omega.{arith}
 use borrow.Author.Needs.{needs}
-use Rattle.format.specs.Codes.{isCode, number}
+use Rattle.format.specs.Codes.{isCode, codeNumber}
 use Rattle.format.specs.File.{decode}
 use Rattle.index.specs.Index.{placeOf}
 use Rattle.fills.proofs.Filling.{code-in}
@@ -37,7 +37,7 @@ returns c =
     let at = c .before .before in
     let e = code-in f (s .args .first) (s .args .i) 3 (at .record-at .result) (at .record-at .ensures) ∙ tally-code f (s .args .n) (s .args .first) (s .args .i) (r .offers) (s .pre .1 .0) in
     c .place .ensures (r .numbers) (r .index) (r .apart)
-    ∙ ap (placeOf (r .numbers) (s .args .n)) (c .before .number-at .ensures ∙ ap number e)
+    ∙ ap (placeOf (r .numbers) (s .args .n)) (c .before .number-at .ensures ∙ ap codeNumber e)
     ∙ place-is (decode f) (s .args .n) (r .numbers) (r .offers) (r .right) (s .args .i)
 
 pub find-place-spec : {M : Type 1} → statement M

@@ -6,7 +6,7 @@ use borrow.Author.Tests.{not-true, not-false}
 use Rattle.laws.specs.Below.{all}
 use borrow.Author.Needs.{needs}
 use Rattle.model.specs.Steps.{kindOf}
-use Rattle.prices.specs.Marks.{stepsDone}
+use Rattle.model.specs.Tables.{stepsDone}
 use Rattle.refuse.specs.Rules.{receivedFrom}
 use Rattle.tables.proofs.Loops.{test-none, test-more, test-ends}
 use Rattle.refuse.proofs.rules.multiplied.Statement.{statement}

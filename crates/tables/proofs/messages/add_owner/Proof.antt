@@ -7,7 +7,7 @@ use native.Mathlib.Nat.{le-antisymm}
 use borrow.Author.Needs.{needs}
 use lib.ListN.{getD}
 use denote.Ref.{now}
-use Rattle.laws.specs.Below.{words, only}
+use Rattle.laws.specs.Below.{naturals, only}
 use Rattle.laws.specs.Masks.{bit, without}
 use Rattle.tables.proofs.Sending.{passingTable, passing-none, passing-all, passing-more, passing-max, from-in, to-in}
 use Rattle.tables.proofs.messages.add_owner.Statement.{statement}
@@ -52,10 +52,10 @@ receiver c =
 
 -- What the word grows by.
 more-is : (c : tie.After-bit-word Inv-loop μ-loop) → let e = c .before .before .before .before in let s = entry e in
-    c .bit-word .result ≡ only words (bit (e .before .loop .b) (without (getD (owners s) (s .args .n) 0) (getD (masks s) (s .args .n) 0))) 1
+    c .bit-word .result ≡ only naturals (bit (e .before .loop .b) (without (getD (owners s) (s .args .n) 0) (getD (masks s) (s .args .n) 0))) 1
 more-is c =
     let e = c .before .before .before .before in
-    c .bit-word .ensures ∙ ap (λ (x : ℕ). only words (bit (e .before .loop .b) x) 1) (e .before .before .clear-bit .ensures)
+    c .bit-word .ensures ∙ ap (λ (x : ℕ). only naturals (bit (e .before .loop .b) x) 1) (e .before .before .clear-bit .ensures)
 
 mul-owner : tie.Need-mul-owner Inv-loop μ-loop
 mul-owner c = search needs

@@ -1,5 +1,5 @@
 -- `text::lines::put_refused` meets its contract. Assumes nothing.
-use Rattle.guarantees.specs.Settle.{refusedText}
+use Rattle.printing.specs.Printed.{refusedText}
 use borrow.Author.Needs.{needs}
 use Rattle.text.proofs.lines.put_refused.Statement.{statement}
 use Rattle.text.proofs.lines.put_refused.Tie as tie

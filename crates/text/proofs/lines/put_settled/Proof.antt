@@ -1,6 +1,6 @@
 -- `text::lines::put_settled` meets its contract. Assumes nothing.
 use native.Mathlib.Omega.{arith}
-use Rattle.guarantees.specs.Settle.{wordsName, messagesName, settledText}
+use Rattle.printing.specs.Printed.{wordsName, messagesName, settledText}
 use Rattle.text.proofs.Puts.{behind, same-long}
 use Rattle.text.proofs.Decimals.{count-short}
 use borrow.Author.Needs.{needs}

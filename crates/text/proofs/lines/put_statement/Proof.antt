@@ -3,7 +3,7 @@ use mathlib.Core.Path.{ap}
 use native.Mathlib.Omega.{arith}
 use mir.Syntax.{w64}
 use mir.Facts.{toZ-ofZ}
-use Rattle.guarantees.specs.Settle.{signedDecimal}
+use Rattle.printing.specs.Printed.{signedDecimal}
 use Rattle.text.specs.Puts.{Put}
 use Rattle.text.proofs.Puts.{same-long, reworded}
 use Rattle.text.proofs.Decimals.{decimal-few, signed-few, abs-64, lined}

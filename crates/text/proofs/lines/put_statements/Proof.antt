@@ -6,7 +6,7 @@ use denote.Ref.{now}
 use lib.IntN.{ℤ, pos}
 use lib.ListN.{length, getD}
 use Rattle.laws.proofs.Signed.{read64}
-use Rattle.guarantees.specs.Settle.{decimal, signedDecimal, line, grocerLines}
+use Rattle.printing.specs.Printed.{decimal, signedDecimal, line, grocerLines}
 use Rattle.text.specs.Puts.{Put}
 use Rattle.text.proofs.Puts.{same-long, reworded}
 use Rattle.text.proofs.Decimals.{grocer-none, grocer-more, grocer-short, abs-64}

@@ -2,7 +2,7 @@
 use mathlib.Core.Path.{_≡_, ap, _∙_}
 use native.Mathlib.Omega.{arith}
 use lib.ListN.{length, take}
-use Rattle.guarantees.specs.Settle.{decimal}
+use Rattle.printing.specs.Printed.{decimal}
 use Rattle.text.proofs.Puts.{reworded}
 use Rattle.text.proofs.Decimals.{decimal-is, decimal-few}
 use borrow.Author.Needs.{needs}

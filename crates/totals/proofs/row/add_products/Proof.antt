@@ -8,7 +8,7 @@ use native.Mathlib.Omega.{arith}
 use lib.ListN.{length, getD, length-set}
 use lib.IntN.{ℤ, pos, natAbs, _+ℤ_, +ℤ-idr}
 use borrow.Author.Needs.{needs}
-use Rattle.laws.specs.Below.{amounts, sum}
+use Rattle.laws.specs.Below.{integers, sum}
 use Rattle.laws.proofs.Loops.{share, pile-more, pile-size}
 use Rattle.laws.proofs.Sums.{sum-start, sum-over}
 use Rattle.links.specs.Links.{Skips}
@@ -24,7 +24,7 @@ abbrev Inv-loop : tie.InvT-loop
 Inv-loop k m n t a from first next owner grocer holder offer counts prices working₀ at base b i₀ working i =
     (i ≤ t)
     × (length working ≡ length working₀)
-    × ((p : ℕ) → getD working p (pos 0) ≡ getD working₀ p (pos 0) +ℤ sum amounts i (share (λ j. base + getD grocer j 0) (brings owner holder offer counts prices a from at) p))
+    × ((p : ℕ) → getD working p (pos 0) ≡ getD working₀ p (pos 0) +ℤ sum integers i (share (λ j. base + getD grocer j 0) (brings owner holder offer counts prices a from at) p))
     × (i < t → getD holder i 0 ≡ a)
 
 abbrev μ-loop : tie.MeasureT-loop
@@ -59,8 +59,8 @@ abbrev base-of : tie.After-row-start2 Inv-loop μ-loop → ℕ
 base-of c = c .row-start2 .result
 
 -- A tally of another box adds nothing to any word.
-none : (s : Start) (at base p i j : ℕ) → Skips (s .args .t) (now (s .args .holder)) (s .args .a) i j → (x : ℕ) → i ≤ x → x < j → share (place s base) (brought s at) p x ≡ amounts .none
-unfolding amounts
+none : (s : Start) (at base p i j : ℕ) → Skips (s .args .t) (now (s .args .holder)) (s .args .a) i j → (x : ℕ) → i ≤ x → x < j → share (place s base) (brought s at) p x ≡ integers .none
+unfolding integers
 none s at base p i j k x l q = other-share (now (s .args .owner)) (now (s .args .holder)) (now (s .args .offer)) (now (s .args .counts)) (prices s) (place s base) (s .args .a) (s .args .from) at p x (k .none x l q)
 
 -- The word of a tally's grocer in row a is within the table, and small enough to add to.
@@ -111,7 +111,7 @@ first-of c =
     subst (λ (x : ℕ). Skips (s .args .t) (now (s .args .holder)) (s .args .a) 0 x) (sym (c .index2 .ensures ∙ ap (λ (b : ℕ). getD (now (s .args .first)) b 0) (c .before .before .index .ensures))) (s .pre .1 .1 .1 .1 .begins (s .args .a) (omega (arith, s .pre .0 .boxes-in, s .pre .1 .1 .1 .0)))
 
 loop-holds : tie.Need-loop-holds Inv-loop μ-loop
-unfolding amounts
+unfolding integers
 loop-holds c =
     let r = rows c in
     let s = entry r in
@@ -120,7 +120,7 @@ loop-holds c =
     let piled : ℕ → ℕ → ℤ = share (place s (base-of r)) (brought s (at-of r)) in (
       k .to,
       refl,
-      λ p. sym (ap (λ (z : ℤ). getD (now (s .args .working)) p (pos 0) +ℤ z) (sum-over amounts 0 i (piled p) (k .from) (none s (at-of r) (base-of r) p 0 i k) ∙ sum-start amounts (piled p)) ∙ +ℤ-idr (getD (now (s .args .working)) p (pos 0))),
+      λ p. sym (ap (λ (z : ℤ). getD (now (s .args .working)) p (pos 0) +ℤ z) (sum-over integers 0 i (piled p) (k .from) (none s (at-of r) (base-of r) p 0 i k) ∙ sum-start integers (piled p)) ∙ +ℤ-idr (getD (now (s .args .working)) p (pos 0))),
       k .hits,
     )
 
@@ -172,7 +172,7 @@ loop-again c =
       ap length (call .ensures) ∙ length-set w (place s base i) _ ∙ inv .1,
       λ p. ap (λ (l : List ℤ). getD l p (pos 0)) (call .ensures)
           ∙ pile-more (now (s .args .working)) w (place s base) (brought s at) i (inv .2) (omega (arith, inside e, s .pre .1 .1 .0 .long, inv .1)) p
-          ∙ ap (λ (z : ℤ). getD (now (s .args .working)) p (pos 0) +ℤ z) (sym (sum-over amounts (i + 1) h (share (place s base) (brought s at) p) (k .from) (none s at base p (i + 1) h k))),
+          ∙ ap (λ (z : ℤ). getD (now (s .args .working)) p (pos 0) +ℤ z) (sym (sum-over integers (i + 1) h (share (place s base) (brought s at) p) (k .from) (none s at base p (i + 1) h k))),
       k .hits,
     )
 
@@ -185,7 +185,7 @@ returns c =
     let s = entry r in
     let inv = c .before .loop .inv in
     row-piled (tables s) (prices s) (s .args .a) (s .args .from) (at-of r) (s .pre .0) (s .pre .1 .0) (s .pre .1 .1 .1 .0) (r .before .row-start .ensures) (base-of r) (now (s .args .working)) (c .before .loop .working) (r .row-start2 .ensures) (s .pre .1 .1 .0 .long) (inv .1)
-    (λ p. inv .2 p ∙ ap (λ (n : ℕ). getD (now (s .args .working)) p (pos 0) +ℤ sum amounts n (share (place s (base-of r)) (brought s (at-of r)) p)) (le-antisymm (inv .0) (c .loop-test .left)))
+    (λ p. inv .2 p ∙ ap (λ (n : ℕ). getD (now (s .args .working)) p (pos 0) +ℤ sum integers n (share (place s (base-of r)) (brought s (at-of r)) p)) (le-antisymm (inv .0) (c .loop-test .left)))
 
 pub add-products-spec : {M : Type 1} → statement M
 add-products-spec =

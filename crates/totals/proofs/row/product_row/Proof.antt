@@ -7,7 +7,7 @@ use native.Mathlib.Omega.{arith}
 use lib.ListN.{length, getD, length-set}
 use lib.IntN.{ℤ, pos, natAbs, _+ℤ_, +ℤ-idr}
 use borrow.Author.Needs.{needs}
-use Rattle.laws.specs.Below.{amounts, sum}
+use Rattle.laws.specs.Below.{integers, sum}
 use Rattle.laws.proofs.Loops.{share, pile-more, pile-size}
 use Rattle.laws.proofs.Tables.{is-tabulate}
 use Rattle.laws.proofs.Sums.{sum-start}
@@ -21,7 +21,7 @@ abbrev Inv-loop : tie.InvT-loop
 Inv-loop k m n t a from owner grocer holder offer counts prices working row₀ at i₀ row i =
     (i ≤ t)
     × (length row ≡ 255)
-    × ((g : ℕ) → getD row g (pos 0) ≡ getD row₀ g (pos 0) +ℤ sum amounts i (share (λ j. getD grocer j 0) (brings owner holder offer counts prices a from at) g))
+    × ((g : ℕ) → getD row g (pos 0) ≡ getD row₀ g (pos 0) +ℤ sum integers i (share (λ j. getD grocer j 0) (brings owner holder offer counts prices a from at) g))
 
 abbrev μ-loop : tie.MeasureT-loop
 μ-loop k m n t a from owner grocer holder offer counts prices working row₀ at i₀ row i = t - i
@@ -74,11 +74,11 @@ row-start-requires : tie.Need-row-start-requires Inv-loop μ-loop
 row-start-requires c κs = let s = c .before .before .before .before .before .before in (s .pre .0 .offers-in, omega (arith, s .pre .0 .boxes-in, s .pre .1 .1 .1))
 
 loop-holds : tie.Need-loop-holds Inv-loop μ-loop
-unfolding amounts
+unfolding integers
 loop-holds c =
     let s = c .before .before .before .before .before .before .before in
     let row = c .before .row-at .result in
-    (search needs, search needs, λ g. sym (ap (λ (z : ℤ). getD row g (pos 0) +ℤ z) (sum-start amounts (share (place s) (brought s (c .row-start .result)) g)) ∙ +ℤ-idr (getD row g (pos 0))))
+    (search needs, search needs, λ g. sym (ap (λ (z : ℤ). getD row g (pos 0) +ℤ z) (sum-start integers (share (place s) (brought s (c .row-start .result)) g)) ∙ +ℤ-idr (getD row g (pos 0))))
 
 slice-aggregate-add-tally : tie.Need-slice-aggregate-add-tally Inv-loop μ-loop
 slice-aggregate-add-tally c = sym (c .before .before .loop .inv .1)
@@ -122,7 +122,7 @@ returns c =
     (λ g l. inv .2 g
     ∙ ap₂ _+ℤ_
     (ap (λ (r : List ℤ). getD r g (pos 0)) (b .before .row-at .ensures) ∙ row-word (s .args .k) (s .args .m) (s .args .a) (now (s .args .working)) g l)
-    (ap (λ (n : ℕ). sum amounts n (share (place s) (brought s (b .row-start .result)) g)) (le-antisymm (inv .0) (c .loop-test .left))
+    (ap (λ (n : ℕ). sum integers n (share (place s) (brought s (b .row-start .result)) g)) (le-antisymm (inv .0) (c .loop-test .left))
     ∙ brought-sum (tables s) (prices s) (s .args .a) (s .args .from) (b .row-start .result) (s .pre .0) (s .pre .1 .0) (s .pre .1 .1 .1) (b .row-start .ensures) g))
 
 pub product-row-spec : {M : Type 1} → statement M

@@ -6,7 +6,7 @@ use native.Mathlib.Omega.{arith}
 use lib.Dec.{eqb}
 use borrow.Author.Tests.{not-true}
 use borrow.Author.Needs.{needs}
-use Rattle.laws.specs.Below.{count, sum, words}
+use Rattle.laws.specs.Below.{count, sum, naturals}
 use Rattle.laws.proofs.Bools.{and-l, and-r}
 use Rattle.walk.specs.Walk.{listedBy}
 use Rattle.walk.specs.Rows.{rowOf, rowCount}
@@ -33,7 +33,7 @@ returns c =
     (sym (c .before .is-ready .ensures) ∙ not-true first (and-r (not asks) (not first) (c .if1 .taken)))
 
 loop-holds : tie.Need-loop-holds Inv-loop μ-loop
-unfolding count sum words
+unfolding count sum naturals
 loop-holds c = (search needs, refl)
 
 is-open-requires : tie.Need-is-open-requires Inv-loop μ-loop

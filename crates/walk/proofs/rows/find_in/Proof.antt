@@ -3,14 +3,14 @@ use mathlib.Core.Path.{_≡_}
 use Prim.Native.Nat.{_+_, _*_, _≤_, _<_, _-_}
 use native.Mathlib.Omega.{arith}
 use borrow.Author.Needs.{needs}
-use Rattle.walk.specs.Rows.{rowSum}
+use Rattle.walk.specs.Rows.{rowsTotal}
 use denote.Ref.{now}
 use Rattle.walk.proofs.ByRow.{rows-none, found-row, found-left, row-passed, rows-end}
 use Rattle.walk.proofs.rows.find_in.Statement.{statement}
 use Rattle.walk.proofs.rows.find_in.Tie as tie
 
 abbrev Inv-loop : tie.InvT-loop
-Inv-loop k c rows prices totals done n left₀ r₀ left r = (r ≤ n) × (left + rowSum rows r ≡ c)
+Inv-loop k c rows prices totals done n left₀ r₀ left r = (r ≤ n) × (left + rowsTotal rows r ≡ c)
 
 abbrev μ-loop : tie.MeasureT-loop
 μ-loop k c rows prices totals done n left₀ r₀ left r = n - r

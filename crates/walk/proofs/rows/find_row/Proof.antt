@@ -7,7 +7,7 @@ use lib.Arith.{digits-lt}
 use borrow.Author.Needs.{needs}
 use Rattle.laws.specs.Below.{count}
 use Rattle.model.specs.Steps.{kindOf}
-use Rattle.prices.specs.Marks.{stepsDone}
+use Rattle.model.specs.Tables.{stepsDone}
 use Rattle.refuse.specs.Rules.{permittedBy}
 use Rattle.walk.specs.Walk.{listedBy}
 use Rattle.walk.specs.Rows.{rowOf, rowCount}

@@ -4,14 +4,14 @@ use Prim.Native.Nat.{ℕ, _+_, _*_, _≤_, _-_}
 use native.Mathlib.Omega.{arith}
 use lib.ListN.{getD}
 use borrow.Author.Needs.{needs}
-use Rattle.walk.specs.Rows.{rowSum}
+use Rattle.walk.specs.Rows.{rowsTotal}
 use denote.Ref.{now}
 use Rattle.walk.proofs.ByRow.{rows-none, rows-more, rows-little}
 use Rattle.walk.proofs.rows.ready_steps.Statement.{statement}
 use Rattle.walk.proofs.rows.ready_steps.Tie as tie
 
 abbrev Inv-loop : tie.InvT-loop
-Inv-loop k rows n ready₀ r₀ ready r = (r ≤ n) × (ready ≡ rowSum rows r)
+Inv-loop k rows n ready₀ r₀ ready r = (r ≤ n) × (ready ≡ rowsTotal rows r)
 
 abbrev μ-loop : tie.MeasureT-loop
 μ-loop k rows n ready₀ r₀ ready r = n - r

@@ -1,4 +1,4 @@
--- Handed a job's own tallies, the desk answers the plain sum: `plain`. Assumes nothing.
+-- Handed a job's own tallies, the desk answers the plain sum. Assumes nothing.
 use mathlib.Core.Path.{_≡_, refl, sym, ap, _∙_}
 use mathlib.Core.List.{List, [], _∷_}
 use mathlib.Core.Bool.{Bool, true, _&&_}
@@ -8,21 +8,22 @@ use lib.ListN.{length}
 use lib.Dec.{eqb, ltb, leb}
 use lib.IntN.{ℤ, natAbs, _+ℤ_}
 use borrow.Author.Tests.{lt-ltb, le-ltb, le-leb}
-use Rattle.laws.specs.Below.{Adds, sum, only, amounts}
+use Rattle.laws.specs.Below.{Adds, sum, only, integers}
 use Rattle.laws.specs.Checks.{firstMet}
 use Rattle.laws.specs.Tables.{tabulate}
-use Rattle.laws.proofs.Bools.{and-true, and-l, and-r, eqb-same}
+use Rattle.laws.proofs.Bools.{and-true, and-l, and-r}
 use Rattle.laws.proofs.Checks.{Each, each-of, all-each}
 use Rattle.laws.proofs.Sums.{sum-cong}
 use Rattle.laws.proofs.Tables.{length-tabulate, word-in}
-use Rattle.model.specs.Job.{Job, heldBy, held, amount, plainSum}
+use Rattle.model.specs.Job.{Job, held, amount, plainSum}
 use Rattle.model.specs.Tables.{JobTables, jobOf}
 use Rattle.model.specs.Ranges.{maxBoxes, maxGrocers, maxOffers, maxTallies, maxPrice, maxCount, upTo, under, around, sizesInRange, jobWordsInRange, jobInRange}
 use Rattle.model.specs.Reconcile.{TallyRecord, owed, recordInRange, recordsInRange, serialAmount, deskRefusals, deskAnswer, reconciled}
 use Rattle.model.proofs.Step.{under-at, range, limits}
 use Rattle.reconcile.specs.Records.{tallyRecord}
 use Rattle.reconcile.specs.Serial.{share}
-use Rattle.reconcile.specs.Plain.{jobRecords, PlainAnswer}
+use Rattle.guarantees.specs.Calls.{jobRecords}
+use Rattle.guarantees.proofs.Demand3.{all-held}
 
 -- The first term of a sum apart.
 sum-first : {A : Type 0} (w : Adds A) (n : ℕ) (f : ℕ → A) → sum w (suc n) f ≡ w .plus (f 0) (sum w n (λ i. f (suc i)))
@@ -32,10 +33,10 @@ sum-first {A} w (suc n) f =
     ap (λ (x : A). w .plus x (f (suc n))) (sum-first w n f) ∙ w .assoc (f 0) (sum w n (λ i. f (suc i))) (f (suc n))
 
 -- The serial amount of n records is the sum of their shares.
-serial-sum : (ps : List ℕ) (g n : ℕ) (r : ℕ → TallyRecord) → serialAmount ps g (tabulate n r) ≡ sum amounts n (λ t. share ps g (r t))
-unfolding serialAmount tabulate sum amounts
+serial-sum : (ps : List ℕ) (g n : ℕ) (r : ℕ → TallyRecord) → serialAmount ps g (tabulate n r) ≡ sum integers n (λ t. share ps g (r t))
+unfolding serialAmount tabulate sum integers
 serial-sum ps g zero r = refl
-serial-sum ps g (suc n) r = ap (λ (z : ℤ). share ps g (r 0) +ℤ z) (serial-sum ps g n (λ i. r (suc i))) ∙ sym (sum-first amounts n (λ t. share ps g (r t)))
+serial-sum ps g (suc n) r = ap (λ (z : ℤ). share ps g (r 0) +ℤ z) (serial-sum ps g n (λ i. r (suc i))) ∙ sym (sum-first integers n (λ t. share ps g (r t)))
 
 -- Records that are in range one by one.
 each-in-range : (m n k : ℕ) (r : ℕ → TallyRecord) → ((t : ℕ) → t < k → recordInRange m n (r t) ≡ true) → recordsInRange m n (tabulate k r) ≡ true
@@ -87,20 +88,16 @@ module _ (f : JobTables) (ok : jobInRange f ≡ true) where
       all-each (ltb (j .tallyGrocer t) (f .grocers) ∷ ltb (j .tallyBox t) maxBoxes ∷ ltb (j .tallyOffer t) (f .offers) ∷ leb (natAbs (j .tallyCount t)) maxCount ∷ [])
       (lt-ltb _ _ (r .grocer< t l), (lt-ltb _ _ box, (lt-ltb _ _ (r .offer< t l), (le-leb _ _ (limits f ok .count≤ t), tt))))
 
-  held-all : (t : ℕ) → t < f .tallies → held j t ≡ true
-  unfolding held heldBy jobOf
-  held-all t l = and-true (eqb-same (j .tallyBox t)) (lt-ltb (j .tallyBox t) (f .boxes) (box< t l))
-
   -- A tally's share is its term of the plain sum.
-  term : (g t : ℕ) → t < f .tallies → share (f .price) g (tally t) ≡ only amounts (held j t && eqb (j .tallyGrocer t) g) (amount j (j .price (j .tallyOffer t)) t)
+  term : (g t : ℕ) → t < f .tallies → share (f .price) g (tally t) ≡ only integers (held j t && eqb (j .tallyGrocer t) g) (amount j (j .price (j .tallyOffer t)) t)
   unfolding amount jobOf
-  term g t l = rw (held-all t l, word-in (f .offers) (f .price) 0 (j .tallyOffer t) (range f ok .offer< t l))
+  term g t l = rw (all-held f ok t l, word-in (f .offers) (f .price) 0 (j .tallyOffer t) (range f ok .offer< t l))
 
   serial-plain : (g : ℕ) → serialAmount (f .price) g (jobRecords j) ≡ plainSum j g
   unfolding plainSum jobRecords jobOf
   serial-plain g =
       serial-sum (f .price) g (f .tallies) tally
-      ∙ sum-cong amounts (f .tallies) (λ t. share (f .price) g (tally t)) (λ t. only amounts (held j t && eqb (j .tallyGrocer t) g) (amount j (j .price (j .tallyOffer t)) t)) (term g)
+      ∙ sum-cong integers (f .tallies) (λ t. share (f .price) g (tally t)) (λ t. only integers (held j t && eqb (j .tallyGrocer t) g) (amount j (j .price (j .tallyOffer t)) t)) (term g)
 
   module _ (long : f .offers ≤ length (f .price)) (g : ℕ) (l : g < f .grocers) where
     in-range : Each true ((leb 1 (f .grocers) && leb (f .grocers) maxGrocers) ∷ (leb 1 (f .offers) && leb (f .offers) maxOffers) ∷ upTo maxPrice (f .offers) (f .price)
@@ -114,11 +111,7 @@ module _ (f : JobTables) (ok : jobInRange f ≡ true) where
     unfolding firstMet deskRefusals
     none-met = rw (le-ltb (length (f .price)) (f .offers) long, all-each _ in-range)
 
-    answers : reconciled (f .grocers) (f .offers) g (f .price) (jobRecords j) ≡ owed (plainSum j g)
+    -- Every grocer of a job in range is owed its plain sum.
+    pub answers : reconciled (f .grocers) (f .offers) g (f .price) (jobRecords j) ≡ owed (plainSum j g)
     unfolding reconciled deskAnswer
     answers = rw (none-met, serial-plain g)
-
--- Every grocer of a job in range is owed its plain sum.
-pub plain : (f : JobTables) → PlainAnswer f
-unfolding PlainAnswer
-plain f ok long g l = answers f ok long g l

@@ -1,0 +1,2 @@
+-- What `settle` prints.
+pub mod Printed

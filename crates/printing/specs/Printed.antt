@@ -1,0 +1,100 @@
+-- What `settle` prints for a job file, byte for byte.
+use mathlib.Core.Bool.{cond}
+use mathlib.Core.List.{List, [], _∷_, _++_}
+use Prim.Native.Nat.{ℕ, zero, suc, _+_, _/_, _%_}
+use lib.Dec.{ltb}
+use lib.IntN.{ℤ, pos, negsuc}
+use lib.ListN.{getD, replicate}
+use Rattle.model.specs.Tables.{JobTables, jobTables, StateTables, stateTables}
+use Rattle.model.specs.Run.{RunAnswer, finished, refused, ran}
+use Rattle.format.specs.File.{decode}
+use Rattle.format.specs.Tables.{ReadAnswer, sizes, refused as notRead, ReaderTables, fileTables, readerTables, readResult}
+
+-- The job's tables after the reader has read a file into the tables l: K, M, N and T as it answers them, the words it stored,
+-- and the places it found; no digits.
+unfoldable pub jobRead : List ℕ → ReaderTables → JobTables
+jobRead file l =
+    let j = decode file in
+    let r = readResult file l .tables in
+    jobTables (j .boxes) (j .grocers) (j .offers) (j .tallies) (r .job .price) (r .job .offerOwner) (r .job .grocerOwner)
+    (r .job .tallyGrocer) (r .job .tallyBox) (r .tallyOffer) (r .job .tallyCount)
+
+-- The last k decimal digits of n in ASCII; all of them, without leading zeros, where k are enough.
+unfoldable pub digitsOf : ℕ → ℕ → List ℕ
+digitsOf zero n = []
+digitsOf (suc k) n = cond (ltb n 10) ((48 + n) ∷ []) (digitsOf k (n / 10) ++ ((48 + n % 10) ∷ []))
+
+-- A number in decimal: n + 1 digits are enough for n.
+unfoldable pub decimal : ℕ → List ℕ
+decimal n = digitsOf (suc n) n
+
+-- An amount: negative ones with a minus sign.
+unfoldable pub signedDecimal : ℤ → List ℕ
+signedDecimal (pos n) = decimal n
+signedDecimal (negsuc n) = 45 ∷ decimal (suc n)
+
+-- A line: a name, a space, a value and the end of the line.
+unfoldable pub line : List ℕ → List ℕ → List ℕ
+line name value = name ++ (32 ∷ value) ++ (10 ∷ [])
+
+-- The lines of the first m grocers: number and amount in tenths of a cent.
+unfoldable pub grocerLines : ℕ → (ℕ → ℤ) → List ℕ
+grocerLines zero amount = []
+grocerLines (suc m) amount = grocerLines m amount ++ line (decimal m) (signedDecimal (amount m))
+
+-- The words of the output, in ASCII: "words",
+abbrev pub wordsName : List ℕ
+wordsName = 119 ∷ 111 ∷ 114 ∷ 100 ∷ 115 ∷ []
+
+-- "messages",
+abbrev pub messagesName : List ℕ
+messagesName = 109 ∷ 101 ∷ 115 ∷ 115 ∷ 97 ∷ 103 ∷ 101 ∷ 115 ∷ []
+
+-- "steps",
+abbrev pub stepsName : List ℕ
+stepsName = 115 ∷ 116 ∷ 101 ∷ 112 ∷ 115 ∷ []
+
+-- "refused".
+abbrev pub refusedName : List ℕ
+refusedName = 114 ∷ 101 ∷ 102 ∷ 117 ∷ 115 ∷ 101 ∷ 100 ∷ []
+
+-- A settled job: the grocers' lines, then the words and messages sent and the steps accepted.
+unfoldable pub settledText : (grocers : ℕ) → (amount : ℕ → ℤ) → (words messages steps : ℕ) → List ℕ
+settledText grocers amount words messages steps =
+    grocerLines grocers amount ++ line wordsName (decimal words) ++ line messagesName (decimal messages) ++ line stepsName (decimal steps)
+
+-- "one line of `refused`, a space and the number".
+unfoldable pub refusedText : ℕ → List ℕ
+refusedText n = line refusedName (decimal n)
+
+-- The buffers that settle lends the reader, as long as the largest job needs,
+unfoldable pub blankJob : ReaderTables
+blankJob =
+    readerTables
+    (fileTables (replicate 500 0) (replicate 500 0) (replicate 5_500 0) (replicate 255 0)
+    (replicate 1_000 0) (replicate 1_000 0) (replicate 11_000 0) (replicate 1_000 (pos 0)))
+    (replicate 1_000 0)
+
+-- and the run.
+unfoldable pub blankState : StateTables
+blankState =
+    stateTables (replicate 8_000 0) (replicate 8_000 0) (replicate 4_080 (pos 0)) (replicate 4_080 (pos 0))
+    (replicate 255 (pos 0)) (replicate 1_536 0) (replicate 1 0)
+
+-- What is printed of a run of m grocers, by its answer and the statements it leaves.
+unfoldable pub runText : ℕ → RunAnswer → List ℤ → List ℕ
+runText grocers (finished words messages steps) statement = settledText grocers (λ g. getD statement g (pos 0)) words messages steps
+runText grocers (refused number) statement = refusedText number
+
+-- What is printed of a job: the run with no choices.
+unfoldable pub jobText : JobTables → List ℕ
+jobText f = let o = ran f blankState [] in runText (f .grocers) (o .answer) (o .tables .statement)
+
+-- What is printed once a file is read.
+unfoldable pub readText : List ℕ → ReadAnswer → List ℕ
+readText file (sizes boxes grocers offers tallies) = jobText (jobRead file blankJob)
+readText file (notRead number) = refusedText number
+
+-- What `settle` prints: it "reads a job file from standard input, runs it with no choices and prints".
+unfoldable pub printed : List ℕ → List ℕ
+printed file = readText file (readResult file blankJob .answer)

@@ -1,0 +1,1 @@
+// What `settle` prints for a job file: definitions; this crate has no code.
