@@ -174,106 +174,6 @@ fn rest(
     counts
 }
 
-// All steps of a run, from the state that the tables hold, over entries that are linked.
-fn linked_steps(
-    boxes: u16,
-    grocers: u16,
-    offers: u16,
-    tallies: u16,
-    price: &[u32],
-    owner: &[u16],
-    gowner: &[u16],
-    tgrocer: &[u16],
-    tbox: &[u16],
-    toffer: &[u16],
-    tcount: &[i32],
-    needs: &[u16; 500],
-    sharers: &[u16; 255],
-    prices: &[[u16; 16]; 16],
-    totals: &[[u16; 16]; 16],
-    ofirst: &[u16; 16],
-    onext: &[u16; 500],
-    gfirst: &[u16; 16],
-    gnext: &[u16; 255],
-    tfirst: &[u16; 16],
-    tnext: &[u16; 1000],
-    known: &mut [u32],
-    ptransit: &mut [u32],
-    working: &mut [i64],
-    ttransit: &mut [i64],
-    statement: &mut [i64],
-    done: &mut [u16],
-    sent: &mut [u32],
-    choices: &[u16],
-) -> picks::Counts
-    requires { ⌜ Goes (jobTables boxes grocers offers tallies (now price) (now owner) (now gowner) (now tgrocer) (now tbox) (now toffer) (now tcount)) (stateTables (now known) (now ptransit) (now working) (now ttransit) (now statement) (now done) (now sent)) (now needs) (now sharers) (now prices) (now totals) (now choices) 0 0 ⌝ }
-    requires { ⌜ Links (jobTables boxes grocers offers tallies (now price) (now owner) (now gowner) (now tgrocer) (now tbox) (now toffer) (now tcount)) (now ofirst) (now onext) (now gfirst) (now gnext) (now tfirst) (now tnext) ⌝ }
-    ensures { λ r. ⌜ Ended (jobTables boxes grocers offers tallies (now (price .entry)) (now (owner .entry)) (now (gowner .entry)) (now (tgrocer .entry)) (now (tbox .entry)) (now (toffer .entry)) (now (tcount .entry))) (stateTables (now (known .entry)) (now (ptransit .entry)) (now (working .entry)) (now (ttransit .entry)) (now (statement .entry)) (now (done .entry)) (now (sent .entry))) (now (choices .entry)) 0 0 (stateTables (now (known .exit)) (now (ptransit .exit)) (now (working .exit)) (now (ttransit .exit)) (now (statement .exit)) (now (done .exit)) (now (sent .exit))) (r .messages) (r .steps) ⌝ }
-{
-    let first = chosen(
-        boxes,
-        grocers,
-        offers,
-        tallies,
-        price,
-        owner,
-        gowner,
-        tgrocer,
-        tbox,
-        toffer,
-        tcount,
-        needs,
-        sharers,
-        prices,
-        totals,
-        ofirst,
-        onext,
-        gfirst,
-        gnext,
-        tfirst,
-        tnext,
-        known,
-        ptransit,
-        working,
-        ttransit,
-        statement,
-        done,
-        sent,
-        choices,
-    );
-    rest(
-        boxes,
-        grocers,
-        offers,
-        tallies,
-        price,
-        owner,
-        gowner,
-        tgrocer,
-        tbox,
-        toffer,
-        tcount,
-        needs,
-        sharers,
-        prices,
-        totals,
-        ofirst,
-        onext,
-        gfirst,
-        gnext,
-        tfirst,
-        tnext,
-        known,
-        ptransit,
-        working,
-        ttransit,
-        statement,
-        done,
-        sent,
-        first,
-    )
-}
-
 // All steps of a run, from the state that the tables hold: offers, grocers and tallies are linked once.
 pub fn all_steps(
     boxes: u16,
@@ -312,7 +212,7 @@ pub fn all_steps(
     links::link(offers as usize, owner, &mut ofirst, &mut onext);
     links::link(grocers as usize, gowner, &mut gfirst, &mut gnext);
     links::link(tallies as usize, tbox, &mut tfirst, &mut tnext);
-    linked_steps(
+    let first = chosen(
         boxes,
         grocers,
         offers,
@@ -342,5 +242,36 @@ pub fn all_steps(
         done,
         sent,
         choices,
+    );
+    rest(
+        boxes,
+        grocers,
+        offers,
+        tallies,
+        price,
+        owner,
+        gowner,
+        tgrocer,
+        tbox,
+        toffer,
+        tcount,
+        needs,
+        sharers,
+        prices,
+        totals,
+        &ofirst,
+        &onext,
+        &gfirst,
+        &gnext,
+        &tfirst,
+        &tnext,
+        known,
+        ptransit,
+        working,
+        ttransit,
+        statement,
+        done,
+        sent,
+        first,
     )
 }
