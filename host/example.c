@@ -9,110 +9,59 @@
 #include <stdio.h>
 #include <string.h>
 
-#define WORDS(table) (sizeof(table) / sizeof(table)[0])
-
-struct job {
-    uint16_t boxes, grocers, offers, tallies;
-    uint32_t price[SETTLEMENT_MAX_OFFERS];
-    uint16_t offer_owner[SETTLEMENT_MAX_OFFERS];
-    uint8_t offer_code[SETTLEMENT_MAX_OFFER_CODES];
-    uint16_t grocer_owner[SETTLEMENT_MAX_GROCERS];
-    uint16_t tally_grocer[SETTLEMENT_MAX_TALLIES];
-    uint16_t tally_box[SETTLEMENT_MAX_TALLIES];
-    uint8_t tally_code[SETTLEMENT_MAX_TALLY_CODES];
-    int32_t tally_count[SETTLEMENT_MAX_TALLIES];
-    uint16_t tally_offer[SETTLEMENT_MAX_TALLIES];
-};
-
-struct state {
-    uint32_t known[SETTLEMENT_MAX_KNOWN];
-    uint32_t price_transit[SETTLEMENT_MAX_KNOWN];
-    int64_t working[SETTLEMENT_MAX_WORKING];
-    int64_t total_transit[SETTLEMENT_MAX_WORKING];
-    int64_t statement[SETTLEMENT_MAX_GROCERS];
-    uint16_t done[SETTLEMENT_MAX_DONE];
-    uint32_t sent[SETTLEMENT_SENT];
-};
-
 /* Words sent, messages and steps, as in a run's report. */
 enum { SENT, MESSAGES, STEPS };
 
-/* The arguments that a step and a run have in common. */
-#define LENT(j, s)                                                                                                     \
-    (j)->boxes, (j)->grocers, (j)->offers, (j)->tallies,                                                               \
-    (j)->price, WORDS((j)->price), (j)->offer_owner, WORDS((j)->offer_owner),                                          \
-    (j)->grocer_owner, WORDS((j)->grocer_owner), (j)->tally_grocer, WORDS((j)->tally_grocer),                          \
-    (j)->tally_box, WORDS((j)->tally_box), (j)->tally_offer, WORDS((j)->tally_offer),                                  \
-    (j)->tally_count, WORDS((j)->tally_count), (s)->known, WORDS((s)->known),                                          \
-    (s)->price_transit, WORDS((s)->price_transit), (s)->working, WORDS((s)->working),                                  \
-    (s)->total_transit, WORDS((s)->total_transit), (s)->statement, WORDS((s)->statement),                              \
-    (s)->done, WORDS((s)->done), (s)->sent, WORDS((s)->sent)
-
-static uint16_t read_job(const uint8_t *file, size_t length, struct job *j)
-{
-    uint16_t sizes[SETTLEMENT_SIZES] = {0};
-    uint16_t answer = settlement_read(
-        file, length, j->price, WORDS(j->price), j->offer_owner, WORDS(j->offer_owner),
-        j->offer_code, WORDS(j->offer_code), j->grocer_owner, WORDS(j->grocer_owner),
-        j->tally_grocer, WORDS(j->tally_grocer), j->tally_box, WORDS(j->tally_box),
-        j->tally_code, WORDS(j->tally_code), j->tally_count, WORDS(j->tally_count),
-        j->tally_offer, WORDS(j->tally_offer), sizes, WORDS(sizes));
-    j->boxes = sizes[0];
-    j->grocers = sizes[1];
-    j->offers = sizes[2];
-    j->tallies = sizes[3];
-    return answer;
-}
-
-/* A fresh state: own prices known, all else 0. */
-static void make_fresh(const struct job *j, struct state *s)
-{
-    memset(s, 0, sizeof *s);
-    for (size_t o = 0; o < j->offers; o++)
-        s->known[(size_t)j->offer_owner[o] * j->offers + o] = j->price[o];
-}
-
 /* Tries the steps of one kind, the last boxes first. Answers 0, or a refusal that no order of steps explains. */
-static uint16_t try_kind(const struct job *j, struct state *s, uint16_t kind, uint32_t report[SETTLEMENT_REPORT])
+static uint16_t try_kind(const struct settlement_job *j, struct settlement_state *s, uint16_t kind, uint32_t *report)
 {
     for (uint16_t first = j->boxes; first-- > 0;)
         for (uint16_t second = j->boxes; second-- > 0;) {
-            uint16_t answer = settlement_step(LENT(j, s), kind, first, second);
-            if (answer == 0) {
+            uint16_t answer = settlement_step_job(j, s, kind, first, second);
+            switch (answer) {
+            case SETTLEMENT_ACCEPTED:
                 report[STEPS]++;
-                report[MESSAGES] += kind == 1 || kind == 4;
-            } else if (answer < 23) {
+                report[MESSAGES] += kind == SETTLEMENT_SEND_PRICES || kind == SETTLEMENT_SEND_TOTALS;
+                break;
+            case SETTLEMENT_BAD_BOXES:     /* no step has these boxes, */
+            case SETTLEMENT_EMPTY_MESSAGE: /* the job has no such step, */
+            case SETTLEMENT_ALREADY_DONE:  /* it is behind us, */
+            case SETTLEMENT_NOT_READY:     /* or comes later */
+                break;
+            default:
                 return answer;
-            } /* 23 and 24: no such step; 25: done; 26: later */
+            }
         }
-    return 0;
+    return SETTLEMENT_ACCEPTED;
 }
 
-/* Rounds over all requests, those that receive last, until a round has none accepted. */
-static uint16_t settle_by_steps(const struct job *j, struct state *s, uint32_t report[SETTLEMENT_REPORT])
+/* Rounds over all requests, those that receive last. A round that has none accepted shows that all steps are done. */
+static uint16_t settle_by_steps(const struct settlement_job *j, struct settlement_state *s, uint32_t *report)
 {
-    static const uint16_t kinds[] = {1, 2, 4, 5, 3, 6};
+    static const uint16_t kinds[] = {SETTLEMENT_SEND_PRICES,    SETTLEMENT_MULTIPLY_OWN,   SETTLEMENT_SEND_TOTALS,
+                                     SETTLEMENT_ADD_OWN_TOTALS, SETTLEMENT_RECEIVE_PRICES, SETTLEMENT_RECEIVE_TOTALS};
     uint32_t before;
-    make_fresh(j, s);
+    settlement_make_fresh(j, s);
     do {
         before = report[STEPS];
-        for (size_t i = 0; i < WORDS(kinds); i++) {
+        for (size_t i = 0; i < sizeof kinds / sizeof kinds[0]; i++) {
             uint16_t answer = try_kind(j, s, kinds[i], report);
-            if (answer != 0)
+            if (answer != SETTLEMENT_ACCEPTED)
                 return answer;
         }
     } while (report[STEPS] != before);
     report[SENT] = s->sent[0];
-    return 0;
+    return SETTLEMENT_ACCEPTED;
 }
 
-static uint16_t settle_by_run(const struct job *j, struct state *s, uint32_t report[SETTLEMENT_REPORT])
+static uint16_t settle_by_run(const struct settlement_job *j, struct settlement_state *s, uint32_t *report)
 {
     static const uint16_t choices[1]; /* none is lent: the first ready step is taken each time */
-    return settlement_run(LENT(j, s), choices, 0, report, SETTLEMENT_REPORT);
+    return settlement_run_job(j, s, choices, 0, report);
 }
 
-static void print_settlement(const char *title, const struct job *j, const struct state *s, const uint32_t *report)
+static void print_settlement(const char *title, const struct settlement_job *j, const struct settlement_state *s,
+                             const uint32_t *report)
 {
     puts(title);
     for (size_t g = 0; g < j->grocers; g++)
@@ -131,15 +80,15 @@ static int refused(uint16_t answer)
 /* Both settlements of the job in a file, printed. */
 static int settle(const uint8_t *file, size_t length)
 {
-    static struct job job;
-    static struct state by_steps, by_run;
+    static struct settlement_job job;
+    static struct settlement_state by_steps, by_run;
     uint32_t steps_report[SETTLEMENT_REPORT] = {0}, run_report[SETTLEMENT_REPORT] = {0};
-    uint16_t answer = read_job(file, length, &job);
-    if (answer == 0)
+    uint16_t answer = settlement_read_job(file, length, &job);
+    if (answer == SETTLEMENT_ACCEPTED)
         answer = settle_by_steps(&job, &by_steps, steps_report);
-    if (answer == 0)
+    if (answer == SETTLEMENT_ACCEPTED)
         answer = settle_by_run(&job, &by_run, run_report);
-    if (answer != 0)
+    if (answer != SETTLEMENT_ACCEPTED)
         return refused(answer);
     print_settlement("by steps", &job, &by_steps, steps_report);
     print_settlement("by a run", &job, &by_run, run_report);

@@ -1,18 +1,27 @@
 /* Gaugelupin for C: the reader of job files, one step of a settlement, and a whole run. Link with libhost.a.
  *
+ * THE ARCHIVE
+ * libhost.a is for x86-64 Linux. It calls memcpy and memset of the C library, and no other function. It uses no heap
+ * and has no data of its own, and no call keeps a pointer: calls on different buffers may run at once. A call needs
+ * less than 32 KiB of stack.
+ *
  * BUFFERS
  * A lent table is a pointer and, after it, the number of its WORDS (not bytes; for uint8_t the two are one).
- * - Each pointer is real: not NULL, aligned for its type, readable (and writable where it is not const) for the
- *   number of words given, also where that number is 0.
+ * - Each pointer is real: aligned for its type, readable (and writable where it is not const) for the number of words
+ *   given.
+ * - NULL is not allowed, not with the number 0 either: what the call then does is undefined, since every call is proved
+ *   for real pointers alone. Where there is nothing to lend, lend any object of the type and the number 0.
  * - Buffers of one call do not overlap, also where they are only read.
+ * - During a call nobody else writes any of them, nor reads those that are not const: no other thread, no signal
+ *   handler, no other process through memory or a mapped file that it shares.
  * - More words than needed may be lent. Words of a table past its needed length are neither read nor written.
- * No call keeps a pointer, uses a heap or has data of its own: calls on different buffers may run at once. A call needs
- * less than 32 KiB of stack.
+ * Many neighbours in a call's list have one type, and no compiler sees two of them swapped: LENDING BY NAME, at the end
+ * of this file, has the lists written out once.
  *
  * ANSWERS
  * 0: accepted. Any other number is a refusal, the first condition met in the order that stands at each call;
  * a refused call has changed no word of any buffer. Every input has an answer: K, M, N, T, the request and all words
- * may be anything, as long as the buffers are as above.
+ * may be anything, as long as the buffers are as above. The numbers have names below, SETTLEMENT_ACCEPTED and so on.
  *
  * NUMBERS
  * Boxes, grocers, offers, tallies and places are numbered from 0. K boxes 1 to 16, M grocers 1 to 255, N offers 1 to
@@ -42,12 +51,26 @@
  *   sent          uint32_t    1      words sent so far, 0 to 1,000,000
  * A fresh state has the price of each offer known in the box that owns it (word offer_owner[o] N + o of known), and 0
  * in every other word.
+ *
+ * A SETTLEMENT BY STEPS
+ * It starts from a fresh state of a job in range, and from then on only settlement_step writes the state. The job has
+ * 2 K + 2 x (messages) steps. Each is accepted once, in any order in which it is ready; a refused request changes
+ * nothing and may be made again later. The settlement is finished when every step that the job has is done: then
+ * statement has the plain sums, and working, price_transit and total_transit have 0 alone. Until then some step is
+ * ready. So a host knows that it is finished
+ * - by asking: it has asked for every kind 1 to 6 with every first and second below K, no table lent short, and none
+ *   was accepted. Each was then answered 23, 24 or 25, and none 26.
+ * - or by counting: as many requests were accepted as settlement_run says in report[2] for the same job, whatever its
+ *   choices, on a state of its own.
+ * The marks in done do not tell it alone, since they do not say which steps the job has; 24 does.
+ * host/example.c asks for all steps, round after round, until a round has none accepted; then it compares with a run.
  */
 #ifndef SETTLEMENT_H
 #define SETTLEMENT_H
 
 #include <stddef.h>
 #include <stdint.h>
+#include <string.h>
 
 /* The largest job. */
 #define SETTLEMENT_MAX_BOXES 16
@@ -70,6 +93,32 @@
 /* Words of `sizes` (K, M, N, T) and of `report` (words sent, messages, steps). */
 #define SETTLEMENT_SIZES 4
 #define SETTLEMENT_REPORT 3
+
+/* Answers: accepted, or what is refused. */
+#define SETTLEMENT_ACCEPTED 0
+#define SETTLEMENT_BAD_LENGTH 1     /* of the file: empty, not of whole blocks, too long, or not as its header says */
+#define SETTLEMENT_DAMAGED 2        /* the sums of a block differ from those stored */
+#define SETTLEMENT_NOT_DUE 3        /* kind, block number or record count of a block */
+#define SETTLEMENT_BAD_HEADER 4     /* byte 5, K, M, N or T of the header */
+#define SETTLEMENT_SPARE_BYTE 5     /* a spare byte is not 0 */
+#define SETTLEMENT_BAD_FIELD 6      /* of a record */
+#define SETTLEMENT_SHARED_NUMBER 7  /* of two offers */
+#define SETTLEMENT_UNKNOWN_CODE 8   /* of a tally */
+#define SETTLEMENT_SHORT 20         /* a lent table */
+#define SETTLEMENT_OUT_OF_RANGE 21  /* K, M, N, T or a word of a table, or a word that the step would leave */
+#define SETTLEMENT_BAD_KIND 22      /* not 1 to 6 */
+#define SETTLEMENT_BAD_BOXES 23     /* not below K, or equal where they must differ, or the reverse */
+#define SETTLEMENT_EMPTY_MESSAGE 24 /* the job has no such step */
+#define SETTLEMENT_ALREADY_DONE 25  /* the step */
+#define SETTLEMENT_NOT_READY 26     /* the step: other steps come before it */
+
+/* Kinds of steps. */
+#define SETTLEMENT_SEND_PRICES 1
+#define SETTLEMENT_MULTIPLY_OWN 2
+#define SETTLEMENT_RECEIVE_PRICES 3
+#define SETTLEMENT_SEND_TOTALS 4
+#define SETTLEMENT_ADD_OWN_TOTALS 5
+#define SETTLEMENT_RECEIVE_TOTALS 6
 
 #ifdef __cplusplus
 extern "C" {
@@ -190,5 +239,90 @@ uint16_t settlement_run(
 #ifdef __cplusplus
 }
 #endif
+
+/* LENDING BY NAME
+ * Two structs with the tables of the largest job, and the three calls on them: each table stands in its place once,
+ * here, and is lent whole. A host need not use any of this. It is plain C, which nothing proves.
+ *
+ * A job has about 30,000 bytes and a state 134,000: they belong in static memory or on the heap, not on a small stack.
+ * SETTLEMENT_READ_INTO and SETTLEMENT_LENT take other structs as well, with more members or, for a step and a run, with
+ * smaller tables, as long as these are arrays with the names below, and not pointers.
+ */
+struct settlement_job {
+    uint16_t boxes, grocers, offers, tallies; /* K, M, N, T */
+    uint32_t price[SETTLEMENT_MAX_OFFERS];
+    uint16_t offer_owner[SETTLEMENT_MAX_OFFERS];
+    uint8_t offer_code[SETTLEMENT_MAX_OFFER_CODES];
+    uint16_t grocer_owner[SETTLEMENT_MAX_GROCERS];
+    uint16_t tally_grocer[SETTLEMENT_MAX_TALLIES];
+    uint16_t tally_box[SETTLEMENT_MAX_TALLIES];
+    uint8_t tally_code[SETTLEMENT_MAX_TALLY_CODES];
+    int32_t tally_count[SETTLEMENT_MAX_TALLIES];
+    uint16_t tally_offer[SETTLEMENT_MAX_TALLIES];
+};
+
+struct settlement_state {
+    uint32_t known[SETTLEMENT_MAX_KNOWN];
+    uint32_t price_transit[SETTLEMENT_MAX_KNOWN];
+    int64_t working[SETTLEMENT_MAX_WORKING];
+    int64_t total_transit[SETTLEMENT_MAX_WORKING];
+    int64_t statement[SETTLEMENT_MAX_GROCERS];
+    uint16_t done[SETTLEMENT_MAX_DONE];
+    uint32_t sent[SETTLEMENT_SENT];
+};
+
+/* A table that is an array, and the number of its words. */
+#define SETTLEMENT_TABLE(array) (array), sizeof(array) / sizeof(array)[0]
+
+/* The arguments of settlement_read between the file and sizes; j points to a job. */
+#define SETTLEMENT_READ_INTO(j)                                                                                        \
+    SETTLEMENT_TABLE((j)->price), SETTLEMENT_TABLE((j)->offer_owner), SETTLEMENT_TABLE((j)->offer_code),               \
+    SETTLEMENT_TABLE((j)->grocer_owner), SETTLEMENT_TABLE((j)->tally_grocer), SETTLEMENT_TABLE((j)->tally_box),        \
+    SETTLEMENT_TABLE((j)->tally_code), SETTLEMENT_TABLE((j)->tally_count), SETTLEMENT_TABLE((j)->tally_offer)
+
+/* The arguments that settlement_step and settlement_run begin with; j points to a job, s to a state. */
+#define SETTLEMENT_LENT(j, s)                                                                                          \
+    (j)->boxes, (j)->grocers, (j)->offers, (j)->tallies,                                                               \
+    SETTLEMENT_TABLE((j)->price), SETTLEMENT_TABLE((j)->offer_owner), SETTLEMENT_TABLE((j)->grocer_owner),             \
+    SETTLEMENT_TABLE((j)->tally_grocer), SETTLEMENT_TABLE((j)->tally_box), SETTLEMENT_TABLE((j)->tally_offer),         \
+    SETTLEMENT_TABLE((j)->tally_count), SETTLEMENT_TABLE((s)->known), SETTLEMENT_TABLE((s)->price_transit),            \
+    SETTLEMENT_TABLE((s)->working), SETTLEMENT_TABLE((s)->total_transit), SETTLEMENT_TABLE((s)->statement),            \
+    SETTLEMENT_TABLE((s)->done), SETTLEMENT_TABLE((s)->sent)
+
+/* settlement_read into a job, its sizes too; a refusal leaves the job as it was. */
+static inline uint16_t settlement_read_job(const uint8_t *file, size_t file_len, struct settlement_job *job)
+{
+    uint16_t sizes[SETTLEMENT_SIZES] = {0};
+    uint16_t answer = settlement_read(file, file_len, SETTLEMENT_READ_INTO(job), SETTLEMENT_TABLE(sizes));
+    if (answer == SETTLEMENT_ACCEPTED) {
+        job->boxes = sizes[0];
+        job->grocers = sizes[1];
+        job->offers = sizes[2];
+        job->tallies = sizes[3];
+    }
+    return answer;
+}
+
+/* The fresh state of a job that settlement_read_job has accepted. */
+static inline void settlement_make_fresh(const struct settlement_job *job, struct settlement_state *state)
+{
+    memset(state, 0, sizeof *state);
+    for (size_t o = 0; o < job->offers; o++)
+        state->known[(size_t)job->offer_owner[o] * job->offers + o] = job->price[o];
+}
+
+/* settlement_step on a job and a state. */
+static inline uint16_t settlement_step_job(const struct settlement_job *job, struct settlement_state *state,
+                                           uint16_t kind, uint16_t first, uint16_t second)
+{
+    return settlement_step(SETTLEMENT_LENT(job, state), kind, first, second);
+}
+
+/* settlement_run on a job and a state; report has SETTLEMENT_REPORT words. */
+static inline uint16_t settlement_run_job(const struct settlement_job *job, struct settlement_state *state,
+                                          const uint16_t *choices, size_t choices_len, uint32_t *report)
+{
+    return settlement_run(SETTLEMENT_LENT(job, state), choices, choices_len, report, SETTLEMENT_REPORT);
+}
 
 #endif

@@ -1,0 +1,154 @@
+/* Lending by name: three calls in the library's place see that each table of the structs comes to its own parameter,
+   whole, and that what they answer comes back. The last line is 'N passed, M failed'. */
+#include "settlement.h"
+
+#include <stdio.h>
+
+static struct settlement_job job;
+static struct settlement_state state;
+static const uint8_t file[5];
+static const uint16_t choices[7];
+static uint32_t report[SETTLEMENT_REPORT];
+
+static unsigned passed, failed;
+static uint16_t next_answer;
+
+static void expect(int holds, const char *what)
+{
+    if (holds) {
+        passed++;
+        return;
+    }
+    failed++;
+    printf("failed: %s\n", what);
+}
+
+#define EXPECT(holds) expect(holds, #holds)
+
+/* The parameter has a name of the header, and so has the member; its length is that of the largest job. */
+#define IS_LENT(owner, table, words) expect(table == (owner).table && table##_len == (words), "lent: " #table)
+
+static void expect_job(const uint32_t *price, size_t price_len, const uint16_t *offer_owner, size_t offer_owner_len,
+                       const uint16_t *grocer_owner, size_t grocer_owner_len, const uint16_t *tally_grocer,
+                       size_t tally_grocer_len, const uint16_t *tally_box, size_t tally_box_len,
+                       const uint16_t *tally_offer, size_t tally_offer_len, const int32_t *tally_count,
+                       size_t tally_count_len)
+{
+    IS_LENT(job, price, 500);
+    IS_LENT(job, offer_owner, 500);
+    IS_LENT(job, grocer_owner, 255);
+    IS_LENT(job, tally_grocer, 1000);
+    IS_LENT(job, tally_box, 1000);
+    IS_LENT(job, tally_offer, 1000);
+    IS_LENT(job, tally_count, 1000);
+}
+
+static void expect_state(uint32_t *known, size_t known_len, uint32_t *price_transit, size_t price_transit_len,
+                         int64_t *working, size_t working_len, int64_t *total_transit, size_t total_transit_len,
+                         int64_t *statement, size_t statement_len, uint16_t *done, size_t done_len, uint32_t *sent,
+                         size_t sent_len)
+{
+    IS_LENT(state, known, 16 * 500);
+    IS_LENT(state, price_transit, 16 * 500);
+    IS_LENT(state, working, 16 * 255);
+    IS_LENT(state, total_transit, 16 * 255);
+    IS_LENT(state, statement, 255);
+    IS_LENT(state, done, 6 * 16 * 16);
+    IS_LENT(state, sent, 1);
+}
+
+uint16_t settlement_read(
+    const uint8_t *file_, size_t file_len,
+    uint32_t *price, size_t price_len,
+    uint16_t *offer_owner, size_t offer_owner_len,
+    uint8_t *offer_code, size_t offer_code_len,
+    uint16_t *grocer_owner, size_t grocer_owner_len,
+    uint16_t *tally_grocer, size_t tally_grocer_len,
+    uint16_t *tally_box, size_t tally_box_len,
+    uint8_t *tally_code, size_t tally_code_len,
+    int32_t *tally_count, size_t tally_count_len,
+    uint16_t *tally_offer, size_t tally_offer_len,
+    uint16_t *sizes, size_t sizes_len)
+{
+    EXPECT(file_ == file && file_len == 5);
+    expect_job(price, price_len, offer_owner, offer_owner_len, grocer_owner, grocer_owner_len, tally_grocer,
+               tally_grocer_len, tally_box, tally_box_len, tally_offer, tally_offer_len, tally_count, tally_count_len);
+    IS_LENT(job, offer_code, 11 * 500);
+    IS_LENT(job, tally_code, 11 * 1000);
+    EXPECT(sizes_len == 4);
+    if (next_answer == SETTLEMENT_ACCEPTED)
+        for (uint16_t i = 0; i < 4; i++)
+            sizes[i] = (uint16_t)(i + 11);
+    return next_answer;
+}
+
+uint16_t settlement_step(
+    uint16_t boxes, uint16_t grocers, uint16_t offers, uint16_t tallies,
+    const uint32_t *price, size_t price_len,
+    const uint16_t *offer_owner, size_t offer_owner_len,
+    const uint16_t *grocer_owner, size_t grocer_owner_len,
+    const uint16_t *tally_grocer, size_t tally_grocer_len,
+    const uint16_t *tally_box, size_t tally_box_len,
+    const uint16_t *tally_offer, size_t tally_offer_len,
+    const int32_t *tally_count, size_t tally_count_len,
+    uint32_t *known, size_t known_len,
+    uint32_t *price_transit, size_t price_transit_len,
+    int64_t *working, size_t working_len,
+    int64_t *total_transit, size_t total_transit_len,
+    int64_t *statement, size_t statement_len,
+    uint16_t *done, size_t done_len,
+    uint32_t *sent, size_t sent_len,
+    uint16_t kind, uint16_t first, uint16_t second)
+{
+    EXPECT(boxes == 11 && grocers == 12 && offers == 13 && tallies == 14);
+    expect_job(price, price_len, offer_owner, offer_owner_len, grocer_owner, grocer_owner_len, tally_grocer,
+               tally_grocer_len, tally_box, tally_box_len, tally_offer, tally_offer_len, tally_count, tally_count_len);
+    expect_state(known, known_len, price_transit, price_transit_len, working, working_len, total_transit,
+                 total_transit_len, statement, statement_len, done, done_len, sent, sent_len);
+    EXPECT(kind == 3 && first == 1 && second == 2);
+    return next_answer;
+}
+
+uint16_t settlement_run(
+    uint16_t boxes, uint16_t grocers, uint16_t offers, uint16_t tallies,
+    const uint32_t *price, size_t price_len,
+    const uint16_t *offer_owner, size_t offer_owner_len,
+    const uint16_t *grocer_owner, size_t grocer_owner_len,
+    const uint16_t *tally_grocer, size_t tally_grocer_len,
+    const uint16_t *tally_box, size_t tally_box_len,
+    const uint16_t *tally_offer, size_t tally_offer_len,
+    const int32_t *tally_count, size_t tally_count_len,
+    uint32_t *known, size_t known_len,
+    uint32_t *price_transit, size_t price_transit_len,
+    int64_t *working, size_t working_len,
+    int64_t *total_transit, size_t total_transit_len,
+    int64_t *statement, size_t statement_len,
+    uint16_t *done, size_t done_len,
+    uint32_t *sent, size_t sent_len,
+    const uint16_t *choices_, size_t choices_len,
+    uint32_t *report_, size_t report_len)
+{
+    EXPECT(boxes == 11 && grocers == 12 && offers == 13 && tallies == 14);
+    expect_job(price, price_len, offer_owner, offer_owner_len, grocer_owner, grocer_owner_len, tally_grocer,
+               tally_grocer_len, tally_box, tally_box_len, tally_offer, tally_offer_len, tally_count, tally_count_len);
+    expect_state(known, known_len, price_transit, price_transit_len, working, working_len, total_transit,
+                 total_transit_len, statement, statement_len, done, done_len, sent, sent_len);
+    EXPECT(choices_ == choices && choices_len == 7 && report_ == report && report_len == 3);
+    return next_answer;
+}
+
+int main(void)
+{
+    next_answer = SETTLEMENT_DAMAGED;
+    EXPECT(settlement_read_job(file, sizeof file, &job) == SETTLEMENT_DAMAGED);
+    EXPECT(job.boxes == 0 && job.grocers == 0 && job.offers == 0 && job.tallies == 0);
+    next_answer = SETTLEMENT_ACCEPTED;
+    EXPECT(settlement_read_job(file, sizeof file, &job) == SETTLEMENT_ACCEPTED);
+    EXPECT(job.boxes == 11 && job.grocers == 12 && job.offers == 13 && job.tallies == 14);
+    next_answer = SETTLEMENT_NOT_READY;
+    EXPECT(settlement_step_job(&job, &state, 3, 1, 2) == SETTLEMENT_NOT_READY);
+    next_answer = SETTLEMENT_OUT_OF_RANGE;
+    EXPECT(settlement_run_job(&job, &state, choices, 7, report) == SETTLEMENT_OUT_OF_RANGE);
+    printf("%u passed, %u failed\n", passed, failed);
+    return failed != 0;
+}
