@@ -1,14 +1,14 @@
--- `bench_reconcile` gives what the desk gives for the records whose fields are lent. Assumes nothing.
+-- `entries_reconcile` gives what the desk gives for the records whose fields are lent. Assumes nothing.
 use denote.Ref.{now}
-use Rattle.bench_entries.specs.Entries.{shortFields}
-use Rattle.bench_entries.proofs.Fields.{fields-whole, told-short, told-whole}
+use Rattle.entries.specs.Entries.{shortFields}
+use Rattle.entries.proofs.Fields.{fields-whole, told-short, told-whole}
 use borrow.Author.Needs.{needs}
-use Rattle.bench_entries.proofs.bench_reconcile.Statement.{statement}
-use Rattle.bench_entries.proofs.bench_reconcile.Tie as tie
-use Rattle.bench_entries.proofs.bench_reconcile.Reads as reads
-use Rattle.bench_entries.proofs.bench_reconcile.Lts as lts
-use Rattle.bench_entries.proofs.records.Reads as records-reads
-use Rattle.bench_entries.proofs.tell.Reads as tell-reads
+use Rattle.entries.proofs.entries_reconcile.Statement.{statement}
+use Rattle.entries.proofs.entries_reconcile.Tie as tie
+use Rattle.entries.proofs.entries_reconcile.Reads as reads
+use Rattle.entries.proofs.entries_reconcile.Lts as lts
+use Rattle.entries.proofs.records.Reads as records-reads
+use Rattle.entries.proofs.tell.Reads as tell-reads
 use Rattle.reconcile.proofs.reconcile_few.Reads as reconcile-few-reads
 
 returns : tie.Need-returns
@@ -19,7 +19,7 @@ records-requires : tie.Need-records-requires
 unfolding shortFields
 records-requires c κs =
     let x = c .before .before .before .before .before .args in
-    let w = fields-whole (now (x .grocer)) (now (x .tbox)) (now (x .place)) (now (x .count)) (now (x .owed)) (c .if1 .left) in
+    let w = fields-whole (now (x .tally-grocer)) (now (x .tally-box)) (now (x .tally-offer)) (now (x .tally-count)) (now (x .owed)) (c .if1 .left) in
     (w .0, w .1)
 
 reconcile-few-requires : tie.Need-reconcile-few-requires
@@ -30,7 +30,7 @@ unfolding shortFields
 tell-requires c κs =
     let k = c .before .before .before in
     let x = k .before .before .before .before .before .args in
-    fields-whole (now (x .grocer)) (now (x .tbox)) (now (x .place)) (now (x .count)) (now (x .owed)) (k .if1 .left) .2
+    fields-whole (now (x .tally-grocer)) (now (x .tally-box)) (now (x .tally-offer)) (now (x .tally-count)) (now (x .owed)) (k .if1 .left) .2
 
 same-length : tie.Need-same-length
 same-length c = search needs
@@ -42,7 +42,7 @@ returns-2 c =
     let k = b .before .before .before .before in
     told-whole _ _ _ _ _ _ _ _ _ _ _ _ _ (k .if1 .left) (b .tell .ensures) (b .before .before .«reconcile-few» .ensures) (b .before .before .before .records .ensures)
 
-pub bench-reconcile-spec : {M : Type 1} → statement M
-bench-reconcile-spec =
+pub entries-reconcile-spec : {M : Type 1} → statement M
+entries-reconcile-spec =
     tie.close
     (tie.spec returns records-requires reconcile-few-requires tell-requires same-length returns-2)

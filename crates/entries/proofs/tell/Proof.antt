@@ -1,13 +1,13 @@
 -- `tell` puts an amount into the lent word, and says the number of a refusal. Assumes nothing.
 use Rattle.laws.proofs.Signed.{read64}
 use Rattle.reconcile.specs.Records.{answerOf}
-use Rattle.bench_entries.specs.Entries.{toldAs}
-use Rattle.bench_entries.proofs.Fields.{put-one, told-amount}
+use Rattle.entries.specs.Entries.{toldAs}
+use Rattle.entries.proofs.Fields.{put-one, told-amount}
 use borrow.Author.Needs.{needs}
-use Rattle.bench_entries.proofs.tell.Statement.{statement}
-use Rattle.bench_entries.proofs.tell.Tie as tie
-use Rattle.bench_entries.proofs.tell.Reads as reads
-use Rattle.bench_entries.proofs.tell.Lts as lts
+use Rattle.entries.proofs.tell.Statement.{statement}
+use Rattle.entries.proofs.tell.Tie as tie
+use Rattle.entries.proofs.tell.Reads as reads
+use Rattle.entries.proofs.tell.Lts as lts
 
 enum-known-a : tie.Need-enum-known-a
 enum-known-a c = search needs

@@ -1,10 +1,10 @@
 -- `number` says the number that the writer's answer holds.
 use borrow.Author.Needs.{needs}
-use Rattle.bench_entries.specs.Entries.{writeNumber}
-use Rattle.bench_entries.proofs.number.Statement.{statement}
-use Rattle.bench_entries.proofs.number.Tie as tie
-use Rattle.bench_entries.proofs.number.Reads as reads
-use Rattle.bench_entries.proofs.number.Lts as lts
+use Rattle.entries.specs.Entries.{writeNumber}
+use Rattle.entries.proofs.number.Statement.{statement}
+use Rattle.entries.proofs.number.Tie as tie
+use Rattle.entries.proofs.number.Reads as reads
+use Rattle.entries.proofs.number.Lts as lts
 
 enum-known-a : tie.Need-enum-known-a
 enum-known-a c = search needs

@@ -1,4 +1,4 @@
--- What the benchmark's entry points give: a number for the answer, and the lent words.
+-- What the entry points of the writer and the reconciliation give: a number for the answer, and the lent words.
 use Prim.Native.Nat.{ℕ, _≤_, _<_}
 use mathlib.Core.Bool.{Bool, cond}
 use mathlib.Core.List.{List, [], _∷_}

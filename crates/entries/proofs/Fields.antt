@@ -18,7 +18,7 @@ use Rattle.reconcile.specs.Records.{recordOf, recordsOf, answerOf}
 use Rattle.reconcile.specs.declared.Answer.{Answer}
 use Rattle.reconcile.specs.declared.Answer.the-variants.{Owed}
 use Rattle.reconcile.specs.declared.Tally.{Tally}
-use Rattle.bench_entries.specs.Entries.{Fields, lentTally, lentRecords, shortFields, told, toldAs, toldBy}
+use Rattle.entries.specs.Entries.{Fields, lentTally, lentRecords, shortFields, told, toldAs, toldBy}
 
 -- A record of zeros.
 abbrev pub blank : Tally

@@ -6,13 +6,13 @@ use lib.ListN.{length, take, length-set}
 use borrow.Author.Needs.{needs}
 use denote.Ref.{now}
 use Rattle.reconcile.specs.Records.{recordsOf}
-use Rattle.bench_entries.specs.Entries.{lentTally, lentRecords}
-use Rattle.bench_entries.proofs.Fields.{Filled, filled-more, filled-all}
-use Rattle.bench_entries.proofs.records.Statement.{statement}
-use Rattle.bench_entries.proofs.records.Tie as tie
-use Rattle.bench_entries.proofs.records.Reads as reads
-use Rattle.bench_entries.proofs.records.Lts as lts
-use Rattle.bench_entries.proofs.tally.Reads as tally-reads
+use Rattle.entries.specs.Entries.{lentTally, lentRecords}
+use Rattle.entries.proofs.Fields.{Filled, filled-more, filled-all}
+use Rattle.entries.proofs.records.Statement.{statement}
+use Rattle.entries.proofs.records.Tie as tie
+use Rattle.entries.proofs.records.Reads as reads
+use Rattle.entries.proofs.records.Lts as lts
+use Rattle.entries.proofs.tally.Reads as tally-reads
 
 abbrev Inv-loop : tie.InvT-loop
 Inv-loop grocer tbox place count n list₀ i₀ list i = (i ≤ n) × (length list ≡ 1024) × Filled (lentTally grocer tbox place count) list i
@@ -47,7 +47,7 @@ loop-again c =
     let inv = e .before .loop .inv in (
       omega (arith, e .loop-test .taken),
       length-set list i _ ∙ inv .1,
-      filled-more (lentTally (now (s .args .grocer)) (now (s .args .tbox)) (now (s .args .place)) (now (s .args .count))) list i (c .tally .result)
+      filled-more (lentTally (now (s .args .tally-grocer)) (now (s .args .tally-box)) (now (s .args .tally-offer)) (now (s .args .tally-count))) list i (c .tally .result)
           (omega (arith, inv .1, e .loop-test .taken, s .pre .0)) (c .tally .ensures) (inv .2),
     )
 
@@ -56,8 +56,8 @@ returns c =
     let b = c .before in
     let s = b .before .before .before .before in
     let inv = b .loop .inv in
-    let e : b .loop .i ≡ length (now (s .args .grocer)) = omega arith in
-    filled-all (now (s .args .grocer)) (now (s .args .tbox)) (now (s .args .place)) (now (s .args .count)) _ (b .loop .list)
+    let e : b .loop .i ≡ length (now (s .args .tally-grocer)) = omega arith in
+    filled-all (now (s .args .tally-grocer)) (now (s .args .tally-box)) (now (s .args .tally-offer)) (now (s .args .tally-count)) _ (b .loop .list)
     (omega (arith, inv .1, s .pre .0)) (rw e at (inv .2))
 
 pub records-spec : {M : Type 1} → statement M

@@ -1,11 +1,11 @@
 -- `tally` is record i of those lent. Assumes nothing.
 use Rattle.laws.proofs.Signed.{read32}
-use Rattle.bench_entries.specs.Entries.{lentTally}
+use Rattle.entries.specs.Entries.{lentTally}
 use borrow.Author.Needs.{needs}
-use Rattle.bench_entries.proofs.tally.Statement.{statement}
-use Rattle.bench_entries.proofs.tally.Tie as tie
-use Rattle.bench_entries.proofs.tally.Reads as reads
-use Rattle.bench_entries.proofs.tally.Lts as lts
+use Rattle.entries.proofs.tally.Statement.{statement}
+use Rattle.entries.proofs.tally.Tie as tie
+use Rattle.entries.proofs.tally.Reads as reads
+use Rattle.entries.proofs.tally.Lts as lts
 
 mul-t6 : tie.Need-mul-t6
 mul-t6 c = search needs
