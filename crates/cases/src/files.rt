@@ -1,10 +1,10 @@
 // Files read and settled: the lines of `settle`.
 ghost use Prim.Native.Nat.{_≤_};
-use evening::job::small_file;
-use evening::patch::put_code;
-use evening::patch::seal;
-use evening::patch::set;
-use evening::patch::set32;
+use small_job::job::small_file;
+use small_job::patch::put_code;
+use small_job::patch::seal;
+use small_job::patch::set;
+use small_job::patch::set32;
 
 // A name, and behind it what `settle` prints for a file.
 fn settle(name: &[u8], f: &[u8; 2048]) {
@@ -16,7 +16,7 @@ fn settle(name: &[u8], f: &[u8; 2048]) {
 }
 
 // E.
-pub fn small_evening() {
+pub fn sample() {
     settle(b"E", &small_file());
 }
 

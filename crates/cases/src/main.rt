@@ -6,7 +6,7 @@ mod sums;
 mod words;
 
 fn main() {
-    files::small_evening();
+    files::sample();
     sums::plain_sums();
     files::codes();
     files::fields();

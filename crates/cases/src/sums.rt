@@ -1,6 +1,6 @@
 // E's statements by a second sum: a price is added as often as the count says, credits and corrections apart.
-use evening::job::Job;
-use evening::job::small;
+use small_job::job::Job;
+use small_job::job::small;
 use std::num::wrapping_add_u64;
 use std::num::wrapping_sub_u64;
 

@@ -1,5 +1,5 @@
 // The tables of messages of E by value, and their sums.
-use evening::job::small;
+use small_job::job::small;
 use show::wide32;
 use tables::messages::column_sum;
 use tables::messages::message_tables;
