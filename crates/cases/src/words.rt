@@ -1,6 +1,6 @@
 // The tables of messages of E by value, and their sums.
-use small_job::job::small;
 use show::wide32;
+use small_job::job::small;
 use tables::messages::column_sum;
 use tables::messages::message_tables;
 use tables::messages::row_sum;
