@@ -59,13 +59,15 @@ static void boxes_and_sizes(void)
         struct sizes sizes;
         uint16_t box, due;
     } tried[] = {
-        {{2, 2, 2, 4}, 2, 23}, {{2, 2, 2, 4}, 65535, 23}, {{2, 3, 2, 4}, 0, 20}, {{2, 2, 3, 4}, 0, 20}, {{2, 2, 2, 5}, 0, 20},
-        {{0, 2, 2, 4}, 0, 21}, {{2, 0, 2, 4}, 0, 21},     {{2, 2, 0, 4}, 0, 21}, {{1, 2, 2, 4}, 0, 21},
+        {{2, 2, 2, 4}, 2, 23}, {{2, 2, 2, 4}, 65535, 23}, {{2, 3, 2, 4}, 0, 20},
+        {{2, 2, 3, 4}, 0, 20}, {{2, 2, 2, 5}, 0, 20},     {{0, 2, 2, 4}, 0, 21},
+        {{2, 0, 2, 4}, 0, 21}, {{2, 2, 0, 4}, 0, 21},     {{1, 2, 2, 4}, 0, 21},
     };
     for (size_t i = 0; i < sizeof tried / sizeof tried[0]; i++) {
         struct sizes sizes = tried[i].sizes;
         open_sample(0);
-        at_case("K %u, M %u, N %u, T %u, box %u", sizes.boxes, sizes.grocers, sizes.offers, sizes.tallies, tried[i].box);
+        at_case("K %u, M %u, N %u, T %u, box %u", sizes.boxes, sizes.grocers, sizes.offers, sizes.tallies,
+                tried[i].box);
         expect_book(sizes, tried[i].box, tried[i].due);
         close_calling(&calling);
     }
@@ -120,7 +122,8 @@ static void sizes_out_of_range(void)
     for (size_t i = 0; i < sizeof tried / sizeof tried[0]; i++) {
         struct sizes sizes = tried[i].sizes;
         open_zeros(&calling, (struct sizes){17, 256, 501, 1001});
-        at_case("K %u, M %u, N %u, T %u, box %u", sizes.boxes, sizes.grocers, sizes.offers, sizes.tallies, tried[i].box);
+        at_case("K %u, M %u, N %u, T %u, box %u", sizes.boxes, sizes.grocers, sizes.offers, sizes.tallies,
+                tried[i].box);
         expect_book(sizes, tried[i].box, tried[i].due);
         if (!tried[i].due) expect_words(&calling, NUMBERS, tried[i].numbers, 3);
         close_calling(&calling);

@@ -56,7 +56,10 @@ void make_fault(struct calling *calling, enum table_name name, enum fault fault)
     struct sizes sizes = calling->job.sizes;
     struct range range = range_of(name, sizes);
     size_t last = words_of(name, sizes) - 1;
-    at_case("%s %s", table_text(name), fault == SHORT ? "short" : fault == ABOVE ? "above its range" : "below its range");
+    at_case("%s %s", table_text(name),
+            fault == SHORT   ? "short"
+            : fault == ABOVE ? "above its range"
+                             : "below its range");
     if (fault == SHORT)
         calling->lending.lend[name] = last;
     else
@@ -66,8 +69,8 @@ void make_fault(struct calling *calling, enum table_name name, enum fault fault)
 void expect_words(const struct calling *calling, enum table_name name, const int64_t due[], size_t length)
 {
     for (size_t place = 0; place < length; place++)
-        expect(word_of(calling, name, place) == due[place], "%s[%zu] is %lld, the case says %lld", table_text(name), place,
-               (long long)word_of(calling, name, place), (long long)due[place]);
+        expect(word_of(calling, name, place) == due[place], "%s[%zu] is %lld, the case says %lld", table_text(name),
+               place, (long long)word_of(calling, name, place), (long long)due[place]);
 }
 
 void spread_job(struct job *job)
@@ -155,8 +158,8 @@ uint16_t ask_book(struct calling *calling, struct sizes sizes, uint16_t box)
     }
     hand_over(&calling->lending, lent);
     uint16_t answer = entries_book(SIZES_AND_JOB, box, SLICE(uint16_t, LOCAL_OFFERS), SLICE(uint16_t, LOCAL_GROCERS),
-                                   SLICE(uint16_t, STARTS), SLICE(uint16_t, PACKED_GROCERS), SLICE(int32_t, PACKED_COUNTS),
-                                   SLICE(uint16_t, NUMBERS));
+                                   SLICE(uint16_t, STARTS), SLICE(uint16_t, PACKED_GROCERS),
+                                   SLICE(int32_t, PACKED_COUNTS), SLICE(uint16_t, NUMBERS));
     hand_back(&calling->lending, lent, BOOK, answer);
     if (!due && !answer) take_open_order(calling, &book);
     compare_call(calling, "book", answer, due);
@@ -173,8 +176,8 @@ uint16_t ask_desk(struct calling *calling, struct question question)
     hand_over(&calling->lending, lent);
     uint16_t answer = entries_reconcile(SLICE(const uint16_t, TALLY_GROCER), SLICE(const uint16_t, TALLY_BOX),
                                         SLICE(const uint16_t, TALLY_OFFER), SLICE(const int32_t, TALLY_COUNT),
-                                        SLICE(const uint32_t, PRICE), question.grocers, question.offers, question.wanted,
-                                        SLICE(int64_t, OWED));
+                                        SLICE(const uint32_t, PRICE), question.grocers, question.offers,
+                                        question.wanted, SLICE(int64_t, OWED));
     hand_back(&calling->lending, lent, RECONCILE, answer);
     compare_call(calling, "desk", answer, due);
     return answer;

@@ -24,8 +24,8 @@ void close_calling(struct calling *calling);
 /* A word as the library left it. */
 int64_t word_of(const struct calling *calling, enum table_name name, size_t place);
 
-/* One call on whatever words are lent: the answer, which is also the model's unless a difference was found. The writer's is
-   the file's length or the refusal. */
+/* One call on whatever words are lent: the answer, which is also the model's unless a difference was found. The
+   writer's is the file's length or the refusal. */
 size_t ask_write(struct calling *calling, struct sizes sizes);
 uint16_t ask_messages(struct calling *calling, struct sizes sizes);
 uint16_t ask_book(struct calling *calling, struct sizes sizes, uint16_t box);
@@ -37,8 +37,8 @@ struct question {
 uint16_t ask_desk(struct calling *calling, struct question question);
 void lend_records(struct calling *calling, size_t records);
 
-/* The largest job, its words by rules: each offer below 250 has four tallies, some of them in one box and some of them alike;
-   the others have none. Offer 100 is box 14's, which holds none of its tallies. */
+/* The largest job, its words by rules: each offer below 250 has four tallies, some of them in one box and some of them
+   alike; the others have none. Offer 100 is box 14's, which holds none of its tallies. */
 void spread_job(struct job *job);
 
 /* A table lent without its last needed word, or with that word just above its range or just below. */

@@ -33,10 +33,26 @@ static const struct desk_case cases[] = {
     {"E's first record only, grocer 1", {2, 2, 1}, 1, 2, {500, 1250}, 0, 0, NONE, {0}},
     {"count 0", {2, 2, 0}, 4, 2, {500, 1250}, 0, 2250, SECOND, {0, 0, 1, 0}},
     {"the same record twice", {2, 2, 0}, 4, 2, {500, 1250}, 0, 3750, SECOND, {0, 0, 0, 3}},
-    {"count 99999, price 9999999", {1, 2, 0}, 1, 2, {0, 9999999}, 0, INT64_C(999989900001), FIRST, {0, 15, 1, 99999}},
-    {"count -99999, price 9999999", {255, 2, 254}, 1, 2, {0, 9999999}, 0, INT64_C(-999989900001), FIRST, {254, 15, 1, -99999}},
+    {"count 99999, price 9999999", {1, 2, 0}, 1, 2, {0, 9999999}, 0, 999989900001, FIRST, {0, 15, 1, 99999}},
+    {"count -99999, price 9999999",
+     {255, 2, 254},
+     1,
+     2,
+     {0, 9999999},
+     0,
+     INT64_C(-999989900001),
+     FIRST,
+     {254, 15, 1, -99999}},
     {"1000 records", {2, 2, 0}, 1000, 2, {500, 1250}, 0, 1500000, ALL, {0, 0, 0, 3}},
-    {"1000 records of the largest amount", {1, 1, 0}, 1000, 1, {9999999}, 0, INT64_C(999989900001000), ALL, {0, 0, 0, 99999}},
+    {"1000 records of the largest amount",
+     {1, 1, 0},
+     1000,
+     1,
+     {9999999},
+     0,
+     INT64_C(999989900001000),
+     ALL,
+     {0, 0, 0, 99999}},
     {"1001 records", {2, 2, 0}, 1001, 2, {500, 1250}, 21, 0, ALL, {0, 0, 0, 3}},
     {"1024 records", {2, 2, 0}, 1024, 2, {500, 1250}, 21, 0, ALL, {0, 0, 0, 3}},
     {"1025 records, more than this entry takes", {2, 2, 0}, 1025, 2, {500, 1250}, 20, 0, ALL, {0, 0, 0, 3}},
@@ -82,7 +98,8 @@ static const struct record odd = {60001, 60002, 60003, 2000000004};
 
 static void put_records(const struct desk_case *c)
 {
-    for (size_t i = 0; i <= ENTRIES_MAX_RECORDS; i++) put_record(i, c->which == ALL ? c->other : i < 4 ? sample[i] : odd);
+    for (size_t i = 0; i <= ENTRIES_MAX_RECORDS; i++)
+        put_record(i, c->which == ALL ? c->other : i < 4 ? sample[i] : odd);
     if (c->which == FIRST || c->which == SECOND) put_record(c->which == SECOND, c->other);
     for (size_t i = 0; i < c->prices; i++) put_both(&calling.lending, PRICE, i, i < 3 ? c->price[i] : 500);
     lend_records(&calling, c->records);
@@ -94,8 +111,8 @@ static void expect_owed(uint16_t wanted, int64_t owed, bool by_adding)
 {
     struct table tables[ALL_TABLES];
     twins_as_lent(&calling.lending, tables);
-    expect(word_of(&calling, OWED, 0) == owed, "%lld is owed, the case says %lld", (long long)word_of(&calling, OWED, 0),
-           (long long)owed);
+    expect(word_of(&calling, OWED, 0) == owed, "%lld is owed, the case says %lld",
+           (long long)word_of(&calling, OWED, 0), (long long)owed);
     if (by_adding) expect(amount_by_adding(wanted, tables) == owed, "adding prices one by one gives another amount");
 }
 

@@ -150,7 +150,8 @@ void write_book(const struct book *book, const struct table tables[ALL_TABLES])
     put_words(tables[STARTS], book->start, book->offers + 1);
     put_words(tables[PACKED_GROCERS], book->packed_grocer, book->tallies);
     for (size_t p = 0; p < book->tallies; p++) put_word(tables[PACKED_COUNTS], p, book->packed_count[p]);
-    put_words(tables[NUMBERS], (const uint16_t[]){(uint16_t)book->offers, (uint16_t)book->grocers, (uint16_t)book->tallies},
+    put_words(tables[NUMBERS],
+              (const uint16_t[]){(uint16_t)book->offers, (uint16_t)book->grocers, (uint16_t)book->tallies},
               ENTRIES_NUMBERS);
 }
 

@@ -5,7 +5,8 @@
 #include "model.h"
 
 /* The writer on lent tables: its refusal, or 0, the file and its length. */
-uint16_t model_write(struct sizes sizes, const struct table tables[ALL_TABLES], uint8_t file[MOST_FILE], size_t *length);
+uint16_t model_write(struct sizes sizes, const struct table tables[ALL_TABLES], uint8_t file[MOST_FILE],
+                     size_t *length);
 
 /* The words between two boxes: prices from an owner to a holder, totals from a holder to an owner. */
 uint16_t price_words(const struct job *job, size_t sender, size_t receiver);
@@ -32,7 +33,8 @@ void order_lists(const struct book *book, uint16_t packed_grocer[], int32_t pack
 uint16_t desk_refusal(struct sizes sizes, uint16_t wanted, const struct table tables[ALL_TABLES]);
 int64_t serial_amount(uint16_t wanted, const struct table tables[ALL_TABLES]);
 
-/* The same amount by adding each price as often as its count says, credits and corrections apart, the last record first. */
+/* The same amount by adding each price as often as its count says, credits and corrections apart, the last record
+ * first. */
 int64_t amount_by_adding(uint16_t wanted, const struct table tables[ALL_TABLES]);
 
 #endif

@@ -21,11 +21,13 @@ static void open_sample(uint32_t spare)
 static int64_t line_sum(enum table_name name, size_t x, bool column)
 {
     int64_t sum = 0;
-    for (size_t y = 0; y < MOST_BOXES; y++) sum += word_of(&calling, name, column ? MOST_BOXES * y + x : MOST_BOXES * x + y);
+    for (size_t y = 0; y < MOST_BOXES; y++)
+        sum += word_of(&calling, name, column ? MOST_BOXES * y + x : MOST_BOXES * x + y);
     return sum;
 }
 
-static void expect_sums(enum table_name name, const int64_t rows[MOST_BOXES], const int64_t columns[MOST_BOXES], int64_t all)
+static void expect_sums(enum table_name name, const int64_t rows[MOST_BOXES], const int64_t columns[MOST_BOXES],
+                        int64_t all)
 {
     int64_t sum = 0;
     for (size_t x = 0; x < MOST_BOXES; x++) {
@@ -38,7 +40,8 @@ static void expect_sums(enum table_name name, const int64_t rows[MOST_BOXES], co
 
 static void expect_words_of_job(int64_t words)
 {
-    expect(word_of(&calling, JOB_WORDS, 0) == words, "the job has %lld words", (long long)word_of(&calling, JOB_WORDS, 0));
+    expect(word_of(&calling, JOB_WORDS, 0) == words, "the job has %lld words",
+           (long long)word_of(&calling, JOB_WORDS, 0));
 }
 
 static void tables_of_sample(void)
@@ -47,9 +50,11 @@ static void tables_of_sample(void)
     open_sample(SPARE);
     expect_messages(calling.job.sizes, 0);
     expect_words(&calling, PRICE_WORDS, (const int64_t[]){0, 1}, 2);
-    expect(word_of(&calling, PRICE_WORDS, 16) == 1 && word_of(&calling, PRICE_WORDS, 17) == 0, "row 1 of prices differs");
+    expect(word_of(&calling, PRICE_WORDS, 16) == 1 && word_of(&calling, PRICE_WORDS, 17) == 0,
+           "row 1 of prices differs");
     expect_words(&calling, TOTAL_WORDS, (const int64_t[]){0, 1}, 2);
-    expect(word_of(&calling, TOTAL_WORDS, 16) == 0 && word_of(&calling, TOTAL_WORDS, 17) == 0, "row 1 of totals differs");
+    expect(word_of(&calling, TOTAL_WORDS, 16) == 0 && word_of(&calling, TOTAL_WORDS, 17) == 0,
+           "row 1 of totals differs");
     expect_sums(PRICE_WORDS, (const int64_t[MOST_BOXES]){1, 1}, (const int64_t[MOST_BOXES]){1, 1}, 2);
     expect_sums(TOTAL_WORDS, (const int64_t[MOST_BOXES]){1, 0}, (const int64_t[MOST_BOXES]){0, 1}, 1);
     expect_words_of_job(3);
@@ -63,8 +68,9 @@ static void other_sizes(void)
         uint16_t due;
         int64_t words;
     } tried[] = {
-        {{2, 2, 2, 0}, 0, 0},  {{3, 2, 2, 4}, 0, 3},  {{2, 3, 2, 4}, 20, 0}, {{2, 2, 3, 4}, 20, 0}, {{2, 2, 2, 5}, 20, 0},
-        {{0, 2, 2, 4}, 21, 0}, {{2, 0, 2, 4}, 21, 0}, {{2, 2, 0, 4}, 21, 0}, {{1, 2, 2, 4}, 21, 0},
+        {{2, 2, 2, 0}, 0, 0},  {{3, 2, 2, 4}, 0, 3},  {{2, 3, 2, 4}, 20, 0},
+        {{2, 2, 3, 4}, 20, 0}, {{2, 2, 2, 5}, 20, 0}, {{0, 2, 2, 4}, 21, 0},
+        {{2, 0, 2, 4}, 21, 0}, {{2, 2, 0, 4}, 21, 0}, {{1, 2, 2, 4}, 21, 0},
     };
     for (size_t i = 0; i < sizeof tried / sizeof tried[0]; i++) {
         struct sizes sizes = tried[i].sizes;
@@ -104,8 +110,8 @@ static void words_out_of_range(void)
 /* Tables of zeros, long enough for sizes that are a little out of range. */
 static void sizes_out_of_range(void)
 {
-    static const struct sizes tried[] = {{17, 1, 1, 0}, {1, 256, 1, 0}, {1, 1, 501, 0},
-                                         {1, 1, 1, 1001}, {1, 1, 1, 0}, {16, 255, 500, 1000}};
+    static const struct sizes tried[] = {{17, 1, 1, 0},   {1, 256, 1, 0}, {1, 1, 501, 0},
+                                         {1, 1, 1, 1001}, {1, 1, 1, 0},   {16, 255, 500, 1000}};
     open_zeros(&calling, (struct sizes){17, 256, 501, 1001});
     for (size_t i = 0; i < sizeof tried / sizeof tried[0]; i++) {
         at_case("K %u, M %u, N %u, T %u", tried[i].boxes, tried[i].grocers, tried[i].offers, tried[i].tallies);
@@ -122,14 +128,17 @@ static void largest_job(void)
     open_calling(&calling, SPARE);
     expect_messages(LARGEST, 0);
     expect_words_of_job(1059);
-    expect_sums(PRICE_WORDS, (const int64_t[MOST_BOXES]){53, 52, 52, 48, 33, 35, 35, 36, 33, 37, 35, 35, 35, 35, 35, 36},
+    expect_sums(PRICE_WORDS,
+                (const int64_t[MOST_BOXES]){53, 52, 52, 48, 33, 35, 35, 36, 33, 37, 35, 35, 35, 35, 35, 36},
                 (const int64_t[MOST_BOXES]){39, 38, 38, 39, 38, 40, 39, 41, 38, 41, 40, 40, 39, 39, 38, 38}, 625);
-    expect_sums(TOTAL_WORDS, (const int64_t[MOST_BOXES]){24, 30, 29, 26, 25, 29, 30, 25, 26, 29, 29, 26, 25, 29, 28, 24},
+    expect_sums(TOTAL_WORDS,
+                (const int64_t[MOST_BOXES]){24, 30, 29, 26, 25, 29, 30, 25, 26, 29, 29, 26, 25, 29, 28, 24},
                 (const int64_t[MOST_BOXES]){30, 35, 33, 24, 24, 28, 28, 24, 24, 28, 28, 24, 24, 28, 28, 24}, 434);
     close_calling(&calling);
 }
 
-/* A box's row of prices sums to the ones in the need words of its offers, its own bit left out; its column of totals likewise. */
+/* A box's row of prices sums to the ones in the need words of its offers, its own bit left out; its column of totals
+ * likewise. */
 static void expect_ones(const struct job *job)
 {
     static struct machine machine;

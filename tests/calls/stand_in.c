@@ -23,10 +23,9 @@ ENTRY size_t entries_write(ENTRIES_WRITE)
     static uint8_t file[MOST_FILE];
     const uint16_t *tally_offer = NULL;
     const size_t tally_offer_len = 0;
-    const struct table tables[ALL_TABLES] = {JOB_OF,
-                                             [OFFER_CODE] = {OFFER_CODE, offer_code_len, (void *)offer_code},
-                                             [TALLY_CODE] = {TALLY_CODE, tally_code_len, (void *)tally_code},
-                                             [OUT] = {OUT, out_len, out}};
+    const struct table tables[ALL_TABLES] = {
+        JOB_OF, [OFFER_CODE] = {OFFER_CODE, offer_code_len, (void *)offer_code},
+        [TALLY_CODE] = {TALLY_CODE, tally_code_len, (void *)tally_code}, [OUT] = {OUT, out_len, out}};
     size_t length = 0;
     uint16_t refusal = model_write((struct sizes){boxes, grocers, offers, tallies}, tables, file, &length);
     if (refusal) return refusal;
@@ -47,8 +46,7 @@ ENTRY uint16_t entries_reconcile(ENTRIES_RECONCILE)
 
 ENTRY uint16_t entries_message_tables(ENTRIES_MESSAGE_TABLES)
 {
-    const struct table tables[ALL_TABLES] = {JOB_OF,
-                                             [PRICE_WORDS] = {PRICE_WORDS, price_words_len, price_words},
+    const struct table tables[ALL_TABLES] = {JOB_OF, [PRICE_WORDS] = {PRICE_WORDS, price_words_len, price_words},
                                              [TOTAL_WORDS] = {TOTAL_WORDS, total_words_len, total_words},
                                              [JOB_WORDS] = {JOB_WORDS, job_words_len, job_words}};
     const struct sizes sizes = {boxes, grocers, offers, tallies};

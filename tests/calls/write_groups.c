@@ -1,9 +1,9 @@
 /* The writer: each refusal, their order, short buffers, the longest file, and files that are read and written again. */
 #include <string.h>
 
+#include "call_groups.h"
 #include "calling.h"
 #include "entries_model.h"
-#include "call_groups.h"
 
 static struct calling calling;
 
@@ -138,7 +138,8 @@ static void short_buffers(void)
 /* The largest sizes pass, so that codes of no digits are refused; one more does not. */
 static void largest_sizes(void)
 {
-    static const struct sizes tried[] = {{1, 255, 500, 1000}, {1, 256, 500, 1000}, {1, 255, 501, 1000}, {1, 255, 500, 1001}};
+    static const struct sizes tried[] = {
+        {1, 255, 500, 1000}, {1, 256, 500, 1000}, {1, 255, 501, 1000}, {1, 255, 500, 1001}};
     open_zeros(&calling, (struct sizes){1, 256, 501, 1001});
     for (size_t i = 0; i < 4; i++) {
         at_case("M %u, N %u, T %u", tried[i].grocers, tried[i].offers, tried[i].tallies);
@@ -168,8 +169,9 @@ static void largest_job(struct job *job)
     for (size_t t = 0; t < MOST_TALLIES; t++) {
         uint16_t place = (uint16_t)(t * 7 % 500);
         uint64_t number = place % 2 ? place * UINT64_C(19999999) : place;
-        job->tally[t] = (struct tally){(uint16_t)(t % 255), (uint16_t)(t * 3 % 16), place, (int32_t)(t * 200) - MOST_COUNT,
-                                       code_with(number, place % 2 ? 10 : 3 + t / 3 % 8)};
+        job->tally[t] =
+            (struct tally){(uint16_t)(t % 255), (uint16_t)(t * 3 % 16), place, (int32_t)(t * 200) - MOST_COUNT,
+                           code_with(number, place % 2 ? 10 : 3 + t / 3 % 8)};
     }
 }
 
@@ -235,7 +237,9 @@ static void change_some_word(void)
     size_t length = calling.lending.lend[name];
     if (length == 0) return;
     struct range range = range_of(name, calling.job.sizes);
-    int64_t word = name == OFFER_CODE || name == TALLY_CODE ? '0' + below(12) - 1 : one_in(2) ? range.most + 1 : range.most;
+    int64_t word = name == OFFER_CODE || name == TALLY_CODE ? '0' + below(12) - 1
+                   : one_in(2)                              ? range.most + 1
+                                                            : range.most;
     put_both(&calling.lending, name, below((uint32_t)length), one_in(4) ? (int64_t)random_word() : word);
 }
 

@@ -25,7 +25,8 @@ bool expect(bool holds, const char *format, ...) __attribute__((format(printf, 2
 /* Counts the answer of an entry. */
 void note_answer(enum entry entry, uint16_t answer);
 
-/* Prints the answers by entry that was called and number, and the last line; the exit status. That no group was run is a failure. */
+/* Prints the answers by entry that was called and number, and the last line; the exit status. That no group was run is
+ * a failure. */
 int close_checks(void);
 
 #endif

@@ -111,7 +111,7 @@ uint16_t hand_back(struct lending *lending, struct table lent[ALL_TABLES], enum 
 }
 
 #define SIZES_AND_TABLES                                                                                               \
-    SIZES_AND_JOB, SLICE(uint32_t, KNOWN), SLICE(uint32_t, PRICE_TRANSIT), SLICE(int64_t, WORKING),                               \
+    SIZES_AND_JOB, SLICE(uint32_t, KNOWN), SLICE(uint32_t, PRICE_TRANSIT), SLICE(int64_t, WORKING),                    \
         SLICE(int64_t, TOTAL_TRANSIT), SLICE(int64_t, STATEMENT), SLICE(uint16_t, DONE), SLICE(uint32_t, SENT)
 
 uint16_t call_read(struct lending *lending)

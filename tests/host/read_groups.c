@@ -327,7 +327,8 @@ static void fill_randomly(size_t from, size_t to)
     for (size_t place = from; place < to; place++) file[place] = (uint8_t)random_word();
 }
 
-/* Files of random bytes, with wrong sums and with right ones, of random lengths, and E's with a random tally; 74 blocks of 0. */
+/* Files of random bytes, with wrong sums and with right ones, of random lengths, and E's with a random tally; 74 blocks
+ * of 0. */
 static void random_bytes(void)
 {
     for (unsigned long i = 0; i < 500; i++) {
