@@ -4,7 +4,7 @@
    bench --ours NAME  ours alone, once, on the work of this name: for callgrind
    bench --names      the names */
 #define _POSIX_C_SOURCE 200809L
-#include "entries.h"
+#include "bench.h"
 #include <stdbool.h>
 #include <stdio.h>
 #include <stdlib.h>
@@ -19,7 +19,7 @@ struct calls {
     reconcile_call *reconcile;
 };
 
-static const struct calls ours = { settlement_read, bench_write, settlement_step, settlement_run, bench_reconcile };
+static const struct calls ours = { settlement_read, entries_write, settlement_step, settlement_run, entries_reconcile };
 static const struct calls plain = { plain_read, plain_write, plain_step, plain_run, plain_reconcile };
 
 /* All that a call is lent, of either side. */

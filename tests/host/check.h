@@ -5,7 +5,7 @@
 #include <stdbool.h>
 #include <stdint.h>
 
-enum entry { READ, STEP, RUN, ENTRIES };
+enum entry { READ, STEP, RUN, WRITE, RECONCILE, MESSAGES, BOOK, ENTRIES };
 
 /* Whether the program ends with the first group that fails. */
 extern bool stop_at_first;
@@ -25,7 +25,8 @@ bool expect(bool holds, const char *format, ...) __attribute__((format(printf, 2
 /* Counts the answer of an entry. */
 void note_answer(enum entry entry, uint16_t answer);
 
-/* Prints the answers by entry and number, and the last line; the exit status. That no group was run is a failure. */
+/* Prints the answers by entry that was called and number, and the last line; the exit status. That no group was run is
+ * a failure. */
 int close_checks(void);
 
 #endif

@@ -2,8 +2,7 @@
 #ifndef GROUPS_H
 #define GROUPS_H
 
-/* How many random jobs a group tries; the others go by it. */
-extern unsigned long job_count;
+#include "testing.h"
 
 /* Runs all groups of one file. */
 void check_reader(void);
@@ -11,5 +10,6 @@ void check_step(void);
 void check_step_tables(void);
 void check_lists(void);
 void check_run(void);
+void check_cases(void);
 
 #endif

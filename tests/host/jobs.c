@@ -162,3 +162,19 @@ void one_tally_job(struct job *job, struct sizes sizes, uint32_t price, struct t
     tally.code = code_of_number(tally.place, 0);
     for (size_t t = 0; t < sizes.tallies; t++) job->tally[t] = tally;
 }
+
+static uint16_t by_rule(struct rule rule, size_t place) { return (uint16_t)(place / rule.by % rule.modulo); }
+
+void ruled_job(struct job *job, struct sizes sizes, struct rules rules)
+{
+    memset(job, 0, sizeof *job);
+    job->sizes = sizes;
+    for (size_t o = 0; o < sizes.offers; o++)
+        job->offer[o] = (struct offer){0, by_rule(rules.offer_owner, o), code_of_number(o, 0)};
+    for (size_t g = 0; g < sizes.grocers; g++) job->grocer_owner[g] = by_rule(rules.grocer_owner, g);
+    for (size_t t = 0; t < sizes.tallies; t++) {
+        uint16_t place = by_rule(rules.tally_offer, t);
+        job->tally[t] = (struct tally){by_rule(rules.tally_grocer, t), by_rule(rules.tally_box, t), place, 0,
+                                       code_of_number(place, 0)};
+    }
+}

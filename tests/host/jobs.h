@@ -31,4 +31,13 @@ void sample_job(struct job *job);
 /* A job with one offer, one grocer and tallies alike, each with its own owner. */
 void one_tally_job(struct job *job, struct sizes sizes, uint32_t price, struct tally tally);
 
+/* A job of these sizes whose words go by rules: word i is i / by modulo the given number. Prices and counts are 0. */
+struct rule {
+    size_t by, modulo;
+};
+struct rules {
+    struct rule offer_owner, grocer_owner, tally_grocer, tally_box, tally_offer;
+};
+void ruled_job(struct job *job, struct sizes sizes, struct rules rules);
+
 #endif

@@ -88,7 +88,7 @@ void copy_twins(struct lending *lending)
 
 static bool is_state(unsigned name) { return name >= JOB_TABLES && name < STEP_TABLES; }
 
-static void hand_over(const struct lending *lending, struct table lent[ALL_TABLES])
+void hand_over(const struct lending *lending, struct table lent[ALL_TABLES])
 {
     for (unsigned name = 0; name < ALL_TABLES; name++) {
         lent[name] = lending->table[name];
@@ -100,7 +100,7 @@ static void hand_over(const struct lending *lending, struct table lent[ALL_TABLE
     }
 }
 
-static uint16_t hand_back(struct lending *lending, struct table lent[ALL_TABLES], enum entry entry, uint16_t answer)
+uint16_t hand_back(struct lending *lending, struct table lent[ALL_TABLES], enum entry entry, uint16_t answer)
 {
     for (unsigned name = 0; lend_exactly && name < ALL_TABLES; name++) {
         memcpy(lending->table[name].words, lent[name].words, bytes_of(lent[name]));
@@ -110,14 +110,8 @@ static uint16_t hand_back(struct lending *lending, struct table lent[ALL_TABLES]
     return answer;
 }
 
-/* A slice as C hands it over: where its words are, and how many. */
-#define SLICE(type, name) (type *)lent[name].words, lent[name].length
-
 #define SIZES_AND_TABLES                                                                                               \
-    sizes.boxes, sizes.grocers, sizes.offers, sizes.tallies, SLICE(const uint32_t, PRICE),                             \
-        SLICE(const uint16_t, OFFER_OWNER), SLICE(const uint16_t, GROCER_OWNER), SLICE(const uint16_t, TALLY_GROCER),  \
-        SLICE(const uint16_t, TALLY_BOX), SLICE(const uint16_t, TALLY_OFFER), SLICE(const int32_t, TALLY_COUNT),       \
-        SLICE(uint32_t, KNOWN), SLICE(uint32_t, PRICE_TRANSIT), SLICE(int64_t, WORKING),                               \
+    SIZES_AND_JOB, SLICE(uint32_t, KNOWN), SLICE(uint32_t, PRICE_TRANSIT), SLICE(int64_t, WORKING),                    \
         SLICE(int64_t, TOTAL_TRANSIT), SLICE(int64_t, STATEMENT), SLICE(uint16_t, DONE), SLICE(uint32_t, SENT)
 
 uint16_t call_read(struct lending *lending)

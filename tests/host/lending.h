@@ -33,6 +33,19 @@ void put_both(struct lending *lending, enum table_name name, size_t place, int64
 /* Brings every buffer to what its twin says. */
 void copy_twins(struct lending *lending);
 
+/* The buffers as a call is lent them, and back from it; the answer is counted. */
+void hand_over(const struct lending *lending, struct table lent[ALL_TABLES]);
+uint16_t hand_back(struct lending *lending, struct table lent[ALL_TABLES], enum entry entry, uint16_t answer);
+
+/* A slice as C hands it over: where its words are, and how many. */
+#define SLICE(type, name) (type *)lent[name].words, lent[name].length
+
+/* K, M, N, T and the tables of a job. */
+#define SIZES_AND_JOB                                                                                                  \
+    sizes.boxes, sizes.grocers, sizes.offers, sizes.tallies, SLICE(const uint32_t, PRICE),                             \
+        SLICE(const uint16_t, OFFER_OWNER), SLICE(const uint16_t, GROCER_OWNER), SLICE(const uint16_t, TALLY_GROCER),  \
+        SLICE(const uint16_t, TALLY_BOX), SLICE(const uint16_t, TALLY_OFFER), SLICE(const int32_t, TALLY_COUNT)
+
 /* The library's three entries; the answer is counted. */
 uint16_t call_read(struct lending *lending);
 uint16_t call_step(struct lending *lending, struct sizes sizes, struct step step);

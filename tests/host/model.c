@@ -330,6 +330,12 @@ static bool all_in_range(struct sizes sizes, const struct table tables[], size_t
     return true;
 }
 
+uint16_t job_tables_refusal(struct sizes sizes, const struct table tables[ALL_TABLES])
+{
+    if (any_short(sizes, tables, 0, JOB_TABLES)) return 20;
+    return all_in_range(sizes, tables, JOB_TABLES) ? 0 : 21;
+}
+
 uint16_t step_tables_refusal(struct sizes sizes, const struct table tables[ALL_TABLES])
 {
     if (any_short(sizes, tables, 0, STEP_TABLES)) return 20;
@@ -494,14 +500,14 @@ int64_t plain_sum(const struct job *job, uint16_t grocer)
     return sum;
 }
 
-static bool holds_offer(const struct job *job, size_t box, size_t offer)
+bool holds_offer(const struct job *job, size_t box, size_t offer)
 {
     for (size_t t = 0; t < job->sizes.tallies; t++)
         if (job->tally[t].box == box && job->tally[t].place == offer) return true;
     return false;
 }
 
-static bool holds_grocer(const struct job *job, size_t box, size_t grocer)
+bool holds_grocer(const struct job *job, size_t box, size_t grocer)
 {
     for (size_t t = 0; t < job->sizes.tallies; t++)
         if (job->tally[t].box == box && job->tally[t].grocer == grocer) return true;

@@ -76,6 +76,7 @@ struct report run_all(struct machine *machine, const struct job *job, struct tab
                       struct step picked[MOST_STEPS]);
 
 /* 20 or 21 on the lent tables, else 0. */
+uint16_t job_tables_refusal(struct sizes sizes, const struct table tables[ALL_TABLES]);
 uint16_t step_tables_refusal(struct sizes sizes, const struct table tables[ALL_TABLES]);
 uint16_t run_tables_refusal(struct sizes sizes, const struct table tables[ALL_TABLES]);
 
@@ -88,6 +89,10 @@ void read_state_words(struct machine *machine, const struct job *job, const stru
 
 /* The plain sum of count x price of one grocer. */
 int64_t plain_sum(const struct job *job, uint16_t grocer);
+
+/* Whether a box holds a tally of an offer, or of a grocer. */
+bool holds_offer(const struct job *job, size_t box, size_t offer);
+bool holds_grocer(const struct job *job, size_t box, size_t grocer);
 
 /* The words that a whole settlement sends, counted pair by pair from the owners and tallies. */
 uint32_t words_of_job(const struct job *job);

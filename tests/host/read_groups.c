@@ -118,6 +118,37 @@ static const struct edit edits[] = {
 };
 enum { EDITS = sizeof edits / sizeof edits[0] };
 
+/* Other edits, in no order: at and beside the ends of ranges, and other wrong bytes. */
+static const struct edit others[] = {
+    {"2 records in the header", 3, 0, 1, 1, {2}},
+    {"16 boxes", 0, 0, 4, 1, {16}},
+    {"3 grocers, 2 in the block", 3, 0, 6, 1, {3}},
+    {"3 tallies, 4 in the block", 3, 0, 10, 1, {3}},
+    {"offer block with 1 record", 3, 1, 1, 1, {1}},
+    {"offer block as block 257", 3, 1, 3, 1, {1}},
+    {"grocer block with 3 records", 3, 2, 1, 1, {3}},
+    {"grocer block as block 1", 3, 2, 2, 1, {1}},
+    {"tally block of kind 1", 3, 3, 0, 1, {1}},
+    {"tally block with 3 records", 3, 3, 1, 1, {3}},
+    {"tally block as block 4", 3, 3, 2, 1, {4}},
+    {"last byte after the grocers", 5, 2, 507, 1, {1}},
+    {"last byte after the tallies", 5, 3, 507, 1, {1}},
+    {"price 9,999,999", 0, 1, 4, 4, {0x7F, 0x96, 0x98, 0}},
+    {"owner of an offer is 1", 0, 1, 8, 1, {1}},
+    {"4 digits and one behind", 6, 1, 9, 1, {4}},
+    {"6 digits, the last a 0 byte", 6, 1, 9, 1, {6}},
+    {"255 digits", 6, 1, 9, 1, {255}},
+    {"number 412 once more, as 0412", 7, 1, 33, 5, {4, '0', '4', '1', '2'}},
+    {"owner of a grocer is 1", 0, 2, 5, 1, {1}},
+    {"grocer of a tally is 1", 0, 3, 4, 1, {1}},
+    {"box of a tally is 1", 0, 3, 6, 1, {1}},
+    {"a tally with number 413", 8, 3, 7, 4, {3, '4', '1', '3'}},
+    {"a tally with number 0", 8, 3, 7, 4, {1, '0', 0, 0}},
+    {"a tally with number 41", 8, 3, 7, 4, {2, '4', '1', 0}},
+    {"count 0", 0, 3, 18, 4, {0}},
+};
+enum { OTHERS = sizeof others / sizeof others[0] };
+
 static bool breaks_sums(const struct edit *edit) { return edit->place >= 508; }
 
 static void apply(const struct edit *edit)
@@ -142,6 +173,14 @@ static void each_refusal(void)
     for (size_t i = 0; i < EDITS; i++) {
         at_case("%s", edits[i].what);
         expect_answer(edit_sample_job(&edits[i], &edits[i]), edits[i].number);
+    }
+}
+
+static void other_edits(void)
+{
+    for (size_t i = 0; i < OTHERS; i++) {
+        at_case("%s", others[i].what);
+        expect_answer(edit_sample_job(&others[i], &others[i]), others[i].number);
     }
 }
 
@@ -269,6 +308,47 @@ static void changed_bytes(void)
     }
 }
 
+/* Each byte of E's file raised by a number. */
+static void raised_bytes(void)
+{
+    static const uint8_t more[] = {1, 128, 255};
+    size_t length = write_sample_job();
+    for (unsigned i = 0; i < sizeof more; i++)
+        for (size_t place = 0; place < length; place++) {
+            file[place] = (uint8_t)(file[place] + more[i]);
+            at_case("byte %zu raised by %u", place, more[i]);
+            expect_answer(length, 2);
+            file[place] = (uint8_t)(file[place] - more[i]);
+        }
+}
+
+static void fill_randomly(size_t from, size_t to)
+{
+    for (size_t place = from; place < to; place++) file[place] = (uint8_t)random_word();
+}
+
+/* Files of random bytes, with wrong sums and with right ones, of random lengths, and E's with a random tally; 74 blocks
+ * of 0. */
+static void random_bytes(void)
+{
+    for (unsigned long i = 0; i < 500; i++) {
+        at_case("random bytes %lu", i);
+        fill_randomly(0, 4 * BLOCK);
+        expect_answer(4 * BLOCK, 2);
+        size_t length = below(4 * BLOCK);
+        expect_answer(length, length == 0 || length % BLOCK != 0 ? 1 : 2);
+        for (size_t at = 0; at < 4 * BLOCK; at += BLOCK) write_sums(file + at);
+        expect_answer(4 * BLOCK, 3);
+        length = write_sample_job();
+        fill_randomly(3 * BLOCK + 4, 3 * BLOCK + 22);
+        write_sums(file + 3 * BLOCK);
+        expect_answer(length, 6);
+    }
+    at_case("74 blocks of zeros");
+    memset(file, 0, MOST_FILE);
+    expect_answer(MOST_FILE, 3);
+}
+
 /* A byte that is likely to matter: of the block's head, of its first records, or any. */
 static size_t likely_place(void)
 {
@@ -385,6 +465,8 @@ static const struct edge edges[] = {
     {"10 digits pass", 1, 1, "9999999999", "9999999999", 0},
     {"10 digits, the first a zero", 1, 1, "0999999999", "999999999", 0},
     {"numbers above 32 bits that agree there", 1, 1, "4294967303", "7", 8},
+    {"9999999999 and 1410065407 do not", 1, 1, "9999999999", "1410065407", 8},
+    {"7 and 0000000007 agree", 1, 1, "7", "0000000007", 0},
     {"price 9,999,999", 9999999, 1, "1", "1", 0},
     {"price 10,000,000", 10000000, 1, "1", "1", 6},
     {"count 99,999", 1, 99999, "1", "1", 0},
@@ -432,12 +514,15 @@ void check_reader(void)
     group("reader: the sums of the specification", cases_of_sums);
     group("reader: the cases of the specification", cases_of_files);
     group("reader: each refusal by an edit of E", each_refusal);
+    group("reader: other edits of E", other_edits);
     group("reader: of two faults the earlier is refused", order_of_refusals);
     group("reader: the block count in its place", block_count_in_order);
     group("reader: files cut, longer and empty", lengths);
     group("reader: each buffer short", short_buffers);
     group("reader: random files", random_files);
     group("reader: one or two bytes of a block changed", changed_bytes);
+    group("reader: each byte of E raised", raised_bytes);
+    group("reader: random bytes", random_bytes);
     group("reader: damage with the sums made right", damaged_files);
     group("reader: every byte in turn, the sums made right", each_byte);
     group("reader: every place of a code", each_code);

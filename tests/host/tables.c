@@ -27,6 +27,17 @@ static const struct {
     [REPORT] = {"report", 4, false},
     [FILE_BYTES] = {"file", 1, false},
     [CHOICES] = {"choices", 2, false},
+    [OUT] = {"out", 1, false},
+    [OWED] = {"owed", 8, true},
+    [PRICE_WORDS] = {"price_words", 2, false},
+    [TOTAL_WORDS] = {"total_words", 2, false},
+    [JOB_WORDS] = {"job_words", 4, false},
+    [LOCAL_OFFERS] = {"local_offers", 2, false},
+    [LOCAL_GROCERS] = {"local_grocers", 2, false},
+    [STARTS] = {"starts", 2, false},
+    [PACKED_GROCERS] = {"packed_grocers", 2, false},
+    [PACKED_COUNTS] = {"packed_counts", 4, true},
+    [NUMBERS] = {"numbers", 2, false},
 };
 
 const char *table_text(enum table_name name) { return kinds[name].text; }
@@ -38,23 +49,33 @@ uint64_t needed(enum table_name name, struct sizes sizes)
     uint64_t k = sizes.boxes, m = sizes.grocers, n = sizes.offers, t = sizes.tallies;
     switch (name) {
     case PRICE:
+    case LOCAL_OFFERS:
     case OFFER_OWNER: return n;
     case GROCER_OWNER:
+    case LOCAL_GROCERS:
     case STATEMENT: return m;
     case TALLY_GROCER:
     case TALLY_BOX:
     case TALLY_OFFER:
+    case PACKED_GROCERS:
+    case PACKED_COUNTS:
     case TALLY_COUNT: return t;
+    case STARTS: return n + 1;
     case KNOWN:
     case PRICE_TRANSIT: return k * n;
     case WORKING:
     case TOTAL_TRANSIT: return k * m;
     case DONE: return 6 * k * k;
+    case JOB_WORDS:
+    case OWED:
     case SENT: return 1;
     case OFFER_CODE: return 11 * n;
     case TALLY_CODE: return 11 * t;
     case SIZES: return 4;
+    case NUMBERS:
     case REPORT: return 3;
+    case PRICE_WORDS:
+    case TOTAL_WORDS: return MOST_BOXES * MOST_BOXES;
     default: return 0;
     }
 }
@@ -104,7 +125,7 @@ int64_t word_at(struct table table, size_t place)
 {
     int64_t word = 0;
     memcpy(&word, place_of(table, place), width_of(table.name));
-    return table.name == TALLY_COUNT ? (int32_t)word : word;
+    return is_signed(table.name) && width_of(table.name) == 4 ? (int32_t)word : word;
 }
 
 void put_word(struct table table, size_t place, int64_t word)

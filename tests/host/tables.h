@@ -38,6 +38,18 @@ enum table_name {
     REPORT,
     FILE_BYTES,
     CHOICES,
+    HOST_TABLES, /* those from here on are lent to the calls of tests/calls alone */
+    OUT = HOST_TABLES,
+    OWED,
+    PRICE_WORDS,
+    TOTAL_WORDS,
+    JOB_WORDS,
+    LOCAL_OFFERS,
+    LOCAL_GROCERS,
+    STARTS,
+    PACKED_GROCERS,
+    PACKED_COUNTS,
+    NUMBERS,
     ALL_TABLES
 };
 
@@ -56,7 +68,7 @@ const char *table_text(enum table_name name);
 size_t width_of(enum table_name name);
 bool is_signed(enum table_name name);
 
-/* The words that a table needs for K, M, N and T as given. */
+/* The words that a table needs for K, M, N and T as given; 0 for a file. */
 uint64_t needed(enum table_name name, struct sizes sizes);
 
 /* All that a word of the table's width holds. */

@@ -1,44 +1,14 @@
-/* The settlement library, called from C and held to the model: test [--seed N] [--count N] [--exact] [--stop]
-   [--only TEXT]. */
-#include <stdio.h>
-#include <stdlib.h>
-#include <string.h>
-
+/* The settlement library, called from C and held to the model. */
 #include "groups.h"
-#include "jobs.h"
-#include "lending.h"
 
-unsigned long job_count = 2000;
-
-static int usage(void)
+static void all_groups(void)
 {
-    fputs("test [--seed N] [--count N] [--exact] [--stop] [--only TEXT]\n", stderr);
-    return 2;
-}
-
-int main(int argc, char **argv)
-{
-    uint64_t seed = 20260101;
-    for (int i = 1; i < argc; i++) {
-        if (strcmp(argv[i], "--exact") == 0)
-            lend_exactly = true;
-        else if (strcmp(argv[i], "--stop") == 0)
-            stop_at_first = true;
-        else if (i + 1 < argc && strcmp(argv[i], "--seed") == 0)
-            seed = strtoull(argv[++i], NULL, 10);
-        else if (i + 1 < argc && strcmp(argv[i], "--count") == 0)
-            job_count = strtoul(argv[++i], NULL, 10);
-        else if (i + 1 < argc && strcmp(argv[i], "--only") == 0)
-            only_groups = argv[++i];
-        else
-            return usage();
-    }
-    printf("seed %llu, count %lu%s\n", (unsigned long long)seed, job_count, lend_exactly ? ", exact buffers" : "");
-    seed_random(seed);
     check_reader();
     check_step();
     check_step_tables();
     check_lists();
     check_run();
-    return close_checks();
+    check_cases();
 }
+
+int main(int argc, char **argv) { return run_tests(argc, argv, all_groups); }

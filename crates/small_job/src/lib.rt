@@ -1,7 +1,3 @@
-// The small job E by value, for programs: its tables and its state, a call on them, their lines, and words that differ.
-pub mod ask;
-pub mod beyond;
-pub mod differ;
+// The small job E by value, for programs: its tables, its file, and bytes of the file changed.
 pub mod job;
-pub mod lines;
-pub mod zeros;
+pub mod patch;

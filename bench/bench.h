@@ -1,0 +1,30 @@
+/* The calls that are measured: ours, those of host/settlement.h and two of tests/calls/entries.h, and beside each the one of
+   the plain C program. A slice is a pointer and then its number of words. The answer is 0, or the number of the refusal. */
+#ifndef BENCH_H
+#define BENCH_H
+#include "entries.h"
+#include "settlement.h"
+
+enum {
+    BOXES = SETTLEMENT_MAX_BOXES,
+    GROCERS = SETTLEMENT_MAX_GROCERS,
+    OFFERS = SETTLEMENT_MAX_OFFERS,
+    TALLIES = SETTLEMENT_MAX_TALLIES,
+    CODE = SETTLEMENT_CODE,
+    BLOCK = 512,
+    FILE_BYTES = SETTLEMENT_MAX_FILE
+};
+
+typedef __typeof__(settlement_read) read_call;
+typedef __typeof__(settlement_step) step_call;
+typedef __typeof__(settlement_run) run_call;
+typedef __typeof__(entries_write) write_call;
+typedef __typeof__(entries_reconcile) reconcile_call;
+
+read_call plain_read;
+step_call plain_step;
+run_call plain_run;
+write_call plain_write;
+reconcile_call plain_reconcile;
+
+#endif

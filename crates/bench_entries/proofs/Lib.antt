@@ -1,2 +1,0 @@
--- Proofs about the benchmark's entry points.
-pub mod Fields

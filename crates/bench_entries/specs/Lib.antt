@@ -1,2 +1,0 @@
--- What the benchmark's entry points give.
-pub mod Entries

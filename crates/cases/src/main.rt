@@ -1,0 +1,16 @@
+// Cases of 01 that no theorem has, and what only a caller in Rattle sees: each line is a case and what it gave.
+mod desk;
+mod files;
+mod steps;
+mod sums;
+mod words;
+
+fn main() {
+    files::sample();
+    sums::plain_sums();
+    files::codes();
+    files::fields();
+    steps::requests();
+    desk::long_lists();
+    words::sums();
+}

@@ -1,0 +1,88 @@
+-- Records made of fields that are lent apart. Assumes nothing.
+use mathlib.Core.Path.{_≡_, refl, sym, ap₂, ap, _∙_, subst}
+use mathlib.Core.List.{List, [], _∷_}
+use mathlib.Core.Bool.{true, false}
+use Prim.Native.Nat.{ℕ, zero, suc, _<_, _≤_, _+_}
+use native.Mathlib.Omega.{arith}
+use native.Mathlib.Decide.{ℕ-discrete}
+use lib.IntN.{ℤ, pos}
+use lib.Dec.{ltb}
+use borrow.Author.Tests.{ltb-false}
+use lib.ListN.{length, getD, take, set}
+use lib.Seq.{length-take-le, getD-take, getD-set-same, getD-set-other}
+use Rattle.laws.specs.Tables.{tabulate, overwrite}
+use Rattle.laws.proofs.Checks.{none-of}
+use Rattle.laws.proofs.Tables.{is-tabulate}
+use Rattle.model.specs.Reconcile.{TallyRecord, DeskAnswer, reconciled}
+use Rattle.reconcile.specs.Records.{recordOf, recordsOf, answerOf}
+use Rattle.reconcile.specs.declared.Answer.{Answer}
+use Rattle.reconcile.specs.declared.Answer.the-variants.{Owed}
+use Rattle.reconcile.specs.declared.Tally.{Tally}
+use Rattle.entries.specs.Entries.{Fields, lentTally, lentRecords, shortFields, told, toldAs, toldBy}
+
+-- A record of zeros.
+abbrev pub blank : Tally
+blank = record { grocer = 0; «tally_box» = 0; place = 0; count = pos 0 }
+
+-- The first i records of a list are those of f.
+abbrev pub Filled : (ℕ → Tally) → List Tally → ℕ → Type 0
+Filled f l i = (p : ℕ) → p < i → getD l p blank ≡ f p
+
+-- One record more.
+pub filled-more : (f : ℕ → Tally) (l : List Tally) (i : ℕ) (t : Tally) → i < length l → t ≡ f i → Filled f l i → Filled f (set l i t) (i + 1)
+filled-more f l i t h e inv p q = go (ℕ-discrete p i)
+  where
+    go : Dec (p ≡ i) → getD (set l i t) p blank ≡ f p
+    go (yes s) = subst (λ (k : ℕ). getD (set l i t) k blank ≡ f k) (sym s) (getD-set-same l i t blank h ∙ e)
+    go (no d) = getD-set-other l i p t blank d ∙ inv p (omega (arith, q, d))
+
+records-tabulate : (n : ℕ) (f : ℕ → Tally) → recordsOf (tabulate n f) ≡ tabulate n (λ i. recordOf (f i))
+unfolding tabulate recordsOf
+records-tabulate zero f = refl
+records-tabulate (suc n) f = ap (λ (l : List TallyRecord). recordOf (f 0) ∷ l) (records-tabulate n (λ i. f (suc i)))
+
+-- A list that is filled holds the records lent.
+pub filled-all : (gs bs ps : List ℕ) (cs : List ℤ) (n : ℕ) (l : List Tally) → n ≤ length l → Filled (lentTally gs bs ps cs) l n → recordsOf (take n l) ≡ lentRecords n gs bs ps cs
+unfolding lentTally lentRecords
+filled-all gs bs ps cs n l h inv =
+    ap recordsOf (is-tabulate (take n l) n (lentTally gs bs ps cs) blank (length-take-le n l h) (λ i q. getD-take n l i blank q ∙ inv i q))
+    ∙ records-tabulate n (lentTally gs bs ps cs)
+
+-- One amount put in front of the lent words.
+pub put-one : (l : List ℤ) (z z′ : ℤ) → 1 ≤ length l → z′ ≡ z → set l 0 z′ ≡ overwrite 1 (λ i. z) l
+unfolding overwrite tabulate
+put-one [] z z′ h e = absurd (omega (arith, h))
+put-one (x ∷ l) z z′ h e = ap (λ (y : ℤ). y ∷ l) e
+
+-- Where a field is short the words stay.
+pub told-short : (m n g : ℕ) (prices gs bs ps : List ℕ) (cs out : List ℤ) → shortFields gs bs ps cs out ≡ true → told 20 out ≡ toldBy m n g prices gs bs ps cs out
+unfolding toldBy
+told-short m n g prices gs bs ps cs out e = rw e
+
+-- Where none is, the answer is the desk's.
+pub told-whole : (m n g : ℕ) (prices gs bs ps : List ℕ) (cs out out′ : List ℤ) (r : ℕ) (a : DeskAnswer) (l : List TallyRecord) → shortFields gs bs ps cs out ≡ false →
+    told r out′ ≡ toldAs a out → a ≡ reconciled m n g prices l → l ≡ lentRecords (length gs) gs bs ps cs → told r out′ ≡ toldBy m n g prices gs bs ps cs out
+unfolding toldBy
+told-whole m n g prices gs bs ps cs out out′ r a l e t q k =
+    t ∙ ap (λ (x : DeskAnswer). toldAs x out) (q ∙ ap (reconciled m n g prices) k) ∙ rw e
+
+-- What 20 leaves.
+pub fields-whole : (gs bs ps : List ℕ) (cs out : List ℤ) → shortFields gs bs ps cs out ≡ false → (length gs ≤ 1_024) × Fields (length gs) gs bs ps cs × (1 ≤ length out)
+unfolding shortFields
+fields-whole gs bs ps cs out e =
+    let n = length gs in
+    let each = none-of (ltb 1_024 n ∷ ltb (length bs) n ∷ ltb (length ps) n ∷ ltb (length cs) n ∷ ltb (length out) 1 ∷ []) e in (
+      ltb-false 1_024 n (each .0),
+      record {
+        grocers = omega arith;
+        boxes = ltb-false (length bs) n (each .1 .0);
+        places = ltb-false (length ps) n (each .1 .1 .0);
+        counts = ltb-false (length cs) n (each .1 .1 .1 .0);
+      },
+      ltb-false (length out) 1 (each .1 .1 .1 .1 .0),
+    )
+
+-- An amount that is told.
+pub told-amount : (a : Answer) (z : ℤ) (out out′ : List ℤ) → a ≡ Owed z → out′ ≡ overwrite 1 (λ i. z) out → told 0 out′ ≡ toldAs (answerOf a) out
+unfolding toldAs answerOf
+told-amount a z out out′ e h = rw (e, h)

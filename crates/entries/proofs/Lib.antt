@@ -1,0 +1,3 @@
+-- Proofs about the entry points.
+pub mod Fields
+pub mod Told

@@ -1,0 +1,108 @@
+-- The tables of messages and the local book, told in lent words. Assumes nothing.
+use mathlib.Core.Path.{_≡_, refl, sym, ap, _∙_}
+use mathlib.Core.Bool.{true, false}
+use mathlib.Core.List.{List, [], _∷_}
+use Prim.Native.Nat.{ℕ, zero, suc, _<_, _≤_}
+use native.Mathlib.Omega.{arith}
+use lib.Dec.{ltb}
+use lib.ListN.{length, set, replicate}
+use borrow.Author.Tests.{lt-ltb, le-ltb, ltb-false}
+use Rattle.laws.specs.Checks.{firstMet}
+use Rattle.laws.specs.Tables.{tabulate, overwrite, recell}
+use Rattle.laws.proofs.Bools.{cond-yes, cond-no}
+use Rattle.laws.proofs.Checks.{none-of}
+use Rattle.model.specs.Job.{Job}
+use Rattle.model.specs.Tables.{JobTables, jobOf}
+use Rattle.model.specs.Local.{bookRefusals}
+use Rattle.tables.specs.Messages.{cellAt}
+use Rattle.tables.specs.Answers.{said as saidMessages, TablesGiven, tablesGiven, messageTables}
+use Rattle.tables.specs.declared.messages.Answer.{Answer as MessagesCall}
+use Rattle.tables.specs.declared.messages.Answer.the-variants.{Made, Refused as NotMade}
+use Rattle.local.specs.Sort.{inFront}
+use Rattle.local.specs.Book.{said as saidBook, bookAnswer, BookTables, bookLengths, Booked}
+use Rattle.local.specs.declared.book.Answer.{Answer as BookCall}
+use Rattle.local.specs.declared.book.Answer.the-variants.{Book, Refused as NotBooked}
+use Rattle.entries.specs.EntryTables.{messagesTold, messagesFor, messagesAs, messagesShort, noWords, messagesBy}
+use Rattle.entries.specs.EntryBook.{NumbersTold, numbersTold, numbersAs, numbersBy, BookedBy}
+
+-- One word, and three, written in front of a buffer.
+pub put-one-word : (l : List ℕ) (a : ℕ) → 1 ≤ length l → set l 0 a ≡ inFront (a ∷ []) l
+unfolding inFront overwrite tabulate
+put-one-word [] a h = absurd (omega (arith, h))
+put-one-word (x ∷ l) a h = refl
+
+pub put-three-words : (l : List ℕ) (a b c : ℕ) → 3 ≤ length l → set (set (set l 0 a) 1 b) 2 c ≡ inFront (a ∷ b ∷ c ∷ []) l
+unfolding inFront overwrite tabulate
+put-three-words [] a b c h = absurd (omega (arith, h))
+put-three-words (x ∷ []) a b c h = absurd (omega (arith, h))
+put-three-words (x ∷ y ∷ []) a b c h = absurd (omega (arith, h))
+put-three-words (x ∷ y ∷ z ∷ l) a b c h = refl
+
+-- Tables of no words are all zeros.
+pub no-words : replicate 16 (replicate 16 0) ≡ noWords
+unfolding noWords tabulate
+no-words = refl
+
+module _ (a : MessagesCall) (prices totals : List (List ℕ)) (p t w : List ℕ) where
+  -- Tables that are made, told.
+  pub told-made : (n : ℕ) (p′ t′ : List ℕ) → a ≡ Made n → 1 ≤ length w → p′ ≡ recell 16 16 (cellAt prices) p → t′ ≡ recell 16 16 (cellAt totals) t →
+      messagesTold 0 p′ t′ (set w 0 n) ≡ messagesAs (tablesGiven (saidMessages a) prices totals) p t w
+  unfolding messagesFor saidMessages
+  told-made n p′ t′ e h ep et = rw (e, ep, et, put-one-word w n h)
+
+  -- A refusal, told.
+  pub told-not-made : (n : ℕ) → a ≡ NotMade n → messagesTold n p t w ≡ messagesAs (tablesGiven (saidMessages a) prices totals) p t w
+  unfolding messagesFor saidMessages
+  told-not-made n e = rw e
+
+module _ (f : JobTables) (p t w : List ℕ) where
+  -- 20: a buffer is short.
+  pub messages-short : messagesShort p t w ≡ true → messagesTold 20 p t w ≡ messagesBy f p t w
+  unfolding messagesBy
+  messages-short e = sym (cond-yes _ _ _ e)
+
+  -- Else what the call of the tables gives, told.
+  pub messages-told : (m : TablesGiven) (r : ℕ) (p′ t′ w′ : List ℕ) → messagesShort p t w ≡ false → m ≡ messageTables f noWords noWords →
+      messagesTold r p′ t′ w′ ≡ messagesAs m p t w → messagesTold r p′ t′ w′ ≡ messagesBy f p t w
+  unfolding messagesBy
+  messages-told m r p′ t′ w′ e is told = told ∙ ap (λ (o : TablesGiven). messagesAs o p t w) is ∙ sym (cond-no _ _ _ e)
+
+-- What 20 leaves.
+pub messages-room : (p t w : List ℕ) → messagesShort p t w ≡ false → (256 ≤ length p) × (256 ≤ length t) × (1 ≤ length w)
+unfolding messagesShort
+messages-room p t w e =
+    let each = none-of (ltb (length p) 256 ∷ ltb (length t) 256 ∷ ltb (length w) 1 ∷ []) e in
+    (ltb-false _ _ (each .0), ltb-false _ _ (each .1 .0), ltb-false _ _ (each .1 .1 .0))
+
+-- The numbers of a book, told.
+pub told-numbers : (a : BookCall) (o g n : ℕ) (l : List ℕ) → a ≡ Book o g n → 3 ≤ length l → numbersTold 0 (set (set (set l 0 o) 1 g) 2 n) ≡ numbersAs (saidBook a) l
+unfolding numbersAs saidBook
+told-numbers a o g n l e h = rw (e, put-three-words l o g n h)
+
+-- A refusal of the book, told.
+pub told-not-booked : (a : BookCall) (n : ℕ) (l : List ℕ) → a ≡ NotBooked n → numbersTold n l ≡ numbersAs (saidBook a) l
+unfolding numbersAs saidBook
+told-not-booked a n l e = rw e
+
+-- The number told is 0 just where no refusal is met.
+by-number : (k : ℕ) (j : Job) (b r : ℕ) (l l′ : List ℕ) (W E : Type 0) → numbersTold r l′ ≡ numbersAs (bookAnswer k j b) l → (k ≡ 0 → W) → ((k ≡ 0 → ⊥) → E) →
+    (r ≡ 0 → W) × ((r ≡ 0 → ⊥) → E)
+unfolding numbersAs bookAnswer
+by-number zero j b r l l′ W E e w u = (λ z. w refl, λ z. absurd (z (ap (λ (o : NumbersTold). o .answer) e)))
+by-number (suc k) j b r l l′ W E e w u =
+    let is : r ≡ suc k = ap (λ (o : NumbersTold). o .answer) e in
+    (λ z. absurd (omega (arith, is, z)), λ z. u (λ q. omega (arith, q)))
+
+module _ (f : JobTables) (b : ℕ) (before : BookTables) (l : List ℕ) where
+  -- 20: the buffer for the numbers is short.
+  pub booked-short : length l < 3 → BookedBy f b before l 20 before l
+  unfolding numbersBy
+  booked-short h = record { told = sym (cond-yes _ _ _ (lt-ltb _ _ h)); written = λ z. absurd (omega (arith, z)); unchanged = λ z. refl }
+
+  -- Else what the book gives, told.
+  pub booked-told : (a : BookCall) (after : BookTables) (r : ℕ) (l′ : List ℕ) → 3 ≤ length l → numbersTold r l′ ≡ numbersAs (saidBook a) l → Booked f b before a after → BookedBy f b before l r after l′
+  unfolding numbersBy
+  booked-told a after r l′ h e g =
+      let due : numbersTold r l′ ≡ numbersAs (bookAnswer (firstMet (bookRefusals f (bookLengths before) b)) (jobOf f) b) l = e ∙ ap (λ o. numbersAs o l) (g .answer) in
+      let both = by-number (firstMet (bookRefusals f (bookLengths before) b)) (jobOf f) b r l l′ _ _ due (g .written) (g .unchanged) in
+      record { told = due ∙ sym (cond-no _ _ _ (le-ltb _ _ h)); written = both .0; unchanged = both .1 }

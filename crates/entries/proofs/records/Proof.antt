@@ -1,0 +1,76 @@
+-- `records` makes the list of records. The invariant: the records before i are those lent. Assumes nothing.
+use mathlib.Core.Path.{_≡_, refl, sym, _∙_, subst}
+use Prim.Native.Nat.{ℕ, _≤_, _<_, _-_}
+use native.Mathlib.Omega.{arith}
+use lib.ListN.{length, take, length-set}
+use borrow.Author.Needs.{needs}
+use denote.Ref.{now}
+use Rattle.reconcile.specs.Records.{recordsOf}
+use Rattle.entries.specs.Entries.{lentTally, lentRecords}
+use Rattle.entries.proofs.Fields.{Filled, filled-more, filled-all}
+use Rattle.entries.proofs.records.Statement.{statement}
+use Rattle.entries.proofs.records.Tie as tie
+use Rattle.entries.proofs.records.Reads as reads
+use Rattle.entries.proofs.records.Lts as lts
+use Rattle.entries.proofs.tally.Reads as tally-reads
+
+abbrev Inv-loop : tie.InvT-loop
+Inv-loop grocer tbox place count n list₀ i₀ list i = (i ≤ n) × (length list ≡ 1024) × Filled (lentTally grocer tbox place count) list i
+
+abbrev μ-loop : tie.MeasureT-loop
+μ-loop grocer tbox place count n list₀ i₀ list i = n - i
+
+loop-holds : tie.Need-loop-holds Inv-loop μ-loop
+loop-holds c = (search needs, refl, λ p h. absurd (omega (arith, h)))
+
+tally-requires : tie.Need-tally-requires Inv-loop μ-loop
+tally-requires c κs = (c .loop-test .taken, c .before .before .before .before .before .pre .1)
+
+mul-list : tie.Need-mul-list Inv-loop μ-loop
+mul-list c = omega (arith, c .before .before .loop .inv .0, c .before .before .before .before .before .before .pre .0)
+
+array-set-from-list : tie.Need-array-set-from-list Inv-loop μ-loop
+array-set-from-list c = omega (arith, c .before .loop-test .taken, c .before .before .before .before .before .before .pre .0)
+
+add-i : tie.Need-add-i Inv-loop μ-loop
+add-i c = omega (arith, c .before .before .loop .inv .0, c .before .before .before .before .before .before .pre .0)
+
+loop-less : tie.Need-loop-less Inv-loop μ-loop
+loop-less c = omega (arith, c .before .loop-test .taken)
+
+loop-again : tie.Need-loop-again Inv-loop μ-loop
+loop-again c =
+    let e = c .before in
+    let s = e .before .before .before .before .before in
+    let list = e .before .loop .list in
+    let i = e .before .loop .i in
+    let inv = e .before .loop .inv in (
+      omega (arith, e .loop-test .taken),
+      length-set list i _ ∙ inv .1,
+      filled-more (lentTally (now (s .args .tally-grocer)) (now (s .args .tally-box)) (now (s .args .tally-offer)) (now (s .args .tally-count))) list i (c .tally .result)
+          (omega (arith, inv .1, e .loop-test .taken, s .pre .0)) (c .tally .ensures) (inv .2),
+    )
+
+returns : tie.Need-returns Inv-loop μ-loop
+returns c =
+    let b = c .before in
+    let s = b .before .before .before .before in
+    let inv = b .loop .inv in
+    let e : b .loop .i ≡ length (now (s .args .tally-grocer)) = omega arith in
+    filled-all (now (s .args .tally-grocer)) (now (s .args .tally-box)) (now (s .args .tally-offer)) (now (s .args .tally-count)) _ (b .loop .list)
+    (omega (arith, inv .1, s .pre .0)) (rw e at (inv .2))
+
+pub records-spec : {M : Type 1} → statement M
+records-spec =
+    tie.close
+    (tie.spec
+    Inv-loop
+    μ-loop
+    loop-holds
+    tally-requires
+    mul-list
+    array-set-from-list
+    add-i
+    loop-less
+    loop-again
+    returns)

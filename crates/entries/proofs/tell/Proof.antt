@@ -1,0 +1,35 @@
+-- `tell` puts an amount into the lent word, and says the number of a refusal. Assumes nothing.
+use Rattle.laws.proofs.Signed.{read64}
+use Rattle.reconcile.specs.Records.{answerOf}
+use Rattle.entries.specs.Entries.{toldAs}
+use Rattle.entries.proofs.Fields.{put-one, told-amount}
+use borrow.Author.Needs.{needs}
+use Rattle.entries.proofs.tell.Statement.{statement}
+use Rattle.entries.proofs.tell.Tie as tie
+use Rattle.entries.proofs.tell.Reads as reads
+use Rattle.entries.proofs.tell.Lts as lts
+
+enum-known-a : tie.Need-enum-known-a
+enum-known-a c = search needs
+
+slice-set-from-z : tie.Need-slice-set-from-z
+slice-set-from-z c = search needs
+
+enum-known-a-2 : tie.Need-enum-known-a-2
+enum-known-a-2 c = search needs
+
+same-length : tie.Need-same-length
+same-length c = search needs
+
+returns : tie.Need-returns
+returns c =
+    let k = c .before .before .before in
+    told-amount _ _ _ _ (c .before .a .given .1) (put-one (k .args .owed .now) _ _ (k .pre) (read64 _ (c .known-told .given .0 .1)))
+
+returns-2 : tie.Need-returns-2
+unfolding toldAs answerOf
+returns-2 c = rw (c .before .a2 .given .1)
+
+pub tell-spec : {M : Type 1} → statement M
+tell-spec =
+    tie.close (tie.spec enum-known-a slice-set-from-z enum-known-a-2 same-length returns returns-2)
