@@ -31,7 +31,7 @@ fn price_at(price: [u32; 2], place: u16) -> u64 {
 
 // The sums with one tally more, where it is the grocer's.
 fn with_tally(s: Sums, own: bool, price: u64, count: i32) -> Sums {
-    let n = show::size(show::wide_count(count));
+    let n = text::numbers::size(show::wide_count(count));
     if !own {
         return s;
     }

@@ -1,6 +1,4 @@
 // Lines of text for programs: what they write is compared with what they should.
-ghost use mathlib.Core.Path.{_≡_};
-ghost use lib.IntN.{natAbs};
 
 // Bytes as they are.
 pub fn text(s: &[u8]) {
@@ -27,24 +25,12 @@ pub fn number(n: u64) {
     io::print_decimal(1, n);
 }
 
-// A number without its sign.
-pub fn size(z: i64) -> u64
-    ensures { λ r. ⌜ r ≡ natAbs z ⌝ }
-{
-    if z < 0 {
-        let low = (-1 - z) as u64;
-        low + 1
-    } else {
-        z as u64
-    }
-}
-
 // A whole number in decimal, with its sign.
 pub fn signed(z: i64) {
     if z < 0 {
         text(b"-");
     }
-    number(size(z));
+    number(text::numbers::size(z));
 }
 
 // A space and a number.
@@ -62,11 +48,6 @@ pub fn next_signed(z: i64) {
 // A count as a whole number.
 pub fn wide_count(x: i32) -> i64 {
     x as i64
-}
-
-// A space and a count with its sign.
-pub fn next_count(x: i32) {
-    next_signed(wide_count(x));
 }
 
 // The end of a line.

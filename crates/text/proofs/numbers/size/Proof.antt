@@ -1,4 +1,4 @@
--- `show::size` meets its contract. Assumes nothing.
+-- `text::numbers::size` meets its contract. Assumes nothing.
 use Prim.Native.Nat.{ℕ, _^_, _<_}
 use mathlib.Core.Path.{_≡_, ap}
 use native.Mathlib.Omega.{arith}
@@ -7,10 +7,10 @@ use mir.Syntax.{w64}
 use mir.Val.{hbits}
 use mir.Facts.{toZ-ofZ}
 use Rattle.laws.proofs.Signs.{below-zero, from-zero, sfits-pos, turned}
-use Rattle.show.proofs.size.Statement.{statement}
-use Rattle.show.proofs.size.Tie as tie
-use Rattle.show.proofs.size.Reads as reads
-use Rattle.show.proofs.size.Lts as lts
+use Rattle.text.proofs.numbers.size.Statement.{statement}
+use Rattle.text.proofs.numbers.size.Tie as tie
+use Rattle.text.proofs.numbers.size.Reads as reads
+use Rattle.text.proofs.numbers.size.Lts as lts
 
 neg : (c : tie.Then1) → (n : ℕ) × (c .before .args .z ≡ negsuc n) × (n < 2 ^ 63)
 neg c = below-zero {w = w64} (c .before .args .z) (c .before .fits .z) (c .if1 .taken)
