@@ -1,6 +1,7 @@
 // Cases of 01 that no theorem has, and what only a caller in Rattle sees: each line is a case and what it gave.
 mod desk;
 mod files;
+mod picks;
 mod steps;
 mod sums;
 mod words;
@@ -13,4 +14,5 @@ fn main() {
     steps::requests();
     desk::long_lists();
     words::sums();
+    picks::choices();
 }

@@ -43,7 +43,9 @@ pub extern "C" fn entries_write(
     tally_count: &[i32],
     out: &mut [u8],
 ) -> usize
-    ensures { λ r. ⌜ written r (now (out .exit)) ≡ writtenAs (writeResult boxes grocers offers tallies (fileTables (now (price .entry)) (now («offer_owner» .entry)) (now («offer_code» .entry)) (now («grocer_owner» .entry)) (now («tally_grocer» .entry)) (now («tally_box» .entry)) (now («tally_code» .entry)) (now («tally_count» .entry))) (now (out .entry))) ⌝ }
+    ensures { λ r. ⌜ written r (now (out .exit)) ≡ writtenAs (writeResult boxes grocers offers tallies (fileTables (now (price .entry))
+        (now («offer_owner» .entry)) (now («offer_code» .entry)) (now («grocer_owner» .entry)) (now («tally_grocer» .entry))
+        (now («tally_box» .entry)) (now («tally_code» .entry)) (now («tally_count» .entry))) (now (out .entry))) ⌝ }
 {
     let a = writer::write(
         boxes,
@@ -73,7 +75,8 @@ fn tally(
 ) -> Tally
     requires { ⌜ i < length (now «tally_grocer») ⌝ }
     requires { ⌜ Fields (length (now «tally_grocer»)) (now «tally_grocer») (now «tally_box») (now «tally_offer») (now «tally_count») ⌝ }
-    ensures { λ r. ⌜ r ≡ lentTally (now («tally_grocer» .entry)) (now («tally_box» .entry)) (now («tally_offer» .entry)) (now («tally_count» .entry)) i ⌝ }
+    ensures { λ r. ⌜ r ≡ lentTally (now («tally_grocer» .entry)) (now («tally_box» .entry)) (now («tally_offer» .entry))
+        (now («tally_count» .entry)) i ⌝ }
 {
     Tally {
         grocer: tally_grocer[i],
@@ -92,7 +95,8 @@ fn records(
 ) -> [Tally; 1024]
     requires { ⌜ length (now «tally_grocer») ≤ 1024 ⌝ }
     requires { ⌜ Fields (length (now «tally_grocer»)) (now «tally_grocer») (now «tally_box») (now «tally_offer») (now «tally_count») ⌝ }
-    ensures { λ r. ⌜ recordsOf (take (length (now («tally_grocer» .entry))) r) ≡ lentRecords (length (now («tally_grocer» .entry))) (now («tally_grocer» .entry)) (now («tally_box» .entry)) (now («tally_offer» .entry)) (now («tally_count» .entry)) ⌝ }
+    ensures { λ r. ⌜ recordsOf (take (length (now («tally_grocer» .entry))) r) ≡ lentRecords (length (now («tally_grocer» .entry)))
+        (now («tally_grocer» .entry)) (now («tally_box» .entry)) (now («tally_offer» .entry)) (now («tally_count» .entry)) ⌝ }
 {
     let n = tally_grocer.len();
     let none = Tally {
@@ -136,7 +140,8 @@ pub extern "C" fn entries_reconcile(
     wanted: u16,
     owed: &mut [i64],
 ) -> u16
-    ensures { λ r. ⌜ told r (now (owed .exit)) ≡ toldBy grocers offers wanted (now (price .entry)) (now («tally_grocer» .entry)) (now («tally_box» .entry)) (now («tally_offer» .entry)) (now («tally_count» .entry)) (now (owed .entry)) ⌝ }
+    ensures { λ r. ⌜ told r (now (owed .exit)) ≡ toldBy grocers offers wanted (now (price .entry)) (now («tally_grocer» .entry))
+        (now («tally_box» .entry)) (now («tally_offer» .entry)) (now («tally_count» .entry)) (now (owed .entry)) ⌝ }
 {
     let n = tally_grocer.len();
     let few = (1024 < n)
@@ -174,7 +179,8 @@ fn tell_messages(
 ) -> u16
     requires { ⌜ (256 ≤ length (now «price_words»)) × (256 ≤ length (now «total_words»)) × (1 ≤ length (now «job_words»)) ⌝ }
     ensures { λ r. ⌜ messagesTold r (now («price_words» .exit)) (now («total_words» .exit)) (now («job_words» .exit))
-        ≡ messagesAs (tablesGiven (saidMessages a) «made_prices» «made_totals») (now («price_words» .entry)) (now («total_words» .entry)) (now («job_words» .entry)) ⌝ }
+        ≡ messagesAs (tablesGiven (saidMessages a) «made_prices» «made_totals») (now («price_words» .entry)) (now («total_words» .entry))
+        (now («job_words» .entry)) ⌝ }
 {
     match a {
         tables::messages::Answer::Made(words) => {
@@ -208,7 +214,8 @@ pub extern "C" fn entries_message_tables(
 ) -> u16
     ensures { λ r. ⌜ messagesTold r (now («price_words» .exit)) (now («total_words» .exit)) (now («job_words» .exit))
         ≡ messagesBy
-        (jobTables boxes grocers offers tallies (now (price .entry)) (now («offer_owner» .entry)) (now («grocer_owner» .entry)) (now («tally_grocer» .entry)) (now («tally_box» .entry)) (now («tally_offer» .entry)) (now («tally_count» .entry)))
+        (jobTables boxes grocers offers tallies (now (price .entry)) (now («offer_owner» .entry)) (now («grocer_owner» .entry))
+        (now («tally_grocer» .entry)) (now («tally_box» .entry)) (now («tally_offer» .entry)) (now («tally_count» .entry)))
         (now («price_words» .entry)) (now («total_words» .entry)) (now («job_words» .entry)) ⌝ }
 {
     if (price_words.len() < 256) | (total_words.len() < 256) | (job_words.len() < 1) {
@@ -278,12 +285,15 @@ pub extern "C" fn entries_book(
     numbers: &mut [u16],
 ) -> u16
     ensures { λ r. ⌜ BookedBy
-        (jobTables boxes grocers offers tallies (now (price .entry)) (now («offer_owner» .entry)) (now («grocer_owner» .entry)) (now («tally_grocer» .entry)) (now («tally_box» .entry)) (now («tally_offer» .entry)) (now («tally_count» .entry)))
+        (jobTables boxes grocers offers tallies (now (price .entry)) (now («offer_owner» .entry)) (now («grocer_owner» .entry))
+        (now («tally_grocer» .entry)) (now («tally_box» .entry)) (now («tally_offer» .entry)) (now («tally_count» .entry)))
         «book_box»
-        (bookTables (now («local_offers» .entry)) (now («local_grocers» .entry)) (now (starts .entry)) (now («packed_grocers» .entry)) (now («packed_counts» .entry)))
+        (bookTables (now («local_offers» .entry)) (now («local_grocers» .entry)) (now (starts .entry)) (now («packed_grocers» .entry))
+        (now («packed_counts» .entry)))
         (now (numbers .entry))
         r
-        (bookTables (now («local_offers» .exit)) (now («local_grocers» .exit)) (now (starts .exit)) (now («packed_grocers» .exit)) (now («packed_counts» .exit)))
+        (bookTables (now («local_offers» .exit)) (now («local_grocers» .exit)) (now (starts .exit)) (now («packed_grocers» .exit))
+        (now («packed_counts» .exit)))
         (now (numbers .exit)) ⌝ }
 {
     if numbers.len() < 3 {

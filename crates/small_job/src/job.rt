@@ -14,7 +14,8 @@ pub struct Job {
     pub tcount: [i32; 4],
 }
 
-// "E: K 2; offers "00412" 500 owner 0, "77" 1250 owner 1; grocer owners 1, 0; tallies (grocer, box, code, count): (0,0,"412",3) (1,0,"077",2) (0,1,"77",−1) (0,1,"0412",4)."
+// "E: K 2; offers "00412" 500 owner 0, "77" 1250 owner 1; grocer owners 1, 0; tallies (grocer, box, code, count):
+// (0,0,"412",3) (1,0,"077",2) (0,1,"77",−1) (0,1,"0412",4)."
 pub fn small() -> Job {
     let mut code = [0u8; 22];
     put_code(&mut code, 0, b"00412");
