@@ -37,7 +37,8 @@ pub fn send_prices(
     requires { ⌜ PricesIn k n a b (now owner) (now known) (now transit) ⌝ }
     requires { ⌜ Linked n (now owner) (now first) (now next) ⌝ }
     requires { ⌜ SentIn (now sent) ⌝ }
-    ensures { λ _. ⌜ (now (transit .exit) ≡ sentTransit k n a b (now (owner .entry)) (now (needs .entry)) (now (known .entry)) (now (transit .entry))) × (now (sent .exit) ≡ sentMore (now (sent .entry)) (count n (wordIn (now (owner .entry)) (now (needs .entry)) a b))) ⌝ }
+    ensures { λ _. ⌜ (now (transit .exit) ≡ sentTransit k n a b (now (owner .entry)) (now (needs .entry)) (now (known .entry)) (now (transit .entry)))
+        × (now (sent .exit) ≡ sentMore (now (sent .entry)) (count n (wordIn (now (owner .entry)) (now (needs .entry)) a b))) ⌝ }
 {
     let more = prices::send::send_prices(k, n, a, b, owner, needs, first, next, known, transit);
     raise(sent, more);
@@ -63,7 +64,8 @@ pub fn multiply(
 )
     requires { ⌜ MultiplyIn (tallies k m n t (now owner) (now grocer) (now holder) (now offer) (now counts)) a (now prices) (now working) ⌝ }
     requires { ⌜ Linked t (now holder) (now first) (now next) ⌝ }
-    ensures { λ _. ⌜ now (working .exit) ≡ putRow k m a (productRow (tallies k m n t (now (owner .entry)) (now (grocer .entry)) (now (holder .entry)) (now (offer .entry)) (now (counts .entry))) (now (prices .entry)) a from (now (working .entry))) (now (working .entry)) ⌝ }
+    ensures { λ _. ⌜ now (working .exit) ≡ putRow k m a (productRow (tallies k m n t (now (owner .entry)) (now (grocer .entry)) (now (holder .entry))
+        (now (offer .entry)) (now (counts .entry))) (now (prices .entry)) a from (now (working .entry))) (now (working .entry)) ⌝ }
 {
     totals::row::add_products(
         k,
@@ -109,7 +111,10 @@ pub fn receive_prices(
     requires { ⌜ ReceiveIn (tallies k m n t (now owner) (now grocer) (now holder) (now offer) (now counts)) a b (now known) (now transit) (now working) ⌝ }
     requires { ⌜ Linked n (now owner) (now ofirst) (now onext) ⌝ }
     requires { ⌜ Linked t (now holder) (now tfirst) (now tnext) ⌝ }
-    ensures { λ _. ⌜ (now (known .exit) ≡ receivedKnown k n a b (now (owner .entry)) (now (needs .entry)) (now (known .entry)) (now (transit .entry))) × (now (transit .exit) ≡ receivedTransit k n a b (now (owner .entry)) (now (needs .entry)) (now (known .entry)) (now (transit .entry))) × (now (working .exit) ≡ putRow k m a (productRow (tallies k m n t (now (owner .entry)) (now (grocer .entry)) (now (holder .entry)) (now (offer .entry)) (now (counts .entry))) (now (transit .entry)) a b (now (working .entry))) (now (working .entry))) ⌝ }
+    ensures { λ _. ⌜ (now (known .exit) ≡ receivedKnown k n a b (now (owner .entry)) (now (needs .entry)) (now (known .entry)) (now (transit .entry)))
+        × (now (transit .exit) ≡ receivedTransit k n a b (now (owner .entry)) (now (needs .entry)) (now (known .entry)) (now (transit .entry))) ×
+        (now (working .exit) ≡ putRow k m a (productRow (tallies k m n t (now (owner .entry)) (now (grocer .entry)) (now (holder .entry))
+        (now (offer .entry)) (now (counts .entry))) (now (transit .entry)) a b (now (working .entry))) (now (working .entry))) ⌝ }
 {
     multiply(
         k,
@@ -148,7 +153,10 @@ pub fn send_totals(
     requires { ⌜ (k ≤ 16) × (m ≤ 255) × (a < k) × (m ≤ length (now owner)) × (k * m ≤ length (now working)) × (k * m ≤ length (now transit)) ⌝ }
     requires { ⌜ (b < 16) × Linked m (now owner) (now first) (now next) ⌝ }
     requires { ⌜ SentIn (now sent) ⌝ }
-    ensures { λ _. ⌜ (now (working .exit) ≡ cleared k m a (wordIn (now (owner .entry)) (now (sharers .entry)) b a) (now (working .entry))) × (now (transit .exit) ≡ sentTotals k m a (wordIn (now (owner .entry)) (now (sharers .entry)) b a) (now (working .entry)) (now (transit .entry))) × (now (sent .exit) ≡ sentMore (now (sent .entry)) (count m (wordIn (now (owner .entry)) (now (sharers .entry)) b a))) ⌝ }
+    ensures { λ _. ⌜ (now (working .exit) ≡ cleared k m a (wordIn (now (owner .entry)) (now (sharers .entry)) b a) (now (working .entry))) ×
+        (now (transit .exit) ≡ sentTotals k m a (wordIn (now (owner .entry)) (now (sharers .entry)) b a) (now (working .entry))
+        (now (transit .entry))) × (now (sent .exit) ≡ sentMore (now (sent .entry)) (count m (wordIn (now (owner .entry)) (now (sharers .entry)) b a)))
+        ⌝ }
 {
     let more = totals::send::send_totals(k, m, a, b, owner, sharers, first, next, working, transit);
     raise(sent, more);

@@ -98,7 +98,8 @@ fn part(n: usize, b: usize) -> usize
 pub fn records_at(k: usize, kind: usize, s: Sizes) -> usize
     requires { ⌜ (k ≤ 73) × Most s ⌝ }
     requires { ⌜ (1 ≤ k) × (kind ≡ blockKindNumber (kindAt (s .offers) k)) ⌝ }
-    ensures { λ r. ⌜ ((j : FileJob) → j .grocers ≡ s .grocers → j .offers ≡ s .offers → j .tallies ≡ s .tallies → r ≡ records j (kindAt (s .offers) k)) × (r ≤ 255) ⌝ }
+    ensures { λ r. ⌜ ((j : FileJob) → j .grocers ≡ s .grocers → j .offers ≡ s .offers → j .tallies ≡ s .tallies → r ≡ records j
+        (kindAt (s .offers) k)) × (r ≤ 255) ⌝ }
 {
     if kind == 1 {
         return part(s.offers, k - 1);

@@ -83,7 +83,8 @@ fn bad_owners(f: &[u8], k: usize, count: usize, boxes: usize) -> bool
 fn bad_tallies(f: &[u8], k: usize, count: usize, boxes: usize, grocers: usize) -> bool
     requires { ⌜ (512 * k + 512 ≤ length (now f)) × (talliesAt (decode (now f) .offers) ≤ k) × (count ≤ 21) ⌝ }
     requires { ⌜ (boxes ≡ decode (now f) .boxes) × (grocers ≡ decode (now f) .grocers) ⌝ }
-    ensures { λ r. ⌜ r ≡ any count (λ i. badTally (decode (now (f .entry))) (decode (now (f .entry)) .tally (21 * (k - talliesAt (decode (now (f .entry)) .offers)) + i))) ⌝ }
+    ensures { λ r. ⌜ r ≡ any count (λ i. badTally (decode (now (f .entry)))
+        (decode (now (f .entry)) .tally (21 * (k - talliesAt (decode (now (f .entry)) .offers)) + i))) ⌝ }
 {
     let at = 512 * k + 4;
     let mut found = false;

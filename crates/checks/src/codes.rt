@@ -33,7 +33,8 @@ fn number_all(code: &[u8], n: usize, numbers: &mut [u64])
 fn names_none(keys: &[u64], places: &[u16], n: usize, tcode: &[u8], i: usize) -> bool
     requires { ⌜ (n ≤ 500) × ((n ≤ length (now keys)) × (n ≤ length (now places))) ⌝ }
     requires { ⌜ (i * 11 + 11 ≤ length (now tcode)) × (isCode (codeOf (now tcode) i) ≡ true) ⌝ }
-    ensures { λ r. ⌜ ((numbers : List ℕ) → IsIndex (now (keys .entry)) (now (places .entry)) numbers n → sharesNumber numbers n ≡ false → r ≡ eqb (placeOf numbers n (codeNumber (codeOf (now (tcode .entry)) i))) n) ⌝ }
+    ensures { λ r. ⌜ ((numbers : List ℕ) → IsIndex (now (keys .entry)) (now (places .entry)) numbers n → sharesNumber numbers n ≡ false → r ≡ eqb
+        (placeOf numbers n (codeNumber (codeOf (now (tcode .entry)) i))) n) ⌝ }
 {
     let number = number_at(tcode, i * 11);
     let at = place(keys, places, n, number);
@@ -44,7 +45,8 @@ fn names_none(keys: &[u64], places: &[u16], n: usize, tcode: &[u8], i: usize) ->
 fn some_none(keys: &[u64], places: &[u16], n: usize, tcode: &[u8], t: usize) -> bool
     requires { ⌜ (n ≤ 500) × ((n ≤ length (now keys)) × (n ≤ length (now places))) ⌝ }
     requires { ⌜ (t * 11 ≤ length (now tcode)) × Codes (now tcode) t ⌝ }
-    ensures { λ r. ⌜ ((numbers : List ℕ) → IsIndex (now (keys .entry)) (now (places .entry)) numbers n → sharesNumber numbers n ≡ false → r ≡ any t (λ i. eqb (placeOf numbers n (codeNumber (codeOf (now (tcode .entry)) i))) n)) ⌝ }
+    ensures { λ r. ⌜ ((numbers : List ℕ) → IsIndex (now (keys .entry)) (now (places .entry)) numbers n → sharesNumber numbers n ≡ false → r ≡ any t
+        (λ i. eqb (placeOf numbers n (codeNumber (codeOf (now (tcode .entry)) i))) n)) ⌝ }
 {
     let mut bad = false;
     let mut i: usize = 0;

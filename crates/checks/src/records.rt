@@ -38,7 +38,8 @@ fn bad_tally(
     i: usize,
 ) -> bool
     requires { ⌜ (i < length (now tgrocer)) × ((i < length (now tbox)) × ((i * 11 + 11 ≤ length (now tcode)) × (i < length (now tcount)))) ⌝ }
-    ensures { λ r. ⌜ ((j : FileJob) → j .boxes ≡ boxes → j .grocers ≡ grocers → r ≡ badTally j (tallyOf (now (tgrocer .entry)) (now (tbox .entry)) (now (tcode .entry)) (now (tcount .entry)) i)) ⌝ }
+    ensures { λ r. ⌜ ((j : FileJob) → j .boxes ≡ boxes → j .grocers ≡ grocers → r ≡ badTally j
+        (tallyOf (now (tgrocer .entry)) (now (tbox .entry)) (now (tcode .entry)) (now (tcount .entry)) i)) ⌝ }
 {
     let at = i * 11;
     (grocers <= tgrocer[i]) | (boxes <= tbox[i]) | !is_code(tcode, at) | bad_count(tcount[i])
@@ -47,7 +48,8 @@ fn bad_tally(
 // Whether one of the first n offers is.
 fn bad_offers(boxes: u16, n: usize, price: &[u32], owner: &[u16], code: &[u8]) -> bool
     requires { ⌜ (n ≤ length (now price)) × ((n ≤ length (now owner)) × (n * 11 ≤ length (now code))) ⌝ }
-    ensures { λ r. ⌜ ((j : FileJob) → j .boxes ≡ boxes → r ≡ any n (λ i. badOffer j (offerOf (now (price .entry)) (now (owner .entry)) (now (code .entry)) i))) ⌝ }
+    ensures { λ r. ⌜ ((j : FileJob) → j .boxes ≡ boxes → r ≡ any n (λ i. badOffer j
+        (offerOf (now (price .entry)) (now (owner .entry)) (now (code .entry)) i))) ⌝ }
 {
     let mut bad = false;
     let mut i: usize = 0;
@@ -83,7 +85,8 @@ fn bad_tallies(
     tcount: &[i32],
 ) -> bool
     requires { ⌜ (t ≤ length (now tgrocer)) × ((t ≤ length (now tbox)) × ((t * 11 ≤ length (now tcode)) × (t ≤ length (now tcount)))) ⌝ }
-    ensures { λ r. ⌜ ((j : FileJob) → j .boxes ≡ boxes → j .grocers ≡ grocers → r ≡ any t (λ i. badTally j (tallyOf (now (tgrocer .entry)) (now (tbox .entry)) (now (tcode .entry)) (now (tcount .entry)) i))) ⌝ }
+    ensures { λ r. ⌜ ((j : FileJob) → j .boxes ≡ boxes → j .grocers ≡ grocers → r ≡ any t
+        (λ i. badTally j (tallyOf (now (tgrocer .entry)) (now (tbox .entry)) (now (tcode .entry)) (now (tcount .entry)) i))) ⌝ }
 {
     let mut bad = false;
     let mut i: usize = 0;
@@ -110,7 +113,9 @@ pub fn bad_records(
     tcount: &[i32],
 ) -> bool
     requires { ⌜ Long grocers offers tallies (fileTables (now price) (now owner) (now code) (now gowner) (now tgrocer) (now tbox) (now tcode) (now tcount)) ⌝ }
-    ensures { λ r. ⌜ r ≡ badRecords (fileJobOf boxes grocers offers tallies (fileTables (now (price .entry)) (now (owner .entry)) (now (code .entry)) (now (gowner .entry)) (now (tgrocer .entry)) (now (tbox .entry)) (now (tcode .entry)) (now (tcount .entry)))) ⌝ }
+    ensures { λ r. ⌜ r ≡ badRecords (fileJobOf boxes grocers offers tallies
+        (fileTables (now (price .entry)) (now (owner .entry)) (now (code .entry)) (now (gowner .entry)) (now (tgrocer .entry)) (now (tbox .entry))
+        (now (tcode .entry)) (now (tcount .entry)))) ⌝ }
 {
     let m = size_of(grocers);
     let n = size_of(offers);

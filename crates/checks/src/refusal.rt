@@ -24,7 +24,9 @@ fn job_refusal(
     tcount: &[i32],
 ) -> u16
     requires { ⌜ Long grocers offers tallies (fileTables (now price) (now owner) (now code) (now gowner) (now tgrocer) (now tbox) (now tcode) (now tcount)) ⌝ }
-    ensures { λ r. ⌜ r ≡ jobRefusal (fileJobOf boxes grocers offers tallies (fileTables (now (price .entry)) (now (owner .entry)) (now (code .entry)) (now (gowner .entry)) (now (tgrocer .entry)) (now (tbox .entry)) (now (tcode .entry)) (now (tcount .entry)))) ⌝ }
+    ensures { λ r. ⌜ r ≡ jobRefusal (fileJobOf boxes grocers offers tallies
+        (fileTables (now (price .entry)) (now (owner .entry)) (now (code .entry)) (now (gowner .entry)) (now (tgrocer .entry)) (now (tbox .entry))
+        (now (tcode .entry)) (now (tcount .entry)))) ⌝ }
 {
     if bad_sizes(boxes, grocers, offers, tallies) {
         return 4;
@@ -66,7 +68,8 @@ pub fn write_refusal(
     tcount: &[i32],
     out: &[u8],
 ) -> u16
-    ensures { λ r. ⌜ r ≡ writeRefusal boxes grocers offers tallies (fileTables (now (price .entry)) (now (owner .entry)) (now (code .entry)) (now (gowner .entry)) (now (tgrocer .entry)) (now (tbox .entry)) (now (tcode .entry)) (now (tcount .entry))) (now (out .entry)) ⌝ }
+    ensures { λ r. ⌜ r ≡ writeRefusal boxes grocers offers tallies (fileTables (now (price .entry)) (now (owner .entry)) (now (code .entry))
+        (now (gowner .entry)) (now (tgrocer .entry)) (now (tbox .entry)) (now (tcode .entry)) (now (tcount .entry))) (now (out .entry)) ⌝ }
 {
     if short_writer(
         grocers,

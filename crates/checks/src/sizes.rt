@@ -36,7 +36,8 @@ pub fn short_writer(
     tcount: &[i32],
     out: &[u8],
 ) -> bool
-    ensures { λ r. ⌜ r ≡ shortWriter grocers offers tallies (fileTables (now (price .entry)) (now (owner .entry)) (now (code .entry)) (now (gowner .entry)) (now (tgrocer .entry)) (now (tbox .entry)) (now (tcode .entry)) (now (tcount .entry))) (now (out .entry)) ⌝ }
+    ensures { λ r. ⌜ r ≡ shortWriter grocers offers tallies (fileTables (now (price .entry)) (now (owner .entry)) (now (code .entry))
+        (now (gowner .entry)) (now (tgrocer .entry)) (now (tbox .entry)) (now (tcode .entry)) (now (tcount .entry))) (now (out .entry)) ⌝ }
 {
     let m = size_of(grocers);
     let n = size_of(offers);

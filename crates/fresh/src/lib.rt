@@ -74,9 +74,11 @@ pub fn fresh(
     requires { ⌜ FreshIn boxes grocers offers (now price) (now owner)
         (stateTables (now known) (now ptransit) (now working) (now ttransit) (now statement) (now done) (now sent)) ⌝ }
     ensures { λ _. ⌜ ((tallies : ℕ) (gowner tgrocer tbox toffer : List ℕ) (tcount : List ℤ) →
-        stateTables (now (known .exit)) (now (ptransit .exit)) (now (working .exit)) (now (ttransit .exit)) (now (statement .exit)) (now (done .exit)) (now (sent .exit))
+        stateTables (now (known .exit)) (now (ptransit .exit)) (now (working .exit)) (now (ttransit .exit)) (now (statement .exit)) (now (done .exit))
+        (now (sent .exit))
         ≡ freshTables (jobTables boxes grocers offers tallies (now (price .entry)) (now (owner .entry)) gowner tgrocer tbox toffer tcount)
-        (stateTables (now (known .entry)) (now (ptransit .entry)) (now (working .entry)) (now (ttransit .entry)) (now (statement .entry)) (now (done .entry)) (now (sent .entry)))) ⌝ }
+        (stateTables (now (known .entry)) (now (ptransit .entry)) (now (working .entry)) (now (ttransit .entry)) (now (statement .entry))
+        (now (done .entry)) (now (sent .entry)))) ⌝ }
 {
     let k = boxes as usize;
     let m = grocers as usize;

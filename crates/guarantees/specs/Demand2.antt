@@ -32,7 +32,8 @@ pub record Demand2 : Type 0 where
   -- Reading what was written gives K, M, N and T and, in whatever tables, the words of the job that was written, digits as written;
   -- beside them the places.
   pub readWrite : (k m n t : ℕ) (l : FileTables) (out : List ℕ) → writeRefusal k m n t l out ≡ 0 → (r : ReaderTables) → shortReader r ≡ false →
-      readResult (take (512 * blockCount n t) (writeResult k m n t l out .out)) r ≡ record { answer = sizes k m n t; tables = storeRead (fileJobOf k m n t l) r }
+      readResult (take (512 * blockCount n t) (writeResult k m n t l out .out)) r
+      ≡ record { answer = sizes k m n t; tables = storeRead (fileJobOf k m n t l) r }
   -- Into the tables it was written from: every word is as it was.
   pub readOwn : (k m n t : ℕ) (r : ReaderTables) (out : List ℕ) → writeRefusal k m n t (r .job) out ≡ 0 → shortReader r ≡ false →
       readResult (take (512 * blockCount n t) (writeResult k m n t (r .job) out .out)) r

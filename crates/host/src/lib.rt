@@ -78,10 +78,12 @@ pub extern "C" fn settlement_read(
     sizes: &mut [u16],
 ) -> u16
     ensures { λ r. ⌜ hostRead r
-        (readerTables (fileTables (now (price .exit)) (now (owner .exit)) (now (code .exit)) (now (gowner .exit)) (now (tgrocer .exit)) (now (tbox .exit)) (now (tcode .exit)) (now (tcount .exit))) (now (toffer .exit)))
+        (readerTables (fileTables (now (price .exit)) (now (owner .exit)) (now (code .exit)) (now (gowner .exit)) (now (tgrocer .exit))
+        (now (tbox .exit)) (now (tcode .exit)) (now (tcount .exit))) (now (toffer .exit)))
         (now (sizes .exit))
         ≡ readByHost (now (file .entry))
-        (readerTables (fileTables (now (price .entry)) (now (owner .entry)) (now (code .entry)) (now (gowner .entry)) (now (tgrocer .entry)) (now (tbox .entry)) (now (tcode .entry)) (now (tcount .entry))) (now (toffer .entry)))
+        (readerTables (fileTables (now (price .entry)) (now (owner .entry)) (now (code .entry)) (now (gowner .entry)) (now (tgrocer .entry))
+        (now (tbox .entry)) (now (tcode .entry)) (now (tcount .entry))) (now (toffer .entry)))
         (now (sizes .entry)) ⌝ }
 {
     if sizes.len() < 4 {
@@ -128,10 +130,13 @@ pub extern "C" fn settlement_step(
     second: u16,
 ) -> u16
     ensures { λ r. ⌜ hostStep r
-        (stateTables (now (known .exit)) (now (ptransit .exit)) (now (working .exit)) (now (ttransit .exit)) (now (statement .exit)) (now (done .exit)) (now (sent .exit)))
+        (stateTables (now (known .exit)) (now (ptransit .exit)) (now (working .exit)) (now (ttransit .exit)) (now (statement .exit))
+        (now (done .exit)) (now (sent .exit)))
         ≡ steppedByHost
-        (jobTables boxes grocers offers tallies (now (price .entry)) (now (owner .entry)) (now (gowner .entry)) (now (tgrocer .entry)) (now (tbox .entry)) (now (toffer .entry)) (now (tcount .entry)))
-        (stateTables (now (known .entry)) (now (ptransit .entry)) (now (working .entry)) (now (ttransit .entry)) (now (statement .entry)) (now (done .entry)) (now (sent .entry)))
+        (jobTables boxes grocers offers tallies (now (price .entry)) (now (owner .entry)) (now (gowner .entry)) (now (tgrocer .entry))
+        (now (tbox .entry)) (now (toffer .entry)) (now (tcount .entry)))
+        (stateTables (now (known .entry)) (now (ptransit .entry)) (now (working .entry)) (now (ttransit .entry)) (now (statement .entry))
+        (now (done .entry)) (now (sent .entry)))
         (asked kind first second) ⌝ }
 {
     let a = step::step(
@@ -185,11 +190,14 @@ pub extern "C" fn settlement_run(
     report: &mut [u32],
 ) -> u16
     ensures { λ r. ⌜ hostRun r
-        (stateTables (now (known .exit)) (now (ptransit .exit)) (now (working .exit)) (now (ttransit .exit)) (now (statement .exit)) (now (done .exit)) (now (sent .exit)))
+        (stateTables (now (known .exit)) (now (ptransit .exit)) (now (working .exit)) (now (ttransit .exit)) (now (statement .exit))
+        (now (done .exit)) (now (sent .exit)))
         (now (report .exit))
         ≡ ranByHost
-        (jobTables boxes grocers offers tallies (now (price .entry)) (now (owner .entry)) (now (gowner .entry)) (now (tgrocer .entry)) (now (tbox .entry)) (now (toffer .entry)) (now (tcount .entry)))
-        (stateTables (now (known .entry)) (now (ptransit .entry)) (now (working .entry)) (now (ttransit .entry)) (now (statement .entry)) (now (done .entry)) (now (sent .entry)))
+        (jobTables boxes grocers offers tallies (now (price .entry)) (now (owner .entry)) (now (gowner .entry)) (now (tgrocer .entry))
+        (now (tbox .entry)) (now (toffer .entry)) (now (tcount .entry)))
+        (stateTables (now (known .entry)) (now (ptransit .entry)) (now (working .entry)) (now (ttransit .entry)) (now (statement .entry))
+        (now (done .entry)) (now (sent .entry)))
         (now (choices .entry))
         (now (report .entry)) ⌝ }
 {

@@ -60,7 +60,8 @@ fn halve(keys: &[u64], n: usize, number: u64) -> usize
 // The place of the offer with this number, or n where no offer has it.
 pub fn place(keys: &[u64], places: &[u16], n: usize, number: u64) -> usize
     requires { ⌜ (n ≤ 500) × ((n ≤ length (now keys)) × (n ≤ length (now places))) ⌝ }
-    ensures { λ r. ⌜ ((numbers : List ℕ) → IsIndex (now (keys .entry)) (now (places .entry)) numbers n → sharesNumber numbers n ≡ false → r ≡ placeOf numbers n number) ⌝ }
+    ensures { λ r. ⌜ ((numbers : List ℕ) → IsIndex (now (keys .entry)) (now (places .entry)) numbers n → sharesNumber numbers n ≡ false → r ≡ placeOf
+        numbers n number) ⌝ }
 {
     if n == 0 {
         return 0;

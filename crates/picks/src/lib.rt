@@ -78,11 +78,23 @@ pub fn choose(
     ready: u16,
     counts: Counts,
 ) -> Counts
-    requires { ⌜ Goes (jobTables boxes grocers offers tallies (now price) (now owner) (now gowner) (now tgrocer) (now tbox) (now toffer) (now tcount)) (stateTables (now known) (now ptransit) (now working) (now ttransit) (now statement) (now done) (now sent)) (now needs) (now sharers) (now prices) (now totals) (drop i (now choices)) (counts .messages) (counts .steps) ⌝ }
-    requires { ⌜ (i < length (now choices)) × ((1 ≤ ready) × (ready ≡ readyCount (jobOf (jobTables boxes grocers offers tallies (now price) (now owner) (now gowner) (now tgrocer) (now tbox) (now toffer) (now tcount))) (view (jobOf (jobTables boxes grocers offers tallies (now price) (now owner) (now gowner) (now tgrocer) (now tbox) (now toffer) (now tcount))) (stateTables (now known) (now ptransit) (now working) (now ttransit) (now statement) (now done) (now sent)) .done))) ⌝ }
+    requires { ⌜ Goes (jobTables boxes grocers offers tallies (now price) (now owner) (now gowner) (now tgrocer) (now tbox) (now toffer) (now tcount))
+        (stateTables (now known) (now ptransit) (now working) (now ttransit) (now statement) (now done) (now sent)) (now needs) (now sharers)
+        (now prices) (now totals) (drop i (now choices)) (counts .messages) (counts .steps) ⌝ }
+    requires { ⌜ (i < length (now choices)) × ((1 ≤ ready) × (ready ≡ readyCount
+        (jobOf (jobTables boxes grocers offers tallies (now price) (now owner) (now gowner) (now tgrocer) (now tbox) (now toffer) (now tcount)))
+        (view (jobOf (jobTables boxes grocers offers tallies (now price) (now owner) (now gowner) (now tgrocer) (now tbox) (now toffer) (now tcount)))
+        (stateTables (now known) (now ptransit) (now working) (now ttransit) (now statement) (now done) (now sent)) .done))) ⌝ }
     requires { ⌜ IsRows boxes (now prices) (now totals) (now done) (now rows) ⌝ }
-    requires { ⌜ Links (jobTables boxes grocers offers tallies (now price) (now owner) (now gowner) (now tgrocer) (now tbox) (now toffer) (now tcount)) (now ofirst) (now onext) (now gfirst) (now gnext) (now tfirst) (now tnext) ⌝ }
-    ensures { λ r. ⌜ (Kept (jobTables boxes grocers offers tallies (now (price .entry)) (now (owner .entry)) (now (gowner .entry)) (now (tgrocer .entry)) (now (tbox .entry)) (now (toffer .entry)) (now (tcount .entry))) (stateTables (now (known .entry)) (now (ptransit .entry)) (now (working .entry)) (now (ttransit .entry)) (now (statement .entry)) (now (done .entry)) (now (sent .entry))) (drop i (now (choices .entry))) (counts .messages) (counts .steps) (stateTables (now (known .exit)) (now (ptransit .exit)) (now (working .exit)) (now (ttransit .exit)) (now (statement .exit)) (now (done .exit)) (now (sent .exit))) (drop (i + 1) (now (choices .entry))) (r .messages) (r .steps)) × (IsRows boxes (now (prices .entry)) (now (totals .entry)) (now (done .exit)) (now (rows .exit))) ⌝ }
+    requires { ⌜ Links (jobTables boxes grocers offers tallies (now price) (now owner) (now gowner) (now tgrocer) (now tbox) (now toffer)
+        (now tcount)) (now ofirst) (now onext) (now gfirst) (now gnext) (now tfirst) (now tnext) ⌝ }
+    ensures { λ r. ⌜ (Kept (jobTables boxes grocers offers tallies (now (price .entry)) (now (owner .entry)) (now (gowner .entry))
+        (now (tgrocer .entry)) (now (tbox .entry)) (now (toffer .entry)) (now (tcount .entry)))
+        (stateTables (now (known .entry)) (now (ptransit .entry)) (now (working .entry)) (now (ttransit .entry)) (now (statement .entry))
+        (now (done .entry)) (now (sent .entry))) (drop i (now (choices .entry))) (counts .messages) (counts .steps)
+        (stateTables (now (known .exit)) (now (ptransit .exit)) (now (working .exit)) (now (ttransit .exit)) (now (statement .exit))
+        (now (done .exit)) (now (sent .exit))) (drop (i + 1) (now (choices .entry))) (r .messages) (r .steps)) ×
+        (IsRows boxes (now (prices .entry)) (now (totals .entry)) (now (done .exit)) (now (rows .exit))) ⌝ }
 {
     let c = choices[i] % ready;
     let p = walk::rows::find_in(boxes, c, rows, prices, totals, done);
@@ -155,11 +167,22 @@ pub fn turn(
     p: walk::Place,
     counts: Counts,
 ) -> Counts
-    requires { ⌜ Goes (jobTables boxes grocers offers tallies (now price) (now owner) (now gowner) (now tgrocer) (now tbox) (now toffer) (now tcount)) (stateTables (now known) (now ptransit) (now working) (now ttransit) (now statement) (now done) (now sent)) (now needs) (now sharers) (now prices) (now totals) [] (counts .messages) (counts .steps) ⌝ }
+    requires { ⌜ Goes (jobTables boxes grocers offers tallies (now price) (now owner) (now gowner) (now tgrocer) (now tbox) (now toffer) (now tcount))
+        (stateTables (now known) (now ptransit) (now working) (now ttransit) (now statement) (now done) (now sent)) (now needs) (now sharers)
+        (now prices) (now totals) [] (counts .messages) (counts .steps) ⌝ }
     requires { ⌜ PlaceIn boxes (p .kind) (p .first) (p .second) ⌝ }
-    requires { ⌜ NoneBefore (jobOf (jobTables boxes grocers offers tallies (now price) (now owner) (now gowner) (now tgrocer) (now tbox) (now toffer) (now tcount))) (view (jobOf (jobTables boxes grocers offers tallies (now price) (now owner) (now gowner) (now tgrocer) (now tbox) (now toffer) (now tcount))) (stateTables (now known) (now ptransit) (now working) (now ttransit) (now statement) (now done) (now sent)) .done) (here boxes (p .kind) (p .first) (p .second)) ⌝ }
-    requires { ⌜ Links (jobTables boxes grocers offers tallies (now price) (now owner) (now gowner) (now tgrocer) (now tbox) (now toffer) (now tcount)) (now ofirst) (now onext) (now gfirst) (now gnext) (now tfirst) (now tnext) ⌝ }
-    ensures { λ r. ⌜ Passed (jobTables boxes grocers offers tallies (now (price .entry)) (now (owner .entry)) (now (gowner .entry)) (now (tgrocer .entry)) (now (tbox .entry)) (now (toffer .entry)) (now (tcount .entry))) (stateTables (now (known .entry)) (now (ptransit .entry)) (now (working .entry)) (now (ttransit .entry)) (now (statement .entry)) (now (done .entry)) (now (sent .entry))) (counts .messages) (counts .steps) (here boxes (p .kind) (p .first) (p .second)) (stateTables (now (known .exit)) (now (ptransit .exit)) (now (working .exit)) (now (ttransit .exit)) (now (statement .exit)) (now (done .exit)) (now (sent .exit))) (r .messages) (r .steps) ⌝ }
+    requires { ⌜ NoneBefore (jobOf (jobTables boxes grocers offers tallies (now price) (now owner) (now gowner) (now tgrocer) (now tbox) (now toffer)
+        (now tcount))) (view (jobOf (jobTables boxes grocers offers tallies (now price) (now owner) (now gowner) (now tgrocer) (now tbox) (now toffer)
+        (now tcount))) (stateTables (now known) (now ptransit) (now working) (now ttransit) (now statement) (now done) (now sent)) .done)
+        (here boxes (p .kind) (p .first) (p .second)) ⌝ }
+    requires { ⌜ Links (jobTables boxes grocers offers tallies (now price) (now owner) (now gowner) (now tgrocer) (now tbox) (now toffer)
+        (now tcount)) (now ofirst) (now onext) (now gfirst) (now gnext) (now tfirst) (now tnext) ⌝ }
+    ensures { λ r. ⌜ Passed (jobTables boxes grocers offers tallies (now (price .entry)) (now (owner .entry)) (now (gowner .entry))
+        (now (tgrocer .entry)) (now (tbox .entry)) (now (toffer .entry)) (now (tcount .entry)))
+        (stateTables (now (known .entry)) (now (ptransit .entry)) (now (working .entry)) (now (ttransit .entry)) (now (statement .entry))
+        (now (done .entry)) (now (sent .entry))) (counts .messages) (counts .steps) (here boxes (p .kind) (p .first) (p .second))
+        (stateTables (now (known .exit)) (now (ptransit .exit)) (now (working .exit)) (now (ttransit .exit)) (now (statement .exit))
+        (now (done .exit)) (now (sent .exit))) (r .messages) (r .steps) ⌝ }
 {
     if !walk::is_listed(boxes, p, prices, totals, done) {
         return counts;

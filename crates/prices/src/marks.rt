@@ -20,7 +20,8 @@ fn place(k: usize, kind: u16, a: u16, b: u16) -> usize
 pub fn mark(k: usize, kind: u16, a: u16, b: u16, done: &mut [u16])
     requires { ⌜ MarksIn k kind a b (now done) ⌝ }
     requires { ⌜ upTo 1 (6 * k * k) (now done) ≡ true ⌝ }
-    ensures { λ r. ⌜ (now (done .exit) ≡ marked k (kindOf kind) a b (now (done .entry))) × (now (done .exit) ≡ set (now (done .entry)) (stepPlace k kind a b) 1) ⌝ }
+    ensures { λ r. ⌜ (now (done .exit) ≡ marked k (kindOf kind) a b (now (done .entry))) ×
+        (now (done .exit) ≡ set (now (done .entry)) (stepPlace k kind a b) 1) ⌝ }
 {
     let i = place(k, kind, a, b);
     done[i] = 1;

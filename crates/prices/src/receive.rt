@@ -19,7 +19,10 @@ fn receive_one(
     o: usize,
 )
     requires { ⌜ (a < 16) × ((o < 500) × ((o < length (now owner)) × ((row + o < length (now known)) × (row + o < length (now transit))))) ⌝ }
-    ensures { λ r. ⌜ (now (known .exit) ≡ cond (wordIn (now (owner .entry)) (now (needs .entry)) b a o) (set (now (known .entry)) (row + o) (getD (now (transit .entry)) (row + o) 0)) (now (known .entry))) × (now (transit .exit) ≡ cond (wordIn (now (owner .entry)) (now (needs .entry)) b a o) (set (now (transit .entry)) (row + o) 0) (now (transit .entry))) ⌝ }
+    ensures { λ r. ⌜ (now (known .exit) ≡ cond (wordIn (now (owner .entry)) (now (needs .entry)) b a o)
+        (set (now (known .entry)) (row + o) (getD (now (transit .entry)) (row + o) 0)) (now (known .entry))) ×
+        (now (transit .exit) ≡ cond (wordIn (now (owner .entry)) (now (needs .entry)) b a o) (set (now (transit .entry)) (row + o) 0)
+        (now (transit .entry))) ⌝ }
 {
     if words::in_message(owner[o], needs[o], b, a) {
         let price = transit[row + o];
@@ -43,7 +46,8 @@ pub fn receive_prices(
 )
     requires { ⌜ PricesIn k n a b (now owner) (now known) (now transit) ⌝ }
     requires { ⌜ Linked n (now owner) (now first) (now next) ⌝ }
-    ensures { λ r. ⌜ (now (known .exit) ≡ receivedKnown k n a b (now (owner .entry)) (now (needs .entry)) (now (known .entry)) (now (transit .entry))) × (now (transit .exit) ≡ receivedTransit k n a b (now (owner .entry)) (now (needs .entry)) (now (known .entry)) (now (transit .entry))) ⌝ }
+    ensures { λ r. ⌜ (now (known .exit) ≡ receivedKnown k n a b (now (owner .entry)) (now (needs .entry)) (now (known .entry)) (now (transit .entry)))
+        × (now (transit .exit) ≡ receivedTransit k n a b (now (owner .entry)) (now (needs .entry)) (now (known .entry)) (now (transit .entry))) ⌝ }
 {
     let row = a as usize * n;
     let mut o = first[b as usize] as usize;

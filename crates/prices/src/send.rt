@@ -21,7 +21,9 @@ fn send_one(
     o: usize,
 ) -> u32
     requires { ⌜ (b < 16) × ((o < 500) × ((o < length (now owner)) × ((from + o < length (now known)) × (to + o < length (now transit))))) ⌝ }
-    ensures { λ r. ⌜ (r ≡ only naturals (wordIn (now (owner .entry)) (now (needs .entry)) a b o) 1) × (now (transit .exit) ≡ cond (wordIn (now (owner .entry)) (now (needs .entry)) a b o) (set (now (transit .entry)) (to + o) (getD (now (known .entry)) (from + o) 0)) (now (transit .entry))) ⌝ }
+    ensures { λ r. ⌜ (r ≡ only naturals (wordIn (now (owner .entry)) (now (needs .entry)) a b o) 1) ×
+        (now (transit .exit) ≡ cond (wordIn (now (owner .entry)) (now (needs .entry)) a b o)
+        (set (now (transit .entry)) (to + o) (getD (now (known .entry)) (from + o) 0)) (now (transit .entry))) ⌝ }
 {
     if words::in_message(owner[o], needs[o], a, b) {
         transit[to + o] = known[from + o];
@@ -45,7 +47,8 @@ pub fn send_prices(
 ) -> u32
     requires { ⌜ PricesIn k n a b (now owner) (now known) (now transit) ⌝ }
     requires { ⌜ Linked n (now owner) (now first) (now next) ⌝ }
-    ensures { λ r. ⌜ (now (transit .exit) ≡ sentTransit k n a b (now (owner .entry)) (now (needs .entry)) (now (known .entry)) (now (transit .entry))) × (r ≡ count n (wordIn (now (owner .entry)) (now (needs .entry)) a b)) ⌝ }
+    ensures { λ r. ⌜ (now (transit .exit) ≡ sentTransit k n a b (now (owner .entry)) (now (needs .entry)) (now (known .entry)) (now (transit .entry)))
+        × (r ≡ count n (wordIn (now (owner .entry)) (now (needs .entry)) a b)) ⌝ }
 {
     let from = a as usize * n;
     let to = b as usize * n;

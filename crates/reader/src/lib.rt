@@ -78,8 +78,10 @@ pub fn read(
     toffer: &mut [u16],
 ) -> Answer
     ensures { λ r. ⌜
-        outcome r (readerTables (fileTables (now (price .exit)) (now (owner .exit)) (now (code .exit)) (now (gowner .exit)) (now (tgrocer .exit)) (now (tbox .exit)) (now (tcode .exit)) (now (tcount .exit))) (now (toffer .exit)))
-        ≡ readResult (now (file .entry)) (readerTables (fileTables (now (price .entry)) (now (owner .entry)) (now (code .entry)) (now (gowner .entry)) (now (tgrocer .entry)) (now (tbox .entry)) (now (tcode .entry)) (now (tcount .entry))) (now (toffer .entry))) ⌝ }
+        outcome r (readerTables (fileTables (now (price .exit)) (now (owner .exit)) (now (code .exit)) (now (gowner .exit)) (now (tgrocer .exit))
+        (now (tbox .exit)) (now (tcode .exit)) (now (tcount .exit))) (now (toffer .exit)))
+        ≡ readResult (now (file .entry)) (readerTables (fileTables (now (price .entry)) (now (owner .entry)) (now (code .entry)) (now (gowner .entry))
+        (now (tgrocer .entry)) (now (tbox .entry)) (now (tcode .entry)) (now (tcount .entry))) (now (toffer .entry))) ⌝ }
 {
     let few = (price.len() < 500) | (owner.len() < 500) | (code.len() < 5500);
     let fewer = few | (gowner.len() < 255) | (tgrocer.len() < 1000) | (tbox.len() < 1000);

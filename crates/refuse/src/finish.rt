@@ -39,7 +39,8 @@ fn products_fit(
     working: &[i64],
 ) -> bool
     requires { ⌜ MultiplyIn (tallies k m n t (now owner) (now grocer) (now holder) (now offer) (now counts)) a (now prices) (now working) ⌝ }
-    ensures { λ r. ⌜ r ≡ around maxAmount m (productRow (tallies k m n t (now (owner .entry)) (now (grocer .entry)) (now (holder .entry)) (now (offer .entry)) (now (counts .entry))) (now (prices .entry)) a from (now (working .entry))) ⌝ }
+    ensures { λ r. ⌜ r ≡ around maxAmount m (productRow (tallies k m n t (now (owner .entry)) (now (grocer .entry)) (now (holder .entry))
+        (now (offer .entry)) (now (counts .entry))) (now (prices .entry)) a from (now (working .entry))) ⌝ }
 {
     let row = totals::row::product_row(
         k,
@@ -91,9 +92,12 @@ pub fn finished_fits(
         (stateTables (now known) (now ptransit) (now working) (now ttransit) (now statement) (now done) (now sent))
         (now sharers) (now prices) (now totals) (asked kind first second) ⌝ }
     ensures { λ r. ⌜ r ≡ stateInRange
-        (jobTables boxes grocers offers tallies (now (price .entry)) (now (owner .entry)) (now (gowner .entry)) (now (tgrocer .entry)) (now (tbox .entry)) (now (toffer .entry)) (now (tcount .entry)))
-        (moved (jobTables boxes grocers offers tallies (now (price .entry)) (now (owner .entry)) (now (gowner .entry)) (now (tgrocer .entry)) (now (tbox .entry)) (now (toffer .entry)) (now (tcount .entry)))
-        (stateTables (now (known .entry)) (now (ptransit .entry)) (now (working .entry)) (now (ttransit .entry)) (now (statement .entry)) (now (done .entry)) (now (sent .entry)))
+        (jobTables boxes grocers offers tallies (now (price .entry)) (now (owner .entry)) (now (gowner .entry)) (now (tgrocer .entry))
+        (now (tbox .entry)) (now (toffer .entry)) (now (tcount .entry)))
+        (moved (jobTables boxes grocers offers tallies (now (price .entry)) (now (owner .entry)) (now (gowner .entry)) (now (tgrocer .entry))
+        (now (tbox .entry)) (now (toffer .entry)) (now (tcount .entry)))
+        (stateTables (now (known .entry)) (now (ptransit .entry)) (now (working .entry)) (now (ttransit .entry)) (now (statement .entry))
+        (now (done .entry)) (now (sent .entry)))
         (asked kind first second)) ⌝ }
 {
     let k = boxes as usize;

@@ -38,7 +38,10 @@ fn refusal(
     done: &[u16],
     sent: &[u32],
 ) -> u16
-    ensures { λ r. ⌜ r ≡ firstMet (runRefusals (jobTables boxes grocers offers tallies (now (price .entry)) (now (owner .entry)) (now (gowner .entry)) (now (tgrocer .entry)) (now (tbox .entry)) (now (toffer .entry)) (now (tcount .entry))) (stateTables (now (known .entry)) (now (ptransit .entry)) (now (working .entry)) (now (ttransit .entry)) (now (statement .entry)) (now (done .entry)) (now (sent .entry)))) ⌝ }
+    ensures { λ r. ⌜ r ≡ firstMet (runRefusals (jobTables boxes grocers offers tallies (now (price .entry)) (now (owner .entry)) (now (gowner .entry))
+        (now (tgrocer .entry)) (now (tbox .entry)) (now (toffer .entry)) (now (tcount .entry)))
+        (stateTables (now (known .entry)) (now (ptransit .entry)) (now (working .entry)) (now (ttransit .entry)) (now (statement .entry))
+        (now (done .entry)) (now (sent .entry)))) ⌝ }
 {
     if tables::checks::job_short(
         boxes,
@@ -108,8 +111,13 @@ fn settle(
     sent: &mut [u32],
     choices: &[u16],
 ) -> picks::Counts
-    requires { ⌜ Begins (jobTables boxes grocers offers tallies (now price) (now owner) (now gowner) (now tgrocer) (now tbox) (now toffer) (now tcount)) (stateTables (now known) (now ptransit) (now working) (now ttransit) (now statement) (now done) (now sent)) ⌝ }
-    ensures { λ r. ⌜ Settled (jobTables boxes grocers offers tallies (now (price .entry)) (now (owner .entry)) (now (gowner .entry)) (now (tgrocer .entry)) (now (tbox .entry)) (now (toffer .entry)) (now (tcount .entry))) (stateTables (now (known .entry)) (now (ptransit .entry)) (now (working .entry)) (now (ttransit .entry)) (now (statement .entry)) (now (done .entry)) (now (sent .entry))) (now (choices .entry)) (stateTables (now (known .exit)) (now (ptransit .exit)) (now (working .exit)) (now (ttransit .exit)) (now (statement .exit)) (now (done .exit)) (now (sent .exit))) (r .messages) (r .steps) ⌝ }
+    requires { ⌜ Begins (jobTables boxes grocers offers tallies (now price) (now owner) (now gowner) (now tgrocer) (now tbox) (now toffer)
+        (now tcount)) (stateTables (now known) (now ptransit) (now working) (now ttransit) (now statement) (now done) (now sent)) ⌝ }
+    ensures { λ r. ⌜ Settled (jobTables boxes grocers offers tallies (now (price .entry)) (now (owner .entry)) (now (gowner .entry))
+        (now (tgrocer .entry)) (now (tbox .entry)) (now (toffer .entry)) (now (tcount .entry)))
+        (stateTables (now (known .entry)) (now (ptransit .entry)) (now (working .entry)) (now (ttransit .entry)) (now (statement .entry))
+        (now (done .entry)) (now (sent .entry))) (now (choices .entry)) (stateTables (now (known .exit)) (now (ptransit .exit)) (now (working .exit))
+        (now (ttransit .exit)) (now (statement .exit)) (now (done .exit)) (now (sent .exit))) (r .messages) (r .steps) ⌝ }
 {
     fresh::fresh(
         boxes,
@@ -178,7 +186,11 @@ pub fn run(
     sent: &mut [u32],
     choices: &[u16],
 ) -> Answer
-    ensures { λ r. ⌜ given (answerOf r) (stateTables (now (known .exit)) (now (ptransit .exit)) (now (working .exit)) (now (ttransit .exit)) (now (statement .exit)) (now (done .exit)) (now (sent .exit))) ≡ ran (jobTables boxes grocers offers tallies (now (price .entry)) (now (owner .entry)) (now (gowner .entry)) (now (tgrocer .entry)) (now (tbox .entry)) (now (toffer .entry)) (now (tcount .entry))) (stateTables (now (known .entry)) (now (ptransit .entry)) (now (working .entry)) (now (ttransit .entry)) (now (statement .entry)) (now (done .entry)) (now (sent .entry))) (now (choices .entry)) ⌝ }
+    ensures { λ r. ⌜ given (answerOf r) (stateTables (now (known .exit)) (now (ptransit .exit)) (now (working .exit)) (now (ttransit .exit))
+        (now (statement .exit)) (now (done .exit)) (now (sent .exit))) ≡ ran
+        (jobTables boxes grocers offers tallies (now (price .entry)) (now (owner .entry)) (now (gowner .entry)) (now (tgrocer .entry))
+        (now (tbox .entry)) (now (toffer .entry)) (now (tcount .entry))) (stateTables (now (known .entry)) (now (ptransit .entry))
+        (now (working .entry)) (now (ttransit .entry)) (now (statement .entry)) (now (done .entry)) (now (sent .entry))) (now (choices .entry)) ⌝ }
 {
     let r = refusal(
         boxes,

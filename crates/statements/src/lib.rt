@@ -41,7 +41,8 @@ fn put_job(
     tcount: &[i32],
 ) -> usize
     requires { ⌜ (grocers ≤ 255) × (8192 ≤ length (now out)) ⌝ }
-    ensures { λ r. ⌜ Put 0 (jobText (jobTables boxes grocers offers tallies (now (price .entry)) (now (owner .entry)) (now (gowner .entry)) (now (tgrocer .entry)) (now (tbox .entry)) (now (toffer .entry)) (now (tcount .entry)))) (now (out .entry)) (now (out .exit)) r ⌝ }
+    ensures { λ r. ⌜ Put 0 (jobText (jobTables boxes grocers offers tallies (now (price .entry)) (now (owner .entry)) (now (gowner .entry))
+        (now (tgrocer .entry)) (now (tbox .entry)) (now (toffer .entry)) (now (tcount .entry)))) (now (out .entry)) (now (out .exit)) r ⌝ }
 {
     let mut known = [0u32; 8000];
     let mut ptransit = [0u32; 8000];

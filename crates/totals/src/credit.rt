@@ -37,7 +37,8 @@ fn credit_word(
     statement: &[i64],
 ) -> i64
     requires { ⌜ CreditIn (now owner) (now source) (now statement) from g at ⌝ }
-    ensures { λ r. ⌜ r ≡ cond (credited (now (owner .entry)) (now (sharers .entry)) a from g) (getD (now (statement .entry)) g (pos 0) +ℤ getD (now (source .entry)) at (pos 0)) (getD (now (statement .entry)) g (pos 0)) ⌝ }
+    ensures { λ r. ⌜ r ≡ cond (credited (now (owner .entry)) (now (sharers .entry)) a from g)
+        (getD (now (statement .entry)) g (pos 0) +ℤ getD (now (source .entry)) at (pos 0)) (getD (now (statement .entry)) g (pos 0)) ⌝ }
 {
     if !is_credited(owner[g], sharers[g], a, from) {
         return statement[g];
@@ -58,7 +59,8 @@ pub fn credit_fits(
 ) -> bool
     requires { ⌜ (k ≤ 16) × (m ≤ 255) × (from < k) × (m ≤ length (now owner)) ⌝ }
     requires { ⌜ AmountsIn (k * m) (now source) × AmountsIn m (now statement) ⌝ }
-    ensures { λ r. ⌜ r ≡ all m (λ g. leb (natAbs (creditWord k m from (credited (now (owner .entry)) (now (sharers .entry)) a from) (now (source .entry)) (now (statement .entry)) g)) maxAmount) ⌝ }
+    ensures { λ r. ⌜ r ≡ all m (λ g. leb (natAbs (creditWord k m from (credited (now (owner .entry)) (now (sharers .entry)) a from)
+        (now (source .entry)) (now (statement .entry)) g)) maxAmount) ⌝ }
 {
     let at = row_start(m, from);
     for g in 0..m {
@@ -81,7 +83,10 @@ fn credit_one(
     statement: &mut [i64],
 )
     requires { ⌜ CreditIn (now owner) (now source) (now statement) from g at ⌝ }
-    ensures { λ _. ⌜ (now (source .exit) ≡ cond (credited (now (owner .entry)) (now (sharers .entry)) a from g) (set (now (source .entry)) at (pos 0)) (now (source .entry))) × (now (statement .exit) ≡ cond (credited (now (owner .entry)) (now (sharers .entry)) a from g) (set (now (statement .entry)) g (getD (now (statement .entry)) g (pos 0) +ℤ getD (now (source .entry)) at (pos 0))) (now (statement .entry))) ⌝ }
+    ensures { λ _. ⌜ (now (source .exit) ≡ cond (credited (now (owner .entry)) (now (sharers .entry)) a from g) (set (now (source .entry)) at (pos 0))
+        (now (source .entry))) × (now (statement .exit) ≡ cond (credited (now (owner .entry)) (now (sharers .entry)) a from g)
+        (set (now (statement .entry)) g (getD (now (statement .entry)) g (pos 0) +ℤ getD (now (source .entry)) at (pos 0))) (now (statement .entry)))
+        ⌝ }
 {
     if !is_credited(owner[g], sharers[g], a, from) {
         return;
@@ -107,7 +112,9 @@ pub fn credit(
     requires { ⌜ (k ≤ 16) × (m ≤ 255) × (from < k) × (m ≤ length (now owner)) ⌝ }
     requires { ⌜ AmountsIn (k * m) (now source) × AmountsIn m (now statement) ⌝ }
     requires { ⌜ (a < 16) × Linked m (now owner) (now first) (now next) ⌝ }
-    ensures { λ _. ⌜ (now (source .exit) ≡ cleared k m from (credited (now (owner .entry)) (now (sharers .entry)) a from) (now (source .entry))) × (now (statement .exit) ≡ creditAll k m from (credited (now (owner .entry)) (now (sharers .entry)) a from) (now (source .entry)) (now (statement .entry))) ⌝ }
+    ensures { λ _. ⌜ (now (source .exit) ≡ cleared k m from (credited (now (owner .entry)) (now (sharers .entry)) a from) (now (source .entry))) ×
+        (now (statement .exit) ≡ creditAll k m from (credited (now (owner .entry)) (now (sharers .entry)) a from) (now (source .entry))
+        (now (statement .entry))) ⌝ }
 {
     let at = row_start(m, from);
     let mut g = begin(m, a, first, next, owner);

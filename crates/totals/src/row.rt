@@ -69,8 +69,10 @@ fn add_tally(
     row: &mut [i64],
 )
     requires { ⌜ TallyIn (now owner) (now grocer) (now holder) (now offer) (now counts) (now prices) n at i ⌝ }
-    requires { ⌜ (base + getD (now grocer) i 0 < length (now row)) × (natAbs (getD (now row) (base + getD (now grocer) i 0) (pos 0)) ≤ 2_000_000_000_000_000) ⌝ }
-    ensures { λ _. ⌜ now (row .exit) ≡ raised (now (row .entry)) (base + getD (now (grocer .entry)) i 0) (brings (now (owner .entry)) (now (holder .entry)) (now (offer .entry)) (now (counts .entry)) (now (prices .entry)) a from at i) ⌝ }
+    requires { ⌜ (base + getD (now grocer) i 0 < length (now row)) × (natAbs (getD (now row) (base + getD (now grocer) i 0) (pos 0)) ≤
+        2_000_000_000_000_000) ⌝ }
+    ensures { λ _. ⌜ now (row .exit) ≡ raised (now (row .entry)) (base + getD (now (grocer .entry)) i 0)
+        (brings (now (owner .entry)) (now (holder .entry)) (now (offer .entry)) (now (counts .entry)) (now (prices .entry)) a from at i) ⌝ }
 {
     if !is_taken(a, from, i, owner, holder, offer) {
         return;
@@ -102,7 +104,8 @@ pub fn product_row(
     requires { ⌜ PricesIn k n (now prices) ⌝ }
     requires { ⌜ AmountsIn (k * m) (now working) ⌝ }
     requires { ⌜ a < k ⌝ }
-    ensures { λ r. ⌜ r ≡ productRow (tallies k m n t (now (owner .entry)) (now (grocer .entry)) (now (holder .entry)) (now (offer .entry)) (now (counts .entry))) (now (prices .entry)) a from (now (working .entry)) ⌝ }
+    ensures { λ r. ⌜ r ≡ productRow (tallies k m n t (now (owner .entry)) (now (grocer .entry)) (now (holder .entry)) (now (offer .entry))
+        (now (counts .entry))) (now (prices .entry)) a from (now (working .entry)) ⌝ }
 {
     let mut row = row_at(k, m, a, working);
     let at = row_start(n, a);
@@ -149,7 +152,8 @@ pub fn add_products(
     requires { ⌜ AmountsIn (k * m) (now working) ⌝ }
     requires { ⌜ a < k ⌝ }
     requires { ⌜ Linked t (now holder) (now first) (now next) ⌝ }
-    ensures { λ _. ⌜ now (working .exit) ≡ putRow k m a (productRow (tallies k m n t (now (owner .entry)) (now (grocer .entry)) (now (holder .entry)) (now (offer .entry)) (now (counts .entry))) (now (prices .entry)) a from (now (working .entry))) (now (working .entry)) ⌝ }
+    ensures { λ _. ⌜ now (working .exit) ≡ putRow k m a (productRow (tallies k m n t (now (owner .entry)) (now (grocer .entry)) (now (holder .entry))
+        (now (offer .entry)) (now (counts .entry))) (now (prices .entry)) a from (now (working .entry))) (now (working .entry)) ⌝ }
 {
     let at = row_start(n, a);
     let base = row_start(m, a);

@@ -24,7 +24,10 @@ fn send_one(
     transit: &mut [i64],
 ) -> u32
     requires { ⌜ (a < 16) × (g < 255) × (g < length (now owner)) × (at < length (now working)) × (at < length (now transit)) ⌝ }
-    ensures { λ r. ⌜ (r ≡ only naturals (wordIn (now (owner .entry)) (now (sharers .entry)) b a g) 1) × (now (working .exit) ≡ cond (wordIn (now (owner .entry)) (now (sharers .entry)) b a g) (set (now (working .entry)) at (pos 0)) (now (working .entry))) × (now (transit .exit) ≡ cond (wordIn (now (owner .entry)) (now (sharers .entry)) b a g) (set (now (transit .entry)) at (getD (now (working .entry)) at (pos 0))) (now (transit .entry))) ⌝ }
+    ensures { λ r. ⌜ (r ≡ only naturals (wordIn (now (owner .entry)) (now (sharers .entry)) b a g) 1) ×
+        (now (working .exit) ≡ cond (wordIn (now (owner .entry)) (now (sharers .entry)) b a g) (set (now (working .entry)) at (pos 0))
+        (now (working .entry))) × (now (transit .exit) ≡ cond (wordIn (now (owner .entry)) (now (sharers .entry)) b a g)
+        (set (now (transit .entry)) at (getD (now (working .entry)) at (pos 0))) (now (transit .entry))) ⌝ }
 {
     if !words::in_message(owner[g], sharers[g], b, a) {
         return 0;
@@ -50,7 +53,10 @@ pub fn send_totals(
 ) -> u32
     requires { ⌜ (k ≤ 16) × (m ≤ 255) × (a < k) × (m ≤ length (now owner)) × (k * m ≤ length (now working)) × (k * m ≤ length (now transit)) ⌝ }
     requires { ⌜ (b < 16) × Linked m (now owner) (now first) (now next) ⌝ }
-    ensures { λ r. ⌜ (r ≡ count m (wordIn (now (owner .entry)) (now (sharers .entry)) b a)) × (now (working .exit) ≡ cleared k m a (wordIn (now (owner .entry)) (now (sharers .entry)) b a) (now (working .entry))) × (now (transit .exit) ≡ sentTotals k m a (wordIn (now (owner .entry)) (now (sharers .entry)) b a) (now (working .entry)) (now (transit .entry))) ⌝ }
+    ensures { λ r. ⌜ (r ≡ count m (wordIn (now (owner .entry)) (now (sharers .entry)) b a)) ×
+        (now (working .exit) ≡ cleared k m a (wordIn (now (owner .entry)) (now (sharers .entry)) b a) (now (working .entry))) ×
+        (now (transit .exit) ≡ sentTotals k m a (wordIn (now (owner .entry)) (now (sharers .entry)) b a) (now (working .entry))
+        (now (transit .entry))) ⌝ }
 {
     let at = row_start(m, a);
     let mut sent: u32 = 0;

@@ -149,7 +149,8 @@ pub fn ready_steps(k: u16, rows: &[u16; 96]) -> u16
     ready
 }
 
-// The ready step of row r that has c ready steps of the row before it. Where the kind does not ask for the second box, a row with a ready step has its first made ready.
+// The ready step of row r that has c ready steps of the row before it. Where the kind does not ask for the second box,
+// a row with a ready step has its first made ready.
 fn find_row(
     k: u16,
     r: u16,
@@ -160,7 +161,8 @@ fn find_row(
 ) -> Place
     requires { ⌜ WalkIn k (now done) ⌝ }
     requires { ⌜ (r < 6 * k) × (c < rowCount k (now prices) (now totals) (now done) r) ⌝ }
-    ensures { λ p. ⌜ Found k (nth (6 * k * k) (listedBy k (now (prices .entry)) (now (totals .entry)) (now (done .entry))) (c + count (r * k) (listedBy k (now (prices .entry)) (now (totals .entry)) (now (done .entry))))) (p .kind) (p .first) (p .second) ⌝ }
+    ensures { λ p. ⌜ Found k (nth (6 * k * k) (listedBy k (now (prices .entry)) (now (totals .entry)) (now (done .entry)))
+        (c + count (r * k) (listedBy k (now (prices .entry)) (now (totals .entry)) (now (done .entry))))) (p .kind) (p .first) (p .second) ⌝ }
 {
     let kind = r / k + 1;
     let a = r % k;
@@ -196,7 +198,8 @@ pub fn find_in(
     requires { ⌜ WalkIn k (now done) ⌝ }
     requires { ⌜ IsRows k (now prices) (now totals) (now done) (now rows) ⌝ }
     requires { ⌜ c < count (6 * k * k) (listedBy k (now prices) (now totals) (now done)) ⌝ }
-    ensures { λ r. ⌜ Found k (nth (6 * k * k) (listedBy k (now (prices .entry)) (now (totals .entry)) (now (done .entry))) c) (r .kind) (r .first) (r .second) ⌝ }
+    ensures { λ r. ⌜ Found k (nth (6 * k * k) (listedBy k (now (prices .entry)) (now (totals .entry)) (now (done .entry))) c) (r .kind) (r .first)
+        (r .second) ⌝ }
 {
     let n = 6 * k;
     let mut left = c;
@@ -237,14 +240,17 @@ fn one_more(
 )
     requires { ⌜ MarksIn k kind a b (now done) ⌝ }
     requires { ⌜ (length (now rows) ≡ 96) × (getD (now rows) (rowOf k kind a) 0 ≤ 16) ⌝ }
-    ensures { λ _. ⌜ now (rows .exit) ≡ set (now (rows .entry)) (rowOf k kind a) (getD (now (rows .entry)) (rowOf k kind a) 0 + only naturals (permittedBy k (now (prices .entry)) (now (totals .entry)) (stepsDone k (now (done .entry))) (kindOf kind) a b) 1) ⌝ }
+    ensures { λ _. ⌜ now (rows .exit) ≡ set (now (rows .entry)) (rowOf k kind a)
+        (getD (now (rows .entry)) (rowOf k kind a) 0 + only naturals (permittedBy k (now (prices .entry)) (now (totals .entry))
+        (stepsDone k (now (done .entry))) (kindOf kind) a b) 1) ⌝ }
 {
     let more = one(refuse::rules::permitted(k, kind, a, b, prices, totals, done));
     let r = ((kind - 1) * k + a) as usize;
     rows[r] += more;
 }
 
-// After a step is marked: its own row has one ready step less, a receiver's one more, and where it was the last that its box had to multiply, the rows that this opens are counted anew.
+// After a step is marked: its own row has one ready step less, a receiver's one more, and where it was the last that
+// its box had to multiply, the rows that this opens are counted anew.
 pub fn renew(
     k: u16,
     kind: u16,

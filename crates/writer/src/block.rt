@@ -67,7 +67,8 @@ fn put_sizes(out: &mut [u8], boxes: u16, grocers: u16, offers: u16, tallies: u16
 // The header block.
 pub fn put_header(out: &mut [u8], boxes: u16, grocers: u16, offers: u16, tallies: u16)
     requires { ⌜ (512 ≤ length (now out)) × (boxes < 256) ⌝ }
-    ensures { λ _. ⌜ now (out .exit) ≡ put 0 512 (blockByte (bodyOf (0 ∷ 1 ∷ bytes16 0) 504 1 (λ _. bytesOf (boxes ∷ 1 ∷ bytes16 grocers ++ bytes16 offers ++ bytes16 tallies)))) (now (out .entry)) ⌝ }
+    ensures { λ _. ⌜ now (out .exit) ≡ put 0 512 (blockByte (bodyOf (0 ∷ 1 ∷ bytes16 0) 504 1
+        (λ _. bytesOf (boxes ∷ 1 ∷ bytes16 grocers ++ bytes16 offers ++ bytes16 tallies)))) (now (out .entry)) ⌝ }
 {
     put_head(out, 0, 0, 1, 0);
     put_sizes(out, boxes, grocers, offers, tallies);
@@ -86,7 +87,8 @@ pub fn put_offer_block(
     requires { ⌜ (n ≤ 500) × ((21 * b < n) × (512 * (2 + b) ≤ length (now out))) ⌝ }
     requires { ⌜ (n ≤ length (now price)) × ((n ≤ length (now owner)) × (n * 11 ≤ length (now code))) ⌝ }
     requires { ⌜ Small (now owner) n ⌝ }
-    ensures { λ _. ⌜ now (out .exit) ≡ put (512 * (1 + b)) 512 (blockByte (recordBody 1 1 n (λ i. offerBytes (offerOf (now (price .entry)) (now (owner .entry)) (now (code .entry)) i)) b)) (now (out .entry)) ⌝ }
+    ensures { λ _. ⌜ now (out .exit) ≡ put (512 * (1 + b)) 512 (blockByte
+        (recordBody 1 1 n (λ i. offerBytes (offerOf (now (price .entry)) (now (owner .entry)) (now (code .entry)) i)) b)) (now (out .entry)) ⌝ }
 {
     let number = 1 + b;
     let at = 512 * number;
@@ -101,7 +103,8 @@ pub fn put_offer_block(
 pub fn put_grocer_block(out: &mut [u8], k: usize, m: usize, gowner: &[u16])
     requires { ⌜ (m ≤ 255) × ((k < 65536) × (512 * (k + 1) ≤ length (now out))) ⌝ }
     requires { ⌜ (m ≤ length (now gowner)) × Small (now gowner) m ⌝ }
-    ensures { λ _. ⌜ now (out .exit) ≡ put (512 * k) 512 (blockByte (bodyOf (2 ∷ m ∷ bytes16 k) 1 m (λ r. bytesOf (getD (now (gowner .entry)) r 0 ∷ [])))) (now (out .entry)) ⌝ }
+    ensures { λ _. ⌜ now (out .exit) ≡ put (512 * k) 512 (blockByte (bodyOf (2 ∷ m ∷ bytes16 k) 1 m
+        (λ r. bytesOf (getD (now (gowner .entry)) r 0 ∷ [])))) (now (out .entry)) ⌝ }
 {
     let at = 512 * k;
     put_head(out, at, 2, m, k);
@@ -123,7 +126,9 @@ pub fn put_tally_block(
     requires { ⌜ (t ≤ 1000) × ((21 * b < t) × ((k ≤ 100) × (512 * (k + b + 1) ≤ length (now out)))) ⌝ }
     requires { ⌜ (t ≤ length (now tgrocer)) × ((t ≤ length (now tbox)) × ((t * 11 ≤ length (now tcode)) × (t ≤ length (now tcount)))) ⌝ }
     requires { ⌜ Small (now tbox) t ⌝ }
-    ensures { λ _. ⌜ now (out .exit) ≡ put (512 * (k + b)) 512 (blockByte (recordBody 3 k t (λ i. tallyBytes (tallyOf (now (tgrocer .entry)) (now (tbox .entry)) (now (tcode .entry)) (now (tcount .entry)) i)) b)) (now (out .entry)) ⌝ }
+    ensures { λ _. ⌜ now (out .exit) ≡ put (512 * (k + b)) 512 (blockByte
+        (recordBody 3 k t (λ i. tallyBytes (tallyOf (now (tgrocer .entry)) (now (tbox .entry)) (now (tcode .entry)) (now (tcount .entry)) i)) b))
+        (now (out .entry)) ⌝ }
 {
     let number = k + b;
     let at = 512 * number;

@@ -20,7 +20,8 @@ fn put_offer_blocks(out: &mut [u8], n: usize, price: &[u32], owner: &[u16], code
     requires { ⌜ (n ≤ 500) × (512 * (1 + blocksFor n) ≤ length (now out)) ⌝ }
     requires { ⌜ (n ≤ length (now price)) × ((n ≤ length (now owner)) × (n * 11 ≤ length (now code))) ⌝ }
     requires { ⌜ Small (now owner) n ⌝ }
-    ensures { λ _. ⌜ now (out .exit) ≡ put 512 (blocksFor n * 512) (blocksOf (recordBody 1 1 n (λ i. offerBytes (offerOf (now (price .entry)) (now (owner .entry)) (now (code .entry)) i)))) (now (out .entry)) ⌝ }
+    ensures { λ _. ⌜ now (out .exit) ≡ put 512 (blocksFor n * 512) (blocksOf
+        (recordBody 1 1 n (λ i. offerBytes (offerOf (now (price .entry)) (now (owner .entry)) (now (code .entry)) i)))) (now (out .entry)) ⌝ }
 {
     let blocks = blocks_for(n);
     let mut b: usize = 0;
@@ -43,7 +44,9 @@ fn put_tally_blocks(
     requires { ⌜ (t ≤ 1000) × ((k ≤ 100) × (512 * (k + blocksFor t) ≤ length (now out))) ⌝ }
     requires { ⌜ (t ≤ length (now tgrocer)) × ((t ≤ length (now tbox)) × ((t * 11 ≤ length (now tcode)) × (t ≤ length (now tcount)))) ⌝ }
     requires { ⌜ Small (now tbox) t ⌝ }
-    ensures { λ _. ⌜ now (out .exit) ≡ put (512 * k) (blocksFor t * 512) (blocksOf (recordBody 3 k t (λ i. tallyBytes (tallyOf (now (tgrocer .entry)) (now (tbox .entry)) (now (tcode .entry)) (now (tcount .entry)) i)))) (now (out .entry)) ⌝ }
+    ensures { λ _. ⌜ now (out .exit) ≡ put (512 * k) (blocksFor t * 512) (blocksOf
+        (recordBody 3 k t (λ i. tallyBytes (tallyOf (now (tgrocer .entry)) (now (tbox .entry)) (now (tcode .entry)) (now (tcount .entry)) i))))
+        (now (out .entry)) ⌝ }
 {
     let blocks = blocks_for(t);
     let mut b: usize = 0;
@@ -69,8 +72,11 @@ pub fn put_file(
     tcount: &[i32],
     out: &mut [u8],
 )
-    requires { ⌜ Ready boxes grocers offers tallies (fileTables (now price) (now owner) (now code) (now gowner) (now tgrocer) (now tbox) (now tcode) (now tcount)) (now out) ⌝ }
-    ensures { λ _. ⌜ now (out .exit) ≡ (let file = encode (fileJobOf boxes grocers offers tallies (fileTables (now (price .entry)) (now (owner .entry)) (now (code .entry)) (now (gowner .entry)) (now (tgrocer .entry)) (now (tbox .entry)) (now (tcode .entry)) (now (tcount .entry)))) in file ++ drop (length file) (now (out .entry))) ⌝ }
+    requires { ⌜ Ready boxes grocers offers tallies (fileTables (now price) (now owner) (now code) (now gowner) (now tgrocer) (now tbox) (now tcode)
+        (now tcount)) (now out) ⌝ }
+    ensures { λ _. ⌜ now (out .exit) ≡ (let file = encode (fileJobOf boxes grocers offers tallies
+        (fileTables (now (price .entry)) (now (owner .entry)) (now (code .entry)) (now (gowner .entry)) (now (tgrocer .entry)) (now (tbox .entry))
+        (now (tcode .entry)) (now (tcount .entry)))) in file ++ drop (length file) (now (out .entry))) ⌝ }
 {
     let m = grocers as usize;
     let n = offers as usize;

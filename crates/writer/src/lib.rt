@@ -34,7 +34,9 @@ pub fn write(
     tcount: &[i32],
     out: &mut [u8],
 ) -> Answer
-    ensures { λ r. ⌜ outcomeOf r (now (out .exit)) ≡ writeResult boxes grocers offers tallies (fileTables (now (price .entry)) (now (owner .entry)) (now (code .entry)) (now (gowner .entry)) (now (tgrocer .entry)) (now (tbox .entry)) (now (tcode .entry)) (now (tcount .entry))) (now (out .entry)) ⌝ }
+    ensures { λ r. ⌜ outcomeOf r (now (out .exit)) ≡ writeResult boxes grocers offers tallies
+        (fileTables (now (price .entry)) (now (owner .entry)) (now (code .entry)) (now (gowner .entry)) (now (tgrocer .entry)) (now (tbox .entry))
+        (now (tcode .entry)) (now (tcount .entry))) (now (out .entry)) ⌝ }
 {
     let refusal = write_refusal(
         boxes,

@@ -17,7 +17,8 @@ pub fn put_offer(out: &mut [u8], at: usize, price: &[u32], owner: &[u16], code: 
     requires { ⌜ at + 24 ≤ length (now out) ⌝ }
     requires { ⌜ (i < length (now price)) × ((i < length (now owner)) × (i * 11 + 11 ≤ length (now code))) ⌝ }
     requires { ⌜ getD (now owner) i 0 < 256 ⌝ }
-    ensures { λ _. ⌜ now (out .exit) ≡ put at 24 (bytesOf (offerBytes (offerOf (now (price .entry)) (now (owner .entry)) (now (code .entry)) i))) (now (out .entry)) ⌝ }
+    ensures { λ _. ⌜ now (out .exit) ≡ put at 24 (bytesOf (offerBytes (offerOf (now (price .entry)) (now (owner .entry)) (now (code .entry)) i)))
+        (now (out .entry)) ⌝ }
 {
     put32(out, at, price[i]);
     out[at + 4] = owner[i] as u8;
@@ -38,7 +39,8 @@ pub fn put_tally(
     requires { ⌜ at + 24 ≤ length (now out) ⌝ }
     requires { ⌜ (i < length (now tgrocer)) × ((i < length (now tbox)) × ((i * 11 + 11 ≤ length (now tcode)) × (i < length (now tcount)))) ⌝ }
     requires { ⌜ getD (now tbox) i 0 < 256 ⌝ }
-    ensures { λ _. ⌜ now (out .exit) ≡ put at 24 (bytesOf (tallyBytes (tallyOf (now (tgrocer .entry)) (now (tbox .entry)) (now (tcode .entry)) (now (tcount .entry)) i))) (now (out .entry)) ⌝ }
+    ensures { λ _. ⌜ now (out .exit) ≡ put at 24 (bytesOf (tallyBytes (tallyOf (now (tgrocer .entry)) (now (tbox .entry)) (now (tcode .entry))
+        (now (tcount .entry)) i))) (now (out .entry)) ⌝ }
 {
     put16(out, at, size_of(tgrocer[i]));
     out[at + 2] = tbox[i] as u8;
@@ -60,7 +62,8 @@ pub fn put_offers(
     requires { ⌜ (n ≤ 21) × (at + n * 24 ≤ length (now out)) ⌝ }
     requires { ⌜ (first + n ≤ length (now price)) × ((first + n ≤ length (now owner)) × ((first + n) * 11 ≤ length (now code))) ⌝ }
     requires { ⌜ Small (now owner) (first + n) ⌝ }
-    ensures { λ _. ⌜ now (out .exit) ≡ put at (n * 24) (rowsOf 24 (λ r. bytesOf (offerBytes (offerOf (now (price .entry)) (now (owner .entry)) (now (code .entry)) (first + r))))) (now (out .entry)) ⌝ }
+    ensures { λ _. ⌜ now (out .exit) ≡ put at (n * 24) (rowsOf 24 (λ r. bytesOf
+        (offerBytes (offerOf (now (price .entry)) (now (owner .entry)) (now (code .entry)) (first + r))))) (now (out .entry)) ⌝ }
 {
     let mut r: usize = 0;
     while r < n {
@@ -81,9 +84,12 @@ pub fn put_tallies(
     tcount: &[i32],
 )
     requires { ⌜ (n ≤ 21) × (at + n * 24 ≤ length (now out)) ⌝ }
-    requires { ⌜ (first + n ≤ length (now tgrocer)) × ((first + n ≤ length (now tbox)) × (((first + n) * 11 ≤ length (now tcode)) × (first + n ≤ length (now tcount)))) ⌝ }
+    requires { ⌜ (first + n ≤ length (now tgrocer)) × ((first + n ≤ length (now tbox)) ×
+        (((first + n) * 11 ≤ length (now tcode)) × (first + n ≤ length (now tcount)))) ⌝ }
     requires { ⌜ Small (now tbox) (first + n) ⌝ }
-    ensures { λ _. ⌜ now (out .exit) ≡ put at (n * 24) (rowsOf 24 (λ r. bytesOf (tallyBytes (tallyOf (now (tgrocer .entry)) (now (tbox .entry)) (now (tcode .entry)) (now (tcount .entry)) (first + r))))) (now (out .entry)) ⌝ }
+    ensures { λ _. ⌜ now (out .exit) ≡ put at (n * 24) (rowsOf 24 (λ r. bytesOf
+        (tallyBytes (tallyOf (now (tgrocer .entry)) (now (tbox .entry)) (now (tcode .entry)) (now (tcount .entry)) (first + r))))) (now (out .entry))
+        ⌝ }
 {
     let mut r: usize = 0;
     while r < n {
