@@ -4,6 +4,10 @@ use Rattle.host.proofs.Gives.{read-short, read-told}
 use Rattle.host.proofs.settlement_read.Statement.{statement}
 use Rattle.host.proofs.settlement_read.Tie as tie
 
+-- The call of `read`, from the last return.
+abbrev was-read : tie.After-slice-known18 → tie.After-read
+was-read c = c .before .before .before .before .before .before .before .before .before .before .before .before .before .before .before .before .before .before .before .before .before
+
 returns : tie.Need-returns
 returns c = read-short _ _ _ (c .if1 .taken)
 
@@ -14,37 +18,37 @@ tell-sizes-requires : tie.Need-tell-sizes-requires
 tell-sizes-requires c κs = search needs
 
 same-length : tie.Need-same-length
-same-length c = search needs
+same-length c = was-read c .read .kept .1 .0
 
 same-length-2 : tie.Need-same-length-2
-same-length-2 c = search needs
+same-length-2 c = was-read c .read .kept .1 .1 .0
 
 same-length-3 : tie.Need-same-length-3
-same-length-3 c = search needs
+same-length-3 c = was-read c .read .kept .1 .1 .1 .0
 
 same-length-4 : tie.Need-same-length-4
-same-length-4 c = search needs
+same-length-4 c = was-read c .read .kept .1 .1 .1 .1 .0
 
 same-length-5 : tie.Need-same-length-5
-same-length-5 c = search needs
+same-length-5 c = was-read c .read .kept .1 .1 .1 .1 .1 .0
 
 same-length-6 : tie.Need-same-length-6
-same-length-6 c = search needs
+same-length-6 c = was-read c .read .kept .1 .1 .1 .1 .1 .1 .0
 
 same-length-7 : tie.Need-same-length-7
-same-length-7 c = search needs
+same-length-7 c = was-read c .read .kept .1 .1 .1 .1 .1 .1 .1 .0
 
 same-length-8 : tie.Need-same-length-8
-same-length-8 c = search needs
+same-length-8 c = was-read c .read .kept .1 .1 .1 .1 .1 .1 .1 .1 .0
 
 same-length-9 : tie.Need-same-length-9
-same-length-9 c = search needs
+same-length-9 c = was-read c .read .kept .1 .1 .1 .1 .1 .1 .1 .1 .1 .0
 
 same-length-10 : tie.Need-same-length-10
-same-length-10 c = search needs
+same-length-10 c = c .before .before .tell-sizes .kept .1 .0
 
 returns-2 : tie.Need-returns-2
-returns-2 c = read-told _ _ _ _ _ _ _ (c .before .before .before .before .before .before .before .before .before .before .before .before .before .before .before .before .before .before .before .before .before .before .before .before .before .before .before .before .before .before .before .if1 .left) (c .before .before .before .before .before .before .before .before .before .before .before .before .before .before .before .before .before .before .before .before .before .read .ensures) (c .before .before .tell-sizes .ensures)
+returns-2 c = read-told _ _ _ _ _ _ _ (was-read c .before .before .before .before .before .before .before .before .before .before .if1 .left) (was-read c .read .ensures) (c .before .before .tell-sizes .ensures)
 
 pub settlement-read-spec : {M : Type 1} → statement M
 settlement-read-spec =

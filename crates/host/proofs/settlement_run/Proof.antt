@@ -4,6 +4,10 @@ use Rattle.host.proofs.Gives.{run-short, run-told}
 use Rattle.host.proofs.settlement_run.Statement.{statement}
 use Rattle.host.proofs.settlement_run.Tie as tie
 
+-- The call of `run`, from the last return.
+abbrev ran : tie.After-slice-known10 → tie.After-run
+ran c = c .before .before .before .before .before .before .before .before .before .before .before .before .before .before .before
+
 returns : tie.Need-returns
 returns c = run-short _ _ _ _ (c .if1 .taken)
 
@@ -14,31 +18,31 @@ tell-report-requires : tie.Need-tell-report-requires
 tell-report-requires c κs = search needs
 
 same-length : tie.Need-same-length
-same-length c = search needs
+same-length c = ran c .run .kept .1 .1 .1 .1 .1 .1 .1 .1 .1 .1 .1 .0
 
 same-length-2 : tie.Need-same-length-2
-same-length-2 c = search needs
+same-length-2 c = ran c .run .kept .1 .1 .1 .1 .1 .1 .1 .1 .1 .1 .1 .1 .0
 
 same-length-3 : tie.Need-same-length-3
-same-length-3 c = search needs
+same-length-3 c = ran c .run .kept .1 .1 .1 .1 .1 .1 .1 .1 .1 .1 .1 .1 .1 .0
 
 same-length-4 : tie.Need-same-length-4
-same-length-4 c = search needs
+same-length-4 c = ran c .run .kept .1 .1 .1 .1 .1 .1 .1 .1 .1 .1 .1 .1 .1 .1 .0
 
 same-length-5 : tie.Need-same-length-5
-same-length-5 c = search needs
+same-length-5 c = ran c .run .kept .1 .1 .1 .1 .1 .1 .1 .1 .1 .1 .1 .1 .1 .1 .1 .0
 
 same-length-6 : tie.Need-same-length-6
-same-length-6 c = search needs
+same-length-6 c = ran c .run .kept .1 .1 .1 .1 .1 .1 .1 .1 .1 .1 .1 .1 .1 .1 .1 .1 .0
 
 same-length-7 : tie.Need-same-length-7
-same-length-7 c = search needs
+same-length-7 c = ran c .run .kept .1 .1 .1 .1 .1 .1 .1 .1 .1 .1 .1 .1 .1 .1 .1 .1 .1 .0
 
 same-length-8 : tie.Need-same-length-8
-same-length-8 c = search needs
+same-length-8 c = c .before .before .tell-report .kept .1 .0
 
 returns-2 : tie.Need-returns-2
-returns-2 c = run-told _ _ _ _ _ _ _ _ (c .before .before .before .before .before .before .before .before .before .before .before .before .before .before .before .before .before .before .before .before .before .before .before .if1 .left) (c .before .before .before .before .before .before .before .before .before .before .before .before .before .before .before .run .ensures) (c .before .before .tell-report .ensures)
+returns-2 c = run-told _ _ _ _ _ _ _ _ (ran c .before .before .before .before .before .before .before .before .if1 .left) (ran c .run .ensures) (c .before .before .tell-report .ensures)
 
 pub settlement-run-spec : {M : Type 1} → statement M
 settlement-run-spec =

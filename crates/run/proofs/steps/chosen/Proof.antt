@@ -10,7 +10,7 @@ use Rattle.walk.specs.Rows.{IsRows}
 use Rattle.picks.specs.Way.{Kept}
 use denote.Ref.{now}
 use Rattle.picks.proofs.Way.{kept-both}
-use Rattle.run.proofs.Loops.{goes-first, goes-on, goes-lengths, goes-walk, goes-few, goes-count, goes-none, choices-end}
+use Rattle.run.proofs.Loops.{SameLengths, goes-first, goes-on, goes-lengths, goes-walk, goes-few, goes-count, goes-none, choices-end}
 use Rattle.run.proofs.steps.chosen.Statement.{statement}
 use Rattle.run.proofs.steps.chosen.Tie as tie
 
@@ -27,6 +27,23 @@ job s = jobTables (s .args .boxes) (s .args .grocers) (s .args .offers) (s .args
 abbrev entry : tie.Start Inv-loop μ-loop → StateTables
 entry s = stateTables (now (s .args .known)) (now (s .args .ptransit)) (now (s .args .working)) (now (s .args .ttransit)) (now (s .args .statement)) (now (s .args .done)) (now (s .args .sent))
 
+abbrev start : tie.At-loop Inv-loop μ-loop → tie.Start Inv-loop μ-loop
+start c = c .before .before .before .before .before .before .before .before .before .before .before .before .before .before
+
+-- The tables at the loop, and that they are as long as at the start.
+abbrev here : tie.At-loop Inv-loop μ-loop → StateTables
+here c = stateTables (c .loop .known) (c .loop .ptransit) (c .loop .working) (c .loop .ttransit) (c .loop .statement) (c .loop .done) (c .loop .sent)
+
+lengths : (c : tie.At-loop Inv-loop μ-loop) → SameLengths (here c) (entry (start c))
+lengths c =
+    let s = start c in
+    goes-lengths (job s) (entry s) (now (s .args .needs)) (now (s .args .sharers)) (now (s .args .prices)) (now (s .args .totals)) (now (s .args .choices)) 0 0
+    (s .pre .0) _ _ _ _ (c .loop .inv .1 .1 .0)
+
+-- From the end of a turn, back to its begin.
+abbrev turn : tie.After-slice-known8 Inv-loop μ-loop → tie.In-loop Inv-loop μ-loop
+turn c = c .before .before .before .before .before .before .before .before .before .before .before .before .before .before .before .before .before .before .before .before .before .before .before
+
 rows-for-requires : tie.Need-rows-for-requires Inv-loop μ-loop
 rows-for-requires c κs = let s = c .before .before .before .before .before .before .before .before .before .before .before .before in goes-walk (job s) (entry s) (now (s .args .needs)) (now (s .args .sharers)) (now (s .args .prices)) (now (s .args .totals)) (now (s .args .choices)) 0 0 (s .pre .0) _ _ _ _ (goes-first (job s) (entry s) (now (s .args .needs)) (now (s .args .sharers)) (now (s .args .prices)) (now (s .args .totals)) (now (s .args .choices)) 0 0 (s .pre .0))
 
@@ -35,35 +52,35 @@ loop-holds c = let s = c .before .before .before .before .before .before .before
 
 ready-steps-requires : tie.Need-ready-steps-requires Inv-loop μ-loop
 ready-steps-requires c κs =
-    let s = c .before .before .before .before .before .before .before .before .before .before .before .before .before .before .before .before in
+    let s = start (c .before .before) in
     let l = c .before .before .loop in
     let some : 1 ≤ length (now (s .args .choices)) = omega (arith, c .before .loop-test .taken, l .inv .1 .0) in
     goes-few (job s) (entry s) (now (s .args .needs)) (now (s .args .sharers)) (now (s .args .prices)) (now (s .args .totals)) (now (s .args .choices)) 0 0 (s .pre .0) _ _ _ _ (l .inv .1 .1 .0) _ (l .inv .1 .1 .1 some)
 
 same-length : tie.Need-same-length Inv-loop μ-loop
-same-length c = let s = c .before .before .before .before .before .before .before .before .before .before .before .before .before .before .before .before .before .before in goes-lengths (job s) (entry s) (now (s .args .needs)) (now (s .args .sharers)) (now (s .args .prices)) (now (s .args .totals)) (now (s .args .choices)) 0 0 (s .pre .0) _ _ _ _ (c .before .before .before .before .loop .inv .1 .1 .0) .known
+same-length c = lengths (c .before .before .before .before) .known
 
 same-length-2 : tie.Need-same-length-2 Inv-loop μ-loop
-same-length-2 c = let s = c .before .before .before .before .before .before .before .before .before .before .before .before .before .before .before .before .before .before in goes-lengths (job s) (entry s) (now (s .args .needs)) (now (s .args .sharers)) (now (s .args .prices)) (now (s .args .totals)) (now (s .args .choices)) 0 0 (s .pre .0) _ _ _ _ (c .before .before .before .before .loop .inv .1 .1 .0) .priceTransit
+same-length-2 c = lengths (c .before .before .before .before) .priceTransit
 
 same-length-3 : tie.Need-same-length-3 Inv-loop μ-loop
-same-length-3 c = let s = c .before .before .before .before .before .before .before .before .before .before .before .before .before .before .before .before .before .before in goes-lengths (job s) (entry s) (now (s .args .needs)) (now (s .args .sharers)) (now (s .args .prices)) (now (s .args .totals)) (now (s .args .choices)) 0 0 (s .pre .0) _ _ _ _ (c .before .before .before .before .loop .inv .1 .1 .0) .working
+same-length-3 c = lengths (c .before .before .before .before) .working
 
 same-length-4 : tie.Need-same-length-4 Inv-loop μ-loop
-same-length-4 c = let s = c .before .before .before .before .before .before .before .before .before .before .before .before .before .before .before .before .before .before in goes-lengths (job s) (entry s) (now (s .args .needs)) (now (s .args .sharers)) (now (s .args .prices)) (now (s .args .totals)) (now (s .args .choices)) 0 0 (s .pre .0) _ _ _ _ (c .before .before .before .before .loop .inv .1 .1 .0) .totalTransit
+same-length-4 c = lengths (c .before .before .before .before) .totalTransit
 
 same-length-5 : tie.Need-same-length-5 Inv-loop μ-loop
-same-length-5 c = let s = c .before .before .before .before .before .before .before .before .before .before .before .before .before .before .before .before .before .before in goes-lengths (job s) (entry s) (now (s .args .needs)) (now (s .args .sharers)) (now (s .args .prices)) (now (s .args .totals)) (now (s .args .choices)) 0 0 (s .pre .0) _ _ _ _ (c .before .before .before .before .loop .inv .1 .1 .0) .statement
+same-length-5 c = lengths (c .before .before .before .before) .statement
 
 same-length-6 : tie.Need-same-length-6 Inv-loop μ-loop
-same-length-6 c = let s = c .before .before .before .before .before .before .before .before .before .before .before .before .before .before .before .before .before .before in goes-lengths (job s) (entry s) (now (s .args .needs)) (now (s .args .sharers)) (now (s .args .prices)) (now (s .args .totals)) (now (s .args .choices)) 0 0 (s .pre .0) _ _ _ _ (c .before .before .before .before .loop .inv .1 .1 .0) .done
+same-length-6 c = lengths (c .before .before .before .before) .done
 
 same-length-7 : tie.Need-same-length-7 Inv-loop μ-loop
-same-length-7 c = let s = c .before .before .before .before .before .before .before .before .before .before .before .before .before .before .before .before .before .before in goes-lengths (job s) (entry s) (now (s .args .needs)) (now (s .args .sharers)) (now (s .args .prices)) (now (s .args .totals)) (now (s .args .choices)) 0 0 (s .pre .0) _ _ _ _ (c .before .before .before .before .loop .inv .1 .1 .0) .sent
+same-length-7 c = lengths (c .before .before .before .before) .sent
 
 returns : tie.Need-returns Inv-loop μ-loop
 returns c =
-    let s = c .before .before .before .before .before .before .before .before .before .before .before .before .before .before .before .before .before .before in
+    let s = start (c .before .before .before .before) in
     let l = c .before .before .before .before .loop in
     let r = c .before .ready-steps in
     let some : 1 ≤ length (now (s .args .choices)) = omega (arith, c .before .before .before .loop-test .taken, l .inv .1 .0) in
@@ -71,7 +88,7 @@ returns c =
 
 choose-requires : tie.Need-choose-requires Inv-loop μ-loop
 choose-requires c κs =
-    let s = c .before .before .before .before .before .before .before .before .before .before .before .before .before .before .before .before .before .before .before .before .before .before .before .before .before .before in
+    let s = start (c .before .before .before .before .before .before .before .before .before .before .before .before) in
     let l = c .before .before .before .before .before .before .before .before .before .before .before .before .loop in
     let r = c .before .before .before .before .before .before .before .before .before .ready-steps in
     let lt : l .i < length (now (s .args .choices)) = omega (arith, c .before .before .before .before .before .before .before .before .before .before .before .loop-test .taken, l .inv .1 .0) in
@@ -85,42 +102,42 @@ choose-requires c κs =
     )
 
 add-i : tie.Need-add-i Inv-loop μ-loop
-add-i c = let s = c .before .before .before .before .before .before .before .before .before .before .before .before .before .before .before .before .before .before .before .before .before .before .before .before .before .before .before .before .before .before .before .before .before .before .before .before .before .before in omega (arith, c .before .before .before .before .before .before .before .before .before .before .before .before .before .before .before .before .before .before .before .before .before .before .before .loop-test .taken, c .before .before .before .before .before .before .before .before .before .before .before .before .before .before .before .before .before .before .before .before .before .before .before .before .loop .inv .1 .0, s .good .1 .1 .1 .1 .1 .1 .1 .1 .1 .1 .1 .1 .1 .1 .1 .1 .1 .1 .1 .1 .1 .1 .1 .1 .1 .1 .1 .1 .0)
+add-i c = omega (arith, turn c .loop-test .taken, turn c .before .loop .inv .1 .0, start (turn c .before) .good .1 .1 .1 .1 .1 .1 .1 .1 .1 .1 .1 .1 .1 .1 .1 .1 .1 .1 .1 .1 .1 .1 .1 .1 .1 .1 .1 .1 .0)
 
 loop-less : tie.Need-loop-less Inv-loop μ-loop
-loop-less c = omega (arith, c .before .before .before .before .before .before .before .before .before .before .before .before .before .before .before .before .before .before .before .before .before .before .before .loop-test .taken)
+loop-less c = omega (arith, turn c .loop-test .taken)
 
 loop-again : tie.Need-loop-again Inv-loop μ-loop
 loop-again c =
-    let l = c .before .before .before .before .before .before .before .before .before .before .before .before .before .before .before .before .before .before .before .before .before .before .before .before .loop in
+    let l = turn c .before .loop in
     let r = c .before .before .before .before .before .before .before .before .before .before .before .choose .ensures in
-    (omega (arith, c .before .before .before .before .before .before .before .before .before .before .before .before .before .before .before .before .before .before .before .before .before .before .before .loop-test .taken), (l .inv .1 .0, (kept-both _ _ _ _ _ _ _ _ _ _ _ _ _ (l .inv .1 .1 .0) (r .0), λ some. r .1)))
+    (omega (arith, turn c .loop-test .taken), (l .inv .1 .0, (kept-both _ _ _ _ _ _ _ _ _ _ _ _ _ (l .inv .1 .1 .0) (r .0), λ some. r .1)))
 
 same-length-8 : tie.Need-same-length-8 Inv-loop μ-loop
-same-length-8 c = let s = c .before .before .before .before .before .before .before .before .before .before .before .before .before .before .before in goes-lengths (job s) (entry s) (now (s .args .needs)) (now (s .args .sharers)) (now (s .args .prices)) (now (s .args .totals)) (now (s .args .choices)) 0 0 (s .pre .0) _ _ _ _ (c .before .loop .inv .1 .1 .0) .known
+same-length-8 c = lengths (c .before) .known
 
 same-length-9 : tie.Need-same-length-9 Inv-loop μ-loop
-same-length-9 c = let s = c .before .before .before .before .before .before .before .before .before .before .before .before .before .before .before in goes-lengths (job s) (entry s) (now (s .args .needs)) (now (s .args .sharers)) (now (s .args .prices)) (now (s .args .totals)) (now (s .args .choices)) 0 0 (s .pre .0) _ _ _ _ (c .before .loop .inv .1 .1 .0) .priceTransit
+same-length-9 c = lengths (c .before) .priceTransit
 
 same-length-10 : tie.Need-same-length-10 Inv-loop μ-loop
-same-length-10 c = let s = c .before .before .before .before .before .before .before .before .before .before .before .before .before .before .before in goes-lengths (job s) (entry s) (now (s .args .needs)) (now (s .args .sharers)) (now (s .args .prices)) (now (s .args .totals)) (now (s .args .choices)) 0 0 (s .pre .0) _ _ _ _ (c .before .loop .inv .1 .1 .0) .working
+same-length-10 c = lengths (c .before) .working
 
 same-length-11 : tie.Need-same-length-11 Inv-loop μ-loop
-same-length-11 c = let s = c .before .before .before .before .before .before .before .before .before .before .before .before .before .before .before in goes-lengths (job s) (entry s) (now (s .args .needs)) (now (s .args .sharers)) (now (s .args .prices)) (now (s .args .totals)) (now (s .args .choices)) 0 0 (s .pre .0) _ _ _ _ (c .before .loop .inv .1 .1 .0) .totalTransit
+same-length-11 c = lengths (c .before) .totalTransit
 
 same-length-12 : tie.Need-same-length-12 Inv-loop μ-loop
-same-length-12 c = let s = c .before .before .before .before .before .before .before .before .before .before .before .before .before .before .before in goes-lengths (job s) (entry s) (now (s .args .needs)) (now (s .args .sharers)) (now (s .args .prices)) (now (s .args .totals)) (now (s .args .choices)) 0 0 (s .pre .0) _ _ _ _ (c .before .loop .inv .1 .1 .0) .statement
+same-length-12 c = lengths (c .before) .statement
 
 same-length-13 : tie.Need-same-length-13 Inv-loop μ-loop
-same-length-13 c = let s = c .before .before .before .before .before .before .before .before .before .before .before .before .before .before .before in goes-lengths (job s) (entry s) (now (s .args .needs)) (now (s .args .sharers)) (now (s .args .prices)) (now (s .args .totals)) (now (s .args .choices)) 0 0 (s .pre .0) _ _ _ _ (c .before .loop .inv .1 .1 .0) .done
+same-length-13 c = lengths (c .before) .done
 
 same-length-14 : tie.Need-same-length-14 Inv-loop μ-loop
-same-length-14 c = let s = c .before .before .before .before .before .before .before .before .before .before .before .before .before .before .before in goes-lengths (job s) (entry s) (now (s .args .needs)) (now (s .args .sharers)) (now (s .args .prices)) (now (s .args .totals)) (now (s .args .choices)) 0 0 (s .pre .0) _ _ _ _ (c .before .loop .inv .1 .1 .0) .sent
+same-length-14 c = lengths (c .before) .sent
 
 returns-2 : tie.Need-returns-2 Inv-loop μ-loop
 returns-2 c =
     let l = c .before .loop in
-    let s = c .before .before .before .before .before .before .before .before .before .before .before .before .before .before .before in
+    let s = start (c .before) in
     let end : drop (l .i) (now (s .args .choices)) ≡ [] = choices-end (now (s .args .choices)) (l .i) (omega (arith, c .loop-test .left, l .inv .0, l .inv .1 .0)) in
     rw end at (l .inv .1 .1 .0)
 

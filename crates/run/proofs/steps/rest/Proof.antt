@@ -8,7 +8,7 @@ use Rattle.picks.specs.Way.{Kept, NoneBefore}
 use denote.Ref.{now}
 use Rattle.walk.proofs.Walking.{At, at-first, at-next, at-in}
 use Rattle.picks.proofs.Way.{kept-both}
-use Rattle.run.proofs.Loops.{goes-first, goes-on, goes-lengths, goes-walk, goes-ends, none-first}
+use Rattle.run.proofs.Loops.{SameLengths, goes-first, goes-on, goes-lengths, goes-walk, goes-ends, none-first}
 use Rattle.run.proofs.steps.rest.Statement.{statement}
 use Rattle.run.proofs.steps.rest.Tie as tie
 
@@ -25,6 +25,23 @@ job s = jobTables (s .args .boxes) (s .args .grocers) (s .args .offers) (s .args
 abbrev entry : tie.Start Inv-loop μ-loop → StateTables
 entry s = stateTables (now (s .args .known)) (now (s .args .ptransit)) (now (s .args .working)) (now (s .args .ttransit)) (now (s .args .statement)) (now (s .args .done)) (now (s .args .sent))
 
+abbrev start : tie.At-loop Inv-loop μ-loop → tie.Start Inv-loop μ-loop
+start c = c .before .before .before .before .before .before .before .before .before .before .before .before
+
+-- The tables at the loop, and that they are as long as at the start.
+abbrev here : tie.At-loop Inv-loop μ-loop → StateTables
+here c = stateTables (c .loop .known) (c .loop .ptransit) (c .loop .working) (c .loop .ttransit) (c .loop .statement) (c .loop .done) (c .loop .sent)
+
+lengths : (c : tie.At-loop Inv-loop μ-loop) → SameLengths (here c) (entry (start c))
+lengths c =
+    let s = start c in
+    goes-lengths (job s) (entry s) (now (s .args .needs)) (now (s .args .sharers)) (now (s .args .prices)) (now (s .args .totals)) [] (s .args .before .messages) (s .args .before .steps)
+    (s .pre .0) _ _ _ _ (c .loop .inv .1 .1 .0)
+
+-- From where the next place is found, back to the turn's begin.
+abbrev turn : tie.After-slice-known8 Inv-loop μ-loop → tie.In-loop Inv-loop μ-loop
+turn c = c .before .before .before .before .before .before .before .before .before .before .before .before .before .before .before .before .before .before .before
+
 marks-requires : tie.Need-marks-requires Inv-loop μ-loop
 marks-requires c κs = search needs
 
@@ -33,29 +50,29 @@ loop-holds c = let s = c .before .before .before .before .before .before .before
 
 turn-requires : tie.Need-turn-requires Inv-loop μ-loop
 turn-requires c κs =
-    let s = c .before .before .before .before .before .before .before .before .before .before .before .before .before .before .before .before .before .before .before .before in
+    let s = start (c .before .before .before .before .before .before .before .before) in
     let l = c .before .before .before .before .before .before .before .before .loop in
     let w = goes-walk (job s) (entry s) (now (s .args .needs)) (now (s .args .sharers)) (now (s .args .prices)) (now (s .args .totals)) [] (s .args .before .messages) (s .args .before .steps) (s .pre .0) _ _ _ _ (l .inv .1 .1 .0) in
     (goes-on (job s) (entry s) (now (s .args .needs)) (now (s .args .sharers)) (now (s .args .prices)) (now (s .args .totals)) [] (s .args .before .messages) (s .args .before .steps) (s .pre .0) _ _ _ _ (l .inv .1 .1 .0), (at-in _ (l .i) _ _ _ (w .boxes-in) (l .inv .1 .0) (omega (arith, c .before .before .before .before .before .before .before .loop-test .taken, c .before .before .before .before .before .before .before .before .before .marks .ensures)), (rw (l .inv .1 .0 .place-is) (l .inv .1 .1 .1), s .pre .1)))
 
 next-requires : tie.Need-next-requires Inv-loop μ-loop
 next-requires c κs =
-    let s = c .before .before .before .before .before .before .before .before .before .before .before .before .before .before .before .before .before .before .before .before .before .before .before .before .before .before .before .before .before .before .before .before in
-    let l = c .before .before .before .before .before .before .before .before .before .before .before .before .before .before .before .before .before .before .before .before .loop in
+    let s = start (turn c .before) in
+    let l = turn c .before .loop in
     let w = goes-walk (job s) (entry s) (now (s .args .needs)) (now (s .args .sharers)) (now (s .args .prices)) (now (s .args .totals)) [] (s .args .before .messages) (s .args .before .steps) (s .pre .0) _ _ _ _ (l .inv .1 .1 .0) in
-    at-in _ (l .i) _ _ _ (w .boxes-in) (l .inv .1 .0) (omega (arith, c .before .before .before .before .before .before .before .before .before .before .before .before .before .before .before .before .before .before .before .loop-test .taken, c .before .before .before .before .before .before .before .before .before .before .before .before .before .before .before .before .before .before .before .before .before .marks .ensures))
+    at-in _ (l .i) _ _ _ (w .boxes-in) (l .inv .1 .0) (omega (arith, turn c .loop-test .taken, turn c .before .before .marks .ensures))
 
 add-i : tie.Need-add-i Inv-loop μ-loop
 add-i c = search needs
 
 loop-less : tie.Need-loop-less Inv-loop μ-loop
-loop-less c = omega (arith, c .before .before .before .before .before .before .before .before .before .before .before .before .before .before .before .before .before .before .before .before .loop-test .taken)
+loop-less c = omega (arith, turn (c .before) .loop-test .taken)
 
 loop-again : tie.Need-loop-again Inv-loop μ-loop
 loop-again c =
-    let l = c .before .before .before .before .before .before .before .before .before .before .before .before .before .before .before .before .before .before .before .before .before .loop in
+    let l = turn (c .before) .before .loop in
     let u = c .before .before .before .before .before .before .before .before .before .before .before .before .turn .ensures in (
-      omega (arith, c .before .before .before .before .before .before .before .before .before .before .before .before .before .before .before .before .before .before .before .before .loop-test .taken),
+      omega (arith, turn (c .before) .loop-test .taken),
       (
         at-next _ (l .i) _ _ _ _ _ _ (l .inv .1 .0) (c .next .ensures),
         (kept-both _ _ _ _ _ _ _ _ _ _ _ _ _ (l .inv .1 .1 .0) (u .kept), rw (l .inv .1 .0 .place-is) at (u .none)),
@@ -63,28 +80,32 @@ loop-again c =
     )
 
 same-length : tie.Need-same-length Inv-loop μ-loop
-same-length c = let s = c .before .before .before .before .before .before .before .before .before .before .before .before .before in goes-lengths (job s) (entry s) (now (s .args .needs)) (now (s .args .sharers)) (now (s .args .prices)) (now (s .args .totals)) [] (s .args .before .messages) (s .args .before .steps) (s .pre .0) _ _ _ _ (c .before .loop .inv .1 .1 .0) .known
+same-length c = lengths (c .before) .known
 
 same-length-2 : tie.Need-same-length-2 Inv-loop μ-loop
-same-length-2 c = let s = c .before .before .before .before .before .before .before .before .before .before .before .before .before in goes-lengths (job s) (entry s) (now (s .args .needs)) (now (s .args .sharers)) (now (s .args .prices)) (now (s .args .totals)) [] (s .args .before .messages) (s .args .before .steps) (s .pre .0) _ _ _ _ (c .before .loop .inv .1 .1 .0) .priceTransit
+same-length-2 c = lengths (c .before) .priceTransit
 
 same-length-3 : tie.Need-same-length-3 Inv-loop μ-loop
-same-length-3 c = let s = c .before .before .before .before .before .before .before .before .before .before .before .before .before in goes-lengths (job s) (entry s) (now (s .args .needs)) (now (s .args .sharers)) (now (s .args .prices)) (now (s .args .totals)) [] (s .args .before .messages) (s .args .before .steps) (s .pre .0) _ _ _ _ (c .before .loop .inv .1 .1 .0) .working
+same-length-3 c = lengths (c .before) .working
 
 same-length-4 : tie.Need-same-length-4 Inv-loop μ-loop
-same-length-4 c = let s = c .before .before .before .before .before .before .before .before .before .before .before .before .before in goes-lengths (job s) (entry s) (now (s .args .needs)) (now (s .args .sharers)) (now (s .args .prices)) (now (s .args .totals)) [] (s .args .before .messages) (s .args .before .steps) (s .pre .0) _ _ _ _ (c .before .loop .inv .1 .1 .0) .totalTransit
+same-length-4 c = lengths (c .before) .totalTransit
 
 same-length-5 : tie.Need-same-length-5 Inv-loop μ-loop
-same-length-5 c = let s = c .before .before .before .before .before .before .before .before .before .before .before .before .before in goes-lengths (job s) (entry s) (now (s .args .needs)) (now (s .args .sharers)) (now (s .args .prices)) (now (s .args .totals)) [] (s .args .before .messages) (s .args .before .steps) (s .pre .0) _ _ _ _ (c .before .loop .inv .1 .1 .0) .statement
+same-length-5 c = lengths (c .before) .statement
 
 same-length-6 : tie.Need-same-length-6 Inv-loop μ-loop
-same-length-6 c = let s = c .before .before .before .before .before .before .before .before .before .before .before .before .before in goes-lengths (job s) (entry s) (now (s .args .needs)) (now (s .args .sharers)) (now (s .args .prices)) (now (s .args .totals)) [] (s .args .before .messages) (s .args .before .steps) (s .pre .0) _ _ _ _ (c .before .loop .inv .1 .1 .0) .done
+same-length-6 c = lengths (c .before) .done
 
 same-length-7 : tie.Need-same-length-7 Inv-loop μ-loop
-same-length-7 c = let s = c .before .before .before .before .before .before .before .before .before .before .before .before .before in goes-lengths (job s) (entry s) (now (s .args .needs)) (now (s .args .sharers)) (now (s .args .prices)) (now (s .args .totals)) [] (s .args .before .messages) (s .args .before .steps) (s .pre .0) _ _ _ _ (c .before .loop .inv .1 .1 .0) .sent
+same-length-7 c = lengths (c .before) .sent
 
 returns : tie.Need-returns Inv-loop μ-loop
-returns c = let s = c .before .before .before .before .before .before .before .before .before .before .before .before .before in let l = c .before .loop in goes-ends (job s) (entry s) (now (s .args .needs)) (now (s .args .sharers)) (now (s .args .prices)) (now (s .args .totals)) [] (s .args .before .messages) (s .args .before .steps) (s .pre .0) _ _ _ _ (l .inv .1 .1 .0) (l .i) (omega (arith, c .loop-test .left, l .inv .0, c .before .before .marks .ensures)) (l .inv .1 .1 .1)
+returns c =
+    let s = start (c .before) in
+    let l = c .before .loop in
+    goes-ends (job s) (entry s) (now (s .args .needs)) (now (s .args .sharers)) (now (s .args .prices)) (now (s .args .totals)) [] (s .args .before .messages) (s .args .before .steps)
+    (s .pre .0) _ _ _ _ (l .inv .1 .1 .0) (l .i) (omega (arith, c .loop-test .left, l .inv .0, c .before .before .marks .ensures)) (l .inv .1 .1 .1)
 
 pub rest-spec : {M : Type 1} → statement M
 rest-spec =
