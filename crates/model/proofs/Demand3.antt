@@ -287,7 +287,7 @@ demand3 f ok long t rs = record {
   eachWord = rw (accepted-is f ok long t rs) (each-word (jobOf f) (fresh (jobOf f)) (asks (jobOf f) rs));
   sameSteps = λ h u ps e. count-is f ok long u ps e ∙ sym (count-is f ok long t rs h);
   sameState = λ h u ps e. all-is f ok long u ps e ∙ sym (all-is f ok long t rs h);
-  runState = λ h u cs n. run-view f ok long u cs n ∙ sym (all-is f ok long t rs h);
+  runLeaves = λ h u cs n. run-view f ok long u cs n ∙ sym (all-is f ok long t rs h);
   runReport = λ h u cs n. ran-answer f ok u cs ∙ rw (n, owner-is f ok long t rs h, sends-is f ok long t rs h, count-is f ok long t rs h);
 }
 

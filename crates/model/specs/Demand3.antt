@@ -115,7 +115,7 @@ pub record AfterList (f : JobTables) (t : StateTables) (rs : List Request)
   -- and leaves the same state, equal statements among it;
   pub sameState : AllDone job done → (u : StateTables) (ps : List Request) → AllDone job (doneIn f u ps) → view job (tablesAfter f u ps) ≡ state
   -- so does a run, whatever its choices and its buffers held: its tables hold this state,
-  pub runState : AllDone job done → (u : StateTables) (choices : List ℕ) → lentShort f u ≡ false → view job (ran f u choices .tables) ≡ state
+  pub runLeaves : AllDone job done → (u : StateTables) (choices : List ℕ) → lentShort f u ≡ false → view job (ran f u choices .tables) ≡ state
   -- and it reports the words, the messages and the number of the steps accepted in the list.
   pub runReport : AllDone job done → (u : StateTables) (choices : List ℕ) → lentShort f u ≡ false →
       ran f u choices .answer ≡ finished (over (wordsOf job) accepted) (over messagesOf accepted) (length accepted)
