@@ -2,7 +2,6 @@
 use mathlib.Core.Path.{refl, sym, _∙_}
 use Prim.Native.Nat.{ℕ, _<_}
 use native.Mathlib.Omega.{arith}
-use borrow.Author.Needs.{needs}
 use Rattle.model.specs.Tables.{JobTables, StateTables, jobTables, stateTables}
 use Rattle.model.specs.Step.{Asked, asked}
 use denote.Ref.{now}

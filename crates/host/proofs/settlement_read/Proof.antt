@@ -12,7 +12,7 @@ returns : tie.Need-returns
 returns c = read-short _ _ _ (c .if1 .taken)
 
 read-requires : tie.Need-read-requires
-read-requires c κs = search needs
+read-requires c κs = tt
 
 tell-sizes-requires : tie.Need-tell-sizes-requires
 tell-sizes-requires c κs = search needs

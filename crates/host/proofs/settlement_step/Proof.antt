@@ -1,5 +1,4 @@
 -- `host::settlement_step` meets its contract. Assumes nothing.
-use borrow.Author.Needs.{needs}
 use Rattle.host.proofs.Gives.{step-told}
 use Rattle.host.proofs.settlement_step.Statement.{statement}
 use Rattle.host.proofs.settlement_step.Tie as tie
@@ -9,10 +8,10 @@ abbrev stepped : tie.After-step-number → tie.After-step
 stepped c = c .before .before .before .before .before .before .before .before .before .before .before .before
 
 step-requires : tie.Need-step-requires
-step-requires c κs = search needs
+step-requires c κs = tt
 
 step-number-requires : tie.Need-step-number-requires
-step-number-requires c κs = search needs
+step-number-requires c κs = tt
 
 same-length : tie.Need-same-length
 same-length c = stepped c .step .kept .1 .1 .1 .1 .1 .1 .1 .1 .1 .1 .1 .0

@@ -2,7 +2,6 @@
 use mathlib.Core.Path.{refl, sym, _∙_}
 use borrow.Author.Tests.{not-true, not-false}
 use Rattle.model.specs.Tables.{JobTables, jobTables, StateTables, stateTables}
-use borrow.Author.Needs.{needs}
 use denote.Ref.{now}
 use Rattle.picks.proofs.Left.{few-so-far}
 use Rattle.picks.proofs.Pick.{way-walk, place-not, place-applies, place-passed}

@@ -1,7 +1,6 @@
 -- `run::run` meets its contract: the refusal, or what the run comes to. Assumes nothing.
 use mathlib.Core.Path.{refl, sym, _∙_}
 use Rattle.model.specs.Tables.{JobTables, jobTables, StateTables, stateTables}
-use borrow.Author.Needs.{needs}
 use denote.Ref.{now}
 use Rattle.run.proofs.Ends.{begins, settled-sent, run-refused, run-finished}
 use Rattle.run.proofs.run.Statement.{statement}
@@ -14,7 +13,7 @@ abbrev entry : tie.Start → StateTables
 entry s = stateTables (now (s .args .known)) (now (s .args .ptransit)) (now (s .args .working)) (now (s .args .ttransit)) (now (s .args .statement)) (now (s .args .done)) (now (s .args .sent))
 
 refusal-requires : tie.Need-refusal-requires
-refusal-requires c κs = search needs
+refusal-requires c κs = tt
 
 same-length : tie.Need-same-length
 same-length c = refl

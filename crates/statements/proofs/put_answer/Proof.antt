@@ -22,7 +22,7 @@ put-refused-requires : tie.Need-put-refused-requires
 put-refused-requires c κs = search needs
 
 same-length : tie.Need-same-length
-same-length c = search needs
+same-length c = c .before .before .put-settled .kept .0
 
 returns : tie.Need-returns
 unfolding answerOf runText
@@ -32,7 +32,7 @@ returns c =
     reworded (sym (ap (λ (x : Answer). runText (s .args .grocers) (answerOf x) (now (s .args .statement))) (m .a .given .1))) (c .before .before .put-settled .ensures)
 
 same-length-2 : tie.Need-same-length-2
-same-length-2 c = search needs
+same-length-2 c = c .before .before .put-refused .kept .0
 
 returns-2 : tie.Need-returns-2
 unfolding answerOf runText

@@ -1,4 +1,5 @@
 -- `statements::put_job` meets its contract. Assumes nothing.
+use mathlib.Core.Path.{refl, sym}
 use denote.Ref.{now}
 use Rattle.model.specs.Tables.{JobTables, jobTables, StateTables, stateTables}
 use Rattle.run.specs.Run.{answerOf}
@@ -17,40 +18,40 @@ abbrev left : tie.After-run → StateTables
 left r = let w = r .run .last .1 .1 .1 .1 .1 .1 .1 .1 .1 .1 .1 in stateTables (w .0) (w .1 .0) (w .1 .1 .0) (w .1 .1 .1 .0) (w .1 .1 .1 .1 .0) (w .1 .1 .1 .1 .1 .0) (w .1 .1 .1 .1 .1 .1 .0)
 
 slice-aggregate-run : tie.Need-slice-aggregate-run
-slice-aggregate-run c = search needs
+slice-aggregate-run c = refl
 
 slice-aggregate-run-2 : tie.Need-slice-aggregate-run-2
-slice-aggregate-run-2 c = search needs
+slice-aggregate-run-2 c = refl
 
 slice-aggregate-run-3 : tie.Need-slice-aggregate-run-3
-slice-aggregate-run-3 c = search needs
+slice-aggregate-run-3 c = refl
 
 slice-aggregate-run-4 : tie.Need-slice-aggregate-run-4
-slice-aggregate-run-4 c = search needs
+slice-aggregate-run-4 c = refl
 
 slice-aggregate-run-5 : tie.Need-slice-aggregate-run-5
-slice-aggregate-run-5 c = search needs
+slice-aggregate-run-5 c = refl
 
 slice-aggregate-run-6 : tie.Need-slice-aggregate-run-6
-slice-aggregate-run-6 c = search needs
+slice-aggregate-run-6 c = refl
 
 slice-aggregate-run-7 : tie.Need-slice-aggregate-run-7
-slice-aggregate-run-7 c = search needs
+slice-aggregate-run-7 c = refl
 
 slice-aggregate-run-8 : tie.Need-slice-aggregate-run-8
-slice-aggregate-run-8 c = search needs
+slice-aggregate-run-8 c = refl
 
 run-requires : tie.Need-run-requires
-run-requires c κs = search needs
+run-requires c κs = tt
 
 slice-aggregate-put-answer : tie.Need-slice-aggregate-put-answer
-slice-aggregate-put-answer c = search needs
+slice-aggregate-put-answer c = sym (c .before .before .before .before .before .before .before .before .before .run .kept .1 .1 .1 .1 .1 .1 .1 .1 .1 .1 .1 .1 .1 .1 .1 .0)
 
 put-answer-requires : tie.Need-put-answer-requires
 put-answer-requires c κs = search needs
 
 same-length : tie.Need-same-length
-same-length c = search needs
+same-length c = c .before .before .put-answer .kept .0
 
 returns : tie.Need-returns
 unfolding blankState

@@ -1,4 +1,5 @@
 -- `statements::settled` meets its contract, by the reader's answer. Assumes nothing.
+use mathlib.Core.Path.{refl, sym}
 use mathlib.Core.List.{List}
 use Prim.Native.Nat.{ℕ}
 use denote.Ref.{now}
@@ -21,59 +22,63 @@ tables r =
     (fileTables (w .0) (w .1 .0) (w .1 .1 .0) (w .1 .1 .1 .0) (w .1 .1 .1 .1 .0) (w .1 .1 .1 .1 .1 .0) (w .1 .1 .1 .1 .1 .1 .0) (w .1 .1 .1 .1 .1 .1 .1 .0))
     (w .1 .1 .1 .1 .1 .1 .1 .1 .0)
 
+-- The call of `read`, from where the first table is lent again.
+abbrev was-read : tie.After-price3 → tie.After-read
+was-read c = c .before .before .before .before .before .before .before .before .before .before .before .before .before .before
+
 slice-aggregate-read : tie.Need-slice-aggregate-read
-slice-aggregate-read c = search needs
+slice-aggregate-read c = refl
 
 slice-aggregate-read-2 : tie.Need-slice-aggregate-read-2
-slice-aggregate-read-2 c = search needs
+slice-aggregate-read-2 c = refl
 
 slice-aggregate-read-3 : tie.Need-slice-aggregate-read-3
-slice-aggregate-read-3 c = search needs
+slice-aggregate-read-3 c = refl
 
 slice-aggregate-read-4 : tie.Need-slice-aggregate-read-4
-slice-aggregate-read-4 c = search needs
+slice-aggregate-read-4 c = refl
 
 slice-aggregate-read-5 : tie.Need-slice-aggregate-read-5
-slice-aggregate-read-5 c = search needs
+slice-aggregate-read-5 c = refl
 
 slice-aggregate-read-6 : tie.Need-slice-aggregate-read-6
-slice-aggregate-read-6 c = search needs
+slice-aggregate-read-6 c = refl
 
 slice-aggregate-read-7 : tie.Need-slice-aggregate-read-7
-slice-aggregate-read-7 c = search needs
+slice-aggregate-read-7 c = refl
 
 slice-aggregate-read-8 : tie.Need-slice-aggregate-read-8
-slice-aggregate-read-8 c = search needs
+slice-aggregate-read-8 c = refl
 
 slice-aggregate-read-9 : tie.Need-slice-aggregate-read-9
-slice-aggregate-read-9 c = search needs
+slice-aggregate-read-9 c = refl
 
 read-requires : tie.Need-read-requires
-read-requires c κs = search needs
+read-requires c κs = tt
 
 enum-known-a : tie.Need-enum-known-a
 enum-known-a c = search needs
 
 slice-aggregate-put-job : tie.Need-slice-aggregate-put-job
-slice-aggregate-put-job c = search needs
+slice-aggregate-put-job c = sym (was-read c .read .kept .1 .0)
 
 slice-aggregate-put-job-2 : tie.Need-slice-aggregate-put-job-2
-slice-aggregate-put-job-2 c = search needs
+slice-aggregate-put-job-2 c = sym (was-read (c .before) .read .kept .1 .1 .0)
 
 slice-aggregate-put-job-3 : tie.Need-slice-aggregate-put-job-3
-slice-aggregate-put-job-3 c = search needs
+slice-aggregate-put-job-3 c = sym (was-read (c .before .before) .read .kept .1 .1 .1 .1 .0)
 
 slice-aggregate-put-job-4 : tie.Need-slice-aggregate-put-job-4
-slice-aggregate-put-job-4 c = search needs
+slice-aggregate-put-job-4 c = sym (was-read (c .before .before .before) .read .kept .1 .1 .1 .1 .1 .0)
 
 slice-aggregate-put-job-5 : tie.Need-slice-aggregate-put-job-5
-slice-aggregate-put-job-5 c = search needs
+slice-aggregate-put-job-5 c = sym (was-read (c .before .before .before .before) .read .kept .1 .1 .1 .1 .1 .1 .0)
 
 slice-aggregate-put-job-6 : tie.Need-slice-aggregate-put-job-6
-slice-aggregate-put-job-6 c = search needs
+slice-aggregate-put-job-6 c = sym (was-read (c .before .before .before .before .before) .read .kept .1 .1 .1 .1 .1 .1 .1 .1 .1 .0)
 
 slice-aggregate-put-job-7 : tie.Need-slice-aggregate-put-job-7
-slice-aggregate-put-job-7 c = search needs
+slice-aggregate-put-job-7 c = sym (was-read (c .before .before .before .before .before .before) .read .kept .1 .1 .1 .1 .1 .1 .1 .1 .0)
 
 put-job-requires : tie.Need-put-job-requires
 unfolding blankJob

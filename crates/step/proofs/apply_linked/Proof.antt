@@ -4,7 +4,6 @@ use lib.ListN.{replicate}
 use denote.Ref.{now}
 use Rattle.model.specs.Tables.{JobTables, jobTables}
 use Rattle.apply.proofs.Keys.{offers-keyed, grocers-keyed, tallies-keyed}
-use borrow.Author.Needs.{needs}
 use Rattle.step.proofs.apply_linked.Statement.{statement}
 use Rattle.step.proofs.apply_linked.Tie as tie
 
@@ -15,19 +14,19 @@ job s =
     (now (s .args .price)) (now (s .args .owner)) (now (s .args .gowner)) (now (s .args .tgrocer)) (now (s .args .tbox)) (now (s .args .toffer)) (now (s .args .tcount))
 
 slice-aggregate-link : tie.Need-slice-aggregate-link
-slice-aggregate-link c = search needs
+slice-aggregate-link c = refl
 
 link-requires : tie.Need-link-requires
 link-requires c κs = let s = c .before .before .before .before .before .before .before .before .before .before .before .before in offers-keyed (job s) (s .pre .job-in) (s .pre .job-long) (replicate 500 0) refl
 
 slice-aggregate-link-2 : tie.Need-slice-aggregate-link-2
-slice-aggregate-link-2 c = search needs
+slice-aggregate-link-2 c = refl
 
 link-requires-2 : tie.Need-link-requires-2
 link-requires-2 c κs = let s = c .before .before .before .before .before .before .before .before .before .before .before .before .before .before .before .before in grocers-keyed (job s) (s .pre .job-in) (s .pre .job-long) (replicate 255 0) refl
 
 slice-aggregate-link-3 : tie.Need-slice-aggregate-link-3
-slice-aggregate-link-3 c = search needs
+slice-aggregate-link-3 c = refl
 
 link-requires-3 : tie.Need-link-requires-3
 link-requires-3 c κs = let s = c .before .before .before .before .before .before .before .before .before .before .before .before .before .before .before .before .before .before .before .before in tallies-keyed (job s) (s .pre .job-in) (s .pre .job-long) (replicate 1_000 0) refl
@@ -59,7 +58,7 @@ same-length-7 : tie.Need-same-length-7
 same-length-7 c = c .before .before .before .before .before .before .before .before .before .before .before .apply .kept .1 .1 .1 .1 .1 .1 .1 .1 .1 .1 .1 .1 .1 .1 .1 .1 .1 .1 .1 .1 .1 .1 .1 .1 .1 .0
 
 returns : tie.Need-returns
-returns c = search needs
+returns c = c .before .before .before .before .before .before .before .before .before .before .before .apply .ensures
 
 pub apply-linked-spec : {M : Type 1} → statement M
 apply-linked-spec =

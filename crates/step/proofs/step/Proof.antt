@@ -1,6 +1,5 @@
 -- `step::step` meets its contract: refused in one of two parts, or applied. Assumes nothing.
 use mathlib.Core.Path.{refl, _≡_, sym, ap, _∙_}
-use borrow.Author.Needs.{needs}
 use Rattle.laws.specs.Checks.{firstMet}
 use Rattle.model.specs.Tables.{JobTables, jobTables, StateTables, stateTables}
 use Rattle.model.specs.Step.{Asked, asked, outcome, accepted}
@@ -43,7 +42,7 @@ made c = record {
 }
 
 early-refusal-requires : tie.Need-early-refusal-requires
-early-refusal-requires c κs = search needs
+early-refusal-requires c κs = tt
 
 same-length : tie.Need-same-length
 same-length c = refl

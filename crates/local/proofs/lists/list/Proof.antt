@@ -51,7 +51,7 @@ array-read-result : tie.Need-array-read-result
 array-read-result c = search needs
 
 same-length : tie.Need-same-length
-same-length c = search needs
+same-length c = c .before .before .before .sort .kept .1 .1 .1 .1 .0
 
 returns : tie.Need-returns
 returns c =

@@ -69,13 +69,13 @@ put-counts-requires c κs =
     (in-order i, (s .pre .1 .1 .1 .0, omega (arith, total-in i, s .pre .1 .1 .1 .1 .1)))
 
 same-length : tie.Need-same-length
-same-length c = search needs
+same-length c = c .before .before .before .before .before .before .before .before .before .before .before .before .before .before .before .order-tallies .kept .1 .1 .1 .1 .1 .1 .0
 
 same-length-2 : tie.Need-same-length-2
-same-length-2 c = search needs
+same-length-2 c = c .before .before .before .before .before .before .put-grocers .kept .1 .1 .1 .1 .1 .0
 
 same-length-3 : tie.Need-same-length-3
-same-length-3 c = search needs
+same-length-3 c = c .before .put-counts .kept .1 .1 .1 .1 .0
 
 returns : tie.Need-returns
 returns c =

@@ -5,7 +5,6 @@ use denote.Ref.{now}
 use Rattle.model.specs.Tables.{JobTables, jobTables, StateTables, stateTables}
 use Rattle.run.proofs.Loops.{goes-on, both-ended}
 use Rattle.apply.proofs.Keys.{offers-keyed, grocers-keyed, tallies-keyed}
-use borrow.Author.Needs.{needs}
 use Rattle.run.proofs.steps.all_steps.Statement.{statement}
 use Rattle.run.proofs.steps.all_steps.Tie as tie
 
@@ -32,19 +31,19 @@ abbrev rested : tie.After-slice-known12 → tie.After-rest
 rested c = c .before .before .before .before .before .before .before .before .before .before .before
 
 slice-aggregate-link : tie.Need-slice-aggregate-link
-slice-aggregate-link c = search needs
+slice-aggregate-link c = refl
 
 link-requires : tie.Need-link-requires
 link-requires c κs = let s = c .before .before .before .before .before .before .before .before .before .before .before .before .before in offers-keyed (job s) (s .pre .on-way .job-in) (s .pre .on-way .job-long) (replicate 500 0) refl
 
 slice-aggregate-link-2 : tie.Need-slice-aggregate-link-2
-slice-aggregate-link-2 c = search needs
+slice-aggregate-link-2 c = refl
 
 link-requires-2 : tie.Need-link-requires-2
 link-requires-2 c κs = let s = c .before .before .before .before .before .before .before .before .before .before .before .before .before .before .before .before .before in grocers-keyed (job s) (s .pre .on-way .job-in) (s .pre .on-way .job-long) (replicate 255 0) refl
 
 slice-aggregate-link-3 : tie.Need-slice-aggregate-link-3
-slice-aggregate-link-3 c = search needs
+slice-aggregate-link-3 c = refl
 
 link-requires-3 : tie.Need-link-requires-3
 link-requires-3 c κs = let s = c .before .before .before .before .before .before .before .before .before .before .before .before .before .before .before .before .before .before .before .before .before in tallies-keyed (job s) (s .pre .on-way .job-in) (s .pre .on-way .job-long) (replicate 1_000 0) refl

@@ -38,11 +38,7 @@ lengths : (c : tie.At-loop Inv-loop μ-loop) → SameLengths (here c) (entry (st
 lengths c =
     let s = start c in
     goes-lengths (job s) (entry s) (now (s .args .needs)) (now (s .args .sharers)) (now (s .args .prices)) (now (s .args .totals)) (now (s .args .choices)) 0 0
-    (s .pre .0) _ _ _ _ (c .loop .inv .1 .1 .0)
-
--- From the end of a turn, back to its begin.
-abbrev turn : tie.After-slice-known8 Inv-loop μ-loop → tie.In-loop Inv-loop μ-loop
-turn c = c .before .before .before .before .before .before .before .before .before .before .before .before .before .before .before .before .before .before .before .before .before .before .before
+    (s .pre .0) (here c) (drop (c .loop .i) (now (s .args .choices))) (c .loop .counts .messages) (c .loop .counts .steps) (c .loop .inv .1 .1 .0)
 
 rows-for-requires : tie.Need-rows-for-requires Inv-loop μ-loop
 rows-for-requires c κs = let s = c .before .before .before .before .before .before .before .before .before .before .before .before in goes-walk (job s) (entry s) (now (s .args .needs)) (now (s .args .sharers)) (now (s .args .prices)) (now (s .args .totals)) (now (s .args .choices)) 0 0 (s .pre .0) _ _ _ _ (goes-first (job s) (entry s) (now (s .args .needs)) (now (s .args .sharers)) (now (s .args .prices)) (now (s .args .totals)) (now (s .args .choices)) 0 0 (s .pre .0))
@@ -52,7 +48,7 @@ loop-holds c = let s = c .before .before .before .before .before .before .before
 
 ready-steps-requires : tie.Need-ready-steps-requires Inv-loop μ-loop
 ready-steps-requires c κs =
-    let s = start (c .before .before) in
+    let s = c .before .before .before .before .before .before .before .before .before .before .before .before .before .before .before .before in
     let l = c .before .before .loop in
     let some : 1 ≤ length (now (s .args .choices)) = omega (arith, c .before .loop-test .taken, l .inv .1 .0) in
     goes-few (job s) (entry s) (now (s .args .needs)) (now (s .args .sharers)) (now (s .args .prices)) (now (s .args .totals)) (now (s .args .choices)) 0 0 (s .pre .0) _ _ _ _ (l .inv .1 .1 .0) _ (l .inv .1 .1 .1 some)
@@ -80,7 +76,7 @@ same-length-7 c = lengths (c .before .before .before .before) .sent
 
 returns : tie.Need-returns Inv-loop μ-loop
 returns c =
-    let s = start (c .before .before .before .before) in
+    let s = c .before .before .before .before .before .before .before .before .before .before .before .before .before .before .before .before .before .before in
     let l = c .before .before .before .before .loop in
     let r = c .before .ready-steps in
     let some : 1 ≤ length (now (s .args .choices)) = omega (arith, c .before .before .before .loop-test .taken, l .inv .1 .0) in
@@ -88,7 +84,7 @@ returns c =
 
 choose-requires : tie.Need-choose-requires Inv-loop μ-loop
 choose-requires c κs =
-    let s = start (c .before .before .before .before .before .before .before .before .before .before .before .before) in
+    let s = c .before .before .before .before .before .before .before .before .before .before .before .before .before .before .before .before .before .before .before .before .before .before .before .before .before .before in
     let l = c .before .before .before .before .before .before .before .before .before .before .before .before .loop in
     let r = c .before .before .before .before .before .before .before .before .before .ready-steps in
     let lt : l .i < length (now (s .args .choices)) = omega (arith, c .before .before .before .before .before .before .before .before .before .before .before .loop-test .taken, l .inv .1 .0) in
@@ -102,16 +98,16 @@ choose-requires c κs =
     )
 
 add-i : tie.Need-add-i Inv-loop μ-loop
-add-i c = omega (arith, turn c .loop-test .taken, turn c .before .loop .inv .1 .0, start (turn c .before) .good .1 .1 .1 .1 .1 .1 .1 .1 .1 .1 .1 .1 .1 .1 .1 .1 .1 .1 .1 .1 .1 .1 .1 .1 .1 .1 .1 .1 .0)
+add-i c = let s = c .before .before .before .before .before .before .before .before .before .before .before .before .before .before .before .before .before .before .before .before .before .before .before .before .before .before .before .before .before .before .before .before .before .before .before .before .before .before in omega (arith, c .before .before .before .before .before .before .before .before .before .before .before .before .before .before .before .before .before .before .before .before .before .before .before .loop-test .taken, c .before .before .before .before .before .before .before .before .before .before .before .before .before .before .before .before .before .before .before .before .before .before .before .before .loop .inv .1 .0, s .good .1 .1 .1 .1 .1 .1 .1 .1 .1 .1 .1 .1 .1 .1 .1 .1 .1 .1 .1 .1 .1 .1 .1 .1 .1 .1 .1 .1 .0)
 
 loop-less : tie.Need-loop-less Inv-loop μ-loop
-loop-less c = omega (arith, turn c .loop-test .taken)
+loop-less c = omega (arith, c .before .before .before .before .before .before .before .before .before .before .before .before .before .before .before .before .before .before .before .before .before .before .before .loop-test .taken)
 
 loop-again : tie.Need-loop-again Inv-loop μ-loop
 loop-again c =
-    let l = turn c .before .loop in
+    let l = c .before .before .before .before .before .before .before .before .before .before .before .before .before .before .before .before .before .before .before .before .before .before .before .before .loop in
     let r = c .before .before .before .before .before .before .before .before .before .before .before .choose .ensures in
-    (omega (arith, turn c .loop-test .taken), (l .inv .1 .0, (kept-both _ _ _ _ _ _ _ _ _ _ _ _ _ (l .inv .1 .1 .0) (r .0), λ some. r .1)))
+    (omega (arith, c .before .before .before .before .before .before .before .before .before .before .before .before .before .before .before .before .before .before .before .before .before .before .before .loop-test .taken), (l .inv .1 .0, (kept-both _ _ _ _ _ _ _ _ _ _ _ _ _ (l .inv .1 .1 .0) (r .0), λ some. r .1)))
 
 same-length-8 : tie.Need-same-length-8 Inv-loop μ-loop
 same-length-8 c = lengths (c .before) .known
@@ -137,7 +133,7 @@ same-length-14 c = lengths (c .before) .sent
 returns-2 : tie.Need-returns-2 Inv-loop μ-loop
 returns-2 c =
     let l = c .before .loop in
-    let s = start (c .before) in
+    let s = c .before .before .before .before .before .before .before .before .before .before .before .before .before .before .before in
     let end : drop (l .i) (now (s .args .choices)) ≡ [] = choices-end (now (s .args .choices)) (l .i) (omega (arith, c .loop-test .left, l .inv .0, l .inv .1 .0)) in
     rw end at (l .inv .1 .1 .0)
 

@@ -36,11 +36,7 @@ lengths : (c : tie.At-loop Inv-loop μ-loop) → SameLengths (here c) (entry (st
 lengths c =
     let s = start c in
     goes-lengths (job s) (entry s) (now (s .args .needs)) (now (s .args .sharers)) (now (s .args .prices)) (now (s .args .totals)) [] (s .args .before .messages) (s .args .before .steps)
-    (s .pre .0) _ _ _ _ (c .loop .inv .1 .1 .0)
-
--- From where the next place is found, back to the turn's begin.
-abbrev turn : tie.After-slice-known8 Inv-loop μ-loop → tie.In-loop Inv-loop μ-loop
-turn c = c .before .before .before .before .before .before .before .before .before .before .before .before .before .before .before .before .before .before .before
+    (s .pre .0) (here c) [] (c .loop .counts .messages) (c .loop .counts .steps) (c .loop .inv .1 .1 .0)
 
 marks-requires : tie.Need-marks-requires Inv-loop μ-loop
 marks-requires c κs = search needs
@@ -50,29 +46,29 @@ loop-holds c = let s = c .before .before .before .before .before .before .before
 
 turn-requires : tie.Need-turn-requires Inv-loop μ-loop
 turn-requires c κs =
-    let s = start (c .before .before .before .before .before .before .before .before) in
+    let s = c .before .before .before .before .before .before .before .before .before .before .before .before .before .before .before .before .before .before .before .before in
     let l = c .before .before .before .before .before .before .before .before .loop in
     let w = goes-walk (job s) (entry s) (now (s .args .needs)) (now (s .args .sharers)) (now (s .args .prices)) (now (s .args .totals)) [] (s .args .before .messages) (s .args .before .steps) (s .pre .0) _ _ _ _ (l .inv .1 .1 .0) in
     (goes-on (job s) (entry s) (now (s .args .needs)) (now (s .args .sharers)) (now (s .args .prices)) (now (s .args .totals)) [] (s .args .before .messages) (s .args .before .steps) (s .pre .0) _ _ _ _ (l .inv .1 .1 .0), (at-in _ (l .i) _ _ _ (w .boxes-in) (l .inv .1 .0) (omega (arith, c .before .before .before .before .before .before .before .loop-test .taken, c .before .before .before .before .before .before .before .before .before .marks .ensures)), (rw (l .inv .1 .0 .place-is) (l .inv .1 .1 .1), s .pre .1)))
 
 next-requires : tie.Need-next-requires Inv-loop μ-loop
 next-requires c κs =
-    let s = start (turn c .before) in
-    let l = turn c .before .loop in
+    let s = c .before .before .before .before .before .before .before .before .before .before .before .before .before .before .before .before .before .before .before .before .before .before .before .before .before .before .before .before .before .before .before .before in
+    let l = c .before .before .before .before .before .before .before .before .before .before .before .before .before .before .before .before .before .before .before .before .loop in
     let w = goes-walk (job s) (entry s) (now (s .args .needs)) (now (s .args .sharers)) (now (s .args .prices)) (now (s .args .totals)) [] (s .args .before .messages) (s .args .before .steps) (s .pre .0) _ _ _ _ (l .inv .1 .1 .0) in
-    at-in _ (l .i) _ _ _ (w .boxes-in) (l .inv .1 .0) (omega (arith, turn c .loop-test .taken, turn c .before .before .marks .ensures))
+    at-in _ (l .i) _ _ _ (w .boxes-in) (l .inv .1 .0) (omega (arith, c .before .before .before .before .before .before .before .before .before .before .before .before .before .before .before .before .before .before .before .loop-test .taken, c .before .before .before .before .before .before .before .before .before .before .before .before .before .before .before .before .before .before .before .before .before .marks .ensures))
 
 add-i : tie.Need-add-i Inv-loop μ-loop
 add-i c = search needs
 
 loop-less : tie.Need-loop-less Inv-loop μ-loop
-loop-less c = omega (arith, turn (c .before) .loop-test .taken)
+loop-less c = omega (arith, c .before .before .before .before .before .before .before .before .before .before .before .before .before .before .before .before .before .before .before .before .loop-test .taken)
 
 loop-again : tie.Need-loop-again Inv-loop μ-loop
 loop-again c =
-    let l = turn (c .before) .before .loop in
+    let l = c .before .before .before .before .before .before .before .before .before .before .before .before .before .before .before .before .before .before .before .before .before .loop in
     let u = c .before .before .before .before .before .before .before .before .before .before .before .before .turn .ensures in (
-      omega (arith, turn (c .before) .loop-test .taken),
+      omega (arith, c .before .before .before .before .before .before .before .before .before .before .before .before .before .before .before .before .before .before .before .before .loop-test .taken),
       (
         at-next _ (l .i) _ _ _ _ _ _ (l .inv .1 .0) (c .next .ensures),
         (kept-both _ _ _ _ _ _ _ _ _ _ _ _ _ (l .inv .1 .1 .0) (u .kept), rw (l .inv .1 .0 .place-is) at (u .none)),
@@ -101,11 +97,7 @@ same-length-7 : tie.Need-same-length-7 Inv-loop μ-loop
 same-length-7 c = lengths (c .before) .sent
 
 returns : tie.Need-returns Inv-loop μ-loop
-returns c =
-    let s = start (c .before) in
-    let l = c .before .loop in
-    goes-ends (job s) (entry s) (now (s .args .needs)) (now (s .args .sharers)) (now (s .args .prices)) (now (s .args .totals)) [] (s .args .before .messages) (s .args .before .steps)
-    (s .pre .0) _ _ _ _ (l .inv .1 .1 .0) (l .i) (omega (arith, c .loop-test .left, l .inv .0, c .before .before .marks .ensures)) (l .inv .1 .1 .1)
+returns c = let s = c .before .before .before .before .before .before .before .before .before .before .before .before .before in let l = c .before .loop in goes-ends (job s) (entry s) (now (s .args .needs)) (now (s .args .sharers)) (now (s .args .prices)) (now (s .args .totals)) [] (s .args .before .messages) (s .args .before .steps) (s .pre .0) _ _ _ _ (l .inv .1 .1 .0) (l .i) (omega (arith, c .loop-test .left, l .inv .0, c .before .before .marks .ensures)) (l .inv .1 .1 .1)
 
 pub rest-spec : {M : Type 1} → statement M
 rest-spec =
