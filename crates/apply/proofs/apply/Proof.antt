@@ -56,9 +56,6 @@ mark-requires c κs = let s = c .before .before .before .before .before .before 
 send-prices-requires : tie.Need-send-prices-requires
 send-prices-requires c κs = let s = c .before .before .before .before .before .before .before .before .before .before .before .before .before .before .before .before .before .before in (prices-in (job s) (state s) (now (s .args .needs)) (now (s .args .sharers)) (ask s) (facts s), (s .pre .1 .offers-linked, sent-in (job s) (state s) (now (s .args .needs)) (now (s .args .sharers)) (ask s) (facts s)))
 
-same-length : tie.Need-same-length
-same-length c = refl
-
 same-length-2 : tie.Need-same-length-2
 same-length-2 c = c .before .before .before .before .send-prices .kept .1 .1 .1 .1 .1 .1 .1 .1 .1 .0
 
@@ -77,9 +74,6 @@ returns c =
 
 multiply-requires : tie.Need-multiply-requires
 multiply-requires c κs = let s = c .before .before .before .before .before .before .before .before .before .before .before .before .before .before .before .before .before .before in (own-in (job s) (state s) (now (s .args .needs)) (now (s .args .sharers)) (ask s) (facts s), s .pre .1 .tallies-linked)
-
-same-length-5 : tie.Need-same-length-5
-same-length-5 c = refl
 
 same-length-6 : tie.Need-same-length-6
 same-length-6 c = c .before .multiply .kept .1 .1 .1 .1 .1 .1 .1 .1 .1 .1 .1 .1 .1 .1 .0
@@ -186,13 +180,13 @@ apply-spec =
     (tie.spec
     mark-requires
     send-prices-requires
-    same-length
+    (λ c. refl)
     same-length-2
     same-length-3
     same-length-4
     returns
     multiply-requires
-    same-length-5
+    (λ c. refl)
     same-length-6
     same-length-7
     returns-2

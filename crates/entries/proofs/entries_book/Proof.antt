@@ -17,9 +17,6 @@ outset c = c .before .before .before .before .before .before
 returns : tie.Need-returns
 returns c = booked-short _ _ _ _ (c .if1 .taken)
 
-book-requires : tie.Need-book-requires
-book-requires c κs = search needs
-
 tell-numbers-requires : tie.Need-tell-numbers-requires
 tell-numbers-requires c κs = outset (c .before .before .before .before .before .before .before .before .before .before) .if1 .left
 
@@ -51,7 +48,7 @@ entries-book-spec =
     tie.close
     (tie.spec
     returns
-    book-requires
+    (λ c κs. search needs)
     tell-numbers-requires
     same-length
     same-length-2

@@ -24,9 +24,6 @@ returns : tie.Need-returns
 unfolding messagesShort
 returns c = messages-short _ _ _ _ (c .if1 .taken)
 
-message-tables-requires : tie.Need-message-tables-requires
-message-tables-requires c κs = search needs
-
 tell-messages-requires : tie.Need-tell-messages-requires
 unfolding messagesShort
 tell-messages-requires c κs =
@@ -53,7 +50,7 @@ entries-message-tables-spec =
     tie.close
     (tie.spec
     returns
-    message-tables-requires
+    (λ c κs. search needs)
     tell-messages-requires
     same-length
     same-length-2

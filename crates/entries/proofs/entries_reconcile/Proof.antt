@@ -22,18 +22,12 @@ records-requires c κs =
     let w = fields-whole (now (x .tally-grocer)) (now (x .tally-box)) (now (x .tally-offer)) (now (x .tally-count)) (now (x .owed)) (c .if1 .left) in
     (w .0, w .1)
 
-reconcile-few-requires : tie.Need-reconcile-few-requires
-reconcile-few-requires c κs = search needs
-
 tell-requires : tie.Need-tell-requires
 unfolding shortFields
 tell-requires c κs =
     let k = c .before .before .before in
     let x = k .before .before .before .before .before .args in
     fields-whole (now (x .tally-grocer)) (now (x .tally-box)) (now (x .tally-offer)) (now (x .tally-count)) (now (x .owed)) (k .if1 .left) .2
-
-same-length : tie.Need-same-length
-same-length c = search needs
 
 returns-2 : tie.Need-returns-2
 unfolding shortFields
@@ -45,4 +39,4 @@ returns-2 c =
 pub entries-reconcile-spec : {M : Type 1} → statement M
 entries-reconcile-spec =
     tie.close
-    (tie.spec returns records-requires reconcile-few-requires tell-requires same-length returns-2)
+    (tie.spec returns records-requires (λ c κs. search needs) tell-requires (λ c. search needs) returns-2)

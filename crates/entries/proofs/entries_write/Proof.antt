@@ -9,18 +9,9 @@ use Rattle.entries.proofs.entries_write.Lts as lts
 use Rattle.entries.proofs.number.Reads as number-reads
 use Rattle.writer.proofs.write.Reads as write-reads
 
-write-requires : tie.Need-write-requires
-write-requires c κs = search needs
-
-number-requires : tie.Need-number-requires
-number-requires c κs = search needs
-
-same-length : tie.Need-same-length
-same-length c = search needs
-
 returns : tie.Need-returns
 unfolding writtenAs
 returns c = rw (sym (c .before .before .before .write .ensures), c .number .ensures)
 
 pub entries-write-spec : {M : Type 1} → statement M
-entries-write-spec = tie.close (tie.spec write-requires number-requires same-length returns)
+entries-write-spec = tie.close (tie.spec (λ c κs. search needs) (λ c κs. search needs) (λ c. search needs) returns)

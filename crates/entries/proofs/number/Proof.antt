@@ -6,15 +6,6 @@ use Rattle.entries.proofs.number.Tie as tie
 use Rattle.entries.proofs.number.Reads as reads
 use Rattle.entries.proofs.number.Lts as lts
 
-enum-known-a : tie.Need-enum-known-a
-enum-known-a c = search needs
-
-enum-known-a-2 : tie.Need-enum-known-a-2
-enum-known-a-2 c = search needs
-
-cast-result : tie.Need-cast-result
-cast-result c = search needs
-
 returns : tie.Need-returns
 unfolding writeNumber
 returns c = rw (c .before .a .given .1)
@@ -24,4 +15,4 @@ unfolding writeNumber
 returns-2 c = rw (c .before .a2 .given .1)
 
 pub number-spec : {M : Type 1} → statement M
-number-spec = tie.close (tie.spec enum-known-a enum-known-a-2 cast-result returns returns-2)
+number-spec = tie.close (tie.spec (λ c. search needs) (λ c. search needs) (λ c. search needs) returns returns-2)

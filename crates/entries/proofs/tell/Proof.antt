@@ -9,18 +9,6 @@ use Rattle.entries.proofs.tell.Tie as tie
 use Rattle.entries.proofs.tell.Reads as reads
 use Rattle.entries.proofs.tell.Lts as lts
 
-enum-known-a : tie.Need-enum-known-a
-enum-known-a c = search needs
-
-slice-set-from-z : tie.Need-slice-set-from-z
-slice-set-from-z c = search needs
-
-enum-known-a-2 : tie.Need-enum-known-a-2
-enum-known-a-2 c = search needs
-
-same-length : tie.Need-same-length
-same-length c = search needs
-
 returns : tie.Need-returns
 returns c =
     let k = c .before .before .before in
@@ -32,4 +20,4 @@ returns-2 c = rw (c .before .a2 .given .1)
 
 pub tell-spec : {M : Type 1} → statement M
 tell-spec =
-    tie.close (tie.spec enum-known-a slice-set-from-z enum-known-a-2 same-length returns returns-2)
+    tie.close (tie.spec (λ c. search needs) (λ c. search needs) (λ c. search needs) (λ c. search needs) returns returns-2)

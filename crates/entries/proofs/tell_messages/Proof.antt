@@ -18,9 +18,6 @@ made c = c .before .before .before
 abbrev entry : tie.After-a → tie.Start
 entry c = c .before .before .before .before .before
 
-enum-known-a : tie.Need-enum-known-a
-enum-known-a c = search needs
-
 lay-requires : tie.Need-lay-requires
 lay-requires c κs = entry (c .before .before) .pre .0
 
@@ -29,9 +26,6 @@ lay-requires-2 c κs = entry (made (c .before .before .before)) .pre .1
 
 slice-write-job-words : tie.Need-slice-write-job-words
 slice-write-job-words c = entry (made (prices (totals c))) .pre .2
-
-enum-known-a-2 : tie.Need-enum-known-a-2
-enum-known-a-2 c = search needs
 
 same-length : tie.Need-same-length
 same-length c = prices (totals c) .lay .kept .1 .0
@@ -55,11 +49,11 @@ pub tell-messages-spec : {M : Type 1} → statement M
 tell-messages-spec =
     tie.close
     (tie.spec
-    enum-known-a
+    (λ c. search needs)
     lay-requires
     lay-requires-2
     slice-write-job-words
-    enum-known-a-2
+    (λ c. search needs)
     same-length
     same-length-2
     same-length-3

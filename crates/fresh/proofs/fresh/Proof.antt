@@ -27,12 +27,6 @@ owned c = c .before .before .before .before .before .before .before .before
 abbrev zeroed : tie.After-slice-known9 → tie.After-zero64
 zeroed c = c .before .before .before .before .before .before .before .before .before .before .before .before .before .before .before
 
-mul-zero32 : tie.Need-mul-zero32
-mul-zero32 c = search needs
-
-zero32-requires : tie.Need-zero32-requires
-zero32-requires c κs = search needs
-
 own-prices-requires : tie.Need-own-prices-requires
 own-prices-requires c κs =
     let s = c .before .before .before .before .before .before .before .before .before .before .before in
@@ -47,38 +41,8 @@ own-prices-requires c κs =
       zero = λ i l. rw e (getD-overwrite (s .args .boxes * s .args .offers) (λ i. 0) (s .args .known .now) i 0 l);
     }
 
-mul-zero32-2 : tie.Need-mul-zero32-2
-mul-zero32-2 c = search needs
-
-zero32-requires-2 : tie.Need-zero32-requires-2
-zero32-requires-2 c κs = search needs
-
-mul-zero64 : tie.Need-mul-zero64
-mul-zero64 c = search needs
-
-zero64-requires : tie.Need-zero64-requires
-zero64-requires c κs = search needs
-
-mul-zero64-2 : tie.Need-mul-zero64-2
-mul-zero64-2 c = search needs
-
-zero64-requires-2 : tie.Need-zero64-requires-2
-zero64-requires-2 c κs = search needs
-
-zero64-requires-3 : tie.Need-zero64-requires-3
-zero64-requires-3 c κs = search needs
-
-mul-zero16 : tie.Need-mul-zero16
-mul-zero16 c = search needs
-
 mul-zero16-2 : tie.Need-mul-zero16-2
 mul-zero16-2 c = let s = c .before .before .before .before .before .before .before .before .before .before .before .before .before .before .before .before .before .before .before .before .before .before .before .before .before .before .before .before in omega (arith, s .pre .boxes≤, mul-le-mul (s .pre .boxes≤) (s .pre .boxes≤))
-
-zero16-requires : tie.Need-zero16-requires
-zero16-requires c κs = search needs
-
-zero32-requires-3 : tie.Need-zero32-requires-3
-zero32-requires-3 c κs = search needs
 
 same-length : tie.Need-same-length
 same-length c = owned (zeroed c) .own-prices .kept .1 .1 .1 .1 .0 ∙ owned (zeroed c) .before .before .before .before .zero32 .kept .0
@@ -117,20 +81,20 @@ pub fresh-spec : {M : Type 1} → statement M
 fresh-spec =
     tie.close
     (tie.spec
-    mul-zero32
-    zero32-requires
+    (λ c. search needs)
+    (λ c κs. search needs)
     own-prices-requires
-    mul-zero32-2
-    zero32-requires-2
-    mul-zero64
-    zero64-requires
-    mul-zero64-2
-    zero64-requires-2
-    zero64-requires-3
-    mul-zero16
+    (λ c. search needs)
+    (λ c κs. search needs)
+    (λ c. search needs)
+    (λ c κs. search needs)
+    (λ c. search needs)
+    (λ c κs. search needs)
+    (λ c κs. search needs)
+    (λ c. search needs)
     mul-zero16-2
-    zero16-requires
-    zero32-requires-3
+    (λ c κs. search needs)
+    (λ c κs. search needs)
     same-length
     same-length-2
     same-length-3

@@ -30,23 +30,11 @@ loop-holds c =
     let s = c .before .before .before in
     (omega arith, refl, (λ b p lb lp. s .pre .zero (b * s .args .n + p) (cell-in b (s .args .k) (s .args .n) p lb lp) ∙ sym (rw (le-ltb p 0 (omega arith)))), λ i l. refl)
 
-mul-place : tie.Need-mul-place Inv-loop μ-loop
-mul-place c = search needs
-
-shared-slice-read-place : tie.Need-shared-slice-read-place Inv-loop μ-loop
-shared-slice-read-place c = search needs
-
 place-requires : tie.Need-place-requires Inv-loop μ-loop
 place-requires c κs =
     let s = c .before .before .before .before .before .before in
     let l = s .pre .owner< (c .before .before .loop .o) (omega arith) in
     (s .pre .offers≤, (omega (arith, s .pre .boxes≤), omega arith))
-
-mul-known : tie.Need-mul-known Inv-loop μ-loop
-mul-known c = search needs
-
-shared-slice-read-known : tie.Need-shared-slice-read-known Inv-loop μ-loop
-shared-slice-read-known c = search needs
 
 mul-known-2 : tie.Need-mul-known-2 Inv-loop μ-loop
 mul-known-2 c =
@@ -59,12 +47,6 @@ slice-write-known c =
     let s = c .before .before .before .before .before .before .before .before in
     let l = s .pre .owner< (c .before .before .before .before .loop .o) (omega arith) in
     omega (arith, c .before .place .ensures, c .before .before .before .before .loop .inv .1, s .pre .knownLong, cell-in _ (s .args .k) (s .args .n) (c .before .before .before .before .loop .o) l (omega arith))
-
-add-o : tie.Need-add-o Inv-loop μ-loop
-add-o c = search needs
-
-loop-less : tie.Need-loop-less Inv-loop μ-loop
-loop-less c = search needs
 
 loop-again : tie.Need-loop-again Inv-loop μ-loop
 loop-again c =
@@ -101,15 +83,15 @@ own-prices-spec =
     Inv-loop
     μ-loop
     loop-holds
-    mul-place
-    shared-slice-read-place
+    (λ c. search needs)
+    (λ c. search needs)
     place-requires
-    mul-known
-    shared-slice-read-known
+    (λ c. search needs)
+    (λ c. search needs)
     mul-known-2
     slice-write-known
-    add-o
-    loop-less
+    (λ c. search needs)
+    (λ c. search needs)
     loop-again
     same-length
     returns)

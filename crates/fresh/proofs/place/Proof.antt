@@ -13,8 +13,5 @@ mul-result c = omega (arith, mul-le-mul-right (c .args .n) (c .pre .1 .0))
 add-result : tie.Need-add-result
 add-result c = omega (arith, mul-le-mul-right (c .args .n) (c .pre .1 .0))
 
-returns : tie.Need-returns
-returns c = search needs
-
 pub place-spec : {M : Type 1} → statement M
-place-spec = tie.close (tie.spec mul-result add-result returns)
+place-spec = tie.close (tie.spec mul-result add-result (λ c. search needs))

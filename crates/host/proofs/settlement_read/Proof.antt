@@ -11,12 +11,6 @@ was-read c = c .before .before .before .before .before .before .before .before .
 returns : tie.Need-returns
 returns c = read-short _ _ _ (c .if1 .taken)
 
-read-requires : tie.Need-read-requires
-read-requires c κs = tt
-
-tell-sizes-requires : tie.Need-tell-sizes-requires
-tell-sizes-requires c κs = search needs
-
 same-length : tie.Need-same-length
 same-length c = was-read c .read .kept .1 .0
 
@@ -55,8 +49,8 @@ settlement-read-spec =
     tie.close
     (tie.spec
     returns
-    read-requires
-    tell-sizes-requires
+    (λ c κs. tt)
+    (λ c κs. search needs)
     same-length
     same-length-2
     same-length-3

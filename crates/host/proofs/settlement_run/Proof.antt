@@ -11,12 +11,6 @@ ran c = c .before .before .before .before .before .before .before .before .befor
 returns : tie.Need-returns
 returns c = run-short _ _ _ _ (c .if1 .taken)
 
-run-requires : tie.Need-run-requires
-run-requires c κs = tt
-
-tell-report-requires : tie.Need-tell-report-requires
-tell-report-requires c κs = search needs
-
 same-length : tie.Need-same-length
 same-length c = ran c .run .kept .1 .1 .1 .1 .1 .1 .1 .1 .1 .1 .1 .0
 
@@ -49,8 +43,8 @@ settlement-run-spec =
     tie.close
     (tie.spec
     returns
-    run-requires
-    tell-report-requires
+    (λ c κs. tt)
+    (λ c κs. search needs)
     same-length
     same-length-2
     same-length-3

@@ -7,12 +7,6 @@ use Rattle.host.proofs.settlement_step.Tie as tie
 abbrev stepped : tie.After-step-number → tie.After-step
 stepped c = c .before .before .before .before .before .before .before .before .before .before .before .before
 
-step-requires : tie.Need-step-requires
-step-requires c κs = tt
-
-step-number-requires : tie.Need-step-number-requires
-step-number-requires c κs = tt
-
 same-length : tie.Need-same-length
 same-length c = stepped c .step .kept .1 .1 .1 .1 .1 .1 .1 .1 .1 .1 .1 .0
 
@@ -41,8 +35,8 @@ pub settlement-step-spec : {M : Type 1} → statement M
 settlement-step-spec =
     tie.close
     (tie.spec
-    step-requires
-    step-number-requires
+    (λ c κs. tt)
+    (λ c κs. tt)
     same-length
     same-length-2
     same-length-3

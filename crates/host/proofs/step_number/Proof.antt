@@ -5,12 +5,6 @@ use Rattle.host.specs.Host.{stepNumber}
 use Rattle.host.proofs.step_number.Statement.{statement}
 use Rattle.host.proofs.step_number.Tie as tie
 
-enum-told : tie.Need-enum-told
-enum-told c = search needs
-
-enum-known-a : tie.Need-enum-known-a
-enum-known-a c = search needs
-
 returns : tie.Need-returns
 unfolding answerOf stepNumber
 returns c = search needs
@@ -20,4 +14,4 @@ unfolding answerOf stepNumber
 returns-2 c = search needs
 
 pub step-number-spec : {M : Type 1} → statement M
-step-number-spec = tie.close (tie.spec enum-told enum-known-a returns returns-2)
+step-number-spec = tie.close (tie.spec (λ c. search needs) (λ c. search needs) returns returns-2)

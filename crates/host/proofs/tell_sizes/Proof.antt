@@ -6,26 +6,11 @@ use Rattle.host.proofs.Gives.{told-sizes, told-refused}
 use Rattle.host.proofs.tell_sizes.Statement.{statement}
 use Rattle.host.proofs.tell_sizes.Tie as tie
 
-enum-known-a : tie.Need-enum-known-a
-enum-known-a c = search needs
-
-slice-write-sizes : tie.Need-slice-write-sizes
-slice-write-sizes c = search needs
-
 slice-write-sizes-2 : tie.Need-slice-write-sizes-2
 slice-write-sizes-2 c = set-in (c .before .before .before .args .sizes .now) 0 _ 1 (omega (arith, c .before .before .before .pre))
 
 slice-write-sizes-3 : tie.Need-slice-write-sizes-3
 slice-write-sizes-3 c = set-set-in (c .before .before .before .args .sizes .now) 0 _ 1 _ 2 (omega (arith, c .before .before .before .pre))
-
-slice-write-sizes-4 : tie.Need-slice-write-sizes-4
-slice-write-sizes-4 c = search needs
-
-enum-known-a-2 : tie.Need-enum-known-a-2
-enum-known-a-2 c = search needs
-
-same-length : tie.Need-same-length
-same-length c = search needs
 
 returns : tie.Need-returns
 returns c = told-sizes _ _ _ _ _ (c .before .before .before .args .sizes .now) (c .before .before .before .pre) (c .before .a .given .1)
@@ -37,12 +22,12 @@ pub tell-sizes-spec : {M : Type 1} → statement M
 tell-sizes-spec =
     tie.close
     (tie.spec
-    enum-known-a
-    slice-write-sizes
+    (λ c. search needs)
+    (λ c. search needs)
     slice-write-sizes-2
     slice-write-sizes-3
-    slice-write-sizes-4
-    enum-known-a-2
-    same-length
+    (λ c. search needs)
+    (λ c. search needs)
+    (λ c. search needs)
     returns
     returns-2)

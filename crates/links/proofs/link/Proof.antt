@@ -22,9 +22,6 @@ Inv-loop n keys first₀ next₀ end i₀ first next i =
 abbrev μ-loop : tie.MeasureT-loop
 μ-loop n keys first₀ next₀ end i₀ first next i = i
 
-cast-end : tie.Need-cast-end Inv-loop μ-loop
-cast-end c = search needs
-
 loop-holds : tie.Need-loop-holds Inv-loop μ-loop
 loop-holds c =
     let n = c .before .args .n in
@@ -36,18 +33,9 @@ loop-holds c =
       λ x l m. absurd (omega arith),
     )
 
-sub-i : tie.Need-sub-i Inv-loop μ-loop
-sub-i c = search needs
-
 -- The key of the entry that is linked next.
 key-below : (c : lts.After-shared-slice-known reads.Pre reads.Post Inv-loop μ-loop) → getD (c .before .before .before .before .args .keys .now) (c .before .before .loop .i - 1) 0 < 16
 key-below c = c .before .before .before .before .pre .key-in (c .before .before .loop .i - 1) (omega arith)
-
-mul-v : tie.Need-mul-v Inv-loop μ-loop
-mul-v c = search needs
-
-shared-slice-read-v : tie.Need-shared-slice-read-v Inv-loop μ-loop
-shared-slice-read-v c = search needs
 
 cast-v : tie.Need-cast-v Inv-loop μ-loop
 cast-v c = omega (arith, key-below c)
@@ -58,23 +46,11 @@ mul-j c = omega (arith, key-below c)
 element-copy-out-j : tie.Need-element-copy-out-j Inv-loop μ-loop
 element-copy-out-j c = key-below c
 
-mul-next : tie.Need-mul-next Inv-loop μ-loop
-mul-next c = search needs
-
-slice-write-next : tie.Need-slice-write-next Inv-loop μ-loop
-slice-write-next c = search needs
-
-cast-first : tie.Need-cast-first Inv-loop μ-loop
-cast-first c = search needs
-
 mul-first : tie.Need-mul-first Inv-loop μ-loop
 mul-first c = omega (arith, key-below (c .before))
 
 element-write-first : tie.Need-element-write-first Inv-loop μ-loop
 element-write-first c = key-below (c .before)
-
-loop-less : tie.Need-loop-less Inv-loop μ-loop
-loop-less c = search needs
 
 loop-again : tie.Need-loop-again Inv-loop μ-loop
 loop-again c =
@@ -116,20 +92,20 @@ link-spec =
     (tie.spec
     Inv-loop
     μ-loop
-    cast-end
+    (λ c. search needs)
     loop-holds
-    sub-i
-    mul-v
-    shared-slice-read-v
+    (λ c. search needs)
+    (λ c. search needs)
+    (λ c. search needs)
     cast-v
     mul-j
     element-copy-out-j
-    mul-next
-    slice-write-next
-    cast-first
+    (λ c. search needs)
+    (λ c. search needs)
+    (λ c. search needs)
     mul-first
     element-write-first
-    loop-less
+    (λ c. search needs)
     loop-again
     same-length
     returns)

@@ -29,12 +29,6 @@ applied c = c .before .before .before .before .before .before .before .before .b
 mul-c : tie.Need-mul-c
 mul-c c = let s = c .before .before .before .before .before .before .before .before .before .before .before in omega (arith, s .pre .1 .0 .0, s .good .1 .1 .1 .1 .1 .1 .1 .1 .1 .1 .1 .1 .1 .1 .1 .1 .1 .1 .1 .1 .1 .1 .1 .1 .1 .1 .1 .1 .1 .0)
 
-shared-slice-read-c : tie.Need-shared-slice-read-c
-shared-slice-read-c c = search needs
-
-rem-c : tie.Need-rem-c
-rem-c c = search needs
-
 find-in-requires : tie.Need-find-in-requires
 find-in-requires c κs =
     let s = c .before .before .before .before .before .before .before .before .before .before .before .before .before .before in (
@@ -103,8 +97,8 @@ choose-spec =
     tie.close
     (tie.spec
     mul-c
-    shared-slice-read-c
-    rem-c
+    (λ c. search needs)
+    (λ c. search needs)
     find-in-requires
     apply-requires
     renew-requires

@@ -7,17 +7,11 @@ use Rattle.picks.proofs.Sends.{sends-few}
 use Rattle.picks.proofs.counted.Statement.{statement}
 use Rattle.picks.proofs.counted.Tie as tie
 
-sent-by-requires : tie.Need-sent-by-requires
-sent-by-requires c κs = search needs
-
 add-t4 : tie.Need-add-t4
 add-t4 c = omega (arith, c .before .sent-by .ensures 0 0, sends-few (c .before .before .args .kind) 0 0)
-
-add-t5 : tie.Need-add-t5
-add-t5 c = search needs
 
 returns : tie.Need-returns
 returns c = ((λ a b. ap (λ (x : ℕ). c .before .before .before .args .counts .messages + x) (c .before .before .sent-by .ensures a b)), refl)
 
 pub counted-spec : {M : Type 1} → statement M
-counted-spec = tie.close (tie.spec sent-by-requires add-t4 add-t5 returns)
+counted-spec = tie.close (tie.spec (λ c κs. search needs) add-t4 (λ c. search needs) returns)

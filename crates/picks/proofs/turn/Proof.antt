@@ -29,9 +29,6 @@ is-listed-requires c κs =
     let s = c .before .before .before .before .before .before .before .before .before .before .before in
     (s .pre .1 .0, way-walk (job s) (tables s) (s .pre .0 .on-way) (now (s .args .needs)) (now (s .args .sharers)) (now (s .args .prices)) (now (s .args .totals)) (s .pre .0 .made))
 
-same-length : tie.Need-same-length
-same-length c = refl
-
 returns : tie.Need-returns
 returns c =
     let s = entry (c .before) in
@@ -39,10 +36,12 @@ returns c =
 
 apply-requires : tie.Need-apply-requires
 apply-requires c κs =
-    let s = entry (listed c) in
-    (place-applies (job s) (tables s) (s .pre .0 .on-way) (now (s .args .needs)) (now (s .args .sharers)) (now (s .args .prices)) (now (s .args .totals)) (s .pre .0 .made)
-    (s .args .p .kind) (s .args .p .first) (s .args .p .second) (s .pre .1 .0) (s .pre .1 .1 .0) (s .args .counts .messages) (s .args .counts .steps)
-    (sym (listed c .is-listed .ensures) ∙ not-false _ (c .before .before .before .before .before .before .before .if1 .left)), s .pre .1 .1 .1)
+    let s = entry (listed c) in (
+      place-applies (job s) (tables s) (s .pre .0 .on-way) (now (s .args .needs)) (now (s .args .sharers)) (now (s .args .prices)) (now (s .args .totals)) (s .pre .0 .made)
+          (s .args .p .kind) (s .args .p .first) (s .args .p .second) (s .pre .1 .0) (s .pre .1 .1 .0) (s .args .counts .messages) (s .args .counts .steps)
+          (sym (listed c .is-listed .ensures) ∙ not-false _ (c .before .before .before .before .before .before .before .if1 .left)),
+      s .pre .1 .1 .1,
+    )
 
 counted-requires : tie.Need-counted-requires
 counted-requires c κs =
@@ -84,7 +83,7 @@ turn-spec =
     tie.close
     (tie.spec
     is-listed-requires
-    same-length
+    (λ c. refl)
     returns
     apply-requires
     counted-requires

@@ -6,9 +6,6 @@ use Rattle.reader.proofs.Shapes.{shape-refused, shape-passed, sound, ha
 use Rattle.reader.proofs.file_refusal.Statement.{statement}
 use Rattle.reader.proofs.file_refusal.Tie as tie
 
-shape-refusal-requires : tie.Need-shape-refusal-requires
-shape-refusal-requires c κs = search needs
-
 returns : tie.Need-returns
 returns c = (shape-refused _ _ (c .before .shape-refusal .ensures) (c .if1 .taken), λ e. absurd (c .if1 .taken e))
 
@@ -21,9 +18,6 @@ job-refusal-requires c κs =
     let k = sound _ (sym (z .before .before .shape-refusal .ensures) ∙ z .before .if1 .left) in
     (k, ((z .read-sizes .ensures .offers, z .read-sizes .ensures .tallies), omega (arith, k .few-tallies, z .read-sizes .ensures .tallies)))
 
-same-length : tie.Need-same-length
-same-length c = search needs
-
 returns-2 : tie.Need-returns-2
 returns-2 c =
     let j = c .before .before in
@@ -35,9 +29,9 @@ pub file-refusal-spec : {M : Type 1} → statement M
 file-refusal-spec =
     tie.close
     (tie.spec
-    shape-refusal-requires
+    (λ c κs. search needs)
     returns
     read-sizes-requires
     job-refusal-requires
-    same-length
+    (λ c. search needs)
     returns-2)

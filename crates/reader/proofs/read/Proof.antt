@@ -42,12 +42,6 @@ returns : tie.Need-returns
 unfolding shortReader shortTables
 returns c = read-20 _ _ (c .if1 .taken)
 
-slice-aggregate-file-refusal : tie.Need-slice-aggregate-file-refusal
-slice-aggregate-file-refusal c = search needs
-
-file-refusal-requires : tie.Need-file-refusal-requires
-file-refusal-requires c κs = search needs
-
 returns-2 : tie.Need-returns-2
 returns-2 c = read-file _ _ _ (long (c .before .before .before .before)) (c .before .before .file-refusal .ensures .0) (c .if2 .taken)
 
@@ -147,8 +141,8 @@ read-spec =
     tie.close
     (tie.spec
     returns
-    slice-aggregate-file-refusal
-    file-refusal-requires
+    (λ c. search needs)
+    (λ c κs. search needs)
     returns-2
     read-sizes-requires
     owners-at-requires

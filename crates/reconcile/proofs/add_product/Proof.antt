@@ -7,9 +7,6 @@ use Rattle.reconcile.proofs.add_product.Tie as tie
 cast-result : tie.Need-cast-result
 cast-result c = count-fits (c .args .sum) (c .args .count) (c .args .price) (c .pre .0) (c .pre .1) (c .pre .2)
 
-cast-result-2 : tie.Need-cast-result-2
-cast-result-2 c = search needs
-
 mul-result : tie.Need-mul-result
 mul-result c = product-fits (c .args .sum) (c .args .count) (c .args .price) (c .pre .0) (c .pre .1) (c .pre .2)
 
@@ -20,4 +17,4 @@ returns : tie.Need-returns
 returns c = sum-is (c .args .sum) (c .args .count) (c .args .price) (c .pre .0) (c .pre .1) (c .pre .2)
 
 pub add-product-spec : {M : Type 1} → statement M
-add-product-spec = tie.close (tie.spec cast-result cast-result-2 mul-result add-result returns)
+add-product-spec = tie.close (tie.spec cast-result (λ c. search needs) mul-result add-result returns)

@@ -20,15 +20,6 @@ tested c =
     let k = c .before .before .before .before .before in
     rw (read32 (k .args .count) (k .fits .count .sfits)) at (c .record-in-range .ensures)
 
-enum-known-answer : tie.Need-enum-known-answer
-enum-known-answer c = search needs
-
-enum-known-answer-2 : tie.Need-enum-known-answer-2
-enum-known-answer-2 c = search needs
-
-record-in-range-requires : tie.Need-record-in-range-requires
-record-in-range-requires c κs = search needs
-
 returns : tie.Need-returns
 returns c =
     let t = c .before in
@@ -43,9 +34,6 @@ returns-2 c =
     let x = k .args in
     passed (x .grocers) (x .offers) (x .wanted) (x .price .now) (x .answer) (passes t) (t .before .before .answer2 .given .0 .0) (t .before .before .answer2 .given .1) (k .pre)
     (sym (tested t) ∙ not-false (t .record-in-range .result) (c .before .if1 .left)) (c .if2 .taken)
-
-mul-add-product : tie.Need-mul-add-product
-mul-add-product c = search needs
 
 shared-slice-read-add-product : tie.Need-shared-slice-read-add-product
 shared-slice-read-add-product c =
@@ -80,12 +68,12 @@ pub add-record-spec : {M : Type 1} → statement M
 add-record-spec =
     tie.close
     (tie.spec
-    enum-known-answer
-    enum-known-answer-2
-    record-in-range-requires
+    (λ c. search needs)
+    (λ c. search needs)
+    (λ c κs. search needs)
     returns
     returns-2
-    mul-add-product
+    (λ c. search needs)
     shared-slice-read-add-product
     add-product-requires
     returns-3

@@ -10,9 +10,6 @@ returns : tie.Need-returns
 unfolding opened
 returns c = simp (lt-ltb _ _ (c .if1 .taken))
 
-upto32-requires : tie.Need-upto32-requires
-upto32-requires c κs = search needs
-
 returns-2 : tie.Need-returns-2
 unfolding opened headInRange
 returns-2 c = simp (le-ltb _ _ (c .before .before .if1 .left), sym (c .before .upto32 .ensures), c .if2 .taken)
@@ -22,4 +19,4 @@ unfolding opened headInRange
 returns-3 c = simp (le-ltb _ _ (c .before .before .if1 .left), sym (c .before .upto32 .ensures), c .if2 .left)
 
 pub open-spec : {M : Type 1} → statement M
-open-spec = tie.close (tie.spec returns upto32-requires returns-2 returns-3)
+open-spec = tie.close (tie.spec returns (λ c κs. search needs) returns-2 returns-3)

@@ -7,9 +7,6 @@ use lib.Seq.{take-all}
 use Rattle.reconcile.proofs.reconcile_few.Statement.{statement}
 use Rattle.reconcile.proofs.reconcile_few.Tie as tie
 
-reconcile-first-requires : tie.Need-reconcile-first-requires
-reconcile-first-requires c κs = search needs
-
 returns : tie.Need-returns
 returns c =
     let k = c .before .before .before in
@@ -19,12 +16,9 @@ returns c =
     let more : take (x .len) (x .records) ≡ x .records = take-all (x .len) (x .records) (omega arith) in
     cc (all, more, c .reconcile-first .ensures)
 
-reconcile-first-requires-2 : tie.Need-reconcile-first-requires-2
-reconcile-first-requires-2 c κs = search needs
-
 returns-2 : tie.Need-returns-2
 returns-2 c = c .reconcile-first2 .ensures
 
 pub reconcile-few-spec : {M : Type 1} → statement M
 reconcile-few-spec =
-    tie.close (tie.spec reconcile-first-requires returns reconcile-first-requires-2 returns-2)
+    tie.close (tie.spec (λ c κs. search needs) returns (λ c κs. search needs) returns-2)

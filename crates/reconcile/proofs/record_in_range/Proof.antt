@@ -31,9 +31,6 @@ returns-3 c =
       le-ltb (x .place) (x .offers) (omega arith),
     )
 
-is-count-requires : tie.Need-is-count-requires
-is-count-requires c κs = search needs
-
 returns-4 : tie.Need-returns-4
 unfolding recordInRange
 returns-4 c =
@@ -47,4 +44,4 @@ returns-4 c =
     )
 
 pub record-in-range-spec : {M : Type 1} → statement M
-record-in-range-spec = tie.close (tie.spec returns returns-2 returns-3 is-count-requires returns-4)
+record-in-range-spec = tie.close (tie.spec returns returns-2 returns-3 (λ c κs. search needs) returns-4)

@@ -16,12 +16,6 @@ state s = stateTables (now (s .args .known)) (now (s .args .ptransit)) (now (s .
 abbrev entry : tie.Else1 → tie.Start
 entry c = c .before .before .before .before .before .before .before .before .before .before .before .before .before
 
-job-short-requires : tie.Need-job-short-requires
-job-short-requires c κs = search needs
-
-state-short-requires : tie.Need-state-short-requires
-state-short-requires c κs = search needs
-
 returns : tie.Need-returns
 returns c =
     let s = c .before .before .before .before .before .before .before .before .before .before .before .before .before in
@@ -47,8 +41,8 @@ pub early-refusal-spec : {M : Type 1} → statement M
 early-refusal-spec =
     tie.close
     (tie.spec
-    job-short-requires
-    state-short-requires
+    (λ c κs. search needs)
+    (λ c κs. search needs)
     returns
     job-in-range-requires
     state-in-range-requires

@@ -13,12 +13,6 @@ job s = jobTables (s .args .boxes) (s .args .grocers) (s .args .offers) (s .args
 abbrev entry : tie.Start → StateTables
 entry s = stateTables (now (s .args .known)) (now (s .args .ptransit)) (now (s .args .working)) (now (s .args .ttransit)) (now (s .args .statement)) (now (s .args .done)) (now (s .args .sent))
 
-job-short-requires : tie.Need-job-short-requires
-job-short-requires c κs = search needs
-
-state-short-requires : tie.Need-state-short-requires
-state-short-requires c κs = search needs
-
 returns : tie.Need-returns
 returns c = let s = c .before .before .before .before .before .before .before .before .before .before .before .before .before in refused-short (job s) (entry s) (c .before .before .job-short .result) (c .before .state-short .result) (c .before .before .job-short .ensures) (c .before .state-short .ensures) (c .if1 .taken)
 
@@ -35,8 +29,8 @@ pub refusal-spec : {M : Type 1} → statement M
 refusal-spec =
     tie.close
     (tie.spec
-    job-short-requires
-    state-short-requires
+    (λ c κs. search needs)
+    (λ c κs. search needs)
     returns
     job-in-range-requires
     returns-2

@@ -12,30 +12,6 @@ job s = jobTables (s .args .boxes) (s .args .grocers) (s .args .offers) (s .args
 abbrev entry : tie.Start → StateTables
 entry s = stateTables (now (s .args .known)) (now (s .args .ptransit)) (now (s .args .working)) (now (s .args .ttransit)) (now (s .args .statement)) (now (s .args .done)) (now (s .args .sent))
 
-refusal-requires : tie.Need-refusal-requires
-refusal-requires c κs = tt
-
-same-length : tie.Need-same-length
-same-length c = refl
-
-same-length-2 : tie.Need-same-length-2
-same-length-2 c = refl
-
-same-length-3 : tie.Need-same-length-3
-same-length-3 c = refl
-
-same-length-4 : tie.Need-same-length-4
-same-length-4 c = refl
-
-same-length-5 : tie.Need-same-length-5
-same-length-5 c = refl
-
-same-length-6 : tie.Need-same-length-6
-same-length-6 c = refl
-
-same-length-7 : tie.Need-same-length-7
-same-length-7 c = refl
-
 returns : tie.Need-returns
 returns c = let s = c .before .before .before .before .before .before .before .before .before .before .before .before .before .before .before .before .before .before .before .before in run-refused (job s) (entry s) (now (s .args .choices)) (c .before .refusal .result) (c .before .refusal .ensures) (c .if1 .taken)
 
@@ -79,14 +55,14 @@ pub run-spec : {M : Type 1} → statement M
 run-spec =
     tie.close
     (tie.spec
-    refusal-requires
-    same-length
-    same-length-2
-    same-length-3
-    same-length-4
-    same-length-5
-    same-length-6
-    same-length-7
+    (λ c κs. tt)
+    (λ c. refl)
+    (λ c. refl)
+    (λ c. refl)
+    (λ c. refl)
+    (λ c. refl)
+    (λ c. refl)
+    (λ c. refl)
     returns
     settle-requires
     slice-read-t52

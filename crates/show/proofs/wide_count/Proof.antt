@@ -8,8 +8,5 @@ use Rattle.show.proofs.wide_count.Tie as tie
 cast-result : tie.Need-cast-result
 cast-result c = let h = c .fits .x .sfits in rw (read32 (c .args .x) h) (record { sfits = lt-of-lt-of-le h (lit≤ tt) })
 
-returns : tie.Need-returns
-returns c = tt
-
 pub wide-count-spec : {M : Type 1} → statement M
-wide-count-spec = tie.close (tie.spec cast-result returns)
+wide-count-spec = tie.close (tie.spec cast-result (λ c. tt))

@@ -9,18 +9,6 @@ use borrow.Author.Needs.{needs}
 use Rattle.statements.proofs.put_answer.Statement.{statement}
 use Rattle.statements.proofs.put_answer.Tie as tie
 
-enum-known-a : tie.Need-enum-known-a
-enum-known-a c = search needs
-
-put-settled-requires : tie.Need-put-settled-requires
-put-settled-requires c κs = search needs
-
-enum-known-a-2 : tie.Need-enum-known-a-2
-enum-known-a-2 c = search needs
-
-put-refused-requires : tie.Need-put-refused-requires
-put-refused-requires c κs = search needs
-
 same-length : tie.Need-same-length
 same-length c = c .before .before .put-settled .kept .0
 
@@ -45,10 +33,10 @@ pub put-answer-spec : {M : Type 1} → statement M
 put-answer-spec =
     tie.close
     (tie.spec
-    enum-known-a
-    put-settled-requires
-    enum-known-a-2
-    put-refused-requires
+    (λ c. search needs)
+    (λ c κs. search needs)
+    (λ c. search needs)
+    (λ c κs. search needs)
     same-length
     returns
     same-length-2

@@ -26,39 +26,6 @@ tables r =
 abbrev was-read : tie.After-price3 → tie.After-read
 was-read c = c .before .before .before .before .before .before .before .before .before .before .before .before .before .before
 
-slice-aggregate-read : tie.Need-slice-aggregate-read
-slice-aggregate-read c = refl
-
-slice-aggregate-read-2 : tie.Need-slice-aggregate-read-2
-slice-aggregate-read-2 c = refl
-
-slice-aggregate-read-3 : tie.Need-slice-aggregate-read-3
-slice-aggregate-read-3 c = refl
-
-slice-aggregate-read-4 : tie.Need-slice-aggregate-read-4
-slice-aggregate-read-4 c = refl
-
-slice-aggregate-read-5 : tie.Need-slice-aggregate-read-5
-slice-aggregate-read-5 c = refl
-
-slice-aggregate-read-6 : tie.Need-slice-aggregate-read-6
-slice-aggregate-read-6 c = refl
-
-slice-aggregate-read-7 : tie.Need-slice-aggregate-read-7
-slice-aggregate-read-7 c = refl
-
-slice-aggregate-read-8 : tie.Need-slice-aggregate-read-8
-slice-aggregate-read-8 c = refl
-
-slice-aggregate-read-9 : tie.Need-slice-aggregate-read-9
-slice-aggregate-read-9 c = refl
-
-read-requires : tie.Need-read-requires
-read-requires c κs = tt
-
-enum-known-a : tie.Need-enum-known-a
-enum-known-a c = search needs
-
 slice-aggregate-put-job : tie.Need-slice-aggregate-put-job
 slice-aggregate-put-job c = sym (was-read c .read .kept .1 .0)
 
@@ -87,12 +54,6 @@ put-job-requires c κs =
     let r = m .before .before .before .before .before .before .before .before .before .before .before in
     (grocers-few (file r) (tables r) (r .read .result) (r .read .ensures) _ _ _ _ (m .a .given .1), search needs)
 
-enum-known-a-2 : tie.Need-enum-known-a-2
-enum-known-a-2 c = search needs
-
-put-refused-requires : tie.Need-put-refused-requires
-put-refused-requires c κs = search needs
-
 returns : tie.Need-returns
 unfolding blankJob
 returns c =
@@ -111,17 +72,17 @@ pub settled-spec : {M : Type 1} → statement M
 settled-spec =
     tie.close
     (tie.spec
-    slice-aggregate-read
-    slice-aggregate-read-2
-    slice-aggregate-read-3
-    slice-aggregate-read-4
-    slice-aggregate-read-5
-    slice-aggregate-read-6
-    slice-aggregate-read-7
-    slice-aggregate-read-8
-    slice-aggregate-read-9
-    read-requires
-    enum-known-a
+    (λ c. refl)
+    (λ c. refl)
+    (λ c. refl)
+    (λ c. refl)
+    (λ c. refl)
+    (λ c. refl)
+    (λ c. refl)
+    (λ c. refl)
+    (λ c. refl)
+    (λ c κs. tt)
+    (λ c. search needs)
     slice-aggregate-put-job
     slice-aggregate-put-job-2
     slice-aggregate-put-job-3
@@ -130,7 +91,7 @@ settled-spec =
     slice-aggregate-put-job-6
     slice-aggregate-put-job-7
     put-job-requires
-    enum-known-a-2
-    put-refused-requires
+    (λ c. search needs)
+    (λ c κs. search needs)
     returns
     returns-2)

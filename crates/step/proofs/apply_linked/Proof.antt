@@ -13,20 +13,11 @@ job s =
     jobTables (s .args .boxes) (s .args .grocers) (s .args .offers) (s .args .tallies)
     (now (s .args .price)) (now (s .args .owner)) (now (s .args .gowner)) (now (s .args .tgrocer)) (now (s .args .tbox)) (now (s .args .toffer)) (now (s .args .tcount))
 
-slice-aggregate-link : tie.Need-slice-aggregate-link
-slice-aggregate-link c = refl
-
 link-requires : tie.Need-link-requires
 link-requires c κs = let s = c .before .before .before .before .before .before .before .before .before .before .before .before in offers-keyed (job s) (s .pre .job-in) (s .pre .job-long) (replicate 500 0) refl
 
-slice-aggregate-link-2 : tie.Need-slice-aggregate-link-2
-slice-aggregate-link-2 c = refl
-
 link-requires-2 : tie.Need-link-requires-2
 link-requires-2 c κs = let s = c .before .before .before .before .before .before .before .before .before .before .before .before .before .before .before .before in grocers-keyed (job s) (s .pre .job-in) (s .pre .job-long) (replicate 255 0) refl
-
-slice-aggregate-link-3 : tie.Need-slice-aggregate-link-3
-slice-aggregate-link-3 c = refl
 
 link-requires-3 : tie.Need-link-requires-3
 link-requires-3 c κs = let s = c .before .before .before .before .before .before .before .before .before .before .before .before .before .before .before .before .before .before .before .before in tallies-keyed (job s) (s .pre .job-in) (s .pre .job-long) (replicate 1_000 0) refl
@@ -64,11 +55,11 @@ pub apply-linked-spec : {M : Type 1} → statement M
 apply-linked-spec =
     tie.close
     (tie.spec
-    slice-aggregate-link
+    (λ c. refl)
     link-requires
-    slice-aggregate-link-2
+    (λ c. refl)
     link-requires-2
-    slice-aggregate-link-3
+    (λ c. refl)
     link-requires-3
     apply-requires
     same-length

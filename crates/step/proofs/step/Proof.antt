@@ -41,30 +41,6 @@ made c = record {
   sharers-are = c .sharers .ensures ∙ sharer-words (job (entry (c .before .before)));
 }
 
-early-refusal-requires : tie.Need-early-refusal-requires
-early-refusal-requires c κs = tt
-
-same-length : tie.Need-same-length
-same-length c = refl
-
-same-length-2 : tie.Need-same-length-2
-same-length-2 c = refl
-
-same-length-3 : tie.Need-same-length-3
-same-length-3 c = refl
-
-same-length-4 : tie.Need-same-length-4
-same-length-4 c = refl
-
-same-length-5 : tie.Need-same-length-5
-same-length-5 c = refl
-
-same-length-6 : tie.Need-same-length-6
-same-length-6 c = refl
-
-same-length-7 : tie.Need-same-length-7
-same-length-7 c = refl
-
 returns : tie.Need-returns
 unfolding answerOf
 returns c = let s = c .before .before .before .before .before .before .before .before .before .before .before .before .before .before .before .before .before .before .before in refused-early (job s) (state s) (ask s) _ (c .before .early-refusal .ensures) (c .if1 .taken)
@@ -77,27 +53,6 @@ sharers-requires c κs = let e = c .before in placed-grocers (job (entry e)) (wh
 
 later-refusal-requires : tie.Need-later-refusal-requires
 later-refusal-requires c κs = let w = c .before .before .before .before .before .before .before .before .before in (whole (w .before .before), made w)
-
-same-length-8 : tie.Need-same-length-8
-same-length-8 c = refl
-
-same-length-9 : tie.Need-same-length-9
-same-length-9 c = refl
-
-same-length-10 : tie.Need-same-length-10
-same-length-10 c = refl
-
-same-length-11 : tie.Need-same-length-11
-same-length-11 c = refl
-
-same-length-12 : tie.Need-same-length-12
-same-length-12 c = refl
-
-same-length-13 : tie.Need-same-length-13
-same-length-13 c = refl
-
-same-length-14 : tie.Need-same-length-14
-same-length-14 c = refl
 
 returns-2 : tie.Need-returns-2
 unfolding answerOf
@@ -145,25 +100,25 @@ pub step-spec : {M : Type 1} → statement M
 step-spec =
     tie.close
     (tie.spec
-    early-refusal-requires
-    same-length
-    same-length-2
-    same-length-3
-    same-length-4
-    same-length-5
-    same-length-6
-    same-length-7
+    (λ c κs. tt)
+    (λ c. refl)
+    (λ c. refl)
+    (λ c. refl)
+    (λ c. refl)
+    (λ c. refl)
+    (λ c. refl)
+    (λ c. refl)
     returns
     needs-requires
     sharers-requires
     later-refusal-requires
-    same-length-8
-    same-length-9
-    same-length-10
-    same-length-11
-    same-length-12
-    same-length-13
-    same-length-14
+    (λ c. refl)
+    (λ c. refl)
+    (λ c. refl)
+    (λ c. refl)
+    (λ c. refl)
+    (λ c. refl)
+    (λ c. refl)
     returns-2
     apply-linked-requires
     same-length-15

@@ -5,11 +5,8 @@ use Rattle.walk.proofs.Places.{listed-at}
 use Rattle.walk.proofs.is_listed.Statement.{statement}
 use Rattle.walk.proofs.is_listed.Tie as tie
 
-permitted-requires : tie.Need-permitted-requires
-permitted-requires c κs = search needs
-
 returns : tie.Need-returns
 returns c = c .permitted .ensures ∙ listed-at _ _ _ _ _ _ _ (c .before .before .pre .0)
 
 pub is-listed-spec : {M : Type 1} → statement M
-is-listed-spec = tie.close (tie.spec permitted-requires returns)
+is-listed-spec = tie.close (tie.spec (λ c κs. search needs) returns)

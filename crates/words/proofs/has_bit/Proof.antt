@@ -6,11 +6,8 @@ use Rattle.words.proofs.has_bit.Tie as tie
 use Rattle.words.proofs.has_bit.Reads as reads
 use Rattle.words.proofs.has_bit.Lts as lts
 
-shr-result : tie.Need-shr-result
-shr-result c = search needs
-
 returns : tie.Need-returns
 returns c = bit-test (c .args .b) (c .args .w)
 
 pub has-bit-spec : {M : Type 1} → statement M
-has-bit-spec = tie.close (tie.spec shr-result returns)
+has-bit-spec = tie.close (tie.spec (λ c. search needs) returns)

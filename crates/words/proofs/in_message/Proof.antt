@@ -10,12 +10,9 @@ use Rattle.words.proofs.in_message.Reads as reads
 use Rattle.words.proofs.in_message.Lts as lts
 use Rattle.words.proofs.has_bit.Reads as has-bit-reads
 
-has-bit-requires : tie.Need-has-bit-requires
-has-bit-requires c κs = search needs
-
 returns : tie.Need-returns
 unfolding inMessage
 returns c = ap (λ (x : Bool). eqb (c .before .args .owner) (c .before .args .a) && (not (eqb (c .before .args .owner) (c .before .args .b)) && x)) (c .has-bit .ensures)
 
 pub in-message-spec : {M : Type 1} → statement M
-in-message-spec = tie.close (tie.spec has-bit-requires returns)
+in-message-spec = tie.close (tie.spec (λ c κs. search needs) returns)

@@ -13,23 +13,11 @@ tables s =
     let a = s .args in
     fileTables (now (a .price)) (now (a .owner)) (now (a .code)) (now (a .gowner)) (now (a .tgrocer)) (now (a .tbox)) (now (a .tcode)) (now (a .tcount))
 
-write-refusal-requires : tie.Need-write-refusal-requires
-write-refusal-requires c κs = search needs
-
-same-length : tie.Need-same-length
-same-length c = search needs
-
 returns : tie.Need-returns
 returns c = let s = c .before .before .before .before .before .before .before .before .before .before .before in let a = s .args in refused-is (a .boxes) (a .grocers) (a .offers) (a .tallies) (tables s) (now (a .out)) _ (c .before .write-refusal .ensures) (c .if1 .taken)
 
 put-file-requires : tie.Need-put-file-requires
 put-file-requires c κs = let s = c .before .before .before .before .before .before .before .before .before .before .before .before in let a = s .args in ready (a .boxes) (a .grocers) (a .offers) (a .tallies) (tables s) (now (a .out)) (sym (c .before .before .write-refusal .ensures) ∙ c .before .if1 .left)
-
-file-length-requires : tie.Need-file-length-requires
-file-length-requires c κs = search needs
-
-same-length-2 : tie.Need-same-length-2
-same-length-2 c = search needs
 
 returns-2 : tie.Need-returns-2
 returns-2 c =
@@ -41,10 +29,10 @@ pub write-spec : {M : Type 1} → statement M
 write-spec =
     tie.close
     (tie.spec
-    write-refusal-requires
-    same-length
+    (λ c κs. search needs)
+    (λ c. search needs)
     returns
     put-file-requires
-    file-length-requires
-    same-length-2
+    (λ c κs. search needs)
+    (λ c. search needs)
     returns-2)

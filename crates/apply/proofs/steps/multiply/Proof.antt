@@ -8,11 +8,5 @@ add-products-requires c κs =
     let p = c .before .before .before .before .before .before .pre in
     (p .0 .tallies-in, (p .0 .prices-in, (p .0 .working-in, (p .0 .a-in, p .1))))
 
-same-length : tie.Need-same-length
-same-length c = search needs
-
-returns : tie.Need-returns
-returns c = search needs
-
 pub multiply-spec : {M : Type 1} → statement M
-multiply-spec = tie.close (tie.spec add-products-requires same-length returns)
+multiply-spec = tie.close (tie.spec add-products-requires (λ c. search needs) (λ c. search needs))

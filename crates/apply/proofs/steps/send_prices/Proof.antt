@@ -19,12 +19,6 @@ raise-requires c κs =
     let s = c .before .before .before .before .before .before .before .before .before in
     (s .pre .1 .1, omega (arith, call .ensures .1, count-le (s .args .n) (wordIn (now (s .args .owner)) (now (s .args .needs)) (s .args .a) (s .args .b)), s .pre .0 .offers-in))
 
-same-length : tie.Need-same-length
-same-length c = search needs
-
-same-length-2 : tie.Need-same-length-2
-same-length-2 c = search needs
-
 returns : tie.Need-returns
 returns c =
     let call = c .before .before .before .before .before .before .send-prices in
@@ -32,4 +26,4 @@ returns c =
     (call .ensures .0, c .before .before .raise .ensures ∙ ap (λ (more : ℕ). sentMore (now (s .args .sent)) more) (call .ensures .1))
 
 pub send-prices-spec : {M : Type 1} → statement M
-send-prices-spec = tie.close (tie.spec send-prices-requires raise-requires same-length same-length-2 returns)
+send-prices-spec = tie.close (tie.spec send-prices-requires raise-requires (λ c. search needs) (λ c. search needs) returns)

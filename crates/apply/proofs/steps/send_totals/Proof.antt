@@ -19,15 +19,6 @@ raise-requires c κs =
     let s = c .before .before .before .before .before .before .before .before in
     (s .pre .1 .1, omega (arith, call .ensures .0, count-le (s .args .m) (wordIn (now (s .args .owner)) (now (s .args .sharers)) (s .args .b) (s .args .a)), s .pre .0 .1))
 
-same-length : tie.Need-same-length
-same-length c = search needs
-
-same-length-2 : tie.Need-same-length-2
-same-length-2 c = search needs
-
-same-length-3 : tie.Need-same-length-3
-same-length-3 c = search needs
-
 returns : tie.Need-returns
 returns c =
     let call = c .before .before .before .before .before .before .send-totals in
@@ -35,4 +26,4 @@ returns c =
     (call .ensures .1, call .ensures .2, c .before .before .raise .ensures ∙ ap (λ (more : ℕ). sentMore (now (s .args .sent)) more) (call .ensures .0))
 
 pub send-totals-spec : {M : Type 1} → statement M
-send-totals-spec = tie.close (tie.spec send-totals-requires raise-requires same-length same-length-2 same-length-3 returns)
+send-totals-spec = tie.close (tie.spec send-totals-requires raise-requires (λ c. search needs) (λ c. search needs) (λ c. search needs) returns)

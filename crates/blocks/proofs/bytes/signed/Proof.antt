@@ -6,23 +6,11 @@ use borrow.Author.Needs.{needs}
 use Rattle.blocks.proofs.bytes.signed.Statement.{statement}
 use Rattle.blocks.proofs.bytes.signed.Tie as tie
 
-cast-result : tie.Need-cast-result
-cast-result c = search needs
-
-sub-m : tie.Need-sub-m
-sub-m c = search needs
-
-cast-m : tie.Need-cast-m
-cast-m c = search needs
-
 sub-result : tie.Need-sub-result
 sub-result c = rw (upper (c .before .args .v) (c .if1 .left) (omega arith)) (sfits-toZ (c .before .fits .v))
-
-returns : tie.Need-returns
-returns c = search needs
 
 returns-2 : tie.Need-returns-2
 returns-2 c = rw (upper (c .before .args .v) (c .if1 .left) (omega arith)) (toZ-ofZ (sfits-toZ (c .before .fits .v)))
 
 pub signed-spec : {M : Type 1} → statement M
-signed-spec = tie.close (tie.spec cast-result sub-m cast-m sub-result returns returns-2)
+signed-spec = tie.close (tie.spec (λ c. search needs) (λ c. search needs) (λ c. search needs) sub-result (λ c. search needs) returns-2)

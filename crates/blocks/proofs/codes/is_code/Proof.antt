@@ -31,33 +31,9 @@ place-is : (f : List ℕ) (at i n : ℕ) → n ≡ getD f at 0 →
 unfolding isPlace
 place-is f at i n e = rw (count-is f at n e, add-assoc at 1 i)
 
-shared-slice-read-size : tie.Need-shared-slice-read-size Inv-loop μ-loop
-shared-slice-read-size c = search needs
-
-size-requires : tie.Need-size-requires Inv-loop μ-loop
-size-requires c κs = search needs
-
-add-field : tie.Need-add-field Inv-loop μ-loop
-add-field c = search needs
-
 loop-holds : tie.Need-loop-holds Inv-loop μ-loop
 unfolding all
 loop-holds c = (omega arith, refl)
-
-add-is-place : tie.Need-add-is-place Inv-loop μ-loop
-add-is-place c = search needs
-
-shared-slice-read-is-place : tie.Need-shared-slice-read-is-place Inv-loop μ-loop
-shared-slice-read-is-place c = search needs
-
-is-place-requires : tie.Need-is-place-requires Inv-loop μ-loop
-is-place-requires c κs = search needs
-
-add-i : tie.Need-add-i Inv-loop μ-loop
-add-i c = search needs
-
-loop-less : tie.Need-loop-less Inv-loop μ-loop
-loop-less c = search needs
 
 loop-again : tie.Need-loop-again Inv-loop μ-loop
 loop-again c =
@@ -81,14 +57,14 @@ is-code-spec =
     (tie.spec
     Inv-loop
     μ-loop
-    shared-slice-read-size
-    size-requires
-    add-field
+    (λ c. search needs)
+    (λ c κs. search needs)
+    (λ c. search needs)
     loop-holds
-    add-is-place
-    shared-slice-read-is-place
-    is-place-requires
-    add-i
-    loop-less
+    (λ c. search needs)
+    (λ c. search needs)
+    (λ c κs. search needs)
+    (λ c. search needs)
+    (λ c. search needs)
     loop-again
     returns)

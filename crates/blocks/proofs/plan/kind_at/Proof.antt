@@ -6,12 +6,6 @@ use borrow.Author.Needs.{needs}
 use Rattle.blocks.proofs.plan.kind_at.Statement.{statement}
 use Rattle.blocks.proofs.plan.kind_at.Tie as tie
 
-blocks-for-requires : tie.Need-blocks-for-requires
-blocks-for-requires c κs = search needs
-
-add-grocers : tie.Need-add-grocers
-add-grocers c = search needs
-
 returns : tie.Need-returns
 unfolding kindAt
 returns c = rw (lt-ltb _ offersAt (c .if1 .taken))
@@ -22,9 +16,6 @@ returns-2 c =
     let n = c .before .before .before .args .n in
     let k = c .before .before .before .args .k in
     rw (le-ltb k offersAt (c .before .if1 .left), lt-ltb k (grocersAt n) (omega arith))
-
-add-if3 : tie.Need-add-if3
-add-if3 c = search needs
 
 returns-3 : tie.Need-returns-3
 unfolding kindAt
@@ -43,4 +34,4 @@ returns-4 c =
 pub kind-at-spec : {M : Type 1} → statement M
 kind-at-spec =
     tie.close
-    (tie.spec blocks-for-requires add-grocers returns returns-2 add-if3 returns-3 returns-4)
+    (tie.spec (λ c κs. search needs) (λ c. search needs) returns returns-2 (λ c. search needs) returns-3 returns-4)

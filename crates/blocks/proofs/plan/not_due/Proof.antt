@@ -10,30 +10,6 @@ use borrow.Author.Needs.{needs}
 use Rattle.blocks.proofs.plan.not_due.Statement.{statement}
 use Rattle.blocks.proofs.plan.not_due.Tie as tie
 
-mul-at : tie.Need-mul-at
-mul-at c = search needs
-
-shared-slice-read-size : tie.Need-shared-slice-read-size
-shared-slice-read-size c = search needs
-
-size-requires : tie.Need-size-requires
-size-requires c κs = search needs
-
-add-word16 : tie.Need-add-word16
-add-word16 c = search needs
-
-word16-requires : tie.Need-word16-requires
-word16-requires c κs = search needs
-
-add-size : tie.Need-add-size
-add-size c = search needs
-
-shared-slice-read-size-2 : tie.Need-shared-slice-read-size-2
-shared-slice-read-size-2 c = search needs
-
-size-requires-2 : tie.Need-size-requires-2
-size-requires-2 c κs = search needs
-
 returns : tie.Need-returns
 unfolding notDue
 returns c =
@@ -49,12 +25,12 @@ pub not-due-spec : {M : Type 1} → statement M
 not-due-spec =
     tie.close
     (tie.spec
-    mul-at
-    shared-slice-read-size
-    size-requires
-    add-word16
-    word16-requires
-    add-size
-    shared-slice-read-size-2
-    size-requires-2
+    (λ c. search needs)
+    (λ c. search needs)
+    (λ c κs. search needs)
+    (λ c. search needs)
+    (λ c κs. search needs)
+    (λ c. search needs)
+    (λ c. search needs)
+    (λ c κs. search needs)
     returns)

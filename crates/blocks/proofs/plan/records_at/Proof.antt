@@ -16,12 +16,6 @@ rest c =
     let s = c .before .before in
     three-is (s .args .s .offers) (s .args .k) (s .pre .1 .0) (λ e. c .before .if1 .left (s .pre .1 .1 ∙ e)) (λ e. c .if2 .left (s .pre .1 .1 ∙ e))
 
-sub-part : tie.Need-sub-part
-sub-part c = search needs
-
-part-requires : tie.Need-part-requires
-part-requires c κs = search needs
-
 returns : tie.Need-returns
 returns c =
     let s = c .before .before in
@@ -35,17 +29,8 @@ returns-2 c =
     let e = two-is (s .args .s .offers) (s .args .k) (sym (s .pre .1 .1) ∙ c .if2 .taken) in
     (λ j g o t. sym g ∙ sym (ap (records j) (e .0)), omega (arith, s .pre .0 .1 .grocers))
 
-blocks-for-requires : tie.Need-blocks-for-requires
-blocks-for-requires c κs = search needs
-
-add-first : tie.Need-add-first
-add-first c = search needs
-
 sub-part-2 : tie.Need-sub-part-2
 sub-part-2 c = omega (arith, rest (c .before) .1)
-
-part-requires-2 : tie.Need-part-requires-2
-part-requires-2 c κs = search needs
 
 returns-3 : tie.Need-returns-3
 returns-3 c =
@@ -59,12 +44,12 @@ pub records-at-spec : {M : Type 1} → statement M
 records-at-spec =
     tie.close
     (tie.spec
-    sub-part
-    part-requires
+    (λ c. search needs)
+    (λ c κs. search needs)
     returns
     returns-2
-    blocks-for-requires
-    add-first
+    (λ c κs. search needs)
+    (λ c. search needs)
     sub-part-2
-    part-requires-2
+    (λ c κs. search needs)
     returns-3)

@@ -9,24 +9,6 @@ use borrow.Author.Needs.{needs}
 use Rattle.blocks.proofs.records.bad_offer.Statement.{statement}
 use Rattle.blocks.proofs.records.bad_offer.Tie as tie
 
-word32-requires : tie.Need-word32-requires
-word32-requires c κs = search needs
-
-add-size : tie.Need-add-size
-add-size c = search needs
-
-shared-slice-read-size : tie.Need-shared-slice-read-size
-shared-slice-read-size c = search needs
-
-size-requires : tie.Need-size-requires
-size-requires c κs = search needs
-
-add-is-code : tie.Need-add-is-code
-add-is-code c = search needs
-
-is-code-requires : tie.Need-is-code-requires
-is-code-requires c κs = search needs
-
 returns : tie.Need-returns
 unfolding badOffer readOffer
 returns c =
@@ -40,10 +22,10 @@ pub bad-offer-spec : {M : Type 1} → statement M
 bad-offer-spec =
     tie.close
     (tie.spec
-    word32-requires
-    add-size
-    shared-slice-read-size
-    size-requires
-    add-is-code
-    is-code-requires
+    (λ c κs. search needs)
+    (λ c. search needs)
+    (λ c. search needs)
+    (λ c κs. search needs)
+    (λ c. search needs)
+    (λ c κs. search needs)
     returns)

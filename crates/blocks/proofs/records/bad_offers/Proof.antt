@@ -17,30 +17,9 @@ Inv-loop f k count boxes at found₀ i₀ found i = (i ≤ count) × (found ≡ 
 abbrev μ-loop : tie.MeasureT-loop
 μ-loop f k count boxes at found₀ i₀ found i = count - i
 
-mul-at : tie.Need-mul-at Inv-loop μ-loop
-mul-at c = search needs
-
-add-at : tie.Need-add-at Inv-loop μ-loop
-add-at c = search needs
-
 loop-holds : tie.Need-loop-holds Inv-loop μ-loop
 unfolding any
 loop-holds c = (omega arith, refl)
-
-mul-bad-offer : tie.Need-mul-bad-offer Inv-loop μ-loop
-mul-bad-offer c = search needs
-
-add-bad-offer : tie.Need-add-bad-offer Inv-loop μ-loop
-add-bad-offer c = search needs
-
-bad-offer-requires : tie.Need-bad-offer-requires Inv-loop μ-loop
-bad-offer-requires c κs = search needs
-
-add-i : tie.Need-add-i Inv-loop μ-loop
-add-i c = search needs
-
-loop-less : tie.Need-loop-less Inv-loop μ-loop
-loop-less c = search needs
 
 loop-again : tie.Need-loop-again Inv-loop μ-loop
 loop-again c =
@@ -60,13 +39,13 @@ bad-offers-spec =
     (tie.spec
     Inv-loop
     μ-loop
-    mul-at
-    add-at
+    (λ c. search needs)
+    (λ c. search needs)
     loop-holds
-    mul-bad-offer
-    add-bad-offer
-    bad-offer-requires
-    add-i
-    loop-less
+    (λ c. search needs)
+    (λ c. search needs)
+    (λ c κs. search needs)
+    (λ c. search needs)
+    (λ c. search needs)
     loop-again
     returns)

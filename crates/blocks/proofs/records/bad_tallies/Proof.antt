@@ -18,30 +18,9 @@ Inv-loop f k count boxes grocers at found₀ i₀ found i = (i ≤ count) × (fo
 abbrev μ-loop : tie.MeasureT-loop
 μ-loop f k count boxes grocers at found₀ i₀ found i = count - i
 
-mul-at : tie.Need-mul-at Inv-loop μ-loop
-mul-at c = search needs
-
-add-at : tie.Need-add-at Inv-loop μ-loop
-add-at c = search needs
-
 loop-holds : tie.Need-loop-holds Inv-loop μ-loop
 unfolding any
 loop-holds c = (omega arith, refl)
-
-mul-bad-tally : tie.Need-mul-bad-tally Inv-loop μ-loop
-mul-bad-tally c = search needs
-
-add-bad-tally : tie.Need-add-bad-tally Inv-loop μ-loop
-add-bad-tally c = search needs
-
-bad-tally-requires : tie.Need-bad-tally-requires Inv-loop μ-loop
-bad-tally-requires c κs = search needs
-
-add-i : tie.Need-add-i Inv-loop μ-loop
-add-i c = search needs
-
-loop-less : tie.Need-loop-less Inv-loop μ-loop
-loop-less c = search needs
 
 loop-again : tie.Need-loop-again Inv-loop μ-loop
 loop-again c =
@@ -61,13 +40,13 @@ bad-tallies-spec =
     (tie.spec
     Inv-loop
     μ-loop
-    mul-at
-    add-at
+    (λ c. search needs)
+    (λ c. search needs)
     loop-holds
-    mul-bad-tally
-    add-bad-tally
-    bad-tally-requires
-    add-i
-    loop-less
+    (λ c. search needs)
+    (λ c. search needs)
+    (λ c κs. search needs)
+    (λ c. search needs)
+    (λ c. search needs)
     loop-again
     returns)

@@ -14,33 +14,6 @@ use borrow.Author.Needs.{needs}
 use Rattle.blocks.proofs.records.bad_tally.Statement.{statement}
 use Rattle.blocks.proofs.records.bad_tally.Tie as tie
 
-word16-requires : tie.Need-word16-requires
-word16-requires c κs = search needs
-
-add-size : tie.Need-add-size
-add-size c = search needs
-
-shared-slice-read-size : tie.Need-shared-slice-read-size
-shared-slice-read-size c = search needs
-
-size-requires : tie.Need-size-requires
-size-requires c κs = search needs
-
-add-is-code : tie.Need-add-is-code
-add-is-code c = search needs
-
-is-code-requires : tie.Need-is-code-requires
-is-code-requires c κs = search needs
-
-add-word32 : tie.Need-add-word32
-add-word32 c = search needs
-
-word32-requires : tie.Need-word32-requires
-word32-requires c κs = search needs
-
-bad-count-requires : tie.Need-bad-count-requires
-bad-count-requires c κs = search needs
-
 returns : tie.Need-returns
 unfolding badTally readTally
 returns c =
@@ -58,13 +31,13 @@ pub bad-tally-spec : {M : Type 1} → statement M
 bad-tally-spec =
     tie.close
     (tie.spec
-    word16-requires
-    add-size
-    shared-slice-read-size
-    size-requires
-    add-is-code
-    is-code-requires
-    add-word32
-    word32-requires
-    bad-count-requires
+    (λ c κs. search needs)
+    (λ c. search needs)
+    (λ c. search needs)
+    (λ c κs. search needs)
+    (λ c. search needs)
+    (λ c κs. search needs)
+    (λ c. search needs)
+    (λ c κs. search needs)
+    (λ c κs. search needs)
     returns)

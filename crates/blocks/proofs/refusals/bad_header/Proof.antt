@@ -9,18 +9,6 @@ use borrow.Author.Needs.{needs}
 use Rattle.blocks.proofs.refusals.bad_header.Statement.{statement}
 use Rattle.blocks.proofs.refusals.bad_header.Tie as tie
 
-read-sizes-requires : tie.Need-read-sizes-requires
-read-sizes-requires c κs = search needs
-
-shared-slice-read-size : tie.Need-shared-slice-read-size
-shared-slice-read-size c = search needs
-
-size-requires : tie.Need-size-requires
-size-requires c κs = search needs
-
-bad-sizes-requires : tie.Need-bad-sizes-requires
-bad-sizes-requires c κs = search needs
-
 returns : tie.Need-returns
 unfolding badHeader
 returns c =
@@ -33,4 +21,4 @@ returns c =
 pub bad-header-spec : {M : Type 1} → statement M
 bad-header-spec =
     tie.close
-    (tie.spec read-sizes-requires shared-slice-read-size size-requires bad-sizes-requires returns)
+    (tie.spec (λ c κs. search needs) (λ c. search needs) (λ c κs. search needs) (λ c κs. search needs) returns)

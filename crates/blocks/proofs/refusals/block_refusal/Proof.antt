@@ -33,15 +33,6 @@ bad c =
     let j = decode (a .f .now) in
     ap (λ (n : ℕ). any n (badRecord j (kindAt (j .offers) (a .k)))) (sym (due r .count)) ∙ sym (c .bad-records .ensures)
 
-kind-at-requires : tie.Need-kind-at-requires
-kind-at-requires c κs = search needs
-
-records-at-requires : tie.Need-records-at-requires
-records-at-requires c κs = search needs
-
-sums-differ-requires : tie.Need-sums-differ-requires
-sums-differ-requires c κs = search needs
-
 returns : tie.Need-returns
 unfolding blockRefusal firstMet
 returns c = rw (← (c .before .sums-differ .ensures), c .if1 .taken)
@@ -97,9 +88,9 @@ pub block-refusal-spec : {M : Type 1} → statement M
 block-refusal-spec =
     tie.close
     (tie.spec
-    kind-at-requires
-    records-at-requires
-    sums-differ-requires
+    (λ c κs. search needs)
+    (λ c κs. search needs)
+    (λ c κs. search needs)
     returns
     not-due-requires
     returns-2

@@ -17,15 +17,9 @@ Inv-loop f s n others i₀ i = (i ≤ others) × (firstBelow i (λ k. blockRefus
 abbrev μ-loop : tie.MeasureT-loop
 μ-loop f s n others i₀ i = others - i
 
-sub-others : tie.Need-sub-others Inv-loop μ-loop
-sub-others c = search needs
-
 loop-holds : tie.Need-loop-holds Inv-loop μ-loop
 unfolding firstBelow
 loop-holds c = (omega arith, refl)
-
-add-block-refusal : tie.Need-add-block-refusal Inv-loop μ-loop
-add-block-refusal c = search needs
 
 block-refusal-requires : tie.Need-block-refusal-requires Inv-loop μ-loop
 block-refusal-requires c κs =
@@ -38,12 +32,6 @@ returns c =
     let s = l .before .before in
     let f = s .args .f .now in
     sym (below-hit (λ k. blockRefusal f (1 + k)) (l .loop .i) (blocks (decode f) - 1) _ (omega arith) (l .loop .inv .1) (sym (c .before .block-refusal .ensures)) (c .if1 .taken))
-
-add-i : tie.Need-add-i Inv-loop μ-loop
-add-i c = search needs
-
-loop-less : tie.Need-loop-less Inv-loop μ-loop
-loop-less c = search needs
 
 loop-again : tie.Need-loop-again Inv-loop μ-loop
 loop-again c =
@@ -66,12 +54,12 @@ blocks-refusal-spec =
     (tie.spec
     Inv-loop
     μ-loop
-    sub-others
+    (λ c. search needs)
     loop-holds
-    add-block-refusal
+    (λ c. search needs)
     block-refusal-requires
     returns
-    add-i
-    loop-less
+    (λ c. search needs)
+    (λ c. search needs)
     loop-again
     returns-2)

@@ -7,9 +7,6 @@ use borrow.Author.Needs.{needs}
 use Rattle.blocks.proofs.refusals.header_refusal.Statement.{statement}
 use Rattle.blocks.proofs.refusals.header_refusal.Tie as tie
 
-sums-differ-requires : tie.Need-sums-differ-requires
-sums-differ-requires c κs = search needs
-
 returns : tie.Need-returns
 unfolding headerRefusal firstMet
 returns c = rw (← (c .before .sums-differ .ensures), c .if1 .taken)
@@ -25,18 +22,12 @@ returns-2 c =
     let a = c .before .before in
     rw (← (a .before .sums-differ .ensures), a .if1 .left, ← (c .before .not-due .ensures), c .if2 .taken)
 
-bad-header-requires : tie.Need-bad-header-requires
-bad-header-requires c κs = search needs
-
 returns-3 : tie.Need-returns-3
 unfolding headerRefusal firstMet
 returns-3 c =
     let b = c .before .before in
     let a = b .before .before in
     rw (← (a .before .sums-differ .ensures), a .if1 .left, ← (b .before .not-due .ensures), b .if2 .left, ← (c .before .bad-header .ensures), c .if3 .taken)
-
-header-spare-used-requires : tie.Need-header-spare-used-requires
-header-spare-used-requires c κs = search needs
 
 returns-4 : tie.Need-returns-4
 unfolding headerRefusal firstMet
@@ -58,12 +49,12 @@ pub header-refusal-spec : {M : Type 1} → statement M
 header-refusal-spec =
     tie.close
     (tie.spec
-    sums-differ-requires
+    (λ c κs. search needs)
     returns
     not-due-requires
     returns-2
-    bad-header-requires
+    (λ c κs. search needs)
     returns-3
-    header-spare-used-requires
+    (λ c κs. search needs)
     returns-4
     returns-5)

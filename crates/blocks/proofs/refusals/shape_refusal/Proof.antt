@@ -36,9 +36,6 @@ most c =
 counted : (c : tie.After-block-count) → c .block-count .result ≡ blocks (decode (c .before .before .before .before .before .before .before .args .f .now))
 counted c = let i = c .before .read-sizes .ensures in c .block-count .ensures ∙ ap₂ blockCount (i .offers) (i .tallies)
 
-bad-length-requires : tie.Need-bad-length-requires
-bad-length-requires c κs = search needs
-
 returns : tie.Need-returns
 returns c = sym (shape-length _ (sym (c .before .bad-length .ensures) ∙ c .if1 .taken))
 
@@ -80,7 +77,7 @@ pub shape-refusal-spec : {M : Type 1} → statement M
 shape-refusal-spec =
     tie.close
     (tie.spec
-    bad-length-requires
+    (λ c κs. search needs)
     returns
     header-refusal-requires
     returns-2

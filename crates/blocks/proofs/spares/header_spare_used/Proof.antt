@@ -8,11 +8,8 @@ use borrow.Author.Needs.{needs}
 use Rattle.blocks.proofs.spares.header_spare_used.Statement.{statement}
 use Rattle.blocks.proofs.spares.header_spare_used.Tie as tie
 
-spare-in-requires : tie.Need-spare-in-requires
-spare-in-requires c κs = search needs
-
 returns : tie.Need-returns
 returns c = c .spare-in .ensures ∙ spare-due _ 0 0 1 (due-header (c .before .before .args .f .now)) header (kind-header _)
 
 pub header-spare-used-spec : {M : Type 1} → statement M
-header-spare-used-spec = tie.close (tie.spec spare-in-requires returns)
+header-spare-used-spec = tie.close (tie.spec (λ c κs. search needs) returns)

@@ -35,9 +35,6 @@ full c =
     let d : l .loop .i ≡ s .args .count = omega arith in
     l .loop .inv .1 ∙ ap (λ (i : ℕ). i * s .args .size) d
 
-sub-rest : tie.Need-sub-rest Inv-loop μ-loop
-sub-rest c = search needs
-
 loop-holds : tie.Need-loop-holds Inv-loop μ-loop
 unfolding any
 loop-holds c = (omega arith, omega arith, refl)
@@ -53,12 +50,6 @@ any-used-requires c κs = omega (arith, room c)
 
 add-p : tie.Need-add-p Inv-loop μ-loop
 add-p c = omega (arith, room (c .before))
-
-add-i : tie.Need-add-i Inv-loop μ-loop
-add-i c = search needs
-
-loop-less : tie.Need-loop-less Inv-loop μ-loop
-loop-less c = search needs
 
 loop-again : tie.Need-loop-again Inv-loop μ-loop
 loop-again c =
@@ -101,14 +92,14 @@ spare-in-spec =
     (tie.spec
     Inv-loop
     μ-loop
-    sub-rest
+    (λ c. search needs)
     loop-holds
     add-any-used
     add-any-used-2
     any-used-requires
     add-p
-    add-i
-    loop-less
+    (λ c. search needs)
+    (λ c. search needs)
     loop-again
     add-any-used-3
     sub-any-used

@@ -7,12 +7,6 @@ use borrow.Author.Needs.{needs}
 use Rattle.blocks.proofs.spares.spare_used.Statement.{statement}
 use Rattle.blocks.proofs.spares.spare_used.Tie as tie
 
-mul-at : tie.Need-mul-at
-mul-at c = search needs
-
-add-at : tie.Need-add-at
-add-at c = search needs
-
 spare-in-requires : tie.Need-spare-in-requires
 spare-in-requires c κs =
     let s = c .before .before in
@@ -24,9 +18,6 @@ returns c =
     let s = c .before .before .before in
     let d = due-one _ _ _ _ (s .pre .1) (c .before .if1 .taken) .0 in
     c .spare-in .ensures ∙ spare-due _ _ _ _ (s .pre .1) _ d
-
-spare-in-requires-2 : tie.Need-spare-in-requires-2
-spare-in-requires-2 c κs = search needs
 
 returns-2 : tie.Need-returns-2
 returns-2 c =
@@ -51,11 +42,11 @@ pub spare-used-spec : {M : Type 1} → statement M
 spare-used-spec =
     tie.close
     (tie.spec
-    mul-at
-    add-at
+    (λ c. search needs)
+    (λ c. search needs)
     spare-in-requires
     returns
-    spare-in-requires-2
+    (λ c κs. search needs)
     returns-2
     spare-in-requires-3
     returns-3)

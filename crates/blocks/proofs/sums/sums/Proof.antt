@@ -29,15 +29,6 @@ loop-holds : tie.Need-loop-holds Inv-loop μ-loop
 unfolding sum naturals
 loop-holds c = (omega arith, omega arith, omega arith, omega arith, refl, refl)
 
-add-wide : tie.Need-add-wide Inv-loop μ-loop
-add-wide c = omega arith
-
-shared-slice-read-wide : tie.Need-shared-slice-read-wide Inv-loop μ-loop
-shared-slice-read-wide c = omega arith
-
-wide-requires : tie.Need-wide-requires Inv-loop μ-loop
-wide-requires c κs = search needs
-
 add-first : tie.Need-add-first Inv-loop μ-loop
 add-first c = omega (arith, byte c)
 
@@ -46,15 +37,6 @@ mul-second c = omega (arith, prod c)
 
 add-second : tie.Need-add-second Inv-loop μ-loop
 add-second c = omega (arith, prod c)
-
-sub-weight : tie.Need-sub-weight Inv-loop μ-loop
-sub-weight c = omega arith
-
-add-i : tie.Need-add-i Inv-loop μ-loop
-add-i c = omega arith
-
-loop-less : tie.Need-loop-less Inv-loop μ-loop
-loop-less c = omega arith
 
 loop-again : tie.Need-loop-again Inv-loop μ-loop
 unfolding naturals
@@ -70,12 +52,6 @@ loop-again c =
       rw (sum-next, l .inv .5, c .wide .ensures .0, l .inv .1),
     )
 
-cast-a : tie.Need-cast-a Inv-loop μ-loop
-cast-a c = omega arith
-
-cast-b : tie.Need-cast-b Inv-loop μ-loop
-cast-b c = omega arith
-
 returns : tie.Need-returns Inv-loop μ-loop
 unfolding firstSum secondSum
 returns c =
@@ -89,16 +65,16 @@ sums-spec =
     Inv-loop
     μ-loop
     loop-holds
-    add-wide
-    shared-slice-read-wide
-    wide-requires
+    (λ c. omega arith)
+    (λ c. omega arith)
+    (λ c κs. search needs)
     add-first
     mul-second
     add-second
-    sub-weight
-    add-i
-    loop-less
+    (λ c. omega arith)
+    (λ c. omega arith)
+    (λ c. omega arith)
     loop-again
-    cast-a
-    cast-b
+    (λ c. omega arith)
+    (λ c. omega arith)
     returns)

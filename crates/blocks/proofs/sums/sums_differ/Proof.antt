@@ -7,24 +7,6 @@ use borrow.Author.Needs.{needs}
 use Rattle.blocks.proofs.sums.sums_differ.Statement.{statement}
 use Rattle.blocks.proofs.sums.sums_differ.Tie as tie
 
-mul-at : tie.Need-mul-at
-mul-at c = search needs
-
-sums-requires : tie.Need-sums-requires
-sums-requires c κs = search needs
-
-add-word16 : tie.Need-add-word16
-add-word16 c = search needs
-
-word16-requires : tie.Need-word16-requires
-word16-requires c κs = search needs
-
-add-word16-2 : tie.Need-add-word16-2
-add-word16-2 c = search needs
-
-word16-requires-2 : tie.Need-word16-requires-2
-word16-requires-2 c κs = search needs
-
 returns : tie.Need-returns
 unfolding sumsDiffer
 returns c =
@@ -38,10 +20,10 @@ pub sums-differ-spec : {M : Type 1} → statement M
 sums-differ-spec =
     tie.close
     (tie.spec
-    mul-at
-    sums-requires
-    add-word16
-    word16-requires
-    add-word16-2
-    word16-requires-2
+    (λ c. search needs)
+    (λ c κs. search needs)
+    (λ c. search needs)
+    (λ c κs. search needs)
+    (λ c. search needs)
+    (λ c κs. search needs)
     returns)

@@ -10,23 +10,5 @@ Inv-loop sum price n s₀ i₀ s i = Unit {0}
 abbrev μ-loop : tie.MeasureT-loop
 μ-loop sum price n s₀ i₀ s i = n - i
 
-loop-holds : tie.Need-loop-holds Inv-loop μ-loop
-loop-holds c = tt
-
-wrapping-add-u64-requires : tie.Need-wrapping-add-u64-requires Inv-loop μ-loop
-wrapping-add-u64-requires c κs = tt
-
-add-i : tie.Need-add-i Inv-loop μ-loop
-add-i c = omega arith
-
-loop-less : tie.Need-loop-less Inv-loop μ-loop
-loop-less c = omega arith
-
-loop-again : tie.Need-loop-again Inv-loop μ-loop
-loop-again c = tt
-
-returns : tie.Need-returns Inv-loop μ-loop
-returns c = tt
-
 pub add-times-spec : {M : Type 1} → statement M
-add-times-spec = tie.close (tie.spec Inv-loop μ-loop loop-holds wrapping-add-u64-requires add-i loop-less loop-again returns)
+add-times-spec = tie.close (tie.spec Inv-loop μ-loop (λ c. tt) (λ c κs. tt) (λ c. omega arith) (λ c. omega arith) (λ c. tt) (λ c. tt))

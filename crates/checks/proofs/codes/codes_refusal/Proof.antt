@@ -37,41 +37,8 @@ unnamed-at c j h =
     ∙ ap (λ (l : List ℕ). any (a .t) (λ i. eqb (placeOf l (a .n) (codeNumber (codeOf (now (a .tcode)) i))) (a .n))) (f .number-all .ensures)
     ∙ unnamed-is j _ _ _ _ h _)
 
-slice-aggregate-number-all : tie.Need-slice-aggregate-number-all
-slice-aggregate-number-all c = search needs
-
-number-all-requires : tie.Need-number-all-requires
-number-all-requires c κs = search needs
-
-slice-aggregate-build : tie.Need-slice-aggregate-build
-slice-aggregate-build c = search needs
-
-slice-aggregate-build-2 : tie.Need-slice-aggregate-build-2
-slice-aggregate-build-2 c = search needs
-
-slice-aggregate-build-3 : tie.Need-slice-aggregate-build-3
-slice-aggregate-build-3 c = search needs
-
-build-requires : tie.Need-build-requires
-build-requires c κs = search needs
-
-slice-aggregate-shared : tie.Need-slice-aggregate-shared
-slice-aggregate-shared c = search needs
-
-shared-requires : tie.Need-shared-requires
-shared-requires c κs = search needs
-
 returns : tie.Need-returns
 returns c = λ j h. sym (seven _ _ (shared-at (c .before) j h ∙ c .if1 .taken))
-
-slice-aggregate-some-none : tie.Need-slice-aggregate-some-none
-slice-aggregate-some-none c = search needs
-
-slice-aggregate-some-none-2 : tie.Need-slice-aggregate-some-none-2
-slice-aggregate-some-none-2 c = search needs
-
-some-none-requires : tie.Need-some-none-requires
-some-none-requires c κs = search needs
 
 returns-2 : tie.Need-returns-2
 returns-2 c =
@@ -87,17 +54,17 @@ pub codes-refusal-spec : {M : Type 1} → statement M
 codes-refusal-spec =
     tie.close
     (tie.spec
-    slice-aggregate-number-all
-    number-all-requires
-    slice-aggregate-build
-    slice-aggregate-build-2
-    slice-aggregate-build-3
-    build-requires
-    slice-aggregate-shared
-    shared-requires
+    (λ c. search needs)
+    (λ c κs. search needs)
+    (λ c. search needs)
+    (λ c. search needs)
+    (λ c. search needs)
+    (λ c κs. search needs)
+    (λ c. search needs)
+    (λ c κs. search needs)
     returns
-    slice-aggregate-some-none
-    slice-aggregate-some-none-2
-    some-none-requires
+    (λ c. search needs)
+    (λ c. search needs)
+    (λ c κs. search needs)
     returns-2
     returns-3)

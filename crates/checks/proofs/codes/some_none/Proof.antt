@@ -33,12 +33,6 @@ names-none-requires c κs =
     let s = l .before .before .before .before in
     (s .pre .0, (omega arith, s .pre .1 .1 .code (l .loop .i) (c .loop-test .taken)))
 
-add-i : tie.Need-add-i Inv-loop μ-loop
-add-i c = search needs
-
-loop-less : tie.Need-loop-less Inv-loop μ-loop
-loop-less c = search needs
-
 loop-again : tie.Need-loop-again Inv-loop μ-loop
 loop-again c =
     let l = c .before .before in
@@ -53,4 +47,4 @@ returns c =
 pub some-none-spec : {M : Type 1} → statement M
 some-none-spec =
     tie.close
-    (tie.spec Inv-loop μ-loop loop-holds names-none-requires add-i loop-less loop-again returns)
+    (tie.spec Inv-loop μ-loop loop-holds names-none-requires (λ c. search needs) (λ c. search needs) loop-again returns)

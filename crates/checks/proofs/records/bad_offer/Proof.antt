@@ -7,24 +7,6 @@ use Rattle.checks.proofs.records.bad_offer.Reads as reads
 use Rattle.checks.proofs.records.bad_offer.Lts as lts
 use Rattle.blocks.proofs.codes.is_code.Reads as is-code-reads
 
-mul-at : tie.Need-mul-at
-mul-at c = search needs
-
-mul-result : tie.Need-mul-result
-mul-result c = search needs
-
-shared-slice-read-result : tie.Need-shared-slice-read-result
-shared-slice-read-result c = search needs
-
-mul-result-2 : tie.Need-mul-result-2
-mul-result-2 c = search needs
-
-shared-slice-read-result-2 : tie.Need-shared-slice-read-result-2
-shared-slice-read-result-2 c = search needs
-
-is-code-requires : tie.Need-is-code-requires
-is-code-requires c κs = search needs
-
 returns : tie.Need-returns
 returns c = λ j e. offer-tests j _ _ _ e (c .is-code .ensures)
 
@@ -32,10 +14,10 @@ pub bad-offer-spec : {M : Type 1} → statement M
 bad-offer-spec =
     tie.close
     (tie.spec
-    mul-at
-    mul-result
-    shared-slice-read-result
-    mul-result-2
-    shared-slice-read-result-2
-    is-code-requires
+    (λ c. search needs)
+    (λ c. search needs)
+    (λ c. search needs)
+    (λ c. search needs)
+    (λ c. search needs)
+    (λ c κs. search needs)
     returns)

@@ -25,15 +25,6 @@ loop-holds : tie.Need-loop-holds Inv-loop μ-loop
 unfolding any
 loop-holds c = (omega arith, λ j e. refl)
 
-bad-offer-requires : tie.Need-bad-offer-requires Inv-loop μ-loop
-bad-offer-requires c κs = search needs
-
-add-i : tie.Need-add-i Inv-loop μ-loop
-add-i c = search needs
-
-loop-less : tie.Need-loop-less Inv-loop μ-loop
-loop-less c = search needs
-
 loop-again : tie.Need-loop-again Inv-loop μ-loop
 loop-again c =
     let l = c .before .before in
@@ -48,4 +39,4 @@ returns c =
 pub bad-offers-spec : {M : Type 1} → statement M
 bad-offers-spec =
     tie.close
-    (tie.spec Inv-loop μ-loop loop-holds bad-offer-requires add-i loop-less loop-again returns)
+    (tie.spec Inv-loop μ-loop loop-holds (λ c κs. search needs) (λ c. search needs) (λ c. search needs) loop-again returns)

@@ -13,24 +13,6 @@ use Rattle.checks.proofs.records.bad_owners.Reads as bad-owners-reads
 use Rattle.checks.proofs.records.bad_tallies.Reads as bad-tallies-reads
 use Rattle.checks.proofs.sizes.size_of.Reads as size-of-reads
 
-size-of-requires : tie.Need-size-of-requires
-size-of-requires c κs = search needs
-
-size-of-requires-2 : tie.Need-size-of-requires-2
-size-of-requires-2 c κs = search needs
-
-size-of-requires-3 : tie.Need-size-of-requires-3
-size-of-requires-3 c κs = search needs
-
-bad-offers-requires : tie.Need-bad-offers-requires
-bad-offers-requires c κs = search needs
-
-bad-owners-requires : tie.Need-bad-owners-requires
-bad-owners-requires c κs = search needs
-
-bad-tallies-requires : tie.Need-bad-tallies-requires
-bad-tallies-requires c κs = search needs
-
 returns : tie.Need-returns
 unfolding fileJobOf
 returns c =
@@ -47,10 +29,10 @@ pub bad-records-spec : {M : Type 1} → statement M
 bad-records-spec =
     tie.close
     (tie.spec
-    size-of-requires
-    size-of-requires-2
-    size-of-requires-3
-    bad-offers-requires
-    bad-owners-requires
-    bad-tallies-requires
+    (λ c κs. search needs)
+    (λ c κs. search needs)
+    (λ c κs. search needs)
+    (λ c κs. search needs)
+    (λ c κs. search needs)
+    (λ c κs. search needs)
     returns)

@@ -16,33 +16,6 @@ use Rattle.checks.proofs.records.bad_tally.Lts as lts
 use Rattle.blocks.proofs.codes.is_code.Reads as is-code-reads
 use Rattle.checks.proofs.records.bad_count.Reads as bad-count-reads
 
-mul-at : tie.Need-mul-at
-mul-at c = search needs
-
-mul-result : tie.Need-mul-result
-mul-result c = search needs
-
-shared-slice-read-result : tie.Need-shared-slice-read-result
-shared-slice-read-result c = search needs
-
-mul-result-2 : tie.Need-mul-result-2
-mul-result-2 c = search needs
-
-shared-slice-read-result-2 : tie.Need-shared-slice-read-result-2
-shared-slice-read-result-2 c = search needs
-
-is-code-requires : tie.Need-is-code-requires
-is-code-requires c κs = search needs
-
-mul-bad-count : tie.Need-mul-bad-count
-mul-bad-count c = search needs
-
-shared-slice-copy-out-bad-count : tie.Need-shared-slice-copy-out-bad-count
-shared-slice-copy-out-bad-count c = search needs
-
-bad-count-requires : tie.Need-bad-count-requires
-bad-count-requires c κs = search needs
-
 returns : tie.Need-returns
 returns c =
     let s = c .before .before .before .before .before .before .before .before in
@@ -53,13 +26,13 @@ pub bad-tally-spec : {M : Type 1} → statement M
 bad-tally-spec =
     tie.close
     (tie.spec
-    mul-at
-    mul-result
-    shared-slice-read-result
-    mul-result-2
-    shared-slice-read-result-2
-    is-code-requires
-    mul-bad-count
-    shared-slice-copy-out-bad-count
-    bad-count-requires
+    (λ c. search needs)
+    (λ c. search needs)
+    (λ c. search needs)
+    (λ c. search needs)
+    (λ c. search needs)
+    (λ c κs. search needs)
+    (λ c. search needs)
+    (λ c. search needs)
+    (λ c κs. search needs)
     returns)

@@ -33,23 +33,11 @@ sizes-fine c = sym (c .before .bad-sizes .ensures (tables (first (c .before)))) 
 records-fine : (c : tie.Else2) → badRecords (job (first (c .before .before .before))) ≡ false
 records-fine c = sym (c .before .bad-records .ensures) ∙ c .if2 .left
 
-bad-sizes-requires : tie.Need-bad-sizes-requires
-bad-sizes-requires c κs = search needs
-
 returns : tie.Need-returns
 returns c = let s = first (c .before) in sym (job-4 (job s) (sym (c .before .bad-sizes .ensures (tables s)) ∙ c .if1 .taken))
 
-bad-records-requires : tie.Need-bad-records-requires
-bad-records-requires c κs = search needs
-
 returns-2 : tie.Need-returns-2
 returns-2 c = let s = first (c .before .before .before) in sym (job-6 (job s) (sizes-fine (c .before .before)) (sym (c .before .bad-records .ensures) ∙ c .if2 .taken))
-
-size-of-requires : tie.Need-size-of-requires
-size-of-requires c κs = search needs
-
-size-of-requires-2 : tie.Need-size-of-requires-2
-size-of-requires-2 c κs = search needs
 
 codes-refusal-requires : tie.Need-codes-refusal-requires
 unfolding fileJobOf
@@ -77,11 +65,11 @@ pub job-refusal-spec : {M : Type 1} → statement M
 job-refusal-spec =
     tie.close
     (tie.spec
-    bad-sizes-requires
+    (λ c κs. search needs)
     returns
-    bad-records-requires
+    (λ c κs. search needs)
     returns-2
-    size-of-requires
-    size-of-requires-2
+    (λ c κs. search needs)
+    (λ c κs. search needs)
     codes-refusal-requires
     returns-3)

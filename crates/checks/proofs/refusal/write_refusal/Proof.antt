@@ -6,9 +6,6 @@ use Rattle.checks.proofs.Joining.{long-enough}
 use Rattle.checks.proofs.refusal.write_refusal.Statement.{statement}
 use Rattle.checks.proofs.refusal.write_refusal.Tie as tie
 
-short-writer-requires : tie.Need-short-writer-requires
-short-writer-requires c κs = search needs
-
 returns : tie.Need-returns
 returns c = sym (writer-20 _ _ _ _ _ _ (sym (c .before .short-writer .ensures) ∙ c .if1 .taken))
 
@@ -20,4 +17,4 @@ returns-2 c = c .job-refusal .ensures ∙ sym (writer-job _ _ _ _ _ _ (sym (c .b
 
 pub write-refusal-spec : {M : Type 1} → statement M
 write-refusal-spec =
-    tie.close (tie.spec short-writer-requires returns job-refusal-requires returns-2)
+    tie.close (tie.spec (λ c κs. search needs) returns job-refusal-requires returns-2)

@@ -5,21 +5,6 @@ use Rattle.format.specs.Tables.{fileJobOf}
 use Rattle.checks.proofs.sizes.bad_sizes.Statement.{statement}
 use Rattle.checks.proofs.sizes.bad_sizes.Tie as tie
 
-size-of-requires : tie.Need-size-of-requires
-size-of-requires c κs = search needs
-
-size-of-requires-2 : tie.Need-size-of-requires-2
-size-of-requires-2 c κs = search needs
-
-size-of-requires-3 : tie.Need-size-of-requires-3
-size-of-requires-3 c κs = search needs
-
-size-of-requires-4 : tie.Need-size-of-requires-4
-size-of-requires-4 c κs = search needs
-
-bad-sizes-requires : tie.Need-bad-sizes-requires
-bad-sizes-requires c κs = search needs
-
 returns : tie.Need-returns
 unfolding fileJobOf
 returns c = λ l.
@@ -28,4 +13,4 @@ returns c = λ l.
     (sym (c .before .before .before .before .size-of .ensures .0)) (sym (c .before .before .before .size-of2 .ensures .0)) (sym (c .before .before .size-of3 .ensures .0)) (sym (c .before .size-of4 .ensures .0))
 
 pub bad-sizes-spec : {M : Type 1} → statement M
-bad-sizes-spec = tie.close (tie.spec size-of-requires size-of-requires-2 size-of-requires-3 size-of-requires-4 bad-sizes-requires returns)
+bad-sizes-spec = tie.close (tie.spec (λ c κs. search needs) (λ c κs. search needs) (λ c κs. search needs) (λ c κs. search needs) (λ c κs. search needs) returns)

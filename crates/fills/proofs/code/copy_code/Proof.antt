@@ -19,24 +19,6 @@ abbrev μ-loop : tie.MeasureT-loop
 loop-holds : tie.Need-loop-holds Inv-loop μ-loop
 loop-holds c = (omega arith, refl, copied-none _ _ _)
 
-add-code : tie.Need-add-code Inv-loop μ-loop
-add-code c = search needs
-
-shared-slice-read-code : tie.Need-shared-slice-read-code Inv-loop μ-loop
-shared-slice-read-code c = search needs
-
-add-code-2 : tie.Need-add-code-2 Inv-loop μ-loop
-add-code-2 c = search needs
-
-slice-write-code : tie.Need-slice-write-code Inv-loop μ-loop
-slice-write-code c = search needs
-
-add-k : tie.Need-add-k Inv-loop μ-loop
-add-k c = search needs
-
-loop-less : tie.Need-loop-less Inv-loop μ-loop
-loop-less c = search needs
-
 loop-again : tie.Need-loop-again Inv-loop μ-loop
 loop-again c =
     let l = c .before .before in
@@ -58,12 +40,12 @@ copy-code-spec =
     Inv-loop
     μ-loop
     loop-holds
-    add-code
-    shared-slice-read-code
-    add-code-2
-    slice-write-code
-    add-k
-    loop-less
+    (λ c. search needs)
+    (λ c. search needs)
+    (λ c. search needs)
+    (λ c. search needs)
+    (λ c. search needs)
+    (λ c. search needs)
     loop-again
     same-length
     returns)

@@ -18,30 +18,12 @@ Inv-loop f at n value₀ i₀ value i =
 abbrev μ-loop : tie.MeasureT-loop
 μ-loop f at n value₀ i₀ value i = n - i
 
-shared-slice-read-size : tie.Need-shared-slice-read-size Inv-loop μ-loop
-shared-slice-read-size c = search needs
-
-size-requires : tie.Need-size-requires Inv-loop μ-loop
-size-requires c κs = search needs
-
 loop-holds : tie.Need-loop-holds Inv-loop μ-loop
 loop-holds c =
     let s = c .before .before .before in
     let g = from (s .args .f .now) (s .args .at) in
     let e : c .size .result ≡ g 0 = c .size .ensures .0 ∙ ap (λ (p : ℕ). getD (s .args .f .now) p 0) (omega arith) in
     (omega arith, omega (arith, code-is (readCode g) (s .pre .1) .few), e, part-none _, omega arith)
-
-mul-value : tie.Need-mul-value Inv-loop μ-loop
-mul-value c = search needs
-
-add-digit : tie.Need-add-digit Inv-loop μ-loop
-add-digit c = search needs
-
-add-digit-2 : tie.Need-add-digit-2 Inv-loop μ-loop
-add-digit-2 c = search needs
-
-shared-slice-read-digit : tie.Need-shared-slice-read-digit Inv-loop μ-loop
-shared-slice-read-digit c = search needs
 
 digit-requires : tie.Need-digit-requires Inv-loop μ-loop
 digit-requires c κs =
@@ -50,15 +32,6 @@ digit-requires c κs =
     let g = from (s .args .f .now) (s .args .at) in
     let e : s .args .at + (1 + l .loop .i) ≡ s .args .at + 1 + l .loop .i = omega arith in
     rw e at (code-is (readCode g) (s .pre .1) .digits (l .loop .i) (omega arith))
-
-add-value : tie.Need-add-value Inv-loop μ-loop
-add-value c = search needs
-
-add-i : tie.Need-add-i Inv-loop μ-loop
-add-i c = search needs
-
-loop-less : tie.Need-loop-less Inv-loop μ-loop
-loop-less c = search needs
 
 loop-again : tie.Need-loop-again Inv-loop μ-loop
 loop-again c =
@@ -82,16 +55,16 @@ number-at-spec =
     (tie.spec
     Inv-loop
     μ-loop
-    shared-slice-read-size
-    size-requires
+    (λ c. search needs)
+    (λ c κs. search needs)
     loop-holds
-    mul-value
-    add-digit
-    add-digit-2
-    shared-slice-read-digit
+    (λ c. search needs)
+    (λ c. search needs)
+    (λ c. search needs)
+    (λ c. search needs)
     digit-requires
-    add-value
-    add-i
-    loop-less
+    (λ c. search needs)
+    (λ c. search needs)
+    (λ c. search needs)
     loop-again
     returns)

@@ -19,24 +19,6 @@ abbrev μ-loop : tie.MeasureT-loop
 loop-holds : tie.Need-loop-holds Inv-loop μ-loop
 loop-holds c = (omega arith, refl, codes-none _ _)
 
-record-at-requires : tie.Need-record-at-requires Inv-loop μ-loop
-record-at-requires c κs = search needs
-
-add-copy-code : tie.Need-add-copy-code Inv-loop μ-loop
-add-copy-code c = search needs
-
-mul-copy-code : tie.Need-mul-copy-code Inv-loop μ-loop
-mul-copy-code c = search needs
-
-copy-code-requires : tie.Need-copy-code-requires Inv-loop μ-loop
-copy-code-requires c κs = search needs
-
-add-i : tie.Need-add-i Inv-loop μ-loop
-add-i c = search needs
-
-loop-less : tie.Need-loop-less Inv-loop μ-loop
-loop-less c = search needs
-
 loop-again : tie.Need-loop-again Inv-loop μ-loop
 loop-again c =
     let w = c .before .before in
@@ -59,12 +41,12 @@ fill-codes-spec =
     Inv-loop
     μ-loop
     loop-holds
-    record-at-requires
-    add-copy-code
-    mul-copy-code
-    copy-code-requires
-    add-i
-    loop-less
+    (λ c κs. search needs)
+    (λ c. search needs)
+    (λ c. search needs)
+    (λ c κs. search needs)
+    (λ c. search needs)
+    (λ c. search needs)
     loop-again
     same-length
     returns)

@@ -20,24 +20,6 @@ abbrev μ-loop : tie.MeasureT-loop
 loop-holds : tie.Need-loop-holds Inv-loop μ-loop
 loop-holds c = (omega arith, refl, fill-none _ _)
 
-record-at-requires : tie.Need-record-at-requires Inv-loop μ-loop
-record-at-requires c κs = search needs
-
-word32-requires : tie.Need-word32-requires Inv-loop μ-loop
-word32-requires c κs = search needs
-
-mul-price : tie.Need-mul-price Inv-loop μ-loop
-mul-price c = search needs
-
-slice-write-price : tie.Need-slice-write-price Inv-loop μ-loop
-slice-write-price c = search needs
-
-add-i : tie.Need-add-i Inv-loop μ-loop
-add-i c = search needs
-
-loop-less : tie.Need-loop-less Inv-loop μ-loop
-loop-less c = search needs
-
 loop-again : tie.Need-loop-again Inv-loop μ-loop
 loop-again c =
     let l = c .before .before .before in
@@ -58,12 +40,12 @@ fill-prices-spec =
     Inv-loop
     μ-loop
     loop-holds
-    record-at-requires
-    word32-requires
-    mul-price
-    slice-write-price
-    add-i
-    loop-less
+    (λ c κs. search needs)
+    (λ c κs. search needs)
+    (λ c. search needs)
+    (λ c. search needs)
+    (λ c. search needs)
+    (λ c. search needs)
     loop-again
     same-length
     returns)

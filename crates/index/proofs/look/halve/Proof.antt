@@ -22,12 +22,6 @@ loop-holds c =
 nearer-requires : tie.Need-nearer-requires Inv-loop μ-loop
 nearer-requires c κs = omega (arith, c .before .loop .inv .1 .inside, c .before .loop .inv .0, c .loop-test .taken, c .before .before .before .pre .1)
 
-sub-len : tie.Need-sub-len Inv-loop μ-loop
-sub-len c = search needs
-
-loop-less : tie.Need-loop-less Inv-loop μ-loop
-loop-less c = search needs
-
 loop-again : tie.Need-loop-again Inv-loop μ-loop
 loop-again c = bracket-half (c .nearer .result) (c .before .before .loop .inv .1) (omega (arith, c .before .loop-test .taken)) (c .nearer .ensures)
 
@@ -37,4 +31,4 @@ returns c = bracket-end (c .before .loop .inv .1) (c .before .loop .inv .0) (ome
 pub halve-spec : {M : Type 1} → statement M
 halve-spec =
     tie.close
-    (tie.spec Inv-loop μ-loop loop-holds nearer-requires sub-len loop-less loop-again returns)
+    (tie.spec Inv-loop μ-loop loop-holds nearer-requires (λ c. search needs) (λ c. search needs) loop-again returns)

@@ -22,18 +22,6 @@ test c =
 small : (c : tie.After-over) → c .over .result ≤ 1
 small c = flag-le (c .over .result) (test c) (c .over .ensures)
 
-add-far : tie.Need-add-far
-add-far c = search needs
-
-mul-over : tie.Need-mul-over
-mul-over c = search needs
-
-shared-slice-read-over : tie.Need-shared-slice-read-over
-shared-slice-read-over c = search needs
-
-over-requires : tie.Need-over-requires
-over-requires c κs = search needs
-
 mul-shift : tie.Need-mul-shift
 mul-shift c = record { fits = omega (arith, small c) }
 
@@ -52,10 +40,10 @@ pub nearer-spec : {M : Type 1} → statement M
 nearer-spec =
     tie.close
     (tie.spec
-    add-far
-    mul-over
-    shared-slice-read-over
-    over-requires
+    (λ c. search needs)
+    (λ c. search needs)
+    (λ c. search needs)
+    (λ c κs. search needs)
     mul-shift
     shr-result
     add-result

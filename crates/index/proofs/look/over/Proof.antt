@@ -4,11 +4,8 @@ use borrow.Author.Needs.{needs}
 use Rattle.index.proofs.look.over.Statement.{statement}
 use Rattle.index.proofs.look.over.Tie as tie
 
-cast-result : tie.Need-cast-result
-cast-result c = search needs
-
 returns : tie.Need-returns
 returns c = flag-is (c .args .key) (c .args .number)
 
 pub over-spec : {M : Type 1} → statement M
-over-spec = tie.close (tie.spec cast-result returns)
+over-spec = tie.close (tie.spec (λ c. search needs) returns)

@@ -14,24 +14,6 @@ returns c =
     let z : s .args .n ≡ 0 = c .if1 .taken in
     sym z ∙ missing x (s .args .number) d (λ i l e. omega arith)
 
-halve-requires : tie.Need-halve-requires
-halve-requires c κs = search needs
-
-mul-if2 : tie.Need-mul-if2
-mul-if2 c = search needs
-
-shared-slice-read-if2 : tie.Need-shared-slice-read-if2
-shared-slice-read-if2 c = search needs
-
-mul-index-of : tie.Need-mul-index-of
-mul-index-of c = search needs
-
-shared-slice-read-index-of : tie.Need-shared-slice-read-index-of
-shared-slice-read-index-of c = search needs
-
-index-of-requires : tie.Need-index-of-requires
-index-of-requires c κs = search needs
-
 returns-2 : tie.Need-returns-2
 returns-2 c =
     λ numbers x d.
@@ -51,11 +33,11 @@ place-spec =
     tie.close
     (tie.spec
     returns
-    halve-requires
-    mul-if2
-    shared-slice-read-if2
-    mul-index-of
-    shared-slice-read-index-of
-    index-of-requires
+    (λ c κs. search needs)
+    (λ c. search needs)
+    (λ c. search needs)
+    (λ c. search needs)
+    (λ c. search needs)
+    (λ c κs. search needs)
     returns-2
     returns-3)

@@ -59,9 +59,6 @@ grocer-places c =
     places-in (s .args .boxes) (s .args .grocers) (at (now (s .args .gowner))) (now (s .args .tgrocer)) (now (s .args .tbox)) (s .args .tallies) (s .args .b) (grocers c) (now (s .args .lgrocers)) (c .list2 .result)
     (grocer-owners f (bookLengths (lent s)) (s .args .b) (accepted e) .n-in) (long f (bookLengths (lent s)) (s .args .b) (accepted e) .localGrocers) (c .list2 .kept .1 .1 .1 .1 .1 .1 .1 .0) (c .list2 .ensures .1) (c .list2 .ensures .0)
 
-refusal-requires : tie.Need-refusal-requires
-refusal-requires c κs = search needs
-
 returns : tie.Need-returns
 returns c = let s = c .before .before .before .before .before .before .before .before .before .before .before .before in booked-refused (job s) (s .args .b) (lent s) (c .before .refusal .result) (c .before .refusal .ensures) (c .if1 .taken)
 
@@ -123,7 +120,7 @@ pub book-spec : {M : Type 1} → statement M
 book-spec =
     tie.close
     (tie.spec
-    refusal-requires
+    (λ c κs. search needs)
     returns
     list-requires
     list-requires-2

@@ -6,12 +6,9 @@ use Rattle.model.specs.Local.{bookShort}
 use Rattle.local.proofs.book.book_short.Statement.{statement}
 use Rattle.local.proofs.book.book_short.Tie as tie
 
-add-result : tie.Need-add-result
-add-result c = search needs
-
 returns : tie.Need-returns
 unfolding bookShort jobOf
 returns c = rw (add-one (c .args .offers))
 
 pub book-short-spec : {M : Type 1} → statement M
-book-short-spec = tie.close (tie.spec add-result returns)
+book-short-spec = tie.close (tie.spec (λ c. search needs) returns)

@@ -19,12 +19,6 @@ lent s = lengths (s .args .lo) (s .args .lg) (s .args .ls) (s .args .pg) (s .arg
 abbrev entry : tie.After-book-short → tie.Start
 entry c = c .before .before .before .before .before .before .before .before
 
-job-short-requires : tie.Need-job-short-requires
-job-short-requires c κs = search needs
-
-book-short-requires : tie.Need-book-short-requires
-book-short-requires c κs = search needs
-
 returns : tie.Need-returns
 returns c =
     let d = c .before in
@@ -57,8 +51,8 @@ pub refusal-spec : {M : Type 1} → statement M
 refusal-spec =
     tie.close
     (tie.spec
-    job-short-requires
-    book-short-requires
+    (λ c κs. search needs)
+    (λ c κs. search needs)
     returns
     job-in-range-requires
     returns-2

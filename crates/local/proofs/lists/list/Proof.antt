@@ -19,36 +19,12 @@ entry c = c .before .before .before .before .before .before .before .before
 m-is : (c : tie.After-index-of) → c .index-of .result + 1 ≡ entry c .args .k + 1
 m-is c = ap (λ (i : ℕ). i + 1) (c .index-of .ensures)
 
-marks-of-requires : tie.Need-marks-of-requires
-marks-of-requires c κs = search needs
-
-classes-requires : tie.Need-classes-requires
-classes-requires c κs = search needs
-
-index-of-requires : tie.Need-index-of-requires
-index-of-requires c κs = search needs
-
-add-m : tie.Need-add-m
-add-m c = search needs
-
-slice-aggregate-sort : tie.Need-slice-aggregate-sort
-slice-aggregate-sort c = search needs
-
-slice-aggregate-sort-2 : tie.Need-slice-aggregate-sort-2
-slice-aggregate-sort-2 c = search needs
-
 sort-requires : tie.Need-sort-requires
 sort-requires c κs =
     let i = c .before .before .before in
     let s = entry i in
     keys-ready (s .args .k) (s .args .n) (s .args .b) (now (s .args .owners)) (now (s .args .items)) (now (s .args .boxes)) (s .args .tallies) (i .before .before .before .marks-of .result) (i .before .classes .result) (s .pre .0 .0)
     (i .before .before .before .marks-of .ensures) (i .before .classes .ensures) (i .index-of .result + 1) (replicate 18 0) (now (s .args .out)) (m-is i) (omega (arith, m-is i, s .pre .0 .0 .k-in)) (s .pre .1)
-
-mul-result : tie.Need-mul-result
-mul-result c = search needs
-
-array-read-result : tie.Need-array-read-result
-array-read-result c = search needs
 
 same-length : tie.Need-same-length
 same-length c = c .before .before .before .sort .kept .1 .1 .1 .1 .0
@@ -71,14 +47,14 @@ pub list-spec : {M : Type 1} → statement M
 list-spec =
     tie.close
     (tie.spec
-    marks-of-requires
-    classes-requires
-    index-of-requires
-    add-m
-    slice-aggregate-sort
-    slice-aggregate-sort-2
+    (λ c κs. search needs)
+    (λ c κs. search needs)
+    (λ c κs. search needs)
+    (λ c. search needs)
+    (λ c. search needs)
+    (λ c. search needs)
     sort-requires
-    mul-result
-    array-read-result
+    (λ c. search needs)
+    (λ c. search needs)
     same-length
     returns)

@@ -33,41 +33,17 @@ item-in c = entry c .pre .item-in (c .before .loop .t) (c .loop-test .taken)
 loop-holds : tie.Need-loop-holds Inv-loop μ-loop
 loop-holds c = let s = c .before .before in (search needs, refl, λ x l. getD-replicate 500 x 0 0 l ∙ sym (mark-none (now (s .args .items)) (now (s .args .boxes)) (s .args .b) x))
 
-mul-index-of : tie.Need-mul-index-of Inv-loop μ-loop
-mul-index-of c = search needs
-
-shared-slice-read-index-of : tie.Need-shared-slice-read-index-of Inv-loop μ-loop
-shared-slice-read-index-of c = search needs
-
-index-of-requires : tie.Need-index-of-requires Inv-loop μ-loop
-index-of-requires c κs = search needs
-
-mul-if-same : tie.Need-mul-if-same Inv-loop μ-loop
-mul-if-same c = search needs
-
-shared-slice-read-if-same : tie.Need-shared-slice-read-if-same Inv-loop μ-loop
-shared-slice-read-if-same c = search needs
-
 mul-if-same-2 : tie.Need-mul-if-same-2 Inv-loop μ-loop
 mul-if-same-2 c = omega (arith, c .before .index-of .ensures, item-in (c .before .before .before))
 
 array-read-if-same : tie.Need-array-read-if-same Inv-loop μ-loop
 array-read-if-same c = omega (arith, c .before .index-of .ensures, item-in (c .before .before .before))
 
-if-same-requires : tie.Need-if-same-requires Inv-loop μ-loop
-if-same-requires c κs = search needs
-
 mul-marks : tie.Need-mul-marks Inv-loop μ-loop
 mul-marks c = omega (arith, c .before .before .index-of .ensures, item-in (c .before .before .before .before))
 
 array-write-marks : tie.Need-array-write-marks Inv-loop μ-loop
 array-write-marks c = omega (arith, c .before .before .index-of .ensures, item-in (c .before .before .before .before))
-
-add-t : tie.Need-add-t Inv-loop μ-loop
-add-t c = search needs
-
-loop-less : tie.Need-loop-less Inv-loop μ-loop
-loop-less c = search needs
 
 loop-again : tie.Need-loop-again Inv-loop μ-loop
 loop-again c =
@@ -97,17 +73,17 @@ marks-of-spec =
     Inv-loop
     μ-loop
     loop-holds
-    mul-index-of
-    shared-slice-read-index-of
-    index-of-requires
-    mul-if-same
-    shared-slice-read-if-same
+    (λ c. search needs)
+    (λ c. search needs)
+    (λ c κs. search needs)
+    (λ c. search needs)
+    (λ c. search needs)
     mul-if-same-2
     array-read-if-same
-    if-same-requires
+    (λ c κs. search needs)
     mul-marks
     array-write-marks
-    add-t
-    loop-less
+    (λ c. search needs)
+    (λ c. search needs)
     loop-again
     returns)

@@ -38,29 +38,11 @@ in-order c =
     order-in (now (s .args .tbox)) (now (s .args .toffer)) (s .args .tallies) (now (s .args .loffers)) (s .args .l) (s .args .b) (replicate 1_000 0) (order c) (c .index-of .result) (ordered c .order-tallies .ensures .1 .1) (total-is c)
     (s .pre .0 .0 .tallies-in) (omega (arith, s .pre .0 .0 .tallies-in, ordered c .order-tallies .kept .1 .1 .1 .1 .1 .1 .1 .0))
 
-slice-aggregate-order-tallies : tie.Need-slice-aggregate-order-tallies
-slice-aggregate-order-tallies c = search needs
-
-order-tallies-requires : tie.Need-order-tallies-requires
-order-tallies-requires c κs = search needs
-
-numbers-requires : tie.Need-numbers-requires
-numbers-requires c κs = search needs
-
-index-of-requires : tie.Need-index-of-requires
-index-of-requires c κs = search needs
-
-slice-aggregate-put-grocers : tie.Need-slice-aggregate-put-grocers
-slice-aggregate-put-grocers c = search needs
-
 put-grocers-requires : tie.Need-put-grocers-requires
 put-grocers-requires c κs =
     let i = c .before .before .before in
     let s = entry i in
     (in-order i, ((s .pre .0 .1 .items-long, omega (arith, total-in i, s .pre .1 .1 .1 .1 .0)), s .pre .0 .1 .item-in))
-
-slice-aggregate-put-counts : tie.Need-slice-aggregate-put-counts
-slice-aggregate-put-counts c = search needs
 
 put-counts-requires : tie.Need-put-counts-requires
 put-counts-requires c κs =
@@ -104,13 +86,13 @@ pub pack-spec : {M : Type 1} → statement M
 pack-spec =
     tie.close
     (tie.spec
-    slice-aggregate-order-tallies
-    order-tallies-requires
-    numbers-requires
-    index-of-requires
-    slice-aggregate-put-grocers
+    (λ c. search needs)
+    (λ c κs. search needs)
+    (λ c κs. search needs)
+    (λ c κs. search needs)
+    (λ c. search needs)
     put-grocers-requires
-    slice-aggregate-put-counts
+    (λ c. search needs)
     put-counts-requires
     same-length
     same-length-2

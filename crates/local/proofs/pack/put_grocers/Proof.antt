@@ -40,23 +40,11 @@ long c = let s = c .before .before .before .before in ap length (c .loop .inv .1
 loop-holds : tie.Need-loop-holds Inv-loop μ-loop
 loop-holds c = let s = c .before .before .before in (omega arith, sym (overwrite-none 0 (word s) (now (s .args .out))))
 
-mul-index-of : tie.Need-mul-index-of Inv-loop μ-loop
-mul-index-of c = search needs
-
-shared-slice-read-index-of : tie.Need-shared-slice-read-index-of Inv-loop μ-loop
-shared-slice-read-index-of c = search needs
-
-index-of-requires : tie.Need-index-of-requires Inv-loop μ-loop
-index-of-requires c κs = tt
-
 mul-index-of-2 : tie.Need-mul-index-of-2 Inv-loop μ-loop
 mul-index-of-2 c = let s = entry (c .before .before) in omega (arith, tally-in c, s .pre .0, s .good)
 
 shared-slice-read-index-of-2 : tie.Need-shared-slice-read-index-of-2 Inv-loop μ-loop
 shared-slice-read-index-of-2 c = omega (arith, tally-in (c .before), entry (c .before .before .before) .pre .1 .0 .0)
-
-index-of-requires-2 : tie.Need-index-of-requires-2 Inv-loop μ-loop
-index-of-requires-2 c κs = tt
 
 mul-out : tie.Need-mul-out Inv-loop μ-loop
 mul-out c = omega (arith, grocer-in c)
@@ -64,17 +52,8 @@ mul-out c = omega (arith, grocer-in c)
 element-copy-out-out : tie.Need-element-copy-out-out Inv-loop μ-loop
 element-copy-out-out c = grocer-in c
 
-mul-out-2 : tie.Need-mul-out-2 Inv-loop μ-loop
-mul-out-2 c = search needs
-
 slice-write-out : tie.Need-slice-write-out Inv-loop μ-loop
 slice-write-out c = let e = c .before .before .before .before .before in omega (arith, long (e .before), e .loop-test .taken, entry e .pre .1 .0 .1)
-
-add-i : tie.Need-add-i Inv-loop μ-loop
-add-i c = search needs
-
-loop-less : tie.Need-loop-less Inv-loop μ-loop
-loop-less c = search needs
 
 loop-again : tie.Need-loop-again Inv-loop μ-loop
 unfolding packedGrocer
@@ -104,18 +83,18 @@ put-grocers-spec =
     Inv-loop
     μ-loop
     loop-holds
-    mul-index-of
-    shared-slice-read-index-of
-    index-of-requires
+    (λ c. search needs)
+    (λ c. search needs)
+    (λ c κs. tt)
     mul-index-of-2
     shared-slice-read-index-of-2
-    index-of-requires-2
+    (λ c κs. tt)
     mul-out
     element-copy-out-out
-    mul-out-2
+    (λ c. search needs)
     slice-write-out
-    add-i
-    loop-less
+    (λ c. search needs)
+    (λ c. search needs)
     loop-again
     same-length
     returns)

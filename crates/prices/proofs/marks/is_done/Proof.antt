@@ -17,9 +17,6 @@ use Rattle.prices.proofs.marks.is_done.Tie as tie
 inside : (s : tie.Start) → stepPlace (s .args .k) (s .args .kind) (s .args .a) (s .args .b) < 6 * s .args .k * s .args .k
 inside s = let p = s .pre in place-in (s .args .k) (s .args .kind) (s .args .a) (s .args .b) (omega (arith, p .kind-to)) (p .a-in) (p .b-in)
 
-place-requires : tie.Need-place-requires
-place-requires c κs = search needs
-
 mul-result : tie.Need-mul-result
 mul-result c = let s = c .before .before in omega (arith, c .place .ensures, inside s, marks-few (s .args .k) (s .pre .boxes-in))
 
@@ -36,4 +33,4 @@ returns c =
     ∙ ap (λ (n : ℕ). eqb (getD marks (stepPlace (s .args .k) n (s .args .a) (s .args .b)) 0) 1) (number-kind (s .args .kind) (p .kind-from) (p .kind-to)))
 
 pub is-done-spec : {M : Type 1} → statement M
-is-done-spec = tie.close (tie.spec place-requires mul-result shared-slice-read-result returns)
+is-done-spec = tie.close (tie.spec (λ c κs. search needs) mul-result shared-slice-read-result returns)

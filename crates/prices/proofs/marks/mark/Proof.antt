@@ -16,17 +16,11 @@ use Rattle.prices.proofs.marks.mark.Tie as tie
 inside : (s : tie.Start) → stepPlace (s .args .k) (s .args .kind) (s .args .a) (s .args .b) < 6 * s .args .k * s .args .k
 inside s = let p = s .pre .0 in place-in (s .args .k) (s .args .kind) (s .args .a) (s .args .b) (omega (arith, p .kind-to)) (p .a-in) (p .b-in)
 
-place-requires : tie.Need-place-requires
-place-requires c κs = search needs
-
 mul-done : tie.Need-mul-done
 mul-done c = let s = c .before .before in omega (arith, c .place .ensures, inside s, marks-few (s .args .k) (s .pre .0 .boxes-in))
 
 slice-write-done : tie.Need-slice-write-done
 slice-write-done c = let s = c .before .before in omega (arith, c .place .ensures, inside s, s .pre .0 .done-long)
-
-same-length : tie.Need-same-length
-same-length c = search needs
 
 returns : tie.Need-returns
 returns c =
@@ -40,4 +34,4 @@ returns c =
     (here ∙ sym same ∙ sym (marks-set (s .args .k) q (s .args .a) (s .args .b) old (p .a-in) (p .b-in) (p .done-long) (s .pre .1)), here)
 
 pub mark-spec : {M : Type 1} → statement M
-mark-spec = tie.close (tie.spec place-requires mul-done slice-write-done same-length returns)
+mark-spec = tie.close (tie.spec (λ c κs. search needs) mul-done slice-write-done (λ c. search needs) returns)

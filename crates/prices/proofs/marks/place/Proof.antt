@@ -19,9 +19,6 @@ small c =
 row-small : (c : tie.Start) → (c .args .kind - 1) * c .args .k + c .args .a < 96
 row-small c = omega (arith, row-in (c .args .k) (c .args .kind) (c .args .a) (omega arith) (c .pre .1 .1 .1 .0), c .pre .1 .1 .0)
 
-sub-result : tie.Need-sub-result
-sub-result c = search needs
-
 mul-result : tie.Need-mul-result
 mul-result c = omega (arith, row-small c)
 
@@ -34,9 +31,6 @@ mul-result-2 c = omega (arith, small c)
 add-result-2 : tie.Need-add-result-2
 add-result-2 c = omega (arith, small c)
 
-returns : tie.Need-returns
-returns c = search needs
-
 pub place-spec : {M : Type 1} → statement M
 place-spec =
-    tie.close (tie.spec sub-result mul-result add-result mul-result-2 add-result-2 returns)
+    tie.close (tie.spec (λ c. search needs) mul-result add-result mul-result-2 add-result-2 (λ c. search needs))

@@ -14,42 +14,6 @@ use Rattle.prices.proofs.send.send_one.Tie as tie
 abbrev due : tie.Start → Bool
 due s = wordIn (now (s .args .owner)) (now (s .args .needs)) (s .args .a) (s .args .b) (s .args .o)
 
-mul-in-message : tie.Need-mul-in-message
-mul-in-message c = search needs
-
-shared-slice-read-in-message : tie.Need-shared-slice-read-in-message
-shared-slice-read-in-message c = search needs
-
-mul-in-message-2 : tie.Need-mul-in-message-2
-mul-in-message-2 c = search needs
-
-element-copy-out-in-message : tie.Need-element-copy-out-in-message
-element-copy-out-in-message c = search needs
-
-in-message-requires : tie.Need-in-message-requires
-in-message-requires c κs = search needs
-
-add-transit : tie.Need-add-transit
-add-transit c = search needs
-
-mul-transit : tie.Need-mul-transit
-mul-transit c = search needs
-
-shared-slice-read-transit : tie.Need-shared-slice-read-transit
-shared-slice-read-transit c = search needs
-
-add-transit-2 : tie.Need-add-transit-2
-add-transit-2 c = search needs
-
-mul-transit-2 : tie.Need-mul-transit-2
-mul-transit-2 c = search needs
-
-slice-write-transit : tie.Need-slice-write-transit
-slice-write-transit c = search needs
-
-same-length : tie.Need-same-length
-same-length c = search needs
-
 returns : tie.Need-returns
 unfolding wordIn naturals
 returns c =
@@ -68,17 +32,17 @@ pub send-one-spec : {M : Type 1} → statement M
 send-one-spec =
     tie.close
     (tie.spec
-    mul-in-message
-    shared-slice-read-in-message
-    mul-in-message-2
-    element-copy-out-in-message
-    in-message-requires
-    add-transit
-    mul-transit
-    shared-slice-read-transit
-    add-transit-2
-    mul-transit-2
-    slice-write-transit
-    same-length
+    (λ c. search needs)
+    (λ c. search needs)
+    (λ c. search needs)
+    (λ c. search needs)
+    (λ c κs. search needs)
+    (λ c. search needs)
+    (λ c. search needs)
+    (λ c. search needs)
+    (λ c. search needs)
+    (λ c. search needs)
+    (λ c. search needs)
+    (λ c. search needs)
     returns
     returns-2)

@@ -10,12 +10,6 @@ use Rattle.reader.proofs.Places.{tally-code, tallies-held, place-is}
 use Rattle.reader.proofs.look.find_place.Statement.{statement}
 use Rattle.reader.proofs.look.find_place.Tie as tie
 
-record-at-requires : tie.Need-record-at-requires
-record-at-requires c κs = search needs
-
-add-number-at : tie.Need-add-number-at
-add-number-at c = search needs
-
 number-at-requires : tie.Need-number-at-requires
 number-at-requires c κs =
     let s = c .before .before .before .before in
@@ -25,9 +19,6 @@ number-at-requires c κs =
     let e = code-in f (s .args .first) (s .args .i) 3 (c .record-at .result) (c .record-at .ensures) ∙ tally-code f (s .args .n) (s .args .first) (s .args .i) (r .offers) q in
     let h = tallies-held (r .sound) (s .args .n) (s .args .first) (decode f .tallies) (r .offers) q refl in
     (omega (arith, h .room, c .record-at .ensures, s .pre .1 .1), ap isCode e ∙ r .sound .tally (s .args .i) (s .pre .1 .1))
-
-place-requires : tie.Need-place-requires
-place-requires c κs = search needs
 
 returns : tie.Need-returns
 returns c =
@@ -42,4 +33,4 @@ returns c =
 
 pub find-place-spec : {M : Type 1} → statement M
 find-place-spec =
-    tie.close (tie.spec record-at-requires add-number-at number-at-requires place-requires returns)
+    tie.close (tie.spec (λ c κs. search needs) (λ c. search needs) number-at-requires (λ c κs. search needs) returns)

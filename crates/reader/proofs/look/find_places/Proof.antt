@@ -18,9 +18,6 @@ Inv-loop f keys order n t places₀ first i₀ places i = (i ≤ t) × (length p
 abbrev μ-loop : tie.MeasureT-loop
 μ-loop f keys order n t places₀ first i₀ places i = t - i
 
-tallies-at-requires : tie.Need-tallies-at-requires Inv-loop μ-loop
-tallies-at-requires c κs = omega arith
-
 loop-holds : tie.Need-loop-holds Inv-loop μ-loop
 loop-holds c = (omega arith, refl, c .tallies-at .ensures, none-yet _, placed-none _ _)
 
@@ -46,18 +43,6 @@ narrow-requires c κs =
     let s = l .before .before .before .before .before .before in
     omega (arith, c .before .find-place .ensures, place-most (decode (s .args .f .now)) (l .loop .i), s .pre .0 .sound .few-offers)
 
-mul-places : tie.Need-mul-places Inv-loop μ-loop
-mul-places c = search needs
-
-slice-write-places : tie.Need-slice-write-places Inv-loop μ-loop
-slice-write-places c = search needs
-
-add-i : tie.Need-add-i Inv-loop μ-loop
-add-i c = search needs
-
-loop-less : tie.Need-loop-less Inv-loop μ-loop
-loop-less c = search needs
-
 loop-again : tie.Need-loop-again Inv-loop μ-loop
 loop-again c =
     let l = c .before .before .before .before in
@@ -80,16 +65,16 @@ find-places-spec =
     (tie.spec
     Inv-loop
     μ-loop
-    tallies-at-requires
+    (λ c κs. omega arith)
     loop-holds
     find-place-requires
     same-length
     returns
     narrow-requires
-    mul-places
-    slice-write-places
-    add-i
-    loop-less
+    (λ c. search needs)
+    (λ c. search needs)
+    (λ c. search needs)
+    (λ c. search needs)
     loop-again
     same-length-2
     returns-2)

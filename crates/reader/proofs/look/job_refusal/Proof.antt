@@ -9,32 +9,11 @@ use Rattle.reader.proofs.Places.{offer-code, offers-held, numbers-right
 use Rattle.reader.proofs.look.job_refusal.Statement.{statement}
 use Rattle.reader.proofs.look.job_refusal.Tie as tie
 
-slice-aggregate-fill-numbers : tie.Need-slice-aggregate-fill-numbers
-slice-aggregate-fill-numbers c = search needs
-
 fill-numbers-requires : tie.Need-fill-numbers-requires
 fill-numbers-requires c κs =
     let s = c .before .before .before in
     let f = s .args .f .now in
     (offers-held (s .pre .0) (s .args .n) (s .pre .1 .0 .0), ((omega arith, omega arith), λ i l. ap isCode (offer-code f i) ∙ s .pre .0 .offer i (omega arith)))
-
-slice-aggregate-build : tie.Need-slice-aggregate-build
-slice-aggregate-build c = search needs
-
-slice-aggregate-build-2 : tie.Need-slice-aggregate-build-2
-slice-aggregate-build-2 c = search needs
-
-slice-aggregate-build-3 : tie.Need-slice-aggregate-build-3
-slice-aggregate-build-3 c = search needs
-
-build-requires : tie.Need-build-requires
-build-requires c κs = search needs
-
-slice-aggregate-shared : tie.Need-slice-aggregate-shared
-slice-aggregate-shared c = search needs
-
-shared-requires : tie.Need-shared-requires
-shared-requires c κs = search needs
 
 -- What the index says of shared numbers is what the format says.
 shared-told : (c : tie.After-shared) → shared (decode (c .before .before .before .before .before .before .before .before .before .before .before .before .before .args .f .now)) ≡ c .shared .result
@@ -45,12 +24,6 @@ shared-told c =
 
 returns : tie.Need-returns
 returns c = (last-7 _ (shared-told (c .before) ∙ c .if1 .taken), λ e. absurd (omega arith))
-
-slice-aggregate-find-places : tie.Need-slice-aggregate-find-places
-slice-aggregate-find-places c = search needs
-
-slice-aggregate-find-places-2 : tie.Need-slice-aggregate-find-places-2
-slice-aggregate-find-places-2 c = search needs
 
 find-places-requires : tie.Need-find-places-requires
 find-places-requires c κs =
@@ -70,17 +43,11 @@ find-places-requires c κs =
       (s .pre .1 .0 .1, omega arith),
     )
 
-same-length : tie.Need-same-length
-same-length c = search needs
-
 returns-2 : tie.Need-returns-2
 returns-2 c =
     let p = c .before .before .before in
     let e = p .before .before .before .before in
     (last-8 _ (shared-told (e .before) ∙ e .if1 .left) (sym (p .find-places .ensures .0) ∙ c .if2 .taken), λ z. absurd (omega arith))
-
-same-length-2 : tie.Need-same-length-2
-same-length-2 c = search needs
 
 returns-3 : tie.Need-returns-3
 returns-3 c =
@@ -92,19 +59,19 @@ pub job-refusal-spec : {M : Type 1} → statement M
 job-refusal-spec =
     tie.close
     (tie.spec
-    slice-aggregate-fill-numbers
+    (λ c. search needs)
     fill-numbers-requires
-    slice-aggregate-build
-    slice-aggregate-build-2
-    slice-aggregate-build-3
-    build-requires
-    slice-aggregate-shared
-    shared-requires
+    (λ c. search needs)
+    (λ c. search needs)
+    (λ c. search needs)
+    (λ c κs. search needs)
+    (λ c. search needs)
+    (λ c κs. search needs)
     returns
-    slice-aggregate-find-places
-    slice-aggregate-find-places-2
+    (λ c. search needs)
+    (λ c. search needs)
     find-places-requires
-    same-length
+    (λ c. search needs)
     returns-2
-    same-length-2
+    (λ c. search needs)
     returns-3)

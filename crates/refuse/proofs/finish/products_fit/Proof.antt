@@ -6,11 +6,8 @@ use Rattle.refuse.proofs.finish.products_fit.Tie as tie
 product-row-requires : tie.Need-product-row-requires
 product-row-requires c κs = let p = c .before .before .before .before .before .pre in (p .tallies-in, (p .prices-in, (p .working-in, p .a-in)))
 
-row-fits-requires : tie.Need-row-fits-requires
-row-fits-requires c κs = search needs
-
 returns : tie.Need-returns
 returns c = rw (c .before .before .product-row .ensures) at (c .row-fits .ensures)
 
 pub products-fit-spec : {M : Type 1} → statement M
-products-fit-spec = tie.close (tie.spec product-row-requires row-fits-requires returns)
+products-fit-spec = tie.close (tie.spec product-row-requires (λ c κs. search needs) returns)

@@ -9,9 +9,6 @@ use Rattle.refuse.proofs.ByKind.{as-asked}
 use Rattle.refuse.proofs.rules.boxes_fit.Statement.{statement}
 use Rattle.refuse.proofs.rules.boxes_fit.Tie as tie
 
-one-box-requires : tie.Need-one-box-requires
-one-box-requires c κs = search needs
-
 returns : tie.Need-returns
 unfolding boxesFitBy
 returns c =
@@ -19,4 +16,4 @@ returns c =
     rw (c .one-box .ensures) (ap (λ (t : Bool). ltb (s .args .a) (s .args .k) && (ltb (s .args .b) (s .args .k) && t)) (as-asked (oneBox (kindOf (s .args .kind))) (eqb (s .args .a) (s .args .b))))
 
 pub boxes-fit-spec : {M : Type 1} → statement M
-boxes-fit-spec = tie.close (tie.spec one-box-requires returns)
+boxes-fit-spec = tie.close (tie.spec (λ c κs. search needs) returns)

@@ -7,29 +7,17 @@ use Rattle.refuse.proofs.ByKind.{fits-one}
 use Rattle.refuse.proofs.rules.fits.Statement.{statement}
 use Rattle.refuse.proofs.rules.fits.Tie as tie
 
-is-due-requires : tie.Need-is-due-requires
-is-due-requires c κs = search needs
-
 returns : tie.Need-returns
 unfolding fitsBy kindOf
 returns c = rw (c .before .if1 .taken) (c .is-due .ensures)
-
-is-due-requires-2 : tie.Need-is-due-requires-2
-is-due-requires-2 c κs = search needs
 
 returns-2 : tie.Need-returns-2
 unfolding fitsBy kindOf
 returns-2 c = rw (c .before .if2 .taken) (c .is-due2 .ensures)
 
-is-due-requires-3 : tie.Need-is-due-requires-3
-is-due-requires-3 c κs = search needs
-
 returns-3 : tie.Need-returns-3
 unfolding fitsBy kindOf
 returns-3 c = rw (c .before .if3 .taken) (c .is-due3 .ensures)
-
-is-due-requires-4 : tie.Need-is-due-requires-4
-is-due-requires-4 c κs = search needs
 
 returns-4 : tie.Need-returns-4
 unfolding fitsBy kindOf
@@ -44,12 +32,12 @@ pub fits-spec : {M : Type 1} → statement M
 fits-spec =
     tie.close
     (tie.spec
-    is-due-requires
+    (λ c κs. search needs)
     returns
-    is-due-requires-2
+    (λ c κs. search needs)
     returns-2
-    is-due-requires-3
+    (λ c κs. search needs)
     returns-3
-    is-due-requires-4
+    (λ c κs. search needs)
     returns-4
     returns-5)

@@ -5,15 +5,9 @@ use borrow.Author.Needs.{needs}
 use Rattle.refuse.proofs.rules.has_received.Statement.{statement}
 use Rattle.refuse.proofs.rules.has_received.Tie as tie
 
-is-due-requires : tie.Need-is-due-requires
-is-due-requires c κs = search needs
-
-is-marked-requires : tie.Need-is-marked-requires
-is-marked-requires c κs = search needs
-
 returns : tie.Need-returns
 unfolding receivedFrom kindOf
 returns c = rw (c .before .is-due .ensures, c .is-marked .ensures)
 
 pub has-received-spec : {M : Type 1} → statement M
-has-received-spec = tie.close (tie.spec is-due-requires is-marked-requires returns)
+has-received-spec = tie.close (tie.spec (λ c κs. search needs) (λ c κs. search needs) returns)

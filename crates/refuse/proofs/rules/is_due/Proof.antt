@@ -4,12 +4,9 @@ use borrow.Author.Needs.{needs}
 use Rattle.refuse.proofs.rules.is_due.Statement.{statement}
 use Rattle.refuse.proofs.rules.is_due.Tie as tie
 
-words-to-requires : tie.Need-words-to-requires
-words-to-requires c κs = search needs
-
 returns : tie.Need-returns
 unfolding due
 returns c = rw (c .words-to .ensures)
 
 pub is-due-spec : {M : Type 1} → statement M
-is-due-spec = tie.close (tie.spec words-to-requires returns)
+is-due-spec = tie.close (tie.spec (λ c κs. search needs) returns)

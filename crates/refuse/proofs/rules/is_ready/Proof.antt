@@ -7,22 +7,13 @@ use Rattle.refuse.proofs.ByKind.{ready-first, ready-last}
 use Rattle.refuse.proofs.rules.is_ready.Statement.{statement}
 use Rattle.refuse.proofs.rules.is_ready.Tie as tie
 
-is-marked-requires : tie.Need-is-marked-requires
-is-marked-requires c κs = search needs
-
 returns : tie.Need-returns
 unfolding readyBy kindOf
 returns c = rw (c .before .if1 .taken) (c .is-marked .ensures)
 
-is-marked-requires-2 : tie.Need-is-marked-requires-2
-is-marked-requires-2 c κs = search needs
-
 returns-2 : tie.Need-returns-2
 unfolding readyBy kindOf
 returns-2 c = rw (c .before .if2 .taken) (c .is-marked2 .ensures)
-
-multiplied-requires : tie.Need-multiplied-requires
-multiplied-requires c κs = search needs
 
 returns-3 : tie.Need-returns-3
 returns-3 c =
@@ -38,10 +29,10 @@ pub is-ready-spec : {M : Type 1} → statement M
 is-ready-spec =
     tie.close
     (tie.spec
-    is-marked-requires
+    (λ c κs. search needs)
     returns
-    is-marked-requires-2
+    (λ c κs. search needs)
     returns-2
-    multiplied-requires
+    (λ c κs. search needs)
     returns-3
     returns-4)

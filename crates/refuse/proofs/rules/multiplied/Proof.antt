@@ -31,18 +31,9 @@ returns c =
 loop-holds : tie.Need-loop-holds Inv-loop μ-loop
 loop-holds c = (search needs, test-none _)
 
-has-received-requires : tie.Need-has-received-requires Inv-loop μ-loop
-has-received-requires c κs = search needs
-
 returns-2 : tie.Need-returns-2 Inv-loop μ-loop
 returns-2 c =
     multiplied-fails _ _ _ _ (c .before .before .before .loop .c) (c .before .before .loop-test .taken) (sym (c .before .has-received .ensures) ∙ not-true _ (c .if2 .taken))
-
-add-c : tie.Need-add-c Inv-loop μ-loop
-add-c c = search needs
-
-loop-less : tie.Need-loop-less Inv-loop μ-loop
-loop-less c = search needs
 
 loop-again : tie.Need-loop-again Inv-loop μ-loop
 loop-again c = (search needs, test-more _ _ (c .before .before .before .loop .inv .1) (sym (c .before .has-received .ensures) ∙ not-false _ (c .if2 .left)))
@@ -62,9 +53,9 @@ multiplied-spec =
     is-marked-requires
     returns
     loop-holds
-    has-received-requires
+    (λ c κs. search needs)
     returns-2
-    add-c
-    loop-less
+    (λ c. search needs)
+    (λ c. search needs)
     loop-again
     returns-3)

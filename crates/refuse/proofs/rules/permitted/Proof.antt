@@ -6,20 +6,11 @@ use Rattle.refuse.proofs.Ways.{permitted-unfit, permitted-done, permitt
 use Rattle.refuse.proofs.rules.permitted.Statement.{statement}
 use Rattle.refuse.proofs.rules.permitted.Tie as tie
 
-fits-requires : tie.Need-fits-requires
-fits-requires c κs = search needs
-
 returns : tie.Need-returns
 returns c = permitted-unfit _ _ _ _ _ _ _ (sym (c .before .fits2 .ensures) ∙ not-true _ (c .if1 .taken))
 
-is-marked-requires : tie.Need-is-marked-requires
-is-marked-requires c κs = search needs
-
 returns-2 : tie.Need-returns-2
 returns-2 c = permitted-done _ _ _ _ _ _ _ (sym (c .before .is-marked .ensures) ∙ c .if2 .taken)
-
-is-ready-requires : tie.Need-is-ready-requires
-is-ready-requires c κs = search needs
 
 returns-3 : tie.Need-returns-3
 returns-3 c =
@@ -29,4 +20,4 @@ returns-3 c =
 pub permitted-spec : {M : Type 1} → statement M
 permitted-spec =
     tie.close
-    (tie.spec fits-requires returns is-marked-requires returns-2 is-ready-requires returns-3)
+    (tie.spec (λ c κs. search needs) returns (λ c κs. search needs) returns-2 (λ c κs. search needs) returns-3)

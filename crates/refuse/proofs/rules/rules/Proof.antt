@@ -23,9 +23,6 @@ marked-in c =
     let s = c .before .before .before .before .before in
     marks-in (s .args .k) (s .args .kind) (s .args .a) (s .args .b) (now (s .args .done)) (s .pre .0) (s .pre .1) (is-one (c .before .before)) (sym (c .before .boxes-fit .ensures) ∙ not-false _ (c .if2 .left))
 
-is-kind-requires : tie.Need-is-kind-requires
-is-kind-requires c κs = search needs
-
 returns : tie.Need-returns
 unfolding firstMet rulesBy
 returns c = rw (sym (c .before .is-kind .ensures), c .if1 .taken)
@@ -85,7 +82,7 @@ pub rules-spec : {M : Type 1} → statement M
 rules-spec =
     tie.close
     (tie.spec
-    is-kind-requires
+    (λ c κs. search needs)
     returns
     boxes-fit-requires
     returns-2

@@ -30,20 +30,11 @@ chose c = c .before .before .before .before .before .before .before .before .bef
 abbrev rested : tie.After-slice-known12 → tie.After-rest
 rested c = c .before .before .before .before .before .before .before .before .before .before .before
 
-slice-aggregate-link : tie.Need-slice-aggregate-link
-slice-aggregate-link c = refl
-
 link-requires : tie.Need-link-requires
 link-requires c κs = let s = c .before .before .before .before .before .before .before .before .before .before .before .before .before in offers-keyed (job s) (s .pre .on-way .job-in) (s .pre .on-way .job-long) (replicate 500 0) refl
 
-slice-aggregate-link-2 : tie.Need-slice-aggregate-link-2
-slice-aggregate-link-2 c = refl
-
 link-requires-2 : tie.Need-link-requires-2
 link-requires-2 c κs = let s = c .before .before .before .before .before .before .before .before .before .before .before .before .before .before .before .before .before in grocers-keyed (job s) (s .pre .on-way .job-in) (s .pre .on-way .job-long) (replicate 255 0) refl
-
-slice-aggregate-link-3 : tie.Need-slice-aggregate-link-3
-slice-aggregate-link-3 c = refl
 
 link-requires-3 : tie.Need-link-requires-3
 link-requires-3 c κs = let s = c .before .before .before .before .before .before .before .before .before .before .before .before .before .before .before .before .before .before .before .before .before in tallies-keyed (job s) (s .pre .on-way .job-in) (s .pre .on-way .job-long) (replicate 1_000 0) refl
@@ -57,10 +48,11 @@ rest-requires : tie.Need-rest-requires
 rest-requires c κs =
     let l = linked (chose c .before) in
     let s = start l in
-    let k = chose c .chosen in
-    (goes-on (job s) (entry s) (now (s .args .needs)) (now (s .args .sharers)) (now (s .args .prices)) (now (s .args .totals)) (now (s .args .choices)) 0 0 (s .pre) _ _
-    (k .result .messages) (k .result .steps) (k .ensures),
-    record { offers-linked = l .before .before .before .before .before .before .before .before .link .ensures; grocers-linked = l .before .before .before .before .link2 .ensures; tallies-linked = l .link3 .ensures })
+    let k = chose c .chosen in (
+      goes-on (job s) (entry s) (now (s .args .needs)) (now (s .args .sharers)) (now (s .args .prices)) (now (s .args .totals)) (now (s .args .choices)) 0 0 (s .pre) _ _
+          (k .result .messages) (k .result .steps) (k .ensures),
+      record { offers-linked = l .before .before .before .before .before .before .before .before .link .ensures; grocers-linked = l .before .before .before .before .link2 .ensures; tallies-linked = l .link3 .ensures },
+    )
 
 same-length : tie.Need-same-length
 same-length c =
@@ -108,11 +100,11 @@ pub all-steps-spec : {M : Type 1} → statement M
 all-steps-spec =
     tie.close
     (tie.spec
-    slice-aggregate-link
+    (λ c. refl)
     link-requires
-    slice-aggregate-link-2
+    (λ c. refl)
     link-requires-2
-    slice-aggregate-link-3
+    (λ c. refl)
     link-requires-3
     chosen-requires
     rest-requires

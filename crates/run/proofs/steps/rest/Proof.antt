@@ -38,9 +38,6 @@ lengths c =
     goes-lengths (job s) (entry s) (now (s .args .needs)) (now (s .args .sharers)) (now (s .args .prices)) (now (s .args .totals)) [] (s .args .before .messages) (s .args .before .steps)
     (s .pre .0) (here c) [] (c .loop .counts .messages) (c .loop .counts .steps) (c .loop .inv .1 .1 .0)
 
-marks-requires : tie.Need-marks-requires Inv-loop μ-loop
-marks-requires c κs = search needs
-
 loop-holds : tie.Need-loop-holds Inv-loop μ-loop
 loop-holds c = let s = c .before .before .before .before .before .before .before .before .before .before .before in (search needs, (at-first _ (goes-walk (job s) (entry s) (now (s .args .needs)) (now (s .args .sharers)) (now (s .args .prices)) (now (s .args .totals)) [] (s .args .before .messages) (s .args .before .steps) (s .pre .0) _ _ _ _ (goes-first (job s) (entry s) (now (s .args .needs)) (now (s .args .sharers)) (now (s .args .prices)) (now (s .args .totals)) [] (s .args .before .messages) (s .args .before .steps) (s .pre .0)) .some), (goes-first (job s) (entry s) (now (s .args .needs)) (now (s .args .sharers)) (now (s .args .prices)) (now (s .args .totals)) [] (s .args .before .messages) (s .args .before .steps) (s .pre .0), none-first (job s) (entry s))))
 
@@ -57,9 +54,6 @@ next-requires c κs =
     let l = c .before .before .before .before .before .before .before .before .before .before .before .before .before .before .before .before .before .before .before .before .loop in
     let w = goes-walk (job s) (entry s) (now (s .args .needs)) (now (s .args .sharers)) (now (s .args .prices)) (now (s .args .totals)) [] (s .args .before .messages) (s .args .before .steps) (s .pre .0) _ _ _ _ (l .inv .1 .1 .0) in
     at-in _ (l .i) _ _ _ (w .boxes-in) (l .inv .1 .0) (omega (arith, c .before .before .before .before .before .before .before .before .before .before .before .before .before .before .before .before .before .before .before .loop-test .taken, c .before .before .before .before .before .before .before .before .before .before .before .before .before .before .before .before .before .before .before .before .before .marks .ensures))
-
-add-i : tie.Need-add-i Inv-loop μ-loop
-add-i c = search needs
 
 loop-less : tie.Need-loop-less Inv-loop μ-loop
 loop-less c = omega (arith, c .before .before .before .before .before .before .before .before .before .before .before .before .before .before .before .before .before .before .before .before .loop-test .taken)
@@ -105,11 +99,11 @@ rest-spec =
     (tie.spec
     Inv-loop
     μ-loop
-    marks-requires
+    (λ c κs. search needs)
     loop-holds
     turn-requires
     next-requires
-    add-i
+    (λ c. search needs)
     loop-less
     loop-again
     same-length

@@ -6,9 +6,6 @@ use Rattle.tables.specs.Refusals.{jobRefusals}
 use Rattle.tables.proofs.checks.job_refusal.Statement.{statement}
 use Rattle.tables.proofs.checks.job_refusal.Tie as tie
 
-job-short-requires : tie.Need-job-short-requires
-job-short-requires c κs = search needs
-
 returns : tie.Need-returns
 unfolding firstMet jobRefusals
 returns c = rw (sym (c .before .job-short .ensures), c .if1 .taken)
@@ -25,4 +22,4 @@ unfolding firstMet jobRefusals
 returns-3 c = rw (sym (c .before .before .before .job-short .ensures), c .before .before .if1 .left, sym (c .before .job-in-range .ensures), c .if2 .left)
 
 pub job-refusal-spec : {M : Type 1} → statement M
-job-refusal-spec = tie.close (tie.spec job-short-requires returns job-in-range-requires returns-2 returns-3)
+job-refusal-spec = tie.close (tie.spec (λ c κs. search needs) returns job-in-range-requires returns-2 returns-3)

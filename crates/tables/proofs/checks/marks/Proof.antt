@@ -5,14 +5,8 @@ use Rattle.tables.proofs.Sizes.{below32}
 use Rattle.tables.proofs.checks.marks.Statement.{statement}
 use Rattle.tables.proofs.checks.marks.Tie as tie
 
-mul-result : tie.Need-mul-result
-mul-result c = search needs
-
 mul-result-2 : tie.Need-mul-result-2
 mul-result-2 c = omega (arith, below32 (c .fits .k .fits) (c .fits .k .fits))
 
-returns : tie.Need-returns
-returns c = search needs
-
 pub marks-spec : {M : Type 1} → statement M
-marks-spec = tie.close (tie.spec mul-result mul-result-2 returns)
+marks-spec = tie.close (tie.spec (λ c. search needs) mul-result-2 (λ c. search needs))

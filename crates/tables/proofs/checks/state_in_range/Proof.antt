@@ -19,15 +19,6 @@ entry c = c .before .before .before .before
 whole : (c : tie.After-shared-slice-known4) → StateWhole (entry c .args .boxes) (entry c .args .grocers) (entry c .args .offers) (state (entry c))
 whole c = let s = entry c in state-whole (sizes (s .args .boxes) (s .args .grocers) (s .args .offers)) (state s) (s .pre)
 
-words-requires : tie.Need-words-requires
-words-requires c κs = search needs
-
-words-requires-2 : tie.Need-words-requires-2
-words-requires-2 c κs = search needs
-
-marks-requires : tie.Need-marks-requires
-marks-requires c κs = search needs
-
 upto32-requires : tie.Need-upto32-requires
 upto32-requires c κs = let w = whole (c .before .before .before) in omega arith
 
@@ -57,9 +48,9 @@ pub state-in-range-spec : {M : Type 1} → statement M
 state-in-range-spec =
     tie.close
     (tie.spec
-    words-requires
-    words-requires-2
-    marks-requires
+    (λ c κs. search needs)
+    (λ c κs. search needs)
+    (λ c κs. search needs)
     upto32-requires
     upto32-requires-2
     around64-requires

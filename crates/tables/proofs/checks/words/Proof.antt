@@ -8,8 +8,5 @@ use Rattle.tables.proofs.checks.words.Tie as tie
 mul-result : tie.Need-mul-result
 mul-result c = omega (arith, below32 (c .fits .a .fits) (c .fits .b .fits))
 
-returns : tie.Need-returns
-returns c = search needs
-
 pub words-spec : {M : Type 1} → statement M
-words-spec = tie.close (tie.spec mul-result returns)
+words-spec = tie.close (tie.spec mul-result (λ c. search needs))

@@ -8,12 +8,9 @@ use Rattle.laws.proofs.Masks.{shl-one}
 use Rattle.tables.proofs.masks.clear_bit.Statement.{statement}
 use Rattle.tables.proofs.masks.clear_bit.Tie as tie
 
-shl-result : tie.Need-shl-result
-shl-result c = search needs
-
 returns : tie.Need-returns
 unfolding without
 returns c = ap (λ (x : ℕ). bitAnd (c .args .word) ((2 ^ 16 - 1) - x)) (shl-one (c .args .b) (c .pre))
 
 pub clear-bit-spec : {M : Type 1} → statement M
-clear-bit-spec = tie.close (tie.spec shl-result returns)
+clear-bit-spec = tie.close (tie.spec (λ c. search needs) returns)

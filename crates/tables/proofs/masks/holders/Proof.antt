@@ -26,29 +26,11 @@ loop-holds c =
     let s = c .before .before .before in
     (search needs, refl, λ p l. s .pre .1 p ∙ sym (holder-none (s .args .boxes) (now (s .args .tbox)) (now (s .args .places)) p))
 
-mul-mark : tie.Need-mul-mark Inv-loop μ-loop
-mul-mark c = search needs
-
-shared-slice-read-mark : tie.Need-shared-slice-read-mark Inv-loop μ-loop
-shared-slice-read-mark c = search needs
-
-mul-mark-2 : tie.Need-mul-mark-2 Inv-loop μ-loop
-mul-mark-2 c = search needs
-
-shared-slice-read-mark-2 : tie.Need-shared-slice-read-mark-2 Inv-loop μ-loop
-shared-slice-read-mark-2 c = search needs
-
 mark-requires : tie.Need-mark-requires Inv-loop μ-loop
 mark-requires c κs =
     let e = c .before .before .before in
     let s = entry e in
     (s .pre .0 .boxes≤, rw (e .before .loop .inv .1) (s .pre .0 .place< (e .before .loop .t) (e .loop-test .taken)))
-
-add-t : tie.Need-add-t Inv-loop μ-loop
-add-t c = search needs
-
-loop-less : tie.Need-loop-less Inv-loop μ-loop
-loop-less c = search needs
 
 loop-again : tie.Need-loop-again Inv-loop μ-loop
 loop-again c =
@@ -63,9 +45,6 @@ loop-again c =
           ∙ holder-more (s .args .boxes) (now (s .args .tbox)) (now (s .args .places)) old t (s .pre .0 .boxes≤) (rw long (s .pre .0 .place< t (e .loop-test .taken))) (λ q m. e .before .loop .inv .2 q (rw long at m)) p (rw long l),
     )
 
-same-length : tie.Need-same-length Inv-loop μ-loop
-same-length c = search needs
-
 returns : tie.Need-returns Inv-loop μ-loop
 returns c =
     let s = c .before .before .before .before .before in
@@ -79,13 +58,13 @@ holders-spec =
     Inv-loop
     μ-loop
     loop-holds
-    mul-mark
-    shared-slice-read-mark
-    mul-mark-2
-    shared-slice-read-mark-2
+    (λ c. search needs)
+    (λ c. search needs)
+    (λ c. search needs)
+    (λ c. search needs)
     mark-requires
-    add-t
-    loop-less
+    (λ c. search needs)
+    (λ c. search needs)
     loop-again
-    same-length
+    (λ c. search needs)
     returns)

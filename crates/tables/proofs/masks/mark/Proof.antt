@@ -5,24 +5,6 @@ use Rattle.tables.specs.Masks.{marked}
 use Rattle.tables.proofs.masks.mark.Statement.{statement}
 use Rattle.tables.proofs.masks.mark.Tie as tie
 
-mul-set-bit : tie.Need-mul-set-bit
-mul-set-bit c = search needs
-
-slice-read-set-bit : tie.Need-slice-read-set-bit
-slice-read-set-bit c = search needs
-
-set-bit-requires : tie.Need-set-bit-requires
-set-bit-requires c κs = search needs
-
-mul-masks : tie.Need-mul-masks
-mul-masks c = search needs
-
-slice-write-masks : tie.Need-slice-write-masks
-slice-write-masks c = search needs
-
-same-length : tie.Need-same-length
-same-length c = search needs
-
 returns : tie.Need-returns
 unfolding marked
 returns c =
@@ -36,4 +18,4 @@ returns-2 c =
     rw (le-ltb (s .args .b) (s .args .k) (c .if1 .left))
 
 pub mark-spec : {M : Type 1} → statement M
-mark-spec = tie.close (tie.spec mul-set-bit slice-read-set-bit set-bit-requires mul-masks slice-write-masks same-length returns returns-2)
+mark-spec = tie.close (tie.spec (λ c. search needs) (λ c. search needs) (λ c κs. search needs) (λ c. search needs) (λ c. search needs) (λ c. search needs) returns returns-2)

@@ -5,11 +5,8 @@ use borrow.Author.Needs.{needs}
 use Rattle.tables.proofs.masks.others.Statement.{statement}
 use Rattle.tables.proofs.masks.others.Tie as tie
 
-clear-bit-requires : tie.Need-clear-bit-requires
-clear-bit-requires c κs = search needs
-
 returns : tie.Need-returns
 returns c = ap ones (c .clear-bit .ensures)
 
 pub others-spec : {M : Type 1} → statement M
-others-spec = tie.close (tie.spec clear-bit-requires returns)
+others-spec = tie.close (tie.spec (λ c κs. search needs) returns)

@@ -33,29 +33,11 @@ most c = ones-max _ _ (owner-in c) (c .before .before .shared-slice-known2 .give
 loop-holds : tie.Need-loop-holds Inv-loop μ-loop
 loop-holds c = (search needs, sym (others-none _ _), search needs)
 
-mul-others : tie.Need-mul-others Inv-loop μ-loop
-mul-others c = search needs
-
-shared-slice-read-others : tie.Need-shared-slice-read-others Inv-loop μ-loop
-shared-slice-read-others c = search needs
-
-mul-others-2 : tie.Need-mul-others-2 Inv-loop μ-loop
-mul-others-2 c = search needs
-
-shared-slice-read-others-2 : tie.Need-shared-slice-read-others-2 Inv-loop μ-loop
-shared-slice-read-others-2 c = search needs
-
 others-requires : tie.Need-others-requires Inv-loop μ-loop
 others-requires c κs = owner-in (c .before .before)
 
 add-sum : tie.Need-add-sum Inv-loop μ-loop
 add-sum c = omega (arith, c .others .ensures, most (c .before .before .before), c .before .before .before .before .before .before .before .fits .n .fits)
-
-add-i : tie.Need-add-i Inv-loop μ-loop
-add-i c = search needs
-
-loop-less : tie.Need-loop-less Inv-loop μ-loop
-loop-less c = search needs
 
 loop-again : tie.Need-loop-again Inv-loop μ-loop
 loop-again c =
@@ -78,13 +60,13 @@ others-sum-spec =
     Inv-loop
     μ-loop
     loop-holds
-    mul-others
-    shared-slice-read-others
-    mul-others-2
-    shared-slice-read-others-2
+    (λ c. search needs)
+    (λ c. search needs)
+    (λ c. search needs)
+    (λ c. search needs)
     others-requires
     add-sum
-    add-i
-    loop-less
+    (λ c. search needs)
+    (λ c. search needs)
     loop-again
     returns)

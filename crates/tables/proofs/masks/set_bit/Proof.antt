@@ -6,11 +6,8 @@ use Rattle.laws.proofs.Masks.{shl-one}
 use Rattle.tables.proofs.masks.set_bit.Statement.{statement}
 use Rattle.tables.proofs.masks.set_bit.Tie as tie
 
-shl-result : tie.Need-shl-result
-shl-result c = search needs
-
 returns : tie.Need-returns
 returns c = ap (bitOr (c .args .word)) (shl-one (c .args .b) (c .pre))
 
 pub set-bit-spec : {M : Type 1} → statement M
-set-bit-spec = tie.close (tie.spec shl-result returns)
+set-bit-spec = tie.close (tie.spec (λ c. search needs) returns)

@@ -57,18 +57,6 @@ more-is c =
     let e = c .before .before .before .before in
     c .bit-word .ensures ∙ ap (λ (x : ℕ). only naturals (bit (e .before .loop .b) x) 1) (e .before .before .clear-bit .ensures)
 
-mul-owner : tie.Need-mul-owner Inv-loop μ-loop
-mul-owner c = search needs
-
-shared-slice-read-owner : tie.Need-shared-slice-read-owner Inv-loop μ-loop
-shared-slice-read-owner c = search needs
-
-mul-clear-bit : tie.Need-mul-clear-bit Inv-loop μ-loop
-mul-clear-bit c = search needs
-
-shared-slice-read-clear-bit : tie.Need-shared-slice-read-clear-bit Inv-loop μ-loop
-shared-slice-read-clear-bit c = search needs
-
 clear-bit-requires : tie.Need-clear-bit-requires Inv-loop μ-loop
 clear-bit-requires c κs = c .before .before .before .before .pre .0 .owner< (c .before .before .before .before .args .n) (omega arith)
 
@@ -79,12 +67,6 @@ loop-holds : tie.Need-loop-holds Inv-loop μ-loop
 loop-holds c =
     let s = c .before .before .before .before .before in
     (search needs, s .pre .1 .1 ∙ passing-none (s .args .back) (s .args .n) (owners s) (masks s))
-
-pick-requires : tie.Need-pick-requires Inv-loop μ-loop
-pick-requires c κs = search needs
-
-pick-requires-2 : tie.Need-pick-requires-2 Inv-loop μ-loop
-pick-requires-2 c κs = search needs
 
 mul-more : tie.Need-mul-more Inv-loop μ-loop
 mul-more c = omega (arith, sender c)
@@ -97,9 +79,6 @@ index-1-more c = sender c
 
 index-2-more : tie.Need-index-2-more Inv-loop μ-loop
 index-2-more c = receiver c
-
-bit-word-requires : tie.Need-bit-word-requires Inv-loop μ-loop
-bit-word-requires c κs = search needs
 
 add-more : tie.Need-add-more Inv-loop μ-loop
 add-more c =
@@ -119,12 +98,6 @@ index-1-table c = sender (c .before .before)
 
 index-2-table : tie.Need-index-2-table Inv-loop μ-loop
 index-2-table c = receiver (c .before .before)
-
-add-b : tie.Need-add-b Inv-loop μ-loop
-add-b c = search needs
-
-loop-less : tie.Need-loop-less Inv-loop μ-loop
-loop-less c = search needs
 
 loop-again : tie.Need-loop-again Inv-loop μ-loop
 loop-again c =
@@ -147,26 +120,26 @@ add-owner-spec =
     (tie.spec
     Inv-loop
     μ-loop
-    mul-owner
-    shared-slice-read-owner
-    mul-clear-bit
-    shared-slice-read-clear-bit
+    (λ c. search needs)
+    (λ c. search needs)
+    (λ c. search needs)
+    (λ c. search needs)
     clear-bit-requires
     cast-o
     loop-holds
-    pick-requires
-    pick-requires-2
+    (λ c κs. search needs)
+    (λ c κs. search needs)
     mul-more
     mul-more-2
     index-1-more
     index-2-more
-    bit-word-requires
+    (λ c κs. search needs)
     add-more
     mul-table
     mul-table-2
     index-1-table
     index-2-table
-    add-b
-    loop-less
+    (λ c. search needs)
+    (λ c. search needs)
     loop-again
     returns)

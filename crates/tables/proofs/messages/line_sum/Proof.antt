@@ -48,12 +48,6 @@ returns c = (sym (line-past (c .before .args .back) (c .before .args .t1) (c .be
 loop-holds : tie.Need-loop-holds Inv-loop μ-loop
 loop-holds c = (search needs, sym (line-none _ _ _), search needs)
 
-pick-requires : tie.Need-pick-requires Inv-loop μ-loop
-pick-requires c κs = search needs
-
-pick-requires-2 : tie.Need-pick-requires-2 Inv-loop μ-loop
-pick-requires-2 c κs = search needs
-
 mul-wide : tie.Need-mul-wide Inv-loop μ-loop
 mul-wide c = omega (arith, sender c)
 
@@ -66,17 +60,8 @@ index-1-wide c = sender c
 index-2-wide : tie.Need-index-2-wide Inv-loop μ-loop
 index-2-wide c = receiver c
 
-wide-requires : tie.Need-wide-requires Inv-loop μ-loop
-wide-requires c κs = search needs
-
 add-sum : tie.Need-add-sum Inv-loop μ-loop
 add-sum c = omega (arith, c .wide .ensures .1, c .before .before .before .before .before .loop .inv .2, c .before .before .before .before .before .loop .inv .0)
-
-add-y : tie.Need-add-y Inv-loop μ-loop
-add-y c = search needs
-
-loop-less : tie.Need-loop-less Inv-loop μ-loop
-loop-less c = search needs
 
 loop-again : tie.Need-loop-again Inv-loop μ-loop
 loop-again c =
@@ -102,15 +87,15 @@ line-sum-spec =
     μ-loop
     returns
     loop-holds
-    pick-requires
-    pick-requires-2
+    (λ c κs. search needs)
+    (λ c κs. search needs)
     mul-wide
     mul-wide-2
     index-1-wide
     index-2-wide
-    wide-requires
+    (λ c κs. search needs)
     add-sum
-    add-y
-    loop-less
+    (λ c. search needs)
+    (λ c. search needs)
     loop-again
     returns-2)

@@ -28,9 +28,6 @@ in-range c = accepted (job (entry c)) (sym (c .before .job-refusal .ensures) ∙
 whole : (c : tie.Else1) → JobWhole (job (entry c))
 whole c = job-whole (job (entry c)) (accepted (job (entry c)) (sym (c .before .job-refusal .ensures) ∙ c .if1 .left) .0)
 
-job-refusal-requires : tie.Need-job-refusal-requires
-job-refusal-requires c κs = search needs
-
 returns : tie.Need-returns
 returns c =
     let s = c .before .before .before .before .before .before .before .before in
@@ -72,7 +69,7 @@ pub message-tables-spec : {M : Type 1} → statement M
 message-tables-spec =
     tie.close
     (tie.spec
-    job-refusal-requires
+    (λ c κs. search needs)
     returns
     needs-requires
     sharers-requires

@@ -32,12 +32,6 @@ add-owner-requires c κs =
       (omega (arith, s .fits .n .fits), e .before .loop .inv .1),
     )
 
-add-i : tie.Need-add-i Inv-loop μ-loop
-add-i c = search needs
-
-loop-less : tie.Need-loop-less Inv-loop μ-loop
-loop-less c = search needs
-
 loop-again : tie.Need-loop-again Inv-loop μ-loop
 loop-again c = (search needs, c .add-owner .ensures)
 
@@ -50,4 +44,4 @@ returns c =
 pub sent-table-spec : {M : Type 1} → statement M
 sent-table-spec =
     tie.close
-    (tie.spec Inv-loop μ-loop loop-holds add-owner-requires add-i loop-less loop-again returns)
+    (tie.spec Inv-loop μ-loop loop-holds add-owner-requires (λ c. search needs) (λ c. search needs) loop-again returns)

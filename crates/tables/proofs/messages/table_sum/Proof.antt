@@ -17,17 +17,8 @@ abbrev μ-loop : tie.MeasureT-loop
 loop-holds : tie.Need-loop-holds Inv-loop μ-loop
 loop-holds c = (search needs, sym (rows-none _), search needs)
 
-line-sum-requires : tie.Need-line-sum-requires Inv-loop μ-loop
-line-sum-requires c κs = search needs
-
 add-sum : tie.Need-add-sum Inv-loop μ-loop
 add-sum c = omega (arith, c .line-sum .ensures .1, c .before .before .loop .inv .2, c .before .before .loop .inv .0)
-
-add-a : tie.Need-add-a Inv-loop μ-loop
-add-a c = search needs
-
-loop-less : tie.Need-loop-less Inv-loop μ-loop
-loop-less c = search needs
 
 loop-again : tie.Need-loop-again Inv-loop μ-loop
 loop-again c =
@@ -46,4 +37,4 @@ returns c =
 pub table-sum-spec : {M : Type 1} → statement M
 table-sum-spec =
     tie.close
-    (tie.spec Inv-loop μ-loop loop-holds line-sum-requires add-sum add-a loop-less loop-again returns)
+    (tie.spec Inv-loop μ-loop loop-holds (λ c κs. search needs) add-sum (λ c. search needs) (λ c. search needs) loop-again returns)

@@ -24,15 +24,6 @@ abbrev μ-loop : tie.MeasureT-loop
 loop-holds : tie.Need-loop-holds Inv-loop μ-loop
 loop-holds c = (search needs, test-none _)
 
-mul-is-count : tie.Need-mul-is-count Inv-loop μ-loop
-mul-is-count c = search needs
-
-shared-slice-copy-out-is-count : tie.Need-shared-slice-copy-out-is-count Inv-loop μ-loop
-shared-slice-copy-out-is-count c = search needs
-
-is-count-requires : tie.Need-is-count-requires Inv-loop μ-loop
-is-count-requires c κs = search needs
-
 -- The word that is tested.
 abbrev here : tie.After-is-count Inv-loop μ-loop → ℤ
 here c = getD (now (c .before .before .before .before .args .s)) (c .before .before .before .loop .i) (pos 0)
@@ -43,12 +34,6 @@ tested c = c .is-count .ensures ∙ ap (λ (z : ℤ). leb (natAbs z) maxCount) (
 returns : tie.Need-returns Inv-loop μ-loop
 unfolding around
 returns c = test-fails _ _ (c .before .before .before .before .loop .i) (c .before .before .before .loop-test .taken) (sym (tested (c .before)) ∙ not-true (c .before .is-count .result) (c .if1 .taken))
-
-add-i : tie.Need-add-i Inv-loop μ-loop
-add-i c = search needs
-
-loop-less : tie.Need-loop-less Inv-loop μ-loop
-loop-less c = search needs
 
 loop-again : tie.Need-loop-again Inv-loop μ-loop
 loop-again c = (search needs, test-more _ _ (c .before .before .before .before .loop .inv .1) (sym (tested (c .before)) ∙ not-false (c .before .is-count .result) (c .if1 .left)))
@@ -64,11 +49,11 @@ around32-spec =
     Inv-loop
     μ-loop
     loop-holds
-    mul-is-count
-    shared-slice-copy-out-is-count
-    is-count-requires
+    (λ c. search needs)
+    (λ c. search needs)
+    (λ c κs. search needs)
     returns
-    add-i
-    loop-less
+    (λ c. search needs)
+    (λ c. search needs)
     loop-again
     returns-2)

@@ -24,15 +24,6 @@ abbrev μ-loop : tie.MeasureT-loop
 loop-holds : tie.Need-loop-holds Inv-loop μ-loop
 loop-holds c = (search needs, test-none _)
 
-mul-is-amount : tie.Need-mul-is-amount Inv-loop μ-loop
-mul-is-amount c = search needs
-
-shared-slice-copy-out-is-amount : tie.Need-shared-slice-copy-out-is-amount Inv-loop μ-loop
-shared-slice-copy-out-is-amount c = search needs
-
-is-amount-requires : tie.Need-is-amount-requires Inv-loop μ-loop
-is-amount-requires c κs = search needs
-
 -- The word that is tested.
 abbrev here : tie.After-is-amount Inv-loop μ-loop → ℤ
 here c = getD (now (c .before .before .before .before .args .s)) (c .before .before .before .loop .i) (pos 0)
@@ -43,12 +34,6 @@ tested c = c .is-amount .ensures ∙ ap (λ (z : ℤ). leb (natAbs z) maxAmount)
 returns : tie.Need-returns Inv-loop μ-loop
 unfolding around
 returns c = test-fails _ _ (c .before .before .before .before .loop .i) (c .before .before .before .loop-test .taken) (sym (tested (c .before)) ∙ not-true (c .before .is-amount .result) (c .if1 .taken))
-
-add-i : tie.Need-add-i Inv-loop μ-loop
-add-i c = search needs
-
-loop-less : tie.Need-loop-less Inv-loop μ-loop
-loop-less c = search needs
 
 loop-again : tie.Need-loop-again Inv-loop μ-loop
 loop-again c = (search needs, test-more _ _ (c .before .before .before .before .loop .inv .1) (sym (tested (c .before)) ∙ not-false (c .before .is-amount .result) (c .if1 .left)))
@@ -64,11 +49,11 @@ around64-spec =
     Inv-loop
     μ-loop
     loop-holds
-    mul-is-amount
-    shared-slice-copy-out-is-amount
-    is-amount-requires
+    (λ c. search needs)
+    (λ c. search needs)
+    (λ c κs. search needs)
     returns
-    add-i
-    loop-less
+    (λ c. search needs)
+    (λ c. search needs)
     loop-again
     returns-2)

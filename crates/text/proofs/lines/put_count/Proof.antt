@@ -6,15 +6,6 @@ use borrow.Author.Needs.{needs}
 use Rattle.text.proofs.lines.put_count.Statement.{statement}
 use Rattle.text.proofs.lines.put_count.Tie as tie
 
-put-bytes-requires : tie.Need-put-bytes-requires
-put-bytes-requires c κs = search needs
-
-put-byte-requires : tie.Need-put-byte-requires
-put-byte-requires c κs = search needs
-
-put-decimal-requires : tie.Need-put-decimal-requires
-put-decimal-requires c κs = search needs
-
 put-byte-requires-2 : tie.Need-put-byte-requires-2
 put-byte-requires-2 c κs =
     let w = c .before .before .before in
@@ -22,9 +13,6 @@ put-byte-requires-2 c κs =
     let b = w .before .before .before .before .put-byte .ensures in
     let d = w .put-decimal .ensures in
     omega (arith, a .next, b .next, d .next, same-long a, same-long b, same-long d, decimal-few 19 (w .before .before .before .before .before .before .before .before .before .before .before .before .args .n) (omega arith))
-
-same-length : tie.Need-same-length
-same-length c = search needs
 
 returns : tie.Need-returns
 returns c =
@@ -40,9 +28,9 @@ pub put-count-spec : {M : Type 1} → statement M
 put-count-spec =
     tie.close
     (tie.spec
-    put-bytes-requires
-    put-byte-requires
-    put-decimal-requires
+    (λ c κs. search needs)
+    (λ c κs. search needs)
+    (λ c κs. search needs)
     put-byte-requires-2
-    same-length
+    (λ c. search needs)
     returns)

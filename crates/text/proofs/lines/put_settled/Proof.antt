@@ -7,18 +7,6 @@ use borrow.Author.Needs.{needs}
 use Rattle.text.proofs.lines.put_settled.Statement.{statement}
 use Rattle.text.proofs.lines.put_settled.Tie as tie
 
-put-statements-requires : tie.Need-put-statements-requires
-put-statements-requires c κs = search needs
-
-slice-aggregate-put-count : tie.Need-slice-aggregate-put-count
-slice-aggregate-put-count c = search needs
-
-put-count-requires : tie.Need-put-count-requires
-put-count-requires c κs = search needs
-
-slice-aggregate-put-count-2 : tie.Need-slice-aggregate-put-count-2
-slice-aggregate-put-count-2 c = search needs
-
 put-count-requires-2 : tie.Need-put-count-requires-2
 put-count-requires-2 c κs =
     let v = c .before .before .before .before in
@@ -27,9 +15,6 @@ put-count-requires-2 c κs =
     let a = u .put-statements .ensures in
     let b = v .put-count .ensures in
     omega (arith, a .1, b .next, same-long (a .0), same-long b, count-short wordsName (s .args .words) (omega arith), s .pre .2)
-
-slice-aggregate-put-count-3 : tie.Need-slice-aggregate-put-count-3
-slice-aggregate-put-count-3 c = search needs
 
 put-count-requires-3 : tie.Need-put-count-requires-3
 put-count-requires-3 c κs =
@@ -41,9 +26,6 @@ put-count-requires-3 c κs =
     let b = v .put-count .ensures in
     let d = w .put-count2 .ensures in
     omega (arith, a .1, b .next, d .next, same-long (a .0), same-long b, same-long d, count-short wordsName (s .args .words) (omega arith), count-short messagesName (s .args .messages) (omega arith), s .pre .2)
-
-same-length : tie.Need-same-length
-same-length c = search needs
 
 returns : tie.Need-returns
 unfolding settledText
@@ -57,12 +39,12 @@ pub put-settled-spec : {M : Type 1} → statement M
 put-settled-spec =
     tie.close
     (tie.spec
-    put-statements-requires
-    slice-aggregate-put-count
-    put-count-requires
-    slice-aggregate-put-count-2
+    (λ c κs. search needs)
+    (λ c. search needs)
+    (λ c κs. search needs)
+    (λ c. search needs)
     put-count-requires-2
-    slice-aggregate-put-count-3
+    (λ c. search needs)
     put-count-requires-3
-    same-length
+    (λ c. search needs)
     returns)

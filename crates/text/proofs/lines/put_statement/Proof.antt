@@ -18,9 +18,6 @@ start v = v .before .before .before .before .before .before .before .before .bef
 amounts : (v : tie.After-put-amount) → Put (v .before .before .before .before .put-byte .result) (signedDecimal (start v .args .z)) (v .before .before .before .before .put-byte .last .0) (v .put-amount .last .0) (v .put-amount .result)
 amounts v = reworded (ap signedDecimal (toZ-ofZ {w = w64} (start v .fits .z))) (v .put-amount .ensures)
 
-put-decimal-requires : tie.Need-put-decimal-requires
-put-decimal-requires c κs = search needs
-
 put-byte-requires : tie.Need-put-byte-requires
 put-byte-requires c κs =
     let a = c .before .before .before .put-decimal .ensures in
@@ -42,9 +39,6 @@ put-byte-requires-2 c κs =
     let d = amounts v in
     omega (arith, a .next, b .next, d .next, same-long a, same-long b, same-long d, decimal-few 19 (s .args .g) (omega arith), signed-few 18 (s .args .z) (abs-64 (s .args .z) (s .fits .z)))
 
-same-length : tie.Need-same-length
-same-length c = search needs
-
 returns : tie.Need-returns
 returns c =
     let w = c .before .before in
@@ -59,9 +53,9 @@ pub put-statement-spec : {M : Type 1} → statement M
 put-statement-spec =
     tie.close
     (tie.spec
-    put-decimal-requires
+    (λ c κs. search needs)
     put-byte-requires
     put-amount-requires
     put-byte-requires-2
-    same-length
+    (λ c. search needs)
     returns)

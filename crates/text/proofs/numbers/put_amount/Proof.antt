@@ -14,18 +14,6 @@ use Rattle.text.proofs.numbers.put_amount.Tie as tie
 sized : (k : tie.After-size) → k .size .result ≡ natAbs (k .before .before .args .z)
 sized k = k .size .ensures ∙ ap natAbs (toZ-ofZ {w = w64} (k .before .before .fits .z))
 
-size-requires : tie.Need-size-requires
-size-requires c κs = search needs
-
-put-byte-requires : tie.Need-put-byte-requires
-put-byte-requires c κs = search needs
-
-put-decimal-requires : tie.Need-put-decimal-requires
-put-decimal-requires c κs = search needs
-
-same-length : tie.Need-same-length
-same-length c = search needs
-
 returns : tie.Need-returns
 returns c =
     let b = c .before .before .before .before .before .before in
@@ -33,12 +21,6 @@ returns c =
     let s = t .before .before .before in
     let n = below-zero {w = w64} (s .args .z) (s .fits .z) (t .if1 .taken) in
     reworded (signed-below (n .1) (sized (t .before))) (behind (b .put-byte .ensures) (c .before .before .put-decimal .ensures))
-
-put-decimal-requires-2 : tie.Need-put-decimal-requires-2
-put-decimal-requires-2 c κs = search needs
-
-same-length-2 : tie.Need-same-length-2
-same-length-2 c = search needs
 
 returns-2 : tie.Need-returns-2
 returns-2 c =
@@ -51,11 +33,11 @@ pub put-amount-spec : {M : Type 1} → statement M
 put-amount-spec =
     tie.close
     (tie.spec
-    size-requires
-    put-byte-requires
-    put-decimal-requires
-    same-length
+    (λ c κs. search needs)
+    (λ c κs. search needs)
+    (λ c κs. search needs)
+    (λ c. search needs)
     returns
-    put-decimal-requires-2
-    same-length-2
+    (λ c κs. search needs)
+    (λ c. search needs)
     returns-2)

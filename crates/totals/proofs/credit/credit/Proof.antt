@@ -114,14 +114,8 @@ credit-one-requires c κs =
       statement-in = subst (λ (z : ℤ). natAbs z ≤ 1_000_000_000_000_000) (sym (old-is e)) (around-at 1_000_000_000_000_000 (s .args .m) (now (s .args .statement)) g (s .pre .1 .0 .1 .words-in) (e .loop-test .taken));
     }
 
-mul-index : tie.Need-mul-index Inv-loop μ-loop
-mul-index c = search needs
-
 element-copy-out-index : tie.Need-element-copy-out-index Inv-loop μ-loop
 element-copy-out-index c = let e = c .before .before .before .before .before in omega (arith, e .loop-test .taken, entry e .pre .0 .1)
-
-index-requires : tie.Need-index-requires Inv-loop μ-loop
-index-requires c κs = search needs
 
 -- The link goes to the next grocer of box a.
 link : (c : tie.After-index Inv-loop μ-loop) →
@@ -187,9 +181,9 @@ credit-spec =
     loop-holds
     add-credit-one
     credit-one-requires
-    mul-index
+    (λ c. search needs)
     element-copy-out-index
-    index-requires
+    (λ c κs. search needs)
     loop-less
     loop-again
     same-length

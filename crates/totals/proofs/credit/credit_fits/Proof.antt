@@ -79,19 +79,10 @@ credit-word-requires c κs =
       statement-in = around-at 1_000_000_000_000_000 (s .args .m) (now (s .args .statement)) g (s .pre .1 .1 .words-in) (c .loop-test .taken);
     }
 
-amount-fits-requires : tie.Need-amount-fits-requires Inv-loop μ-loop
-amount-fits-requires c κs = search needs
-
 returns : tie.Need-returns Inv-loop μ-loop
 returns c =
     let e = c .before .before .before in
     sym (all-fails (entry e .args .m) (within (entry e)) (e .before .loop .g) (e .loop-test .taken) (sym (told (c .before)) ∙ not-true (c .before .amount-fits .result) (c .if1 .taken)))
-
-add-g : tie.Need-add-g Inv-loop μ-loop
-add-g c = search needs
-
-loop-less : tie.Need-loop-less Inv-loop μ-loop
-loop-less c = search needs
 
 loop-again : tie.Need-loop-again Inv-loop μ-loop
 loop-again c =
@@ -114,9 +105,9 @@ credit-fits-spec =
     loop-holds
     add-credit-word
     credit-word-requires
-    amount-fits-requires
+    (λ c κs. search needs)
     returns
-    add-g
-    loop-less
+    (λ c. search needs)
+    (λ c. search needs)
     loop-again
     returns-2)

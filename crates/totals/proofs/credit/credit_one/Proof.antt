@@ -27,21 +27,6 @@ told : (c : tie.After-is-credited) → c .is-credited .result ≡ test (c .befor
 unfolding credited
 told c = c .is-credited .ensures
 
-mul-is-credited : tie.Need-mul-is-credited
-mul-is-credited c = search needs
-
-shared-slice-read-is-credited : tie.Need-shared-slice-read-is-credited
-shared-slice-read-is-credited c = search needs
-
-mul-is-credited-2 : tie.Need-mul-is-credited-2
-mul-is-credited-2 c = search needs
-
-element-copy-out-is-credited : tie.Need-element-copy-out-is-credited
-element-copy-out-is-credited c = search needs
-
-is-credited-requires : tie.Need-is-credited-requires
-is-credited-requires c κs = search needs
-
 returns : tie.Need-returns
 returns c =
     let s = c .before .before .before .before .before in
@@ -50,40 +35,10 @@ returns c =
       sym (cond-no (test s) (set (now (s .args .statement)) (s .args .g) (old s +ℤ total s)) (now (s .args .statement)) is),
     )
 
-mul-plus : tie.Need-mul-plus
-mul-plus c = search needs
-
-slice-copy-out-plus : tie.Need-slice-copy-out-plus
-slice-copy-out-plus c = search needs
-
-mul-plus-2 : tie.Need-mul-plus-2
-mul-plus-2 c = search needs
-
-slice-copy-out-plus-2 : tie.Need-slice-copy-out-plus-2
-slice-copy-out-plus-2 c = search needs
-
 plus-requires : tie.Need-plus-requires
 plus-requires c κs =
     let s = c .before .before .before .before .before .before .before in
     sum-fits (old s) (total s) 1_000_000_000_000_000 (lit≤ tt) (s .pre .statement-in) (s .pre .total-in) (c .before .plus-arg .given) (c .plus-arg2 .given)
-
-mul-v : tie.Need-mul-v
-mul-v c = search needs
-
-slice-set-from-v : tie.Need-slice-set-from-v
-slice-set-from-v c = search needs
-
-mul-source : tie.Need-mul-source
-mul-source c = search needs
-
-slice-set-of-source : tie.Need-slice-set-of-source
-slice-set-of-source c = search needs
-
-same-length : tie.Need-same-length
-same-length c = search needs
-
-same-length-2 : tie.Need-same-length-2
-same-length-2 c = search needs
 
 returns-2 : tie.Need-returns-2
 returns-2 c =
@@ -99,21 +54,21 @@ pub credit-one-spec : {M : Type 1} → statement M
 credit-one-spec =
     tie.close
     (tie.spec
-    mul-is-credited
-    shared-slice-read-is-credited
-    mul-is-credited-2
-    element-copy-out-is-credited
-    is-credited-requires
+    (λ c. search needs)
+    (λ c. search needs)
+    (λ c. search needs)
+    (λ c. search needs)
+    (λ c κs. search needs)
     returns
-    mul-plus
-    slice-copy-out-plus
-    mul-plus-2
-    slice-copy-out-plus-2
+    (λ c. search needs)
+    (λ c. search needs)
+    (λ c. search needs)
+    (λ c. search needs)
     plus-requires
-    mul-v
-    slice-set-from-v
-    mul-source
-    slice-set-of-source
-    same-length
-    same-length-2
+    (λ c. search needs)
+    (λ c. search needs)
+    (λ c. search needs)
+    (λ c. search needs)
+    (λ c. search needs)
+    (λ c. search needs)
     returns-2)

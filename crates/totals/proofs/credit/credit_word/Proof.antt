@@ -27,44 +27,11 @@ told : (c : tie.After-is-credited) → c .is-credited .result ≡ test (c .befor
 unfolding credited
 told c = c .is-credited .ensures
 
-mul-is-credited : tie.Need-mul-is-credited
-mul-is-credited c = search needs
-
-shared-slice-read-is-credited : tie.Need-shared-slice-read-is-credited
-shared-slice-read-is-credited c = search needs
-
-mul-is-credited-2 : tie.Need-mul-is-credited-2
-mul-is-credited-2 c = search needs
-
-element-copy-out-is-credited : tie.Need-element-copy-out-is-credited
-element-copy-out-is-credited c = search needs
-
-is-credited-requires : tie.Need-is-credited-requires
-is-credited-requires c κs = search needs
-
-mul-result : tie.Need-mul-result
-mul-result c = search needs
-
-shared-slice-copy-out-result : tie.Need-shared-slice-copy-out-result
-shared-slice-copy-out-result c = search needs
-
 returns : tie.Need-returns
 returns c =
     let s = c .before .before .before .before .before .before in
     let is : test s ≡ false = sym (told (c .before .before)) ∙ not-true (c .before .before .is-credited .result) (c .before .if1 .taken) in
     read64 (old s) (c .result .given) ∙ sym (cond-no (test s) (old s +ℤ total s) (old s) is)
-
-mul-plus : tie.Need-mul-plus
-mul-plus c = search needs
-
-shared-slice-copy-out-plus : tie.Need-shared-slice-copy-out-plus
-shared-slice-copy-out-plus c = search needs
-
-mul-plus-2 : tie.Need-mul-plus-2
-mul-plus-2 c = search needs
-
-shared-slice-copy-out-plus-2 : tie.Need-shared-slice-copy-out-plus-2
-shared-slice-copy-out-plus-2 c = search needs
 
 plus-requires : tie.Need-plus-requires
 plus-requires c κs =
@@ -82,17 +49,17 @@ pub credit-word-spec : {M : Type 1} → statement M
 credit-word-spec =
     tie.close
     (tie.spec
-    mul-is-credited
-    shared-slice-read-is-credited
-    mul-is-credited-2
-    element-copy-out-is-credited
-    is-credited-requires
-    mul-result
-    shared-slice-copy-out-result
+    (λ c. search needs)
+    (λ c. search needs)
+    (λ c. search needs)
+    (λ c. search needs)
+    (λ c κs. search needs)
+    (λ c. search needs)
+    (λ c. search needs)
     returns
-    mul-plus
-    shared-slice-copy-out-plus
-    mul-plus-2
-    shared-slice-copy-out-plus-2
+    (λ c. search needs)
+    (λ c. search needs)
+    (λ c. search needs)
+    (λ c. search needs)
     plus-requires
     returns-2)

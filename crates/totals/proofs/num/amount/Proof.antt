@@ -10,12 +10,6 @@ use borrow.Author.Needs.{needs}
 use Rattle.totals.proofs.num.amount.Statement.{statement}
 use Rattle.totals.proofs.num.amount.Tie as tie
 
-wide-count-requires : tie.Need-wide-count-requires
-wide-count-requires c κs = search needs
-
-wide-price-requires : tie.Need-wide-price-requires
-wide-price-requires c κs = search needs
-
 -- What the machine multiplies is count × price.
 whole : (c : tie.After-wide-price) → toZ w64 (ofZ w64 (c .before .wide-count .result)) *ℤ toZ w64 (ofZ w64 (c .wide-price .result)) ≡ c .before .before .args .count *ℤ pos (c .before .before .args .price)
 whole c = cc (read64 (c .before .wide-count .result) (c .before .wide-count .ok), read64 (c .wide-price .result) (c .wide-price .ok), read32 (c .before .before .args .count) (c .before .before .fits .count .sfits))
@@ -27,4 +21,4 @@ returns : tie.Need-returns
 returns c = cc (whole (c .before), read64 (c .times .result) (c .times .ok))
 
 pub amount-spec : {M : Type 1} → statement M
-amount-spec = tie.close (tie.spec wide-count-requires wide-price-requires times-requires returns)
+amount-spec = tie.close (tie.spec (λ c κs. search needs) (λ c κs. search needs) times-requires returns)

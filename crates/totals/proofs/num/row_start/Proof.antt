@@ -7,9 +7,6 @@ use borrow.Author.Needs.{needs}
 use Rattle.totals.proofs.num.row_start.Statement.{statement}
 use Rattle.totals.proofs.num.row_start.Tie as tie
 
-index-requires : tie.Need-index-requires
-index-requires c κs = search needs
-
 mul-result : tie.Need-mul-result
 mul-result c = let few : c .index .result ≤ 15 = omega arith in omega (arith, mul-le-mul few (c .before .pre .0))
 
@@ -17,4 +14,4 @@ returns : tie.Need-returns
 returns c = ap (λ (x : ℕ). x * c .before .args .m) (c .index .ensures)
 
 pub row-start-spec : {M : Type 1} → statement M
-row-start-spec = tie.close (tie.spec index-requires mul-result returns)
+row-start-spec = tie.close (tie.spec (λ c κs. search needs) mul-result returns)

@@ -92,17 +92,11 @@ row-start-requires c κs = let s = c .before .before .before .before .before in 
 row-start-requires-2 : tie.Need-row-start-requires-2 Inv-loop μ-loop
 row-start-requires-2 c κs = let s = c .before .before .before .before .before .before in (omega (arith, s .pre .0 .grocers-in), omega (arith, s .pre .0 .boxes-in, s .pre .1 .1 .1 .0))
 
-index-requires : tie.Need-index-requires Inv-loop μ-loop
-index-requires c κs = search needs
-
 mul-index : tie.Need-mul-index Inv-loop μ-loop
 mul-index c = let s = entry (c .before) in omega (arith, c .index .ensures, s .pre .0 .boxes-in, s .pre .1 .1 .1 .0)
 
 element-copy-out-index : tie.Need-element-copy-out-index Inv-loop μ-loop
 element-copy-out-index c = let s = entry (c .before) in omega (arith, c .index .ensures, s .pre .0 .boxes-in, s .pre .1 .1 .1 .0)
-
-index-requires-2 : tie.Need-index-requires-2 Inv-loop μ-loop
-index-requires-2 c κs = search needs
 
 -- The walk begins at the first tally of box a.
 first-of : (c : tie.After-index2 Inv-loop μ-loop) → let s = entry (rows c) in Skips (s .args .t) (now (s .args .holder)) (s .args .a) 0 (c .index2 .result)
@@ -138,9 +132,6 @@ mul-index-2 c = let e = c .before .before .before in omega (arith, e .loop-test 
 
 element-copy-out-index-2 : tie.Need-element-copy-out-index-2 Inv-loop μ-loop
 element-copy-out-index-2 c = let e = c .before .before .before in omega (arith, e .loop-test .taken, entry (rows (e .before .before)) .pre .0 .tallies-in)
-
-index-requires-3 : tie.Need-index-requires-3 Inv-loop μ-loop
-index-requires-3 c κs = search needs
 
 -- The link goes to the next tally of box a.
 link : (c : tie.After-index3 Inv-loop μ-loop) →
@@ -195,15 +186,15 @@ add-products-spec =
     μ-loop
     row-start-requires
     row-start-requires-2
-    index-requires
+    (λ c κs. search needs)
     mul-index
     element-copy-out-index
-    index-requires-2
+    (λ c κs. search needs)
     loop-holds
     add-tally-requires
     mul-index-2
     element-copy-out-index-2
-    index-requires-3
+    (λ c κs. search needs)
     loop-less
     loop-again
     same-length

@@ -43,60 +43,15 @@ sum-is c =
     let s = c .before .before .before .before .before .before .before .before .before .before .before .before .before .before .before in
     read-sum (c .plus-arg .given) (c .before .before .before .amount .ok) (ap (λ (g : ℕ). getD (now (s .args .row)) (s .args .base + g) (pos 0)) (c .before .index2 .ensures)) (amount-is (c .before .before .before))
 
-is-taken-requires : tie.Need-is-taken-requires
-is-taken-requires c κs = search needs
-
 returns : tie.Need-returns
 returns c =
     let s = c .before .before .before .before .before .before .before in
     raised-not (now (s .args .row)) (place s) (taken s) (product s) (sym (c .before .is-taken .ensures) ∙ not-true (c .before .is-taken .result) (c .if1 .taken))
 
-mul-index : tie.Need-mul-index
-mul-index c = search needs
-
-shared-slice-read-index : tie.Need-shared-slice-read-index
-shared-slice-read-index c = search needs
-
-index-requires : tie.Need-index-requires
-index-requires c κs = search needs
-
-add-p : tie.Need-add-p
-add-p c = search needs
-
-mul-amount : tie.Need-mul-amount
-mul-amount c = search needs
-
-shared-slice-copy-out-amount : tie.Need-shared-slice-copy-out-amount
-shared-slice-copy-out-amount c = search needs
-
-mul-amount-2 : tie.Need-mul-amount-2
-mul-amount-2 c = search needs
-
-shared-slice-read-amount : tie.Need-shared-slice-read-amount
-shared-slice-read-amount c = search needs
-
 amount-requires : tie.Need-amount-requires
 amount-requires c κs =
     let s = c .before .before .before .before .before .before .before .before .before .before .before in
     (rw (count-is s) (s .pre .0 .count-in), rw (c .before .before .index .ensures) (s .pre .0 .price-in))
-
-mul-index-2 : tie.Need-mul-index-2
-mul-index-2 c = search needs
-
-shared-slice-read-index-2 : tie.Need-shared-slice-read-index-2
-shared-slice-read-index-2 c = search needs
-
-index-requires-2 : tie.Need-index-requires-2
-index-requires-2 c κs = search needs
-
-add-g : tie.Need-add-g
-add-g c = search needs
-
-mul-plus : tie.Need-mul-plus
-mul-plus c = search needs
-
-slice-copy-out-plus : tie.Need-slice-copy-out-plus
-slice-copy-out-plus c = search needs
 
 plus-requires : tie.Need-plus-requires
 plus-requires c κs =
@@ -108,15 +63,6 @@ plus-requires c κs =
       abs-times-le (getD (now (s .args .counts)) (s .args .i) (pos 0)) (pos (getD (now (s .args .prices)) (s .args .at + getD (now (s .args .offer)) (s .args .i) 0) 0)) (s .pre .0 .count-in) (s .pre .0 .price-in),
     ))
 
-mul-v : tie.Need-mul-v
-mul-v c = search needs
-
-slice-set-from-v : tie.Need-slice-set-from-v
-slice-set-from-v c = search needs
-
-same-length : tie.Need-same-length
-same-length c = search needs
-
 returns-2 : tie.Need-returns-2
 returns-2 c =
     let s = c .before .before .before .before .before .before .before .before .before .before .before .before .before .before .before .before in
@@ -127,25 +73,25 @@ pub add-tally-spec : {M : Type 1} → statement M
 add-tally-spec =
     tie.close
     (tie.spec
-    is-taken-requires
+    (λ c κs. search needs)
     returns
-    mul-index
-    shared-slice-read-index
-    index-requires
-    add-p
-    mul-amount
-    shared-slice-copy-out-amount
-    mul-amount-2
-    shared-slice-read-amount
+    (λ c. search needs)
+    (λ c. search needs)
+    (λ c κs. search needs)
+    (λ c. search needs)
+    (λ c. search needs)
+    (λ c. search needs)
+    (λ c. search needs)
+    (λ c. search needs)
     amount-requires
-    mul-index-2
-    shared-slice-read-index-2
-    index-requires-2
-    add-g
-    mul-plus
-    slice-copy-out-plus
+    (λ c. search needs)
+    (λ c. search needs)
+    (λ c κs. search needs)
+    (λ c. search needs)
+    (λ c. search needs)
+    (λ c. search needs)
     plus-requires
-    mul-v
-    slice-set-from-v
-    same-length
+    (λ c. search needs)
+    (λ c. search needs)
+    (λ c. search needs)
     returns-2)

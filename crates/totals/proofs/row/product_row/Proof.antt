@@ -92,12 +92,6 @@ add-tally-requires c κs =
     let s = entry (began (c .before)) in
     (tally-in (tables s) (prices s) (s .args .a) (s .args .from) (began (c .before) .row-start .result) (s .pre .0) (s .pre .1 .0) (s .pre .1 .1 .1) (began (c .before) .row-start .ensures) (c .before .before .loop .i) (c .before .loop-test .taken), (omega (arith, grocer-in (c .before), c .before .before .loop .inv .1), rw (from-0 (place s (c .before .before .loop .i))) (small (c .before))))
 
-add-i : tie.Need-add-i Inv-loop μ-loop
-add-i c = search needs
-
-loop-less : tie.Need-loop-less Inv-loop μ-loop
-loop-less c = search needs
-
 loop-again : tie.Need-loop-again Inv-loop μ-loop
 loop-again c =
     let e = c .before .before .before in
@@ -136,7 +130,7 @@ product-row-spec =
     loop-holds
     slice-aggregate-add-tally
     add-tally-requires
-    add-i
-    loop-less
+    (λ c. search needs)
+    (λ c. search needs)
     loop-again
     returns)

@@ -36,24 +36,9 @@ word c =
 loop-holds : tie.Need-loop-holds Inv-loop μ-loop
 loop-holds c = (search needs, all-start _)
 
-mul-amount-fits : tie.Need-mul-amount-fits Inv-loop μ-loop
-mul-amount-fits c = search needs
-
-element-copy-out-amount-fits : tie.Need-element-copy-out-amount-fits Inv-loop μ-loop
-element-copy-out-amount-fits c = search needs
-
-amount-fits-requires : tie.Need-amount-fits-requires Inv-loop μ-loop
-amount-fits-requires c κs = search needs
-
 returns : tie.Need-returns Inv-loop μ-loop
 unfolding around
 returns c = sym (all-fails _ (within (c .before .before .before .before .before)) (c .before .before .before .before .loop .g) (omega arith) (sym (word (c .before)) ∙ not-true (c .before .amount-fits .result) (c .if1 .taken)))
-
-add-g : tie.Need-add-g Inv-loop μ-loop
-add-g c = search needs
-
-loop-less : tie.Need-loop-less Inv-loop μ-loop
-loop-less c = search needs
 
 loop-again : tie.Need-loop-again Inv-loop μ-loop
 loop-again c =
@@ -74,11 +59,11 @@ row-fits-spec =
     Inv-loop
     μ-loop
     loop-holds
-    mul-amount-fits
-    element-copy-out-amount-fits
-    amount-fits-requires
+    (λ c. search needs)
+    (λ c. search needs)
+    (λ c κs. search needs)
     returns
-    add-g
-    loop-less
+    (λ c. search needs)
+    (λ c. search needs)
     loop-again
     returns-2)

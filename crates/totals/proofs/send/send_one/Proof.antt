@@ -21,21 +21,6 @@ told : (c : tie.After-in-message) → c .in-message .result ≡ test (c .before 
 unfolding wordIn
 told c = c .in-message .ensures
 
-mul-in-message : tie.Need-mul-in-message
-mul-in-message c = search needs
-
-shared-slice-read-in-message : tie.Need-shared-slice-read-in-message
-shared-slice-read-in-message c = search needs
-
-mul-in-message-2 : tie.Need-mul-in-message-2
-mul-in-message-2 c = search needs
-
-element-copy-out-in-message : tie.Need-element-copy-out-in-message
-element-copy-out-in-message c = search needs
-
-in-message-requires : tie.Need-in-message-requires
-in-message-requires c κs = search needs
-
 returns : tie.Need-returns
 returns c =
     let s = c .before .before .before .before .before in
@@ -44,30 +29,6 @@ returns c =
       sym (cond-no (test s) (set (now (s .args .working)) (s .args .at) (pos 0)) (now (s .args .working)) is),
       sym (cond-no (test s) (set (now (s .args .transit)) (s .args .at) (getD (now (s .args .working)) (s .args .at) (pos 0))) (now (s .args .transit)) is),
     )
-
-mul-v : tie.Need-mul-v
-mul-v c = search needs
-
-slice-copy-out-v : tie.Need-slice-copy-out-v
-slice-copy-out-v c = search needs
-
-mul-v-2 : tie.Need-mul-v-2
-mul-v-2 c = search needs
-
-slice-set-from-v : tie.Need-slice-set-from-v
-slice-set-from-v c = search needs
-
-mul-working : tie.Need-mul-working
-mul-working c = search needs
-
-slice-set-of-working : tie.Need-slice-set-of-working
-slice-set-of-working c = search needs
-
-same-length : tie.Need-same-length
-same-length c = search needs
-
-same-length-2 : tie.Need-same-length-2
-same-length-2 c = search needs
 
 returns-2 : tie.Need-returns-2
 returns-2 c =
@@ -84,18 +45,18 @@ pub send-one-spec : {M : Type 1} → statement M
 send-one-spec =
     tie.close
     (tie.spec
-    mul-in-message
-    shared-slice-read-in-message
-    mul-in-message-2
-    element-copy-out-in-message
-    in-message-requires
+    (λ c. search needs)
+    (λ c. search needs)
+    (λ c. search needs)
+    (λ c. search needs)
+    (λ c κs. search needs)
     returns
-    mul-v
-    slice-copy-out-v
-    mul-v-2
-    slice-set-from-v
-    mul-working
-    slice-set-of-working
-    same-length
-    same-length-2
+    (λ c. search needs)
+    (λ c. search needs)
+    (λ c. search needs)
+    (λ c. search needs)
+    (λ c. search needs)
+    (λ c. search needs)
+    (λ c. search needs)
+    (λ c. search needs)
     returns-2)

@@ -109,14 +109,8 @@ add-sent c =
     let g = e .before .loop .g in
     omega (arith, count-le g (test s), only-le (test s g) 1, c .before .before .send-one .ensures .0, e .before .loop .inv .1, e .loop-test .taken, s .pre .0 .1)
 
-mul-index : tie.Need-mul-index Inv-loop μ-loop
-mul-index c = search needs
-
 element-copy-out-index : tie.Need-element-copy-out-index Inv-loop μ-loop
 element-copy-out-index c = let e = c .before .before .before .before .before in omega (arith, e .loop-test .taken, entry e .pre .0 .1)
-
-index-requires : tie.Need-index-requires Inv-loop μ-loop
-index-requires c κs = search needs
 
 -- The link goes to the next grocer of box b.
 link : (c : tie.After-index Inv-loop μ-loop) →
@@ -188,9 +182,9 @@ send-totals-spec =
     add-send-one
     send-one-requires
     add-sent
-    mul-index
+    (λ c. search needs)
     element-copy-out-index
-    index-requires
+    (λ c κs. search needs)
     loop-less
     loop-again
     same-length

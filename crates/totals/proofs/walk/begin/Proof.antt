@@ -8,18 +8,6 @@ use denote.Ref.{now}
 use Rattle.totals.proofs.walk.begin.Statement.{statement}
 use Rattle.totals.proofs.walk.begin.Tie as tie
 
-index-requires : tie.Need-index-requires
-index-requires c κs = search needs
-
-mul-index : tie.Need-mul-index
-mul-index c = search needs
-
-element-copy-out-index : tie.Need-element-copy-out-index
-element-copy-out-index c = search needs
-
-index-requires-2 : tie.Need-index-requires-2
-index-requires-2 c κs = search needs
-
 returns : tie.Need-returns
 returns c =
     let s = c .before .before .before .before in
@@ -31,8 +19,8 @@ pub begin-spec : {M : Type 1} → statement M
 begin-spec =
     tie.close
     (tie.spec
-    index-requires
-    mul-index
-    element-copy-out-index
-    index-requires-2
+    (λ c κs. search needs)
+    (λ c. search needs)
+    (λ c. search needs)
+    (λ c κs. search needs)
     returns)

@@ -13,33 +13,18 @@ Inv-loop k prices totals done rows₀ n r₀ rows r = (r ≤ n) × (CountedTo k 
 abbrev μ-loop : tie.MeasureT-loop
 μ-loop k prices totals done rows₀ n r₀ rows r = n - r
 
-mul-n : tie.Need-mul-n Inv-loop μ-loop
-mul-n c = search needs
-
 loop-holds : tie.Need-loop-holds Inv-loop μ-loop
 loop-holds c = (search needs, counted-first _ _ _ _ _ (length-replicate {A = ℕ} 96 0))
-
-div-kind : tie.Need-div-kind Inv-loop μ-loop
-div-kind c = search needs
 
 add-kind : tie.Need-add-kind Inv-loop μ-loop
 add-kind c =
     let s = c .before .before .before in
     omega (arith, kind-few (s .args .k) (c .before .loop .r) (s .pre .some) (omega arith))
 
-rem-a : tie.Need-rem-a Inv-loop μ-loop
-rem-a c = search needs
-
 renew-row-requires : tie.Need-renew-row-requires Inv-loop μ-loop
 renew-row-requires c κs =
     let s = c .before .before .before .before in
     (row-in (s .args .k) (c .before .before .loop .r) _ (s .pre) (omega arith), c .before .before .loop .inv .1 .long)
-
-add-r : tie.Need-add-r Inv-loop μ-loop
-add-r c = search needs
-
-loop-less : tie.Need-loop-less Inv-loop μ-loop
-loop-less c = search needs
 
 loop-again : tie.Need-loop-again Inv-loop μ-loop
 loop-again c =
@@ -59,13 +44,13 @@ all-rows-spec =
     (tie.spec
     Inv-loop
     μ-loop
-    mul-n
+    (λ c. search needs)
     loop-holds
-    div-kind
+    (λ c. search needs)
     add-kind
-    rem-a
+    (λ c. search needs)
     renew-row-requires
-    add-r
-    loop-less
+    (λ c. search needs)
+    (λ c. search needs)
     loop-again
     returns)

@@ -21,9 +21,6 @@ Inv-loop k kind a prices totals done first asks found₀ b₀ found b = (b ≤ k
 abbrev μ-loop : tie.MeasureT-loop
 μ-loop k kind a prices totals done first asks found₀ b₀ found b = k - b
 
-is-ready-requires : tie.Need-is-ready-requires Inv-loop μ-loop
-is-ready-requires c κs = search needs
-
 returns : tie.Need-returns Inv-loop μ-loop
 returns c =
     let s = c .before .before .before in
@@ -39,9 +36,6 @@ loop-holds c = (search needs, refl)
 is-open-requires : tie.Need-is-open-requires Inv-loop μ-loop
 is-open-requires c κs = (search needs, λ asks. c .before .before .before .is-ready .ensures)
 
-one-requires : tie.Need-one-requires Inv-loop μ-loop
-one-requires c κs = search needs
-
 add-found : tie.Need-add-found Inv-loop μ-loop
 add-found c =
     let l = c .before .before .before .loop in
@@ -52,12 +46,6 @@ add-found c =
           (opened _ _ _ _ (s .args .kind) (s .args .a) (l .b) (c .before .is-open .result) (c .one .result) (search needs) (c .before .is-open .ensures) (c .one .ensures))
           (omega (arith, s .pre .boxes-in, c .before .before .loop-test .taken)),
     )
-
-add-b : tie.Need-add-b Inv-loop μ-loop
-add-b c = search needs
-
-loop-less : tie.Need-loop-less Inv-loop μ-loop
-loop-less c = search needs
 
 loop-again : tie.Need-loop-again Inv-loop μ-loop
 loop-again c =
@@ -82,13 +70,13 @@ count-row-spec =
     (tie.spec
     Inv-loop
     μ-loop
-    is-ready-requires
+    (λ c κs. search needs)
     returns
     loop-holds
     is-open-requires
-    one-requires
+    (λ c κs. search needs)
     add-found
-    add-b
-    loop-less
+    (λ c. search needs)
+    (λ c. search needs)
     loop-again
     returns-2)

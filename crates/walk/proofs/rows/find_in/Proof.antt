@@ -15,20 +15,8 @@ Inv-loop k c rows prices totals done n left₀ r₀ left r = (r ≤ n) × (left 
 abbrev μ-loop : tie.MeasureT-loop
 μ-loop k c rows prices totals done n left₀ r₀ left r = n - r
 
-mul-n : tie.Need-mul-n Inv-loop μ-loop
-mul-n c = search needs
-
 loop-holds : tie.Need-loop-holds Inv-loop μ-loop
 loop-holds c = (search needs, omega (arith, rows-none (now (c .before .args .rows))))
-
-cast-i : tie.Need-cast-i Inv-loop μ-loop
-cast-i c = search needs
-
-mul-found : tie.Need-mul-found Inv-loop μ-loop
-mul-found c = search needs
-
-element-copy-out-found : tie.Need-element-copy-out-found Inv-loop μ-loop
-element-copy-out-found c = search needs
 
 find-row-requires : tie.Need-find-row-requires Inv-loop μ-loop
 find-row-requires c κs =
@@ -42,12 +30,6 @@ returns c =
     let l = c .before .before .before .before .loop in
     let s = c .before .before .before .before .before .before in
     rw (found-row (s .args .k) _ _ _ _ (s .pre .1 .0) (l .r) (l .left) _ (l .inv .1) (omega arith)) at (c .find-row .ensures)
-
-add-r : tie.Need-add-r Inv-loop μ-loop
-add-r c = search needs
-
-loop-less : tie.Need-loop-less Inv-loop μ-loop
-loop-less c = search needs
 
 loop-again : tie.Need-loop-again Inv-loop μ-loop
 loop-again c =
@@ -67,14 +49,14 @@ find-in-spec =
     (tie.spec
     Inv-loop
     μ-loop
-    mul-n
+    (λ c. search needs)
     loop-holds
-    cast-i
-    mul-found
-    element-copy-out-found
+    (λ c. search needs)
+    (λ c. search needs)
+    (λ c. search needs)
     find-row-requires
     returns
-    add-r
-    loop-less
+    (λ c. search needs)
+    (λ c. search needs)
     loop-again
     returns-2)

@@ -39,16 +39,10 @@ open-at s b l t e =
 some-ready : (s : Start) → 1 ≤ rowCount (s .args .k) (now (s .args .prices)) (now (s .args .totals)) (now (s .args .done)) (rowOf (s .args .k) (s .args .r / s .args .k + 1) (s .args .r % s .args .k))
 some-ready s = rw (row-digits (s .args .k) (s .args .r)) (omega (arith, s .pre .1 .1))
 
-div-kind : tie.Need-div-kind Inv-loop μ-loop
-div-kind c = search needs
-
 add-kind : tie.Need-add-kind Inv-loop μ-loop
 add-kind c =
     let s = c .before in
     omega (arith, kind-few (s .args .k) (s .args .r) (s .pre .0 .some) (s .pre .1 .0))
-
-rem-a : tie.Need-rem-a Inv-loop μ-loop
-rem-a c = search needs
 
 loop-holds : tie.Need-loop-holds Inv-loop μ-loop
 loop-holds c = let s = c .before in (search needs, search-first (s .args .k) _ _ _ (s .args .r) (s .args .c))
@@ -72,20 +66,11 @@ returns c =
           (digits-lt {q = s .args .r} {m = 6 * s .args .k} (s .pre .1 .0) lb) (c .if1 .taken));
     }
 
-one-requires : tie.Need-one-requires Inv-loop μ-loop
-one-requires c κs = search needs
-
 sub-left : tie.Need-sub-left Inv-loop μ-loop
 sub-left c =
     let l = c .before .before .before .before .loop in
     let s = c .before .before .before .before .before .before in
     less-fits (listedBy _ _ _ _) (s .args .r * s .args .k + l .b) (l .left) _ (l .inv .1) _ _ (open-at s (l .b) (c .before .before .before .loop-test .taken) _ (c .before .before .is-open .ensures)) (c .one .ensures) (c .before .if1 .left)
-
-add-b : tie.Need-add-b Inv-loop μ-loop
-add-b c = search needs
-
-loop-less : tie.Need-loop-less Inv-loop μ-loop
-loop-less c = search needs
 
 loop-again : tie.Need-loop-again Inv-loop μ-loop
 loop-again c =
@@ -108,15 +93,15 @@ find-row-spec =
     (tie.spec
     Inv-loop
     μ-loop
-    div-kind
+    (λ c. search needs)
     add-kind
-    rem-a
+    (λ c. search needs)
     loop-holds
     is-open-requires
     returns
-    one-requires
+    (λ c κs. search needs)
     sub-left
-    add-b
-    loop-less
+    (λ c. search needs)
+    (λ c. search needs)
     loop-again
     returns-2)

@@ -5,9 +5,6 @@ use Rattle.walk.proofs.ByRow.{row-below}
 use Rattle.walk.proofs.rows.one_less.Statement.{statement}
 use Rattle.walk.proofs.rows.one_less.Tie as tie
 
-sub-r : tie.Need-sub-r
-sub-r c = search needs
-
 mul-r : tie.Need-mul-r
 mul-r c = omega (arith, row-below (c .args .k) (c .args .kind) (c .args .a) (c .pre .boxes-in) (c .pre .kind-to) (c .pre .kind-from) (c .pre .a-in))
 
@@ -23,25 +20,19 @@ mul-rows c = omega (arith, row-below (c .args .k) (c .args .kind) (c .args .a) (
 element-copy-out-rows : tie.Need-element-copy-out-rows
 element-copy-out-rows c = omega (arith, row-below (c .args .k) (c .args .kind) (c .args .a) (c .pre .boxes-in) (c .pre .kind-to) (c .pre .kind-from) (c .pre .a-in))
 
-sub-rows : tie.Need-sub-rows
-sub-rows c = search needs
-
 element-write-rows : tie.Need-element-write-rows
 element-write-rows c = let s = c .before in omega (arith, row-below (s .args .k) (s .args .kind) (s .args .a) (s .pre .boxes-in) (s .pre .kind-to) (s .pre .kind-from) (s .pre .a-in))
-
-returns : tie.Need-returns
-returns c = search needs
 
 pub one-less-spec : {M : Type 1} → statement M
 one-less-spec =
     tie.close
     (tie.spec
-    sub-r
+    (λ c. search needs)
     mul-r
     add-r
     cast-r
     mul-rows
     element-copy-out-rows
-    sub-rows
+    (λ c. search needs)
     element-write-rows
-    returns)
+    (λ c. search needs))

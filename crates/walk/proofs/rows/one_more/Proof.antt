@@ -6,15 +6,6 @@ use Rattle.walk.proofs.ByRow.{row-below}
 use Rattle.walk.proofs.rows.one_more.Statement.{statement}
 use Rattle.walk.proofs.rows.one_more.Tie as tie
 
-permitted-requires : tie.Need-permitted-requires
-permitted-requires c κs = search needs
-
-one-requires : tie.Need-one-requires
-one-requires c κs = search needs
-
-sub-r : tie.Need-sub-r
-sub-r c = search needs
-
 mul-r : tie.Need-mul-r
 mul-r c = let s = c .before .before .before in omega (arith, row-below (s .args .k) (s .args .kind) (s .args .a) (s .pre .0 .boxes-in) (s .pre .0 .kind-to) (s .pre .0 .kind-from) (s .pre .0 .a-in))
 
@@ -43,9 +34,9 @@ pub one-more-spec : {M : Type 1} → statement M
 one-more-spec =
     tie.close
     (tie.spec
-    permitted-requires
-    one-requires
-    sub-r
+    (λ c κs. search needs)
+    (λ c κs. search needs)
+    (λ c. search needs)
     mul-r
     add-r
     cast-r

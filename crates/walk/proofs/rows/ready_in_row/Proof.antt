@@ -5,9 +5,6 @@ use Rattle.walk.proofs.ByRow.{ready-row}
 use Rattle.walk.proofs.rows.ready_in_row.Statement.{statement}
 use Rattle.walk.proofs.rows.ready_in_row.Tie as tie
 
-is-ready-requires : tie.Need-is-ready-requires
-is-ready-requires c κs = search needs
-
 returns : tie.Need-returns
 returns c = c .is-ready .ensures
 
@@ -17,4 +14,4 @@ returns-2 c =
     s .pre .1 (c .if1 .left) ∙ ready-row _ _ _ (s .args .a) (s .args .b) (s .args .kind) (s .pre .0 .kind-to) (c .if1 .left)
 
 pub ready-in-row-spec : {M : Type 1} → statement M
-ready-in-row-spec = tie.close (tie.spec is-ready-requires returns returns-2)
+ready-in-row-spec = tie.close (tie.spec (λ c κs. search needs) returns returns-2)

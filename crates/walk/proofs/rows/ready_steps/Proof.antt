@@ -16,29 +16,14 @@ Inv-loop k rows n ready₀ r₀ ready r = (r ≤ n) × (ready ≡ rowsTotal rows
 abbrev μ-loop : tie.MeasureT-loop
 μ-loop k rows n ready₀ r₀ ready r = n - r
 
-mul-n : tie.Need-mul-n Inv-loop μ-loop
-mul-n c = search needs
-
 loop-holds : tie.Need-loop-holds Inv-loop μ-loop
 loop-holds c = (search needs, sym (rows-none _))
-
-mul-ready : tie.Need-mul-ready Inv-loop μ-loop
-mul-ready c = search needs
-
-element-copy-out-ready : tie.Need-element-copy-out-ready Inv-loop μ-loop
-element-copy-out-ready c = search needs
 
 add-ready : tie.Need-add-ready Inv-loop μ-loop
 add-ready c =
     let l = c .before .before .loop in
     let s = c .before .before .before in
     omega (arith, l .inv .1, rows-little (s .args .k) (now (s .args .rows)) (l .r) (s .pre) (omega arith), s .pre .few (l .r) (omega arith))
-
-add-r : tie.Need-add-r Inv-loop μ-loop
-add-r c = search needs
-
-loop-less : tie.Need-loop-less Inv-loop μ-loop
-loop-less c = search needs
 
 loop-again : tie.Need-loop-again Inv-loop μ-loop
 loop-again c =
@@ -59,12 +44,12 @@ ready-steps-spec =
     (tie.spec
     Inv-loop
     μ-loop
-    mul-n
+    (λ c. search needs)
     loop-holds
-    mul-ready
-    element-copy-out-ready
+    (λ c. search needs)
+    (λ c. search needs)
     add-ready
-    add-r
-    loop-less
+    (λ c. search needs)
+    (λ c. search needs)
     loop-again
     returns)

@@ -10,9 +10,6 @@ use Rattle.walk.proofs.rows.renew.Tie as tie
 one-less-requires : tie.Need-one-less-requires
 one-less-requires c κs = let s = c .before .before in one-ready (s .args .k) (s .args .kind) (s .args .a) (s .args .b) _ _ _ _ (s .pre .0) (s .pre .1)
 
-add-one-more : tie.Need-add-one-more
-add-one-more c = search needs
-
 one-more-requires : tie.Need-one-more-requires
 one-more-requires c κs =
     let s = c .before .before .before .before .before in
@@ -36,9 +33,6 @@ returns-2 c =
     (rows-kept (s .args .k) (s .args .kind) (s .args .a) (s .args .b) _ _ _ _ (s .pre .0) (s .pre .1))
     (own-renewed (s .args .k) (s .args .kind) (s .args .a) (s .args .b) _ _ _ _ (s .pre .0) (s .pre .1) _ (c .before .before .one-less .ensures)) (c .before .if1 .left) (c .if2 .taken)
 
-multiplied-requires : tie.Need-multiplied-requires
-multiplied-requires c κs = search needs
-
 returns-3 : tie.Need-returns-3
 returns-3 c =
     let e = c .before .before in
@@ -56,9 +50,6 @@ renew-row-requires c κs =
     let s = e .before .before .before .before .before in
     (search needs, own-renewed (s .args .k) (s .args .kind) (s .args .a) (s .args .b) _ _ _ _ (s .pre .0) (s .pre .1) _ (e .before .before .one-less .ensures) .long)
 
-renew-row-requires-2 : tie.Need-renew-row-requires-2
-renew-row-requires-2 c κs = search needs
-
 returns-4 : tie.Need-returns-4
 returns-4 c =
     let e = c .before .before .before .before .before .before in
@@ -73,12 +64,12 @@ renew-spec =
     tie.close
     (tie.spec
     one-less-requires
-    add-one-more
+    (λ c. search needs)
     one-more-requires
     returns
     returns-2
-    multiplied-requires
+    (λ c κs. search needs)
     returns-3
     renew-row-requires
-    renew-row-requires-2
+    (λ c κs. search needs)
     returns-4)

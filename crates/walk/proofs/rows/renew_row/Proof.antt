@@ -6,12 +6,6 @@ use Rattle.walk.proofs.ByRow.{row-below, written}
 use Rattle.walk.proofs.rows.renew_row.Statement.{statement}
 use Rattle.walk.proofs.rows.renew_row.Tie as tie
 
-count-row-requires : tie.Need-count-row-requires
-count-row-requires c κs = search needs
-
-sub-r : tie.Need-sub-r
-sub-r c = search needs
-
 mul-r : tie.Need-mul-r
 mul-r c = let s = c .before .before in omega (arith, row-below (s .args .k) (s .args .kind) (s .args .a) (s .pre .0 .boxes-in) (s .pre .0 .kind-to) (s .pre .0 .kind-from) (s .pre .0 .a-in))
 
@@ -36,4 +30,4 @@ returns c =
 pub renew-row-spec : {M : Type 1} → statement M
 renew-row-spec =
     tie.close
-    (tie.spec count-row-requires sub-r mul-r add-r cast-r mul-rows element-write-rows returns)
+    (tie.spec (λ c κs. search needs) (λ c. search needs) mul-r add-r cast-r mul-rows element-write-rows returns)

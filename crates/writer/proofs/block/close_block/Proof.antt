@@ -11,34 +11,13 @@ use Rattle.writer.proofs.Blocks.{closed}
 use Rattle.writer.proofs.block.close_block.Statement.{statement}
 use Rattle.writer.proofs.block.close_block.Tie as tie
 
-add-put-zeros : tie.Need-add-put-zeros
-add-put-zeros c = search needs
-
-sub-put-zeros : tie.Need-sub-put-zeros
-sub-put-zeros c = search needs
-
-put-zeros-requires : tie.Need-put-zeros-requires
-put-zeros-requires c κs = search needs
-
-sums-requires : tie.Need-sums-requires
-sums-requires c κs = search needs
-
-add-put16 : tie.Need-add-put16
-add-put16 c = search needs
-
 put16-requires : tie.Need-put16-requires
 unfolding firstSum
 put16-requires c κs = (omega (arith, c .before .before .before .before .before .put-zeros .kept .0, c .before .before .before .before .before .before .before .before .pre .0), omega (arith, c .before .sums .ensures .0))
 
-add-put16-2 : tie.Need-add-put16-2
-add-put16-2 c = search needs
-
 put16-requires-2 : tie.Need-put16-requires-2
 unfolding secondSum
 put16-requires-2 c κs = (omega (arith, c .before .before .before .put16 .kept .0, c .before .before .before .before .before .before .before .before .before .put-zeros .kept .0, c .before .before .before .before .before .before .before .before .before .before .before .before .pre .0), omega (arith, c .before .before .before .before .before .sums .ensures .1))
-
-same-length : tie.Need-same-length
-same-length c = search needs
 
 returns : tie.Need-returns
 returns c =
@@ -55,13 +34,13 @@ pub close-block-spec : {M : Type 1} → statement M
 close-block-spec =
     tie.close
     (tie.spec
-    add-put-zeros
-    sub-put-zeros
-    put-zeros-requires
-    sums-requires
-    add-put16
+    (λ c. search needs)
+    (λ c. search needs)
+    (λ c κs. search needs)
+    (λ c κs. search needs)
+    (λ c. search needs)
     put16-requires
-    add-put16-2
+    (λ c. search needs)
     put16-requires-2
-    same-length
+    (λ c. search needs)
     returns)

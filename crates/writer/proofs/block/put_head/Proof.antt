@@ -11,20 +11,8 @@ use Rattle.writer.proofs.Made.{head-put}
 use Rattle.writer.proofs.block.put_head.Statement.{statement}
 use Rattle.writer.proofs.block.put_head.Tie as tie
 
-slice-write-out : tie.Need-slice-write-out
-slice-write-out c = search needs
-
-byte-requires : tie.Need-byte-requires
-byte-requires c κs = search needs
-
-add-out : tie.Need-add-out
-add-out c = search needs
-
 slice-write-out-2 : tie.Need-slice-write-out-2
 slice-write-out-2 c = simp length-set (omega arith)
-
-add-put16 : tie.Need-add-put16
-add-put16 c = search needs
 
 put16-requires : tie.Need-put16-requires
 put16-requires c κs = let s = c .before .before .before in (simp length-set (omega (arith, s .pre .0)), s .pre .1 .1)
@@ -43,11 +31,11 @@ pub put-head-spec : {M : Type 1} → statement M
 put-head-spec =
     tie.close
     (tie.spec
-    slice-write-out
-    byte-requires
-    add-out
+    (λ c. search needs)
+    (λ c κs. search needs)
+    (λ c. search needs)
     slice-write-out-2
-    add-put16
+    (λ c. search needs)
     put16-requires
     same-length
     returns)

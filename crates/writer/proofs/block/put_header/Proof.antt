@@ -8,18 +8,6 @@ use Rattle.writer.proofs.Made.{header-made}
 use Rattle.writer.proofs.block.put_header.Statement.{statement}
 use Rattle.writer.proofs.block.put_header.Tie as tie
 
-put-head-requires : tie.Need-put-head-requires
-put-head-requires c κs = search needs
-
-put-sizes-requires : tie.Need-put-sizes-requires
-put-sizes-requires c κs = search needs
-
-close-block-requires : tie.Need-close-block-requires
-close-block-requires c κs = search needs
-
-same-length : tie.Need-same-length
-same-length c = search needs
-
 returns : tie.Need-returns
 returns c =
     let s = c .before .before .before .before .before .before .before .before .before .before .before .before .before in
@@ -29,4 +17,4 @@ returns c =
 pub put-header-spec : {M : Type 1} → statement M
 put-header-spec =
     tie.close
-    (tie.spec put-head-requires put-sizes-requires close-block-requires same-length returns)
+    (tie.spec (λ c κs. search needs) (λ c κs. search needs) (λ c κs. search needs) (λ c. search needs) returns)

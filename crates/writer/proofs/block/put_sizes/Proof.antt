@@ -11,29 +11,14 @@ use Rattle.writer.proofs.Made.{sizes-put}
 use Rattle.writer.proofs.block.put_sizes.Statement.{statement}
 use Rattle.writer.proofs.block.put_sizes.Tie as tie
 
-cast-out : tie.Need-cast-out
-cast-out c = search needs
-
-slice-write-out : tie.Need-slice-write-out
-slice-write-out c = search needs
-
 slice-write-out-2 : tie.Need-slice-write-out-2
 slice-write-out-2 c = simp length-set (omega arith)
-
-size-of-requires : tie.Need-size-of-requires
-size-of-requires c κs = search needs
 
 put16-requires : tie.Need-put16-requires
 put16-requires c κs = let s = c .before .before .before in (simp length-set (omega (arith, s .pre .0)), omega (arith, c .size-of .ensures .1))
 
-size-of-requires-2 : tie.Need-size-of-requires-2
-size-of-requires-2 c κs = search needs
-
 put16-requires-2 : tie.Need-put16-requires-2
 put16-requires-2 c κs = let s = c .before .before .before .before .before .before .before .before in (omega (arith, simp length-set at (c .before .before .before .before .put16 .kept .0), s .pre .0), omega (arith, c .size-of2 .ensures .1))
-
-size-of-requires-3 : tie.Need-size-of-requires-3
-size-of-requires-3 c κs = search needs
 
 put16-requires-3 : tie.Need-put16-requires-3
 put16-requires-3 c κs = let s = c .before .before .before .before .before .before .before .before .before .before .before .before .before in (omega (arith, c .before .before .before .before .put162 .kept .0, simp length-set at (c .before .before .before .before .before .before .before .before .before .put16 .kept .0), s .pre .0), omega (arith, c .size-of3 .ensures .1))
@@ -56,14 +41,14 @@ pub put-sizes-spec : {M : Type 1} → statement M
 put-sizes-spec =
     tie.close
     (tie.spec
-    cast-out
-    slice-write-out
+    (λ c. search needs)
+    (λ c. search needs)
     slice-write-out-2
-    size-of-requires
+    (λ c κs. search needs)
     put16-requires
-    size-of-requires-2
+    (λ c κs. search needs)
     put16-requires-2
-    size-of-requires-3
+    (λ c κs. search needs)
     put16-requires-3
     same-length
     returns)

@@ -16,27 +16,12 @@ use Rattle.writer.proofs.Written.{file-put}
 use Rattle.writer.proofs.file.put_file.Statement.{statement}
 use Rattle.writer.proofs.file.put_file.Tie as tie
 
-blocks-for-requires : tie.Need-blocks-for-requires
-blocks-for-requires c κs = search needs
-
-add-k : tie.Need-add-k
-add-k c = search needs
-
-put-header-requires : tie.Need-put-header-requires
-put-header-requires c κs = search needs
-
-put-offer-blocks-requires : tie.Need-put-offer-blocks-requires
-put-offer-blocks-requires c κs = search needs
-
 put-grocer-block-requires : tie.Need-put-grocer-block-requires
 put-grocer-block-requires c κs =
     let s = c .before .before .before .before .before .before .before .before .before .before .before .before .before .before .before .before .before .before in
     let r = s .pre in
     let e = c .before .before .before .before .before .before .before .before .before .blocks-for .ensures in
     ((r .grocers, (omega (arith, e, r .offers), omega (arith, e, c .before .before .before .put-offer-blocks .kept .0, c .before .before .before .before .before .before .before .put-header .kept .0, r .room))), (r .long .grocerOwner, r .grocerOwner))
-
-add-put-tally-blocks : tie.Need-add-put-tally-blocks
-add-put-tally-blocks c = search needs
 
 put-tally-blocks-requires : tie.Need-put-tally-blocks-requires
 put-tally-blocks-requires c κs =
@@ -46,9 +31,6 @@ put-tally-blocks-requires c κs =
       (r .tallies, (omega (arith, e, r .offers), omega (arith, e, c .before .before .before .put-grocer-block .kept .0, c .before .before .before .before .before .before .before .put-offer-blocks .kept .0, c .before .before .before .before .before .before .before .before .before .before .before .put-header .kept .0, r .room))),
       ((r .long .tallyGrocer, (r .long .tallyBox, (r .long .tallyCode, r .long .tallyCount))), r .tallyBox),
     )
-
-same-length : tie.Need-same-length
-same-length c = search needs
 
 returns : tie.Need-returns
 returns c =
@@ -65,12 +47,12 @@ pub put-file-spec : {M : Type 1} → statement M
 put-file-spec =
     tie.close
     (tie.spec
-    blocks-for-requires
-    add-k
-    put-header-requires
-    put-offer-blocks-requires
+    (λ c κs. search needs)
+    (λ c. search needs)
+    (λ c κs. search needs)
+    (λ c κs. search needs)
     put-grocer-block-requires
-    add-put-tally-blocks
+    (λ c. search needs)
     put-tally-blocks-requires
-    same-length
+    (λ c. search needs)
     returns)

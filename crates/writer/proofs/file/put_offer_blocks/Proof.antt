@@ -22,9 +22,6 @@ Inv-loop out₀ n price owner code blocks b₀ out b =
 abbrev μ-loop : tie.MeasureT-loop
 μ-loop out₀ n price owner code blocks b₀ out b = blocks - b
 
-blocks-for-requires : tie.Need-blocks-for-requires Inv-loop μ-loop
-blocks-for-requires c κs = search needs
-
 loop-holds : tie.Need-loop-holds Inv-loop μ-loop
 loop-holds c = (omega arith, refl, put-none _ _ _)
 
@@ -34,12 +31,6 @@ put-offer-block-requires c κs =
     let s = l .before .before .before .before .before .before in
     let e = l .before .blocks-for .ensures in
     ((s .pre .0 .0, (omega (arith, e, c .before .loop-test .taken), omega (arith, e, c .before .loop-test .taken, s .pre .0, l .loop .inv .1))), s .pre .1)
-
-add-b : tie.Need-add-b Inv-loop μ-loop
-add-b c = search needs
-
-loop-less : tie.Need-loop-less Inv-loop μ-loop
-loop-less c = search needs
 
 loop-again : tie.Need-loop-again Inv-loop μ-loop
 loop-again c =
@@ -67,11 +58,11 @@ put-offer-blocks-spec =
     (tie.spec
     Inv-loop
     μ-loop
-    blocks-for-requires
+    (λ c κs. search needs)
     loop-holds
     put-offer-block-requires
-    add-b
-    loop-less
+    (λ c. search needs)
+    (λ c. search needs)
     loop-again
     same-length
     returns)

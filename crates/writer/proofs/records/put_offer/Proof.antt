@@ -14,41 +14,8 @@ use Rattle.writer.proofs.records.put_offer.Tie as tie
 long-copied : (c : tie.After-copy-code) → length (c .copy-code .last .1 .1 .0) ≡ length (now (c .before .before .before .before .before .before .before .before .before .before .before .before .args .out))
 long-copied c = c .copy-code .kept .1 .1 .0 ∙ length-set (c .before .before .before .before .before .put32 .last .0) _ _ ∙ c .before .before .before .before .before .put32 .kept .0
 
-mul-put32 : tie.Need-mul-put32
-mul-put32 c = search needs
-
-shared-slice-read-put32 : tie.Need-shared-slice-read-put32
-shared-slice-read-put32 c = search needs
-
-put32-requires : tie.Need-put32-requires
-put32-requires c κs = search needs
-
-mul-out : tie.Need-mul-out
-mul-out c = search needs
-
-shared-slice-read-out : tie.Need-shared-slice-read-out
-shared-slice-read-out c = search needs
-
-cast-out : tie.Need-cast-out
-cast-out c = search needs
-
-add-out : tie.Need-add-out
-add-out c = search needs
-
-slice-write-out : tie.Need-slice-write-out
-slice-write-out c = search needs
-
-mul-copy-code : tie.Need-mul-copy-code
-mul-copy-code c = search needs
-
-add-copy-code : tie.Need-add-copy-code
-add-copy-code c = search needs
-
 copy-code-requires : tie.Need-copy-code-requires
 copy-code-requires c κs = let s = c .before .before .before .before .before .before .before .before .before .before .before in (s .pre .1 .0 .1 .1, simp length-set (omega (arith, s .pre .0, c .before .before .before .before .put32 .kept .0)))
-
-add-put-zeros : tie.Need-add-put-zeros
-add-put-zeros c = search needs
 
 put-zeros-requires : tie.Need-put-zeros-requires
 put-zeros-requires c κs = omega (arith, long-copied (c .before .before .before), c .before .before .before .before .before .before .before .before .before .before .before .before .before .before .before .pre .0)
@@ -68,18 +35,18 @@ pub put-offer-spec : {M : Type 1} → statement M
 put-offer-spec =
     tie.close
     (tie.spec
-    mul-put32
-    shared-slice-read-put32
-    put32-requires
-    mul-out
-    shared-slice-read-out
-    cast-out
-    add-out
-    slice-write-out
-    mul-copy-code
-    add-copy-code
+    (λ c. search needs)
+    (λ c. search needs)
+    (λ c κs. search needs)
+    (λ c. search needs)
+    (λ c. search needs)
+    (λ c. search needs)
+    (λ c. search needs)
+    (λ c. search needs)
+    (λ c. search needs)
+    (λ c. search needs)
     copy-code-requires
-    add-put-zeros
+    (λ c. search needs)
     put-zeros-requires
     same-length
     returns)

@@ -24,26 +24,11 @@ abbrev μ-loop : tie.MeasureT-loop
 loop-holds : tie.Need-loop-holds Inv-loop μ-loop
 loop-holds c = (omega arith, refl, put-none _ _ _)
 
-mul-put-offer : tie.Need-mul-put-offer Inv-loop μ-loop
-mul-put-offer c = search needs
-
-add-put-offer : tie.Need-add-put-offer Inv-loop μ-loop
-add-put-offer c = search needs
-
-add-put-offer-2 : tie.Need-add-put-offer-2 Inv-loop μ-loop
-add-put-offer-2 c = search needs
-
 put-offer-requires : tie.Need-put-offer-requires Inv-loop μ-loop
 put-offer-requires c κs =
     let l = c .before .before in
     let s = l .before .before .before .before .before in
     (omega arith, ((omega arith, (omega arith, omega arith)), s .pre .1 .1 .small (s .args .first + l .loop .r) (omega arith)))
-
-add-r : tie.Need-add-r Inv-loop μ-loop
-add-r c = search needs
-
-loop-less : tie.Need-loop-less Inv-loop μ-loop
-loop-less c = search needs
 
 loop-again : tie.Need-loop-again Inv-loop μ-loop
 loop-again c =
@@ -72,12 +57,12 @@ put-offers-spec =
     Inv-loop
     μ-loop
     loop-holds
-    mul-put-offer
-    add-put-offer
-    add-put-offer-2
+    (λ c. search needs)
+    (λ c. search needs)
+    (λ c. search needs)
     put-offer-requires
-    add-r
-    loop-less
+    (λ c. search needs)
+    (λ c. search needs)
     loop-again
     same-length
     returns)

@@ -24,26 +24,11 @@ abbrev μ-loop : tie.MeasureT-loop
 loop-holds : tie.Need-loop-holds Inv-loop μ-loop
 loop-holds c = (omega arith, refl, put-none _ _ _)
 
-mul-put-tally : tie.Need-mul-put-tally Inv-loop μ-loop
-mul-put-tally c = search needs
-
-add-put-tally : tie.Need-add-put-tally Inv-loop μ-loop
-add-put-tally c = search needs
-
-add-put-tally-2 : tie.Need-add-put-tally-2 Inv-loop μ-loop
-add-put-tally-2 c = search needs
-
 put-tally-requires : tie.Need-put-tally-requires Inv-loop μ-loop
 put-tally-requires c κs =
     let l = c .before .before in
     let s = l .before .before .before .before .before in
     (omega arith, ((omega arith, (omega arith, (omega arith, omega arith))), s .pre .1 .1 .small (s .args .first + l .loop .r) (omega arith)))
-
-add-r : tie.Need-add-r Inv-loop μ-loop
-add-r c = search needs
-
-loop-less : tie.Need-loop-less Inv-loop μ-loop
-loop-less c = search needs
 
 loop-again : tie.Need-loop-again Inv-loop μ-loop
 loop-again c =
@@ -72,12 +57,12 @@ put-tallies-spec =
     Inv-loop
     μ-loop
     loop-holds
-    mul-put-tally
-    add-put-tally
-    add-put-tally-2
+    (λ c. search needs)
+    (λ c. search needs)
+    (λ c. search needs)
     put-tally-requires
-    add-r
-    loop-less
+    (λ c. search needs)
+    (λ c. search needs)
     loop-again
     same-length
     returns)

@@ -19,59 +19,11 @@ use Rattle.writer.proofs.records.put_tally.Tie as tie
 long-copied : (c : tie.After-copy-code) → length (c .copy-code .last .1 .1 .0) ≡ length (now (c .before .before .before .before .before .before .before .before .before .before .before .before .before .args .out))
 long-copied c = c .copy-code .kept .1 .1 .0 ∙ length-set (c .before .before .before .before .before .put16 .last .0) _ _ ∙ c .before .before .before .before .before .put16 .kept .0
 
-mul-size-of : tie.Need-mul-size-of
-mul-size-of c = search needs
-
-shared-slice-read-size-of : tie.Need-shared-slice-read-size-of
-shared-slice-read-size-of c = search needs
-
-size-of-requires : tie.Need-size-of-requires
-size-of-requires c κs = search needs
-
-put16-requires : tie.Need-put16-requires
-put16-requires c κs = search needs
-
-mul-out : tie.Need-mul-out
-mul-out c = search needs
-
-shared-slice-read-out : tie.Need-shared-slice-read-out
-shared-slice-read-out c = search needs
-
-cast-out : tie.Need-cast-out
-cast-out c = search needs
-
-add-out : tie.Need-add-out
-add-out c = search needs
-
-slice-write-out : tie.Need-slice-write-out
-slice-write-out c = search needs
-
-mul-copy-code : tie.Need-mul-copy-code
-mul-copy-code c = search needs
-
-add-copy-code : tie.Need-add-copy-code
-add-copy-code c = search needs
-
 copy-code-requires : tie.Need-copy-code-requires
 copy-code-requires c κs = let s = c .before .before .before .before .before .before .before .before .before .before .before .before in (s .pre .1 .0 .1 .1 .0, simp length-set (omega (arith, s .pre .0, c .before .before .before .before .put16 .kept .0)))
 
-add-put32 : tie.Need-add-put32
-add-put32 c = search needs
-
-mul-bits : tie.Need-mul-bits
-mul-bits c = search needs
-
-shared-slice-copy-out-bits : tie.Need-shared-slice-copy-out-bits
-shared-slice-copy-out-bits c = search needs
-
-bits-requires : tie.Need-bits-requires
-bits-requires c κs = search needs
-
 put32-requires : tie.Need-put32-requires
 put32-requires c κs = omega (arith, long-copied (c .before .before .before .before .before), c .before .before .before .before .before .before .before .before .before .before .before .before .before .before .before .before .before .before .pre .0)
-
-add-put-zeros : tie.Need-add-put-zeros
-add-put-zeros c = search needs
 
 put-zeros-requires : tie.Need-put-zeros-requires
 put-zeros-requires c κs = omega (arith, c .before .before .before .put32 .kept .0, long-copied (c .before .before .before .before .before .before .before .before .before), c .before .before .before .before .before .before .before .before .before .before .before .before .before .before .before .before .before .before .before .before .before .before .pre .0)
@@ -97,24 +49,24 @@ pub put-tally-spec : {M : Type 1} → statement M
 put-tally-spec =
     tie.close
     (tie.spec
-    mul-size-of
-    shared-slice-read-size-of
-    size-of-requires
-    put16-requires
-    mul-out
-    shared-slice-read-out
-    cast-out
-    add-out
-    slice-write-out
-    mul-copy-code
-    add-copy-code
+    (λ c. search needs)
+    (λ c. search needs)
+    (λ c κs. search needs)
+    (λ c κs. search needs)
+    (λ c. search needs)
+    (λ c. search needs)
+    (λ c. search needs)
+    (λ c. search needs)
+    (λ c. search needs)
+    (λ c. search needs)
+    (λ c. search needs)
     copy-code-requires
-    add-put32
-    mul-bits
-    shared-slice-copy-out-bits
-    bits-requires
+    (λ c. search needs)
+    (λ c. search needs)
+    (λ c. search needs)
+    (λ c κs. search needs)
     put32-requires
-    add-put-zeros
+    (λ c. search needs)
     put-zeros-requires
     same-length
     returns)
