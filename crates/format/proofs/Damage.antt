@@ -164,7 +164,8 @@ module _ (f f′ : List ℕ) (ok : fileRefusal f ≡ 0) (k : ℕ) (hk : k < bloc
     later = rw (length-fine, header-fine, count-fine, found)
 
 -- The same of two bytes that are set.
-pub damaged-set : (f : List ℕ) → ((p : ℕ) → getD f p 0 < 256) → fileRefusal f ≡ 0 → (k i j x y : ℕ) → k < blocks (decode f) → i < 512 → j < 512 → x < 256 → y < 256 → (set (set f (512 * k + i) x) (512 * k + j) y ≡ f → ⊥) → fileRefusal (set (set f (512 * k + i) x) (512 * k + j) y) ≡ 2
+pub damaged-set : (f : List ℕ) → ((p : ℕ) → getD f p 0 < 256) → fileRefusal f ≡ 0 → (k i j x y : ℕ) → k < blocks (decode f) → i < 512 → j < 512 → x < 256 → y < 256 →
+    (set (set f (512 * k + i) x) (512 * k + j) y ≡ f → ⊥) → fileRefusal (set (set f (512 * k + i) x) (512 * k + j) y) ≡ 2
 damaged-set f bytes ok k i j x y hk hi hj hx hy changed =
     elim (ℕ-discrete k 0) [
       | yes e ↦ in-header f g ok k hk same-length bad e
@@ -181,10 +182,12 @@ damaged-set f bytes ok k i j x y hk hi hj hx hy changed =
     same p h = getD-set-other (set f (512 * k + i) x) (512 * k + j) p y 0 (omega arith) ∙ getD-set-other f (512 * k + i) p x 0 (omega arith)
 
     bad : sumsDiffer (from g (512 * k)) ≡ true
-    bad = differ (from g (512 * k)) (λ a b. changed (seen f (512 * k) (omega (arith, long f ok)) bytes (record { first = clean-all f ok k hk .first; second = clean-all f ok k hk .second }) i j x y hi hj hx hy (record { first = a; second = b })))
+    bad = differ (from g (512 * k)) (λ a b. changed (seen f (512 * k) (omega (arith, long f ok)) bytes (record { first = clean-all f ok k hk .first; second = clean-all f ok k hk .second }) i j x y hi
+        hj hx hy (record { first = a; second = b })))
 
 -- "In an accepted file, changing one or two bytes of one block always gives refusal 2": f′ differs from f, and only at two places of block k, which may be one.
-pub damaged : (f f′ : List ℕ) → ((p : ℕ) → getD f p 0 < 256) → ((p : ℕ) → getD f′ p 0 < 256) → fileRefusal f ≡ 0 → (k i j : ℕ) → k < blocks (decode f) → i < 512 → j < 512 → length f′ ≡ length f → ((p : ℕ) → (p ≡ 512 * k + i → ⊥) → (p ≡ 512 * k + j → ⊥) → getD f′ p 0 ≡ getD f p 0) → (f′ ≡ f → ⊥) → fileRefusal f′ ≡ 2
+pub damaged : (f f′ : List ℕ) → ((p : ℕ) → getD f p 0 < 256) → ((p : ℕ) → getD f′ p 0 < 256) → fileRefusal f ≡ 0 → (k i j : ℕ) → k < blocks (decode f) → i < 512 → j < 512 → length f′ ≡ length f →
+    ((p : ℕ) → (p ≡ 512 * k + i → ⊥) → (p ≡ 512 * k + j → ⊥) → getD f′ p 0 ≡ getD f p 0) → (f′ ≡ f → ⊥) → fileRefusal f′ ≡ 2
 damaged f f′ bytes bytes′ ok k i j hk hi hj same-length same changed =
     rw is (damaged-set f bytes ok k i j _ _ hk hi hj (bytes′ (512 * k + i)) (bytes′ (512 * k + j)) (λ e. changed (is ∙ e)))
   where

@@ -78,7 +78,11 @@ module _ (f : List ℕ) (at : ℕ) (l : at + 512 ≤ length f) (bytes : Bytes f)
   -- Two places of the block, the first below the second
   ordered : (i j x y : ℕ) → i < j → j < 512 → x < 256 → y < 256 → Agrees (set (set f (at + i) x) (at + j) y) at → (x ≡ byteAt f (at + i)) × (y ≡ byteAt f (at + j))
   unfolding firstSum secondSum
-  ordered i j x y ij hj hx hy g = elim (decLt j 508) [ yes h ↦ data-data h | no h ↦ elim (decLt i 508) [ yes k ↦ elim (decLt j 510) [ yes m ↦ data-first k (omega (arith, h)) m | no m ↦ data-second k (omega (arith, m)) ] | no k ↦ stored-stored (omega (arith, k)) ] ]
+  ordered i j x y ij hj hx hy g = elim (decLt j 508) [
+    | yes h ↦ data-data h
+    | no h ↦ elim (decLt i 508)
+        [ yes k ↦ elim (decLt j 510) [ yes m ↦ data-first k (omega (arith, h)) m | no m ↦ data-second k (omega (arith, m)) ] | no k ↦ stored-stored (omega (arith, k)) ]
+  ]
     where
       F : List ℕ
       F = set f (at + i) x

@@ -19,7 +19,8 @@ use Rattle.laws.proofs.Tables.{getD-tabulate, length-tabulate}
 use Rattle.format.specs.Bytes.{from, after, word16, word32, bytes16, bytes32}
 use Rattle.format.specs.Codes.{codeBytes}
 use Rattle.format.specs.Job.{FileJob}
-use Rattle.format.specs.Blocks.{BlockKind, header, offerBlock, grocerBlock, tallyBlock, blocks, offersAt, talliesAt, kindAt, blockKindNumber, records, recordSize, fieldSize, headerBytes, offerBytes, tallyBytes, recordBytes, spare, firstSum, secondSum}
+use Rattle.format.specs.Blocks.{BlockKind, header, offerBlock, grocerBlock, tallyBlock, blocks, offersAt, talliesAt, kindAt, blockKindNumber, records, recordSize, fieldSize, headerBytes}
+use Rattle.format.specs.Blocks.{offerBytes, tallyBytes, recordBytes, spare, firstSum, secondSum}
 use Rattle.format.specs.File.{recordByte, bodyByte, blockByte, encode, readOffer, readTally, recordAt, decode}
 use Rattle.format.proofs.Words.{bytes-word16, bytes-word32, first-cong, second-cong}
 use Rattle.format.proofs.Plan.{At, at-header, at-offers, at-grocers, at-tallies, kind-at}
@@ -97,7 +98,8 @@ module _ (f : List ℕ) (bytes : (p : ℕ) → getD f p 0 < 256) (mark : getD f 
   field-at grocerBlock k s (at-grocers e) hs h =
       let z : s % 1 ≡ 0 = omega arith in
       rw z (ap (λ (p : ℕ). getD f p 0) (omega arith))
-  field-at (tallyBlock b) k s (at-tallies _ e) hs h = field-read f _ 18 (recordAt (talliesAt (decode f .offers)) (21 * b + s / 24)) (s % 24) (tally-bytes _ (anywhere (recordAt (talliesAt (decode f .offers)) (21 * b + s / 24)))) h _ (omega arith)
+  field-at (tallyBlock b) k s (at-tallies _ e) hs h = field-read f _ 18 (recordAt (talliesAt (decode f .offers)) (21 * b + s / 24)) (s % 24)
+      (tally-bytes _ (anywhere (recordAt (talliesAt (decode f .offers)) (21 * b + s / 24)))) h _ (omega arith)
 
   record-read : (b : BlockKind) (k s : ℕ) → At (decode f .offers) k b → s < 504 → (spare (decode f) b s ≡ true → from f (512 * k) (4 + s) ≡ 0) → recordByte (decode f) b s ≡ from f (512 * k) (4 + s)
   unfolding recordByte

@@ -21,7 +21,8 @@ use Rattle.format.specs.First.{firstBelow}
 use Rattle.format.specs.Bytes.{from, after, word16, bytes32}
 use Rattle.format.specs.Codes.{codeBytes}
 use Rattle.format.specs.Job.{FileJob, Offer, Tally}
-use Rattle.format.specs.Blocks.{BlockKind, header, offerBlock, grocerBlock, tallyBlock, blocks, offersAt, grocersAt, talliesAt, kindAt, blockKindNumber, records, recordSize, fieldSize, headerBytes, offerBytes, tallyBytes, recordBytes, spare, firstSum, secondSum}
+use Rattle.format.specs.Blocks.{BlockKind, header, offerBlock, grocerBlock, tallyBlock, blocks, offersAt, grocersAt, talliesAt, kindAt, blockKindNumber, records, recordSize, fieldSize}
+use Rattle.format.specs.Blocks.{headerBytes, offerBytes, tallyBytes, recordBytes, spare, firstSum, secondSum}
 use Rattle.format.specs.File.{recordByte, bodyByte, blockByte, encode, readOffer, readTally, recordAt, decode}
 use Rattle.format.specs.Refusals.{badLength, badCount, sumsDiffer, notDue, badHeader, spareUsed, badRecord, headerRefusal, blockRefusal, fileRefusal, jobRefusal}
 use Rattle.format.proofs.Firsts.{below-none}
@@ -69,7 +70,8 @@ module _ (j : FileJob) where
       body-at k (4 + s) hk (omega arith) ∙ rw (le-ltb (4 + s) 4 (omega arith), m)
 
   -- Byte c of record r of block k.
-  field-at : (k : ℕ) (b : BlockKind) (r c : ℕ) → k < blocks j → kindAt (j .offers) k ≡ b → r < records j b → c < fieldSize b → r * recordSize b + c < 504 → from (encode j) (512 * k) (4 + (r * recordSize b + c)) ≡ getD (recordBytes j b r) c 0
+  field-at : (k : ℕ) (b : BlockKind) (r c : ℕ) → k < blocks j → kindAt (j .offers) k ≡ b → r < records j b → c < fieldSize b → r * recordSize b + c < 504 → from (encode j) (512 * k)
+      (4 + (r * recordSize b + c)) ≡ getD (recordBytes j b r) c 0
   unfolding recordByte
   field-at k b r c hk e hr hc h =
       let l : c < recordSize b = omega (arith, fields-fit b) in

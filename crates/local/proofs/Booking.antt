@@ -79,9 +79,12 @@ module _ (f : JobTables) (b : ℕ) (before : BookTables) where
       offers = offers-front;
       grocers = grocers-front;
       starts = starts-is ∙ starts-model f inside b below (after .localOffers) (before .localOffers) l offers-front offers-number (before .starts);
-      packed = packed-model f inside b below (after .localOffers) (before .localOffers) l offers-front offers-number (after .localGrocers) (before .localGrocers) g grocers-front grocers-number n (after .packedGrocers) (before .packedGrocers) (after .packedCounts) (before .packedCounts) n-is pgrocers-is pcounts-is;
-      pastGrocers = same-past n (start (jobOf f) b (length (localOffers (jobOf f) b))) _ (before .packedGrocers) (after .packedGrocers) tallies-number (omega (arith, total-in, tallies-number, long f (bookLengths before) b ok .packedGrocers)) pgrocers-is;
-      pastCounts = same-past n (start (jobOf f) b (length (localOffers (jobOf f) b))) _ (before .packedCounts) (after .packedCounts) tallies-number (omega (arith, total-in, tallies-number, long f (bookLengths before) b ok .packedCounts)) pcounts-is;
+      packed = packed-model f inside b below (after .localOffers) (before .localOffers) l offers-front offers-number (after .localGrocers) (before .localGrocers) g grocers-front grocers-number n
+          (after .packedGrocers) (before .packedGrocers) (after .packedCounts) (before .packedCounts) n-is pgrocers-is pcounts-is;
+      pastGrocers = same-past n (start (jobOf f) b (length (localOffers (jobOf f) b))) _ (before .packedGrocers) (after .packedGrocers) tallies-number
+          (omega (arith, total-in, tallies-number, long f (bookLengths before) b ok .packedGrocers)) pgrocers-is;
+      pastCounts = same-past n (start (jobOf f) b (length (localOffers (jobOf f) b))) _ (before .packedCounts) (after .packedCounts) tallies-number
+          (omega (arith, total-in, tallies-number, long f (bookLengths before) b ok .packedCounts)) pcounts-is;
     }
 
     pub booked-written : Booked f b before (Book l g n) after

@@ -18,7 +18,11 @@ use Rattle.model.specs.Steps.{doneBy, added, kindNumber, kindOf, mark, o
 use Rattle.model.specs.Cases.{Cases, Examples}
 
 pub cases : Cases
-unfolding jobOf stepsDone marksOf view store word cell recell overwrite tabulate jobShort stateShort jobLengths stateLengths lentShort jobInRange sizesInRange jobWordsInRange stateInRange upTo under around firstMet refusals stepRules stepRefusal stepTables moved isKind boxesFit oneBox stepAnswer stepped freshTables fresh effect products received kindNumber kindOf mark fits hasStep multiplied ready permitted heldBy held needs shares needWord sharerWord priceWord totalWord pricesDue totalsDue amount plainSum maskOf without sum only naturals integers any all count find ownerWords messageCount stepCount over messagesOf run runState afterSteps picks pick stepAt listOf readySteps readyCount ran runRefusals reported ascending chained localOffers localGrocers ofOffer start starts priceTable totalTable reconciled deskAnswer deskRefusals recordsInRange recordInRange serialAmount ones lib.Count.onesIn
+unfolding jobOf stepsDone marksOf view store word cell recell overwrite tabulate jobShort stateShort jobLengths stateLengths lentShort jobInRange sizesInRange jobWordsInRange stateInRange upTo under
+    around firstMet refusals stepRules stepRefusal stepTables moved isKind boxesFit oneBox stepAnswer stepped freshTables fresh effect products received kindNumber kindOf mark fits hasStep multiplied
+    ready permitted heldBy held needs shares needWord sharerWord priceWord totalWord pricesDue totalsDue amount plainSum maskOf without sum only naturals integers any all count find ownerWords
+    messageCount stepCount over messagesOf run runState afterSteps picks pick stepAt listOf readySteps readyCount ran runRefusals reported ascending chained localOffers localGrocers ofOffer start
+    starts priceTable totalTable reconciled deskAnswer deskRefusals recordsInRange recordInRange serialAmount ones lib.Count.onesIn
 cases = record {
   e-amount-0 = refl;
   e-amount-1 = refl;
@@ -38,7 +42,12 @@ cases = record {
 }
 
 pub examples : Examples
-unfolding doneBy stateByRules knows priceOnWay gone arrived partOf paid sentOf added jobOf stepsDone marksOf view store word cell recell overwrite tabulate jobShort stateShort jobLengths stateLengths lentShort jobInRange sizesInRange jobWordsInRange stateInRange upTo under around firstMet refusals stepRules stepRefusal stepTables moved isKind boxesFit oneBox stepAnswer stepped freshTables fresh effect products received kindNumber kindOf mark fits hasStep multiplied ready permitted heldBy held needs shares needWord sharerWord priceWord totalWord pricesDue totalsDue amount plainSum maskOf without sum only naturals integers any all count find ownerWords messageCount stepCount over messagesOf run runState afterSteps picks pick stepAt listOf readySteps readyCount ran runRefusals reported ascending chained localOffers localGrocers ofOffer start starts priceTable totalTable reconciled deskAnswer deskRefusals recordsInRange recordInRange serialAmount ones lib.Count.onesIn
+unfolding doneBy stateByRules knows priceOnWay gone arrived partOf paid sentOf added jobOf stepsDone marksOf view store word cell recell overwrite tabulate jobShort stateShort jobLengths stateLengths
+    lentShort jobInRange sizesInRange jobWordsInRange stateInRange upTo under around firstMet refusals stepRules stepRefusal stepTables moved isKind boxesFit oneBox stepAnswer stepped freshTables
+    fresh effect products received kindNumber kindOf mark fits hasStep multiplied ready permitted heldBy held needs shares needWord sharerWord priceWord totalWord pricesDue totalsDue amount plainSum
+    maskOf without sum only naturals integers any all count find ownerWords messageCount stepCount over messagesOf run runState afterSteps picks pick stepAt listOf readySteps readyCount ran
+    runRefusals reported ascending chained localOffers localGrocers ofOffer start starts priceTable totalTable reconciled deskAnswer deskRefusals recordsInRange recordInRange serialAmount ones
+    lib.Count.onesIn
 examples = record {
   needs-away = refl;
   words-away = refl;

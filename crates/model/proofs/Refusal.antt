@@ -86,5 +86,7 @@ module _ (j : Job) where
   pub rules-zero : (d : Steps) (q : Asked) → eqb (firstMet (stepRules j d q)) 0 ≡ (isKind (q .kind) && permitted j d (kindOf (q .kind)) (q .first) (q .second))
   unfolding stepRules firstMet permitted boxesFit hasStep
   rules-zero d q =
-      first-met (isKind (q .kind)) (ltb (q .first) (j .boxes)) (ltb (q .second) (j .boxes)) (cond (oneBox (kindOf (q .kind))) (eqb (q .first) (q .second)) (not (eqb (q .first) (q .second)))) (fits j (kindOf (q .kind)) (q .first) (q .second)) (d (kindOf (q .kind)) (q .first) (q .second)) (ready j d (kindOf (q .kind)) (q .first) (q .second))
-      ∙ ap (λ (t : Bool). isKind (q .kind) && (ltb (q .first) (j .boxes) && (ltb (q .second) (j .boxes) && t) && (not (d (kindOf (q .kind)) (q .first) (q .second)) && ready j d (kindOf (q .kind)) (q .first) (q .second)))) (fits-boxes (kindOf (q .kind)) (q .first) (q .second))
+      first-met (isKind (q .kind)) (ltb (q .first) (j .boxes)) (ltb (q .second) (j .boxes)) (cond (oneBox (kindOf (q .kind))) (eqb (q .first) (q .second)) (not (eqb (q .first) (q .second))))
+      (fits j (kindOf (q .kind)) (q .first) (q .second)) (d (kindOf (q .kind)) (q .first) (q .second)) (ready j d (kindOf (q .kind)) (q .first) (q .second))
+      ∙ ap (λ (t : Bool). isKind (q .kind) && (ltb (q .first) (j .boxes) && (ltb (q .second) (j .boxes) && t) &&
+      (not (d (kindOf (q .kind)) (q .first) (q .second)) && ready j d (kindOf (q .kind)) (q .first) (q .second)))) (fits-boxes (kindOf (q .kind)) (q .first) (q .second))

@@ -76,7 +76,8 @@ module _ (f : List ℕ) (l : ReaderTables) where
       rw q at (sym (read-refused f l (λ z. n (sym q ∙ z))))
 
   -- A job.
-  pub read-job : {a : ReadAnswer} {l′ : ReaderTables} (k m n t first : ℕ) → a ≡ sizes k m n t → shortReader l ≡ false → fileRefusal f ≡ 0 → k ≡ decode f .boxes → m ≡ decode f .grocers → n ≡ decode f .offers → t ≡ decode f .tallies → first ≡ talliesAt n →
+  pub read-job : {a : ReadAnswer} {l′ : ReaderTables} (k m n t first : ℕ) → a ≡ sizes k m n t → shortReader l ≡ false → fileRefusal f ≡ 0 → k ≡ decode f .boxes → m ≡ decode f .grocers → n ≡ decode f
+      .offers → t ≡ decode f .tallies → first ≡ talliesAt n →
       Filled f m n t first l l′ → record { answer = a; tables = l′ } ≡ readResult f l
   read-job {a} {l′} k m n t first ea h ok ek em en et ef w =
       let z = filled-stored f l l′ (filled-sizes f l l′ em en et (ef ∙ ap talliesAt en) w) in
@@ -101,7 +102,8 @@ pub record Held (f : List ℕ) (l : ReaderTables) (m n t row first : ℕ) : Type
   pub tallyOffer : t ≤ length (l .tallyOffer)
 
 -- So it is where the file is sound and no table is short.
-pub held : (f : List ℕ) (l : ReaderTables) (m n t row first : ℕ) → Sound f → shortReader l ≡ false → m ≡ decode f .grocers → n ≡ decode f .offers → t ≡ decode f .tallies → row ≡ 512 * grocersAt n + 4 → first ≡ talliesAt n → Held f l m n t row first
+pub held : (f : List ℕ) (l : ReaderTables) (m n t row first : ℕ) → Sound f → shortReader l ≡ false → m ≡ decode f .grocers → n ≡ decode f .offers → t ≡ decode f .tallies → row ≡ 512 * grocersAt n + 4
+    → first ≡ talliesAt n → Held f l m n t row first
 unfolding shortReader
 held f l m n t row first s h em en et er ef =
     let o = or-off (shortTables 255 500 1_000 (l .job)) (ltb (length (l .tallyOffer)) 1_000) h in

@@ -27,7 +27,44 @@ unfoldable pub use contract.Running.{tablesOf}
 pub use sound.WpLaws.{FmC, fmOf, WpFn-mono}
 pub use types.Kit.{Given, Item, ‵, raw, _⊛_, some, later, ⋆, anyQ, atRet, Sq, runs, params′, _$_, _∵_, !, qed, by, move, keep, use0, use1, use2, drop, split, join, pick, rewrite, fsplit, fjoin, suffices, frame, await, done, feqI}
 pub use types.Part.{whole, sub, look-in, agg}
-pub use types.Run.{look, look-raw, store, init, forget, stop, hop, fld, from, load, lit, of-opd, bin, and-then, no-more, assigns, assigns-last, stays, leaves-loop, first, blocks, Below, again, loops, land, returns, enter, alloc1, alloc0, params1, pass1, pass0, free1, free0, exec, addr}
+pub use types.Run.{
+  look,
+  look-raw,
+  store,
+  init,
+  forget,
+  stop,
+  hop,
+  fld,
+  from,
+  load,
+  lit,
+  of-opd,
+  bin,
+  and-then,
+  no-more,
+  assigns,
+  assigns-last,
+  stays,
+  leaves-loop,
+  first,
+  blocks,
+  Below,
+  again,
+  loops,
+  land,
+  returns,
+  enter,
+  alloc1,
+  alloc0,
+  params1,
+  pass1,
+  pass0,
+  free1,
+  free0,
+  exec,
+  addr,
+}
 pub use types.Share.{arr-parts}
 pub use denote.RattleType.{owns}
 pub use denote.Laws.{Is, shows}

@@ -170,11 +170,13 @@ module _ (f : JobTables) (t : StateTables) where
   long-job false b ea h = sym ea
   long-job true b ea h = sym ea ∙ h
 
-  pub refused-range : (a b c : Bool) → a ≡ jobShort (jobOf f) (jobLengths f) → b ≡ stateShort (jobOf (sizes (f .boxes) (f .grocers) (f .offers))) (stateLengths t) → (a || b) ≡ false → c ≡ jobInRange f → c ≡ false → 21 ≡ firstMet (runRefusals f t)
+  pub refused-range : (a b c : Bool) → a ≡ jobShort (jobOf f) (jobLengths f) → b ≡ stateShort (jobOf (sizes (f .boxes) (f .grocers) (f .offers))) (stateLengths t) → (a || b) ≡ false → c ≡ jobInRange f
+      → c ≡ false → 21 ≡ firstMet (runRefusals f t)
   unfolding firstMet runRefusals
   refused-range a b c ea eb h ec n = rw (sym (short-both a b ea eb) ∙ h, sym ec ∙ n)
 
-  pub refused-none : (a b c : Bool) → a ≡ jobShort (jobOf f) (jobLengths f) → b ≡ stateShort (jobOf (sizes (f .boxes) (f .grocers) (f .offers))) (stateLengths t) → (a || b) ≡ false → c ≡ jobInRange f → c ≡ true → 0 ≡ firstMet (runRefusals f t)
+  pub refused-none : (a b c : Bool) → a ≡ jobShort (jobOf f) (jobLengths f) → b ≡ stateShort (jobOf (sizes (f .boxes) (f .grocers) (f .offers))) (stateLengths t) → (a || b) ≡ false → c ≡ jobInRange f
+      → c ≡ true → 0 ≡ firstMet (runRefusals f t)
   unfolding firstMet runRefusals
   refused-none a b c ea eb h ec n = rw (sym (short-both a b ea eb) ∙ h, sym ec ∙ n)
 

@@ -39,7 +39,8 @@ module _ (file : List ℕ) (l : ReaderTables) (a : Answer) (e : outcome a l ≡ 
     unfolding printed readText jobRead
     job-text =
         ap
-        (λ (o : ReadOutcome). jobText (jobTables k m n t (o .tables .job .price) (o .tables .job .offerOwner) (o .tables .job .grocerOwner) (o .tables .job .tallyGrocer) (o .tables .job .tallyBox) (o .tables .tallyOffer) (o .tables .job .tallyCount)))
+        (λ (o : ReadOutcome). jobText (jobTables k m n t (o .tables .job .price) (o .tables .job .offerOwner) (o .tables .job .grocerOwner) (o .tables .job .tallyGrocer) (o .tables .job .tallyBox)
+        (o .tables .tallyOffer) (o .tables .job .tallyCount)))
         e
         ∙ rw (sym (is .1), sym (is .2), sym (is .3), sym (is .4))
         (ap (λ (x : Answer). readText file (answerOf x)) (sym h) ∙ ap (λ (o : ReadOutcome). readText file (o .answer)) e)

@@ -246,7 +246,8 @@ module _ (k : ℕ) (prices totals : List (List ℕ)) (done : List ℕ) where
       unfolding changes
       renewed-multiplied rows₂ rows₃ u n₂ n₃ = record {
         long = n₃ .long;
-        right = λ r l. renewed-at (rowOf k 5 a) r rows₂ rows₃ n₃ (λ e₃. renewed-at (rowOf k 4 a) r rows₁ rows₂ n₂ (λ e₂. renewed-at (rowOf k kind a) r rows rows₁ n₁ (λ e₁. h .right r l (rw (e₁, t, one-of (eqb kind 2) (eqb kind 3) u, e₂, e₃)))));
+        right = λ r l. renewed-at (rowOf k 5 a) r rows₂ rows₃ n₃ (λ e₃. renewed-at (rowOf k 4 a) r rows₁ rows₂ n₂
+            (λ e₂. renewed-at (rowOf k kind a) r rows rows₁ n₁ (λ e₁. h .right r l (rw (e₁, t, one-of (eqb kind 2) (eqb kind 3) u, e₂, e₃)))));
       }
         where
           one-of : (x y : Bool) → (not x && not y) ≡ false → (x || y) ≡ true

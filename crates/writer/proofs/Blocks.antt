@@ -48,7 +48,8 @@ record-is j b s =
         ]
 
 -- Block k of a job's file is its head, its records and zeros.
-pub body-is : (j : FileJob) (k p : ℕ) → bodyByte j k p ≡ bodyOf (blockKindNumber (kindAt (j .offers) k) ∷ records j (kindAt (j .offers) k) ∷ bytes16 k) (recordSize (kindAt (j .offers) k)) (records j (kindAt (j .offers) k)) (λ r. bytesOf (recordBytes j (kindAt (j .offers) k) r)) p
+pub body-is : (j : FileJob) (k p : ℕ) → bodyByte j k p ≡ bodyOf (blockKindNumber (kindAt (j .offers) k) ∷ records j (kindAt (j .offers) k) ∷ bytes16 k) (recordSize (kindAt (j .offers) k))
+    (records j (kindAt (j .offers) k)) (λ r. bytesOf (recordBytes j (kindAt (j .offers) k) r)) p
 unfolding bodyByte bodyOf
 body-is j k p = rw (record-is j (kindAt (j .offers) k) (p - 4))
 

@@ -113,7 +113,8 @@ module _ (k m n t : ℕ) (l : FileTables) (out : List ℕ) where
   file-length = length-tabulate _ _
 
   -- The file's length, and the file in front of the rest.
-  pub written-is : writeRefusal k m n t l out ≡ 0 → (x : ℕ) (d : List ℕ) → x ≡ 512 * blockCount n t → d ≡ encode (fileJobOf k m n t l) ++ drop (length (encode (fileJobOf k m n t l))) out → record { answer = wrote x; out = d } ≡ writeResult k m n t l out
+  pub written-is : writeRefusal k m n t l out ≡ 0 → (x : ℕ) (d : List ℕ) → x ≡ 512 * blockCount n t → d ≡ encode (fileJobOf k m n t l) ++ drop (length (encode (fileJobOf k m n t l))) out → record
+      { answer = wrote x; out = d } ≡ writeResult k m n t l out
   written-is ok x d e h =
       ap₂ (λ (x : ℕ) (d : List ℕ). record { answer = wrote x; out = d }) (e ∙ sym file-length) h
       ∙ sym (write-accepted k m n t l out ok)

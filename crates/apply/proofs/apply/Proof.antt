@@ -51,10 +51,18 @@ abbrev mark-6 : tie.After-statement2 → tie.After-mark
 mark-6 c = c .before .before .before .before .before .before .before .before .before .before .before .before
 
 mark-requires : tie.Need-mark-requires
-mark-requires c κs = let s = c .before .before .before .before .before .before .before .before .before .before .before in (marks-in (job s) (state s) (now (s .args .needs)) (now (s .args .sharers)) (ask s) (facts s), facts s .words-in .done)
+mark-requires c κs = let s = c .before .before .before .before .before .before .before .before .before .before .before in
+    (marks-in (job s) (state s) (now (s .args .needs)) (now (s .args .sharers)) (ask s) (facts s), facts s .words-in .done)
 
 send-prices-requires : tie.Need-send-prices-requires
-send-prices-requires c κs = let s = c .before .before .before .before .before .before .before .before .before .before .before .before .before .before .before .before .before .before in (prices-in (job s) (state s) (now (s .args .needs)) (now (s .args .sharers)) (ask s) (facts s), (s .pre .1 .offers-linked, sent-in (job s) (state s) (now (s .args .needs)) (now (s .args .sharers)) (ask s) (facts s)))
+send-prices-requires c κs = let s = c .before .before .before .before .before .before .before .before .before .before .before .before .before .before .before .before .before .before in (
+  prices-in (job s) (state s) (now (s .args .needs)) (now (s .args .sharers)) (ask s) (facts s),
+  (
+    s .pre .1 .offers-linked,
+    sent-in (job s) (state s) (now (s .args .needs)) (now (s .args .sharers))
+        (ask s) (facts s),
+  ),
+)
 
 same-length-2 : tie.Need-same-length-2
 same-length-2 c = c .before .before .before .before .send-prices .kept .1 .1 .1 .1 .1 .1 .1 .1 .1 .0
@@ -73,7 +81,8 @@ returns c =
     ∙ sym (prices-sent (job s) (state s) (now (s .args .needs)) (now (s .args .sharers)) (ask s) (facts s) (c .before .before .before .before .before .before .before .before .if1 .taken))
 
 multiply-requires : tie.Need-multiply-requires
-multiply-requires c κs = let s = c .before .before .before .before .before .before .before .before .before .before .before .before .before .before .before .before .before .before in (own-in (job s) (state s) (now (s .args .needs)) (now (s .args .sharers)) (ask s) (facts s), s .pre .1 .tallies-linked)
+multiply-requires c κs = let s = c .before .before .before .before .before .before .before .before .before .before .before .before .before .before .before .before .before .before in
+    (own-in (job s) (state s) (now (s .args .needs)) (now (s .args .sharers)) (ask s) (facts s), s .pre .1 .tallies-linked)
 
 same-length-6 : tie.Need-same-length-6
 same-length-6 c = c .before .multiply .kept .1 .1 .1 .1 .1 .1 .1 .1 .1 .1 .1 .1 .1 .1 .0
@@ -89,7 +98,8 @@ returns-2 c =
     ∙ sym (own-multiplied (job s) (state s) (now (s .args .needs)) (now (s .args .sharers)) (ask s) (facts s) (c .before .before .before .before .if2 .taken))
 
 receive-prices-requires : tie.Need-receive-prices-requires
-receive-prices-requires c κs = let s = c .before .before .before .before .before .before .before .before .before .before .before .before .before .before .before .before .before .before .before .before in (receive-in (job s) (state s) (now (s .args .needs)) (now (s .args .sharers)) (ask s) (facts s), (s .pre .1 .offers-linked, s .pre .1 .tallies-linked))
+receive-prices-requires c κs = let s = c .before .before .before .before .before .before .before .before .before .before .before .before .before .before .before .before .before .before .before
+    .before in (receive-in (job s) (state s) (now (s .args .needs)) (now (s .args .sharers)) (ask s) (facts s), (s .pre .1 .offers-linked, s .pre .1 .tallies-linked))
 
 same-length-8 : tie.Need-same-length-8
 same-length-8 c = c .before .before .before .before .before .receive-prices .kept .1 .1 .1 .1 .1 .1 .1 .1 .1 .1 .1 .1 .1 .1 .1 .1 .0
@@ -115,7 +125,11 @@ below16 : (s : tie.Start) (b : ℕ) → b < s .args .boxes → b < 16
 below16 s b h = omega (arith, h, facts s .tallies-in .boxes-in)
 
 send-totals-requires : tie.Need-send-totals-requires
-send-totals-requires c κs = let s = c .before .before .before .before .before .before .before .before .before .before .before .before .before .before .before .before .before .before .before .before .before in (send-in (job s) (state s) (now (s .args .needs)) (now (s .args .sharers)) (ask s) (facts s), ((below16 s (s .args .second) (facts s .second-in), s .pre .1 .grocers-linked), sent-in (job s) (state s) (now (s .args .needs)) (now (s .args .sharers)) (ask s) (facts s)))
+send-totals-requires c κs = let s = c .before .before .before .before .before .before .before .before .before .before .before .before .before .before .before .before .before .before .before .before
+    .before in (
+      send-in (job s) (state s) (now (s .args .needs)) (now (s .args .sharers)) (ask s) (facts s),
+      ((below16 s (s .args .second) (facts s .second-in), s .pre .1 .grocers-linked), sent-in (job s) (state s) (now (s .args .needs)) (now (s .args .sharers)) (ask s) (facts s)),
+    )
 
 same-length-12 : tie.Need-same-length-12
 same-length-12 c = c .before .before .before .before .send-totals .kept .1 .1 .1 .1 .1 .1 .1 .1 .0
@@ -137,7 +151,14 @@ returns-4 c =
     ∙ sym (totals-sent (job s) (state s) (now (s .args .needs)) (now (s .args .sharers)) (ask s) (facts s) (c .before .before .before .before .before .before .before .before .if4 .taken))
 
 credit-requires : tie.Need-credit-requires
-credit-requires c κs = let s = c .before .before .before .before .before .before .before .before .before .before .before .before .before .before .before .before .before .before .before .before .before in (credit-in (job s) (state s) (now (s .args .needs)) (now (s .args .sharers)) (ask s) (facts s) (s .args .first) (facts s .first-in), ((working-in (job s) (state s) (now (s .args .needs)) (now (s .args .sharers)) (ask s) (facts s), statement-in (job s) (state s) (now (s .args .needs)) (now (s .args .sharers)) (ask s) (facts s)), (below16 s (s .args .first) (facts s .first-in), s .pre .1 .grocers-linked)))
+credit-requires c κs = let s = c .before .before .before .before .before .before .before .before .before .before .before .before .before .before .before .before .before .before .before .before
+    .before in (
+      credit-in (job s) (state s) (now (s .args .needs)) (now (s .args .sharers)) (ask s) (facts s) (s .args .first) (facts s .first-in),
+      (
+        (working-in (job s) (state s) (now (s .args .needs)) (now (s .args .sharers)) (ask s) (facts s), statement-in (job s) (state s) (now (s .args .needs)) (now (s .args .sharers)) (ask s) (facts s)),
+        (below16 s (s .args .first) (facts s .first-in), s .pre .1 .grocers-linked),
+      ),
+    )
 
 same-length-16 : tie.Need-same-length-16
 same-length-16 c = c .before .before .credit .kept .1 .1 .1 .1 .1 .1 .1 .1 .0
@@ -156,7 +177,14 @@ returns-5 c =
     ∙ sym (own-added (job s) (state s) (now (s .args .needs)) (now (s .args .sharers)) (ask s) (facts s) (c .before .before .before .before .before .if5 .taken))
 
 credit-requires-2 : tie.Need-credit-requires-2
-credit-requires-2 c κs = let s = c .before .before .before .before .before .before .before .before .before .before .before .before .before .before .before .before .before .before .before .before .before in (credit-in (job s) (state s) (now (s .args .needs)) (now (s .args .sharers)) (ask s) (facts s) (s .args .second) (facts s .second-in), ((transit-in (job s) (state s) (now (s .args .needs)) (now (s .args .sharers)) (ask s) (facts s), statement-in (job s) (state s) (now (s .args .needs)) (now (s .args .sharers)) (ask s) (facts s)), (below16 s (s .args .first) (facts s .first-in), s .pre .1 .grocers-linked)))
+credit-requires-2 c κs = let s = c .before .before .before .before .before .before .before .before .before .before .before .before .before .before .before .before .before .before .before .before
+    .before in (
+      credit-in (job s) (state s) (now (s .args .needs)) (now (s .args .sharers)) (ask s) (facts s) (s .args .second) (facts s .second-in),
+      (
+        (transit-in (job s) (state s) (now (s .args .needs)) (now (s .args .sharers)) (ask s) (facts s), statement-in (job s) (state s) (now (s .args .needs)) (now (s .args .sharers)) (ask s) (facts s)),
+        (below16 s (s .args .first) (facts s .first-in), s .pre .1 .grocers-linked),
+      ),
+    )
 
 same-length-19 : tie.Need-same-length-19
 same-length-19 c = c .before .before .credit2 .kept .1 .1 .1 .1 .1 .1 .1 .1 .0
@@ -172,7 +200,10 @@ returns-6 c =
     let s = entry (mark-6 c) in
     let e = c .before .before .credit2 .ensures in
     tables-eq _ _ refl refl refl (e .0) (e .1) (mark-6 c .mark .ensures .0) refl
-    ∙ sym (totals-received (job s) (state s) (now (s .args .needs)) (now (s .args .sharers)) (ask s) (facts s) (sixth (s .args .kind) (facts s .kind-from) (facts s .kind-to) (c .before .before .before .before .before .before .before .before .before .if1 .left) (c .before .before .before .before .before .before .before .before .if2 .left) (c .before .before .before .before .before .before .before .if3 .left) (c .before .before .before .before .before .before .if4 .left) (c .before .before .before .before .before .if5 .left)))
+    ∙ sym (totals-received (job s) (state s) (now (s .args .needs)) (now (s .args .sharers)) (ask s) (facts s)
+    (sixth (s .args .kind) (facts s .kind-from) (facts s .kind-to) (c .before .before .before .before .before .before .before .before .before .if1 .left)
+    (c .before .before .before .before .before .before .before .before .if2 .left) (c .before .before .before .before .before .before .before .if3 .left)
+    (c .before .before .before .before .before .before .if4 .left) (c .before .before .before .before .before .if5 .left)))
 
 pub apply-spec : {M : Type 1} → statement M
 apply-spec =

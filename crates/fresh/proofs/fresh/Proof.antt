@@ -42,7 +42,8 @@ own-prices-requires c κs =
     }
 
 mul-zero16-2 : tie.Need-mul-zero16-2
-mul-zero16-2 c = let s = c .before .before .before .before .before .before .before .before .before .before .before .before .before .before .before .before .before .before .before .before .before .before .before .before .before .before .before .before in omega (arith, s .pre .boxes≤, mul-le-mul (s .pre .boxes≤) (s .pre .boxes≤))
+mul-zero16-2 c = let s = c .before .before .before .before .before .before .before .before .before .before .before .before .before .before .before .before .before .before .before .before .before
+    .before .before .before .before .before .before .before in omega (arith, s .pre .boxes≤, mul-le-mul (s .pre .boxes≤) (s .pre .boxes≤))
 
 same-length : tie.Need-same-length
 same-length c = owned (zeroed c) .own-prices .kept .1 .1 .1 .1 .0 ∙ owned (zeroed c) .before .before .before .before .zero32 .kept .0

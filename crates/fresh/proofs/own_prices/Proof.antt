@@ -40,7 +40,13 @@ mul-known-2 : tie.Need-mul-known-2 Inv-loop μ-loop
 mul-known-2 c =
     let s = c .before .before .before .before .before .before .before .before in
     let l = s .pre .owner< (c .before .before .before .before .loop .o) (omega arith) in
-    omega (arith, c .before .place .ensures, s .pre .offers≤, cell-in (getD (s .args .owner .now) (c .before .before .before .before .loop .o) 0) 16 (s .args .n) (c .before .before .before .before .loop .o) (omega (arith, s .pre .boxes≤)) (omega arith))
+    omega (
+      arith,
+      c .before .place .ensures,
+      s .pre .offers≤,
+      cell-in (getD (s .args .owner .now) (c .before .before .before .before .loop .o) 0) 16 (s .args .n)
+          (c .before .before .before .before .loop .o) (omega (arith, s .pre .boxes≤)) (omega arith),
+    )
 
 slice-write-known : tie.Need-slice-write-known Inv-loop μ-loop
 slice-write-known c =

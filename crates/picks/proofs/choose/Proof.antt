@@ -11,7 +11,8 @@ use Rattle.picks.proofs.choose.Statement.{statement}
 use Rattle.picks.proofs.choose.Tie as tie
 
 abbrev job : tie.Start → JobTables
-job s = jobTables (s .args .boxes) (s .args .grocers) (s .args .offers) (s .args .tallies) (now (s .args .price)) (now (s .args .owner)) (now (s .args .gowner)) (now (s .args .tgrocer)) (now (s .args .tbox)) (now (s .args .toffer)) (now (s .args .tcount))
+job s = jobTables (s .args .boxes) (s .args .grocers) (s .args .offers) (s .args .tallies) (now (s .args .price)) (now (s .args .owner)) (now (s .args .gowner)) (now (s .args .tgrocer))
+    (now (s .args .tbox)) (now (s .args .toffer)) (now (s .args .tcount))
 
 abbrev tables : tie.Start → StateTables
 tables s = stateTables (now (s .args .known)) (now (s .args .ptransit)) (now (s .args .working)) (now (s .args .ttransit)) (now (s .args .statement)) (now (s .args .done)) (now (s .args .sent))
@@ -35,23 +36,30 @@ find-in-requires c κs =
       way-walk (job s) (tables s) (s .pre .0 .on-way) (now (s .args .needs)) (now (s .args .sharers)) (now (s .args .prices)) (now (s .args .totals)) (s .pre .0 .made),
       (
         s .pre .1 .1 .0,
-        choice-below (job s) (tables s) (s .pre .0 .on-way) (now (s .args .needs)) (now (s .args .sharers)) (now (s .args .prices)) (now (s .args .totals)) (s .pre .0 .made) (s .args .ready) (getD (now (s .args .choices)) (s .args .i) 0) (s .pre .1 .0 .1 .0) (s .pre .1 .0 .1 .1),
+        choice-below (job s) (tables s) (s .pre .0 .on-way) (now (s .args .needs)) (now (s .args .sharers)) (now (s .args .prices)) (now (s .args .totals)) (s .pre .0 .made) (s .args .ready)
+            (getD (now (s .args .choices)) (s .args .i) 0) (s .pre .1 .0 .1 .0) (s .pre .1 .0 .1 .1),
       ),
     )
 
 apply-requires : tie.Need-apply-requires
 apply-requires c κs =
     let s = c .before .before .before .before .before .before .before .before .before .before .before .before .before .before .before .before .before .before .before .before .before .before in
-    let g = c .before .before .before .before .before .before .before .find-in in
-    (choice-applies (job s) (tables s) (s .pre .0 .on-way) (now (s .args .needs)) (now (s .args .sharers)) (now (s .args .prices)) (now (s .args .totals)) (s .pre .0 .made) (s .args .ready) (getD (now (s .args .choices)) (s .args .i) 0) (s .pre .1 .0 .1 .0) (s .pre .1 .0 .1 .1) (g .result .kind) (g .result .first) (g .result .second) (g .ensures), s .pre .1 .1 .1)
+    let g = c .before .before .before .before .before .before .before .find-in in (
+      choice-applies (job s) (tables s) (s .pre .0 .on-way) (now (s .args .needs)) (now (s .args .sharers)) (now (s .args .prices)) (now (s .args .totals)) (s .pre .0 .made) (s .args .ready)
+          (getD (now (s .args .choices)) (s .args .i) 0) (s .pre .1 .0 .1 .0) (s .pre .1 .0 .1 .1) (g .result .kind) (g .result .first) (g .result .second) (g .ensures),
+      s .pre .1 .1 .1,
+    )
 
 renew-requires : tie.Need-renew-requires
 renew-requires c κs =
     let s = entry (found (applied c)) in
     let g = found (applied c) .find-in in
     let e = applied c .apply .ensures in (
-      choice-marks-in (job s) (tables s) (s .pre .0 .on-way) (now (s .args .needs)) (now (s .args .sharers)) (now (s .args .prices)) (now (s .args .totals)) (s .pre .0 .made) (s .args .ready) (getD (now (s .args .choices)) (s .args .i) 0) (s .pre .1 .0 .1 .0) (s .pre .1 .0 .1 .1) (g .result .kind) (g .result .first) (g .result .second) (g .ensures) _ e,
-      choice-rows (job s) (tables s) (s .pre .0 .on-way) (now (s .args .needs)) (now (s .args .sharers)) (now (s .args .prices)) (now (s .args .totals)) (s .pre .0 .made) (s .args .ready) (getD (now (s .args .choices)) (s .args .i) 0) (s .pre .1 .0 .1 .0) (s .pre .1 .0 .1 .1) (g .result .kind) (g .result .first) (g .result .second) (g .ensures) _ e (now (s .args .rows)) (s .pre .1 .1 .0),
+      choice-marks-in (job s) (tables s) (s .pre .0 .on-way) (now (s .args .needs)) (now (s .args .sharers)) (now (s .args .prices)) (now (s .args .totals)) (s .pre .0 .made) (s .args .ready)
+          (getD (now (s .args .choices)) (s .args .i) 0) (s .pre .1 .0 .1 .0) (s .pre .1 .0 .1 .1) (g .result .kind) (g .result .first) (g .result .second) (g .ensures) _ e,
+      choice-rows (job s) (tables s) (s .pre .0 .on-way) (now (s .args .needs)) (now (s .args .sharers)) (now (s .args .prices)) (now (s .args .totals)) (s .pre .0 .made) (s .args .ready)
+          (getD (now (s .args .choices)) (s .args .i) 0) (s .pre .1 .0 .1 .0) (s .pre .1 .0 .1 .1) (g .result .kind) (g .result .first) (g .result .second) (g .ensures) _ e (now (s .args .rows))
+          (s .pre .1 .1 .0),
     )
 
 counted-requires : tie.Need-counted-requires
@@ -85,7 +93,8 @@ returns : tie.Need-returns
 returns c =
     let s = entry (found (applied (c .before .before))) in
     let g = found (applied (c .before .before)) .find-in in (
-      choice-kept (job s) (tables s) (s .pre .0 .on-way) (now (s .args .needs)) (now (s .args .sharers)) (now (s .args .prices)) (now (s .args .totals)) (s .pre .0 .made) (s .args .ready) (getD (now (s .args .choices)) (s .args .i) 0) (s .pre .1 .0 .1 .0) (s .pre .1 .0 .1 .1) (g .result .kind) (g .result .first) (g .result .second) (g .ensures)
+      choice-kept (job s) (tables s) (s .pre .0 .on-way) (now (s .args .needs)) (now (s .args .sharers)) (now (s .args .prices)) (now (s .args .totals)) (s .pre .0 .made) (s .args .ready)
+          (getD (now (s .args .choices)) (s .args .i) 0) (s .pre .1 .0 .1 .0) (s .pre .1 .0 .1 .1) (g .result .kind) (g .result .first) (g .result .second) (g .ensures)
           (now (s .args .choices)) (s .args .i) (s .pre .1 .0 .0) refl _ (applied (c .before .before) .apply .ensures)
           (s .args .counts .messages) (s .args .counts .steps) (c .counted .result .messages) (c .counted .result .steps)
           (c .counted .ensures .0 (g .result .first) (g .result .second)) (c .counted .ensures .1),

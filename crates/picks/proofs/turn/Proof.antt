@@ -9,7 +9,8 @@ use Rattle.picks.proofs.turn.Statement.{statement}
 use Rattle.picks.proofs.turn.Tie as tie
 
 abbrev job : tie.Start → JobTables
-job s = jobTables (s .args .boxes) (s .args .grocers) (s .args .offers) (s .args .tallies) (now (s .args .price)) (now (s .args .owner)) (now (s .args .gowner)) (now (s .args .tgrocer)) (now (s .args .tbox)) (now (s .args .toffer)) (now (s .args .tcount))
+job s = jobTables (s .args .boxes) (s .args .grocers) (s .args .offers) (s .args .tallies) (now (s .args .price)) (now (s .args .owner)) (now (s .args .gowner)) (now (s .args .tgrocer))
+    (now (s .args .tbox)) (now (s .args .toffer)) (now (s .args .tcount))
 
 abbrev tables : tie.Start → StateTables
 tables s = stateTables (now (s .args .known)) (now (s .args .ptransit)) (now (s .args .working)) (now (s .args .ttransit)) (now (s .args .statement)) (now (s .args .done)) (now (s .args .sent))
@@ -32,7 +33,9 @@ is-listed-requires c κs =
 returns : tie.Need-returns
 returns c =
     let s = entry (c .before) in
-    place-not (job s) (tables s) (s .pre .0 .on-way) (now (s .args .needs)) (now (s .args .sharers)) (now (s .args .prices)) (now (s .args .totals)) (s .pre .0 .made) (s .args .p .kind) (s .args .p .first) (s .args .p .second) (s .pre .1 .0) (s .pre .1 .1 .0) (s .args .counts .messages) (s .args .counts .steps) (sym (c .before .is-listed .ensures) ∙ not-true _ (c .if1 .taken))
+    place-not (job s) (tables s) (s .pre .0 .on-way) (now (s .args .needs)) (now (s .args .sharers)) (now (s .args .prices)) (now (s .args .totals)) (s .pre .0 .made) (s .args .p .kind)
+    (s .args .p .first) (s .args .p .second) (s .pre .1 .0) (s .pre .1 .1 .0) (s .args .counts .messages) (s .args .counts .steps)
+    (sym (c .before .is-listed .ensures) ∙ not-true _ (c .if1 .taken))
 
 apply-requires : tie.Need-apply-requires
 apply-requires c κs =

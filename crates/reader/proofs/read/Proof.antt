@@ -28,7 +28,10 @@ kept : (e : tie.Else2) → Kept (e .before .before .before .before .before .befo
 kept e = e .before .before .file-refusal .ensures .1 (e .if2 .left)
 
 -- What the calls that fill the tables ask for.
-room : (b : tie.After-job-of) → Held (b .before .before .before .before .before .before .before .before .before .before .before .before .before .before .before .before .before .before .args .file .now) (lent (b .before .before .before .before .before .before .before .before .before .before .before .before .before .before .before .before .before .before)) (b .before .before .before .read-sizes .result .grocers) (b .before .before .before .read-sizes .result .offers) (b .before .before .before .read-sizes .result .tallies) (b .before .before .owners-at .result) (b .before .tallies-at .result)
+room : (b : tie.After-job-of) → Held (b .before .before .before .before .before .before .before .before .before .before .before .before .before .before .before .before .before .before .args .file
+    .now) (lent (b .before .before .before .before .before .before .before .before .before .before .before .before .before .before .before .before .before .before))
+    (b .before .before .before .read-sizes .result .grocers) (b .before .before .before .read-sizes .result .offers) (b .before .before .before .read-sizes .result .tallies)
+    (b .before .before .owners-at .result) (b .before .tallies-at .result)
 room b =
     let z = b .before .before .before in
     let is = z .read-sizes .ensures in
@@ -73,28 +76,48 @@ fill-words-requires : tie.Need-fill-words-requires
 fill-words-requires c κs = let h = room (c .before .before .before .before .before .before .before .before .before .before .before .before .before .before .before .before .before) in (h .tallies, h .tallyGrocer)
 
 fill-bytes-requires-2 : tie.Need-fill-bytes-requires-2
-fill-bytes-requires-2 c κs = let h = room (c .before .before .before .before .before .before .before .before .before .before .before .before .before .before .before .before .before .before .before .before .before) in (h .tallies, (omega arith, h .tallyBox))
+fill-bytes-requires-2 c κs = let h = room (c .before .before .before .before .before .before .before .before .before .before .before .before .before .before .before .before .before .before .before
+    .before .before) in (h .tallies, (omega arith, h .tallyBox))
 
 fill-codes-requires-2 : tie.Need-fill-codes-requires-2
-fill-codes-requires-2 c κs = let h = room (c .before .before .before .before .before .before .before .before .before .before .before .before .before .before .before .before .before .before .before .before .before .before .before .before .before) in (h .tallies, (omega arith, h .tallyCode))
+fill-codes-requires-2 c κs = let h = room (c .before .before .before .before .before .before .before .before .before .before .before .before .before .before .before .before .before .before .before
+    .before .before .before .before .before .before) in (h .tallies, (omega arith, h .tallyCode))
 
 fill-counts-requires : tie.Need-fill-counts-requires
-fill-counts-requires c κs = let h = room (c .before .before .before .before .before .before .before .before .before .before .before .before .before .before .before .before .before .before .before .before .before .before .before .before .before .before .before .before .before) in (h .tallies, (omega arith, h .tallyCount))
+fill-counts-requires c κs = let h = room (c .before .before .before .before .before .before .before .before .before .before .before .before .before .before .before .before .before .before .before
+    .before .before .before .before .before .before .before .before .before .before) in (h .tallies, (omega arith, h .tallyCount))
 
 slice-aggregate-fill-same : tie.Need-slice-aggregate-fill-same
-slice-aggregate-fill-same c = sym (whole (c .before .before .before .before .before .before .before .before .before .before .before .before .before .before .before .before .before .before .before .before .before .before .before .before .before .before .before .before .before .before .before .before))
+slice-aggregate-fill-same c = sym (whole (c .before .before .before .before .before .before .before .before .before .before .before .before .before .before .before .before .before .before .before
+    .before .before .before .before .before .before .before .before .before .before .before .before .before))
 
 fill-same-requires : tie.Need-fill-same-requires
-fill-same-requires c κs = let h = room (c .before .before .before .before .before .before .before .before .before .before .before .before .before .before .before .before .before .before .before .before .before .before .before .before .before .before .before .before .before .before .before .before .before) in (omega (arith, sizes-most (kept (c .before .before .before .before .before .before .before .before .before .before .before .before .before .before .before .before .before .before .before .before .before .before .before .before .before .before .before .before .before .before .before .before .before .before .before .before .before) .sound) (c .before .before .before .before .before .before .before .before .before .before .before .before .before .before .before .before .before .before .before .before .before .before .before .before .before .before .before .before .before .before .before .before .before .before .before .before .read-sizes .ensures) .tallies, whole (c .before .before .before .before .before .before .before .before .before .before .before .before .before .before .before .before .before .before .before .before .before .before .before .before .before .before .before .before .before .before .before .before .before)), h .tallyOffer)
+fill-same-requires c κs = let h = room (c .before .before .before .before .before .before .before .before .before .before .before .before .before .before .before .before .before .before .before
+    .before .before .before .before .before .before .before .before .before .before .before .before .before .before) in (
+      omega (
+        arith,
+        sizes-most (kept (c .before .before .before .before .before .before .before .before .before .before .before .before .before .before .before .before .before .before .before .before
+            .before .before .before .before .before .before .before .before .before .before .before .before .before .before .before .before .before) .sound)
+            (c .before .before .before .before .before .before .before .before .before .before .before .before .before .before .before .before .before .before .before .before .before .before .before .before
+            .before .before .before .before .before .before .before .before .before .before .before .before .read-sizes .ensures) .tallies,
+        whole
+            (c .before .before .before .before .before .before .before .before .before .before .before .before .before .before .before .before .before .before .before .before .before .before .before .before
+            .before .before .before .before .before .before .before .before .before),
+      ),
+      h .tallyOffer,
+    )
 
 same-length : tie.Need-same-length
-same-length c = c .before .before .before .before .before .before .before .before .before .before .before .before .before .before .before .before .before .before .before .before .before .before .before .before .before .before .before .before .before .before .before .before .before .before .fill-prices .kept .1 .1 .1 .0
+same-length c = c .before .before .before .before .before .before .before .before .before .before .before .before .before .before .before .before .before .before .before .before .before .before
+    .before .before .before .before .before .before .before .before .before .before .before .before .fill-prices .kept .1 .1 .1 .0
 
 same-length-2 : tie.Need-same-length-2
-same-length-2 c = c .before .before .before .before .before .before .before .before .before .before .before .before .before .before .before .before .before .before .before .before .before .before .before .before .before .before .before .before .before .before .fill-bytes .kept .1 .1 .1 .1 .0
+same-length-2 c = c .before .before .before .before .before .before .before .before .before .before .before .before .before .before .before .before .before .before .before .before .before .before
+    .before .before .before .before .before .before .before .before .fill-bytes .kept .1 .1 .1 .1 .0
 
 same-length-3 : tie.Need-same-length-3
-same-length-3 c = c .before .before .before .before .before .before .before .before .before .before .before .before .before .before .before .before .before .before .before .before .before .before .before .before .before .before .fill-codes .kept .1 .1 .1 .1 .0
+same-length-3 c = c .before .before .before .before .before .before .before .before .before .before .before .before .before .before .before .before .before .before .before .before .before .before
+    .before .before .before .before .fill-codes .kept .1 .1 .1 .1 .0
 
 same-length-4 : tie.Need-same-length-4
 same-length-4 c = c .before .before .before .before .before .before .before .before .before .before .before .before .before .before .before .before .before .before .before .before .before .before .fill-row .kept .1 .1 .1 .0
@@ -116,7 +139,8 @@ same-length-9 c = c .before .before .fill-same .kept .1 .1 .0
 
 returns-3 : tie.Need-returns-3
 returns-3 c =
-    let b = c .before .before .before .before .before .before .before .before .before .before .before .before .before .before .before .before .before .before .before .before .before .before .before .before .before .before .before .before .before .before .before .before .before .before .before .before in
+    let b = c .before .before .before .before .before .before .before .before .before .before .before .before .before .before .before .before .before .before .before .before .before .before .before
+    .before .before .before .before .before .before .before .before .before .before .before .before .before in
     let z = b .before .before .before in
     let k = z .read-sizes .result in
     let is = z .read-sizes .ensures in
@@ -125,10 +149,13 @@ returns-3 c =
     read-job _ _ (k .boxes) (k .grocers) (k .offers) (k .tallies) (b .before .tallies-at .result) (b .job-of .ensures) (long (z .before .before .before .before .before))
     (sym (z .before .before .before .file-refusal .ensures .0) ∙ z .before .if2 .left) (is .boxes) (is .grocers) (is .offers) (is .tallies) (b .before .tallies-at .ensures)
     (record {
-      price = w .before .before .before .before .before .before .before .before .before .before .before .before .before .before .before .before .before .before .before .before .before .before .before .before .before .before .before .before .before .before .before .before .fill-prices .ensures;
-      offerOwner = w .before .before .before .before .before .before .before .before .before .before .before .before .before .before .before .before .before .before .before .before .before .before .before .before .before .before .before .before .fill-bytes .ensures;
+      price = w .before .before .before .before .before .before .before .before .before .before .before .before .before .before .before .before .before .before .before .before .before .before .before
+          .before .before .before .before .before .before .before .before .before .fill-prices .ensures;
+      offerOwner = w .before .before .before .before .before .before .before .before .before .before .before .before .before .before .before .before .before .before .before .before .before .before
+          .before .before .before .before .before .before .fill-bytes .ensures;
       offerCode = w .before .before .before .before .before .before .before .before .before .before .before .before .before .before .before .before .before .before .before .before .before .before .before .before .fill-codes .ensures;
-      grocerOwner = row-stored (s .args .file .now) (k .offers) (k .grocers) (s .args .gowner .now) (b .before .before .owners-at .ensures) (w .before .before .before .before .before .before .before .before .before .before .before .before .before .before .before .before .before .before .before .before .fill-row .ensures);
+      grocerOwner = row-stored (s .args .file .now) (k .offers) (k .grocers) (s .args .gowner .now) (b .before .before .owners-at .ensures)
+          (w .before .before .before .before .before .before .before .before .before .before .before .before .before .before .before .before .before .before .before .before .fill-row .ensures);
       tallyGrocer = w .before .before .before .before .before .before .before .before .before .before .before .before .before .before .before .before .fill-words .ensures;
       tallyBox = w .before .before .before .before .before .before .before .before .before .before .before .before .fill-bytes2 .ensures;
       tallyCode = w .before .before .before .before .before .before .before .before .fill-codes2 .ensures;

@@ -1,7 +1,17 @@
 -- `reconcile::reconcile` meets its contract: a walk of its MIR, by hand, with a loop. `open` is called once and `add_record` in each turn: all that the proof knows of them is that they meet their contracts.
 -- The slice of records is looked into once, before the loop, and shut once, after it; between the two the share of its row stands in the invariant. The answer after i records is `after i` (proofs/Fold.antt).
 -- Assumes nothing.
-use Rattle.reconcile.proofs.Walk.{_≡_, refl, sym, _∙_, subst, ℕ, suc, zero, _+_, _<_, _^_, Bool, List, [], _∷_, ltb, lt→ltb, ltb→lt, lit<, ℤ, length, getD, Nat·lt-wfRel, WellFounded, InvImage·wf, URA, fullShare, Ty, named, imm, w16, w32, w64, tyInt, tyBool, tyPtr, tyRef, Val, vint, vbool, vptr, ofZ, SProp, ent, sep, emp, id⊢, via, exE, fst∗, snd∗, Lft, GName, Share, Fml, ftrue, fat, froom, fdies, flft, fobor, Memory, Routine, Heap, Out, Env, Calls, Loops, Wp, WpFn, Tables, atReturn, afterSeq, afterBlock, afterTurn, Atoms, sem, Fun, fact, givenOf, tables, tablesOf, FmC, fmOf, WpFn-mono, Given, Item, ‵, raw, _⊛_, some, later, ⋆, anyQ, atRet, Sq, runs, params′, _$_, _∵_, !, qed, by, move, keep, use0, use1, use2, split, join, pick, rewrite, fsplit, fjoin, suffices, frame, await, done, whole, sub, look-in, look, look-raw, store, init, forget, stop, hop, fld, from, load, lit, of-opd, bin, and-then, no-more, assigns, assigns-last, stays, leaves-loop, first, blocks, Below, again, loops, land, returns, enter, alloc1, alloc0, params1, pass1, pass0, free1, free0, exec, arr-parts, owns, Is, shows, pointee, shares, uint-vals, uint-tells, uint-makes, sint-makes, u16, u32, i32, usize, RefT, sliceTy, sliceVal, ShrSlice, Room, slice-vals, shr-slice-tells, shr-slice-lawful, shr-slice-copy, row, place-is, elem-out, elem-back, looks-slice, shuts-slice, owned, facts, heard, nothing, Contract, Triple, calls-at, ensured, lasts, Vals, onEntry, Meets, tripleOf, entered, cited, says, Stays, stay-dropped, walkOf, Walks, ends-at, walked, walk-meets, holds, fails, fits-at, fits-next, over, within, next, from-none, less}
+use Rattle.reconcile.proofs.Walk.{_≡_, refl, sym, _∙_, subst, ℕ, suc, zero, _+_, _<_, _^_, Bool, List, [], _∷_, ltb, lt→ltb, ltb→lt, lit<, ℤ, length, getD, Nat·lt-wfRel, WellFounded}
+use Rattle.reconcile.proofs.Walk.{InvImage·wf, URA, fullShare, Ty, named, imm, w16, w32, w64, tyInt, tyBool, tyPtr, tyRef, Val, vint, vbool, vptr, ofZ, SProp, ent, sep, emp, id⊢, via, exE}
+use Rattle.reconcile.proofs.Walk.{fst∗, snd∗, Lft, GName, Share, Fml, ftrue, fat, froom, fdies, flft, fobor, Memory, Routine, Heap, Out, Env, Calls, Loops, Wp, WpFn, Tables, atReturn, afterSeq}
+use Rattle.reconcile.proofs.Walk.{afterBlock, afterTurn, Atoms, sem, Fun, fact, givenOf, tables, tablesOf, FmC, fmOf, WpFn-mono, Given, Item, ‵, raw, _⊛_, some, later, ⋆, anyQ, atRet, Sq, runs}
+use Rattle.reconcile.proofs.Walk.{params′, _$_, _∵_, !, qed, by, move, keep, use0, use1, use2, split, join, pick, rewrite, fsplit, fjoin, suffices, frame, await, done, whole, sub, look-in}
+use Rattle.reconcile.proofs.Walk.{look, look-raw, store, init, forget, stop, hop, fld, from, load, lit, of-opd, bin, and-then, no-more, assigns, assigns-last, stays, leaves-loop, first, blocks}
+use Rattle.reconcile.proofs.Walk.{Below, again, loops, land, returns, enter, alloc1, alloc0, params1, pass1, pass0, free1, free0, exec, arr-parts, owns, Is, shows, pointee, shares, uint-vals}
+use Rattle.reconcile.proofs.Walk.{uint-tells, uint-makes, sint-makes, u16, u32, i32, usize, RefT, sliceTy, sliceVal, ShrSlice, Room, slice-vals, shr-slice-tells, shr-slice-lawful}
+use Rattle.reconcile.proofs.Walk.{shr-slice-copy, row, place-is, elem-out, elem-back, looks-slice, shuts-slice, owned, facts, heard, nothing, Contract, Triple, calls-at, ensured, lasts, Vals}
+use Rattle.reconcile.proofs.Walk.{onEntry, Meets, tripleOf, entered, cited, says, Stays, stay-dropped, walkOf, Walks, ends-at, walked, walk-meets, holds, fails, fits-at, fits-next, over}
+use Rattle.reconcile.proofs.Walk.{within, next, from-none, less}
 use denote.Enum.Laws as EL
 use denote.Struct.Laws as LL
 use Rattle.reconcile.specs.Records.{recordOf}
@@ -113,7 +123,8 @@ module _ {M : Type 1} (𝓤 : URA M) (H : Heap 𝓤) (A : Atoms 𝓤) (W : Given
       use0 W (‵ Mkw) mkw $ move ! (1 ∷ 0 ∷ []) $ fjoin ! $ owned ! usize (Is usize) (uint-makes 𝓤 H A W w64) N _ (refl, room .0) $ fjoin ! $
       -- [what the parameters own; what prices owns; the token]
       nothing ! $ move ! (3 ∷ 0 ∷ []) $ join ! $
-      use2 W (raw (Opens 𝓤 H A mem run .pre to-opens)) (qed W ((‵ (flft κ′ q′) ⊛ ‵ ftrue) ∷ ‵ (owns (usize ∷ ShrSlice (named 0) κ′ u32 ∷ u16 ∷ u16 ∷ u16 ∷ []) (N, (p, (m, (k, (w, tt))))) (to-opens .0 .4)) ∷ []) ∵ join ! $ frame ! $ done !) $ frame ! $ done !
+      use2 W (raw (Opens 𝓤 H A mem run .pre to-opens)) (qed W ((‵ (flft κ′ q′) ⊛ ‵ ftrue) ∷ ‵
+      (owns (usize ∷ ShrSlice (named 0) κ′ u32 ∷ u16 ∷ u16 ∷ u16 ∷ []) (N, (p, (m, (k, (w, tt))))) (to-opens .0 .4)) ∷ []) ∵ join ! $ frame ! $ done !) $ frame ! $ done !
 
   opens-said : (r : Answer) → ent 𝓤 (ensured 𝓤 H A opens.ended (opens.clauses 𝓤 H A mem run) (κ′, tt) (N, (p, (m, (k, (w, tt))))) tt r) (fact 𝓤 (r ≡ opened m k w (p .now) N))
   opens-said r = exE 𝓤 _ (λ ws. snd∗ 𝓤 (sem 𝓤 H A (lasts opens.ended (κ′, tt) (N, (p, (m, (k, (w, tt))))) ws)) (fact 𝓤 (r ≡ opened m k w (p .now) N)))
@@ -123,7 +134,16 @@ module _ {M : Type 1} (𝓤 : URA M) (H : Heap 𝓤) (A : Atoms 𝓤) (W : Given
   adds-args i = (st i, (elem i .grocer, (elem i .«tally_box», (elem i .place, (elem i .count, (p, (m, (k, (w, tt)))))))))
 
   abbrev adds-vals : ℕ → Val → Vals adds.signature (κ′, tt)
-  adds-vals i u = (u ∷ [], (vint w16 (elem i .grocer) ∷ [], (vint w16 (elem i .«tally_box») ∷ [], (vint w16 (elem i .place) ∷ [], (vint w32 (ofZ w32 (elem i .count)) ∷ [], (v₂ ∷ [], (vint w16 m ∷ [], (vint w16 k ∷ [], (vint w16 w ∷ [], tt)))))))))
+  adds-vals i u = (
+    u ∷ [],
+    (
+      vint w16 (elem i .grocer) ∷ [],
+      (
+        vint w16 (elem i .«tally_box») ∷ [],
+        (vint w16 (elem i .place) ∷ [], (vint w32 (ofZ w32 (elem i .count)) ∷ [], (v₂ ∷ [], (vint w16 m ∷ [], (vint w16 k ∷ [], (vint w16 w ∷ [], tt)))))),
+      ),
+    ),
+  )
 
   abbrev to-adds : ℕ → Val → Adds 𝓤 H A mem run .Ghost
   to-adds i u = (((κ′, tt), (q′, tt), tt, adds-args i, adds-vals i u), tt)
@@ -227,11 +247,15 @@ module _ {M : Type 1} (𝓤 : URA M) (H : Heap 𝓤) (A : Atoms 𝓤) (W : Given
             move ! (16 ∷ 17 ∷ []) $ use2 W (raw (Adds 𝓤 H A mem run .pre (to-adds i u)) ⊛ ‵ OwnP) (goes-adds i u l isU g) $ split ! $
             -- [what the callee asks; what prices owns; the row; 0 to 13; 15; `Dies`]
             calls-at ! fm (Adds 𝓤 H A mem run) known-adds (to-adds i u)
-            (and-then ! (load ! (from ! (stop !)) (look ! 3 refl)) (and-then ! (load ! (from ! (fld ! refl (stop !))) (look-in ! 5 (sub ! 0 refl (whole !)))) (and-then ! (load ! (from ! (fld ! refl (stop !))) (look-in ! 5 (sub ! 1 refl (whole !))))
+            (and-then ! (load ! (from ! (stop !)) (look ! 3 refl)) (and-then ! (load ! (from ! (fld ! refl (stop !))) (look-in ! 5 (sub ! 0 refl (whole !))))
+            (and-then ! (load ! (from ! (fld ! refl (stop !))) (look-in ! 5 (sub ! 1 refl (whole !))))
             (and-then ! (load ! (from ! (fld ! refl (stop !))) (look-in ! 5 (sub ! 2 refl (whole !)))) (and-then ! (load ! (from ! (fld ! refl (stop !))) (look-in ! 5 (sub ! 3 refl (whole !))))
-            (and-then ! (load ! (from ! (stop !)) (look ! 11 refl)) (and-then ! (load ! (from ! (stop !)) (look ! 12 refl)) (and-then ! (load ! (from ! (stop !)) (look ! 13 refl)) (and-then ! (load ! (from ! (stop !)) (look ! 14 refl)) (no-more !)))))))))) (λ u′.
-            use1 W (later (some (λ (r : Answer). ((‵ (flft κ′ q′) ⊛ ‵ ftrue) ⊛ ‵ (D.the-row .own r (u′ ∷ []))) ⊛ raw (ensured 𝓤 H A adds.ended (adds.clauses 𝓤 H A mem run) (κ′, tt) (adds-args i) tt r)))) (id⊢ 𝓤 _) $ await ! tt $ pick ! (λ r.
-            split ! $ move ! (1 ∷ []) $ use1 W (raw (fact 𝓤 (r ≡ withRecord m k w (p .now) (st i) (recordOf (elem i))))) (adds-said i r) $ heard ! (r ≡ withRecord m k w (p .now) (st i) (recordOf (elem i))) (λ said. split ! $ move ! (1 ∷ []) $
+            (and-then ! (load ! (from ! (stop !)) (look ! 11 refl)) (and-then ! (load ! (from ! (stop !)) (look ! 12 refl))
+            (and-then ! (load ! (from ! (stop !)) (look ! 13 refl)) (and-then ! (load ! (from ! (stop !)) (look ! 14 refl)) (no-more !)))))))))) (λ u′.
+            use1 W (later (some (λ (r : Answer). ((‵ (flft κ′ q′) ⊛ ‵ ftrue) ⊛ ‵ (D.the-row .own r (u′ ∷ []))) ⊛ raw
+            (ensured 𝓤 H A adds.ended (adds.clauses 𝓤 H A mem run) (κ′, tt) (adds-args i) tt r)))) (id⊢ 𝓤 _) $ await ! tt $ pick ! (λ r.
+            split ! $ move ! (1 ∷ []) $ use1 W (raw (fact 𝓤 (r ≡ withRecord m k w (p .now) (st i) (recordOf (elem i))))) (adds-said i r) $ heard !
+            (r ≡ withRecord m k w (p .now) (st i) (recordOf (elem i))) (λ said. split ! $ move ! (1 ∷ []) $
             facts ! D.the-row (Is D.the-row) (shows 𝓤 H A D.the-row) r (u′ ∷ []) (λ is.
             -- [the token of prices; what prices owns; the row; 0 to 13; 15; `Dies`]
             land ! (from ! (stop !)) (store ! 3 refl (EL.lawful D.the-type D′.the-laws 𝓤 H A W tt .typed r _ is .0)) $
@@ -251,8 +275,11 @@ module _ {M : Type 1} (𝓤 : URA M) (H : Heap 𝓤) (A : Atoms 𝓤) (W : Given
           move ! (16 ∷ 17 ∷ []) $ use2 W (raw (Opens 𝓤 H A mem run .pre to-opens) ⊛ ‵ OwnP) goes-opens $ split ! $
           -- [what the callee asks; what prices owns; 0 to 15; `Dies`]
           calls-at ! fm (Opens 𝓤 H A mem run) known-opens to-opens
-          (and-then ! (load ! (from ! (stop !)) (look ! 15 refl)) (and-then ! (load ! (from ! (stop !)) (look ! 10 refl)) (and-then ! (load ! (from ! (stop !)) (look ! 11 refl)) (and-then ! (load ! (from ! (stop !)) (look ! 12 refl)) (and-then ! (load ! (from ! (stop !)) (look ! 13 refl)) (no-more !)))))) (λ u.
-          use1 W (later (some (λ (r : Answer). ((‵ (flft κ′ q′) ⊛ ‵ ftrue) ⊛ ‵ (D.the-row .own r (u ∷ []))) ⊛ raw (ensured 𝓤 H A opens.ended (opens.clauses 𝓤 H A mem run) (κ′, tt) (N, (p, (m, (k, (w, tt))))) tt r)))) (id⊢ 𝓤 _) $ await ! tt $ pick ! (λ r.
+          (and-then ! (load ! (from ! (stop !)) (look ! 15 refl)) (and-then ! (load ! (from ! (stop !)) (look ! 10 refl))
+          (and-then ! (load ! (from ! (stop !)) (look ! 11 refl)) (and-then ! (load ! (from ! (stop !)) (look ! 12 refl)) (and-then ! (load ! (from ! (stop !)) (look ! 13 refl)) (no-more !))))))
+          (λ u.
+          use1 W (later (some (λ (r : Answer). ((‵ (flft κ′ q′) ⊛ ‵ ftrue) ⊛ ‵ (D.the-row .own r (u ∷ []))) ⊛ raw
+          (ensured 𝓤 H A opens.ended (opens.clauses 𝓤 H A mem run) (κ′, tt) (N, (p, (m, (k, (w, tt))))) tt r)))) (id⊢ 𝓤 _) $ await ! tt $ pick ! (λ r.
           split ! $ move ! (1 ∷ []) $ use1 W (raw (fact 𝓤 (r ≡ opened m k w (p .now) N))) (opens-said r) $ heard ! (r ≡ opened m k w (p .now) N) (λ e. split ! $ move ! (1 ∷ []) $
           facts ! D.the-row (Is D.the-row) (shows 𝓤 H A D.the-row) r (u ∷ []) (λ is.
           -- [the token of prices; what prices owns; 0 to 15; `Dies`]
@@ -267,7 +294,10 @@ module _ {M : Type 1} (𝓤 : URA M) (H : Heap 𝓤) (A : Atoms 𝓤) (W : Given
 
       -- The locals are made.
       abbrev Fresh : List (Item 𝓤)
-      Fresh = ‵ (froom T′.mir l₁₃ 0) ∷ ‵ (fdies T′.mir l₁₃) ∷ ‵ (froom tyPtr l₁₂ 0) ∷ ‵ (fdies tyPtr l₁₂) ∷ ‵ (froom tyBool l₁₁ 0) ∷ ‵ (fdies tyBool l₁₁) ∷ ‵ (froom (tyInt w64) l₁₀ 0) ∷ ‵ (fdies (tyInt w64) l₁₀) ∷ ‵ (froom (tyInt w64) l₉ 0) ∷ ‵ (fdies (tyInt w64) l₉) ∷ ‵ (froom T′.mir l₈ 0) ∷ ‵ (fdies T′.mir l₈) ∷ ‵ (froom (tyInt w64) l₇ 0) ∷ ‵ (fdies (tyInt w64) l₇) ∷ ‵ (froom D′.mir l₆ 0) ∷ ‵ (fdies D′.mir l₆) ∷ ‵ (froom (tyInt w16) l₅ 0) ∷ ‵ (fdies (tyInt w16) l₅) ∷ ‵ (froom (tyInt w16) l₄ 0) ∷ ‵ (fdies (tyInt w16) l₄) ∷ ‵ (froom (tyInt w16) l₃ 0) ∷ ‵ (fdies (tyInt w16) l₃) ∷ ‵ (froom slice₂ l₂ 0) ∷ ‵ (fdies slice₂ l₂) ∷ ‵ (froom slice₁ l₁ 0) ∷ ‵ (fdies slice₁ l₁) ∷ ‵ (froom D′.mir l₀ 0) ∷ ‵ (fdies D′.mir l₀)
+      Fresh = ‵ (froom T′.mir l₁₃ 0) ∷ ‵ (fdies T′.mir l₁₃) ∷ ‵ (froom tyPtr l₁₂ 0) ∷ ‵ (fdies tyPtr l₁₂) ∷ ‵ (froom tyBool l₁₁ 0) ∷ ‵ (fdies tyBool l₁₁) ∷ ‵ (froom (tyInt w64) l₁₀ 0) ∷ ‵
+          (fdies (tyInt w64) l₁₀) ∷ ‵ (froom (tyInt w64) l₉ 0) ∷ ‵ (fdies (tyInt w64) l₉) ∷ ‵ (froom T′.mir l₈ 0) ∷ ‵ (fdies T′.mir l₈) ∷ ‵ (froom (tyInt w64) l₇ 0) ∷ ‵ (fdies (tyInt w64) l₇) ∷ ‵
+          (froom D′.mir l₆ 0) ∷ ‵ (fdies D′.mir l₆) ∷ ‵ (froom (tyInt w16) l₅ 0) ∷ ‵ (fdies (tyInt w16) l₅) ∷ ‵ (froom (tyInt w16) l₄ 0) ∷ ‵ (fdies (tyInt w16) l₄) ∷ ‵ (froom (tyInt w16) l₃ 0) ∷ ‵
+          (fdies (tyInt w16) l₃) ∷ ‵ (froom slice₂ l₂ 0) ∷ ‵ (fdies slice₂ l₂) ∷ ‵ (froom slice₁ l₁ 0) ∷ ‵ (fdies slice₁ l₁) ∷ ‵ (froom D′.mir l₀ 0) ∷ ‵ (fdies D′.mir l₀)
           ∷ (‵ (flft κ q) ⊛ ‵ (flft κ′ q′) ⊛ ‵ ftrue) ∷ ‵ (owns (ShrSlice (named 0) κ T.the-row ∷ ShrSlice (named 1) κ′ u32 ∷ u16 ∷ u16 ∷ u16 ∷ []) (s, (p, (m, (k, (w, tt))))) at) ∷ []
 
       -- The parameters are passed: local i stands at 2 · (13 - i).
@@ -283,14 +313,16 @@ module _ {M : Type 1} (𝓤 : URA M) (H : Heap 𝓤) (A : Atoms 𝓤) (W : Given
     walk =
         qed W ((‵ (flft κ q) ⊛ ‵ (flft κ′ q′) ⊛ ‵ ftrue) ∷ ‵ (owns (ShrSlice (named 0) κ T.the-row ∷ ShrSlice (named 1) κ′ u32 ∷ u16 ∷ u16 ∷ u16 ∷ []) (s, (p, (m, (k, (w, tt))))) at) ∷ []) ∵
         enter ! C Λ code.function (v₁ ∷ v₂ ∷ vint w16 m ∷ vint w16 k ∷ vint w16 w ∷ []) _ $
-        alloc1 ! (λ l₀. alloc1 ! (λ l₁. alloc1 ! (λ l₂. alloc1 ! (λ l₃. alloc1 ! (λ l₄. alloc1 ! (λ l₅. alloc1 ! (λ l₆. alloc1 ! (λ l₇. alloc1 ! (λ l₈. alloc1 ! (λ l₉. alloc1 ! (λ l₁₀. alloc1 ! (λ l₁₁. alloc1 ! (λ l₁₂. alloc1 ! (λ l₁₃. alloc0 ! $
+        alloc1 ! (λ l₀. alloc1 ! (λ l₁. alloc1 ! (λ l₂. alloc1 ! (λ l₃. alloc1 ! (λ l₄. alloc1 !
+        (λ l₅. alloc1 ! (λ l₆. alloc1 ! (λ l₇. alloc1 ! (λ l₈. alloc1 ! (λ l₉. alloc1 ! (λ l₁₀. alloc1 ! (λ l₁₁. alloc1 ! (λ l₁₂. alloc1 ! (λ l₁₃. alloc0 ! $
         passed l₀ l₁ l₂ l₃ l₄ l₅ l₆ l₇ l₈ l₉ l₁₀ l₁₁ l₁₂ l₁₃))))))))))))))
 
 module _ {M : Type 1} (𝓤 : URA M) (H : Heap 𝓤) (A : Atoms 𝓤) (W : Given 𝓤 H A) (mem : Memory → SProp 𝓤) (run : Routine → Fun 𝓤) (𝓣 : Tables 𝓤 H)
     (known-opens : Triple 𝓤 (𝓣 .C #reconcile·open) (Opens 𝓤 H A mem run)) (known-adds : Triple 𝓤 (𝓣 .C #reconcile·add-record) (Adds 𝓤 H A mem run)) where
   walks : Walks 𝓤 H A self.ended stayed (WpFn 𝓤 H (𝓣 .C) (𝓣 .Λ) code.function) (self.clauses 𝓤 H A mem run)
   walks = walked 𝓤 H A self.ended stayed (self.clauses 𝓤 H A mem run) (WpFn 𝓤 H (𝓣 .C) (𝓣 .Λ) code.function)
-      (λ κs. (slice-vals, (slice-vals, (uint-vals w16, (uint-vals w16, (uint-vals w16, tt)))))) (λ κs. (shr-slice-tells (named 0) (κs .0) T.the-row, (shr-slice-tells (named 1) (κs .1 .0) u32, (uint-tells w16, (uint-tells w16, (uint-tells w16, tt))))))
+      (λ κs. (slice-vals, (slice-vals, (uint-vals w16, (uint-vals w16, (uint-vals w16, tt))))))
+      (λ κs. (shr-slice-tells (named 0) (κs .0) T.the-row, (shr-slice-tells (named 1) (κs .1 .0) u32, (uint-tells w16, (uint-tells w16, (uint-tells w16, tt))))))
       (λ κs qs bounds a g are. via 𝓤 _ (fst∗ 𝓤 _ (emp 𝓤))
       (walk 𝓤 H A W mem run (κs .0) (κs .1 .0) (qs .0) (qs .1 .0) (a .0 .ptr .0) (a .0 .ptr .1) (a .0 .name) (a .0 .now) (a .1 .0) (a .1 .1 .0) (a .1 .1 .1 .0) (a .1 .1 .1 .1 .0)
       (are .0 .0 .1) (are .1 .0) (are .1 .1 .0 .1) (are .1 .1 .1 .0 .1) (are .1 .1 .1 .1 .0 .1) 𝓣 known-opens known-adds))

@@ -1,7 +1,14 @@
 -- `reconcile::reconcile_first` meets its contract: a walk of its MIR, by hand. The array is copied to a slot in memory, its first records are lent for a lifetime that is made for the call, `reconcile` is called, and the lifetime is ended.
 -- All that the proof knows of `reconcile` is that it meets its contract. Whoever calls `reconcile_first` needs no walk.
 -- Assumes nothing.
-use Rattle.reconcile.proofs.Walk.{_≡_, refl, ℕ, _<_, _≤_, _^_, arith, List, [], _∷_, map, length, take, length-take, URA, fullShare, Ty, named, erased, imm, w16, w32, w64, tyInt, tyRef, tyArray, Val, vint, SProp, ent, emp, id⊢, exE, snd∗, Lft, GName, Share, Fml, ftrue, fat, froom, fdies, flft, flent, Memory, Routine, Heap, Env, Calls, Loops, WpFn, Tables, Atoms, sem, Fun, fact, givenOf, tables, tablesOf, FmC, fmOf, WpFn-mono, Given, Item, ‵, raw, _⊛_, some, later, ⋆, Sq, runs, params′, atRet, _$_, _∵_, !, qed, by, move, keep, use1, use2, drop, split, join, pick, rewrite, fsplit, fjoin, feqI, suffices, frame, await, done, agg, look, init, forget, stop, from, load, of-opd, addr, and-then, no-more, assigns, land, returns, enter, alloc1, alloc0, params1, pass1, pass0, free1, free0, arr-parts, lft-new, lft-end, lent-back, Array, arrayVal, array-vals, array-tells, array-typed, owns, Is, shows, lends-shr-slice, pointee, shares, uint-vals, uint-tells, uint-makes, u16, u32, usize, row, RefT, sliceTy, sliceVal, ShrSlice, Room, slice-vals, shr-slice-tells, shr-slice-lawful, owned, facts, heard, nothing, Contract, Triple, calls-at, ensured, lasts, Vals, onEntry, Meets, tripleOf, entered, cited, says, needs, Stays, stay-dropped, walkOf, Walks, ends-at, walked, walk-meets}
+use Rattle.reconcile.proofs.Walk.{_≡_, refl, ℕ, _<_, _≤_, _^_, arith, List, [], _∷_, map, length, take, length-take, URA, fullShare, Ty, named, erased, imm, w16, w32, w64, tyInt, tyRef}
+use Rattle.reconcile.proofs.Walk.{tyArray, Val, vint, SProp, ent, emp, id⊢, exE, snd∗, Lft, GName, Share, Fml, ftrue, fat, froom, fdies, flft, flent, Memory, Routine, Heap, Env, Calls, Loops}
+use Rattle.reconcile.proofs.Walk.{WpFn, Tables, Atoms, sem, Fun, fact, givenOf, tables, tablesOf, FmC, fmOf, WpFn-mono, Given, Item, ‵, raw, _⊛_, some, later, ⋆, Sq, runs, params′, atRet, _$_}
+use Rattle.reconcile.proofs.Walk.{_∵_, !, qed, by, move, keep, use1, use2, drop, split, join, pick, rewrite, fsplit, fjoin, feqI, suffices, frame, await, done, agg, look, init, forget, stop}
+use Rattle.reconcile.proofs.Walk.{from, load, of-opd, addr, and-then, no-more, assigns, land, returns, enter, alloc1, alloc0, params1, pass1, pass0, free1, free0, arr-parts, lft-new, lft-end}
+use Rattle.reconcile.proofs.Walk.{lent-back, Array, arrayVal, array-vals, array-tells, array-typed, owns, Is, shows, lends-shr-slice, pointee, shares, uint-vals, uint-tells, uint-makes, u16}
+use Rattle.reconcile.proofs.Walk.{u32, usize, row, RefT, sliceTy, sliceVal, ShrSlice, Room, slice-vals, shr-slice-tells, shr-slice-lawful, owned, facts, heard, nothing, Contract, Triple}
+use Rattle.reconcile.proofs.Walk.{calls-at, ensured, lasts, Vals, onEntry, Meets, tripleOf, entered, cited, says, needs, Stays, stay-dropped, walkOf, Walks, ends-at, walked, walk-meets}
 use denote.Enum.Laws as EL
 use denote.Struct.Laws as LL
 use Rattle.model.specs.Reconcile.{reconciled}
@@ -46,7 +53,8 @@ module _ {M : Type 1} (𝓤 : URA M) (H : Heap 𝓤) (A : Atoms 𝓤) (mem : Mem
 
 module _ {M : Type 1} (𝓤 : URA M) (H : Heap 𝓤) (A : Atoms 𝓤) (W : Given 𝓤 H A) (mem : Memory → SProp 𝓤) (run : Routine → Fun 𝓤)
     (κ : Lft) (q : Share) (ts : List Tally) (j : ℕ) (p : RefT (List ℕ)) (m k w : ℕ) (few : j ≤ 1024)
-    (isA : Is (Array T.the-row 1024) ts (array-vals (LL.vals T.the-type T′.the-laws) ts)) (isP : Is (ShrSlice (named 0) κ u32) p (sliceVal (p .ptr) (length (p .now)) ∷ [])) (gj : j < 2 ^ 64) (gm : m < 2 ^ 16) (gk : k < 2 ^ 16) (gw : w < 2 ^ 16) where
+    (isA : Is (Array T.the-row 1024) ts (array-vals (LL.vals T.the-type T′.the-laws) ts)) (isP : Is (ShrSlice (named 0) κ u32) p (sliceVal (p .ptr) (length (p .now)) ∷ [])) (gj : j < 2 ^ 64)
+    (gm : m < 2 ^ 16) (gk : k < 2 ^ 16) (gw : w < 2 ^ 16) where
   abbrev ys : List Tally
   ys = take j ts
 
@@ -125,7 +133,9 @@ module _ {M : Type 1} (𝓤 : URA M) (H : Heap 𝓤) (A : Atoms 𝓤) (W : Given
       En = (D′.mir, l₀) ∷ (array, l₁) ∷ (tyInt w64, l₂) ∷ (slice₂, l₃) ∷ (tyInt w16, l₄) ∷ (tyInt w16, l₅) ∷ (tyInt w16, l₆) ∷ (array, l₇) ∷ (aref, l₈) ∷ (slice₁, l₉) ∷ []
 
       abbrev Fresh : List (Item 𝓤)
-      Fresh = ‵ (froom slice₁ l₉ 0) ∷ ‵ (fdies slice₁ l₉) ∷ ‵ (froom aref l₈ 0) ∷ ‵ (fdies aref l₈) ∷ ‵ (froom array l₇ 0) ∷ ‵ (fdies array l₇) ∷ ‵ (froom (tyInt w16) l₆ 0) ∷ ‵ (fdies (tyInt w16) l₆) ∷ ‵ (froom (tyInt w16) l₅ 0) ∷ ‵ (fdies (tyInt w16) l₅) ∷ ‵ (froom (tyInt w16) l₄ 0) ∷ ‵ (fdies (tyInt w16) l₄) ∷ ‵ (froom slice₂ l₃ 0) ∷ ‵ (fdies slice₂ l₃) ∷ ‵ (froom (tyInt w64) l₂ 0) ∷ ‵ (fdies (tyInt w64) l₂) ∷ ‵ (froom array l₁ 0) ∷ ‵ (fdies array l₁) ∷ ‵ (froom D′.mir l₀ 0) ∷ ‵ (fdies D′.mir l₀)
+      Fresh = ‵ (froom slice₁ l₉ 0) ∷ ‵ (fdies slice₁ l₉) ∷ ‵ (froom aref l₈ 0) ∷ ‵ (fdies aref l₈) ∷ ‵ (froom array l₇ 0) ∷ ‵ (fdies array l₇) ∷ ‵ (froom (tyInt w16) l₆ 0) ∷ ‵ (fdies (tyInt w16) l₆)
+          ∷ ‵ (froom (tyInt w16) l₅ 0) ∷ ‵ (fdies (tyInt w16) l₅) ∷ ‵ (froom (tyInt w16) l₄ 0) ∷ ‵ (fdies (tyInt w16) l₄) ∷ ‵ (froom slice₂ l₃ 0) ∷ ‵ (fdies slice₂ l₃) ∷ ‵ (froom (tyInt w64) l₂ 0) ∷ ‵
+          (fdies (tyInt w64) l₂) ∷ ‵ (froom array l₁ 0) ∷ ‵ (fdies array l₁) ∷ ‵ (froom D′.mir l₀ 0) ∷ ‵ (fdies D′.mir l₀)
           ∷ (‵ (flft κ q) ⊛ ‵ ftrue) ∷ ‵ (owns (Array T.the-row 1024 ∷ usize ∷ ShrSlice (named 0) κ u32 ∷ u16 ∷ u16 ∷ u16 ∷ []) (ts, (j, (p, (m, (k, (w, tt)))))) at) ∷ []
 
       body : Sq W Fresh (params′ En args (runs C Λ En mir′.t-1 (atRet En Post)))
@@ -148,8 +158,11 @@ module _ {M : Type 1} (𝓤 : URA M) (H : Heap 𝓤) (A : Atoms 𝓤) (W : Given
           use1 W (raw (Whole 𝓤 H A mem run .pre (to-whole α γ l₇))) (goes-whole α γ l₇) $
           -- [what the callee asks; true; the lender's part; the rest; _9; …; _8; …; that _7 dies; _6; …; …; _0; …]
           calls-at ! fm (Whole 𝓤 H A mem run) known (to-whole α γ l₇)
-          (and-then ! (load ! (from ! (stop !)) (look ! 4 refl)) (and-then ! (load ! (from ! (stop !)) (look ! 15 refl)) (and-then ! (load ! (from ! (stop !)) (look ! 13 refl)) (and-then ! (load ! (from ! (stop !)) (look ! 11 refl)) (and-then ! (load ! (from ! (stop !)) (look ! 9 refl)) (no-more !)))))) (λ u.
-          use1 W (later (some (λ (r : Answer). ((‵ (flft (α ∷ []) fullShare) ⊛ ‵ (flft κ q) ⊛ ‵ ftrue) ⊛ ‵ (D.the-row .own r (u ∷ []))) ⊛ raw (ensured 𝓤 H A whole.ended (whole.clauses 𝓤 H A mem run) (α ∷ [], (κ, tt)) (whole-args α γ l₇) tt r)))) (id⊢ 𝓤 _) $ await ! tt $ pick ! (λ r.
+          (and-then ! (load ! (from ! (stop !)) (look ! 4 refl)) (and-then ! (load ! (from ! (stop !)) (look ! 15 refl))
+          (and-then ! (load ! (from ! (stop !)) (look ! 13 refl)) (and-then ! (load ! (from ! (stop !)) (look ! 11 refl)) (and-then ! (load ! (from ! (stop !)) (look ! 9 refl)) (no-more !))))))
+          (λ u.
+          use1 W (later (some (λ (r : Answer). ((‵ (flft (α ∷ []) fullShare) ⊛ ‵ (flft κ q) ⊛ ‵ ftrue) ⊛ ‵ (D.the-row .own r (u ∷ []))) ⊛ raw
+          (ensured 𝓤 H A whole.ended (whole.clauses 𝓤 H A mem run) (α ∷ [], (κ, tt)) (whole-args α γ l₇) tt r)))) (id⊢ 𝓤 _) $ await ! tt $ pick ! (λ r.
           split ! $ move ! (1 ∷ []) $ use1 W (raw (fact 𝓤 (Found r))) (whole-said α γ l₇ r) $ heard ! (Found r) (λ e. split ! $ move ! (1 ∷ []) $
           facts ! D.the-row (Is D.the-row) (shows 𝓤 H A D.the-row) r (u ∷ []) (λ is.
           land ! (from ! (stop !)) (init ! 21 refl (EL.lawful D.the-type D′.the-laws 𝓤 H A W tt .typed r _ is .0)) $
@@ -175,8 +188,13 @@ module _ {M : Type 1} (𝓤 : URA M) (H : Heap 𝓤) (A : Atoms 𝓤) (W : Given
       (are .0) (are .1 .1 .0) (are .1 .0 .1) (are .1 .1 .1 .0 .1) (are .1 .1 .1 .1 .0 .1) (are .1 .1 .1 .1 .1 .0 .1) (𝓣 .C) (𝓣 .Λ) (fmOf 𝓤 H (W .laws) 𝓣) known))
 
   meets : Meets 𝓤 H A self.signature (WpFn 𝓤 H (𝓣 .C) (𝓣 .Λ) code.function) (self.spec 𝓤 H A mem run)
-  meets = walk-meets 𝓤 H A self.ended stayed W
-      ((λ κs x f vs ok. W .laws .⇛-intro (emp 𝓤)), ((λ κs x f vs ok. W .laws .⇛-intro (emp 𝓤)), ((λ κs x f vs ok. W .laws .⇛-intro (emp 𝓤)), ((λ κs x f vs ok. W .laws .⇛-intro (emp 𝓤)), ((λ κs x f vs ok. W .laws .⇛-intro (emp 𝓤)), ((λ κs x f vs ok. W .laws .⇛-intro (emp 𝓤)), tt))))))
+  meets = walk-meets 𝓤 H A self.ended stayed W (
+    (λ κs x f vs ok. W .laws .⇛-intro (emp 𝓤)),
+    (
+      (λ κs x f vs ok. W .laws .⇛-intro (emp 𝓤)),
+      ((λ κs x f vs ok. W .laws .⇛-intro (emp 𝓤)), ((λ κs x f vs ok. W .laws .⇛-intro (emp 𝓤)), ((λ κs x f vs ok. W .laws .⇛-intro (emp 𝓤)), ((λ κs x f vs ok. W .laws .⇛-intro (emp 𝓤)), tt)))),
+    ),
+  )
       (self.clauses 𝓤 H A mem run) (WpFn 𝓤 H (𝓣 .C) (𝓣 .Λ) code.function) (WpFn-mono 𝓤 H (W .laws) 𝓣 code.function) walks
 
 pub reconcile-first-spec : {M : Type 1} → stated.statement M

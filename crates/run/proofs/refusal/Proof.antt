@@ -8,22 +8,29 @@ use Rattle.run.proofs.refusal.Statement.{statement}
 use Rattle.run.proofs.refusal.Tie as tie
 
 abbrev job : tie.Start → JobTables
-job s = jobTables (s .args .boxes) (s .args .grocers) (s .args .offers) (s .args .tallies) (now (s .args .price)) (now (s .args .owner)) (now (s .args .gowner)) (now (s .args .tgrocer)) (now (s .args .tbox)) (now (s .args .toffer)) (now (s .args .tcount))
+job s = jobTables (s .args .boxes) (s .args .grocers) (s .args .offers) (s .args .tallies) (now (s .args .price)) (now (s .args .owner)) (now (s .args .gowner)) (now (s .args .tgrocer))
+    (now (s .args .tbox)) (now (s .args .toffer)) (now (s .args .tcount))
 
 abbrev entry : tie.Start → StateTables
 entry s = stateTables (now (s .args .known)) (now (s .args .ptransit)) (now (s .args .working)) (now (s .args .ttransit)) (now (s .args .statement)) (now (s .args .done)) (now (s .args .sent))
 
 returns : tie.Need-returns
-returns c = let s = c .before .before .before .before .before .before .before .before .before .before .before .before .before in refused-short (job s) (entry s) (c .before .before .job-short .result) (c .before .state-short .result) (c .before .before .job-short .ensures) (c .before .state-short .ensures) (c .if1 .taken)
+returns c = let s = c .before .before .before .before .before .before .before .before .before .before .before .before .before in refused-short (job s) (entry s) (c .before .before .job-short .result)
+    (c .before .state-short .result) (c .before .before .job-short .ensures) (c .before .state-short .ensures) (c .if1 .taken)
 
 job-in-range-requires : tie.Need-job-in-range-requires
-job-in-range-requires c κs = let s = c .before .before .before .before .before .before .before .before .before .before .before .before .before in long-job (job s) (entry s) (c .before .before .job-short .result) (c .before .state-short .result) (c .before .before .job-short .ensures) (c .if1 .left)
+job-in-range-requires c κs = let s = c .before .before .before .before .before .before .before .before .before .before .before .before .before in long-job (job s) (entry s)
+    (c .before .before .job-short .result) (c .before .state-short .result) (c .before .before .job-short .ensures) (c .if1 .left)
 
 returns-2 : tie.Need-returns-2
-returns-2 c = let s = c .before .before .before .before .before .before .before .before .before .before .before .before .before .before .before in refused-range (job s) (entry s) (c .before .before .before .before .job-short .result) (c .before .before .before .state-short .result) (c .before .job-in-range .result) (c .before .before .before .before .job-short .ensures) (c .before .before .before .state-short .ensures) (c .before .before .if1 .left) (c .before .job-in-range .ensures) (not-true _ (c .if2 .taken))
+returns-2 c = let s = c .before .before .before .before .before .before .before .before .before .before .before .before .before .before .before in refused-range (job s) (entry s)
+    (c .before .before .before .before .job-short .result) (c .before .before .before .state-short .result) (c .before .job-in-range .result) (c .before .before .before .before .job-short .ensures)
+    (c .before .before .before .state-short .ensures) (c .before .before .if1 .left) (c .before .job-in-range .ensures) (not-true _ (c .if2 .taken))
 
 returns-3 : tie.Need-returns-3
-returns-3 c = let s = c .before .before .before .before .before .before .before .before .before .before .before .before .before .before .before in refused-none (job s) (entry s) (c .before .before .before .before .job-short .result) (c .before .before .before .state-short .result) (c .before .job-in-range .result) (c .before .before .before .before .job-short .ensures) (c .before .before .before .state-short .ensures) (c .before .before .if1 .left) (c .before .job-in-range .ensures) (not-false _ (c .if2 .left))
+returns-3 c = let s = c .before .before .before .before .before .before .before .before .before .before .before .before .before .before .before in refused-none (job s) (entry s)
+    (c .before .before .before .before .job-short .result) (c .before .before .before .state-short .result) (c .before .job-in-range .result) (c .before .before .before .before .job-short .ensures)
+    (c .before .before .before .state-short .ensures) (c .before .before .if1 .left) (c .before .job-in-range .ensures) (not-false _ (c .if2 .left))
 
 pub refusal-spec : {M : Type 1} → statement M
 refusal-spec =

@@ -17,15 +17,26 @@ link-requires : tie.Need-link-requires
 link-requires c κs = let s = c .before .before .before .before .before .before .before .before .before .before .before .before in offers-keyed (job s) (s .pre .job-in) (s .pre .job-long) (replicate 500 0) refl
 
 link-requires-2 : tie.Need-link-requires-2
-link-requires-2 c κs = let s = c .before .before .before .before .before .before .before .before .before .before .before .before .before .before .before .before in grocers-keyed (job s) (s .pre .job-in) (s .pre .job-long) (replicate 255 0) refl
+link-requires-2 c κs = let s = c .before .before .before .before .before .before .before .before .before .before .before .before .before .before .before .before in grocers-keyed (job s)
+    (s .pre .job-in) (s .pre .job-long) (replicate 255 0) refl
 
 link-requires-3 : tie.Need-link-requires-3
-link-requires-3 c κs = let s = c .before .before .before .before .before .before .before .before .before .before .before .before .before .before .before .before .before .before .before .before in tallies-keyed (job s) (s .pre .job-in) (s .pre .job-long) (replicate 1_000 0) refl
+link-requires-3 c κs = let s = c .before .before .before .before .before .before .before .before .before .before .before .before .before .before .before .before .before .before .before .before in
+    tallies-keyed (job s) (s .pre .job-in) (s .pre .job-long) (replicate 1_000 0) refl
 
 apply-requires : tie.Need-apply-requires
 apply-requires c κs =
-    let s = c .before .before .before .before .before .before .before .before .before .before .before .before .before .before .before .before .before .before .before .before .before .before .before .before .before .before .before .before .before .before .before .before .before .before .before in
-    (s .pre, record { offers-linked = c .before .before .before .before .before .before .before .before .before .before .before .before .before .before .before .before .before .before .before .before .before .before .link .ensures; grocers-linked = c .before .before .before .before .before .before .before .before .before .before .before .before .before .before .before .before .before .before .link2 .ensures; tallies-linked = c .before .before .before .before .before .before .before .before .before .before .before .before .before .before .link3 .ensures })
+    let s = c .before .before .before .before .before .before .before .before .before .before .before .before .before .before .before .before .before .before .before .before .before .before .before
+    .before .before .before .before .before .before .before .before .before .before .before .before in (
+      s .pre,
+      record {
+        offers-linked = c .before .before .before .before .before .before .before .before .before .before .before .before .before .before .before .before .before .before .before .before
+            .before .before .link .ensures;
+        grocers-linked = c .before .before .before .before .before .before .before .before .before .before .before .before .before .before .before .before .before
+            .before .link2 .ensures;
+        tallies-linked = c .before .before .before .before .before .before .before .before .before .before .before .before .before .before .link3 .ensures;
+      },
+    )
 
 same-length : tie.Need-same-length
 same-length c = c .before .before .before .before .before .before .before .before .before .before .before .apply .kept .1 .1 .1 .1 .1 .1 .1 .1 .1 .1 .1 .1 .1 .1 .1 .1 .1 .1 .1 .0

@@ -16,7 +16,8 @@ use Rattle.step.proofs.step.Tie as tie
 
 -- The lent tables and what is asked, at the start.
 abbrev job : tie.Start → JobTables
-job s = jobTables (s .args .boxes) (s .args .grocers) (s .args .offers) (s .args .tallies) (now (s .args .price)) (now (s .args .owner)) (now (s .args .gowner)) (now (s .args .tgrocer)) (now (s .args .tbox)) (now (s .args .toffer)) (now (s .args .tcount))
+job s = jobTables (s .args .boxes) (s .args .grocers) (s .args .offers) (s .args .tallies) (now (s .args .price)) (now (s .args .owner)) (now (s .args .gowner)) (now (s .args .tgrocer))
+    (now (s .args .tbox)) (now (s .args .toffer)) (now (s .args .tcount))
 
 abbrev state : tie.Start → StateTables
 state s = stateTables (now (s .args .known)) (now (s .args .ptransit)) (now (s .args .working)) (now (s .args .ttransit)) (now (s .args .statement)) (now (s .args .done)) (now (s .args .sent))
@@ -43,7 +44,8 @@ made c = record {
 
 returns : tie.Need-returns
 unfolding answerOf
-returns c = let s = c .before .before .before .before .before .before .before .before .before .before .before .before .before .before .before .before .before .before .before in refused-early (job s) (state s) (ask s) _ (c .before .early-refusal .ensures) (c .if1 .taken)
+returns c = let s = c .before .before .before .before .before .before .before .before .before .before .before .before .before .before .before .before .before .before .before in refused-early (job s)
+    (state s) (ask s) _ (c .before .early-refusal .ensures) (c .if1 .taken)
 
 needs-requires : tie.Need-needs-requires
 needs-requires c κs = placed-offers (job (entry c)) (whole c .job-in) (job-whole (job (entry c)) (whole c .job-long))

@@ -26,7 +26,8 @@ shared-at c j h =
     sym (c .shared .ensures _ _ (b .build .ensures) ∙ ap (λ (l : List ℕ). sharesNumber l (entry c .args .n)) (f .number-all .ensures) ∙ shared-is j _ _ _ _ h _)
 
 -- What the look-ups say of 8.
-unnamed-at : (c : tie.After-some-none) (j : FileJob) → HasCodes j (now (entry (c .before .before .before .before) .args .code)) (now (entry (c .before .before .before .before) .args .tcode)) (entry (c .before .before .before .before) .args .n) (entry (c .before .before .before .before) .args .t) → unnamed j ≡ c .some-none .result
+unnamed-at : (c : tie.After-some-none) (j : FileJob) → HasCodes j (now (entry (c .before .before .before .before) .args .code)) (now (entry (c .before .before .before .before) .args .tcode))
+    (entry (c .before .before .before .before) .args .n) (entry (c .before .before .before .before) .args .t) → unnamed j ≡ c .some-none .result
 unnamed-at c j h =
     let e = c .before .before .before in
     let a = entry (e .before) .args in

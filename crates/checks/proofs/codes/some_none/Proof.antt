@@ -42,7 +42,8 @@ returns : tie.Need-returns Inv-loop μ-loop
 returns c =
     let l = c .before in
     let s = l .before .before .before .before in
-    λ numbers x d. subst (λ (i : ℕ). l .loop .bad ≡ any i (λ i. eqb (placeOf numbers (s .args .n) (codeNumber (codeOf (now (s .args .tcode)) i))) (s .args .n))) (le-antisymm (l .loop .inv .0) (c .loop-test .left)) (l .loop .inv .1 numbers x d)
+    λ numbers x d. subst (λ (i : ℕ). l .loop .bad ≡ any i (λ i. eqb (placeOf numbers (s .args .n) (codeNumber (codeOf (now (s .args .tcode)) i))) (s .args .n)))
+    (le-antisymm (l .loop .inv .0) (c .loop-test .left)) (l .loop .inv .1 numbers x d)
 
 pub some-none-spec : {M : Type 1} → statement M
 some-none-spec =

@@ -34,7 +34,8 @@ returns : tie.Need-returns Inv-loop μ-loop
 returns c =
     let l = c .before in
     let s = l .before .before .before .before in
-    λ j e f. subst (λ (i : ℕ). l .loop .bad ≡ any i (λ i. badTally j (tallyOf (now (s .args .tgrocer)) (now (s .args .tbox)) (now (s .args .tcode)) (now (s .args .tcount)) i))) (le-antisymm (l .loop .inv .0) (c .loop-test .left)) (l .loop .inv .1 j e f)
+    λ j e f. subst (λ (i : ℕ). l .loop .bad ≡ any i (λ i. badTally j (tallyOf (now (s .args .tgrocer)) (now (s .args .tbox)) (now (s .args .tcode)) (now (s .args .tcount)) i)))
+    (le-antisymm (l .loop .inv .0) (c .loop-test .left)) (l .loop .inv .1 j e f)
 
 pub bad-tallies-spec : {M : Type 1} → statement M
 bad-tallies-spec =

@@ -10,7 +10,8 @@ use Rattle.local.proofs.book.refusal.Statement.{statement}
 use Rattle.local.proofs.book.refusal.Tie as tie
 
 abbrev job : tie.Start → JobTables
-job s = jobTables (s .args .boxes) (s .args .grocers) (s .args .offers) (s .args .tallies) (now (s .args .price)) (now (s .args .owner)) (now (s .args .gowner)) (now (s .args .tgrocer)) (now (s .args .tbox)) (now (s .args .toffer)) (now (s .args .tcount))
+job s = jobTables (s .args .boxes) (s .args .grocers) (s .args .offers) (s .args .tallies) (now (s .args .price)) (now (s .args .owner)) (now (s .args .gowner)) (now (s .args .tgrocer))
+    (now (s .args .tbox)) (now (s .args .toffer)) (now (s .args .tcount))
 
 abbrev lent : tie.Start → BookLengths
 lent s = lengths (s .args .lo) (s .args .lg) (s .args .ls) (s .args .pg) (s .args .pc)
@@ -33,19 +34,22 @@ returns-2 : tie.Need-returns-2
 returns-2 c =
     let i = c .before in
     let d = i .before .before in
-    met-21 (job (entry d)) (lent (entry d)) (entry d .args .b) (d .before .job-short .result) (d .book-short .result) (i .job-in-range .result) (d .before .job-short .ensures) (d .book-short .ensures) (i .before .if1 .left) (i .job-in-range .ensures) (c .if2 .taken)
+    met-21 (job (entry d)) (lent (entry d)) (entry d .args .b) (d .before .job-short .result) (d .book-short .result) (i .job-in-range .result) (d .before .job-short .ensures) (d .book-short .ensures)
+    (i .before .if1 .left) (i .job-in-range .ensures) (c .if2 .taken)
 
 returns-3 : tie.Need-returns-3
 returns-3 c =
     let i = c .before .before in
     let d = i .before .before in
-    met-23 (job (entry d)) (lent (entry d)) (entry d .args .b) (d .before .job-short .result) (d .book-short .result) (i .job-in-range .result) (d .before .job-short .ensures) (d .book-short .ensures) (i .before .if1 .left) (i .job-in-range .ensures) (c .before .if2 .left) (c .if3 .taken)
+    met-23 (job (entry d)) (lent (entry d)) (entry d .args .b) (d .before .job-short .result) (d .book-short .result) (i .job-in-range .result) (d .before .job-short .ensures) (d .book-short .ensures)
+    (i .before .if1 .left) (i .job-in-range .ensures) (c .before .if2 .left) (c .if3 .taken)
 
 returns-4 : tie.Need-returns-4
 returns-4 c =
     let i = c .before .before in
     let d = i .before .before in
-    met-none (job (entry d)) (lent (entry d)) (entry d .args .b) (d .before .job-short .result) (d .book-short .result) (i .job-in-range .result) (d .before .job-short .ensures) (d .book-short .ensures) (i .before .if1 .left) (i .job-in-range .ensures) (c .before .if2 .left) (c .if3 .left)
+    met-none (job (entry d)) (lent (entry d)) (entry d .args .b) (d .before .job-short .result) (d .book-short .result) (i .job-in-range .result) (d .before .job-short .ensures)
+    (d .book-short .ensures) (i .before .if1 .left) (i .job-in-range .ensures) (c .before .if2 .left) (c .if3 .left)
 
 pub refusal-spec : {M : Type 1} → statement M
 refusal-spec =

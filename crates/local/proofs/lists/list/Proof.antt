@@ -38,9 +38,11 @@ returns c =
     let keys = i .before .classes .result in (
       ap (λ (l : List ℕ). at l m) (t .sort .ensures .0)
           ∙ getD-overwrite (suc m) (begin (at keys) (s .args .n)) (replicate 18 0) m 0 (omega arith)
-          ∙ list-length (s .args .k) (s .args .n) (s .args .b) (now (s .args .owners)) (now (s .args .items)) (now (s .args .boxes)) (s .args .tallies) (i .before .before .before .marks-of .result) keys (s .pre .0 .0) (i .before .before .before .marks-of .ensures) (i .before .classes .ensures) m (m-is i),
+          ∙ list-length (s .args .k) (s .args .n) (s .args .b) (now (s .args .owners)) (now (s .args .items)) (now (s .args .boxes)) (s .args .tallies) (i .before .before .before .marks-of .result)
+          keys (s .pre .0 .0) (i .before .before .before .marks-of .ensures) (i .before .classes .ensures) m (m-is i),
       t .sort .ensures .1
-          ∙ ap (λ (l : List ℕ). inFront l (now (s .args .out))) (list-is (s .args .k) (s .args .n) (s .args .b) (now (s .args .owners)) (now (s .args .items)) (now (s .args .boxes)) (s .args .tallies) (i .before .before .before .marks-of .result) keys (s .pre .0 .0) (i .before .before .before .marks-of .ensures) (i .before .classes .ensures) m (m-is i)),
+          ∙ ap (λ (l : List ℕ). inFront l (now (s .args .out))) (list-is (s .args .k) (s .args .n) (s .args .b) (now (s .args .owners)) (now (s .args .items)) (now (s .args .boxes)) (s .args .tallies)
+          (i .before .before .before .marks-of .result) keys (s .pre .0 .0) (i .before .before .before .marks-of .ensures) (i .before .classes .ensures) m (m-is i)),
     )
 
 pub list-spec : {M : Type 1} → statement M

@@ -26,7 +26,8 @@ order c = ordered c .order-tallies .last .1 .1 .1 .1 .1 .1 .1 .0
 abbrev packed : tie.Start → List ℕ
 packed s = packedTallies (now (s .args .tbox)) (now (s .args .toffer)) (s .args .tallies) (now (s .args .loffers)) (s .args .l) (s .args .b)
 
-total-is : (c : tie.After-index-of) → c .index-of .result ≡ packedStart (now (entry c .args .tbox)) (now (entry c .args .toffer)) (entry c .args .tallies) (now (entry c .args .loffers)) (entry c .args .l) (entry c .args .b) (entry c .args .l)
+total-is : (c : tie.After-index-of) → c .index-of .result ≡ packedStart (now (entry c .args .tbox)) (now (entry c .args .toffer)) (entry c .args .tallies) (now (entry c .args .loffers))
+    (entry c .args .l) (entry c .args .b) (entry c .args .l)
 total-is c = c .index-of .ensures ∙ ordered c .order-tallies .ensures .0
 
 total-in : (c : tie.After-index-of) → c .index-of .result ≤ entry c .args .tallies
@@ -71,12 +72,16 @@ returns c =
         ordered i .order-tallies .ensures .1 .0,
         (
           q .put-grocers .ensures
-              ∙ overwrite-cong (i .index-of .result) (packedGrocer (i .before .numbers .result) (now (s .args .tgrocer)) (order i)) (packedNumber (now (s .args .lgrocers)) (s .args .g) (now (s .args .tgrocer)) (packed s)) (now (s .args .pgrocers))
-              (grocer-put (now (s .args .tbox)) (now (s .args .toffer)) (s .args .tallies) (now (s .args .loffers)) (s .args .l) (s .args .b) (replicate 1_000 0) (order i) (i .index-of .result) (ordered i .order-tallies .ensures .1 .1) (total-is i) (i .before .numbers .result) (now (s .args .tgrocer)) (now (s .args .lgrocers)) (s .args .g) (i .before .numbers .ensures) (s .pre .0 .1))
+              ∙ overwrite-cong (i .index-of .result) (packedGrocer (i .before .numbers .result) (now (s .args .tgrocer)) (order i))
+              (packedNumber (now (s .args .lgrocers)) (s .args .g) (now (s .args .tgrocer)) (packed s)) (now (s .args .pgrocers))
+              (grocer-put (now (s .args .tbox)) (now (s .args .toffer)) (s .args .tallies) (now (s .args .loffers)) (s .args .l) (s .args .b) (replicate 1_000 0) (order i) (i .index-of .result)
+              (ordered i .order-tallies .ensures .1 .1) (total-is i) (i .before .numbers .result) (now (s .args .tgrocer)) (now (s .args .lgrocers)) (s .args .g) (i .before .numbers .ensures)
+              (s .pre .0 .1))
               ∙ ap (λ (k : ℕ). overwrite k (packedNumber (now (s .args .lgrocers)) (s .args .g) (now (s .args .tgrocer)) (packed s)) (now (s .args .pgrocers))) (i .index-of .ensures),
           p .put-counts .ensures
               ∙ overwrite-cong (i .index-of .result) (packedCount (now (s .args .tcount)) (order i)) (packedCount (now (s .args .tcount)) (packed s)) (now (s .args .pcounts))
-              (count-put (now (s .args .tbox)) (now (s .args .toffer)) (s .args .tallies) (now (s .args .loffers)) (s .args .l) (s .args .b) (replicate 1_000 0) (order i) (i .index-of .result) (ordered i .order-tallies .ensures .1 .1) (total-is i) (now (s .args .tcount)))
+              (count-put (now (s .args .tbox)) (now (s .args .toffer)) (s .args .tallies) (now (s .args .loffers)) (s .args .l) (s .args .b) (replicate 1_000 0) (order i) (i .index-of .result)
+              (ordered i .order-tallies .ensures .1 .1) (total-is i) (now (s .args .tcount)))
               ∙ ap (λ (k : ℕ). overwrite k (packedCount (now (s .args .tcount)) (packed s)) (now (s .args .pcounts))) (i .index-of .ensures),
         ),
       ),

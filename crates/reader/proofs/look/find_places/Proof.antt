@@ -47,8 +47,14 @@ loop-again : tie.Need-loop-again Inv-loop μ-loop
 loop-again c =
     let l = c .before .before .before .before in
     let s = l .before .before .before .before .before .before in
-    let e = c .before .before .find-place .ensures in
-    (omega arith, simp length-set (l .loop .inv .1), l .loop .inv .2, named-more _ (s .args .n) (l .loop .i) _ (s .pre .0 .offers) e (c .before .if1 .left) (l .loop .inv .3), placed-more _ (l .loop .inv .4) (omega arith) (c .narrow .ensures ∙ e))
+    let e = c .before .before .find-place .ensures in (
+      omega arith,
+      simp length-set (l .loop .inv .1),
+      l .loop .inv .2,
+      named-more _ (s .args .n) (l .loop .i) _ (s .pre .0 .offers) e (c .before .if1 .left) (l .loop .inv .3),
+      placed-more _
+          (l .loop .inv .4) (omega arith) (c .narrow .ensures ∙ e),
+    )
 
 same-length-2 : tie.Need-same-length-2 Inv-loop μ-loop
 same-length-2 c = c .before .loop .inv .1

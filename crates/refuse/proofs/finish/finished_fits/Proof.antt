@@ -12,7 +12,8 @@ use Rattle.refuse.proofs.finish.finished_fits.Tie as tie
 
 -- The job's and the state's tables, and what is asked.
 abbrev job : tie.Start → JobTables
-job s = jobTables (s .args .boxes) (s .args .grocers) (s .args .offers) (s .args .tallies) (now (s .args .price)) (now (s .args .owner)) (now (s .args .gowner)) (now (s .args .tgrocer)) (now (s .args .tbox)) (now (s .args .toffer)) (now (s .args .tcount))
+job s = jobTables (s .args .boxes) (s .args .grocers) (s .args .offers) (s .args .tallies) (now (s .args .price)) (now (s .args .owner)) (now (s .args .gowner)) (now (s .args .tgrocer))
+    (now (s .args .tbox)) (now (s .args .toffer)) (now (s .args .tcount))
 
 abbrev state : tie.Start → StateTables
 state s = stateTables (now (s .args .known)) (now (s .args .ptransit)) (now (s .args .working)) (now (s .args .ttransit)) (now (s .args .statement)) (now (s .args .done)) (now (s .args .sent))
@@ -73,8 +74,10 @@ returns-4 c =
 credit-fits-requires : tie.Need-credit-fits-requires
 credit-fits-requires c κs =
     let s = entry (c .before .before .before .before) in
-    let g = known s in
-    (credit-in (job s) (state s) (needing (job s)) (now (s .args .sharers)) (request s) g (s .args .first) (g .first-in), (working-in (job s) (state s) (needing (job s)) (now (s .args .sharers)) (request s) g, statement-in (job s) (state s) (needing (job s)) (now (s .args .sharers)) (request s) g))
+    let g = known s in (
+      credit-in (job s) (state s) (needing (job s)) (now (s .args .sharers)) (request s) g (s .args .first) (g .first-in),
+      (working-in (job s) (state s) (needing (job s)) (now (s .args .sharers)) (request s) g, statement-in (job s) (state s) (needing (job s)) (now (s .args .sharers)) (request s) g),
+    )
 
 returns-5 : tie.Need-returns-5
 returns-5 c =
@@ -84,15 +87,18 @@ returns-5 c =
 credit-fits-requires-2 : tie.Need-credit-fits-requires-2
 credit-fits-requires-2 c κs =
     let s = entry (c .before .before .before .before) in
-    let g = known s in
-    (credit-in (job s) (state s) (needing (job s)) (now (s .args .sharers)) (request s) g (s .args .second) (g .second-in), (transit-in (job s) (state s) (needing (job s)) (now (s .args .sharers)) (request s) g, statement-in (job s) (state s) (needing (job s)) (now (s .args .sharers)) (request s) g))
+    let g = known s in (
+      credit-in (job s) (state s) (needing (job s)) (now (s .args .sharers)) (request s) g (s .args .second) (g .second-in),
+      (transit-in (job s) (state s) (needing (job s)) (now (s .args .sharers)) (request s) g, statement-in (job s) (state s) (needing (job s)) (now (s .args .sharers)) (request s) g),
+    )
 
 returns-6 : tie.Need-returns-6
 returns-6 c =
     let s = entry (c .before .before .before .before .before) in
     let g = known s in
     c .credit-fits2 .ensures ∙ sym (late-totals-received (job s) (state s) (needing (job s)) (now (s .args .sharers)) (request s) (applied s)
-    (sixth (s .args .kind) (g .kind-from) (g .kind-to) (c .before .before .before .before .before .if1 .left) (c .before .before .before .before .if2 .left) (c .before .before .before .if3 .left) (c .before .before .if4 .left) (c .before .if5 .left)))
+    (sixth (s .args .kind) (g .kind-from) (g .kind-to) (c .before .before .before .before .before .if1 .left) (c .before .before .before .before .if2 .left) (c .before .before .before .if3 .left)
+    (c .before .before .if4 .left) (c .before .if5 .left)))
 
 pub finished-fits-spec : {M : Type 1} → statement M
 finished-fits-spec =

@@ -67,7 +67,19 @@ returns-5 c =
     let y = z .before .before in
     let x = y .before .before in
     let k = x .before .before in
-    rw (sym (k .before .is-kind .ensures), k .if1 .left, sym (x .before .boxes-fit .ensures), x .if2 .left, sym (y .before .fits2 .ensures), y .if3 .left, sym (z .before .is-marked .ensures), z .if4 .left, sym (c .before .is-ready .ensures), c .if5 .taken)
+    rw (
+      sym (k .before .is-kind .ensures),
+      k .if1 .left,
+      sym (x .before .boxes-fit .ensures),
+      x .if2 .left,
+      sym (y .before .fits2 .ensures),
+      y .if3 .left,
+      sym (z .before .is-marked .ensures),
+      z .if4
+          .left,
+      sym (c .before .is-ready .ensures),
+      c .if5 .taken,
+    )
 
 returns-6 : tie.Need-returns-6
 unfolding firstMet rulesBy
@@ -76,7 +88,19 @@ returns-6 c =
     let y = z .before .before in
     let x = y .before .before in
     let k = x .before .before in
-    rw (sym (k .before .is-kind .ensures), k .if1 .left, sym (x .before .boxes-fit .ensures), x .if2 .left, sym (y .before .fits2 .ensures), y .if3 .left, sym (z .before .is-marked .ensures), z .if4 .left, sym (c .before .is-ready .ensures), c .if5 .left)
+    rw (
+      sym (k .before .is-kind .ensures),
+      k .if1 .left,
+      sym (x .before .boxes-fit .ensures),
+      x .if2 .left,
+      sym (y .before .fits2 .ensures),
+      y .if3 .left,
+      sym (z .before .is-marked .ensures),
+      z .if4
+          .left,
+      sym (c .before .is-ready .ensures),
+      c .if5 .left,
+    )
 
 pub rules-spec : {M : Type 1} → statement M
 rules-spec =

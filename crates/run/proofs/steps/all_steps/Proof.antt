@@ -34,10 +34,12 @@ link-requires : tie.Need-link-requires
 link-requires c κs = let s = c .before .before .before .before .before .before .before .before .before .before .before .before .before in offers-keyed (job s) (s .pre .on-way .job-in) (s .pre .on-way .job-long) (replicate 500 0) refl
 
 link-requires-2 : tie.Need-link-requires-2
-link-requires-2 c κs = let s = c .before .before .before .before .before .before .before .before .before .before .before .before .before .before .before .before .before in grocers-keyed (job s) (s .pre .on-way .job-in) (s .pre .on-way .job-long) (replicate 255 0) refl
+link-requires-2 c κs = let s = c .before .before .before .before .before .before .before .before .before .before .before .before .before .before .before .before .before in grocers-keyed (job s)
+    (s .pre .on-way .job-in) (s .pre .on-way .job-long) (replicate 255 0) refl
 
 link-requires-3 : tie.Need-link-requires-3
-link-requires-3 c κs = let s = c .before .before .before .before .before .before .before .before .before .before .before .before .before .before .before .before .before .before .before .before .before in tallies-keyed (job s) (s .pre .on-way .job-in) (s .pre .on-way .job-long) (replicate 1_000 0) refl
+link-requires-3 c κs = let s = c .before .before .before .before .before .before .before .before .before .before .before .before .before .before .before .before .before .before .before .before
+    .before in tallies-keyed (job s) (s .pre .on-way .job-in) (s .pre .on-way .job-long) (replicate 1_000 0) refl
 
 chosen-requires : tie.Need-chosen-requires
 chosen-requires c κs =

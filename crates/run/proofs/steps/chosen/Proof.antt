@@ -15,14 +15,19 @@ use Rattle.run.proofs.steps.chosen.Statement.{statement}
 use Rattle.run.proofs.steps.chosen.Tie as tie
 
 abbrev Inv-loop : tie.InvT-loop
-Inv-loop boxes grocers offers tallies price owner gowner tgrocer tbox toffer tcount needs sharers prices totals ofirst onext gfirst gnext tfirst tnext known₀ ptransit₀ working₀ ttransit₀ statement₀ done₀ sent₀ choices counts₀ n rows₀ i₀ known ptransit working ttransit statement done sent counts rows i =
-    (i ≤ n) × ((n ≡ length choices) × ((Kept (jobTables boxes grocers offers tallies price owner gowner tgrocer tbox toffer tcount) (stateTables known₀ ptransit₀ working₀ ttransit₀ statement₀ done₀ sent₀) choices 0 0 (stateTables known ptransit working ttransit statement done sent) (drop i choices) (counts .messages) (counts .steps)) × (1 ≤ n → IsRows boxes prices totals done rows)))
+Inv-loop boxes grocers offers tallies price owner gowner tgrocer tbox toffer tcount needs sharers prices totals ofirst onext gfirst gnext tfirst tnext known₀ ptransit₀ working₀ ttransit₀ statement₀
+    done₀ sent₀ choices counts₀ n rows₀ i₀ known ptransit working ttransit statement done sent counts rows i =
+    (i ≤ n) × ((n ≡ length choices) × ((Kept (jobTables boxes grocers offers tallies price owner gowner tgrocer tbox toffer tcount)
+    (stateTables known₀ ptransit₀ working₀ ttransit₀ statement₀ done₀ sent₀) choices 0 0 (stateTables known ptransit working ttransit statement done sent) (drop i choices) (counts .messages)
+    (counts .steps)) × (1 ≤ n → IsRows boxes prices totals done rows)))
 
 abbrev μ-loop : tie.MeasureT-loop
-μ-loop boxes grocers offers tallies price owner gowner tgrocer tbox toffer tcount needs sharers prices totals ofirst onext gfirst gnext tfirst tnext known₀ ptransit₀ working₀ ttransit₀ statement₀ done₀ sent₀ choices counts₀ n rows₀ i₀ known ptransit working ttransit statement done sent counts rows i = n - i
+μ-loop boxes grocers offers tallies price owner gowner tgrocer tbox toffer tcount needs sharers prices totals ofirst onext gfirst gnext tfirst tnext known₀ ptransit₀ working₀ ttransit₀ statement₀
+    done₀ sent₀ choices counts₀ n rows₀ i₀ known ptransit working ttransit statement done sent counts rows i = n - i
 
 abbrev job : tie.Start Inv-loop μ-loop → JobTables
-job s = jobTables (s .args .boxes) (s .args .grocers) (s .args .offers) (s .args .tallies) (now (s .args .price)) (now (s .args .owner)) (now (s .args .gowner)) (now (s .args .tgrocer)) (now (s .args .tbox)) (now (s .args .toffer)) (now (s .args .tcount))
+job s = jobTables (s .args .boxes) (s .args .grocers) (s .args .offers) (s .args .tallies) (now (s .args .price)) (now (s .args .owner)) (now (s .args .gowner)) (now (s .args .tgrocer))
+    (now (s .args .tbox)) (now (s .args .toffer)) (now (s .args .tcount))
 
 abbrev entry : tie.Start Inv-loop μ-loop → StateTables
 entry s = stateTables (now (s .args .known)) (now (s .args .ptransit)) (now (s .args .working)) (now (s .args .ttransit)) (now (s .args .statement)) (now (s .args .done)) (now (s .args .sent))
@@ -41,10 +46,22 @@ lengths c =
     (s .pre .0) (here c) (drop (c .loop .i) (now (s .args .choices))) (c .loop .counts .messages) (c .loop .counts .steps) (c .loop .inv .1 .1 .0)
 
 rows-for-requires : tie.Need-rows-for-requires Inv-loop μ-loop
-rows-for-requires c κs = let s = c .before .before .before .before .before .before .before .before .before .before .before .before in goes-walk (job s) (entry s) (now (s .args .needs)) (now (s .args .sharers)) (now (s .args .prices)) (now (s .args .totals)) (now (s .args .choices)) 0 0 (s .pre .0) _ _ _ _ (goes-first (job s) (entry s) (now (s .args .needs)) (now (s .args .sharers)) (now (s .args .prices)) (now (s .args .totals)) (now (s .args .choices)) 0 0 (s .pre .0))
+rows-for-requires c κs = let s = c .before .before .before .before .before .before .before .before .before .before .before .before in goes-walk (job s) (entry s) (now (s .args .needs))
+    (now (s .args .sharers)) (now (s .args .prices)) (now (s .args .totals)) (now (s .args .choices)) 0 0 (s .pre .0) _ _ _ _
+    (goes-first (job s) (entry s) (now (s .args .needs)) (now (s .args .sharers)) (now (s .args .prices)) (now (s .args .totals)) (now (s .args .choices)) 0 0 (s .pre .0))
 
 loop-holds : tie.Need-loop-holds Inv-loop μ-loop
-loop-holds c = let s = c .before .before .before .before .before .before .before .before .before .before .before .before .before in (search needs, (refl, (goes-first (job s) (entry s) (now (s .args .needs)) (now (s .args .sharers)) (now (s .args .prices)) (now (s .args .totals)) (now (s .args .choices)) 0 0 (s .pre .0), c .rows-for .ensures)))
+loop-holds c = let s = c .before .before .before .before .before .before .before .before .before .before .before .before .before in (
+  search needs,
+  (
+    refl,
+    (
+      goes-first (job s) (entry s) (now (s .args .needs)) (now (s .args .sharers)) (now (s .args .prices)) (now (s .args .totals)) (now (s .args .choices)) 0 0 (s .pre .0),
+      c
+          .rows-for .ensures,
+    ),
+  ),
+)
 
 ready-steps-requires : tie.Need-ready-steps-requires Inv-loop μ-loop
 ready-steps-requires c κs =
@@ -80,7 +97,8 @@ returns c =
     let l = c .before .before .before .before .loop in
     let r = c .before .ready-steps in
     let some : 1 ≤ length (now (s .args .choices)) = omega (arith, c .before .before .before .loop-test .taken, l .inv .1 .0) in
-    goes-none (job s) (entry s) (now (s .args .needs)) (now (s .args .sharers)) (now (s .args .prices)) (now (s .args .totals)) (now (s .args .choices)) 0 0 (s .pre .0) _ _ _ _ (l .inv .1 .1 .0) _ (l .inv .1 .1 .1 some) (r .result) (r .ensures) (c .if1 .taken)
+    goes-none (job s) (entry s) (now (s .args .needs)) (now (s .args .sharers)) (now (s .args .prices)) (now (s .args .totals)) (now (s .args .choices)) 0 0 (s .pre .0) _ _ _ _ (l .inv .1 .1 .0) _
+    (l .inv .1 .1 .1 some) (r .result) (r .ensures) (c .if1 .taken)
 
 choose-requires : tie.Need-choose-requires Inv-loop μ-loop
 choose-requires c κs =
@@ -92,13 +110,28 @@ choose-requires c κs =
     let some : 1 ≤ r .result = omega (arith, c .before .before .before .before .before .before .before .before .if1 .left) in (
       goes-on (job s) (entry s) (now (s .args .needs)) (now (s .args .sharers)) (now (s .args .prices)) (now (s .args .totals)) (now (s .args .choices)) 0 0 (s .pre .0) _ _ _ _ (l .inv .1 .1 .0),
       (
-        (lt, (some, goes-count (job s) (entry s) (now (s .args .needs)) (now (s .args .sharers)) (now (s .args .prices)) (now (s .args .totals)) (now (s .args .choices)) 0 0 (s .pre .0) _ _ _ _ (l .inv .1 .1 .0) _ rows (r .result) (r .ensures))),
+        (
+          lt,
+          (
+            some,
+            goes-count (job s) (entry s) (now (s .args .needs)) (now (s .args .sharers)) (now (s .args .prices)) (now (s .args .totals)) (now (s .args .choices)) 0 0 (s .pre .0) _ _ _ _
+                (l .inv .1 .1 .0) _ rows (r .result) (r .ensures),
+          ),
+        ),
         (rows, s .pre .1),
       ),
     )
 
 add-i : tie.Need-add-i Inv-loop μ-loop
-add-i c = let s = c .before .before .before .before .before .before .before .before .before .before .before .before .before .before .before .before .before .before .before .before .before .before .before .before .before .before .before .before .before .before .before .before .before .before .before .before .before .before in omega (arith, c .before .before .before .before .before .before .before .before .before .before .before .before .before .before .before .before .before .before .before .before .before .before .before .loop-test .taken, c .before .before .before .before .before .before .before .before .before .before .before .before .before .before .before .before .before .before .before .before .before .before .before .before .loop .inv .1 .0, s .good .1 .1 .1 .1 .1 .1 .1 .1 .1 .1 .1 .1 .1 .1 .1 .1 .1 .1 .1 .1 .1 .1 .1 .1 .1 .1 .1 .1 .0)
+add-i c = let s = c .before .before .before .before .before .before .before .before .before .before .before .before .before .before .before .before .before .before .before .before .before .before
+    .before .before .before .before .before .before .before .before .before .before .before .before .before .before .before .before in omega (
+      arith,
+      c .before .before .before .before .before .before .before .before .before .before .before .before .before .before .before .before .before .before .before .before .before .before .before
+          .loop-test .taken,
+      c .before .before .before .before .before .before .before .before .before .before .before .before .before .before .before .before .before .before .before .before .before .before
+          .before .before .loop .inv .1 .0,
+      s .good .1 .1 .1 .1 .1 .1 .1 .1 .1 .1 .1 .1 .1 .1 .1 .1 .1 .1 .1 .1 .1 .1 .1 .1 .1 .1 .1 .1 .0,
+    )
 
 loop-less : tie.Need-loop-less Inv-loop μ-loop
 loop-less c = omega (arith, c .before .before .before .before .before .before .before .before .before .before .before .before .before .before .before .before .before .before .before .before .before .before .before .loop-test .taken)
@@ -106,8 +139,14 @@ loop-less c = omega (arith, c .before .before .before .before .before .before .b
 loop-again : tie.Need-loop-again Inv-loop μ-loop
 loop-again c =
     let l = c .before .before .before .before .before .before .before .before .before .before .before .before .before .before .before .before .before .before .before .before .before .before .before .before .loop in
-    let r = c .before .before .before .before .before .before .before .before .before .before .before .choose .ensures in
-    (omega (arith, c .before .before .before .before .before .before .before .before .before .before .before .before .before .before .before .before .before .before .before .before .before .before .before .loop-test .taken), (l .inv .1 .0, (kept-both _ _ _ _ _ _ _ _ _ _ _ _ _ (l .inv .1 .1 .0) (r .0), λ some. r .1)))
+    let r = c .before .before .before .before .before .before .before .before .before .before .before .choose .ensures in (
+      omega (
+        arith,
+        c .before .before .before .before .before .before .before .before .before .before .before .before .before .before .before .before .before .before .before .before .before .before
+            .before .loop-test .taken,
+      ),
+      (l .inv .1 .0, (kept-both _ _ _ _ _ _ _ _ _ _ _ _ _ (l .inv .1 .1 .0) (r .0), λ some. r .1)),
+    )
 
 same-length-8 : tie.Need-same-length-8 Inv-loop μ-loop
 same-length-8 c = lengths (c .before) .known

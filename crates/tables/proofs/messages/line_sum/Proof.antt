@@ -43,7 +43,11 @@ receiver c =
     rw (c .pick2 .ensures) (side (entry e .before .args .back) (entry e .before .args .x) (e .before .loop .y) (entry e .if1 .left) (e .loop-test .taken))
 
 returns : tie.Need-returns Inv-loop μ-loop
-returns c = (sym (line-past (c .before .args .back) (c .before .args .t1) (c .before .args .x) (omega (arith, c .before .good .0 .1 .0 .1)) (rows-long (c .before .args .t1) (c .before .good .0 .0) (c .before .good .0 .1 .1)) (c .if1 .taken)), search needs)
+returns c = (
+  sym (line-past (c .before .args .back) (c .before .args .t1) (c .before .args .x) (omega (arith, c .before .good .0 .1 .0 .1))
+      (rows-long (c .before .args .t1) (c .before .good .0 .0) (c .before .good .0 .1 .1)) (c .if1 .taken)),
+  search needs,
+)
 
 loop-holds : tie.Need-loop-holds Inv-loop μ-loop
 loop-holds c = (search needs, sym (line-none _ _ _), search needs)

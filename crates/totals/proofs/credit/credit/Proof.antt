@@ -124,7 +124,8 @@ link : (c : tie.After-index Inv-loop μ-loop) →
 link c =
     let e = c .before .before .before .before .before .before .before in
     let s = entry e in
-    goes-to (s .args .m) (now (s .args .owner)) (now (s .args .first)) (now (s .args .next)) (s .args .a) (e .before .loop .g) (c .index .result) (s .pre .1 .1 .1) (e .loop-test .taken) (e .before .loop .inv .5 (e .loop-test .taken)) (c .index .ensures)
+    goes-to (s .args .m) (now (s .args .owner)) (now (s .args .first)) (now (s .args .next)) (s .args .a) (e .before .loop .g) (c .index .result) (s .pre .1 .1 .1) (e .loop-test .taken)
+    (e .before .loop .inv .5 (e .loop-test .taken)) (c .index .ensures)
 
 loop-less : tie.Need-loop-less Inv-loop μ-loop
 loop-less c = omega (arith, link c .from, link c .to, c .before .before .before .before .before .before .before .loop-test .taken)
@@ -166,7 +167,8 @@ returns c =
     let at = c .before .before .before .row-start in
     let inv = c .before .loop .inv in
     let done : c .before .loop .g ≡ m = le-antisymm (inv .0) (c .loop-test .left) in (
-      row-stored k m (s .args .from) (at .result) (c .before .loop .g) (now (s .args .source)) (c .before .loop .source) (pos 0) (test s) (λ i. pos 0) (λ g. pos 0) (s .pre .0 .2) (s .pre .1 .0 .0 .long) (at .ensures) done (inv .1) (inv .3) (λ o l. refl),
+      row-stored k m (s .args .from) (at .result) (c .before .loop .g) (now (s .args .source)) (c .before .loop .source) (pos 0) (test s) (λ i. pos 0) (λ g. pos 0) (s .pre .0 .2)
+          (s .pre .1 .0 .0 .long) (at .ensures) done (inv .1) (inv .3) (λ o l. refl),
       credit-stored k m (s .args .from) (test s) (now (s .args .source)) (now (s .args .statement)) (s .pre .0 .2) (c .before .loop .statement) (at .result) (c .before .loop .g) (s .pre .1 .0 .1 .long) (at .ensures) done (inv .2) (inv .4),
     )
 

@@ -54,7 +54,8 @@ told c =
     c .amount-fits .ensures
     ∙ ap (λ (z : ℤ). leb (natAbs z) maxAmount)
     (read64 (w .result) (w .ok) ∙ w .ensures
-    ∙ sym (credit-at (s .args .k) (s .args .m) (s .args .from) (test s) (now (s .args .source)) (now (s .args .statement)) (s .pre .0 .2) (e .before .loop .g) (e .before .before .row-start .result) (e .loop-test .taken) (e .before .before .row-start .ensures)))
+    ∙ sym (credit-at (s .args .k) (s .args .m) (s .args .from) (test s) (now (s .args .source)) (now (s .args .statement)) (s .pre .0 .2) (e .before .loop .g) (e .before .before .row-start .result)
+    (e .loop-test .taken) (e .before .before .row-start .ensures)))
 
 row-start-requires : tie.Need-row-start-requires Inv-loop μ-loop
 row-start-requires c κs = (omega (arith, c .before .pre .0 .1), omega (arith, c .before .pre .0 .0, c .before .pre .0 .2))

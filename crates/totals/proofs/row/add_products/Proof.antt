@@ -102,7 +102,8 @@ element-copy-out-index c = let s = entry (c .before) in omega (arith, c .index .
 first-of : (c : tie.After-index2 Inv-loop μ-loop) → let s = entry (rows c) in Skips (s .args .t) (now (s .args .holder)) (s .args .a) 0 (c .index2 .result)
 first-of c =
     let s = entry (rows c) in
-    subst (λ (x : ℕ). Skips (s .args .t) (now (s .args .holder)) (s .args .a) 0 x) (sym (c .index2 .ensures ∙ ap (λ (b : ℕ). getD (now (s .args .first)) b 0) (c .before .before .index .ensures))) (s .pre .1 .1 .1 .1 .begins (s .args .a) (omega (arith, s .pre .0 .boxes-in, s .pre .1 .1 .1 .0)))
+    subst (λ (x : ℕ). Skips (s .args .t) (now (s .args .holder)) (s .args .a) 0 x) (sym (c .index2 .ensures ∙ ap (λ (b : ℕ). getD (now (s .args .first)) b 0) (c .before .before .index .ensures)))
+    (s .pre .1 .1 .1 .1 .begins (s .args .a) (omega (arith, s .pre .0 .boxes-in, s .pre .1 .1 .1 .0)))
 
 loop-holds : tie.Need-loop-holds Inv-loop μ-loop
 unfolding integers
@@ -114,7 +115,8 @@ loop-holds c =
     let piled : ℕ → ℕ → ℤ = share (place s (base-of r)) (brought s (at-of r)) in (
       k .to,
       refl,
-      λ p. sym (ap (λ (z : ℤ). getD (now (s .args .working)) p (pos 0) +ℤ z) (sum-over integers 0 i (piled p) (k .from) (none s (at-of r) (base-of r) p 0 i k) ∙ sum-start integers (piled p)) ∙ +ℤ-idr (getD (now (s .args .working)) p (pos 0))),
+      λ p. sym (ap (λ (z : ℤ). getD (now (s .args .working)) p (pos 0) +ℤ z) (sum-over integers 0 i (piled p) (k .from) (none s (at-of r) (base-of r) p 0 i k) ∙ sum-start integers (piled p)) ∙ +ℤ-idr
+          (getD (now (s .args .working)) p (pos 0))),
       k .hits,
     )
 
@@ -141,7 +143,8 @@ link : (c : tie.After-index3 Inv-loop μ-loop) →
 link c =
     let e = c .before .before .before .before .before in
     let s = entry (rows (e .before .before)) in
-    goes-to (s .args .t) (now (s .args .holder)) (now (s .args .first)) (now (s .args .next)) (s .args .a) (e .before .loop .i) (c .index3 .result) (s .pre .1 .1 .1 .1) (e .loop-test .taken) (e .before .loop .inv .3 (e .loop-test .taken)) (c .index3 .ensures)
+    goes-to (s .args .t) (now (s .args .holder)) (now (s .args .first)) (now (s .args .next)) (s .args .a) (e .before .loop .i) (c .index3 .result) (s .pre .1 .1 .1 .1) (e .loop-test .taken)
+    (e .before .loop .inv .3 (e .loop-test .taken)) (c .index3 .ensures)
 
 loop-less : tie.Need-loop-less Inv-loop μ-loop
 loop-less c = omega (arith, link c .from, link c .to, c .before .before .before .before .before .loop-test .taken)
@@ -175,7 +178,8 @@ returns c =
     let r = rows (c .before .before) in
     let s = entry r in
     let inv = c .before .loop .inv in
-    row-piled (tables s) (prices s) (s .args .a) (s .args .from) (at-of r) (s .pre .0) (s .pre .1 .0) (s .pre .1 .1 .1 .0) (r .before .row-start .ensures) (base-of r) (now (s .args .working)) (c .before .loop .working) (r .row-start2 .ensures) (s .pre .1 .1 .0 .long) (inv .1)
+    row-piled (tables s) (prices s) (s .args .a) (s .args .from) (at-of r) (s .pre .0) (s .pre .1 .0) (s .pre .1 .1 .1 .0) (r .before .row-start .ensures) (base-of r) (now (s .args .working))
+    (c .before .loop .working) (r .row-start2 .ensures) (s .pre .1 .1 .0 .long) (inv .1)
     (λ p. inv .2 p ∙ ap (λ (n : ℕ). getD (now (s .args .working)) p (pos 0) +ℤ sum integers n (share (place s (base-of r)) (brought s (at-of r)) p)) (le-antisymm (inv .0) (c .loop-test .left)))
 
 pub add-products-spec : {M : Type 1} → statement M

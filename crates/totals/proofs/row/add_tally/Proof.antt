@@ -37,8 +37,12 @@ amount-is c =
     c .amount .ensures ∙ ap₂ (λ (z : ℤ) (o : ℕ). z *ℤ pos (getD (now (s .args .prices)) (s .args .at + o) 0)) (count-is s) (c .before .before .before .index .ensures)
 
 sum-is : (c : tie.After-plus-arg) →
-    toZ w64 (ofZ w64 (getD (now (c .before .before .before .before .before .before .before .before .before .before .before .before .before .before .before .args .row)) (c .before .before .before .before .before .before .before .before .before .before .before .before .before .before .before .args .base + c .before .index2 .result) (pos 0))) +ℤ toZ w64 (ofZ w64 (c .before .before .before .amount .result))
-    ≡ getD (now (c .before .before .before .before .before .before .before .before .before .before .before .before .before .before .before .args .row)) (place (c .before .before .before .before .before .before .before .before .before .before .before .before .before .before .before)) (pos 0) +ℤ product (c .before .before .before .before .before .before .before .before .before .before .before .before .before .before .before)
+    toZ w64 (ofZ w64 (getD (now (c .before .before .before .before .before .before .before .before .before .before .before .before .before .before .before .args .row))
+    (c .before .before .before .before .before .before .before .before .before .before .before .before .before .before .before .args .base + c .before .index2 .result) (pos 0))) +ℤ toZ w64
+    (ofZ w64 (c .before .before .before .amount .result))
+    ≡ getD (now (c .before .before .before .before .before .before .before .before .before .before .before .before .before .before .before .args .row))
+    (place (c .before .before .before .before .before .before .before .before .before .before .before .before .before .before .before)) (pos 0) +ℤ product
+    (c .before .before .before .before .before .before .before .before .before .before .before .before .before .before .before)
 sum-is c =
     let s = c .before .before .before .before .before .before .before .before .before .before .before .before .before .before .before in
     read-sum (c .plus-arg .given) (c .before .before .before .amount .ok) (ap (λ (g : ℕ). getD (now (s .args .row)) (s .args .base + g) (pos 0)) (c .before .index2 .ensures)) (amount-is (c .before .before .before))
@@ -67,7 +71,8 @@ returns-2 : tie.Need-returns-2
 returns-2 c =
     let s = c .before .before .before .before .before .before .before .before .before .before .before .before .before .before .before .before in
     ap₂ (set (now (s .args .row))) (ap (λ (g : ℕ). s .args .base + g) (c .before .before .index2 .ensures)) (read64 (c .plus .result) (c .plus .ok) ∙ c .plus .ensures ∙ sum-is (c .before))
-    ∙ raised-by (now (s .args .row)) (place s) (taken s) (product s) (sym (c .before .before .before .before .before .before .before .before .before .before .is-taken .ensures) ∙ not-false (c .before .before .before .before .before .before .before .before .before .before .is-taken .result) (c .before .before .before .before .before .before .before .before .before .if1 .left))
+    ∙ raised-by (now (s .args .row)) (place s) (taken s) (product s) (sym (c .before .before .before .before .before .before .before .before .before .before .is-taken .ensures) ∙ not-false
+    (c .before .before .before .before .before .before .before .before .before .before .is-taken .result) (c .before .before .before .before .before .before .before .before .before .if1 .left))
 
 pub add-tally-spec : {M : Type 1} → statement M
 add-tally-spec =

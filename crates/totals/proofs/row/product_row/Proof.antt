@@ -63,7 +63,8 @@ small c =
       s .pre .0 .tallies-in,
       c .loop-test .taken,
       pile-size (began c .before .row-at .result) (c .before .loop .row) (place s) (brought s at) i (place s i) 1_000_000_000_000_000 999_989_900_001 (c .before .loop .inv .2 (place s i))
-          (subst (λ (r : List ℤ). natAbs (getD r (place s i) (pos 0)) ≤ 1_000_000_000_000_000) (sym (began c .before .row-at .ensures)) (row-size (s .args .k) (s .args .m) (s .args .a) (now (s .args .working)) (place s i) (s .pre .1 .1 .0) (grocer-in c)))
+          (subst (λ (r : List ℤ). natAbs (getD r (place s i) (pos 0)) ≤ 1_000_000_000_000_000) (sym (began c .before .row-at .ensures))
+          (row-size (s .args .k) (s .args .m) (s .args .a) (now (s .args .working)) (place s i) (s .pre .1 .1 .0) (grocer-in c)))
           (λ r l. brought-abs (tables s) (prices s) (s .args .a) (s .args .from) at (s .pre .0) (s .pre .1 .0) (s .pre .1 .1 .1) (began c .row-start .ensures) r (omega (arith, l, c .loop-test .taken))),
     )
 
@@ -89,8 +90,15 @@ from-0 x = omega arith
 
 add-tally-requires : tie.Need-add-tally-requires Inv-loop μ-loop
 add-tally-requires c κs =
-    let s = entry (began (c .before)) in
-    (tally-in (tables s) (prices s) (s .args .a) (s .args .from) (began (c .before) .row-start .result) (s .pre .0) (s .pre .1 .0) (s .pre .1 .1 .1) (began (c .before) .row-start .ensures) (c .before .before .loop .i) (c .before .loop-test .taken), (omega (arith, grocer-in (c .before), c .before .before .loop .inv .1), rw (from-0 (place s (c .before .before .loop .i))) (small (c .before))))
+    let s = entry (began (c .before)) in (
+      tally-in (tables s) (prices s) (s .args .a) (s .args .from) (began (c .before) .row-start .result) (s .pre .0) (s .pre .1 .0) (s .pre .1 .1 .1) (began (c .before) .row-start .ensures)
+          (c .before .before .loop .i) (c .before .loop-test .taken),
+      (
+        omega (arith, grocer-in (c .before), c .before .before .loop .inv .1),
+        rw (from-0 (place s (c .before .before .loop .i)))
+            (small (c .before)),
+      ),
+    )
 
 loop-again : tie.Need-loop-again Inv-loop μ-loop
 loop-again c =

@@ -1,4 +1,6 @@
--- `totals::send::send_totals` meets its contract. The invariant: of the grocers passed, the totals in the message are in transit, counted, and 0 where they were; the next one is box b's. A grocer passed over is not box b's. Assumes nothing.
+-- `totals::send::send_totals` meets its contract. The invariant: of the grocers passed, the totals in the message are
+-- in transit, counted, and 0 where they were; the next one is box b's. A grocer passed over is not box b's. Assumes
+-- nothing.
 use mathlib.Core.Path.{_≡_, refl, sym, ap, ap₂, _∙_}
 use mathlib.Core.Bool.{Bool, true, false, cond}
 use mathlib.Core.List.{List}
@@ -119,7 +121,8 @@ link : (c : tie.After-index Inv-loop μ-loop) →
 link c =
     let e = c .before .before .before .before .before .before .before in
     let s = entry e in
-    goes-to (s .args .m) (now (s .args .owner)) (now (s .args .first)) (now (s .args .next)) (s .args .b) (e .before .loop .g) (c .index .result) (s .pre .1 .1) (e .loop-test .taken) (e .before .loop .inv .6 (e .loop-test .taken)) (c .index .ensures)
+    goes-to (s .args .m) (now (s .args .owner)) (now (s .args .first)) (now (s .args .next)) (s .args .b) (e .before .loop .g) (c .index .result) (s .pre .1 .1) (e .loop-test .taken)
+    (e .before .loop .inv .6 (e .loop-test .taken)) (c .index .ensures)
 
 loop-less : tie.Need-loop-less Inv-loop μ-loop
 loop-less c = omega (arith, link c .from, link c .to, c .before .before .before .before .before .before .before .loop-test .taken)
@@ -166,7 +169,8 @@ returns c =
     let done : c .before .loop .g ≡ m = le-antisymm (inv .0) (c .loop-test .left) in (
       inv .1 ∙ ap (λ (n : ℕ). count n (test s)) done,
       row-stored k m a (at .result) (c .before .loop .g) (now (s .args .working)) (c .before .loop .working) (pos 0) (test s) (λ i. pos 0) (λ g. pos 0) (s .pre .0 .2) (s .pre .0 .4) (at .ensures) done (inv .2) (inv .4) (λ o l. refl),
-      row-stored k m a (at .result) (c .before .loop .g) (now (s .args .transit)) (c .before .loop .transit) (pos 0) (test s) (was s) (cell k m (now (s .args .working)) (pos 0) a) (s .pre .0 .2) (s .pre .0 .5) (at .ensures) done (inv .3) (inv .5)
+      row-stored k m a (at .result) (c .before .loop .g) (now (s .args .transit)) (c .before .loop .transit) (pos 0) (test s) (was s) (cell k m (now (s .args .working)) (pos 0) a) (s .pre .0 .2)
+          (s .pre .0 .5) (at .ensures) done (inv .3) (inv .5)
           (λ o l. sym (cell-at k m (now (s .args .working)) (pos 0) a o (s .pre .0 .2) l)),
     )
 

@@ -78,7 +78,8 @@ loop-again c =
     let s = c .before .before .before .before .before .before in (
       search needs,
       search-next (s .args .k) _ _ _ (s .args .r) _ _ (l .b)
-          (passed (listedBy _ _ _ _) (s .args .r * s .args .k + l .b) (l .left) _ (l .inv .1) _ _ (open-at s (l .b) (c .before .before .before .loop-test .taken) _ (c .before .before .is-open .ensures)) (c .one .ensures) (c .before .if1 .left)),
+          (passed (listedBy _ _ _ _) (s .args .r * s .args .k + l .b) (l .left) _ (l .inv .1) _ _ (open-at s (l .b) (c .before .before .before .loop-test .taken) _
+          (c .before .before .is-open .ensures)) (c .one .ensures) (c .before .if1 .left)),
     )
 
 returns-2 : tie.Need-returns-2 Inv-loop μ-loop

@@ -17,7 +17,16 @@ put16-requires c κs = (omega (arith, c .before .before .before .before .before 
 
 put16-requires-2 : tie.Need-put16-requires-2
 unfolding secondSum
-put16-requires-2 c κs = (omega (arith, c .before .before .before .put16 .kept .0, c .before .before .before .before .before .before .before .before .before .put-zeros .kept .0, c .before .before .before .before .before .before .before .before .before .before .before .before .pre .0), omega (arith, c .before .before .before .before .before .sums .ensures .1))
+put16-requires-2 c κs = (
+  omega (
+    arith,
+    c .before .before .before .put16 .kept .0,
+    c .before .before .before .before .before .before .before .before .before .put-zeros .kept .0,
+    c .before .before
+        .before .before .before .before .before .before .before .before .before .before .pre .0,
+  ),
+  omega (arith, c .before .before .before .before .before .sums .ensures .1),
+)
 
 returns : tie.Need-returns
 returns c =

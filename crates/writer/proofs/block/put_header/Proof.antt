@@ -12,7 +12,9 @@ returns : tie.Need-returns
 returns c =
     let s = c .before .before .before .before .before .before .before .before .before .before .before .before .before in
     let a = s .args in
-    header-made (a .boxes ∷ 1 ∷ bytes16 (a .grocers) ++ bytes16 (a .offers) ++ bytes16 (a .tallies)) (now (a .out)) _ _ _ refl (s .pre .0) (c .before .before .before .before .before .before .before .before .before .before .put-head .ensures) (c .before .before .before .before .before .before .put-sizes .ensures) (c .before .before .close-block .ensures)
+    header-made (a .boxes ∷ 1 ∷ bytes16 (a .grocers) ++ bytes16 (a .offers) ++ bytes16 (a .tallies)) (now (a .out)) _ _ _ refl (s .pre .0)
+    (c .before .before .before .before .before .before .before .before .before .before .put-head .ensures) (c .before .before .before .before .before .before .put-sizes .ensures)
+    (c .before .before .close-block .ensures)
 
 pub put-header-spec : {M : Type 1} → statement M
 put-header-spec =

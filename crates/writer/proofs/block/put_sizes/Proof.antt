@@ -21,10 +21,15 @@ put16-requires-2 : tie.Need-put16-requires-2
 put16-requires-2 c κs = let s = c .before .before .before .before .before .before .before .before in (omega (arith, simp length-set at (c .before .before .before .before .put16 .kept .0), s .pre .0), omega (arith, c .size-of2 .ensures .1))
 
 put16-requires-3 : tie.Need-put16-requires-3
-put16-requires-3 c κs = let s = c .before .before .before .before .before .before .before .before .before .before .before .before .before in (omega (arith, c .before .before .before .before .put162 .kept .0, simp length-set at (c .before .before .before .before .before .before .before .before .before .put16 .kept .0), s .pre .0), omega (arith, c .size-of3 .ensures .1))
+put16-requires-3 c κs = let s = c .before .before .before .before .before .before .before .before .before .before .before .before .before in (
+  omega (arith, c .before .before .before .before .put162 .kept .0, simp length-set at (c .before .before .before .before .before .before .before .before .before .put16 .kept .0), s .pre .0),
+  omega
+      (arith, c .size-of3 .ensures .1),
+)
 
 same-length : tie.Need-same-length
-same-length c = c .before .before .put163 .kept .0 ∙ c .before .before .before .before .before .before .before .put162 .kept .0 ∙ c .before .before .before .before .before .before .before .before .before .before .before .before .put16 .kept .0 ∙ simp length-set
+same-length c = c .before .before .put163 .kept .0 ∙ c .before .before .before .before .before .before .before .put162 .kept .0 ∙ c .before .before .before .before .before .before .before .before
+    .before .before .before .before .put16 .kept .0 ∙ simp length-set
 
 returns : tie.Need-returns
 returns c =

@@ -11,14 +11,23 @@ use Rattle.writer.proofs.block.put_tally_block.Tie as tie
 put-tallies-requires : tie.Need-put-tallies-requires
 put-tallies-requires c κs =
     let s = c .before .before .before .before .before .before .before .before .before .before in
-    let e = c .before .before .before .before .before .part-of .ensures in
-    ((omega (arith, e), omega (arith, e, c .before .before .before .put-head .kept .0, s .pre .0)), ((omega (arith, e, s .pre .1 .0), (omega (arith, e, s .pre .1 .0), (omega (arith, e, s .pre .1 .0), omega (arith, e, s .pre .1 .0)))), record { small = λ i h. s .pre .1 .1 .small i (omega (arith, h, e)) }))
+    let e = c .before .before .before .before .before .part-of .ensures in (
+      (omega (arith, e), omega (arith, e, c .before .before .before .put-head .kept .0, s .pre .0)),
+      (
+        (omega (arith, e, s .pre .1 .0), (omega (arith, e, s .pre .1 .0), (omega (arith, e, s .pre .1 .0), omega (arith, e, s .pre .1 .0)))),
+        record
+            { small = λ i h. s .pre .1 .1 .small i (omega (arith, h, e)) },
+      ),
+    )
 
 returns : tie.Need-returns
 returns c =
     let s = c .before .before .before .before .before .before .before .before .before .before .before .before .before .before .before .before .before in
     let a = s .args in
-    records-made 3 (a .k) (a .t) (a .b) _ (λ i. tallyBytes (tallyOf (now (a .tgrocer)) (now (a .tbox)) (now (a .tcode)) (now (a .tcount)) i)) (now (a .out)) _ _ _ (c .before .before .before .before .before .before .before .before .before .before .before .before .part-of .ensures) (omega (arith, s .pre .0)) (c .before .before .before .before .before .before .before .before .before .before .put-head .ensures) (c .before .before .before .before .before .before .put-tallies .ensures) (c .before .before .close-block .ensures)
+    records-made 3 (a .k) (a .t) (a .b) _ (λ i. tallyBytes (tallyOf (now (a .tgrocer)) (now (a .tbox)) (now (a .tcode)) (now (a .tcount)) i)) (now (a .out)) _ _ _
+    (c .before .before .before .before .before .before .before .before .before .before .before .before .part-of .ensures) (omega (arith, s .pre .0))
+    (c .before .before .before .before .before .before .before .before .before .before .put-head .ensures) (c .before .before .before .before .before .before .put-tallies .ensures)
+    (c .before .before .close-block .ensures)
 
 pub put-tally-block-spec : {M : Type 1} → statement M
 put-tally-block-spec =

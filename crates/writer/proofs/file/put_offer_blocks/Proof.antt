@@ -40,7 +40,8 @@ loop-again c =
       c .before .before .put-offer-block .kept .0 ∙ l .loop .inv .1,
       c .before .before .put-offer-block .ensures
           ∙ ap (put (512 * (1 + l .loop .b)) 512 (blockByte (recordBody 1 1 (s .args .n) (λ i. offerBytes (offerOf (now (s .args .price)) (now (s .args .owner)) (now (s .args .code)) i)) (l .loop .b)))) (l .loop .inv .2)
-          ∙ block-next (recordBody 1 1 (s .args .n) (λ i. offerBytes (offerOf (now (s .args .price)) (now (s .args .owner)) (now (s .args .code)) i))) 1 (l .loop .b) (now (s .args .out)) (omega (arith, c .before .before .before .before .loop-test .taken, l .before .blocks-for .ensures, s .pre .0)),
+          ∙ block-next (recordBody 1 1 (s .args .n) (λ i. offerBytes (offerOf (now (s .args .price)) (now (s .args .owner)) (now (s .args .code)) i))) 1 (l .loop .b) (now (s .args .out))
+          (omega (arith, c .before .before .before .before .loop-test .taken, l .before .blocks-for .ensures, s .pre .0)),
     )
 
 same-length : tie.Need-same-length Inv-loop μ-loop
@@ -50,7 +51,8 @@ returns : tie.Need-returns Inv-loop μ-loop
 returns c =
     let l = c .before in
     let s = l .before .before .before .before .before .before in
-    l .loop .inv .2 ∙ ap (λ (b : ℕ). put 512 (b * 512) (blocksOf (recordBody 1 1 (s .args .n) (λ i. offerBytes (offerOf (now (s .args .price)) (now (s .args .owner)) (now (s .args .code)) i)))) (now (s .args .out))) (le-antisymm (l .loop .inv .0) (c .loop-test .left) ∙ l .before .blocks-for .ensures)
+    l .loop .inv .2 ∙ ap (λ (b : ℕ). put 512 (b * 512) (blocksOf (recordBody 1 1 (s .args .n) (λ i. offerBytes (offerOf (now (s .args .price)) (now (s .args .owner)) (now (s .args .code)) i))))
+    (now (s .args .out))) (le-antisymm (l .loop .inv .0) (c .loop-test .left) ∙ l .before .blocks-for .ensures)
 
 pub put-offer-blocks-spec : {M : Type 1} → statement M
 put-offer-blocks-spec =

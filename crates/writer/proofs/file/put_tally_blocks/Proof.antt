@@ -39,8 +39,10 @@ loop-again c =
       omega (arith, c .before .before .before .before .loop-test .taken),
       c .before .before .put-tally-block .kept .0 ∙ l .loop .inv .1,
       c .before .before .put-tally-block .ensures
-          ∙ ap (put (512 * ((s .args .k) + l .loop .b)) 512 (blockByte (recordBody 3 (s .args .k) (s .args .t) (λ i. tallyBytes (tallyOf (now (s .args .tgrocer)) (now (s .args .tbox)) (now (s .args .tcode)) (now (s .args .tcount)) i)) (l .loop .b)))) (l .loop .inv .2)
-          ∙ block-next (recordBody 3 (s .args .k) (s .args .t) (λ i. tallyBytes (tallyOf (now (s .args .tgrocer)) (now (s .args .tbox)) (now (s .args .tcode)) (now (s .args .tcount)) i))) (s .args .k) (l .loop .b) (now (s .args .out)) (omega (arith, c .before .before .before .before .loop-test .taken, l .before .blocks-for .ensures, s .pre .0)),
+          ∙ ap (put (512 * ((s .args .k) + l .loop .b)) 512 (blockByte (recordBody 3 (s .args .k) (s .args .t)
+          (λ i. tallyBytes (tallyOf (now (s .args .tgrocer)) (now (s .args .tbox)) (now (s .args .tcode)) (now (s .args .tcount)) i)) (l .loop .b)))) (l .loop .inv .2)
+          ∙ block-next (recordBody 3 (s .args .k) (s .args .t) (λ i. tallyBytes (tallyOf (now (s .args .tgrocer)) (now (s .args .tbox)) (now (s .args .tcode)) (now (s .args .tcount)) i))) (s .args .k)
+          (l .loop .b) (now (s .args .out)) (omega (arith, c .before .before .before .before .loop-test .taken, l .before .blocks-for .ensures, s .pre .0)),
     )
 
 same-length : tie.Need-same-length Inv-loop μ-loop
@@ -50,7 +52,9 @@ returns : tie.Need-returns Inv-loop μ-loop
 returns c =
     let l = c .before in
     let s = l .before .before .before .before .before .before in
-    l .loop .inv .2 ∙ ap (λ (b : ℕ). put (512 * (s .args .k)) (b * 512) (blocksOf (recordBody 3 (s .args .k) (s .args .t) (λ i. tallyBytes (tallyOf (now (s .args .tgrocer)) (now (s .args .tbox)) (now (s .args .tcode)) (now (s .args .tcount)) i)))) (now (s .args .out))) (le-antisymm (l .loop .inv .0) (c .loop-test .left) ∙ l .before .blocks-for .ensures)
+    l .loop .inv .2 ∙ ap (λ (b : ℕ). put (512 * (s .args .k)) (b * 512) (blocksOf (recordBody 3 (s .args .k) (s .args .t)
+    (λ i. tallyBytes (tallyOf (now (s .args .tgrocer)) (now (s .args .tbox)) (now (s .args .tcode)) (now (s .args .tcount)) i)))) (now (s .args .out)))
+    (le-antisymm (l .loop .inv .0) (c .loop-test .left) ∙ l .before .blocks-for .ensures)
 
 pub put-tally-blocks-spec : {M : Type 1} → statement M
 put-tally-blocks-spec =

@@ -15,7 +15,8 @@ long-copied : (c : tie.After-copy-code) → length (c .copy-code .last .1 .1 .0)
 long-copied c = c .copy-code .kept .1 .1 .0 ∙ length-set (c .before .before .before .before .before .put32 .last .0) _ _ ∙ c .before .before .before .before .before .put32 .kept .0
 
 copy-code-requires : tie.Need-copy-code-requires
-copy-code-requires c κs = let s = c .before .before .before .before .before .before .before .before .before .before .before in (s .pre .1 .0 .1 .1, simp length-set (omega (arith, s .pre .0, c .before .before .before .before .put32 .kept .0)))
+copy-code-requires c κs = let s = c .before .before .before .before .before .before .before .before .before .before .before in
+    (s .pre .1 .0 .1 .1, simp length-set (omega (arith, s .pre .0, c .before .before .before .before .put32 .kept .0)))
 
 put-zeros-requires : tie.Need-put-zeros-requires
 put-zeros-requires c κs = omega (arith, long-copied (c .before .before .before), c .before .before .before .before .before .before .before .before .before .before .before .before .before .before .before .pre .0)

@@ -38,7 +38,8 @@ loop-again c =
       c .before .before .put-tally .kept .0 ∙ l .loop .inv .1,
       c .before .before .put-tally .ensures
           ∙ ap (put (s .args .at + l .loop .r * 24) 24 (bytesOf (tallyBytes (tallyOf (now (s .args .tgrocer)) (now (s .args .tbox)) (now (s .args .tcode)) (now (s .args .tcount)) (s .args .first + l .loop .r))))) (l .loop .inv .2)
-          ∙ row-next 24 (λ r. bytesOf (tallyBytes (tallyOf (now (s .args .tgrocer)) (now (s .args .tbox)) (now (s .args .tcode)) (now (s .args .tcount)) (s .args .first + r)))) (s .args .at) (l .loop .r) (now (s .args .out)) (omega (arith, c .before .before .before .before .loop-test .taken, s .pre .0)),
+          ∙ row-next 24 (λ r. bytesOf (tallyBytes (tallyOf (now (s .args .tgrocer)) (now (s .args .tbox)) (now (s .args .tcode)) (now (s .args .tcount)) (s .args .first + r)))) (s .args .at)
+          (l .loop .r) (now (s .args .out)) (omega (arith, c .before .before .before .before .loop-test .taken, s .pre .0)),
     )
 
 same-length : tie.Need-same-length Inv-loop μ-loop
@@ -48,7 +49,9 @@ returns : tie.Need-returns Inv-loop μ-loop
 returns c =
     let l = c .before in
     let s = l .before .before .before .before .before in
-    l .loop .inv .2 ∙ ap (λ (r : ℕ). put (s .args .at) (r * 24) (rowsOf 24 (λ r. bytesOf (tallyBytes (tallyOf (now (s .args .tgrocer)) (now (s .args .tbox)) (now (s .args .tcode)) (now (s .args .tcount)) (s .args .first + r))))) (now (s .args .out))) (le-antisymm (l .loop .inv .0) (c .loop-test .left))
+    l .loop .inv .2 ∙ ap (λ (r : ℕ). put (s .args .at) (r * 24) (rowsOf 24 (λ r. bytesOf
+    (tallyBytes (tallyOf (now (s .args .tgrocer)) (now (s .args .tbox)) (now (s .args .tcode)) (now (s .args .tcount)) (s .args .first + r))))) (now (s .args .out)))
+    (le-antisymm (l .loop .inv .0) (c .loop-test .left))
 
 pub put-tallies-spec : {M : Type 1} → statement M
 put-tallies-spec =

@@ -20,13 +20,25 @@ long-copied : (c : tie.After-copy-code) → length (c .copy-code .last .1 .1 .0)
 long-copied c = c .copy-code .kept .1 .1 .0 ∙ length-set (c .before .before .before .before .before .put16 .last .0) _ _ ∙ c .before .before .before .before .before .put16 .kept .0
 
 copy-code-requires : tie.Need-copy-code-requires
-copy-code-requires c κs = let s = c .before .before .before .before .before .before .before .before .before .before .before .before in (s .pre .1 .0 .1 .1 .0, simp length-set (omega (arith, s .pre .0, c .before .before .before .before .put16 .kept .0)))
+copy-code-requires c κs = let s = c .before .before .before .before .before .before .before .before .before .before .before .before in
+    (s .pre .1 .0 .1 .1 .0, simp length-set (omega (arith, s .pre .0, c .before .before .before .before .put16 .kept .0)))
 
 put32-requires : tie.Need-put32-requires
-put32-requires c κs = omega (arith, long-copied (c .before .before .before .before .before), c .before .before .before .before .before .before .before .before .before .before .before .before .before .before .before .before .before .before .pre .0)
+put32-requires c κs = omega (
+  arith,
+  long-copied (c .before .before .before .before .before),
+  c .before .before .before .before .before .before .before .before .before .before .before .before .before
+      .before .before .before .before .before .pre .0,
+)
 
 put-zeros-requires : tie.Need-put-zeros-requires
-put-zeros-requires c κs = omega (arith, c .before .before .before .put32 .kept .0, long-copied (c .before .before .before .before .before .before .before .before .before), c .before .before .before .before .before .before .before .before .before .before .before .before .before .before .before .before .before .before .before .before .before .before .pre .0)
+put-zeros-requires c κs = omega (
+  arith,
+  c .before .before .before .put32 .kept .0,
+  long-copied (c .before .before .before .before .before .before .before .before .before),
+  c .before .before .before
+      .before .before .before .before .before .before .before .before .before .before .before .before .before .before .before .before .before .before .before .pre .0,
+)
 
 same-length : tie.Need-same-length
 same-length c = c .before .before .put-zeros .kept .0 ∙ c .before .before .before .before .before .before .put32 .kept .0 ∙ long-copied (c .before .before .before .before .before .before .before .before .before .before .before .before)
