@@ -15,7 +15,7 @@ use Rattle.model.specs.Steps.{kindOf, oneBox}
 use Rattle.model.specs.Tables.{JobTables, jobOf, StateTables, jobLengths, stateLengths}
 use Rattle.model.specs.Ranges.{maxPrice, maxAmount, maxSent, upTo, around, stateInRange}
 use Rattle.model.specs.Step.{Asked, isKind, boxesFit}
-use Rattle.prices.specs.Marks.{MarksIn}
+use Rattle.rules.specs.Marks.{MarksIn}
 use Rattle.totals.specs.Row.{TalliesIn, AmountsIn}
 use Rattle.apply.specs.Apply.{Applies, SentIn, MultiplyIn, ReceiveIn}
 use Rattle.model.proofs.Lent.{JobLong, job-long, StateLong, state-long}

@@ -17,11 +17,11 @@ use Rattle.model.specs.Ranges.{maxPrice, maxAmount, maxSent, upTo, around, stat
 use Rattle.model.specs.Step.{Asked, moved}
 use Rattle.words.specs.Message.{wordIn}
 use Rattle.prices.specs.Prices.{sentTransit, receivedKnown, receivedTransit}
-use Rattle.prices.specs.Marks.{marked}
+use Rattle.rules.specs.Marks.{marked}
 use Rattle.totals.specs.Row.{productRow}
 use Rattle.totals.specs.Credit.{credited, creditWord}
 use Rattle.apply.specs.Apply.{Applies}
-use Rattle.prices.proofs.Marked.{marked-bits}
+use Rattle.rules.proofs.Marked.{marked-bits}
 use Rattle.totals.proofs.Rows.{put-range}
 use Rattle.totals.proofs.Credits.{cleared-range, sent-range, credit-range}
 use Rattle.totals.proofs.Effect.{talliesOf}

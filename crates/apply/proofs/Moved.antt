@@ -11,7 +11,7 @@ use Rattle.model.specs.Tables.{JobTables, jobOf, StateTables, stateTables, stat
 use Rattle.model.specs.Step.{Asked, moved}
 use Rattle.words.specs.Message.{wordIn}
 use Rattle.prices.specs.Prices.{sentTransit, receivedKnown, receivedTransit}
-use Rattle.prices.specs.Marks.{marked}
+use Rattle.rules.specs.Marks.{marked}
 use Rattle.totals.specs.Row.{putRow, productRow}
 use Rattle.totals.specs.Credit.{cleared, sentTotals, credited, creditAll}
 use Rattle.apply.specs.Apply.{sentMore}

@@ -53,7 +53,7 @@ pub fn apply(
     let m = grocers as usize;
     let n = offers as usize;
     let t = tallies as usize;
-    prices::marks::mark(k, kind, first, second, done);
+    rules::marks::mark(k, kind, first, second, done);
     if kind == 1 {
         steps::send_prices(
             k,

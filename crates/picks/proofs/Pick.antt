@@ -19,8 +19,8 @@ use Rattle.model.specs.Ranges.{sizesInRange, jobWordsInRange, jobInRange}
 use Rattle.model.specs.Step.{asked, isKind, stepOf, moved}
 use Rattle.model.specs.Words.{messagesOf}
 use Rattle.model.specs.Run.{listed, readyCount, pick}
-use Rattle.prices.specs.Marks.{MarksIn}
-use Rattle.refuse.specs.Rules.{permittedBy}
+use Rattle.rules.specs.Marks.{MarksIn}
+use Rattle.rules.specs.Rules.{permittedBy}
 use Rattle.walk.specs.Walk.{PlaceIn, here, listedBy, WalkIn, Found}
 use Rattle.walk.specs.Rows.{IsRows, RowsBefore}
 use Rattle.apply.specs.Apply.{Applies}
@@ -29,7 +29,7 @@ use Rattle.model.proofs.Step.{range}
 use Rattle.model.proofs.Lent.{state-long}
 use Rattle.model.proofs.Reach.{effect-done}
 use Rattle.walk.proofs.InModel.{marks-are, step-here, listed-is, count-is, nth-is-model}
-use Rattle.refuse.proofs.InModel.{permitted-is}
+use Rattle.rules.proofs.InModel.{permitted-is}
 use Rattle.walk.proofs.Changed.{rows-before}
 use Rattle.model.proofs.Listed.{pick-is}
 use Rattle.model.proofs.Run.{picked}

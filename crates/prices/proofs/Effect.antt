@@ -14,7 +14,7 @@ use Rattle.model.specs.Steps.{Kind, State, effect, received, sendPrices, multip
 use Rattle.model.specs.Tables.{JobTables, jobOf, StateTables, stateTables, stateLengths, view, store, stepsDone}
 use Rattle.words.specs.Message.{wordIn}
 use Rattle.prices.specs.Prices.{sentTransit, receivedKnown, receivedTransit}
-use Rattle.prices.specs.Marks.{marked}
+use Rattle.rules.specs.Marks.{marked}
 use Rattle.model.proofs.Lent.{StateLong}
 use Rattle.words.proofs.Message.{price-word}
 

@@ -1,3 +1,2 @@
--- What the price tables and the marks are after steps 1 and 3, and that this is the model's effect.
-pub mod Marked
+-- What the price tables are after steps 1 and 3, and that this is the model's effect.
 pub mod Effect

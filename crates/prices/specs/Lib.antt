@@ -1,3 +1,2 @@
--- Steps 1 and 3 on the price tables, and the marks of steps done.
+-- Steps 1 and 3 on the price tables.
 pub mod Prices
-pub mod Marks

@@ -1,4 +1,3 @@
-// The cores of steps 1 and 3 on the price tables, and the marks of steps done.
-pub mod marks;
+// The cores of steps 1 and 3 on the price tables.
 pub mod receive;
 pub mod send;

@@ -11,7 +11,7 @@ use Rattle.model.specs.Tables.{JobTables, jobOf, StateTables}
 use Rattle.model.specs.Ranges.{maxSent, stateInRange}
 use Rattle.model.specs.Step.{Asked, moved}
 use Rattle.apply.specs.Apply.{Applies}
-use Rattle.refuse.specs.Rules.{wordsTo}
+use Rattle.rules.specs.Rules.{wordsTo}
 use Rattle.refuse.specs.Late.{Finishing}
 use Rattle.tables.proofs.MessageLaws.{price-cell, total-cell}
 use Rattle.apply.proofs.Given.{Given, given}

@@ -1,8 +1,5 @@
 -- What the proofs of several functions use, and what the tests are in the model.
 pub mod Extra
-pub mod ByKind
-pub mod Ways
-pub mod InModel
 pub mod Finished
 pub mod Later
 pub mod Refused

@@ -8,9 +8,9 @@ ghost use Rattle.model.specs.Ranges.{maxAmount, maxSent, around, stateInRange};
 ghost use Rattle.model.specs.Step.{asked, moved};
 ghost use Rattle.totals.specs.Row.{tallies, productRow};
 ghost use Rattle.apply.specs.Apply.{SentIn, MultiplyIn};
-ghost use Rattle.refuse.specs.Rules.{wordsTo};
+ghost use Rattle.rules.specs.Rules.{wordsTo};
 ghost use Rattle.refuse.specs.Late.{Finishing};
-use crate::rules::words_to;
+use rules::ready::words_to;
 
 // Steps 1 and 4: whether the count of words sent stays in range.
 fn sent_fits(table: &[[u16; 16]; 16], sent: &[u32], a: u16, b: u16) -> bool

@@ -1,6 +1,5 @@
 // The refusal of a step: its number for every input, in two parts.
 pub mod finish;
-pub mod rules;
 
 ghost use mathlib.Core.Path.{_≡_};
 ghost use Rattle.laws.specs.Checks.{firstMet};
@@ -140,7 +139,7 @@ pub fn later_refusal(
 {
     let prices = price_table(offers, owner, needs);
     let totals = total_table(grocers, gowner, sharers);
-    let r = rules::rules(boxes, kind, first, second, &prices, &totals, done);
+    let r = rules::ready::request_refusal(boxes, kind, first, second, &prices, &totals, done);
     if r != 0 {
         return r;
     }

@@ -15,8 +15,8 @@ use Rattle.laws.proofs.Sums.{sum-next, sum-max}
 use Rattle.laws.proofs.Below.{count-start, any-false, count-none, count-le}
 use Rattle.model.specs.Steps.{Kind, Steps, kindOf}
 use Rattle.model.specs.Tables.{stepsDone}
-use Rattle.prices.specs.Marks.{MarksIn}
-use Rattle.refuse.specs.Rules.{fitsBy, readyBy, permittedBy}
+use Rattle.rules.specs.Marks.{MarksIn}
+use Rattle.rules.specs.Rules.{fitsBy, readyBy, permittedBy}
 use Rattle.walk.specs.Walk.{PlaceIn, here, listedBy, WalkIn}
 use Rattle.walk.specs.Rows.{rowOf, rowCount, RowIn, IsRows, rowsTotal, FewRows, Renewed}
 use Rattle.walk.proofs.Places.{listed-at}

@@ -14,8 +14,8 @@ use Rattle.laws.proofs.Bools.{split, no-true, clash, and-true, and-l, and-r, an
 use Rattle.laws.proofs.Below.{any-false, all-at, all-of, all-cong, count-cong, count-none, count-le, counts-one, count-one-more}
 use Rattle.model.specs.Steps.{Kind, sendPrices, multiplyOwn, receivePrices, sendTotals, addOwn, receiveTotals, Steps, kindNumber, kindOf, mark}
 use Rattle.model.specs.Tables.{stepsDone}
-use Rattle.prices.specs.Marks.{MarksIn}
-use Rattle.refuse.specs.Rules.{due, fitsBy, receivedFrom, multipliedBy, readyBy, permittedBy}
+use Rattle.rules.specs.Marks.{MarksIn}
+use Rattle.rules.specs.Rules.{due, fitsBy, receivedFrom, multipliedBy, readyBy, permittedBy}
 use Rattle.walk.specs.Walk.{listedBy}
 use Rattle.walk.specs.Rows.{rowOf, rowCount, IsRows, OneReady, RowsBefore, Renewed}
 use Rattle.model.proofs.Cursor.{number-place, number-kind}

@@ -14,7 +14,7 @@ use Rattle.model.specs.Local.{priceTable, totalTable}
 use Rattle.model.specs.Run.{listed, readyCount}
 use Rattle.walk.specs.Walk.{PlaceIn, here, listedBy}
 use Rattle.model.proofs.Listed.{ready-count}
-use Rattle.refuse.proofs.InModel.{permitted-is}
+use Rattle.rules.proofs.InModel.{permitted-is}
 use Rattle.walk.proofs.Places.{kind-of, first-of, second-of}
 
 -- The steps that the marks say are done are those of the state that the tables hold.

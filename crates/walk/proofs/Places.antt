@@ -7,7 +7,7 @@ use native.Mathlib.Nat.{suc-mul, add-zero, div-lt-iff-lt-mul}
 use lib.Arith.{digits-div, digits-mod}
 use Rattle.model.specs.Steps.{kindOf}
 use Rattle.model.specs.Tables.{stepsDone}
-use Rattle.refuse.specs.Rules.{permittedBy}
+use Rattle.rules.specs.Rules.{permittedBy}
 use Rattle.walk.specs.Walk.{PlaceIn, Next, here, listedBy}
 
 -- The last place of a kind is followed by the first of the next.

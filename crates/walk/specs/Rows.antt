@@ -7,7 +7,7 @@ use lib.ListN.{length, getD}
 use Rattle.laws.specs.Below.{naturals, sum, count}
 use Rattle.model.specs.Steps.{Steps, kindOf, mark}
 use Rattle.model.specs.Tables.{stepsDone}
-use Rattle.refuse.specs.Rules.{permittedBy}
+use Rattle.rules.specs.Rules.{permittedBy}
 use Rattle.walk.specs.Walk.{listedBy}
 
 -- The row of a kind and a first box, of k boxes.

@@ -6,7 +6,7 @@ use Prim.Native.Nat.{ℕ, suc, _+_, _*_, _/_, _%_, _≤_, _<_}
 use lib.ListN.{length}
 use Rattle.model.specs.Steps.{kindOf, stepPlace}
 use Rattle.model.specs.Tables.{stepsDone}
-use Rattle.refuse.specs.Rules.{permittedBy}
+use Rattle.rules.specs.Rules.{permittedBy}
 
 -- A step of k boxes: a kind from 1 to 6, and two of the boxes.
 pub record PlaceIn (k kind a b : ℕ) : Type 0 where

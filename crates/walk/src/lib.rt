@@ -52,7 +52,7 @@ pub fn is_listed(
     requires { ⌜ WalkIn k (now done) ⌝ }
     ensures { λ r. ⌜ r ≡ listedBy k (now (prices .entry)) (now (totals .entry)) (now (done .entry)) (here k (p .kind) (p .first) (p .second)) ⌝ }
 {
-    refuse::rules::permitted(k, p.kind, p.first, p.second, prices, totals, done)
+    rules::ready::permitted(k, p.kind, p.first, p.second, prices, totals, done)
 }
 
 // 1 for a test that holds, else 0.

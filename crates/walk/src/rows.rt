@@ -9,8 +9,8 @@ ghost use lib.ListN.{length, getD, set};
 ghost use Rattle.laws.specs.Below.{naturals, only, count, nth};
 ghost use Rattle.model.specs.Steps.{kindOf};
 ghost use Rattle.model.specs.Tables.{stepsDone};
-ghost use Rattle.prices.specs.Marks.{MarksIn};
-ghost use Rattle.refuse.specs.Rules.{readyBy, permittedBy};
+ghost use Rattle.rules.specs.Marks.{MarksIn};
+ghost use Rattle.rules.specs.Rules.{readyBy, permittedBy};
 ghost use Rattle.walk.specs.Walk.{listedBy, WalkIn, Found};
 ghost use Rattle.walk.specs.Rows.{rowOf, rowCount, RowIn, IsRows, rowsTotal, FewRows, OneReady, RowsBefore, Renewed};
 
@@ -29,7 +29,7 @@ fn ready_in_row(
     ensures { λ r. ⌜ r ≡ readyBy k (now (prices .entry)) (stepsDone k (now (done .entry))) (kindOf kind) a b ⌝ }
 {
     if (kind == 3) | (kind == 6) {
-        return refuse::rules::is_ready(k, kind, a, b, prices, done);
+        return rules::ready::is_ready(k, kind, a, b, prices, done);
     }
     first
 }
@@ -49,8 +49,8 @@ fn is_open(
     requires { ⌜ ((eqb kind 3 || eqb kind 6) ≡ false → first ≡ readyBy k (now prices) (stepsDone k (now done)) (kindOf kind) a 0) ⌝ }
     ensures { λ r. ⌜ r ≡ permittedBy k (now (prices .entry)) (now (totals .entry)) (stepsDone k (now (done .entry))) (kindOf kind) a b ⌝ }
 {
-    let fit = refuse::rules::fits(kind, a, b, prices, totals);
-    let marked = refuse::rules::is_marked(k, kind, a, b, done);
+    let fit = rules::ready::fits(kind, a, b, prices, totals);
+    let marked = rules::marks::is_done(k, kind, a, b, done);
     let ready = ready_in_row(k, kind, a, b, first, prices, done);
     fit & (!marked & ready)
 }
@@ -67,7 +67,7 @@ fn count_row(
     requires { ⌜ RowIn k kind a (now done) ⌝ }
     ensures { λ r. ⌜ r ≡ rowCount k (now (prices .entry)) (now (totals .entry)) (now (done .entry)) (rowOf k kind a) ⌝ }
 {
-    let first = refuse::rules::is_ready(k, kind, a, 0, prices, done);
+    let first = rules::ready::is_ready(k, kind, a, 0, prices, done);
     let asks = (kind == 3) | (kind == 6);
     if !asks & !first {
         return 0;
@@ -244,7 +244,7 @@ fn one_more(
         (getD (now (rows .entry)) (rowOf k kind a) 0 + only naturals (permittedBy k (now (prices .entry)) (now (totals .entry))
         (stepsDone k (now (done .entry))) (kindOf kind) a b) 1) ⌝ }
 {
-    let more = one(refuse::rules::permitted(k, kind, a, b, prices, totals, done));
+    let more = one(rules::ready::permitted(k, kind, a, b, prices, totals, done));
     let r = ((kind - 1) * k + a) as usize;
     rows[r] += more;
 }
@@ -273,7 +273,7 @@ pub fn renew(
     if (kind != 2) & (kind != 3) {
         return;
     }
-    if !refuse::rules::multiplied(k, a, prices, done) {
+    if !rules::ready::multiplied(k, a, prices, done) {
         return;
     }
     renew_row(k, 4, a, prices, totals, done, rows);

@@ -43,35 +43,35 @@ price-table-requires c κs = let s = c .before .before .before .before .before .
 total-table-requires : tie.Need-total-table-requires
 total-table-requires c κs = let s = c .before .before .before .before .before .before .before .before .before .before .before in owned-grocers (job s) (s .pre .0 .job-in) (whole (job s) (state s) (s .pre .0)) _ _ (s .pre .1 .sharers-are)
 
-rules-requires : tie.Need-rules-requires
-rules-requires c κs = let s = entry c in (few-boxes (job s) (state s) (s .pre .0), whole-state (job s) (state s) (s .pre .0) .done)
+request-refusal-requires : tie.Need-request-refusal-requires
+request-refusal-requires c κs = let s = entry c in (few-boxes (job s) (state s) (s .pre .0), whole-state (job s) (state s) (s .pre .0) .done)
 
 returns : tie.Need-returns
 returns c =
     let e = c .before .before in
     let s = entry e in
-    later-met (job s) (state s) (s .pre .0) _ _ _ (s .pre .1 .sharers-are) (prices-are e) (totals-are e) (request s) _ (c .before .rules .ensures) (c .if1 .taken)
+    later-met (job s) (state s) (s .pre .0) _ _ _ (s .pre .1 .sharers-are) (prices-are e) (totals-are e) (request s) _ (c .before .request-refusal .ensures) (c .if1 .taken)
 
 finished-fits-requires : tie.Need-finished-fits-requires
 finished-fits-requires c κs =
     let i = c .before .before in
     let e = i .before .before in
     let s = entry e in
-    finishing (job s) (state s) (s .pre .0) _ _ _ (s .pre .1 .sharers-are) (prices-are e) (totals-are e) (request s) _ (i .before .rules .ensures) (i .if1 .left)
+    finishing (job s) (state s) (s .pre .0) _ _ _ (s .pre .1 .sharers-are) (prices-are e) (totals-are e) (request s) _ (i .before .request-refusal .ensures) (i .if1 .left)
 
 returns-2 : tie.Need-returns-2
 returns-2 c =
     let i = c .before .before .before .before in
     let e = i .before .before in
     let s = entry e in
-    later-late (job s) (state s) (s .pre .0) _ _ _ (s .pre .1 .sharers-are) (prices-are e) (totals-are e) (request s) _ (i .before .rules .ensures) (i .if1 .left) _ (c .before .finished-fits .ensures) (c .if2 .taken)
+    later-late (job s) (state s) (s .pre .0) _ _ _ (s .pre .1 .sharers-are) (prices-are e) (totals-are e) (request s) _ (i .before .request-refusal .ensures) (i .if1 .left) _ (c .before .finished-fits .ensures) (c .if2 .taken)
 
 returns-3 : tie.Need-returns-3
 returns-3 c =
     let i = c .before .before .before .before in
     let e = i .before .before in
     let s = entry e in
-    later-none (job s) (state s) (s .pre .0) _ _ _ (s .pre .1 .sharers-are) (prices-are e) (totals-are e) (request s) _ (i .before .rules .ensures) (i .if1 .left) _ (c .before .finished-fits .ensures) (c .if2 .left)
+    later-none (job s) (state s) (s .pre .0) _ _ _ (s .pre .1 .sharers-are) (prices-are e) (totals-are e) (request s) _ (i .before .request-refusal .ensures) (i .if1 .left) _ (c .before .finished-fits .ensures) (c .if2 .left)
 
 pub later-refusal-spec : {M : Type 1} → statement M
 later-refusal-spec =
@@ -79,7 +79,7 @@ later-refusal-spec =
     (tie.spec
     price-table-requires
     total-table-requires
-    rules-requires
+    request-refusal-requires
     returns
     finished-fits-requires
     returns-2

@@ -8,7 +8,7 @@ use borrow.Author.Needs.{needs}
 use Rattle.laws.specs.Below.{count}
 use Rattle.model.specs.Steps.{kindOf}
 use Rattle.model.specs.Tables.{stepsDone}
-use Rattle.refuse.specs.Rules.{permittedBy}
+use Rattle.rules.specs.Rules.{permittedBy}
 use Rattle.walk.specs.Walk.{listedBy}
 use Rattle.walk.specs.Rows.{rowOf, rowCount}
 use denote.Ref.{now}

@@ -1,0 +1,5 @@
+-- The laws that the proofs of this crate cite.
+pub mod Marked
+pub mod ByKind
+pub mod Ways
+pub mod InModel

@@ -1,0 +1,62 @@
+-- The ways through the tests: each answer is what its definition picks at the tests that led there. Assumes nothing.
+use mathlib.Core.Path.{_≡_, sym, ap, _∙_}
+use mathlib.Core.List.{List}
+use mathlib.Core.Bool.{Bool, true, false, _&&_}
+use Prim.Native.Nat.{ℕ, _*_, _≤_, _<_}
+use lib.Dec.{ltb}
+use lib.ListN.{length}
+use borrow.Author.Tests.{ltb-true}
+use Rattle.laws.specs.Below.{all}
+use Rattle.laws.proofs.Bools.{and-l, and-r, and-true, and-false}
+use Rattle.laws.proofs.Below.{all-fails}
+use Rattle.model.specs.Steps.{Kind, multiplyOwn, kindOf, Steps}
+use Rattle.model.specs.Step.{isKind}
+use Rattle.rules.specs.Marks.{MarksIn}
+use Rattle.rules.specs.Rules.{fitsBy, boxesFitBy, receivedFrom, multipliedBy, readyBy, permittedBy}
+use Rattle.rules.proofs.ByKind.{kind-from, kind-to}
+
+module _ (k : ℕ) (prices : List (List ℕ)) (d : Steps) (a : ℕ) where
+  pub multiplied-not : d multiplyOwn a a ≡ false → false ≡ multipliedBy k prices d a
+  unfolding multipliedBy
+  multiplied-not e = rw e
+
+  pub multiplied-fails : (c : ℕ) → c < k → receivedFrom prices d a c ≡ false → false ≡ multipliedBy k prices d a
+  unfolding multipliedBy
+  multiplied-fails c l e = sym (ap (λ (t : Bool). d multiplyOwn a a && t) (all-fails k (receivedFrom prices d a) c l e) ∙ and-false (d multiplyOwn a a))
+
+  pub multiplied-all : d multiplyOwn a a ≡ true → true ≡ all k (receivedFrom prices d a) → true ≡ multipliedBy k prices d a
+  unfolding multipliedBy
+  multiplied-all e h = sym (and-true e (sym h))
+
+module _ (k : ℕ) (prices totals : List (List ℕ)) (d : Steps) (q : Kind) (a b : ℕ) where
+  pub permitted-unfit : fitsBy prices totals q a b ≡ false → false ≡ permittedBy k prices totals d q a b
+  unfolding permittedBy
+  permitted-unfit e = rw e
+
+  pub permitted-done : d q a b ≡ true → false ≡ permittedBy k prices totals d q a b
+  unfolding permittedBy
+  permitted-done e = rw e (sym (and-false (fitsBy prices totals q a b)))
+
+  pub permitted-ready : (r : Bool) → fitsBy prices totals q a b ≡ true → d q a b ≡ false → r ≡ readyBy k prices d q a b → r ≡ permittedBy k prices totals d q a b
+  unfolding permittedBy
+  permitted-ready r e h w = rw (e, h) w
+
+-- Boxes that fit are below k.
+pub first-in : (k : ℕ) (q : Kind) (a b : ℕ) → boxesFitBy k q a b ≡ true → a < k
+unfolding boxesFitBy
+first-in k q a b h = ltb-true a k (and-l (ltb a k) _ h)
+
+pub second-in : (k : ℕ) (q : Kind) (a b : ℕ) → boxesFitBy k q a b ≡ true → b < k
+unfolding boxesFitBy
+second-in k q a b h = ltb-true b k (and-l (ltb b k) _ (and-r (ltb a k) _ h))
+
+-- A kind from 1 to 6 with boxes that fit has a mark.
+pub marks-in : (k kind a b : ℕ) (done : List ℕ) → k ≤ 16 → 6 * k * k ≤ length done → isKind kind ≡ true → boxesFitBy k (kindOf kind) a b ≡ true → MarksIn k kind a b done
+marks-in k kind a b done lk long e h = record {
+  kind-from = kind-from kind e;
+  kind-to = kind-to kind e;
+  boxes-in = lk;
+  a-in = first-in k (kindOf kind) a b h;
+  b-in = second-in k (kindOf kind) a b h;
+  done-long = long;
+}

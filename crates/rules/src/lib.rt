@@ -1,0 +1,3 @@
+// The rules of steps: the marks of steps done, and conditions 22 to 26 told from them and the tables of messages.
+pub mod marks;
+pub mod ready;
