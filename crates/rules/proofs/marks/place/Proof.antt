@@ -19,18 +19,20 @@ small c =
 row-small : (c : tie.Start) → (c .args .kind - 1) * c .args .k + c .args .a < 96
 row-small c = omega (arith, row-in (c .args .k) (c .args .kind) (c .args .a) (omega arith) (c .pre .1 .1 .1 .0), c .pre .1 .1 .0)
 
+mul-row : tie.Need-mul-row
+mul-row c = omega (arith, row-small c)
+
+add-row : tie.Need-add-row
+add-row c = omega (arith, row-small c)
+
 mul-result : tie.Need-mul-result
-mul-result c = omega (arith, row-small c)
+mul-result c = omega (arith, small c)
 
 add-result : tie.Need-add-result
-add-result c = omega (arith, row-small c)
+add-result c = omega (arith, small c)
 
-mul-result-2 : tie.Need-mul-result-2
-mul-result-2 c = omega (arith, small c)
-
-add-result-2 : tie.Need-add-result-2
-add-result-2 c = omega (arith, small c)
+cast-result : tie.Need-cast-result
+cast-result c = omega (arith, small c)
 
 pub place-spec : {M : Type 1} → statement M
-place-spec =
-    tie.close (tie.spec (λ c. search needs) mul-result add-result mul-result-2 add-result-2 (λ c. search needs))
+place-spec = tie.close (tie.spec (λ c. search needs) mul-row add-row mul-result add-result cast-result (λ c. search needs))
