@@ -8,8 +8,8 @@ ghost use Rattle.model.specs.Ranges.{upTo};
 ghost use Rattle.model.specs.Tables.{stepsDone};
 ghost use Rattle.rules.specs.Marks.{MarksIn, marked};
 
-// The place of a step among the marks.
-fn place(k: u16, kind: u16, a: u16, b: u16) -> usize
+// The place of a step among the marks of k boxes.
+pub fn place(k: u16, kind: u16, a: u16, b: u16) -> usize
     requires { ⌜ (1 ≤ kind) × ((kind ≤ 6) × ((k ≤ 16) × ((a < k) × (b < k)))) ⌝ }
     ensures { λ r. ⌜ r ≡ stepPlace k kind a b ⌝ }
 {

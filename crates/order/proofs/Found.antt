@@ -1,0 +1,195 @@
+-- The step that code finds is the one that the run picks, of every job with these tables of messages. Assumes nothing.
+use mathlib.Core.Path.{_≡_, refl, sym, ap, _∙_, subst}
+use mathlib.Core.Bool.{Bool, true, false, _&&_}
+use mathlib.Core.List.{List, [], _∷_}
+use Prim.Native.Nat.{ℕ, suc, _+_, _-_, _*_, _%_, _≤_, _<_}
+use native.Mathlib.Omega.{arith}
+use native.Mathlib.Nat.{mod-lt}
+use native.Mathlib.Numerals.{add-one}
+use lib.Arith.{digits-lt}
+use lib.Dec.{eqb, ltb}
+use lib.ListN.{length, getD, set, drop}
+use lib.Seq.{drop-cons}
+use borrow.Author.Tests.{lt-ltb, ne-eqb}
+use Rattle.laws.specs.Below.{count, nth}
+use Rattle.laws.proofs.Bools.{split, and-l, and-r, and-true, and-false}
+use Rattle.laws.proofs.Ascending.{nth-passes}
+use Rattle.model.specs.Job.{Job}
+use Rattle.model.specs.Steps.{Kind, kindOf, Steps, Step, mark, stepAt, places}
+use Rattle.model.specs.Tables.{stepsDone}
+use Rattle.model.specs.Local.{priceTable, totalTable}
+use Rattle.model.specs.Run.{listed, readyCount, pick}
+use Rattle.rules.specs.Marks.{marked}
+use Rattle.rules.specs.Rules.{permittedBy}
+use Rattle.walk.specs.Walk.{PlaceIn, here, listedBy, WalkIn, Found}
+use Rattle.order.specs.Order.{OfJob, MarksLent, Picked, Kept, Ended, NoneBefore, Passed}
+use Rattle.model.proofs.Reach.{mark-cases}
+use Rattle.model.proofs.Tables.{marks-back}
+use Rattle.model.proofs.Listed.{pick-is}
+use Rattle.model.proofs.Run.{picked}
+use Rattle.walk.proofs.Places.{listed-at}
+use Rattle.walk.proofs.InModel.{step-here, listed-is, count-is, nth-is-model}
+use Rattle.order.proofs.Left.{and-step, Open, first-picked, some-ready, none-more, none-done}
+use Rattle.order.proofs.Pick.{room, put-kept, kept-none, kept-ends}
+
+-- The marks with one step more say that it is done.
+module _ (k : ℕ) (q : Kind) (a b : ℕ) (done : List ℕ) (la : a < k) (lb : b < k) where
+  -- Only steps of boxes below k are.
+  inside : (q′ : Kind) (a′ b′ : ℕ) → mark (stepsDone k done) q a b q′ a′ b′ ≡ true → (ltb a′ k && ltb b′ k) ≡ true
+  unfolding stepsDone
+  inside q′ a′ b′ = mark-cases (stepsDone k done) q a b (λ q a b. (ltb a k && ltb b k) ≡ true) q′ a′ b′ (and-true (lt-ltb a k la) (lt-ltb b k lb)) old
+    where
+      old : stepsDone k done q′ a′ b′ ≡ true → (ltb a′ k && ltb b′ k) ≡ true
+      old h = and-true (and-l (ltb a′ k) _ h) (and-l (ltb b′ k) _ (and-r (ltb a′ k) _ h))
+
+  both : (x y m : Bool) → (m ≡ true → (x && y) ≡ true) → (x && (y && m)) ≡ m
+  both x y true h = let e = h refl in rw (and-l x y e, and-r x y e)
+  both x y false h = rw (and-false y, and-false x)
+
+  pub marked-steps : stepsDone k (marked k q a b done) ≡ mark (stepsDone k done) q a b
+  unfolding marked
+  marked-steps = λ i q′ a′ b′. (marks-back k (mark (stepsDone k done) q a b) done q′ a′ b′ ∙ both (ltb a′ k) (ltb b′ k) (mark (stepsDone k done) q a b q′ a′ b′) (inside q′ a′ b′)) i
+
+-- A place of k boxes is below the number of places.
+pub place-below : (k kind a b : ℕ) → PlaceIn k kind a b → here k kind a b < 6 * k * k
+place-below k kind a b p = digits-lt {q = (kind - 1) * k + a} {m = 6 * k} (digits-lt {q = kind - 1} {m = 6} (omega arith) (p .a-in)) (p .b-in)
+
+-- The step that is found is ready.
+pub found-open : (k : ℕ) (prices totals : List (List ℕ)) (done : List ℕ) (c kind a b : ℕ) → c < count (6 * k * k) (listedBy k prices totals done) →
+    Found k (nth (6 * k * k) (listedBy k prices totals done) c) kind a b → permittedBy k prices totals (stepsDone k done) (kindOf kind) a b ≡ true
+found-open k prices totals done c kind a b l g =
+    listed-at k kind a b prices totals done (g .place-in)
+    ∙ ap (listedBy k prices totals done) (g .place-is)
+    ∙ nth-passes (6 * k * k) (listedBy k prices totals done) c l .1
+
+module _ (j : Job) (prices totals : List (List ℕ)) (ep : prices ≡ priceTable j) (et : totals ≡ totalTable j) (lk : j .boxes ≤ 16) (one : 1 ≤ j .boxes) (done : List ℕ) where
+  -- The steps done.
+  abbrev d : Steps
+  d = stepsDone (j .boxes) done
+
+  -- How many steps are ready.
+  abbrev readyBy : ℕ
+  readyBy = count (6 * j .boxes * j .boxes) (listedBy (j .boxes) prices totals done)
+
+  ready-is : readyBy ≡ readyCount j d
+  ready-is = count-is j prices totals ep et lk one done
+
+  -- A step of a place, put into the order and marked.
+  module _ (kind a b : ℕ) (pl : PlaceIn (j .boxes) kind a b) where
+    abbrev at : ℕ
+    at = here (j .boxes) kind a b
+
+    put-marks : (done′ : List ℕ) → done′ ≡ marked (j .boxes) (kindOf kind) a b done → stepsDone (j .boxes) done′ ≡ and-step d (stepAt (j .boxes) at)
+    put-marks done′ e = rw (e, step-here j kind a b pl) (marked-steps (j .boxes) (kindOf kind) a b done (pl .a-in) (pl .b-in))
+
+    module _ (order : List ℕ) (n : ℕ) (cs : List ℕ) (p : Picked j done order n cs) (some : eqb (readyCount j d) 0 ≡ false) (e : pick j d (getD cs 0 0) ≡ stepAt (j .boxes) at) where
+      is-open : Open j d (stepAt (j .boxes) at)
+      is-open = rw e at (picked j d (getD cs 0 0) some)
+
+      put : (done′ order′ : List ℕ) → done′ ≡ marked (j .boxes) (kindOf kind) a b done → order′ ≡ set order n at → Kept j done order n cs done′ order′ (n + 1) (drop 1 cs)
+      put done′ order′ ed eo = put-kept j done order n cs p some at e (place-below (j .boxes) kind a b pl) is-open done′ (put-marks done′ ed) order′ eo
+
+  -- The step of a choice.
+  module _ (cs : List ℕ) (i : ℕ) (l : i < length cs) (ready : ℕ) (more : 1 ≤ ready) (er : ready ≡ readyBy) (order : List ℕ) (p : Picked j done order i (drop i cs)) (kind a b : ℕ)
+      (g : Found (j .boxes) (nth (6 * j .boxes * j .boxes) (listedBy (j .boxes) prices totals done) (getD cs i 0 % ready)) kind a b) where
+    choice-some : eqb (readyCount j d) 0 ≡ false
+    choice-some = ne-eqb (readyCount j d) 0 (λ z. let q : ready ≡ 0 = er ∙ ready-is ∙ z in omega arith)
+
+    first-choice : getD (drop i cs) 0 0 ≡ getD cs i 0
+    first-choice = rw (drop-cons cs i 0 l)
+
+    choice-picks : pick j d (getD (drop i cs) 0 0) ≡ stepAt (j .boxes) (here (j .boxes) kind a b)
+    choice-picks =
+        ap (pick j d) first-choice
+        ∙ pick-is j d (getD cs i 0)
+        ∙ ap (λ (r : ℕ). stepAt (j .boxes) (nth (places (j .boxes)) (listed j d) (getD cs i 0 % r))) (sym (er ∙ ready-is))
+        ∙ ap (stepAt (j .boxes)) (sym (nth-is-model j prices totals ep et lk one done (getD cs i 0 % ready)) ∙ sym (g .place-is))
+
+    choice-room : i < 1536
+    choice-room = room j done order i (drop i cs) p choice-some (here (j .boxes) kind a b) choice-picks
+
+    drop-one : drop 1 (drop i cs) ≡ drop (i + 1) cs
+    drop-one = rw (drop-cons cs i 0 l, add-one i)
+
+    choice-kept : (done′ order′ : List ℕ) → done′ ≡ marked (j .boxes) (kindOf kind) a b done → order′ ≡ set order i (here (j .boxes) kind a b) →
+        Kept j done order i (drop i cs) done′ order′ (i + 1) (drop (i + 1) cs)
+    choice-kept done′ order′ ed eo = rw drop-one at (put kind a b (g .place-in) order i (drop i cs) p choice-some choice-picks done′ order′ ed eo)
+
+  -- The step of a place, where none before it is ready and choices are ended.
+  module _ (kind a b : ℕ) (pl : PlaceIn (j .boxes) kind a b) (order : List ℕ) (n : ℕ) (p : Picked j done order n []) (none : NoneBefore j d (here (j .boxes) kind a b)) where
+    -- It is not ready.
+    place-not : listedBy (j .boxes) prices totals done (here (j .boxes) kind a b) ≡ false → Passed j done order n (here (j .boxes) kind a b) done order n
+    place-not h = record {
+      kept = kept-none j done order n [] p;
+      none = none-more j d (here (j .boxes) kind a b) none (sym (listed-is j prices totals ep et lk one done (here (j .boxes) kind a b)) ∙ h);
+    }
+
+    -- It is ready.
+    module _ (h : listedBy (j .boxes) prices totals done (here (j .boxes) kind a b) ≡ true) where
+      is-listed : listed j d (here (j .boxes) kind a b) ≡ true
+      is-listed = sym (listed-is j prices totals ep et lk one done (here (j .boxes) kind a b)) ∙ h
+
+      place-some : eqb (readyCount j d) 0 ≡ false
+      place-some = some-ready j d (here (j .boxes) kind a b) (place-below (j .boxes) kind a b pl) is-listed
+
+      place-picks : pick j d 0 ≡ stepAt (j .boxes) (here (j .boxes) kind a b)
+      place-picks = first-picked j d (here (j .boxes) kind a b) (place-below (j .boxes) kind a b pl) is-listed none
+
+      place-room : n < 1536
+      place-room = room j done order n [] p place-some (here (j .boxes) kind a b) place-picks
+
+      place-passed : (done′ order′ : List ℕ) → done′ ≡ marked (j .boxes) (kindOf kind) a b done → order′ ≡ set order n (here (j .boxes) kind a b) →
+          Passed j done order n (here (j .boxes) kind a b) done′ order′ (n + 1)
+      place-passed done′ order′ ed eo = record {
+        kept = put kind a b pl order n [] p place-some place-picks done′ order′ ed eo;
+        none = rw (put-marks kind a b pl done′ ed) (none-done j d (here (j .boxes) kind a b) (place-below (j .boxes) kind a b pl) none);
+      }
+
+-- The same, for k boxes.
+module _ (k : ℕ) (prices totals : List (List ℕ)) (j : Job) (o : OfJob k prices totals j) (done : List ℕ) where
+  -- How many steps are ready, and that none is.
+  pub ready-of : count (6 * k * k) (listedBy k prices totals done) ≡ readyCount j (stepsDone (j .boxes) done)
+  ready-of = rw (← (o .boxes-are)) (ready-is j prices totals (o .prices-are) (o .totals-are) (o .boxes-in) (o .some) done)
+
+  module _ (cs : List ℕ) (i : ℕ) (l : i < length cs) (ready : ℕ) (more : 1 ≤ ready) (er : ready ≡ count (6 * k * k) (listedBy k prices totals done)) (order : List ℕ) (p : Picked j done order i (drop i cs))
+      (kind a b : ℕ) (g : Found k (nth (6 * k * k) (listedBy k prices totals done) (getD cs i 0 % ready)) kind a b) where
+    pub room-of : i < 1536
+    room-of = choice-room j prices totals (o .prices-are) (o .totals-are) (o .boxes-in) (o .some) done cs i l ready more (rw (o .boxes-are) er) order p kind a b (rw (o .boxes-are) g)
+
+    pub kept-of : (done′ order′ : List ℕ) → done′ ≡ marked k (kindOf kind) a b done → order′ ≡ set order i (here k kind a b) →
+        Kept j done order i (drop i cs) done′ order′ (i + 1) (drop (i + 1) cs)
+    kept-of done′ order′ ed eo =
+        choice-kept j prices totals (o .prices-are) (o .totals-are) (o .boxes-in) (o .some) done cs i l ready more (rw (o .boxes-are) er) order p kind a b (rw (o .boxes-are) g)
+        done′ order′ (rw (o .boxes-are) ed) (rw (o .boxes-are) eo)
+
+  module _ (kind a b : ℕ) (pl : PlaceIn k kind a b) (order : List ℕ) (n : ℕ) (p : Picked j done order n []) (none : NoneBefore j (stepsDone (j .boxes) done) (here k kind a b)) where
+    -- None before it is ready, by the number of the job's boxes.
+    none-j : NoneBefore j (stepsDone (j .boxes) done) (here (j .boxes) kind a b)
+    none-j = subst (λ (n : ℕ). NoneBefore j (stepsDone (j .boxes) done) (here n kind a b)) (sym (o .boxes-are)) none
+
+    pub not-of : listedBy k prices totals done (here k kind a b) ≡ false → Passed j done order n (here k kind a b) done order n
+    not-of h =
+        rw (← (o .boxes-are))
+        (place-not j prices totals (o .prices-are) (o .totals-are) (o .boxes-in) (o .some) done kind a b (rw (o .boxes-are) pl) order n p none-j (rw (o .boxes-are) h))
+
+    pub place-room-of : listedBy k prices totals done (here k kind a b) ≡ true → n < 1536
+    place-room-of h =
+        place-room j prices totals (o .prices-are) (o .totals-are) (o .boxes-in) (o .some) done kind a b (rw (o .boxes-are) pl) order n p none-j (rw (o .boxes-are) h)
+
+    pub passed-of : listedBy k prices totals done (here k kind a b) ≡ true → (done′ order′ : List ℕ) → done′ ≡ marked k (kindOf kind) a b done → order′ ≡ set order n (here k kind a b) →
+        Passed j done order n (here k kind a b) done′ order′ (n + 1)
+    passed-of h done′ order′ ed eo =
+        rw (← (o .boxes-are))
+        (place-passed j prices totals (o .prices-are) (o .totals-are) (o .boxes-in) (o .some) done kind a b (rw (o .boxes-are) pl) order n p none-j (rw (o .boxes-are) h)
+        done′ order′ (rw (o .boxes-are) ed) (rw (o .boxes-are) eo))
+
+-- The walk goes on with marks of the same boxes.
+pub walk-on : (k : ℕ) (done done′ : List ℕ) → WalkIn k done → MarksLent k done′ → WalkIn k done′
+walk-on k done done′ w m = record { some = w .some; boxes-in = w .boxes-in; done-long = m .long }
+
+-- All places are passed, of a job with these tables of messages: the picking ends.
+pub ended-of : (k : ℕ) (prices totals : List (List ℕ)) (j : Job) → OfJob k prices totals j → (done order : List ℕ) (n : ℕ) (done′ order′ : List ℕ) (n′ i : ℕ) → i ≡ 6 * k * k →
+    Kept j done order n [] done′ order′ n′ [] → NoneBefore j (stepsDone (j .boxes) done′) i → Ended j done order n [] done′ order′ n′
+ended-of k prices totals j o done order n done′ order′ n′ i e kept none =
+    kept-ends j done order n [] done′ order′ n′ kept
+    (subst (λ (x : ℕ). NoneBefore j (stepsDone (j .boxes) done′) x) (e ∙ ap (λ (x : ℕ). 6 * x * x) (sym (o .boxes-are))) none)

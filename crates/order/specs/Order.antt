@@ -1,0 +1,93 @@
+-- The order of a run: the steps that it picks, one after the other, told from the steps done alone.
+use mathlib.Core.Path.{_≡_}
+use mathlib.Core.Bool.{true, false, cond}
+use mathlib.Core.List.{List, [], _∷_, _++_, map}
+use Prim.Native.Nat.{ℕ, zero, suc, _+_, _*_, _≤_, _<_}
+use lib.Dec.{eqb}
+use lib.ListN.{length, getD, take, drop}
+use Rattle.model.specs.Job.{Job}
+use Rattle.model.specs.Steps.{Steps, Step, stepAt, mark}
+use Rattle.model.specs.Tables.{stepsDone}
+use Rattle.model.specs.Ranges.{upTo, under}
+use Rattle.model.specs.Local.{priceTable, totalTable}
+use Rattle.model.specs.Words.{stepCount}
+use Rattle.model.specs.Run.{readyCount, pick, listed}
+use Rattle.model.specs.Boxes.{Closed}
+
+-- The steps of the first n words of an order: each word is the place of a step, of k boxes.
+unfoldable pub stepsIn : ℕ → ℕ → List ℕ → List Step
+stepsIn k n order = map (stepAt k) (take n order)
+
+-- The steps of d, and those of a list marked one after the other.
+unfoldable pub markAll : Steps → List Step → Steps
+markAll d [] = d
+markAll d (x ∷ xs) = markAll (mark d (x .kind) (x .first) (x .second)) xs
+
+-- No step.
+abbrev pub noSteps : Steps
+noSteps k a b = false
+
+-- The steps that a run picks from where the steps of d are done, at most n: what model `picks` says of a state, told from its marks.
+unfoldable pub picksFrom : Job → ℕ → Steps → List ℕ → List Step
+picksFrom j zero d cs = []
+picksFrom j (suc n) d cs =
+    let x = pick j d (getD cs 0 0) in
+    cond (eqb (readyCount j d) 0) [] (x ∷ picksFrom j n (mark d (x .kind) (x .first) (x .second)) (drop 1 cs))
+
+-- The steps that are left of it: at most as many as the job has.
+unfoldable pub stepsLeft : Job → Steps → List ℕ → List Step
+stepsLeft j d cs = picksFrom j (stepCount j) d cs
+
+-- A job of k boxes, at most 16, with these tables of messages.
+pub record OfJob (k : ℕ) (prices totals : List (List ℕ)) (j : Job) : Type 0 where
+  pub boxes-are : j .boxes ≡ k
+  pub boxes-in : j .boxes ≤ 16
+  pub some : 1 ≤ j .boxes
+  pub prices-are : prices ≡ priceTable j
+  pub totals-are : totals ≡ totalTable j
+
+-- There is one.
+pub record SomeJob (k : ℕ) (prices totals : List (List ℕ)) : Type 0 where
+  pub job : Job
+  pub of-it : OfJob k prices totals job
+
+-- A table of marks, 0 or 1, as long as k boxes need.
+pub record MarksLent (k : ℕ) (done : List ℕ) : Type 0 where
+  pub long : 6 * k * k ≤ length done
+  pub bits : upTo 1 (6 * k * k) done ≡ true
+
+-- The steps of a whole order: those picked, its first n words, and those that are still picked with the choices cs.
+unfoldable pub wholeOrder : Job → List ℕ → List ℕ → ℕ → List ℕ → List Step
+wholeOrder j done order n cs = stepsIn (j .boxes) n order ++ stepsLeft j (stepsDone (j .boxes) done) cs
+
+-- The first n words of an order are steps that a list can have done, and these are the ones marked; there is room for the whole order.
+pub record Picked (j : Job) (done order : List ℕ) (n : ℕ) (cs : List ℕ) : Type 0 where
+  pub closed : Closed j (stepsDone (j .boxes) done)
+  pub marks-are : stepsDone (j .boxes) done ≡ markAll noSteps (stepsIn (j .boxes) n order)
+  pub places-in : under (6 * j .boxes * j .boxes) n order ≡ true
+  pub long : length order ≡ 1536
+  pub in-order : n ≤ 1536
+  pub few : length (wholeOrder j done order n cs) ≤ 1536
+
+-- A part of the picking goes from done, order, n and the choices cs to those with a mark: the whole order is the same.
+pub record Kept (j : Job) (done order : List ℕ) (n : ℕ) (cs done′ order′ : List ℕ) (n′ : ℕ) (cs′ : List ℕ) : Type 0 where
+  pub picked : Picked j done′ order′ n′ cs′
+  pub same : wholeOrder j done′ order′ n′ cs′ ≡ wholeOrder j done order n cs
+
+-- The picking ends: the first n′ words are the whole order.
+pub record Ended (j : Job) (done order : List ℕ) (n : ℕ) (cs done′ order′ : List ℕ) (n′ : ℕ) : Type 0 where
+  pub picked : Picked j done′ order′ n′ []
+  pub ends : stepsIn (j .boxes) n′ order′ ≡ wholeOrder j done order n cs
+
+-- No step of a place before i is ready.
+unfoldable pub NoneBefore : Job → Steps → ℕ → Type 0
+NoneBefore j d i = (x : ℕ) → x < i → listed j d x ≡ false
+
+-- The place i is passed: no step up to it is ready any more.
+pub record Passed (j : Job) (done order : List ℕ) (n i : ℕ) (done′ order′ : List ℕ) (n′ : ℕ) : Type 0 where
+  pub kept : Kept j done order n [] done′ order′ n′ []
+  pub none : NoneBefore j (stepsDone (j .boxes) done′) (i + 1)
+
+-- What holds of every job with these tables of messages.
+abbrev pub EveryJob : ℕ → List (List ℕ) → List (List ℕ) → (Job → Type 0) → Type 0
+EveryJob k prices totals P = (j : Job) → OfJob k prices totals j → P j

@@ -1,0 +1,133 @@
+// The order of a run: the steps that it picks by its choices, and when choices end the first ready step. Each is told by its place.
+ghost use mathlib.Core.Path.{_≡_};
+ghost use mathlib.Core.List.{[]};
+ghost use Prim.Native.Nat.{_+_, _*_, _≤_, _<_};
+ghost use lib.ListN.{length, drop, set};
+ghost use Rattle.laws.specs.Below.{count};
+ghost use Rattle.model.specs.Steps.{kindOf};
+ghost use Rattle.model.specs.Tables.{stepsDone};
+ghost use Rattle.rules.specs.Marks.{marked};
+ghost use Rattle.walk.specs.Walk.{PlaceIn, here, listedBy, WalkIn};
+ghost use Rattle.walk.specs.Rows.{IsRows};
+ghost use Rattle.order.specs.Order.{SomeJob, MarksLent, Picked, Kept, Ended, NoneBefore, Passed, EveryJob};
+
+// The step of a place is word n of the order, and it is marked as done.
+fn put_step(k: u16, p: walk::Place, n: usize, done: &mut [u16], order: &mut [u16; 1536])
+    requires { ⌜ PlaceIn k (p .kind) (p .first) (p .second) × MarksLent k (now done) × (n < 1536) ⌝ }
+    ensures { λ _. ⌜ (now (done .exit) ≡ marked k (kindOf (p .kind)) (p .first) (p .second) (now (done .entry))) ×
+        (now (order .exit) ≡ set (now (order .entry)) n (here k (p .kind) (p .first) (p .second))) × MarksLent k (now (done .exit)) ⌝ }
+{
+    let at = rules::marks::place(k, p.kind, p.first, p.second);
+    order[n] = at as u16;
+    rules::marks::mark(k, p.kind, p.first, p.second, done);
+}
+
+// Choice i picks a step, one of `ready` steps: it is word i of the order, and the rows that it can change are counted anew.
+fn choose(
+    k: u16,
+    prices: &[[u16; 16]; 16],
+    totals: &[[u16; 16]; 16],
+    choices: &[u16],
+    i: usize,
+    ready: u16,
+    done: &mut [u16],
+    rows: &mut [u16; 96],
+    order: &mut [u16; 1536],
+)
+    requires { ⌜ WalkIn k (now done) × MarksLent k (now done) × SomeJob k (now prices) (now totals) ⌝ }
+    requires { ⌜ IsRows k (now prices) (now totals) (now done) (now rows) ⌝ }
+    requires { ⌜ (i < length (now choices)) × (1 ≤ ready) × (ready ≡ count (6 * k * k) (listedBy k (now prices) (now totals) (now done))) ⌝ }
+    requires { ⌜ EveryJob k (now prices) (now totals) (λ j. Picked j (now done) (now order) i (drop i (now choices))) ⌝ }
+    ensures { λ _. ⌜ MarksLent k (now (done .exit)) × IsRows k (now (prices .entry)) (now (totals .entry)) (now (done .exit)) (now (rows .exit)) ⌝ }
+    ensures { λ _. ⌜ EveryJob k (now (prices .entry)) (now (totals .entry)) (λ j. Kept j (now (done .entry)) (now (order .entry)) i
+        (drop i (now (choices .entry))) (now (done .exit)) (now (order .exit)) (i + 1) (drop (i + 1) (now (choices .entry)))) ⌝ }
+{
+    let c = choices[i] % ready;
+    let p = walk::rows::find_in(k, c, rows, prices, totals, done);
+    put_step(k, p, i, done, order);
+    walk::rows::renew(k, p.kind, p.first, p.second, prices, totals, done, rows);
+}
+
+// While choices are left and some step is ready, each choice picks a step. How many are picked.
+pub fn chosen(
+    k: u16,
+    prices: &[[u16; 16]; 16],
+    totals: &[[u16; 16]; 16],
+    choices: &[u16],
+    done: &mut [u16],
+    order: &mut [u16; 1536],
+) -> usize
+    requires { ⌜ WalkIn k (now done) × MarksLent k (now done) × SomeJob k (now prices) (now totals) ⌝ }
+    requires { ⌜ EveryJob k (now prices) (now totals) (λ j. Picked j (now done) (now order) 0 (now choices)) ⌝ }
+    ensures { λ r. ⌜ MarksLent k (now (done .exit)) ⌝ }
+    ensures { λ r. ⌜ EveryJob k (now (prices .entry)) (now (totals .entry)) (λ j. Kept j (now (done .entry)) (now (order .entry)) 0
+        (now (choices .entry)) (now (done .exit)) (now (order .exit)) r []) ⌝ }
+{
+    let n = choices.len();
+    let mut rows = walk::rows::rows_for(n, k, prices, totals, done);
+    for i in 0..n {
+        let ready = walk::rows::ready_steps(k, &rows);
+        if ready == 0 {
+            return i;
+        }
+        choose(k, prices, totals, choices, i, ready, done, &mut rows, order);
+    }
+    n
+}
+
+// The step of a place is word n of the order where it is ready. How many words the order has then.
+fn turn(
+    k: u16,
+    p: walk::Place,
+    prices: &[[u16; 16]; 16],
+    totals: &[[u16; 16]; 16],
+    n: usize,
+    done: &mut [u16],
+    order: &mut [u16; 1536],
+) -> usize
+    requires { ⌜ PlaceIn k (p .kind) (p .first) (p .second) ⌝ }
+    requires { ⌜ WalkIn k (now done) × MarksLent k (now done) × SomeJob k (now prices) (now totals) ⌝ }
+    requires { ⌜ EveryJob k (now prices) (now totals) (λ j. Picked j (now done) (now order) n []) ⌝ }
+    requires { ⌜ EveryJob k (now prices) (now totals) (λ j. NoneBefore j (stepsDone (j .boxes) (now done)) (here k (p .kind) (p .first) (p .second))) ⌝ }
+    ensures { λ r. ⌜ MarksLent k (now (done .exit)) ⌝ }
+    ensures { λ r. ⌜ EveryJob k (now (prices .entry)) (now (totals .entry)) (λ j. Passed j (now (done .entry)) (now (order .entry)) n
+        (here k (p .kind) (p .first) (p .second)) (now (done .exit)) (now (order .exit)) r) ⌝ }
+{
+    if !walk::is_listed(k, p, prices, totals, done) {
+        return n;
+    }
+    put_step(k, p, n, done, order);
+    n + 1
+}
+
+// The first ready step, as long as there is one: a step done makes no earlier place ready, so one walk over all places does.
+// The order has n words before; how many it has in all.
+pub fn rest(
+    k: u16,
+    prices: &[[u16; 16]; 16],
+    totals: &[[u16; 16]; 16],
+    n: usize,
+    done: &mut [u16],
+    order: &mut [u16; 1536],
+) -> usize
+    requires { ⌜ WalkIn k (now done) × MarksLent k (now done) × SomeJob k (now prices) (now totals) ⌝ }
+    requires { ⌜ EveryJob k (now prices) (now totals) (λ j. Picked j (now done) (now order) n []) ⌝ }
+    ensures { λ r. ⌜ MarksLent k (now (done .exit)) ⌝ }
+    ensures { λ r. ⌜ EveryJob k (now (prices .entry)) (now (totals .entry)) (λ j. Ended j (now (done .entry)) (now (order .entry)) n [] (now (done .exit))
+        (now (order .exit)) r) ⌝ }
+{
+    let places = tables::checks::marks(k);
+    let mut words = n;
+    let mut p = walk::Place {
+        kind: 1,
+        first: 0,
+        second: 0,
+    };
+    for i in 0..places {
+        let more = turn(k, p, prices, totals, words, done, order);
+        words = more;
+        let q = walk::next(k, p);
+        p = q;
+    }
+    words
+}
