@@ -176,8 +176,8 @@ module _ (f : List ℕ) (l : ReaderTables) (ok : readRefusal f l ≡ 0) where
   unfolding storeRead
   place-long = rw (read-accepted f l ok) (long-overwrite (decode f .tallies) (placeOf (decode f)) (l .tallyOffer))
 
-  whole-ok : jobShort (jobOf (jobRead f l)) (jobLengths (jobRead f l)) ≡ false
-  unfolding jobShort jobOf jobLengths jobRead
+  whole-ok : jobShort (jobRead f l) (jobLengths (jobRead f l)) ≡ false
+  unfolding jobShort jobLengths jobRead
   whole-ok =
       rw (
         le-ltb (length (tables .price)) (decode f .offers) (long .price),

@@ -49,7 +49,7 @@ pub record Accepted (file : List ℕ) (l : ReaderTables) : Type 0 where
   pub answer : readResult file l .answer ≡ sizes (decode file .boxes) (decode file .grocers) (decode file .offers) (decode file .tallies)
   -- Every word is in range, and every table is as long as it must be.
   pub inRange : jobInRange (jobRead file l) ≡ true
-  pub whole : jobShort (jobOf (jobRead file l)) (jobLengths (jobRead file l)) ≡ false
+  pub whole : jobShort (jobRead file l) (jobLengths (jobRead file l)) ≡ false
   -- So demand 3 holds of every list of step requests and of every run.
   pub steps : (t : StateTables) (rs : List Request) → Demand3 (jobRead file l) t rs
   pub run : (t : StateTables) (choices : List ℕ) → RunIsList (jobRead file l) t choices
@@ -62,9 +62,9 @@ pub record Demand3Holds : Type 0 where
   -- Of every file that the reader accepts, whatever its tables held,
   pub files : (file : List ℕ) (l : ReaderTables) → readRefusal file l ≡ 0 → Accepted file l
   -- of every list of step requests, from a fresh state in whatever buffers,
-  pub lists : (f : JobTables) → jobInRange f ≡ true → jobShort (jobOf f) (jobLengths f) ≡ false → (t : StateTables) (rs : List Request) → Demand3 f t rs
+  pub lists : (f : JobTables) → jobInRange f ≡ true → jobShort f (jobLengths f) ≡ false → (t : StateTables) (rs : List Request) → Demand3 f t rs
   -- and of every run.
-  pub runs : (f : JobTables) → jobInRange f ≡ true → jobShort (jobOf f) (jobLengths f) ≡ false → (t : StateTables) (choices : List ℕ) → RunIsList f t choices
+  pub runs : (f : JobTables) → jobInRange f ≡ true → jobShort f (jobLengths f) ≡ false → (t : StateTables) (choices : List ℕ) → RunIsList f t choices
   -- An accepted job in whatever tables: tables that hold what a file without a refusal says are in range,
   pub anyTables : (file : List ℕ) → fileRefusal file ≡ 0 → (f : JobTables) → Holds (decode file) f → jobInRange f ≡ true
   -- and their plain sums are what the file says is owed.

@@ -14,7 +14,6 @@ use Rattle.laws.proofs.Checks.{any-each}
 use Rattle.laws.proofs.Bools.{split, and-true, and-l, and-r, cond-either}
 use Rattle.laws.proofs.Below.{all-at, all-of, all-cong}
 use Rattle.laws.proofs.Tables.{getD-overwrite, long-overwrite, word-in, word-past}
-use Rattle.model.specs.Job.{Job}
 use Rattle.model.specs.Tables.{JobTables, jobOf, StateTables, store, marksOf, stateLengths, stateShort}
 use Rattle.model.specs.Ranges.{upTo, under, around, sizesInRange, jobWordsInRange, jobInRange, stateInRange}
 use Rattle.model.specs.Steps.{places, Steps, atPlace, State}
@@ -110,21 +109,21 @@ ok-store f s t w =
     (up-over 1_000_000 1 (λ i. s .sent) (t .sent) (λ i. w .sent≤))
 
 -- The tables that hold a written state are whole.
-pub whole-store : (j : Job) (s : State) (t : StateTables) → stateShort j (stateLengths (store j s t)) ≡ false
-unfolding stateShort stateLengths store recell marksOf
-whole-store j s t =
+pub whole-store : (f : JobTables) (s : State) (t : StateTables) → stateShort f (stateLengths (store (jobOf f) s t)) ≡ false
+unfolding stateShort stateLengths store recell marksOf jobOf
+whole-store f s t =
     any-each (_ ∷ _ ∷ _ ∷ _ ∷ _ ∷ _ ∷ _ ∷ []) (
-      le-ltb _ _ (long-overwrite (j .boxes * j .offers) _ (t .known)),
+      le-ltb _ _ (long-overwrite (f .boxes * f .offers) _ (t .known)),
       (
-        le-ltb _ _ (long-overwrite (j .boxes * j .offers) _ (t .priceTransit)),
+        le-ltb _ _ (long-overwrite (f .boxes * f .offers) _ (t .priceTransit)),
         (
-          le-ltb _ _ (long-overwrite (j .boxes * j .grocers) _ (t .working)),
+          le-ltb _ _ (long-overwrite (f .boxes * f .grocers) _ (t .working)),
           (
-            le-ltb _ _ (long-overwrite (j .boxes * j .grocers) _ (t .totalTransit)),
+            le-ltb _ _ (long-overwrite (f .boxes * f .grocers) _ (t .totalTransit)),
             (
-              le-ltb _ _ (long-overwrite (j .grocers) _ (t .statement)),
+              le-ltb _ _ (long-overwrite (f .grocers) _ (t .statement)),
               (
-                le-ltb _ _ (long-overwrite (6 * j .boxes * j .boxes) _ (t .done)),
+                le-ltb _ _ (long-overwrite (6 * f .boxes * f .boxes) _ (t .done)),
                 (le-ltb _ _ (long-overwrite 1 _ (t .sent)), tt),
               ),
             ),

@@ -57,7 +57,7 @@ module _ (f : JobTables) (t : StateTables) (o : OnWay f t) (needs sharers : List
   way-walk = record {
     some = some-box f (o .job-in);
     boxes-in = range f (o .job-in) .boxes≤;
-    done-long = state-long (jobOf f) (stateLengths t) (way-whole f t o) .done;
+    done-long = state-long f (stateLengths t) (way-whole f t o) .done;
   }
 
   way-listed : (i : ℕ) → listedBy (f .boxes) prices totals (t .done) i ≡ listed (jobOf f) (view (jobOf f) t .done) i
@@ -138,7 +138,7 @@ module _ (f : JobTables) (t : StateTables) (o : OnWay f t) (needs sharers : List
           boxes-in = g .place-in .boxes-in;
           a-in = g .place-in .a-in;
           b-in = g .place-in .b-in;
-          done-long = state-long (jobOf f) (stateLengths t′) (way-whole f t′ (moved-way f t o kind a b choice-kind choice-permitted t′ et)) .done;
+          done-long = state-long f (stateLengths t′) (way-whole f t′ (moved-way f t o kind a b choice-kind choice-permitted t′ et)) .done;
         }
 
   -- The step of a place.

@@ -28,7 +28,7 @@ use Rattle.model.proofs.Served.{within, view-is}
 use Rattle.picks.proofs.Left.{comes-next}
 
 -- A state that a list can leave, written into tables.
-module _ (f : JobTables) (ok : jobInRange f ≡ true) (long : jobShort (jobOf f) (jobLengths f) ≡ false) (t t′ : StateTables) (s : State) (o : Sound (jobOf f) s) (e : t′ ≡ store (jobOf f) s t) where
+module _ (f : JobTables) (ok : jobInRange f ≡ true) (long : jobShort f (jobLengths f) ≡ false) (t t′ : StateTables) (s : State) (o : Sound (jobOf f) s) (e : t′ ≡ store (jobOf f) s t) where
   pub stored-view : view (jobOf f) t′ ≡ s
   stored-view = ap (view (jobOf f)) e ∙ view-is f ok long t s o
 
@@ -44,17 +44,17 @@ module _ (f : JobTables) (ok : jobInRange f ≡ true) (long : jobShort (jobOf f)
   }
 
 -- What is written into whole tables leaves their lengths.
-store-lengths : (j : Job) (s : State) (t : StateTables) → stateShort j (stateLengths t) ≡ false → stateLengths (store j s t) ≡ stateLengths t
-unfolding stateLengths store recell marksOf
-store-lengths j s t h =
-    let l = state-long j (stateLengths t) h in
+store-lengths : (f : JobTables) (s : State) (t : StateTables) → stateShort f (stateLengths t) ≡ false → stateLengths (store (jobOf f) s t) ≡ stateLengths t
+unfolding stateLengths store recell marksOf jobOf
+store-lengths f s t h =
+    let l = state-long f (stateLengths t) h in
     λ i. record {
-      known = length-overwrite (j .boxes * j .offers) (λ k. s .known (k / j .offers) (k % j .offers)) (t .known) (l .known) i;
-      priceTransit = length-overwrite (j .boxes * j .offers) (λ k. s .priceTransit (k / j .offers) (k % j .offers)) (t .priceTransit) (l .priceTransit) i;
-      working = length-overwrite (j .boxes * j .grocers) (λ k. s .working (k / j .grocers) (k % j .grocers)) (t .working) (l .working) i;
-      totalTransit = length-overwrite (j .boxes * j .grocers) (λ k. s .totalTransit (k / j .grocers) (k % j .grocers)) (t .totalTransit) (l .totalTransit) i;
-      statement = length-overwrite (j .grocers) (s .statement) (t .statement) (l .statement) i;
-      done = length-overwrite (6 * j .boxes * j .boxes) (λ k. cond (atPlace (j .boxes) (s .done) k) 1 0) (t .done) (l .done) i;
+      known = length-overwrite (f .boxes * f .offers) (λ k. s .known (k / f .offers) (k % f .offers)) (t .known) (l .known) i;
+      priceTransit = length-overwrite (f .boxes * f .offers) (λ k. s .priceTransit (k / f .offers) (k % f .offers)) (t .priceTransit) (l .priceTransit) i;
+      working = length-overwrite (f .boxes * f .grocers) (λ k. s .working (k / f .grocers) (k % f .grocers)) (t .working) (l .working) i;
+      totalTransit = length-overwrite (f .boxes * f .grocers) (λ k. s .totalTransit (k / f .grocers) (k % f .grocers)) (t .totalTransit) (l .totalTransit) i;
+      statement = length-overwrite (f .grocers) (s .statement) (t .statement) (l .statement) i;
+      done = length-overwrite (6 * f .boxes * f .boxes) (λ k. cond (atPlace (f .boxes) (s .done) k) 1 0) (t .done) (l .done) i;
       sent = length-overwrite 1 (λ k. s .sent) (t .sent) (l .sent) i;
     }
 
@@ -76,15 +76,15 @@ over-stored f t t′ t″ p q =
 
 module _ (f : JobTables) (t : StateTables) (o : OnWay f t) where
   -- The tables are whole and in range.
-  pub way-whole : stateShort (jobOf f) (stateLengths t) ≡ false
-  way-whole = ap (λ (u : StateTables). stateShort (jobOf f) (stateLengths u)) (o .held) ∙ whole-store (jobOf f) (view (jobOf f) t) t
+  pub way-whole : stateShort f (stateLengths t) ≡ false
+  way-whole = ap (λ (u : StateTables). stateShort f (stateLengths u)) (o .held) ∙ whole-store f (view (jobOf f) t) t
 
   pub way-range : stateInRange f t ≡ true
   way-range = ap (stateInRange f) (o .held) ∙ ok-store f (view (jobOf f) t) t (within f (o .job-in) (o .job-long) t (view (jobOf f) t) (o .sound))
 
   -- What is written into them leaves their lengths.
   pub way-lengths : (s : State) (t′ : StateTables) → t′ ≡ store (jobOf f) s t → stateLengths t′ ≡ stateLengths t
-  way-lengths s t′ e = ap stateLengths e ∙ store-lengths (jobOf f) s t way-whole
+  way-lengths s t′ e = ap stateLengths e ∙ store-lengths f s t way-whole
 
   pub kept-none : (cs : List ℕ) (m n : ℕ) → Kept f t cs m n t cs m n
   kept-none cs m n = record { on-way = o; stored = o .held; same = refl }

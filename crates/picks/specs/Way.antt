@@ -16,7 +16,7 @@ use Rattle.model.specs.Boxes.{Sound}
 -- The job's tables are whole and in range, and the state's hold a state that a list of steps can leave.
 pub record OnWay (f : JobTables) (t : StateTables) : Type 0 where
   pub job-in : jobInRange f ≡ true
-  pub job-long : jobShort (jobOf f) (jobLengths f) ≡ false
+  pub job-long : jobShort f (jobLengths f) ≡ false
   pub held : t ≡ store (jobOf f) (view (jobOf f) t) t
   pub sound : Sound (jobOf f) (view (jobOf f) t)
 

@@ -26,9 +26,9 @@ answer-no (suc n) w h = refl
 
 module _ (f : JobTables) where
   -- No refusal: the tables are whole, and in range.
-  pub accepted : firstMet (jobRefusals f) ≡ 0 → (jobShort (jobOf f) (jobLengths f) ≡ false) × (jobInRange f ≡ true)
+  pub accepted : firstMet (jobRefusals f) ≡ 0 → (jobShort f (jobLengths f) ≡ false) × (jobInRange f ≡ true)
   unfolding firstMet jobRefusals
-  accepted h = two-tests (jobShort (jobOf f) (jobLengths f)) (jobInRange f) h
+  accepted h = two-tests (jobShort f (jobLengths f)) (jobInRange f) h
 
   -- A refusal leaves both tables.
   pub messages-refused : (p t : List (List ℕ)) (n : ℕ) → n ≡ firstMet (jobRefusals f) → (n ≡ 0 → ⊥) → tablesGiven (said (Refused n)) p t ≡ messageTables f p t

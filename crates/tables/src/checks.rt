@@ -3,7 +3,7 @@ ghost use mathlib.Core.Path.{_≡_};
 ghost use mathlib.Core.Bool.{false};
 ghost use mathlib.Core.List.{[]};
 ghost use Prim.Native.Nat.{_*_};
-ghost use Rattle.model.specs.Tables.{jobTables, jobOf, jobLengths, jobShort, stateTables, stateLengths, stateShort};
+ghost use Rattle.model.specs.Tables.{jobTables, jobLengths, jobShort, stateTables, stateLengths, stateShort};
 ghost use Rattle.model.specs.Ranges.{sizesInRange, jobWordsInRange, jobInRange, stateInRange};
 ghost use Rattle.laws.specs.Checks.{firstMet};
 ghost use Rattle.tables.specs.Sizes.{sizes};
@@ -43,8 +43,8 @@ pub fn job_short(
     tcount: &[i32],
 ) -> bool
     ensures { λ r. ⌜ r ≡ jobShort
-        (jobOf (jobTables boxes grocers offers tallies (now (price .entry)) (now (owner .entry)) (now (gowner .entry))
-        (now (tgrocer .entry)) (now (tbox .entry)) (now (toffer .entry)) (now (tcount .entry))))
+        (jobTables boxes grocers offers tallies (now (price .entry)) (now (owner .entry)) (now (gowner .entry))
+        (now (tgrocer .entry)) (now (tbox .entry)) (now (toffer .entry)) (now (tcount .entry)))
         (jobLengths (jobTables boxes grocers offers tallies (now (price .entry)) (now (owner .entry)) (now (gowner .entry))
         (now (tgrocer .entry)) (now (tbox .entry)) (now (toffer .entry)) (now (tcount .entry)))) ⌝ }
 {
@@ -73,7 +73,7 @@ pub fn state_short(
     done: &[u16],
     sent: &[u32],
 ) -> bool
-    ensures { λ r. ⌜ r ≡ stateShort (jobOf (sizes boxes grocers offers))
+    ensures { λ r. ⌜ r ≡ stateShort (sizes boxes grocers offers)
         (stateLengths (stateTables (now (known .entry)) (now (ptransit .entry)) (now (working .entry)) (now (ttransit .entry))
         (now (statement .entry)) (now (done .entry)) (now (sent .entry)))) ⌝ }
 {
@@ -114,8 +114,8 @@ fn job_words_in_range(
     tcount: &[i32],
 ) -> bool
     requires { ⌜ jobShort
-        (jobOf (jobTables boxes grocers offers tallies (now price) (now owner) (now gowner)
-        (now tgrocer) (now tbox) (now toffer) (now tcount)))
+        (jobTables boxes grocers offers tallies (now price) (now owner) (now gowner)
+        (now tgrocer) (now tbox) (now toffer) (now tcount))
         (jobLengths (jobTables boxes grocers offers tallies (now price) (now owner) (now gowner)
         (now tgrocer) (now tbox) (now toffer) (now tcount))) ≡ false ⌝ }
     ensures { λ r. ⌜ r ≡ jobWordsInRange (jobTables boxes grocers offers tallies (now (price .entry)) (now (owner .entry)) (now (gowner .entry))
@@ -148,8 +148,8 @@ pub fn job_in_range(
     tcount: &[i32],
 ) -> bool
     requires { ⌜ jobShort
-        (jobOf (jobTables boxes grocers offers tallies (now price) (now owner) (now gowner)
-        (now tgrocer) (now tbox) (now toffer) (now tcount)))
+        (jobTables boxes grocers offers tallies (now price) (now owner) (now gowner)
+        (now tgrocer) (now tbox) (now toffer) (now tcount))
         (jobLengths (jobTables boxes grocers offers tallies (now price) (now owner) (now gowner)
         (now tgrocer) (now tbox) (now toffer) (now tcount))) ≡ false ⌝ }
     ensures { λ r. ⌜ r ≡ jobInRange (jobTables boxes grocers offers tallies (now (price .entry)) (now (owner .entry)) (now (gowner .entry))
@@ -234,7 +234,7 @@ pub fn state_in_range(
     done: &[u16],
     sent: &[u32],
 ) -> bool
-    requires { ⌜ stateShort (jobOf (sizes boxes grocers offers))
+    requires { ⌜ stateShort (sizes boxes grocers offers)
         (stateLengths (stateTables (now known) (now ptransit) (now working) (now ttransit)
         (now statement) (now done) (now sent))) ≡ false ⌝ }
     ensures { λ r. ⌜ r ≡ stateInRange (sizes boxes grocers offers)
