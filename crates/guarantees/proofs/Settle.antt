@@ -24,7 +24,7 @@ use Rattle.printing.proofs.Digits.{below-power}
 use Rattle.format.proofs.Order.{reader-file}
 use Rattle.format.proofs.Accept.{long, accepted-range}
 use Rattle.format.proofs.Tables.{read-accepted, read-refused}
-use Rattle.model.proofs.Demand3.{run-is-list}
+use Rattle.model.proofs.Demand3.{demand3-run}
 use Rattle.guarantees.proofs.Demand3.{accepted}
 
 -- ---- a printed number is the number
@@ -150,7 +150,7 @@ module _ (file : List ℕ) (ok : fileRefusal file ≡ 0) where
   unfolding lentShort jobRead
   lent-ok =
       let s = accepted-range file ok .sizes in
-      rw (given .whole, blank-state job (s .boxes-most) (s .grocers-most) (s .offers-most))
+      rw (given .settles .whole, blank-state job (s .boxes-most) (s .grocers-most) (s .offers-most))
 
   -- The run is not refused: its answer is the job's words, messages and steps,
   answer-is : ran job blankState [] .answer ≡ finished (ownerWords (jobOf job)) (messageCount (jobOf job)) (stepCount (jobOf job))
@@ -160,7 +160,7 @@ module _ (file : List ℕ) (ok : fileRefusal file ≡ 0) where
   -- and each statement is what the file says is owed.
   amount-is : (g : ℕ) → g < decode file .grocers → getD (ran job blankState [] .tables .statement) g (pos 0) ≡ owedByFile (decode file) g
   unfolding jobRead
-  amount-is g h = run-is-list job (given .inRange) (given .whole) blankState [] .statements lent-ok g h ∙ given .sums g
+  amount-is g h = demand3-run job (given .settles) blankState [] .statements lent-ok g h ∙ given .sums g
 
   settled-is : printed file ≡ settledText (decode file .grocers) (owedByFile (decode file)) (ownerWords (jobOf job)) (messageCount (jobOf job)) (stepCount (jobOf job))
   unfolding printed readText jobText runText jobRead

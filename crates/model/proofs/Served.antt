@@ -10,7 +10,7 @@ use Rattle.laws.proofs.Bools.{or-off, split, and-true, and-r}
 use Rattle.model.specs.Job.{Job}
 use Rattle.model.specs.Requests.{Request, lentJob, lentState, lendsShort, answerTo, serve}
 use Rattle.model.specs.Tables.{JobTables, jobOf, StateTables, view, store, JobLengths, StateLengths, jobLengths, stateLengths, jobShort, stateShort, lentShort}
-use Rattle.model.specs.Ranges.{jobInRange, stateInRange}
+use Rattle.model.specs.Ranges.{jobInRange, Settles, stateInRange}
 use Rattle.model.specs.Step.{Asked, isKind, boxesFit, stepRules, moved, refusals, stepRefusal, stepTables, stepAnswer, stepped}
 use Rattle.model.specs.Steps.{kindOf, Steps, State, fits, ready, permitted, effect}
 use Rattle.model.specs.Demand3.{refusalOf}
@@ -78,10 +78,12 @@ module _ (f : JobTables) (ok : jobInRange f ≡ true) (long : jobShort f (jobLen
   pub view-is : (s : State) → Sound (jobOf f) s → view (jobOf f) (store (jobOf f) s t) ≡ s
   view-is s o = view-store (jobOf f) s t ∙ held-form (jobOf f) (range f ok) s o
 
+-- A job that demand 3 speaks of, and the buffers of its state.
+module _ (f : JobTables) (z : Settles f) (t : StateTables) where
   sound-allowed : (s : State) (q : Asked) → Sound (jobOf f) s → allowed (jobOf f) s q ≡ true → Sound (jobOf f) (effect (jobOf f) s (kindOf (q .kind)) (q .first) (q .second))
   unfolding allowed
   sound-allowed s q o e =
-      sound-effect (jobOf f) (range f ok) s (kindOf (q .kind)) (q .first) (q .second) o
+      sound-effect (jobOf f) (range f (z .inRange)) s (kindOf (q .kind)) (q .first) (q .second) o
       (permit (jobOf f) (s .done) (kindOf (q .kind)) (q .first) (q .second) (and-r (isKind (q .kind)) _ e))
 
   same-sizes : (n m : JobLengths) → jobShort (lentJob f n) m ≡ jobShort f m
@@ -99,7 +101,7 @@ module _ (f : JobTables) (ok : jobInRange f ≡ true) (long : jobShort f (jobLen
       rw (
         same-sizes (r .job) (jobLengths (lentJob f (r .job))),
         same-sizes′ (r .job) (stateLengths (lentState (store (jobOf f) s t) (r .state))),
-        lent-job-short f (r .job) long,
+        lent-job-short f (r .job) (z .whole),
         lent-state-short f (store (jobOf f) s t) (r .state) (whole-store f s t),
       )
 
@@ -130,14 +132,14 @@ module _ (f : JobTables) (ok : jobInRange f ≡ true) (long : jobShort f (jobLen
     job-is = lent-job f (r .job) (job-long f (r .job) job-enough)
 
     range-is : jobInRange (lentJob f (r .job)) ≡ true
-    range-is = lent-job-range f (r .job) (job-long f (r .job) job-enough) ∙ ok
+    range-is = lent-job-range f (r .job) (job-long f (r .job) job-enough) ∙ z .inRange
 
     lent-is : view (jobOf f) (lentState (store (jobOf f) s t) (r .state)) ≡ s
     unfolding jobOf
-    lent-is = lent-view (jobOf f) (store (jobOf f) s t) (r .state) (state-long f (r .state) state-enough) ∙ view-is s o
+    lent-is = lent-view (jobOf f) (store (jobOf f) s t) (r .state) (state-long f (r .state) state-enough) ∙ view-is f (z .inRange) (z .whole) t s o
 
     states-is : stateInRange (lentJob f (r .job)) (lentState (store (jobOf f) s t) (r .state)) ≡ true
-    states-is = lent-state-range f (r .job) (store (jobOf f) s t) (r .state) (state-long f (r .state) state-enough) ∙ ok-store f s t (within s o)
+    states-is = lent-state-range f (r .job) (store (jobOf f) s t) (r .state) (state-long f (r .state) state-enough) ∙ ok-store f s t (within f (z .inRange) (z .whole) t s o)
 
     same-range : (u : StateTables) → stateInRange (lentJob f (r .job)) u ≡ stateInRange f u
     unfolding stateInRange lentJob
@@ -145,7 +147,7 @@ module _ (f : JobTables) (ok : jobInRange f ≡ true) (long : jobShort f (jobLen
 
     late-is : allowed (jobOf f) s (r .asked) ≡ true →
         stateInRange (lentJob f (r .job)) (store (jobOf f) (effect (jobOf f) s (kindOf (r .asked .kind)) (r .asked .first) (r .asked .second)) (lentState (store (jobOf f) s t) (r .state))) ≡ true
-    late-is e = same-range _ ∙ ok-store f _ _ (within _ (sound-allowed s (r .asked) o e))
+    late-is e = same-range _ ∙ ok-store f _ _ (within f (z .inRange) (z .whole) t _ (sound-allowed s (r .asked) o e))
 
     whole-answer : stepRefusal (lentJob f (r .job)) (lentState (store (jobOf f) s t) (r .state)) (r .asked) ≡ firstMet (stepRules (jobOf f) (s .done) (r .asked))
     whole-answer =
