@@ -10,9 +10,9 @@ use Rattle.model.specs.Words.{ownerWords}
 use Rattle.model.specs.Tables.{JobTables, jobOf, jobLengths, jobShort}
 use Rattle.model.specs.Ranges.{jobInRange}
 use Rattle.model.specs.Local.{priceTable, totalTable}
-use Rattle.tables.specs.Refusals.{jobRefusals}
-use Rattle.tables.specs.Answers.{refused, said, messagesAnswer, tablesGiven, messageTables}
-use Rattle.tables.specs.declared.messages.Answer.the-variants.{Made, Refused}
+use Rattle.messages.specs.Refusals.{jobRefusals}
+use Rattle.messages.specs.Answers.{refused, said, messagesAnswer, tablesGiven, messageTables}
+use Rattle.messages.specs.declared.Answer.the-variants.{Made, Refused}
 
 two-tests : (a b : Bool) → cond {A = ℕ} a 20 (cond (not b) 21 0) ≡ 0 → (a ≡ false) × (b ≡ true)
 two-tests true b h = absurd (omega arith)
