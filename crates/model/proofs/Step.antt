@@ -4,15 +4,15 @@ use mathlib.Core.Bool.{true, false, cond}
 use mathlib.Core.List.{List, [], _∷_}
 use Prim.Native.Nat.{ℕ, _*_, _/_, _%_, _<_, _≤_}
 use native.Mathlib.Omega.{arith}
-use lib.Dec.{ltb, leb}
+use lib.Dec.{eqb, ltb, leb}
 use lib.Seq.{getD-take}
 use lib.ListN.{getD, take}
 use lib.IntN.{ℤ, pos, natAbs}
 use borrow.Author.Tests.{le-ltb, ltb-true, ltb-false, le-leb, leb-true}
-use Rattle.laws.specs.Tables.{overwrite, recell}
+use Rattle.laws.specs.Tables.{overwrite, recell, word}
 use Rattle.laws.proofs.Checks.{any-each}
 use Rattle.laws.proofs.Bools.{split, and-true, and-l, and-r, cond-either}
-use Rattle.laws.proofs.Below.{all-at, all-of, all-cong}
+use Rattle.laws.proofs.Below.{all-at, all-of, all-cong, count-le}
 use Rattle.laws.proofs.Tables.{getD-overwrite, long-overwrite, word-in, word-past}
 use Rattle.model.specs.Tables.{JobTables, jobOf, StateTables, store, marksOf, stateLengths, stateShort}
 use Rattle.model.specs.Ranges.{upTo, under, around, sizesInRange, jobWordsInRange, jobInRange, stateInRange}
@@ -81,6 +81,7 @@ module _ (f : JobTables) (ok : jobInRange f ≡ true) where
     grocers≤ = leb-true (f .grocers) 255 (let w = sizes in search (and-l, and-r) depth 12);
     offers≤ = leb-true (f .offers) 500 (let w = sizes in search (and-l, and-r) depth 12);
     tallies≤ = leb-true (f .tallies) 1000 (let w = sizes in search (and-l, and-r) depth 12);
+    ofGrocer≤ = λ g. omega (arith, count-le (f .tallies) (λ t. eqb (word (f .tallies) (f .tallyGrocer) 0 t) g), leb-true (f .tallies) 1000 (let w = sizes in search (and-l, and-r) depth 12));
     price≤ = λ o. split (ltb o (f .offers))
         (λ e. rw (word-in (f .offers) (f .price) 0 o (ltb-true o (f .offers) e)) (up-at 9_999_999 (f .offers) (f .price) o (let w = wordsOk in search (and-l, and-r) depth 12) (ltb-true o (f .offers) e)))
         (λ e. rw (word-past (f .offers) (f .price) 0 o (ltb-false o (f .offers) e)) (omega arith));
