@@ -81,11 +81,11 @@ given f t needs sharers q h =
     let k = kindOf (q .kind) in
     let fit = h .boxes-fit in
     let rest = and-r (ltb (q .first) (f .boxes)) _ fit in
-    let long = job-long (jobOf f) (jobLengths f) (h .job-long) in
+    let long = job-long f (jobLengths f) (h .job-long) in
     record {
       tallies-in = tallies-given f long (h .job-in);
       job-long = long;
-      state-long = state-long (jobOf f) (stateLengths t) (h .state-long);
+      state-long = state-long f (stateLengths t) (h .state-long);
       words-in = state-words f t (h .state-in);
       needs-are = h .needs-are;
       sharers-are = h .sharers-are;

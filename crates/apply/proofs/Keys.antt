@@ -21,7 +21,7 @@ boxes-keyed k n room keys next few fit small e long h = record {
   key-in = λ i l. omega (arith, under-at k n keys i h l);
 }
 
-module _ (f : JobTables) (ok : jobInRange f ≡ true) (whole : jobShort (jobOf f) (jobLengths f) ≡ false) (next : List ℕ) where
+module _ (f : JobTables) (ok : jobInRange f ≡ true) (whole : jobShort f (jobLengths f) ≡ false) (next : List ℕ) where
   words-ok : jobWordsInRange f ≡ true
   unfolding jobInRange
   words-ok = and-r (sizesInRange f) (jobWordsInRange f) ok
@@ -31,18 +31,18 @@ module _ (f : JobTables) (ok : jobInRange f ≡ true) (whole : jobShort (jobOf f
   unfolding jobOf jobLengths jobWordsInRange
   offers-keyed e =
       boxes-keyed (f .boxes) (f .offers) 500 (f .offerOwner) next (range f ok .boxes≤) (limits f ok .offers≤) (omega arith) e
-      (job-long (jobOf f) (jobLengths f) whole .offerOwner) (let w = words-ok in search (and-l, and-r) depth 12)
+      (job-long f (jobLengths f) whole .offerOwner) (let w = words-ok in search (and-l, and-r) depth 12)
 
   -- Grocers by owner.
   pub grocers-keyed : length next ≡ 255 → Keyed (f .grocers) (f .grocerOwner) next
   unfolding jobOf jobLengths jobWordsInRange
   grocers-keyed e =
       boxes-keyed (f .boxes) (f .grocers) 255 (f .grocerOwner) next (range f ok .boxes≤) (limits f ok .grocers≤) (omega arith) e
-      (job-long (jobOf f) (jobLengths f) whole .grocerOwner) (let w = words-ok in search (and-l, and-r) depth 12)
+      (job-long f (jobLengths f) whole .grocerOwner) (let w = words-ok in search (and-l, and-r) depth 12)
 
   -- Tallies by box.
   pub tallies-keyed : length next ≡ 1_000 → Keyed (f .tallies) (f .tallyBox) next
   unfolding jobOf jobLengths jobWordsInRange
   tallies-keyed e =
       boxes-keyed (f .boxes) (f .tallies) 1_000 (f .tallyBox) next (range f ok .boxes≤) (limits f ok .tallies≤) (omega arith) e
-      (job-long (jobOf f) (jobLengths f) whole .tallyBox) (let w = words-ok in search (and-l, and-r) depth 12)
+      (job-long f (jobLengths f) whole .tallyBox) (let w = words-ok in search (and-l, and-r) depth 12)

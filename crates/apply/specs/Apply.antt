@@ -18,8 +18,8 @@ use Rattle.prices.specs.Prices as price-tables
 -- The tables are long enough and in range, the masks are the job's, and the step is one of a kind with boxes that fit it.
 pub record Applies (f : JobTables) (t : StateTables) (needs sharers : List ℕ) (q : Asked) : Type 0 where
   pub job-in : jobInRange f ≡ true
-  pub job-long : jobShort (jobOf f) (jobLengths f) ≡ false
-  pub state-long : stateShort (jobOf f) (stateLengths t) ≡ false
+  pub job-long : jobShort f (jobLengths f) ≡ false
+  pub state-long : stateShort f (stateLengths t) ≡ false
   pub state-in : stateInRange f t ≡ true
   pub needs-are : needs ≡ tabulate 500 (needWord (jobOf f))
   pub sharers-are : sharers ≡ tabulate 255 (sharerWord (jobOf f))

@@ -1,10 +1,10 @@
 // The tables of messages of E by value, and their sums.
+use messages::message_tables;
+use messages::sums::column_sum;
+use messages::sums::row_sum;
+use messages::sums::table_sum;
 use show::wide32;
 use small_job::job::small;
-use tables::messages::column_sum;
-use tables::messages::message_tables;
-use tables::messages::row_sum;
-use tables::messages::table_sum;
 
 // What boxes 0, 1 and 16 send and receive, and the whole table.
 fn sum_line(name: &[u8], table: [[u16; 16]; 16]) {

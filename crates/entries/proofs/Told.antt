@@ -15,9 +15,9 @@ use Rattle.model.specs.Job.{Job}
 use Rattle.model.specs.Tables.{JobTables, jobOf}
 use Rattle.model.specs.Local.{bookRefusals}
 use Rattle.tables.specs.Messages.{cellAt}
-use Rattle.tables.specs.Answers.{said as saidMessages, TablesGiven, tablesGiven, messageTables}
-use Rattle.tables.specs.declared.messages.Answer.{Answer as MessagesCall}
-use Rattle.tables.specs.declared.messages.Answer.the-variants.{Made, Refused as NotMade}
+use Rattle.messages.specs.Answers.{said as saidMessages, TablesGiven, tablesGiven, messageTables}
+use Rattle.messages.specs.declared.Answer.{Answer as MessagesCall}
+use Rattle.messages.specs.declared.Answer.the-variants.{Made, Refused as NotMade}
 use Rattle.local.specs.Sort.{inFront}
 use Rattle.local.specs.Book.{said as saidBook, bookAnswer, BookTables, bookLengths, Booked}
 use Rattle.local.specs.declared.book.Answer.{Answer as BookCall}

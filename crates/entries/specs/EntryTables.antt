@@ -8,7 +8,7 @@ use Rattle.laws.specs.Checks.{anyOf}
 use Rattle.laws.specs.Tables.{tabulate, recell}
 use Rattle.model.specs.Tables.{JobTables}
 use Rattle.tables.specs.Messages.{cellAt}
-use Rattle.tables.specs.Answers.{MessagesAnswer, made, refused, TablesGiven, messageTables}
+use Rattle.messages.specs.Answers.{MessagesAnswer, made, refused, TablesGiven, messageTables}
 use Rattle.local.specs.Sort.{inFront}
 
 -- A number, and the buffers for the two tables and for the words of the job as they are afterwards.

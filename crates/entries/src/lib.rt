@@ -5,7 +5,7 @@ ghost use lib.ListN.{take, length};
 ghost use Rattle.laws.specs.Tables.{recell};
 ghost use Rattle.model.specs.Tables.{jobTables};
 ghost use Rattle.format.specs.Tables.{fileTables, writeResult};
-ghost use Rattle.tables.specs.Answers.{said as saidMessages, tablesGiven};
+ghost use Rattle.messages.specs.Answers.{said as saidMessages, tablesGiven};
 ghost use Rattle.tables.specs.Messages.{cellAt};
 ghost use Rattle.local.specs.Book.{said as saidBook, bookTables};
 ghost use Rattle.writer.specs.Outcome.{answerOf};
@@ -170,7 +170,7 @@ fn lay(table: [[u16; 16]; 16], out: &mut [u16])
 
 // The answer as a number; both tables and the words of the job are put into the lent buffers.
 fn tell_messages(
-    a: tables::messages::Answer,
+    a: messages::Answer,
     made_prices: [[u16; 16]; 16],
     made_totals: [[u16; 16]; 16],
     price_words: &mut [u16],
@@ -183,13 +183,13 @@ fn tell_messages(
         (now («job_words» .entry)) ⌝ }
 {
     match a {
-        tables::messages::Answer::Made(words) => {
+        messages::Answer::Made(words) => {
             lay(made_prices, price_words);
             lay(made_totals, total_words);
             job_words[0] = words;
             0
         }
-        tables::messages::Answer::Refused(n) => n,
+        messages::Answer::Refused(n) => n,
     }
 }
 
@@ -224,7 +224,7 @@ pub extern "C" fn entries_message_tables(
     let none = [0u16; 16];
     let mut prices = [none; 16];
     let mut totals = [none; 16];
-    let a = tables::messages::message_tables(
+    let a = messages::message_tables(
         boxes,
         grocers,
         offers,

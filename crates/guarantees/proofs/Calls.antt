@@ -1,7 +1,7 @@
 -- What the other calls come to. Assumes nothing.
 use mathlib.Core.Path.{sym, _∙_}
 use Rattle.model.specs.Tables.{jobOf}
-use Rattle.tables.specs.Answers.{messagesAnswer, messageTables}
+use Rattle.messages.specs.Answers.{messagesAnswer, messageTables}
 use Rattle.guarantees.specs.Calls.{Calls}
 use Rattle.model.proofs.Step.{range}
 use Rattle.reconcile.proofs.Fold.{amounts-in-range}

@@ -11,8 +11,8 @@ use Rattle.laws.specs.Checks.{firstMet}
 use Rattle.laws.proofs.Bools.{split}
 use Rattle.model.specs.Tables.{JobTables, StateTables, jobOf}
 use Rattle.model.specs.Local.{bookRefusals}
-use Rattle.tables.specs.Refusals.{jobRefusals}
-use Rattle.tables.specs.Answers.{said}
+use Rattle.messages.specs.Refusals.{jobRefusals}
+use Rattle.messages.specs.Answers.{said}
 use Rattle.local.specs.Book.{bookLengths}
 use Rattle.model.specs.Step.{Asked, refused as notDone, outcome, stepped, stepRefusal, stepTables, refusals}
 use Rattle.model.specs.Run.{RunAnswer, refused, reported, runRefusals, ran}
@@ -22,7 +22,7 @@ use Rattle.guarantees.specs.Demand1.{IsFirst, IsFirstOf, Demand1}
 use Rattle.model.proofs.Refusal.{refused-number}
 use Rattle.format.proofs.Firsts.{below-hit, below-none}
 use Rattle.format.proofs.Tables.{read-refused, write-refused}
-use Rattle.tables.proofs.Refused.{messages-refused}
+use Rattle.messages.proofs.Refused.{messages-refused}
 use Rattle.guarantees.proofs.Book.{answer-no}
 use Rattle.guarantees.proofs.Host as H
 

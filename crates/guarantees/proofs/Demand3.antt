@@ -15,7 +15,7 @@ use Rattle.laws.proofs.Below.{all-of, all-at}
 use Rattle.laws.proofs.Tables.{word-in, long-overwrite, getD-overwrite}
 use Rattle.model.specs.Job.{heldBy, held, amount, plainSum}
 use Rattle.model.specs.Tables.{jobOf, jobLengths, jobShort, JobTables}
-use Rattle.model.specs.Ranges.{upTo, under, around, sizesInRange, jobWordsInRange, jobInRange}
+use Rattle.model.specs.Ranges.{upTo, under, around, sizesInRange, jobWordsInRange, jobInRange, Settles}
 use Rattle.format.specs.Job.{FileJob, names, placeOf}
 use Rattle.format.specs.File.{decode}
 use Rattle.format.specs.Refusals.{fileRefusal}
@@ -24,7 +24,7 @@ use Rattle.format.specs.Tables.{FileTables, ReaderTables, ReadOutcome, Long, fi
 use Rattle.printing.specs.Printed.{jobRead}
 use Rattle.guarantees.specs.Demand3.{owedByFile, Holds, Accepted, Demand3Holds}
 use Rattle.model.specs.Run.{run}
-use Rattle.model.proofs.Demand3.{demand3, run-is-list}
+use Rattle.model.proofs.Demand3.{demand3, demand3-run}
 use Rattle.format.proofs.Range.{InRange, fine, only-place}
 use Rattle.format.proofs.Accept.{job-accepted, accepted-range}
 use Rattle.format.proofs.Tables.{read-file, long-tables, read-long, read-range, read-place, read-job, read-accepted}
@@ -176,8 +176,8 @@ module _ (f : List ℕ) (l : ReaderTables) (ok : readRefusal f l ≡ 0) where
   unfolding storeRead
   place-long = rw (read-accepted f l ok) (long-overwrite (decode f .tallies) (placeOf (decode f)) (l .tallyOffer))
 
-  whole-ok : jobShort (jobOf (jobRead f l)) (jobLengths (jobRead f l)) ≡ false
-  unfolding jobShort jobOf jobLengths jobRead
+  whole-ok : jobShort (jobRead f l) (jobLengths (jobRead f l)) ≡ false
+  unfolding jobShort jobLengths jobRead
   whole-ok =
       rw (
         le-ltb (length (tables .price)) (decode f .offers) (long .price),
@@ -249,8 +249,9 @@ module _ (f : List ℕ) (l : ReaderTables) (ok : readRefusal f l ≡ 0) where
   unfolding names
   other-ok t i h m e = only-place (decode f) t (fine (decode f) (job-accepted f (read-file f l ok)) .shared) i m e
 
-in-range : (f : List ℕ) (l : ReaderTables) → readRefusal f l ≡ 0 → jobInRange (jobRead f l) ≡ true
-in-range f l ok = range-ok f (read-file f l ok) (jobRead f l) (holds-ok f l ok)
+-- Such a file's job settles.
+settles : (f : List ℕ) (l : ReaderTables) → readRefusal f l ≡ 0 → Settles (jobRead f l)
+settles f l ok = record { whole = whole-ok f l ok; inRange = range-ok f (read-file f l ok) (jobRead f l) (holds-ok f l ok) }
 
 -- Every file that the reader accepts.
 pub accepted : (f : List ℕ) (l : ReaderTables) → readRefusal f l ≡ 0 → Accepted f l
@@ -259,10 +260,9 @@ accepted f l ok = record {
   named = named-ok f l ok;
   noOther = other-ok f l ok;
   answer = ap (λ (o : ReadOutcome). o .answer) (read-accepted f l ok);
-  inRange = in-range f l ok;
-  whole = whole-ok f l ok;
-  steps = demand3 (jobRead f l) (in-range f l ok) (whole-ok f l ok);
-  run = run-is-list (jobRead f l) (in-range f l ok) (whole-ok f l ok);
+  settles = settles f l ok;
+  steps = demand3 (jobRead f l) (settles f l ok);
+  run = demand3-run (jobRead f l) (settles f l ok);
   sums = sums-ok f (read-file f l ok) (jobRead f l) (holds-ok f l ok);
 }
 
@@ -270,7 +270,7 @@ pub demand3-holds : Demand3Holds
 demand3-holds = record {
   files = accepted;
   lists = demand3;
-  runs = run-is-list;
+  runs = demand3-run;
   anyTables = range-ok;
   anySums = sums-ok;
   plainSums = plain-all;

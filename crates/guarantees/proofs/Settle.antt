@@ -11,7 +11,6 @@ use lib.ListN.{getD, length, take, replicate, length-replicate}
 use lib.Seq.{getD-take, length-take-le}
 use borrow.Author.Tests.{lt-ltb, le-ltb, ne-eqb}
 use Rattle.laws.proofs.Bools.{split}
-use Rattle.model.specs.Job.{Job}
 use Rattle.model.specs.Words.{ownerWords, messageCount, stepCount}
 use Rattle.model.specs.Tables.{JobTables, StateTables, jobOf, stateLengths, stateShort, lentShort}
 use Rattle.model.specs.Run.{RunAnswer, finished, reported, ran}
@@ -25,7 +24,7 @@ use Rattle.printing.proofs.Digits.{below-power}
 use Rattle.format.proofs.Order.{reader-file}
 use Rattle.format.proofs.Accept.{long, accepted-range}
 use Rattle.format.proofs.Tables.{read-accepted, read-refused}
-use Rattle.model.proofs.Demand3.{run-is-list}
+use Rattle.model.proofs.Demand3.{demand3-run}
 use Rattle.guarantees.proofs.Demand3.{accepted}
 
 -- ---- a printed number is the number
@@ -101,28 +100,28 @@ unfolding blankJob
 blank-reader =
     reader-enough blankJob (zeros 500) (zeros 500) (zeros 5_500) (zeros 255) (zeros 1_000) (zeros 1_000) (zeros 11_000) (zeros-signed 1_000) (zeros 1_000)
 
-state-enough : (j : Job) (t : StateTables) → j .boxes ≤ 16 → j .grocers ≤ 255 → j .offers ≤ 500 →
+state-enough : (job : JobTables) (t : StateTables) → job .boxes ≤ 16 → job .grocers ≤ 255 → job .offers ≤ 500 →
     8_000 ≤ length (t .known) → 8_000 ≤ length (t .priceTransit) → 4_080 ≤ length (t .working) → 4_080 ≤ length (t .totalTransit) → 255 ≤ length (t .statement) → 1_536 ≤ length (t .done) → 1 ≤ length (t .sent) →
-    stateShort j (stateLengths t) ≡ false
+    stateShort job (stateLengths t) ≡ false
 unfolding stateShort stateLengths
-state-enough j t k m n a b c d e f g =
-    let prices : j .boxes * j .offers ≤ 8_000 = mul-le-mul k n in
-    let totals : j .boxes * j .grocers ≤ 4_080 = mul-le-mul k m in
-    let marks : 6 * j .boxes * j .boxes ≤ 1_536 = mul-le-mul {n₂ = 96} (omega arith) k in
+state-enough job t k m n a b c d e f g =
+    let prices : job .boxes * job .offers ≤ 8_000 = mul-le-mul k n in
+    let totals : job .boxes * job .grocers ≤ 4_080 = mul-le-mul k m in
+    let marks : 6 * job .boxes * job .boxes ≤ 1_536 = mul-le-mul {n₂ = 96} (omega arith) k in
     rw (
-      le-ltb (length (t .known)) (j .boxes * j .offers) (omega arith),
-      le-ltb (length (t .priceTransit)) (j .boxes * j .offers) (omega arith),
-      le-ltb (length (t .working)) (j .boxes * j .grocers) (omega arith),
-      le-ltb (length (t .totalTransit)) (j .boxes * j .grocers) (omega arith),
-      le-ltb (length (t .statement)) (j .grocers) (omega arith),
-      le-ltb (length (t .done)) (6 * j .boxes * j .boxes) (omega arith),
+      le-ltb (length (t .known)) (job .boxes * job .offers) (omega arith),
+      le-ltb (length (t .priceTransit)) (job .boxes * job .offers) (omega arith),
+      le-ltb (length (t .working)) (job .boxes * job .grocers) (omega arith),
+      le-ltb (length (t .totalTransit)) (job .boxes * job .grocers) (omega arith),
+      le-ltb (length (t .statement)) (job .grocers) (omega arith),
+      le-ltb (length (t .done)) (6 * job .boxes * job .boxes) (omega arith),
       le-ltb (length (t .sent)) 1 g,
     )
 
-blank-state : (j : Job) → j .boxes ≤ 16 → j .grocers ≤ 255 → j .offers ≤ 500 → stateShort j (stateLengths blankState) ≡ false
+blank-state : (job : JobTables) → job .boxes ≤ 16 → job .grocers ≤ 255 → job .offers ≤ 500 → stateShort job (stateLengths blankState) ≡ false
 unfolding blankState
-blank-state j k m n =
-    state-enough j blankState k m n (zeros 8_000) (zeros 8_000) (zeros-signed 4_080) (zeros-signed 4_080) (zeros-signed 255) (zeros 1_536) (zeros 1)
+blank-state job k m n =
+    state-enough job blankState k m n (zeros 8_000) (zeros 8_000) (zeros-signed 4_080) (zeros-signed 4_080) (zeros-signed 255) (zeros 1_536) (zeros 1)
 
 -- ---- the lines
 
@@ -148,10 +147,10 @@ module _ (file : List ℕ) (ok : fileRefusal file ≡ 0) where
   job = jobRead file blankJob
 
   lent-ok : lentShort job blankState ≡ false
-  unfolding lentShort jobOf jobRead
+  unfolding lentShort jobRead
   lent-ok =
       let s = accepted-range file ok .sizes in
-      rw (given .whole, blank-state (jobOf job) (s .boxes-most) (s .grocers-most) (s .offers-most))
+      rw (given .settles .whole, blank-state job (s .boxes-most) (s .grocers-most) (s .offers-most))
 
   -- The run is not refused: its answer is the job's words, messages and steps,
   answer-is : ran job blankState [] .answer ≡ finished (ownerWords (jobOf job)) (messageCount (jobOf job)) (stepCount (jobOf job))
@@ -161,7 +160,7 @@ module _ (file : List ℕ) (ok : fileRefusal file ≡ 0) where
   -- and each statement is what the file says is owed.
   amount-is : (g : ℕ) → g < decode file .grocers → getD (ran job blankState [] .tables .statement) g (pos 0) ≡ owedByFile (decode file) g
   unfolding jobRead
-  amount-is g h = run-is-list job (given .inRange) (given .whole) blankState [] .statements lent-ok g h ∙ given .sums g
+  amount-is g h = demand3-run job (given .settles) blankState [] .statements lent-ok g h ∙ given .sums g
 
   settled-is : printed file ≡ settledText (decode file .grocers) (owedByFile (decode file)) (ownerWords (jobOf job)) (messageCount (jobOf job)) (stepCount (jobOf job))
   unfolding printed readText jobText runText jobRead

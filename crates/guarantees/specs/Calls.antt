@@ -18,9 +18,10 @@ use Rattle.model.specs.Tables.{JobTables, jobOf}
 use Rattle.model.specs.Ranges.{maxAmount, jobInRange}
 use Rattle.model.specs.Local.{priceTable, totalTable}
 use Rattle.model.specs.Reconcile.{TallyRecord, owed, reconciled}
-use Rattle.tables.specs.Messages.{cellAt, rowSum, columnSum, tableSum}
-use Rattle.tables.specs.Refusals.{jobRefusals}
-use Rattle.tables.specs.Answers.{made, tablesGiven, messageTables}
+use Rattle.tables.specs.Messages.{cellAt}
+use Rattle.messages.specs.Sums.{rowSum, columnSum, tableSum}
+use Rattle.messages.specs.Refusals.{jobRefusals}
+use Rattle.messages.specs.Answers.{made, tablesGiven, messageTables}
 use Rattle.local.specs.Book.{BookTables, Booked, said}
 use Rattle.local.specs.declared.book.Answer.{Answer}
 use Rattle.reconcile.specs.Records.{tallyRecord}

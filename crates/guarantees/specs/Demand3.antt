@@ -1,15 +1,15 @@
 -- Demand 3, of every job in range and so of every accepted file: what step and run are lent of a file that the reader has accepted.
 use mathlib.Core.Path.{_≡_}
 use mathlib.Core.List.{List}
-use mathlib.Core.Bool.{true, false}
+use mathlib.Core.Bool.{true}
 use Prim.Native.Nat.{ℕ, _<_}
 use lib.Dec.{eqb}
 use lib.IntN.{ℤ, pos, _*ℤ_}
 use Rattle.laws.specs.Below.{sum, only, integers}
 use Rattle.model.specs.Job.{Job, plainSum}
 use Rattle.model.specs.Words.{StepsCounted}
-use Rattle.model.specs.Tables.{JobTables, StateTables, jobOf, jobLengths, jobShort}
-use Rattle.model.specs.Ranges.{jobInRange}
+use Rattle.model.specs.Tables.{JobTables, StateTables, jobOf}
+use Rattle.model.specs.Ranges.{jobInRange, Settles}
 use Rattle.model.specs.Requests.{Request}
 use Rattle.model.specs.Demand3.{Demand3, RunIsList}
 use Rattle.format.specs.Job.{FileJob, names, placeOf}
@@ -48,23 +48,21 @@ pub record Accepted (file : List ℕ) (l : ReaderTables) : Type 0 where
   -- The reader answers K, M, N and T.
   pub answer : readResult file l .answer ≡ sizes (decode file .boxes) (decode file .grocers) (decode file .offers) (decode file .tallies)
   -- Every word is in range, and every table is as long as it must be.
-  pub inRange : jobInRange (jobRead file l) ≡ true
-  pub whole : jobShort (jobOf (jobRead file l)) (jobLengths (jobRead file l)) ≡ false
+  pub settles : Settles (jobRead file l)
   -- So demand 3 holds of every list of step requests and of every run.
   pub steps : (t : StateTables) (rs : List Request) → Demand3 (jobRead file l) t rs
   pub run : (t : StateTables) (choices : List ℕ) → RunIsList (jobRead file l) t choices
   -- The plain sum is what the file says is owed.
   pub sums : (g : ℕ) → plainSum (jobOf (jobRead file l)) g ≡ owedByFile (decode file) g
 
--- Demand 3 whole. A caller knows its hypotheses: the reader accepted the file; or the tables are in range and as long as they
--- must be, as conditions 20 and 21 say.
+-- Demand 3 whole. A caller knows its hypotheses: the reader accepted the file; or the tables meet neither 20 nor 21, `Settles`.
 pub record Demand3Holds : Type 0 where
   -- Of every file that the reader accepts, whatever its tables held,
   pub files : (file : List ℕ) (l : ReaderTables) → readRefusal file l ≡ 0 → Accepted file l
   -- of every list of step requests, from a fresh state in whatever buffers,
-  pub lists : (f : JobTables) → jobInRange f ≡ true → jobShort (jobOf f) (jobLengths f) ≡ false → (t : StateTables) (rs : List Request) → Demand3 f t rs
+  pub lists : (f : JobTables) → Settles f → (t : StateTables) (rs : List Request) → Demand3 f t rs
   -- and of every run.
-  pub runs : (f : JobTables) → jobInRange f ≡ true → jobShort (jobOf f) (jobLengths f) ≡ false → (t : StateTables) (choices : List ℕ) → RunIsList f t choices
+  pub runs : (f : JobTables) → Settles f → (t : StateTables) (choices : List ℕ) → RunIsList f t choices
   -- An accepted job in whatever tables: tables that hold what a file without a refusal says are in range,
   pub anyTables : (file : List ℕ) → fileRefusal file ≡ 0 → (f : JobTables) → Holds (decode file) f → jobInRange f ≡ true
   -- and their plain sums are what the file says is owed.

@@ -5,9 +5,9 @@ use Prim.Native.Nat.{ℕ, zero, suc, _+_, _<_, _≤_}
 use native.Mathlib.Omega.{arith}
 use native.Mathlib.Numerals.{add-one}
 use lib.Dec.{eqb, ltb}
-use borrow.Author.Tests.{eqb-true, eqb-false, ltb-true, ltb-false}
+use borrow.Author.Tests.{eqb-true, eqb-false, ne-eqb, ltb-true, ltb-false}
 use Rattle.laws.specs.Below.{naturals, sum, only, any, all, count, find}
-use Rattle.laws.proofs.Bools.{split, clash, no-true, and-true, and-l, and-r, and-one, or-true, or-false}
+use Rattle.laws.proofs.Bools.{split, clash, no-true, and-true, and-l, and-r, and-one, or-true, or-false, eqb-same}
 use Rattle.laws.proofs.Sums.{sum-cong, sum-none, sum-one, sum-max, sum-next}
 
 -- One place more, as code counts.
@@ -209,6 +209,17 @@ count-one-more n k p q l off h =
     sum-one naturals n k (λ i. only naturals (p i) 1) (λ i. only naturals (q i) 1) (only naturals (q k) 1) l
     (omega (arith, counts-none off))
     (λ i m ne. ap (λ (t : Bool). only naturals t 1) (h i m ne))
+
+-- Where a number does not pass, not all are counted.
+pub count-less : (n k : ℕ) (p : ℕ → Bool) → k < n → p k ≡ false → count n p < n
+count-less n k p l h =
+    let passes : (eqb k k || p k) ≡ true = rw (eqb-same k) in
+    omega (
+      arith,
+      count-one-more n k p (λ i. eqb i k || p i) l h (λ i m ne. rw (ne-eqb i k ne)),
+      counts-one passes,
+      count-le n (λ i. eqb i k || p i),
+    )
 
 -- Just one number passes.
 pub count-one : (n : ℕ) (p : ℕ → Bool) (k : ℕ) → k < n → p k ≡ true → ((i : ℕ) → i < n → p i ≡ true → i ≡ k) → count n p ≡ 1

@@ -1,6 +1,6 @@
 -- The size of a whole number, natAbs, and what fits an i64 or an i32. `omega` reads natAbs z as an unknown number,
 -- so a bound on a sum or a product is had by giving `omega` these laws, applied. Assumes nothing.
-use mathlib.Core.Path.{_≡_, refl, sym, ap₂, _∙_, subst}
+use mathlib.Core.Path.{_≡_, refl, sym, ap, ap₂, _∙_, subst}
 use mathlib.Core.Bool.{Bool, true, false, _||_}
 use Prim.Native.Nat.{ℕ, zero, suc, _+_, _*_, _^_, _≤_, _<_}
 use native.Mathlib.Nat.{le-refl, le-trans, le-of-eq, le-suc, lt-of-le-of-lt, mul-le-mul}
@@ -12,8 +12,9 @@ use mir.Syntax.{w32, w64}
 use mir.Val.{SFits, toZ, ofZ}
 use mir.Facts.{toZ-ofZ}
 use borrow.Author.Tests.{lt-leb, le-leb, ltb-true, ltb-false}
-use Rattle.laws.specs.Below.{integers, sum, only}
+use Rattle.laws.specs.Below.{integers, sum, only, count}
 use Rattle.laws.proofs.Bools.{split, or-false}
+use Rattle.laws.proofs.Below.{count-suc, counts-one, counts-none}
 
 -- |a − b| ≤ a + b
 abs-sub : (a b : ℕ) → natAbs (subℕ a b) ≤ a + b
@@ -47,6 +48,18 @@ pub sum-abs : (n m : ℕ) (f : ℕ → ℤ) → ((i : ℕ) → i < n → natAbs 
 unfolding sum integers
 sum-abs zero m f h = omega arith
 sum-abs (suc n) m f h = omega (arith, abs-plus (sum integers n f) (f n), sum-abs n m f (λ i l. h i (omega arith)), h n (omega arith))
+
+-- n terms of at most m each, of which only those that pass p are not 0.
+pub sum-abs-count : (n m : ℕ) (p : ℕ → Bool) (f : ℕ → ℤ) → ((i : ℕ) → i < n → p i ≡ false → f i ≡ pos 0) → ((i : ℕ) → i < n → natAbs (f i) ≤ m) →
+    natAbs (sum integers n f) ≤ count n p * m
+unfolding sum integers
+sum-abs-count zero m p f z h = omega arith
+sum-abs-count (suc n) m p f z h =
+    let before = sum-abs-count n m p f (λ i l. z i (omega arith)) (λ i l. h i (omega arith)) in
+    split (p n)
+    (λ e. rw (count-suc n p, counts-one e) (omega (arith, abs-plus (sum integers n f) (f n), before, h n (omega arith))))
+    (λ e. let none : natAbs (f n) ≡ 0 = ap natAbs (z n (omega arith) e) in
+    rw (count-suc n p, counts-none e) (omega (arith, abs-plus (sum integers n f) (f n), before)))
 
 pub only-abs : (t : Bool) (x : ℤ) (m : ℕ) → natAbs x ≤ m → natAbs (only integers t x) ≤ m
 unfolding only integers

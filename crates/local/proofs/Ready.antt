@@ -23,9 +23,9 @@ use Rattle.local.proofs.Modelled.{list-le, list-in}
 
 -- ---- The first condition that is met
 
-module _ (f : JobTables) (n : BookLengths) (b : ℕ) (s u i : Bool) (es : s ≡ jobShort (jobOf f) (jobLengths f)) (eu : u ≡ bookShort (jobOf (bookSizes (f .grocers) (f .offers) (f .tallies))) n) where
-  short-is : (jobShort (jobOf f) (jobLengths f) || bookShort (jobOf f) n) ≡ (s || u)
-  unfolding bookShort jobOf
+module _ (f : JobTables) (n : BookLengths) (b : ℕ) (s u i : Bool) (es : s ≡ jobShort f (jobLengths f)) (eu : u ≡ bookShort (bookSizes (f .grocers) (f .offers) (f .tallies)) n) where
+  short-is : (jobShort f (jobLengths f) || bookShort f n) ≡ (s || u)
+  unfolding bookShort
   short-is = rw (es, eu)
 
   pub met-20 : (s || u) ≡ true → 20 ≡ firstMet (bookRefusals f n b)
@@ -33,7 +33,7 @@ module _ (f : JobTables) (n : BookLengths) (b : ℕ) (s u i : Bool) (es : s ≡ 
   met-20 h = rw (short-is, h)
 
   -- Where no table is short.
-  pub not-20 : (s || u) ≡ false → jobShort (jobOf f) (jobLengths f) ≡ false
+  pub not-20 : (s || u) ≡ false → jobShort f (jobLengths f) ≡ false
   not-20 h = sym es ∙ first s u h
     where
       first : (s u : Bool) → (s || u) ≡ false → s ≡ false
@@ -70,8 +70,8 @@ pub record BookWhole (f : JobTables) (n : BookLengths) : Type 0 where
   pub packedGrocers : f .tallies ≤ n .packedGrocers
   pub packedCounts : f .tallies ≤ n .packedCounts
 
-book-whole : (f : JobTables) (n : BookLengths) → bookShort (jobOf f) n ≡ false → BookWhole f n
-unfolding bookShort jobOf
+book-whole : (f : JobTables) (n : BookLengths) → bookShort f n ≡ false → BookWhole f n
+unfolding bookShort
 book-whole f n h =
     let e = none-of (
     ltb (n .localOffers) (f .offers)
@@ -89,9 +89,9 @@ book-whole f n h =
     }
 
 module _ (f : JobTables) (n : BookLengths) (b : ℕ) (h : firstMet (bookRefusals f n b) ≡ 0) where
-  tests : (jobShort (jobOf f) (jobLengths f) ≡ false) × (bookShort (jobOf f) n ≡ false) × (jobInRange f ≡ true) × (ltb b (f .boxes) ≡ true)
+  tests : (jobShort f (jobLengths f) ≡ false) × (bookShort f n ≡ false) × (jobInRange f ≡ true) × (ltb b (f .boxes) ≡ true)
   unfolding firstMet bookRefusals
-  tests = three-tests (jobShort (jobOf f) (jobLengths f)) (bookShort (jobOf f) n) (jobInRange f) (ltb b (f .boxes)) h
+  tests = three-tests (jobShort f (jobLengths f)) (bookShort f n) (jobInRange f) (ltb b (f .boxes)) h
 
   pub in-range : jobInRange f ≡ true
   in-range = tests .2

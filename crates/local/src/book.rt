@@ -1,7 +1,7 @@
 // The local book of a box: the public call.
 ghost use mathlib.Core.Path.{_≡_};
 ghost use Rattle.laws.specs.Checks.{firstMet};
-ghost use Rattle.model.specs.Tables.{jobTables, jobOf};
+ghost use Rattle.model.specs.Tables.{jobTables};
 ghost use Rattle.model.specs.Local.{bookShort, bookRefusals};
 ghost use Rattle.local.specs.Book.{bookTables, lengths, bookSizes, Booked};
 use crate::lists::list;
@@ -28,7 +28,7 @@ fn book_short(
     pg: usize,
     pc: usize,
 ) -> bool
-    ensures { λ r. ⌜ r ≡ bookShort (jobOf (bookSizes grocers offers tallies)) (lengths lo lg ls pg pc) ⌝ }
+    ensures { λ r. ⌜ r ≡ bookShort (bookSizes grocers offers tallies) (lengths lo lg ls pg pc) ⌝ }
 {
     let m = grocers as usize;
     let n = offers as usize;

@@ -11,11 +11,11 @@ use borrow.Author.Tests.{le-ltb}
 use Rattle.laws.proofs.Tables.{getD-overwrite}
 use Rattle.laws.proofs.Bools.{split}
 use Rattle.laws.specs.Checks.{firstMet}
-use Rattle.model.specs.Job.{Job, plainSum}
+use Rattle.model.specs.Job.{plainSum}
 use Rattle.model.specs.Requests.{Request, lendsShort, answerTo, serve, serveAll, acceptedFrom, tablesAfter, acceptedIn, doneIn, answersFrom, answersIn}
 use Rattle.model.specs.Tables.{JobTables, jobOf, StateTables, view, store, jobLengths, jobShort, stateShort, lentShort}
 use Rattle.model.specs.Run.{run, runState, reported, runRefusals, ran, finished}
-use Rattle.model.specs.Ranges.{jobInRange}
+use Rattle.model.specs.Ranges.{jobInRange, Settles}
 use Rattle.model.specs.Step.{isKind, stepOf, freshTables, stepAnswer}
 use Rattle.model.specs.Words.{over, wordsOf, ownerWords, messageCount, stepCount, messagesOf}
 use Rattle.model.specs.Steps.{Step, Steps, doneBy, State, hasStep, fresh, effectOf, Kind, kindNumber, sendPrices, multiplyOwn, receivePrices, sendTotals, addOwn, receiveTotals, mark, permitted, kindOf}
@@ -37,136 +37,136 @@ use Rattle.model.proofs.Reach.{sound-fresh, kind-back, effect-done}
 use Rattle.model.proofs.Machine.{permits, attempt, attemptAll, taken, reached, doneOf, size}
 
 -- The steps that a list of requests asks for: those whose kind is one and that lend enough.
-unfoldable pub asks : Job → List Request → List Step
-asks j [] = []
-asks j (r ∷ rs) = cond (not (lendsShort j r) && isKind (r .asked .kind)) (stepOf (r .asked) ∷ asks j rs) (asks j rs)
+unfoldable pub asks : JobTables → List Request → List Step
+asks f [] = []
+asks f (r ∷ rs) = cond (not (lendsShort f r) && isKind (r .asked .kind)) (stepOf (r .asked) ∷ asks f rs) (asks f rs)
 
 -- A request is refused by number 0 just where it is permitted.
-pub refusal-zero : (j : Job) (d : Steps) (r : Request) → eqb (refusalOf j d r) 0 ≡ permittedRequest j d r
+pub refusal-zero : (f : JobTables) (d : Steps) (r : Request) → eqb (refusalOf f d r) 0 ≡ permittedRequest f d r
 unfolding refusalOf permittedRequest stepOf
-refusal-zero j d r =
-    split (lendsShort j r)
+refusal-zero f d r =
+    split (lendsShort f r)
     (λ e. rw e)
-    (λ e. rw e (rules-zero j d (r .asked)))
+    (λ e. rw e (rules-zero (jobOf f) d (r .asked)))
 
-module _ (f : JobTables) (ok : jobInRange f ≡ true) (long : jobShort (jobOf f) (jobLengths f) ≡ false) (t : StateTables) where
+module _ (f : JobTables) (z : Settles f) (t : StateTables) where
   -- A request attempts the step that it asks for.
   one-attempt : (s : State) (r : Request) (xs : List Step) →
-      attemptAll (jobOf f) s (cond (not (lendsShort (jobOf f) r) && isKind (r .asked .kind)) (stepOf (r .asked) ∷ xs) xs) ≡ attemptAll (jobOf f) (next f ok long t s r) xs
+      attemptAll (jobOf f) s (cond (not (lendsShort f r) && isKind (r .asked .kind)) (stepOf (r .asked) ∷ xs) xs) ≡ attemptAll (jobOf f) (next f z t s r) xs
   unfolding next allowed attemptAll attempt permits stepOf
   one-attempt s r xs =
-      split (lendsShort (jobOf f) r)
+      split (lendsShort f r)
       (λ e. rw e)
       (λ e. rw e (split (isKind (r .asked .kind)) (λ k. rw k) (λ k. rw k)))
 
   one-taken : (s : State) (r : Request) (xs : List Step) →
-      taken (jobOf f) s (cond (not (lendsShort (jobOf f) r) && isKind (r .asked .kind)) (stepOf (r .asked) ∷ xs) xs)
-      ≡ cond (permittedRequest (jobOf f) (s .done) r) (stepOf (r .asked) ∷ taken (jobOf f) (next f ok long t s r) xs) (taken (jobOf f) (next f ok long t s r) xs)
+      taken (jobOf f) s (cond (not (lendsShort f r) && isKind (r .asked .kind)) (stepOf (r .asked) ∷ xs) xs)
+      ≡ cond (permittedRequest f (s .done) r) (stepOf (r .asked) ∷ taken (jobOf f) (next f z t s r) xs) (taken (jobOf f) (next f z t s r) xs)
   unfolding next allowed taken attempt permits stepOf permittedRequest
   one-taken s r xs =
-      split (lendsShort (jobOf f) r)
+      split (lendsShort f r)
       (λ e. rw e)
       (λ e. rw e (split (isKind (r .asked .kind)) (λ k. rw k) (λ k. rw k)))
 
-  all-serve : (s : State) → Sound (jobOf f) s → (rs : List Request) → serveAll f (store (jobOf f) s t) rs ≡ store (jobOf f) (attemptAll (jobOf f) s (asks (jobOf f) rs)) t
+  all-serve : (s : State) → Sound (jobOf f) s → (rs : List Request) → serveAll f (store (jobOf f) s t) rs ≡ store (jobOf f) (attemptAll (jobOf f) s (asks f rs)) t
   unfolding serveAll asks attemptAll
   all-serve s o [] = refl
   all-serve s o (r ∷ rs) =
-      ap (λ (u : StateTables). serveAll f u rs) (one-serve f ok long t s o r)
-      ∙ all-serve (next f ok long t s r) (one-sound f ok long t s o r) rs
-      ∙ ap (λ (v : State). store (jobOf f) v t) (sym (one-attempt s r (asks (jobOf f) rs)))
+      ap (λ (u : StateTables). serveAll f u rs) (one-serve f z t s o r)
+      ∙ all-serve (next f z t s r) (one-sound f z t s o r) rs
+      ∙ ap (λ (v : State). store (jobOf f) v t) (sym (one-attempt s r (asks f rs)))
 
-  all-accepted : (s : State) → Sound (jobOf f) s → (rs : List Request) → acceptedFrom f (store (jobOf f) s t) rs ≡ taken (jobOf f) s (asks (jobOf f) rs)
+  all-accepted : (s : State) → Sound (jobOf f) s → (rs : List Request) → acceptedFrom f (store (jobOf f) s t) rs ≡ taken (jobOf f) s (asks f rs)
   unfolding acceptedFrom asks taken
   all-accepted s o [] = refl
   all-accepted s o (r ∷ rs) =
-      rw (one-answer f ok long t s o r, accepted-zero (refusalOf (jobOf f) (s .done) r), refusal-zero (jobOf f) (s .done) r, one-serve f ok long t s o r, all-accepted (next f ok long t s r) (one-sound f ok long t s o r) rs)
-      (sym (one-taken s r (asks (jobOf f) rs)))
+      rw (one-answer f z t s o r, accepted-zero (refusalOf f (s .done) r), refusal-zero f (s .done) r, one-serve f z t s o r, all-accepted (next f z t s r) (one-sound f z t s o r) rs)
+      (sym (one-taken s r (asks f rs)))
 
   -- The steps done after a request.
   next-done : (s : State) (r : Request) →
-      next f ok long t s r .done ≡ cond (permittedRequest (jobOf f) (s .done) r) (mark (s .done) (stepOf (r .asked) .kind) (r .asked .first) (r .asked .second)) (s .done)
+      next f z t s r .done ≡ cond (permittedRequest f (s .done) r) (mark (s .done) (stepOf (r .asked) .kind) (r .asked .first) (r .asked .second)) (s .done)
   unfolding next allowed permittedRequest stepOf
   next-done s r =
-      split (not (lendsShort (jobOf f) r) && (isKind (r .asked .kind) && permitted (jobOf f) (s .done) (kindOf (r .asked .kind)) (r .asked .first) (r .asked .second)))
+      split (not (lendsShort f r) && (isKind (r .asked .kind) && permitted (jobOf f) (s .done) (kindOf (r .asked .kind)) (r .asked .first) (r .asked .second)))
       (λ e. rw (e, effect-done (jobOf f) s (kindOf (r .asked .kind)) (r .asked .first) (r .asked .second)))
       (λ e. rw e)
 
-  all-answers : (s : State) → Sound (jobOf f) s → (rs : List Request) → answersFrom f (store (jobOf f) s t) rs ≡ answersByRules (jobOf f) (s .done) rs
+  all-answers : (s : State) → Sound (jobOf f) s → (rs : List Request) → answersFrom f (store (jobOf f) s t) rs ≡ answersByRules f (s .done) rs
   unfolding answersFrom answersByRules stepOf
   all-answers s o [] = refl
   all-answers s o (r ∷ rs) =
-      rw (one-answer f ok long t s o r, one-serve f ok long t s o r, all-answers (next f ok long t s r) (one-sound f ok long t s o r) rs, next-done s r)
+      rw (one-answer f z t s o r, one-serve f z t s o r, all-answers (next f z t s r) (one-sound f z t s o r) rs, next-done s r)
 
   module _ (rs : List Request) where
     -- The state that the list leaves.
-    reach : Sound (jobOf f) (reached (jobOf f) (asks (jobOf f) rs))
-    reach = sound (jobOf f) (range f ok) (asks (jobOf f) rs)
+    reach : Sound (jobOf f) (reached (jobOf f) (asks f rs))
+    reach = sound (jobOf f) (range f (z .inRange)) (asks f rs)
 
-    pub left-is : tablesAfter f t rs ≡ store (jobOf f) (reached (jobOf f) (asks (jobOf f) rs)) t
+    pub left-is : tablesAfter f t rs ≡ store (jobOf f) (reached (jobOf f) (asks f rs)) t
     unfolding tablesAfter freshTables reached
     left-is = all-serve (fresh (jobOf f)) (sound-fresh (jobOf f)) rs
 
-    pub accepted-is : acceptedIn f t rs ≡ taken (jobOf f) (fresh (jobOf f)) (asks (jobOf f) rs)
+    pub accepted-is : acceptedIn f t rs ≡ taken (jobOf f) (fresh (jobOf f)) (asks f rs)
     unfolding acceptedIn freshTables
     accepted-is = all-accepted (fresh (jobOf f)) (sound-fresh (jobOf f)) rs
 
-    pub done-is : doneIn f t rs ≡ doneOf (jobOf f) (asks (jobOf f) rs)
+    pub done-is : doneIn f t rs ≡ doneOf (jobOf f) (asks f rs)
     unfolding doneIn doneOf
     done-is = ap doneBy accepted-is
 
-    marked-is : reached (jobOf f) (asks (jobOf f) rs) .done ≡ doneIn f t rs
-    marked-is = marked (jobOf f) (range f ok) (asks (jobOf f) rs) ∙ sym done-is
+    marked-is : reached (jobOf f) (asks f rs) .done ≡ doneIn f t rs
+    marked-is = marked (jobOf f) (range f (z .inRange)) (asks f rs) ∙ sym done-is
 
-    pub view-left : view (jobOf f) (tablesAfter f t rs) ≡ reached (jobOf f) (asks (jobOf f) rs)
-    view-left = ap (view (jobOf f)) left-is ∙ view-is f ok long t (reached (jobOf f) (asks (jobOf f) rs)) reach
+    pub view-left : view (jobOf f) (tablesAfter f t rs) ≡ reached (jobOf f) (asks f rs)
+    view-left = ap (view (jobOf f)) left-is ∙ view-is f (z .inRange) (z .whole) t (reached (jobOf f) (asks f rs)) reach
 
     -- The state of the list is the closed form of the steps done.
     state-is : view (jobOf f) (tablesAfter f t rs) ≡ stateByRules (jobOf f) (doneIn f t rs)
-    state-is = view-left ∙ form (jobOf f) (range f ok) (asks (jobOf f) rs) ∙ ap (stateByRules (jobOf f)) (sym done-is)
+    state-is = view-left ∙ form (jobOf f) (range f (z .inRange)) (asks f rs) ∙ ap (stateByRules (jobOf f)) (sym done-is)
 
     closed-is : Closed (jobOf f) (doneIn f t rs)
-    closed-is = rw done-is (closed (jobOf f) (range f ok) (asks (jobOf f) rs))
+    closed-is = rw done-is (closed (jobOf f) (range f (z .inRange)) (asks f rs))
 
-    list-is : answersIn f t rs ≡ answersByRules (jobOf f) (λ k a b. false) rs
+    list-is : answersIn f t rs ≡ answersByRules f (λ k a b. false) rs
     unfolding answersIn freshTables fresh
     list-is = all-answers (fresh (jobOf f)) (sound-fresh (jobOf f)) rs
 
-    answer-of : (r : Request) → answerTo f (tablesAfter f t rs) r ≡ stepAnswer (refusalOf (jobOf f) (doneIn f t rs) r)
+    answer-of : (r : Request) → answerTo f (tablesAfter f t rs) r ≡ stepAnswer (refusalOf f (doneIn f t rs) r)
     answer-of r =
         ap (λ (u : StateTables). answerTo f u r) left-is
-        ∙ one-answer f ok long t (reached (jobOf f) (asks (jobOf f) rs)) reach r
-        ∙ ap (λ (d : Steps). stepAnswer (refusalOf (jobOf f) d r)) marked-is
+        ∙ one-answer f z t (reached (jobOf f) (asks f rs)) reach r
+        ∙ ap (λ (d : Steps). stepAnswer (refusalOf f d r)) marked-is
 
-    served-is : (r : Request) → serve f (tablesAfter f t rs) r ≡ store (jobOf f) (next f ok long t (reached (jobOf f) (asks (jobOf f) rs)) r) t
-    served-is r = ap (λ (u : StateTables). serve f u r) left-is ∙ one-serve f ok long t (reached (jobOf f) (asks (jobOf f) rs)) reach r
+    served-is : (r : Request) → serve f (tablesAfter f t rs) r ≡ store (jobOf f) (next f z t (reached (jobOf f) (asks f rs)) r) t
+    served-is r = ap (λ (u : StateTables). serve f u r) left-is ∙ one-serve f z t (reached (jobOf f) (asks f rs)) reach r
 
-    next-yes : (r : Request) → permittedRequest (jobOf f) (doneIn f t rs) r ≡ true →
-        next f ok long t (reached (jobOf f) (asks (jobOf f) rs)) r ≡ effectOf (jobOf f) (reached (jobOf f) (asks (jobOf f) rs)) (stepOf (r .asked))
+    next-yes : (r : Request) → permittedRequest f (doneIn f t rs) r ≡ true →
+        next f z t (reached (jobOf f) (asks f rs)) r ≡ effectOf (jobOf f) (reached (jobOf f) (asks f rs)) (stepOf (r .asked))
     unfolding next allowed permittedRequest stepOf
     next-yes r h = rw (marked-is, h)
 
-    next-not : (r : Request) → permittedRequest (jobOf f) (doneIn f t rs) r ≡ false → next f ok long t (reached (jobOf f) (asks (jobOf f) rs)) r ≡ reached (jobOf f) (asks (jobOf f) rs)
+    next-not : (r : Request) → permittedRequest f (doneIn f t rs) r ≡ false → next f z t (reached (jobOf f) (asks f rs)) r ≡ reached (jobOf f) (asks f rs)
     unfolding next allowed permittedRequest stepOf
     next-not r h = rw (marked-is, h)
 
-    does-is : (r : Request) → permittedRequest (jobOf f) (doneIn f t rs) r ≡ true →
+    does-is : (r : Request) → permittedRequest f (doneIn f t rs) r ≡ true →
         view (jobOf f) (serve f (tablesAfter f t rs) r) ≡ effectOf (jobOf f) (view (jobOf f) (tablesAfter f t rs)) (stepOf (r .asked))
     does-is r h =
         ap (view (jobOf f)) (served-is r)
-        ∙ view-is f ok long t (next f ok long t (reached (jobOf f) (asks (jobOf f) rs)) r) (one-sound f ok long t (reached (jobOf f) (asks (jobOf f) rs)) reach r)
+        ∙ view-is f (z .inRange) (z .whole) t (next f z t (reached (jobOf f) (asks f rs)) r) (one-sound f z t (reached (jobOf f) (asks f rs)) reach r)
         ∙ next-yes r h
         ∙ ap (λ (s : State). effectOf (jobOf f) s (stepOf (r .asked))) (sym view-left)
 
-    keeps-is : (r : Request) → permittedRequest (jobOf f) (doneIn f t rs) r ≡ false → serve f (tablesAfter f t rs) r ≡ tablesAfter f t rs
+    keeps-is : (r : Request) → permittedRequest f (doneIn f t rs) r ≡ false → serve f (tablesAfter f t rs) r ≡ tablesAfter f t rs
     keeps-is r h = served-is r ∙ ap (λ (s : State). store (jobOf f) s t) (next-not r h) ∙ sym left-is
 
     words-is : view (jobOf f) (tablesAfter f t rs) .sent ≡ over (wordsOf (jobOf f)) (acceptedIn f t rs)
     unfolding reached fresh
-    words-is = ap (λ (s : State). s .sent) view-left ∙ trace-sent (jobOf f) (fresh (jobOf f)) (asks (jobOf f) rs) ∙ rw accepted-is (omega arith)
+    words-is = ap (λ (s : State). s .sent) view-left ∙ trace-sent (jobOf f) (fresh (jobOf f)) (asks f rs) ∙ rw accepted-is (omega arith)
 
     size-is : size (jobOf f) (doneIn f t rs) ≡ length (acceptedIn f t rs)
-    size-is = ap (size (jobOf f)) done-is ∙ taken-size (jobOf f) (range f ok) (asks (jobOf f) rs) ∙ ap length (sym accepted-is)
+    size-is = ap (size (jobOf f)) done-is ∙ taken-size (jobOf f) (range f (z .inRange)) (asks f rs) ∙ ap length (sym accepted-is)
 
     -- All done: the state is that of all steps.
     pub all-is : AllDone (jobOf f) (doneIn f t rs) → view (jobOf f) (tablesAfter f t rs) ≡ stateByRules (jobOf f) (hasStep (jobOf f))
@@ -176,10 +176,10 @@ module _ (f : JobTables) (ok : jobInRange f ≡ true) (long : jobShort (jobOf f)
     count-is h = sym size-is ∙ ap (size (jobOf f)) (all-steps (jobOf f) (doneIn f t rs) closed-is h) ∙ steps-number (jobOf f)
 
     sends-is : AllDone (jobOf f) (doneIn f t rs) → over messagesOf (acceptedIn f t rs) ≡ messageCount (jobOf f)
-    sends-is h = ap (over messagesOf) accepted-is ∙ all-sends (jobOf f) (range f ok) (asks (jobOf f) rs) (rw done-is at h)
+    sends-is h = ap (over messagesOf) accepted-is ∙ all-sends (jobOf f) (range f (z .inRange)) (asks f rs) (rw done-is at h)
 
     owner-is : AllDone (jobOf f) (doneIn f t rs) → over (wordsOf (jobOf f)) (acceptedIn f t rs) ≡ ownerWords (jobOf f)
-    owner-is h = sym words-is ∙ ap (λ (s : State). s .sent) (all-is h) ∙ end-sent (jobOf f) (range f ok)
+    owner-is h = sym words-is ∙ ap (λ (s : State). s .sent) (all-is h) ∙ end-sent (jobOf f) (range f (z .inRange))
 
 -- A run's state is that of all steps.
 pub run-all : (f : JobTables) → jobInRange f ≡ true → (cs : List ℕ) → runState (jobOf f) cs ≡ stateByRules (jobOf f) (hasStep (jobOf f))
@@ -195,28 +195,28 @@ kind-named addOwn = refl
 kind-named receiveTotals = refl
 
 -- A request for a step that lends of each table what it needs asks for the step.
-module _ (j : Job) where
-  whole-lends : (x : Step) → lendsShort j (wholeRequest j x) ≡ false
+module _ (f : JobTables) where
+  whole-lends : (x : Step) → lendsShort f (wholeRequest f x) ≡ false
   unfolding lendsShort wholeRequest jobShort stateShort
   whole-lends x =
       rw (
-        le-ltb (j .offers) (j .offers) (omega arith),
-        le-ltb (j .grocers) (j .grocers) (omega arith),
-        le-ltb (j .tallies) (j .tallies) (omega arith),
-        le-ltb (j .boxes * j .offers) (j .boxes * j .offers) (omega arith),
-        le-ltb (j .boxes * j .grocers) (j .boxes * j .grocers) (omega arith),
-        le-ltb (6 * j .boxes * j .boxes) (6 * j .boxes * j .boxes) (omega arith),
+        le-ltb (f .offers) (f .offers) (omega arith),
+        le-ltb (f .grocers) (f .grocers) (omega arith),
+        le-ltb (f .tallies) (f .tallies) (omega arith),
+        le-ltb (f .boxes * f .offers) (f .boxes * f .offers) (omega arith),
+        le-ltb (f .boxes * f .grocers) (f .boxes * f .grocers) (omega arith),
+        le-ltb (6 * f .boxes * f .boxes) (6 * f .boxes * f .boxes) (omega arith),
       )
 
-  whole-step : (x : Step) → stepOf (wholeRequest j x .asked) ≡ x
+  whole-step : (x : Step) → stepOf (wholeRequest f x .asked) ≡ x
   unfolding stepOf wholeRequest
   whole-step x = λ i. record { kind = kind-back (x .kind) i; first = x .first; second = x .second }
 
-  whole-kind : (x : Step) → isKind (wholeRequest j x .asked .kind) ≡ true
+  whole-kind : (x : Step) → isKind (wholeRequest f x .asked .kind) ≡ true
   unfolding wholeRequest
   whole-kind x = kind-named (x .kind)
 
-  asks-whole : (xs : List Step) → asks j (map (wholeRequest j) xs) ≡ xs
+  asks-whole : (xs : List Step) → asks f (map (wholeRequest f) xs) ≡ xs
   unfolding asks
   asks-whole [] = refl
   asks-whole (x ∷ xs) = rw (whole-lends x, whole-kind x, whole-step x, asks-whole xs)
@@ -242,12 +242,12 @@ module _ (f : JobTables) (ok : jobInRange f ≡ true) (t : StateTables) (cs : Li
   ran-keeps h = rw (run-number, h)
 
 -- The tables that a run leaves hold the state of all steps.
-run-view : (f : JobTables) (ok : jobInRange f ≡ true) → jobShort (jobOf f) (jobLengths f) ≡ false → (u : StateTables) (cs : List ℕ) → lentShort f u ≡ false →
+run-view : (f : JobTables) → Settles f → (u : StateTables) (cs : List ℕ) → lentShort f u ≡ false →
     view (jobOf f) (ran f u cs .tables) ≡ stateByRules (jobOf f) (hasStep (jobOf f))
-run-view f ok long u cs n =
-    ap (view (jobOf f)) (ran-tables f ok u cs n ∙ ap (λ (s : State). store (jobOf f) s u) (run-reached (jobOf f) (range f ok) cs))
-    ∙ view-is f ok long u (reached (jobOf f) (run (jobOf f) cs)) (sound (jobOf f) (range f ok) (run (jobOf f) cs))
-    ∙ all-reached (jobOf f) (range f ok) (run (jobOf f) cs) (run-done (jobOf f) (range f ok) cs)
+run-view f z u cs n =
+    ap (view (jobOf f)) (ran-tables f (z .inRange) u cs n ∙ ap (λ (s : State). store (jobOf f) s u) (run-reached (jobOf f) (range f (z .inRange)) cs))
+    ∙ view-is f (z .inRange) (z .whole) u (reached (jobOf f) (run (jobOf f) cs)) (sound (jobOf f) (range f (z .inRange)) (run (jobOf f) cs))
+    ∙ all-reached (jobOf f) (range f (z .inRange)) (run (jobOf f) cs) (run-done (jobOf f) (range f (z .inRange)) cs)
 
 run-statement : (f : JobTables) → jobInRange f ≡ true → (t : StateTables) (cs : List ℕ) → lentShort f t ≡ false → (g : ℕ) → g < f .grocers →
     getD (ran f t cs .tables .statement) g (pos 0) ≡ plainSum (jobOf f) g
@@ -257,47 +257,51 @@ run-statement f ok t cs n g l =
     ∙ ap (λ (s : State). s .statement g) (run-all f ok cs)
     ∙ end-statement (jobOf f) (range f ok) g l
 
-pub demand3 : (f : JobTables) → jobInRange f ≡ true → jobShort (jobOf f) (jobLengths f) ≡ false → (t : StateTables) (rs : List Request) → Demand3 f t rs
+pub demand3 : (f : JobTables) → Settles f → (t : StateTables) (rs : List Request) → Demand3 f t rs
 unfolding jobOf reported
-demand3 f ok long t rs = record {
-  answers = list-is f ok long t rs;
-  nextAnswer = answer-of f ok long t rs;
-  accepts = λ r. rw (answer-of f ok long t rs r, accepted-zero (refusalOf (jobOf f) (doneIn f t rs) r)) (refusal-zero (jobOf f) (doneIn f t rs) r);
-  does = does-is f ok long t rs;
-  keeps = keeps-is f ok long t rs;
-  holds = state-is f ok long t rs;
-  stays = left-is f ok long t rs ∙ ap (λ (s : State). store (jobOf f) s t) (sym (view-left f ok long t rs));
-  inRange = rw (left-is f ok long t rs) (ok-store f (reached (jobOf f) (asks (jobOf f) rs)) t (within f ok long t (reached (jobOf f) (asks (jobOf f) rs)) (reach f ok long t rs)));
-  marks = λ k a b i. (ap (λ (s : State). s .done) (view-left f ok long t rs) ∙ marked-is f ok long t rs) i k a b;
-  wordsSent = words-is f ok long t rs;
-  runningSum = λ g. rw (state-is f ok long t rs) (running (jobOf f) (range f ok) (doneIn f t rs) (closed-is f ok long t rs) g);
+demand3 f z t rs = record {
+  answers = list-is f z t rs;
+  nextAnswer = answer-of f z t rs;
+  accepts = λ r. rw (answer-of f z t rs r, accepted-zero (refusalOf f (doneIn f t rs) r)) (refusal-zero f (doneIn f t rs) r);
+  does = does-is f z t rs;
+  keeps = keeps-is f z t rs;
+  holds = state-is f z t rs;
+  stays = left-is f z t rs ∙ ap (λ (s : State). store (jobOf f) s t) (sym (view-left f z t rs));
+  inRange = rw (left-is f z t rs) (ok-store f (reached (jobOf f) (asks f rs)) t (within f (z .inRange) (z .whole) t (reached (jobOf f) (asks f rs)) (reach f z t rs)));
+  marks = λ k a b i. (ap (λ (s : State). s .done) (view-left f z t rs) ∙ marked-is f z t rs) i k a b;
+  wordsSent = words-is f z t rs;
+  runningSum = λ g. rw (state-is f z t rs) (running (jobOf f) (range f (z .inRange)) (doneIn f t rs) (closed-is f z t rs) g);
   goesOn = progress (jobOf f) (doneIn f t rs);
-  atMost = omega (arith, size-is f ok long t rs, size-le (jobOf f) (doneIn f t rs) (hasStep (jobOf f)) (closed-is f ok long t rs .steps), steps-number (jobOf f));
-  allDone = count-is f ok long t rs;
-  allTaken = λ e. all-of-size (jobOf f) (doneIn f t rs) (closed-is f ok long t rs) (size-is f ok long t rs ∙ e ∙ sym (steps-number (jobOf f)));
-  finish = λ h. rw (all-is f ok long t rs h) (record {
-    statements = end-statement (jobOf f) (range f ok);
-    noWorking = λ b g lb lg. end-working (jobOf f) (range f ok) b g lb lg;
+  atMost = omega (arith, size-is f z t rs, size-le (jobOf f) (doneIn f t rs) (hasStep (jobOf f)) (closed-is f z t rs .steps), steps-number (jobOf f));
+  allDone = count-is f z t rs;
+  allTaken = λ e. all-of-size (jobOf f) (doneIn f t rs) (closed-is f z t rs) (size-is f z t rs ∙ e ∙ sym (steps-number (jobOf f)));
+  finish = λ h. rw (all-is f z t rs h) (record {
+    statements = end-statement (jobOf f) (range f (z .inRange));
+    noWorking = λ b g lb lg. end-working (jobOf f) (range f (z .inRange)) b g lb lg;
     noTotals = end-total-transit (jobOf f);
     noPrices = end-price-transit (jobOf f);
-    wordsSent = end-sent (jobOf f) (range f ok);
+    wordsSent = end-sent (jobOf f) (range f (z .inRange));
   });
-  onePrice = λ h o b l. rw (accepted-is f ok long t rs) (one-price (jobOf f) (range f ok) (asks (jobOf f) rs) (rw (done-is f ok long t rs) at h) o b l);
-  oneTotal = λ h g b l. rw (accepted-is f ok long t rs) (one-total (jobOf f) (range f ok) (asks (jobOf f) rs) (rw (done-is f ok long t rs) at h) g b l);
-  eachWord = rw (accepted-is f ok long t rs) (each-word (jobOf f) (fresh (jobOf f)) (asks (jobOf f) rs));
-  sameSteps = λ h u ps e. count-is f ok long u ps e ∙ sym (count-is f ok long t rs h);
-  sameState = λ h u ps e. all-is f ok long u ps e ∙ sym (all-is f ok long t rs h);
-  runLeaves = λ h u cs n. run-view f ok long u cs n ∙ sym (all-is f ok long t rs h);
-  runReport = λ h u cs n. ran-answer f ok u cs ∙ rw (n, owner-is f ok long t rs h, sends-is f ok long t rs h, count-is f ok long t rs h);
+  onePrice = λ h o b l. rw (accepted-is f z t rs) (one-price (jobOf f) (range f (z .inRange)) (asks f rs) (rw (done-is f z t rs) at h) o b l);
+  oneTotal = λ h g b l. rw (accepted-is f z t rs) (one-total (jobOf f) (range f (z .inRange)) (asks f rs) (rw (done-is f z t rs) at h) g b l);
+  eachWord = rw (accepted-is f z t rs) (each-word (jobOf f) (fresh (jobOf f)) (asks f rs));
+  sameSteps = λ h u ps e. count-is f z u ps e ∙ sym (count-is f z t rs h);
+  sameState = λ h u ps e. all-is f z u ps e ∙ sym (all-is f z t rs h);
+  runLeaves = λ h u cs n. run-view f z u cs n ∙ sym (all-is f z t rs h);
+  runReport = λ h u cs n. ran-answer f (z .inRange) u cs ∙ rw (n, owner-is f z t rs h, sends-is f z t rs h, count-is f z t rs h);
 }
 
 -- A run is the list of the steps it picks.
-pub run-is-list : (f : JobTables) → jobInRange f ≡ true → jobShort (jobOf f) (jobLengths f) ≡ false → (t : StateTables) (cs : List ℕ) → RunIsList f t cs
-run-is-list f ok long t cs = record {
-  answer = ran-answer f ok t cs;
-  accepted = accepted-is f ok long t (map (wholeRequest (jobOf f)) (run (jobOf f) cs)) ∙ rw (asks-whole (jobOf f) (run (jobOf f) cs)) (run-taken (jobOf f) (range f ok) cs);
-  allDone = rw (done-is f ok long t (map (wholeRequest (jobOf f)) (run (jobOf f) cs)), asks-whole (jobOf f) (run (jobOf f) cs)) (run-done (jobOf f) (range f ok) cs);
-  tables = λ h. ran-tables f ok t cs h ∙ sym (left-is f ok long t (map (wholeRequest (jobOf f)) (run (jobOf f) cs)) ∙ rw (asks-whole (jobOf f) (run (jobOf f) cs), ← (run-reached (jobOf f) (range f ok) cs)));
-  statements = run-statement f ok t cs;
-  keeps = ran-keeps f ok t cs;
+pub demand3-run : (f : JobTables) → Settles f → (t : StateTables) (cs : List ℕ) → RunIsList f t cs
+demand3-run f z t cs = record {
+  answer = ran-answer f (z .inRange) t cs;
+  accepted = accepted-is f z t (map (wholeRequest f) (run (jobOf f) cs)) ∙ rw (asks-whole f (run (jobOf f) cs)) (run-taken (jobOf f) (range f (z .inRange)) cs);
+  allDone = rw (done-is f z t (map (wholeRequest f) (run (jobOf f) cs)), asks-whole f (run (jobOf f) cs)) (run-done (jobOf f) (range f (z .inRange)) cs);
+  tables = λ h. ran-tables f (z .inRange) t cs h ∙ sym (left-is f z t (map (wholeRequest f) (run (jobOf f) cs)) ∙ rw (asks-whole f (run (jobOf f) cs), ← (run-reached (jobOf f) (range f (z .inRange)) cs)));
+  statements = run-statement f (z .inRange) t cs;
+  keeps = ran-keeps f (z .inRange) t cs;
 }
+
+-- The same, where both halves of what is asked of the job are at hand.
+pub run-is-list : (f : JobTables) → jobInRange f ≡ true → jobShort f (jobLengths f) ≡ false → (t : StateTables) (cs : List ℕ) → RunIsList f t cs
+run-is-list f ok long = demand3-run f (record { whole = long; inRange = ok })

@@ -36,17 +36,17 @@ pub record JobLong (m o t : ℕ) (n : JobLengths) : Type 0 where
   pub tallyOffer : t ≤ n .tallyOffer
   pub tallyCount : t ≤ n .tallyCount
 
-pub job-long : (j : Job) (n : JobLengths) → jobShort j n ≡ false → JobLong (j .grocers) (j .offers) (j .tallies) n
+pub job-long : (f : JobTables) (n : JobLengths) → jobShort f n ≡ false → JobLong (f .grocers) (f .offers) (f .tallies) n
 unfolding jobShort
-job-long j n h =
+job-long f n h =
     let e = none-of (
-    ltb (n .price) (j .offers)
-    ∷ ltb (n .offerOwner) (j .offers)
-    ∷ ltb (n .grocerOwner) (j .grocers)
-    ∷ ltb (n .tallyGrocer) (j .tallies)
-    ∷ ltb (n .tallyBox) (j .tallies)
-    ∷ ltb (n .tallyOffer) (j .tallies)
-    ∷ ltb (n .tallyCount) (j .tallies)
+    ltb (n .price) (f .offers)
+    ∷ ltb (n .offerOwner) (f .offers)
+    ∷ ltb (n .grocerOwner) (f .grocers)
+    ∷ ltb (n .tallyGrocer) (f .tallies)
+    ∷ ltb (n .tallyBox) (f .tallies)
+    ∷ ltb (n .tallyOffer) (f .tallies)
+    ∷ ltb (n .tallyCount) (f .tallies)
     ∷ []) h in
     record {
       price = le-of _ _ (e .0);
@@ -67,16 +67,16 @@ pub record StateLong (k m o : ℕ) (n : StateLengths) : Type 0 where
   pub done : 6 * k * k ≤ n .done
   pub sent : 1 ≤ n .sent
 
-pub state-long : (j : Job) (n : StateLengths) → stateShort j n ≡ false → StateLong (j .boxes) (j .grocers) (j .offers) n
+pub state-long : (f : JobTables) (n : StateLengths) → stateShort f n ≡ false → StateLong (f .boxes) (f .grocers) (f .offers) n
 unfolding stateShort
-state-long j n h =
+state-long f n h =
     let e = none-of (
-    ltb (n .known) (j .boxes * j .offers)
-    ∷ ltb (n .priceTransit) (j .boxes * j .offers)
-    ∷ ltb (n .working) (j .boxes * j .grocers)
-    ∷ ltb (n .totalTransit) (j .boxes * j .grocers)
-    ∷ ltb (n .statement) (j .grocers)
-    ∷ ltb (n .done) (6 * j .boxes * j .boxes)
+    ltb (n .known) (f .boxes * f .offers)
+    ∷ ltb (n .priceTransit) (f .boxes * f .offers)
+    ∷ ltb (n .working) (f .boxes * f .grocers)
+    ∷ ltb (n .totalTransit) (f .boxes * f .grocers)
+    ∷ ltb (n .statement) (f .grocers)
+    ∷ ltb (n .done) (6 * f .boxes * f .boxes)
     ∷ ltb (n .sent) 1
     ∷ []) h in
     record {
@@ -90,18 +90,18 @@ state-long j n h =
     }
 
 -- The job's lent tables are short just where the lent lengths are.
-pub lent-job-short : (j : Job) (f : JobTables) (n : JobLengths) → jobShort j (jobLengths f) ≡ false → jobShort j (jobLengths (lentJob f n)) ≡ jobShort j n
+pub lent-job-short : (f : JobTables) (n : JobLengths) → jobShort f (jobLengths f) ≡ false → jobShort f (jobLengths (lentJob f n)) ≡ jobShort f n
 unfolding jobShort jobLengths lentJob
-lent-job-short j f n h =
-    let l = job-long j (jobLengths f) h in
+lent-job-short f n h =
+    let l = job-long f (jobLengths f) h in
     rw (
-      long-take (j .offers) (n .price) (f .price) (l .price),
-      long-take (j .offers) (n .offerOwner) (f .offerOwner) (l .offerOwner),
-      long-take (j .grocers) (n .grocerOwner) (f .grocerOwner) (l .grocerOwner),
-      long-take (j .tallies) (n .tallyGrocer) (f .tallyGrocer) (l .tallyGrocer),
-      long-take (j .tallies) (n .tallyBox) (f .tallyBox) (l .tallyBox),
-      long-take (j .tallies) (n .tallyOffer) (f .tallyOffer) (l .tallyOffer),
-      long-take (j .tallies) (n .tallyCount) (f .tallyCount) (l .tallyCount),
+      long-take (f .offers) (n .price) (f .price) (l .price),
+      long-take (f .offers) (n .offerOwner) (f .offerOwner) (l .offerOwner),
+      long-take (f .grocers) (n .grocerOwner) (f .grocerOwner) (l .grocerOwner),
+      long-take (f .tallies) (n .tallyGrocer) (f .tallyGrocer) (l .tallyGrocer),
+      long-take (f .tallies) (n .tallyBox) (f .tallyBox) (l .tallyBox),
+      long-take (f .tallies) (n .tallyOffer) (f .tallyOffer) (l .tallyOffer),
+      long-take (f .tallies) (n .tallyCount) (f .tallyCount) (l .tallyCount),
     )
 
 -- The job that lent tables hold, where they are long enough.
@@ -136,17 +136,17 @@ module _ (f : JobTables) (n : JobLengths) (l : JobLong (f .grocers) (f .offers) 
       )
 
 -- The lent tables of a state are short just where the lent lengths are.
-pub lent-state-short : (j : Job) (t : StateTables) (n : StateLengths) → stateShort j (stateLengths t) ≡ false → stateShort j (stateLengths (lentState t n)) ≡ stateShort j n
+pub lent-state-short : (f : JobTables) (t : StateTables) (n : StateLengths) → stateShort f (stateLengths t) ≡ false → stateShort f (stateLengths (lentState t n)) ≡ stateShort f n
 unfolding stateShort stateLengths lentState
-lent-state-short j t n h =
-    let l = state-long j (stateLengths t) h in
+lent-state-short f t n h =
+    let l = state-long f (stateLengths t) h in
     rw (
-      long-take (j .boxes * j .offers) (n .known) (t .known) (l .known),
-      long-take (j .boxes * j .offers) (n .priceTransit) (t .priceTransit) (l .priceTransit),
-      long-take (j .boxes * j .grocers) (n .working) (t .working) (l .working),
-      long-take (j .boxes * j .grocers) (n .totalTransit) (t .totalTransit) (l .totalTransit),
-      long-take (j .grocers) (n .statement) (t .statement) (l .statement),
-      long-take (6 * j .boxes * j .boxes) (n .done) (t .done) (l .done),
+      long-take (f .boxes * f .offers) (n .known) (t .known) (l .known),
+      long-take (f .boxes * f .offers) (n .priceTransit) (t .priceTransit) (l .priceTransit),
+      long-take (f .boxes * f .grocers) (n .working) (t .working) (l .working),
+      long-take (f .boxes * f .grocers) (n .totalTransit) (t .totalTransit) (l .totalTransit),
+      long-take (f .grocers) (n .statement) (t .statement) (l .statement),
+      long-take (6 * f .boxes * f .boxes) (n .done) (t .done) (l .done),
       long-take 1 (n .sent) (t .sent) (l .sent),
     )
 

@@ -1,29 +1,30 @@
 -- The closed form of a job in range is within the ranges of a state. Assumes nothing.
 use mathlib.Core.Path.{_≡_, refl, sym, _∙_}
 use mathlib.Core.Bool.{Bool, true, false, _&&_, not}
-use Prim.Native.Nat.{ℕ, _<_, _≤_, _*_}
+use Prim.Native.Nat.{ℕ, _≤_}
 use native.Mathlib.Omega.{arith}
 use native.Mathlib.Nat.{mul-le-mul}
 use lib.Dec.{eqb}
 use lib.IntN.{ℤ, pos, natAbs}
-use Rattle.laws.specs.Below.{naturals, integers, sum, only, count}
-use Rattle.laws.proofs.Bools.{split, cond-either}
-use Rattle.laws.proofs.Sums.{sum-cong, sum-max}
-use Rattle.laws.proofs.Signed.{abs-times, sum-abs, only-abs}
-use Rattle.laws.proofs.Below.{count-le}
-use Rattle.model.specs.Job.{heldBy, Job, priceWord, totalWord, amount, held}
-use Rattle.model.specs.Steps.{sendPrices, sendTotals, Steps, added, State}
+use Rattle.laws.specs.Below.{integers, sum, only, count}
+use Rattle.laws.proofs.Bools.{split, cond-either, and-false}
+use Rattle.laws.proofs.Sums.{sum-cong}
+use Rattle.laws.proofs.Signed.{abs-times, sum-abs-count, only-abs}
+use Rattle.model.specs.Job.{heldBy, Job, amount, held}
+use Rattle.model.specs.Steps.{Steps, added, State}
 use Rattle.model.specs.Ranges.{maxGrocers, maxOffers, maxTallies, maxPrice, maxCount, maxAmount, maxSent}
 use Rattle.model.proofs.Range.{InRange, held-box}
-use Rattle.model.specs.Boxes.{knows, priceOnWay, gone, arrived, partOf, paid, sentOf, stateByRules}
+use Rattle.model.specs.Boxes.{knows, priceOnWay, gone, arrived, partOf, paid, stateByRules}
 use Rattle.model.proofs.Parts.{part-zero, part-same}
 use Rattle.model.proofs.Running.{by-box}
+use Rattle.model.proofs.Words.{sent-most, owner-most}
 
 -- Sizes and values as 01 limits them.
 pub record Limits (j : Job) : Type 0 where
   pub grocers≤ : j .grocers ≤ maxGrocers
   pub offers≤ : j .offers ≤ maxOffers
   pub tallies≤ : j .tallies ≤ maxTallies
+  pub ofGrocer≤ : (g : ℕ) → count (j .tallies) (λ t. eqb (j .tallyGrocer t) g) ≤ maxTallies  -- tallies of one grocer
   pub price≤ : (o : ℕ) → j .price o ≤ maxPrice
   pub count≤ : (t : ℕ) → natAbs (j .tallyCount t) ≤ maxCount
 
@@ -36,18 +37,36 @@ pub record Within (s : State) : Type 0 where
   pub statement≤ : (g : ℕ) → natAbs (s .statement g) ≤ maxAmount
   pub sent≤ : s .sent ≤ maxSent
 
+-- The bounds, each once: the amount of a tally, the amounts of one grocer, the words sent.
 module _ (j : Job) (v : Limits j) where
-  amount-abs : (o t : ℕ) → natAbs (amount j (j .price o) t) ≤ 999_989_900_001
+  abbrev maxProduct : ℕ
+  maxProduct = 999_989_900_001
+
+  -- Count × price of one tally.
+  amount-most : (o t : ℕ) → natAbs (amount j (j .price o) t) ≤ maxProduct
   unfolding amount
-  amount-abs o t = rw (abs-times (j .tallyCount t) (pos (j .price o))) (omega (arith, mul-le-mul (v .count≤ t) (v .price≤ o)))
+  amount-most o t = rw (abs-times (j .tallyCount t) (pos (j .price o))) (omega (arith, mul-le-mul (v .count≤ t) (v .price≤ o)))
 
-  over-tallies : (f : ℕ → ℤ) → ((t : ℕ) → t < j .tallies → natAbs (f t) ≤ 999_989_900_001) → natAbs (sum integers (j .tallies) f) ≤ 1_000_000_000_000_000
-  over-tallies f h = omega (arith, sum-abs (j .tallies) 999_989_900_001 f h, v .tallies≤)
+  -- Amounts of tallies of grocer g, those that pass p: there are at most so many tallies of one grocer.
+  grocer-most : (p : ℕ → Bool) (g : ℕ) → ((t : ℕ) → eqb (j .tallyGrocer t) g ≡ false → p t ≡ false) →
+      natAbs (sum integers (j .tallies) (λ t. only integers (p t) (amount j (j .price (j .tallyOffer t)) t))) ≤ maxAmount
+  unfolding only integers
+  grocer-most p g h =
+      omega (
+        arith,
+        sum-abs-count (j .tallies) maxProduct (λ t. eqb (j .tallyGrocer t) g) (λ t. only integers (p t) (amount j (j .price (j .tallyOffer t)) t))
+            (λ t l e. rw (h t e))
+            (λ t l. only-abs (p t) (amount j (j .price (j .tallyOffer t)) t) maxProduct (amount-most (j .tallyOffer t) t)),
+        v .ofGrocer≤ g,
+      )
 
-  part-abs : (p : ℕ → Bool) (b g : ℕ) → natAbs (partOf j p b g) ≤ 1_000_000_000_000_000
+  -- No list sends more words than the owner tables have.
+  words-most : InRange j → (d : Steps) → stateByRules j d .sent ≤ maxSent
+  words-most r d = omega (arith, sent-most j r d, owner-most j r, v .offers≤, v .grocers≤)
+
+  part-abs : (p : ℕ → Bool) (b g : ℕ) → natAbs (partOf j p b g) ≤ maxAmount
   unfolding partOf
-  part-abs p b g = over-tallies (λ t. only integers (heldBy j t b && eqb (j .tallyGrocer t) g && p t) (amount j (j .price (j .tallyOffer t)) t))
-      (λ t l. only-abs (heldBy j t b && eqb (j .tallyGrocer t) g && p t) (amount j (j .price (j .tallyOffer t)) t) 999_989_900_001 (amount-abs (j .tallyOffer t) t))
+  part-abs p b g = grocer-most (λ t. heldBy j t b && eqb (j .tallyGrocer t) g && p t) g (λ t e. simp (e, and-false))
 
   -- A statement is a sum over tallies too.
   paid-part : (d : Steps) (g b : ℕ) → paid j d g b ≡ partOf j (λ t. arrived j d (j .tallyBox t) g) b g
@@ -57,21 +76,11 @@ module _ (j : Job) (v : Limits j) where
       (λ e. rw e (part-same j (λ t. true) (λ t. arrived j d (j .tallyBox t) g) b g (λ t l q _. sym (rw (held-box j t b q) e))))
       (λ e. rw e (sym (part-same j (λ t. arrived j d (j .tallyBox t) g) (λ t. false) b g (λ t l q _. rw (held-box j t b q) e) ∙ part-zero j (λ t. false) b g (λ t. refl))))
 
-  statement-abs : (d : Steps) (g : ℕ) → natAbs (sum integers (j .boxes) (paid j d g)) ≤ 1_000_000_000_000_000
+  statement-abs : (d : Steps) (g : ℕ) → natAbs (sum integers (j .boxes) (paid j d g)) ≤ maxAmount
   statement-abs d g =
       rw (sum-cong integers (j .boxes) (paid j d g) (λ b. partOf j (λ t. arrived j d (j .tallyBox t) g) b g) (λ b l. paid-part d g b)
       ∙ by-box j (λ t. arrived j d (j .tallyBox t) g) g)
-      (over-tallies (λ t. only integers (held j t && eqb (j .tallyGrocer t) g && arrived j d (j .tallyBox t) g) (amount j (j .price (j .tallyOffer t)) t))
-      (λ t l. only-abs (held j t && eqb (j .tallyGrocer t) g && arrived j d (j .tallyBox t) g) (amount j (j .price (j .tallyOffer t)) t) 999_989_900_001 (amount-abs (j .tallyOffer t) t)))
-
-  sent-max : (d : Steps) (a b : ℕ) → sentOf j d a b ≤ 755
-  unfolding sentOf only naturals
-  sent-max d a b =
-      omega (
-        arith,
-        cond-either (λ (n : ℕ). n ≤ 500) (d sendPrices a b) (count (j .offers) (priceWord j a b)) 0 (omega (arith, count-le (j .offers) (priceWord j a b), v .offers≤)) (omega arith),
-        cond-either (λ (n : ℕ). n ≤ 255) (d sendTotals a b) (count (j .grocers) (totalWord j a b)) 0 (omega (arith, count-le (j .grocers) (totalWord j a b), v .grocers≤)) (omega arith),
-      )
+      (grocer-most (λ t. held j t && eqb (j .tallyGrocer t) g && arrived j d (j .tallyBox t) g) g (λ t e. simp (e, and-false)))
 
   pub form-within : InRange j → (d : Steps) → Within (stateByRules j d)
   unfolding stateByRules
@@ -81,11 +90,5 @@ module _ (j : Job) (v : Limits j) where
     working≤ = λ b g. cond-either (λ (z : ℤ). natAbs z ≤ maxAmount) (gone j d b g) (pos 0) (partOf j (added j d) b g) (omega arith) (part-abs (added j d) b g);
     totalTransit≤ = λ b g. cond-either (λ (z : ℤ). natAbs z ≤ maxAmount) (gone j d b g && not (arrived j d b g)) (partOf j (λ t. true) b g) (pos 0) (part-abs (λ t. true) b g) (omega arith);
     statement≤ = λ g. statement-abs d g;
-    sent≤ = sent-small;
+    sent≤ = words-most r d;
   }
-    where
-      rows : sum naturals (j .boxes) (λ a. sum naturals (j .boxes) (sentOf j d a)) ≤ j .boxes * (j .boxes * 755)
-      rows = sum-max (j .boxes) (j .boxes * 755) (λ a. sum naturals (j .boxes) (sentOf j d a)) (λ a l. sum-max (j .boxes) 755 (sentOf j d a) (λ b m. sent-max d a b))
-
-      sent-small : sum naturals (j .boxes) (λ a. sum naturals (j .boxes) (sentOf j d a)) ≤ 1_000_000
-      sent-small = omega (arith, rows, mul-le-mul (r .boxes≤) (r .boxes≤))

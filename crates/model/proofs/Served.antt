@@ -10,7 +10,7 @@ use Rattle.laws.proofs.Bools.{or-off, split, and-true, and-r}
 use Rattle.model.specs.Job.{Job}
 use Rattle.model.specs.Requests.{Request, lentJob, lentState, lendsShort, answerTo, serve}
 use Rattle.model.specs.Tables.{JobTables, jobOf, StateTables, view, store, JobLengths, StateLengths, jobLengths, stateLengths, jobShort, stateShort, lentShort}
-use Rattle.model.specs.Ranges.{jobInRange, stateInRange}
+use Rattle.model.specs.Ranges.{jobInRange, Settles, stateInRange}
 use Rattle.model.specs.Step.{Asked, isKind, boxesFit, stepRules, moved, refusals, stepRefusal, stepTables, stepAnswer, stepped}
 use Rattle.model.specs.Steps.{kindOf, Steps, State, fits, ready, permitted, effect}
 use Rattle.model.specs.Demand3.{refusalOf}
@@ -70,7 +70,7 @@ module _ (f : JobTables) (u : StateTables) (j : Job) (s : State) (q : Asked)
   unfolding stepTables
   after-is = rw (answer-is, zero-is, moved-is)
 
-module _ (f : JobTables) (ok : jobInRange f ≡ true) (long : jobShort (jobOf f) (jobLengths f) ≡ false) (t : StateTables) where
+module _ (f : JobTables) (ok : jobInRange f ≡ true) (long : jobShort f (jobLengths f) ≡ false) (t : StateTables) where
   pub within : (s : State) → Sound (jobOf f) s → Within s
   within s o = rw (o .form) (form-within (jobOf f) (limits f ok) (range f ok) (s .done))
 
@@ -78,33 +78,35 @@ module _ (f : JobTables) (ok : jobInRange f ≡ true) (long : jobShort (jobOf f)
   pub view-is : (s : State) → Sound (jobOf f) s → view (jobOf f) (store (jobOf f) s t) ≡ s
   view-is s o = view-store (jobOf f) s t ∙ held-form (jobOf f) (range f ok) s o
 
+-- A job that demand 3 speaks of, and the buffers of its state.
+module _ (f : JobTables) (z : Settles f) (t : StateTables) where
   sound-allowed : (s : State) (q : Asked) → Sound (jobOf f) s → allowed (jobOf f) s q ≡ true → Sound (jobOf f) (effect (jobOf f) s (kindOf (q .kind)) (q .first) (q .second))
   unfolding allowed
   sound-allowed s q o e =
-      sound-effect (jobOf f) (range f ok) s (kindOf (q .kind)) (q .first) (q .second) o
+      sound-effect (jobOf f) (range f (z .inRange)) s (kindOf (q .kind)) (q .first) (q .second) o
       (permit (jobOf f) (s .done) (kindOf (q .kind)) (q .first) (q .second) (and-r (isKind (q .kind)) _ e))
 
-  same-sizes : (n m : JobLengths) → jobShort (jobOf (lentJob f n)) m ≡ jobShort (jobOf f) m
-  unfolding jobShort jobOf lentJob
+  same-sizes : (n m : JobLengths) → jobShort (lentJob f n) m ≡ jobShort f m
+  unfolding jobShort lentJob
   same-sizes n m = refl
 
-  same-sizes′ : (n : JobLengths) (m : StateLengths) → stateShort (jobOf (lentJob f n)) m ≡ stateShort (jobOf f) m
-  unfolding stateShort jobOf lentJob
+  same-sizes′ : (n : JobLengths) (m : StateLengths) → stateShort (lentJob f n) m ≡ stateShort f m
+  unfolding stateShort lentJob
   same-sizes′ n m = refl
 
   -- The lent tables are short just where the request lends short.
-  short-is : (s : State) (r : Request) → lentShort (lentJob f (r .job)) (lentState (store (jobOf f) s t) (r .state)) ≡ lendsShort (jobOf f) r
+  short-is : (s : State) (r : Request) → lentShort (lentJob f (r .job)) (lentState (store (jobOf f) s t) (r .state)) ≡ lendsShort f r
   unfolding lentShort lendsShort
   short-is s r =
       rw (
         same-sizes (r .job) (jobLengths (lentJob f (r .job))),
         same-sizes′ (r .job) (stateLengths (lentState (store (jobOf f) s t) (r .state))),
-        lent-job-short (jobOf f) f (r .job) long,
-        lent-state-short (jobOf f) (store (jobOf f) s t) (r .state) (whole-store (jobOf f) s t),
+        lent-job-short f (r .job) (z .whole),
+        lent-state-short f (store (jobOf f) s t) (r .state) (whole-store f s t),
       )
 
   -- A request that lends short.
-  module _ (s : State) (r : Request) (y : lendsShort (jobOf f) r ≡ true) where
+  module _ (s : State) (r : Request) (y : lendsShort f r ≡ true) where
     short-answer : stepRefusal (lentJob f (r .job)) (lentState (store (jobOf f) s t) (r .state)) (r .asked) ≡ 20
     unfolding stepRefusal refusals firstMet
     short-answer = rw (short-is s r, y)
@@ -114,32 +116,30 @@ module _ (f : JobTables) (ok : jobInRange f ≡ true) (long : jobShort (jobOf f)
     short-after = rw short-answer
 
   -- A request that lends enough.
-  module _ (s : State) (o : Sound (jobOf f) s) (r : Request) (y : lendsShort (jobOf f) r ≡ false) where
+  module _ (s : State) (o : Sound (jobOf f) s) (r : Request) (y : lendsShort f r ≡ false) where
     no-short : lentShort (lentJob f (r .job)) (lentState (store (jobOf f) s t) (r .state)) ≡ false
     no-short = short-is s r ∙ y
 
-    job-enough : jobShort (jobOf f) (r .job) ≡ false
+    job-enough : jobShort f (r .job) ≡ false
     unfolding lendsShort
-    job-enough = or-off (jobShort (jobOf f) (r .job)) (stateShort (jobOf f) (r .state)) y .0
+    job-enough = or-off (jobShort f (r .job)) (stateShort f (r .state)) y .0
 
-    state-enough : stateShort (jobOf f) (r .state) ≡ false
+    state-enough : stateShort f (r .state) ≡ false
     unfolding lendsShort
-    state-enough = or-off (jobShort (jobOf f) (r .job)) (stateShort (jobOf f) (r .state)) y .1
+    state-enough = or-off (jobShort f (r .job)) (stateShort f (r .state)) y .1
 
     job-is : jobOf (lentJob f (r .job)) ≡ jobOf f
-    unfolding jobOf
-    job-is = lent-job f (r .job) (job-long (jobOf f) (r .job) job-enough)
+    job-is = lent-job f (r .job) (job-long f (r .job) job-enough)
 
     range-is : jobInRange (lentJob f (r .job)) ≡ true
-    unfolding jobOf
-    range-is = lent-job-range f (r .job) (job-long (jobOf f) (r .job) job-enough) ∙ ok
+    range-is = lent-job-range f (r .job) (job-long f (r .job) job-enough) ∙ z .inRange
 
     lent-is : view (jobOf f) (lentState (store (jobOf f) s t) (r .state)) ≡ s
-    lent-is = lent-view (jobOf f) (store (jobOf f) s t) (r .state) (state-long (jobOf f) (r .state) state-enough) ∙ view-is s o
+    unfolding jobOf
+    lent-is = lent-view (jobOf f) (store (jobOf f) s t) (r .state) (state-long f (r .state) state-enough) ∙ view-is f (z .inRange) (z .whole) t s o
 
     states-is : stateInRange (lentJob f (r .job)) (lentState (store (jobOf f) s t) (r .state)) ≡ true
-    unfolding jobOf
-    states-is = lent-state-range f (r .job) (store (jobOf f) s t) (r .state) (state-long (jobOf f) (r .state) state-enough) ∙ ok-store f s t (within s o)
+    states-is = lent-state-range f (r .job) (store (jobOf f) s t) (r .state) (state-long f (r .state) state-enough) ∙ ok-store f s t (within f (z .inRange) (z .whole) t s o)
 
     same-range : (u : StateTables) → stateInRange (lentJob f (r .job)) u ≡ stateInRange f u
     unfolding stateInRange lentJob
@@ -147,7 +147,7 @@ module _ (f : JobTables) (ok : jobInRange f ≡ true) (long : jobShort (jobOf f)
 
     late-is : allowed (jobOf f) s (r .asked) ≡ true →
         stateInRange (lentJob f (r .job)) (store (jobOf f) (effect (jobOf f) s (kindOf (r .asked .kind)) (r .asked .first) (r .asked .second)) (lentState (store (jobOf f) s t) (r .state))) ≡ true
-    late-is e = same-range _ ∙ ok-store f _ _ (within _ (sound-allowed s (r .asked) o e))
+    late-is e = same-range _ ∙ ok-store f _ _ (within f (z .inRange) (z .whole) t _ (sound-allowed s (r .asked) o e))
 
     whole-answer : stepRefusal (lentJob f (r .job)) (lentState (store (jobOf f) s t) (r .state)) (r .asked) ≡ firstMet (stepRules (jobOf f) (s .done) (r .asked))
     whole-answer =
@@ -161,27 +161,27 @@ module _ (f : JobTables) (ok : jobInRange f ≡ true) (long : jobShort (jobOf f)
 
   -- What a request does to the state.
   unfoldable pub next : State → Request → State
-  next s r = cond (not (lendsShort (jobOf f) r) && allowed (jobOf f) s (r .asked)) (effect (jobOf f) s (kindOf (r .asked .kind)) (r .asked .first) (r .asked .second)) s
+  next s r = cond (not (lendsShort f r) && allowed (jobOf f) s (r .asked)) (effect (jobOf f) s (kindOf (r .asked .kind)) (r .asked .first) (r .asked .second)) s
 
-  pub one-answer : (s : State) → Sound (jobOf f) s → (r : Request) → answerTo f (store (jobOf f) s t) r ≡ stepAnswer (refusalOf (jobOf f) (s .done) r)
+  pub one-answer : (s : State) → Sound (jobOf f) s → (r : Request) → answerTo f (store (jobOf f) s t) r ≡ stepAnswer (refusalOf f (s .done) r)
   unfolding answerTo stepped refusalOf
   one-answer s o r =
-      ap stepAnswer (split (lendsShort (jobOf f) r)
+      ap stepAnswer (split (lendsShort f r)
       (λ e. short-answer s r e ∙ rw e)
       (λ e. whole-answer s o r e ∙ rw e))
 
   pub one-serve : (s : State) → Sound (jobOf f) s → (r : Request) → serve f (store (jobOf f) s t) r ≡ store (jobOf f) (next s r) t
-  unfolding serve stepped next
+  unfolding serve stepped next jobOf
   one-serve s o r =
-      split (lendsShort (jobOf f) r)
+      split (lendsShort f r)
       (λ e. rw (short-after s r e, e) (lent-back (store (jobOf f) s t) (r .state)))
       (λ e. rw (whole-after s o r e, e) (split (allowed (jobOf f) s (r .asked))
-      (λ a. rw a (lent-store (jobOf f) (store (jobOf f) s t) (r .state) (state-long (jobOf f) (r .state) (state-enough s o r e)) _ ∙ store-store (jobOf f) _ s t))
+      (λ a. rw a (lent-store (jobOf f) (store (jobOf f) s t) (r .state) (state-long f (r .state) (state-enough s o r e)) _ ∙ store-store (jobOf f) _ s t))
       (λ a. rw a (lent-back (store (jobOf f) s t) (r .state)))))
 
   pub one-sound : (s : State) → Sound (jobOf f) s → (r : Request) → Sound (jobOf f) (next s r)
   unfolding next
   one-sound s o r =
-      split (not (lendsShort (jobOf f) r) && allowed (jobOf f) s (r .asked))
-      (λ e. rw e (sound-allowed s (r .asked) o (and-r (not (lendsShort (jobOf f) r)) _ e)))
+      split (not (lendsShort f r) && allowed (jobOf f) s (r .asked))
+      (λ e. rw e (sound-allowed s (r .asked) o (and-r (not (lendsShort f r)) _ e)))
       (λ e. rw e o)

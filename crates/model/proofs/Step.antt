@@ -4,17 +4,16 @@ use mathlib.Core.Bool.{true, false, cond}
 use mathlib.Core.List.{List, [], _∷_}
 use Prim.Native.Nat.{ℕ, _*_, _/_, _%_, _<_, _≤_}
 use native.Mathlib.Omega.{arith}
-use lib.Dec.{ltb, leb}
+use lib.Dec.{eqb, ltb, leb}
 use lib.Seq.{getD-take}
 use lib.ListN.{getD, take}
 use lib.IntN.{ℤ, pos, natAbs}
 use borrow.Author.Tests.{le-ltb, ltb-true, ltb-false, le-leb, leb-true}
-use Rattle.laws.specs.Tables.{overwrite, recell}
+use Rattle.laws.specs.Tables.{overwrite, recell, word}
 use Rattle.laws.proofs.Checks.{any-each}
 use Rattle.laws.proofs.Bools.{split, and-true, and-l, and-r, cond-either}
-use Rattle.laws.proofs.Below.{all-at, all-of, all-cong}
+use Rattle.laws.proofs.Below.{all-at, all-of, all-cong, count-le}
 use Rattle.laws.proofs.Tables.{getD-overwrite, long-overwrite, word-in, word-past}
-use Rattle.model.specs.Job.{Job}
 use Rattle.model.specs.Tables.{JobTables, jobOf, StateTables, store, marksOf, stateLengths, stateShort}
 use Rattle.model.specs.Ranges.{upTo, under, around, sizesInRange, jobWordsInRange, jobInRange, stateInRange}
 use Rattle.model.specs.Steps.{places, Steps, atPlace, State}
@@ -82,6 +81,7 @@ module _ (f : JobTables) (ok : jobInRange f ≡ true) where
     grocers≤ = leb-true (f .grocers) 255 (let w = sizes in search (and-l, and-r) depth 12);
     offers≤ = leb-true (f .offers) 500 (let w = sizes in search (and-l, and-r) depth 12);
     tallies≤ = leb-true (f .tallies) 1000 (let w = sizes in search (and-l, and-r) depth 12);
+    ofGrocer≤ = λ g. omega (arith, count-le (f .tallies) (λ t. eqb (word (f .tallies) (f .tallyGrocer) 0 t) g), leb-true (f .tallies) 1000 (let w = sizes in search (and-l, and-r) depth 12));
     price≤ = λ o. split (ltb o (f .offers))
         (λ e. rw (word-in (f .offers) (f .price) 0 o (ltb-true o (f .offers) e)) (up-at 9_999_999 (f .offers) (f .price) o (let w = wordsOk in search (and-l, and-r) depth 12) (ltb-true o (f .offers) e)))
         (λ e. rw (word-past (f .offers) (f .price) 0 o (ltb-false o (f .offers) e)) (omega arith));
@@ -110,21 +110,21 @@ ok-store f s t w =
     (up-over 1_000_000 1 (λ i. s .sent) (t .sent) (λ i. w .sent≤))
 
 -- The tables that hold a written state are whole.
-pub whole-store : (j : Job) (s : State) (t : StateTables) → stateShort j (stateLengths (store j s t)) ≡ false
-unfolding stateShort stateLengths store recell marksOf
-whole-store j s t =
+pub whole-store : (f : JobTables) (s : State) (t : StateTables) → stateShort f (stateLengths (store (jobOf f) s t)) ≡ false
+unfolding stateShort stateLengths store recell marksOf jobOf
+whole-store f s t =
     any-each (_ ∷ _ ∷ _ ∷ _ ∷ _ ∷ _ ∷ _ ∷ []) (
-      le-ltb _ _ (long-overwrite (j .boxes * j .offers) _ (t .known)),
+      le-ltb _ _ (long-overwrite (f .boxes * f .offers) _ (t .known)),
       (
-        le-ltb _ _ (long-overwrite (j .boxes * j .offers) _ (t .priceTransit)),
+        le-ltb _ _ (long-overwrite (f .boxes * f .offers) _ (t .priceTransit)),
         (
-          le-ltb _ _ (long-overwrite (j .boxes * j .grocers) _ (t .working)),
+          le-ltb _ _ (long-overwrite (f .boxes * f .grocers) _ (t .working)),
           (
-            le-ltb _ _ (long-overwrite (j .boxes * j .grocers) _ (t .totalTransit)),
+            le-ltb _ _ (long-overwrite (f .boxes * f .grocers) _ (t .totalTransit)),
             (
-              le-ltb _ _ (long-overwrite (j .grocers) _ (t .statement)),
+              le-ltb _ _ (long-overwrite (f .grocers) _ (t .statement)),
               (
-                le-ltb _ _ (long-overwrite (6 * j .boxes * j .boxes) _ (t .done)),
+                le-ltb _ _ (long-overwrite (6 * f .boxes * f .boxes) _ (t .done)),
                 (le-ltb _ _ (long-overwrite 1 _ (t .sent)), tt),
               ),
             ),

@@ -1,19 +1,19 @@
--- The words of a finished job are those of the owner tables. Assumes nothing.
+-- The words of a finished job are those of the owner tables, and no list sends more. Assumes nothing.
 use mathlib.Core.Path.{_≡_, ap₂, _∙_, sym, ap}
 use mathlib.Core.Bool.{Bool, false, _&&_, not}
-use Prim.Native.Nat.{ℕ, _+_, _<_, _-_, _≤_}
+use Prim.Native.Nat.{ℕ, _+_, _-_, _*_, _<_, _≤_}
 use native.Mathlib.Omega.{arith}
 use lib.Dec.{eqb}
 use lib.Count.{ones}
 use borrow.Author.Tests.{lt-ltb}
 use Rattle.laws.specs.Below.{naturals, sum, only, count}
-use Rattle.laws.proofs.Bools.{and-comm, split, cond-same, no-true, and-l}
-use Rattle.laws.proofs.Sums.{sum-cong, sum-plus, sum-swap, sum-pick, sum-front}
+use Rattle.laws.proofs.Bools.{and-comm, split, cond-same, no-true, and-l, eqb-same}
+use Rattle.laws.proofs.Sums.{sum-cong, sum-plus, sum-swap, sum-pick, sum-front, sum-le, sum-max}
 use Rattle.laws.specs.Masks.{maskOf, without}
 use Rattle.laws.proofs.Masks.{ones-without}
-use Rattle.laws.proofs.Below.{any-find, count-cong, count-none, count-past}
+use Rattle.laws.proofs.Below.{any-find, count-cong, count-none, count-past, count-less, only-le}
 use Rattle.model.specs.Job.{Job, needs, shares, priceWord, totalWord, pricesDue, totalsDue, heldBy, needWord, sharerWord}
-use Rattle.model.specs.Steps.{fits, hasStep}
+use Rattle.model.specs.Steps.{sendPrices, sendTotals, Steps, fits, hasStep}
 use Rattle.model.specs.Words.{ownerWords}
 use Rattle.model.proofs.Range.{InRange, held-lt}
 use Rattle.model.specs.Boxes.{sentOf, stateByRules}
@@ -96,12 +96,12 @@ module _ (j : Job) where
   unfolding sharerWord
   sharer-ones r g l = ones-others (j .boxes) (j .grocerOwner g) (shares j g) (r .boxes≤) (r .grocerOwner< g l) (shares-past j g)
 
-  pub end-sent : InRange j → stateByRules j (hasStep j) .sent ≡ ownerWords j
-  unfolding stateByRules ownerWords naturals
-  end-sent r =
-      sum-cong naturals (j .boxes) (λ a. sum naturals (j .boxes) (sentOf j (hasStep j) a)) (λ a. price a + total a)
-      (λ a l. sum-cong naturals (j .boxes) (sentOf j (hasStep j) a) (λ b. count (j .offers) (priceWord j a b) + count (j .grocers) (totalWord j a b)) (λ b m. send-len a b l m)
-      ∙ sum-plus naturals (j .boxes) (λ b. count (j .offers) (priceWord j a b)) (λ b. count (j .grocers) (totalWord j a b)))
+  -- The words of all messages are those of the owner tables.
+  all-words : InRange j → sum naturals (j .boxes) (λ a. sum naturals (j .boxes) (λ b. count (j .offers) (priceWord j a b) + count (j .grocers) (totalWord j a b))) ≡ ownerWords j
+  unfolding ownerWords naturals
+  all-words r =
+      sum-cong naturals (j .boxes) (λ a. sum naturals (j .boxes) (λ b. count (j .offers) (priceWord j a b) + count (j .grocers) (totalWord j a b))) (λ a. price a + total a)
+      (λ a l. sum-plus naturals (j .boxes) (λ b. count (j .offers) (priceWord j a b)) (λ b. count (j .grocers) (totalWord j a b)))
       ∙ sum-plus naturals (j .boxes) price total
       ∙ ap₂ (λ (x y : ℕ). x + y)
       (price-words r ∙ sym (sum-cong naturals (j .offers) (λ o. ones (without (j .offerOwner o) (needWord j o))) (λ o. count (j .boxes) (λ b. not (eqb (j .offerOwner o) b) && needs j o b)) (need-ones r)))
@@ -112,3 +112,38 @@ module _ (j : Job) where
 
       total : ℕ → ℕ
       total a = sum naturals (j .boxes) (λ b. count (j .grocers) (totalWord j a b))
+
+  pub end-sent : InRange j → stateByRules j (hasStep j) .sent ≡ ownerWords j
+  unfolding stateByRules
+  end-sent r =
+      sum-cong naturals (j .boxes) (λ a. sum naturals (j .boxes) (sentOf j (hasStep j) a))
+      (λ a. sum naturals (j .boxes) (λ b. count (j .offers) (priceWord j a b) + count (j .grocers) (totalWord j a b)))
+      (λ a l. sum-cong naturals (j .boxes) (sentOf j (hasStep j) a) (λ b. count (j .offers) (priceWord j a b) + count (j .grocers) (totalWord j a b)) (λ b m. send-len a b l m))
+      ∙ all-words r
+
+  -- Whatever steps are done, no more words are sent than these.
+  pub sent-most : InRange j → (d : Steps) → stateByRules j d .sent ≤ ownerWords j
+  unfolding stateByRules sentOf
+  sent-most r d =
+      omega (
+        arith,
+        all-words r,
+        sum-le (j .boxes) (λ a. sum naturals (j .boxes) (sentOf j d a)) (λ a. sum naturals (j .boxes) (λ b. count (j .offers) (priceWord j a b) + count (j .grocers) (totalWord j a b)))
+            (λ a l. sum-le (j .boxes) (sentOf j d a) (λ b. count (j .offers) (priceWord j a b) + count (j .grocers) (totalWord j a b))
+            (λ b m. omega (arith, only-le (d sendPrices a b) (count (j .offers) (priceWord j a b)), only-le (d sendTotals a b) (count (j .grocers) (totalWord j a b))))),
+      )
+
+  -- The owner words are at most 15 for each offer and each grocer: no box sends to itself.
+  pub owner-most : InRange j → ownerWords j ≤ 15 * (j .offers + j .grocers)
+  unfolding ownerWords
+  owner-most r =
+      omega (
+        arith,
+        sum-max (j .offers) 15 (λ o. ones (without (j .offerOwner o) (needWord j o)))
+            (λ o l. omega (arith, need-ones r o l, r .boxes≤, others-less (j .offerOwner o) (needs j o) (r .owner< o l))),
+        sum-max (j .grocers) 15 (λ g. ones (without (j .grocerOwner g) (sharerWord j g)))
+            (λ g l. omega (arith, sharer-ones r g l, r .boxes≤, others-less (j .grocerOwner g) (shares j g) (r .grocerOwner< g l))),
+      )
+    where
+      others-less : (a : ℕ) (p : ℕ → Bool) → a < j .boxes → count (j .boxes) (λ b. not (eqb a b) && p b) < j .boxes
+      others-less a p l = count-less (j .boxes) a (λ b. not (eqb a b) && p b) l (rw (eqb-same a))

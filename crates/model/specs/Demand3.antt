@@ -30,23 +30,6 @@ module _ (j : Job) where
   unfoldable pub AllDone : Steps → Type 0
   AllDone d = (k : Kind) (a b : ℕ) → hasStep j k a b ≡ true → d k a b ≡ true
 
-  -- A request is permitted when its step is and no buffer is shorter than its table.
-  unfoldable pub permittedRequest : Steps → Request → Bool
-  permittedRequest d r =
-      let q = stepOf (r .asked) in
-      not (lendsShort j r) && (isKind (r .asked .kind) && permitted j d (q .kind) (q .first) (q .second))
-
-  -- What refuses a request where the steps of d are done: 20, 22 to 26 in this order, and never 21.
-  unfoldable pub refusalOf : Steps → Request → ℕ
-  refusalOf d r = cond (lendsShort j r) 20 (firstMet (stepRules j d (r .asked)))
-
-  -- The answers to the requests of a list by the rules alone, where the steps of d are done: a permitted request adds its step.
-  unfoldable pub answersByRules : Steps → List Request → List StepAnswer
-  answersByRules d [] = []
-  answersByRules d (r ∷ rs) =
-      let q = stepOf (r .asked) in
-      stepAnswer (refusalOf d r) ∷ answersByRules (cond (permittedRequest d r) (mark d (q .kind) (q .first) (q .second)) d) rs
-
   -- Statements, working totals and totals in transit of grocer g together.
   unfoldable pub together : State → ℕ → ℤ
   together s g = (sum integers (j .boxes) (λ b. s .working b g) +ℤ sum integers (j .boxes) (λ b. s .totalTransit b g)) +ℤ s .statement g
@@ -54,6 +37,24 @@ module _ (j : Job) where
   -- The sum of count × price over the tallies of grocer g already added.
   unfoldable pub addedSum : Steps → ℕ → ℤ
   addedSum d g = sum integers (j .tallies) (λ t. only integers (held j t && eqb (j .tallyGrocer t) g && added j d t) (amount j (j .price (j .tallyOffer t)) t))
+
+module _ (f : JobTables) where
+  -- A request is permitted when its step is and no buffer is shorter than its table.
+  unfoldable pub permittedRequest : Steps → Request → Bool
+  permittedRequest d r =
+      let q = stepOf (r .asked) in
+      not (lendsShort f r) && (isKind (r .asked .kind) && permitted (jobOf f) d (q .kind) (q .first) (q .second))
+
+  -- What refuses a request where the steps of d are done: 20, 22 to 26 in this order, and never 21.
+  unfoldable pub refusalOf : Steps → Request → ℕ
+  refusalOf d r = cond (lendsShort f r) 20 (firstMet (stepRules (jobOf f) d (r .asked)))
+
+  -- The answers to the requests of a list by the rules alone, where the steps of d are done: a permitted request adds its step.
+  unfoldable pub answersByRules : Steps → List Request → List StepAnswer
+  answersByRules d [] = []
+  answersByRules d (r ∷ rs) =
+      let q = stepOf (r .asked) in
+      stepAnswer (refusalOf d r) ∷ answersByRules (cond (permittedRequest d r) (mark d (q .kind) (q .first) (q .second)) d) rs
 
 -- A finished settlement.
 pub record Finished (j : Job) (s : State) : Type 0 where
@@ -72,14 +73,14 @@ pub record Finished (j : Job) (s : State) : Type 0 where
 pub record AfterList (f : JobTables) (t : StateTables) (rs : List Request)
     (job : Job) (accepted : List Step) (done : Steps) (tables : StateTables) (state : State) : Type 0 where
   -- Every request of the list, from the first to the last, is answered as the rules say, from the requests before it alone.
-  pub answers : answersIn f t rs ≡ answersByRules job (λ k a b. false) rs
+  pub answers : answersIn f t rs ≡ answersByRules f (λ k a b. false) rs
   -- One more request is answered by the first condition met over the steps done: 20, 22 to 26, and never 21.
-  pub nextAnswer : (r : Request) → answerTo f tables r ≡ stepAnswer (refusalOf job done r)
+  pub nextAnswer : (r : Request) → answerTo f tables r ≡ stepAnswer (refusalOf f done r)
   -- It is accepted just where it is permitted.
-  pub accepts : (r : Request) → isAccepted (answerTo f tables r) ≡ permittedRequest job done r
+  pub accepts : (r : Request) → isAccepted (answerTo f tables r) ≡ permittedRequest f done r
   -- An accepted request does what its step does; any other leaves the tables as they were.
-  pub does : (r : Request) → permittedRequest job done r ≡ true → view job (serve f tables r) ≡ effectOf job state (stepOf (r .asked))
-  pub keeps : (r : Request) → permittedRequest job done r ≡ false → serve f tables r ≡ tables
+  pub does : (r : Request) → permittedRequest f done r ≡ true → view job (serve f tables r) ≡ effectOf job state (stepOf (r .asked))
+  pub keeps : (r : Request) → permittedRequest f done r ≡ false → serve f tables r ≡ tables
   -- Every box holds what the rules say, told from the steps done alone.
   pub holds : state ≡ stateByRules job done
   -- The tables are the state that they hold, written into the buffers t: words past the needed length stay.
@@ -125,25 +126,25 @@ abbrev pub Demand3 : JobTables → StateTables → List Request → Type 0
 Demand3 f t rs = AfterList f t rs (jobOf f) (acceptedIn f t rs) (doneIn f t rs) (tablesAfter f t rs) (view (jobOf f) (tablesAfter f t rs))
 
 -- The request for a step that lends of each table what it needs.
-unfoldable pub wholeRequest : Job → Step → Request
-wholeRequest j x = record {
+unfoldable pub wholeRequest : JobTables → Step → Request
+wholeRequest f x = record {
   asked = record { kind = kindNumber (x .kind); first = x .first; second = x .second };
   job = record {
-    price = j .offers;
-    offerOwner = j .offers;
-    grocerOwner = j .grocers;
-    tallyGrocer = j .tallies;
-    tallyBox = j .tallies;
-    tallyOffer = j .tallies;
-    tallyCount = j .tallies;
+    price = f .offers;
+    offerOwner = f .offers;
+    grocerOwner = f .grocers;
+    tallyGrocer = f .tallies;
+    tallyBox = f .tallies;
+    tallyOffer = f .tallies;
+    tallyCount = f .tallies;
   };
   state = record {
-    known = j .boxes * j .offers;
-    priceTransit = j .boxes * j .offers;
-    working = j .boxes * j .grocers;
-    totalTransit = j .boxes * j .grocers;
-    statement = j .grocers;
-    done = 6 * j .boxes * j .boxes;
+    known = f .boxes * f .offers;
+    priceTransit = f .boxes * f .offers;
+    working = f .boxes * f .grocers;
+    totalTransit = f .boxes * f .grocers;
+    statement = f .grocers;
+    done = 6 * f .boxes * f .boxes;
     sent = 1;
   };
 }
@@ -153,9 +154,9 @@ pub record RunIsList (f : JobTables) (t : StateTables) (choices : List ℕ) : Ty
   -- Only 20 refuses it; else it reports the words of the owner tables, the messages and the steps of the job.
   pub answer : ran f t choices .answer ≡ reported (cond (lentShort f t) 20 0) (finished (ownerWords (jobOf f)) (messageCount (jobOf f)) (stepCount (jobOf f)))
   -- Requests for its steps are all accepted, do all steps, and leave its tables.
-  pub accepted : acceptedIn f t (map (wholeRequest (jobOf f)) (run (jobOf f) choices)) ≡ run (jobOf f) choices
-  pub allDone : AllDone (jobOf f) (doneIn f t (map (wholeRequest (jobOf f)) (run (jobOf f) choices)))
-  pub tables : lentShort f t ≡ false → ran f t choices .tables ≡ tablesAfter f t (map (wholeRequest (jobOf f)) (run (jobOf f) choices))
+  pub accepted : acceptedIn f t (map (wholeRequest f) (run (jobOf f) choices)) ≡ run (jobOf f) choices
+  pub allDone : AllDone (jobOf f) (doneIn f t (map (wholeRequest f) (run (jobOf f) choices)))
+  pub tables : lentShort f t ≡ false → ran f t choices .tables ≡ tablesAfter f t (map (wholeRequest f) (run (jobOf f) choices))
   -- It leaves every grocer's plain sum in the statements.
   pub statements : lentShort f t ≡ false → (g : ℕ) → g < f .grocers → getD (ran f t choices .tables .statement) g (pos 0) ≡ plainSum (jobOf f) g
   -- A refusal changes no word.

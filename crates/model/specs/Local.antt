@@ -10,7 +10,7 @@ use Rattle.laws.specs.Below.{sum, only, naturals, count, find, ascending}
 use Rattle.laws.specs.Tables.{tabulate}
 use Rattle.laws.specs.Checks.{anyOf}
 use Rattle.model.specs.Job.{Job, heldBy, priceWord, totalWord}
-use Rattle.model.specs.Tables.{JobTables, jobOf, jobLengths, jobShort}
+use Rattle.model.specs.Tables.{JobTables, jobLengths, jobShort}
 use Rattle.model.specs.Ranges.{jobInRange}
 
 -- The lists f 0, f 1, .. f (n − 1), one behind the other.
@@ -69,20 +69,20 @@ pub record BookLengths : Type 0 where
   pub packedCounts : ℕ
 
 -- 20 on these tables: shorter than M, N and T as given need, whatever the box has.
-unfoldable pub bookShort : Job → BookLengths → Bool
-bookShort j n =
+unfoldable pub bookShort : JobTables → BookLengths → Bool
+bookShort f n =
     anyOf (
-    ltb (n .localOffers) (j .offers)
-    ∷ ltb (n .localGrocers) (j .grocers)
-    ∷ ltb (n .starts) (suc (j .offers))
-    ∷ ltb (n .packedGrocers) (j .tallies)
-    ∷ ltb (n .packedCounts) (j .tallies)
+    ltb (n .localOffers) (f .offers)
+    ∷ ltb (n .localGrocers) (f .grocers)
+    ∷ ltb (n .starts) (suc (f .offers))
+    ∷ ltb (n .packedGrocers) (f .tallies)
+    ∷ ltb (n .packedCounts) (f .tallies)
     ∷ [])
 
 -- The refusals of the local book of box b, in order.
 unfoldable pub bookRefusals : JobTables → BookLengths → ℕ → List (Bool × ℕ)
 bookRefusals f n b =
-    (jobShort (jobOf f) (jobLengths f) || bookShort (jobOf f) n, 20)
+    (jobShort f (jobLengths f) || bookShort f n, 20)
     ∷ (not (jobInRange f), 21)
     ∷ (not (ltb b (f .boxes)), 23)
     ∷ []

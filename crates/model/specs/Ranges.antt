@@ -1,13 +1,14 @@
 -- The ranges of 01, "Terms and sizes": what condition 21 looks at.
+use mathlib.Core.Path.{_≡_}
 use mathlib.Core.List.{List, [], _∷_}
-use mathlib.Core.Bool.{Bool, _&&_}
+use mathlib.Core.Bool.{Bool, true, false, _&&_}
 use Prim.Native.Nat.{ℕ, _*_}
 use lib.ListN.{getD}
 use lib.Dec.{ltb, leb}
 use lib.IntN.{ℤ, pos, natAbs}
 use Rattle.laws.specs.Below.{all}
 use Rattle.laws.specs.Checks.{allOf}
-use Rattle.model.specs.Tables.{JobTables, StateTables}
+use Rattle.model.specs.Tables.{JobTables, jobLengths, jobShort, StateTables}
 
 -- Boxes, K: 1 to 16.
 abbrev pub maxBoxes : ℕ
@@ -79,6 +80,11 @@ jobWordsInRange f =
 -- Condition 21 is not met by the job's tables.
 unfoldable pub jobInRange : JobTables → Bool
 jobInRange f = sizesInRange f && jobWordsInRange f
+
+-- What demand 3 asks of a job's tables: they are lent whole, so 20 is not met, and in range, so 21 is not met.
+pub record Settles (f : JobTables) : Type 0 where
+  pub whole : jobShort f (jobLengths f) ≡ false
+  pub inRange : jobInRange f ≡ true
 
 -- Condition 21 is not met by the state's tables: a done mark is 0 or 1.
 unfoldable pub stateInRange : JobTables → StateTables → Bool

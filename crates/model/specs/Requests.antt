@@ -2,7 +2,6 @@
 use mathlib.Core.List.{List, [], _∷_, _++_}
 use mathlib.Core.Bool.{Bool, cond, _||_}
 use lib.ListN.{take, drop}
-use Rattle.model.specs.Job.{Job}
 use Rattle.model.specs.Steps.{Step, Steps, doneBy}
 use Rattle.model.specs.Tables.{JobTables, StateTables, JobLengths, StateLengths, jobShort, stateShort}
 use Rattle.model.specs.Step.{Asked, stepOf, StepAnswer, isAccepted, stepped, freshTables}
@@ -54,8 +53,8 @@ returned t n lent = record {
 }
 
 -- A buffer is lent shorter than its table: condition 20.
-unfoldable pub lendsShort : Job → Request → Bool
-lendsShort j r = jobShort j (r .job) || stateShort j (r .state)
+unfoldable pub lendsShort : JobTables → Request → Bool
+lendsShort f r = jobShort f (r .job) || stateShort f (r .state)
 
 module _ (f : JobTables) where
   -- The answer to a request: the step's, on the tables as lent.

@@ -156,31 +156,31 @@ stateLengths t = record {
 }
 
 -- 20 on the job's tables: a lent buffer shorter than M, N and T as given need.
-unfoldable pub jobShort : Job → JobLengths → Bool
-jobShort j n =
+unfoldable pub jobShort : JobTables → JobLengths → Bool
+jobShort f n =
     anyOf (
-    ltb (n .price) (j .offers)
-    ∷ ltb (n .offerOwner) (j .offers)
-    ∷ ltb (n .grocerOwner) (j .grocers)
-    ∷ ltb (n .tallyGrocer) (j .tallies)
-    ∷ ltb (n .tallyBox) (j .tallies)
-    ∷ ltb (n .tallyOffer) (j .tallies)
-    ∷ ltb (n .tallyCount) (j .tallies)
+    ltb (n .price) (f .offers)
+    ∷ ltb (n .offerOwner) (f .offers)
+    ∷ ltb (n .grocerOwner) (f .grocers)
+    ∷ ltb (n .tallyGrocer) (f .tallies)
+    ∷ ltb (n .tallyBox) (f .tallies)
+    ∷ ltb (n .tallyOffer) (f .tallies)
+    ∷ ltb (n .tallyCount) (f .tallies)
     ∷ [])
 
 -- 20 on the state's tables: a lent buffer shorter than K, M and N as given need.
-unfoldable pub stateShort : Job → StateLengths → Bool
-stateShort j n =
+unfoldable pub stateShort : JobTables → StateLengths → Bool
+stateShort f n =
     anyOf (
-    ltb (n .known) (j .boxes * j .offers)
-    ∷ ltb (n .priceTransit) (j .boxes * j .offers)
-    ∷ ltb (n .working) (j .boxes * j .grocers)
-    ∷ ltb (n .totalTransit) (j .boxes * j .grocers)
-    ∷ ltb (n .statement) (j .grocers)
-    ∷ ltb (n .done) (6 * j .boxes * j .boxes)
+    ltb (n .known) (f .boxes * f .offers)
+    ∷ ltb (n .priceTransit) (f .boxes * f .offers)
+    ∷ ltb (n .working) (f .boxes * f .grocers)
+    ∷ ltb (n .totalTransit) (f .boxes * f .grocers)
+    ∷ ltb (n .statement) (f .grocers)
+    ∷ ltb (n .done) (6 * f .boxes * f .boxes)
     ∷ ltb (n .sent) 1
     ∷ [])
 
 -- 20 for step and run: one of the fourteen tables is lent short.
 unfoldable pub lentShort : JobTables → StateTables → Bool
-lentShort f t = jobShort (jobOf f) (jobLengths f) || stateShort (jobOf f) (stateLengths t)
+lentShort f t = jobShort f (jobLengths f) || stateShort f (stateLengths t)

@@ -5,7 +5,7 @@ use Prim.Native.Nat.{ℕ}
 use native.Mathlib.Omega.{arith}
 use Rattle.laws.specs.Checks.{firstMet}
 use Rattle.laws.proofs.Bools.{and-l, and-r, or-off}
-use Rattle.model.specs.Tables.{JobTables, jobOf, jobLengths, jobShort, StateTables, stateLengths, stateShort, lentShort}
+use Rattle.model.specs.Tables.{JobTables, jobLengths, jobShort, StateTables, stateLengths, stateShort, lentShort}
 use Rattle.model.specs.Ranges.{jobInRange, stateInRange}
 use Rattle.model.specs.Step.{Asked, refusals, stepRefusal}
 use Rattle.tables.specs.Sizes.{sizes}
@@ -13,18 +13,18 @@ use Rattle.refuse.specs.Late.{earlyRules, laterRules, Held}
 use Rattle.tables.proofs.Sizes.{short-sizes, range-sizes}
 use Rattle.refuse.proofs.Extra.{met-first}
 
-module _ (f : JobTables) (t : StateTables) (x y : Bool) (ex : x ≡ jobShort (jobOf f) (jobLengths f))
-    (ey : y ≡ stateShort (jobOf (sizes (f .boxes) (f .grocers) (f .offers))) (stateLengths t)) where
+module _ (f : JobTables) (t : StateTables) (x y : Bool) (ex : x ≡ jobShort f (jobLengths f))
+    (ey : y ≡ stateShort (sizes (f .boxes) (f .grocers) (f .offers)) (stateLengths t)) where
   -- 20: a table is lent short.
   pub met-short : (x || y) ≡ true → 20 ≡ firstMet (earlyRules f t)
   unfolding earlyRules firstMet lentShort
   met-short h = rw (sym ex, sym (ey ∙ short-sizes f (stateLengths t)), h)
 
   module _ (h : (x || y) ≡ false) where
-    pub job-long : jobShort (jobOf f) (jobLengths f) ≡ false
+    pub job-long : jobShort f (jobLengths f) ≡ false
     job-long = sym ex ∙ or-off x y h .0
 
-    pub state-long : stateShort (jobOf (sizes (f .boxes) (f .grocers) (f .offers))) (stateLengths t) ≡ false
+    pub state-long : stateShort (sizes (f .boxes) (f .grocers) (f .offers)) (stateLengths t) ≡ false
     state-long = sym ey ∙ or-off x y h .1
 
     module _ (u v : Bool) (eu : u ≡ jobInRange f) (ev : v ≡ stateInRange (sizes (f .boxes) (f .grocers) (f .offers)) t) where
@@ -58,7 +58,7 @@ module _ (f : JobTables) (t : StateTables) where
     pub held : Held f t
     unfolding lentShort
     held =
-        let l = or-off (jobShort (jobOf f) (jobLengths f)) (stateShort (jobOf f) (stateLengths t)) (both .0) in
+        let l = or-off (jobShort f (jobLengths f)) (stateShort f (stateLengths t)) (both .0) in
         record {
           job-long = l .0;
           state-long = l .1;

@@ -21,8 +21,8 @@ laterRules f t q = stepRules (jobOf f) (view (jobOf f) t .done) q ++ (not (state
 
 -- Neither 20 nor 21 is met: nothing is lent short, and every word is in range.
 pub record Held (f : JobTables) (t : StateTables) : Type 0 where
-  pub job-long : jobShort (jobOf f) (jobLengths f) ≡ false
-  pub state-long : stateShort (jobOf f) (stateLengths t) ≡ false
+  pub job-long : jobShort f (jobLengths f) ≡ false
+  pub state-long : stateShort f (stateLengths t) ≡ false
   pub job-in : jobInRange f ≡ true
   pub state-in : stateInRange f t ≡ true
 

@@ -72,7 +72,7 @@ module _ (f : JobTables) (t : StateTables) (g : Begins f t) where
   pub begins-fresh : FreshIn (f .boxes) (f .grocers) (f .offers) (f .price) (f .offerOwner) t
   unfolding jobOf stateLengths
   begins-fresh =
-      let l = state-long (jobOf f) (stateLengths t) (g .state-long) in
+      let l = state-long f (stateLengths t) (g .state-long) in
       record {
         boxes≤ = range f (g .job-in) .boxes≤;
         grocers≤ = limits f (g .job-in) .grocers≤;
@@ -158,24 +158,24 @@ refused-said (suc n) a h = refl
 
 -- The conditions 20 and 21.
 module _ (f : JobTables) (t : StateTables) where
-  short-both : (a b : Bool) → a ≡ jobShort (jobOf f) (jobLengths f) → b ≡ stateShort (jobOf (sizes (f .boxes) (f .grocers) (f .offers))) (stateLengths t) → (a || b) ≡ lentShort f t
+  short-both : (a b : Bool) → a ≡ jobShort f (jobLengths f) → b ≡ stateShort (sizes (f .boxes) (f .grocers) (f .offers)) (stateLengths t) → (a || b) ≡ lentShort f t
   unfolding lentShort
   short-both a b ea eb = rw (ea, eb ∙ short-sizes f (stateLengths t))
 
-  pub refused-short : (a b : Bool) → a ≡ jobShort (jobOf f) (jobLengths f) → b ≡ stateShort (jobOf (sizes (f .boxes) (f .grocers) (f .offers))) (stateLengths t) → (a || b) ≡ true → 20 ≡ firstMet (runRefusals f t)
+  pub refused-short : (a b : Bool) → a ≡ jobShort f (jobLengths f) → b ≡ stateShort (sizes (f .boxes) (f .grocers) (f .offers)) (stateLengths t) → (a || b) ≡ true → 20 ≡ firstMet (runRefusals f t)
   unfolding firstMet runRefusals
   refused-short a b ea eb h = rw (sym (short-both a b ea eb) ∙ h)
 
-  pub long-job : (a b : Bool) → a ≡ jobShort (jobOf f) (jobLengths f) → (a || b) ≡ false → jobShort (jobOf f) (jobLengths f) ≡ false
+  pub long-job : (a b : Bool) → a ≡ jobShort f (jobLengths f) → (a || b) ≡ false → jobShort f (jobLengths f) ≡ false
   long-job false b ea h = sym ea
   long-job true b ea h = sym ea ∙ h
 
-  pub refused-range : (a b c : Bool) → a ≡ jobShort (jobOf f) (jobLengths f) → b ≡ stateShort (jobOf (sizes (f .boxes) (f .grocers) (f .offers))) (stateLengths t) → (a || b) ≡ false → c ≡ jobInRange f
+  pub refused-range : (a b c : Bool) → a ≡ jobShort f (jobLengths f) → b ≡ stateShort (sizes (f .boxes) (f .grocers) (f .offers)) (stateLengths t) → (a || b) ≡ false → c ≡ jobInRange f
       → c ≡ false → 21 ≡ firstMet (runRefusals f t)
   unfolding firstMet runRefusals
   refused-range a b c ea eb h ec n = rw (sym (short-both a b ea eb) ∙ h, sym ec ∙ n)
 
-  pub refused-none : (a b c : Bool) → a ≡ jobShort (jobOf f) (jobLengths f) → b ≡ stateShort (jobOf (sizes (f .boxes) (f .grocers) (f .offers))) (stateLengths t) → (a || b) ≡ false → c ≡ jobInRange f
+  pub refused-none : (a b c : Bool) → a ≡ jobShort f (jobLengths f) → b ≡ stateShort (sizes (f .boxes) (f .grocers) (f .offers)) (stateLengths t) → (a || b) ≡ false → c ≡ jobInRange f
       → c ≡ true → 0 ≡ firstMet (runRefusals f t)
   unfolding firstMet runRefusals
   refused-none a b c ea eb h ec n = rw (sym (short-both a b ea eb) ∙ h, sym ec ∙ n)
@@ -184,7 +184,7 @@ module _ (f : JobTables) (t : StateTables) where
   pub begins : firstMet (runRefusals f t) ≡ 0 → Begins f t
   unfolding firstMet runRefusals lentShort
   begins h =
-      let p = parts (jobShort (jobOf f) (jobLengths f)) (stateShort (jobOf f) (stateLengths t)) (jobInRange f) h in
+      let p = parts (jobShort f (jobLengths f)) (stateShort f (stateLengths t)) (jobInRange f) h in
       record { job-in = p .1 .1; job-long = p .0; state-long = p .1 .0 }
     where
       parts : (a b c : Bool) → cond {A = ℕ} (a || b) 20 (cond (not c) 21 0) ≡ 0 → (a ≡ false) × ((b ≡ false) × (c ≡ true))

@@ -23,8 +23,8 @@ given a t = record { answer = a; tables = t }
 -- Nothing is lent short, and the job's tables are in range.
 pub record Begins (f : JobTables) (t : StateTables) : Type 0 where
   pub job-in : jobInRange f ≡ true
-  pub job-long : jobShort (jobOf f) (jobLengths f) ≡ false
-  pub state-long : stateShort (jobOf f) (stateLengths t) ≡ false
+  pub job-long : jobShort f (jobLengths f) ≡ false
+  pub state-long : stateShort f (stateLengths t) ≡ false
 
 -- The tables hold what the run's steps leave, and its messages and steps are counted.
 pub record Settled (f : JobTables) (t : StateTables) (cs : List ℕ) (t′ : StateTables) (m n : ℕ) : Type 0 where

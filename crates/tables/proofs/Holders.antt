@@ -1,5 +1,5 @@
 -- The words that one pass over the tallies makes are the need words and the sharer words. Assumes nothing.
-use mathlib.Core.Path.{_≡_, refl, sym, ap, _∙_}
+use mathlib.Core.Path.{_≡_, sym, ap, _∙_}
 use mathlib.Core.Bool.{true, false, _&&_, _||_}
 use mathlib.Core.List.{List}
 use Prim.Native.Nat.{ℕ, _+_, _^_, _<_, _≤_}
@@ -8,19 +8,16 @@ use lib.ListN.{getD, length}
 use lib.Seq.{getD-set-same, getD-set-other}
 use lib.Dec.{eqb, ltb}
 use lib.Bits.{bitOr}
-use lib.Count.{ones}
 use borrow.Author.Tests.{ltb-true, eqb-true, eqb-false}
-use Rattle.laws.specs.Below.{sum, naturals, any}
-use Rattle.laws.specs.Masks.{without}
+use Rattle.laws.specs.Below.{any}
 use Rattle.laws.specs.Tables.{tabulate, word}
 use Rattle.laws.proofs.Bools.{split, eqb-same, and-false, and-one, or-false}
-use Rattle.laws.proofs.Sums.{sum-next}
 use Rattle.laws.proofs.Below.{any-next, any-cong}
 use Rattle.laws.proofs.Masks.{mask-cong, mask-none, mask-or}
 use Rattle.laws.proofs.Tables.{word-in, tabulate-cong}
 use Rattle.model.specs.Job.{heldBy, needs, shares, needWord, sharerWord}
 use Rattle.model.specs.Tables.{JobTables, jobOf}
-use Rattle.tables.specs.Masks.{marked, holds, holderWord, othersSum}
+use Rattle.tables.specs.Masks.{marked, holds, holderWord}
 
 -- The box of a tally is b, and b is below k.
 held-in : (k b i : ℕ) → ltb b k ≡ true → (eqb b i && ltb i k) ≡ eqb b i
@@ -102,12 +99,3 @@ module _ (f : JobTables) where
 
   pub sharer-words : tabulate 255 (holderWord (f .boxes) (f .tallies) (f .tallyBox) (f .tallyGrocer)) ≡ tabulate 255 (sharerWord (jobOf f))
   sharer-words = tabulate-cong 255 _ _ (λ g l. sharer-word g)
-
--- The ones without the owners' bits, one word more.
-pub others-none : (owners masks : List ℕ) → othersSum 0 owners masks ≡ 0
-unfolding othersSum sum naturals
-others-none owners masks = refl
-
-pub others-next : (n : ℕ) (owners masks : List ℕ) → othersSum (n + 1) owners masks ≡ othersSum n owners masks + ones (without (getD owners n 0) (getD masks n 0))
-unfolding othersSum naturals
-others-next n owners masks = sum-next naturals n (λ i. ones (without (getD owners i 0) (getD masks i 0)))

@@ -2,29 +2,25 @@
 use mathlib.Core.Path.{_≡_, sym, ap, ap₂, _∙_}
 use mathlib.Core.Bool.{Bool, true, false, cond, _&&_, not}
 use mathlib.Core.List.{List}
-use Prim.Native.Nat.{ℕ, _+_, _<_, _≤_}
+use Prim.Native.Nat.{ℕ, _<_, _≤_}
 use native.Mathlib.Omega.{arith}
 use lib.ListN.{getD}
 use lib.Dec.{eqb}
-use lib.Count.{ones}
-use Rattle.laws.specs.Below.{naturals}
-use Rattle.laws.specs.Masks.{bit, maskOf, without}
+use Rattle.laws.specs.Masks.{bit, maskOf}
 use Rattle.laws.specs.Tables.{tabulate}
-use Rattle.laws.proofs.Sums.{sum-cong}
 use Rattle.laws.proofs.Below.{count-cong}
 use Rattle.laws.proofs.Masks.{bit-mask}
 use Rattle.laws.proofs.Tables.{length-tabulate, getD-tabulate, word-in}
 use Rattle.model.specs.Job.{priceWord, totalWord}
 use Rattle.model.specs.Tables.{JobTables, jobOf}
 use Rattle.model.specs.Ranges.{jobInRange}
-use Rattle.model.specs.Words.{ownerWords}
 use Rattle.model.specs.Local.{priceTable, totalTable}
 use Rattle.model.proofs.Step.{range, limits}
-use Rattle.tables.specs.Masks.{holds, holderWord, Placed, othersSum, Owned}
+use Rattle.tables.specs.Masks.{holds, holderWord, Placed, Owned}
 use Rattle.tables.specs.Messages.{between, sends, sentTable}
 use Rattle.tables.proofs.Extra.{rows-cong}
 use Rattle.tables.proofs.Whole.{JobWhole}
-use Rattle.tables.proofs.Holders.{need-holds, share-holds, need-word, sharer-word}
+use Rattle.tables.proofs.Holders.{need-holds, share-holds}
 
 -- Tables that are whole and in range are what the functions ask for.
 module _ (f : JobTables) (ok : jobInRange f ≡ true) (w : JobWhole f) where
@@ -73,11 +69,11 @@ module _ (back : Bool) (n size : ℕ) (owners : List ℕ) (p : ℕ → ℕ → B
       (ap (bit (cond back a b)) (getD-tabulate size (λ k. maskOf 16 (p k)) i 0 (omega arith)) ∙ bit-mask 16 (cond back a b) (p i) l)
 
 module _ (f : JobTables) (ok : jobInRange f ≡ true) where
-  offers-room : f .offers ≤ 500
+  pub offers-room : f .offers ≤ 500
   unfolding jobOf
   offers-room = limits f ok .offers≤
 
-  grocers-room : f .grocers ≤ 255
+  pub grocers-room : f .grocers ≤ 255
   unfolding jobOf
   grocers-room = limits f ok .grocers≤
 
@@ -94,14 +90,3 @@ module _ (f : JobTables) (ok : jobInRange f ≡ true) where
   total-sent = rows-cong 16 16 _ _ (λ a b la lb. count-cong (f .grocers) _ _ (λ g l.
       sent-cell true (f .grocers) 255 (f .grocerOwner) (holds (f .boxes) (f .tallies) (f .tallyBox) (f .tallyGrocer)) grocers-room a b g la l
       ∙ ap₂ (λ (x : ℕ) (t : Bool). eqb x b && (not (eqb x a) && t)) (sym (word-in (f .grocers) (f .grocerOwner) 0 g l)) (share-holds f g a)))
-
-  -- What `masks::word_total` gives is the words of the job by the owner tables.
-  pub word-total :
-      othersSum (f .offers) (f .offerOwner) (tabulate 500 (holderWord (f .boxes) (f .tallies) (f .tallyBox) (f .tallyOffer)))
-      + othersSum (f .grocers) (f .grocerOwner) (tabulate 255 (holderWord (f .boxes) (f .tallies) (f .tallyBox) (f .tallyGrocer)))
-      ≡ ownerWords (jobOf f)
-  unfolding othersSum ownerWords jobOf
-  word-total =
-      ap₂ (λ (x y : ℕ). x + y)
-      (sum-cong naturals (f .offers) _ _ (λ o l. ap₂ (λ (x y : ℕ). ones (without x y)) (sym (word-in (f .offers) (f .offerOwner) 0 o l)) (getD-tabulate 500 _ o 0 (let r = offers-room in omega arith) ∙ need-word f o)))
-      (sum-cong naturals (f .grocers) _ _ (λ g l. ap₂ (λ (x y : ℕ). ones (without x y)) (sym (word-in (f .grocers) (f .grocerOwner) 0 g l)) (getD-tabulate 255 _ g 0 (let r = grocers-room in omega arith) ∙ sharer-word f g)))

@@ -6,5 +6,4 @@ pub mod Whole
 pub mod Holders
 pub mod Sending
 pub mod InJob
-pub mod Refused
 pub mod MessageLaws

@@ -1,20 +1,19 @@
--- A table of messages while the words of one owner more are added to it, box by box; and while its counts are summed. Assumes nothing.
+-- A table of messages while the words of one owner more are added to it, box by box. Assumes nothing.
 use mathlib.Core.Path.{_≡_, refl, sym, ap, ap₂, _∙_}
 use mathlib.Core.Bool.{Bool, true, false, cond, _&&_, not}
 use mathlib.Core.List.{List, []}
 use Prim.Native.Nat.{ℕ, _+_, _^_, _<_, _≤_}
 use native.Mathlib.Nat.{add-zero}
 use native.Mathlib.Omega.{arith}
-use lib.ListN.{length, getD, set, replicate, List·getD-eq-default}
+use lib.ListN.{getD, set, replicate}
 use lib.Dec.{eqb, ltb}
 use borrow.Author.Tests.{lt-ltb, le-ltb, ltb-true, ltb-false, ne-eqb, eqb-true, eqb-false}
 use Rattle.laws.specs.Below.{naturals, only, sum, count}
 use Rattle.laws.specs.Masks.{bit, without}
 use Rattle.laws.specs.Tables.{tabulate}
 use Rattle.laws.proofs.Bools.{split, eqb-same, and-false}
-use Rattle.laws.proofs.Sums.{sum-next, sum-none}
 use Rattle.laws.proofs.Below.{count-next, count-le, only-le}
-use Rattle.tables.specs.Messages.{between, sends, sentTable, cellAt, rowSum, columnSum, tableSum}
+use Rattle.tables.specs.Messages.{between, sends, sentTable, cellAt}
 use Rattle.tables.proofs.Extra.{bit-without, rows-cong, rows-at, rows-set}
 
 -- The side of a cell that holds, and the side that owns.
@@ -135,45 +134,3 @@ module _ (back : Bool) (n : ℕ) (owners masks : List ℕ) (lo : getD owners n 0
 pub sent-none : (back : Bool) (owners masks : List ℕ) → replicate 16 (replicate 16 0) ≡ sentTable back 0 owners masks
 unfolding sentTable tabulate count sum naturals
 sent-none back owners masks = refl
-
--- The first n counts of a row or a column, summed.
-unfoldable pub lineTo : ℕ → Bool → List (List ℕ) → ℕ → ℕ
-lineTo n back t x = sum naturals n (λ y. cellAt t (cond back y x) (cond back x y))
-
-module _ (back : Bool) (t : List (List ℕ)) (x : ℕ) where
-  pub line-none : lineTo 0 back t x ≡ 0
-  unfolding lineTo sum naturals
-  line-none = refl
-
-  pub line-next : (n : ℕ) → lineTo (n + 1) back t x ≡ lineTo n back t x + cellAt t (cond back n x) (cond back x n)
-  unfolding lineTo naturals
-  line-next n = sum-next naturals n (λ y. cellAt t (cond back y x) (cond back x y))
-
--- All sixteen: what a box sends, or where `back` what it receives.
-pub line-whole : (back : Bool) (t : List (List ℕ)) (x : ℕ) → lineTo 16 back t x ≡ cond back (columnSum t x) (rowSum t x)
-unfolding lineTo rowSum columnSum
-line-whole false t x = refl
-line-whole true t x = refl
-
--- A line past the table has no word.
-pub line-past : (back : Bool) (t : List (List ℕ)) (x : ℕ) → length t ≤ 16 → ((i : ℕ) → length (getD t i []) ≤ 16) → 16 ≤ x → cond back (columnSum t x) (rowSum t x) ≡ 0
-unfolding rowSum columnSum naturals
-line-past false t x rows columns h = sum-none naturals 16 (λ y. cellAt t x y) (λ y l. ap (λ (r : List ℕ). getD r y 0) (List·getD-eq-default t [] {n = x} (omega arith)))
-line-past true t x rows columns h = sum-none naturals 16 (λ y. cellAt t y x) (λ y l. List·getD-eq-default (getD t y []) 0 {n = x} (omega (arith, columns y)))
-
--- The first n rows.
-unfoldable pub rowsTo : ℕ → List (List ℕ) → ℕ
-rowsTo n t = sum naturals n (λ a. rowSum t a)
-
-module _ (t : List (List ℕ)) where
-  pub rows-none : rowsTo 0 t ≡ 0
-  unfolding rowsTo sum naturals
-  rows-none = refl
-
-  pub rows-next : (n : ℕ) → rowsTo (n + 1) t ≡ rowsTo n t + rowSum t n
-  unfolding rowsTo naturals
-  rows-next n = sum-next naturals n (λ a. rowSum t a)
-
-  pub rows-whole : rowsTo 16 t ≡ tableSum t
-  unfolding rowsTo tableSum
-  rows-whole = refl

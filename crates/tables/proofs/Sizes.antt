@@ -4,14 +4,14 @@ use mathlib.Core.List.{[]}
 use Prim.Native.Nat.{ℕ, _*_, _<_}
 use native.Mathlib.Nat.{lt-of-le-of-lt, mul-le-mul-left, mul-lt-mul-of-pos-right, le-of-lt}
 use lib.Dec.{lit<}
-use Rattle.model.specs.Tables.{JobTables, jobTables, jobOf, StateTables, StateLengths, stateShort}
+use Rattle.model.specs.Tables.{JobTables, jobTables, StateTables, StateLengths, stateShort}
 use Rattle.model.specs.Ranges.{sizesInRange, stateInRange}
 use Rattle.tables.specs.Sizes.{sizes}
 
 module _ (f : JobTables) where
   -- The caller's tables may stand for the sizes alone.
-  pub short-sizes : (n : StateLengths) → stateShort (jobOf (sizes (f .boxes) (f .grocers) (f .offers))) n ≡ stateShort (jobOf f) n
-  unfolding stateShort jobOf
+  pub short-sizes : (n : StateLengths) → stateShort (sizes (f .boxes) (f .grocers) (f .offers)) n ≡ stateShort f n
+  unfolding stateShort
   short-sizes n = refl
 
   pub range-sizes : (t : StateTables) → stateInRange (sizes (f .boxes) (f .grocers) (f .offers)) t ≡ stateInRange f t

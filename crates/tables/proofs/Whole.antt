@@ -3,7 +3,7 @@ use mathlib.Core.Path.{_≡_}
 use mathlib.Core.Bool.{false}
 use Prim.Native.Nat.{ℕ, _*_, _≤_}
 use lib.ListN.{length}
-use Rattle.model.specs.Tables.{JobTables, jobOf, jobLengths, jobShort, StateTables, stateLengths, stateShort}
+use Rattle.model.specs.Tables.{JobTables, jobLengths, jobShort, StateTables, stateLengths, stateShort}
 use Rattle.model.proofs.Lent.{job-long, state-long}
 
 -- Every table of the job is as long as M, N and T need.
@@ -16,10 +16,10 @@ pub record JobWhole (f : JobTables) : Type 0 where
   pub tallyOffer : f .tallies ≤ length (f .tallyOffer)
   pub tallyCount : f .tallies ≤ length (f .tallyCount)
 
-pub job-whole : (f : JobTables) → jobShort (jobOf f) (jobLengths f) ≡ false → JobWhole f
-unfolding jobOf jobLengths
+pub job-whole : (f : JobTables) → jobShort f (jobLengths f) ≡ false → JobWhole f
+unfolding jobLengths
 job-whole f h =
-    let l = job-long (jobOf f) (jobLengths f) h in
+    let l = job-long f (jobLengths f) h in
     record {
       price = l .price;
       offerOwner = l .offerOwner;
@@ -40,10 +40,10 @@ pub record StateWhole (k m n : ℕ) (t : StateTables) : Type 0 where
   pub done : 6 * k * k ≤ length (t .done)
   pub sent : 1 ≤ length (t .sent)
 
-pub state-whole : (f : JobTables) (t : StateTables) → stateShort (jobOf f) (stateLengths t) ≡ false → StateWhole (f .boxes) (f .grocers) (f .offers) t
-unfolding jobOf stateLengths
+pub state-whole : (f : JobTables) (t : StateTables) → stateShort f (stateLengths t) ≡ false → StateWhole (f .boxes) (f .grocers) (f .offers) t
+unfolding stateLengths
 state-whole f t h =
-    let l = state-long (jobOf f) (stateLengths t) h in
+    let l = state-long f (stateLengths t) h in
     record {
       known = l .known;
       priceTransit = l .priceTransit;

@@ -2,5 +2,3 @@
 pub mod Sizes
 pub mod Masks
 pub mod Messages
-pub mod Refusals
-pub mod Answers

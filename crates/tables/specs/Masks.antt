@@ -1,13 +1,12 @@
--- Need words and sharer words by the tables of the tallies, and the words of a job by its owner tables.
+-- Need words and sharer words by the tables of the tallies.
 use mathlib.Core.Bool.{Bool, cond, _&&_}
 use mathlib.Core.List.{List}
 use Prim.Native.Nat.{ℕ, _^_, _<_, _≤_}
 use lib.ListN.{getD, set, length}
 use lib.Dec.{eqb, ltb}
 use lib.Bits.{bitOr}
-use lib.Count.{ones}
-use Rattle.laws.specs.Below.{any, sum, naturals}
-use Rattle.laws.specs.Masks.{maskOf, without}
+use Rattle.laws.specs.Below.{any}
+use Rattle.laws.specs.Masks.{maskOf}
 
 -- The words after one tally of box b and place p: bit b of the word at p is set, where b is below k.
 unfoldable pub marked : ℕ → ℕ → ℕ → List ℕ → List ℕ
@@ -28,11 +27,7 @@ pub record Placed (k n size : ℕ) (boxes places : List ℕ) : Type 0 where
   pub placeLong : n ≤ length places
   pub place< : (t : ℕ) → t < n → getD places t 0 < size
 
--- The ones in the first n words, each without its owner's bit.
-unfoldable pub othersSum : ℕ → List ℕ → List ℕ → ℕ
-othersSum n owners masks = sum naturals n (λ i. ones (without (getD owners i 0) (getD masks i 0)))
-
--- What the sum asks: tables long enough, and owners below 16.
+-- What a pass over n owners asks: tables long enough, and owners below 16.
 pub record Owned (n : ℕ) (owners masks : List ℕ) : Type 0 where
   pub ownerLong : n ≤ length owners
   pub maskLong : n ≤ length masks

@@ -4,7 +4,7 @@ use mathlib.Core.List.{List, []}
 use Prim.Native.Nat.{ℕ}
 use lib.ListN.{getD}
 use lib.Dec.{eqb}
-use Rattle.laws.specs.Below.{sum, naturals, count}
+use Rattle.laws.specs.Below.{count}
 use Rattle.laws.specs.Masks.{bit}
 use Rattle.laws.specs.Tables.{tabulate}
 
@@ -23,15 +23,3 @@ sentTable back n owners masks = tabulate 16 (λ a. tabulate 16 (λ b. count n (�
 -- The count in row a, column b of a table.
 abbrev pub cellAt : List (List ℕ) → ℕ → ℕ → ℕ
 cellAt t a b = getD (getD t a []) b 0
-
--- What box a sends in all: the sum of its row.
-unfoldable pub rowSum : List (List ℕ) → ℕ → ℕ
-rowSum t a = sum naturals 16 (λ b. cellAt t a b)
-
--- What box b receives in all: the sum of its column.
-unfoldable pub columnSum : List (List ℕ) → ℕ → ℕ
-columnSum t b = sum naturals 16 (λ a. cellAt t a b)
-
--- The words of a table in all.
-unfoldable pub tableSum : List (List ℕ) → ℕ
-tableSum t = sum naturals 16 (λ a. rowSum t a)

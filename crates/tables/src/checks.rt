@@ -3,11 +3,15 @@ ghost use mathlib.Core.Path.{_≡_};
 ghost use mathlib.Core.Bool.{false};
 ghost use mathlib.Core.List.{[]};
 ghost use Prim.Native.Nat.{_*_};
-ghost use Rattle.model.specs.Tables.{jobTables, jobOf, jobLengths, jobShort, stateTables, stateLengths, stateShort};
+ghost use Rattle.model.specs.Tables.{jobTables, jobLengths, jobShort, stateTables, stateLengths, stateShort};
 ghost use Rattle.model.specs.Ranges.{sizesInRange, jobWordsInRange, jobInRange, stateInRange};
-ghost use Rattle.laws.specs.Checks.{firstMet};
 ghost use Rattle.tables.specs.Sizes.{sizes};
-ghost use Rattle.tables.specs.Refusals.{jobRefusals};
+use crate::limits::MAX_BOXES;
+use crate::limits::MAX_GROCERS;
+use crate::limits::MAX_OFFERS;
+use crate::limits::MAX_PRICE;
+use crate::limits::MAX_SENT;
+use crate::limits::MAX_TALLIES;
 use crate::ranges::around32;
 use crate::ranges::around64;
 use crate::ranges::under16;
@@ -35,29 +39,29 @@ pub fn job_short(
     offers: u16,
     tallies: u16,
     price: &[u32],
-    owner: &[u16],
-    gowner: &[u16],
-    tgrocer: &[u16],
-    tbox: &[u16],
-    toffer: &[u16],
-    tcount: &[i32],
+    offer_owner: &[u16],
+    grocer_owner: &[u16],
+    tally_grocer: &[u16],
+    tally_box: &[u16],
+    tally_offer: &[u16],
+    tally_count: &[i32],
 ) -> bool
     ensures { λ r. ⌜ r ≡ jobShort
-        (jobOf (jobTables boxes grocers offers tallies (now (price .entry)) (now (owner .entry)) (now (gowner .entry))
-        (now (tgrocer .entry)) (now (tbox .entry)) (now (toffer .entry)) (now (tcount .entry))))
-        (jobLengths (jobTables boxes grocers offers tallies (now (price .entry)) (now (owner .entry)) (now (gowner .entry))
-        (now (tgrocer .entry)) (now (tbox .entry)) (now (toffer .entry)) (now (tcount .entry)))) ⌝ }
+        (jobTables boxes grocers offers tallies (now (price .entry)) (now («offer_owner» .entry)) (now («grocer_owner» .entry))
+        (now («tally_grocer» .entry)) (now («tally_box» .entry)) (now («tally_offer» .entry)) (now («tally_count» .entry)))
+        (jobLengths (jobTables boxes grocers offers tallies (now (price .entry)) (now («offer_owner» .entry)) (now («grocer_owner» .entry))
+        (now («tally_grocer» .entry)) (now («tally_box» .entry)) (now («tally_offer» .entry)) (now («tally_count» .entry)))) ⌝ }
 {
     let m = grocers as usize;
     let n = offers as usize;
     let t = tallies as usize;
     (price.len() < n)
-        | (owner.len() < n)
-        | (gowner.len() < m)
-        | (tgrocer.len() < t)
-        | (tbox.len() < t)
-        | (toffer.len() < t)
-        | (tcount.len() < t)
+        | (offer_owner.len() < n)
+        | (grocer_owner.len() < m)
+        | (tally_grocer.len() < t)
+        | (tally_box.len() < t)
+        | (tally_offer.len() < t)
+        | (tally_count.len() < t)
 }
 
 // 20: whether a table of the state is shorter than K, M and N as given need.
@@ -66,24 +70,24 @@ pub fn state_short(
     grocers: u16,
     offers: u16,
     known: &[u32],
-    ptransit: &[u32],
+    price_transit: &[u32],
     working: &[i64],
-    ttransit: &[i64],
+    total_transit: &[i64],
     statement: &[i64],
     done: &[u16],
     sent: &[u32],
 ) -> bool
-    ensures { λ r. ⌜ r ≡ stateShort (jobOf (sizes boxes grocers offers))
-        (stateLengths (stateTables (now (known .entry)) (now (ptransit .entry)) (now (working .entry)) (now (ttransit .entry))
+    ensures { λ r. ⌜ r ≡ stateShort (sizes boxes grocers offers)
+        (stateLengths (stateTables (now (known .entry)) (now («price_transit» .entry)) (now (working .entry)) (now («total_transit» .entry))
         (now (statement .entry)) (now (done .entry)) (now (sent .entry)))) ⌝ }
 {
     let kn = words(boxes, offers);
     let km = words(boxes, grocers);
     let kk = marks(boxes);
     (known.len() < kn)
-        | (ptransit.len() < kn)
+        | (price_transit.len() < kn)
         | (working.len() < km)
-        | (ttransit.len() < km)
+        | (total_transit.len() < km)
         | (statement.len() < grocers as usize)
         | (done.len() < kk)
         | (sent.len() < 1)
@@ -93,10 +97,10 @@ pub fn state_short(
 pub fn sizes_in_range(boxes: u16, grocers: u16, offers: u16, tallies: u16) -> bool
     ensures { λ r. ⌜ r ≡ sizesInRange (jobTables boxes grocers offers tallies [] [] [] [] [] [] []) ⌝ }
 {
-    ((1 <= boxes) & (boxes <= 16))
-        & ((1 <= grocers) & (grocers <= 255))
-        & ((1 <= offers) & (offers <= 500))
-        & (tallies <= 1_000)
+    ((1 <= boxes) & (boxes <= MAX_BOXES))
+        & ((1 <= grocers) & (grocers <= MAX_GROCERS))
+        & ((1 <= offers) & (offers <= MAX_OFFERS))
+        & (tallies <= MAX_TALLIES)
 }
 
 // 21: whether every word of the job's tables is in range.
@@ -106,31 +110,31 @@ fn job_words_in_range(
     offers: u16,
     tallies: u16,
     price: &[u32],
-    owner: &[u16],
-    gowner: &[u16],
-    tgrocer: &[u16],
-    tbox: &[u16],
-    toffer: &[u16],
-    tcount: &[i32],
+    offer_owner: &[u16],
+    grocer_owner: &[u16],
+    tally_grocer: &[u16],
+    tally_box: &[u16],
+    tally_offer: &[u16],
+    tally_count: &[i32],
 ) -> bool
     requires { ⌜ jobShort
-        (jobOf (jobTables boxes grocers offers tallies (now price) (now owner) (now gowner)
-        (now tgrocer) (now tbox) (now toffer) (now tcount)))
-        (jobLengths (jobTables boxes grocers offers tallies (now price) (now owner) (now gowner)
-        (now tgrocer) (now tbox) (now toffer) (now tcount))) ≡ false ⌝ }
-    ensures { λ r. ⌜ r ≡ jobWordsInRange (jobTables boxes grocers offers tallies (now (price .entry)) (now (owner .entry)) (now (gowner .entry))
-        (now (tgrocer .entry)) (now (tbox .entry)) (now (toffer .entry)) (now (tcount .entry))) ⌝ }
+        (jobTables boxes grocers offers tallies (now price) (now «offer_owner») (now «grocer_owner»)
+        (now «tally_grocer») (now «tally_box») (now «tally_offer») (now «tally_count»))
+        (jobLengths (jobTables boxes grocers offers tallies (now price) (now «offer_owner») (now «grocer_owner»)
+        (now «tally_grocer») (now «tally_box») (now «tally_offer») (now «tally_count»))) ≡ false ⌝ }
+    ensures { λ r. ⌜ r ≡ jobWordsInRange (jobTables boxes grocers offers tallies (now (price .entry)) (now («offer_owner» .entry)) (now («grocer_owner» .entry))
+        (now («tally_grocer» .entry)) (now («tally_box» .entry)) (now («tally_offer» .entry)) (now («tally_count» .entry))) ⌝ }
 {
     let m = grocers as usize;
     let n = offers as usize;
     let t = tallies as usize;
-    upto32(price, n, 9_999_999)
-        & under16(owner, n, boxes)
-        & under16(gowner, m, boxes)
-        & under16(tgrocer, t, grocers)
-        & under16(tbox, t, boxes)
-        & under16(toffer, t, offers)
-        & around32(tcount, t)
+    upto32(price, n, MAX_PRICE)
+        & under16(offer_owner, n, boxes)
+        & under16(grocer_owner, m, boxes)
+        & under16(tally_grocer, t, grocers)
+        & under16(tally_box, t, boxes)
+        & under16(tally_offer, t, offers)
+        & around32(tally_count, t)
 }
 
 // 21: whether K, M, N and T and every word of the job's tables are in range.
@@ -140,20 +144,20 @@ pub fn job_in_range(
     offers: u16,
     tallies: u16,
     price: &[u32],
-    owner: &[u16],
-    gowner: &[u16],
-    tgrocer: &[u16],
-    tbox: &[u16],
-    toffer: &[u16],
-    tcount: &[i32],
+    offer_owner: &[u16],
+    grocer_owner: &[u16],
+    tally_grocer: &[u16],
+    tally_box: &[u16],
+    tally_offer: &[u16],
+    tally_count: &[i32],
 ) -> bool
     requires { ⌜ jobShort
-        (jobOf (jobTables boxes grocers offers tallies (now price) (now owner) (now gowner)
-        (now tgrocer) (now tbox) (now toffer) (now tcount)))
-        (jobLengths (jobTables boxes grocers offers tallies (now price) (now owner) (now gowner)
-        (now tgrocer) (now tbox) (now toffer) (now tcount))) ≡ false ⌝ }
-    ensures { λ r. ⌜ r ≡ jobInRange (jobTables boxes grocers offers tallies (now (price .entry)) (now (owner .entry)) (now (gowner .entry))
-        (now (tgrocer .entry)) (now (tbox .entry)) (now (toffer .entry)) (now (tcount .entry))) ⌝ }
+        (jobTables boxes grocers offers tallies (now price) (now «offer_owner») (now «grocer_owner»)
+        (now «tally_grocer») (now «tally_box») (now «tally_offer») (now «tally_count»))
+        (jobLengths (jobTables boxes grocers offers tallies (now price) (now «offer_owner») (now «grocer_owner»)
+        (now «tally_grocer») (now «tally_box») (now «tally_offer») (now «tally_count»))) ≡ false ⌝ }
+    ensures { λ r. ⌜ r ≡ jobInRange (jobTables boxes grocers offers tallies (now (price .entry)) (now («offer_owner» .entry)) (now («grocer_owner» .entry))
+        (now («tally_grocer» .entry)) (now («tally_box» .entry)) (now («tally_offer» .entry)) (now («tally_count» .entry))) ⌝ }
 {
     sizes_in_range(boxes, grocers, offers, tallies)
         & job_words_in_range(
@@ -162,63 +166,13 @@ pub fn job_in_range(
             offers,
             tallies,
             price,
-            owner,
-            gowner,
-            tgrocer,
-            tbox,
-            toffer,
-            tcount,
+            offer_owner,
+            grocer_owner,
+            tally_grocer,
+            tally_box,
+            tally_offer,
+            tally_count,
         )
-}
-
-// The number of the first condition that the job's tables meet, 20 or 21, or 0.
-pub fn job_refusal(
-    boxes: u16,
-    grocers: u16,
-    offers: u16,
-    tallies: u16,
-    price: &[u32],
-    owner: &[u16],
-    gowner: &[u16],
-    tgrocer: &[u16],
-    tbox: &[u16],
-    toffer: &[u16],
-    tcount: &[i32],
-) -> u16
-    ensures { λ r. ⌜ r ≡ firstMet (jobRefusals (jobTables boxes grocers offers tallies (now (price .entry)) (now (owner .entry)) (now (gowner .entry))
-        (now (tgrocer .entry)) (now (tbox .entry)) (now (toffer .entry)) (now (tcount .entry)))) ⌝ }
-{
-    if job_short(
-        boxes,
-        grocers,
-        offers,
-        tallies,
-        price,
-        owner,
-        gowner,
-        tgrocer,
-        tbox,
-        toffer,
-        tcount,
-    ) {
-        return 20;
-    }
-    if !job_in_range(
-        boxes,
-        grocers,
-        offers,
-        tallies,
-        price,
-        owner,
-        gowner,
-        tgrocer,
-        tbox,
-        toffer,
-        tcount,
-    ) {
-        return 21;
-    }
-    0
 }
 
 // 21: whether every word of the state's tables is in range.
@@ -227,28 +181,28 @@ pub fn state_in_range(
     grocers: u16,
     offers: u16,
     known: &[u32],
-    ptransit: &[u32],
+    price_transit: &[u32],
     working: &[i64],
-    ttransit: &[i64],
+    total_transit: &[i64],
     statement: &[i64],
     done: &[u16],
     sent: &[u32],
 ) -> bool
-    requires { ⌜ stateShort (jobOf (sizes boxes grocers offers))
-        (stateLengths (stateTables (now known) (now ptransit) (now working) (now ttransit)
+    requires { ⌜ stateShort (sizes boxes grocers offers)
+        (stateLengths (stateTables (now known) (now «price_transit») (now working) (now «total_transit»)
         (now statement) (now done) (now sent))) ≡ false ⌝ }
     ensures { λ r. ⌜ r ≡ stateInRange (sizes boxes grocers offers)
-        (stateTables (now (known .entry)) (now (ptransit .entry)) (now (working .entry)) (now (ttransit .entry))
+        (stateTables (now (known .entry)) (now («price_transit» .entry)) (now (working .entry)) (now («total_transit» .entry))
         (now (statement .entry)) (now (done .entry)) (now (sent .entry))) ⌝ }
 {
     let kn = words(boxes, offers);
     let km = words(boxes, grocers);
     let kk = marks(boxes);
-    upto32(known, kn, 9_999_999)
-        & upto32(ptransit, kn, 9_999_999)
+    upto32(known, kn, MAX_PRICE)
+        & upto32(price_transit, kn, MAX_PRICE)
         & around64(working, km)
-        & around64(ttransit, km)
+        & around64(total_transit, km)
         & around64(statement, grocers as usize)
         & upto16(done, kk, 1)
-        & upto32(sent, 1, 1_000_000)
+        & upto32(sent, 1, MAX_SENT)
 }

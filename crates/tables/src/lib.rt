@@ -1,5 +1,6 @@
-// The checks 20 and 21 on the tables of a job and of a state, need and sharer words, and the tables of messages.
+// The checks 20 and 21 on the tables of a job and of a state, need and sharer words, and the words between boxes.
 pub mod checks;
+pub mod limits;
 pub mod masks;
 pub mod messages;
 pub mod ranges;

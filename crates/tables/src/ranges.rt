@@ -5,6 +5,10 @@ ghost use lib.ListN.{length};
 ghost use lib.Dec.{leb};
 ghost use lib.IntN.{natAbs};
 ghost use Rattle.model.specs.Ranges.{upTo, under, around, maxCount, maxAmount};
+use crate::limits::MAX_AMOUNT;
+use crate::limits::MAX_COUNT;
+use crate::limits::MIN_AMOUNT;
+use crate::limits::MIN_COUNT;
 
 // Whether the first n words of s are below m.
 pub fn under16(s: &[u16], n: usize, m: u16) -> bool
@@ -49,20 +53,20 @@ pub fn upto32(s: &[u32], n: usize, m: u32) -> bool
 pub fn is_count(x: i32) -> bool
     ensures { λ r. ⌜ r ≡ leb (natAbs x) maxCount ⌝ }
 {
-    if x > 99_999 {
+    if x > MAX_COUNT {
         return false;
     }
-    x >= -99_999
+    x >= MIN_COUNT
 }
 
 // Whether an amount is within ±10^15.
 pub fn is_amount(x: i64) -> bool
     ensures { λ r. ⌜ r ≡ leb (natAbs x) maxAmount ⌝ }
 {
-    if x > 1_000_000_000_000_000 {
+    if x > MAX_AMOUNT {
         return false;
     }
-    x >= -1_000_000_000_000_000
+    x >= MIN_AMOUNT
 }
 
 // Whether the first n words of s are counts.

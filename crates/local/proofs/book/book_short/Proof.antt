@@ -1,13 +1,12 @@
 -- `local::book::book_short` meets its contract. Assumes nothing.
 use native.Mathlib.Numerals.{add-one}
 use borrow.Author.Needs.{needs}
-use Rattle.model.specs.Tables.{jobOf}
 use Rattle.model.specs.Local.{bookShort}
 use Rattle.local.proofs.book.book_short.Statement.{statement}
 use Rattle.local.proofs.book.book_short.Tie as tie
 
 returns : tie.Need-returns
-unfolding bookShort jobOf
+unfolding bookShort
 returns c = rw (add-one (c .args .offers))
 
 pub book-short-spec : {M : Type 1} → statement M

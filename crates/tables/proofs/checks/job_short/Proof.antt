@@ -1,11 +1,11 @@
 -- `tables::checks::job_short` meets its contract: the code is the definition. Assumes nothing.
 use mathlib.Core.Path.{refl}
-use Rattle.model.specs.Tables.{jobOf, jobLengths, jobShort}
+use Rattle.model.specs.Tables.{jobLengths, jobShort}
 use Rattle.tables.proofs.checks.job_short.Statement.{statement}
 use Rattle.tables.proofs.checks.job_short.Tie as tie
 
 returns : tie.Need-returns
-unfolding jobShort jobOf jobLengths
+unfolding jobShort jobLengths
 returns c = refl
 
 pub job-short-spec : {M : Type 1} → statement M

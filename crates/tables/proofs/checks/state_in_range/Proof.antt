@@ -10,7 +10,7 @@ use Rattle.tables.proofs.checks.state_in_range.Statement.{statement}
 use Rattle.tables.proofs.checks.state_in_range.Tie as tie
 
 abbrev state : tie.Start → StateTables
-state s = stateTables (now (s .args .known)) (now (s .args .ptransit)) (now (s .args .working)) (now (s .args .ttransit)) (now (s .args .statement)) (now (s .args .done)) (now (s .args .sent))
+state s = stateTables (now (s .args .known)) (now (s .args .price-transit)) (now (s .args .working)) (now (s .args .total-transit)) (now (s .args .statement)) (now (s .args .done)) (now (s .args .sent))
 
 -- Where the function begins.
 abbrev entry : tie.After-shared-slice-known4 → tie.Start

@@ -1,11 +1,11 @@
 -- `tables::checks::state_short` meets its contract: the code is the definition, at the products that `words` and `marks` give. Assumes nothing.
 use borrow.Author.Needs.{needs}
-use Rattle.model.specs.Tables.{jobOf, stateLengths, stateShort}
+use Rattle.model.specs.Tables.{stateLengths, stateShort}
 use Rattle.tables.proofs.checks.state_short.Statement.{statement}
 use Rattle.tables.proofs.checks.state_short.Tie as tie
 
 returns : tie.Need-returns
-unfolding stateShort stateLengths jobOf
+unfolding stateShort stateLengths
 returns c = cc
 
 pub state-short-spec : {M : Type 1} → statement M

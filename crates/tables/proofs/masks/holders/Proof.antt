@@ -13,10 +13,10 @@ use Rattle.tables.proofs.masks.holders.Statement.{statement}
 use Rattle.tables.proofs.masks.holders.Tie as tie
 
 abbrev Inv-loop : tie.InvT-loop
-Inv-loop boxes tallies tbox places masks₀ n t₀ masks t = (t ≤ tallies) × (length masks ≡ length masks₀) × ((p : ℕ) → p < length masks₀ → getD masks p 0 ≡ holderWord boxes t tbox places p)
+Inv-loop boxes tallies tallyBox places masks₀ n t₀ masks t = (t ≤ tallies) × (length masks ≡ length masks₀) × ((p : ℕ) → p < length masks₀ → getD masks p 0 ≡ holderWord boxes t tallyBox places p)
 
 abbrev μ-loop : tie.MeasureT-loop
-μ-loop boxes tallies tbox places masks₀ n t₀ masks t = tallies - t
+μ-loop boxes tallies tallyBox places masks₀ n t₀ masks t = tallies - t
 
 abbrev entry : tie.In-loop Inv-loop μ-loop → tie.Start Inv-loop μ-loop
 entry c = c .before .before .before .before .before
@@ -24,7 +24,7 @@ entry c = c .before .before .before .before .before
 loop-holds : tie.Need-loop-holds Inv-loop μ-loop
 loop-holds c =
     let s = c .before .before .before in
-    (search needs, refl, λ p l. s .pre .1 p ∙ sym (holder-none (s .args .boxes) (now (s .args .tbox)) (now (s .args .places)) p))
+    (search needs, refl, λ p l. s .pre .1 p ∙ sym (holder-none (s .args .boxes) (now (s .args .tally-box)) (now (s .args .places)) p))
 
 mark-requires : tie.Need-mark-requires Inv-loop μ-loop
 mark-requires c κs =
@@ -42,14 +42,14 @@ loop-again c =
       search needs,
       c .before .before .mark .kept .0 ∙ long,
       λ p l. ap (λ (x : List ℕ). getD x p 0) (c .before .before .mark .ensures)
-          ∙ holder-more (s .args .boxes) (now (s .args .tbox)) (now (s .args .places)) old t (s .pre .0 .boxes≤) (rw long (s .pre .0 .place< t (e .loop-test .taken))) (λ q m. e .before .loop .inv .2 q (rw long at m)) p (rw long l),
+          ∙ holder-more (s .args .boxes) (now (s .args .tally-box)) (now (s .args .places)) old t (s .pre .0 .boxes≤) (rw long (s .pre .0 .place< t (e .loop-test .taken))) (λ q m. e .before .loop .inv .2 q (rw long at m)) p (rw long l),
     )
 
 returns : tie.Need-returns Inv-loop μ-loop
 returns c =
     let s = c .before .before .before .before .before in
-    is-tabulate (c .before .loop .masks) (length (now (s .args .masks))) (holderWord (s .args .boxes) (s .args .tallies) (now (s .args .tbox)) (now (s .args .places))) 0 (c .before .loop .inv .1)
-    (λ p l. c .before .loop .inv .2 p l ∙ ap (λ (n : ℕ). holderWord (s .args .boxes) n (now (s .args .tbox)) (now (s .args .places)) p) (le-antisymm (c .before .loop .inv .0) (c .loop-test .left)))
+    is-tabulate (c .before .loop .masks) (length (now (s .args .masks))) (holderWord (s .args .boxes) (s .args .tallies) (now (s .args .tally-box)) (now (s .args .places))) 0 (c .before .loop .inv .1)
+    (λ p l. c .before .loop .inv .2 p l ∙ ap (λ (n : ℕ). holderWord (s .args .boxes) n (now (s .args .tally-box)) (now (s .args .places)) p) (le-antisymm (c .before .loop .inv .0) (c .loop-test .left)))
 
 pub holders-spec : {M : Type 1} → statement M
 holders-spec =

@@ -1,4 +1,4 @@
--- `tables::masks::others_sum` meets its contract: the sum is that of the words passed. Assumes nothing.
+-- `messages::words::others_sum` meets its contract: the sum is that of the words passed. Assumes nothing.
 use mathlib.Core.Path.{_≡_, sym, ap, ap₂, _∙_}
 use Prim.Native.Nat.{ℕ, _<_, _≤_, _-_, _+_, _*_}
 use native.Mathlib.Omega.{arith}
@@ -8,11 +8,11 @@ use lib.ListN.{getD}
 use denote.Ref.{now}
 use lib.Count.{ones}
 use Rattle.laws.specs.Masks.{without}
-use Rattle.tables.specs.Masks.{othersSum}
+use Rattle.messages.specs.Sums.{othersSum}
 use Rattle.tables.proofs.Extra.{ones-max}
-use Rattle.tables.proofs.Holders.{others-none, others-next}
-use Rattle.tables.proofs.masks.others_sum.Statement.{statement}
-use Rattle.tables.proofs.masks.others_sum.Tie as tie
+use Rattle.messages.proofs.Summing.{others-none, others-next}
+use Rattle.messages.proofs.words.others_sum.Statement.{statement}
+use Rattle.messages.proofs.words.others_sum.Tie as tie
 
 abbrev Inv-loop : tie.InvT-loop
 Inv-loop n owners masks m sum₀ i₀ sum i = (i ≤ n) × (sum ≡ othersSum i owners masks) × (sum ≤ 16 * i)

@@ -1,9 +1,9 @@
--- `tables::masks::others` meets its contract. Assumes nothing.
+-- `messages::words::others` meets its contract. Assumes nothing.
 use mathlib.Core.Path.{ap}
 use lib.Count.{ones}
 use borrow.Author.Needs.{needs}
-use Rattle.tables.proofs.masks.others.Statement.{statement}
-use Rattle.tables.proofs.masks.others.Tie as tie
+use Rattle.messages.proofs.words.others.Statement.{statement}
+use Rattle.messages.proofs.words.others.Tie as tie
 
 returns : tie.Need-returns
 returns c = ap ones (c .clear-bit .ensures)

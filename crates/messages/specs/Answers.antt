@@ -7,9 +7,9 @@ use Rattle.laws.specs.Checks.{firstMet}
 use Rattle.model.specs.Words.{ownerWords}
 use Rattle.model.specs.Tables.{JobTables, jobOf}
 use Rattle.model.specs.Local.{priceTable, totalTable}
-use Rattle.tables.specs.Refusals.{jobRefusals}
-use Rattle.tables.specs.declared.messages.Answer.{Answer}
-use Rattle.tables.specs.declared.messages.Answer.the-variants.{Made, Refused}
+use Rattle.messages.specs.Refusals.{jobRefusals}
+use Rattle.messages.specs.declared.Answer.{Answer}
+use Rattle.messages.specs.declared.Answer.the-variants.{Made, Refused}
 
 -- What the call says: the words of the job, or the number of a refusal.
 pub data MessagesAnswer : Type 0 where

@@ -1,10 +1,10 @@
--- `tables::checks::job_refusal` meets its contract: each number is that of the first test that holds. Assumes nothing.
+-- `messages::job_refusal` meets its contract: each number is that of the first test that holds. Assumes nothing.
 use mathlib.Core.Path.{sym, _∙_}
 use borrow.Author.Needs.{needs}
 use Rattle.laws.specs.Checks.{firstMet}
-use Rattle.tables.specs.Refusals.{jobRefusals}
-use Rattle.tables.proofs.checks.job_refusal.Statement.{statement}
-use Rattle.tables.proofs.checks.job_refusal.Tie as tie
+use Rattle.messages.specs.Refusals.{jobRefusals}
+use Rattle.messages.proofs.job_refusal.Statement.{statement}
+use Rattle.messages.proofs.job_refusal.Tie as tie
 
 returns : tie.Need-returns
 unfolding firstMet jobRefusals

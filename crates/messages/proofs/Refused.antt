@@ -10,9 +10,9 @@ use Rattle.model.specs.Words.{ownerWords}
 use Rattle.model.specs.Tables.{JobTables, jobOf, jobLengths, jobShort}
 use Rattle.model.specs.Ranges.{jobInRange}
 use Rattle.model.specs.Local.{priceTable, totalTable}
-use Rattle.tables.specs.Refusals.{jobRefusals}
-use Rattle.tables.specs.Answers.{refused, said, messagesAnswer, tablesGiven, messageTables}
-use Rattle.tables.specs.declared.messages.Answer.the-variants.{Made, Refused}
+use Rattle.messages.specs.Refusals.{jobRefusals}
+use Rattle.messages.specs.Answers.{refused, said, messagesAnswer, tablesGiven, messageTables}
+use Rattle.messages.specs.declared.Answer.the-variants.{Made, Refused}
 
 two-tests : (a b : Bool) → cond {A = ℕ} a 20 (cond (not b) 21 0) ≡ 0 → (a ≡ false) × (b ≡ true)
 two-tests true b h = absurd (omega arith)
@@ -26,9 +26,9 @@ answer-no (suc n) w h = refl
 
 module _ (f : JobTables) where
   -- No refusal: the tables are whole, and in range.
-  pub accepted : firstMet (jobRefusals f) ≡ 0 → (jobShort (jobOf f) (jobLengths f) ≡ false) × (jobInRange f ≡ true)
+  pub accepted : firstMet (jobRefusals f) ≡ 0 → (jobShort f (jobLengths f) ≡ false) × (jobInRange f ≡ true)
   unfolding firstMet jobRefusals
-  accepted h = two-tests (jobShort (jobOf f) (jobLengths f)) (jobInRange f) h
+  accepted h = two-tests (jobShort f (jobLengths f)) (jobInRange f) h
 
   -- A refusal leaves both tables.
   pub messages-refused : (p t : List (List ℕ)) (n : ℕ) → n ≡ firstMet (jobRefusals f) → (n ≡ 0 → ⊥) → tablesGiven (said (Refused n)) p t ≡ messageTables f p t

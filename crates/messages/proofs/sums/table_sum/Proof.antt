@@ -1,12 +1,12 @@
--- `tables::messages::table_sum` meets its contract: the sum is that of the rows passed. Assumes nothing.
+-- `messages::sums::table_sum` meets its contract: the sum is that of the rows passed. Assumes nothing.
 use mathlib.Core.Path.{_≡_, sym, ap, ap₂, _∙_}
 use Prim.Native.Nat.{ℕ, _≤_, _-_, _+_, _*_}
 use native.Mathlib.Nat.{le-antisymm}
 use native.Mathlib.Omega.{arith}
 use borrow.Author.Needs.{needs}
-use Rattle.tables.proofs.Sending.{rowsTo, rows-none, rows-next, rows-whole}
-use Rattle.tables.proofs.messages.table_sum.Statement.{statement}
-use Rattle.tables.proofs.messages.table_sum.Tie as tie
+use Rattle.messages.proofs.Summing.{rowsTo, rows-none, rows-next, rows-whole}
+use Rattle.messages.proofs.sums.table_sum.Statement.{statement}
+use Rattle.messages.proofs.sums.table_sum.Tie as tie
 
 abbrev Inv-loop : tie.InvT-loop
 Inv-loop table sum₀ a₀ sum a = (a ≤ 16) × (sum ≡ rowsTo a table) × (sum ≤ 1_048_560 * a)

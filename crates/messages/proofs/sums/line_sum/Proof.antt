@@ -1,4 +1,4 @@
--- `tables::messages::line_sum` meets its contract: the sum is that of the counts passed; a line past the table has none. Assumes nothing.
+-- `messages::sums::line_sum` meets its contract: the sum is that of the counts passed; a line past the table has none. Assumes nothing.
 use mathlib.Core.Path.{_≡_, sym, ap, ap₂, _∙_}
 use mathlib.Core.List.{List, [], _∷_}
 use Prim.Native.Nat.{ℕ, zero, suc, _<_, _≤_, _-_, _+_, _*_}
@@ -8,13 +8,14 @@ use lib.ListN.{length, getD}
 use mir.Syntax.{w16}
 use mir.Val.{Val}
 use borrow.Author.Needs.{needs}
 use Rattle.tables.specs.Messages.{cellAt}
 use denote.Shadow.{shadow}
 use denote.Array.{Array, each}
 use denote.Plain.{UInt}
-use Rattle.tables.proofs.Sending.{side, lineTo, line-past, line-none, line-next, line-whole}
-use Rattle.tables.proofs.messages.line_sum.Statement.{statement}
-use Rattle.tables.proofs.messages.line_sum.Tie as tie
+use Rattle.tables.proofs.Sending.{side}
+use Rattle.messages.proofs.Summing.{lineTo, line-past, line-none, line-next, line-whole}
+use Rattle.messages.proofs.sums.line_sum.Statement.{statement}
+use Rattle.messages.proofs.sums.line_sum.Tie as tie
 
 -- What an array of arrays is says how long its rows are.
 rows-long : (t : List (List ℕ)) (us : List Val) → shadow (each (List ℕ) (Array (UInt w16) 16 .own) t us) → (i : ℕ) → length (getD t i []) ≤ 16
