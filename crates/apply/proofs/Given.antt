@@ -16,13 +16,13 @@ use Rattle.model.specs.Tables.{JobTables, jobOf, StateTables, jobLengths, state
 use Rattle.model.specs.Ranges.{maxPrice, maxAmount, maxSent, upTo, around, stateInRange}
 use Rattle.model.specs.Step.{Asked, isKind, boxesFit}
 use Rattle.rules.specs.Marks.{MarksIn}
-use Rattle.totals.specs.Row.{TalliesIn, AmountsIn}
-use Rattle.apply.specs.Apply.{Applies, SentIn, MultiplyIn, ReceiveIn}
+use Rattle.links.specs.Links.{Linked}
+use Rattle.totals.specs.Row.{TalliesIn, PricesIn, AmountsIn}
+use Rattle.apply.specs.Apply.{Applies, SentIn, PriceStepIn, TotalStepIn}
 use Rattle.model.proofs.Lent.{JobLong, job-long, StateLong, state-long}
 use Rattle.totals.proofs.Effect.{talliesOf}
 use Rattle.model.proofs.Step.{up-at}
 use Rattle.totals.proofs.Given.{tallies-given}
-use Rattle.prices.specs.Prices as price-tables
 
 -- The words of the state's tables are in range, table by table.
 pub record StateWords (f : JobTables) (t : StateTables) : Type 0 where
@@ -109,18 +109,6 @@ module _ (f : JobTables) (t : StateTables) (needs sharers : List ℕ) (q : Asked
     done-long = g .state-long .done;
   }
 
-  pub prices-in : price-tables.PricesIn (f .boxes) (f .offers) (q .first) (q .second) (f .offerOwner) (t .known) (t .priceTransit)
-  unfolding stateLengths
-  prices-in = record {
-    boxes-in = g .tallies-in .boxes-in;
-    offers-in = g .tallies-in .offers-in;
-    a-in = g .first-in;
-    b-in = g .second-in;
-    owner-long = g .tallies-in .owner-long;
-    known-long = g .state-long .known;
-    transit-long = g .state-long .priceTransit;
-  }
-
   pub sent-in : SentIn (t .sent)
   unfolding stateLengths
   sent-in = record { long = g .state-long .sent; word-in = up-at maxSent 1 (t .sent) 0 (g .words-in .sent) (omega arith) }
@@ -137,28 +125,44 @@ module _ (f : JobTables) (t : StateTables) (needs sharers : List ℕ) (q : Asked
   unfolding stateLengths
   statement-in = record { long = g .state-long .statement; words-in = g .words-in .statement }
 
-  -- At the prices known, and at those in transit.
-  pub own-in : MultiplyIn (talliesOf f) (q .first) (t .known) (t .working)
+  pub known-in : PricesIn (f .boxes) (f .offers) (t .known)
   unfolding stateLengths
-  own-in = record { tallies-in = g .tallies-in; prices-in = record { long = g .state-long .known; words-in = g .words-in .known }; working-in = working-in; a-in = g .first-in }
+  known-in = record { long = g .state-long .known; words-in = g .words-in .known }
 
-  pub receive-in : ReceiveIn (talliesOf f) (q .first) (q .second) (t .known) (t .priceTransit) (t .working)
+  pub price-transit-in : PricesIn (f .boxes) (f .offers) (t .priceTransit)
   unfolding stateLengths
-  receive-in = record {
-    known-in = own-in;
-    transit-in = record { tallies-in = g .tallies-in; prices-in = record { long = g .state-long .priceTransit; words-in = g .words-in .priceTransit }; working-in = working-in; a-in = g .first-in };
-    tables-in = prices-in;
+  price-transit-in = record { long = g .state-long .priceTransit; words-in = g .words-in .priceTransit }
+
+  -- A step of kind 1, 2 or 3, with offers linked by owner and tallies by box.
+  pub price-step-in : (offerLinks tallyLinks : List ℕ) → Linked (f .offers) (f .offerOwner) offerLinks → Linked (f .tallies) (f .tallyBox) tallyLinks → q .kind ≤ 3 →
+      PriceStepIn (talliesOf f) offerLinks tallyLinks (t .known) (t .priceTransit) (t .working) (q .kind) (q .first) (q .second)
+  price-step-in offerLinks tallyLinks lo lt few = record {
+    tallies-in = g .tallies-in;
+    offers-linked = lo;
+    tallies-linked = lt;
+    known-in = known-in;
+    transit-in = price-transit-in;
+    working-in = working-in;
+    kind-from = g .kind-from;
+    kind-to = few;
+    a-in = g .first-in;
+    b-in = g .second-in;
   }
 
-  -- Totals sent, and totals of a box `from` added to statements.
-  pub send-in : (f .boxes ≤ 16) × (f .grocers ≤ 255) × (q .first < f .boxes) × (f .grocers ≤ length (f .grocerOwner)) × (f .boxes * f .grocers ≤ length (t .working)) × (f .boxes * f .grocers ≤ length (t .totalTransit))
-  unfolding jobLengths stateLengths
-  send-in = (g .tallies-in .boxes-in, g .tallies-in .grocers-in, g .first-in, g .job-long .grocerOwner, g .state-long .working, g .state-long .totalTransit)
-
-  pub credit-in : (from : ℕ) → from < f .boxes → (f .boxes ≤ 16) × (f .grocers ≤ 255) × (from < f .boxes) × (f .grocers ≤ length (f .grocerOwner))
+  -- A step of kind 4, 5 or 6, with grocers linked by owner.
+  pub total-step-in : (links : List ℕ) → Linked (f .grocers) (f .grocerOwner) links → 4 ≤ q .kind →
+      TotalStepIn (f .boxes) (f .grocers) (f .grocerOwner) links (t .working) (t .totalTransit) (t .statement) (q .kind) (q .first) (q .second)
   unfolding jobLengths
-  credit-in from l = (g .tallies-in .boxes-in, g .tallies-in .grocers-in, l, g .job-long .grocerOwner)
-
--- A kind that is none of the first five is the sixth.
-pub sixth : (n : ℕ) → 1 ≤ n → n ≤ 6 → (n ≡ 1 → ⊥) → (n ≡ 2 → ⊥) → (n ≡ 3 → ⊥) → (n ≡ 4 → ⊥) → (n ≡ 5 → ⊥) → n ≡ 6
-sixth n from to n1 n2 n3 n4 n5 = omega arith
+  total-step-in links l many = record {
+    boxes-in = g .tallies-in .boxes-in;
+    grocers-in = g .tallies-in .grocers-in;
+    owner-long = g .job-long .grocerOwner;
+    grocers-linked = l;
+    working-in = working-in;
+    transit-in = transit-in;
+    statement-in = statement-in;
+    kind-from = many;
+    kind-to = g .kind-to;
+    a-in = g .first-in;
+    b-in = g .second-in;
+  }

@@ -2,5 +2,6 @@
 pub mod Ranges
 pub mod Keys
 pub mod Given
+pub mod Sides
 pub mod Moved
 pub mod Late

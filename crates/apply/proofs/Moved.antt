@@ -2,7 +2,9 @@
 use mathlib.Core.Path.{_≡_, refl, sym, ap, _∙_}
 use mathlib.Core.Bool.{false}
 use mathlib.Core.List.{List}
-use Prim.Native.Nat.{ℕ}
+use Prim.Native.Nat.{ℕ, _≤_}
+use native.Mathlib.Decide.{ℕ-discrete}
+use native.Mathlib.Omega.{arith}
 use lib.IntN.{ℤ}
 use Rattle.laws.specs.Below.{count}
 use Rattle.laws.proofs.Tables.{overwrite-one}
@@ -14,12 +16,51 @@ use Rattle.prices.specs.Prices.{sentTransit, receivedKnown, receivedTransit}
 use Rattle.rules.specs.Marks.{marked}
 use Rattle.totals.specs.Row.{putRow, productRow}
 use Rattle.totals.specs.Credit.{cleared, sentTotals, credited, creditAll}
-use Rattle.apply.specs.Apply.{sentMore}
+use Rattle.apply.specs.Apply.{
+  sentMore,
+  knownAfter,
+  priceTransitAfter,
+  multipliedAfter,
+  pricesSent,
+  PriceStepOut,
+  workingAfter,
+  totalTransitAfter,
+  statementAfter,
+  totalsSent,
+  TotalStepOut,
+}
 use Rattle.prices.proofs.Effect.{tables-eq, known-stays, price-transit-stays, working-stays, total-transit-stays, statement-stays, sent-stays, step-marked}
 use Rattle.totals.proofs.Effect.{talliesOf, multiplied-working, received-working, added-working, added-statement, totals-received-statement}
 use Rattle.apply.proofs.Given.{Given}
+use Rattle.apply.proofs.Sides.{prices-sent-out, own-multiplied-out, prices-received-out, totals-sent-out, own-added-out, totals-received-out, none-more}
 use Rattle.prices.proofs.Effect as price-laws
 use Rattle.totals.proofs.Effect as total-laws
+
+-- The marks with the step's, and all tables as a step leaves them, told from what it leaves on its side.
+abbrev pub marksLeft : JobTables → StateTables → Asked → List ℕ
+marksLeft f t q = marked (f .boxes) (kindOf (q .kind)) (q .first) (q .second) (t .done)
+
+abbrev pub pricesLeft : JobTables → StateTables → List ℕ → Asked → StateTables
+pricesLeft f t needs q =
+    stateTables
+    (knownAfter (talliesOf f) needs (t .known) (t .priceTransit) (q .kind) (q .first) (q .second))
+    (priceTransitAfter (talliesOf f) needs (t .known) (t .priceTransit) (q .kind) (q .first) (q .second))
+    (multipliedAfter (talliesOf f) (t .known) (t .priceTransit) (t .working) (q .kind) (q .first) (q .second))
+    (t .totalTransit)
+    (t .statement)
+    (marksLeft f t q)
+    (sentMore (t .sent) (pricesSent (talliesOf f) needs (q .kind) (q .first) (q .second)))
+
+abbrev pub totalsLeft : JobTables → StateTables → List ℕ → Asked → StateTables
+totalsLeft f t sharers q =
+    stateTables
+    (t .known)
+    (t .priceTransit)
+    (workingAfter (f .boxes) (f .grocers) (f .grocerOwner) sharers (q .kind) (q .first) (q .second) (t .working))
+    (totalTransitAfter (f .boxes) (f .grocers) (f .grocerOwner) sharers (q .kind) (q .first) (q .second) (t .working) (t .totalTransit))
+    (statementAfter (f .boxes) (f .grocers) (f .grocerOwner) sharers (q .kind) (q .first) (q .second) (t .working) (t .totalTransit) (t .statement))
+    (marksLeft f t q)
+    (sentMore (t .sent) (totalsSent (f .boxes) (f .grocers) (f .grocerOwner) sharers (q .kind) (q .first) (q .second)))
 
 module _ (f : JobTables) (t : StateTables) (needs sharers : List ℕ) (q : Asked) (g : Given f t needs sharers q) where
   -- The state after a step of a kind, and the tables it is written into.
@@ -160,3 +201,50 @@ module _ (f : JobTables) (t : StateTables) (needs sharers : List ℕ) (q : Asked
       (total-laws.totals-received-transit f t sharers (q .first) (q .second) (g .first-in) (g .second-in) (g .tallies-in .boxes-in) (g .tallies-in .grocers-in) (g .sharers-are) ne)
       (totals-received-statement f t sharers (q .first) (q .second) (g .first-in) (g .second-in) (g .tallies-in .boxes-in) (g .tallies-in .grocers-in) (g .sharers-are) ne)
       (sent-stays (jobOf f) (left receiveTotals) t (g .state-long) refl)
+
+  -- Kinds 1 to 3: what the model says is left on the side of prices.
+  pub prices-moved : q .kind ≤ 3 → moved f t q ≡ pricesLeft f t needs q
+  unfolding stateLengths
+  prices-moved small = go (ℕ-discrete (q .kind) 1) (ℕ-discrete (q .kind) 2)
+    where
+      by-out : (known transit : List ℕ) (working : List ℤ) (more : ℕ) →
+          PriceStepOut (talliesOf f) needs (t .known) (t .priceTransit) (t .working) (q .kind) (q .first) (q .second) known transit working more →
+          moved f t q ≡ stateTables known transit working (t .totalTransit) (t .statement) (marksLeft f t q) (sentMore (t .sent) more) → moved f t q ≡ pricesLeft f t needs q
+      by-out known transit working more o e = e ∙ tables-eq _ _ (o .known-is) (o .transit-is) (o .working-is) refl refl refl (ap (sentMore (t .sent)) (o .sent-is))
+
+      none : t .sent ≡ sentMore (t .sent) 0
+      none = sym (none-more (t .sent) (g .state-long .sent))
+
+      go : Dec (q .kind ≡ 1) → Dec (q .kind ≡ 2) → moved f t q ≡ pricesLeft f t needs q
+      go (yes e) _ = by-out _ _ _ _ (prices-sent-out (talliesOf f) needs (t .known) (t .priceTransit) (t .working) (q .kind) (q .first) (q .second) e) (prices-sent e)
+      go (no n) (yes e) =
+          by-out _ _ _ 0 (own-multiplied-out (talliesOf f) needs (t .known) (t .priceTransit) (t .working) (q .kind) (q .first) (q .second) e)
+          (own-multiplied e ∙ tables-eq _ _ refl refl refl refl refl refl none)
+      go (no n) (no m) =
+          let e : q .kind ≡ 3 = omega (arith, g .kind-from) in
+          by-out _ _ _ 0 (prices-received-out (talliesOf f) needs (t .known) (t .priceTransit) (t .working) (q .kind) (q .first) (q .second) e)
+          (prices-received e ∙ tables-eq _ _ refl refl refl refl refl refl none)
+
+  -- Kinds 4 to 6: what it says is left on the side of totals.
+  pub totals-moved : 4 ≤ q .kind → moved f t q ≡ totalsLeft f t sharers q
+  unfolding stateLengths
+  totals-moved many = go (ℕ-discrete (q .kind) 4) (ℕ-discrete (q .kind) 5)
+    where
+      by-out : (working transit statement : List ℤ) (more : ℕ) →
+          TotalStepOut (f .boxes) (f .grocers) (f .grocerOwner) sharers (t .working) (t .totalTransit) (t .statement) (q .kind) (q .first) (q .second) working transit statement more →
+          moved f t q ≡ stateTables (t .known) (t .priceTransit) working transit statement (marksLeft f t q) (sentMore (t .sent) more) → moved f t q ≡ totalsLeft f t sharers q
+      by-out working transit statement more o e = e ∙ tables-eq _ _ refl refl (o .working-is) (o .transit-is) (o .statement-is) refl (ap (sentMore (t .sent)) (o .sent-is))
+
+      none : t .sent ≡ sentMore (t .sent) 0
+      none = sym (none-more (t .sent) (g .state-long .sent))
+
+      go : Dec (q .kind ≡ 4) → Dec (q .kind ≡ 5) → moved f t q ≡ totalsLeft f t sharers q
+      go (yes e) _ =
+          by-out _ _ _ _ (totals-sent-out (f .boxes) (f .grocers) (f .grocerOwner) sharers (t .working) (t .totalTransit) (t .statement) (q .kind) (q .first) (q .second) e) (totals-sent e)
+      go (no n) (yes e) =
+          by-out _ _ _ 0 (own-added-out (f .boxes) (f .grocers) (f .grocerOwner) sharers (t .working) (t .totalTransit) (t .statement) (q .kind) (q .first) (q .second) e)
+          (own-added e ∙ tables-eq _ _ refl refl refl refl refl refl none)
+      go (no n) (no m) =
+          let e : q .kind ≡ 6 = omega (arith, g .kind-to) in
+          by-out _ _ _ 0 (totals-received-out (f .boxes) (f .grocers) (f .grocerOwner) sharers (t .working) (t .totalTransit) (t .statement) (q .kind) (q .first) (q .second) e)
+          (totals-received e ∙ tables-eq _ _ refl refl refl refl refl refl none)

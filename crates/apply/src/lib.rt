@@ -1,160 +1,184 @@
-// One step applied to the lent tables.
-mod steps;
-
+// One step applied to the lent tables: kinds 1 to 3 to prices and working totals, kinds 4 to 6 to totals and statements.
 ghost use mathlib.Core.Path.{_≡_};
-ghost use Rattle.model.specs.Tables.{jobTables, stateTables};
-ghost use Rattle.model.specs.Step.{asked, moved};
-ghost use Rattle.apply.specs.Apply.{Applies, Links};
+ghost use Prim.Native.Nat.{_≤_};
+ghost use Rattle.totals.specs.Row.{tallies};
+ghost use Rattle.apply.specs.Apply.{SentIn, sentMore, PriceStepIn, PriceStepOut, TotalStepIn, TotalStepOut};
 
-// What a step does to the tables, its mark among them. Prices are lent as one of the job's tables, and not read.
-pub fn apply(
-    boxes: u16,
-    grocers: u16,
-    offers: u16,
-    tallies: u16,
-    price: &[u32],
-    owner: &[u16],
-    gowner: &[u16],
-    tgrocer: &[u16],
-    tbox: &[u16],
-    toffer: &[u16],
-    tcount: &[i32],
-    needs: &[u16; 500],
-    sharers: &[u16; 255],
-    ofirst: &[u16; 16],
-    onext: &[u16; 500],
-    gfirst: &[u16; 16],
-    gnext: &[u16; 255],
-    tfirst: &[u16; 16],
-    tnext: &[u16; 1000],
-    known: &mut [u32],
-    ptransit: &mut [u32],
-    working: &mut [i64],
-    ttransit: &mut [i64],
-    statement: &mut [i64],
-    done: &mut [u16],
-    sent: &mut [u32],
-    kind: u16,
-    first: u16,
-    second: u16,
-)
-    requires { ⌜ Applies (jobTables boxes grocers offers tallies (now price) (now owner) (now gowner) (now tgrocer) (now tbox) (now toffer)
-        (now tcount)) (stateTables (now known) (now ptransit) (now working) (now ttransit) (now statement) (now done) (now sent)) (now needs)
-        (now sharers) (asked kind first second) ⌝ }
-    requires { ⌜ Links (jobTables boxes grocers offers tallies (now price) (now owner) (now gowner) (now tgrocer) (now tbox) (now toffer)
-        (now tcount)) (now ofirst) (now onext) (now gfirst) (now gnext) (now tfirst) (now tnext) ⌝ }
-    ensures { λ _. ⌜ stateTables (now (known .exit)) (now (ptransit .exit)) (now (working .exit)) (now (ttransit .exit)) (now (statement .exit))
-        (now (done .exit)) (now (sent .exit)) ≡ moved (jobTables boxes grocers offers tallies (now (price .entry)) (now (owner .entry))
-        (now (gowner .entry)) (now (tgrocer .entry)) (now (tbox .entry)) (now (toffer .entry)) (now (tcount .entry)))
-        (stateTables (now (known .entry)) (now (ptransit .entry)) (now (working .entry)) (now (ttransit .entry)) (now (statement .entry))
-        (now (done .entry)) (now (sent .entry))) (asked kind first second) ⌝ }
+// How many boxes, grocers, offers and tallies a job has: K, M, N and T.
+pub struct Sizes {
+    pub boxes: u16,
+    pub grocers: u16,
+    pub offers: u16,
+    pub tallies: u16,
+}
+
+// A step: its kind and its two boxes.
+pub struct Step {
+    pub kind: u16,
+    pub first: u16,
+    pub second: u16,
+}
+
+// Raises the count of words sent by the words of a message.
+pub fn raise(sent: &mut [u32], more: u32)
+    requires { ⌜ SentIn (now sent) ⌝ }
+    requires { ⌜ more ≤ 500 ⌝ }
+    ensures { λ _. ⌜ now (sent .exit) ≡ sentMore (now (sent .entry)) more ⌝ }
 {
-    let k = boxes as usize;
-    let m = grocers as usize;
-    let n = offers as usize;
-    let t = tallies as usize;
-    rules::marks::mark(k, kind, first, second, done);
-    if kind == 1 {
-        steps::send_prices(
+    let v = sent[0] + more;
+    sent[0] = v;
+}
+
+// A step of kind 1, 2 or 3: prices sent, own tallies multiplied, or prices received and their tallies multiplied. The words sent.
+pub fn price_step(
+    z: Sizes,
+    offer_owner: &[u16],
+    tally_grocer: &[u16],
+    tally_box: &[u16],
+    tally_offer: &[u16],
+    tally_count: &[i32],
+    needs: &[u16; 500],
+    offer_links: &[u16; 517],
+    tally_links: &[u16; 1017],
+    known: &mut [u32],
+    price_transit: &mut [u32],
+    working: &mut [i64],
+    x: Step,
+) -> u32
+    requires { ⌜ PriceStepIn (tallies (z .boxes) (z .grocers) (z .offers) (z .tallies) (now «offer_owner») (now «tally_grocer») (now «tally_box»)
+        (now «tally_offer») (now «tally_count»)) (now «offer_links») (now «tally_links») (now known) (now «price_transit») (now working)
+        (x .kind) (x .first) (x .second) ⌝ }
+    ensures { λ r. ⌜ PriceStepOut (tallies (z .boxes) (z .grocers) (z .offers) (z .tallies) (now («offer_owner» .entry)) (now («tally_grocer» .entry))
+        (now («tally_box» .entry)) (now («tally_offer» .entry)) (now («tally_count» .entry))) (now (needs .entry)) (now (known .entry))
+        (now («price_transit» .entry)) (now (working .entry)) (x .kind) (x .first) (x .second)
+        (now (known .exit)) (now («price_transit» .exit)) (now (working .exit)) r ⌝ }
+{
+    let k = z.boxes as usize;
+    let m = z.grocers as usize;
+    let n = z.offers as usize;
+    let t = z.tallies as usize;
+    let a = x.first;
+    let b = x.second;
+    if x.kind == 1 {
+        return prices::send::send_prices(
             k,
             n,
-            first,
-            second,
-            owner,
+            a,
+            b,
+            offer_owner,
             needs,
-            ofirst,
-            onext,
+            offer_links,
             known,
-            ptransit,
-            sent,
+            price_transit,
         );
-        return;
     }
-    if kind == 2 {
-        steps::multiply(
+    if x.kind == 2 {
+        totals::row::add_products(
             k,
             m,
             n,
             t,
-            first,
-            first,
-            tfirst,
-            tnext,
-            owner,
-            tgrocer,
-            tbox,
-            toffer,
-            tcount,
+            a,
+            a,
+            tally_links,
+            offer_owner,
+            tally_grocer,
+            tally_box,
+            tally_offer,
+            tally_count,
             known,
             working,
         );
-        return;
+        return 0;
     }
-    if kind == 3 {
-        steps::receive_prices(
+    totals::row::add_products(
+        k,
+        m,
+        n,
+        t,
+        a,
+        b,
+        tally_links,
+        offer_owner,
+        tally_grocer,
+        tally_box,
+        tally_offer,
+        tally_count,
+        price_transit,
+        working,
+    );
+    prices::receive::receive_prices(
+        k,
+        n,
+        a,
+        b,
+        offer_owner,
+        needs,
+        offer_links,
+        known,
+        price_transit,
+    );
+    0
+}
+
+// A step of kind 4, 5 or 6: totals sent, or own totals or totals received added to statements. The words sent.
+pub fn total_step(
+    z: Sizes,
+    grocer_owner: &[u16],
+    sharers: &[u16; 255],
+    grocer_links: &[u16; 272],
+    working: &mut [i64],
+    total_transit: &mut [i64],
+    statement: &mut [i64],
+    x: Step,
+) -> u32
+    requires { ⌜ TotalStepIn (z .boxes) (z .grocers) (now «grocer_owner») (now «grocer_links») (now working) (now «total_transit») (now statement)
+        (x .kind) (x .first) (x .second) ⌝ }
+    ensures { λ r. ⌜ TotalStepOut (z .boxes) (z .grocers) (now («grocer_owner» .entry)) (now (sharers .entry)) (now (working .entry))
+        (now («total_transit» .entry)) (now (statement .entry)) (x .kind) (x .first) (x .second)
+        (now (working .exit)) (now («total_transit» .exit)) (now (statement .exit)) r ⌝ }
+{
+    let k = z.boxes as usize;
+    let m = z.grocers as usize;
+    let a = x.first;
+    let b = x.second;
+    if x.kind == 4 {
+        return totals::send::send_totals(
             k,
             m,
-            n,
-            t,
-            first,
-            second,
-            owner,
-            tgrocer,
-            tbox,
-            toffer,
-            tcount,
-            needs,
-            ofirst,
-            onext,
-            tfirst,
-            tnext,
-            known,
-            ptransit,
-            working,
-        );
-        return;
-    }
-    if kind == 4 {
-        steps::send_totals(
-            k,
-            m,
-            first,
-            second,
-            gowner,
+            a,
+            b,
+            grocer_owner,
             sharers,
-            gfirst,
-            gnext,
+            grocer_links,
             working,
-            ttransit,
-            sent,
+            total_transit,
         );
-        return;
     }
-    if kind == 5 {
+    if x.kind == 5 {
         totals::credit::credit(
             k,
             m,
-            first,
-            first,
-            gowner,
+            a,
+            a,
+            grocer_owner,
             sharers,
-            gfirst,
-            gnext,
+            grocer_links,
             working,
             statement,
         );
-        return;
+        return 0;
     }
     totals::credit::credit(
         k,
         m,
-        first,
-        second,
-        gowner,
+        a,
+        b,
+        grocer_owner,
         sharers,
-        gfirst,
-        gnext,
-        ttransit,
+        grocer_links,
+        total_transit,
         statement,
     );
+    0
 }

@@ -5,7 +5,7 @@ use mathlib.Core.List.{List}
 use Prim.Native.Nat.{ℕ, zero, suc, _+_, _-_, _≤_, _<_}
 use native.Mathlib.Decide.{ℕ-discrete, decLt}
 use native.Mathlib.Omega.{arith}
-use lib.ListN.{length, getD, set}
+use lib.ListN.{length, getD, set, length-set}
 use lib.Seq.{getD-set-same, getD-set-other}
 use Rattle.laws.specs.Below.{naturals, only, count}
 use Rattle.laws.proofs.Bools.{no-true, and-false}
@@ -30,34 +30,43 @@ module _ (n : ℕ) (keys : List ℕ) (v : ℕ) where
       go x l m (yes p) q = ne (ap (λ (y : ℕ). getD keys y 0) p ∙ q)
       go x l m (no d) q = s .none x (omega arith) m q
 
--- One entry linked, i of key w: then every key's first place from i on is as it should be.
-pub first-linked : (n : ℕ) (keys first : List ℕ) (i w : ℕ) → i < n → getD keys i 0 ≡ w → w < length first
-    → ((v : ℕ) → v < 16 → Skips n keys v (i + 1) (getD first v 0)) → (v : ℕ) → v < 16 → Skips n keys v i (getD (set first w i) v 0)
-first-linked n keys first i w l e long h v m = go (ℕ-discrete w v)
-  where
-    go : Dec (w ≡ v) → Skips n keys v i (getD (set first w i) v 0)
-    go (yes p) =
-        subst (λ (y : ℕ). Skips n keys y i (getD (set first w i) y 0)) p
-        (subst (λ (y : ℕ). Skips n keys w i y) (sym (getD-set-same first w i 0 long)) (skips-here n keys w i l e))
-    go (no d) =
-        subst (λ (y : ℕ). Skips n keys v i y) (sym (getD-set-other first w v i 0 (λ p. d (sym p))))
-        (skips-back n keys v i (getD first v 0) (λ q. d (sym e ∙ q)) (h v m))
+-- One entry linked, i of key w, whose next place is j: first the place of its link is written, then the head of its key.
+module _ (n : ℕ) (keys links : List ℕ) (i j w : ℕ) (l : i < n) (e : getD keys i 0 ≡ w) (few : w ≤ 16) (long : 17 + n ≤ length links) where
+  abbrev after : List ℕ
+  after = set (set links (17 + i) j) w i
 
--- And so is the next place of each entry from i on.
-pub next-linked : (n : ℕ) (keys next : List ℕ) (i j : ℕ) → i < length next → Skips n keys (getD keys i 0) (i + 1) j
-    → ((x : ℕ) → i + 1 ≤ x → x < n → Skips n keys (getD keys x 0) (x + 1) (getD next x 0))
-    → (x : ℕ) → i ≤ x → x < n → Skips n keys (getD keys x 0) (x + 1) (getD (set next i j) x 0)
-next-linked n keys next i j long s h x l m = go (ℕ-discrete i x)
-  where
-    go : Dec (i ≡ x) → Skips n keys (getD keys x 0) (x + 1) (getD (set next i j) x 0)
-    go (yes p) =
-        subst (λ (y : ℕ). Skips n keys (getD keys y 0) (y + 1) (getD (set next i j) y 0)) p
-        (subst (λ (y : ℕ). Skips n keys (getD keys i 0) (i + 1) y) (sym (getD-set-same next i j 0 long)) s)
-    go (no d) = subst (λ (y : ℕ). Skips n keys (getD keys x 0) (x + 1) y) (sym (getD-set-other next i x j 0 (λ p. d (sym p)))) (h x (omega arith) m)
+  -- Then every key's first place from i on is as it should be.
+  pub begins-more : ((v : ℕ) → v ≤ 16 → Skips n keys v (i + 1) (getD links v 0)) → (v : ℕ) → v ≤ 16 → Skips n keys v i (getD after v 0)
+  begins-more h v m = go (ℕ-discrete w v)
+    where
+      room : w < length (set links (17 + i) j)
+      room = omega (arith, length-set links (17 + i) j)
+
+      go : Dec (w ≡ v) → Skips n keys v i (getD after v 0)
+      go (yes p) =
+          subst (λ (y : ℕ). Skips n keys y i (getD after y 0)) p
+          (subst (λ (y : ℕ). Skips n keys w i y) (sym (getD-set-same (set links (17 + i) j) w i 0 room)) (skips-here n keys w i l e))
+      go (no d) =
+          subst (λ (y : ℕ). Skips n keys v i y)
+          (sym (getD-set-other (set links (17 + i) j) w v i 0 (λ p. d (sym p)) ∙ getD-set-other links (17 + i) v j 0 (λ p. absurd (omega arith))))
+          (skips-back n keys v i (getD links v 0) (λ q. d (sym e ∙ q)) (h v m))
+
+  -- And so is the next place of each entry from i on.
+  pub goes-more : Skips n keys w (i + 1) j → ((x : ℕ) → i + 1 ≤ x → x < n → Skips n keys (getD keys x 0) (x + 1) (getD links (17 + x) 0))
+      → (x : ℕ) → i ≤ x → x < n → Skips n keys (getD keys x 0) (x + 1) (getD after (17 + x) 0)
+  goes-more s h x m k =
+      subst (λ (y : ℕ). Skips n keys (getD keys x 0) (x + 1) y) (sym (getD-set-other (set links (17 + i) j) w (17 + x) i 0 (λ p. absurd (omega arith)))) (go (ℕ-discrete i x))
+    where
+      go : Dec (i ≡ x) → Skips n keys (getD keys x 0) (x + 1) (getD (set links (17 + i) j) (17 + x) 0)
+      go (yes p) =
+          subst (λ (y : ℕ). Skips n keys (getD keys y 0) (y + 1) (getD (set links (17 + i) j) (17 + y) 0)) p
+          (subst (λ (y : ℕ). Skips n keys (getD keys i 0) (i + 1) y) (sym (getD-set-same links (17 + i) j 0 (omega arith))) (subst (λ (y : ℕ). Skips n keys y (i + 1) j) (sym e) s))
+      go (no d) =
+          subst (λ (y : ℕ). Skips n keys (getD keys x 0) (x + 1) y) (sym (getD-set-other links (17 + i) (17 + x) j 0 (λ p. d (omega arith)))) (h x (omega arith) k)
 
 -- A step of a walk over key v: from a place of the key to the next of it.
-pub goes-on : (n : ℕ) (keys first next : List ℕ) (v i : ℕ) → Linked n keys first next → i < n → getD keys i 0 ≡ v → Skips n keys v (i + 1) (getD next i 0)
-goes-on n keys first next v i h l e = subst (λ (y : ℕ). Skips n keys y (i + 1) (getD next i 0)) e (h .goes i l)
+pub goes-on : (n : ℕ) (keys links : List ℕ) (v i : ℕ) → Linked n keys links → i < n → getD keys i 0 ≡ v → Skips n keys v (i + 1) (getD links (17 + i) 0)
+goes-on n keys links v i h l e = subst (λ (y : ℕ). Skips n keys y (i + 1) (getD links (17 + i) 0)) e (h .goes i l)
 
 -- Where a test holds of entries of key v alone, it fails at each entry passed over; so these are not counted, and nothing is stored for them.
 module _ (n : ℕ) (keys : List ℕ) (v i j : ℕ) (s : Skips n keys v i j) (test : ℕ → Bool) (keyed : (x : ℕ) → test x ≡ true → getD keys x 0 ≡ v) where

@@ -11,14 +11,14 @@ pub record Skips (n : ℕ) (keys : List ℕ) (v i j : ℕ) : Type 0 where
   pub none : (x : ℕ) → i ≤ x → x < j → getD keys x 0 ≡ v → ⊥
   pub hits : j < n → getD keys j 0 ≡ v
 
--- `first` has the first place of each key below 16, and `next` for each place the next of the same key.
-pub record Linked (n : ℕ) (keys first next : List ℕ) : Type 0 where
-  pub begins : (v : ℕ) → v < 16 → Skips n keys v 0 (getD first v 0)
-  pub goes : (i : ℕ) → i < n → Skips n keys (getD keys i 0) (i + 1) (getD next i 0)
+-- In front stands the first place of each key from 0 to 16, and behind these 17 words for each place the next of the same key. Key 16 is nobody's.
+pub record Linked (n : ℕ) (keys links : List ℕ) : Type 0 where
+  pub begins : (v : ℕ) → v ≤ 16 → Skips n keys v 0 (getD links v 0)
+  pub goes : (i : ℕ) → i < n → Skips n keys (getD keys i 0) (i + 1) (getD links (17 + i) 0)
 
--- What linking requires: at most 1,000 places, tables as long as they need, and keys below 16.
-pub record Keyed (n : ℕ) (keys next : List ℕ) : Type 0 where
+-- What linking requires: at most 1,000 places, tables as long as they need, and keys up to 16.
+pub record Keyed (n : ℕ) (keys links : List ℕ) : Type 0 where
   pub few : n ≤ 1_000
   pub keys-long : n ≤ length keys
-  pub next-long : n ≤ length next
-  pub key-in : (i : ℕ) → i < n → getD keys i 0 < 16
+  pub links-long : 17 + n ≤ length links
+  pub key-in : (i : ℕ) → i < n → getD keys i 0 ≤ 16

@@ -6,6 +6,7 @@ ghost use lib.ListN.{length, getD, set};
 ghost use Rattle.words.specs.Message.{wordIn};
 ghost use Rattle.links.specs.Links.{Linked};
 ghost use Rattle.prices.specs.Prices.{PricesIn, receivedKnown, receivedTransit};
+use links::HEADS;
 
 // Takes the price of offer o out of transit, in the row of box a, if a is to have it from box b.
 fn receive_one(
@@ -39,20 +40,19 @@ pub fn receive_prices(
     b: u16,
     owner: &[u16],
     needs: &[u16; 500],
-    first: &[u16; 16],
-    next: &[u16; 500],
+    links: &[u16; 517],
     known: &mut [u32],
     transit: &mut [u32],
 )
     requires { ⌜ PricesIn k n a b (now owner) (now known) (now transit) ⌝ }
-    requires { ⌜ Linked n (now owner) (now first) (now next) ⌝ }
+    requires { ⌜ Linked n (now owner) (now links) ⌝ }
     ensures { λ r. ⌜ (now (known .exit) ≡ receivedKnown k n a b (now (owner .entry)) (now (needs .entry)) (now (known .entry)) (now (transit .entry)))
         × (now (transit .exit) ≡ receivedTransit k n a b (now (owner .entry)) (now (needs .entry)) (now (known .entry)) (now (transit .entry))) ⌝ }
 {
     let row = a as usize * n;
-    let mut o = first[b as usize] as usize;
+    let mut o = links[b as usize] as usize;
     while o < n {
         receive_one(known, transit, owner, needs, row, a, b, o);
-        o = next[o] as usize;
+        o = links[HEADS + o] as usize;
     }
 }

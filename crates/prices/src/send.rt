@@ -7,6 +7,7 @@ ghost use Rattle.laws.specs.Below.{naturals, only, count};
 ghost use Rattle.words.specs.Message.{wordIn};
 ghost use Rattle.links.specs.Links.{Linked};
 ghost use Rattle.prices.specs.Prices.{PricesIn, sentTransit};
+use links::HEADS;
 
 // Sends the price of offer o, from row `from` to row `to`, if box b is to have it from box a: 1 where it is, else 0.
 fn send_one(
@@ -40,23 +41,22 @@ pub fn send_prices(
     b: u16,
     owner: &[u16],
     needs: &[u16; 500],
-    first: &[u16; 16],
-    next: &[u16; 500],
+    links: &[u16; 517],
     known: &[u32],
     transit: &mut [u32],
 ) -> u32
     requires { ⌜ PricesIn k n a b (now owner) (now known) (now transit) ⌝ }
-    requires { ⌜ Linked n (now owner) (now first) (now next) ⌝ }
+    requires { ⌜ Linked n (now owner) (now links) ⌝ }
     ensures { λ r. ⌜ (now (transit .exit) ≡ sentTransit k n a b (now (owner .entry)) (now (needs .entry)) (now (known .entry)) (now (transit .entry)))
         × (r ≡ count n (wordIn (now (owner .entry)) (now (needs .entry)) a b)) ⌝ }
 {
     let from = a as usize * n;
     let to = b as usize * n;
     let mut sent: u32 = 0;
-    let mut o = first[a as usize] as usize;
+    let mut o = links[a as usize] as usize;
     while o < n {
         sent += send_one(transit, known, owner, needs, from, to, a, b, o);
-        o = next[o] as usize;
+        o = links[HEADS + o] as usize;
     }
     sent
 }

@@ -1,54 +1,142 @@
--- Where a step may be tested for the range of its finished tables it may be applied, and one test decides. Assumes nothing.
-use mathlib.Core.Path.{_≡_, refl, sym, ap, _∙_}
+-- The late 21: the tests by kind tell whether the model's step leaves its tables in range. Assumes nothing.
+use mathlib.Core.Path.{_≡_, sym, ap, _∙_}
+use mathlib.Core.Bool.{Bool}
 use mathlib.Core.List.{List}
-use Prim.Native.Nat.{ℕ, _+_, _<_}
+use Prim.Native.Nat.{ℕ, _+_, _≤_, _<_}
+use native.Mathlib.Decide.{ℕ-discrete}
 use native.Mathlib.Omega.{arith}
 use lib.Dec.{leb}
 use lib.ListN.{getD}
-use Rattle.laws.specs.Tables.{tabulate}
-use Rattle.model.specs.Job.{needWord}
-use Rattle.model.specs.Tables.{JobTables, jobOf, StateTables}
-use Rattle.model.specs.Ranges.{maxSent, stateInRange}
+use lib.IntN.{ℤ}
+use Rattle.model.specs.Tables.{JobTables, jobOf, StateTables, jobLengths}
+use Rattle.model.specs.Local.{priceTable, totalTable}
+use Rattle.model.specs.Ranges.{maxAmount, maxSent, around, stateInRange}
 use Rattle.model.specs.Step.{Asked, moved}
-use Rattle.apply.specs.Apply.{Applies}
 use Rattle.rules.specs.Rules.{wordsTo}
-use Rattle.refuse.specs.Late.{Finishing}
+use Rattle.totals.specs.Row.{Tallies, productRow}
+use Rattle.apply.specs.Apply.{Applies}
+use Rattle.refuse.specs.Late.{sentFits, priceFits, creditsFit, totalFits, PriceFitsIn, TotalFitsIn}
 use Rattle.tables.proofs.MessageLaws.{price-cell, total-cell}
-use Rattle.apply.proofs.Given.{Given, given}
-use Rattle.apply.proofs.Late.{late-prices-sent, late-totals-sent}
+use Rattle.totals.proofs.Effect.{talliesOf}
+use Rattle.apply.proofs.Given.{Given, given, sent-in, known-in, price-transit-in, working-in, transit-in, statement-in}
+use Rattle.apply.proofs.Late.{late-prices-sent, late-own-multiplied, late-prices-received, late-totals-sent, late-own-added, late-totals-received}
 
--- The need words of the job.
-abbrev pub needing : JobTables → List ℕ
-needing f = tabulate 500 (needWord (jobOf f))
+-- The test of each kind.
+module _ (e : Tallies) (table : List (List ℕ)) (known transit : List ℕ) (working : List ℤ) (sent : List ℕ) (kind a b : ℕ) where
+  abbrev prices : Bool
+  prices = priceFits e table known transit working sent kind a b
 
-module _ (f : JobTables) (t : StateTables) (sharers : List ℕ) (prices totals : List (List ℕ)) (q : Asked) (h : Finishing f t sharers prices totals q) where
-  pub applies : Applies f t (needing f) sharers q
-  applies = record {
-    job-in = h .held .job-in;
-    job-long = h .held .job-long;
-    state-long = h .held .state-long;
-    state-in = h .held .state-in;
-    needs-are = refl;
-    sharers-are = h .sharers-are;
-    kind-in = h .kind-in;
-    boxes-fit = h .boxes-fit;
-  }
+  pub fits-1 : kind ≡ 1 → prices ≡ sentFits table sent a b
+  unfolding priceFits
+  fits-1 q = rw q
 
-  pub facts : Given f t (needing f) sharers q
-  facts = given f t (needing f) sharers q applies
+  pub fits-2 : kind ≡ 2 → prices ≡ around maxAmount (e .grocers) (productRow e known a a working)
+  unfolding priceFits
+  fits-2 q = rw q
 
-  pub small-boxes : (q .first < 16) × (q .second < 16)
-  small-boxes = let g = facts in (omega (arith, g .first-in, g .tallies-in .boxes-in), omega (arith, g .second-in, g .tallies-in .boxes-in))
+  pub fits-3 : kind ≡ 3 → prices ≡ around maxAmount (e .grocers) (productRow e transit a b working)
+  unfolding priceFits
+  fits-3 q = rw q
+
+module _ (k m : ℕ) (owner sharers : List ℕ) (table : List (List ℕ)) (working transit statement : List ℤ) (sent : List ℕ) (kind a b : ℕ) where
+  abbrev totals : Bool
+  totals = totalFits k m owner sharers table working transit statement sent kind a b
+
+  pub fits-4 : kind ≡ 4 → totals ≡ sentFits table sent a b
+  unfolding totalFits
+  fits-4 q = rw q
+
+  pub fits-5 : kind ≡ 5 → totals ≡ creditsFit k m owner sharers a a working statement
+  unfolding totalFits
+  fits-5 q = rw q
+
+  pub fits-6 : kind ≡ 6 → totals ≡ creditsFit k m owner sharers a b transit statement
+  unfolding totalFits
+  fits-6 q = rw q
+
+module _ (f : JobTables) (t : StateTables) (needs sharers : List ℕ) (q : Asked) (h : Applies f t needs sharers q) where
+  abbrev facts : Given f t needs sharers q
+  facts = given f t needs sharers q h
+
+  -- What the tests require.
+  pub price-fits-in : q .kind ≤ 3 → PriceFitsIn (talliesOf f) (t .known) (t .priceTransit) (t .working) (t .sent) (q .kind) (q .first) (q .second)
+  price-fits-in few =
+      let g = facts in
+      record {
+        tallies-in = g .tallies-in;
+        known-in = known-in f t needs sharers q g;
+        transit-in = price-transit-in f t needs sharers q g;
+        working-in = working-in f t needs sharers q g;
+        sent-in = sent-in f t needs sharers q g;
+        kind-from = g .kind-from;
+        kind-to = few;
+        a-in = g .first-in;
+        b-in = g .second-in;
+      }
+
+  pub total-fits-in : 4 ≤ q .kind → TotalFitsIn (f .boxes) (f .grocers) (f .grocerOwner) (t .working) (t .totalTransit) (t .statement) (t .sent) (q .kind) (q .first) (q .second)
+  unfolding jobLengths
+  total-fits-in many =
+      let g = facts in
+      record {
+        boxes-in = g .tallies-in .boxes-in;
+        grocers-in = g .tallies-in .grocers-in;
+        owner-long = g .job-long .grocerOwner;
+        working-in = working-in f t needs sharers q g;
+        transit-in = transit-in f t needs sharers q g;
+        statement-in = statement-in f t needs sharers q g;
+        sent-in = sent-in f t needs sharers q g;
+        kind-from = many;
+        kind-to = g .kind-to;
+        a-in = g .first-in;
+        b-in = g .second-in;
+      }
+
+  small : (b : ℕ) → b < f .boxes → b < 16
+  small b l = omega (arith, l, facts .tallies-in .boxes-in)
 
   -- 1 and 4: the words of the message by the tables of messages.
-  pub prices-counted : q .kind ≡ 1 → leb (getD (t .sent) 0 0 + wordsTo prices (q .first) (q .second)) maxSent ≡ stateInRange f (moved f t q)
+  prices-counted : (table : List (List ℕ)) → table ≡ priceTable (jobOf f) → q .kind ≡ 1 → sentFits table (t .sent) (q .first) (q .second) ≡ stateInRange f (moved f t q)
   unfolding jobOf
-  prices-counted e =
-      ap (λ (n : ℕ). leb (getD (t .sent) 0 0 + n) maxSent) (ap (λ (p : List (List ℕ)). wordsTo p (q .first) (q .second)) (h .prices-are) ∙ price-cell (jobOf f) (q .first) (q .second) (small-boxes .0) (small-boxes .1))
-      ∙ sym (late-prices-sent f t (needing f) sharers q applies e)
+  prices-counted table is e =
+      ap (λ (n : ℕ). leb (getD (t .sent) 0 0 + n) maxSent)
+      (ap (λ (p : List (List ℕ)). wordsTo p (q .first) (q .second)) is ∙ price-cell (jobOf f) (q .first) (q .second) (small (q .first) (facts .first-in)) (small (q .second) (facts .second-in)))
+      ∙ sym (late-prices-sent f t needs sharers q h e)
 
-  pub totals-counted : q .kind ≡ 4 → leb (getD (t .sent) 0 0 + wordsTo totals (q .first) (q .second)) maxSent ≡ stateInRange f (moved f t q)
+  totals-counted : (table : List (List ℕ)) → table ≡ totalTable (jobOf f) → q .kind ≡ 4 → sentFits table (t .sent) (q .first) (q .second) ≡ stateInRange f (moved f t q)
   unfolding jobOf
-  totals-counted e =
-      ap (λ (n : ℕ). leb (getD (t .sent) 0 0 + n) maxSent) (ap (λ (p : List (List ℕ)). wordsTo p (q .first) (q .second)) (h .totals-are) ∙ total-cell (jobOf f) (q .first) (q .second) (small-boxes .0) (small-boxes .1))
-      ∙ sym (late-totals-sent f t (needing f) sharers q applies e)
+  totals-counted table is e =
+      ap (λ (n : ℕ). leb (getD (t .sent) 0 0 + n) maxSent)
+      (ap (λ (p : List (List ℕ)). wordsTo p (q .first) (q .second)) is ∙ total-cell (jobOf f) (q .first) (q .second) (small (q .first) (facts .first-in)) (small (q .second) (facts .second-in)))
+      ∙ sym (late-totals-sent f t needs sharers q h e)
+
+  -- Kinds 1 to 3.
+  pub prices-fit : (table : List (List ℕ)) → table ≡ priceTable (jobOf f) → q .kind ≤ 3 →
+      priceFits (talliesOf f) table (t .known) (t .priceTransit) (t .working) (t .sent) (q .kind) (q .first) (q .second) ≡ stateInRange f (moved f t q)
+  prices-fit table is few = go (ℕ-discrete (q .kind) 1) (ℕ-discrete (q .kind) 2)
+    where
+      go : Dec (q .kind ≡ 1) → Dec (q .kind ≡ 2) →
+          priceFits (talliesOf f) table (t .known) (t .priceTransit) (t .working) (t .sent) (q .kind) (q .first) (q .second) ≡ stateInRange f (moved f t q)
+      go (yes e) _ = fits-1 (talliesOf f) table (t .known) (t .priceTransit) (t .working) (t .sent) (q .kind) (q .first) (q .second) e ∙ prices-counted table is e
+      go (no n) (yes e) = fits-2 (talliesOf f) table (t .known) (t .priceTransit) (t .working) (t .sent) (q .kind) (q .first) (q .second) e ∙ sym (late-own-multiplied f t needs sharers q h e)
+      go (no n) (no m) =
+          let e : q .kind ≡ 3 = omega (arith, facts .kind-from) in
+          fits-3 (talliesOf f) table (t .known) (t .priceTransit) (t .working) (t .sent) (q .kind) (q .first) (q .second) e ∙ sym (late-prices-received f t needs sharers q h e)
+
+  -- Kinds 4 to 6.
+  pub totals-fit : (table : List (List ℕ)) → table ≡ totalTable (jobOf f) → 4 ≤ q .kind →
+      totalFits (f .boxes) (f .grocers) (f .grocerOwner) sharers table (t .working) (t .totalTransit) (t .statement) (t .sent) (q .kind) (q .first) (q .second) ≡ stateInRange f (moved f t q)
+  totals-fit table is many = go (ℕ-discrete (q .kind) 4) (ℕ-discrete (q .kind) 5)
+    where
+      go : Dec (q .kind ≡ 4) → Dec (q .kind ≡ 5) →
+          totalFits (f .boxes) (f .grocers) (f .grocerOwner) sharers table (t .working) (t .totalTransit) (t .statement) (t .sent) (q .kind) (q .first) (q .second) ≡ stateInRange f (moved f t q)
+      go (yes e) _ =
+          fits-4 (f .boxes) (f .grocers) (f .grocerOwner) sharers table (t .working) (t .totalTransit) (t .statement) (t .sent) (q .kind) (q .first) (q .second) e
+          ∙ totals-counted table is e
+      go (no n) (yes e) =
+          fits-5 (f .boxes) (f .grocers) (f .grocerOwner) sharers table (t .working) (t .totalTransit) (t .statement) (t .sent) (q .kind) (q .first) (q .second) e
+          ∙ sym (late-own-added f t needs sharers q h e)
+      go (no n) (no m) =
+          let e : q .kind ≡ 6 = omega (arith, facts .kind-to) in
+          fits-6 (f .boxes) (f .grocers) (f .grocerOwner) sharers table (t .working) (t .totalTransit) (t .statement) (t .sent) (q .kind) (q .first) (q .second) e
+          ∙ sym (late-totals-received f t needs sharers q h e)

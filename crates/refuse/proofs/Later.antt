@@ -6,14 +6,15 @@ use Prim.Native.Nat.{ℕ, _≤_}
 use native.Mathlib.Omega.{arith}
 use Rattle.laws.specs.Checks.{firstMet}
 use Rattle.laws.specs.Tables.{tabulate}
-use Rattle.model.specs.Job.{sharerWord}
+use Rattle.model.specs.Job.{needWord, sharerWord}
 use Rattle.model.specs.Steps.{kindOf, Steps, fits, ready}
 use Rattle.model.specs.Tables.{JobTables, jobOf, StateTables, view, stepsDone}
 use Rattle.model.specs.Ranges.{stateInRange}
 use Rattle.model.specs.Step.{Asked, isKind, boxesFit, stepRules, moved}
 use Rattle.model.specs.Local.{priceTable, totalTable}
 use Rattle.rules.specs.Rules.{rulesBy}
-use Rattle.refuse.specs.Late.{laterRules, Held, Finishing}
+use Rattle.apply.specs.Apply.{Applies}
+use Rattle.refuse.specs.Late.{laterRules, Held}
 use Rattle.model.proofs.Step.{range}
 use Rattle.tables.proofs.Whole.{JobWhole, job-whole, StateWhole, state-whole}
 use Rattle.prices.proofs.Effect.{steps-done}
@@ -47,8 +48,7 @@ module _ (f : JobTables) (t : StateTables) (h : Held f t) where
   unfolding jobOf
   few-boxes = range f (h .job-in) .boxes≤
 
-  module _ (sharers : List ℕ) (prices totals : List (List ℕ)) (em : sharers ≡ tabulate 255 (sharerWord (jobOf f)))
-      (ep : prices ≡ priceTable (jobOf f)) (et : totals ≡ totalTable (jobOf f)) (q : Asked)
+  module _ (prices totals : List (List ℕ)) (ep : prices ≡ priceTable (jobOf f)) (et : totals ≡ totalTable (jobOf f)) (q : Asked)
       (r : ℕ) (er : r ≡ firstMet (rulesBy (f .boxes) prices totals (stepsDone (f .boxes) (t .done)) q)) where
     abbrev steps : Steps
     steps = view (jobOf f) t .done
@@ -73,13 +73,15 @@ module _ (f : JobTables) (t : StateTables) (h : Held f t) where
           in-order (isKind (q .kind)) (boxesFit (jobOf f) (kindOf (q .kind)) (q .first) (q .second)) (fits (jobOf f) (kindOf (q .kind)) (q .first) (q .second))
           (steps (kindOf (q .kind)) (q .first) (q .second)) (ready (jobOf f) steps (kindOf (q .kind)) (q .first) (q .second)) (sym rules-model ∙ z)
 
-      -- What the test of the finished tables requires.
-      pub finishing : Finishing f t sharers prices totals q
-      finishing = record {
-        held = h;
-        sharers-are = em;
-        prices-are = ep;
-        totals-are = et;
+      -- What is asked of the step that is applied.
+      pub applies : (needs sharers : List ℕ) → needs ≡ tabulate 500 (needWord (jobOf f)) → sharers ≡ tabulate 255 (sharerWord (jobOf f)) → Applies f t needs sharers q
+      applies needs sharers en es = record {
+        job-in = h .job-in;
+        job-long = h .job-long;
+        state-long = h .state-long;
+        state-in = h .state-in;
+        needs-are = en;
+        sharers-are = es;
         kind-in = kind-boxes .0;
         boxes-fit = kind-boxes .1;
       }

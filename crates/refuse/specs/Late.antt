@@ -1,15 +1,19 @@
--- The conditions of a step in two parts, and what the tests of the second require.
+-- The conditions of a step in two parts, and the late 21 by the number of the kind.
 use mathlib.Core.Path.{_≡_}
-use mathlib.Core.Bool.{Bool, true, false, _&&_, not}
+use mathlib.Core.Bool.{Bool, true, false, cond, _&&_, not}
 use mathlib.Core.List.{List, [], _∷_, _++_}
-use Prim.Native.Nat.{ℕ}
-use Rattle.laws.specs.Tables.{tabulate}
-use Rattle.model.specs.Job.{needWord, sharerWord}
-use Rattle.model.specs.Steps.{kindOf}
+use Prim.Native.Nat.{ℕ, _+_, _*_, _≤_, _<_}
+use lib.Dec.{eqb, leb}
+use lib.ListN.{length, getD}
+use lib.IntN.{ℤ, natAbs}
+use Rattle.laws.specs.Below.{all}
 use Rattle.model.specs.Tables.{JobTables, jobOf, jobLengths, jobShort, StateTables, stateLengths, stateShort, lentShort, view}
-use Rattle.model.specs.Ranges.{jobInRange, stateInRange}
-use Rattle.model.specs.Step.{Asked, isKind, boxesFit, stepRules, moved}
-use Rattle.model.specs.Local.{priceTable, totalTable}
+use Rattle.model.specs.Ranges.{maxBoxes, maxGrocers, maxAmount, maxSent, around, jobInRange, stateInRange}
+use Rattle.model.specs.Step.{Asked, stepRules, moved}
+use Rattle.rules.specs.Rules.{wordsTo}
+use Rattle.totals.specs.Row.{Tallies, TalliesIn, PricesIn, AmountsIn, productRow}
+use Rattle.totals.specs.Credit.{credited, creditWord}
+use Rattle.apply.specs.Apply.{SentIn}
 
 -- Conditions 20 and 21.
 unfoldable pub earlyRules : JobTables → StateTables → List (Bool × ℕ)
@@ -26,16 +30,49 @@ pub record Held (f : JobTables) (t : StateTables) : Type 0 where
   pub job-in : jobInRange f ≡ true
   pub state-in : stateInRange f t ≡ true
 
--- Need words and sharer words are the job's.
-pub record Words (f : JobTables) (needs sharers : List ℕ) : Type 0 where
-  pub needs-are : needs ≡ tabulate 500 (needWord (jobOf f))
-  pub sharers-are : sharers ≡ tabulate 255 (sharerWord (jobOf f))
+-- The count of words sent stays in range with the words from box a to box b, by a table of messages.
+abbrev pub sentFits : List (List ℕ) → List ℕ → ℕ → ℕ → Bool
+sentFits table sent a b = leb (getD sent 0 0 + wordsTo table a b) maxSent
 
--- What the test of the finished tables requires: neither 20 nor 21, sharers' words and tables of messages of the job, and a kind with boxes that fit it.
-pub record Finishing (f : JobTables) (t : StateTables) (sharers : List ℕ) (prices totals : List (List ℕ)) (q : Asked) : Type 0 where
-  pub held : Held f t
-  pub sharers-are : sharers ≡ tabulate 255 (sharerWord (jobOf f))
-  pub prices-are : prices ≡ priceTable (jobOf f)
-  pub totals-are : totals ≡ totalTable (jobOf f)
-  pub kind-in : isKind (q .kind) ≡ true
-  pub boxes-fit : boxesFit (jobOf f) (kindOf (q .kind)) (q .first) (q .second) ≡ true
+-- Kinds 1 to 3: what the step leaves is in range. 1 raises the count of words sent; 2 and 3 add to the working totals of box a.
+unfoldable pub priceFits : Tallies → List (List ℕ) → List ℕ → List ℕ → List ℤ → List ℕ → ℕ → ℕ → ℕ → Bool
+priceFits e table known transit working sent kind a b =
+    cond (eqb kind 1) (sentFits table sent a b)
+    (cond (eqb kind 2) (around maxAmount (e .grocers) (productRow e known a a working))
+    (around maxAmount (e .grocers) (productRow e transit a b working)))
+
+-- Every statement is in range once box a has added the totals of box `from`.
+abbrev pub creditsFit : ℕ → ℕ → List ℕ → List ℕ → ℕ → ℕ → List ℤ → List ℤ → Bool
+creditsFit k m owner sharers a from totals statement =
+    all m (λ g. leb (natAbs (creditWord k m from (credited owner sharers a from) totals statement g)) maxAmount)
+
+-- Kinds 4 to 6, likewise: 4 raises the count of words sent; 5 and 6 add to the statements of box a.
+unfoldable pub totalFits : ℕ → ℕ → List ℕ → List ℕ → List (List ℕ) → List ℤ → List ℤ → List ℤ → List ℕ → ℕ → ℕ → ℕ → Bool
+totalFits k m owner sharers table working transit statement sent kind a b =
+    cond (eqb kind 4) (sentFits table sent a b)
+    (cond (eqb kind 5) (creditsFit k m owner sharers a a working statement) (creditsFit k m owner sharers a b transit statement))
+
+-- What these tests require: tables that are long enough and in range, a kind of their side, and boxes below K.
+pub record PriceFitsIn (e : Tallies) (known transit : List ℕ) (working : List ℤ) (sent : List ℕ) (kind a b : ℕ) : Type 0 where
+  pub tallies-in : TalliesIn e
+  pub known-in : PricesIn (e .boxes) (e .offers) known
+  pub transit-in : PricesIn (e .boxes) (e .offers) transit
+  pub working-in : AmountsIn (e .boxes * e .grocers) working
+  pub sent-in : SentIn sent
+  pub kind-from : 1 ≤ kind
+  pub kind-to : kind ≤ 3
+  pub a-in : a < e .boxes
+  pub b-in : b < e .boxes
+
+pub record TotalFitsIn (k m : ℕ) (owner : List ℕ) (working transit statement : List ℤ) (sent : List ℕ) (kind a b : ℕ) : Type 0 where
+  pub boxes-in : k ≤ maxBoxes
+  pub grocers-in : m ≤ maxGrocers
+  pub owner-long : m ≤ length owner
+  pub working-in : AmountsIn (k * m) working
+  pub transit-in : AmountsIn (k * m) transit
+  pub statement-in : AmountsIn m statement
+  pub sent-in : SentIn sent
+  pub kind-from : 4 ≤ kind
+  pub kind-to : kind ≤ 6
+  pub a-in : a < k
+  pub b-in : b < k

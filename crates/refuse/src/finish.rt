@@ -1,151 +1,147 @@
-// The late 21: whether the finished tables of a step are in range. One table decides, by kind.
+// The late 21: whether what a step leaves is in range. One table decides, by kind.
 ghost use mathlib.Core.Path.{_≡_};
-ghost use Prim.Native.Nat.{_+_, _<_};
-ghost use lib.ListN.{getD};
-ghost use lib.Dec.{leb};
-ghost use Rattle.model.specs.Tables.{jobTables, stateTables};
-ghost use Rattle.model.specs.Ranges.{maxAmount, maxSent, around, stateInRange};
-ghost use Rattle.model.specs.Step.{asked, moved};
-ghost use Rattle.totals.specs.Row.{tallies, productRow};
-ghost use Rattle.apply.specs.Apply.{SentIn, MultiplyIn};
-ghost use Rattle.rules.specs.Rules.{wordsTo};
-ghost use Rattle.refuse.specs.Late.{Finishing};
+ghost use Prim.Native.Nat.{_*_, _<_};
+ghost use Rattle.model.specs.Ranges.{maxAmount, around};
+ghost use Rattle.totals.specs.Row.{tallies, TalliesIn, PricesIn, AmountsIn, productRow};
+ghost use Rattle.apply.specs.Apply.{SentIn};
+ghost use Rattle.refuse.specs.Late.{sentFits, priceFits, totalFits, PriceFitsIn, TotalFitsIn};
+use apply::Sizes;
+use apply::Step;
 use rules::ready::words_to;
+use totals::credit::credit_fits;
+
+// The most words that can have been sent.
+const MAX_SENT: u32 = 1_000_000;
 
 // Steps 1 and 4: whether the count of words sent stays in range.
 fn sent_fits(table: &[[u16; 16]; 16], sent: &[u32], a: u16, b: u16) -> bool
     requires { ⌜ (a < 16) × (b < 16) ⌝ }
     requires { ⌜ SentIn (now sent) ⌝ }
-    ensures { λ r. ⌜ r ≡ leb (getD (now (sent .entry)) 0 0 + wordsTo (now (table .entry)) a b) maxSent ⌝ }
+    ensures { λ r. ⌜ r ≡ sentFits (now (table .entry)) (now (sent .entry)) a b ⌝ }
 {
     let more = words_to(table, a, b) as u32;
-    sent[0] + more <= 1_000_000
+    sent[0] + more <= MAX_SENT
 }
 
-// Steps 2 and 3: whether the working totals of box a stay in range.
+// Steps 2 and 3: whether the working totals of box a stay in range with the tallies of offers of box `from`.
 fn products_fit(
-    k: usize,
-    m: usize,
-    n: usize,
-    t: usize,
+    z: Sizes,
     a: u16,
     from: u16,
-    owner: &[u16],
-    grocer: &[u16],
-    holder: &[u16],
-    offer: &[u16],
-    counts: &[i32],
+    offer_owner: &[u16],
+    tally_grocer: &[u16],
+    tally_box: &[u16],
+    tally_offer: &[u16],
+    tally_count: &[i32],
     prices: &[u32],
     working: &[i64],
 ) -> bool
-    requires { ⌜ MultiplyIn (tallies k m n t (now owner) (now grocer) (now holder) (now offer) (now counts)) a (now prices) (now working) ⌝ }
-    ensures { λ r. ⌜ r ≡ around maxAmount m (productRow (tallies k m n t (now (owner .entry)) (now (grocer .entry)) (now (holder .entry))
-        (now (offer .entry)) (now (counts .entry))) (now (prices .entry)) a from (now (working .entry))) ⌝ }
+    requires { ⌜ TalliesIn (tallies (z .boxes) (z .grocers) (z .offers) (z .tallies) (now «offer_owner») (now «tally_grocer») (now «tally_box»)
+        (now «tally_offer») (now «tally_count»)) ⌝ }
+    requires { ⌜ PricesIn (z .boxes) (z .offers) (now prices) × AmountsIn (z .boxes * z .grocers) (now working) × (a < z .boxes) ⌝ }
+    ensures { λ r. ⌜ r ≡ around maxAmount (z .grocers) (productRow (tallies (z .boxes) (z .grocers) (z .offers) (z .tallies)
+        (now («offer_owner» .entry)) (now («tally_grocer» .entry)) (now («tally_box» .entry)) (now («tally_offer» .entry))
+        (now («tally_count» .entry))) (now (prices .entry)) a from (now (working .entry))) ⌝ }
 {
+    let m = z.grocers as usize;
     let row = totals::row::product_row(
-        k,
+        z.boxes as usize,
         m,
-        n,
-        t,
+        z.offers as usize,
+        z.tallies as usize,
         a,
         from,
-        owner,
-        grocer,
-        holder,
-        offer,
-        counts,
+        offer_owner,
+        tally_grocer,
+        tally_box,
+        tally_offer,
+        tally_count,
         prices,
         working,
     );
     totals::row::row_fits(&row, m)
 }
 
-// Whether the finished tables are in range. Prices and marks are lent as tables of the job and the state, and not read.
-pub fn finished_fits(
-    boxes: u16,
-    grocers: u16,
-    offers: u16,
-    tallies: u16,
-    price: &[u32],
-    owner: &[u16],
-    gowner: &[u16],
-    tgrocer: &[u16],
-    tbox: &[u16],
-    toffer: &[u16],
-    tcount: &[i32],
+// Kinds 1 to 3: whether what the step leaves is in range, with the table of messages of prices.
+pub fn price_fits(
+    z: Sizes,
+    offer_owner: &[u16],
+    tally_grocer: &[u16],
+    tally_box: &[u16],
+    tally_offer: &[u16],
+    tally_count: &[i32],
+    table: &[[u16; 16]; 16],
     known: &[u32],
-    ptransit: &[u32],
+    price_transit: &[u32],
     working: &[i64],
-    ttransit: &[i64],
-    statement: &[i64],
-    done: &[u16],
     sent: &[u32],
-    sharers: &[u16; 255],
-    prices: &[[u16; 16]; 16],
-    totals: &[[u16; 16]; 16],
-    kind: u16,
-    first: u16,
-    second: u16,
+    x: Step,
 ) -> bool
-    requires { ⌜ Finishing
-        (jobTables boxes grocers offers tallies (now price) (now owner) (now gowner) (now tgrocer) (now tbox) (now toffer) (now tcount))
-        (stateTables (now known) (now ptransit) (now working) (now ttransit) (now statement) (now done) (now sent))
-        (now sharers) (now prices) (now totals) (asked kind first second) ⌝ }
-    ensures { λ r. ⌜ r ≡ stateInRange
-        (jobTables boxes grocers offers tallies (now (price .entry)) (now (owner .entry)) (now (gowner .entry)) (now (tgrocer .entry))
-        (now (tbox .entry)) (now (toffer .entry)) (now (tcount .entry)))
-        (moved (jobTables boxes grocers offers tallies (now (price .entry)) (now (owner .entry)) (now (gowner .entry)) (now (tgrocer .entry))
-        (now (tbox .entry)) (now (toffer .entry)) (now (tcount .entry)))
-        (stateTables (now (known .entry)) (now (ptransit .entry)) (now (working .entry)) (now (ttransit .entry)) (now (statement .entry))
-        (now (done .entry)) (now (sent .entry)))
-        (asked kind first second)) ⌝ }
+    requires { ⌜ PriceFitsIn (tallies (z .boxes) (z .grocers) (z .offers) (z .tallies) (now «offer_owner») (now «tally_grocer») (now «tally_box»)
+        (now «tally_offer») (now «tally_count»)) (now known) (now «price_transit») (now working) (now sent) (x .kind) (x .first) (x .second) ⌝ }
+    ensures { λ r. ⌜ r ≡ priceFits (tallies (z .boxes) (z .grocers) (z .offers) (z .tallies) (now («offer_owner» .entry)) (now («tally_grocer» .entry))
+        (now («tally_box» .entry)) (now («tally_offer» .entry)) (now («tally_count» .entry))) (now (table .entry)) (now (known .entry))
+        (now («price_transit» .entry)) (now (working .entry)) (now (sent .entry)) (x .kind) (x .first) (x .second) ⌝ }
 {
-    let k = boxes as usize;
-    let m = grocers as usize;
-    let n = offers as usize;
-    let t = tallies as usize;
-    if kind == 1 {
-        return sent_fits(prices, sent, first, second);
+    let a = x.first;
+    let b = x.second;
+    if x.kind == 1 {
+        return sent_fits(table, sent, a, b);
     }
-    if kind == 2 {
+    if x.kind == 2 {
         return products_fit(
-            k,
-            m,
-            n,
-            t,
-            first,
-            first,
-            owner,
-            tgrocer,
-            tbox,
-            toffer,
-            tcount,
+            z,
+            a,
+            a,
+            offer_owner,
+            tally_grocer,
+            tally_box,
+            tally_offer,
+            tally_count,
             known,
             working,
         );
     }
-    if kind == 3 {
-        return products_fit(
-            k,
-            m,
-            n,
-            t,
-            first,
-            second,
-            owner,
-            tgrocer,
-            tbox,
-            toffer,
-            tcount,
-            ptransit,
-            working,
-        );
+    products_fit(
+        z,
+        a,
+        b,
+        offer_owner,
+        tally_grocer,
+        tally_box,
+        tally_offer,
+        tally_count,
+        price_transit,
+        working,
+    )
+}
+
+// Kinds 4 to 6: whether what the step leaves is in range, with the table of messages of totals.
+pub fn total_fits(
+    z: Sizes,
+    grocer_owner: &[u16],
+    sharers: &[u16; 255],
+    table: &[[u16; 16]; 16],
+    working: &[i64],
+    total_transit: &[i64],
+    statement: &[i64],
+    sent: &[u32],
+    x: Step,
+) -> bool
+    requires { ⌜ TotalFitsIn (z .boxes) (z .grocers) (now «grocer_owner») (now working) (now «total_transit») (now statement) (now sent)
+        (x .kind) (x .first) (x .second) ⌝ }
+    ensures { λ r. ⌜ r ≡ totalFits (z .boxes) (z .grocers) (now («grocer_owner» .entry)) (now (sharers .entry)) (now (table .entry))
+        (now (working .entry)) (now («total_transit» .entry)) (now (statement .entry)) (now (sent .entry)) (x .kind) (x .first) (x .second) ⌝ }
+{
+    let k = z.boxes as usize;
+    let m = z.grocers as usize;
+    let a = x.first;
+    let b = x.second;
+    if x.kind == 4 {
+        return sent_fits(table, sent, a, b);
     }
-    if kind == 4 {
-        return sent_fits(totals, sent, first, second);
+    if x.kind == 5 {
+        return credit_fits(k, m, a, a, grocer_owner, sharers, working, statement);
     }
-    if kind == 5 {
-        return totals::credit::credit_fits(k, m, first, first, gowner, sharers, working, statement);
-    }
-    totals::credit::credit_fits(k, m, first, second, gowner, sharers, ttransit, statement)
+    credit_fits(k, m, a, b, grocer_owner, sharers, total_transit, statement)
 }

@@ -27,8 +27,8 @@ front-over n keys v i j s test keyed x = which (decLt x i) (decLt x j)
     which (no a) (no b) = ap (λ (t : Bool). t && test x) (le-ltb x j (omega arith) ∙ sym (le-ltb x i (omega arith)))
 
 -- A step of a walk, where the place that it goes to is named.
-pub goes-to : (n : ℕ) (keys first next : List ℕ) (v i j : ℕ) → Linked n keys first next → i < n → getD keys i 0 ≡ v → j ≡ getD next i 0 → Skips n keys v (i + 1) j
-goes-to n keys first next v i j h l e to = subst (λ (x : ℕ). Skips n keys v (i + 1) x) (sym to) (goes-on n keys first next v i h l e)
+pub goes-to : (n : ℕ) (keys links : List ℕ) (v i j : ℕ) → Linked n keys links → i < n → getD keys i 0 ≡ v → j ≡ getD links (17 + i) 0 → Skips n keys v (i + 1) j
+goes-to n keys links v i j h l e to = subst (λ (x : ℕ). Skips n keys v (i + 1) x) (sym to) (goes-on n keys links v i h l e)
 
 -- A grocer that box a credits is of box a.
 pub credit-owner : (owners sharers : List ℕ) (a from g : ℕ) → credited owners sharers a from g ≡ true → getD owners g 0 ≡ a

@@ -16,6 +16,7 @@ use crate::num::index;
 use crate::num::plus;
 use crate::num::row_start;
 use crate::walk::begin;
+use links::HEADS;
 
 // Whether box a, if it is the owner, adds a total of box `from` to the statement.
 fn is_credited(owner: u16, mask: u16, a: u16, from: u16) -> bool
@@ -104,22 +105,21 @@ pub fn credit(
     from: u16,
     owner: &[u16],
     sharers: &[u16; 255],
-    first: &[u16; 16],
-    next: &[u16; 255],
+    links: &[u16; 272],
     source: &mut [i64],
     statement: &mut [i64],
 )
     requires { ⌜ (k ≤ 16) × (m ≤ 255) × (from < k) × (m ≤ length (now owner)) ⌝ }
     requires { ⌜ AmountsIn (k * m) (now source) × AmountsIn m (now statement) ⌝ }
-    requires { ⌜ (a < 16) × Linked m (now owner) (now first) (now next) ⌝ }
+    requires { ⌜ (a < 16) × Linked m (now owner) (now links) ⌝ }
     ensures { λ _. ⌜ (now (source .exit) ≡ cleared k m from (credited (now (owner .entry)) (now (sharers .entry)) a from) (now (source .entry))) ×
         (now (statement .exit) ≡ creditAll k m from (credited (now (owner .entry)) (now (sharers .entry)) a from) (now (source .entry))
         (now (statement .entry))) ⌝ }
 {
     let at = row_start(m, from);
-    let mut g = begin(m, a, first, next, owner);
+    let mut g = begin(m, a, links, owner);
     while g < m {
         credit_one(at + g, a, from, g, owner, sharers, source, statement);
-        g = index(next[g]);
+        g = index(links[HEADS + g]);
     }
 }

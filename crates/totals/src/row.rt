@@ -11,6 +11,7 @@ use crate::num::amount_fits;
 use crate::num::index;
 use crate::num::plus;
 use crate::num::row_start;
+use links::HEADS;
 
 // Whether the first m words of a row are within ±10^15.
 pub fn row_fits(row: &[i64; 255], m: usize) -> bool
@@ -41,15 +42,22 @@ fn row_at(k: usize, m: usize, a: u16, working: &[i64]) -> [i64; 255]
 }
 
 // Whether box a holds tally i, and box `from` owns its offer.
-fn is_taken(a: u16, from: u16, i: usize, owner: &[u16], holder: &[u16], offer: &[u16]) -> bool
-    requires { ⌜ (i < length (now holder)) × (i < length (now offer)) × (getD (now offer) i 0 < length (now owner)) ⌝ }
-    ensures { λ r. ⌜ r ≡ isTaken (now (owner .entry)) (now (holder .entry)) (now (offer .entry)) a from i ⌝ }
+fn is_taken(
+    a: u16,
+    from: u16,
+    i: usize,
+    offer_owner: &[u16],
+    tally_box: &[u16],
+    tally_offer: &[u16],
+) -> bool
+    requires { ⌜ (i < length (now «tally_box»)) × (i < length (now «tally_offer»)) × (getD (now «tally_offer») i 0 < length (now «offer_owner»)) ⌝ }
+    ensures { λ r. ⌜ r ≡ isTaken (now («offer_owner» .entry)) (now («tally_box» .entry)) (now («tally_offer» .entry)) a from i ⌝ }
 {
-    if holder[i] != a {
+    if tally_box[i] != a {
         return false;
     }
-    let o = index(offer[i]);
-    owner[o] == from
+    let o = index(tally_offer[i]);
+    offer_owner[o] == from
 }
 
 // Adds what tally i brings to the row of box a, which begins at a place, at its grocer: count × price where the tally is taken, else nothing.
@@ -60,26 +68,27 @@ fn add_tally(
     a: u16,
     from: u16,
     i: usize,
-    owner: &[u16],
-    grocer: &[u16],
-    holder: &[u16],
-    offer: &[u16],
-    counts: &[i32],
+    offer_owner: &[u16],
+    tally_grocer: &[u16],
+    tally_box: &[u16],
+    tally_offer: &[u16],
+    tally_count: &[i32],
     prices: &[u32],
     row: &mut [i64],
 )
-    requires { ⌜ TallyIn (now owner) (now grocer) (now holder) (now offer) (now counts) (now prices) n at i ⌝ }
-    requires { ⌜ (base + getD (now grocer) i 0 < length (now row)) × (natAbs (getD (now row) (base + getD (now grocer) i 0) (pos 0)) ≤
+    requires { ⌜ TallyIn (now «offer_owner») (now «tally_grocer») (now «tally_box») (now «tally_offer») (now «tally_count») (now prices) n at i ⌝ }
+    requires { ⌜ (base + getD (now «tally_grocer») i 0 < length (now row)) × (natAbs (getD (now row) (base + getD (now «tally_grocer») i 0) (pos 0)) ≤
         2_000_000_000_000_000) ⌝ }
-    ensures { λ _. ⌜ now (row .exit) ≡ raised (now (row .entry)) (base + getD (now (grocer .entry)) i 0)
-        (brings (now (owner .entry)) (now (holder .entry)) (now (offer .entry)) (now (counts .entry)) (now (prices .entry)) a from at i) ⌝ }
+    ensures { λ _. ⌜ now (row .exit) ≡ raised (now (row .entry)) (base + getD (now («tally_grocer» .entry)) i 0)
+        (brings (now («offer_owner» .entry)) (now («tally_box» .entry)) (now («tally_offer» .entry)) (now («tally_count» .entry))
+        (now (prices .entry)) a from at i) ⌝ }
 {
-    if !is_taken(a, from, i, owner, holder, offer) {
+    if !is_taken(a, from, i, offer_owner, tally_box, tally_offer) {
         return;
     }
-    let p = at + index(offer[i]);
-    let x = amount(counts[i], prices[p]);
-    let g = base + index(grocer[i]);
+    let p = at + index(tally_offer[i]);
+    let x = amount(tally_count[i], prices[p]);
+    let g = base + index(tally_grocer[i]);
     let v = plus(row[g], x);
     row[g] = v;
 }
@@ -92,20 +101,20 @@ pub fn product_row(
     t: usize,
     a: u16,
     from: u16,
-    owner: &[u16],
-    grocer: &[u16],
-    holder: &[u16],
-    offer: &[u16],
-    counts: &[i32],
+    offer_owner: &[u16],
+    tally_grocer: &[u16],
+    tally_box: &[u16],
+    tally_offer: &[u16],
+    tally_count: &[i32],
     prices: &[u32],
     working: &[i64],
 ) -> [i64; 255]
-    requires { ⌜ TalliesIn (tallies k m n t (now owner) (now grocer) (now holder) (now offer) (now counts)) ⌝ }
+    requires { ⌜ TalliesIn (tallies k m n t (now «offer_owner») (now «tally_grocer») (now «tally_box») (now «tally_offer») (now «tally_count»)) ⌝ }
     requires { ⌜ PricesIn k n (now prices) ⌝ }
     requires { ⌜ AmountsIn (k * m) (now working) ⌝ }
     requires { ⌜ a < k ⌝ }
-    ensures { λ r. ⌜ r ≡ productRow (tallies k m n t (now (owner .entry)) (now (grocer .entry)) (now (holder .entry)) (now (offer .entry))
-        (now (counts .entry))) (now (prices .entry)) a from (now (working .entry)) ⌝ }
+    ensures { λ r. ⌜ r ≡ productRow (tallies k m n t (now («offer_owner» .entry)) (now («tally_grocer» .entry)) (now («tally_box» .entry))
+        (now («tally_offer» .entry)) (now («tally_count» .entry))) (now (prices .entry)) a from (now (working .entry)) ⌝ }
 {
     let mut row = row_at(k, m, a, working);
     let at = row_start(n, a);
@@ -117,11 +126,11 @@ pub fn product_row(
             a,
             from,
             i,
-            owner,
-            grocer,
-            holder,
-            offer,
-            counts,
+            offer_owner,
+            tally_grocer,
+            tally_box,
+            tally_offer,
+            tally_count,
             prices,
             &mut row,
         );
@@ -137,28 +146,27 @@ pub fn add_products(
     t: usize,
     a: u16,
     from: u16,
-    first: &[u16; 16],
-    next: &[u16; 1000],
-    owner: &[u16],
-    grocer: &[u16],
-    holder: &[u16],
-    offer: &[u16],
-    counts: &[i32],
+    tally_links: &[u16; 1017],
+    offer_owner: &[u16],
+    tally_grocer: &[u16],
+    tally_box: &[u16],
+    tally_offer: &[u16],
+    tally_count: &[i32],
     prices: &[u32],
     working: &mut [i64],
 )
-    requires { ⌜ TalliesIn (tallies k m n t (now owner) (now grocer) (now holder) (now offer) (now counts)) ⌝ }
+    requires { ⌜ TalliesIn (tallies k m n t (now «offer_owner») (now «tally_grocer») (now «tally_box») (now «tally_offer») (now «tally_count»)) ⌝ }
     requires { ⌜ PricesIn k n (now prices) ⌝ }
     requires { ⌜ AmountsIn (k * m) (now working) ⌝ }
     requires { ⌜ a < k ⌝ }
-    requires { ⌜ Linked t (now holder) (now first) (now next) ⌝ }
-    ensures { λ _. ⌜ now (working .exit) ≡ putRow k m a (productRow (tallies k m n t (now (owner .entry)) (now (grocer .entry)) (now (holder .entry))
-        (now (offer .entry)) (now (counts .entry))) (now (prices .entry)) a from (now (working .entry))) (now (working .entry)) ⌝ }
+    requires { ⌜ Linked t (now «tally_box») (now «tally_links») ⌝ }
+    ensures { λ _. ⌜ now (working .exit) ≡ putRow k m a (productRow (tallies k m n t (now («offer_owner» .entry)) (now («tally_grocer» .entry))
+        (now («tally_box» .entry)) (now («tally_offer» .entry)) (now («tally_count» .entry))) (now (prices .entry)) a from (now (working .entry))) (now (working .entry)) ⌝ }
 {
     let at = row_start(n, a);
     let base = row_start(m, a);
     let b = index(a);
-    let mut i = index(first[b]);
+    let mut i = index(tally_links[b]);
     while i < t {
         add_tally(
             n,
@@ -167,14 +175,14 @@ pub fn add_products(
             a,
             from,
             i,
-            owner,
-            grocer,
-            holder,
-            offer,
-            counts,
+            offer_owner,
+            tally_grocer,
+            tally_box,
+            tally_offer,
+            tally_count,
             prices,
             working,
         );
-        i = index(next[i]);
+        i = index(tally_links[HEADS + i]);
     }
 }

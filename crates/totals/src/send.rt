@@ -11,6 +11,7 @@ ghost use Rattle.totals.specs.Credit.{cleared, sentTotals};
 use crate::num::index;
 use crate::num::row_start;
 use crate::walk::begin;
+use links::HEADS;
 
 // Sends the total of grocer g, which is at a place, if it stands in the message from box a to box b: 1 if it does, else 0.
 fn send_one(
@@ -46,13 +47,12 @@ pub fn send_totals(
     b: u16,
     owner: &[u16],
     sharers: &[u16; 255],
-    first: &[u16; 16],
-    next: &[u16; 255],
+    links: &[u16; 272],
     working: &mut [i64],
     transit: &mut [i64],
 ) -> u32
     requires { ⌜ (k ≤ 16) × (m ≤ 255) × (a < k) × (m ≤ length (now owner)) × (k * m ≤ length (now working)) × (k * m ≤ length (now transit)) ⌝ }
-    requires { ⌜ (b < 16) × Linked m (now owner) (now first) (now next) ⌝ }
+    requires { ⌜ (b < 16) × Linked m (now owner) (now links) ⌝ }
     ensures { λ r. ⌜ (r ≡ count m (wordIn (now (owner .entry)) (now (sharers .entry)) b a)) ×
         (now (working .exit) ≡ cleared k m a (wordIn (now (owner .entry)) (now (sharers .entry)) b a) (now (working .entry))) ×
         (now (transit .exit) ≡ sentTotals k m a (wordIn (now (owner .entry)) (now (sharers .entry)) b a) (now (working .entry))
@@ -60,10 +60,10 @@ pub fn send_totals(
 {
     let at = row_start(m, a);
     let mut sent: u32 = 0;
-    let mut g = begin(m, b, first, next, owner);
+    let mut g = begin(m, b, links, owner);
     while g < m {
         sent += send_one(at + g, a, b, g, owner, sharers, working, transit);
-        g = index(next[g]);
+        g = index(links[HEADS + g]);
     }
     sent
 }

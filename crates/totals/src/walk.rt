@@ -4,10 +4,10 @@ ghost use Rattle.links.specs.Links.{Skips, Linked};
 use crate::num::index;
 
 // The first of n places whose key is v, by the links: n where there is none.
-pub fn begin(n: usize, v: u16, first: &[u16; 16], next: &[u16; 255], keys: &[u16]) -> usize
-    requires { ⌜ (v < 16) × Linked n (now keys) (now first) (now next) ⌝ }
+pub fn begin(n: usize, v: u16, links: &[u16; 272], keys: &[u16]) -> usize
+    requires { ⌜ (v < 16) × Linked n (now keys) (now links) ⌝ }
     ensures { λ r. ⌜ Skips n (now (keys .entry)) v 0 r ⌝ }
 {
     let b = index(v);
-    index(first[b])
+    index(links[b])
 }

@@ -8,18 +8,28 @@ use Rattle.refuse.proofs.early_refusal.Tie as tie
 
 -- The job's and the state's tables.
 abbrev job : tie.Start → JobTables
-job s = jobTables (s .args .boxes) (s .args .grocers) (s .args .offers) (s .args .tallies) (now (s .args .price)) (now (s .args .owner)) (now (s .args .gowner)) (now (s .args .tgrocer))
-    (now (s .args .tbox)) (now (s .args .toffer)) (now (s .args .tcount))
+job s = jobTables (s .args .z .boxes) (s .args .z .grocers) (s .args .z .offers) (s .args .z .tallies) (now (s .args .price)) (now (s .args .offer-owner)) (now (s .args .grocer-owner))
+    (now (s .args .tally-grocer)) (now (s .args .tally-box)) (now (s .args .tally-offer)) (now (s .args .tally-count))
 
 abbrev state : tie.Start → StateTables
-state s = stateTables (now (s .args .known)) (now (s .args .ptransit)) (now (s .args .working)) (now (s .args .ttransit)) (now (s .args .statement)) (now (s .args .done)) (now (s .args .sent))
+state s = stateTables (now (s .args .known)) (now (s .args .price-transit)) (now (s .args .working)) (now (s .args .total-transit)) (now (s .args .statement)) (now (s .args .done)) (now (s .args .sent))
+
+-- The start, from the two tests of lengths.
+abbrev lent : tie.After-shared-slice-known5 → tie.Start
+lent c = c .before .before .before .before .before
+
+abbrev told : tie.After-state-short → tie.After-shared-slice-known10
+told c = c .before .before
+
+abbrev start : tie.After-state-short → tie.Start
+start c = lent (told c .before .before .before .before .before)
 
 abbrev entry : tie.Else1 → tie.Start
-entry c = c .before .before .before .before .before .before .before .before .before .before .before .before .before
+entry c = start (c .before)
 
 returns : tie.Need-returns
 returns c =
-    let s = c .before .before .before .before .before .before .before .before .before .before .before .before .before in
+    let s = start (c .before) in
     met-short (job s) (state s) (c .before .before .job-short .result) (c .before .state-short .result) (c .before .before .job-short .ensures) (c .before .state-short .ensures) (c .if1 .taken)
 
 job-in-range-requires : tie.Need-job-in-range-requires

@@ -21,7 +21,7 @@ use Rattle.prices.proofs.receive.receive_prices.Statement.{statement}
 use Rattle.prices.proofs.receive.receive_prices.Tie as tie
 
 abbrev Inv-loop : tie.InvT-loop
-Inv-loop k n a b owner needs first next known₀ transit₀ row o₀ known transit o =
+Inv-loop k n a b owner needs links known₀ transit₀ row o₀ known transit o =
     (o ≤ n)
     × (length known ≡ length known₀)
     × (length transit ≡ length transit₀)
@@ -30,7 +30,7 @@ Inv-loop k n a b owner needs first next known₀ transit₀ row o₀ known trans
     × (o < n → getD owner o 0 ≡ b)
 
 abbrev μ-loop : tie.MeasureT-loop
-μ-loop k n a b owner needs first next known₀ transit₀ row o₀ known transit o = n - o
+μ-loop k n a b owner needs links known₀ transit₀ row o₀ known transit o = n - o
 
 abbrev Start : Type 0
 Start = tie.Start Inv-loop μ-loop
@@ -59,14 +59,14 @@ due-theirs : (s : Start) (x : ℕ) → due s x ≡ true → getD (now (s .args .
 due-theirs s x = word-owner (now (s .args .owner)) (now (s .args .needs)) (s .args .b) (s .args .a) x
 
 -- The first offer of box b, and the next after one of them.
-starts : (s : Start) → Skips (s .args .n) (now (s .args .owner)) (s .args .b) 0 (getD (now (s .args .first)) (s .args .b) 0)
+starts : (s : Start) → Skips (s .args .n) (now (s .args .owner)) (s .args .b) 0 (getD (now (s .args .links)) (s .args .b) 0)
 starts s = s .pre .1 .begins (s .args .b) (omega (arith, s .pre .0 .b-in, s .pre .0 .boxes-in))
 
-walks : (e : tie.In-loop Inv-loop μ-loop) → Skips (entry e .args .n) (now (entry e .args .owner)) (entry e .args .b) (e .before .loop .o + 1) (getD (now (entry e .args .next)) (e .before .loop .o) 0)
+walks : (e : tie.In-loop Inv-loop μ-loop) → Skips (entry e .args .n) (now (entry e .args .owner)) (entry e .args .b) (e .before .loop .o + 1) (getD (now (entry e .args .links)) (17 + e .before .loop .o) 0)
 walks e =
     let s = entry e in
     let l = e .loop-test .taken in
-    goes-on (s .args .n) (now (s .args .owner)) (now (s .args .first)) (now (s .args .next)) (s .args .b) (e .before .loop .o) (s .pre .1) l (e .before .loop .inv .5 l)
+    goes-on (s .args .n) (now (s .args .owner)) (now (s .args .links)) (s .args .b) (e .before .loop .o) (s .pre .1) l (e .before .loop .inv .5 l)
 
 -- The tables are small, and the row is inside them.
 cells : (s : Start) → s .args .k * s .args .n ≤ 8000
@@ -90,7 +90,7 @@ cast-o c = let s = c .before .before .before .before in omega (arith, starts s .
 loop-holds : tie.Need-loop-holds Inv-loop μ-loop
 loop-holds c =
     let s = c .before .before .before .before in
-    let j = getD (now (s .args .first)) (s .args .b) 0 in
+    let j = getD (now (s .args .links)) (s .args .b) 0 in
     let none : (i : ℕ) → guarded (row s) j (due s) i ≡ false =
     λ i. guarded-passed (s .args .n) (now (s .args .owner)) (s .args .b) 0 j (starts s) (due s) (due-theirs s) (row s) i ∙ guarded-none (row s) (due s) i in (
       starts s .to,
@@ -117,6 +117,9 @@ receive-one-requires c κs =
       ),
     )
 
+add-o : tie.Need-add-o Inv-loop μ-loop
+add-o c = let e = c .before .before .before .before .before .before .before in omega (arith, e .loop-test .taken, entry e .pre .0 .offers-in)
+
 mul-o-2 : tie.Need-mul-o-2 Inv-loop μ-loop
 mul-o-2 c = let e = c .before .before .before .before .before .before .before in omega (arith, e .loop-test .taken, entry e .pre .0 .offers-in)
 
@@ -134,7 +137,7 @@ loop-again c =
     let e = c .before .before .before .before .before .before .before .before in
     let s = entry e in
     let o = e .before .loop .o in
-    let j = getD (now (s .args .next)) o 0 in
+    let j = getD (now (s .args .links)) (17 + o) 0 in
     let l = e .loop-test .taken in
     let inv = e .before .loop .inv in
     let past : (i : ℕ) → guarded (row s) (o + 1) (due s) i ≡ guarded (row s) j (due s) i =
@@ -184,6 +187,7 @@ receive-prices-spec =
     cast-o
     loop-holds
     receive-one-requires
+    add-o
     mul-o-2
     element-copy-out-o-2
     cast-o-2

@@ -23,7 +23,7 @@ use Rattle.prices.proofs.send.send_prices.Statement.{statement}
 use Rattle.prices.proofs.send.send_prices.Tie as tie
 
 abbrev Inv-loop : tie.InvT-loop
-Inv-loop k n a b owner needs first next known transit₀ from to sent₀ o₀ transit sent o =
+Inv-loop k n a b owner needs links known transit₀ from to sent₀ o₀ transit sent o =
     (o ≤ n)
     × (sent ≡ count o (wordIn owner needs a b))
     × (length transit ≡ length transit₀)
@@ -31,7 +31,7 @@ Inv-loop k n a b owner needs first next known transit₀ from to sent₀ o₀ tr
     × (o < n → getD owner o 0 ≡ a)
 
 abbrev μ-loop : tie.MeasureT-loop
-μ-loop k n a b owner needs first next known transit₀ from to sent₀ o₀ transit sent o = n - o
+μ-loop k n a b owner needs links known transit₀ from to sent₀ o₀ transit sent o = n - o
 
 abbrev Start : Type 0
 Start = tie.Start Inv-loop μ-loop
@@ -73,14 +73,14 @@ due-own : (s : Start) (x : ℕ) → due s x ≡ true → getD (now (s .args .own
 due-own s x = word-owner (now (s .args .owner)) (now (s .args .needs)) (s .args .a) (s .args .b) x
 
 -- The first offer of box a, and the next after one of them.
-starts : (s : Start) → Skips (s .args .n) (now (s .args .owner)) (s .args .a) 0 (getD (now (s .args .first)) (s .args .a) 0)
+starts : (s : Start) → Skips (s .args .n) (now (s .args .owner)) (s .args .a) 0 (getD (now (s .args .links)) (s .args .a) 0)
 starts s = s .pre .1 .begins (s .args .a) (omega (arith, s .pre .0 .a-in, s .pre .0 .boxes-in))
 
-walks : (e : tie.In-loop Inv-loop μ-loop) → Skips (entry e .args .n) (now (entry e .args .owner)) (entry e .args .a) (e .before .loop .o + 1) (getD (now (entry e .args .next)) (e .before .loop .o) 0)
+walks : (e : tie.In-loop Inv-loop μ-loop) → Skips (entry e .args .n) (now (entry e .args .owner)) (entry e .args .a) (e .before .loop .o + 1) (getD (now (entry e .args .links)) (17 + e .before .loop .o) 0)
 walks e =
     let s = entry e in
     let l = e .loop-test .taken in
-    goes-on (s .args .n) (now (s .args .owner)) (now (s .args .first)) (now (s .args .next)) (s .args .a) (e .before .loop .o) (s .pre .1) l (e .before .loop .inv .4 l)
+    goes-on (s .args .n) (now (s .args .owner)) (now (s .args .links)) (s .args .a) (e .before .loop .o) (s .pre .1) l (e .before .loop .inv .4 l)
 
 mul-from : tie.Need-mul-from Inv-loop μ-loop
 mul-from c = let s = c .before .before .before in omega (arith, mul-le-mul-right (s .args .n) (s .pre .0 .a-in), cells s)
@@ -100,7 +100,7 @@ cast-o c = let s = c .before .before .before .before in omega (arith, starts s .
 loop-holds : tie.Need-loop-holds Inv-loop μ-loop
 loop-holds c =
     let s = c .before .before .before .before in
-    let j = getD (now (s .args .first)) (s .args .a) 0 in
+    let j = getD (now (s .args .links)) (s .args .a) 0 in
     let own = now (s .args .owner) in (
       starts s .to,
       sym (count-passed (s .args .n) own (s .args .a) 0 j (starts s) (due s) (due-own s) ∙ count-start (due s)),
@@ -132,6 +132,9 @@ add-sent c =
     let o = e .before .loop .o in
     omega (arith, count-le o (due s), e .before .loop .inv .1, only-le (due s o) 1, c .before .before .send-one .ensures .0, s .pre .0 .offers-in, e .loop-test .taken)
 
+add-o : tie.Need-add-o Inv-loop μ-loop
+add-o c = let e = c .before .before .before .before in omega (arith, e .loop-test .taken, entry e .pre .0 .offers-in)
+
 mul-o-2 : tie.Need-mul-o-2 Inv-loop μ-loop
 mul-o-2 c = let e = c .before .before .before .before in omega (arith, e .loop-test .taken, entry e .pre .0 .offers-in)
 
@@ -149,7 +152,7 @@ loop-again c =
     let e = c .before .before .before .before .before in
     let s = entry e in
     let o = e .before .loop .o in
-    let j = getD (now (s .args .next)) o 0 in
+    let j = getD (now (s .args .links)) (17 + o) 0 in
     let own = now (s .args .owner) in
     let l = e .loop-test .taken in
     let inv = e .before .loop .inv in
@@ -198,6 +201,7 @@ send-prices-spec =
     loop-holds
     send-one-requires
     add-sent
+    add-o
     mul-o-2
     element-copy-out-o-2
     cast-o-2

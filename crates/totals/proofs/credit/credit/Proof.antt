@@ -23,7 +23,7 @@ use Rattle.model.proofs.Step.{around-at}
 use Rattle.totals.proofs.credit.credit.Tie as tie
 
 abbrev Inv-loop : tie.InvT-loop
-Inv-loop k m a from owner sharers first next source₀ statement₀ at g₀ source statement g =
+Inv-loop k m a from owner sharers links source₀ statement₀ at g₀ source statement g =
     (g ≤ m)
     × (length source ≡ length source₀)
     × (length statement ≡ length statement₀)
@@ -32,7 +32,7 @@ Inv-loop k m a from owner sharers first next source₀ statement₀ at g₀ sour
     × (g < m → getD owner g 0 ≡ a)
 
 abbrev μ-loop : tie.MeasureT-loop
-μ-loop k m a from owner sharers first next source₀ statement₀ at g₀ source statement g = m - g
+μ-loop k m a from owner sharers links source₀ statement₀ at g₀ source statement g = m - g
 
 abbrev Start : Type 0
 Start = tie.Start Inv-loop μ-loop
@@ -124,7 +124,7 @@ link : (c : tie.After-index Inv-loop μ-loop) →
 link c =
     let e = c .before .before .before .before .before .before .before in
     let s = entry e in
-    goes-to (s .args .m) (now (s .args .owner)) (now (s .args .first)) (now (s .args .next)) (s .args .a) (e .before .loop .g) (c .index .result) (s .pre .1 .1 .1) (e .loop-test .taken)
+    goes-to (s .args .m) (now (s .args .owner)) (now (s .args .links)) (s .args .a) (e .before .loop .g) (c .index .result) (s .pre .1 .1 .1) (e .loop-test .taken)
     (e .before .loop .inv .5 (e .loop-test .taken)) (c .index .ensures)
 
 loop-less : tie.Need-loop-less Inv-loop μ-loop
@@ -183,6 +183,7 @@ credit-spec =
     loop-holds
     add-credit-one
     credit-one-requires
+    (λ c. search needs)
     (λ c. search needs)
     element-copy-out-index
     (λ c κs. search needs)

@@ -21,29 +21,29 @@ use Rattle.model.proofs.Step.{around-at}
 use Rattle.totals.proofs.row.add_products.Tie as tie
 
 abbrev Inv-loop : tie.InvT-loop
-Inv-loop k m n t a from first next owner grocer holder offer counts prices working₀ at base b i₀ working i =
+Inv-loop k m n t a from links owner grocer holder offer counts prices working₀ at base b i₀ working i =
     (i ≤ t)
     × (length working ≡ length working₀)
     × ((p : ℕ) → getD working p (pos 0) ≡ getD working₀ p (pos 0) +ℤ sum integers i (share (λ j. base + getD grocer j 0) (brings owner holder offer counts prices a from at) p))
     × (i < t → getD holder i 0 ≡ a)
 
 abbrev μ-loop : tie.MeasureT-loop
-μ-loop k m n t a from first next owner grocer holder offer counts prices working₀ at base b i₀ working i = t - i
+μ-loop k m n t a from links owner grocer holder offer counts prices working₀ at base b i₀ working i = t - i
 
 abbrev Start : Type 0
 Start = tie.Start Inv-loop μ-loop
 
 abbrev tables : Start → Tallies
-tables s = tallies (s .args .k) (s .args .m) (s .args .n) (s .args .t) (now (s .args .owner)) (now (s .args .grocer)) (now (s .args .holder)) (now (s .args .offer)) (now (s .args .counts))
+tables s = tallies (s .args .k) (s .args .m) (s .args .n) (s .args .t) (now (s .args .offer-owner)) (now (s .args .tally-grocer)) (now (s .args .tally-box)) (now (s .args .tally-offer)) (now (s .args .tally-count))
 
 abbrev prices : Start → List ℕ
 prices s = now (s .args .prices)
 
 abbrev brought : Start → ℕ → ℕ → ℤ
-brought s at = brings (now (s .args .owner)) (now (s .args .holder)) (now (s .args .offer)) (now (s .args .counts)) (prices s) (s .args .a) (s .args .from) at
+brought s at = brings (now (s .args .offer-owner)) (now (s .args .tally-box)) (now (s .args .tally-offer)) (now (s .args .tally-count)) (prices s) (s .args .a) (s .args .from) at
 
 abbrev place : Start → ℕ → ℕ → ℕ
-place s base i = base + getD (now (s .args .grocer)) i 0
+place s base i = base + getD (now (s .args .tally-grocer)) i 0
 
 -- The rows' starts, the entry, and the two starts' numbers.
 abbrev rows : tie.After-index2 Inv-loop μ-loop → tie.After-row-start2 Inv-loop μ-loop
@@ -59,9 +59,9 @@ abbrev base-of : tie.After-row-start2 Inv-loop μ-loop → ℕ
 base-of c = c .row-start2 .result
 
 -- A tally of another box adds nothing to any word.
-none : (s : Start) (at base p i j : ℕ) → Skips (s .args .t) (now (s .args .holder)) (s .args .a) i j → (x : ℕ) → i ≤ x → x < j → share (place s base) (brought s at) p x ≡ integers .none
+none : (s : Start) (at base p i j : ℕ) → Skips (s .args .t) (now (s .args .tally-box)) (s .args .a) i j → (x : ℕ) → i ≤ x → x < j → share (place s base) (brought s at) p x ≡ integers .none
 unfolding integers
-none s at base p i j k x l q = other-share (now (s .args .owner)) (now (s .args .holder)) (now (s .args .offer)) (now (s .args .counts)) (prices s) (place s base) (s .args .a) (s .args .from) at p x (k .none x l q)
+none s at base p i j k x l q = other-share (now (s .args .offer-owner)) (now (s .args .tally-box)) (now (s .args .tally-offer)) (now (s .args .tally-count)) (prices s) (place s base) (s .args .a) (s .args .from) at p x (k .none x l q)
 
 -- The word of a tally's grocer in row a is within the table, and small enough to add to.
 inside : (c : tie.In-loop Inv-loop μ-loop) → let r = rows (c .before .before) in place (entry r) (base-of r) (c .before .loop .i) < entry r .args .k * entry r .args .m
@@ -99,10 +99,10 @@ element-copy-out-index : tie.Need-element-copy-out-index Inv-loop μ-loop
 element-copy-out-index c = let s = entry (c .before) in omega (arith, c .index .ensures, s .pre .0 .boxes-in, s .pre .1 .1 .1 .0)
 
 -- The walk begins at the first tally of box a.
-first-of : (c : tie.After-index2 Inv-loop μ-loop) → let s = entry (rows c) in Skips (s .args .t) (now (s .args .holder)) (s .args .a) 0 (c .index2 .result)
+first-of : (c : tie.After-index2 Inv-loop μ-loop) → let s = entry (rows c) in Skips (s .args .t) (now (s .args .tally-box)) (s .args .a) 0 (c .index2 .result)
 first-of c =
     let s = entry (rows c) in
-    subst (λ (x : ℕ). Skips (s .args .t) (now (s .args .holder)) (s .args .a) 0 x) (sym (c .index2 .ensures ∙ ap (λ (b : ℕ). getD (now (s .args .first)) b 0) (c .before .before .index .ensures)))
+    subst (λ (x : ℕ). Skips (s .args .t) (now (s .args .tally-box)) (s .args .a) 0 x) (sym (c .index2 .ensures ∙ ap (λ (b : ℕ). getD (now (s .args .tally-links)) b 0) (c .before .before .index .ensures)))
     (s .pre .1 .1 .1 .1 .begins (s .args .a) (omega (arith, s .pre .0 .boxes-in, s .pre .1 .1 .1 .0)))
 
 loop-holds : tie.Need-loop-holds Inv-loop μ-loop
@@ -129,6 +129,9 @@ add-tally-requires c κs =
       (omega (arith, inside e, s .pre .1 .1 .0 .long, e .before .loop .inv .1), small e),
     )
 
+add-index : tie.Need-add-index Inv-loop μ-loop
+add-index c = let e = c .before .before .before in omega (arith, e .loop-test .taken, entry (rows (e .before .before)) .pre .0 .tallies-in)
+
 mul-index-2 : tie.Need-mul-index-2 Inv-loop μ-loop
 mul-index-2 c = let e = c .before .before .before in omega (arith, e .loop-test .taken, entry (rows (e .before .before)) .pre .0 .tallies-in)
 
@@ -139,11 +142,11 @@ element-copy-out-index-2 c = let e = c .before .before .before in omega (arith, 
 link : (c : tie.After-index3 Inv-loop μ-loop) →
     let e = c .before .before .before .before .before in
     let s = entry (rows (e .before .before)) in
-    Skips (s .args .t) (now (s .args .holder)) (s .args .a) (e .before .loop .i + 1) (c .index3 .result)
+    Skips (s .args .t) (now (s .args .tally-box)) (s .args .a) (e .before .loop .i + 1) (c .index3 .result)
 link c =
     let e = c .before .before .before .before .before in
     let s = entry (rows (e .before .before)) in
-    goes-to (s .args .t) (now (s .args .holder)) (now (s .args .first)) (now (s .args .next)) (s .args .a) (e .before .loop .i) (c .index3 .result) (s .pre .1 .1 .1 .1) (e .loop-test .taken)
+    goes-to (s .args .t) (now (s .args .tally-box)) (now (s .args .tally-links)) (s .args .a) (e .before .loop .i) (c .index3 .result) (s .pre .1 .1 .1 .1) (e .loop-test .taken)
     (e .before .loop .inv .3 (e .loop-test .taken)) (c .index3 .ensures)
 
 loop-less : tie.Need-loop-less Inv-loop μ-loop
@@ -196,6 +199,7 @@ add-products-spec =
     (λ c κs. search needs)
     loop-holds
     add-tally-requires
+    add-index
     mul-index-2
     element-copy-out-index-2
     (λ c κs. search needs)

@@ -19,16 +19,16 @@ use Rattle.totals.proofs.row.add_tally.Statement.{statement}
 use Rattle.totals.proofs.row.add_tally.Tie as tie
 
 abbrev taken : tie.Start → Bool
-taken s = isTaken (now (s .args .owner)) (now (s .args .holder)) (now (s .args .offer)) (s .args .a) (s .args .from) (s .args .i)
+taken s = isTaken (now (s .args .offer-owner)) (now (s .args .tally-box)) (now (s .args .tally-offer)) (s .args .a) (s .args .from) (s .args .i)
 
 abbrev product : tie.Start → ℤ
-product s = productAt (now (s .args .offer)) (now (s .args .counts)) (now (s .args .prices)) (s .args .at) (s .args .i)
+product s = productAt (now (s .args .tally-offer)) (now (s .args .tally-count)) (now (s .args .prices)) (s .args .at) (s .args .i)
 
 abbrev place : tie.Start → ℕ
-place s = s .args .base + getD (now (s .args .grocer)) (s .args .i) 0
+place s = s .args .base + getD (now (s .args .tally-grocer)) (s .args .i) 0
 
-count-is : (s : tie.Start) → toZ w32 (ofZ w32 (getD (now (s .args .counts)) (s .args .i) (pos 0))) ≡ getD (now (s .args .counts)) (s .args .i) (pos 0)
-count-is s = read32-abs (getD (now (s .args .counts)) (s .args .i) (pos 0)) (le-trans (s .pre .0 .count-in) (lit≤ tt))
+count-is : (s : tie.Start) → toZ w32 (ofZ w32 (getD (now (s .args .tally-count)) (s .args .i) (pos 0))) ≡ getD (now (s .args .tally-count)) (s .args .i) (pos 0)
+count-is s = read32-abs (getD (now (s .args .tally-count)) (s .args .i) (pos 0)) (le-trans (s .pre .0 .count-in) (lit≤ tt))
 
 -- What is added, and what it is added to.
 amount-is : (c : tie.After-amount) → c .amount .result ≡ product (c .before .before .before .before .before .before .before .before .before .before .before .before)
@@ -64,7 +64,7 @@ plus-requires c κs =
       arith,
       abs-plus (getD (now (s .args .row)) (place s) (pos 0)) (product s),
       s .pre .1 .1,
-      abs-times-le (getD (now (s .args .counts)) (s .args .i) (pos 0)) (pos (getD (now (s .args .prices)) (s .args .at + getD (now (s .args .offer)) (s .args .i) 0) 0)) (s .pre .0 .count-in) (s .pre .0 .price-in),
+      abs-times-le (getD (now (s .args .tally-count)) (s .args .i) (pos 0)) (pos (getD (now (s .args .prices)) (s .args .at + getD (now (s .args .tally-offer)) (s .args .i) 0) 0)) (s .pre .0 .count-in) (s .pre .0 .price-in),
     ))
 
 returns-2 : tie.Need-returns-2

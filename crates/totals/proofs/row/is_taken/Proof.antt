@@ -13,13 +13,13 @@ use Rattle.totals.proofs.row.is_taken.Tie as tie
 returns : tie.Need-returns
 returns c =
     let s = c .before .before .before .before .before in
-    sym (ap (λ (t : Bool). t && eqb (getD (now (s .args .owner)) (getD (now (s .args .offer)) (s .args .i) 0) 0) (s .args .from)) (ne-eqb (getD (now (s .args .holder)) (s .args .i) 0) (s .args .a) (c .if1 .taken)))
+    sym (ap (λ (t : Bool). t && eqb (getD (now (s .args .offer-owner)) (getD (now (s .args .tally-offer)) (s .args .i) 0) 0) (s .args .from)) (ne-eqb (getD (now (s .args .tally-box)) (s .args .i) 0) (s .args .a) (c .if1 .taken)))
 
 returns-2 : tie.Need-returns-2
 returns-2 c =
     let s = c .before .before .before .before .before .before .before .before in
-    ap (λ (o : ℕ). eqb (getD (now (s .args .owner)) o 0) (s .args .from)) (c .before .index .ensures)
-    ∙ sym (ap (λ (t : Bool). t && eqb (getD (now (s .args .owner)) (getD (now (s .args .offer)) (s .args .i) 0) 0) (s .args .from)) (eq-eqb (getD (now (s .args .holder)) (s .args .i) 0) (s .args .a) (c .before .before .before .if1 .left)))
+    ap (λ (o : ℕ). eqb (getD (now (s .args .offer-owner)) o 0) (s .args .from)) (c .before .index .ensures)
+    ∙ sym (ap (λ (t : Bool). t && eqb (getD (now (s .args .offer-owner)) (getD (now (s .args .tally-offer)) (s .args .i) 0) 0) (s .args .from)) (eq-eqb (getD (now (s .args .tally-box)) (s .args .i) 0) (s .args .a) (c .before .before .before .if1 .left)))
 
 pub is-taken-spec : {M : Type 1} → statement M
 is-taken-spec =

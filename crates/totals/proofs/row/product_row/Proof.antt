@@ -30,16 +30,16 @@ abbrev Start : Type 0
 Start = tie.Start Inv-loop μ-loop
 
 abbrev tables : Start → Tallies
-tables s = tallies (s .args .k) (s .args .m) (s .args .n) (s .args .t) (now (s .args .owner)) (now (s .args .grocer)) (now (s .args .holder)) (now (s .args .offer)) (now (s .args .counts))
+tables s = tallies (s .args .k) (s .args .m) (s .args .n) (s .args .t) (now (s .args .offer-owner)) (now (s .args .tally-grocer)) (now (s .args .tally-box)) (now (s .args .tally-offer)) (now (s .args .tally-count))
 
 abbrev prices : Start → List ℕ
 prices s = now (s .args .prices)
 
 abbrev brought : Start → ℕ → ℕ → ℤ
-brought s at = brings (now (s .args .owner)) (now (s .args .holder)) (now (s .args .offer)) (now (s .args .counts)) (prices s) (s .args .a) (s .args .from) at
+brought s at = brings (now (s .args .offer-owner)) (now (s .args .tally-box)) (now (s .args .tally-offer)) (now (s .args .tally-count)) (prices s) (s .args .a) (s .args .from) at
 
 abbrev place : Start → ℕ → ℕ
-place s i = getD (now (s .args .grocer)) i 0
+place s i = getD (now (s .args .tally-grocer)) i 0
 
 abbrev began : tie.In-loop Inv-loop μ-loop → tie.After-row-start Inv-loop μ-loop
 began c = c .before .before

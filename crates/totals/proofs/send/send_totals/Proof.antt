@@ -27,7 +27,7 @@ use Rattle.totals.proofs.send.send_totals.Statement.{statement}
 use Rattle.totals.proofs.send.send_totals.Tie as tie
 
 abbrev Inv-loop : tie.InvT-loop
-Inv-loop k m a b owner sharers first next working₀ transit₀ at sent₀ g₀ working transit sent g =
+Inv-loop k m a b owner sharers links working₀ transit₀ at sent₀ g₀ working transit sent g =
     (g ≤ m)
     × (sent ≡ count g (wordIn owner sharers b a))
     × (length working ≡ length working₀)
@@ -37,7 +37,7 @@ Inv-loop k m a b owner sharers first next working₀ transit₀ at sent₀ g₀ 
     × (g < m → getD owner g 0 ≡ b)
 
 abbrev μ-loop : tie.MeasureT-loop
-μ-loop k m a b owner sharers first next working₀ transit₀ at sent₀ g₀ working transit sent g = m - g
+μ-loop k m a b owner sharers links working₀ transit₀ at sent₀ g₀ working transit sent g = m - g
 
 abbrev Start : Type 0
 Start = tie.Start Inv-loop μ-loop
@@ -121,7 +121,7 @@ link : (c : tie.After-index Inv-loop μ-loop) →
 link c =
     let e = c .before .before .before .before .before .before .before in
     let s = entry e in
-    goes-to (s .args .m) (now (s .args .owner)) (now (s .args .first)) (now (s .args .next)) (s .args .b) (e .before .loop .g) (c .index .result) (s .pre .1 .1) (e .loop-test .taken)
+    goes-to (s .args .m) (now (s .args .owner)) (now (s .args .links)) (s .args .b) (e .before .loop .g) (c .index .result) (s .pre .1 .1) (e .loop-test .taken)
     (e .before .loop .inv .6 (e .loop-test .taken)) (c .index .ensures)
 
 loop-less : tie.Need-loop-less Inv-loop μ-loop
@@ -186,6 +186,7 @@ send-totals-spec =
     add-send-one
     send-one-requires
     add-sent
+    (λ c. search needs)
     (λ c. search needs)
     element-copy-out-index
     (λ c κs. search needs)

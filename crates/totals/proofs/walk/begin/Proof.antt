@@ -1,6 +1,7 @@
 -- `totals::walk::begin` meets its contract. Assumes nothing.
 use mathlib.Core.Path.{sym, ap, _∙_, subst}
 use Prim.Native.Nat.{ℕ}
+use native.Mathlib.Omega.{arith}
 use lib.ListN.{getD}
 use borrow.Author.Needs.{needs}
 use Rattle.links.specs.Links.{Skips}
@@ -12,8 +13,8 @@ returns : tie.Need-returns
 returns c =
     let s = c .before .before .before .before in
     let v = s .args .v in
-    let first = now (s .args .first) in
-    subst (λ (x : ℕ). Skips (s .args .n) (now (s .args .keys)) v 0 x) (sym (c .index2 .ensures ∙ ap (λ (b : ℕ). getD first b 0) (c .before .before .index .ensures))) (s .pre .1 .begins v (s .pre .0))
+    let links = now (s .args .links) in
+    subst (λ (x : ℕ). Skips (s .args .n) (now (s .args .keys)) v 0 x) (sym (c .index2 .ensures ∙ ap (λ (b : ℕ). getD links b 0) (c .before .before .index .ensures))) (s .pre .1 .begins v (omega (arith, s .pre .0)))
 
 pub begin-spec : {M : Type 1} → statement M
 begin-spec =
