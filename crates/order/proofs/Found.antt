@@ -1,6 +1,6 @@
 -- The step that code finds is the one that the run picks, of every job with these tables of messages. Assumes nothing.
 use mathlib.Core.Path.{_≡_, refl, sym, ap, _∙_, subst}
-use mathlib.Core.Bool.{Bool, true, false, _&&_}
+use mathlib.Core.Bool.{Bool, true, false, cond, _&&_}
 use mathlib.Core.List.{List, [], _∷_}
 use Prim.Native.Nat.{ℕ, suc, _+_, _-_, _*_, _%_, _≤_, _<_}
 use native.Mathlib.Omega.{arith}
@@ -12,17 +12,21 @@ use lib.ListN.{length, getD, set, drop}
 use lib.Seq.{drop-cons}
 use borrow.Author.Tests.{lt-ltb, ne-eqb}
 use Rattle.laws.specs.Below.{count, nth}
+use Rattle.laws.specs.Tables.{overwrite}
 use Rattle.laws.proofs.Bools.{split, and-l, and-r, and-true, and-false}
+use Rattle.laws.proofs.Tables.{over-over, long-overwrite}
 use Rattle.laws.proofs.Ascending.{nth-passes}
 use Rattle.model.specs.Job.{Job}
-use Rattle.model.specs.Steps.{Kind, kindOf, Steps, Step, mark, stepAt, places}
-use Rattle.model.specs.Tables.{stepsDone}
+use Rattle.model.specs.Steps.{Kind, kindOf, Steps, Step, mark, stepAt, atPlace, places}
+use Rattle.model.specs.Tables.{stepsDone, marksOf}
+use Rattle.model.specs.Ranges.{upTo}
 use Rattle.model.specs.Local.{priceTable, totalTable}
 use Rattle.model.specs.Run.{listed, readyCount, pick}
 use Rattle.rules.specs.Marks.{marked}
 use Rattle.rules.specs.Rules.{permittedBy}
 use Rattle.walk.specs.Walk.{PlaceIn, here, listedBy, WalkIn, Found}
-use Rattle.order.specs.Order.{OfJob, MarksLent, Picked, Kept, Ended, NoneBefore, Passed}
+use Rattle.order.specs.Order.{OfJob, MarksFrom, Picked, Kept, Ended, NoneBefore, Passed}
+use Rattle.model.proofs.Step.{marks-bits}
 use Rattle.model.proofs.Reach.{mark-cases}
 use Rattle.model.proofs.Tables.{marks-back}
 use Rattle.model.proofs.Listed.{pick-is}
@@ -49,6 +53,11 @@ module _ (k : ℕ) (q : Kind) (a b : ℕ) (done : List ℕ) (la : a < k) (lb : b
   pub marked-steps : stepsDone k (marked k q a b done) ≡ mark (stepsDone k done) q a b
   unfolding marked
   marked-steps = λ i q′ a′ b′. (marks-back k (mark (stepsDone k done) q a b) done q′ a′ b′ ∙ both (ltb a′ k) (ltb b′ k) (mark (stepsDone k done) q a b q′ a′ b′) (inside q′ a′ b′)) i
+
+  -- They are the marks of their own steps.
+  pub marked-from : (done′ : List ℕ) → done′ ≡ marked k q a b done → marked k q a b done ≡ marksOf k (stepsDone k done′) done
+  unfolding marked
+  marked-from done′ e = ap (λ (d : Steps). marksOf k d done) (sym (ap (stepsDone k) e ∙ marked-steps))
 
 -- A place of k boxes is below the number of places.
 pub place-below : (k kind a b : ℕ) → PlaceIn k kind a b → here k kind a b < 6 * k * k
@@ -183,9 +192,31 @@ module _ (k : ℕ) (prices totals : List (List ℕ)) (j : Job) (o : OfJob k pric
         (place-passed j prices totals (o .prices-are) (o .totals-are) (o .boxes-in) (o .some) done kind a b (rw (o .boxes-are) pl) order n p none-j (rw (o .boxes-are) h)
         done′ order′ (rw (o .boxes-are) ed) (rw (o .boxes-are) eo))
 
--- The walk goes on with marks of the same boxes.
-pub walk-on : (k : ℕ) (done done′ : List ℕ) → WalkIn k done → MarksLent k done′ → WalkIn k done′
-walk-on k done done′ w m = record { some = w .some; boxes-in = w .boxes-in; done-long = m .long }
+-- Marks that are those of their own steps: as long as k boxes need, and each 0 or 1.
+module _ (k : ℕ) (done done′ : List ℕ) (m : MarksFrom k done done′) where
+  pub marks-long : 6 * k * k ≤ length done′
+  unfolding MarksFrom marksOf
+  marks-long = rw m (long-overwrite (6 * k * k) (λ i. cond (atPlace k (stepsDone k done′) i) 1 0) done)
+
+  pub marks-bit : upTo 1 (6 * k * k) done′ ≡ true
+  unfolding MarksFrom
+  marks-bit = ap (upTo 1 (6 * k * k)) m ∙ marks-bits k (stepsDone k done′) done
+
+  -- Written over themselves they are the same,
+  pub marks-own : MarksFrom k done′ done′
+  unfolding MarksFrom marksOf
+  marks-own = m ∙ sym (over-over (6 * k * k) _ (λ i. cond (atPlace k (stepsDone k done′) i) 1 0) done) ∙ ap (overwrite (6 * k * k) (λ i. cond (atPlace k (stepsDone k done′) i) 1 0)) (sym m)
+
+  -- and so over what they were written over.
+  pub marks-over : (done″ : List ℕ) → MarksFrom k done′ done″ → MarksFrom k done done″
+  unfolding MarksFrom marksOf
+  marks-over done″ q =
+      q ∙ ap (overwrite (6 * k * k) (λ i. cond (atPlace k (stepsDone k done″) i) 1 0)) m
+      ∙ over-over (6 * k * k) (λ i. cond (atPlace k (stepsDone k done″) i) 1 0) (λ i. cond (atPlace k (stepsDone k done′) i) 1 0) done
+
+  -- The walk goes on.
+  pub walk-on : WalkIn k done → WalkIn k done′
+  walk-on w = record { some = w .some; boxes-in = w .boxes-in; done-long = marks-long }
 
 -- All places are passed, of a job with these tables of messages: the picking ends.
 pub ended-of : (k : ℕ) (prices totals : List (List ℕ)) (j : Job) → OfJob k prices totals j → (done order : List ℕ) (n : ℕ) (done′ order′ : List ℕ) (n′ i : ℕ) → i ≡ 6 * k * k →

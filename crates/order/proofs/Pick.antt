@@ -16,7 +16,7 @@ use Rattle.model.specs.Steps.{Steps, Step, stepAt, places}
 use Rattle.model.specs.Tables.{stepsDone}
 use Rattle.model.specs.Ranges.{under}
 use Rattle.model.specs.Run.{readyCount, pick}
-use Rattle.order.specs.Order.{stepsIn, markAll, noSteps, stepsLeft, wholeOrder, Picked, Kept, Ended, NoneBefore}
+use Rattle.order.specs.Order.{stepsIn, markAll, noSteps, stepsLeft, wholeOrder, permittedAt, Picked, Kept, Ended, NoneBefore}
 use Rattle.order.proofs.Left.{and-step, Open, with-closed, left-next, left-none, none-at-all}
 
 -- Steps in front, and one more.
@@ -41,6 +41,11 @@ steps-next k n i order l =
     ap (λ (m : ℕ). map (stepAt k) (take m (set order n i))) (add-one n)
     ∙ ap (map (stepAt k)) (take-suc (set order n i) n 0 (rw (length-set order n i) l) ∙ ap₂ (λ (xs : List ℕ) (y : ℕ). xs ++ (y ∷ [])) (take-set-le n order n i (omega arith)) (getD-set-same order n i 0 l))
     ∙ map-snoc (stepAt k) (take n order) i
+
+-- The words before it are as they were.
+steps-before : (k y n i : ℕ) (order : List ℕ) → y ≤ n → stepsIn k y (set order n i) ≡ stepsIn k y order
+unfolding stepsIn
+steps-before k y n i order l = ap (map (stepAt k)) (take-set-le y order n i l)
 
 under-next : (m n i : ℕ) (order : List ℕ) → n < length order → i < m → under m n order ≡ true → under m (n + 1) (set order n i) ≡ true
 unfolding under
@@ -92,12 +97,21 @@ module _ (j : Job) (done order : List ℕ) (n : ℕ) (cs : List ℕ) (p : Picked
           rw (steps-are, ed)
           (append-assoc xs (x ∷ []) (stepsLeft j (and-step d x) (drop 1 cs)) ∙ ap (λ (l : List Step). xs ++ l) (sym left-is))
 
+      -- Each step is permitted in its turn, the new one too.
+      turn-next : (y : ℕ) → y < n + 1 → permittedAt j (markAll noSteps (stepsIn (j .boxes) y (set order n i))) (getD (set order n i) y 0) ≡ true
+      turn-next y l =
+          rw (steps-before (j .boxes) y n i order (omega arith))
+          (split (eqb y n)
+          (λ e. rw (eqb-true y n e, getD-set-same order n i 0 fits, ← (p .marks-are)) h)
+          (λ e. let ne : y ≡ n → ⊥ = eqb-false y n e in rw (getD-set-other order n y i 0 ne) (p .in-turn y (omega arith))))
+
       pub put-kept : Kept j done order n cs done′ order′ (n + 1) (drop 1 cs)
       put-kept = record {
         picked = record {
           closed = rw ed (with-closed j d x (p .closed) h);
           marks-are = ed ∙ ap (λ (u : Steps). and-step u x) (p .marks-are) ∙ sym (mark-snoc noSteps xs x) ∙ ap (markAll noSteps) (sym steps-are);
           places-in = rw eo (under-next (6 * j .boxes * j .boxes) n i order fits li (p .places-in));
+          in-turn = λ y l. rw eo (turn-next y l);
           long = rw (eo, length-set order n i) (p .long);
           in-order = omega (arith, room);
           few = rw same-whole (p .few);
@@ -128,6 +142,7 @@ kept-over j done order n cs done′ order′ n′ cs′ cs″ k e =
         closed = k .picked .closed;
         marks-are = k .picked .marks-are;
         places-in = k .picked .places-in;
+        in-turn = k .picked .in-turn;
         long = k .picked .long;
         in-order = k .picked .in-order;
         few = rw l (k .picked .few);

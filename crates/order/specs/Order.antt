@@ -1,14 +1,14 @@
 -- The order of a run: the steps that it picks, one after the other, told from the steps done alone.
 use mathlib.Core.Path.{_≡_}
-use mathlib.Core.Bool.{true, false, cond}
+use mathlib.Core.Bool.{Bool, true, false, cond}
 use mathlib.Core.List.{List, [], _∷_, _++_, map}
 use Prim.Native.Nat.{ℕ, zero, suc, _+_, _*_, _≤_, _<_}
 use lib.Dec.{eqb}
 use lib.ListN.{length, getD, take, drop}
 use Rattle.model.specs.Job.{Job}
-use Rattle.model.specs.Steps.{Steps, Step, stepAt, mark}
-use Rattle.model.specs.Tables.{stepsDone}
-use Rattle.model.specs.Ranges.{upTo, under}
+use Rattle.model.specs.Steps.{Steps, Step, stepAt, mark, permitted}
+use Rattle.model.specs.Tables.{stepsDone, marksOf}
+use Rattle.model.specs.Ranges.{under}
 use Rattle.model.specs.Local.{priceTable, totalTable}
 use Rattle.model.specs.Words.{stepCount}
 use Rattle.model.specs.Run.{readyCount, pick, listed}
@@ -51,20 +51,25 @@ pub record SomeJob (k : ℕ) (prices totals : List (List ℕ)) : Type 0 where
   pub job : Job
   pub of-it : OfJob k prices totals job
 
--- A table of marks, 0 or 1, as long as k boxes need.
-pub record MarksLent (k : ℕ) (done : List ℕ) : Type 0 where
-  pub long : 6 * k * k ≤ length done
-  pub bits : upTo 1 (6 * k * k) done ≡ true
+-- The marks done′ are those of the steps that they say are done, written over done.
+unfoldable pub MarksFrom : ℕ → List ℕ → List ℕ → Type 0
+MarksFrom k done done′ = done′ ≡ marksOf k (stepsDone k done′) done
 
 -- The steps of a whole order: those picked, its first n words, and those that are still picked with the choices cs.
 unfoldable pub wholeOrder : Job → List ℕ → List ℕ → ℕ → List ℕ → List Step
 wholeOrder j done order n cs = stepsIn (j .boxes) n order ++ stepsLeft j (stepsDone (j .boxes) done) cs
 
--- The first n words of an order are steps that a list can have done, and these are the ones marked; there is room for the whole order.
+-- The step of a place is permitted where the steps of d are done.
+abbrev pub permittedAt : Job → Steps → ℕ → Bool
+permittedAt j d i = permitted j d (stepAt (j .boxes) i .kind) (stepAt (j .boxes) i .first) (stepAt (j .boxes) i .second)
+
+-- The first n words of an order are places of steps, each permitted where those before it are done; these are the ones marked.
+-- There is room for the whole order.
 pub record Picked (j : Job) (done order : List ℕ) (n : ℕ) (cs : List ℕ) : Type 0 where
   pub closed : Closed j (stepsDone (j .boxes) done)
   pub marks-are : stepsDone (j .boxes) done ≡ markAll noSteps (stepsIn (j .boxes) n order)
   pub places-in : under (6 * j .boxes * j .boxes) n order ≡ true
+  pub in-turn : (i : ℕ) → i < n → permittedAt j (markAll noSteps (stepsIn (j .boxes) i order)) (getD order i 0) ≡ true
   pub long : length order ≡ 1536
   pub in-order : n ≤ 1536
   pub few : length (wholeOrder j done order n cs) ≤ 1536

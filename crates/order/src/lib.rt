@@ -9,13 +9,13 @@ ghost use Rattle.model.specs.Tables.{stepsDone};
 ghost use Rattle.rules.specs.Marks.{marked};
 ghost use Rattle.walk.specs.Walk.{PlaceIn, here, listedBy, WalkIn};
 ghost use Rattle.walk.specs.Rows.{IsRows};
-ghost use Rattle.order.specs.Order.{SomeJob, MarksLent, Picked, Kept, Ended, NoneBefore, Passed, EveryJob};
+ghost use Rattle.order.specs.Order.{SomeJob, MarksFrom, Picked, Kept, Ended, NoneBefore, Passed, EveryJob};
 
 // The step of a place is word n of the order, and it is marked as done.
 fn put_step(k: u16, p: walk::Place, n: usize, done: &mut [u16], order: &mut [u16; 1536])
-    requires { ⌜ PlaceIn k (p .kind) (p .first) (p .second) × MarksLent k (now done) × (n < 1536) ⌝ }
+    requires { ⌜ PlaceIn k (p .kind) (p .first) (p .second) × MarksFrom k (now done) (now done) × (n < 1536) ⌝ }
     ensures { λ _. ⌜ (now (done .exit) ≡ marked k (kindOf (p .kind)) (p .first) (p .second) (now (done .entry))) ×
-        (now (order .exit) ≡ set (now (order .entry)) n (here k (p .kind) (p .first) (p .second))) × MarksLent k (now (done .exit)) ⌝ }
+        (now (order .exit) ≡ set (now (order .entry)) n (here k (p .kind) (p .first) (p .second))) × MarksFrom k (now (done .entry)) (now (done .exit)) ⌝ }
 {
     let at = rules::marks::place(k, p.kind, p.first, p.second);
     order[n] = at as u16;
@@ -34,11 +34,11 @@ fn choose(
     rows: &mut [u16; 96],
     order: &mut [u16; 1536],
 )
-    requires { ⌜ WalkIn k (now done) × MarksLent k (now done) × SomeJob k (now prices) (now totals) ⌝ }
+    requires { ⌜ WalkIn k (now done) × MarksFrom k (now done) (now done) × SomeJob k (now prices) (now totals) ⌝ }
     requires { ⌜ IsRows k (now prices) (now totals) (now done) (now rows) ⌝ }
     requires { ⌜ (i < length (now choices)) × (1 ≤ ready) × (ready ≡ count (6 * k * k) (listedBy k (now prices) (now totals) (now done))) ⌝ }
     requires { ⌜ EveryJob k (now prices) (now totals) (λ j. Picked j (now done) (now order) i (drop i (now choices))) ⌝ }
-    ensures { λ _. ⌜ MarksLent k (now (done .exit)) × IsRows k (now (prices .entry)) (now (totals .entry)) (now (done .exit)) (now (rows .exit)) ⌝ }
+    ensures { λ _. ⌜ MarksFrom k (now (done .entry)) (now (done .exit)) × IsRows k (now (prices .entry)) (now (totals .entry)) (now (done .exit)) (now (rows .exit)) ⌝ }
     ensures { λ _. ⌜ EveryJob k (now (prices .entry)) (now (totals .entry)) (λ j. Kept j (now (done .entry)) (now (order .entry)) i
         (drop i (now (choices .entry))) (now (done .exit)) (now (order .exit)) (i + 1) (drop (i + 1) (now (choices .entry)))) ⌝ }
 {
@@ -57,9 +57,9 @@ pub fn chosen(
     done: &mut [u16],
     order: &mut [u16; 1536],
 ) -> usize
-    requires { ⌜ WalkIn k (now done) × MarksLent k (now done) × SomeJob k (now prices) (now totals) ⌝ }
+    requires { ⌜ WalkIn k (now done) × MarksFrom k (now done) (now done) × SomeJob k (now prices) (now totals) ⌝ }
     requires { ⌜ EveryJob k (now prices) (now totals) (λ j. Picked j (now done) (now order) 0 (now choices)) ⌝ }
-    ensures { λ r. ⌜ MarksLent k (now (done .exit)) ⌝ }
+    ensures { λ r. ⌜ MarksFrom k (now (done .entry)) (now (done .exit)) ⌝ }
     ensures { λ r. ⌜ EveryJob k (now (prices .entry)) (now (totals .entry)) (λ j. Kept j (now (done .entry)) (now (order .entry)) 0
         (now (choices .entry)) (now (done .exit)) (now (order .exit)) r []) ⌝ }
 {
@@ -86,10 +86,10 @@ fn turn(
     order: &mut [u16; 1536],
 ) -> usize
     requires { ⌜ PlaceIn k (p .kind) (p .first) (p .second) ⌝ }
-    requires { ⌜ WalkIn k (now done) × MarksLent k (now done) × SomeJob k (now prices) (now totals) ⌝ }
+    requires { ⌜ WalkIn k (now done) × MarksFrom k (now done) (now done) × SomeJob k (now prices) (now totals) ⌝ }
     requires { ⌜ EveryJob k (now prices) (now totals) (λ j. Picked j (now done) (now order) n []) ⌝ }
     requires { ⌜ EveryJob k (now prices) (now totals) (λ j. NoneBefore j (stepsDone (j .boxes) (now done)) (here k (p .kind) (p .first) (p .second))) ⌝ }
-    ensures { λ r. ⌜ MarksLent k (now (done .exit)) ⌝ }
+    ensures { λ r. ⌜ MarksFrom k (now (done .entry)) (now (done .exit)) ⌝ }
     ensures { λ r. ⌜ EveryJob k (now (prices .entry)) (now (totals .entry)) (λ j. Passed j (now (done .entry)) (now (order .entry)) n
         (here k (p .kind) (p .first) (p .second)) (now (done .exit)) (now (order .exit)) r) ⌝ }
 {
@@ -110,9 +110,9 @@ pub fn rest(
     done: &mut [u16],
     order: &mut [u16; 1536],
 ) -> usize
-    requires { ⌜ WalkIn k (now done) × MarksLent k (now done) × SomeJob k (now prices) (now totals) ⌝ }
+    requires { ⌜ WalkIn k (now done) × MarksFrom k (now done) (now done) × SomeJob k (now prices) (now totals) ⌝ }
     requires { ⌜ EveryJob k (now prices) (now totals) (λ j. Picked j (now done) (now order) n []) ⌝ }
-    ensures { λ r. ⌜ MarksLent k (now (done .exit)) ⌝ }
+    ensures { λ r. ⌜ MarksFrom k (now (done .entry)) (now (done .exit)) ⌝ }
     ensures { λ r. ⌜ EveryJob k (now (prices .entry)) (now (totals .entry)) (λ j. Ended j (now (done .entry)) (now (order .entry)) n [] (now (done .exit))
         (now (order .exit)) r) ⌝ }
 {

@@ -10,7 +10,7 @@ use Rattle.model.specs.Steps.{kindOf, mark}
 use Rattle.model.specs.Tables.{stepsDone}
 use Rattle.walk.specs.Walk.{listedBy}
 use Rattle.walk.proofs.Changed.{rows-before}
-use Rattle.order.proofs.Found.{marked-steps, found-open, room-of, kept-of}
+use Rattle.order.proofs.Found.{marked-steps, found-open, room-of, kept-of, marks-long}
 use Rattle.order.proofs.choose.Statement.{statement}
 use Rattle.order.proofs.choose.Tie as tie
 
@@ -50,7 +50,7 @@ renew-requires c κs =
     let g = f .find-in .ensures in
     let p = g .place-in in
     let m = put c .put-step .ensures in (
-      record { kind-from = p .kind-from; kind-to = p .kind-to; boxes-in = p .boxes-in; a-in = p .a-in; b-in = p .b-in; done-long = m .2 .long },
+      record { kind-from = p .kind-from; kind-to = p .kind-to; boxes-in = p .boxes-in; a-in = p .a-in; b-in = p .b-in; done-long = marks-long _ _ _ (m .2) },
       rows-before (s .args .k) _ _ _ (now (s .args .prices)) (now (s .args .totals)) (now (s .args .done)) _ (now (s .args .rows))
           (ap (stepsDone (s .args .k)) (m .0) ∙ marked-steps (s .args .k) _ _ _ (now (s .args .done)) (p .a-in) (p .b-in))
           (found-open (s .args .k) _ _ (now (s .args .done)) _ _ _ _ (below s) g) (s .pre .1 .0),

@@ -11,15 +11,15 @@ use Rattle.laws.specs.Below.{count}
 use Rattle.walk.specs.Walk.{listedBy}
 use Rattle.walk.specs.Rows.{IsRows}
 use Rattle.walk.proofs.ByRow.{rows-few, rows-ready}
-use Rattle.order.specs.Order.{MarksLent, Kept, EveryJob}
+use Rattle.order.specs.Order.{MarksFrom, Kept, EveryJob}
 use Rattle.order.proofs.Pick.{kept-none, kept-both, kept-over, kept-last}
-use Rattle.order.proofs.Found.{ready-of, walk-on}
+use Rattle.order.proofs.Found.{ready-of, walk-on, marks-own, marks-over}
 use Rattle.order.proofs.chosen.Statement.{statement}
 use Rattle.order.proofs.chosen.Tie as tie
 
 abbrev Inv-loop : tie.InvT-loop
 Inv-loop k prices totals choices done₀ order₀ n rows₀ i₀ done order rows i =
-    (i ≤ n) × ((n ≡ length choices) × ((length done ≡ length done₀) × ((MarksLent k done)
+    (i ≤ n) × ((n ≡ length choices) × ((length done ≡ length done₀) × ((MarksFrom k done₀ done)
     × ((EveryJob k prices totals (λ j. Kept j done₀ order₀ 0 choices done order i (drop i choices))) × (1 ≤ n → IsRows k prices totals done rows)))))
 
 abbrev μ-loop : tie.MeasureT-loop
@@ -68,7 +68,7 @@ choose-requires c κs =
     let l = turn r .before .loop in
     let s = entry (turn r .before) in
     let more : 1 ≤ r .ready-steps .result = omega (arith, readied c .if1 .left) in (
-      (walk-on _ _ _ (s .pre .0 .0) (l .inv .1 .1 .1 .0), l .inv .1 .1 .1 .0, s .pre .0 .2),
+      (walk-on _ _ _ (l .inv .1 .1 .1 .0) (s .pre .0 .0), marks-own _ _ _ (l .inv .1 .1 .1 .0), s .pre .0 .2),
       (
         rows-at (turn r),
         ((omega (arith, turn r .loop-test .taken, l .inv .1 .0), more, ready-at r), λ j o. l .inv .1 .1 .1 .1 .0 j o .picked),
@@ -84,7 +84,7 @@ loop-again c =
     let l = t .before .loop in
     let e = chose c .choose .ensures in (
       omega (arith, t .loop-test .taken),
-      (l .inv .1 .0, (search needs, (e .0 .0, (λ j o. kept-both j _ _ 0 _ _ _ _ _ _ _ _ _ (l .inv .1 .1 .1 .1 .0 j o) (e .1 j o), λ _. e .0 .1)))),
+      (l .inv .1 .0, (search needs, (marks-over _ _ _ (l .inv .1 .1 .1 .0) _ (e .0 .0), (λ j o. kept-both j _ _ 0 _ _ _ _ _ _ _ _ _ (l .inv .1 .1 .1 .1 .0 j o) (e .1 j o), λ _. e .0 .1)))),
     )
 
 returns-2 : tie.Need-returns-2 Inv-loop μ-loop

@@ -9,16 +9,16 @@ use denote.Ref.{now}
 use Rattle.model.specs.Tables.{stepsDone}
 use Rattle.walk.specs.Walk.{PlaceIn}
 use Rattle.walk.proofs.Walking.{At, at-first, at-next, at-in}
-use Rattle.order.specs.Order.{MarksLent, Kept, NoneBefore, EveryJob}
+use Rattle.order.specs.Order.{MarksFrom, Kept, NoneBefore, EveryJob}
 use Rattle.order.proofs.Left.{none-first}
 use Rattle.order.proofs.Pick.{kept-none, kept-both}
-use Rattle.order.proofs.Found.{walk-on, ended-of}
+use Rattle.order.proofs.Found.{walk-on, ended-of, marks-own, marks-over}
 use Rattle.order.proofs.rest.Statement.{statement}
 use Rattle.order.proofs.rest.Tie as tie
 
 abbrev Inv-loop : tie.InvT-loop
 Inv-loop k prices totals n done₀ order₀ places words₀ p₀ i₀ done order words p i =
-    (i ≤ places) × ((At k i (p .kind) (p .first) (p .second)) × ((length done ≡ length done₀) × ((MarksLent k done)
+    (i ≤ places) × ((At k i (p .kind) (p .first) (p .second)) × ((length done ≡ length done₀) × ((MarksFrom k done₀ done)
     × ((EveryJob k prices totals (λ j. Kept j done₀ order₀ n [] done order words [])) × (EveryJob k prices totals (λ j. NoneBefore j (stepsDone (j .boxes) done) i))))))
 
 abbrev μ-loop : tie.MeasureT-loop
@@ -52,7 +52,7 @@ turn-requires c κs =
     let l = inside c .before .loop in (
       place-at (inside c),
       (
-        (walk-on _ _ _ (s .pre .0 .0) (l .inv .1 .1 .1 .0), l .inv .1 .1 .1 .0, s .pre .0 .2),
+        (walk-on _ _ _ (l .inv .1 .1 .1 .0) (s .pre .0 .0), marks-own _ _ _ (l .inv .1 .1 .1 .0), s .pre .0 .2),
         (λ j o. l .inv .1 .1 .1 .1 .0 j o .picked, λ j o. rw (l .inv .1 .0 .place-is) (l .inv .1 .1 .1 .1 .1 j o)),
       ),
     )
@@ -72,7 +72,7 @@ loop-again c =
       omega (arith, i .loop-test .taken),
       (
         at-next _ (l .i) _ _ _ _ _ _ (l .inv .1 .0) (c .next .ensures),
-        (search needs, (u .0, (λ j o. kept-both j _ _ _ _ _ _ _ _ _ _ _ _ (l .inv .1 .1 .1 .1 .0 j o) (u .1 j o .kept), λ j o. rw (l .inv .1 .0 .place-is) at (u .1 j o .none)))),
+        (search needs, (marks-over _ _ _ (l .inv .1 .1 .1 .0) _ (u .0), (λ j o. kept-both j _ _ _ _ _ _ _ _ _ _ _ _ (l .inv .1 .1 .1 .1 .0 j o) (u .1 j o .kept), λ j o. rw (l .inv .1 .0 .place-is) at (u .1 j o .none)))),
       ),
     )
 
