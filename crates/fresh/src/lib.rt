@@ -1,16 +1,13 @@
-// A fresh state, written into the lent tables.
+// The tables of a fresh state, written into the lent ones.
 ghost use mathlib.Core.Path.{_≡_};
-ghost use Prim.Native.Nat.{ℕ, _+_, _*_, _≤_, _<_};
-ghost use mathlib.Core.List.{List};
-ghost use lib.IntN.{ℤ, pos};
+ghost use Prim.Native.Nat.{_+_, _*_, _≤_, _<_};
+ghost use lib.IntN.{pos};
 ghost use lib.ListN.{length};
 ghost use Rattle.laws.specs.Tables.{overwrite};
-ghost use Rattle.model.specs.Tables.{jobTables, stateTables};
-ghost use Rattle.model.specs.Step.{freshTables};
-ghost use Rattle.fresh.specs.Fresh.{ownPrices, OwnIn, FreshIn};
+ghost use Rattle.fresh.specs.Fresh.{ownPrices, OwnIn, FreshPrices, FreshTotals};
 
 // The first n words become 0.
-fn zero16(s: &mut [u16], n: usize)
+pub fn zero16(s: &mut [u16], n: usize)
     requires { ⌜ n ≤ length (now s) ⌝ }
     ensures { λ _. ⌜ now (s .exit) ≡ overwrite n (λ i. 0) (now (s .entry)) ⌝ }
 {
@@ -19,6 +16,7 @@ fn zero16(s: &mut [u16], n: usize)
     }
 }
 
+// Likewise words of 32 bits,
 fn zero32(s: &mut [u32], n: usize)
     requires { ⌜ n ≤ length (now s) ⌝ }
     ensures { λ _. ⌜ now (s .exit) ≡ overwrite n (λ i. 0) (now (s .entry)) ⌝ }
@@ -28,6 +26,7 @@ fn zero32(s: &mut [u32], n: usize)
     }
 }
 
+// and of 64.
 fn zero64(s: &mut [i64], n: usize)
     requires { ⌜ n ≤ length (now s) ⌝ }
     ensures { λ _. ⌜ now (s .exit) ≡ overwrite n (λ i. pos 0) (now (s .entry)) ⌝ }
@@ -56,39 +55,42 @@ fn own_prices(k: usize, n: usize, price: &[u32], owner: &[u16], known: &mut [u32
     }
 }
 
-// A fresh state of the job, whatever the tables held before.
-pub fn fresh(
+// The price tables of a fresh state, whatever they held before: own prices are known, and none is in transit.
+pub fn fresh_prices(
     boxes: u16,
-    grocers: u16,
     offers: u16,
     price: &[u32],
-    owner: &[u16],
+    offer_owner: &[u16],
     known: &mut [u32],
-    ptransit: &mut [u32],
-    working: &mut [i64],
-    ttransit: &mut [i64],
-    statement: &mut [i64],
-    done: &mut [u16],
-    sent: &mut [u32],
+    price_transit: &mut [u32],
 )
-    requires { ⌜ FreshIn boxes grocers offers (now price) (now owner)
-        (stateTables (now known) (now ptransit) (now working) (now ttransit) (now statement) (now done) (now sent)) ⌝ }
-    ensures { λ _. ⌜ ((tallies : ℕ) (gowner tgrocer tbox toffer : List ℕ) (tcount : List ℤ) →
-        stateTables (now (known .exit)) (now (ptransit .exit)) (now (working .exit)) (now (ttransit .exit)) (now (statement .exit)) (now (done .exit))
-        (now (sent .exit))
-        ≡ freshTables (jobTables boxes grocers offers tallies (now (price .entry)) (now (owner .entry)) gowner tgrocer tbox toffer tcount)
-        (stateTables (now (known .entry)) (now (ptransit .entry)) (now (working .entry)) (now (ttransit .entry)) (now (statement .entry))
-        (now (done .entry)) (now (sent .entry)))) ⌝ }
+    requires { ⌜ FreshPrices boxes offers (now price) (now «offer_owner») (now known) (now «price_transit») ⌝ }
+    ensures { λ _. ⌜ (now (known .exit) ≡ ownPrices boxes offers (now (price .entry)) (now («offer_owner» .entry)) (overwrite (boxes * offers) (λ i. 0)
+        (now (known .entry)))) × (now («price_transit» .exit) ≡ overwrite (boxes * offers) (λ i. 0) (now («price_transit» .entry))) ⌝ }
+{
+    let k = boxes as usize;
+    let n = offers as usize;
+    zero32(known, k * n);
+    own_prices(k, n, price, offer_owner, known);
+    zero32(price_transit, k * n);
+}
+
+// The tables of totals of a fresh state, whatever they held before: all words are 0.
+pub fn fresh_totals(
+    boxes: u16,
+    grocers: u16,
+    working: &mut [i64],
+    total_transit: &mut [i64],
+    statement: &mut [i64],
+)
+    requires { ⌜ FreshTotals boxes grocers (now working) (now «total_transit») (now statement) ⌝ }
+    ensures { λ _. ⌜ (now (working .exit) ≡ overwrite (boxes * grocers) (λ i. pos 0) (now (working .entry))) ×
+        (now («total_transit» .exit) ≡ overwrite (boxes * grocers) (λ i. pos 0) (now («total_transit» .entry))) ×
+        (now (statement .exit) ≡ overwrite grocers (λ i. pos 0) (now (statement .entry))) ⌝ }
 {
     let k = boxes as usize;
     let m = grocers as usize;
-    let n = offers as usize;
-    zero32(known, k * n);
-    own_prices(k, n, price, owner, known);
-    zero32(ptransit, k * n);
     zero64(working, k * m);
-    zero64(ttransit, k * m);
+    zero64(total_transit, k * m);
     zero64(statement, m);
-    zero16(done, 6 * k * k);
-    zero32(sent, 1);
 }

@@ -2,3 +2,4 @@
 pub mod Left
 pub mod Pick
 pub mod Found
+pub mod Begun

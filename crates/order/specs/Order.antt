@@ -11,7 +11,7 @@ use Rattle.model.specs.Tables.{stepsDone, marksOf}
 use Rattle.model.specs.Ranges.{under}
 use Rattle.model.specs.Local.{priceTable, totalTable}
 use Rattle.model.specs.Words.{stepCount}
-use Rattle.model.specs.Run.{readyCount, pick, listed}
+use Rattle.model.specs.Run.{readyCount, pick, listed, run}
 use Rattle.model.specs.Boxes.{Closed}
 
 -- The steps of the first n words of an order: each word is the place of a step, of k boxes.
@@ -96,3 +96,8 @@ pub record Passed (j : Job) (done order : List ℕ) (n i : ℕ) (done′ order�
 -- What holds of every job with these tables of messages.
 abbrev pub EveryJob : ℕ → List (List ℕ) → List (List ℕ) → (Job → Type 0) → Type 0
 EveryJob k prices totals P = (j : Job) → OfJob k prices totals j → P j
+
+-- The whole order of the run with the choices cs: its first n words are the run's steps, each permitted in its turn, and these are the ones marked.
+pub record Ordered (j : Job) (cs done order : List ℕ) (n : ℕ) : Type 0 where
+  pub steps-are : stepsIn (j .boxes) n order ≡ run j cs
+  pub picked : Picked j done order n []

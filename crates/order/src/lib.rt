@@ -6,10 +6,11 @@ ghost use lib.ListN.{length, drop, set};
 ghost use Rattle.laws.specs.Below.{count};
 ghost use Rattle.model.specs.Steps.{kindOf};
 ghost use Rattle.model.specs.Tables.{stepsDone};
+ghost use Rattle.model.specs.Run.{run};
 ghost use Rattle.rules.specs.Marks.{marked};
 ghost use Rattle.walk.specs.Walk.{PlaceIn, here, listedBy, WalkIn};
 ghost use Rattle.walk.specs.Rows.{IsRows};
-ghost use Rattle.order.specs.Order.{SomeJob, MarksFrom, Picked, Kept, Ended, NoneBefore, Passed, EveryJob};
+ghost use Rattle.order.specs.Order.{SomeJob, MarksFrom, Picked, Kept, Ended, NoneBefore, Passed, EveryJob, Ordered};
 
 // The step of a place is word n of the order, and it is marked as done.
 fn put_step(k: u16, p: walk::Place, n: usize, done: &mut [u16], order: &mut [u16; 1536])
@@ -49,7 +50,7 @@ fn choose(
 }
 
 // While choices are left and some step is ready, each choice picks a step. How many are picked.
-pub fn chosen(
+fn chosen(
     k: u16,
     prices: &[[u16; 16]; 16],
     totals: &[[u16; 16]; 16],
@@ -102,7 +103,7 @@ fn turn(
 
 // The first ready step, as long as there is one: a step done makes no earlier place ready, so one walk over all places does.
 // The order has n words before; how many it has in all.
-pub fn rest(
+fn rest(
     k: u16,
     prices: &[[u16; 16]; 16],
     totals: &[[u16; 16]; 16],
@@ -130,4 +131,23 @@ pub fn rest(
         p = q;
     }
     words
+}
+
+// The order of the run with these choices: its steps, the first words of `order`, and all of them marked, whatever was marked before. How many.
+pub fn put_order(
+    k: u16,
+    prices: &[[u16; 16]; 16],
+    totals: &[[u16; 16]; 16],
+    choices: &[u16],
+    done: &mut [u16],
+    order: &mut [u16; 1536],
+) -> usize
+    requires { ⌜ WalkIn k (now done) × SomeJob k (now prices) (now totals) × (length (now order) ≡ 1536) ⌝ }
+    requires { ⌜ EveryJob k (now prices) (now totals) (λ j. length (run j (now choices)) ≤ 1536) ⌝ }
+    ensures { λ r. ⌜ MarksFrom k (now (done .entry)) (now (done .exit)) ⌝ }
+    ensures { λ r. ⌜ EveryJob k (now (prices .entry)) (now (totals .entry)) (λ j. Ordered j (now (choices .entry)) (now (done .exit)) (now (order .exit)) r) ⌝ }
+{
+    fresh::zero16(done, tables::checks::marks(k));
+    let n = chosen(k, prices, totals, choices, done, order);
+    rest(k, prices, totals, n, done, order)
 }

@@ -1,300 +1,169 @@
-// The loops of a run: while choices are left, and then one walk over all places.
-ghost use mathlib.Core.List.{[]};
-ghost use Rattle.model.specs.Tables.{jobTables, stateTables};
-ghost use Rattle.apply.specs.Apply.{Links};
-ghost use Rattle.picks.specs.Way.{Goes, Kept, Ended};
+// The steps of an order, done one after the other on the tables of prices and totals.
+ghost use mathlib.Core.Path.{_≡_};
+ghost use Prim.Native.Nat.{ℕ, suc, _*_, _/_, _%_, _≤_, _<_};
+ghost use Rattle.model.specs.Steps.{kindOf};
+ghost use Rattle.model.specs.Tables.{jobTables, jobOf};
+ghost use Rattle.model.specs.Words.{messagesOf};
+ghost use Rattle.totals.specs.Row.{tallies};
+ghost use Rattle.run.specs.Run.{withoutMarks, StepIn, StepOut, AllIn, AllOut};
+use apply::Sizes;
+use apply::Step;
 
-// While choices are left and some step is ready, each choice picks a step, and it is applied. Ready steps are counted by rows.
-fn chosen(
-    boxes: u16,
-    grocers: u16,
-    offers: u16,
-    tallies: u16,
-    price: &[u32],
-    owner: &[u16],
-    gowner: &[u16],
-    tgrocer: &[u16],
-    tbox: &[u16],
-    toffer: &[u16],
-    tcount: &[i32],
-    needs: &[u16; 500],
-    sharers: &[u16; 255],
-    prices: &[[u16; 16]; 16],
-    totals: &[[u16; 16]; 16],
-    ofirst: &[u16; 16],
-    onext: &[u16; 500],
-    gfirst: &[u16; 16],
-    gnext: &[u16; 255],
-    tfirst: &[u16; 16],
-    tnext: &[u16; 1000],
-    known: &mut [u32],
-    ptransit: &mut [u32],
-    working: &mut [i64],
-    ttransit: &mut [i64],
-    statement: &mut [i64],
-    done: &mut [u16],
-    sent: &mut [u32],
-    choices: &[u16],
-) -> picks::Counts
-    requires { ⌜ Goes (jobTables boxes grocers offers tallies (now price) (now owner) (now gowner) (now tgrocer) (now tbox) (now toffer) (now tcount))
-        (stateTables (now known) (now ptransit) (now working) (now ttransit) (now statement) (now done) (now sent)) (now needs) (now sharers)
-        (now prices) (now totals) (now choices) 0 0 ⌝ }
-    requires { ⌜ Links (jobTables boxes grocers offers tallies (now price) (now owner) (now gowner) (now tgrocer) (now tbox) (now toffer)
-        (now tcount)) (now ofirst) (now onext) (now gfirst) (now gnext) (now tfirst) (now tnext) ⌝ }
-    ensures { λ r. ⌜ Kept (jobTables boxes grocers offers tallies (now (price .entry)) (now (owner .entry)) (now (gowner .entry))
-        (now (tgrocer .entry)) (now (tbox .entry)) (now (toffer .entry)) (now (tcount .entry)))
-        (stateTables (now (known .entry)) (now (ptransit .entry)) (now (working .entry)) (now (ttransit .entry)) (now (statement .entry))
-        (now (done .entry)) (now (sent .entry))) (now (choices .entry)) 0 0
-        (stateTables (now (known .exit)) (now (ptransit .exit)) (now (working .exit)) (now (ttransit .exit)) (now (statement .exit))
-        (now (done .exit)) (now (sent .exit))) [] (r .messages) (r .steps) ⌝ }
-{
-    let mut counts = picks::Counts {
-        messages: 0,
-        steps: 0,
-    };
-    let n = choices.len();
-    let mut rows = walk::rows::rows_for(n, boxes, prices, totals, done);
-    for i in 0..n {
-        let ready = walk::rows::ready_steps(boxes, &rows);
-        if ready == 0 {
-            return counts;
-        }
-        let next = picks::choose(
-            boxes,
-            grocers,
-            offers,
-            tallies,
-            price,
-            owner,
-            gowner,
-            tgrocer,
-            tbox,
-            toffer,
-            tcount,
-            needs,
-            sharers,
-            prices,
-            totals,
-            ofirst,
-            onext,
-            gfirst,
-            gnext,
-            tfirst,
-            tnext,
-            known,
-            ptransit,
-            working,
-            ttransit,
-            statement,
-            done,
-            sent,
-            &mut rows,
-            choices,
-            i,
-            ready,
-            counts,
-        );
-        counts = next;
-    }
-    counts
+// Words and messages sent, counted as steps are done.
+pub struct Sent {
+    pub words: u32,
+    pub messages: u32,
 }
 
-// The first ready step, as long as there is one: a step done makes no earlier place ready, so one walk over all places does.
-fn rest(
-    boxes: u16,
-    grocers: u16,
-    offers: u16,
-    tallies: u16,
-    price: &[u32],
-    owner: &[u16],
-    gowner: &[u16],
-    tgrocer: &[u16],
-    tbox: &[u16],
-    toffer: &[u16],
-    tcount: &[i32],
-    needs: &[u16; 500],
-    sharers: &[u16; 255],
-    prices: &[[u16; 16]; 16],
-    totals: &[[u16; 16]; 16],
-    ofirst: &[u16; 16],
-    onext: &[u16; 500],
-    gfirst: &[u16; 16],
-    gnext: &[u16; 255],
-    tfirst: &[u16; 16],
-    tnext: &[u16; 1000],
-    known: &mut [u32],
-    ptransit: &mut [u32],
-    working: &mut [i64],
-    ttransit: &mut [i64],
-    statement: &mut [i64],
-    done: &mut [u16],
-    sent: &mut [u32],
-    before: picks::Counts,
-) -> picks::Counts
-    requires { ⌜ Goes (jobTables boxes grocers offers tallies (now price) (now owner) (now gowner) (now tgrocer) (now tbox) (now toffer) (now tcount))
-        (stateTables (now known) (now ptransit) (now working) (now ttransit) (now statement) (now done) (now sent)) (now needs) (now sharers)
-        (now prices) (now totals) [] (before .messages) (before .steps) ⌝ }
-    requires { ⌜ Links (jobTables boxes grocers offers tallies (now price) (now owner) (now gowner) (now tgrocer) (now tbox) (now toffer)
-        (now tcount)) (now ofirst) (now onext) (now gfirst) (now gnext) (now tfirst) (now tnext) ⌝ }
-    ensures { λ r. ⌜ Ended (jobTables boxes grocers offers tallies (now (price .entry)) (now (owner .entry)) (now (gowner .entry))
-        (now (tgrocer .entry)) (now (tbox .entry)) (now (toffer .entry)) (now (tcount .entry)))
-        (stateTables (now (known .entry)) (now (ptransit .entry)) (now (working .entry)) (now (ttransit .entry)) (now (statement .entry))
-        (now (done .entry)) (now (sent .entry))) [] (before .messages) (before .steps)
-        (stateTables (now (known .exit)) (now (ptransit .exit)) (now (working .exit)) (now (ttransit .exit)) (now (statement .exit))
-        (now (done .exit)) (now (sent .exit))) (r .messages) (r .steps) ⌝ }
+// The step of a place, of k boxes.
+fn step_at(k: u16, place: u16) -> Step
+    requires { ⌜ (1 ≤ k) × (k ≤ 16) × (place < 6 * k * k) ⌝ }
+    ensures { λ r. ⌜ (r .kind ≡ suc (place / k / k)) × (r .first ≡ place / k % k) × (r .second ≡ place % k) ⌝ }
 {
-    let n = tables::checks::marks(boxes);
-    let mut counts = before;
-    let mut p = walk::Place {
-        kind: 1,
-        first: 0,
-        second: 0,
-    };
-    for i in 0..n {
-        let next = picks::turn(
-            boxes,
-            grocers,
-            offers,
-            tallies,
-            price,
-            owner,
-            gowner,
-            tgrocer,
-            tbox,
-            toffer,
-            tcount,
-            needs,
-            sharers,
-            prices,
-            totals,
-            ofirst,
-            onext,
-            gfirst,
-            gnext,
-            tfirst,
-            tnext,
-            known,
-            ptransit,
-            working,
-            ttransit,
-            statement,
-            done,
-            sent,
-            p,
-            counts,
-        );
-        counts = next;
-        let q = walk::next(boxes, p);
-        p = q;
+    let row = place / k;
+    Step {
+        kind: row / k + 1,
+        first: row % k,
+        second: place % k,
     }
-    counts
 }
 
-// All steps of a run, from the state that the tables hold: offers, grocers and tallies are linked once.
-pub fn all_steps(
-    boxes: u16,
-    grocers: u16,
-    offers: u16,
-    tallies: u16,
-    price: &[u32],
-    owner: &[u16],
-    gowner: &[u16],
-    tgrocer: &[u16],
-    tbox: &[u16],
-    toffer: &[u16],
-    tcount: &[i32],
+// The messages that a step of this kind sends.
+fn sent_by(kind: u16) -> u32
+    requires { ⌜ (1 ≤ kind) × (kind ≤ 6) ⌝ }
+    ensures { λ r. ⌜ ((a b : ℕ) → r ≡ messagesOf (kindOf kind) a b) ⌝ }
+{
+    if (kind == 1) | (kind == 4) {
+        return 1;
+    }
+    0
+}
+
+// One step, on the side of prices or of totals. The words sent.
+fn one_step(
+    z: Sizes,
+    offer_owner: &[u16],
+    grocer_owner: &[u16],
+    tally_grocer: &[u16],
+    tally_box: &[u16],
+    tally_offer: &[u16],
+    tally_count: &[i32],
     needs: &[u16; 500],
     sharers: &[u16; 255],
-    prices: &[[u16; 16]; 16],
-    totals: &[[u16; 16]; 16],
+    offer_links: &[u16; 517],
+    grocer_links: &[u16; 272],
+    tally_links: &[u16; 1017],
     known: &mut [u32],
-    ptransit: &mut [u32],
+    price_transit: &mut [u32],
     working: &mut [i64],
-    ttransit: &mut [i64],
+    total_transit: &mut [i64],
     statement: &mut [i64],
-    done: &mut [u16],
-    sent: &mut [u32],
-    choices: &[u16],
-) -> picks::Counts
-    requires { ⌜ Goes (jobTables boxes grocers offers tallies (now price) (now owner) (now gowner) (now tgrocer) (now tbox) (now toffer) (now tcount))
-        (stateTables (now known) (now ptransit) (now working) (now ttransit) (now statement) (now done) (now sent)) (now needs) (now sharers)
-        (now prices) (now totals) (now choices) 0 0 ⌝ }
-    ensures { λ r. ⌜ Ended (jobTables boxes grocers offers tallies (now (price .entry)) (now (owner .entry)) (now (gowner .entry))
-        (now (tgrocer .entry)) (now (tbox .entry)) (now (toffer .entry)) (now (tcount .entry)))
-        (stateTables (now (known .entry)) (now (ptransit .entry)) (now (working .entry)) (now (ttransit .entry)) (now (statement .entry))
-        (now (done .entry)) (now (sent .entry))) (now (choices .entry)) 0 0
-        (stateTables (now (known .exit)) (now (ptransit .exit)) (now (working .exit)) (now (ttransit .exit)) (now (statement .exit))
-        (now (done .exit)) (now (sent .exit))) (r .messages) (r .steps) ⌝ }
+    x: Step,
+) -> u32
+    requires { ⌜ StepIn (tallies (z .boxes) (z .grocers) (z .offers) (z .tallies) (now «offer_owner») (now «tally_grocer») (now «tally_box»)
+        (now «tally_offer») (now «tally_count»)) (now «grocer_owner») (now «offer_links») (now «grocer_links») (now «tally_links») (now known)
+        (now «price_transit») (now working) (now «total_transit») (now statement) (x .kind) (x .first) (x .second) ⌝ }
+    ensures { λ r. ⌜ StepOut (tallies (z .boxes) (z .grocers) (z .offers) (z .tallies) (now («offer_owner» .entry)) (now («tally_grocer» .entry))
+        (now («tally_box» .entry)) (now («tally_offer» .entry)) (now («tally_count» .entry))) (now («grocer_owner» .entry)) (now (needs .entry))
+        (now (sharers .entry)) (withoutMarks (now (known .entry)) (now («price_transit» .entry)) (now (working .entry)) (now («total_transit» .entry))
+        (now (statement .entry))) (withoutMarks (now (known .exit)) (now («price_transit» .exit)) (now (working .exit)) (now («total_transit» .exit))
+        (now (statement .exit))) (x .kind) (x .first) (x .second) r ⌝ }
 {
-    let mut ofirst: [u16; 16] = [0; 16];
-    let mut onext: [u16; 500] = [0; 500];
-    let mut gfirst: [u16; 16] = [0; 16];
-    let mut gnext: [u16; 255] = [0; 255];
-    let mut tfirst: [u16; 16] = [0; 16];
-    let mut tnext: [u16; 1000] = [0; 1000];
-    links::link(offers as usize, owner, &mut ofirst, &mut onext);
-    links::link(grocers as usize, gowner, &mut gfirst, &mut gnext);
-    links::link(tallies as usize, tbox, &mut tfirst, &mut tnext);
-    let first = chosen(
-        boxes,
-        grocers,
-        offers,
-        tallies,
-        price,
-        owner,
-        gowner,
-        tgrocer,
-        tbox,
-        toffer,
-        tcount,
-        needs,
+    if x.kind <= 3 {
+        return apply::price_step(
+            z,
+            offer_owner,
+            tally_grocer,
+            tally_box,
+            tally_offer,
+            tally_count,
+            needs,
+            offer_links,
+            tally_links,
+            known,
+            price_transit,
+            working,
+            x,
+        );
+    }
+    apply::total_step(
+        z,
+        grocer_owner,
         sharers,
-        prices,
-        totals,
-        &ofirst,
-        &onext,
-        &gfirst,
-        &gnext,
-        &tfirst,
-        &tnext,
-        known,
-        ptransit,
+        grocer_links,
         working,
-        ttransit,
+        total_transit,
         statement,
-        done,
-        sent,
-        choices,
-    );
-    rest(
-        boxes,
-        grocers,
-        offers,
-        tallies,
-        price,
-        owner,
-        gowner,
-        tgrocer,
-        tbox,
-        toffer,
-        tcount,
-        needs,
-        sharers,
-        prices,
-        totals,
-        &ofirst,
-        &onext,
-        &gfirst,
-        &gnext,
-        &tfirst,
-        &tnext,
-        known,
-        ptransit,
-        working,
-        ttransit,
-        statement,
-        done,
-        sent,
-        first,
+        x,
     )
+}
+
+// From a fresh state, whatever the tables held before, the first n steps of an order: offers, grocers and tallies are linked once.
+pub fn all_steps(
+    z: Sizes,
+    price: &[u32],
+    offer_owner: &[u16],
+    grocer_owner: &[u16],
+    tally_grocer: &[u16],
+    tally_box: &[u16],
+    tally_offer: &[u16],
+    tally_count: &[i32],
+    needs: &[u16; 500],
+    sharers: &[u16; 255],
+    order: &[u16; 1536],
+    n: usize,
+    known: &mut [u32],
+    price_transit: &mut [u32],
+    working: &mut [i64],
+    total_transit: &mut [i64],
+    statement: &mut [i64],
+) -> Sent
+    requires { ⌜ AllIn (jobTables (z .boxes) (z .grocers) (z .offers) (z .tallies) (now price) (now «offer_owner») (now «grocer_owner»)
+        (now «tally_grocer») (now «tally_box») (now «tally_offer») (now «tally_count»)) (withoutMarks (now known) (now «price_transit») (now working)
+        (now «total_transit») (now statement)) (now needs) (now sharers) (now order) n ⌝ }
+    ensures { λ r. ⌜ AllOut (jobOf (jobTables (z .boxes) (z .grocers) (z .offers) (z .tallies) (now (price .entry)) (now («offer_owner» .entry))
+        (now («grocer_owner» .entry)) (now («tally_grocer» .entry)) (now («tally_box» .entry)) (now («tally_offer» .entry))
+        (now («tally_count» .entry)))) (withoutMarks (now (known .entry)) (now («price_transit» .entry)) (now (working .entry))
+        (now («total_transit» .entry)) (now (statement .entry))) (withoutMarks (now (known .exit)) (now («price_transit» .exit)) (now (working .exit))
+        (now («total_transit» .exit)) (now (statement .exit))) (now (order .entry)) n (r .words) (r .messages) ⌝ }
+{
+    fresh::fresh_prices(z.boxes, z.offers, price, offer_owner, known, price_transit);
+    fresh::fresh_totals(z.boxes, z.grocers, working, total_transit, statement);
+    let mut offer_links = [0u16; 517];
+    let mut grocer_links = [0u16; 272];
+    let mut tally_links = [0u16; 1017];
+    links::link(z.offers as usize, offer_owner, &mut offer_links);
+    links::link(z.grocers as usize, grocer_owner, &mut grocer_links);
+    links::link(z.tallies as usize, tally_box, &mut tally_links);
+    let mut words: u32 = 0;
+    let mut messages: u32 = 0;
+    for i in 0..n {
+        let x = step_at(z.boxes, order[i]);
+        let more = one_step(
+            z,
+            offer_owner,
+            grocer_owner,
+            tally_grocer,
+            tally_box,
+            tally_offer,
+            tally_count,
+            needs,
+            sharers,
+            &offer_links,
+            &grocer_links,
+            &tally_links,
+            known,
+            price_transit,
+            working,
+            total_transit,
+            statement,
+            x,
+        );
+        words += more;
+        messages += sent_by(x.kind);
+    }
+    Sent {
+        words: words,
+        messages: messages,
+    }
 }
