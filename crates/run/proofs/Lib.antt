@@ -1,4 +1,6 @@
 -- The laws that the proofs of this crate cite.
-pub mod Loops
+pub mod Sends
+pub mod Way
+pub mod Turns
 pub mod Ends
 pub mod Words
