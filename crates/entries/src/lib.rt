@@ -3,7 +3,7 @@ ghost use mathlib.Core.Path.{_≡_};
 ghost use Prim.Native.Nat.{_≤_, _<_};
 ghost use lib.ListN.{take, length};
 ghost use Rattle.laws.specs.Tables.{recell};
-ghost use Rattle.model.specs.Tables.{jobTables};
+ghost use Rattle.model.specs.Lent.{jobLent};
 ghost use Rattle.format.specs.Tables.{fileTables, writeResult};
 ghost use Rattle.messages.specs.Answers.{said as saidMessages, tablesGiven};
 ghost use Rattle.tables.specs.Messages.{cellAt};
@@ -214,8 +214,7 @@ pub extern "C" fn entries_message_tables(
 ) -> u16
     ensures { λ r. ⌜ messagesTold r (now («price_words» .exit)) (now («total_words» .exit)) (now («job_words» .exit))
         ≡ messagesBy
-        (jobTables boxes grocers offers tallies (now (price .entry)) (now («offer_owner» .entry)) (now («grocer_owner» .entry))
-        (now («tally_grocer» .entry)) (now («tally_box» .entry)) (now («tally_offer» .entry)) (now («tally_count» .entry)))
+        (jobLent boxes grocers offers tallies price «offer_owner» «grocer_owner» «tally_grocer» «tally_box» «tally_offer» «tally_count»)
         (now («price_words» .entry)) (now («total_words» .entry)) (now («job_words» .entry)) ⌝ }
 {
     if (price_words.len() < 256) | (total_words.len() < 256) | (job_words.len() < 1) {
@@ -285,8 +284,7 @@ pub extern "C" fn entries_book(
     numbers: &mut [u16],
 ) -> u16
     ensures { λ r. ⌜ BookedBy
-        (jobTables boxes grocers offers tallies (now (price .entry)) (now («offer_owner» .entry)) (now («grocer_owner» .entry))
-        (now («tally_grocer» .entry)) (now («tally_box» .entry)) (now («tally_offer» .entry)) (now («tally_count» .entry)))
+        (jobLent boxes grocers offers tallies price «offer_owner» «grocer_owner» «tally_grocer» «tally_box» «tally_offer» «tally_count»)
         «book_box»
         (bookTables (now («local_offers» .entry)) (now («local_grocers» .entry)) (now (starts .entry)) (now («packed_grocers» .entry))
         (now («packed_counts» .entry)))

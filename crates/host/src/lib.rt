@@ -2,7 +2,8 @@
 ghost use mathlib.Core.Path.{_≡_};
 ghost use Prim.Native.Nat.{_≤_};
 ghost use lib.ListN.{length};
-ghost use Rattle.model.specs.Tables.{jobTables, StateTables, stateTables};
+ghost use Rattle.model.specs.Tables.{StateTables};
+ghost use Rattle.model.specs.Lent.{jobLent, stateBefore, stateAfter};
 ghost use Rattle.model.specs.Step.{asked};
 ghost use Rattle.format.specs.Tables.{fileTables, ReaderTables, readerTables};
 ghost use Rattle.reader.specs.Answer.{answerOf as readAnswer};
@@ -130,13 +131,10 @@ pub extern "C" fn settlement_step(
     second: u16,
 ) -> u16
     ensures { λ r. ⌜ hostStep r
-        (stateTables (now (known .exit)) (now (ptransit .exit)) (now (working .exit)) (now (ttransit .exit)) (now (statement .exit))
-        (now (done .exit)) (now (sent .exit)))
+        (stateAfter known ptransit working ttransit statement done sent)
         ≡ steppedByHost
-        (jobTables boxes grocers offers tallies (now (price .entry)) (now (owner .entry)) (now (gowner .entry)) (now (tgrocer .entry))
-        (now (tbox .entry)) (now (toffer .entry)) (now (tcount .entry)))
-        (stateTables (now (known .entry)) (now (ptransit .entry)) (now (working .entry)) (now (ttransit .entry)) (now (statement .entry))
-        (now (done .entry)) (now (sent .entry)))
+        (jobLent boxes grocers offers tallies price owner gowner tgrocer tbox toffer tcount)
+        (stateBefore known ptransit working ttransit statement done sent)
         (asked kind first second) ⌝ }
 {
     let a = step::step(
@@ -190,14 +188,11 @@ pub extern "C" fn settlement_run(
     report: &mut [u32],
 ) -> u16
     ensures { λ r. ⌜ hostRun r
-        (stateTables (now (known .exit)) (now (ptransit .exit)) (now (working .exit)) (now (ttransit .exit)) (now (statement .exit))
-        (now (done .exit)) (now (sent .exit)))
+        (stateAfter known ptransit working ttransit statement done sent)
         (now (report .exit))
         ≡ ranByHost
-        (jobTables boxes grocers offers tallies (now (price .entry)) (now (owner .entry)) (now (gowner .entry)) (now (tgrocer .entry))
-        (now (tbox .entry)) (now (toffer .entry)) (now (tcount .entry)))
-        (stateTables (now (known .entry)) (now (ptransit .entry)) (now (working .entry)) (now (ttransit .entry)) (now (statement .entry))
-        (now (done .entry)) (now (sent .entry)))
+        (jobLent boxes grocers offers tallies price owner gowner tgrocer tbox toffer tcount)
+        (stateBefore known ptransit working ttransit statement done sent)
         (now (choices .entry))
         (now (report .entry)) ⌝ }
 {

@@ -5,11 +5,11 @@ use mathlib.Core.Bool.{cond, _&&_}
 use Prim.Native.Nat.{ℕ, zero, suc, _+_, _-_, _*_, _/_, _%_, _<_, _≤_}
 use native.Mathlib.Nat.{div-add-mod', mod-lt, div-lt-iff-lt-mul, mul-le-mul-right, add-mul, one-mul}
 use native.Mathlib.Omega.{arith}
-use lib.ListN.{length, getD, set, take, drop, length-append, length-drop, length-take, List·getD-append}
-use lib.Seq.{ext-getD, getD-append-add, getD-take, getD-drop, drop-at}
+use lib.ListN.{length, getD, set, take, drop, length-append, length-drop, length-take, length-set, List·getD-append}
+use lib.Seq.{ext-getD, getD-append-add, getD-set-same, getD-set-other, getD-take, getD-drop, drop-at, drop-set-lt}
 use lib.Arith.{digits-div, digits-mod}
-use lib.Dec.{ltb}
-use borrow.Author.Tests.{lt-ltb, le-ltb, ltb-true, ltb-false}
+use lib.Dec.{eqb, ltb}
+use borrow.Author.Tests.{eqb-true, eqb-false, lt-ltb, le-ltb, ltb-true, ltb-false}
 use Rattle.laws.specs.Tables.{tabulate, overwrite, word, cell, recell}
 use Rattle.laws.proofs.Bools.{split, and-l, and-r}
 
@@ -218,3 +218,25 @@ module _ {A : Type 0} where
       split (ltb n m)
       (λ e. let k : n < m = ltb-true n m e in lt-ltb (length (take n l)) m (rw (length-take n l) (omega arith)) ∙ sym e)
       (λ e. let k : m ≤ n = ltb-false n m e in le-ltb (length (take n l)) m (rw (length-take n l) (omega arith)) ∙ sym e)
+
+-- ---- A table written word by word from the front
+
+module _ {A : Type 0} (z : A) where
+  pub overwrite-none : (f : ℕ → A) (l : List A) → overwrite 0 f l ≡ l
+  unfolding overwrite tabulate
+  overwrite-none f l = refl
+
+  -- One word more.
+  pub overwrite-next : (n : ℕ) (f : ℕ → A) (l : List A) → n < length l → set (overwrite n f l) n (f n) ≡ overwrite (n + 1) f l
+  overwrite-next n f l h =
+      is-overwrite (n + 1) f l (set (overwrite n f l) n (f n)) z (omega arith)
+      (length-set (overwrite n f l) n (f n) ∙ length-overwrite n f l (omega arith))
+      (λ i k. split (eqb i n)
+      (λ q. rw (eqb-true i n q) (getD-set-same (overwrite n f l) n (f n) z (rw (length-overwrite n f l (omega arith)) h)))
+      (λ q. let ne : i ≡ n → ⊥ = eqb-false i n q in getD-set-other (overwrite n f l) n i (f n) z ne ∙ getD-overwrite n f l i z (omega arith)))
+      (λ i k. getD-set-other (overwrite n f l) n i (f n) z (λ e. omega arith) ∙ getD-past n f l i z (omega arith))
+
+  -- A word that is written anew anyway.
+  pub overwrite-set : (n : ℕ) (f : ℕ → A) (l : List A) (i : ℕ) (v : A) → i < n → overwrite n f (set l i v) ≡ overwrite n f l
+  unfolding overwrite
+  overwrite-set n f l i v h = ap (λ (r : List A). tabulate n f ++ r) (drop-set-lt n l i v h)

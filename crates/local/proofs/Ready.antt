@@ -1,5 +1,5 @@
 -- The refusals of the local book, and what an accepted call gives the functions below it. Assumes nothing.
-use mathlib.Core.Path.{_≡_, refl, sym, ap, _∙_}
+use mathlib.Core.Path.{_≡_, refl, ap, _∙_}
 use mathlib.Core.Bool.{Bool, true, false, cond, _||_, not}
 use mathlib.Core.List.{List, [], _∷_}
 use Prim.Native.Nat.{ℕ, suc, _<_, _≤_}
@@ -15,7 +15,6 @@ use Rattle.model.specs.Ranges.{jobInRange}
 use Rattle.model.specs.Local.{BookLengths, bookShort, bookRefusals}
 use Rattle.local.specs.Sort.{at, inFront}
 use Rattle.local.specs.Lists.{localList, heldOf, TalliesIn, OwnersIn, PlacesIn}
-use Rattle.local.specs.Book.{bookSizes}
 use Rattle.model.proofs.Step.{range, limits}
 use Rattle.tables.proofs.Whole.{JobWhole, job-whole}
 use Rattle.local.proofs.Packing.{at-front}
@@ -23,22 +22,13 @@ use Rattle.local.proofs.Modelled.{list-le, list-in}
 
 -- ---- The first condition that is met
 
-module _ (f : JobTables) (n : BookLengths) (b : ℕ) (s u i : Bool) (es : s ≡ jobShort f (jobLengths f)) (eu : u ≡ bookShort (bookSizes (f .grocers) (f .offers) (f .tallies)) n) where
+module _ (f : JobTables) (n : BookLengths) (b : ℕ) (s u i : Bool) (es : s ≡ jobShort f (jobLengths f)) (eu : u ≡ bookShort f n) where
   short-is : (jobShort f (jobLengths f) || bookShort f n) ≡ (s || u)
-  unfolding bookShort
   short-is = rw (es, eu)
 
   pub met-20 : (s || u) ≡ true → 20 ≡ firstMet (bookRefusals f n b)
   unfolding firstMet bookRefusals
   met-20 h = rw (short-is, h)
-
-  -- Where no table is short.
-  pub not-20 : (s || u) ≡ false → jobShort f (jobLengths f) ≡ false
-  not-20 h = sym es ∙ first s u h
-    where
-      first : (s u : Bool) → (s || u) ≡ false → s ≡ false
-      first true u h = h
-      first false u h = refl
 
   module _ (h : (s || u) ≡ false) (ei : i ≡ jobInRange f) where
     pub met-21 : not i ≡ true → 21 ≡ firstMet (bookRefusals f n b)

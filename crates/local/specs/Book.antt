@@ -4,9 +4,11 @@ use mathlib.Core.List.{List, []}
 use Prim.Native.Nat.{ℕ, zero, suc}
 use lib.ListN.{length, drop}
 use lib.IntN.{ℤ}
+use denote.Ref.{now}
 use Rattle.laws.specs.Checks.{firstMet}
 use Rattle.model.specs.Job.{Job}
 use Rattle.model.specs.Tables.{JobTables, jobTables, jobOf}
+use Rattle.model.specs.Lent.{Words, SignedWords}
 use Rattle.model.specs.Local.{localOffers, localGrocers, start, starts, Packed, BookLengths, bookRefusals}
 use Rattle.local.specs.Sort.{inFront}
 use Rattle.local.specs.declared.book.Answer.{Answer}
@@ -44,6 +46,16 @@ bookTables offers grocers starts packedGrocers packedCounts = record {
   packedGrocers = packedGrocers;
   packedCounts = packedCounts;
 }
+
+-- What they hold when the call begins,
+abbrev pub bookBefore : (offers grocers starts packedGrocers : Words) (packedCounts : SignedWords) → BookTables
+bookBefore offers grocers starts packedGrocers packedCounts =
+    bookTables (now (offers .entry)) (now (grocers .entry)) (now (starts .entry)) (now (packedGrocers .entry)) (now (packedCounts .entry))
+
+-- and when it ends.
+abbrev pub bookAfter : (offers grocers starts packedGrocers : Words) (packedCounts : SignedWords) → BookTables
+bookAfter offers grocers starts packedGrocers packedCounts =
+    bookTables (now (offers .exit)) (now (grocers .exit)) (now (starts .exit)) (now (packedGrocers .exit)) (now (packedCounts .exit))
 
 -- M, N and T alone.
 abbrev pub bookSizes : ℕ → ℕ → ℕ → JobTables

@@ -1,9 +1,9 @@
 // The local book of a box: the public call.
 ghost use mathlib.Core.Path.{_≡_};
 ghost use Rattle.laws.specs.Checks.{firstMet};
-ghost use Rattle.model.specs.Tables.{jobTables};
-ghost use Rattle.model.specs.Local.{bookShort, bookRefusals};
-ghost use Rattle.local.specs.Book.{bookTables, lengths, bookSizes, Booked};
+ghost use Rattle.model.specs.Lent.{jobLent};
+ghost use Rattle.model.specs.Local.{BookLengths, bookShort, bookRefusals};
+ghost use Rattle.local.specs.Book.{bookBefore, bookAfter, lengths, bookSizes, Booked};
 use crate::lists::list;
 use crate::pack::pack;
 
@@ -22,57 +22,60 @@ fn book_short(
     grocers: u16,
     offers: u16,
     tallies: u16,
-    lo: usize,
-    lg: usize,
-    ls: usize,
-    pg: usize,
-    pc: usize,
+    local_offers: usize,
+    local_grocers: usize,
+    starts: usize,
+    packed_grocers: usize,
+    packed_counts: usize,
 ) -> bool
-    ensures { λ r. ⌜ r ≡ bookShort (bookSizes grocers offers tallies) (lengths lo lg ls pg pc) ⌝ }
+    ensures { λ r. ⌜ r ≡ bookShort (bookSizes grocers offers tallies)
+        (lengths «local_offers» «local_grocers» starts «packed_grocers» «packed_counts») ⌝ }
 {
     let m = grocers as usize;
     let n = offers as usize;
     let t = tallies as usize;
-    (lo < n) | (lg < m) | (ls < n + 1) | (pg < t) | (pc < t)
+    (local_offers < n)
+        | (local_grocers < m)
+        | (starts < n + 1)
+        | (packed_grocers < t)
+        | (packed_counts < t)
 }
 
-// The number of the first condition that is met, 20, 21 or 23, or 0.
+// The number of the first condition that is met, 20, 21 or 23, or 0; `short` says whether a table of the book is short.
 fn refusal(
     boxes: u16,
     grocers: u16,
     offers: u16,
     tallies: u16,
     price: &[u32],
-    owner: &[u16],
-    gowner: &[u16],
-    tgrocer: &[u16],
-    tbox: &[u16],
-    toffer: &[u16],
-    tcount: &[i32],
+    offer_owner: &[u16],
+    grocer_owner: &[u16],
+    tally_grocer: &[u16],
+    tally_box: &[u16],
+    tally_offer: &[u16],
+    tally_count: &[i32],
     b: u16,
-    lo: usize,
-    lg: usize,
-    ls: usize,
-    pg: usize,
-    pc: usize,
+    short: bool,
 ) -> u16
-    ensures { λ r. ⌜ r ≡ firstMet (bookRefusals (jobTables boxes grocers offers tallies (now (price .entry)) (now (owner .entry)) (now (gowner .entry))
-        (now (tgrocer .entry)) (now (tbox .entry)) (now (toffer .entry)) (now (tcount .entry))) (lengths lo lg ls pg pc) b) ⌝ }
+    ensures { λ r. ⌜ ((n : BookLengths) →
+        short ≡ bookShort (jobLent boxes grocers offers tallies price «offer_owner» «grocer_owner» «tally_grocer» «tally_box» «tally_offer» «tally_count») n →
+        r ≡ firstMet (bookRefusals
+        (jobLent boxes grocers offers tallies price «offer_owner» «grocer_owner» «tally_grocer» «tally_box» «tally_offer» «tally_count») n b)) ⌝ }
 {
-    let short = tables::checks::job_short(
+    let lent_short = tables::checks::job_short(
         boxes,
         grocers,
         offers,
         tallies,
         price,
-        owner,
-        gowner,
-        tgrocer,
-        tbox,
-        toffer,
-        tcount,
+        offer_owner,
+        grocer_owner,
+        tally_grocer,
+        tally_box,
+        tally_offer,
+        tally_count,
     );
-    if short | book_short(grocers, offers, tallies, lo, lg, ls, pg, pc) {
+    if lent_short | short {
         return 20;
     }
     if !tables::checks::job_in_range(
@@ -81,12 +84,12 @@ fn refusal(
         offers,
         tallies,
         price,
-        owner,
-        gowner,
-        tgrocer,
-        tbox,
-        toffer,
-        tcount,
+        offer_owner,
+        grocer_owner,
+        tally_grocer,
+        tally_box,
+        tally_offer,
+        tally_count,
     ) {
         return 21;
     }
@@ -104,72 +107,86 @@ pub fn book(
     offers: u16,
     tallies: u16,
     price: &[u32],
-    owner: &[u16],
-    gowner: &[u16],
-    tgrocer: &[u16],
-    tbox: &[u16],
-    toffer: &[u16],
-    tcount: &[i32],
+    offer_owner: &[u16],
+    grocer_owner: &[u16],
+    tally_grocer: &[u16],
+    tally_box: &[u16],
+    tally_offer: &[u16],
+    tally_count: &[i32],
     b: u16,
-    loffers: &mut [u16],
-    lgrocers: &mut [u16],
+    local_offers: &mut [u16],
+    local_grocers: &mut [u16],
     starts: &mut [u16],
-    pgrocers: &mut [u16],
-    pcounts: &mut [i32],
+    packed_grocers: &mut [u16],
+    packed_counts: &mut [i32],
 ) -> Answer
-    ensures { λ r. ⌜ Booked (jobTables boxes grocers offers tallies (now (price .entry)) (now (owner .entry)) (now (gowner .entry))
-        (now (tgrocer .entry)) (now (tbox .entry)) (now (toffer .entry)) (now (tcount .entry))) b
-        (bookTables (now (loffers .entry)) (now (lgrocers .entry)) (now (starts .entry)) (now (pgrocers .entry)) (now (pcounts .entry))) r
-        (bookTables (now (loffers .exit)) (now (lgrocers .exit)) (now (starts .exit)) (now (pgrocers .exit)) (now (pcounts .exit))) ⌝ }
+    ensures { λ r. ⌜ Booked (jobLent boxes grocers offers tallies price «offer_owner» «grocer_owner» «tally_grocer» «tally_box» «tally_offer» «tally_count») b
+        (bookBefore «local_offers» «local_grocers» starts «packed_grocers» «packed_counts») r
+        (bookAfter «local_offers» «local_grocers» starts «packed_grocers» «packed_counts») ⌝ }
 {
+    let short = book_short(
+        grocers,
+        offers,
+        tallies,
+        local_offers.len(),
+        local_grocers.len(),
+        starts.len(),
+        packed_grocers.len(),
+        packed_counts.len(),
+    );
     let r = refusal(
         boxes,
         grocers,
         offers,
         tallies,
         price,
-        owner,
-        gowner,
-        tgrocer,
-        tbox,
-        toffer,
-        tcount,
+        offer_owner,
+        grocer_owner,
+        tally_grocer,
+        tally_box,
+        tally_offer,
+        tally_count,
         b,
-        loffers.len(),
-        lgrocers.len(),
-        starts.len(),
-        pgrocers.len(),
-        pcounts.len(),
+        short,
     );
     if r != 0 {
         return Answer::Refused(r);
     }
     let t = tallies as usize;
-    let l = list(owner, offers as usize, toffer, tbox, t, boxes, b, loffers);
-    let g = list(
-        gowner,
-        grocers as usize,
-        tgrocer,
-        tbox,
+    let l = list(
+        offer_owner,
+        offers as usize,
+        tally_offer,
+        tally_box,
         t,
         boxes,
         b,
-        lgrocers,
+        local_offers,
+    );
+    let g = list(
+        grocer_owner,
+        grocers as usize,
+        tally_grocer,
+        tally_box,
+        t,
+        boxes,
+        b,
+        local_grocers,
     );
     let n = pack(
-        tgrocer,
-        tbox,
-        toffer,
-        tcount,
+        tally_grocer,
+        tally_box,
+        tally_offer,
+        tally_count,
         t,
         b,
-        loffers,
+        local_offers,
         l,
-        lgrocers,
+        local_grocers,
         g,
         starts,
-        pgrocers,
-        pcounts,
+        packed_grocers,
+        packed_counts,
     );
     Answer::Book {
         offers: l,

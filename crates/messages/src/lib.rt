@@ -1,7 +1,7 @@
 // The public call that makes the tables of messages of a job, and the sums over them.
 ghost use mathlib.Core.Path.{_≡_};
 ghost use Rattle.laws.specs.Checks.{firstMet};
-ghost use Rattle.model.specs.Tables.{jobTables};
+ghost use Rattle.model.specs.Lent.{jobLent};
 ghost use Rattle.messages.specs.Refusals.{jobRefusals};
 ghost use Rattle.messages.specs.Answers.{said, tablesGiven, messageTables};
 use tables::checks::job_in_range;
@@ -34,8 +34,8 @@ fn job_refusal(
     tally_offer: &[u16],
     tally_count: &[i32],
 ) -> u16
-    ensures { λ r. ⌜ r ≡ firstMet (jobRefusals (jobTables boxes grocers offers tallies (now (price .entry)) (now («offer_owner» .entry)) (now («grocer_owner» .entry))
-        (now («tally_grocer» .entry)) (now («tally_box» .entry)) (now («tally_offer» .entry)) (now («tally_count» .entry)))) ⌝ }
+    ensures { λ r. ⌜ r ≡ firstMet (jobRefusals
+        (jobLent boxes grocers offers tallies price «offer_owner» «grocer_owner» «tally_grocer» «tally_box» «tally_offer» «tally_count»)) ⌝ }
 {
     if job_short(
         boxes,
@@ -89,8 +89,7 @@ pub fn message_tables(
     totals: &mut [[u16; 16]; 16],
 ) -> Answer
     ensures { λ r. ⌜ tablesGiven (said r) (now (prices .exit)) (now (totals .exit))
-        ≡ messageTables (jobTables boxes grocers offers tallies (now (price .entry)) (now («offer_owner» .entry)) (now («grocer_owner» .entry))
-        (now («tally_grocer» .entry)) (now («tally_box» .entry)) (now («tally_offer» .entry)) (now («tally_count» .entry)))
+        ≡ messageTables (jobLent boxes grocers offers tallies price «offer_owner» «grocer_owner» «tally_grocer» «tally_box» «tally_offer» «tally_count»)
         (now (prices .entry)) (now (totals .entry)) ⌝ }
 {
     let r = job_refusal(

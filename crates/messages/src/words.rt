@@ -39,7 +39,8 @@ pub fn word_total(
 ) -> u32
     requires { ⌜ Owned offers (now «offer_owner») (now needs) ⌝ }
     requires { ⌜ Owned grocers (now «grocer_owner») (now sharers) ⌝ }
-    ensures { λ r. ⌜ r ≡ othersSum offers (now («offer_owner» .entry)) (now (needs .entry)) + othersSum grocers (now («grocer_owner» .entry)) (now (sharers .entry)) ⌝ }
+    ensures { λ r. ⌜ r ≡ othersSum offers (now («offer_owner» .entry)) (now (needs .entry))
+        + othersSum grocers (now («grocer_owner» .entry)) (now (sharers .entry)) ⌝ }
 {
     others_sum(offers, offer_owner, needs) + others_sum(grocers, grocer_owner, sharers)
 }

@@ -9,18 +9,8 @@ use Rattle.laws.proofs.Tables.{pos-right}
 use Rattle.model.specs.Job.{Job}
 use Rattle.model.specs.Run.{listed}
 use Rattle.model.specs.Steps.{Kind, kindNumber, kindOf, Steps, mark, hasStep, multiplied, ready, permitted, sendPrices, multiplyOwn, receivePrices, sendTotals, addOwn, receiveTotals, stepAt, places}
+pub use Rattle.model.proofs.Machine.{number-place}
 use Rattle.model.proofs.Reach.{mark-more, mark-it}
-
--- Numbers of kinds by place.
-pub number-place : (n : ℕ) → n < 6 → kindNumber (kindOf (suc n)) ≡ suc n
-unfolding kindNumber kindOf
-number-place zero h = refl
-number-place (suc zero) h = refl
-number-place (suc (suc zero)) h = refl
-number-place (suc (suc (suc zero))) h = refl
-number-place (suc (suc (suc (suc zero)))) h = refl
-number-place (suc (suc (suc (suc (suc zero))))) h = refl
-number-place (suc (suc (suc (suc (suc (suc n)))))) h = absurd (omega arith)
 
 -- A number from 1 to 6 is that of its kind.
 pub number-kind : (n : ℕ) → 1 ≤ n → n ≤ 6 → kindNumber (kindOf n) ≡ n

@@ -33,8 +33,8 @@ use Rattle.model.proofs.Served.{allowed, within, view-is, next, one-ans
 use Rattle.model.proofs.Words.{end-sent}
 use Rattle.model.proofs.EachWord.{each-word, one-price, one-total}
 use Rattle.model.proofs.Refusal.{accepted-zero, rules-zero}
-use Rattle.model.proofs.Reach.{sound-fresh, kind-back, effect-done}
-use Rattle.model.proofs.Machine.{permits, attempt, attemptAll, taken, reached, doneOf, size}
+use Rattle.model.proofs.Reach.{sound-fresh, effect-done}
+use Rattle.model.proofs.Machine.{kind-back, permits, attempt, attemptAll, taken, reached, doneOf, size}
 
 -- The steps that a list of requests asks for: those whose kind is one and that lend enough.
 unfoldable pub asks : JobTables → List Request → List Step

@@ -1,32 +1,28 @@
 -- When all steps are done: the plainSum sums, nothing under way, and the words of the owner tables. Assumes nothing.
-use mathlib.Core.Path.{_≡_, sym, _∙_}
+use mathlib.Core.Path.{_≡_, _∙_}
 use mathlib.Core.Bool.{true, false}
 use Prim.Native.Nat.{ℕ, _<_}
 use lib.Dec.{eqb, ltb}
 use lib.IntN.{pos}
 use borrow.Author.Tests.{lt-ltb}
 use Rattle.laws.specs.Below.{integers, only}
-use Rattle.laws.proofs.Bools.{split, and-false, no-true, clash, eqb-same, and-one, cond-same, not-both, and-swap}
+use Rattle.laws.proofs.Bools.{split, and-false, eqb-same, and-one, cond-same, not-both, and-swap}
 use Rattle.laws.proofs.Below.{any-at}
 use Rattle.laws.proofs.Sums.{sum-cong}
 use Rattle.model.specs.Job.{Job, shares, totalWord, pricesDue, totalsDue, plainSum}
-use Rattle.model.specs.Steps.{Kind, sendPrices, receivePrices, sendTotals, addOwn, receiveTotals, Steps, fits, hasStep, added}
+use Rattle.model.specs.Steps.{sendPrices, receivePrices, sendTotals, addOwn, receiveTotals, Steps, fits, hasStep, added}
 use Rattle.model.specs.Demand3.{AllDone}
 use Rattle.model.proofs.Range.{InRange}
 use Rattle.model.specs.Boxes.{priceOnWay, gone, arrived, partOf, paid, stateByRules, Closed}
+use Rattle.model.proofs.Marks as M
+use Rattle.model.proofs.Reach.{rules, closedBy}
 use Rattle.model.proofs.Parts.{part-none}
 use Rattle.model.proofs.Running.{by-box}
 
 -- A finished set is the job's steps.
 pub all-steps : (j : Job) (d : Steps) → Closed j d → AllDone j d → d ≡ hasStep j
 unfolding AllDone
-all-steps j d c f = λ i k a b. same k a b i
-  where
-    same : (k : Kind) (a b : ℕ) → d k a b ≡ hasStep j k a b
-    same k a b =
-        split (hasStep j k a b)
-        (λ e. f k a b e ∙ sym e)
-        (λ e. no-true (d k a b) (λ q. clash (c .steps k a b q) e) ∙ sym e)
+all-steps j d c f = M.all-steps (rules j) d (closedBy j d c) f
 
 module _ (j : Job) where
   pub prices-turn : (a b : ℕ) → hasStep j receivePrices a b ≡ hasStep j sendPrices b a

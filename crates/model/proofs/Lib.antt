@@ -1,5 +1,6 @@
 -- The theory of demand 3.
 pub mod Range
+pub mod Marks
 pub mod Machine
 pub mod Prices
 pub mod Parts

@@ -1,7 +1,6 @@
 -- The list of ready steps by places: how many it has, and which a choice picks; and the steps of a set, counted. Assumes nothing.
 use mathlib.Core.Path.{_≡_, ap, _∙_}
 use Prim.Native.Nat.{ℕ, suc, _+_, _-_, _*_, _%_}
-use native.Mathlib.Omega.{arith}
 use lib.Arith.{digits-div, digits-mod}
 use lib.ListN.{length, length-map}
 use Rattle.laws.specs.Below.{naturals, sum, only, count, ascending, nth}
@@ -11,6 +10,7 @@ use Rattle.model.specs.Job.{Job}
 use Rattle.model.specs.Steps.{kindOf, Steps, stepAt, places, atPlace, listOf, hasStep, permitted}
 use Rattle.model.specs.Words.{StepsCounted}
 use Rattle.model.specs.Run.{readySteps, listed, readyCount, pick}
+use Rattle.model.proofs.Marks as M
 use Rattle.model.proofs.Machine.{sizeOf, size}
 use Rattle.model.proofs.Counting.{steps-number}
 
@@ -34,20 +34,19 @@ module _ (j : Job) (d : Steps) where
 -- The places of one kind are K rows of K.
 module _ (j : Job) (d : Steps) where
   kind-places : (n : ℕ) → sum naturals (j .boxes) (λ a. sum naturals (j .boxes) (λ b. only naturals (atPlace (j .boxes) d ((n * j .boxes + a) * j .boxes + b)) 1)) ≡ sizeOf j d (kindOf (suc n))
-  unfolding stepAt sizeOf count
+  unfolding stepAt M.sizeOf count
   kind-places n =
       sum-cong naturals (j .boxes) _ _ (λ a la. sum-cong naturals (j .boxes) _ _ (λ b lb.
       rw (digits-div (n * j .boxes + a) lb, digits-mod (n * j .boxes + a) lb, digits-div n la, digits-mod n la)))
 
   -- A set has as many steps as its list.
   pub list-size : length (listOf (j .boxes) d) ≡ size j d
-  unfolding count size sum naturals kindOf
+  unfolding count M.size
   list-size =
       list-length (j .boxes) d
       ∙ sum-digits naturals (6 * j .boxes) (j .boxes) (λ i. only naturals (atPlace (j .boxes) d i) 1)
       ∙ sum-digits naturals 6 (j .boxes) (λ r. sum naturals (j .boxes) (λ b. only naturals (atPlace (j .boxes) d (r * j .boxes + b)) 1))
       ∙ sum-cong naturals 6 _ (λ n. sizeOf j d (kindOf (suc n))) (λ n l. kind-places n)
-      ∙ omega arith
 
 -- The steps the job has are 2 × K + 2 × (messages).
 pub steps-counted : (j : Job) → StepsCounted j

@@ -1,52 +1,26 @@
 -- Every state that a list of requests leaves has the closed form. Assumes nothing.
-use mathlib.Core.Path.{_≡_, refl, sym, ap, _∙_}
-use mathlib.Core.Bool.{true, false, _&&_, _||_, not, false≢true}
+use mathlib.Core.Path.{_≡_, refl}
+use mathlib.Core.Bool.{true, false, _||_, not}
 use mathlib.Core.List.{List, [], _∷_}
 use Prim.Native.Nat.{ℕ}
-use lib.Dec.{eqb}
-use borrow.Author.Tests.{eqb-true}
-use Rattle.laws.proofs.Bools.{split, and-true, and-l, and-r, or-true, eqb-same, or-more}
+use Rattle.laws.proofs.Bools.{split, and-true, and-l, and-r, or-more}
 use Rattle.laws.proofs.Below.{all-at, all-of}
 use Rattle.model.specs.Job.{Job}
-use Rattle.model.specs.Steps.{Kind, sendPrices, multiplyOwn, receivePrices, sendTotals, addOwn, receiveTotals, kindNumber, kindOf, Steps, mark, State, hasStep, multiplied, ready, fresh, effect, Step}
+use Rattle.model.specs.Steps.{Kind, sendPrices, multiplyOwn, receivePrices, sendTotals, addOwn, receiveTotals, Steps, mark, State, hasStep, multiplied, ready, fresh, effect, Step}
 use Rattle.model.proofs.Range.{InRange}
 use Rattle.model.specs.Boxes.{stateByRules, Closed, Sound}
-use Rattle.model.proofs.Machine.{attempt, attemptAll, permits}
+use Rattle.model.proofs.Marks as M
+use Rattle.model.proofs.Machine.{kinds, attempt, attemptAll, permits}
 use Rattle.model.proofs.Core.{fresh-form, Permit, permit, step-form}
 
--- A kind is told by its number.
-pub kind-back : (k : Kind) → kindOf (kindNumber k) ≡ k
-unfolding kindOf kindNumber
-kind-back sendPrices = refl
-kind-back multiplyOwn = refl
-kind-back receivePrices = refl
-kind-back sendTotals = refl
-kind-back addOwn = refl
-kind-back receiveTotals = refl
-
-pub number-one : (k k′ : Kind) → kindNumber k ≡ kindNumber k′ → k ≡ k′
-number-one k k′ e = sym (kind-back k) ∙ ap kindOf e ∙ kind-back k′
-
 module _ (d : Steps) (k : Kind) (a b : ℕ) where
-  -- A step of the larger set is the new one, or was there.
-  pub mark-cases : (Q : Kind → ℕ → ℕ → Type 0) (k′ : Kind) (a′ b′ : ℕ) → Q k a b → (d k′ a′ b′ ≡ true → Q k′ a′ b′) → mark d k a b k′ a′ b′ ≡ true → Q k′ a′ b′
-  unfolding mark
-  mark-cases Q k′ a′ b′ new old =
-      split (eqb (kindNumber k′) (kindNumber k) && (eqb a′ a && eqb b′ b))
-      (λ e h. rw (
-        number-one k′ k (eqb-true (kindNumber k′) (kindNumber k) (and-l (eqb (kindNumber k′) (kindNumber k)) _ e)),
-        eqb-true a′ a (and-l (eqb a′ a) _ (and-r (eqb (kindNumber k′) (kindNumber k)) _ e)),
-        eqb-true b′ b (and-r (eqb a′ a) _ (and-r (eqb (kindNumber k′) (kindNumber k)) _ e)),
-      ) new)
-      (λ e h. old (rw e at h))
-
   pub mark-more : (k′ : Kind) (a′ b′ : ℕ) → d k′ a′ b′ ≡ true → mark d k a b k′ a′ b′ ≡ true
   unfolding mark
-  mark-more k′ a′ b′ h = rw h (or-true (eqb (kindNumber k′) (kindNumber k) && (eqb a′ a && eqb b′ b)))
+  mark-more = M.mark-more kinds d k a b
 
   pub mark-it : mark d k a b k a b ≡ true
   unfolding mark
-  mark-it = simp eqb-same
+  mark-it = M.mark-it kinds d k a b
 
 -- More done makes no step unready.
 module _ (j : Job) (d e : Steps) (more : (k : Kind) (a b : ℕ) → d k a b ≡ true → e k a b ≡ true) where
@@ -67,15 +41,19 @@ module _ (j : Job) (d e : Steps) (more : (k : Kind) (a b : ℕ) → d k a b ≡ 
   ready-more addOwn a b h = multiplied-more a h
   ready-more receiveTotals a b h = more sendTotals b a h
 
+-- The settlement's steps as a machine.
+abbrev pub rules : Job → M.Rules kinds
+rules j = record { has = hasStep j; ready = ready j; more = ready-more j }
+
+abbrev pub closedBy : (j : Job) (d : Steps) → Closed j d → M.Closed (rules j) d
+closedBy j d c = record { steps = c .steps; inOrder = c .inOrder }
+
 pub closed-none : (j : Job) → Closed j (λ k a b. false)
-closed-none j = record { steps = λ k a b h. absurd (false≢true h); inOrder = λ k a b h. absurd (false≢true h) }
+closed-none j = let c = M.closed-none (rules j) in record { steps = c .steps; inOrder = c .inOrder }
 
 pub closed-mark : (j : Job) (d : Steps) (k : Kind) (a b : ℕ) → Closed j d → Permit j d k a b → Closed j (mark d k a b)
-closed-mark j d k a b c p = record {
-  steps = λ k′ a′ b′. mark-cases d k a b (λ k a b. hasStep j k a b ≡ true) k′ a′ b′ (p .has) (c .steps k′ a′ b′);
-  inOrder = λ k′ a′ b′ h. ready-more j d (mark d k a b) (mark-more d k a b) k′ a′ b′
-      (mark-cases d k a b (λ k a b. ready j d k a b ≡ true) k′ a′ b′ (p .is-ready) (c .inOrder k′ a′ b′) h);
-}
+unfolding mark
+closed-mark j d k a b c p = let z = M.closed-mark (rules j) d k a b (closedBy j d c) (p .has) (p .is-ready) in record { steps = z .steps; inOrder = z .inOrder }
 
 pub effect-done : (j : Job) (s : State) (k : Kind) (a b : ℕ) → effect j s k a b .done ≡ mark (s .done) k a b
 unfolding effect
@@ -91,9 +69,21 @@ unfolding fresh
 sound-fresh j = record { form = fresh-form j; closed = closed-none j }
 
 module _ (j : Job) (r : InRange j) where
+  marks-one : (s : State) (k : Kind) (a b : ℕ) → effect j s k a b .done ≡ M.marked kinds (s .done) k a b
+  unfolding mark
+  marks-one = effect-done j
+
+  one-form : (d : Steps) → M.Closed (rules j) d → (k : Kind) (a b : ℕ) → hasStep j k a b ≡ true → d k a b ≡ false → ready j d k a b ≡ true →
+      effect j (stateByRules j d) k a b ≡ stateByRules j (M.marked kinds d k a b)
+  unfolding mark
+  one-form d c k a b has new ready = step-form j r d (record { steps = c .steps; inOrder = c .inOrder }) k a b (record { has = has; fresh-one = new; is-ready = ready })
+
+  abbrev form : M.Form (rules j) State
+  form = record { done = λ s. s .done; effect = effect j; effect-done = marks-one; stateOf = stateByRules j; step-form = one-form }
+
   pub sound-effect : (s : State) (k : Kind) (a b : ℕ) → Sound j s → Permit j (s .done) k a b → Sound j (effect j s k a b)
   sound-effect s k a b o p = record {
-    form = ap (λ (t : State). effect j t k a b) (o .form) ∙ step-form j r (s .done) (o .closed) k a b p ∙ ap (stateByRules j) (sym (effect-done j s k a b));
+    form = M.form-effect form s (o .form) (closedBy j (s .done) (o .closed)) k a b (p .has) (p .fresh-one) (p .is-ready);
     closed = rw (effect-done j s k a b) (closed-mark j (s .done) k a b (o .closed) p);
   }
 

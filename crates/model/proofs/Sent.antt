@@ -1,23 +1,15 @@
 -- Words sent in the closed form, after steps 1 and 4. Assumes nothing.
 use mathlib.Core.Path.{_≡_, sym}
-use mathlib.Core.Bool.{false, _&&_}
+use mathlib.Core.Bool.{false}
 use Prim.Native.Nat.{ℕ, _<_}
 use native.Mathlib.Omega.{arith}
-use lib.Dec.{eqb}
-use borrow.Author.Tests.{eqb-true}
 use Rattle.laws.specs.Below.{naturals, only, count}
-use Rattle.laws.proofs.Bools.{split, eqb-same}
+use Rattle.laws.proofs.Bools.{eqb-same}
 use Rattle.laws.proofs.Sums.{table-one}
 use Rattle.model.specs.Job.{Job, priceWord, totalWord}
 use Rattle.model.specs.Steps.{sendPrices, sendTotals, Steps, mark, effect}
 use Rattle.model.specs.Boxes.{sentOf, stateByRules}
-
--- Not both boxes are the same.
-pub sent-other : (a b i k : ℕ) → (i ≡ a → k ≡ b → ⊥) → (eqb i a && eqb k b) ≡ false
-sent-other a b i k h =
-    split (eqb i a)
-    (λ e. split (eqb k b) (λ f. absurd (h (eqb-true i a e) (eqb-true k b f))) (λ f. rw (e, f)))
-    (λ e. rw e)
+use Rattle.model.proofs.Marks.{sent-other}
 
 module _ (j : Job) (d : Steps) (a b : ℕ) where
   pub sent-prices : a < j .boxes → b < j .boxes → d sendPrices a b ≡ false →

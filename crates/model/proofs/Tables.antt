@@ -3,7 +3,6 @@ use mathlib.Core.Path.{_≡_, refl, sym, ap, _∙_}
 use mathlib.Core.Bool.{true, false, cond, _&&_}
 use mathlib.Core.List.{List}
 use Prim.Native.Nat.{ℕ, suc, _+_, _<_, _*_, _-_}
-use native.Mathlib.Omega.{arith}
 use lib.Dec.{eqb, ltb}
 use lib.IntN.{pos}
 use lib.Arith.{digits-div, digits-mod}
@@ -15,30 +14,20 @@ use Rattle.laws.proofs.Masks.{one-is}
 use Rattle.laws.proofs.Sums.{sum-none}
 use Rattle.laws.proofs.Tables.{cell-in, cell-recell, word-overwrite, getD-overwrite}
 use Rattle.model.specs.Job.{heldBy, Job, needs, shares}
-use Rattle.model.specs.Steps.{Kind, kindNumber, stepPlace, places, stepAt, Steps, atPlace, State, added, kindOf, sendPrices, multiplyOwn, receivePrices, sendTotals, addOwn, receiveTotals}
+use Rattle.model.specs.Steps.{Kind, kindNumber, stepPlace, places, stepAt, Steps, atPlace, State, added, kindOf}
 use Rattle.model.specs.Tables.{view, store, StateTables, stepsDone, marksOf}
+use Rattle.model.proofs.Marks as M
+use Rattle.model.proofs.Machine.{kinds}
 use Rattle.model.proofs.Range.{InRange, held-lt}
 use Rattle.model.specs.Boxes.{knows, priceOnWay, paid, stateByRules, Closed, Sound}
 use Rattle.model.proofs.Parts.{part-none}
 use Rattle.model.proofs.Core.{state-eq, first<, second<}
 
 pub kind-place : (k : Kind) → kindOf (suc (kindNumber k - 1)) ≡ k
-unfolding kindOf kindNumber
-kind-place sendPrices = refl
-kind-place multiplyOwn = refl
-kind-place receivePrices = refl
-kind-place sendTotals = refl
-kind-place addOwn = refl
-kind-place receiveTotals = refl
+kind-place = M.kind-place kinds
 
 pub kind-six : (k : Kind) → kindNumber k - 1 < 6
-unfolding kindNumber
-kind-six sendPrices = omega arith
-kind-six multiplyOwn = omega arith
-kind-six receivePrices = omega arith
-kind-six sendTotals = omega arith
-kind-six addOwn = omega arith
-kind-six receiveTotals = omega arith
+kind-six = M.kind-in kinds
 
 -- A step has its place among the marks,
 pub place-in : (k kind a b : ℕ) → kind - 1 < 6 → a < k → b < k → stepPlace k kind a b < places k

@@ -4,6 +4,7 @@ pub mod Steps
 pub mod Boxes
 pub mod Words
 pub mod Tables
+pub mod Lent
 pub mod Ranges
 pub mod Step
 pub mod Run

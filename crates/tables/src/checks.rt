@@ -4,6 +4,7 @@ ghost use mathlib.Core.Bool.{false};
 ghost use mathlib.Core.List.{[]};
 ghost use Prim.Native.Nat.{_*_};
 ghost use Rattle.model.specs.Tables.{jobTables, jobLengths, jobShort, stateTables, stateLengths, stateShort};
+ghost use Rattle.model.specs.Lent.{jobLent, stateBefore};
 ghost use Rattle.model.specs.Ranges.{sizesInRange, jobWordsInRange, jobInRange, stateInRange};
 ghost use Rattle.tables.specs.Sizes.{sizes};
 use crate::limits::MAX_BOXES;
@@ -47,10 +48,8 @@ pub fn job_short(
     tally_count: &[i32],
 ) -> bool
     ensures { λ r. ⌜ r ≡ jobShort
-        (jobTables boxes grocers offers tallies (now (price .entry)) (now («offer_owner» .entry)) (now («grocer_owner» .entry))
-        (now («tally_grocer» .entry)) (now («tally_box» .entry)) (now («tally_offer» .entry)) (now («tally_count» .entry)))
-        (jobLengths (jobTables boxes grocers offers tallies (now (price .entry)) (now («offer_owner» .entry)) (now («grocer_owner» .entry))
-        (now («tally_grocer» .entry)) (now («tally_box» .entry)) (now («tally_offer» .entry)) (now («tally_count» .entry)))) ⌝ }
+        (jobLent boxes grocers offers tallies price «offer_owner» «grocer_owner» «tally_grocer» «tally_box» «tally_offer» «tally_count»)
+        (jobLengths (jobLent boxes grocers offers tallies price «offer_owner» «grocer_owner» «tally_grocer» «tally_box» «tally_offer» «tally_count»)) ⌝ }
 {
     let m = grocers as usize;
     let n = offers as usize;
@@ -78,8 +77,7 @@ pub fn state_short(
     sent: &[u32],
 ) -> bool
     ensures { λ r. ⌜ r ≡ stateShort (sizes boxes grocers offers)
-        (stateLengths (stateTables (now (known .entry)) (now («price_transit» .entry)) (now (working .entry)) (now («total_transit» .entry))
-        (now (statement .entry)) (now (done .entry)) (now (sent .entry)))) ⌝ }
+        (stateLengths (stateBefore known «price_transit» working «total_transit» statement done sent)) ⌝ }
 {
     let kn = words(boxes, offers);
     let km = words(boxes, grocers);
@@ -122,8 +120,8 @@ fn job_words_in_range(
         (now «tally_grocer») (now «tally_box») (now «tally_offer») (now «tally_count»))
         (jobLengths (jobTables boxes grocers offers tallies (now price) (now «offer_owner») (now «grocer_owner»)
         (now «tally_grocer») (now «tally_box») (now «tally_offer») (now «tally_count»))) ≡ false ⌝ }
-    ensures { λ r. ⌜ r ≡ jobWordsInRange (jobTables boxes grocers offers tallies (now (price .entry)) (now («offer_owner» .entry)) (now («grocer_owner» .entry))
-        (now («tally_grocer» .entry)) (now («tally_box» .entry)) (now («tally_offer» .entry)) (now («tally_count» .entry))) ⌝ }
+    ensures { λ r. ⌜ r ≡ jobWordsInRange
+        (jobLent boxes grocers offers tallies price «offer_owner» «grocer_owner» «tally_grocer» «tally_box» «tally_offer» «tally_count») ⌝ }
 {
     let m = grocers as usize;
     let n = offers as usize;
@@ -156,8 +154,8 @@ pub fn job_in_range(
         (now «tally_grocer») (now «tally_box») (now «tally_offer») (now «tally_count»))
         (jobLengths (jobTables boxes grocers offers tallies (now price) (now «offer_owner») (now «grocer_owner»)
         (now «tally_grocer») (now «tally_box») (now «tally_offer») (now «tally_count»))) ≡ false ⌝ }
-    ensures { λ r. ⌜ r ≡ jobInRange (jobTables boxes grocers offers tallies (now (price .entry)) (now («offer_owner» .entry)) (now («grocer_owner» .entry))
-        (now («tally_grocer» .entry)) (now («tally_box» .entry)) (now («tally_offer» .entry)) (now («tally_count» .entry))) ⌝ }
+    ensures { λ r. ⌜ r ≡ jobInRange
+        (jobLent boxes grocers offers tallies price «offer_owner» «grocer_owner» «tally_grocer» «tally_box» «tally_offer» «tally_count») ⌝ }
 {
     sizes_in_range(boxes, grocers, offers, tallies)
         & job_words_in_range(
@@ -192,8 +190,7 @@ pub fn state_in_range(
         (stateLengths (stateTables (now known) (now «price_transit») (now working) (now «total_transit»)
         (now statement) (now done) (now sent))) ≡ false ⌝ }
     ensures { λ r. ⌜ r ≡ stateInRange (sizes boxes grocers offers)
-        (stateTables (now (known .entry)) (now («price_transit» .entry)) (now (working .entry)) (now («total_transit» .entry))
-        (now (statement .entry)) (now (done .entry)) (now (sent .entry))) ⌝ }
+        (stateBefore known «price_transit» working «total_transit» statement done sent) ⌝ }
 {
     let kn = words(boxes, offers);
     let km = words(boxes, grocers);

@@ -8,9 +8,8 @@ use borrow.Author.Needs.{needs}
 use denote.Ref.{now}
 use lib.ListN.{length, set}
 use Rattle.laws.specs.Tables.{overwrite, recell}
-use Rattle.laws.proofs.Tables.{length-overwrite}
+use Rattle.laws.proofs.Tables.{length-overwrite, overwrite-none, overwrite-next}
 use Rattle.tables.specs.Messages.{cellAt}
-use Rattle.local.proofs.Extra.{overwrite-none, overwrite-next}
 use Rattle.entries.proofs.lay.Statement.{statement}
 use Rattle.entries.proofs.lay.Tie as tie
 

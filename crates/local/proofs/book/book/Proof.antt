@@ -7,7 +7,7 @@ use borrow.Author.Needs.{needs}
 use denote.Ref.{now}
 use Rattle.laws.specs.Checks.{firstMet}
 use Rattle.model.specs.Tables.{JobTables, jobTables}
-use Rattle.model.specs.Local.{bookRefusals}
+use Rattle.model.specs.Local.{bookShort, bookRefusals}
 use Rattle.local.specs.Sort.{at}
 use Rattle.local.specs.Lists.{PlacesIn}
 use Rattle.local.specs.Book.{BookTables, bookTables, bookLengths}
@@ -17,19 +17,29 @@ use Rattle.local.proofs.book.book.Statement.{statement}
 use Rattle.local.proofs.book.book.Tie as tie
 
 abbrev job : tie.Start → JobTables
-job s = jobTables (s .args .boxes) (s .args .grocers) (s .args .offers) (s .args .tallies) (now (s .args .price)) (now (s .args .owner)) (now (s .args .gowner)) (now (s .args .tgrocer))
-    (now (s .args .tbox)) (now (s .args .toffer)) (now (s .args .tcount))
+job s = jobTables (s .args .boxes) (s .args .grocers) (s .args .offers) (s .args .tallies) (now (s .args .price)) (now (s .args .offer-owner)) (now (s .args .grocer-owner)) (now (s .args .tally-grocer))
+    (now (s .args .tally-box)) (now (s .args .tally-offer)) (now (s .args .tally-count))
 
 -- The tables as they are lent.
 abbrev lent : tie.Start → BookTables
-lent s = bookTables (now (s .args .loffers)) (now (s .args .lgrocers)) (now (s .args .starts)) (now (s .args .pgrocers)) (now (s .args .pcounts))
+lent s = bookTables (now (s .args .local-offers)) (now (s .args .local-grocers)) (now (s .args .starts)) (now (s .args .packed-grocers)) (now (s .args .packed-counts))
+
+-- Where the lengths of the book's tables are compared, and where nothing is refused.
+abbrev start : tie.After-book-short → tie.Start
+start c = c .before .before .before .before .before .before .before .before .before .before .before
 
 abbrev entry : tie.Else1 → tie.Start
-entry c = c .before .before .before .before .before .before .before .before .before .before .before .before
+entry c = start (c .before .before)
 
--- Nothing is refused.
+short-is : (c : tie.After-book-short) → c .book-short .result ≡ bookShort (job (start c)) (bookLengths (lent (start c)))
+unfolding bookShort
+short-is c = c .book-short .ensures
+
+refusal-is : (c : tie.After-refusal) → c .refusal .result ≡ firstMet (bookRefusals (job (start (c .before))) (bookLengths (lent (start (c .before)))) (start (c .before) .args .b))
+refusal-is c = c .refusal .ensures (bookLengths (lent (start (c .before)))) (short-is (c .before))
+
 accepted : (c : tie.Else1) → firstMet (bookRefusals (job (entry c)) (bookLengths (lent (entry c))) (entry c .args .b)) ≡ 0
-accepted c = sym (c .before .refusal .ensures) ∙ c .if1 .left
+accepted c = sym (refusal-is (c .before)) ∙ c .if1 .left
 
 -- Where the local offers are written, and where the local grocers are.
 abbrev open-1 : tie.After-list → tie.Else1
@@ -37,6 +47,13 @@ open-1 c = c .before .before
 
 abbrev open-2 : tie.After-list2 → tie.After-list
 open-2 c = c .before .before .before .before
+
+-- Where both lists are written before the tallies are packed, and where they are packed.
+abbrev lists : tie.After-pack-arg5 → tie.After-list2
+lists c = c .before .before .before .before .before .before .before
+
+abbrev packing : tie.After-packed-counts → tie.After-pack
+packing c = c .before .before .before .before .before
 
 abbrev offers : tie.After-list → List ℕ
 offers c = c .list .last .1 .1 .1 .1 .1 .1 .1 .0
@@ -49,7 +66,7 @@ offer-places c =
     let e = open-1 c in
     let s = entry e in
     let f = job s in
-    places-in (s .args .boxes) (s .args .offers) (at (now (s .args .owner))) (now (s .args .toffer)) (now (s .args .tbox)) (s .args .tallies) (s .args .b) (offers c) (now (s .args .loffers)) (c .list .result)
+    places-in (s .args .boxes) (s .args .offers) (at (now (s .args .offer-owner))) (now (s .args .tally-offer)) (now (s .args .tally-box)) (s .args .tallies) (s .args .b) (offers c) (now (s .args .local-offers)) (c .list .result)
     (offer-owners f (bookLengths (lent s)) (s .args .b) (accepted e) .n-in) (long f (bookLengths (lent s)) (s .args .b) (accepted e) .localOffers) (c .list .kept .1 .1 .1 .1 .1 .1 .1 .0) (c .list .ensures .1) (c .list .ensures .0)
 
 grocer-places : (c : tie.After-list2) → PlacesIn (grocers c) (c .list2 .result) × (c .list2 .result ≤ entry (open-1 (open-2 c)) .args .grocers)
@@ -57,11 +74,13 @@ grocer-places c =
     let e = open-1 (open-2 c) in
     let s = entry e in
     let f = job s in
-    places-in (s .args .boxes) (s .args .grocers) (at (now (s .args .gowner))) (now (s .args .tgrocer)) (now (s .args .tbox)) (s .args .tallies) (s .args .b) (grocers c) (now (s .args .lgrocers)) (c .list2 .result)
+    places-in (s .args .boxes) (s .args .grocers) (at (now (s .args .grocer-owner))) (now (s .args .tally-grocer)) (now (s .args .tally-box)) (s .args .tallies) (s .args .b) (grocers c) (now (s .args .local-grocers)) (c .list2 .result)
     (grocer-owners f (bookLengths (lent s)) (s .args .b) (accepted e) .n-in) (long f (bookLengths (lent s)) (s .args .b) (accepted e) .localGrocers) (c .list2 .kept .1 .1 .1 .1 .1 .1 .1 .0) (c .list2 .ensures .1) (c .list2 .ensures .0)
 
 returns : tie.Need-returns
-returns c = let s = c .before .before .before .before .before .before .before .before .before .before .before .before in booked-refused (job s) (s .args .b) (lent s) (c .before .refusal .result) (c .before .refusal .ensures) (c .if1 .taken)
+returns c =
+    let s = start (c .before .before) in
+    booked-refused (job s) (s .args .b) (lent s) (c .before .refusal .result) (refusal-is (c .before)) (c .if1 .taken)
 
 list-requires : tie.Need-list-requires
 list-requires c κs =
@@ -79,7 +98,7 @@ list-requires-2 c κs =
 
 pack-requires : tie.Need-pack-requires
 pack-requires c κs =
-    let u = c .before .before .before .before .before .before .before in
+    let u = lists c in
     let e = open-1 (open-2 u) in
     let s = entry e in
     let f = job s in
@@ -92,24 +111,24 @@ pack-requires c κs =
     )
 
 same-length : tie.Need-same-length
-same-length c = c .before .before .before .before .before .before .before .before .before .before .before .before .before .before .before .before .before .list .kept .1 .1 .1 .1 .1 .1 .1 .0
+same-length c = open-2 (lists (packing c .before)) .list .kept .1 .1 .1 .1 .1 .1 .1 .0
 
 same-length-2 : tie.Need-same-length-2
-same-length-2 c = c .before .before .before .before .before .before .before .before .before .before .before .before .before .list2 .kept .1 .1 .1 .1 .1 .1 .1 .0
+same-length-2 c = lists (packing c .before) .list2 .kept .1 .1 .1 .1 .1 .1 .1 .0
 
 same-length-3 : tie.Need-same-length-3
-same-length-3 c = c .before .before .before .before .before .pack .kept .1 .1 .1 .1 .1 .1 .1 .1 .1 .1 .0
+same-length-3 c = packing c .pack .kept .1 .1 .1 .1 .1 .1 .1 .1 .1 .1 .0
 
 same-length-4 : tie.Need-same-length-4
-same-length-4 c = c .before .before .before .before .before .pack .kept .1 .1 .1 .1 .1 .1 .1 .1 .1 .1 .1 .0
+same-length-4 c = packing c .pack .kept .1 .1 .1 .1 .1 .1 .1 .1 .1 .1 .1 .0
 
 same-length-5 : tie.Need-same-length-5
-same-length-5 c = c .before .before .before .before .before .pack .kept .1 .1 .1 .1 .1 .1 .1 .1 .1 .1 .1 .1 .0
+same-length-5 c = packing c .pack .kept .1 .1 .1 .1 .1 .1 .1 .1 .1 .1 .1 .1 .0
 
 returns-2 : tie.Need-returns-2
 returns-2 c =
-    let p = c .before .before .before .before .before in
-    let u = p .before .before .before .before .before .before .before .before in
+    let p = packing c in
+    let u = lists (p .before) in
     let a = open-2 u in
     let e = open-1 a in
     let s = entry e in
@@ -121,6 +140,7 @@ pub book-spec : {M : Type 1} → statement M
 book-spec =
     tie.close
     (tie.spec
+    (λ c κs. search needs)
     (λ c κs. search needs)
     returns
     list-requires

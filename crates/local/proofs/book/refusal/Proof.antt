@@ -1,64 +1,57 @@
 -- `local::book::refusal` meets its contract. Assumes nothing.
+use mathlib.Core.Path.{sym, _∙_}
 use mathlib.Core.Bool.{true}
 use borrow.Author.Needs.{needs}
 use denote.Ref.{now}
+use Rattle.laws.proofs.Bools.{or-off}
 use Rattle.model.specs.Tables.{JobTables, jobTables}
-use Rattle.model.specs.Local.{BookLengths}
-use Rattle.local.specs.Book.{lengths}
-use Rattle.local.proofs.Ready.{met-20, not-20, met-21, met-23, met-none}
+use Rattle.local.proofs.Ready.{met-20, met-21, met-23, met-none}
 use Rattle.local.proofs.book.refusal.Statement.{statement}
 use Rattle.local.proofs.book.refusal.Tie as tie
 
 abbrev job : tie.Start → JobTables
-job s = jobTables (s .args .boxes) (s .args .grocers) (s .args .offers) (s .args .tallies) (now (s .args .price)) (now (s .args .owner)) (now (s .args .gowner)) (now (s .args .tgrocer))
-    (now (s .args .tbox)) (now (s .args .toffer)) (now (s .args .tcount))
+job s = jobTables (s .args .boxes) (s .args .grocers) (s .args .offers) (s .args .tallies) (now (s .args .price)) (now (s .args .offer-owner)) (now (s .args .grocer-owner))
+    (now (s .args .tally-grocer)) (now (s .args .tally-box)) (now (s .args .tally-offer)) (now (s .args .tally-count))
 
-abbrev lent : tie.Start → BookLengths
-lent s = lengths (s .args .lo) (s .args .lg) (s .args .ls) (s .args .pg) (s .args .pc)
+-- Where the job's tables are compared with their lengths.
+abbrev entry : tie.After-job-short → tie.Start
+entry c = c .before .before .before .before .before .before .before
 
--- Where both tables of lengths are compared.
-abbrev entry : tie.After-book-short → tie.Start
-entry c = c .before .before .before .before .before .before .before .before
+-- Nothing is short.
+abbrev long : tie.After-job-in-range → tie.After-job-short
+long c = c .before .before
 
 returns : tie.Need-returns
-returns c =
+returns c n e =
     let d = c .before in
-    met-20 (job (entry d)) (lent (entry d)) (entry d .args .b) (d .before .job-short .result) (d .book-short .result) true (d .before .job-short .ensures) (d .book-short .ensures) (c .if1 .taken)
+    let s = entry d in
+    met-20 (job s) n (s .args .b) (d .job-short .result) (s .args .short) true (d .job-short .ensures) e (c .if1 .taken)
 
 job-in-range-requires : tie.Need-job-in-range-requires
-job-in-range-requires c κs =
-    let d = c .before in
-    not-20 (job (entry d)) (lent (entry d)) (entry d .args .b) (d .before .job-short .result) (d .book-short .result) true (d .before .job-short .ensures) (d .book-short .ensures) (c .if1 .left)
+job-in-range-requires c κs = sym (c .before .job-short .ensures) ∙ or-off (c .before .job-short .result) (entry (c .before) .args .short) (c .if1 .left) .0
 
 returns-2 : tie.Need-returns-2
-returns-2 c =
+returns-2 c n e =
     let i = c .before in
-    let d = i .before .before in
-    met-21 (job (entry d)) (lent (entry d)) (entry d .args .b) (d .before .job-short .result) (d .book-short .result) (i .job-in-range .result) (d .before .job-short .ensures) (d .book-short .ensures)
-    (i .before .if1 .left) (i .job-in-range .ensures) (c .if2 .taken)
+    let d = long i in
+    let s = entry d in
+    met-21 (job s) n (s .args .b) (d .job-short .result) (s .args .short) (i .job-in-range .result) (d .job-short .ensures) e (i .before .if1 .left) (i .job-in-range .ensures) (c .if2 .taken)
 
 returns-3 : tie.Need-returns-3
-returns-3 c =
+returns-3 c n e =
     let i = c .before .before in
-    let d = i .before .before in
-    met-23 (job (entry d)) (lent (entry d)) (entry d .args .b) (d .before .job-short .result) (d .book-short .result) (i .job-in-range .result) (d .before .job-short .ensures) (d .book-short .ensures)
-    (i .before .if1 .left) (i .job-in-range .ensures) (c .before .if2 .left) (c .if3 .taken)
+    let d = long i in
+    let s = entry d in
+    met-23 (job s) n (s .args .b) (d .job-short .result) (s .args .short) (i .job-in-range .result) (d .job-short .ensures) e (i .before .if1 .left) (i .job-in-range .ensures)
+    (c .before .if2 .left) (c .if3 .taken)
 
 returns-4 : tie.Need-returns-4
-returns-4 c =
+returns-4 c n e =
     let i = c .before .before in
-    let d = i .before .before in
-    met-none (job (entry d)) (lent (entry d)) (entry d .args .b) (d .before .job-short .result) (d .book-short .result) (i .job-in-range .result) (d .before .job-short .ensures)
-    (d .book-short .ensures) (i .before .if1 .left) (i .job-in-range .ensures) (c .before .if2 .left) (c .if3 .left)
+    let d = long i in
+    let s = entry d in
+    met-none (job s) n (s .args .b) (d .job-short .result) (s .args .short) (i .job-in-range .result) (d .job-short .ensures) e (i .before .if1 .left) (i .job-in-range .ensures)
+    (c .before .if2 .left) (c .if3 .left)
 
 pub refusal-spec : {M : Type 1} → statement M
-refusal-spec =
-    tie.close
-    (tie.spec
-    (λ c κs. search needs)
-    (λ c κs. search needs)
-    returns
-    job-in-range-requires
-    returns-2
-    returns-3
-    returns-4)
+refusal-spec = tie.close (tie.spec (λ c κs. search needs) returns job-in-range-requires returns-2 returns-3 returns-4)

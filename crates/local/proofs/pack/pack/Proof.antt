@@ -20,23 +20,31 @@ entry c = c .before .before .before .before .before .before .before .before .bef
 abbrev ordered : tie.After-index-of → tie.After-order-tallies
 ordered c = c .before .before .before .before .before
 
+-- Where the local grocers are put, and where that is done before the counts are.
+abbrev counted : tie.After-put-grocers → tie.After-index-of
+counted c = c .before .before .before .before
+
+abbrev grocers-put : tie.After-put-counts-arg → tie.After-put-grocers
+grocers-put c = c .before .before .before .before
+
 abbrev order : tie.After-index-of → List ℕ
 order c = ordered c .order-tallies .last .1 .1 .1 .1 .1 .1 .1 .0
 
 abbrev packed : tie.Start → List ℕ
-packed s = packedTallies (now (s .args .tbox)) (now (s .args .toffer)) (s .args .tallies) (now (s .args .loffers)) (s .args .l) (s .args .b)
+packed s = packedTallies (now (s .args .tally-box)) (now (s .args .tally-offer)) (s .args .tallies) (now (s .args .local-offers)) (s .args .l) (s .args .b)
 
-total-is : (c : tie.After-index-of) → c .index-of .result ≡ packedStart (now (entry c .args .tbox)) (now (entry c .args .toffer)) (entry c .args .tallies) (now (entry c .args .loffers))
+total-is : (c : tie.After-index-of) → c .index-of .result ≡ packedStart (now (entry c .args .tally-box)) (now (entry c .args .tally-offer)) (entry c .args .tallies) (now (entry c .args .local-offers))
     (entry c .args .l) (entry c .args .b) (entry c .args .l)
 total-is c = c .index-of .ensures ∙ ordered c .order-tallies .ensures .0
 
 total-in : (c : tie.After-index-of) → c .index-of .result ≤ entry c .args .tallies
-total-in c = let s = entry c in omega (arith, total-is c, packed-le (now (s .args .tbox)) (now (s .args .toffer)) (s .args .tallies) (now (s .args .loffers)) (s .args .l) (s .args .b))
+total-in c = let s = entry c in omega (arith, total-is c, packed-le (now (s .args .tally-box)) (now (s .args .tally-offer)) (s .args .tallies) (now (s .args .local-offers)) (s .args .l) (s .args .b))
 
 in-order : (c : tie.After-index-of) → OrderIn (order c) (c .index-of .result) (entry c .args .tallies)
 in-order c =
     let s = entry c in
-    order-in (now (s .args .tbox)) (now (s .args .toffer)) (s .args .tallies) (now (s .args .loffers)) (s .args .l) (s .args .b) (replicate 1_000 0) (order c) (c .index-of .result) (ordered c .order-tallies .ensures .1 .1) (total-is c)
+    order-in (now (s .args .tally-box)) (now (s .args .tally-offer)) (s .args .tallies) (now (s .args .local-offers)) (s .args .l) (s .args .b)
+    (replicate 1_000 0) (order c) (c .index-of .result) (ordered c .order-tallies .ensures .1 .1) (total-is c)
     (s .pre .0 .0 .tallies-in) (omega (arith, s .pre .0 .0 .tallies-in, ordered c .order-tallies .kept .1 .1 .1 .1 .1 .1 .1 .0))
 
 put-grocers-requires : tie.Need-put-grocers-requires
@@ -47,15 +55,15 @@ put-grocers-requires c κs =
 
 put-counts-requires : tie.Need-put-counts-requires
 put-counts-requires c κs =
-    let i = c .before .before .before .before .before .before .before .before in
+    let i = counted (grocers-put c) in
     let s = entry i in
     (in-order i, (s .pre .1 .1 .1 .0, omega (arith, total-in i, s .pre .1 .1 .1 .1 .1)))
 
 same-length : tie.Need-same-length
-same-length c = c .before .before .before .before .before .before .before .before .before .before .before .before .before .before .before .order-tallies .kept .1 .1 .1 .1 .1 .1 .0
+same-length c = ordered (counted (grocers-put (c .before .before))) .order-tallies .kept .1 .1 .1 .1 .1 .1 .0
 
 same-length-2 : tie.Need-same-length-2
-same-length-2 c = c .before .before .before .before .before .before .put-grocers .kept .1 .1 .1 .1 .1 .0
+same-length-2 c = grocers-put (c .before .before) .put-grocers .kept .1 .1 .1 .1 .1 .0
 
 same-length-3 : tie.Need-same-length-3
 same-length-3 c = c .before .put-counts .kept .1 .1 .1 .1 .0
@@ -63,8 +71,8 @@ same-length-3 c = c .before .put-counts .kept .1 .1 .1 .1 .0
 returns : tie.Need-returns
 returns c =
     let p = c .before in
-    let q = p .before .before .before .before .before in
-    let i = q .before .before .before .before in
+    let q = grocers-put (p .before) in
+    let i = counted q in
     let s = entry i in
     let n = ordered i .order-tallies .result in (
       ordered i .order-tallies .ensures .0,
@@ -72,17 +80,17 @@ returns c =
         ordered i .order-tallies .ensures .1 .0,
         (
           q .put-grocers .ensures
-              ∙ overwrite-cong (i .index-of .result) (packedGrocer (i .before .numbers .result) (now (s .args .tgrocer)) (order i))
-              (packedNumber (now (s .args .lgrocers)) (s .args .g) (now (s .args .tgrocer)) (packed s)) (now (s .args .pgrocers))
-              (grocer-put (now (s .args .tbox)) (now (s .args .toffer)) (s .args .tallies) (now (s .args .loffers)) (s .args .l) (s .args .b) (replicate 1_000 0) (order i) (i .index-of .result)
-              (ordered i .order-tallies .ensures .1 .1) (total-is i) (i .before .numbers .result) (now (s .args .tgrocer)) (now (s .args .lgrocers)) (s .args .g) (i .before .numbers .ensures)
+              ∙ overwrite-cong (i .index-of .result) (packedGrocer (i .before .numbers .result) (now (s .args .tally-grocer)) (order i))
+              (packedNumber (now (s .args .local-grocers)) (s .args .g) (now (s .args .tally-grocer)) (packed s)) (now (s .args .packed-grocers))
+              (grocer-put (now (s .args .tally-box)) (now (s .args .tally-offer)) (s .args .tallies) (now (s .args .local-offers)) (s .args .l) (s .args .b) (replicate 1_000 0) (order i) (i .index-of .result)
+              (ordered i .order-tallies .ensures .1 .1) (total-is i) (i .before .numbers .result) (now (s .args .tally-grocer)) (now (s .args .local-grocers)) (s .args .g) (i .before .numbers .ensures)
               (s .pre .0 .1))
-              ∙ ap (λ (k : ℕ). overwrite k (packedNumber (now (s .args .lgrocers)) (s .args .g) (now (s .args .tgrocer)) (packed s)) (now (s .args .pgrocers))) (i .index-of .ensures),
+              ∙ ap (λ (k : ℕ). overwrite k (packedNumber (now (s .args .local-grocers)) (s .args .g) (now (s .args .tally-grocer)) (packed s)) (now (s .args .packed-grocers))) (i .index-of .ensures),
           p .put-counts .ensures
-              ∙ overwrite-cong (i .index-of .result) (packedCount (now (s .args .tcount)) (order i)) (packedCount (now (s .args .tcount)) (packed s)) (now (s .args .pcounts))
-              (count-put (now (s .args .tbox)) (now (s .args .toffer)) (s .args .tallies) (now (s .args .loffers)) (s .args .l) (s .args .b) (replicate 1_000 0) (order i) (i .index-of .result)
-              (ordered i .order-tallies .ensures .1 .1) (total-is i) (now (s .args .tcount)))
-              ∙ ap (λ (k : ℕ). overwrite k (packedCount (now (s .args .tcount)) (packed s)) (now (s .args .pcounts))) (i .index-of .ensures),
+              ∙ overwrite-cong (i .index-of .result) (packedCount (now (s .args .tally-count)) (order i)) (packedCount (now (s .args .tally-count)) (packed s)) (now (s .args .packed-counts))
+              (count-put (now (s .args .tally-box)) (now (s .args .tally-offer)) (s .args .tallies) (now (s .args .local-offers)) (s .args .l) (s .args .b) (replicate 1_000 0) (order i) (i .index-of .result)
+              (ordered i .order-tallies .ensures .1 .1) (total-is i) (now (s .args .tally-count)))
+              ∙ ap (λ (k : ℕ). overwrite k (packedCount (now (s .args .tally-count)) (packed s)) (now (s .args .packed-counts))) (i .index-of .ensures),
         ),
       ),
     )

@@ -9,11 +9,10 @@ use lib.ListN.{length, getD, set}
 use denote.Ref.{now}
 use lib.IntN.{ℤ, pos}
 use Rattle.laws.specs.Tables.{overwrite}
-use Rattle.laws.proofs.Tables.{length-overwrite}
+use Rattle.laws.proofs.Tables.{length-overwrite, overwrite-none, overwrite-next}
 use Rattle.local.specs.Sort.{at}
 use Rattle.laws.proofs.Signed.{read32}
 use Rattle.local.specs.Pack.{packedCount}
-use Rattle.local.proofs.Extra.{overwrite-none, overwrite-next}
 use Rattle.local.proofs.pack.put_counts.Statement.{statement}
 use Rattle.local.proofs.pack.put_counts.Tie as tie
 

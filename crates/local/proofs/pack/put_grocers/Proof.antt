@@ -8,10 +8,9 @@ use borrow.Author.Needs.{needs}
 use lib.ListN.{length, set}
 use denote.Ref.{now}
 use Rattle.laws.specs.Tables.{overwrite}
-use Rattle.laws.proofs.Tables.{length-overwrite}
+use Rattle.laws.proofs.Tables.{length-overwrite, overwrite-none, overwrite-next}
 use Rattle.local.specs.Sort.{at}
 use Rattle.local.specs.Pack.{packedGrocer}
-use Rattle.local.proofs.Extra.{overwrite-none, overwrite-next}
 use Rattle.local.proofs.pack.put_grocers.Statement.{statement}
 use Rattle.local.proofs.pack.put_grocers.Tie as tie
 

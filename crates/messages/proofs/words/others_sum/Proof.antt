@@ -37,7 +37,7 @@ others-requires : tie.Need-others-requires Inv-loop μ-loop
 others-requires c κs = owner-in (c .before .before)
 
 add-sum : tie.Need-add-sum Inv-loop μ-loop
-add-sum c = omega (arith, c .others .ensures, most (c .before .before .before), c .before .before .before .before .before .before .before .fits .n .fits)
+add-sum c = let e = c .before .before .before in omega (arith, c .others .ensures, most e, entry e .fits .n .fits)
 
 loop-again : tie.Need-loop-again Inv-loop μ-loop
 loop-again c =

@@ -17,6 +17,10 @@ entry c = c .before .before .before .before .before .before
 whole : (c : tie.After-shared-slice-known6) → JobWhole (job (entry c))
 whole c = job-whole (job (entry c)) (entry c .pre)
 
+-- Where the prices and the owners are in range.
+abbrev owned : tie.After-under162 → tie.After-shared-slice-known6
+owned c = c .before .before .before
+
 upto32-requires : tie.Need-upto32-requires
 upto32-requires c κs = whole c .price
 
@@ -27,20 +31,31 @@ under16-requires-2 : tie.Need-under16-requires-2
 under16-requires-2 c κs = whole (c .before .before) .grocerOwner
 
 under16-requires-3 : tie.Need-under16-requires-3
-under16-requires-3 c κs = whole (c .before .before .before) .tallyGrocer
+under16-requires-3 c κs = whole (owned c) .tallyGrocer
 
 under16-requires-4 : tie.Need-under16-requires-4
-under16-requires-4 c κs = whole (c .before .before .before .before) .tallyBox
+under16-requires-4 c κs = whole (owned (c .before)) .tallyBox
 
 under16-requires-5 : tie.Need-under16-requires-5
-under16-requires-5 c κs = whole (c .before .before .before .before .before) .tallyOffer
+under16-requires-5 c κs = whole (owned (c .before .before)) .tallyOffer
 
 around32-requires : tie.Need-around32-requires
-around32-requires c κs = whole (c .before .before .before .before .before .before) .tallyCount
+around32-requires c κs = whole (owned (c .before .before .before)) .tallyCount
 
 returns : tie.Need-returns
 unfolding jobWordsInRange
-returns c = cc
+returns c =
+    let boxes = c .before .before in
+    let grocers = boxes .before .before in
+    rw (
+      grocers .before .before .upto32 .ensures,
+      grocers .before .under16 .ensures,
+      grocers .under162 .ensures,
+      boxes .before .under163 .ensures,
+      boxes .under164 .ensures,
+      c .before .under165 .ensures,
+      c .around32 .ensures,
+    )
 
 pub job-words-in-range-spec : {M : Type 1} → statement M
 job-words-in-range-spec =

@@ -26,6 +26,10 @@ loop-holds c =
     let s = c .before .before .before in
     (search needs, refl, λ p l. s .pre .1 p ∙ sym (holder-none (s .args .boxes) (now (s .args .tally-box)) (now (s .args .places)) p))
 
+-- The turn in which a tally is marked.
+abbrev turn : tie.After-mark Inv-loop μ-loop → tie.In-loop Inv-loop μ-loop
+turn c = c .before .before .before .before
+
 mark-requires : tie.Need-mark-requires Inv-loop μ-loop
 mark-requires c κs =
     let e = c .before .before .before in
@@ -34,7 +38,7 @@ mark-requires c κs =
 
 loop-again : tie.Need-loop-again Inv-loop μ-loop
 loop-again c =
-    let e = c .before .before .before .before .before .before in
+    let e = turn (c .before .before) in
     let s = entry e in
     let t = e .before .loop .t in
     let old = e .before .loop .masks in
