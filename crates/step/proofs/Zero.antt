@@ -10,8 +10,7 @@ use Rattle.model.specs.Steps.{kindOf}
 use Rattle.model.specs.Tables.{JobTables, StateTables, jobOf}
 use Rattle.model.specs.Step.{Asked, isKind, boxesFit, stepRules, moved, stepRefusal, stepTables, StepAnswer, accepted, refused, stepAnswer, outcome, stepped}
 use Rattle.model.proofs.Refusal.{refused-number}
-use Rattle.refuse.specs.Late.{earlyRules, laterRules, Held, Words}
-use Rattle.apply.specs.Apply.{Applies}
+use Rattle.refuse.specs.Late.{earlyRules, laterRules}
 use Rattle.refuse.proofs.Refused.{answer-early, answer-later}
 
 -- A condition that is met answers its number; so an answer 0 met none.
@@ -40,22 +39,3 @@ module _ (f : JobTables) (t : StateTables) (q : Asked) where
       pub accepted-by : outcome accepted (moved f t q) ≡ stepped f t q
       unfolding stepped stepTables stepAnswer
       accepted-by = rw (sym (answer-later f t z q r e) ∙ h)
-
-      kind-next : (isKind (q .kind) ≡ true) × (boxesFit (jobOf f) (kindOf (q .kind)) (q .first) (q .second) ≡ true)
-      unfolding firstMet laterRules stepRules
-      kind-next =
-          let k = past (not (isKind (q .kind))) 21 _ (sym e ∙ h) in
-          (not-false _ (k .0), not-false _ (past (not (boxesFit (jobOf f) (kindOf (q .kind)) (q .first) (q .second))) 22 _ (k .1) .0))
-
-      -- What is asked of the step that is applied.
-      pub applies : Held f t → (needs sharers : List ℕ) → Words f needs sharers → Applies f t needs sharers q
-      applies o needs sharers w = record {
-        job-in = o .job-in;
-        job-long = o .job-long;
-        state-long = o .state-long;
-        state-in = o .state-in;
-        needs-are = w .needs-are;
-        sharers-are = w .sharers-are;
-        kind-in = kind-next .0;
-        boxes-fit = kind-next .1;
-      }
