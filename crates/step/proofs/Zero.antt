@@ -1,22 +1,13 @@
 -- What the two parts of a refusal say of the step: refused, or applied and accepted. Assumes nothing.
-use mathlib.Core.Path.{_≡_, refl, sym, ap, _∙_}
-use mathlib.Core.List.{List}
-use mathlib.Core.Bool.{Bool, true, false, cond, not}
-use Prim.Native.Nat.{ℕ, suc}
-use native.Mathlib.Omega.{arith}
-use borrow.Author.Tests.{not-false, ne-eqb}
+use mathlib.Core.Path.{_≡_, sym, ap, _∙_}
+use Prim.Native.Nat.{ℕ}
+use borrow.Author.Tests.{ne-eqb}
 use Rattle.laws.specs.Checks.{firstMet}
-use Rattle.model.specs.Steps.{kindOf}
-use Rattle.model.specs.Tables.{JobTables, StateTables, jobOf}
-use Rattle.model.specs.Step.{Asked, isKind, boxesFit, stepRules, moved, stepRefusal, stepTables, StepAnswer, accepted, refused, stepAnswer, outcome, stepped}
-use Rattle.model.proofs.Refusal.{refused-number}
+use Rattle.model.specs.Tables.{JobTables, StateTables}
+use Rattle.model.specs.Step.{Asked, moved, stepRefusal, stepTables, StepAnswer, accepted, refused, stepAnswer, outcome, stepped}
 use Rattle.refuse.specs.Late.{earlyRules, laterRules}
+use Rattle.model.proofs.Refusal.{refused-number}
 use Rattle.refuse.proofs.Refused.{answer-early, answer-later}
-
--- A condition that is met answers its number; so an answer 0 met none.
-past : (c : Bool) (n rest : ℕ) → cond c (suc n) rest ≡ 0 → (c ≡ false) × (rest ≡ 0)
-past true n rest h = absurd (let z : suc n ≡ 0 = h in omega arith)
-past false n rest h = (refl, h)
 
 module _ (f : JobTables) (t : StateTables) (q : Asked) where
   -- A refused step: its tables are as they were.

@@ -10,9 +10,9 @@ use lib.IntN.{ℤ, pos, _+ℤ_, _*ℤ_}
 use mir.Syntax.{w32, w64}
 use mir.Val.{toZ, ofZ}
 use borrow.Author.Tests.{not-true, not-false}
+use borrow.Author.Needs.{needs}
 use Rattle.laws.proofs.Signed.{read64, read32-abs, read-sum, fits64-as, abs-plus, abs-times-le}
 use Rattle.totals.specs.Row.{isTaken, productAt}
-use borrow.Author.Needs.{needs}
 use denote.Ref.{now}
 use Rattle.totals.proofs.Rows.{raised-not, raised-by}
 use Rattle.totals.proofs.row.add_tally.Statement.{statement}
