@@ -1,4 +1,4 @@
--- What the two parts of a refusal say of the step: refused, or applied and accepted. Assumes nothing.
+-- What the number of a refusal says of the step: refused, or accepted. Assumes nothing.
 use mathlib.Core.Path.{_≡_, sym, ap, _∙_}
 use Prim.Native.Nat.{ℕ}
 use borrow.Author.Tests.{ne-eqb}
@@ -9,24 +9,14 @@ use Rattle.refuse.specs.Late.{earlyRules, laterRules}
 use Rattle.model.proofs.Refusal.{refused-number}
 use Rattle.refuse.proofs.Refused.{answer-early, answer-later}
 
-module _ (f : JobTables) (t : StateTables) (q : Asked) where
+module _ (f : JobTables) (t : StateTables) (q : Asked) (r : ℕ) (e : r ≡ stepRefusal f t q) where
   -- A refused step: its tables are as they were.
-  refused-by : (r : ℕ) → r ≡ stepRefusal f t q → (r ≡ 0 → ⊥) → outcome (refused r) t ≡ stepped f t q
+  pub refused-by : (r ≡ 0 → ⊥) → outcome (refused r) t ≡ stepped f t q
   unfolding stepped stepTables
-  refused-by r e n =
+  refused-by n =
       rw (ne-eqb (stepRefusal f t q) 0 (λ z. n (e ∙ z))) (ap (λ (a : StepAnswer). outcome a t) (sym (refused-number r n) ∙ ap stepAnswer e))
 
-  -- 20 or 21 is met.
-  pub refused-early : (r : ℕ) → r ≡ firstMet (earlyRules f t) → (r ≡ 0 → ⊥) → outcome (refused r) t ≡ stepped f t q
-  refused-early r e n = refused-by r (answer-early f t q r e n) n
-
-  module _ (z : firstMet (earlyRules f t) ≡ 0) where
-    -- A later condition is met.
-    pub refused-later : (r : ℕ) → r ≡ firstMet (laterRules f t q) → (r ≡ 0 → ⊥) → outcome (refused r) t ≡ stepped f t q
-    refused-later r e n = refused-by r (answer-later f t z q r e) n
-
-    -- None is.
-    module _ (r : ℕ) (e : r ≡ firstMet (laterRules f t q)) (h : r ≡ 0) where
-      pub accepted-by : outcome accepted (moved f t q) ≡ stepped f t q
-      unfolding stepped stepTables stepAnswer
-      accepted-by = rw (sym (answer-later f t z q r e) ∙ h)
+  -- An accepted step: its tables are as the model's step leaves them.
+  pub accepted-by : r ≡ 0 → outcome accepted (moved f t q) ≡ stepped f t q
+  unfolding stepped stepTables stepAnswer
+  accepted-by h = rw (sym e ∙ h)

@@ -13,8 +13,6 @@ ghost use Rattle.step.specs.Answer.{answerOf};
 ghost use Rattle.step.specs.Lent.{PricesLent, TotalsLent};
 use apply::Sizes;
 use apply::Step;
-use refuse::finish::price_fits;
-use refuse::finish::total_fits;
 
 // A request is accepted, or refused under the number of the first condition met.
 pub enum Answer {
@@ -152,7 +150,9 @@ pub fn step(
         first,
         second,
     };
-    let early = refuse::early_refusal(
+    let mut needs = [0u16; 500];
+    let mut sharers = [0u16; 255];
+    let r = refuse::refusal(
         z,
         price,
         offer_owner,
@@ -168,35 +168,14 @@ pub fn step(
         statement,
         done,
         sent,
+        &mut needs,
+        &mut sharers,
+        x,
     );
-    if early != 0 {
-        return Answer::Refused(early);
-    }
-    let needing = tables::masks::needs(boxes, tallies, tally_box, tally_offer);
-    let sharing = tables::masks::sharers(boxes, tallies, tally_box, tally_grocer);
-    let prices = tables::messages::price_table(offers, offer_owner, &needing);
-    let totals = tables::messages::total_table(grocers, grocer_owner, &sharing);
-    let r = rules::ready::request_refusal(boxes, kind, first, second, &prices, &totals, done);
     if r != 0 {
         return Answer::Refused(r);
     }
     if kind <= 3 {
-        if !price_fits(
-            z,
-            offer_owner,
-            tally_grocer,
-            tally_box,
-            tally_offer,
-            tally_count,
-            &prices,
-            known,
-            price_transit,
-            working,
-            sent,
-            x,
-        ) {
-            return Answer::Refused(21);
-        }
         let more = move_prices(
             z,
             offer_owner,
@@ -204,7 +183,7 @@ pub fn step(
             tally_box,
             tally_offer,
             tally_count,
-            &needing,
+            &needs,
             known,
             price_transit,
             working,
@@ -213,23 +192,10 @@ pub fn step(
         note(z, x, more, done, sent);
         return Answer::Accepted;
     }
-    if !total_fits(
-        z,
-        grocer_owner,
-        &sharing,
-        &totals,
-        working,
-        total_transit,
-        statement,
-        sent,
-        x,
-    ) {
-        return Answer::Refused(21);
-    }
     let more = move_totals(
         z,
         grocer_owner,
-        &sharing,
+        &sharers,
         working,
         total_transit,
         statement,
