@@ -3,9 +3,12 @@ use mathlib.Core.Path.{_≡_, ap}
 use mathlib.Core.List.{List, [], _∷_}
 use Prim.Native.Nat.{ℕ, _≤_}
 use native.Mathlib.Omega.{arith}
+use native.Mathlib.Nat.{le-trans}
+use lib.Dec.{eqb}
 use lib.ListN.{length}
 use lib.IntN.{ℤ}
 use Rattle.laws.specs.Below.{naturals, only, count}
+use Rattle.laws.proofs.Below.{count-le, only-le}
 use Rattle.words.specs.Message.{wordIn}
 use Rattle.prices.specs.Prices.{sentTransit, receivedKnown, receivedTransit}
 use Rattle.totals.specs.Row.{Tallies, productRow, putRow}
@@ -50,3 +53,12 @@ module _ (k m : ℕ) (owner sharers : List ℕ) (working transit statement : Lis
 pub none-more : (sent : List ℕ) → 1 ≤ length sent → sentMore sent 0 ≡ sent
 none-more [] h = absurd (omega arith)
 none-more (x ∷ l) h = ap (λ (y : ℕ). y ∷ l) (omega arith)
+
+-- A message has no more words than there are offers, or grocers.
+pub prices-few : (e : Tallies) (needs : List ℕ) (kind a b : ℕ) → pricesSent e needs kind a b ≤ e .offers
+unfolding pricesSent
+prices-few e needs kind a b = le-trans (only-le (eqb kind 1) (count (e .offers) (wordIn (e .owner) needs a b))) (count-le (e .offers) (wordIn (e .owner) needs a b))
+
+pub totals-few : (k m : ℕ) (owner sharers : List ℕ) (kind a b : ℕ) → totalsSent k m owner sharers kind a b ≤ m
+unfolding totalsSent
+totals-few k m owner sharers kind a b = le-trans (only-le (eqb kind 4) (count m (wordIn owner sharers b a))) (count-le m (wordIn owner sharers b a))

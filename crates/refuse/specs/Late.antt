@@ -9,11 +9,11 @@ use lib.IntN.{ℤ, natAbs}
 use Rattle.laws.specs.Below.{all}
 use Rattle.model.specs.Tables.{JobTables, jobOf, jobLengths, jobShort, StateTables, stateLengths, stateShort, lentShort, view}
 use Rattle.model.specs.Ranges.{maxBoxes, maxGrocers, maxAmount, maxSent, around, jobInRange, stateInRange}
-use Rattle.model.specs.Step.{Asked, stepRules, moved}
+use Rattle.model.specs.Step.{Asked, stepRules, moved, stepRefusal}
 use Rattle.rules.specs.Rules.{wordsTo}
 use Rattle.totals.specs.Row.{Tallies, TalliesIn, PricesIn, AmountsIn, productRow}
 use Rattle.totals.specs.Credit.{credited, creditWord}
-use Rattle.apply.specs.Apply.{SentIn}
+use Rattle.apply.specs.Apply.{Applies, SentIn}
 
 -- Conditions 20 and 21.
 unfoldable pub earlyRules : JobTables → StateTables → List (Bool × ℕ)
@@ -29,6 +29,11 @@ pub record Held (f : JobTables) (t : StateTables) : Type 0 where
   pub state-long : stateShort f (stateLengths t) ≡ false
   pub job-in : jobInRange f ≡ true
   pub state-in : stateInRange f t ≡ true
+
+-- What the refusal of a step tells: the model's number, and where that is 0, with the words that it leaves, that the step may be applied.
+pub record Decided (f : JobTables) (t : StateTables) (q : Asked) (needs sharers : List ℕ) (r : ℕ) : Type 0 where
+  pub number-is : r ≡ stepRefusal f t q
+  pub applies : r ≡ 0 → Applies f t needs sharers q
 
 -- The count of words sent stays in range with the words from box a to box b, by a table of messages.
 abbrev pub sentFits : List (List ℕ) → List ℕ → ℕ → ℕ → Bool

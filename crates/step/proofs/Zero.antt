@@ -1,61 +1,22 @@
--- What the two parts of a refusal say of the step: refused, or applied and accepted. Assumes nothing.
-use mathlib.Core.Path.{_≡_, refl, sym, ap, _∙_}
-use mathlib.Core.List.{List}
-use mathlib.Core.Bool.{Bool, true, false, cond, not}
-use Prim.Native.Nat.{ℕ, suc}
-use native.Mathlib.Omega.{arith}
-use borrow.Author.Tests.{not-false, ne-eqb}
+-- What the number of a refusal says of the step: refused, or accepted. Assumes nothing.
+use mathlib.Core.Path.{_≡_, sym, ap, _∙_}
+use Prim.Native.Nat.{ℕ}
+use borrow.Author.Tests.{ne-eqb}
 use Rattle.laws.specs.Checks.{firstMet}
-use Rattle.model.specs.Steps.{kindOf}
-use Rattle.model.specs.Tables.{JobTables, StateTables, jobOf}
-use Rattle.model.specs.Step.{Asked, isKind, boxesFit, stepRules, moved, stepRefusal, stepTables, StepAnswer, accepted, refused, stepAnswer, outcome, stepped}
+use Rattle.model.specs.Tables.{JobTables, StateTables}
+use Rattle.model.specs.Step.{Asked, moved, stepRefusal, stepTables, StepAnswer, accepted, refused, stepAnswer, outcome, stepped}
+use Rattle.refuse.specs.Late.{earlyRules, laterRules}
 use Rattle.model.proofs.Refusal.{refused-number}
-use Rattle.refuse.specs.Late.{earlyRules, laterRules, Held, Words}
-use Rattle.apply.specs.Apply.{Applies}
 use Rattle.refuse.proofs.Refused.{answer-early, answer-later}
 
--- A condition that is met answers its number; so an answer 0 met none.
-past : (c : Bool) (n rest : ℕ) → cond c (suc n) rest ≡ 0 → (c ≡ false) × (rest ≡ 0)
-past true n rest h = absurd (let z : suc n ≡ 0 = h in omega arith)
-past false n rest h = (refl, h)
-
-module _ (f : JobTables) (t : StateTables) (q : Asked) where
+module _ (f : JobTables) (t : StateTables) (q : Asked) (r : ℕ) (e : r ≡ stepRefusal f t q) where
   -- A refused step: its tables are as they were.
-  refused-by : (r : ℕ) → r ≡ stepRefusal f t q → (r ≡ 0 → ⊥) → outcome (refused r) t ≡ stepped f t q
+  pub refused-by : (r ≡ 0 → ⊥) → outcome (refused r) t ≡ stepped f t q
   unfolding stepped stepTables
-  refused-by r e n =
+  refused-by n =
       rw (ne-eqb (stepRefusal f t q) 0 (λ z. n (e ∙ z))) (ap (λ (a : StepAnswer). outcome a t) (sym (refused-number r n) ∙ ap stepAnswer e))
 
-  -- 20 or 21 is met.
-  pub refused-early : (r : ℕ) → r ≡ firstMet (earlyRules f t) → (r ≡ 0 → ⊥) → outcome (refused r) t ≡ stepped f t q
-  refused-early r e n = refused-by r (answer-early f t q r e n) n
-
-  module _ (z : firstMet (earlyRules f t) ≡ 0) where
-    -- A later condition is met.
-    pub refused-later : (r : ℕ) → r ≡ firstMet (laterRules f t q) → (r ≡ 0 → ⊥) → outcome (refused r) t ≡ stepped f t q
-    refused-later r e n = refused-by r (answer-later f t z q r e) n
-
-    -- None is.
-    module _ (r : ℕ) (e : r ≡ firstMet (laterRules f t q)) (h : r ≡ 0) where
-      pub accepted-by : outcome accepted (moved f t q) ≡ stepped f t q
-      unfolding stepped stepTables stepAnswer
-      accepted-by = rw (sym (answer-later f t z q r e) ∙ h)
-
-      kind-next : (isKind (q .kind) ≡ true) × (boxesFit (jobOf f) (kindOf (q .kind)) (q .first) (q .second) ≡ true)
-      unfolding firstMet laterRules stepRules
-      kind-next =
-          let k = past (not (isKind (q .kind))) 21 _ (sym e ∙ h) in
-          (not-false _ (k .0), not-false _ (past (not (boxesFit (jobOf f) (kindOf (q .kind)) (q .first) (q .second))) 22 _ (k .1) .0))
-
-      -- What is asked of the step that is applied.
-      pub applies : Held f t → (needs sharers : List ℕ) → Words f needs sharers → Applies f t needs sharers q
-      applies o needs sharers w = record {
-        job-in = o .job-in;
-        job-long = o .job-long;
-        state-long = o .state-long;
-        state-in = o .state-in;
-        needs-are = w .needs-are;
-        sharers-are = w .sharers-are;
-        kind-in = kind-next .0;
-        boxes-fit = kind-next .1;
-      }
+  -- An accepted step: its tables are as the model's step leaves them.
+  pub accepted-by : r ≡ 0 → outcome accepted (moved f t q) ≡ stepped f t q
+  unfolding stepped stepTables stepAnswer
+  accepted-by h = rw (sym e ∙ h)

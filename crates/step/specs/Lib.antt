@@ -1,2 +1,3 @@
--- The numbers of the step's answers.
+-- The numbers of the step's answers, and what its parts require.
 pub mod Answer
+pub mod Lent

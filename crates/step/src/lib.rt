@@ -1,9 +1,18 @@
 // The step: one request on the lent tables.
 ghost use mathlib.Core.Path.{_≡_};
+ghost use mathlib.Core.Bool.{true};
+ghost use Prim.Native.Nat.{_*_, _≤_};
+ghost use Rattle.model.specs.Steps.{kindOf};
 ghost use Rattle.model.specs.Tables.{jobTables, stateTables};
-ghost use Rattle.model.specs.Step.{asked, moved, outcome, stepped};
-ghost use Rattle.apply.specs.Apply.{Applies};
+ghost use Rattle.model.specs.Ranges.{upTo};
+ghost use Rattle.model.specs.Step.{asked, outcome, stepped};
+ghost use Rattle.rules.specs.Marks.{MarksIn, marked};
+ghost use Rattle.totals.specs.Row.{tallies};
+ghost use Rattle.apply.specs.Apply.{SentIn, sentMore, PriceStepOut, TotalStepOut};
 ghost use Rattle.step.specs.Answer.{answerOf};
+ghost use Rattle.step.specs.Lent.{PricesLent, TotalsLent};
+use apply::Sizes;
+use apply::Step;
 
 // A request is accepted, or refused under the number of the first condition met.
 pub enum Answer {
@@ -11,81 +20,88 @@ pub enum Answer {
     Refused(u16),
 }
 
-// What an accepted step does to the tables: offers, grocers and tallies are linked, and the step is applied.
-fn apply_linked(
-    boxes: u16,
-    grocers: u16,
-    offers: u16,
-    tallies: u16,
-    price: &[u32],
-    owner: &[u16],
-    gowner: &[u16],
-    tgrocer: &[u16],
-    tbox: &[u16],
-    toffer: &[u16],
-    tcount: &[i32],
+// A step of kind 1, 2 or 3: offers are linked by owner and tallies by box, and the step is applied. The words sent.
+fn move_prices(
+    z: Sizes,
+    offer_owner: &[u16],
+    tally_grocer: &[u16],
+    tally_box: &[u16],
+    tally_offer: &[u16],
+    tally_count: &[i32],
     needs: &[u16; 500],
-    sharers: &[u16; 255],
     known: &mut [u32],
-    ptransit: &mut [u32],
+    price_transit: &mut [u32],
     working: &mut [i64],
-    ttransit: &mut [i64],
-    statement: &mut [i64],
-    done: &mut [u16],
-    sent: &mut [u32],
-    kind: u16,
-    first: u16,
-    second: u16,
-)
-    requires { ⌜ Applies (jobTables boxes grocers offers tallies (now price) (now owner) (now gowner) (now tgrocer) (now tbox) (now toffer)
-        (now tcount)) (stateTables (now known) (now ptransit) (now working) (now ttransit) (now statement) (now done) (now sent)) (now needs)
-        (now sharers) (asked kind first second) ⌝ }
-    ensures { λ _. ⌜ stateTables (now (known .exit)) (now (ptransit .exit)) (now (working .exit)) (now (ttransit .exit)) (now (statement .exit))
-        (now (done .exit)) (now (sent .exit)) ≡ moved (jobTables boxes grocers offers tallies (now (price .entry)) (now (owner .entry))
-        (now (gowner .entry)) (now (tgrocer .entry)) (now (tbox .entry)) (now (toffer .entry)) (now (tcount .entry)))
-        (stateTables (now (known .entry)) (now (ptransit .entry)) (now (working .entry)) (now (ttransit .entry)) (now (statement .entry))
-        (now (done .entry)) (now (sent .entry))) (asked kind first second) ⌝ }
+    x: Step,
+) -> u32
+    requires { ⌜ PricesLent (tallies (z .boxes) (z .grocers) (z .offers) (z .tallies) (now «offer_owner») (now «tally_grocer») (now «tally_box»)
+        (now «tally_offer») (now «tally_count»)) (now known) (now «price_transit») (now working) (x .kind) (x .first) (x .second) ⌝ }
+    ensures { λ r. ⌜ PriceStepOut (tallies (z .boxes) (z .grocers) (z .offers) (z .tallies) (now («offer_owner» .entry)) (now («tally_grocer» .entry))
+        (now («tally_box» .entry)) (now («tally_offer» .entry)) (now («tally_count» .entry))) (now (needs .entry)) (now (known .entry))
+        (now («price_transit» .entry)) (now (working .entry)) (x .kind) (x .first) (x .second)
+        (now (known .exit)) (now («price_transit» .exit)) (now (working .exit)) r ⌝ }
 {
-    let mut ofirst: [u16; 16] = [0; 16];
-    let mut onext: [u16; 500] = [0; 500];
-    let mut gfirst: [u16; 16] = [0; 16];
-    let mut gnext: [u16; 255] = [0; 255];
-    let mut tfirst: [u16; 16] = [0; 16];
-    let mut tnext: [u16; 1000] = [0; 1000];
-    links::link(offers as usize, owner, &mut ofirst, &mut onext);
-    links::link(grocers as usize, gowner, &mut gfirst, &mut gnext);
-    links::link(tallies as usize, tbox, &mut tfirst, &mut tnext);
-    apply::apply(
-        boxes,
-        grocers,
-        offers,
-        tallies,
-        price,
-        owner,
-        gowner,
-        tgrocer,
-        tbox,
-        toffer,
-        tcount,
+    let mut offer_links = [0u16; 517];
+    let mut tally_links = [0u16; 1017];
+    links::link(z.offers as usize, offer_owner, &mut offer_links);
+    links::link(z.tallies as usize, tally_box, &mut tally_links);
+    apply::price_step(
+        z,
+        offer_owner,
+        tally_grocer,
+        tally_box,
+        tally_offer,
+        tally_count,
         needs,
-        sharers,
-        &ofirst,
-        &onext,
-        &gfirst,
-        &gnext,
-        &tfirst,
-        &tnext,
+        &offer_links,
+        &tally_links,
         known,
-        ptransit,
+        price_transit,
         working,
-        ttransit,
+        x,
+    )
+}
+
+// A step of kind 4, 5 or 6: grocers are linked by owner, and the step is applied. The words sent.
+fn move_totals(
+    z: Sizes,
+    grocer_owner: &[u16],
+    sharers: &[u16; 255],
+    working: &mut [i64],
+    total_transit: &mut [i64],
+    statement: &mut [i64],
+    x: Step,
+) -> u32
+    requires { ⌜ TotalsLent (z .boxes) (z .grocers) (now «grocer_owner») (now working) (now «total_transit») (now statement)
+        (x .kind) (x .first) (x .second) ⌝ }
+    ensures { λ r. ⌜ TotalStepOut (z .boxes) (z .grocers) (now («grocer_owner» .entry)) (now (sharers .entry)) (now (working .entry))
+        (now («total_transit» .entry)) (now (statement .entry)) (x .kind) (x .first) (x .second)
+        (now (working .exit)) (now («total_transit» .exit)) (now (statement .exit)) r ⌝ }
+{
+    let mut grocer_links = [0u16; 272];
+    links::link(z.grocers as usize, grocer_owner, &mut grocer_links);
+    apply::total_step(
+        z,
+        grocer_owner,
+        sharers,
+        &grocer_links,
+        working,
+        total_transit,
         statement,
-        done,
-        sent,
-        kind,
-        first,
-        second,
-    );
+        x,
+    )
+}
+
+// The step is marked as done, and the words that it sent are counted.
+fn note(z: Sizes, x: Step, more: u32, done: &mut [u16], sent: &mut [u32])
+    requires { ⌜ MarksIn (z .boxes) (x .kind) (x .first) (x .second) (now done) ⌝ }
+    requires { ⌜ upTo 1 (6 * z .boxes * z .boxes) (now done) ≡ true ⌝ }
+    requires { ⌜ SentIn (now sent) × (more ≤ 500) ⌝ }
+    ensures { λ _. ⌜ (now (done .exit) ≡ marked (z .boxes) (kindOf (x .kind)) (x .first) (x .second) (now (done .entry))) ×
+        (now (sent .exit) ≡ sentMore (now (sent .entry)) more) ⌝ }
+{
+    rules::marks::mark(z.boxes, x.kind, x.first, x.second, done);
+    apply::raise(sent, more);
 }
 
 // One step request. K, M, N and T and the three numbers of the request may be anything, and so may every lent word.
@@ -96,16 +112,16 @@ pub fn step(
     offers: u16,
     tallies: u16,
     price: &[u32],
-    owner: &[u16],
-    gowner: &[u16],
-    tgrocer: &[u16],
-    tbox: &[u16],
-    toffer: &[u16],
-    tcount: &[i32],
+    offer_owner: &[u16],
+    grocer_owner: &[u16],
+    tally_grocer: &[u16],
+    tally_box: &[u16],
+    tally_offer: &[u16],
+    tally_count: &[i32],
     known: &mut [u32],
-    ptransit: &mut [u32],
+    price_transit: &mut [u32],
     working: &mut [i64],
-    ttransit: &mut [i64],
+    total_transit: &mut [i64],
     statement: &mut [i64],
     done: &mut [u16],
     sent: &mut [u32],
@@ -114,92 +130,77 @@ pub fn step(
     second: u16,
 ) -> Answer
     ensures { λ r. ⌜ outcome (answerOf r)
-        (stateTables (now (known .exit)) (now (ptransit .exit)) (now (working .exit)) (now (ttransit .exit)) (now (statement .exit))
+        (stateTables (now (known .exit)) (now («price_transit» .exit)) (now (working .exit)) (now («total_transit» .exit)) (now (statement .exit))
         (now (done .exit)) (now (sent .exit)))
         ≡ stepped
-        (jobTables boxes grocers offers tallies (now (price .entry)) (now (owner .entry)) (now (gowner .entry)) (now (tgrocer .entry))
-        (now (tbox .entry)) (now (toffer .entry)) (now (tcount .entry)))
-        (stateTables (now (known .entry)) (now (ptransit .entry)) (now (working .entry)) (now (ttransit .entry)) (now (statement .entry))
-        (now (done .entry)) (now (sent .entry)))
+        (jobTables boxes grocers offers tallies (now (price .entry)) (now («offer_owner» .entry)) (now («grocer_owner» .entry))
+        (now («tally_grocer» .entry)) (now («tally_box» .entry)) (now («tally_offer» .entry)) (now («tally_count» .entry)))
+        (stateTables (now (known .entry)) (now («price_transit» .entry)) (now (working .entry)) (now («total_transit» .entry))
+        (now (statement .entry)) (now (done .entry)) (now (sent .entry)))
         (asked kind first second) ⌝ }
 {
-    let early = refuse::early_refusal(
+    let z = Sizes {
         boxes,
         grocers,
         offers,
         tallies,
-        price,
-        owner,
-        gowner,
-        tgrocer,
-        tbox,
-        toffer,
-        tcount,
-        known,
-        ptransit,
-        working,
-        ttransit,
-        statement,
-        done,
-        sent,
-    );
-    if early != 0 {
-        return Answer::Refused(early);
-    }
-    let needing = tables::masks::needs(boxes, tallies, tbox, toffer);
-    let sharing = tables::masks::sharers(boxes, tallies, tbox, tgrocer);
-    let r = refuse::later_refusal(
-        boxes,
-        grocers,
-        offers,
-        tallies,
-        price,
-        owner,
-        gowner,
-        tgrocer,
-        tbox,
-        toffer,
-        tcount,
-        known,
-        ptransit,
-        working,
-        ttransit,
-        statement,
-        done,
-        sent,
-        &needing,
-        &sharing,
+    };
+    let x = Step {
         kind,
         first,
         second,
+    };
+    let mut needs = [0u16; 500];
+    let mut sharers = [0u16; 255];
+    let r = refuse::refusal(
+        z,
+        price,
+        offer_owner,
+        grocer_owner,
+        tally_grocer,
+        tally_box,
+        tally_offer,
+        tally_count,
+        known,
+        price_transit,
+        working,
+        total_transit,
+        statement,
+        done,
+        sent,
+        &mut needs,
+        &mut sharers,
+        x,
     );
     if r != 0 {
         return Answer::Refused(r);
     }
-    apply_linked(
-        boxes,
-        grocers,
-        offers,
-        tallies,
-        price,
-        owner,
-        gowner,
-        tgrocer,
-        tbox,
-        toffer,
-        tcount,
-        &needing,
-        &sharing,
-        known,
-        ptransit,
+    if kind <= 3 {
+        let more = move_prices(
+            z,
+            offer_owner,
+            tally_grocer,
+            tally_box,
+            tally_offer,
+            tally_count,
+            &needs,
+            known,
+            price_transit,
+            working,
+            x,
+        );
+        note(z, x, more, done, sent);
+        return Answer::Accepted;
+    }
+    let more = move_totals(
+        z,
+        grocer_owner,
+        &sharers,
         working,
-        ttransit,
+        total_transit,
         statement,
-        done,
-        sent,
-        kind,
-        first,
-        second,
+        x,
     );
+    note(z, x, more, done, sent);
     Answer::Accepted
 }

@@ -7,6 +7,11 @@ ghost use mir.Syntax.{w64};
 ghost use mir.Val.{SFits};
 ghost use Rattle.model.specs.Ranges.{maxPrice, maxCount, maxAmount};
 
+// An amount is within ±10^15.
+const MAX_AMOUNT: i64 = 1_000_000_000_000_000;
+
+const MIN_AMOUNT: i64 = -1_000_000_000_000_000;
+
 // A 16-bit number as an index.
 pub fn index(x: u16) -> usize
     ensures { λ r. ⌜ r ≡ x ⌝ }
@@ -64,8 +69,8 @@ pub fn amount(count: i32, price: u32) -> i64
 pub fn amount_fits(x: i64) -> bool
     ensures { λ r. ⌜ r ≡ leb (natAbs x) maxAmount ⌝ }
 {
-    if x > 1_000_000_000_000_000 {
+    if x > MAX_AMOUNT {
         return false;
     }
-    x >= -1_000_000_000_000_000
+    x >= MIN_AMOUNT
 }

@@ -1,9 +1,7 @@
 -- `apply::total_step` meets its contract, kind by kind. Assumes nothing.
-use mathlib.Core.Path.{_≡_, refl, _∙_}
-use mathlib.Core.List.{List}
+use mathlib.Core.Path.{_≡_, _∙_}
 use Prim.Native.Nat.{ℕ, _<_}
 use native.Mathlib.Omega.{arith}
-use lib.IntN.{ℤ}
 use borrow.Author.Needs.{needs}
 use denote.Ref.{now}
 use Rattle.apply.proofs.Sides.{totals-sent-out, own-added-out, totals-received-out}

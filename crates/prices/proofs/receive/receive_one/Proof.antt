@@ -12,17 +12,21 @@ use Rattle.prices.proofs.receive.receive_one.Tie as tie
 abbrev due : tie.Start → Bool
 due s = wordIn (now (s .args .owner)) (now (s .args .needs)) (s .args .b) (s .args .a) (s .args .o)
 
+-- The start, from the test.
+abbrev entry : tie.After-in-message → tie.Start
+entry c = c .before .before .before .before .before .before
+
 returns : tie.Need-returns
 unfolding wordIn
 returns c =
-    let s = c .before .before .before .before .before .before .before .before in
+    let s = entry (c .before .before) in
     let e : due s ≡ true = sym (c .before .before .in-message .ensures) ∙ c .before .if1 .taken in
     (sym (cond-yes (due s) _ _ e), sym (cond-yes (due s) _ _ e))
 
 returns-2 : tie.Need-returns-2
 unfolding wordIn
 returns-2 c =
-    let s = c .before .before .before .before .before .before .before in
+    let s = entry (c .before) in
     let e : due s ≡ false = sym (c .before .in-message .ensures) ∙ c .if1 .left in
     (sym (cond-no (due s) _ _ e), sym (cond-no (due s) _ _ e))
 

@@ -50,9 +50,18 @@ knew s i = getD (now (s .args .known)) i 0
 abbrev came : Start → ℕ → ℕ
 came s i = getD (now (s .args .transit)) i 0
 
--- The entry of the call, from a turn of the loop.
+-- The entry of the call, from a turn of the loop; the turn, and what is received in it, from what follows it.
+abbrev begun : tie.After-o Inv-loop μ-loop → Start
+begun c = c .before .before .before .before
+
 abbrev entry : tie.In-loop Inv-loop μ-loop → Start
-entry e = e .before .before .before .before .before .before
+entry e = begun (e .before .before)
+
+abbrev turn : tie.After-receive-one Inv-loop μ-loop → tie.In-loop Inv-loop μ-loop
+turn c = c .before .before .before
+
+abbrev received : tie.After-slice-known4 Inv-loop μ-loop → tie.After-receive-one Inv-loop μ-loop
+received c = c .before .before .before .before
 
 -- Offers in the message are of box b.
 due-theirs : (s : Start) (x : ℕ) → due s x ≡ true → getD (now (s .args .owner)) x 0 ≡ s .args .b
@@ -118,23 +127,23 @@ receive-one-requires c κs =
     )
 
 add-o : tie.Need-add-o Inv-loop μ-loop
-add-o c = let e = c .before .before .before .before .before .before .before in omega (arith, e .loop-test .taken, entry e .pre .0 .offers-in)
+add-o c = let e = turn (received c) in omega (arith, e .loop-test .taken, entry e .pre .0 .offers-in)
 
 mul-o-2 : tie.Need-mul-o-2 Inv-loop μ-loop
-mul-o-2 c = let e = c .before .before .before .before .before .before .before in omega (arith, e .loop-test .taken, entry e .pre .0 .offers-in)
+mul-o-2 c = let e = turn (received c) in omega (arith, e .loop-test .taken, entry e .pre .0 .offers-in)
 
 element-copy-out-o-2 : tie.Need-element-copy-out-o-2 Inv-loop μ-loop
-element-copy-out-o-2 c = let e = c .before .before .before .before .before .before .before in omega (arith, e .loop-test .taken, entry e .pre .0 .offers-in)
+element-copy-out-o-2 c = let e = turn (received c) in omega (arith, e .loop-test .taken, entry e .pre .0 .offers-in)
 
 cast-o-2 : tie.Need-cast-o-2 Inv-loop μ-loop
-cast-o-2 c = let e = c .before .before .before .before .before .before .before .before in omega (arith, walks e .to, entry e .pre .0 .offers-in)
+cast-o-2 c = let e = turn (received (c .before)) in omega (arith, walks e .to, entry e .pre .0 .offers-in)
 
 loop-less : tie.Need-loop-less Inv-loop μ-loop
-loop-less c = let e = c .before .before .before .before .before .before .before .before in omega (arith, walks e .from, e .loop-test .taken)
+loop-less c = let e = turn (received (c .before)) in omega (arith, walks e .from, e .loop-test .taken)
 
 loop-again : tie.Need-loop-again Inv-loop μ-loop
 loop-again c =
-    let e = c .before .before .before .before .before .before .before .before in
+    let e = turn (received (c .before)) in
     let s = entry e in
     let o = e .before .loop .o in
     let j = getD (now (s .args .links)) (17 + o) 0 in
@@ -142,7 +151,7 @@ loop-again c =
     let inv = e .before .loop .inv in
     let past : (i : ℕ) → guarded (row s) (o + 1) (due s) i ≡ guarded (row s) j (due s) i =
     λ i. sym (guarded-passed (s .args .n) (now (s .args .owner)) (s .args .b) (o + 1) j (walks e) (due s) (due-theirs s) (row s) i) in
-    let call = c .before .before .before .before .before .receive-one in (
+    let call = received (c .before) .receive-one in (
       walks e .to,
       call .kept .0 ∙ inv .1,
       call .kept .1 .0 ∙ inv .2,
@@ -165,7 +174,7 @@ same-length-2 c = c .before .loop .inv .2
 returns : tie.Need-returns Inv-loop μ-loop
 unfolding receivedKnown receivedTransit
 returns c =
-    let s = c .before .before .before .before .before .before in
+    let s = begun (c .before .before) in
     let inv = c .before .loop .inv in
     let end : c .before .loop .o ≡ s .args .n = le-antisymm (inv .0) (c .loop-test .left) in (
       row-stored (s .args .k) (s .args .n) (s .args .a) (row s) (c .before .loop .o) (now (s .args .known)) (c .before .loop .known) 0

@@ -14,17 +14,21 @@ use Rattle.prices.proofs.send.send_one.Tie as tie
 abbrev due : tie.Start → Bool
 due s = wordIn (now (s .args .owner)) (now (s .args .needs)) (s .args .a) (s .args .b) (s .args .o)
 
+-- The start, from the test.
+abbrev entry : tie.After-in-message → tie.Start
+entry c = c .before .before .before .before .before .before
+
 returns : tie.Need-returns
 unfolding wordIn naturals
 returns c =
-    let s = c .before .before .before .before .before .before .before .before in
+    let s = entry (c .before .before) in
     let e : due s ≡ true = sym (c .before .before .in-message .ensures) ∙ c .before .if1 .taken in
     (sym (only-yes naturals (due s) 1 e), sym (cond-yes (due s) _ _ e))
 
 returns-2 : tie.Need-returns-2
 unfolding wordIn naturals
 returns-2 c =
-    let s = c .before .before .before .before .before .before .before in
+    let s = entry (c .before) in
     let e : due s ≡ false = sym (c .before .in-message .ensures) ∙ c .if1 .left in
     (sym (only-no naturals (due s) 1 e), sym (cond-no (due s) _ _ e))
 

@@ -65,8 +65,11 @@ to-in : (s : Start) (o : ℕ) → o < s .args .n → to s + o < s .args .k * s .
 to-in s o l = cell-in (s .args .b) (s .args .k) (s .args .n) o (s .pre .0 .b-in) l
 
 -- The entry of the call, from a turn of the loop.
+abbrev begun : tie.After-o Inv-loop μ-loop → Start
+begun c = c .before .before .before .before
+
 abbrev entry : tie.In-loop Inv-loop μ-loop → Start
-entry e = e .before .before .before .before .before .before
+entry e = begun (e .before .before)
 
 -- Offers in the message are of box a.
 due-own : (s : Start) (x : ℕ) → due s x ≡ true → getD (now (s .args .owner)) x 0 ≡ s .args .a
@@ -179,7 +182,7 @@ row-word s o l =
 returns : tie.Need-returns Inv-loop μ-loop
 unfolding sentTransit
 returns c =
-    let s = c .before .before .before .before .before .before in
+    let s = begun (c .before .before) in
     let inv = c .before .loop .inv in
     let end : c .before .loop .o ≡ s .args .n = le-antisymm (inv .0) (c .loop-test .left) in (
       row-stored (s .args .k) (s .args .n) (s .args .b) (to s) (c .before .loop .o) (now (s .args .transit)) (c .before .loop .transit) 0

@@ -22,14 +22,18 @@ old s = getD (now (s .args .statement)) (s .args .g) (pos 0)
 abbrev total : tie.Start → ℤ
 total s = getD (now (s .args .source)) (s .args .at) (pos 0)
 
+-- The start, from the test.
+abbrev entry : tie.After-is-credited → tie.Start
+entry c = c .before .before .before .before
+
 -- What the call says of the grocer.
-told : (c : tie.After-is-credited) → c .is-credited .result ≡ test (c .before .before .before .before)
+told : (c : tie.After-is-credited) → c .is-credited .result ≡ test (entry c)
 unfolding credited
 told c = c .is-credited .ensures
 
 returns : tie.Need-returns
 returns c =
-    let s = c .before .before .before .before .before in
+    let s = entry (c .before) in
     let is : test s ≡ false = sym (told (c .before)) ∙ not-true (c .before .is-credited .result) (c .if1 .taken) in (
       sym (cond-no (test s) (set (now (s .args .source)) (s .args .at) (pos 0)) (now (s .args .source)) is),
       sym (cond-no (test s) (set (now (s .args .statement)) (s .args .g) (old s +ℤ total s)) (now (s .args .statement)) is),
@@ -37,12 +41,12 @@ returns c =
 
 plus-requires : tie.Need-plus-requires
 plus-requires c κs =
-    let s = c .before .before .before .before .before .before .before in
+    let s = entry (c .before .before .before) in
     sum-fits (old s) (total s) 1_000_000_000_000_000 (lit≤ tt) (s .pre .statement-in) (s .pre .total-in) (c .before .plus-arg .given) (c .plus-arg2 .given)
 
 returns-2 : tie.Need-returns-2
 returns-2 c =
-    let s = c .before .before .before .before .before .before .before .before in
+    let s = entry (c .before .before .before .before) in
     let is : test s ≡ true = sym (told (c .before .before .before .before)) ∙ not-false (c .before .before .before .before .is-credited .result) (c .before .before .before .if1 .left) in (
       sym (cond-yes (test s) (set (now (s .args .source)) (s .args .at) (pos 0)) (now (s .args .source)) is),
       ap (λ (z : ℤ). set (now (s .args .statement)) (s .args .g) z)

@@ -5,8 +5,8 @@ use lib.Dec.{lit≤}
 use lib.IntN.{pos, _*ℤ_}
 use mir.Syntax.{w64}
 use mir.Val.{toZ, ofZ}
-use Rattle.laws.proofs.Signed.{read64, read32, fits64-as, abs-times-le}
 use borrow.Author.Needs.{needs}
+use Rattle.laws.proofs.Signed.{read64, read32, fits64-as, abs-times-le}
 use Rattle.totals.proofs.num.amount.Statement.{statement}
 use Rattle.totals.proofs.num.amount.Tie as tie
 

@@ -49,8 +49,11 @@ place s base i = base + getD (now (s .args .tally-grocer)) i 0
 abbrev rows : tie.After-index2 Inv-loop μ-loop → tie.After-row-start2 Inv-loop μ-loop
 rows c = c .before .before .before
 
+abbrev lent : tie.After-shared-slice-known5 Inv-loop μ-loop → Start
+lent c = c .before .before .before .before .before
+
 abbrev entry : tie.After-row-start2 Inv-loop μ-loop → Start
-entry c = c .before .before .before .before .before .before .before
+entry c = lent (c .before .before)
 
 abbrev at-of : tie.After-row-start2 Inv-loop μ-loop → ℕ
 at-of c = c .before .row-start .result
@@ -87,10 +90,10 @@ small c =
     )
 
 row-start-requires : tie.Need-row-start-requires Inv-loop μ-loop
-row-start-requires c κs = let s = c .before .before .before .before .before in (s .pre .0 .offers-in, omega (arith, s .pre .0 .boxes-in, s .pre .1 .1 .1 .0))
+row-start-requires c κs = let s = lent c in (s .pre .0 .offers-in, omega (arith, s .pre .0 .boxes-in, s .pre .1 .1 .1 .0))
 
 row-start-requires-2 : tie.Need-row-start-requires-2 Inv-loop μ-loop
-row-start-requires-2 c κs = let s = c .before .before .before .before .before .before in (omega (arith, s .pre .0 .grocers-in), omega (arith, s .pre .0 .boxes-in, s .pre .1 .1 .1 .0))
+row-start-requires-2 c κs = let s = lent (c .before) in (omega (arith, s .pre .0 .grocers-in), omega (arith, s .pre .0 .boxes-in, s .pre .1 .1 .1 .0))
 
 mul-index : tie.Need-mul-index Inv-loop μ-loop
 mul-index c = let s = entry (c .before) in omega (arith, c .index .ensures, s .pre .0 .boxes-in, s .pre .1 .1 .1 .0)

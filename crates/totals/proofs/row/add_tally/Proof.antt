@@ -10,9 +10,9 @@ use lib.IntN.{ℤ, pos, _+ℤ_, _*ℤ_}
 use mir.Syntax.{w32, w64}
 use mir.Val.{toZ, ofZ}
 use borrow.Author.Tests.{not-true, not-false}
+use borrow.Author.Needs.{needs}
 use Rattle.laws.proofs.Signed.{read64, read32-abs, read-sum, fits64-as, abs-plus, abs-times-le}
 use Rattle.totals.specs.Row.{isTaken, productAt}
-use borrow.Author.Needs.{needs}
 use denote.Ref.{now}
 use Rattle.totals.proofs.Rows.{raised-not, raised-by}
 use Rattle.totals.proofs.row.add_tally.Statement.{statement}
@@ -30,36 +30,52 @@ place s = s .args .base + getD (now (s .args .tally-grocer)) (s .args .i) 0
 count-is : (s : tie.Start) → toZ w32 (ofZ w32 (getD (now (s .args .tally-count)) (s .args .i) (pos 0))) ≡ getD (now (s .args .tally-count)) (s .args .i) (pos 0)
 count-is s = read32-abs (getD (now (s .args .tally-count)) (s .args .i) (pos 0)) (le-trans (s .pre .0 .count-in) (lit≤ tt))
 
+-- The start, from the test; and the parts of the sum, from its last.
+abbrev lent : tie.After-shared-slice-known5 → tie.Start
+lent c = c .before .before .before .before .before
+
+abbrev tested : tie.After-index → tie.Else1
+tested c = c .before .before
+
+abbrev entry : tie.After-index → tie.Start
+entry c = lent (tested c .before .before)
+
+abbrev offer-at : tie.After-amount → tie.After-index
+offer-at c = c .before .before .before
+
+abbrev amount-at : tie.After-plus-arg → tie.After-amount
+amount-at c = c .before .before .before
+
+abbrev begun : tie.After-plus-arg → tie.Start
+begun c = entry (offer-at (amount-at c))
+
 -- What is added, and what it is added to.
-amount-is : (c : tie.After-amount) → c .amount .result ≡ product (c .before .before .before .before .before .before .before .before .before .before .before .before)
+amount-is : (c : tie.After-amount) → c .amount .result ≡ product (entry (offer-at c))
 amount-is c =
-    let s = c .before .before .before .before .before .before .before .before .before .before .before .before in
-    c .amount .ensures ∙ ap₂ (λ (z : ℤ) (o : ℕ). z *ℤ pos (getD (now (s .args .prices)) (s .args .at + o) 0)) (count-is s) (c .before .before .before .index .ensures)
+    let s = entry (offer-at c) in
+    c .amount .ensures ∙ ap₂ (λ (z : ℤ) (o : ℕ). z *ℤ pos (getD (now (s .args .prices)) (s .args .at + o) 0)) (count-is s) (offer-at c .index .ensures)
 
 sum-is : (c : tie.After-plus-arg) →
-    toZ w64 (ofZ w64 (getD (now (c .before .before .before .before .before .before .before .before .before .before .before .before .before .before .before .args .row))
-    (c .before .before .before .before .before .before .before .before .before .before .before .before .before .before .before .args .base + c .before .index2 .result) (pos 0))) +ℤ toZ w64
-    (ofZ w64 (c .before .before .before .amount .result))
-    ≡ getD (now (c .before .before .before .before .before .before .before .before .before .before .before .before .before .before .before .args .row))
-    (place (c .before .before .before .before .before .before .before .before .before .before .before .before .before .before .before)) (pos 0) +ℤ product
-    (c .before .before .before .before .before .before .before .before .before .before .before .before .before .before .before)
+    toZ w64 (ofZ w64 (getD (now (begun c .args .row)) (begun c .args .base + c .before .index2 .result) (pos 0))) +ℤ toZ w64 (ofZ w64 (amount-at c .amount .result))
+    ≡ getD (now (begun c .args .row)) (place (begun c)) (pos 0) +ℤ product (begun c)
 sum-is c =
-    let s = c .before .before .before .before .before .before .before .before .before .before .before .before .before .before .before in
-    read-sum (c .plus-arg .given) (c .before .before .before .amount .ok) (ap (λ (g : ℕ). getD (now (s .args .row)) (s .args .base + g) (pos 0)) (c .before .index2 .ensures)) (amount-is (c .before .before .before))
+    let s = begun c in
+    read-sum (c .plus-arg .given) (amount-at c .amount .ok) (ap (λ (g : ℕ). getD (now (s .args .row)) (s .args .base + g) (pos 0)) (c .before .index2 .ensures)) (amount-is (amount-at c))
 
 returns : tie.Need-returns
 returns c =
-    let s = c .before .before .before .before .before .before .before in
+    let s = lent (c .before .before) in
     raised-not (now (s .args .row)) (place s) (taken s) (product s) (sym (c .before .is-taken .ensures) ∙ not-true (c .before .is-taken .result) (c .if1 .taken))
 
 amount-requires : tie.Need-amount-requires
 amount-requires c κs =
-    let s = c .before .before .before .before .before .before .before .before .before .before .before in
-    (rw (count-is s) (s .pre .0 .count-in), rw (c .before .before .index .ensures) (s .pre .0 .price-in))
+    let o = c .before .before in
+    let s = entry o in
+    (rw (count-is s) (s .pre .0 .count-in), rw (o .index .ensures) (s .pre .0 .price-in))
 
 plus-requires : tie.Need-plus-requires
 plus-requires c κs =
-    let s = c .before .before .before .before .before .before .before .before .before .before .before .before .before .before .before in
+    let s = begun c in
     fits64-as (sum-is c) (omega (
       arith,
       abs-plus (getD (now (s .args .row)) (place s) (pos 0)) (product s),
@@ -69,10 +85,10 @@ plus-requires c κs =
 
 returns-2 : tie.Need-returns-2
 returns-2 c =
-    let s = c .before .before .before .before .before .before .before .before .before .before .before .before .before .before .before .before in
+    let s = begun (c .before) in
+    let t = tested (offer-at (amount-at (c .before))) in
     ap₂ (set (now (s .args .row))) (ap (λ (g : ℕ). s .args .base + g) (c .before .before .index2 .ensures)) (read64 (c .plus .result) (c .plus .ok) ∙ c .plus .ensures ∙ sum-is (c .before))
-    ∙ raised-by (now (s .args .row)) (place s) (taken s) (product s) (sym (c .before .before .before .before .before .before .before .before .before .before .is-taken .ensures) ∙ not-false
-    (c .before .before .before .before .before .before .before .before .before .before .is-taken .result) (c .before .before .before .before .before .before .before .before .before .if1 .left))
+    ∙ raised-by (now (s .args .row)) (place s) (taken s) (product s) (sym (t .before .is-taken .ensures) ∙ not-false (t .before .is-taken .result) (t .if1 .left))
 
 pub add-tally-spec : {M : Type 1} → statement M
 add-tally-spec =

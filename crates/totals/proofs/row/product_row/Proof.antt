@@ -44,8 +44,11 @@ place s i = getD (now (s .args .tally-grocer)) i 0
 abbrev began : tie.In-loop Inv-loop μ-loop → tie.After-row-start Inv-loop μ-loop
 began c = c .before .before
 
+abbrev lent : tie.After-shared-slice-known5 Inv-loop μ-loop → Start
+lent c = c .before .before .before .before .before
+
 abbrev entry : tie.After-row-start Inv-loop μ-loop → Start
-entry c = c .before .before .before .before .before .before .before
+entry c = lent (c .before .before)
 
 -- A grocer's place is within the row, and the row's word there is small enough to add to.
 grocer-in : (c : tie.In-loop Inv-loop μ-loop) → place (entry (began c)) (c .before .loop .i) < 255
@@ -69,15 +72,15 @@ small c =
     )
 
 row-at-requires : tie.Need-row-at-requires Inv-loop μ-loop
-row-at-requires c κs = let s = c .before .before .before .before .before in (s .pre .0 .boxes-in, s .pre .0 .grocers-in, s .pre .1 .1 .1, s .pre .1 .1 .0 .long)
+row-at-requires c κs = let s = lent c in (s .pre .0 .boxes-in, s .pre .0 .grocers-in, s .pre .1 .1 .1, s .pre .1 .1 .0 .long)
 
 row-start-requires : tie.Need-row-start-requires Inv-loop μ-loop
-row-start-requires c κs = let s = c .before .before .before .before .before .before in (s .pre .0 .offers-in, omega (arith, s .pre .0 .boxes-in, s .pre .1 .1 .1))
+row-start-requires c κs = let s = lent (c .before) in (s .pre .0 .offers-in, omega (arith, s .pre .0 .boxes-in, s .pre .1 .1 .1))
 
 loop-holds : tie.Need-loop-holds Inv-loop μ-loop
 unfolding integers
 loop-holds c =
-    let s = c .before .before .before .before .before .before .before in
+    let s = entry c in
     let row = c .before .row-at .result in
     (search needs, search needs, λ g. sym (ap (λ (z : ℤ). getD row g (pos 0) +ℤ z) (sum-start integers (share (place s) (brought s (c .row-start .result)) g)) ∙ +ℤ-idr (getD row g (pos 0))))
 

@@ -16,14 +16,18 @@ use Rattle.totals.proofs.send.send_one.Tie as tie
 abbrev test : tie.Start → Bool
 test s = wordIn (now (s .args .owner)) (now (s .args .sharers)) (s .args .b) (s .args .a) (s .args .g)
 
+-- The start, from the test.
+abbrev entry : tie.After-in-message → tie.Start
+entry c = c .before .before .before .before
+
 -- What the call says of the word.
-told : (c : tie.After-in-message) → c .in-message .result ≡ test (c .before .before .before .before)
+told : (c : tie.After-in-message) → c .in-message .result ≡ test (entry c)
 unfolding wordIn
 told c = c .in-message .ensures
 
 returns : tie.Need-returns
 returns c =
-    let s = c .before .before .before .before .before in
+    let s = entry (c .before) in
     let is : test s ≡ false = sym (told (c .before)) ∙ not-true (c .before .in-message .result) (c .if1 .taken) in (
       sym (counts-none is),
       sym (cond-no (test s) (set (now (s .args .working)) (s .args .at) (pos 0)) (now (s .args .working)) is),
@@ -32,7 +36,7 @@ returns c =
 
 returns-2 : tie.Need-returns-2
 returns-2 c =
-    let s = c .before .before .before .before .before .before in
+    let s = entry (c .before .before) in
     let w = now (s .args .working) in
     let is : test s ≡ true = sym (told (c .before .before)) ∙ not-false (c .before .before .in-message .result) (c .before .if1 .left) in (
       sym (counts-one is),

@@ -54,6 +54,13 @@ way s i = getD (now (s .args .transit)) i (pos 0)
 abbrev entry : tie.In-loop Inv-loop μ-loop → Start
 entry c = c .before .before .before .before .before
 
+-- The turn, and what is done in it, from what follows it.
+abbrev turn : tie.After-send-one Inv-loop μ-loop → tie.In-loop Inv-loop μ-loop
+turn c = c .before .before .before
+
+abbrev called : tie.After-index Inv-loop μ-loop → tie.After-send-one Inv-loop μ-loop
+called c = c .before .before .before .before
+
 abbrev start : tie.In-loop Inv-loop μ-loop → ℕ
 start c = c .before .before .before .row-start .result
 
@@ -116,27 +123,27 @@ element-copy-out-index c = let e = c .before .before .before .before .before in 
 
 -- The link goes to the next grocer of box b.
 link : (c : tie.After-index Inv-loop μ-loop) →
-    let e = c .before .before .before .before .before .before .before in
+    let e = turn (called c) in
     Skips (entry e .args .m) (now (entry e .args .owner)) (entry e .args .b) (e .before .loop .g + 1) (c .index .result)
 link c =
-    let e = c .before .before .before .before .before .before .before in
+    let e = turn (called c) in
     let s = entry e in
     goes-to (s .args .m) (now (s .args .owner)) (now (s .args .links)) (s .args .b) (e .before .loop .g) (c .index .result) (s .pre .1 .1) (e .loop-test .taken)
     (e .before .loop .inv .6 (e .loop-test .taken)) (c .index .ensures)
 
 loop-less : tie.Need-loop-less Inv-loop μ-loop
-loop-less c = omega (arith, link c .from, link c .to, c .before .before .before .before .before .before .before .loop-test .taken)
+loop-less c = omega (arith, link c .from, link c .to, turn (called c) .loop-test .taken)
 
 loop-again : tie.Need-loop-again Inv-loop μ-loop
 loop-again c =
-    let e = c .before .before .before .before .before .before .before in
+    let e = turn (called c) in
     let s = entry e in
     let at = start e in
     let g = e .before .loop .g in
     let h = c .index .result in
     let k = link c in
     let inv = e .before .loop .inv in
-    let call = c .before .before .before .before .send-one in
+    let call = called c .send-one in
     let over : (i : ℕ) → guarded at (g + 1) (test s) i ≡ guarded at h (test s) i = λ i. sym (guarded-passed (s .args .m) (now (s .args .owner)) (s .args .b) (g + 1) h k (test s) (keyed s) at i) in (
       k .to,
       ap₂ _+_ (inv .1) (call .ensures .0) ∙ sym (count-next g (test s)) ∙ sym (count-passed (s .args .m) (now (s .args .owner)) (s .args .b) (g + 1) h k (test s) (keyed s)),
