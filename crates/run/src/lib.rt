@@ -3,9 +3,10 @@ mod steps;
 
 ghost use mathlib.Core.Path.{_≡_};
 ghost use Rattle.laws.specs.Checks.{firstMet};
-ghost use Rattle.model.specs.Tables.{jobTables, stateTables};
+ghost use Rattle.model.specs.Lent.{jobLent, stateBefore, stateAfter};
 ghost use Rattle.model.specs.Run.{ran, runRefusals};
-ghost use Rattle.run.specs.Run.{Begins, Settled, answerOf, given};
+ghost use Rattle.run.specs.Run.{answerOf, given};
+use apply::Sizes;
 
 // What a run answers: words sent, messages and steps; or the number of the condition that refuses it.
 pub enum Answer {
@@ -24,24 +25,22 @@ fn refusal(
     offers: u16,
     tallies: u16,
     price: &[u32],
-    owner: &[u16],
-    gowner: &[u16],
-    tgrocer: &[u16],
-    tbox: &[u16],
-    toffer: &[u16],
-    tcount: &[i32],
+    offer_owner: &[u16],
+    grocer_owner: &[u16],
+    tally_grocer: &[u16],
+    tally_box: &[u16],
+    tally_offer: &[u16],
+    tally_count: &[i32],
     known: &[u32],
-    ptransit: &[u32],
+    price_transit: &[u32],
     working: &[i64],
-    ttransit: &[i64],
+    total_transit: &[i64],
     statement: &[i64],
     done: &[u16],
     sent: &[u32],
 ) -> u16
-    ensures { λ r. ⌜ r ≡ firstMet (runRefusals (jobTables boxes grocers offers tallies (now (price .entry)) (now (owner .entry)) (now (gowner .entry))
-        (now (tgrocer .entry)) (now (tbox .entry)) (now (toffer .entry)) (now (tcount .entry)))
-        (stateTables (now (known .entry)) (now (ptransit .entry)) (now (working .entry)) (now (ttransit .entry)) (now (statement .entry))
-        (now (done .entry)) (now (sent .entry)))) ⌝ }
+    ensures { λ r. ⌜ r ≡ firstMet (runRefusals (jobLent boxes grocers offers tallies price «offer_owner» «grocer_owner» «tally_grocer» «tally_box»
+        «tally_offer» «tally_count») (stateBefore known «price_transit» working «total_transit» statement done sent)) ⌝ }
 {
     if tables::checks::job_short(
         boxes,
@@ -49,21 +48,21 @@ fn refusal(
         offers,
         tallies,
         price,
-        owner,
-        gowner,
-        tgrocer,
-        tbox,
-        toffer,
-        tcount,
+        offer_owner,
+        grocer_owner,
+        tally_grocer,
+        tally_box,
+        tally_offer,
+        tally_count,
     )
         | tables::checks::state_short(
             boxes,
             grocers,
             offers,
             known,
-            ptransit,
+            price_transit,
             working,
-            ttransit,
+            total_transit,
             statement,
             done,
             sent,
@@ -77,120 +76,43 @@ fn refusal(
         offers,
         tallies,
         price,
-        owner,
-        gowner,
-        tgrocer,
-        tbox,
-        toffer,
-        tcount,
+        offer_owner,
+        grocer_owner,
+        tally_grocer,
+        tally_box,
+        tally_offer,
+        tally_count,
     ) {
         return 21;
     }
     0
 }
 
-// The need words, the sharer words and both tables of messages are made once, and all steps are done.
-fn settle(
-    boxes: u16,
-    grocers: u16,
-    offers: u16,
-    tallies: u16,
-    price: &[u32],
-    owner: &[u16],
-    gowner: &[u16],
-    tgrocer: &[u16],
-    tbox: &[u16],
-    toffer: &[u16],
-    tcount: &[i32],
-    known: &mut [u32],
-    ptransit: &mut [u32],
-    working: &mut [i64],
-    ttransit: &mut [i64],
-    statement: &mut [i64],
-    done: &mut [u16],
-    sent: &mut [u32],
-    choices: &[u16],
-) -> picks::Counts
-    requires { ⌜ Begins (jobTables boxes grocers offers tallies (now price) (now owner) (now gowner) (now tgrocer) (now tbox) (now toffer)
-        (now tcount)) (stateTables (now known) (now ptransit) (now working) (now ttransit) (now statement) (now done) (now sent)) ⌝ }
-    ensures { λ r. ⌜ Settled (jobTables boxes grocers offers tallies (now (price .entry)) (now (owner .entry)) (now (gowner .entry))
-        (now (tgrocer .entry)) (now (tbox .entry)) (now (toffer .entry)) (now (tcount .entry)))
-        (stateTables (now (known .entry)) (now (ptransit .entry)) (now (working .entry)) (now (ttransit .entry)) (now (statement .entry))
-        (now (done .entry)) (now (sent .entry))) (now (choices .entry)) (stateTables (now (known .exit)) (now (ptransit .exit)) (now (working .exit))
-        (now (ttransit .exit)) (now (statement .exit)) (now (done .exit)) (now (sent .exit))) (r .messages) (r .steps) ⌝ }
-{
-    fresh::fresh(
-        boxes,
-        grocers,
-        offers,
-        price,
-        owner,
-        known,
-        ptransit,
-        working,
-        ttransit,
-        statement,
-        done,
-        sent,
-    );
-    let needs = tables::masks::needs(boxes, tallies, tbox, toffer);
-    let sharers = tables::masks::sharers(boxes, tallies, tbox, tgrocer);
-    let prices = tables::messages::price_table(offers, owner, &needs);
-    let totals = tables::messages::total_table(grocers, gowner, &sharers);
-    steps::all_steps(
-        boxes,
-        grocers,
-        offers,
-        tallies,
-        price,
-        owner,
-        gowner,
-        tgrocer,
-        tbox,
-        toffer,
-        tcount,
-        &needs,
-        &sharers,
-        &prices,
-        &totals,
-        known,
-        ptransit,
-        working,
-        ttransit,
-        statement,
-        done,
-        sent,
-        choices,
-    )
-}
-
-// The run of a job, from a fresh state.
+// The run of a job, from a fresh state: its steps are picked first, by the marks alone, and then done one after the other.
 pub fn run(
     boxes: u16,
     grocers: u16,
     offers: u16,
     tallies: u16,
     price: &[u32],
-    owner: &[u16],
-    gowner: &[u16],
-    tgrocer: &[u16],
-    tbox: &[u16],
-    toffer: &[u16],
-    tcount: &[i32],
+    offer_owner: &[u16],
+    grocer_owner: &[u16],
+    tally_grocer: &[u16],
+    tally_box: &[u16],
+    tally_offer: &[u16],
+    tally_count: &[i32],
     known: &mut [u32],
-    ptransit: &mut [u32],
+    price_transit: &mut [u32],
     working: &mut [i64],
-    ttransit: &mut [i64],
+    total_transit: &mut [i64],
     statement: &mut [i64],
     done: &mut [u16],
     sent: &mut [u32],
     choices: &[u16],
 ) -> Answer
-    ensures { λ r. ⌜ given (answerOf r) (stateTables (now (known .exit)) (now (ptransit .exit)) (now (working .exit)) (now (ttransit .exit))
-        (now (statement .exit)) (now (done .exit)) (now (sent .exit))) ≡ ran
-        (jobTables boxes grocers offers tallies (now (price .entry)) (now (owner .entry)) (now (gowner .entry)) (now (tgrocer .entry))
-        (now (tbox .entry)) (now (toffer .entry)) (now (tcount .entry))) (stateTables (now (known .entry)) (now (ptransit .entry))
-        (now (working .entry)) (now (ttransit .entry)) (now (statement .entry)) (now (done .entry)) (now (sent .entry))) (now (choices .entry)) ⌝ }
+    ensures { λ r. ⌜ given (answerOf r) (stateAfter known «price_transit» working «total_transit» statement done sent) ≡ ran
+        (jobLent boxes grocers offers tallies price «offer_owner» «grocer_owner» «tally_grocer» «tally_box» «tally_offer» «tally_count»)
+        (stateBefore known «price_transit» working «total_transit» statement done sent) (now (choices .entry)) ⌝ }
 {
     let r = refusal(
         boxes,
@@ -198,16 +120,16 @@ pub fn run(
         offers,
         tallies,
         price,
-        owner,
-        gowner,
-        tgrocer,
-        tbox,
-        toffer,
-        tcount,
+        offer_owner,
+        grocer_owner,
+        tally_grocer,
+        tally_box,
+        tally_offer,
+        tally_count,
         known,
-        ptransit,
+        price_transit,
         working,
-        ttransit,
+        total_transit,
         statement,
         done,
         sent,
@@ -215,30 +137,41 @@ pub fn run(
     if r != 0 {
         return Answer::Refused(r);
     }
-    let counts = settle(
-        boxes,
-        grocers,
-        offers,
-        tallies,
+    let z = Sizes {
+        boxes: boxes,
+        grocers: grocers,
+        offers: offers,
+        tallies: tallies,
+    };
+    let needs = tables::masks::needs(boxes, tallies, tally_box, tally_offer);
+    let sharers = tables::masks::sharers(boxes, tallies, tally_box, tally_grocer);
+    let prices = tables::messages::price_table(offers, offer_owner, &needs);
+    let totals = tables::messages::total_table(grocers, grocer_owner, &sharers);
+    let mut order = [0u16; 1536];
+    let n = order::put_order(boxes, &prices, &totals, choices, done, &mut order);
+    let all = steps::all_steps(
+        z,
         price,
-        owner,
-        gowner,
-        tgrocer,
-        tbox,
-        toffer,
-        tcount,
+        offer_owner,
+        grocer_owner,
+        tally_grocer,
+        tally_box,
+        tally_offer,
+        tally_count,
+        &needs,
+        &sharers,
+        &order,
+        n,
         known,
-        ptransit,
+        price_transit,
         working,
-        ttransit,
+        total_transit,
         statement,
-        done,
-        sent,
-        choices,
     );
+    sent[0] = all.words;
     Answer::Finished {
-        words: sent[0],
-        messages: counts.messages,
-        steps: counts.steps,
+        words: all.words,
+        messages: all.messages,
+        steps: n as u32,
     }
 }
