@@ -27,7 +27,8 @@ use Rattle.rules.specs.Rules.{permittedBy}
 use Rattle.walk.specs.Walk.{PlaceIn, here, listedBy, WalkIn, Found}
 use Rattle.order.specs.Order.{OfJob, MarksFrom, Picked, Kept, Ended, NoneBefore, Passed}
 use Rattle.model.proofs.Step.{marks-bits}
-use Rattle.model.proofs.Reach.{mark-cases}
+use Rattle.model.proofs.Machine.{kinds}
+use Rattle.model.proofs.Marks as M
 use Rattle.model.proofs.Tables.{marks-back}
 use Rattle.model.proofs.Listed.{pick-is}
 use Rattle.model.proofs.Run.{picked}
@@ -40,8 +41,8 @@ use Rattle.order.proofs.Pick.{room, put-kept, kept-none, kept-ends}
 module _ (k : ℕ) (q : Kind) (a b : ℕ) (done : List ℕ) (la : a < k) (lb : b < k) where
   -- Only steps of boxes below k are.
   inside : (q′ : Kind) (a′ b′ : ℕ) → mark (stepsDone k done) q a b q′ a′ b′ ≡ true → (ltb a′ k && ltb b′ k) ≡ true
-  unfolding stepsDone
-  inside q′ a′ b′ = mark-cases (stepsDone k done) q a b (λ q a b. (ltb a k && ltb b k) ≡ true) q′ a′ b′ (and-true (lt-ltb a k la) (lt-ltb b k lb)) old
+  unfolding stepsDone mark
+  inside q′ a′ b′ = M.mark-cases kinds (stepsDone k done) q a b (λ q a b. (ltb a k && ltb b k) ≡ true) q′ a′ b′ (and-true (lt-ltb a k la) (lt-ltb b k lb)) old
     where
       old : stepsDone k done q′ a′ b′ ≡ true → (ltb a′ k && ltb b′ k) ≡ true
       old h = and-true (and-l (ltb a′ k) _ h) (and-l (ltb b′ k) _ (and-r (ltb a′ k) _ h))

@@ -1,93 +1,74 @@
 -- What a run begins with, and what it comes to. Assumes nothing.
-use mathlib.Core.Path.{_≡_, refl, sym, ap, ap₂, _∙_}
+use mathlib.Core.Path.{_≡_, refl, sym, ap, _∙_}
 use mathlib.Core.Bool.{Bool, true, false, cond, _||_, not}
-use mathlib.Core.List.{List}
-use Prim.Native.Nat.{ℕ, zero, suc, _+_, _≤_, _<_}
+use mathlib.Core.List.{List, [], _∷_}
+use Prim.Native.Nat.{ℕ, zero, suc, _≤_}
 use native.Mathlib.Omega.{arith}
 use native.Mathlib.Nat.{mul-le-mul}
-use lib.ListN.{length, getD}
+use lib.Dec.{eqb}
+use lib.ListN.{length, getD, set, drop}
 use borrow.Author.Tests.{ne-eqb}
 use Rattle.laws.specs.Below.{count}
 use Rattle.laws.specs.Tables.{tabulate}
 use Rattle.laws.specs.Checks.{firstMet}
 use Rattle.laws.proofs.Sums.{sum-max}
 use Rattle.laws.proofs.Below.{count-le}
-use Rattle.laws.proofs.Tables.{word-in, getD-overwrite, long-overwrite}
-use Rattle.model.specs.Job.{Job, pricesDue, totalsDue}
-use Rattle.model.specs.Steps.{State, fresh}
-use Rattle.model.specs.Tables.{JobTables, jobOf, StateTables, view, store, jobLengths, stateLengths, jobShort, stateShort, lentShort}
+use Rattle.laws.proofs.Tables.{overwrite-one}
+use Rattle.model.specs.Job.{Job, pricesDue, totalsDue, needWord, sharerWord}
+use Rattle.model.specs.Steps.{Steps, Step, State, fresh, effectOf}
+use Rattle.model.specs.Tables.{JobTables, jobOf, StateTables, store, stepsDone, marksOf, jobLengths, stateLengths, jobShort, stateShort, lentShort}
 use Rattle.model.specs.Ranges.{jobInRange}
-use Rattle.model.specs.Step.{freshTables}
 use Rattle.model.specs.Words.{over, messagesOf, messageCount, stepCount}
-use Rattle.model.specs.Run.{run, runState, RunAnswer, finished, refused, reported, runRefusals, ran}
+use Rattle.model.specs.Run.{readyCount, pick, picks, run, runState, afterSteps, RunAnswer, finished, refused, reported, runRefusals, ran}
 use Rattle.tables.specs.Masks.{holderWord, Placed, Owned}
 use Rattle.tables.specs.Messages.{sentTable}
 use Rattle.tables.specs.Sizes.{sizes}
-use Rattle.fresh.specs.Fresh.{FreshIn}
-use Rattle.picks.specs.Left.{Whole, whole, comesTo, stepsLeft, Few}
-use Rattle.picks.specs.Way.{Made, Goes, Ended}
+use Rattle.walk.specs.Walk.{WalkIn}
+use Rattle.order.specs.Order.{OfJob, MarksFrom, Ordered, markAll, noSteps}
 use Rattle.run.specs.declared.Answer.the-variants.{Finished, Refused}
-use Rattle.run.specs.Run.{Begins, Settled, answerOf, given}
-use Rattle.model.proofs.Range.{InRange}
-use Rattle.model.proofs.Step.{range, limits}
-use Rattle.model.proofs.Lent.{state-long, store-store}
-use Rattle.model.proofs.Reach.{sound-fresh}
-use Rattle.model.proofs.Run.{run-length, run-sends}
+use Rattle.run.specs.Run.{Begins, answerOf, given, withoutMarks, AllIn, AllOut, afterOrder}
+use Rattle.model.proofs.Step.{range}
+use Rattle.model.proofs.Lent.{state-long}
 use Rattle.tables.proofs.Sizes.{short-sizes}
 use Rattle.tables.proofs.Whole.{JobWhole, job-whole}
 use Rattle.tables.proofs.Holders.{need-words, sharer-words}
 use Rattle.tables.proofs.InJob.{placed-offers, placed-grocers, owned-offers, owned-grocers, price-sent, total-sent}
-use Rattle.picks.proofs.Way.{stored-view, stored-way}
+use Rattle.prices.proofs.Effect.{tables-eq}
+use Rattle.order.proofs.Pick.{steps-length}
+use Rattle.run.proofs.Way.{some-box}
+use Rattle.run.proofs.Turns.{after-marks}
 
--- A job in range has at most 512 messages.
-messages-few : (j : Job) → InRange j → messageCount j ≤ 512
+-- At most 16 boxes have at most 512 messages.
+messages-few : (j : Job) → j .boxes ≤ 16 → messageCount j ≤ 512
 unfolding messageCount
-messages-few j r =
+messages-few j l =
     omega (
       arith,
       sum-max (j .boxes) (j .boxes) (λ a. count (j .boxes) (λ b. pricesDue j a b)) (λ a l. count-le (j .boxes) (λ b. pricesDue j a b)),
       sum-max (j .boxes) (j .boxes) (λ a. count (j .boxes) (λ b. totalsDue j a b)) (λ a l. count-le (j .boxes) (λ b. totalsDue j a b)),
-      mul-le-mul (r .boxes≤) (r .boxes≤),
+      mul-le-mul l l,
     )
 
--- What a run comes to from a fresh state is the whole run.
-from-fresh : (j : Job) (cs : List ℕ) → comesTo j (fresh j) cs 0 0 ≡ whole (runState j cs) (over messagesOf (run j cs)) (length (run j cs))
-unfolding comesTo stepsLeft runState run
-from-fresh j cs = λ i. record { state = runState j cs; messages = zero-plus (over messagesOf (run j cs)) i; steps = zero-plus (length (run j cs)) i }
+-- No more steps are picked than there is room for.
+picks-few : (j : Job) (n : ℕ) (s : State) (cs : List ℕ) → length (picks j n s cs) ≤ n
+unfolding picks
+picks-few j zero s cs = omega arith
+picks-few j (suc n) s cs =
+    let x = pick j (s .done) (getD cs 0 0) in
+    at-most (eqb (readyCount j (s .done)) 0) (x ∷ picks j n (effectOf j s x) (drop 1 cs)) (omega (arith, picks-few j n (effectOf j s x) (drop 1 cs)))
   where
-    zero-plus : (n : ℕ) → 0 + n ≡ n
-    zero-plus n = omega arith
+    at-most : (b : Bool) (xs : List Step) → length xs ≤ suc n → length (cond b [] xs) ≤ suc n
+    at-most true xs h = omega arith
+    at-most false xs h = h
 
-fresh-few : (j : Job) → InRange j → (cs : List ℕ) → Few (comesTo j (fresh j) cs 0 0)
-unfolding stepCount
-fresh-few j r cs =
-    rw (from-fresh j cs)
-    (record { messages-few = omega (arith, run-sends j r cs, messages-few j r); steps-few = omega (arith, run-length j r cs, messages-few j r, r .boxes≤) })
+-- So there is room for the order of a run.
+pub run-few : (j : Job) → j .boxes ≤ 16 → (cs : List ℕ) → length (run j cs) ≤ 1536
+unfolding run stepCount
+run-few j l cs = omega (arith, picks-few j (stepCount j) (fresh j) cs, messages-few j l)
 
 module _ (f : JobTables) (t : StateTables) (g : Begins f t) where
   job-parts : JobWhole f
   job-parts = job-whole f (g .job-long)
-
-  -- What a fresh state requires.
-  pub begins-fresh : FreshIn (f .boxes) (f .grocers) (f .offers) (f .price) (f .offerOwner) t
-  unfolding jobOf stateLengths
-  begins-fresh =
-      let l = state-long f (stateLengths t) (g .state-long) in
-      record {
-        boxes≤ = range f (g .job-in) .boxes≤;
-        grocers≤ = limits f (g .job-in) .grocers≤;
-        offers≤ = limits f (g .job-in) .offers≤;
-        priceLong = job-parts .price;
-        ownerLong = job-parts .offerOwner;
-        owner< = λ o h. rw (word-in (f .offers) (f .offerOwner) 0 o h) at (range f (g .job-in) .owner< o h);
-        known = l .known;
-        priceTransit = l .priceTransit;
-        working = l .working;
-        totalTransit = l .totalTransit;
-        statement = l .statement;
-        done = l .done;
-        sent = l .sent;
-      }
 
   -- What the words and tables of messages require.
   pub begins-needs : Placed (f .boxes) (f .tallies) 500 (f .tallyBox) (f .tallyOffer)
@@ -103,52 +84,98 @@ module _ (f : JobTables) (t : StateTables) (g : Begins f t) where
     pub begins-totals : Owned (f .grocers) (f .grocerOwner) sharers
     begins-totals = owned-grocers f (g .job-in) job-parts sharers _ es
 
-    module _ (prices totals : List (List ℕ)) (ep : prices ≡ sentTable false (f .offers) (f .offerOwner) needs) (et : totals ≡ sentTable true (f .grocers) (f .grocerOwner) sharers) (t′ : StateTables) (e : t′ ≡ freshTables f t) where
-      is-made : Made f needs sharers prices totals
-      is-made = record {
-        needs-are = en ∙ need-words f;
-        sharers-are = es ∙ sharer-words f;
+    -- They are the job's, and so are the tables of messages that are made from them.
+    pub needs-of : needs ≡ tabulate 500 (needWord (jobOf f))
+    needs-of = en ∙ need-words f
+
+    pub sharers-of : sharers ≡ tabulate 255 (sharerWord (jobOf f))
+    sharers-of = es ∙ sharer-words f
+
+    module _ (prices totals : List (List ℕ)) (ep : prices ≡ sentTable false (f .offers) (f .offerOwner) needs) (et : totals ≡ sentTable true (f .grocers) (f .grocerOwner) sharers) where
+      pub of-job : OfJob (f .boxes) prices totals (jobOf f)
+      unfolding jobOf
+      of-job = record {
+        boxes-are = refl;
+        boxes-in = range f (g .job-in) .boxes≤;
+        some = some-box f (g .job-in);
         prices-are = ep ∙ ap (sentTable false (f .offers) (f .offerOwner)) en ∙ price-sent f (g .job-in);
         totals-are = et ∙ ap (sentTable true (f .grocers) (f .grocerOwner)) es ∙ total-sent f (g .job-in);
       }
 
-      fresh-stored : t′ ≡ store (jobOf f) (fresh (jobOf f)) t
-      unfolding freshTables
-      fresh-stored = e
+  -- There is room for the count of words sent.
+  pub sent-room : 1 ≤ length (t .sent)
+  unfolding stateLengths
+  sent-room = state-long f (stateLengths t) (g .state-long) .sent
 
-      fresh-view : view (jobOf f) t′ ≡ fresh (jobOf f)
-      fresh-view = stored-view f (g .job-in) (g .job-long) t t′ (fresh (jobOf f)) (sound-fresh (jobOf f)) fresh-stored
+  -- The walk may begin.
+  pub begins-walk : WalkIn (f .boxes) (t .done)
+  unfolding stateLengths jobOf
+  begins-walk = record { some = some-box f (g .job-in); boxes-in = range f (g .job-in) .boxes≤; done-long = state-long f (stateLengths t) (g .state-long) .done }
 
-      -- The run goes from the fresh state,
-      pub begins-goes : (cs : List ℕ) → Goes f t′ needs sharers prices totals cs 0 0
-      begins-goes cs = record {
-        on-way = stored-way f (g .job-in) (g .job-long) t t′ (fresh (jobOf f)) (sound-fresh (jobOf f)) fresh-stored;
-        made = is-made;
-        few = rw fresh-view (fresh-few (jobOf f) (range f (g .job-in)) cs);
-      }
-
-      -- and where it ends all is settled.
-      module _ (cs : List ℕ) (t″ : StateTables) (m n : ℕ) (k : Ended f t′ cs 0 0 t″ m n) where
-        ends-whole : whole (view (jobOf f) t″) m n ≡ whole (runState (jobOf f) cs) (over messagesOf (run (jobOf f) cs)) (length (run (jobOf f) cs))
-        ends-whole = k .ends ∙ ap (λ (s : State). comesTo (jobOf f) s cs 0 0) fresh-view ∙ from-fresh (jobOf f) cs
-
-        pub ends-settled : Settled f t cs t″ m n
-        ends-settled = record {
-          tables-are = k .stored ∙ ap₂ (λ (s : State) (u : StateTables). store (jobOf f) s u) (ap (λ (w : Whole). w .state) ends-whole) fresh-stored
-              ∙ store-store (jobOf f) (runState (jobOf f) cs) (fresh (jobOf f)) t;
-          messages-are = ap (λ (w : Whole). w .messages) ends-whole;
-          steps-are = ap (λ (w : Whole). w .steps) ends-whole;
+  -- All steps of the order may be done.
+  module _ (needs sharers cs done order : List ℕ) (n : ℕ) (en : needs ≡ tabulate 500 (needWord (jobOf f))) (es : sharers ≡ tabulate 255 (sharerWord (jobOf f))) (w : Ordered (jobOf f) cs done order n) where
+    pub all-in : AllIn f (withoutMarks (t .known) (t .priceTransit) (t .working) (t .totalTransit) (t .statement)) needs sharers order n
+    unfolding stateLengths
+    all-in =
+        let l = state-long f (stateLengths t) (g .state-long) in
+        record {
+          job-in = g .job-in;
+          job-long = g .job-long;
+          known-long = l .known;
+          transit-long = l .priceTransit;
+          working-long = l .working;
+          totals-long = l .totalTransit;
+          statement-long = l .statement;
+          needs-are = en;
+          sharers-are = es;
+          does = record { long = rw (w .picked .long) (w .picked .in-order); few = w .picked .in-order; places-in = w .picked .places-in; in-turn = w .picked .in-turn };
         }
 
--- The count of words sent, as it is written.
-store-sent : (j : Job) (s : State) (t : StateTables) → getD (store j s t .sent) 0 0 ≡ s .sent
-unfolding store
-store-sent j s t = getD-overwrite 1 (λ i. s .sent) (t .sent) 0 0 (omega arith)
+    -- Where they are done the run has ended.
+    module _ (t′ : StateTables) (words messages : ℕ)
+        (r : AllOut (jobOf f) (withoutMarks (t .known) (t .priceTransit) (t .working) (t .totalTransit) (t .statement)) (withoutMarks (t′ .known) (t′ .priceTransit) (t′ .working) (t′ .totalTransit) (t′ .statement)) order n words messages)
+        (m : MarksFrom (f .boxes) (t .done) done) (ed : t′ .done ≡ done) (es′ : t′ .sent ≡ set (t .sent) 0 words) where
+      -- The state at the end.
+      abbrev end : State
+      end = runState (jobOf f) cs
 
--- What is settled has a count of words sent.
-pub settled-sent : (f : JobTables) (t : StateTables) (cs : List ℕ) (t′ : StateTables) (m n : ℕ) → Settled f t cs t′ m n → 0 < length (t′ .sent)
-unfolding store
-settled-sent f t cs t′ m n w = rw (w .tables-are) (long-overwrite 1 (λ i. runState (jobOf f) cs .sent) (t .sent))
+      end-is : afterOrder (jobOf f) n order ≡ end
+      unfolding afterOrder runState
+      end-is = ap (afterSteps (jobOf f) (fresh (jobOf f))) (w .steps-are)
+
+      end-marks : stepsDone (f .boxes) done ≡ end .done
+      unfolding runState fresh jobOf
+      end-marks = w .picked .marks-are ∙ ap (markAll noSteps) (w .steps-are) ∙ sym (after-marks (jobOf f) (fresh (jobOf f)) (run (jobOf f) cs))
+
+      done-is : t′ .done ≡ store (jobOf f) end t .done
+      unfolding store MarksFrom jobOf
+      done-is = ed ∙ m ∙ ap (λ (d : Steps). marksOf (f .boxes) d (t .done)) end-marks
+
+      words-is : words ≡ end .sent
+      words-is = r .words-are ∙ ap (λ (s : State). s .sent) end-is
+
+      sent-is : t′ .sent ≡ store (jobOf f) end t .sent
+      unfolding store stateLengths
+      sent-is = es′ ∙ ap (set (t .sent) 0) words-is ∙ sym (overwrite-one (end .sent) (t .sent) (state-long f (stateLengths t) (g .state-long) .sent))
+
+      pub tables-are : t′ ≡ store (jobOf f) end t
+      unfolding store
+      tables-are =
+          let h = rw end-is at (r .holds) in
+          tables-eq t′ (store (jobOf f) end t) (h .known) (h .priceTransit) (h .working) (h .totalTransit) (h .statement) done-is sent-is
+
+      messages-is : messages ≡ over messagesOf (run (jobOf f) cs)
+      unfolding jobOf
+      messages-is = r .messages-are ∙ ap (over messagesOf) (w .steps-are)
+
+      steps-is : n ≡ length (run (jobOf f) cs)
+      unfolding jobOf
+      steps-is = sym (steps-length (f .boxes) n order (rw (w .picked .long) (w .picked .in-order))) ∙ ap length (w .steps-are)
+
+      -- No refusal: this is the run.
+      pub run-finished : (x : ℕ) → x ≡ firstMet (runRefusals f t) → x ≡ 0 → given (answerOf (Finished words messages n)) t′ ≡ ran f t cs
+      unfolding ran answerOf reported
+      run-finished x e z = rw (sym e ∙ z) (λ i. given (finished (words-is i) (messages-is i) (steps-is i)) (tables-are i))
 
 -- A number that is not 0 is a refusal.
 pub refused-said : (n : ℕ) (a : RunAnswer) → (n ≡ 0 → ⊥) → refused n ≡ reported n a
@@ -197,11 +224,3 @@ module _ (f : JobTables) (t : StateTables) where
   pub run-refused : (cs : List ℕ) (n : ℕ) → n ≡ firstMet (runRefusals f t) → (n ≡ 0 → ⊥) → given (answerOf (Refused n)) t ≡ ran f t cs
   unfolding ran answerOf
   run-refused cs n e h = rw (← e, ne-eqb n 0 h) (ap (λ (a : RunAnswer). given a t) (refused-said n _ h))
-
-  -- No refusal: what is settled is the run.
-  pub run-finished : (cs : List ℕ) (n : ℕ) → n ≡ firstMet (runRefusals f t) → n ≡ 0 → (t′ : StateTables) (m k : ℕ) → Settled f t cs t′ m k →
-      given (answerOf (Finished (getD (t′ .sent) 0 0) m k)) t′ ≡ ran f t cs
-  unfolding ran answerOf reported
-  run-finished cs n e z t′ m k w =
-      rw (sym e ∙ z)
-      (λ i. given (finished ((ap (λ (u : StateTables). getD (u .sent) 0 0) (w .tables-are) ∙ store-sent (jobOf f) (runState (jobOf f) cs) t) i) (w .messages-are i) (w .steps-are i)) (w .tables-are i))

@@ -33,7 +33,7 @@ sends-none (suc (suc (suc (suc (suc zero))))) l m h a b = refl
 sends-none (suc (suc (suc (suc (suc (suc n)))))) l m h a b = refl
 
 -- None sends more than one: a list of steps has at most as many messages as steps.
-one-each : (k : Kind) (a b : ℕ) → messagesOf k a b ≤ 1
+pub one-each : (k : Kind) (a b : ℕ) → messagesOf k a b ≤ 1
 unfolding messagesOf
 one-each sendPrices a b = omega arith
 one-each multiplyOwn a b = omega arith

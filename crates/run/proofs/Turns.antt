@@ -1,5 +1,5 @@
 -- The steps of an order, one after the other: what each turn finds and leaves. Assumes nothing.
-use mathlib.Core.Path.{_≡_, refl, sym, ap, ap₂, _∙_}
+use mathlib.Core.Path.{_≡_, refl, sym, ap, ap₂, _∙_, subst}
 use mathlib.Core.Bool.{Bool, true, false}
 use mathlib.Core.List.{List, [], _∷_, _++_, map}
 use Prim.Native.Nat.{ℕ, suc, _+_, _*_, _/_, _%_, _≤_, _<_}
@@ -13,7 +13,7 @@ use lib.IntN.{pos}
 use borrow.Author.Tests.{le-leb, leb-true, leb-false}
 use Rattle.laws.specs.Tables.{tabulate, overwrite, recell}
 use Rattle.laws.proofs.Bools.{split, and-true}
-use Rattle.laws.proofs.Tables.{getD-overwrite, long-overwrite, length-overwrite}
+use Rattle.laws.proofs.Tables.{word-in, getD-overwrite, long-overwrite, length-overwrite}
 use Rattle.model.specs.Job.{Job, needWord, sharerWord}
 use Rattle.model.specs.Steps.{kindOf, Steps, Step, State, stepAt, permitted, fresh, effect, effectOf}
 use Rattle.model.specs.Tables.{JobTables, jobOf, StateTables, view, store, jobLengths, jobShort}
@@ -24,13 +24,13 @@ use Rattle.model.specs.Run.{afterSteps}
 use Rattle.model.specs.Boxes.{Sound}
 use Rattle.links.specs.Links.{Linked}
 use Rattle.apply.specs.Apply.{sentMore}
-use Rattle.fresh.specs.Fresh.{ownPrices}
+use Rattle.fresh.specs.Fresh.{ownPrices, FreshPrices, FreshTotals}
 use Rattle.order.specs.Order.{stepsIn, markAll, noSteps}
 use Rattle.run.specs.Run.{StepIn, StepOut, AllIn, afterOrder, Holds, AllOut}
 use Rattle.model.proofs.Core.{permit}
 use Rattle.model.proofs.Reach.{effect-done, sound-fresh, sound-effect}
-use Rattle.model.proofs.Step.{range, under-at}
-use Rattle.model.proofs.Lent.{store-store}
+use Rattle.model.proofs.Step.{range, limits, under-at}
+use Rattle.model.proofs.Lent.{job-long, store-store}
 use Rattle.model.proofs.Served.{within}
 use Rattle.totals.proofs.Effect.{talliesOf}
 use Rattle.apply.proofs.Given.{Given, given, price-step-in, total-step-in}
@@ -172,6 +172,36 @@ module _ (f : JobTables) (t : StateTables) (needs sharers order : List ℕ) (n :
   unfolding afterOrder stepsIn afterSteps fresh over
   first-out t₁ h = record { holds = h; words-are = refl; messages-are = refl }
 
+  -- What making the tables fresh requires.
+  pub prices-fresh : FreshPrices (f .boxes) (f .offers) (f .price) (f .offerOwner) (t .known) (t .priceTransit)
+  unfolding jobOf jobLengths
+  prices-fresh =
+      let l = job-long f (jobLengths f) (g .job-long) in
+      record {
+        boxes≤ = range f (g .job-in) .boxes≤;
+        offers≤ = limits f (g .job-in) .offers≤;
+        priceLong = l .price;
+        ownerLong = l .offerOwner;
+        owner< = λ o h. rw (word-in (f .offers) (f .offerOwner) 0 o h) at (range f (g .job-in) .owner< o h);
+        knownLong = g .known-long;
+        transitLong = g .transit-long;
+      }
+
+  pub totals-fresh : FreshTotals (f .boxes) (f .grocers) (t .working) (t .totalTransit) (t .statement)
+  unfolding jobOf
+  totals-fresh = record {
+    boxes≤ = range f (g .job-in) .boxes≤;
+    grocers≤ = limits f (g .job-in) .grocers≤;
+    workingLong = g .working-long;
+    transitLong = g .totals-long;
+    statementLong = g .statement-long;
+  }
+
+  -- The word of turn i is a place.
+  pub turn-place : (i : ℕ) → i < n → (1 ≤ f .boxes) × (f .boxes ≤ 16) × (getD order i 0 < 6 * f .boxes * f .boxes)
+  unfolding jobOf
+  turn-place i l = (some-box f (g .job-in), range f (g .job-in) .boxes≤, under-at (6 * f .boxes * f .boxes) n order i (g .does .places-in) l)
+
   module _ (i : ℕ) (l : i < n) (o : Sound job (afterOrder job i order)) (kind a b : ℕ)
       (ek : kind ≡ suc (getD order i 0 / f .boxes / f .boxes)) (ea : a ≡ getD order i 0 / f .boxes % f .boxes) (eb : b ≡ getD order i 0 % f .boxes) where
     -- The state, and the place of the step.
@@ -185,15 +215,17 @@ module _ (f : JobTables) (t : StateTables) (needs sharers order : List ℕ) (n :
     one-box = some-box f (g .job-in)
 
     place< : place < 6 * f .boxes * f .boxes
-    unfolding jobOf
-    place< = under-at (6 * f .boxes * f .boxes) n order i (g .does .places-in) l
+    place< = turn-place i l .2
 
     kind< : place / f .boxes / f .boxes < 6
     kind< = div-lt-iff-lt-mul one-box .1 (div-lt-iff-lt-mul one-box .1 place<)
 
     pub turn-kind : isKind kind ≡ true
     unfolding isKind
-    turn-kind = rw ek (and-true (le-leb 1 _ (omega arith)) (le-leb _ 6 (omega (arith, kind<))))
+    turn-kind = rw ek (and-true (le-leb 1 (suc (place / f .boxes / f .boxes)) (omega arith)) (le-leb (suc (place / f .boxes / f .boxes)) 6 (omega (arith, kind<))))
+
+    pub turn-between : (1 ≤ kind) × (kind ≤ 6)
+    turn-between = (omega (arith, ek), omega (arith, ek, kind<))
 
     step-is : stepAt (f .boxes) place ≡ record { kind = kindOf kind; first = a; second = b }
     unfolding stepAt
@@ -300,3 +332,68 @@ module _ (f : JobTables) (t t₁ : StateTables) where
         totalTransit = et ∙ ap (λ (u : StateTables). u .totalTransit) e;
         statement = es ∙ ap (λ (u : StateTables). u .statement) e;
       }
+
+-- A state written over tables that another was written over.
+module _ (f : JobTables) (r s : State) (t t₁ t₂ : StateTables) (h : Holds (jobOf f) r t t₁) where
+  pub holds-over : Holds (jobOf f) s t₁ t₂ → Holds (jobOf f) s t t₂
+  unfolding store
+  holds-over k =
+      let e = store-store (jobOf f) s r t in
+      record {
+        known = k .known ∙ ap (recell (jobOf f .boxes) (jobOf f .offers) (s .known)) (h .known) ∙ ap (λ (u : StateTables). u .known) e;
+        priceTransit = k .priceTransit ∙ ap (recell (jobOf f .boxes) (jobOf f .offers) (s .priceTransit)) (h .priceTransit) ∙ ap (λ (u : StateTables). u .priceTransit) e;
+        working = k .working ∙ ap (recell (jobOf f .boxes) (jobOf f .grocers) (s .working)) (h .working) ∙ ap (λ (u : StateTables). u .working) e;
+        totalTransit = k .totalTransit ∙ ap (recell (jobOf f .boxes) (jobOf f .grocers) (s .totalTransit)) (h .totalTransit) ∙ ap (λ (u : StateTables). u .totalTransit) e;
+        statement = k .statement ∙ ap (overwrite (jobOf f .grocers) (s .statement)) (h .statement) ∙ ap (λ (u : StateTables). u .statement) e;
+      }
+
+-- A state that tables hold, written over them once more.
+pub holds-own : (f : JobTables) (s : State) (t t₁ : StateTables) → Holds (jobOf f) s t t₁ → Holds (jobOf f) s t₁ t₁
+unfolding store
+holds-own f s t t₁ h =
+    let e = store-store (jobOf f) s s t in
+    record {
+      known = h .known ∙ sym (ap (λ (u : StateTables). u .known) e) ∙ ap (recell (jobOf f .boxes) (jobOf f .offers) (s .known)) (sym (h .known));
+      priceTransit = h .priceTransit ∙ sym (ap (λ (u : StateTables). u .priceTransit) e) ∙ ap (recell (jobOf f .boxes) (jobOf f .offers) (s .priceTransit)) (sym (h .priceTransit));
+      working = h .working ∙ sym (ap (λ (u : StateTables). u .working) e) ∙ ap (recell (jobOf f .boxes) (jobOf f .grocers) (s .working)) (sym (h .working));
+      totalTransit = h .totalTransit ∙ sym (ap (λ (u : StateTables). u .totalTransit) e) ∙ ap (recell (jobOf f .boxes) (jobOf f .grocers) (s .totalTransit)) (sym (h .totalTransit));
+      statement = h .statement ∙ sym (ap (λ (u : StateTables). u .statement) e) ∙ ap (overwrite (jobOf f .grocers) (s .statement)) (sym (h .statement));
+    }
+
+-- What holds at turn i: t₀ are the tables before the first turn, t₁ those at this one.
+pub record Turning (f : JobTables) (t₀ t₁ : StateTables) (needs sharers order : List ℕ) (n i words messages : ℕ) : Type 0 where
+  pub all : AllIn f t₀ needs sharers order n
+  pub sound : Sound (jobOf f) (afterOrder (jobOf f) i order)
+  pub out : AllOut (jobOf f) t₀ t₁ order i words messages
+
+-- Offers, grocers and tallies are linked.
+pub record Chained (f : JobTables) (offerLinks grocerLinks tallyLinks : List ℕ) : Type 0 where
+  pub offers-linked : Linked (f .offers) (f .offerOwner) offerLinks
+  pub grocers-linked : Linked (f .grocers) (f .grocerOwner) grocerLinks
+  pub tallies-linked : Linked (f .tallies) (f .tallyBox) tallyLinks
+
+-- The first turn, on tables that are made fresh.
+pub turning-first : (f : JobTables) (t t₁ : StateTables) (needs sharers order : List ℕ) (n : ℕ) → AllIn f t needs sharers order n → Holds (jobOf f) (fresh (jobOf f)) t t₁ →
+    Turning f t₁ t₁ needs sharers order n 0 0 0
+turning-first f t t₁ needs sharers order n g h = record { all = all; sound = first-sound f t₁ needs sharers order n all; out = first-out f t₁ needs sharers order n all t₁ (holds-own f (fresh (jobOf f)) t t₁ h) }
+  where
+    all : AllIn f t₁ needs sharers order n
+    all = record {
+      job-in = g .job-in;
+      job-long = g .job-long;
+      known-long = rw (known-length f t needs sharers order n g _ t₁ h) (g .known-long);
+      transit-long = rw (transit-length f t needs sharers order n g _ t₁ h) (g .transit-long);
+      working-long = rw (working-length f t needs sharers order n g _ t₁ h) (g .working-long);
+      totals-long = rw (totals-length f t needs sharers order n g _ t₁ h) (g .totals-long);
+      statement-long = rw (statement-length f t needs sharers order n g _ t₁ h) (g .statement-long);
+      needs-are = g .needs-are;
+      sharers-are = g .sharers-are;
+      does = g .does;
+    }
+
+-- The last turn: the tables hold the state after all steps, written over those of the call.
+pub turning-last : (f : JobTables) (t t₀ t₁ : StateTables) (needs sharers order : List ℕ) (n i words messages : ℕ) → Holds (jobOf f) (fresh (jobOf f)) t t₀ →
+    Turning f t₀ t₁ needs sharers order n i words messages → i ≡ n → AllOut (jobOf f) t t₁ order n words messages
+turning-last f t t₀ t₁ needs sharers order n i words messages h w e =
+    let r = subst (λ (x : ℕ). AllOut (jobOf f) t₀ t₁ order x words messages) e (w .out) in
+    record { holds = holds-over f (fresh (jobOf f)) _ t t₀ t₁ h (r .holds); words-are = r .words-are; messages-are = r .messages-are }

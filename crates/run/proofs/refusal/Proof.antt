@@ -8,11 +8,11 @@ use Rattle.run.proofs.refusal.Statement.{statement}
 use Rattle.run.proofs.refusal.Tie as tie
 
 abbrev job : tie.Start → JobTables
-job s = jobTables (s .args .boxes) (s .args .grocers) (s .args .offers) (s .args .tallies) (now (s .args .price)) (now (s .args .owner)) (now (s .args .gowner)) (now (s .args .tgrocer))
-    (now (s .args .tbox)) (now (s .args .toffer)) (now (s .args .tcount))
+job s = jobTables (s .args .boxes) (s .args .grocers) (s .args .offers) (s .args .tallies) (now (s .args .price)) (now (s .args .offer-owner)) (now (s .args .grocer-owner)) (now (s .args .tally-grocer))
+    (now (s .args .tally-box)) (now (s .args .tally-offer)) (now (s .args .tally-count))
 
 abbrev entry : tie.Start → StateTables
-entry s = stateTables (now (s .args .known)) (now (s .args .ptransit)) (now (s .args .working)) (now (s .args .ttransit)) (now (s .args .statement)) (now (s .args .done)) (now (s .args .sent))
+entry s = stateTables (now (s .args .known)) (now (s .args .price-transit)) (now (s .args .working)) (now (s .args .total-transit)) (now (s .args .statement)) (now (s .args .done)) (now (s .args .sent))
 
 returns : tie.Need-returns
 returns c = let s = c .before .before .before .before .before .before .before .before .before .before .before .before .before in refused-short (job s) (entry s) (c .before .before .job-short .result)

@@ -1,64 +1,116 @@
--- `run::run` meets its contract: the refusal, or what the run comes to. Assumes nothing.
+-- `run::run` meets its contract: refused, or its steps are picked and then done. Assumes nothing.
 use mathlib.Core.Path.{refl, sym, _∙_}
-use Rattle.model.specs.Tables.{JobTables, jobTables, StateTables, stateTables}
+use native.Mathlib.Omega.{arith}
+use borrow.Author.Needs.{needs}
 use denote.Ref.{now}
-use Rattle.run.proofs.Ends.{begins, settled-sent, run-refused, run-finished}
+use Rattle.model.specs.Tables.{JobTables, jobTables, jobOf, StateTables, stateTables}
+use Rattle.order.specs.Order.{OfJob}
+use Rattle.run.specs.Run.{Begins, answerOf}
+use Rattle.run.proofs.Ends.{begins, begins-needs, begins-sharers, begins-prices, begins-totals, needs-of, sharers-of, of-job, begins-walk, run-few, all-in, run-finished, run-refused, sent-room}
 use Rattle.run.proofs.run.Statement.{statement}
 use Rattle.run.proofs.run.Tie as tie
 
+-- The tables of the job and of the state, as they are lent.
 abbrev job : tie.Start → JobTables
-job s = jobTables (s .args .boxes) (s .args .grocers) (s .args .offers) (s .args .tallies) (now (s .args .price)) (now (s .args .owner)) (now (s .args .gowner)) (now (s .args .tgrocer))
-    (now (s .args .tbox)) (now (s .args .toffer)) (now (s .args .tcount))
+job s = jobTables (s .args .boxes) (s .args .grocers) (s .args .offers) (s .args .tallies) (now (s .args .price)) (now (s .args .offer-owner)) (now (s .args .grocer-owner))
+    (now (s .args .tally-grocer)) (now (s .args .tally-box)) (now (s .args .tally-offer)) (now (s .args .tally-count))
 
-abbrev entry : tie.Start → StateTables
-entry s = stateTables (now (s .args .known)) (now (s .args .ptransit)) (now (s .args .working)) (now (s .args .ttransit)) (now (s .args .statement)) (now (s .args .done)) (now (s .args .sent))
+abbrev lent : tie.Start → StateTables
+lent s = stateTables (now (s .args .known)) (now (s .args .price-transit)) (now (s .args .working)) (now (s .args .total-transit)) (now (s .args .statement)) (now (s .args .done)) (now (s .args .sent))
+
+-- Places.
+abbrev known : tie.After-refusal → tie.After-slice-known3
+known c = c .before .before .before .before .before .before .before .before .before .before
+
+abbrev shared : tie.After-slice-known3 → tie.After-shared-slice-known4
+shared c = c .before .before .before .before .before
+
+abbrev entry : tie.After-refusal → tie.Start
+entry c = shared (known c) .before .before .before .before
+
+abbrev made : tie.After-put-order-arg → tie.After-total-table
+made c = c .before .before .before
+
+abbrev priced : tie.After-total-table → tie.After-price-table
+priced c = c .before .before
+
+abbrev shares : tie.After-price-table → tie.After-sharers
+shares c = c .before .before
+
+abbrev ordered : tie.After-all-steps-arg → tie.After-put-order
+ordered c = c .before .before .before .before .before .before
+
+abbrev arguments : tie.After-all-steps-arg5 → tie.After-all-steps-arg
+arguments c = c .before .before .before .before
+
+abbrev done : tie.After-statement → tie.After-known
+done c = c .before .before .before .before .before .before
+
+-- Past the refusal the run may begin.
+may : (e : tie.Else1) → Begins (job (entry (e .before))) (lent (entry (e .before)))
+may e = begins _ _ (sym (e .before .refusal .ensures) ∙ e .if1 .left)
 
 returns : tie.Need-returns
-returns c = let s = c .before .before .before .before .before .before .before .before .before .before .before .before .before .before .before .before .before .before .before .before in run-refused
-    (job s) (entry s) (now (s .args .choices)) (c .before .refusal .result) (c .before .refusal .ensures) (c .if1 .taken)
+unfolding answerOf
+returns c = let s = entry (c .before) in run-refused (job s) (lent s) _ _ (c .before .refusal .ensures) (c .if1 .taken)
 
-settle-requires : tie.Need-settle-requires
-settle-requires c κs = let s = c .before .before .before .before .before .before .before .before .before .before .before .before .before .before .before .before .before .before .before .before .before
-    .before .before .before .before .before .before in begins (job s) (entry s) (sym (c .before .before .before .before .before .before .before .before .refusal .ensures) ∙ c .before .before .before
-    .before .before .before .before .if1 .left)
+needs-requires : tie.Need-needs-requires
+needs-requires c κs = begins-needs _ _ (may c)
 
-slice-read-t52 : tie.Need-slice-read-t52
-slice-read-t52 c =
-    let s = c .before .before .before .before .before .before .before .before .before .before .before .before .before .before .before .before .before .before .before .before .before .before .before
-    .before .before .before .before .before .before .before .before .before .before .before .before .before .before .before .before .before in
-    let k = c .before .before .before .before .before .before .before .before .before .before .before .before .settle in
-    settled-sent (job s) (entry s) (now (s .args .choices)) _ (k .result .messages) (k .result .steps) (k .ensures)
+sharers-requires : tie.Need-sharers-requires
+sharers-requires c κs = begins-sharers _ _ (may (c .before))
 
-same-length-8 : tie.Need-same-length-8
-same-length-8 c = c .before .before .before .before .before .before .before .before .before .before .before .before .settle .kept .1 .1 .1 .1 .1 .1 .1 .1 .1 .1 .1 .0
+price-table-requires : tie.Need-price-table-requires
+price-table-requires c κs = let w = c .before in begins-prices _ _ (may (w .before .before)) _ _ (w .before .needs .ensures) (w .sharers .ensures)
 
-same-length-9 : tie.Need-same-length-9
-same-length-9 c = c .before .before .before .before .before .before .before .before .before .before .before .before .settle .kept .1 .1 .1 .1 .1 .1 .1 .1 .1 .1 .1 .1 .0
+total-table-requires : tie.Need-total-table-requires
+total-table-requires c κs = let w = shares (c .before) in begins-totals _ _ (may (w .before .before)) _ _ (w .before .needs .ensures) (w .sharers .ensures)
 
-same-length-10 : tie.Need-same-length-10
-same-length-10 c = c .before .before .before .before .before .before .before .before .before .before .before .before .settle .kept .1 .1 .1 .1 .1 .1 .1 .1 .1 .1 .1 .1 .1 .0
+-- The tables of messages are the job's.
+of-it : (c : tie.After-total-table) → let s = entry (shares (priced c) .before .before .before) in OfJob (s .args .boxes) (priced c .price-table .result) (c .total-table .result) (jobOf (job s))
+of-it c =
+    let w = shares (priced c) in
+    of-job _ _ (may (w .before .before)) _ _ (w .before .needs .ensures) (w .sharers .ensures) _ _ (priced c .price-table .ensures) (c .total-table .ensures)
 
-same-length-11 : tie.Need-same-length-11
-same-length-11 c = c .before .before .before .before .before .before .before .before .before .before .before .before .settle .kept .1 .1 .1 .1 .1 .1 .1 .1 .1 .1 .1 .1 .1 .1 .0
+put-order-requires : tie.Need-put-order-requires
+put-order-requires c κs =
+    let m = made (c .before) in
+    let e = shares (priced m) .before .before in
+    ((begins-walk _ _ (may e), record { job = _; of-it = of-it m }, refl), λ j p. run-few j (p .boxes-in) _)
 
-same-length-12 : tie.Need-same-length-12
-same-length-12 c = c .before .before .before .before .before .before .before .before .before .before .before .before .settle .kept .1 .1 .1 .1 .1 .1 .1 .1 .1 .1 .1 .1 .1 .1 .1 .0
+all-steps-requires : tie.Need-all-steps-requires
+all-steps-requires c κs =
+    let o = ordered (arguments c) in
+    let m = made (o .before .before) in
+    let w = shares (priced m) in
+    let g = may (w .before .before) in
+    let en = w .before .needs .ensures in
+    let es = w .sharers .ensures in
+    all-in _ _ g _ _ _ _ _ _ (needs-of _ _ g _ _ en es) (sharers-of _ _ g _ _ en es) (o .put-order .ensures .1 _ (of-it m))
 
-same-length-13 : tie.Need-same-length-13
-same-length-13 c = c .before .before .before .before .before .before .before .before .before .before .before .before .settle .kept .1 .1 .1 .1 .1 .1 .1 .1 .1 .1 .1 .1 .1 .1 .1 .1 .0
+write-sent : tie.Need-slice-write-sent
+write-sent c =
+    let o = ordered (arguments (done c .before .before)) in
+    omega (arith, sent-room _ _ (may (shares (priced (made (o .before .before))) .before .before)))
 
-same-length-14 : tie.Need-same-length-14
-same-length-14 c = c .before .before .before .before .before .before .before .before .before .before .before .before .settle .kept .1 .1 .1 .1 .1 .1 .1 .1 .1 .1 .1 .1 .1 .1 .1 .1 .1 .0
+cast-steps : tie.Need-cast-t68
+cast-steps c =
+    let o = ordered (arguments (done c .before .before)) in
+    omega (arith, o .put-order .ensures .1 _ (of-it (made (o .before .before))) .picked .in-order)
 
 returns-2 : tie.Need-returns-2
+unfolding answerOf
 returns-2 c =
-    let s = c .before .before .before .before .before .before .before .before .before .before .before .before .before .before .before .before .before .before .before .before .before .before .before
-    .before .before .before .before .before .before .before .before .before .before .before .before .before .before .before .before .before in
-    let k = c .before .before .before .before .before .before .before .before .before .before .before .before .settle in
-    run-finished (job s) (entry s) (now (s .args .choices)) (c .before .before .before .before .before .before .before .before .before .before .before .before .before .before .before .before .before
-    .before .before .before .before .refusal .result) (c .before .before .before .before .before .before .before .before .before .before .before .before .before .before .before .before .before
-    .before .before .before .before .refusal .ensures) (c .before .before .before .before .before .before .before .before .before .before .before .before .before .before .before .before .before
-    .before .before .before .if1 .left) _ (k .result .messages) (k .result .steps) (k .ensures)
+    let a = done c .before in
+    let o = ordered (arguments (a .before)) in
+    let m = made (o .before .before) in
+    let w = shares (priced m) in
+    let e = w .before .before in
+    let g = may e in
+    let en = w .before .needs .ensures in
+    let es = w .sharers .ensures in
+    run-finished _ _ g _ _ _ _ _ _ (needs-of _ _ g _ _ en es) (sharers-of _ _ g _ _ en es) (o .put-order .ensures .1 _ (of-it m)) _ _ _ (a .all-steps .ensures) (o .put-order .ensures .0) refl refl
+    _ (e .before .refusal .ensures) (e .if1 .left)
 
 pub run-spec : {M : Type 1} → statement M
 run-spec =
@@ -73,13 +125,19 @@ run-spec =
     (λ c. refl)
     (λ c. refl)
     returns
-    settle-requires
-    slice-read-t52
-    same-length-8
-    same-length-9
-    same-length-10
-    same-length-11
-    same-length-12
-    same-length-13
-    same-length-14
+    needs-requires
+    sharers-requires
+    price-table-requires
+    total-table-requires
+    put-order-requires
+    all-steps-requires
+    write-sent
+    cast-steps
+    (λ c. search needs)
+    (λ c. search needs)
+    (λ c. search needs)
+    (λ c. search needs)
+    (λ c. search needs)
+    (λ c. search needs)
+    (λ c. search needs)
     returns-2)
