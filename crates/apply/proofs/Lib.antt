@@ -1,4 +1,5 @@
 -- Laws of one step applied to the lent tables.
+
 pub mod Ranges
 pub mod Keys
 pub mod Given
