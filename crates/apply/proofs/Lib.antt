@@ -1,5 +1,4 @@
 -- Laws of one step applied to the lent tables.
-
 pub mod Ranges
 pub mod Keys
 pub mod Given

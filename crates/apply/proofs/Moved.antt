@@ -16,11 +16,11 @@ use Rattle.prices.specs.Prices.{sentTransit, receivedKnown, receivedTransit}
 use Rattle.rules.specs.Marks.{marked}
 use Rattle.totals.specs.Row.{putRow, productRow}
 use Rattle.totals.specs.Credit.{cleared, sentTotals, credited, creditAll}
-use Rattle.apply.specs.Apply.{sentMore, knownAfter, priceTransitAfter, multipliedAfter, pricesSent, PriceStepOut, workingAfter, totalTransitAfter, statementAfter, totalsSent, TotalStepOut}
 use Rattle.prices.proofs.Effect.{tables-eq, known-stays, price-transit-stays, working-stays, total-transit-stays, statement-stays, sent-stays, step-marked}
 use Rattle.totals.proofs.Effect.{talliesOf, multiplied-working, received-working, added-working, added-statement, totals-received-statement}
 use Rattle.apply.proofs.Given.{Given}
 use Rattle.apply.proofs.Sides.{prices-sent-out, own-multiplied-out, prices-received-out, totals-sent-out, own-added-out, totals-received-out, none-more}
+use Rattle.apply.specs.Apply.{sentMore, knownAfter, priceTransitAfter, multipliedAfter, pricesSent, PriceStepOut, workingAfter, totalTransitAfter, statementAfter, totalsSent, TotalStepOut}
 use Rattle.prices.proofs.Effect as price-laws
 use Rattle.totals.proofs.Effect as total-laws
 
