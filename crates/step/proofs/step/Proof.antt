@@ -1,16 +1,12 @@
 -- `step::step` meets its contract: refused under a number, or applied on one of the two sides. Assumes nothing.
-use mathlib.Core.Path.{refl, sym, ap, _∙_}
+use mathlib.Core.Path.{refl}
 use Prim.Native.Nat.{_≤_}
 use native.Mathlib.Omega.{arith}
 use Rattle.model.specs.Tables.{JobTables, jobTables, StateTables, stateTables}
-use Rattle.model.specs.Step.{Asked, asked, outcome, accepted}
-use Rattle.apply.specs.Apply.{sentMore}
+use Rattle.model.specs.Step.{Asked, asked}
 use Rattle.step.specs.Answer.{answerOf}
-use Rattle.prices.proofs.Effect.{tables-eq}
-use Rattle.apply.proofs.Keys.{offers-keyed, grocers-keyed, tallies-keyed}
-use Rattle.apply.proofs.Given.{given, marks-in, sent-in, price-step-in, total-step-in}
-use Rattle.apply.proofs.Moved.{prices-moved, totals-moved}
-use Rattle.step.proofs.Zero.{refused-by, accepted-by, few-prices, few-totals}
+use Rattle.step.proofs.Zero.{refused-by}
+use Rattle.step.proofs.Sides.{noting, prices-lent, few-prices, prices-accepted, totals-lent, few-totals, totals-accepted}
 use denote.Ref.{now}
 use Rattle.step.proofs.step.Statement.{statement}
 use Rattle.step.proofs.step.Tie as tie
@@ -63,21 +59,15 @@ move-prices-requires : tie.Need-move-prices-requires
 move-prices-requires c κs =
     let k = prices-asked c in
     let i = k .before in
-    let s = first i in
-    let a = i .before .refusal .ensures .applies (i .if1 .left) in
-    record {
-      offers-keyed = offers-keyed (job s) (a .job-in) (a .job-long);
-      tallies-keyed = tallies-keyed (job s) (a .job-in) (a .job-long);
-      step-in = λ ol tl lo lt. price-step-in (job s) (state s) _ _ (ask s) (given (job s) (state s) _ _ (ask s) a) ol tl lo lt (k .if2 .taken);
-    }
+    prices-lent (job (first i)) (state (first i)) (ask (first i)) (i .before .refusal .ensures) (i .if1 .left) (k .if2 .taken)
 
 note-requires : tie.Need-note-requires
 note-requires c κs =
     let m = prices-left (c .before .before) in
-    let i = prices-asked (m .before) .before in
-    let s = first i in
-    let g = given (job s) (state s) _ _ (ask s) (i .before .refusal .ensures .applies (i .if1 .left)) in
-    (marks-in (job s) (state s) _ _ (ask s) g, (g .words-in .done, (sent-in (job s) (state s) _ _ (ask s) g, few-prices (m .move-prices .ensures) (g .tallies-in .offers-in))))
+    let k = prices-asked (m .before) in
+    let i = k .before in
+    noting (job (first i)) (state (first i)) (ask (first i)) (i .before .refusal .ensures) (i .if1 .left) _
+    (few-prices (job (first i)) (state (first i)) (ask (first i)) (i .before .refusal .ensures) (i .if1 .left) (k .if2 .taken) (m .move-prices .ensures))
 
 returns-2 : tie.Need-returns-2
 unfolding answerOf
@@ -86,13 +76,7 @@ returns-2 c =
     let m = prices-at n in
     let k = prices-asked (m .before) in
     let i = k .before in
-    let s = first i in
-    let r = i .before .refusal .ensures in
-    let o = m .move-prices .ensures in
-    ap (λ (t : StateTables). outcome accepted t)
-    (tables-eq _ _ (o .known-is) (o .transit-is) (o .working-is) refl refl (n .note .ensures .0) (n .note .ensures .1 ∙ ap (sentMore (now (s .args .sent))) (o .sent-is))
-    ∙ sym (prices-moved (job s) (state s) _ _ (ask s) (given (job s) (state s) _ _ (ask s) (r .applies (i .if1 .left))) (k .if2 .taken)))
-    ∙ accepted-by (job s) (state s) (ask s) _ (r .number-is) (i .if1 .left)
+    prices-accepted (job (first i)) (state (first i)) (ask (first i)) (i .before .refusal .ensures) (i .if1 .left) (k .if2 .taken) (m .move-prices .ensures) (n .note .ensures .0) (n .note .ensures .1)
 
 -- Kinds 4 to 6, likewise.
 abbrev totals-noted : tie.After-slice-known10 → tie.After-note2
@@ -114,20 +98,15 @@ move-totals-requires : tie.Need-move-totals-requires
 move-totals-requires c κs =
     let k = totals-asked c in
     let i = k .before in
-    let s = first i in
-    let a = i .before .refusal .ensures .applies (i .if1 .left) in
-    record {
-      grocers-keyed = grocers-keyed (job s) (a .job-in) (a .job-long);
-      step-in = λ links l. total-step-in (job s) (state s) _ _ (ask s) (given (job s) (state s) _ _ (ask s) a) links l (many k);
-    }
+    totals-lent (job (first i)) (state (first i)) (ask (first i)) (i .before .refusal .ensures) (i .if1 .left) (many k)
 
 note-requires-2 : tie.Need-note-requires-2
 note-requires-2 c κs =
     let m = totals-left (c .before .before) in
-    let i = totals-asked (m .before) .before in
-    let s = first i in
-    let g = given (job s) (state s) _ _ (ask s) (i .before .refusal .ensures .applies (i .if1 .left)) in
-    (marks-in (job s) (state s) _ _ (ask s) g, (g .words-in .done, (sent-in (job s) (state s) _ _ (ask s) g, few-totals (m .move-totals .ensures) (g .tallies-in .grocers-in))))
+    let k = totals-asked (m .before) in
+    let i = k .before in
+    noting (job (first i)) (state (first i)) (ask (first i)) (i .before .refusal .ensures) (i .if1 .left) _
+    (few-totals (job (first i)) (state (first i)) (ask (first i)) (i .before .refusal .ensures) (i .if1 .left) (many k) (m .move-totals .ensures))
 
 returns-3 : tie.Need-returns-3
 unfolding answerOf
@@ -136,13 +115,7 @@ returns-3 c =
     let m = totals-at n in
     let k = totals-asked (m .before) in
     let i = k .before in
-    let s = first i in
-    let r = i .before .refusal .ensures in
-    let o = m .move-totals .ensures in
-    ap (λ (t : StateTables). outcome accepted t)
-    (tables-eq _ _ refl refl (o .working-is) (o .transit-is) (o .statement-is) (n .note2 .ensures .0) (n .note2 .ensures .1 ∙ ap (sentMore (now (s .args .sent))) (o .sent-is))
-    ∙ sym (totals-moved (job s) (state s) _ _ (ask s) (given (job s) (state s) _ _ (ask s) (r .applies (i .if1 .left))) (many k)))
-    ∙ accepted-by (job s) (state s) (ask s) _ (r .number-is) (i .if1 .left)
+    totals-accepted (job (first i)) (state (first i)) (ask (first i)) (i .before .refusal .ensures) (i .if1 .left) (many k) (m .move-totals .ensures) (n .note2 .ensures .0) (n .note2 .ensures .1)
 
 pub step-spec : {M : Type 1} → statement M
 step-spec =
