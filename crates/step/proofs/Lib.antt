@@ -1,2 +1,3 @@
--- What an answer 0 says.
+-- What an answer says, and what each side of a step is given and leaves.
 pub mod Zero
+pub mod Sides

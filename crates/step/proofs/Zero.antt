@@ -1,13 +1,10 @@
--- What the number of a refusal says of the step: refused, or accepted. Assumes nothing.
+-- What the number of a refusal says of the step, refused or accepted. Assumes nothing.
 use mathlib.Core.Path.{_≡_, sym, ap, _∙_}
 use Prim.Native.Nat.{ℕ}
 use borrow.Author.Tests.{ne-eqb}
-use Rattle.laws.specs.Checks.{firstMet}
 use Rattle.model.specs.Tables.{JobTables, StateTables}
 use Rattle.model.specs.Step.{Asked, moved, stepRefusal, stepTables, StepAnswer, accepted, refused, stepAnswer, outcome, stepped}
-use Rattle.refuse.specs.Late.{earlyRules, laterRules}
 use Rattle.model.proofs.Refusal.{refused-number}
-use Rattle.refuse.proofs.Refused.{answer-early, answer-later}
 
 module _ (f : JobTables) (t : StateTables) (q : Asked) (r : ℕ) (e : r ≡ stepRefusal f t q) where
   -- A refused step: its tables are as they were.

@@ -161,7 +161,8 @@ pub fn add_products(
     requires { ⌜ a < k ⌝ }
     requires { ⌜ Linked t (now «tally_box») (now «tally_links») ⌝ }
     ensures { λ _. ⌜ now (working .exit) ≡ putRow k m a (productRow (tallies k m n t (now («offer_owner» .entry)) (now («tally_grocer» .entry))
-        (now («tally_box» .entry)) (now («tally_offer» .entry)) (now («tally_count» .entry))) (now (prices .entry)) a from (now (working .entry))) (now (working .entry)) ⌝ }
+        (now («tally_box» .entry)) (now («tally_offer» .entry)) (now («tally_count» .entry))) (now (prices .entry))
+        a from (now (working .entry))) (now (working .entry)) ⌝ }
 {
     let at = row_start(n, a);
     let base = row_start(m, a);

@@ -1,5 +1,5 @@
 -- `refuse::refusal` meets its contract: its number is that of the first condition met. Assumes nothing.
-use mathlib.Core.Path.{refl, _≡_, sym, ap, _∙_}
+use mathlib.Core.Path.{_≡_, sym, ap, _∙_}
 use mathlib.Core.Bool.{Bool, true, false, not}
 use Prim.Native.Nat.{_≤_}
 use native.Mathlib.Omega.{arith}
