@@ -10,7 +10,7 @@ returns : tie.Need-returns
 returns c =
     let s = c .before .before .before .before .before .before .before .before .before .before .before .before .before .before in
     let a = s .args in
-    grocers-made (a .k) (a .m) (now (a .gowner)) (now (a .out)) _ _ _ (s .pre .0 .0) (omega (arith, s .pre .0))
+    grocers-made (a .k) (a .m) (now (a .grocer-owner)) (now (a .out)) _ _ _ (s .pre .0 .0) (omega (arith, s .pre .0))
     (c .before .before .before .before .before .before .before .before .before .before .put-head .ensures) (c .before .before .before .before .before .before .put-owners .ensures)
     (c .before .before .close-block .ensures)
 

@@ -3,7 +3,7 @@ use native.Mathlib.Omega.{arith}
 use denote.Ref.{now}
 use borrow.Author.Needs.{needs}
 use Rattle.format.specs.Blocks.{offerBytes}
-use Rattle.checks.specs.Rows.{offerOf}
+use Rattle.format.specs.Tables.{offerTables, offerOf}
 use Rattle.writer.proofs.Made.{records-made}
 use Rattle.writer.proofs.block.put_offer_block.Statement.{statement}
 use Rattle.writer.proofs.block.put_offer_block.Tie as tie
@@ -23,7 +23,7 @@ returns : tie.Need-returns
 returns c =
     let s = c .before .before .before .before .before .before .before .before .before .before .before .before .before .before .before .before .before in
     let a = s .args in
-    records-made 1 1 (a .n) (a .b) _ (λ i. offerBytes (offerOf (now (a .price)) (now (a .owner)) (now (a .code)) i)) (now (a .out)) _ _ _
+    records-made 1 1 (a .n) (a .b) _ (λ i. offerBytes (offerOf (offerTables (now (a .price)) (now (a .offer-owner)) (now (a .offer-code))) i)) (now (a .out)) _ _ _
     (c .before .before .before .before .before .before .before .before .before .before .before .before .part-of .ensures) (omega (arith, s .pre .0))
     (c .before .before .before .before .before .before .before .before .before .before .put-head .ensures) (c .before .before .before .before .before .before .put-offers .ensures)
     (c .before .before .close-block .ensures)

@@ -3,7 +3,7 @@ use native.Mathlib.Omega.{arith}
 use denote.Ref.{now}
 use borrow.Author.Needs.{needs}
 use Rattle.format.specs.Blocks.{tallyBytes}
-use Rattle.checks.specs.Rows.{tallyOf}
+use Rattle.format.specs.Tables.{tallyTables, tallyOf}
 use Rattle.writer.proofs.Made.{records-made}
 use Rattle.writer.proofs.block.put_tally_block.Statement.{statement}
 use Rattle.writer.proofs.block.put_tally_block.Tie as tie
@@ -24,7 +24,7 @@ returns : tie.Need-returns
 returns c =
     let s = c .before .before .before .before .before .before .before .before .before .before .before .before .before .before .before .before .before in
     let a = s .args in
-    records-made 3 (a .k) (a .t) (a .b) _ (λ i. tallyBytes (tallyOf (now (a .tgrocer)) (now (a .tbox)) (now (a .tcode)) (now (a .tcount)) i)) (now (a .out)) _ _ _
+    records-made 3 (a .k) (a .t) (a .b) _ (λ i. tallyBytes (tallyOf (tallyTables (now (a .tally-grocer)) (now (a .tally-box)) (now (a .tally-code)) (now (a .tally-count))) i)) (now (a .out)) _ _ _
     (c .before .before .before .before .before .before .before .before .before .before .before .before .part-of .ensures) (omega (arith, s .pre .0))
     (c .before .before .before .before .before .before .before .before .before .before .put-head .ensures) (c .before .before .before .before .before .before .put-tallies .ensures)
     (c .before .before .close-block .ensures)

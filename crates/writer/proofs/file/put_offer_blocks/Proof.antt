@@ -8,7 +8,7 @@ use denote.Ref.{now}
 use borrow.Author.Needs.{needs}
 use Rattle.format.specs.Blocks.{offerBytes}
 use Rattle.format.specs.File.{blockByte}
-use Rattle.checks.specs.Rows.{offerOf}
+use Rattle.format.specs.Tables.{offerTables, offerOf}
 use Rattle.writer.specs.Puts.{put, recordBody, blocksOf}
 use Rattle.writer.proofs.Puts.{put-none}
 use Rattle.writer.proofs.Blocks.{block-next}
@@ -17,7 +17,7 @@ use Rattle.writer.proofs.file.put_offer_blocks.Tie as tie
 
 abbrev Inv-loop : tie.InvT-loop
 Inv-loop out₀ n price owner code blocks b₀ out b =
-    (b ≤ blocks) × (length out ≡ length out₀) × (out ≡ put 512 (b * 512) (blocksOf (recordBody 1 1 n (λ i. offerBytes (offerOf price owner code i)))) out₀)
+    (b ≤ blocks) × (length out ≡ length out₀) × (out ≡ put 512 (b * 512) (blocksOf (recordBody 1 1 n (λ i. offerBytes (offerOf (offerTables price owner code) i)))) out₀)
 
 abbrev μ-loop : tie.MeasureT-loop
 μ-loop out₀ n price owner code blocks b₀ out b = blocks - b
@@ -39,8 +39,8 @@ loop-again c =
       omega (arith, c .before .before .before .before .loop-test .taken),
       c .before .before .put-offer-block .kept .0 ∙ l .loop .inv .1,
       c .before .before .put-offer-block .ensures
-          ∙ ap (put (512 * (1 + l .loop .b)) 512 (blockByte (recordBody 1 1 (s .args .n) (λ i. offerBytes (offerOf (now (s .args .price)) (now (s .args .owner)) (now (s .args .code)) i)) (l .loop .b)))) (l .loop .inv .2)
-          ∙ block-next (recordBody 1 1 (s .args .n) (λ i. offerBytes (offerOf (now (s .args .price)) (now (s .args .owner)) (now (s .args .code)) i))) 1 (l .loop .b) (now (s .args .out))
+          ∙ ap (put (512 * (1 + l .loop .b)) 512 (blockByte (recordBody 1 1 (s .args .n) (λ i. offerBytes (offerOf (offerTables (now (s .args .price)) (now (s .args .offer-owner)) (now (s .args .offer-code))) i)) (l .loop .b)))) (l .loop .inv .2)
+          ∙ block-next (recordBody 1 1 (s .args .n) (λ i. offerBytes (offerOf (offerTables (now (s .args .price)) (now (s .args .offer-owner)) (now (s .args .offer-code))) i))) 1 (l .loop .b) (now (s .args .out))
           (omega (arith, c .before .before .before .before .loop-test .taken, l .before .blocks-for .ensures, s .pre .0)),
     )
 
@@ -51,7 +51,7 @@ returns : tie.Need-returns Inv-loop μ-loop
 returns c =
     let l = c .before in
     let s = l .before .before .before .before .before .before in
-    l .loop .inv .2 ∙ ap (λ (b : ℕ). put 512 (b * 512) (blocksOf (recordBody 1 1 (s .args .n) (λ i. offerBytes (offerOf (now (s .args .price)) (now (s .args .owner)) (now (s .args .code)) i))))
+    l .loop .inv .2 ∙ ap (λ (b : ℕ). put 512 (b * 512) (blocksOf (recordBody 1 1 (s .args .n) (λ i. offerBytes (offerOf (offerTables (now (s .args .price)) (now (s .args .offer-owner)) (now (s .args .offer-code))) i))))
     (now (s .args .out))) (le-antisymm (l .loop .inv .0) (c .loop-test .left) ∙ l .before .blocks-for .ensures)
 
 pub put-offer-blocks-spec : {M : Type 1} → statement M

@@ -8,7 +8,7 @@ use denote.Ref.{now}
 use borrow.Author.Needs.{needs}
 use Rattle.format.specs.Blocks.{tallyBytes}
 use Rattle.format.specs.File.{blockByte}
-use Rattle.checks.specs.Rows.{tallyOf}
+use Rattle.format.specs.Tables.{tallyTables, tallyOf}
 use Rattle.writer.specs.Puts.{put, recordBody, blocksOf}
 use Rattle.writer.proofs.Puts.{put-none}
 use Rattle.writer.proofs.Blocks.{block-next}
@@ -17,7 +17,7 @@ use Rattle.writer.proofs.file.put_tally_blocks.Tie as tie
 
 abbrev Inv-loop : tie.InvT-loop
 Inv-loop out₀ k t tgrocer tbox tcode tcount blocks b₀ out b =
-    (b ≤ blocks) × (length out ≡ length out₀) × (out ≡ put (512 * k) (b * 512) (blocksOf (recordBody 3 k t (λ i. tallyBytes (tallyOf tgrocer tbox tcode tcount i)))) out₀)
+    (b ≤ blocks) × (length out ≡ length out₀) × (out ≡ put (512 * k) (b * 512) (blocksOf (recordBody 3 k t (λ i. tallyBytes (tallyOf (tallyTables tgrocer tbox tcode tcount) i)))) out₀)
 
 abbrev μ-loop : tie.MeasureT-loop
 μ-loop out₀ k t tgrocer tbox tcode tcount blocks b₀ out b = blocks - b
@@ -40,8 +40,8 @@ loop-again c =
       c .before .before .put-tally-block .kept .0 ∙ l .loop .inv .1,
       c .before .before .put-tally-block .ensures
           ∙ ap (put (512 * ((s .args .k) + l .loop .b)) 512 (blockByte (recordBody 3 (s .args .k) (s .args .t)
-          (λ i. tallyBytes (tallyOf (now (s .args .tgrocer)) (now (s .args .tbox)) (now (s .args .tcode)) (now (s .args .tcount)) i)) (l .loop .b)))) (l .loop .inv .2)
-          ∙ block-next (recordBody 3 (s .args .k) (s .args .t) (λ i. tallyBytes (tallyOf (now (s .args .tgrocer)) (now (s .args .tbox)) (now (s .args .tcode)) (now (s .args .tcount)) i))) (s .args .k)
+          (λ i. tallyBytes (tallyOf (tallyTables (now (s .args .tally-grocer)) (now (s .args .tally-box)) (now (s .args .tally-code)) (now (s .args .tally-count))) i)) (l .loop .b)))) (l .loop .inv .2)
+          ∙ block-next (recordBody 3 (s .args .k) (s .args .t) (λ i. tallyBytes (tallyOf (tallyTables (now (s .args .tally-grocer)) (now (s .args .tally-box)) (now (s .args .tally-code)) (now (s .args .tally-count))) i))) (s .args .k)
           (l .loop .b) (now (s .args .out)) (omega (arith, c .before .before .before .before .loop-test .taken, l .before .blocks-for .ensures, s .pre .0)),
     )
 
@@ -53,7 +53,7 @@ returns c =
     let l = c .before in
     let s = l .before .before .before .before .before .before in
     l .loop .inv .2 ∙ ap (λ (b : ℕ). put (512 * (s .args .k)) (b * 512) (blocksOf (recordBody 3 (s .args .k) (s .args .t)
-    (λ i. tallyBytes (tallyOf (now (s .args .tgrocer)) (now (s .args .tbox)) (now (s .args .tcode)) (now (s .args .tcount)) i)))) (now (s .args .out)))
+    (λ i. tallyBytes (tallyOf (tallyTables (now (s .args .tally-grocer)) (now (s .args .tally-box)) (now (s .args .tally-code)) (now (s .args .tally-count))) i)))) (now (s .args .out)))
     (le-antisymm (l .loop .inv .0) (c .loop-test .left) ∙ l .before .blocks-for .ensures)
 
 pub put-tally-blocks-spec : {M : Type 1} → statement M

@@ -29,7 +29,7 @@ returns c =
     let q = c .before .before .before .before .before .before in
     let s = q .before .before .before .before .before .before .before .before .before .before .before .before in
     let a = s .args in
-    offer-put (getD (now (a .price)) (a .i) 0) (getD (now (a .owner)) (a .i) 0) (from (now (a .code)) (a .i * 11)) (a .at) (now (a .out)) _ _ _ (s .pre .0)
+    offer-put (getD (now (a .price)) (a .i) 0) (getD (now (a .offer-owner)) (a .i) 0) (from (now (a .offer-code)) (a .i * 11)) (a .at) (now (a .out)) _ _ _ (s .pre .0)
     (q .before .before .before .before .before .put32 .ensures) (long-copied q) (q .copy-code .ensures) (c .before .before .put-zeros .ensures)
 
 pub put-offer-spec : {M : Type 1} → statement M

@@ -49,9 +49,9 @@ returns c =
     let q = f .before .before .before .before .before .before in
     let s = q .before .before .before .before .before .before .before .before .before .before .before .before .before in
     let a = s .args in
-    let z = getD (now (a .tcount)) (a .i) (pos 0) in
+    let z = getD (now (a .tally-count)) (a .i) (pos 0) in
     let w : f .before .bits .result ≡ ofZ w32 z = f .before .bits .ensures ∙ ap (ofZ w32) (toZ-ofZ {w = w32} {z = z} (record { sfits = f .before .before .bits-arg .given })) in
-    tally-put (getD (now (a .tgrocer)) (a .i) 0) (getD (now (a .tbox)) (a .i) 0) (from (now (a .tcode)) (a .i * 11)) z (a .at) (now (a .out)) _ _ _ _ (s .pre .0)
+    tally-put (getD (now (a .tally-grocer)) (a .i) 0) (getD (now (a .tally-box)) (a .i) 0) (from (now (a .tally-code)) (a .i * 11)) z (a .at) (now (a .out)) _ _ _ _ (s .pre .0)
     (q .before .before .before .before .before .put16 .ensures ∙ ap (λ (v : ℕ). put (a .at) 2 (bytesOf (bytes16 v)) (now (a .out))) (q .before .before .before .before .before .before .size-of .ensures .0))
     (long-copied q) (q .copy-code .ensures)
     (f .put32 .ensures ∙ ap (λ (v : ℕ). put (a .at + 14) 4 (bytesOf (bytes32 v)) (q .copy-code .last .1 .1 .0)) w)
