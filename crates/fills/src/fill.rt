@@ -96,7 +96,8 @@ pub fn fill_tallies(
     tally_code: &mut [u8],
 )
     requires { ⌜ Whole (now f) (asHead head) ⌝ }
-    requires { ⌜ (head .tallies ≤ length (now «tally_grocer»)) × ((head .tallies ≤ length (now «tally_box»)) × (head .tallies * 11 ≤ length (now «tally_code»))) ⌝ }
+    requires { ⌜ (head .tallies ≤ length (now «tally_grocer»)) × ((head .tallies ≤ length (now «tally_box»)) × (head .tallies * 11 ≤
+        length (now «tally_code»))) ⌝ }
     ensures { λ _. ⌜ now («tally_grocer» .exit) ≡ overwrite (head .tallies) (λ i. decode (now (f .entry)) .tally i .grocer) (now («tally_grocer» .entry)) ⌝ }
     ensures { λ _. ⌜ now («tally_box» .exit) ≡ overwrite (head .tallies) (λ i. decode (now (f .entry)) .tally i .box) (now («tally_box» .entry)) ⌝ }
     ensures { λ _. ⌜ now («tally_code» .exit) ≡ storeCodes (head .tallies) (λ i. decode (now (f .entry)) .tally i .code) (now («tally_code» .entry)) ⌝ }

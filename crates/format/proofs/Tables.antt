@@ -20,7 +20,8 @@ use Rattle.format.specs.Job.{Head, FileJob, Offer, Tally, placeOf}
 use Rattle.format.specs.Blocks.{blockCount}
 use Rattle.format.specs.File.{encode, decode}
 use Rattle.format.specs.Refusals.{fileRefusal, jobRefusal}
-use Rattle.format.specs.Tables.{OfferTables, TallyTables, FileTables, ReaderTables, shortOffers, shortTallies, shortTables, LongOffers, LongTallies, Long, offerOf, tallyOf, storeOffers, storeTallies, fileJobOf, storeCodes, store, storeRead, sizes, refused, ReadOutcome, shortReader, readRefusal, readResult, wrote, notWritten, shortWriter, writeRefusal, writeResult}
+use Rattle.format.specs.Tables.{OfferTables, TallyTables, FileTables, ReaderTables, shortOffers, shortTallies, shortTables, LongOffers, LongTallies, Long, offerOf, tallyOf, storeOffers, storeTallies}
+use Rattle.format.specs.Tables.{fileJobOf, storeCodes, store, storeRead, sizes, refused, ReadOutcome, shortReader, readRefusal, readResult, wrote, notWritten, shortWriter, writeRefusal, writeResult}
 use Rattle.format.proofs.Firsts.{each}
 use Rattle.format.proofs.Order.{reader-file, writer-job}
 use Rattle.format.proofs.Range.{InRange, in-range}

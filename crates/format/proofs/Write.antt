@@ -21,7 +21,8 @@ use Rattle.format.specs.First.{firstBelow}
 use Rattle.format.specs.Bytes.{from, after, word16, bytes32}
 use Rattle.format.specs.Codes.{codeBytes}
 use Rattle.format.specs.Job.{Head, FileJob, Offer, Tally}
-use Rattle.format.specs.Blocks.{BlockKind, header, offerBlock, grocerBlock, tallyBlock, blockCount, blocks, offersAt, grocersAt, talliesAt, kindAt, blockKindNumber, records, recordSize, fieldSize, headerBytes, offerBytes, tallyBytes, recordBytes, spare, firstSum, secondSum}
+use Rattle.format.specs.Blocks.{BlockKind, header, offerBlock, grocerBlock, tallyBlock, blockCount, blocks, offersAt, grocersAt, talliesAt, kindAt}
+use Rattle.format.specs.Blocks.{blockKindNumber, records, recordSize, fieldSize, headerBytes, offerBytes, tallyBytes, recordBytes, spare, firstSum, secondSum}
 use Rattle.format.specs.File.{recordByte, bodyByte, blockByte, encode, readOffer, readTally, recordAt, readHead, decode}
 use Rattle.format.specs.Refusals.{badLength, badCount, sumsDiffer, notDue, badHeader, spareUsed, badRecord, headerRefusal, blockRefusal, fileRefusal, jobRefusal}
 use Rattle.format.proofs.Firsts.{below-none}

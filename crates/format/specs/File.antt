@@ -10,7 +10,8 @@ use Rattle.laws.specs.Tables.{tabulate}
 use Rattle.format.specs.Bytes.{from, after, word16, word32, bytes16}
 use Rattle.format.specs.Codes.{readCode}
 use Rattle.format.specs.Job.{Head, FileJob, Offer, Tally}
-use Rattle.format.specs.Blocks.{BlockKind, blocks, offersAt, grocersAt, talliesAt, kindAt, blockKindNumber, records, recordSize, recordBytes, spare, firstSum, secondSum}
+use Rattle.format.specs.Blocks.{BlockKind, blocks, offersAt, grocersAt, talliesAt, kindAt}
+use Rattle.format.specs.Blocks.{blockKindNumber, records, recordSize, recordBytes, spare, firstSum, secondSum}
 
 -- Byte 4 + s of a block: a byte of a record's field, or a spare 0.
 unfoldable pub recordByte : FileJob → BlockKind → ℕ → ℕ

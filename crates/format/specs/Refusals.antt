@@ -9,7 +9,8 @@ use Rattle.laws.specs.Checks.{anyOf, firstMet}
 use Rattle.format.specs.First.{firstOf, firstBelow}
 use Rattle.format.specs.Bytes.{from, after, word16}
 use Rattle.format.specs.Job.{Head, FileJob, badSizes, badOffer, badOwner, badTally, badRecords, shared, unnamed}
-use Rattle.format.specs.Blocks.{BlockKind, header, offerBlock, grocerBlock, tallyBlock, blocks, kindAt, blockKindNumber, records, spare, firstSum, secondSum}
+use Rattle.format.specs.Blocks.{BlockKind, header, offerBlock, grocerBlock, tallyBlock, blocks}
+use Rattle.format.specs.Blocks.{kindAt, blockKindNumber, records, spare, firstSum, secondSum}
 use Rattle.format.specs.File.{decode}
 
 -- 1: "length 0, not a multiple of 512, over 74 blocks".

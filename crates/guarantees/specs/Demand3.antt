@@ -43,7 +43,8 @@ pub record Holds (j : FileJob) (f : JobTables) : Type 0 where
 pub record Accepted (file : List ℕ) (l : ReaderTables) : Type 0 where
   pub holds : Holds (decode file) (jobRead file l)
   -- The code of each tally names the offer at its place, and no other.
-  pub named : (t : ℕ) → t < decode file .head .tallies → (placeOf (decode file) t < decode file .head .offers) × (names (decode file) t (placeOf (decode file) t) ≡ true)
+  pub named : (t : ℕ) → t < decode file .head .tallies →
+      (placeOf (decode file) t < decode file .head .offers) × (names (decode file) t (placeOf (decode file) t) ≡ true)
   pub noOther : (t i : ℕ) → t < decode file .head .tallies → i < decode file .head .offers → names (decode file) t i ≡ true → placeOf (decode file) t ≡ i
   -- The reader answers K, M, N and T.
   pub answer : readResult file l .answer ≡ sizes (decode file .head)

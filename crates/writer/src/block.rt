@@ -89,7 +89,8 @@ pub fn put_offer_block(
     requires { ⌜ LongOffers n (offerTables (now price) (now «offer_owner») (now «offer_code»)) ⌝ }
     requires { ⌜ Small (now «offer_owner») n ⌝ }
     ensures { λ _. ⌜ now (out .exit) ≡ put (512 * (1 + b)) 512 (blockByte
-        (recordBody 1 1 n (λ i. offerBytes (offerOf (offerTables (now (price .entry)) (now («offer_owner» .entry)) (now («offer_code» .entry))) i)) b)) (now (out .entry)) ⌝ }
+        (recordBody 1 1 n (λ i. offerBytes (offerOf (offerTables (now (price .entry)) (now («offer_owner» .entry))
+        (now («offer_code» .entry))) i)) b)) (now (out .entry)) ⌝ }
 {
     let number = 1 + b;
     let at = 512 * number;
@@ -128,7 +129,8 @@ pub fn put_tally_block(
     requires { ⌜ LongTallies t (tallyTables (now «tally_grocer») (now «tally_box») (now «tally_code») (now «tally_count»)) ⌝ }
     requires { ⌜ Small (now «tally_box») t ⌝ }
     ensures { λ _. ⌜ now (out .exit) ≡ put (512 * (k + b)) 512 (blockByte
-        (recordBody 3 k t (λ i. tallyBytes (tallyOf (tallyTables (now («tally_grocer» .entry)) (now («tally_box» .entry)) (now («tally_code» .entry)) (now («tally_count» .entry))) i)) b))
+        (recordBody 3 k t (λ i. tallyBytes (tallyOf (tallyTables (now («tally_grocer» .entry)) (now («tally_box» .entry)) (now («tally_code» .entry))
+        (now («tally_count» .entry))) i)) b))
         (now (out .entry)) ⌝ }
 {
     let number = k + b;

@@ -23,7 +23,8 @@ fn put_offer_blocks(out: &mut [u8], n: usize, price: &[u32], offer_owner: &[u16]
     requires { ⌜ LongOffers n (offerTables (now price) (now «offer_owner») (now «offer_code»)) ⌝ }
     requires { ⌜ Small (now «offer_owner») n ⌝ }
     ensures { λ _. ⌜ now (out .exit) ≡ put 512 (blocksFor n * 512) (blocksOf
-        (recordBody 1 1 n (λ i. offerBytes (offerOf (offerTables (now (price .entry)) (now («offer_owner» .entry)) (now («offer_code» .entry))) i)))) (now (out .entry)) ⌝ }
+        (recordBody 1 1 n (λ i. offerBytes (offerOf (offerTables (now (price .entry)) (now («offer_owner» .entry)) (now («offer_code» .entry))) i))))
+        (now (out .entry)) ⌝ }
 {
     let blocks = blocks_for(n);
     let mut b: usize = 0;
@@ -47,7 +48,8 @@ fn put_tally_blocks(
     requires { ⌜ LongTallies t (tallyTables (now «tally_grocer») (now «tally_box») (now «tally_code») (now «tally_count»)) ⌝ }
     requires { ⌜ Small (now «tally_box») t ⌝ }
     ensures { λ _. ⌜ now (out .exit) ≡ put (512 * k) (blocksFor t * 512) (blocksOf
-        (recordBody 3 k t (λ i. tallyBytes (tallyOf (tallyTables (now («tally_grocer» .entry)) (now («tally_box» .entry)) (now («tally_code» .entry)) (now («tally_count» .entry))) i))))
+        (recordBody 3 k t (λ i. tallyBytes (tallyOf (tallyTables (now («tally_grocer» .entry)) (now («tally_box» .entry)) (now («tally_code» .entry))
+        (now («tally_count» .entry))) i))))
         (now (out .entry)) ⌝ }
 {
     let blocks = blocks_for(t);

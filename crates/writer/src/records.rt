@@ -24,7 +24,8 @@ pub fn put_offer(
     requires { ⌜ at + 24 ≤ length (now out) ⌝ }
     requires { ⌜ (i < length (now price)) × ((i < length (now «offer_owner»)) × (i * 11 + 11 ≤ length (now «offer_code»))) ⌝ }
     requires { ⌜ getD (now «offer_owner») i 0 < 256 ⌝ }
-    ensures { λ _. ⌜ now (out .exit) ≡ put at 24 (bytesOf (offerBytes (offerOf (offerTables (now (price .entry)) (now («offer_owner» .entry)) (now («offer_code» .entry))) i)))
+    ensures { λ _. ⌜ now (out .exit) ≡ put at 24 (bytesOf (offerBytes (offerOf (offerTables (now (price .entry)) (now («offer_owner» .entry))
+        (now («offer_code» .entry))) i)))
         (now (out .entry)) ⌝ }
 {
     put32(out, at, price[i]);
@@ -44,9 +45,11 @@ pub fn put_tally(
     i: usize,
 )
     requires { ⌜ at + 24 ≤ length (now out) ⌝ }
-    requires { ⌜ (i < length (now «tally_grocer»)) × ((i < length (now «tally_box»)) × ((i * 11 + 11 ≤ length (now «tally_code»)) × (i < length (now «tally_count»)))) ⌝ }
+    requires { ⌜ (i < length (now «tally_grocer»)) × ((i < length (now «tally_box»)) × ((i * 11 + 11 ≤ length (now «tally_code»)) × (i <
+        length (now «tally_count»)))) ⌝ }
     requires { ⌜ getD (now «tally_box») i 0 < 256 ⌝ }
-    ensures { λ _. ⌜ now (out .exit) ≡ put at 24 (bytesOf (tallyBytes (tallyOf (tallyTables (now («tally_grocer» .entry)) (now («tally_box» .entry)) (now («tally_code» .entry)) (now («tally_count» .entry))) i))) (now (out .entry)) ⌝ }
+    ensures { λ _. ⌜ now (out .exit) ≡ put at 24 (bytesOf (tallyBytes (tallyOf (tallyTables (now («tally_grocer» .entry)) (now («tally_box» .entry))
+        (now («tally_code» .entry)) (now («tally_count» .entry))) i))) (now (out .entry)) ⌝ }
 {
     put16(out, at, size_of(tally_grocer[i]));
     out[at + 2] = tally_box[i] as u8;
@@ -94,7 +97,8 @@ pub fn put_tallies(
         (((first + n) * 11 ≤ length (now «tally_code»)) × (first + n ≤ length (now «tally_count»)))) ⌝ }
     requires { ⌜ Small (now «tally_box») (first + n) ⌝ }
     ensures { λ _. ⌜ now (out .exit) ≡ put at (n * 24) (rowsOf 24 (λ r. bytesOf
-        (tallyBytes (tallyOf (tallyTables (now («tally_grocer» .entry)) (now («tally_box» .entry)) (now («tally_code» .entry)) (now («tally_count» .entry))) (first + r))))) (now (out .entry))
+        (tallyBytes (tallyOf (tallyTables (now («tally_grocer» .entry)) (now («tally_box» .entry)) (now («tally_code» .entry))
+        (now («tally_count» .entry))) (first + r))))) (now (out .entry))
         ⌝ }
 {
     let mut r: usize = 0;

@@ -37,7 +37,8 @@ loop-again c =
       omega (arith, c .before .before .before .before .loop-test .taken),
       c .before .before .put-tally .kept .0 ∙ l .loop .inv .1,
       c .before .before .put-tally .ensures
-          ∙ ap (put (s .args .at + l .loop .r * 24) 24 (bytesOf (tallyBytes (tallyOf (tallyTables (now (s .args .tally-grocer)) (now (s .args .tally-box)) (now (s .args .tally-code)) (now (s .args .tally-count))) (s .args .first + l .loop .r))))) (l .loop .inv .2)
+          ∙ ap (put (s .args .at + l .loop .r * 24) 24
+          (bytesOf (tallyBytes (tallyOf (tallyTables (now (s .args .tally-grocer)) (now (s .args .tally-box)) (now (s .args .tally-code)) (now (s .args .tally-count))) (s .args .first + l .loop .r))))) (l .loop .inv .2)
           ∙ row-next 24 (λ r. bytesOf (tallyBytes (tallyOf (tallyTables (now (s .args .tally-grocer)) (now (s .args .tally-box)) (now (s .args .tally-code)) (now (s .args .tally-count))) (s .args .first + r)))) (s .args .at)
           (l .loop .r) (now (s .args .out)) (omega (arith, c .before .before .before .before .loop-test .taken, s .pre .0)),
     )
