@@ -1,12 +1,16 @@
 -- Bytes, words and records of a file by place. Assumes nothing.
 use Prim.Native.Nat.{ℕ, _+_, _*_, _-_, _≤_, _<_}
-use mathlib.Core.Path.{_≡_, ap, fun-ext}
+use mathlib.Core.Path.{_≡_, ap, ap₂, fun-ext}
 use mathlib.Core.List.{List}
 use native.Mathlib.Omega.{arith}
 use native.Mathlib.Nat.{add-assoc}
 use lib.ListN.{getD}
 use Rattle.format.specs.Bytes.{from, after}
-use Rattle.format.specs.Blocks.{grocersAt, talliesAt}
+use Rattle.laws.specs.Below.{any}
+use Rattle.laws.proofs.Below.{any-cong}
+use Rattle.format.specs.Job.{Head, badOffer, badOwner, badTally}
+use Rattle.format.specs.Blocks.{offerBlock, grocerBlock, tallyBlock, grocersAt, talliesAt}
+use Rattle.format.specs.Refusals.{badRecord}
 use Rattle.format.specs.File.{readOffer, readTally, recordAt, decode}
 
 -- The bytes from a later place on.
@@ -17,17 +21,19 @@ from-after f at p = fun-ext (λ k. ap (λ (q : ℕ). getD f q 0) (add-assoc at p
 record-at : (a k i : ℕ) → a ≤ k → i < 21 → 512 * k + 4 + 24 * i ≡ recordAt a (21 * (k - a) + i)
 record-at a k i l m = omega arith
 
--- Offer i of block k.
-pub offer-at : (f : List ℕ) (k i : ℕ) → 1 ≤ k → i < 21 → readOffer (from f (512 * k + 4 + 24 * i)) ≡ decode f .offer (21 * (k - 1) + i)
-unfolding decode
-offer-at f k i l m = ap (λ (p : ℕ). readOffer (from f p)) (record-at 1 k i l m)
+module _ (f : List ℕ) (h : Head) (is : h ≡ decode f .head) (k n : ℕ) where
+  -- The offers of block k, in the job's words,
+  pub offers-in : 1 ≤ k → n ≤ 21 → any n (λ i. badOffer h (readOffer (from f (512 * k + 4 + 24 * i)))) ≡ any n (badRecord (decode f) (offerBlock (k - 1)))
+  unfolding badRecord decode
+  offers-in l m = any-cong n _ _ (λ i q. ap₂ (λ (x : Head) (p : ℕ). badOffer x (readOffer (from f p))) is (record-at 1 k i l (omega arith)))
 
--- Tally i of block k.
-pub tally-at : (f : List ℕ) (k i : ℕ) → talliesAt (decode f .offers) ≤ k → i < 21 → readTally (from f (512 * k + 4 + 24 * i)) ≡ decode f .tally (21 * (k - talliesAt (decode f .offers)) + i)
-unfolding decode
-tally-at f k i l m = ap (λ (p : ℕ). readTally (from f p)) (record-at (talliesAt (decode f .offers)) k i l m)
+  -- the owners of the grocers, in the grocer block,
+  pub owners-in : k ≡ grocersAt (decode f .head) → any n (λ i. badOwner h (getD f (512 * k + 4 + i) 0)) ≡ any n (badRecord (decode f) grocerBlock)
+  unfolding badRecord decode
+  owners-in e = any-cong n _ _ (λ i q. ap₂ (λ (x : Head) (b : ℕ). badOwner x (getD f (512 * b + 4 + i) 0)) is e)
 
--- The owner of grocer i, in the grocer block.
-pub owner-at : (f : List ℕ) (k i : ℕ) → k ≡ grocersAt (decode f .offers) → getD f (512 * k + 4 + i) 0 ≡ decode f .grocerOwner i
-unfolding decode
-owner-at f k i e = ap (λ (b : ℕ). getD f (512 * b + 4 + i) 0) e
+  -- and the tallies of block k.
+  pub tallies-in : talliesAt (decode f .head) ≤ k → n ≤ 21 →
+      any n (λ i. badTally h (readTally (from f (512 * k + 4 + 24 * i)))) ≡ any n (badRecord (decode f) (tallyBlock (k - talliesAt (decode f .head))))
+  unfolding badRecord decode
+  tallies-in l m = any-cong n _ _ (λ i q. ap₂ (λ (x : Head) (p : ℕ). badTally x (readTally (from f p))) is (record-at (talliesAt (decode f .head)) k i l (omega arith)))

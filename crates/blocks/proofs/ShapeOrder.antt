@@ -34,9 +34,9 @@ length-in f h =
     (omega (arith, z), omega arith)
 
 -- A header that is not refused has sizes within their values.
-pub header-sizes : (f : List ℕ) → headerRefusal f ≡ 0 → SizesIn (decode f)
+pub header-sizes : (f : List ℕ) → headerRefusal f ≡ 0 → SizesIn (decode f .head)
 unfolding headerRefusal badHeader
-header-sizes f h = sizes-in (decode f) (or-off (not (eqb (getD f 5 0) 1)) (badSizes (decode f)) (unmet _ refl h .1 .1 .0) .1)
+header-sizes f h = sizes-in (decode f .head) (or-off (not (eqb (getD f 5 0) 1)) (badSizes (decode f .head)) (unmet _ refl h .1 .1 .0) .1)
 
 -- A length that is the header's block count, and one that is not.
 pub count-off : (f : List ℕ) → length f ≡ 512 * blocks (decode f) → badCount f ≡ false
@@ -110,28 +110,28 @@ module _ (f : List ℕ) (ok : shapeRefusal f ≡ 0) where
   shape-long = even _ _ shape-counted
 
   -- Sizes are within their values.
-  pub shape-sizes : SizesIn (decode f)
+  pub shape-sizes : SizesIn (decode f .head)
   shape-sizes = header-sizes f shape-top
 
-  inner : (k : ℕ) (z : BlockKind) → 0 < k → k < blocks (decode f) → kindAt (decode f .offers) k ≡ z → (r : ℕ) → r < records (decode f) z → badRecord (decode f) z r ≡ false
+  inner : (k : ℕ) (z : BlockKind) → 0 < k → k < blocks (decode f) → kindAt (decode f .head) k ≡ z → (r : ℕ) → r < records (decode f .head) z → badRecord (decode f) z r ≡ false
   unfolding blockRefusal
   inner k z p h e r l =
       let q : 1 + (k - 1) ≡ k = omega arith in
       let b = ap (blockRefusal f) (sym q) ∙ below-at _ _ shape-clean (k - 1) (omega arith) in
-      subst (λ (y : BlockKind). any (records (decode f) y) (badRecord (decode f) y) ≡ false → badRecord (decode f) z r ≡ false) (sym e)
-      (any-none (records (decode f) z) (badRecord (decode f) z) r l) (unmet _ refl b .1 .1 .1 .0)
+      subst (λ (y : BlockKind). any (records (decode f .head) y) (badRecord (decode f) y) ≡ false → badRecord (decode f) z r ≡ false) (sym e)
+      (any-none (records (decode f .head) z) (badRecord (decode f) z) r l) (unmet _ refl b .1 .1 .1 .0)
 
   -- Each offer's fields are within their ranges,
-  pub shape-offer : (i : ℕ) → i < decode f .offers → OfferIn (decode f) (decode f .offer i)
+  pub shape-offer : (i : ℕ) → i < decode f .head .offers → OfferIn (decode f .head) (decode f .offer i)
   unfolding badRecord
   shape-offer i h =
       let e : 21 * (i / 21) + i % 21 ≡ i = omega arith in
-      offer-in (decode f) (decode f .offer i) (rw e at (inner (offersAt + i / 21) (offerBlock (i / 21)) (omega arith) (omega arith) (kind-offers (decode f .offers) (i / 21) (omega arith)) (i % 21) (omega arith)))
+      offer-in (decode f .head) (decode f .offer i) (rw e at (inner (offersAt + i / 21) (offerBlock (i / 21)) (omega arith) (omega arith) (kind-offers (decode f .head) (i / 21) (omega arith)) (i % 21) (omega arith)))
 
   -- and each tally's fields are.
-  pub shape-tally : (i : ℕ) → i < decode f .tallies → TallyIn (decode f) (decode f .tally i)
+  pub shape-tally : (i : ℕ) → i < decode f .head .tallies → TallyIn (decode f .head) (decode f .tally i)
   unfolding badRecord
   shape-tally i h =
-      let n = decode f .offers in
+      let n = decode f .head in
       let e : 21 * (i / 21) + i % 21 ≡ i = omega arith in
-      tally-in (decode f) (decode f .tally i) (rw e at (inner (talliesAt n + i / 21) (tallyBlock (i / 21)) (omega arith) (omega arith) (kind-tallies n (i / 21)) (i % 21) (omega arith)))
+      tally-in (decode f .head) (decode f .tally i) (rw e at (inner (talliesAt n + i / 21) (tallyBlock (i / 21)) (omega arith) (omega arith) (kind-tallies n (i / 21)) (i % 21) (omega arith)))

@@ -13,8 +13,8 @@ use Rattle.laws.proofs.Bools.{split, and-true, and-l, and-r, same-test, or-l, o
 use Rattle.laws.proofs.Below.{any-at, any-find}
 use Rattle.laws.proofs.Tables.{row-in}
 use Rattle.format.specs.Bytes.{from, after}
+use Rattle.format.specs.Job.{Head}
 use Rattle.format.specs.Blocks.{BlockKind, kindAt, records, recordSize, fieldSize, spare}
-use Rattle.format.specs.File.{decode}
 use Rattle.format.specs.Refusals.{spareUsed}
 use Rattle.blocks.specs.Due.{Due}
 use Rattle.blocks.specs.Shape.{used, spareIn}
@@ -82,16 +82,13 @@ module _ (n z w : ℕ) (g : ℕ → ℕ) (room : n * z ≤ 504) (within : w ≤ 
   unfolding spareIn
   spare-walk = same-test (any 504 marked) (inside || behind) met found
 
-spare-after : (f : List ℕ) (k : ℕ) (b : BlockKind) (n : ℕ) → kindAt (decode f .offers) k ≡ b → n ≡ records (decode f) b →
-    spareIn n (recordSize b) (fieldSize b) (after (from f (512 * k)) 4) ≡ spareUsed (decode f) k (from f (512 * k))
+spare-after : (h : Head) (f : List ℕ) (k : ℕ) (b : BlockKind) (n : ℕ) → kindAt h k ≡ b → n ≡ records h b →
+    spareIn n (recordSize b) (fieldSize b) (after (from f (512 * k)) 4) ≡ spareUsed h k (from f (512 * k))
 unfolding spareIn spareUsed spare
-spare-after f k b n e c = rw (e, c)
-
-spare-is : (f : List ℕ) (k : ℕ) (b : BlockKind) (n : ℕ) → kindAt (decode f .offers) k ≡ b → n ≡ records (decode f) b →
-    spareIn n (recordSize b) (fieldSize b) (from f (512 * k + 4)) ≡ spareUsed (decode f) k (from f (512 * k))
-spare-is f k b n e c = ap (spareIn n (recordSize b) (fieldSize b)) (from-after f (512 * k) 4) ∙ spare-after f k b n e c
+spare-after h f k b n e c = rw (e, c)
 
 -- The spare bytes of block k, whose kind is b and which is due to have n records.
-pub spare-due : (f : List ℕ) (k x n : ℕ) → Due f k x n → (b : BlockKind) → kindAt (decode f .offers) k ≡ b →
-    spareIn n (recordSize b) (fieldSize b) (from f (512 * k + 4)) ≡ spareUsed (decode f) k (from f (512 * k))
-spare-due f k x n d b e = spare-is f k b n e (d .count ∙ ap (records (decode f)) e)
+pub spare-due : (h : Head) (f : List ℕ) (k x n : ℕ) → Due h k x n → (b : BlockKind) → kindAt h k ≡ b →
+    spareIn n (recordSize b) (fieldSize b) (from f (512 * k + 4)) ≡ spareUsed h k (from f (512 * k))
+spare-due h f k x n d b e =
+    ap (spareIn n (recordSize b) (fieldSize b)) (from-after f (512 * k) 4) ∙ spare-after h f k b n e (d .count ∙ ap (records h) e)

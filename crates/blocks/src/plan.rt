@@ -1,34 +1,43 @@
-// The sizes that a file's header says, and what each block is due to hold.
+// The numbers that a file's header says, and what each block is due to hold.
 ghost use mathlib.Core.Path.{_≡_};
 ghost use Prim.Native.Nat.{_+_, _*_, _-_, _≤_, min};
 ghost use lib.ListN.{length};
 ghost use Rattle.format.specs.Bytes.{from};
-ghost use Rattle.format.specs.Job.{FileJob, badSizes};
-ghost use Rattle.format.specs.Blocks.{blocksFor, blockCount, kindAt, blockKindNumber, records};
+ghost use Rattle.format.specs.Job.{badSizes};
+ghost use Rattle.format.specs.Blocks.{blocksFor, grocersAt, talliesAt, blockCount, kindAt, blockKindNumber, records};
 ghost use Rattle.format.specs.File.{decode};
 ghost use Rattle.format.specs.Refusals.{notDue};
-ghost use Rattle.blocks.specs.Due.{Is, Most, Due};
+ghost use Rattle.blocks.specs.Due.{asHead, Most, Due};
 use crate::bytes::size;
 use crate::bytes::word16;
 
-// How many boxes, grocers, offers and tallies.
-pub struct Sizes {
+// The largest numbers of a job.
+pub const MAX_BOXES: usize = 16;
+
+pub const MAX_GROCERS: usize = 255;
+
+pub const MAX_OFFERS: usize = 500;
+
+pub const MAX_TALLIES: usize = 1000;
+
+// The numbers of a header: how many boxes, grocers, offers and tallies.
+pub struct Head {
     pub boxes: usize,
     pub grocers: usize,
     pub offers: usize,
     pub tallies: usize,
 }
 
-// The sizes that the header says.
-pub fn read_sizes(f: &[u8]) -> Sizes
+// The numbers that a file's header says.
+pub fn read_head(f: &[u8]) -> Head
     requires { ⌜ 12 ≤ length (now f) ⌝ }
-    ensures { λ r. ⌜ Is (now (f .entry)) r ⌝ }
+    ensures { λ r. ⌜ asHead r ≡ decode (now (f .entry)) .head ⌝ }
 {
     let boxes = size(f[4]);
     let grocers = word16(f, 6);
     let offers = word16(f, 8);
     let tallies = word16(f, 10);
-    Sizes {
+    Head {
         boxes: boxes,
         grocers: grocers,
         offers: offers,
@@ -36,13 +45,13 @@ pub fn read_sizes(f: &[u8]) -> Sizes
     }
 }
 
-// Whether a size is outside its values.
-pub fn bad_sizes(boxes: usize, grocers: usize, offers: usize, tallies: usize) -> bool
-    ensures { λ r. ⌜ ((j : FileJob) → j .boxes ≡ boxes → j .grocers ≡ grocers → j .offers ≡ offers → j .tallies ≡ tallies → r ≡ badSizes j) ⌝ }
+// 4: whether one of K, M, N and T is outside its values.
+pub fn bad_sizes(head: Head) -> bool
+    ensures { λ r. ⌜ r ≡ badSizes (asHead head) ⌝ }
 {
-    let b = (boxes < 1) | (16 < boxes);
-    let g = (b | (grocers < 1)) | (255 < grocers);
-    ((g | (offers < 1)) | (500 < offers)) | (1000 < tallies)
+    let b = (head.boxes < 1) | (MAX_BOXES < head.boxes);
+    let g = (b | (head.grocers < 1)) | (MAX_GROCERS < head.grocers);
+    ((g | (head.offers < 1)) | (MAX_OFFERS < head.offers)) | (MAX_TALLIES < head.tallies)
 }
 
 // How many blocks n records of 24 bytes take.
@@ -53,20 +62,36 @@ pub fn blocks_for(n: usize) -> usize
     (n + 20) / 21
 }
 
-// How many blocks a file of n offers and t tallies has.
-pub fn block_count(n: usize, t: usize) -> usize
-    requires { ⌜ (n ≤ 65535) × (t ≤ 65535) ⌝ }
-    ensures { λ r. ⌜ r ≡ blockCount n t ⌝ }
+// The plan of blocks: the grocer block, after the offer blocks,
+pub fn grocers_at(head: Head) -> usize
+    requires { ⌜ head .offers ≤ 65535 ⌝ }
+    ensures { λ r. ⌜ r ≡ grocersAt (asHead head) ⌝ }
 {
-    1 + blocks_for(n) + 1 + blocks_for(t)
+    1 + blocks_for(head.offers)
 }
 
-// The number of the kind of block k, in a file of n offers.
-pub fn kind_at(n: usize, k: usize) -> usize
-    requires { ⌜ n ≤ 65535 ⌝ }
-    ensures { λ r. ⌜ r ≡ blockKindNumber (kindAt n k) ⌝ }
+// the first tally block,
+pub fn tallies_at(head: Head) -> usize
+    requires { ⌜ head .offers ≤ 65535 ⌝ }
+    ensures { λ r. ⌜ r ≡ talliesAt (asHead head) ⌝ }
 {
-    let grocers = 1 + blocks_for(n);
+    grocers_at(head) + 1
+}
+
+// and how many blocks there are.
+pub fn block_count(head: Head) -> usize
+    requires { ⌜ (head .offers ≤ 65535) × (head .tallies ≤ 65535) ⌝ }
+    ensures { λ r. ⌜ r ≡ blockCount (asHead head) ⌝ }
+{
+    tallies_at(head) + blocks_for(head.tallies)
+}
+
+// The number of the kind of block k.
+pub fn kind_at(head: Head, k: usize) -> usize
+    requires { ⌜ head .offers ≤ 65535 ⌝ }
+    ensures { λ r. ⌜ r ≡ blockKindNumber (kindAt (asHead head) k) ⌝ }
+{
+    let grocers = grocers_at(head);
     if k < 1 {
         return 0;
     }
@@ -95,27 +120,26 @@ fn part(n: usize, b: usize) -> usize
 }
 
 // How many records block k has, which is not the header.
-pub fn records_at(k: usize, kind: usize, s: Sizes) -> usize
-    requires { ⌜ (k ≤ 73) × Most s ⌝ }
-    requires { ⌜ (1 ≤ k) × (kind ≡ blockKindNumber (kindAt (s .offers) k)) ⌝ }
-    ensures { λ r. ⌜ ((j : FileJob) → j .grocers ≡ s .grocers → j .offers ≡ s .offers → j .tallies ≡ s .tallies → r ≡ records j
-        (kindAt (s .offers) k)) × (r ≤ 255) ⌝ }
+pub fn records_at(head: Head, k: usize, kind: usize) -> usize
+    requires { ⌜ (k ≤ 73) × Most (asHead head) ⌝ }
+    requires { ⌜ (1 ≤ k) × (kind ≡ blockKindNumber (kindAt (asHead head) k)) ⌝ }
+    ensures { λ r. ⌜ (r ≡ records (asHead head) (kindAt (asHead head) k)) × (r ≤ 255) ⌝ }
 {
     if kind == 1 {
-        return part(s.offers, k - 1);
+        return part(head.offers, k - 1);
     }
     if kind == 2 {
-        return s.grocers;
+        return head.grocers;
     }
-    let first = blocks_for(s.offers) + 2;
-    part(s.tallies, k - first)
+    let first = tallies_at(head);
+    part(head.tallies, k - first)
 }
 
 // Whether kind, block number or record count of block k is not as due.
 pub fn not_due(f: &[u8], k: usize, kind: usize, count: usize) -> bool
     requires { ⌜ 512 * k + 512 ≤ length (now f) ⌝ }
-    requires { ⌜ Due (now f) k kind count ⌝ }
-    ensures { λ r. ⌜ r ≡ notDue (decode (now (f .entry))) k (from (now (f .entry)) (512 * k)) ⌝ }
+    requires { ⌜ Due (decode (now f) .head) k kind count ⌝ }
+    ensures { λ r. ⌜ r ≡ notDue (decode (now (f .entry)) .head) k (from (now (f .entry)) (512 * k)) ⌝ }
 {
     let at = 512 * k;
     let other = (size(f[at]) != kind) | (word16(f, at + 2) != k);

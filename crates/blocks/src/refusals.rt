@@ -6,15 +6,15 @@ ghost use Rattle.format.specs.First.{firstBelow};
 ghost use Rattle.format.specs.Blocks.{blocks};
 ghost use Rattle.format.specs.File.{decode};
 ghost use Rattle.format.specs.Refusals.{badLength, badHeader, headerRefusal, blockRefusal};
-ghost use Rattle.blocks.specs.Due.{Is, Most};
+ghost use Rattle.blocks.specs.Due.{asHead, Most};
 ghost use Rattle.blocks.specs.Shape.{shapeRefusal};
 use crate::bytes::size;
-use crate::plan::Sizes;
+use crate::plan::Head;
 use crate::plan::bad_sizes;
 use crate::plan::block_count;
 use crate::plan::kind_at;
 use crate::plan::not_due;
-use crate::plan::read_sizes;
+use crate::plan::read_head;
 use crate::plan::records_at;
 use crate::records::bad_records;
 use crate::spares::header_spare_used;
@@ -34,12 +34,8 @@ fn bad_header(f: &[u8]) -> bool
     requires { ⌜ 512 ≤ length (now f) ⌝ }
     ensures { λ r. ⌜ r ≡ badHeader (now (f .entry)) ⌝ }
 {
-    let s = read_sizes(f);
-    let boxes = s.boxes;
-    let grocers = s.grocers;
-    let offers = s.offers;
-    let tallies = s.tallies;
-    (size(f[5]) != 1) | bad_sizes(boxes, grocers, offers, tallies)
+    let head = read_head(f);
+    (size(f[5]) != 1) | bad_sizes(head)
 }
 
 // The refusal of the header: 2, 3, 4, 5.
@@ -63,14 +59,13 @@ pub fn header_refusal(f: &[u8]) -> u16
 }
 
 // The refusal of block k, which is not the header: 2, 3, 5, 6.
-pub fn block_refusal(f: &[u8], k: usize, s: Sizes) -> u16
+pub fn block_refusal(f: &[u8], k: usize, head: Head) -> u16
     requires { ⌜ (512 * k + 512 ≤ length (now f)) × (1 ≤ k) × (k ≤ 73) ⌝ }
-    requires { ⌜ Is (now f) s × Most s ⌝ }
+    requires { ⌜ (asHead head ≡ decode (now f) .head) × Most (asHead head) ⌝ }
     ensures { λ r. ⌜ r ≡ blockRefusal (now (f .entry)) k ⌝ }
 {
-    let offers = s.offers;
-    let kind = kind_at(offers, k);
-    let count = records_at(k, kind, s);
+    let kind = kind_at(head, k);
+    let count = records_at(head, k, kind);
     if sums_differ(f, k) {
         return 2;
     }
@@ -80,22 +75,22 @@ pub fn block_refusal(f: &[u8], k: usize, s: Sizes) -> u16
     if spare_used(f, k, kind, count) {
         return 5;
     }
-    if bad_records(f, k, kind, count, s) {
+    if bad_records(f, k, kind, count, head) {
         return 6;
     }
     0
 }
 
 // The refusal of the first of the other blocks that is refused.
-pub fn blocks_refusal(f: &[u8], s: Sizes, n: usize) -> u16
+pub fn blocks_refusal(f: &[u8], head: Head, n: usize) -> u16
     requires { ⌜ (512 * n ≤ length (now f)) × (n ≤ 74) × (n ≡ blocks (decode (now f))) ⌝ }
-    requires { ⌜ Is (now f) s × Most s ⌝ }
+    requires { ⌜ (asHead head ≡ decode (now f) .head) × Most (asHead head) ⌝ }
     ensures { λ r. ⌜ r ≡ firstBelow (blocks (decode (now (f .entry))) - 1) (λ k. blockRefusal (now (f .entry)) (1 + k)) ⌝ }
 {
     let others = n - 1;
     let mut i: usize = 0;
     while i < others {
-        let r = block_refusal(f, 1 + i, s);
+        let r = block_refusal(f, 1 + i, head);
         if r != 0 {
             return r;
         }
@@ -115,12 +110,10 @@ pub fn shape_refusal(f: &[u8]) -> u16
     if top != 0 {
         return top;
     }
-    let s = read_sizes(f);
-    let offers = s.offers;
-    let tallies = s.tallies;
-    let n = block_count(offers, tallies);
+    let head = read_head(f);
+    let n = block_count(head);
     if f.len() != 512 * n {
         return 1;
     }
-    blocks_refusal(f, s, n)
+    blocks_refusal(f, head, n)
 }

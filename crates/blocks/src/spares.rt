@@ -44,7 +44,7 @@ fn spare_in(f: &[u8], at: usize, count: usize, size: usize, fields: usize) -> bo
 // The same of the header.
 pub fn header_spare_used(f: &[u8]) -> bool
     requires { ⌜ 512 ≤ length (now f) ⌝ }
-    ensures { λ r. ⌜ r ≡ spareUsed (decode (now (f .entry))) 0 (from (now (f .entry)) 0) ⌝ }
+    ensures { λ r. ⌜ r ≡ spareUsed (decode (now (f .entry)) .head) 0 (from (now (f .entry)) 0) ⌝ }
 {
     spare_in(f, 4, 1, 504, 8)
 }
@@ -52,8 +52,8 @@ pub fn header_spare_used(f: &[u8]) -> bool
 // The same of block k, which is not the header.
 pub fn spare_used(f: &[u8], k: usize, kind: usize, count: usize) -> bool
     requires { ⌜ (512 * k + 512 ≤ length (now f)) × (1 ≤ k) ⌝ }
-    requires { ⌜ Due (now f) k kind count ⌝ }
-    ensures { λ r. ⌜ r ≡ spareUsed (decode (now (f .entry))) k (from (now (f .entry)) (512 * k)) ⌝ }
+    requires { ⌜ Due (decode (now f) .head) k kind count ⌝ }
+    ensures { λ r. ⌜ r ≡ spareUsed (decode (now (f .entry)) .head) k (from (now (f .entry)) (512 * k)) ⌝ }
 {
     let at = 512 * k + 4;
     if kind == 1 {

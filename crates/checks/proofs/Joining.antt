@@ -1,50 +1,65 @@
 -- What the checks so far say, for those that follow. Assumes nothing.
-use mathlib.Core.Path.{_≡_, refl}
-use mathlib.Core.Bool.{false, _||_}
+use mathlib.Core.Path.{_≡_, refl, ap₂}
+use mathlib.Core.Bool.{Bool, false, _||_}
 use mathlib.Core.List.{List, [], _∷_}
 use Prim.Native.Nat.{ℕ}
+use lib.ListN.{getD}
 use Rattle.laws.specs.Below.{any}
 use Rattle.laws.specs.Checks.{firstMet}
 use Rattle.laws.proofs.Below.{any-none}
 use Rattle.laws.proofs.Bools.{or-off}
-use Rattle.format.specs.Job.{FileJob, badSizes, badOffer, badOwner, badTally, badRecords, shared, unnamed}
+use Rattle.format.specs.Job.{Head, FileJob, badSizes, badOffer, badOwner, badTally, badRecords, shared, unnamed}
 use Rattle.format.specs.Refusals.{jobRefusal}
-use Rattle.format.specs.Tables.{FileTables, Long, fileJobOf, shortTables, shortWriter}
+use Rattle.format.specs.Tables.{FileTables, Long, offerOf, tallyOf, fileJobOf, shortTables, shortWriter}
+use Rattle.blocks.specs.Due.{Most}
 use Rattle.checks.specs.Rows.{Codes, HasCodes}
-use Rattle.format.proofs.Range.{offer-in, tally-in}
+use Rattle.format.proofs.Range.{sizes-in, offer-in, tally-in}
 use Rattle.format.proofs.Tables.{long-tables}
 
 -- Where 20 is not met no table is short.
-pub long-enough : (m n t : ℕ) (l : FileTables) (out : List ℕ) → shortWriter m n t l out ≡ false → Long m n t l
+pub long-enough : (h : Head) (l : FileTables) (out : List ℕ) → shortWriter h l out ≡ false → Long h l
 unfolding shortWriter
-long-enough m n t l out h = long-tables m n t l (or-off (shortTables m n t l) _ h .0)
+long-enough h l out e = long-tables h l (or-off (shortTables h l) _ e .0)
 
 -- Where 4 and 6 are not met, 7 and 8 decide.
-pub job-rest : (j : FileJob) → badSizes j ≡ false → badRecords j ≡ false → jobRefusal j ≡ firstMet ((shared j, 7) ∷ (unnamed j, 8) ∷ [])
+pub job-rest : (j : FileJob) → badSizes (j .head) ≡ false → badRecords j ≡ false → jobRefusal j ≡ firstMet ((shared j, 7) ∷ (unnamed j, 8) ∷ [])
 unfolding jobRefusal firstMet
 job-rest j a b = rw (a, b)
 
-module _ (k m n t : ℕ) (l : FileTables) where
+-- Where 4 is not met each number is at most its largest.
+pub most : (h : Head) → badSizes h ≡ false → Most h
+most h e = let z = sizes-in h e in record { boxes = z .boxes-most; grocers = z .grocers-most; offers = z .offers-most; tallies = z .tallies-most }
+
+module _ (h : Head) (l : FileTables) where
   -- The tables hold the job's codes.
-  pub has-codes : HasCodes (fileJobOf k m n t l) (l .offerCode) (l .tallyCode) n t
+  pub has-codes : HasCodes (fileJobOf h l) (l .offers .code) (l .tallies .code) h
   unfolding fileJobOf
-  has-codes = record { offers = refl; tallies = refl; offer = λ i. refl; tally = λ i. refl }
+  has-codes = record { head = refl; offer = λ i. refl; tally = λ i. refl }
 
   -- Where 6 is not met each code is one.
-  pub offer-codes : badRecords (fileJobOf k m n t l) ≡ false → Codes (l .offerCode) n
+  pub offer-codes : badRecords (fileJobOf h l) ≡ false → Codes (l .offers .code) (h .offers)
   unfolding badRecords fileJobOf
-  offer-codes h =
-      let j = fileJobOf k m n t l in
-      let p = any n (λ i. badOffer j (j .offer i)) in
-      let q = any m (λ i. badOwner j (j .grocerOwner i)) in
-      let r = any t (λ i. badTally j (j .tally i)) in
-      record { code = λ i a. offer-in j (j .offer i) (any-none n (λ i. badOffer j (j .offer i)) i a (or-off p q (or-off (p || q) r h .0) .0)) .code }
+  offer-codes e =
+      let j = fileJobOf h l in
+      let p = any (h .offers) (λ i. badOffer h (j .offer i)) in
+      let q = any (h .grocers) (λ i. badOwner h (j .grocerOwner i)) in
+      let r = any (h .tallies) (λ i. badTally h (j .tally i)) in
+      record { code = λ i a. offer-in h (j .offer i) (any-none (h .offers) (λ i. badOffer h (j .offer i)) i a (or-off p q (or-off (p || q) r e .0) .0)) .code }
 
-  pub tally-codes : badRecords (fileJobOf k m n t l) ≡ false → Codes (l .tallyCode) t
+  pub tally-codes : badRecords (fileJobOf h l) ≡ false → Codes (l .tallies .code) (h .tallies)
   unfolding badRecords fileJobOf
-  tally-codes h =
-      let j = fileJobOf k m n t l in
-      let p = any n (λ i. badOffer j (j .offer i)) in
-      let q = any m (λ i. badOwner j (j .grocerOwner i)) in
-      let r = any t (λ i. badTally j (j .tally i)) in
-      record { code = λ i a. tally-in j (j .tally i) (any-none t (λ i. badTally j (j .tally i)) i a (or-off (p || q) r h .1)) .code }
+  tally-codes e =
+      let j = fileJobOf h l in
+      let p = any (h .offers) (λ i. badOffer h (j .offer i)) in
+      let q = any (h .grocers) (λ i. badOwner h (j .grocerOwner i)) in
+      let r = any (h .tallies) (λ i. badTally h (j .tally i)) in
+      record { code = λ i a. tally-in h (j .tally i) (any-none (h .tallies) (λ i. badTally h (j .tally i)) i a (or-off (p || q) r e .1)) .code }
+
+  -- 6 of the whole job is that of its offers, its grocers and its tallies.
+  pub record-tests : {x y z : Bool} →
+      x ≡ any (h .offers) (λ i. badOffer h (offerOf (l .offers) i)) →
+      y ≡ any (h .grocers) (λ i. badOwner h (getD (l .grocerOwner) i 0)) →
+      z ≡ any (h .tallies) (λ i. badTally h (tallyOf (l .tallies) i)) →
+      (x || y || z) ≡ badRecords (fileJobOf h l)
+  unfolding badRecords fileJobOf
+  record-tests e f g = ap₂ _||_ (ap₂ _||_ e f) g

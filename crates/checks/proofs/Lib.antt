@@ -1,4 +1,3 @@
 -- Laws that the proofs of the checks cite.
-pub mod Tests
 pub mod Naming
 pub mod Joining

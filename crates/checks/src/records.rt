@@ -5,11 +5,13 @@ ghost use lib.Dec.{ltb};
 ghost use lib.IntN.{natAbs};
 ghost use lib.ListN.{length, getD};
 ghost use Rattle.laws.specs.Below.{any};
-ghost use Rattle.format.specs.Job.{FileJob, badOffer, badOwner, badTally, badRecords};
-ghost use Rattle.format.specs.Tables.{fileTables, fileJobOf, Long};
-ghost use Rattle.checks.specs.Rows.{offerOf, tallyOf};
+ghost use Rattle.format.specs.Job.{badOffer, badOwner, badTally, badRecords};
+ghost use Rattle.format.specs.Tables.{offerTables, tallyTables, fileTables, LongOffers, LongTallies, Long, offerOf, tallyOf, fileJobOf};
+ghost use Rattle.blocks.specs.Due.{asHead};
 use crate::sizes::size_of;
 use blocks::codes::is_code;
+use blocks::plan::Head;
+use blocks::records::MAX_PRICE;
 
 // Whether a count is outside −99,999 to 99,999.
 fn bad_count(z: i32) -> bool
@@ -19,79 +21,82 @@ fn bad_count(z: i32) -> bool
 }
 
 // Whether a field of offer i is outside its range.
-fn bad_offer(boxes: u16, price: &[u32], owner: &[u16], code: &[u8], i: usize) -> bool
-    requires { ⌜ (i < length (now price)) × ((i < length (now owner)) × (i * 11 + 11 ≤ length (now code))) ⌝ }
-    ensures { λ r. ⌜ ((j : FileJob) → j .boxes ≡ boxes → r ≡ badOffer j (offerOf (now (price .entry)) (now (owner .entry)) (now (code .entry)) i)) ⌝ }
+fn bad_offer(head: Head, price: &[u32], offer_owner: &[u16], offer_code: &[u8], i: usize) -> bool
+    requires { ⌜ (i < length (now price)) × ((i < length (now «offer_owner»)) × (i * 11 + 11 ≤ length (now «offer_code»))) ⌝ }
+    ensures { λ r. ⌜ r ≡ badOffer (asHead head) (offerOf (offerTables (now (price .entry)) (now («offer_owner» .entry)) (now («offer_code» .entry))) i) ⌝ }
 {
     let at = i * 11;
-    (9_999_999 < price[i]) | (boxes <= owner[i]) | !is_code(code, at)
+    (MAX_PRICE < price[i]) | (head.boxes <= size_of(offer_owner[i])) | !is_code(offer_code, at)
 }
 
 // Whether a field of tally i is outside its range.
 fn bad_tally(
-    boxes: u16,
-    grocers: u16,
-    tgrocer: &[u16],
-    tbox: &[u16],
-    tcode: &[u8],
-    tcount: &[i32],
+    head: Head,
+    tally_grocer: &[u16],
+    tally_box: &[u16],
+    tally_code: &[u8],
+    tally_count: &[i32],
     i: usize,
 ) -> bool
-    requires { ⌜ (i < length (now tgrocer)) × ((i < length (now tbox)) × ((i * 11 + 11 ≤ length (now tcode)) × (i < length (now tcount)))) ⌝ }
-    ensures { λ r. ⌜ ((j : FileJob) → j .boxes ≡ boxes → j .grocers ≡ grocers → r ≡ badTally j
-        (tallyOf (now (tgrocer .entry)) (now (tbox .entry)) (now (tcode .entry)) (now (tcount .entry)) i)) ⌝ }
+    requires { ⌜ (i < length (now «tally_grocer»)) × (i < length (now «tally_box»)) ⌝ }
+    requires { ⌜ (i * 11 + 11 ≤ length (now «tally_code»)) × (i < length (now «tally_count»)) ⌝ }
+    ensures { λ r. ⌜ r ≡ badTally (asHead head)
+        (tallyOf (tallyTables (now («tally_grocer» .entry)) (now («tally_box» .entry)) (now («tally_code» .entry)) (now («tally_count» .entry))) i) ⌝ }
 {
     let at = i * 11;
-    (grocers <= tgrocer[i]) | (boxes <= tbox[i]) | !is_code(tcode, at) | bad_count(tcount[i])
+    let ranges = (head.grocers <= size_of(tally_grocer[i])) | (head.boxes <= size_of(tally_box[i]));
+    ranges | !is_code(tally_code, at) | bad_count(tally_count[i])
 }
 
-// Whether one of the first n offers is.
-fn bad_offers(boxes: u16, n: usize, price: &[u32], owner: &[u16], code: &[u8]) -> bool
-    requires { ⌜ (n ≤ length (now price)) × ((n ≤ length (now owner)) × (n * 11 ≤ length (now code))) ⌝ }
-    ensures { λ r. ⌜ ((j : FileJob) → j .boxes ≡ boxes → r ≡ any n (λ i. badOffer j
-        (offerOf (now (price .entry)) (now (owner .entry)) (now (code .entry)) i))) ⌝ }
+// Whether one of the offers is.
+fn bad_offers(head: Head, price: &[u32], offer_owner: &[u16], offer_code: &[u8]) -> bool
+    requires { ⌜ LongOffers (head .offers) (offerTables (now price) (now «offer_owner») (now «offer_code»)) ⌝ }
+    ensures { λ r. ⌜ r ≡ any (head .offers) (λ i. badOffer (asHead head)
+        (offerOf (offerTables (now (price .entry)) (now («offer_owner» .entry)) (now («offer_code» .entry))) i)) ⌝ }
 {
+    let n = head.offers;
     let mut bad = false;
     let mut i: usize = 0;
     while i < n {
-        bad = bad | bad_offer(boxes, price, owner, code, i);
+        bad = bad | bad_offer(head, price, offer_owner, offer_code, i);
         i += 1;
     }
     bad
 }
 
-// Whether one of the first m grocers' owners is K or more.
-fn bad_owners(boxes: u16, m: usize, gowner: &[u16]) -> bool
-    requires { ⌜ m ≤ length (now gowner) ⌝ }
-    ensures { λ r. ⌜ ((j : FileJob) → j .boxes ≡ boxes → r ≡ any m (λ i. badOwner j (getD (now (gowner .entry)) i 0))) ⌝ }
+// Whether one of the grocers' owners is K or more.
+fn bad_owners(head: Head, grocer_owner: &[u16]) -> bool
+    requires { ⌜ head .grocers ≤ length (now «grocer_owner») ⌝ }
+    ensures { λ r. ⌜ r ≡ any (head .grocers) (λ i. badOwner (asHead head) (getD (now («grocer_owner» .entry)) i 0)) ⌝ }
 {
+    let k = head.boxes;
+    let m = head.grocers;
     let mut bad = false;
     let mut i: usize = 0;
     while i < m {
-        bad = bad | (boxes <= gowner[i]);
+        bad = bad | (k <= size_of(grocer_owner[i]));
         i += 1;
     }
     bad
 }
 
-// Whether one of the first t tallies is outside its range.
+// Whether one of the tallies is outside its range.
 fn bad_tallies(
-    boxes: u16,
-    grocers: u16,
-    t: usize,
-    tgrocer: &[u16],
-    tbox: &[u16],
-    tcode: &[u8],
-    tcount: &[i32],
+    head: Head,
+    tally_grocer: &[u16],
+    tally_box: &[u16],
+    tally_code: &[u8],
+    tally_count: &[i32],
 ) -> bool
-    requires { ⌜ (t ≤ length (now tgrocer)) × ((t ≤ length (now tbox)) × ((t * 11 ≤ length (now tcode)) × (t ≤ length (now tcount)))) ⌝ }
-    ensures { λ r. ⌜ ((j : FileJob) → j .boxes ≡ boxes → j .grocers ≡ grocers → r ≡ any t
-        (λ i. badTally j (tallyOf (now (tgrocer .entry)) (now (tbox .entry)) (now (tcode .entry)) (now (tcount .entry)) i))) ⌝ }
+    requires { ⌜ LongTallies (head .tallies) (tallyTables (now «tally_grocer») (now «tally_box») (now «tally_code») (now «tally_count»)) ⌝ }
+    ensures { λ r. ⌜ r ≡ any (head .tallies) (λ i. badTally (asHead head)
+        (tallyOf (tallyTables (now («tally_grocer» .entry)) (now («tally_box» .entry)) (now («tally_code» .entry)) (now («tally_count» .entry))) i)) ⌝ }
 {
+    let t = head.tallies;
     let mut bad = false;
     let mut i: usize = 0;
     while i < t {
-        bad = bad | bad_tally(boxes, grocers, tgrocer, tbox, tcode, tcount, i);
+        bad = bad | bad_tally(head, tally_grocer, tally_box, tally_code, tally_count, i);
         i += 1;
     }
     bad
@@ -99,28 +104,23 @@ fn bad_tallies(
 
 // 6: whether a record of the job is outside its range.
 pub fn bad_records(
-    boxes: u16,
-    grocers: u16,
-    offers: u16,
-    tallies: u16,
+    head: Head,
     price: &[u32],
-    owner: &[u16],
-    code: &[u8],
-    gowner: &[u16],
-    tgrocer: &[u16],
-    tbox: &[u16],
-    tcode: &[u8],
-    tcount: &[i32],
+    offer_owner: &[u16],
+    offer_code: &[u8],
+    grocer_owner: &[u16],
+    tally_grocer: &[u16],
+    tally_box: &[u16],
+    tally_code: &[u8],
+    tally_count: &[i32],
 ) -> bool
-    requires { ⌜ Long grocers offers tallies (fileTables (now price) (now owner) (now code) (now gowner) (now tgrocer) (now tbox) (now tcode) (now tcount)) ⌝ }
-    ensures { λ r. ⌜ r ≡ badRecords (fileJobOf boxes grocers offers tallies
-        (fileTables (now (price .entry)) (now (owner .entry)) (now (code .entry)) (now (gowner .entry)) (now (tgrocer .entry)) (now (tbox .entry))
-        (now (tcode .entry)) (now (tcount .entry)))) ⌝ }
+    requires { ⌜ Long (asHead head) (fileTables (now price) (now «offer_owner») (now «offer_code») (now «grocer_owner»)
+        (now «tally_grocer») (now «tally_box») (now «tally_code») (now «tally_count»)) ⌝ }
+    ensures { λ r. ⌜ r ≡ badRecords (fileJobOf (asHead head)
+        (fileTables (now (price .entry)) (now («offer_owner» .entry)) (now («offer_code» .entry)) (now («grocer_owner» .entry))
+        (now («tally_grocer» .entry)) (now («tally_box» .entry)) (now («tally_code» .entry)) (now («tally_count» .entry)))) ⌝ }
 {
-    let m = size_of(grocers);
-    let n = size_of(offers);
-    let t = size_of(tallies);
-    bad_offers(boxes, n, price, owner, code)
-        | bad_owners(boxes, m, gowner)
-        | bad_tallies(boxes, grocers, t, tgrocer, tbox, tcode, tcount)
+    bad_offers(head, price, offer_owner, offer_code)
+        | bad_owners(head, grocer_owner)
+        | bad_tallies(head, tally_grocer, tally_box, tally_code, tally_count)
 }

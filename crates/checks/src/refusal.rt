@@ -2,103 +2,91 @@
 ghost use mathlib.Core.Path.{_≡_};
 ghost use Rattle.format.specs.Refusals.{jobRefusal};
 ghost use Rattle.format.specs.Tables.{fileTables, fileJobOf, writeRefusal, Long};
+ghost use Rattle.blocks.specs.Due.{asHead, Fits};
 use crate::codes::codes_refusal;
 use crate::records::bad_records;
-use crate::sizes::bad_sizes;
 use crate::sizes::short_writer;
-use crate::sizes::size_of;
+use blocks::plan::Head;
+use blocks::plan::bad_sizes;
 
 // 4, 6, 7, 8 or no refusal, of tables that are long enough.
 fn job_refusal(
-    boxes: u16,
-    grocers: u16,
-    offers: u16,
-    tallies: u16,
+    head: Head,
     price: &[u32],
-    owner: &[u16],
-    code: &[u8],
-    gowner: &[u16],
-    tgrocer: &[u16],
-    tbox: &[u16],
-    tcode: &[u8],
-    tcount: &[i32],
+    offer_owner: &[u16],
+    offer_code: &[u8],
+    grocer_owner: &[u16],
+    tally_grocer: &[u16],
+    tally_box: &[u16],
+    tally_code: &[u8],
+    tally_count: &[i32],
 ) -> u16
-    requires { ⌜ Long grocers offers tallies (fileTables (now price) (now owner) (now code) (now gowner) (now tgrocer) (now tbox) (now tcode) (now tcount)) ⌝ }
-    ensures { λ r. ⌜ r ≡ jobRefusal (fileJobOf boxes grocers offers tallies
-        (fileTables (now (price .entry)) (now (owner .entry)) (now (code .entry)) (now (gowner .entry)) (now (tgrocer .entry)) (now (tbox .entry))
-        (now (tcode .entry)) (now (tcount .entry)))) ⌝ }
+    requires { ⌜ Long (asHead head) (fileTables (now price) (now «offer_owner») (now «offer_code») (now «grocer_owner»)
+        (now «tally_grocer») (now «tally_box») (now «tally_code») (now «tally_count»)) ⌝ }
+    ensures { λ r. ⌜ r ≡ jobRefusal (fileJobOf (asHead head)
+        (fileTables (now (price .entry)) (now («offer_owner» .entry)) (now («offer_code» .entry)) (now («grocer_owner» .entry))
+        (now («tally_grocer» .entry)) (now («tally_box» .entry)) (now («tally_code» .entry)) (now («tally_count» .entry)))) ⌝ }
 {
-    if bad_sizes(boxes, grocers, offers, tallies) {
+    if bad_sizes(head) {
         return 4;
     }
     if bad_records(
-        boxes,
-        grocers,
-        offers,
-        tallies,
+        head,
         price,
-        owner,
-        code,
-        gowner,
-        tgrocer,
-        tbox,
-        tcode,
-        tcount,
+        offer_owner,
+        offer_code,
+        grocer_owner,
+        tally_grocer,
+        tally_box,
+        tally_code,
+        tally_count,
     ) {
         return 6;
     }
-    let n = size_of(offers);
-    let t = size_of(tallies);
-    codes_refusal(n, t, code, tcode)
+    codes_refusal(head, offer_code, tally_code)
 }
 
 // The writer's refusal of any tables, or 0.
 pub fn write_refusal(
-    boxes: u16,
-    grocers: u16,
-    offers: u16,
-    tallies: u16,
+    head: Head,
     price: &[u32],
-    owner: &[u16],
-    code: &[u8],
-    gowner: &[u16],
-    tgrocer: &[u16],
-    tbox: &[u16],
-    tcode: &[u8],
-    tcount: &[i32],
+    offer_owner: &[u16],
+    offer_code: &[u8],
+    grocer_owner: &[u16],
+    tally_grocer: &[u16],
+    tally_box: &[u16],
+    tally_code: &[u8],
+    tally_count: &[i32],
     out: &[u8],
 ) -> u16
-    ensures { λ r. ⌜ r ≡ writeRefusal boxes grocers offers tallies (fileTables (now (price .entry)) (now (owner .entry)) (now (code .entry))
-        (now (gowner .entry)) (now (tgrocer .entry)) (now (tbox .entry)) (now (tcode .entry)) (now (tcount .entry))) (now (out .entry)) ⌝ }
+    requires { ⌜ Fits (asHead head) ⌝ }
+    ensures { λ r. ⌜ r ≡ writeRefusal (asHead head)
+        (fileTables (now (price .entry)) (now («offer_owner» .entry)) (now («offer_code» .entry)) (now («grocer_owner» .entry))
+        (now («tally_grocer» .entry)) (now («tally_box» .entry)) (now («tally_code» .entry)) (now («tally_count» .entry))) (now (out .entry)) ⌝ }
 {
     if short_writer(
-        grocers,
-        offers,
-        tallies,
+        head,
         price,
-        owner,
-        code,
-        gowner,
-        tgrocer,
-        tbox,
-        tcode,
-        tcount,
+        offer_owner,
+        offer_code,
+        grocer_owner,
+        tally_grocer,
+        tally_box,
+        tally_code,
+        tally_count,
         out,
     ) {
         return 20;
     }
     job_refusal(
-        boxes,
-        grocers,
-        offers,
-        tallies,
+        head,
         price,
-        owner,
-        code,
-        gowner,
-        tgrocer,
-        tbox,
-        tcode,
-        tcount,
+        offer_owner,
+        offer_code,
+        grocer_owner,
+        tally_grocer,
+        tally_box,
+        tally_code,
+        tally_count,
     )
 }

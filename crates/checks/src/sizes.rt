@@ -1,9 +1,11 @@
-// 20 and 4: lengths, and K, M, N and T.
+// 20: lengths, by K, M, N and T as they are given.
 ghost use mathlib.Core.Path.{_≡_};
 ghost use Prim.Native.Nat.{_*_, _≤_};
-ghost use Rattle.format.specs.Job.{badSizes};
+ghost use Rattle.format.specs.Job.{headOf};
 ghost use Rattle.format.specs.Blocks.{blockCount};
-ghost use Rattle.format.specs.Tables.{FileTables, fileTables, fileJobOf, shortWriter};
+ghost use Rattle.format.specs.Tables.{offerTables, tallyTables, fileTables, shortOffers, shortTallies, shortWriter};
+ghost use Rattle.blocks.specs.Due.{asHead, Fits};
+use blocks::plan::Head;
 use blocks::plan::block_count;
 
 // A 16-bit number as a size.
@@ -13,54 +15,81 @@ pub fn size_of(x: u16) -> usize
     x as usize
 }
 
-// The length of the file of n offers and t tallies.
-pub fn file_length(n: usize, t: usize) -> usize
-    requires { ⌜ (n ≤ 65535) × (t ≤ 65535) ⌝ }
-    ensures { λ r. ⌜ r ≡ 512 * blockCount n t ⌝ }
-{
-    512 * block_count(n, t)
-}
-
-// 20: whether a table, or the buffer for the file, is shorter than K, M, N and T as given need.
-pub fn short_writer(
-    grocers: u16,
-    offers: u16,
-    tallies: u16,
-    price: &[u32],
-    owner: &[u16],
-    code: &[u8],
-    gowner: &[u16],
-    tgrocer: &[u16],
-    tbox: &[u16],
-    tcode: &[u8],
-    tcount: &[i32],
-    out: &[u8],
-) -> bool
-    ensures { λ r. ⌜ r ≡ shortWriter grocers offers tallies (fileTables (now (price .entry)) (now (owner .entry)) (now (code .entry))
-        (now (gowner .entry)) (now (tgrocer .entry)) (now (tbox .entry)) (now (tcode .entry)) (now (tcount .entry))) (now (out .entry)) ⌝ }
-{
-    let m = size_of(grocers);
-    let n = size_of(offers);
-    let t = size_of(tallies);
-    let need = file_length(n, t);
-    (price.len() < n)
-        | (owner.len() < n)
-        | (code.len() < n * 11)
-        | (gowner.len() < m)
-        | (tgrocer.len() < t)
-        | (tbox.len() < t)
-        | (tcode.len() < t * 11)
-        | (tcount.len() < t)
-        | (out.len() < need)
-}
-
-// 4: whether K, M, N or T is outside its values.
-pub fn bad_sizes(boxes: u16, grocers: u16, offers: u16, tallies: u16) -> bool
-    ensures { λ r. ⌜ ((l : FileTables) → r ≡ badSizes (fileJobOf boxes grocers offers tallies l)) ⌝ }
+// K, M, N and T as given.
+pub fn head_of(boxes: u16, grocers: u16, offers: u16, tallies: u16) -> Head
+    ensures { λ r. ⌜ (asHead r ≡ headOf boxes grocers offers tallies) × Fits (asHead r) ⌝ }
 {
     let k = size_of(boxes);
     let m = size_of(grocers);
     let n = size_of(offers);
     let t = size_of(tallies);
-    blocks::plan::bad_sizes(k, m, n, t)
+    Head {
+        boxes: k,
+        grocers: m,
+        offers: n,
+        tallies: t,
+    }
+}
+
+// The length of the file.
+pub fn file_length(head: Head) -> usize
+    requires { ⌜ Fits (asHead head) ⌝ }
+    ensures { λ r. ⌜ r ≡ 512 * blockCount (asHead head) ⌝ }
+{
+    512 * block_count(head)
+}
+
+// 20 of the tables of n offers.
+fn short_offers(n: usize, price: &[u32], offer_owner: &[u16], offer_code: &[u8]) -> bool
+    requires { ⌜ n ≤ 65535 ⌝ }
+    ensures { λ r. ⌜ r ≡ shortOffers n (offerTables (now (price .entry)) (now («offer_owner» .entry)) (now («offer_code» .entry))) ⌝ }
+{
+    (price.len() < n) | (offer_owner.len() < n) | (offer_code.len() < n * 11)
+}
+
+// 20 of the tables of t tallies.
+fn short_tallies(
+    t: usize,
+    tally_grocer: &[u16],
+    tally_box: &[u16],
+    tally_code: &[u8],
+    tally_count: &[i32],
+) -> bool
+    requires { ⌜ t ≤ 65535 ⌝ }
+    ensures { λ r. ⌜ r ≡ shortTallies t
+        (tallyTables (now («tally_grocer» .entry)) (now («tally_box» .entry)) (now («tally_code» .entry)) (now («tally_count» .entry))) ⌝ }
+{
+    (tally_grocer.len() < t)
+        | (tally_box.len() < t)
+        | (tally_code.len() < t * 11)
+        | (tally_count.len() < t)
+}
+
+// 20: whether a table, or the buffer for the file, is shorter than K, M, N and T as given need.
+pub fn short_writer(
+    head: Head,
+    price: &[u32],
+    offer_owner: &[u16],
+    offer_code: &[u8],
+    grocer_owner: &[u16],
+    tally_grocer: &[u16],
+    tally_box: &[u16],
+    tally_code: &[u8],
+    tally_count: &[i32],
+    out: &[u8],
+) -> bool
+    requires { ⌜ Fits (asHead head) ⌝ }
+    ensures { λ r. ⌜ r ≡ shortWriter (asHead head)
+        (fileTables (now (price .entry)) (now («offer_owner» .entry)) (now («offer_code» .entry)) (now («grocer_owner» .entry))
+        (now («tally_grocer» .entry)) (now («tally_box» .entry)) (now («tally_code» .entry)) (now («tally_count» .entry))) (now (out .entry)) ⌝ }
+{
+    let offers = short_offers(head.offers, price, offer_owner, offer_code);
+    let tallies = short_tallies(
+        head.tallies,
+        tally_grocer,
+        tally_box,
+        tally_code,
+        tally_count,
+    );
+    offers | (grocer_owner.len() < head.grocers) | tallies | (out.len() < file_length(head))
 }

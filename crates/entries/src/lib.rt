@@ -4,6 +4,7 @@ ghost use Prim.Native.Nat.{_≤_, _<_};
 ghost use lib.ListN.{take, length};
 ghost use Rattle.laws.specs.Tables.{recell};
 ghost use Rattle.model.specs.Lent.{jobLent};
+ghost use Rattle.format.specs.Job.{headOf};
 ghost use Rattle.format.specs.Tables.{fileTables, writeResult};
 ghost use Rattle.messages.specs.Answers.{said as saidMessages, tablesGiven};
 ghost use Rattle.tables.specs.Messages.{cellAt};
@@ -43,7 +44,7 @@ pub extern "C" fn entries_write(
     tally_count: &[i32],
     out: &mut [u8],
 ) -> usize
-    ensures { λ r. ⌜ written r (now (out .exit)) ≡ writtenAs (writeResult boxes grocers offers tallies (fileTables (now (price .entry))
+    ensures { λ r. ⌜ written r (now (out .exit)) ≡ writtenAs (writeResult (headOf boxes grocers offers tallies) (fileTables (now (price .entry))
         (now («offer_owner» .entry)) (now («offer_code» .entry)) (now («grocer_owner» .entry)) (now («tally_grocer» .entry))
         (now («tally_box» .entry)) (now («tally_code» .entry)) (now («tally_count» .entry))) (now (out .entry))) ⌝ }
 {

@@ -10,11 +10,9 @@ use lib.ListN.{length, getD, set, length-set}
 use lib.Seq.{getD-set-same, getD-set-other}
 use Rattle.laws.specs.Tables.{tabulate, overwrite, recell}
 use Rattle.laws.proofs.Tables.{is-overwrite, is-recell, getD-overwrite, getD-past, getD-tabulate, length-overwrite, getD-recell}
-use Rattle.format.specs.Bytes.{from, after, word32}
 use Rattle.format.specs.Codes.{Code, readCode, codeBytes, isCode, value, codeNumber}
-use Rattle.format.specs.File.{recordAt}
 use Rattle.format.specs.Tables.{storeCodes}
-use Rattle.fills.specs.Fills.{Copied, codesIn}
+use Rattle.fills.specs.Fills.{Copied}
 use Rattle.format.proofs.Codes.{code-is, value-bound, value-next}
 
 module _ {A : Type 0} where
@@ -63,23 +61,6 @@ code-byte g k h = ap (λ (x : List ℕ). getD x k 0) eleven ∙ getD-tabulate 11
   where
     eleven : codeBytes (readCode g) ≡ tabulate 11 g
     eleven = unfold codeBytes tabulate in refl
-
--- The code at a place behind another.
-code-shift : (f : List ℕ) (at place : ℕ) → readCode (from f (at + place)) ≡ readCode (after (from f at) place)
-code-shift f at place =
-    let e : (k : ℕ) → from f (at + place) k ≡ after (from f at) place k = λ k. ap (λ (p : ℕ). getD f p 0) (omega arith) in
-    λ i. record { size = e 0 i; digit = λ k. e (1 + k) i }
-
--- The code at a place of record i.
-pub code-in : (f : List ℕ) (first i place at : ℕ) → at ≡ recordAt first i → readCode (from f (at + place)) ≡ codesIn f first place i
-code-in f first i place at e = ap (λ (p : ℕ). readCode (from f (p + place))) e ∙ code-shift f (recordAt first i) place
-
--- The 32-bit word at a place of record i.
-pub word-in : (f : List ℕ) (first i place at : ℕ) → at ≡ recordAt first i → word32 (from f (at + place)) ≡ word32 (after (from f (recordAt first i)) place)
-word-in f first i place at e = ap (λ (p : ℕ). word32 (from f (p + place))) e ∙ ap word32 (λ i k. ap (λ (p : ℕ). getD f p 0) (shift k) i)
-  where
-    shift : (k : ℕ) → recordAt first i + place + k ≡ recordAt first i + (place + k)
-    shift k = omega arith
 
 -- No code is stored yet.
 pub codes-none : (c : ℕ → Code) (l : List ℕ) → l ≡ storeCodes 0 c l

@@ -1,33 +1,18 @@
--- The words that stand at one place of each record of a file.
+-- A file that is as long as its header says, and bytes that are copied.
 use mathlib.Core.Path.{_≡_}
 use mathlib.Core.List.{List}
 use Prim.Native.Nat.{ℕ, _+_, _*_, _<_, _≤_}
 use lib.ListN.{length, getD}
-use lib.IntN.{ℤ}
-use mir.Syntax.{w32}
-use mir.Val.{toZ}
-use Rattle.format.specs.Bytes.{from, after, word32}
-use Rattle.format.specs.Codes.{Code, readCode}
-use Rattle.format.specs.Blocks.{blocksFor}
-use Rattle.format.specs.File.{recordAt}
+use Rattle.format.specs.Job.{Head}
+use Rattle.format.specs.Blocks.{blockCount}
+use Rattle.format.specs.File.{decode}
+use Rattle.blocks.specs.Due.{Most}
 
--- A file has the blocks of n records of 24 bytes, the first of them block `first`.
-pub record Holds (f : List ℕ) (first n : ℕ) : Type 0 where
-  pub few : n ≤ 1_000
-  pub low : first ≤ 100
-  pub room : 512 * (first + blocksFor n) ≤ length f
-
--- The byte at a place of record i.
-abbrev pub bytesIn : List ℕ → ℕ → ℕ → ℕ → ℕ
-bytesIn f first place i = from f (recordAt first i) place
-
--- The code at a place of record i.
-abbrev pub codesIn : List ℕ → ℕ → ℕ → ℕ → Code
-codesIn f first place i = readCode (after (from f (recordAt first i)) place)
-
--- The count at a place of record i: 32 bits in two's complement.
-abbrev pub countsIn : List ℕ → ℕ → ℕ → ℕ → ℤ
-countsIn f first place i = toZ w32 (word32 (after (from f (recordAt first i)) place))
+-- These are the numbers that the file's header says, none is above its largest, and the file has the blocks that they ask for.
+pub record Whole (f : List ℕ) (h : Head) : Type 0 where
+  pub says : h ≡ decode f .head
+  pub most : Most h
+  pub long : length f ≡ 512 * blockCount h
 
 -- The n bytes of g stand in a list from `to` on, and the others are as they were.
 pub record Copied (g : ℕ → ℕ) (to n : ℕ) (old new : List ℕ) : Type 0 where

@@ -1,20 +1,23 @@
 // The tables, each filled from the records of a file; words past those are not touched.
 ghost use mathlib.Core.Path.{_≡_};
 ghost use mathlib.Core.Bool.{true};
-ghost use Prim.Native.Nat.{ℕ, _+_, _*_, _≤_, _<_};
+ghost use Prim.Native.Nat.{ℕ, _≤_, _<_, _*_};
 ghost use lib.ListN.{length, getD};
 ghost use Rattle.laws.specs.Tables.{overwrite};
-ghost use Rattle.format.specs.Bytes.{from, word16, word32};
 ghost use Rattle.format.specs.Codes.{isCode, codeNumber};
-ghost use Rattle.format.specs.File.{recordAt};
-ghost use Rattle.format.specs.Tables.{storeCodes};
-ghost use Rattle.fills.specs.Fills.{Holds, bytesIn, codesIn, countsIn};
+ghost use Rattle.format.specs.File.{decode};
+ghost use Rattle.format.specs.Tables.{offerTables, LongOffers, storeCodes};
+ghost use Rattle.blocks.specs.Due.{asHead};
+ghost use Rattle.fills.specs.Fills.{Whole};
 use crate::code::copy_code;
 use crate::code::number_at;
 use crate::place::record_at;
 use blocks::bytes::signed;
 use blocks::bytes::word16;
 use blocks::bytes::word32;
+use blocks::plan::Head;
+use blocks::plan::grocers_at;
+use blocks::plan::tallies_at;
 
 // A byte as a 16-bit word.
 fn wide(x: u8) -> u16
@@ -31,107 +34,106 @@ pub fn narrow(x: usize) -> u16
     x as u16
 }
 
-// Words of one byte each, at a place in their records: offer owners, tally boxes.
-pub fn fill_bytes(f: &[u8], first: usize, place: usize, n: usize, words: &mut [u16])
-    requires { ⌜ Holds (now f) first n ⌝ }
-    requires { ⌜ (place < 24) × (n ≤ length (now words)) ⌝ }
-    ensures { λ _. ⌜ now (words .exit) ≡ overwrite n (bytesIn (now (f .entry)) first place) (now (words .entry)) ⌝ }
+// The offers' tables.
+pub fn fill_offers(
+    f: &[u8],
+    head: Head,
+    price: &mut [u32],
+    offer_owner: &mut [u16],
+    offer_code: &mut [u8],
+)
+    requires { ⌜ Whole (now f) (asHead head) ⌝ }
+    requires { ⌜ LongOffers (head .offers) (offerTables (now price) (now «offer_owner») (now «offer_code»)) ⌝ }
+    ensures { λ _. ⌜ now (price .exit) ≡ overwrite (head .offers) (λ i. decode (now (f .entry)) .offer i .price) (now (price .entry)) ⌝ }
+    ensures { λ _. ⌜ now («offer_owner» .exit) ≡ overwrite (head .offers) (λ i. decode (now (f .entry)) .offer i .owner) (now («offer_owner» .entry)) ⌝ }
+    ensures { λ _. ⌜ now («offer_code» .exit) ≡ storeCodes (head .offers) (λ i. decode (now (f .entry)) .offer i .code) (now («offer_code» .entry)) ⌝ }
 {
+    let n = head.offers;
     let mut i: usize = 0;
     while i < n {
-        let at = record_at(first, i) + place;
-        words[i] = wide(f[at]);
+        let at = record_at(1, i);
+        price[i] = word32(f, at);
+        offer_owner[i] = wide(f[at + 4]);
+        copy_code(f, at + 5, offer_code, i * 11);
         i += 1;
     }
 }
 
-// Words of one byte each, one after the other: grocer owners.
-pub fn fill_row(f: &[u8], at: usize, n: usize, words: &mut [u16])
-    requires { ⌜ (at + n ≤ length (now f)) × (n ≤ length (now words)) ⌝ }
-    ensures { λ _. ⌜ now (words .exit) ≡ overwrite n (from (now (f .entry)) at) (now (words .entry)) ⌝ }
+// The numbers of the offers' codes.
+pub fn fill_numbers(f: &[u8], head: Head, numbers: &mut [u64])
+    requires { ⌜ Whole (now f) (asHead head) × (head .offers ≤ length (now numbers)) ⌝ }
+    requires { ⌜ ((i : ℕ) → i < head .offers → isCode (decode (now f) .offer i .code) ≡ true) ⌝ }
+    ensures { λ _. ⌜ now (numbers .exit) ≡ overwrite (head .offers) (λ i. codeNumber (decode (now (f .entry)) .offer i .code)) (now (numbers .entry)) ⌝ }
 {
+    let n = head.offers;
     let mut i: usize = 0;
     while i < n {
-        words[i] = wide(f[at + i]);
+        numbers[i] = number_at(f, record_at(1, i) + 5);
         i += 1;
     }
 }
 
-// Codes, eleven bytes each, at a place in their records.
-pub fn fill_codes(f: &[u8], first: usize, place: usize, n: usize, code: &mut [u8])
-    requires { ⌜ Holds (now f) first n ⌝ }
-    requires { ⌜ (place ≤ 13) × (n * 11 ≤ length (now code)) ⌝ }
-    ensures { λ _. ⌜ now (code .exit) ≡ storeCodes n (codesIn (now (f .entry)) first place) (now (code .entry)) ⌝ }
+// The owners of the grocers.
+pub fn fill_owners(f: &[u8], head: Head, grocer_owner: &mut [u16])
+    requires { ⌜ Whole (now f) (asHead head) × (head .grocers ≤ length (now «grocer_owner»)) ⌝ }
+    ensures { λ _. ⌜ now («grocer_owner» .exit) ≡ overwrite (head .grocers) (decode (now (f .entry)) .grocerOwner) (now («grocer_owner» .entry)) ⌝ }
 {
+    let at = 512 * grocers_at(head) + 4;
+    let m = head.grocers;
     let mut i: usize = 0;
-    while i < n {
-        copy_code(f, record_at(first, i) + place, code, i * 11);
+    while i < m {
+        grocer_owner[i] = wide(f[at + i]);
         i += 1;
     }
 }
 
-// The numbers of the codes at a place in their records.
-pub fn fill_numbers(f: &[u8], first: usize, place: usize, n: usize, numbers: &mut [u64])
-    requires { ⌜ Holds (now f) first n ⌝ }
-    requires { ⌜ (place ≤ 13) × (n ≤ length (now numbers)) ⌝ }
-    requires { ⌜ ((i : ℕ) → i < n → isCode (codesIn (now f) first place i) ≡ true) ⌝ }
-    ensures { λ _. ⌜ now (numbers .exit) ≡ overwrite n (λ i. codeNumber (codesIn (now (f .entry)) first place i)) (now (numbers .entry)) ⌝ }
+// The tallies' tables up to the code.
+pub fn fill_tallies(
+    f: &[u8],
+    head: Head,
+    tally_grocer: &mut [u16],
+    tally_box: &mut [u16],
+    tally_code: &mut [u8],
+)
+    requires { ⌜ Whole (now f) (asHead head) ⌝ }
+    requires { ⌜ (head .tallies ≤ length (now «tally_grocer»)) × ((head .tallies ≤ length (now «tally_box»)) × (head .tallies * 11 ≤
+        length (now «tally_code»))) ⌝ }
+    ensures { λ _. ⌜ now («tally_grocer» .exit) ≡ overwrite (head .tallies) (λ i. decode (now (f .entry)) .tally i .grocer) (now («tally_grocer» .entry)) ⌝ }
+    ensures { λ _. ⌜ now («tally_box» .exit) ≡ overwrite (head .tallies) (λ i. decode (now (f .entry)) .tally i .box) (now («tally_box» .entry)) ⌝ }
+    ensures { λ _. ⌜ now («tally_code» .exit) ≡ storeCodes (head .tallies) (λ i. decode (now (f .entry)) .tally i .code) (now («tally_code» .entry)) ⌝ }
 {
+    let first = tallies_at(head);
+    let t = head.tallies;
     let mut i: usize = 0;
-    while i < n {
-        numbers[i] = number_at(f, record_at(first, i) + place);
+    while i < t {
+        let at = record_at(first, i);
+        tally_grocer[i] = narrow(word16(f, at));
+        tally_box[i] = wide(f[at + 2]);
+        copy_code(f, at + 3, tally_code, i * 11);
         i += 1;
     }
 }
 
-// Words of 16 bits at the front of their records: tally grocers.
-pub fn fill_words(f: &[u8], first: usize, n: usize, words: &mut [u16])
-    requires { ⌜ Holds (now f) first n ⌝ }
-    requires { ⌜ n ≤ length (now words) ⌝ }
-    ensures { λ _. ⌜ now (words .exit) ≡ overwrite n (λ i. word16 (from (now (f .entry)) (recordAt first i))) (now (words .entry)) ⌝ }
+// The tallies' tables behind the code, and beside them the places of the offers.
+pub fn fill_tally_ends(
+    f: &[u8],
+    head: Head,
+    places: &[u16],
+    tally_count: &mut [i32],
+    tally_offer: &mut [u16],
+)
+    requires { ⌜ Whole (now f) (asHead head) × (head .tallies ≤ length (now places)) ⌝ }
+    requires { ⌜ (head .tallies ≤ length (now «tally_count»)) × (head .tallies ≤ length (now «tally_offer»)) ⌝ }
+    ensures { λ _. ⌜ now («tally_count» .exit) ≡ overwrite (head .tallies) (λ i. decode (now (f .entry)) .tally i .count) (now («tally_count» .entry)) ⌝ }
+    ensures { λ _. ⌜ now («tally_offer» .exit) ≡ overwrite (head .tallies) (λ i. getD (now (places .entry)) i 0) (now («tally_offer» .entry)) ⌝ }
 {
+    let first = tallies_at(head);
+    let t = head.tallies;
     let mut i: usize = 0;
-    while i < n {
-        words[i] = narrow(word16(f, record_at(first, i)));
-        i += 1;
-    }
-}
-
-// Words of 32 bits at the front of their records: prices.
-pub fn fill_prices(f: &[u8], first: usize, n: usize, price: &mut [u32])
-    requires { ⌜ Holds (now f) first n ⌝ }
-    requires { ⌜ n ≤ length (now price) ⌝ }
-    ensures { λ _. ⌜ now (price .exit) ≡ overwrite n (λ i. word32 (from (now (f .entry)) (recordAt first i))) (now (price .entry)) ⌝ }
-{
-    let mut i: usize = 0;
-    while i < n {
-        price[i] = word32(f, record_at(first, i));
-        i += 1;
-    }
-}
-
-// Signed words of 32 bits at a place in their records: counts.
-pub fn fill_counts(f: &[u8], first: usize, place: usize, n: usize, count: &mut [i32])
-    requires { ⌜ Holds (now f) first n ⌝ }
-    requires { ⌜ (place ≤ 20) × (n ≤ length (now count)) ⌝ }
-    ensures { λ _. ⌜ now (count .exit) ≡ overwrite n (countsIn (now (f .entry)) first place) (now (count .entry)) ⌝ }
-{
-    let mut i: usize = 0;
-    while i < n {
-        let v = signed(word32(f, record_at(first, i) + place));
-        count[i] = v;
-        i += 1;
-    }
-}
-
-// The first n words of another table.
-pub fn fill_same(from: &[u16], n: usize, words: &mut [u16])
-    requires { ⌜ (n ≤ length (now from)) × (n ≤ length (now words)) ⌝ }
-    ensures { λ _. ⌜ now (words .exit) ≡ overwrite n (λ i. getD (now (from .entry)) i 0) (now (words .entry)) ⌝ }
-{
-    let mut i: usize = 0;
-    while i < n {
-        words[i] = from[i];
+    while i < t {
+        let v = signed(word32(f, record_at(first, i) + 14));
+        tally_count[i] = v;
+        tally_offer[i] = places[i];
         i += 1;
     }
 }

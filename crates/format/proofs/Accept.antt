@@ -31,20 +31,20 @@ even a b e = eqb-true a b (not-false (eqb a b) e)
 clear-of : (t : Bool) (x : ℕ) → (t && not (eqb x 0)) ≡ false → t ≡ true → x ≡ 0
 clear-of t x e h = even x 0 (rw h at e)
 
-clean : (f : List ℕ) (k : ℕ) → sumsDiffer (from f (512 * k)) ≡ false → notDue (decode f) k (from f (512 * k)) ≡ false → spareUsed (decode f) k (from f (512 * k)) ≡ false → Clean f k
+clean : (f : List ℕ) (k : ℕ) → sumsDiffer (from f (512 * k)) ≡ false → notDue (decode f .head) k (from f (512 * k)) ≡ false → spareUsed (decode f .head) k (from f (512 * k)) ≡ false → Clean f k
 unfolding sumsDiffer notDue spareUsed
 clean f k a b c =
     let g = from f (512 * k) in
-    let z = kindAt (decode f .offers) k in
+    let z = kindAt (decode f .head) k in
     let s = none-of (not (eqb (firstSum g) (word16 (after g 508))) ∷ not (eqb (secondSum g) (word16 (after g 510))) ∷ []) a in
-    let d = none-of (not (eqb (g 0) (blockKindNumber z)) ∷ not (eqb (word16 (after g 2)) k) ∷ not (eqb (g 1) (records (decode f) z)) ∷ []) b in
+    let d = none-of (not (eqb (g 0) (blockKindNumber z)) ∷ not (eqb (word16 (after g 2)) k) ∷ not (eqb (g 1) (records (decode f .head) z)) ∷ []) b in
     record {
       first = even _ _ (s .0);
       second = even _ _ (s .1 .0);
       kinds = even _ _ (d .0);
       number = even _ _ (d .1 .0);
       count = even _ _ (d .1 .1 .0);
-      clear = λ i h. clear-of _ _ (any-none 504 (λ i. spare (decode f) z i && not (eqb (g (4 + i)) 0)) i h c);
+      clear = λ i h. clear-of _ _ (any-none 504 (λ i. spare (decode f .head) z i && not (eqb (g (4 + i)) 0)) i h c);
     }
 
 module _ (f : List ℕ) (ok : fileRefusal f ≡ 0) where
@@ -66,12 +66,12 @@ module _ (f : List ℕ) (ok : fileRefusal f ≡ 0) where
   -- Byte 5 is 1.
   pub mark : getD f 5 0 ≡ 1
   unfolding badHeader
-  mark = even _ _ (or-off (not (eqb (getD f 5 0) 1)) (badSizes (decode f)) good-header .0)
+  mark = even _ _ (or-off (not (eqb (getD f 5 0) 1)) (badSizes (decode f .head)) good-header .0)
 
   -- K, M, N and T are within their values.
-  pub sizes : badSizes (decode f) ≡ false
+  pub sizes : badSizes (decode f .head) ≡ false
   unfolding badHeader
-  sizes = or-off (not (eqb (getD f 5 0) 1)) (badSizes (decode f)) good-header .1
+  sizes = or-off (not (eqb (getD f 5 0) 1)) (badSizes (decode f .head)) good-header .1
 
   -- No other block is refused.
   pub below : (k : ℕ) → 0 < k → k < blocks (decode f) → blockRefusal f k ≡ 0
@@ -90,11 +90,11 @@ module _ (f : List ℕ) (ok : fileRefusal f ≡ 0) where
       ]
 
   -- The records of a block.
-  inner : (k : ℕ) (z : BlockKind) → 0 < k → k < blocks (decode f) → kindAt (decode f .offers) k ≡ z → (r : ℕ) → r < records (decode f) z → badRecord (decode f) z r ≡ false
+  inner : (k : ℕ) (z : BlockKind) → 0 < k → k < blocks (decode f) → kindAt (decode f .head) k ≡ z → (r : ℕ) → r < records (decode f .head) z → badRecord (decode f) z r ≡ false
   unfolding blockRefusal
   inner k z p h e r l =
-      subst (λ (y : BlockKind). any (records (decode f) y) (badRecord (decode f) y) ≡ false → badRecord (decode f) z r ≡ false) (sym e)
-      (any-none (records (decode f) z) (badRecord (decode f) z) r l) (unmet _ refl (below k p h) .1 .1 .1 .0)
+      subst (λ (y : BlockKind). any (records (decode f .head) y) (badRecord (decode f) y) ≡ false → badRecord (decode f) z r ≡ false) (sym e)
+      (any-none (records (decode f .head) z) (badRecord (decode f) z) r l) (unmet _ refl (below k p h) .1 .1 .1 .0)
 
   right : badLength f ≡ false
   unfolding fileRefusal
@@ -118,7 +118,7 @@ module _ (f : List ℕ) (ok : fileRefusal f ≡ 0) where
   unfolding badRecord
   fine-read =
       let j = decode f in
-      let n = j .offers in
+      let n = j .head in
       record {
         sizes = sizes;
         offer = λ i h.

@@ -13,14 +13,15 @@ use Rattle.laws.specs.Checks.{firstMet}
 use Rattle.laws.proofs.Below.{any-cong}
 use Rattle.format.specs.First.{firstOf, firstBelow}
 use Rattle.format.specs.Bytes.{from, after, word16}
-use Rattle.format.specs.Blocks.{BlockKind, header, offerBlock, grocerBlock, tallyBlock, blocks, offersAt, grocersAt, talliesAt, kindAt, records, firstSum, secondSum}
-use Rattle.format.specs.File.{readOffer, readTally, recordAt, decode}
+use Rattle.format.specs.Job.{Head}
+use Rattle.format.specs.Blocks.{BlockKind, header, offerBlock, grocerBlock, tallyBlock, blockCount, blocks, offersAt, grocersAt, talliesAt, kindAt, records, firstSum, secondSum}
+use Rattle.format.specs.File.{readOffer, readTally, recordAt, readHead, decode}
 use Rattle.format.specs.Refusals.{badLength, badCount, sumsDiffer, notDue, badHeader, spareUsed, badRecord, headerRefusal, blockRefusal, fileRefusal}
 use Rattle.format.proofs.Firsts.{each, below-none, below-hit}
 use Rattle.format.proofs.Words.{first-cong, second-cong}
-use Rattle.format.proofs.Plan.{At, at-header, at-offers, at-grocers, at-tallies, kind-at, Sizes, kind-same, records-same, spare-same}
+use Rattle.format.proofs.Plan.{At, at-header, at-offers, at-grocers, at-tallies, kind-at}
 use Rattle.format.proofs.Accept.{long, top, below, clean-all, accepted-range}
-use Rattle.format.proofs.Same.{OfferWords, TallyWords, sizes-same, offer-same, owner-same, tally-same}
+use Rattle.format.proofs.Same.{OfferWords, TallyWords, offer-same, tally-same}
 use Rattle.format.proofs.Detect.{seen}
 
 -- Sums that do not both agree.
@@ -44,30 +45,22 @@ sums-cong g h e =
 -- ---- two files with the same bytes before block k
 
 module _ (f f′ : List ℕ) (k : ℕ) (k₀ : 0 < k) (same : (p : ℕ) → p < 512 * k → getD f′ p 0 ≡ getD f p 0) where
-  same-sizes : Sizes (decode f′) (decode f)
-  unfolding decode
-  same-sizes =
-      record {
-        boxes = same 4 (omega arith);
-        grocers = rw (same 6 (omega arith), same 7 (omega arith));
-        offers = rw (same 8 (omega arith), same 9 (omega arith));
-        tallies = rw (same 10 (omega arith), same 11 (omega arith));
-      }
+  same-head : decode f′ .head ≡ decode f .head
+  unfolding decode readHead
+  same-head =
+      rw (same 4 (omega arith), same 6 (omega arith), same 7 (omega arith), same 8 (omega arith), same 9 (omega arith), same 10 (omega arith), same 11 (omega arith))
 
   same-block : (m q : ℕ) → m < k → q < 512 → from f′ (512 * m) q ≡ from f (512 * m) q
   same-block m q hm hq = same (512 * m + q) (omega arith)
 
-  same-kind : (m : ℕ) → kindAt (decode f′ .offers) m ≡ kindAt (decode f .offers) m
-  same-kind = kind-same (decode f′) (decode f) same-sizes
-
-  same-due : (m : ℕ) → m < k → notDue (decode f′) m (from f′ (512 * m)) ≡ notDue (decode f) m (from f (512 * m))
+  same-due : (m : ℕ) → m < k → notDue (decode f′ .head) m (from f′ (512 * m)) ≡ notDue (decode f .head) m (from f (512 * m))
   unfolding notDue
   same-due m h =
-      rw (same-block m 0 h (omega arith), same-block m 1 h (omega arith), same-block m 2 h (omega arith), same-block m 3 h (omega arith), same-kind m, records-same (decode f′) (decode f) same-sizes (kindAt (decode f .offers) m))
+      rw (same-block m 0 h (omega arith), same-block m 1 h (omega arith), same-block m 2 h (omega arith), same-block m 3 h (omega arith), same-head)
 
-  same-spare : (m : ℕ) → m < k → spareUsed (decode f′) m (from f′ (512 * m)) ≡ spareUsed (decode f) m (from f (512 * m))
+  same-spare : (m : ℕ) → m < k → spareUsed (decode f′ .head) m (from f′ (512 * m)) ≡ spareUsed (decode f .head) m (from f (512 * m))
   unfolding spareUsed
-  same-spare m h = any-cong 504 _ _ (λ s l. rw (same-kind m, spare-same (decode f′) (decode f) same-sizes (kindAt (decode f .offers) m) s, same-block m (4 + s) h (omega arith)))
+  same-spare m h = any-cong 504 _ _ (λ s l. rw (same-head, same-block m (4 + s) h (omega arith)))
 
   offer-words : (i : ℕ) → offersAt + i / 21 < k → OfferWords (decode f′ .offer i) (decode f .offer i)
   unfolding decode readOffer
@@ -81,10 +74,10 @@ module _ (f f′ : List ℕ) (k : ℕ) (k₀ : 0 < k) (same : (p : ℕ) → p < 
       at : (c : ℕ) → c < 24 → from f′ (recordAt offersAt i) c ≡ from f (recordAt offersAt i) c
       at c l = same (recordAt offersAt i + c) (omega arith)
 
-  tally-words : (i : ℕ) → talliesAt (decode f .offers) + i / 21 < k → TallyWords (decode f′ .tally i) (decode f .tally i)
+  tally-words : (i : ℕ) → talliesAt (decode f .head) + i / 21 < k → TallyWords (decode f′ .tally i) (decode f .tally i)
   unfolding decode readTally
   tally-words i h =
-      rw (same-sizes .offers)
+      rw same-head
       (record {
         grocer = rw (at 0 (omega arith), at 1 (omega arith));
         box = at 2 (omega arith);
@@ -93,21 +86,21 @@ module _ (f f′ : List ℕ) (k : ℕ) (k₀ : 0 < k) (same : (p : ℕ) → p < 
       })
     where
       b : ℕ
-      b = talliesAt (decode f .offers)
+      b = talliesAt (decode f .head)
 
       at : (c : ℕ) → c < 24 → from f′ (recordAt b i) c ≡ from f (recordAt b i) c
       at c l = same (recordAt b i + c) (omega arith)
 
-  owner-word : (i : ℕ) → grocersAt (decode f .offers) < k → i < 504 → decode f′ .grocerOwner i ≡ decode f .grocerOwner i
+  owner-word : (i : ℕ) → grocersAt (decode f .head) < k → i < 504 → decode f′ .grocerOwner i ≡ decode f .grocerOwner i
   unfolding decode
-  owner-word i h l = rw (same-sizes .offers) (same (512 * grocersAt (decode f .offers) + 4 + i) (omega arith))
+  owner-word i h l = rw same-head (same (512 * grocersAt (decode f .head) + 4 + i) (omega arith))
 
-  same-record : (m r : ℕ) (z : BlockKind) → m < k → At (decode f .offers) m z → r < records (decode f) z → decode f .grocers ≤ 504 → badRecord (decode f′) z r ≡ badRecord (decode f) z r
+  same-record : (m r : ℕ) (z : BlockKind) → m < k → At (decode f .head) m z → r < records (decode f .head) z → decode f .head .grocers ≤ 504 → badRecord (decode f′) z r ≡ badRecord (decode f) z r
   unfolding badRecord
   same-record m r header h (at-header e) l s = refl
-  same-record m r (offerBlock b) h (at-offers _ e _) l s = offer-same (decode f′) (decode f) same-sizes _ _ (offer-words (21 * b + r) (omega arith))
-  same-record m r grocerBlock h (at-grocers e) l s = owner-same (decode f′) (decode f) same-sizes _ _ (owner-word r (omega arith) (omega arith))
-  same-record m r (tallyBlock b) h (at-tallies _ e) l s = tally-same (decode f′) (decode f) same-sizes _ _ (tally-words (21 * b + r) (omega arith))
+  same-record m r (offerBlock b) h (at-offers _ e _) l s = rw same-head (offer-same (decode f .head) _ _ (offer-words (21 * b + r) (omega arith)))
+  same-record m r grocerBlock h (at-grocers e) l s = rw (same-head, owner-word r (omega arith) (omega arith))
+  same-record m r (tallyBlock b) h (at-tallies _ e) l s = rw same-head (tally-same (decode f .head) _ _ (tally-words (21 * b + r) (omega arith)))
 
 -- ---- an accepted file, and another whose first difference is in the sums of block k
 
@@ -127,22 +120,22 @@ module _ (f f′ : List ℕ) (ok : fileRefusal f ≡ 0) (k : ℕ) (hk : k < bloc
     header-fine : headerRefusal f′ ≡ 0
     unfolding headerRefusal badHeader
     header-fine =
-        rw (sums-same 0 k₀, same-due f f′ k k₀ same 0 k₀, same 5 (omega arith), sizes-same _ _ (same-sizes f f′ k k₀ same), same-spare f f′ k k₀ same 0 k₀) (top f ok)
+        rw (sums-same 0 k₀, same-due f f′ k k₀ same 0 k₀, same-spare f f′ k k₀ same 0 k₀, same 5 (omega arith), same-head f f′ k k₀ same) (top f ok)
 
     blocks-same : blocks (decode f′) ≡ blocks (decode f)
-    blocks-same = let s = same-sizes f f′ k k₀ same in rw (s .offers, s .tallies)
+    blocks-same = ap blockCount (same-head f f′ k k₀ same)
 
-    records-fine : (m : ℕ) (z : BlockKind) → m < k → At (decode f .offers) m z → any (records (decode f′) z) (badRecord (decode f′) z) ≡ any (records (decode f) z) (badRecord (decode f) z)
+    records-fine : (m : ℕ) (z : BlockKind) → m < k → At (decode f .head) m z → any (records (decode f′ .head) z) (badRecord (decode f′) z) ≡ any (records (decode f .head) z) (badRecord (decode f) z)
     records-fine m z h at =
-        ap (λ (n : ℕ). any n (badRecord (decode f′) z)) (records-same (decode f′) (decode f) (same-sizes f f′ k k₀ same) z) ∙
-        any-cong (records (decode f) z) _ _ (λ r l. same-record f f′ k k₀ same m r z h at l (let g = accepted-range f ok .sizes .grocers-most in omega arith))
+        ap (λ (x : Head). any (records x z) (badRecord (decode f′) z)) (same-head f f′ k k₀ same) ∙
+        any-cong (records (decode f .head) z) _ _ (λ r l. same-record f f′ k k₀ same m r z h at l (let g = accepted-range f ok .sizes .grocers-most in omega arith))
 
     early : (m : ℕ) → 0 < m → m < k → blockRefusal f′ m ≡ 0
     unfolding blockRefusal
     early m p h =
         let e =
-        ap (λ (y : BlockKind). any (records (decode f′) y) (badRecord (decode f′) y)) (same-kind f f′ k k₀ same m) ∙
-        records-fine m (kindAt (decode f .offers) m) h (kind-at (decode f .offers) m) in
+        ap (λ (x : Head). any (records (decode f′ .head) (kindAt x m)) (badRecord (decode f′) (kindAt x m))) (same-head f f′ k k₀ same) ∙
+        records-fine m (kindAt (decode f .head) m) h (kind-at (decode f .head) m) in
         rw (sums-same m h, same-due f f′ k k₀ same m h, same-spare f f′ k k₀ same m h, e) (below f ok m p (omega arith))
 
     block-bad : blockRefusal f′ k ≡ 2

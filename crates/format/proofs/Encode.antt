@@ -1,18 +1,17 @@
 -- Two jobs with the same words have one file. Assumes nothing.
-use Prim.Native.Nat.{ℕ, _+_, _*_, _-_, _/_, _%_, _<_}
 use mathlib.Core.Path.{_≡_, _∙_, ap, ap₂}
 use mathlib.Core.List.{List, [], _∷_}
+use Prim.Native.Nat.{ℕ, _+_, _*_, _-_, _/_, _%_, _<_}
 use native.Mathlib.Omega.{arith}
 use lib.ListN.{getD}
 use Rattle.laws.specs.Tables.{tabulate}
 use Rattle.laws.proofs.Bools.{split}
 use Rattle.laws.proofs.Tables.{tabulate-cong}
 use Rattle.format.specs.Codes.{Code, codeBytes}
-use Rattle.format.specs.Job.{FileJob, Offer, Tally}
-use Rattle.format.specs.Blocks.{BlockKind, header, offerBlock, grocerBlock, tallyBlock, blocks, kindAt, records, recordSize, headerBytes, offerBytes, tallyBytes, recordBytes, spare}
+use Rattle.format.specs.Job.{Head, FileJob, Offer, Tally}
+use Rattle.format.specs.Blocks.{BlockKind, header, offerBlock, grocerBlock, tallyBlock, blockCount, blocks, kindAt, records, recordSize, headerBytes, offerBytes, tallyBytes, recordBytes, spare}
 use Rattle.format.specs.File.{recordByte, bodyByte, blockByte, encode}
 use Rattle.format.proofs.Words.{first-cong, second-cong}
-use Rattle.format.proofs.Plan.{kind-same, records-same, spare-same}
 use Rattle.format.proofs.Read.{in-field}
 use Rattle.format.proofs.Same.{SameCode, OfferWords, TallyWords, SameWords}
 
@@ -30,9 +29,9 @@ unfolding tallyBytes
 tally-bytes a b s = rw (s .grocer, s .box, s .count, code-bytes (a .code) (b .code) (s .code))
 
 module _ (a b : FileJob) (s : SameWords a b) where
-  record-bytes : (z : BlockKind) (r : ℕ) → r < records b z → recordBytes a z r ≡ recordBytes b z r
-  unfolding recordBytes headerBytes
-  record-bytes header r h = let z = s .sizes in rw (z .boxes, z .grocers, z .offers, z .tallies)
+  record-bytes : (z : BlockKind) (r : ℕ) → r < records (b .head) z → recordBytes a z r ≡ recordBytes b z r
+  unfolding recordBytes
+  record-bytes header r h = ap headerBytes (s .head)
   record-bytes (offerBlock k) r h = offer-bytes _ _ (s .offer (21 * k + r) (omega arith))
   record-bytes grocerBlock r h = ap (λ (x : ℕ). x ∷ []) (s .grocerOwner r h)
   record-bytes (tallyBlock k) r h = tally-bytes _ _ (s .tally (21 * k + r) (omega arith))
@@ -40,16 +39,15 @@ module _ (a b : FileJob) (s : SameWords a b) where
   record-byte : (z : BlockKind) (p : ℕ) → recordByte a z p ≡ recordByte b z p
   unfolding recordByte
   record-byte z p =
-      rw (spare-same a b (s .sizes) z p)
-      (split (spare b z p)
+      rw (ap (λ (h : Head). spare h z p) (s .head))
+      (split (spare (b .head) z p)
       (λ e. rw e)
-      (λ e. rw e (ap (λ (l : List ℕ). getD l (p % recordSize z) 0) (record-bytes z (p / recordSize z) (in-field b z p e .0)))))
+      (λ e. rw e (ap (λ (l : List ℕ). getD l (p % recordSize z) 0) (record-bytes z (p / recordSize z) (in-field (b .head) z p e .0)))))
 
   body-byte : (k p : ℕ) → bodyByte a k p ≡ bodyByte b k p
   unfolding bodyByte
   body-byte k p =
-      let z = kindAt (b .offers) k in
-      rw (kind-same a b (s .sizes) k, records-same a b (s .sizes) z, record-byte z (p - 4))
+      rw (record-byte (kindAt (a .head) k) (p - 4), s .head)
 
   block-byte : (k p : ℕ) → blockByte (bodyByte a k) p ≡ blockByte (bodyByte b k) p
   unfolding blockByte
@@ -57,7 +55,7 @@ module _ (a b : FileJob) (s : SameWords a b) where
       rw (body-byte k p, first-cong (bodyByte a k) (bodyByte b k) (λ q l. body-byte k q), second-cong (bodyByte a k) (bodyByte b k) (λ q l. body-byte k q))
 
   same-blocks : blocks a ≡ blocks b
-  same-blocks = let z = s .sizes in rw (z .offers, z .tallies)
+  same-blocks = ap blockCount (s .head)
 
   -- The file goes by the job's words.
   pub encode-same : encode a ≡ encode b

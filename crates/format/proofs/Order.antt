@@ -1,18 +1,18 @@
 -- The first condition met in the order is the one refused: each refusal of reader and writer, at its place. Assumes nothing.
-use Prim.Native.Nat.{ℕ, _+_, _-_, _<_}
 use mathlib.Core.Path.{_≡_, refl, _∙_}
-use mathlib.Core.Bool.{Bool, true, false}
+use mathlib.Core.Bool.{true, false}
 use mathlib.Core.List.{List, [], _∷_}
+use Prim.Native.Nat.{ℕ, _+_, _-_, _<_}
 use native.Mathlib.Omega.{arith}
 use Rattle.laws.specs.Checks.{firstMet}
+use Rattle.laws.proofs.Checks.{one-met, one-off}
 use Rattle.format.specs.First.{firstBelow}
-use Rattle.format.specs.Job.{FileJob, badSizes, badRecords, shared, unnamed}
+use Rattle.format.specs.Job.{Head, FileJob, badSizes, badRecords, shared, unnamed}
 use Rattle.format.specs.Blocks.{blocks}
 use Rattle.format.specs.File.{decode}
 use Rattle.format.specs.Refusals.{badLength, badCount, headerRefusal, blockRefusal, fileRefusal, jobRefusal}
 use Rattle.format.specs.Tables.{FileTables, ReaderTables, shortReader, readRefusal, shortWriter, writeRefusal, fileJobOf}
 use Rattle.format.proofs.Firsts.{hit, next, alone, below-hit}
-use Rattle.laws.proofs.Checks.{one-met, one-off}
 
 -- ---- the reader: 20, 1, the header, the block count, other blocks ascending, 7, 8
 
@@ -75,32 +75,32 @@ module _ (f : List ℕ) where
 -- ---- the writer: 20, 4, 6, 7, 8
 
 -- 20 comes before all else.
-pub writer-20 : (k m n t : ℕ) (l : FileTables) (out : List ℕ) → shortWriter m n t l out ≡ true → writeRefusal k m n t l out ≡ 20
+pub writer-20 : (h : Head) (l : FileTables) (out : List ℕ) → shortWriter h l out ≡ true → writeRefusal h l out ≡ 20
 unfolding writeRefusal
-writer-20 k m n t l out h = rw (one-met (shortWriter m n t l out) 20 h) (hit 20 _ (omega arith))
+writer-20 h l out e = rw (one-met (shortWriter h l out) 20 e) (hit 20 _ (omega arith))
 
 -- Then the job decides.
-pub writer-job : (k m n t : ℕ) (l : FileTables) (out : List ℕ) → shortWriter m n t l out ≡ false → writeRefusal k m n t l out ≡ jobRefusal (fileJobOf k m n t l)
+pub writer-job : (h : Head) (l : FileTables) (out : List ℕ) → shortWriter h l out ≡ false → writeRefusal h l out ≡ jobRefusal (fileJobOf h l)
 unfolding writeRefusal
-writer-job k m n t l out h = rw (one-off (shortWriter m n t l out) 20 h, next) (alone (jobRefusal (fileJobOf k m n t l)))
+writer-job h l out e = rw (one-off (shortWriter h l out) 20 e, next) (alone (jobRefusal (fileJobOf h l)))
 
 module _ (j : FileJob) where
   -- 4 first.
-  pub job-4 : badSizes j ≡ true → jobRefusal j ≡ 4
+  pub job-4 : badSizes (j .head) ≡ true → jobRefusal j ≡ 4
   unfolding jobRefusal firstMet
   job-4 a = rw a
 
   -- 6 where 4 is not met.
-  pub job-6 : badSizes j ≡ false → badRecords j ≡ true → jobRefusal j ≡ 6
+  pub job-6 : badSizes (j .head) ≡ false → badRecords j ≡ true → jobRefusal j ≡ 6
   unfolding jobRefusal firstMet
   job-6 a b = rw (a, b)
 
   -- 7, whatever 8 says.
-  pub job-7 : badSizes j ≡ false → badRecords j ≡ false → shared j ≡ true → jobRefusal j ≡ 7
+  pub job-7 : badSizes (j .head) ≡ false → badRecords j ≡ false → shared j ≡ true → jobRefusal j ≡ 7
   unfolding jobRefusal firstMet
   job-7 a b c = rw (a, b, c)
 
   -- 8 last.
-  pub job-8 : badSizes j ≡ false → badRecords j ≡ false → shared j ≡ false → unnamed j ≡ true → jobRefusal j ≡ 8
+  pub job-8 : badSizes (j .head) ≡ false → badRecords j ≡ false → shared j ≡ false → unnamed j ≡ true → jobRefusal j ≡ 8
   unfolding jobRefusal firstMet
   job-8 a b c d = rw (a, b, c, d)

@@ -13,48 +13,48 @@ use Rattle.laws.proofs.Bools.{split, clash, or-off}
 use Rattle.laws.proofs.Below.{any-at, any-none, find-passes, find-none, any-false}
 use Rattle.laws.proofs.Checks.{none-of, unmet, none-met}
 use Rattle.format.specs.Codes.{isCode, sameOffer}
-use Rattle.format.specs.Job.{FileJob, Offer, Tally, badSizes, badOffer, badOwner, badTally, badRecords, names, placeOf, shared, unnamed}
+use Rattle.format.specs.Job.{Head, FileJob, Offer, Tally, badSizes, badOffer, badOwner, badTally, badRecords, names, placeOf, shared, unnamed}
 use Rattle.format.specs.Refusals.{jobRefusal}
 use Rattle.format.proofs.Codes.{same-trans}
 
 -- K, M, N and T within their values.
-pub record SizesIn (j : FileJob) : Type 0 where
-  pub boxes-some : 1 ≤ j .boxes
-  pub boxes-most : j .boxes ≤ 16
-  pub grocers-some : 1 ≤ j .grocers
-  pub grocers-most : j .grocers ≤ 255
-  pub offers-some : 1 ≤ j .offers
-  pub offers-most : j .offers ≤ 500
-  pub tallies-most : j .tallies ≤ 1000
+pub record SizesIn (h : Head) : Type 0 where
+  pub boxes-some : 1 ≤ h .boxes
+  pub boxes-most : h .boxes ≤ 16
+  pub grocers-some : 1 ≤ h .grocers
+  pub grocers-most : h .grocers ≤ 255
+  pub offers-some : 1 ≤ h .offers
+  pub offers-most : h .offers ≤ 500
+  pub tallies-most : h .tallies ≤ 1000
 
 -- An offer's fields within their ranges.
-pub record OfferIn (j : FileJob) (o : Offer) : Type 0 where
+pub record OfferIn (h : Head) (o : Offer) : Type 0 where
   pub price : o .price ≤ 9999999
-  pub owner : o .owner < j .boxes
+  pub owner : o .owner < h .boxes
   pub code : isCode (o .code) ≡ true
 
 -- A tally's fields within their ranges.
-pub record TallyIn (j : FileJob) (t : Tally) : Type 0 where
-  pub grocer : t .grocer < j .grocers
-  pub box : t .box < j .boxes
+pub record TallyIn (h : Head) (t : Tally) : Type 0 where
+  pub grocer : t .grocer < h .grocers
+  pub box : t .box < h .boxes
   pub code : isCode (t .code) ≡ true
   pub count : natAbs (t .count) ≤ 99999
 
 -- What is in range: sizes and fields; no two offers name one; each tally's place is below N and names its offer.
 pub record InRange (j : FileJob) : Type 0 where
-  pub sizes : SizesIn j
-  pub offer : (i : ℕ) → i < j .offers → OfferIn j (j .offer i)
-  pub grocerOwner : (i : ℕ) → i < j .grocers → j .grocerOwner i < j .boxes
-  pub tally : (t : ℕ) → t < j .tallies → TallyIn j (j .tally t)
-  pub apart : (i k : ℕ) → k < i → i < j .offers → sameOffer (j .offer k .code) (j .offer i .code) ≡ false
-  pub place : (t : ℕ) → t < j .tallies → placeOf j t < j .offers
-  pub named : (t : ℕ) → t < j .tallies → sameOffer (j .offer (placeOf j t) .code) (j .tally t .code) ≡ true
+  pub sizes : SizesIn (j .head)
+  pub offer : (i : ℕ) → i < j .head .offers → OfferIn (j .head) (j .offer i)
+  pub grocerOwner : (i : ℕ) → i < j .head .grocers → j .grocerOwner i < j .head .boxes
+  pub tally : (t : ℕ) → t < j .head .tallies → TallyIn (j .head) (j .tally t)
+  pub apart : (i k : ℕ) → k < i → i < j .head .offers → sameOffer (j .offer k .code) (j .offer i .code) ≡ false
+  pub place : (t : ℕ) → t < j .head .tallies → placeOf j t < j .head .offers
+  pub named : (t : ℕ) → t < j .head .tallies → sameOffer (j .offer (placeOf j t) .code) (j .tally t .code) ≡ true
 
 -- What 4 says where it is not met.
-pub sizes-in : (j : FileJob) → badSizes j ≡ false → SizesIn j
+pub sizes-in : (h : Head) → badSizes h ≡ false → SizesIn h
 unfolding badSizes
-sizes-in j h =
-    let r = none-of (ltb (j .boxes) 1 ∷ ltb 16 (j .boxes) ∷ ltb (j .grocers) 1 ∷ ltb 255 (j .grocers) ∷ ltb (j .offers) 1 ∷ ltb 500 (j .offers) ∷ ltb 1000 (j .tallies) ∷ []) h in
+sizes-in h e =
+    let r = none-of (ltb (h .boxes) 1 ∷ ltb 16 (h .boxes) ∷ ltb (h .grocers) 1 ∷ ltb 255 (h .grocers) ∷ ltb (h .offers) 1 ∷ ltb 500 (h .offers) ∷ ltb 1000 (h .tallies) ∷ []) e in
     record {
       boxes-some = ltb-false _ _ (r .0);
       boxes-most = ltb-false _ _ (r .1 .0);
@@ -66,27 +66,27 @@ sizes-in j h =
     }
 
 -- What 6 of an offer says where it is not met.
-pub offer-in : (j : FileJob) (o : Offer) → badOffer j o ≡ false → OfferIn j o
+pub offer-in : (h : Head) (o : Offer) → badOffer h o ≡ false → OfferIn h o
 unfolding badOffer
-offer-in j o h =
-    let r = none-of (ltb 9999999 (o .price) ∷ leb (j .boxes) (o .owner) ∷ not (isCode (o .code)) ∷ []) h in
+offer-in h o e =
+    let r = none-of (ltb 9999999 (o .price) ∷ leb (h .boxes) (o .owner) ∷ not (isCode (o .code)) ∷ []) e in
     record { price = ltb-false _ _ (r .0); owner = leb-false _ _ (r .1 .0); code = not-false _ (r .1 .1 .0) }
 
 -- What 6 of a tally says where it is not met.
-pub tally-in : (j : FileJob) (t : Tally) → badTally j t ≡ false → TallyIn j t
+pub tally-in : (h : Head) (t : Tally) → badTally h t ≡ false → TallyIn h t
 unfolding badTally
-tally-in j t h =
-    let r = none-of (leb (j .grocers) (t .grocer) ∷ leb (j .boxes) (t .box) ∷ not (isCode (t .code)) ∷ ltb 99999 (natAbs (t .count)) ∷ []) h in
+tally-in h t e =
+    let r = none-of (leb (h .grocers) (t .grocer) ∷ leb (h .boxes) (t .box) ∷ not (isCode (t .code)) ∷ ltb 99999 (natAbs (t .count)) ∷ []) e in
     record { grocer = leb-false _ _ (r .0); box = leb-false _ _ (r .1 .0); code = not-false _ (r .1 .1 .0); count = ltb-false _ _ (r .1 .1 .1 .0) }
 
 -- ---- what the conditions of a whole job say where none is met
 
 -- None of the conditions 4, 6, 7 and 8 is met.
 pub record Fine (j : FileJob) : Type 0 where
-  pub sizes : badSizes j ≡ false
-  pub offer : (i : ℕ) → i < j .offers → badOffer j (j .offer i) ≡ false
-  pub grocerOwner : (i : ℕ) → i < j .grocers → badOwner j (j .grocerOwner i) ≡ false
-  pub tally : (t : ℕ) → t < j .tallies → badTally j (j .tally t) ≡ false
+  pub sizes : badSizes (j .head) ≡ false
+  pub offer : (i : ℕ) → i < j .head .offers → badOffer (j .head) (j .offer i) ≡ false
+  pub grocerOwner : (i : ℕ) → i < j .head .grocers → badOwner (j .head) (j .grocerOwner i) ≡ false
+  pub tally : (t : ℕ) → t < j .head .tallies → badTally (j .head) (j .tally t) ≡ false
   pub shared : shared j ≡ false
   pub unnamed : unnamed j ≡ false
 
@@ -95,16 +95,16 @@ pub fine : (j : FileJob) → jobRefusal j ≡ 0 → Fine j
 unfolding jobRefusal badRecords
 fine j e =
     let r = unmet _ refl e in
-    let p = any (j .offers) (λ i. badOffer j (j .offer i)) in
-    let q = any (j .grocers) (λ i. badOwner j (j .grocerOwner i)) in
-    let s = any (j .tallies) (λ i. badTally j (j .tally i)) in
+    let p = any (j .head .offers) (λ i. badOffer (j .head) (j .offer i)) in
+    let q = any (j .head .grocers) (λ i. badOwner (j .head) (j .grocerOwner i)) in
+    let s = any (j .head .tallies) (λ i. badTally (j .head) (j .tally i)) in
     let b = or-off (p || q) s (r .1 .0) in
     let a = or-off p q (b .0) in
     record {
       sizes = r .0;
-      offer = λ i h. any-none (j .offers) (λ i. badOffer j (j .offer i)) i h (a .0);
-      grocerOwner = λ i h. any-none (j .grocers) (λ i. badOwner j (j .grocerOwner i)) i h (a .1);
-      tally = λ i h. any-none (j .tallies) (λ i. badTally j (j .tally i)) i h (b .1);
+      offer = λ i h. any-none (j .head .offers) (λ i. badOffer (j .head) (j .offer i)) i h (a .0);
+      grocerOwner = λ i h. any-none (j .head .grocers) (λ i. badOwner (j .head) (j .grocerOwner i)) i h (a .1);
+      tally = λ i h. any-none (j .head .tallies) (λ i. badTally (j .head) (j .tally i)) i h (b .1);
       shared = r .1 .1 .0;
       unnamed = r .1 .1 .1 .0;
     }
@@ -116,7 +116,7 @@ fine-job j f =
     none-met _ (
       f .sizes,
       (
-        rw (any-false _ (λ i. badOffer j (j .offer i)) (f .offer), any-false _ (λ i. badOwner j (j .grocerOwner i)) (f .grocerOwner), any-false _ (λ i. badTally j (j .tally i)) (f .tally)),
+        rw (any-false _ (λ i. badOffer (j .head) (j .offer i)) (f .offer), any-false _ (λ i. badOwner (j .head) (j .grocerOwner i)) (f .grocerOwner), any-false _ (λ i. badTally (j .head) (j .tally i)) (f .tally)),
         (f .shared, (f .unnamed, tt)),
       ),
     )
@@ -124,28 +124,28 @@ fine-job j f =
 -- ---- the place of a tally's offer
 
 -- No two offers share a number.
-pub apart : (j : FileJob) → shared j ≡ false → (i k : ℕ) → k < i → i < j .offers → sameOffer (j .offer k .code) (j .offer i .code) ≡ false
+pub apart : (j : FileJob) → shared j ≡ false → (i k : ℕ) → k < i → i < j .head .offers → sameOffer (j .offer k .code) (j .offer i .code) ≡ false
 unfolding shared
 apart j h i k l m =
     any-none i (λ k. sameOffer (j .offer k .code) (j .offer i .code)) k l
-    (any-none (j .offers) (λ i. any i (λ k. sameOffer (j .offer k .code) (j .offer i .code))) i m h)
+    (any-none (j .head .offers) (λ i. any i (λ k. sameOffer (j .offer k .code) (j .offer i .code))) i m h)
 
 module _ (j : FileJob) (t : ℕ) where
   -- A code that names an offer has a place below N, and names the offer there.
-  pub named-place : any (j .offers) (names j t) ≡ true → (placeOf j t < j .offers) × (sameOffer (j .offer (placeOf j t) .code) (j .tally t .code) ≡ true)
+  pub named-place : any (j .head .offers) (names j t) ≡ true → (placeOf j t < j .head .offers) × (sameOffer (j .offer (placeOf j t) .code) (j .tally t .code) ≡ true)
   unfolding placeOf names
-  named-place h = find-passes (j .offers) (names j t) h
+  named-place h = find-passes (j .head .offers) (names j t) h
 
   -- A code names no offer exactly where its place is N.
-  pub unnamed-place : not (any (j .offers) (names j t)) ≡ eqb (placeOf j t) (j .offers)
+  pub unnamed-place : not (any (j .head .offers) (names j t)) ≡ eqb (placeOf j t) (j .head .offers)
   unfolding placeOf
   unnamed-place =
-      split (any (j .offers) (names j t))
-      (λ e. let l = find-passes (j .offers) (names j t) e .0 in rw e (sym (ne-eqb (placeOf j t) (j .offers) (omega arith))))
-      (λ e. rw e (sym (eq-eqb (placeOf j t) (j .offers) (find-none (j .offers) (names j t) e))))
+      split (any (j .head .offers) (names j t))
+      (λ e. let l = find-passes (j .head .offers) (names j t) e .0 in rw e (sym (ne-eqb (placeOf j t) (j .head .offers) (omega arith))))
+      (λ e. rw e (sym (eq-eqb (placeOf j t) (j .head .offers) (find-none (j .head .offers) (names j t) e))))
 
   -- Where no two offers share a number, the offer that the code names is the one at its place.
-  pub only-place : shared j ≡ false → (i : ℕ) → i < j .offers → sameOffer (j .offer i .code) (j .tally t .code) ≡ true → placeOf j t ≡ i
+  pub only-place : shared j ≡ false → (i : ℕ) → i < j .head .offers → sameOffer (j .offer i .code) (j .tally t .code) ≡ true → placeOf j t ≡ i
   only-place h i l e =
       elim (ℕ-discrete (placeOf j t) i) [
         | yes q ↦ q
@@ -155,10 +155,10 @@ module _ (j : FileJob) (t : ℕ) where
         ]
       ]
     where
-      here : any (j .offers) (names j t) ≡ true
-      here = any-at (j .offers) (names j t) i l (unfold names in e)
+      here : any (j .head .offers) (names j t) ≡ true
+      here = any-at (j .head .offers) (names j t) i l (unfold names in e)
 
-      n : (placeOf j t < j .offers) × (sameOffer (j .offer (placeOf j t) .code) (j .tally t .code) ≡ true)
+      n : (placeOf j t < j .head .offers) × (sameOffer (j .offer (placeOf j t) .code) (j .tally t .code) ≡ true)
       n = named-place here
 
 -- A job that is not refused is in range.
@@ -166,13 +166,13 @@ pub in-range : (j : FileJob) → jobRefusal j ≡ 0 → InRange j
 unfolding unnamed badOwner
 in-range j e =
     let f = fine j e in
-    let n : (t : ℕ) → t < j .tallies → any (j .offers) (names j t) ≡ true =
-    λ t h. not-false _ (any-none (j .tallies) (λ t. not (any (j .offers) (names j t))) t h (f .unnamed)) in
+    let n : (t : ℕ) → t < j .head .tallies → any (j .head .offers) (names j t) ≡ true =
+    λ t h. not-false _ (any-none (j .head .tallies) (λ t. not (any (j .head .offers) (names j t))) t h (f .unnamed)) in
     record {
-      sizes = sizes-in j (f .sizes);
-      offer = λ i h. offer-in j (j .offer i) (f .offer i h);
+      sizes = sizes-in (j .head) (f .sizes);
+      offer = λ i h. offer-in (j .head) (j .offer i) (f .offer i h);
       grocerOwner = λ i h. leb-false _ _ (f .grocerOwner i h);
-      tally = λ t h. tally-in j (j .tally t) (f .tally t h);
+      tally = λ t h. tally-in (j .head) (j .tally t) (f .tally t h);
       apart = apart j (f .shared);
       place = λ t h. named-place j t (n t h) .0;
       named = λ t h. named-place j t (n t h) .1;

@@ -18,10 +18,10 @@ use Rattle.laws.proofs.Bools.{split, or-off}
 use Rattle.laws.proofs.Tables.{getD-tabulate, length-tabulate}
 use Rattle.format.specs.Bytes.{from, after, word16, word32, bytes16, bytes32}
 use Rattle.format.specs.Codes.{codeBytes}
-use Rattle.format.specs.Job.{FileJob}
-use Rattle.format.specs.Blocks.{BlockKind, header, offerBlock, grocerBlock, tallyBlock, blocks, offersAt, talliesAt, kindAt, blockKindNumber, records, recordSize, fieldSize, headerBytes}
-use Rattle.format.specs.Blocks.{offerBytes, tallyBytes, recordBytes, spare, firstSum, secondSum}
-use Rattle.format.specs.File.{recordByte, bodyByte, blockByte, encode, readOffer, readTally, recordAt, decode}
+use Rattle.format.specs.Job.{Head}
+use Rattle.format.specs.Blocks.{BlockKind, header, offerBlock, grocerBlock, tallyBlock, blocks, offersAt, talliesAt, kindAt, blockKindNumber}
+use Rattle.format.specs.Blocks.{records, recordSize, fieldSize, headerBytes, offerBytes, tallyBytes, recordBytes, spare, firstSum, secondSum}
+use Rattle.format.specs.File.{recordByte, bodyByte, blockByte, encode, readOffer, readTally, recordAt, readHead, decode}
 use Rattle.format.proofs.Words.{bytes-word16, bytes-word32, first-cong, second-cong}
 use Rattle.format.proofs.Plan.{At, at-header, at-offers, at-grocers, at-tallies, kind-at}
 
@@ -56,10 +56,10 @@ sum-bytes g b =
     rw (a₀, a₁, b₀, b₁)
 
 -- A byte that is not spare is in a field of a record that the block has.
-pub in-field : (j : FileJob) (b : BlockKind) (s : ℕ) → spare j b s ≡ false → (s / recordSize b < records j b) × (s % recordSize b < fieldSize b)
+pub in-field : (h : Head) (b : BlockKind) (s : ℕ) → spare h b s ≡ false → (s / recordSize b < records h b) × (s % recordSize b < fieldSize b)
 unfolding spare
-in-field j b s e =
-    let q = or-off (leb (records j b) (s / recordSize b)) (leb (fieldSize b) (s % recordSize b)) e in
+in-field h b s e =
+    let q = or-off (leb (records h b) (s / recordSize b)) (leb (fieldSize b) (s % recordSize b)) e in
     (leb-false _ _ (q .0), leb-false _ _ (q .1))
 
 -- A field's byte, where the record's fields are the w bytes of the file from p on.
@@ -70,17 +70,17 @@ field-read f l w p c e h q z = ap (λ (x : List ℕ). getD x c 0) e ∙ getD-tab
 pub record Clean (f : List ℕ) (k : ℕ) : Type 0 where
   pub first : firstSum (from f (512 * k)) ≡ word16 (after (from f (512 * k)) 508)
   pub second : secondSum (from f (512 * k)) ≡ word16 (after (from f (512 * k)) 510)
-  pub kinds : from f (512 * k) 0 ≡ blockKindNumber (kindAt (decode f .offers) k)
-  pub count : from f (512 * k) 1 ≡ records (decode f) (kindAt (decode f .offers) k)
+  pub kinds : from f (512 * k) 0 ≡ blockKindNumber (kindAt (decode f .head) k)
+  pub count : from f (512 * k) 1 ≡ records (decode f .head) (kindAt (decode f .head) k)
   pub number : word16 (after (from f (512 * k)) 2) ≡ k
-  pub clear : (s : ℕ) → s < 504 → spare (decode f) (kindAt (decode f .offers) k) s ≡ true → from f (512 * k) (4 + s) ≡ 0
+  pub clear : (s : ℕ) → s < 504 → spare (decode f .head) (kindAt (decode f .head) k) s ≡ true → from f (512 * k) (4 + s) ≡ 0
 
 module _ (f : List ℕ) (bytes : (p : ℕ) → getD f p 0 < 256) (mark : getD f 5 0 ≡ 1) where
   anywhere : (at : ℕ) → Bytes (from f at)
   anywhere at k = bytes (at + k)
 
-  header-bytes : headerBytes (decode f) ≡ tabulate 8 (from f 4)
-  unfolding headerBytes decode tabulate
+  header-bytes : headerBytes (decode f .head) ≡ tabulate 8 (from f 4)
+  unfolding headerBytes decode readHead tabulate
   header-bytes =
       let m₀ : word16 (from f 6) % 256 ≡ getD f 6 0 = omega (arith, bytes 6) in
       let m₁ : word16 (from f 6) / 256 ≡ getD f 7 0 = omega (arith, bytes 6) in
@@ -91,22 +91,22 @@ module _ (f : List ℕ) (bytes : (p : ℕ) → getD f p 0 < 256) (mark : getD f 
       rw (m₀, m₁, n₀, n₁, t₀, t₁, mark)
 
   -- A byte of a field.
-  field-at : (b : BlockKind) (k s : ℕ) → At (decode f .offers) k b → s < 504 → s % recordSize b < fieldSize b → getD (recordBytes (decode f) b (s / recordSize b)) (s % recordSize b) 0 ≡ from f (512 * k) (4 + s)
+  field-at : (b : BlockKind) (k s : ℕ) → At (decode f .head) k b → s < 504 → s % recordSize b < fieldSize b → getD (recordBytes (decode f) b (s / recordSize b)) (s % recordSize b) 0 ≡ from f (512 * k) (4 + s)
   unfolding recordBytes decode
   field-at header k s (at-header e) hs h = field-read f _ 8 4 (s % 504) header-bytes h _ (omega arith)
   field-at (offerBlock b) k s (at-offers _ e _) hs h = field-read f _ 16 (recordAt offersAt (21 * b + s / 24)) (s % 24) (offer-bytes _ (anywhere (recordAt offersAt (21 * b + s / 24)))) h _ (omega arith)
   field-at grocerBlock k s (at-grocers e) hs h =
       let z : s % 1 ≡ 0 = omega arith in
       rw z (ap (λ (p : ℕ). getD f p 0) (omega arith))
-  field-at (tallyBlock b) k s (at-tallies _ e) hs h = field-read f _ 18 (recordAt (talliesAt (decode f .offers)) (21 * b + s / 24)) (s % 24)
-      (tally-bytes _ (anywhere (recordAt (talliesAt (decode f .offers)) (21 * b + s / 24)))) h _ (omega arith)
+  field-at (tallyBlock b) k s (at-tallies _ e) hs h = field-read f _ 18 (recordAt (talliesAt (decode f .head)) (21 * b + s / 24)) (s % 24)
+      (tally-bytes _ (anywhere (recordAt (talliesAt (decode f .head)) (21 * b + s / 24)))) h _ (omega arith)
 
-  record-read : (b : BlockKind) (k s : ℕ) → At (decode f .offers) k b → s < 504 → (spare (decode f) b s ≡ true → from f (512 * k) (4 + s) ≡ 0) → recordByte (decode f) b s ≡ from f (512 * k) (4 + s)
+  record-read : (b : BlockKind) (k s : ℕ) → At (decode f .head) k b → s < 504 → (spare (decode f .head) b s ≡ true → from f (512 * k) (4 + s) ≡ 0) → recordByte (decode f) b s ≡ from f (512 * k) (4 + s)
   unfolding recordByte
   record-read b k s at hs clear =
-      split (spare (decode f) b s)
+      split (spare (decode f .head) b s)
       (λ e. rw e (sym (clear e)))
-      (λ e. rw e (field-at b k s at hs (in-field (decode f) b s e .1)))
+      (λ e. rw e (field-at b k s at hs (in-field (decode f .head) b s e .1)))
 
   -- A block's body, and the block.
   body-read : (k : ℕ) → Clean f k → (q : ℕ) → q < 508 → bodyByte (decode f) k q ≡ from f (512 * k) q
@@ -118,19 +118,19 @@ module _ (f : List ℕ) (bytes : (p : ℕ) → getD f p 0 < 256) (mark : getD f 
       ]
     where
       z : BlockKind
-      z = kindAt (decode f .offers) k
+      z = kindAt (decode f .head) k
 
-      front : (blockKindNumber z ∷ records (decode f) z ∷ bytes16 k) ≡ tabulate 4 (from f (512 * k))
+      front : (blockKindNumber z ∷ records (decode f .head) z ∷ bytes16 k) ≡ tabulate 4 (from f (512 * k))
       front =
           let e₀ : k % 256 ≡ from f (512 * k) 2 = omega (arith, c .number, bytes (512 * k + 2)) in
           let e₁ : k / 256 ≡ from f (512 * k) 3 = omega (arith, c .number, bytes (512 * k + 2)) in
           rw (e₀, e₁, ← (c .kinds), ← (c .count))
 
-      later : 4 ≤ q → cond (ltb q 4) (getD (blockKindNumber z ∷ records (decode f) z ∷ bytes16 k) q 0) (recordByte (decode f) z (q - 4)) ≡ from f (512 * k) q
+      later : 4 ≤ q → cond (ltb q 4) (getD (blockKindNumber z ∷ records (decode f .head) z ∷ bytes16 k) q 0) (recordByte (decode f) z (q - 4)) ≡ from f (512 * k) q
       later h =
           let e : 4 + (q - 4) ≡ q = omega arith in
           rw (le-ltb q 4 h)
-          (record-read z k (q - 4) (kind-at (decode f .offers) k) (omega arith) (c .clear (q - 4) (omega arith)) ∙ ap (from f (512 * k)) e)
+          (record-read z k (q - 4) (kind-at (decode f .head) k) (omega arith) (c .clear (q - 4) (omega arith)) ∙ ap (from f (512 * k)) e)
 
   block-read : (k : ℕ) → Clean f k → (q : ℕ) → q < 512 → blockByte (bodyByte (decode f) k) q ≡ from f (512 * k) q
   unfolding blockByte

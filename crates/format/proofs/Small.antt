@@ -1,8 +1,8 @@
 -- The bytes of a written job's file are bytes: each is below 256. Assumes nothing.
-use Prim.Native.Nat.{ℕ, zero, suc, _+_, _*_, _-_, _/_, _%_, _≤_, _<_}
 use mathlib.Core.Path.{_≡_}
 use mathlib.Core.Bool.{true}
 use mathlib.Core.List.{List, [], _∷_, _++_}
+use Prim.Native.Nat.{ℕ, zero, suc, _+_, _*_, _-_, _/_, _%_, _≤_, _<_}
 use native.Mathlib.Omega.{arith}
 use native.Mathlib.Decide.{decLt}
 use lib.Dec.{ltb}
@@ -83,13 +83,13 @@ module _ (j : FileJob) (ok : jobRefusal j ≡ 0) where
   range : InRange j
   range = in-range j ok
 
-  small-header : Small (headerBytes j)
+  small-header : Small (headerBytes (j .head))
   unfolding headerBytes
   small-header =
       let s = range .sizes in
-      cons (omega arith) (cons (omega arith) (append (append (small16 (j .grocers) (omega arith)) (small16 (j .offers) (omega arith))) (small16 (j .tallies) (omega arith))))
+      cons (omega arith) (cons (omega arith) (append (append (small16 (j .head .grocers) (omega arith)) (small16 (j .head .offers) (omega arith))) (small16 (j .head .tallies) (omega arith))))
 
-  small-record : (b : BlockKind) (r : ℕ) → r < records j b → Small (recordBytes j b r)
+  small-record : (b : BlockKind) (r : ℕ) → r < records (j .head) b → Small (recordBytes j b r)
   unfolding recordBytes offerBytes tallyBytes
   small-record header r h = small-header
   small-record (offerBlock b) r h =
@@ -106,11 +106,11 @@ module _ (j : FileJob) (ok : jobRefusal j ≡ 0) where
   record-small : (b : BlockKind) (s : ℕ) → recordByte j b s < 256
   unfolding recordByte
   record-small b s =
-      split (spare j b s)
+      split (spare (j .head) b s)
       (λ e. rw e (omega arith))
-      (λ e. rw e (small-record b (s / recordSize b) (in-field j b s e .0) .at (s % recordSize b)))
+      (λ e. rw e (small-record b (s / recordSize b) (in-field (j .head) b s e .0) .at (s % recordSize b)))
 
-  count-small : (b : BlockKind) → records j b < 256
+  count-small : (b : BlockKind) → records (j .head) b < 256
   count-small header = omega arith
   count-small (offerBlock b) = omega arith
   count-small grocerBlock = omega (arith, range .sizes .grocers-most)
@@ -125,7 +125,7 @@ module _ (j : FileJob) (ok : jobRefusal j ≡ 0) where
   body-small : (k q : ℕ) → k < blocks j → bodyByte j k q < 256
   unfolding bodyByte
   body-small k q h =
-      let b = kindAt (j .offers) k in
+      let b = kindAt (j .head) k in
       let s = range .sizes in
       split (ltb q 4)
       (λ e. rw e (cons (kind-small b) (cons (count-small b) (small16 k (omega arith))) .at q))

@@ -11,21 +11,21 @@ use lib.Seq.{take-at}
 use lib.IntN.{pos}
 use borrow.Author.Tests.{ltb-false, le-ltb, ne-eqb}
 use Rattle.laws.specs.Tables.{tabulate, overwrite, recell}
-use Rattle.laws.proofs.Tables.{getD-overwrite, getD-tabulate, long-overwrite, overwrite-same, overwrite-as, recell-same, recell-as, getD-recell}
+use Rattle.laws.proofs.Tables.{getD-overwrite, getD-tabulate, long-overwrite, overwrite-same, overwrite-as, overwrite-cong, recell-same, recell-as, getD-recell}
 use Rattle.laws.proofs.Checks.{none-of, unmet}
 use Rattle.laws.proofs.Bools.{or-off}
 use Rattle.format.specs.Bytes.{from}
 use Rattle.format.specs.Codes.{Code, codeBytes, readCode}
-use Rattle.format.specs.Job.{FileJob, placeOf}
+use Rattle.format.specs.Job.{Head, FileJob, Offer, Tally, placeOf}
 use Rattle.format.specs.Blocks.{blockCount}
 use Rattle.format.specs.File.{encode, decode}
 use Rattle.format.specs.Refusals.{fileRefusal, jobRefusal}
-use Rattle.format.specs.Tables.{FileTables, ReaderTables, shortTables, Long, fileJobOf, storeCodes, store, storeRead, sizes, refused, ReadOutcome, shortReader, readRefusal, readResult, wrote}
-use Rattle.format.specs.Tables.{notWritten, shortWriter, writeRefusal, writeResult}
+use Rattle.format.specs.Tables.{OfferTables, TallyTables, FileTables, ReaderTables, shortOffers, shortTallies, shortTables, LongOffers, LongTallies, Long, offerOf, tallyOf, storeOffers, storeTallies}
+use Rattle.format.specs.Tables.{fileJobOf, storeCodes, store, storeRead, sizes, refused, ReadOutcome, shortReader, readRefusal, readResult, wrote, notWritten, shortWriter, writeRefusal, writeResult}
 use Rattle.format.proofs.Firsts.{each}
 use Rattle.format.proofs.Order.{reader-file, writer-job}
 use Rattle.format.proofs.Range.{InRange, in-range}
-use Rattle.format.proofs.Same.{SameCode, SameWords, place-same, same-fine}
+use Rattle.format.proofs.Same.{SameCode, OfferWords, TallyWords, SameWords, place-same, same-fine}
 use Rattle.format.proofs.Encode.{code-bytes, encode-same}
 use Rattle.format.proofs.Accept.{long, accepted, job-accepted}
 use Rattle.format.proofs.Small.{encode-small}
@@ -49,54 +49,137 @@ code-stored n code l i h =
       digit = λ k q. getD-recell n 11 (λ i p. getD (codeBytes (code i)) p 0) l i (1 + k) 0 h (omega arith) ∙ code-digit (code i) k q;
     }
 
+-- Codes that are the same are stored alike.
+codes-same : (n : ℕ) (c d : ℕ → Code) (l : List ℕ) → ((i : ℕ) → i < n → SameCode (c i) (d i)) → storeCodes n c l ≡ storeCodes n d l
+unfolding storeCodes
+codes-same n c d l h = recell-as n n 11 _ _ l refl (λ i p q r. ap (λ (x : List ℕ). getD x p 0) (code-bytes (c i) (d i) (h i q)))
+
+-- Codes stored where they were read change no word.
+codes-own : (n : ℕ) (l : List ℕ) → n * 11 ≤ length l → storeCodes n (λ i. readCode (from l (i * 11))) l ≡ l
+unfolding storeCodes
+codes-own n l h = recell-same n 11 _ l 0 h (λ i p q r. ap (λ (x : List ℕ). getD x p 0) (eleven (from l (i * 11))) ∙ getD-tabulate 11 (from l (i * 11)) p 0 r)
+  where
+    eleven : (g : ℕ → ℕ) → codeBytes (readCode g) ≡ tabulate 11 g
+    eleven g = unfold codeBytes tabulate in refl
+
 -- ---- a job stored into tables
+
+module _ (n : ℕ) (l : OfferTables) where
+  -- Offers that were stored are read back.
+  offers-stored : (offer : ℕ → Offer) (i : ℕ) → i < n → OfferWords (offerOf (storeOffers n offer l) i) (offer i)
+  unfolding storeOffers
+  offers-stored offer i h = record { price = getD-overwrite _ _ _ i 0 h; owner = getD-overwrite _ _ _ i 0 h; code = code-stored _ _ _ i h }
+
+  -- Offers with the same words are stored alike.
+  offers-same : (p q : ℕ → Offer) → ((i : ℕ) → i < n → OfferWords (p i) (q i)) → storeOffers n p l ≡ storeOffers n q l
+  unfolding storeOffers
+  offers-same p q w =
+      let e₀ = overwrite-cong n (λ i. p i .price) (λ i. q i .price) (l .price) (λ i h. w i h .price) in
+      let e₁ = overwrite-cong n (λ i. p i .owner) (λ i. q i .owner) (l .owner) (λ i h. w i h .owner) in
+      let e₂ = codes-same n (λ i. p i .code) (λ i. q i .code) (l .code) (λ i h. w i h .code) in
+      λ i. record { price = e₀ i; owner = e₁ i; code = e₂ i }
+
+  -- Their tables are long enough for them,
+  offers-long : (offer : ℕ → Offer) → LongOffers n (storeOffers n offer l)
+  unfolding storeOffers storeCodes recell
+  offers-long offer = record { price = long-overwrite _ _ (l .price); owner = long-overwrite _ _ (l .owner); code = long-overwrite _ _ (l .code) }
+
+  -- and stored where they were read, they change no word.
+  offers-own : LongOffers n l → storeOffers n (offerOf l) l ≡ l
+  unfolding storeOffers
+  offers-own h =
+      let e₀ = overwrite-same n (λ i. getD (l .price) i 0) (l .price) 0 (h .price) (λ i q. refl) in
+      let e₁ = overwrite-same n (λ i. getD (l .owner) i 0) (l .owner) 0 (h .owner) (λ i q. refl) in
+      let e₂ = codes-own n (l .code) (h .code) in
+      λ i. record { price = e₀ i; owner = e₁ i; code = e₂ i }
+
+  -- No table of theirs is short,
+  long-offers : shortOffers n l ≡ false → LongOffers n l
+  unfolding shortOffers
+  long-offers e =
+      let r = none-of (ltb (length (l .price)) n ∷ ltb (length (l .owner)) n ∷ ltb (length (l .code)) (n * 11) ∷ []) e in
+      record { price = ltb-false _ _ (r .0); owner = ltb-false _ _ (r .1 .0); code = ltb-false _ _ (r .1 .1 .0) }
+
+  -- and the other way round.
+  pub enough-offers : LongOffers n l → shortOffers n l ≡ false
+  unfolding shortOffers
+  enough-offers h = rw (le-ltb _ _ (h .price), le-ltb _ _ (h .owner), le-ltb _ _ (h .code))
+
+-- The same of tallies.
+module _ (t : ℕ) (l : TallyTables) where
+  tallies-stored : (tally : ℕ → Tally) (i : ℕ) → i < t → TallyWords (tallyOf (storeTallies t tally l) i) (tally i)
+  unfolding storeTallies
+  tallies-stored tally i h =
+      record { grocer = getD-overwrite _ _ _ i 0 h; box = getD-overwrite _ _ _ i 0 h; code = code-stored _ _ _ i h; count = getD-overwrite _ _ _ i (pos 0) h }
+
+  tallies-same : (p q : ℕ → Tally) → ((i : ℕ) → i < t → TallyWords (p i) (q i)) → storeTallies t p l ≡ storeTallies t q l
+  unfolding storeTallies
+  tallies-same p q w =
+      let e₀ = overwrite-cong t (λ i. p i .grocer) (λ i. q i .grocer) (l .grocer) (λ i h. w i h .grocer) in
+      let e₁ = overwrite-cong t (λ i. p i .box) (λ i. q i .box) (l .box) (λ i h. w i h .box) in
+      let e₂ = codes-same t (λ i. p i .code) (λ i. q i .code) (l .code) (λ i h. w i h .code) in
+      let e₃ = overwrite-cong t (λ i. p i .count) (λ i. q i .count) (l .count) (λ i h. w i h .count) in
+      λ i. record { grocer = e₀ i; box = e₁ i; code = e₂ i; count = e₃ i }
+
+  tallies-long : (tally : ℕ → Tally) → LongTallies t (storeTallies t tally l)
+  unfolding storeTallies storeCodes recell
+  tallies-long tally =
+      record { grocer = long-overwrite _ _ (l .grocer); box = long-overwrite _ _ (l .box); code = long-overwrite _ _ (l .code); count = long-overwrite _ _ (l .count) }
+
+  tallies-own : LongTallies t l → storeTallies t (tallyOf l) l ≡ l
+  unfolding storeTallies
+  tallies-own h =
+      let e₀ = overwrite-same t (λ i. getD (l .grocer) i 0) (l .grocer) 0 (h .grocer) (λ i q. refl) in
+      let e₁ = overwrite-same t (λ i. getD (l .box) i 0) (l .box) 0 (h .box) (λ i q. refl) in
+      let e₂ = codes-own t (l .code) (h .code) in
+      let e₃ = overwrite-same t (λ i. getD (l .count) i (pos 0)) (l .count) (pos 0) (h .count) (λ i q. refl) in
+      λ i. record { grocer = e₀ i; box = e₁ i; code = e₂ i; count = e₃ i }
+
+  long-tallies : shortTallies t l ≡ false → LongTallies t l
+  unfolding shortTallies
+  long-tallies e =
+      let r = none-of (ltb (length (l .grocer)) t ∷ ltb (length (l .box)) t ∷ ltb (length (l .code)) (t * 11) ∷ ltb (length (l .count)) t ∷ []) e in
+      record { grocer = ltb-false _ _ (r .0); box = ltb-false _ _ (r .1 .0); code = ltb-false _ _ (r .1 .1 .0); count = ltb-false _ _ (r .1 .1 .1 .0) }
+
+  pub enough-tallies : LongTallies t l → shortTallies t l ≡ false
+  unfolding shortTallies
+  enough-tallies h = rw (le-ltb _ _ (h .grocer), le-ltb _ _ (h .box), le-ltb _ _ (h .code), le-ltb _ _ (h .count))
 
 module _ (j : FileJob) (l : FileTables) where
   -- The job that tables hold once a job is stored there is that job, digits as written.
-  pub store-job : SameWords (fileJobOf (j .boxes) (j .grocers) (j .offers) (j .tallies) (store j l)) j
+  pub store-job : SameWords (fileJobOf (j .head) (store j l)) j
   unfolding fileJobOf store
   store-job =
       record {
-        sizes = record { boxes = refl; grocers = refl; offers = refl; tallies = refl };
-        offer = λ i h. record { price = getD-overwrite _ _ _ i 0 h; owner = getD-overwrite _ _ _ i 0 h; code = code-stored _ _ _ i h };
+        head = refl;
+        offer = offers-stored _ (l .offers) (j .offer);
         grocerOwner = λ i h. getD-overwrite _ _ _ i 0 h;
-        tally = λ i h. record { grocer = getD-overwrite _ _ _ i 0 h; box = getD-overwrite _ _ _ i 0 h; code = code-stored _ _ _ i h; count = getD-overwrite _ _ _ i (pos 0) h };
+        tally = tallies-stored _ (l .tallies) (j .tally);
       }
 
--- Jobs with the same words are stored alike.
-codes-same : (n m : ℕ) (c d : ℕ → Code) (l : List ℕ) → n ≡ m → ((i : ℕ) → i < m → SameCode (c i) (d i)) → storeCodes n c l ≡ storeCodes m d l
-unfolding storeCodes
-codes-same n m c d l e h = recell-as n m 11 _ _ l e (λ i p q r. ap (λ (x : List ℕ). getD x p 0) (code-bytes (c i) (d i) (h i q)))
-
 module _ (a b : FileJob) (s : SameWords a b) where
-  -- The same tables come of both,
+  -- Jobs with the same words: the same tables come of both,
   pub store-same : (l : FileTables) → store a l ≡ store b l
   unfolding store
   store-same l =
-      let z = s .sizes in
-      let e₀ = overwrite-as (a .offers) (b .offers) (λ i. a .offer i .price) (λ i. b .offer i .price) (l .price) (z .offers) (λ i h. s .offer i h .price) in
-      let e₁ = overwrite-as (a .offers) (b .offers) (λ i. a .offer i .owner) (λ i. b .offer i .owner) (l .offerOwner) (z .offers) (λ i h. s .offer i h .owner) in
-      let e₂ = codes-same (a .offers) (b .offers) (λ i. a .offer i .code) (λ i. b .offer i .code) (l .offerCode) (z .offers) (λ i h. s .offer i h .code) in
-      let e₃ = overwrite-as (a .grocers) (b .grocers) (a .grocerOwner) (b .grocerOwner) (l .grocerOwner) (z .grocers) (s .grocerOwner) in
-      let e₄ = overwrite-as (a .tallies) (b .tallies) (λ i. a .tally i .grocer) (λ i. b .tally i .grocer) (l .tallyGrocer) (z .tallies) (λ i h. s .tally i h .grocer) in
-      let e₅ = overwrite-as (a .tallies) (b .tallies) (λ i. a .tally i .box) (λ i. b .tally i .box) (l .tallyBox) (z .tallies) (λ i h. s .tally i h .box) in
-      let e₆ = codes-same (a .tallies) (b .tallies) (λ i. a .tally i .code) (λ i. b .tally i .code) (l .tallyCode) (z .tallies) (λ i h. s .tally i h .code) in
-      let e₇ = overwrite-as (a .tallies) (b .tallies) (λ i. a .tally i .count) (λ i. b .tally i .count) (l .tallyCount) (z .tallies) (λ i h. s .tally i h .count) in
-      λ i. record { price = e₀ i; offerOwner = e₁ i; offerCode = e₂ i; grocerOwner = e₃ i; tallyGrocer = e₄ i; tallyBox = e₅ i; tallyCode = e₆ i; tallyCount = e₇ i }
+      let e₀ = offers-same (b .head .offers) (l .offers) (a .offer) (b .offer) (s .offer) in
+      let e₁ = overwrite-cong (b .head .grocers) (a .grocerOwner) (b .grocerOwner) (l .grocerOwner) (s .grocerOwner) in
+      let e₂ = tallies-same (b .head .tallies) (l .tallies) (a .tally) (b .tally) (s .tally) in
+      rw (s .head) (λ i. record { offers = e₀ i; grocerOwner = e₁ i; tallies = e₂ i })
 
   -- the places too.
   pub store-read-same : jobRefusal b ≡ 0 → (l : ReaderTables) → storeRead a l ≡ storeRead b l
   unfolding storeRead
   store-read-same ok l =
       let e₀ = store-same (l .job) in
-      let e₁ = overwrite-as (a .tallies) (b .tallies) (placeOf a) (placeOf b) (l .tallyOffer) (s .sizes .tallies) (place-same a b s ok) in
+      let e₁ = overwrite-as (a .head .tallies) (b .head .tallies) (placeOf a) (placeOf b) (l .tallyOffer) (ap (λ (h : Head). h .tallies) (s .head)) (place-same a b s ok) in
       λ i. record { job = e₀ i; tallyOffer = e₁ i }
 
 -- ---- what the calls give, by their refusal
 
 module _ (f : List ℕ) (l : ReaderTables) where
   -- No refusal: the sizes, and the job stored.
-  pub read-accepted : readRefusal f l ≡ 0 → readResult f l ≡ record { answer = sizes (decode f .boxes) (decode f .grocers) (decode f .offers) (decode f .tallies); tables = storeRead (decode f) l }
+  pub read-accepted : readRefusal f l ≡ 0 → readResult f l ≡ record { answer = sizes (decode f .head); tables = storeRead (decode f) l }
   unfolding readResult
   read-accepted e = rw e
 
@@ -106,143 +189,110 @@ module _ (f : List ℕ) (l : ReaderTables) where
   read-refused n = rw (ne-eqb (readRefusal f l) 0 n)
 
   -- An answer with sizes is no refusal, and the sizes are the file's.
-  pub read-sizes : (k m n t : ℕ) → readResult f l .answer ≡ sizes k m n t → (readRefusal f l ≡ 0) × (decode f .boxes ≡ k) × (decode f .grocers ≡ m) × (decode f .offers ≡ n) × (decode f .tallies ≡ t)
-  read-sizes k m n t a =
+  pub read-sizes : (h : Head) → readResult f l .answer ≡ sizes h → (readRefusal f l ≡ 0) × (decode f .head ≡ h)
+  read-sizes h a =
       elim (ℕ-discrete (readRefusal f l) 0) [
-        | yes e ↦ let q = rw (read-accepted e) at a in (e, cc, cc, cc, cc)
+        | yes e ↦ let q = rw (read-accepted e) at a in (e, cc)
         | no d ↦ let q = rw (read-refused d) at a in let z : _≡_ {A = ℕ} 0 1 = cc in absurd (omega arith)
       ]
 
-module _ (k m n t : ℕ) (l : FileTables) (out : List ℕ) where
+module _ (h : Head) (l : FileTables) (out : List ℕ) where
   -- No refusal: the file's length, and the file in front of the rest.
-  pub write-accepted : writeRefusal k m n t l out ≡ 0 → writeResult k m n t l out ≡ record { answer = wrote (length (encode (fileJobOf k m n t l))); out = encode (fileJobOf k m n t l) ++ drop (length (encode (fileJobOf k m n t l))) out }
+  pub write-accepted : writeRefusal h l out ≡ 0 →
+      writeResult h l out ≡ record { answer = wrote (length (encode (fileJobOf h l))); out = encode (fileJobOf h l) ++ drop (length (encode (fileJobOf h l))) out }
   unfolding writeResult
   write-accepted e = rw e
 
   -- A refusal: its number, and the buffer as it was.
-  pub write-refused : (writeRefusal k m n t l out ≡ 0 → ⊥) → writeResult k m n t l out ≡ record { answer = notWritten (writeRefusal k m n t l out); out = out }
+  pub write-refused : (writeRefusal h l out ≡ 0 → ⊥) → writeResult h l out ≡ record { answer = notWritten (writeRefusal h l out); out = out }
   unfolding writeResult
-  write-refused e = rw (ne-eqb (writeRefusal k m n t l out) 0 e)
+  write-refused e = rw (ne-eqb (writeRefusal h l out) 0 e)
 
 -- ---- lengths
 
--- No table is short.
-pub long-tables : (m n t : ℕ) (l : FileTables) → shortTables m n t l ≡ false → Long m n t l
-unfolding shortTables
-long-tables m n t l h =
-    let r =
-    none-of (
-    ltb (length (l .price)) n ∷ ltb (length (l .offerOwner)) n ∷ ltb (length (l .offerCode)) (n * 11) ∷ ltb (length (l .grocerOwner)) m ∷
-    ltb (length (l .tallyGrocer)) t ∷ ltb (length (l .tallyBox)) t ∷ ltb (length (l .tallyCode)) (t * 11) ∷ ltb (length (l .tallyCount)) t ∷ []) h in
-    record {
-      price = ltb-false _ _ (r .0);
-      offerOwner = ltb-false _ _ (r .1 .0);
-      offerCode = ltb-false _ _ (r .1 .1 .0);
-      grocerOwner = ltb-false _ _ (r .1 .1 .1 .0);
-      tallyGrocer = ltb-false _ _ (r .1 .1 .1 .1 .0);
-      tallyBox = ltb-false _ _ (r .1 .1 .1 .1 .1 .0);
-      tallyCode = ltb-false _ _ (r .1 .1 .1 .1 .1 .1 .0);
-      tallyCount = ltb-false _ _ (r .1 .1 .1 .1 .1 .1 .1 .0);
-    }
+module _ (h : Head) (l : FileTables) where
+  -- No table is short.
+  pub long-tables : shortTables h l ≡ false → Long h l
+  unfolding shortTables
+  long-tables e =
+      let r = none-of (shortOffers (h .offers) (l .offers) ∷ ltb (length (l .grocerOwner)) (h .grocers) ∷ shortTallies (h .tallies) (l .tallies) ∷ []) e in
+      record { offers = long-offers _ _ (r .0); grocerOwner = ltb-false _ _ (r .1 .0); tallies = long-tallies _ _ (r .1 .1 .0) }
 
--- And the other way round.
-pub tables-long : (m n t : ℕ) (l : FileTables) → Long m n t l → shortTables m n t l ≡ false
-unfolding shortTables
-tables-long m n t l h =
-    rw (le-ltb _ _ (h .price), le-ltb _ _ (h .offerOwner), le-ltb _ _ (h .offerCode), le-ltb _ _ (h .grocerOwner), le-ltb _ _ (h .tallyGrocer), le-ltb _ _ (h .tallyBox), le-ltb _ _ (h .tallyCode), le-ltb _ _ (h .tallyCount))
+  -- And the other way round.
+  pub tables-long : Long h l → shortTables h l ≡ false
+  unfolding shortTables
+  tables-long e = rw (enough-offers _ _ (e .offers), le-ltb _ _ (e .grocerOwner), enough-tallies _ _ (e .tallies))
 
 -- Tables that a job was stored into are long enough for it.
-stored-long : (j : FileJob) (l : FileTables) → Long (j .grocers) (j .offers) (j .tallies) (store j l)
-unfolding store storeCodes recell
+stored-long : (j : FileJob) (l : FileTables) → Long (j .head) (store j l)
+unfolding store
 stored-long j l =
-    record {
-      price = long-overwrite _ _ (l .price);
-      offerOwner = long-overwrite _ _ (l .offerOwner);
-      offerCode = long-overwrite _ _ (l .offerCode);
-      grocerOwner = long-overwrite _ _ (l .grocerOwner);
-      tallyGrocer = long-overwrite _ _ (l .tallyGrocer);
-      tallyBox = long-overwrite _ _ (l .tallyBox);
-      tallyCode = long-overwrite _ _ (l .tallyCode);
-      tallyCount = long-overwrite _ _ (l .tallyCount);
-    }
+    record { offers = offers-long _ (l .offers) (j .offer); grocerOwner = long-overwrite _ _ (l .grocerOwner); tallies = tallies-long _ (l .tallies) (j .tally) }
 
--- ---- a job stored into the tables that hold it changes no word
-
-codes-own : (n : ℕ) (l : List ℕ) → n * 11 ≤ length l → storeCodes n (λ i. readCode (from l (i * 11))) l ≡ l
-unfolding storeCodes
-codes-own n l h = recell-same n 11 _ l 0 h (λ i p q r. ap (λ (x : List ℕ). getD x p 0) (eleven (from l (i * 11))) ∙ getD-tabulate 11 (from l (i * 11)) p 0 r)
-  where
-    eleven : (g : ℕ → ℕ) → codeBytes (readCode g) ≡ tabulate 11 g
-    eleven g = unfold codeBytes tabulate in refl
-
--- Tables that are long enough stay as they are.
-pub store-own : (k m n t : ℕ) (l : FileTables) → Long m n t l → store (fileJobOf k m n t l) l ≡ l
+-- Tables that are long enough stay as they are where the job that they hold is stored into them.
+pub store-own : (h : Head) (l : FileTables) → Long h l → store (fileJobOf h l) l ≡ l
 unfolding store fileJobOf
-store-own k m n t l h =
-    let e₀ = overwrite-same n (λ i. getD (l .price) i 0) (l .price) 0 (h .price) (λ i q. refl) in
-    let e₁ = overwrite-same n (λ i. getD (l .offerOwner) i 0) (l .offerOwner) 0 (h .offerOwner) (λ i q. refl) in
-    let e₂ = codes-own n (l .offerCode) (h .offerCode) in
-    let e₃ = overwrite-same m (λ i. getD (l .grocerOwner) i 0) (l .grocerOwner) 0 (h .grocerOwner) (λ i q. refl) in
-    let e₄ = overwrite-same t (λ i. getD (l .tallyGrocer) i 0) (l .tallyGrocer) 0 (h .tallyGrocer) (λ i q. refl) in
-    let e₅ = overwrite-same t (λ i. getD (l .tallyBox) i 0) (l .tallyBox) 0 (h .tallyBox) (λ i q. refl) in
-    let e₆ = codes-own t (l .tallyCode) (h .tallyCode) in
-    let e₇ = overwrite-same t (λ i. getD (l .tallyCount) i (pos 0)) (l .tallyCount) (pos 0) (h .tallyCount) (λ i q. refl) in
-    λ i. record { price = e₀ i; offerOwner = e₁ i; offerCode = e₂ i; grocerOwner = e₃ i; tallyGrocer = e₄ i; tallyBox = e₅ i; tallyCode = e₆ i; tallyCount = e₇ i }
+store-own h l e =
+    let e₀ = offers-own (h .offers) (l .offers) (e .offers) in
+    let e₁ = overwrite-same (h .grocers) (λ i. getD (l .grocerOwner) i 0) (l .grocerOwner) 0 (e .grocerOwner) (λ i q. refl) in
+    let e₂ = tallies-own (h .tallies) (l .tallies) (e .tallies) in
+    λ i. record { offers = e₀ i; grocerOwner = e₁ i; tallies = e₂ i }
 
 -- ---- reading what was written
 
 -- Where no table and no buffer is short the job's refusal is the writer's.
-job-written : (k m n t : ℕ) (l : FileTables) (out : List ℕ) → shortTables m n t l ≡ false → 512 * blockCount n t ≤ length out → jobRefusal (fileJobOf k m n t l) ≡ 0 → writeRefusal k m n t l out ≡ 0
+job-written : (h : Head) (l : FileTables) (out : List ℕ) → shortTables h l ≡ false → 512 * blockCount h ≤ length out → jobRefusal (fileJobOf h l) ≡ 0 → writeRefusal h l out ≡ 0
 unfolding shortWriter
-job-written k m n t l out h r e = writer-job k m n t l out (rw (h, le-ltb (length out) (512 * blockCount n t) r)) ∙ e
+job-written h l out s r e = writer-job h l out (rw (s, le-ltb (length out) (512 * blockCount h) r)) ∙ e
 
 -- A writer that wrote was lent no short table.
-writer-long : (k m n t : ℕ) (l : FileTables) (out : List ℕ) → writeRefusal k m n t l out ≡ 0 → shortTables m n t l ≡ false
+writer-long : (h : Head) (l : FileTables) (out : List ℕ) → writeRefusal h l out ≡ 0 → shortTables h l ≡ false
 unfolding writeRefusal shortWriter
-writer-long k m n t l out ok = or-off (shortTables m n t l) (ltb (length out) (512 * blockCount n t)) (unmet _ refl (each _ ok 0) .0) .0
+writer-long h l out ok = or-off (shortTables h l) (ltb (length out) (512 * blockCount h)) (unmet _ refl (each _ ok 0) .0) .0
 
-module _ (k m n t : ℕ) (l : FileTables) (out : List ℕ) (ok : writeRefusal k m n t l out ≡ 0) where
-  written-job : jobRefusal (fileJobOf k m n t l) ≡ 0
+module _ (h : Head) (l : FileTables) (out : List ℕ) (ok : writeRefusal h l out ≡ 0) where
+  written-job : jobRefusal (fileJobOf h l) ≡ 0
   unfolding writeRefusal
   written-job = each _ ok 1
 
   -- The writer's file is the front of its buffer.
-  pub written-file : take (length (encode (fileJobOf k m n t l))) (writeResult k m n t l out .out) ≡ encode (fileJobOf k m n t l)
-  written-file = rw (write-accepted k m n t l out ok) (take-at _ _ _ refl)
+  pub written-file : take (length (encode (fileJobOf h l))) (writeResult h l out .out) ≡ encode (fileJobOf h l)
+  written-file = rw (write-accepted h l out ok) (take-at _ _ _ refl)
 
   -- Its length is the one that the writer answers,
-  pub buffer-file : take (512 * blockCount n t) (writeResult k m n t l out .out) ≡ encode (fileJobOf k m n t l)
+  pub buffer-file : take (512 * blockCount h) (writeResult h l out .out) ≡ encode (fileJobOf h l)
   unfolding fileJobOf
-  buffer-file = ap (λ (x : ℕ). take x (writeResult k m n t l out .out)) (sym (long-is (fileJobOf k m n t l) written-job)) ∙ written-file
+  buffer-file = ap (λ (x : ℕ). take x (writeResult h l out .out)) (sym (long-is (fileJobOf h l) written-job)) ∙ written-file
 
   -- and each of its words is a byte.
-  pub written-bytes : (p : ℕ) → getD (take (512 * blockCount n t) (writeResult k m n t l out .out)) p 0 < 256
-  written-bytes p = rw buffer-file (encode-small (fileJobOf k m n t l) written-job p)
+  pub written-bytes : (p : ℕ) → getD (take (512 * blockCount h) (writeResult h l out .out)) p 0 < 256
+  written-bytes p = rw buffer-file (encode-small (fileJobOf h l) written-job p)
 
   -- The reader accepts the writer's file, answers the writer's K, M, N and T, and writes the writer's words, with each tally's place.
-  pub read-written : (r : ReaderTables) → shortReader r ≡ false → readResult (encode (fileJobOf k m n t l)) r ≡ record { answer = sizes k m n t; tables = storeRead (fileJobOf k m n t l) r }
+  pub read-written : (r : ReaderTables) → shortReader r ≡ false → readResult (encode (fileJobOf h l)) r ≡ record { answer = sizes h; tables = storeRead (fileJobOf h l) r }
   unfolding fileJobOf
-  read-written r h =
-      let j = fileJobOf k m n t l in
+  read-written r s =
+      let j = fileJobOf h l in
       let b = read-back j written-job in
-      let z = b .sizes in
+      let z = b .head in
       let e = store-read-same (decode (encode j)) j b written-job r in
-      read-accepted (encode j) r (reader-file (encode j) r h ∙ written-accepted j written-job)
-      ∙ (λ i. record { answer = sizes (z .boxes i) (z .grocers i) (z .offers i) (z .tallies i); tables = e i })
+      read-accepted (encode j) r (reader-file (encode j) r s ∙ written-accepted j written-job)
+      ∙ (λ i. record { answer = sizes (z i); tables = e i })
 
   -- The same of the writer's buffer itself, as far as its answer says.
-  pub read-buffer : (r : ReaderTables) → shortReader r ≡ false → readResult (take (512 * blockCount n t) (writeResult k m n t l out .out)) r ≡ record { answer = sizes k m n t; tables = storeRead (fileJobOf k m n t l) r }
-  read-buffer r h = ap (λ (f : List ℕ). readResult f r) buffer-file ∙ read-written r h
+  pub read-buffer : (r : ReaderTables) → shortReader r ≡ false →
+      readResult (take (512 * blockCount h) (writeResult h l out .out)) r ≡ record { answer = sizes h; tables = storeRead (fileJobOf h l) r }
+  read-buffer r s = ap (λ (f : List ℕ). readResult f r) buffer-file ∙ read-written r s
 
 -- Read back into the tables that were written from, no word of theirs changes.
-pub read-own : (k m n t : ℕ) (r : ReaderTables) (out : List ℕ) → writeRefusal k m n t (r .job) out ≡ 0 → shortReader r ≡ false →
-    readResult (encode (fileJobOf k m n t (r .job))) r ≡
-    record { answer = sizes k m n t; tables = record { job = r .job; tallyOffer = overwrite t (placeOf (fileJobOf k m n t (r .job))) (r .tallyOffer) } }
+pub read-own : (h : Head) (r : ReaderTables) (out : List ℕ) → writeRefusal h (r .job) out ≡ 0 → shortReader r ≡ false →
+    readResult (encode (fileJobOf h (r .job))) r ≡
+    record { answer = sizes h; tables = record { job = r .job; tallyOffer = overwrite (h .tallies) (placeOf (fileJobOf h (r .job))) (r .tallyOffer) } }
 unfolding storeRead fileJobOf
-read-own k m n t r out ok h =
-    let e = store-own k m n t (r .job) (long-tables m n t (r .job) (writer-long k m n t (r .job) out ok)) in
-    read-written k m n t (r .job) out ok r h
-    ∙ (λ i. record { answer = sizes k m n t; tables = record { job = e i; tallyOffer = overwrite t (placeOf (fileJobOf k m n t (r .job))) (r .tallyOffer) } })
+read-own h r out ok s =
+    let e = store-own h (r .job) (long-tables h (r .job) (writer-long h (r .job) out ok)) in
+    read-written h (r .job) out ok r s
+    ∙ (λ i. record { answer = sizes h; tables = record { job = e i; tallyOffer = overwrite (h .tallies) (placeOf (fileJobOf h (r .job))) (r .tallyOffer) } })
 
 -- ---- writing what was read
 
@@ -252,38 +302,38 @@ module _ (f : List ℕ) (l : ReaderTables) (ok : readRefusal f l ≡ 0) where
   read-file = each _ ok 1
 
   -- The tables that the reader filled hold the file's job, which the writer takes, and which is in range.
-  pub read-job : SameWords (fileJobOf (decode f .boxes) (decode f .grocers) (decode f .offers) (decode f .tallies) (readResult f l .tables .job)) (decode f)
+  pub read-job : SameWords (fileJobOf (decode f .head) (readResult f l .tables .job)) (decode f)
   unfolding storeRead
   read-job = rw (read-accepted f l ok) (store-job (decode f) (l .job))
 
   -- The writer takes the job that the tables hold.
-  pub read-writable : jobRefusal (fileJobOf (decode f .boxes) (decode f .grocers) (decode f .offers) (decode f .tallies) (readResult f l .tables .job)) ≡ 0
+  pub read-writable : jobRefusal (fileJobOf (decode f .head) (readResult f l .tables .job)) ≡ 0
   read-writable = same-fine _ (decode f) read-job (job-accepted f read-file)
 
   -- It is in range.
-  pub read-range : InRange (fileJobOf (decode f .boxes) (decode f .grocers) (decode f .offers) (decode f .tallies) (readResult f l .tables .job))
+  pub read-range : InRange (fileJobOf (decode f .head) (readResult f l .tables .job))
   read-range = in-range _ read-writable
 
   -- Beside the digits, the place of each tally's offer.
-  pub read-place : (t : ℕ) → t < decode f .tallies → getD (readResult f l .tables .tallyOffer) t 0 ≡ placeOf (fileJobOf (decode f .boxes) (decode f .grocers) (decode f .offers) (decode f .tallies) (readResult f l .tables .job)) t
+  pub read-place : (t : ℕ) → t < decode f .head .tallies → getD (readResult f l .tables .tallyOffer) t 0 ≡ placeOf (fileJobOf (decode f .head) (readResult f l .tables .job)) t
   unfolding storeRead
   read-place t h =
       ap (λ (o : ReadOutcome). getD (o .tables .tallyOffer) t 0) (read-accepted f l ok)
-      ∙ getD-overwrite (decode f .tallies) (placeOf (decode f)) (l .tallyOffer) t 0 h
+      ∙ getD-overwrite (decode f .head .tallies) (placeOf (decode f)) (l .tallyOffer) t 0 h
       ∙ sym (place-same _ (decode f) read-job (job-accepted f read-file) t h)
 
-  pub read-long : shortTables (decode f .grocers) (decode f .offers) (decode f .tallies) (readResult f l .tables .job) ≡ false
+  pub read-long : shortTables (decode f .head) (readResult f l .tables .job) ≡ false
   unfolding storeRead
-  read-long = rw (read-accepted f l ok) (tables-long _ _ _ _ (stored-long (decode f) (l .job)))
+  read-long = rw (read-accepted f l ok) (tables-long _ _ (stored-long (decode f) (l .job)))
 
   -- The writer gives back the file, byte for byte, in front of the rest of its buffer.
   pub write-read : ((p : ℕ) → getD f p 0 < 256) → (out : List ℕ) → length f ≤ length out →
-      writeResult (decode f .boxes) (decode f .grocers) (decode f .offers) (decode f .tallies) (readResult f l .tables .job) out ≡
+      writeResult (decode f .head) (readResult f l .tables .job) out ≡
       record { answer = wrote (length f); out = f ++ drop (length f) out }
   write-read bytes out room =
-      let j = decode f in
+      let h = decode f .head in
       let w = readResult f l .tables .job in
-      let e : encode (fileJobOf (j .boxes) (j .grocers) (j .offers) (j .tallies) w) ≡ f = encode-same _ j read-job ∙ accepted f bytes read-file in
-      let h : 512 * blockCount (j .offers) (j .tallies) ≤ length out = omega (arith, long f read-file) in
-      write-accepted (j .boxes) (j .grocers) (j .offers) (j .tallies) w out (job-written (j .boxes) (j .grocers) (j .offers) (j .tallies) w out read-long h read-writable)
+      let e : encode (fileJobOf h w) ≡ f = encode-same _ (decode f) read-job ∙ accepted f bytes read-file in
+      let r : 512 * blockCount h ≤ length out = omega (arith, long f read-file) in
+      write-accepted h w out (job-written h w out read-long r read-writable)
       ∙ ap (λ (x : List ℕ). record { answer = wrote (length x); out = x ++ drop (length x) out }) e

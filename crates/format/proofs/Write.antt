@@ -20,15 +20,15 @@ use Rattle.laws.proofs.Below.{any-false}
 use Rattle.format.specs.First.{firstBelow}
 use Rattle.format.specs.Bytes.{from, after, word16, bytes32}
 use Rattle.format.specs.Codes.{codeBytes}
-use Rattle.format.specs.Job.{FileJob, Offer, Tally}
-use Rattle.format.specs.Blocks.{BlockKind, header, offerBlock, grocerBlock, tallyBlock, blocks, offersAt, grocersAt, talliesAt, kindAt, blockKindNumber, records, recordSize, fieldSize}
-use Rattle.format.specs.Blocks.{headerBytes, offerBytes, tallyBytes, recordBytes, spare, firstSum, secondSum}
-use Rattle.format.specs.File.{recordByte, bodyByte, blockByte, encode, readOffer, readTally, recordAt, decode}
+use Rattle.format.specs.Job.{Head, FileJob, Offer, Tally}
+use Rattle.format.specs.Blocks.{BlockKind, header, offerBlock, grocerBlock, tallyBlock, blockCount, blocks, offersAt, grocersAt, talliesAt, kindAt}
+use Rattle.format.specs.Blocks.{blockKindNumber, records, recordSize, fieldSize, headerBytes, offerBytes, tallyBytes, recordBytes, spare, firstSum, secondSum}
+use Rattle.format.specs.File.{recordByte, bodyByte, blockByte, encode, readOffer, readTally, recordAt, readHead, decode}
 use Rattle.format.specs.Refusals.{badLength, badCount, sumsDiffer, notDue, badHeader, spareUsed, badRecord, headerRefusal, blockRefusal, fileRefusal, jobRefusal}
 use Rattle.format.proofs.Firsts.{below-none}
 use Rattle.format.proofs.Order.{file-accepted}
 use Rattle.format.proofs.Words.{word-bytes16, word-bytes32, first-cong, second-cong}
-use Rattle.format.proofs.Plan.{Sizes, kind-header, kind-offers, kind-grocers, kind-tallies, kind-same, records-same, spare-same}
+use Rattle.format.proofs.Plan.{kind-header, kind-offers, kind-grocers, kind-tallies}
 use Rattle.format.proofs.Range.{Fine, fine, in-range}
 use Rattle.format.proofs.Same.{OfferWords, TallyWords, SameWords, same-fine}
 
@@ -40,11 +40,11 @@ fields-fit grocerBlock = omega arith
 fields-fit (tallyBlock b) = omega arith
 
 -- A byte of a record's field is not spare.
-not-spare : (j : FileJob) (b : BlockKind) (r c : ℕ) → r < records j b → c < fieldSize b → spare j b (r * recordSize b + c) ≡ false
+not-spare : (h : Head) (b : BlockKind) (r c : ℕ) → r < records h b → c < fieldSize b → spare h b (r * recordSize b + c) ≡ false
 unfolding spare
-not-spare j b r c hr hc =
+not-spare h b r c hr hc =
     let l : c < recordSize b = omega (arith, fields-fit b) in
-    rw (digits-div r l, digits-mod r l, lt-leb (records j b) r hr, lt-leb (fieldSize b) c hc)
+    rw (digits-div r l, digits-mod r l, lt-leb (records h b) r hr, lt-leb (fieldSize b) c hc)
 
 -- ---- a job's file, byte by byte
 
@@ -63,46 +63,46 @@ module _ (j : FileJob) where
   body-at k q hk hq = block-at k q hk (omega arith) ∙ rw (lt-ltb q 508 hq)
 
   -- and among the records.
-  pub record-at : (k s : ℕ) → k < blocks j → s < 504 → from (encode j) (512 * k) (4 + s) ≡ recordByte j (kindAt (j .offers) k) s
+  pub record-at : (k s : ℕ) → k < blocks j → s < 504 → from (encode j) (512 * k) (4 + s) ≡ recordByte j (kindAt (j .head) k) s
   unfolding bodyByte
   record-at k s hk hs =
       let m : (4 + s) - 4 ≡ s = omega arith in
       body-at k (4 + s) hk (omega arith) ∙ rw (le-ltb (4 + s) 4 (omega arith), m)
 
   -- Byte c of record r of block k.
-  field-at : (k : ℕ) (b : BlockKind) (r c : ℕ) → k < blocks j → kindAt (j .offers) k ≡ b → r < records j b → c < fieldSize b → r * recordSize b + c < 504 → from (encode j) (512 * k)
+  field-at : (k : ℕ) (b : BlockKind) (r c : ℕ) → k < blocks j → kindAt (j .head) k ≡ b → r < records (j .head) b → c < fieldSize b → r * recordSize b + c < 504 → from (encode j) (512 * k)
       (4 + (r * recordSize b + c)) ≡ getD (recordBytes j b r) c 0
   unfolding recordByte
   field-at k b r c hk e hr hc h =
       let l : c < recordSize b = omega (arith, fields-fit b) in
-      record-at k (r * recordSize b + c) hk h ∙ rw (e, not-spare j b r c hr hc, digits-div r l, digits-mod r l)
+      record-at k (r * recordSize b + c) hk h ∙ rw (e, not-spare (j .head) b r c hr hc, digits-div r l, digits-mod r l)
 
   -- The bytes of each kind of record, where the reader looks for them.
-  header-at : (c : ℕ) → c < 8 → from (encode j) 4 c ≡ getD (headerBytes j) c 0
+  header-at : (c : ℕ) → c < 8 → from (encode j) 4 c ≡ getD (headerBytes (j .head)) c 0
   unfolding recordBytes
-  header-at c h = ap (λ (p : ℕ). getD (encode j) p 0) (omega arith) ∙ field-at 0 header 0 c (omega arith) (kind-header (j .offers)) (omega arith) h (omega arith)
+  header-at c h = ap (λ (p : ℕ). getD (encode j) p 0) (omega arith) ∙ field-at 0 header 0 c (omega arith) (kind-header (j .head)) (omega arith) h (omega arith)
 
-  offer-at : (i : ℕ) → i < j .offers → (c : ℕ) → c < 16 → from (encode j) (recordAt offersAt i) c ≡ getD (offerBytes (j .offer i)) c 0
+  offer-at : (i : ℕ) → i < j .head .offers → (c : ℕ) → c < 16 → from (encode j) (recordAt offersAt i) c ≡ getD (offerBytes (j .offer i)) c 0
   unfolding recordBytes
   offer-at i hi c hc =
       let e : 21 * (i / 21) + i % 21 ≡ i = omega arith in
       ap (λ (p : ℕ). getD (encode j) p 0) (omega arith) ∙
-      field-at (offersAt + i / 21) (offerBlock (i / 21)) (i % 21) c (omega arith) (kind-offers (j .offers) (i / 21) (omega arith)) (omega arith) hc (omega arith) ∙
+      field-at (offersAt + i / 21) (offerBlock (i / 21)) (i % 21) c (omega arith) (kind-offers (j .head) (i / 21) (omega arith)) (omega arith) hc (omega arith) ∙
       ap (λ (n : ℕ). getD (offerBytes (j .offer n)) c 0) e
 
-  tally-at : (i : ℕ) → i < j .tallies → (c : ℕ) → c < 18 → from (encode j) (recordAt (talliesAt (j .offers)) i) c ≡ getD (tallyBytes (j .tally i)) c 0
+  tally-at : (i : ℕ) → i < j .head .tallies → (c : ℕ) → c < 18 → from (encode j) (recordAt (talliesAt (j .head)) i) c ≡ getD (tallyBytes (j .tally i)) c 0
   unfolding recordBytes
   tally-at i hi c hc =
       let e : 21 * (i / 21) + i % 21 ≡ i = omega arith in
       ap (λ (p : ℕ). getD (encode j) p 0) (omega arith) ∙
-      field-at (talliesAt (j .offers) + i / 21) (tallyBlock (i / 21)) (i % 21) c (omega arith) (kind-tallies (j .offers) (i / 21)) (omega arith) hc (omega arith) ∙
+      field-at (talliesAt (j .head) + i / 21) (tallyBlock (i / 21)) (i % 21) c (omega arith) (kind-tallies (j .head) (i / 21)) (omega arith) hc (omega arith) ∙
       ap (λ (n : ℕ). getD (tallyBytes (j .tally n)) c 0) e
 
-  owner-at : j .grocers ≤ 255 → (i : ℕ) → i < j .grocers → from (encode j) (512 * grocersAt (j .offers) + 4) i ≡ j .grocerOwner i
+  owner-at : j .head .grocers ≤ 255 → (i : ℕ) → i < j .head .grocers → from (encode j) (512 * grocersAt (j .head) + 4) i ≡ j .grocerOwner i
   unfolding recordBytes
   owner-at m i hi =
       ap (λ (p : ℕ). getD (encode j) p 0) (omega arith) ∙
-      field-at (grocersAt (j .offers)) grocerBlock i 0 (omega arith) (kind-grocers (j .offers)) hi (omega arith) (omega arith)
+      field-at (grocersAt (j .head)) grocerBlock i 0 (omega arith) (kind-grocers (j .head)) hi (omega arith) (omega arith)
 
 -- The digits of a code within its record's bytes.
 offer-digit : (o : Offer) (k : ℕ) → k < 10 → getD (offerBytes o) (6 + k) 0 ≡ o .code .digit k
@@ -120,19 +120,19 @@ tally-digit t k l =
     List·getD-append d (bytes32 (ofZ w32 (t .count))) 0 k (rw length-tabulate l) ∙ getD-tabulate 10 (t .code .digit) k 0 l
 
 module _ (j : FileJob) (ok : jobRefusal j ≡ 0) where
-  size-grocers : word16 (from (encode j) 6) ≡ j .grocers
+  size-grocers : word16 (from (encode j) 6) ≡ j .head .grocers
   unfolding headerBytes
-  size-grocers = rw (header-at j 2 (omega arith), header-at j 3 (omega arith)) (word-bytes16 (j .grocers))
+  size-grocers = rw (header-at j 2 (omega arith), header-at j 3 (omega arith)) (word-bytes16 (j .head .grocers))
 
-  size-offers : word16 (from (encode j) 8) ≡ j .offers
+  size-offers : word16 (from (encode j) 8) ≡ j .head .offers
   unfolding headerBytes
-  size-offers = rw (header-at j 4 (omega arith), header-at j 5 (omega arith)) (word-bytes16 (j .offers))
+  size-offers = rw (header-at j 4 (omega arith), header-at j 5 (omega arith)) (word-bytes16 (j .head .offers))
 
-  size-tallies : word16 (from (encode j) 10) ≡ j .tallies
+  size-tallies : word16 (from (encode j) 10) ≡ j .head .tallies
   unfolding headerBytes
-  size-tallies = rw (header-at j 6 (omega arith), header-at j 7 (omega arith)) (word-bytes16 (j .tallies))
+  size-tallies = rw (header-at j 6 (omega arith), header-at j 7 (omega arith)) (word-bytes16 (j .head .tallies))
 
-  offer-read : (i : ℕ) → i < j .offers → OfferWords (readOffer (from (encode j) (recordAt offersAt i))) (j .offer i)
+  offer-read : (i : ℕ) → i < j .head .offers → OfferWords (readOffer (from (encode j) (recordAt offersAt i))) (j .offer i)
   unfolding readOffer offerBytes codeBytes
   offer-read i h =
       let o = j .offer i in
@@ -143,7 +143,7 @@ module _ (j : FileJob) (ok : jobRefusal j ≡ 0) where
         code = record { size = at 5 (omega arith); digit = λ k l. ap (from (encode j) (recordAt offersAt i)) (omega arith) ∙ at (6 + k) (omega arith) ∙ offer-digit o k l };
       }
 
-  tally-read : (i : ℕ) → i < j .tallies → TallyWords (readTally (from (encode j) (recordAt (talliesAt (j .offers)) i))) (j .tally i)
+  tally-read : (i : ℕ) → i < j .head .tallies → TallyWords (readTally (from (encode j) (recordAt (talliesAt (j .head)) i))) (j .tally i)
   unfolding readTally tallyBytes codeBytes tabulate
   tally-read i h =
       let t = j .tally i in
@@ -151,25 +151,27 @@ module _ (j : FileJob) (ok : jobRefusal j ≡ 0) where
       record {
         grocer = rw (at 0 (omega arith), at 1 (omega arith)) (word-bytes16 (t .grocer));
         box = at 2 (omega arith);
-        code = record { size = at 3 (omega arith); digit = λ k l. ap (from (encode j) (recordAt (talliesAt (j .offers)) i)) (omega arith) ∙ at (4 + k) (omega arith) ∙ tally-digit t k l };
+        code = record { size = at 3 (omega arith); digit = λ k l. ap (from (encode j) (recordAt (talliesAt (j .head)) i)) (omega arith) ∙ at (4 + k) (omega arith) ∙ tally-digit t k l };
         count =
             rw (at 14 (omega arith), at 15 (omega arith), at 16 (omega arith), at 17 (omega arith), word-bytes32 (ofZ w32 (t .count)))
             (read32-abs (t .count) (let b = in-range j ok .tally i h .count in omega arith));
       }
 
-  sizes-read : Sizes (decode (encode j)) j
-  unfolding decode headerBytes
-  sizes-read = record { boxes = header-at j 0 (omega arith); grocers = size-grocers; offers = size-offers; tallies = size-tallies }
+  head-read : readHead (encode j) ≡ j .head
+  unfolding readHead headerBytes
+  head-read =
+      let b = header-at j 0 (omega arith) in
+      λ i. record { boxes = b i; grocers = size-grocers i; offers = size-offers i; tallies = size-tallies i }
 
   -- The job that a written job's file says has the job's words, digits as written.
   pub read-back : SameWords (decode (encode j)) j
   unfolding decode
   read-back =
       record {
-        sizes = sizes-read;
+        head = head-read;
         offer = offer-read;
-        grocerOwner = λ i h. rw size-offers (owner-at j (in-range j ok .sizes .grocers-most) i h);
-        tally = λ i h. rw size-offers (tally-read i h);
+        grocerOwner = λ i h. rw head-read (owner-at j (in-range j ok .sizes .grocers-most) i h);
+        tally = λ i h. rw head-read (tally-read i h);
       }
 
   -- ---- the checks
@@ -190,40 +192,40 @@ module _ (j : FileJob) (ok : jobRefusal j ≡ 0) where
   unfolding sumsDiffer
   sums-fine k h = rw (eq-eqb _ _ (first-is k h), eq-eqb _ _ (second-is k h))
 
-  kind-is : (k : ℕ) → kindAt (decode (encode j) .offers) k ≡ kindAt (j .offers) k
-  kind-is = kind-same (decode (encode j)) j sizes-read
+  head-is : decode (encode j) .head ≡ j .head
+  head-is = read-back .head
 
-  due-fine : (k : ℕ) → k < blocks j → notDue (decode (encode j)) k (from (encode j) (512 * k)) ≡ false
+  due-fine : (k : ℕ) → k < blocks j → notDue (decode (encode j) .head) k (from (encode j) (512 * k)) ≡ false
   unfolding notDue bodyByte
-  due-fine k h = rw (kind-is k, eq-eqb _ _ kind-due, eq-eqb _ _ number-due, eq-eqb _ _ count-due)
+  due-fine k h = rw (head-is, eq-eqb _ _ kind-due, eq-eqb _ _ number-due, eq-eqb _ _ count-due)
     where
-      kind-due : from (encode j) (512 * k) 0 ≡ blockKindNumber (kindAt (j .offers) k)
+      kind-due : from (encode j) (512 * k) 0 ≡ blockKindNumber (kindAt (j .head) k)
       kind-due = body-at j k 0 h (omega arith)
 
       number-due : word16 (after (from (encode j) (512 * k)) 2) ≡ k
       number-due = rw (body-at j k 2 h (omega arith), body-at j k 3 h (omega arith)) (word-bytes16 k)
 
-      count-due : from (encode j) (512 * k) 1 ≡ records (decode (encode j)) (kindAt (j .offers) k)
-      count-due = body-at j k 1 h (omega arith) ∙ sym (records-same (decode (encode j)) j sizes-read (kindAt (j .offers) k))
+      count-due : from (encode j) (512 * k) 1 ≡ records (j .head) (kindAt (j .head) k)
+      count-due = body-at j k 1 h (omega arith)
 
   -- A spare byte is written 0.
-  spare-clear : (k s : ℕ) → k < blocks j → s < 504 → (spare j (kindAt (j .offers) k) s && not (eqb (from (encode j) (512 * k) (4 + s)) 0)) ≡ false
+  spare-clear : (k s : ℕ) → k < blocks j → s < 504 → (spare (j .head) (kindAt (j .head) k) s && not (eqb (from (encode j) (512 * k) (4 + s)) 0)) ≡ false
   unfolding recordByte
   spare-clear k s hk hs =
-      split (spare j (kindAt (j .offers) k) s)
+      split (spare (j .head) (kindAt (j .head) k) s)
       (λ e. let z : from (encode j) (512 * k) (4 + s) ≡ 0 = record-at j k s hk hs ∙ rw e in rw (e, z))
       (λ e. rw e)
 
-  spare-fine : (k : ℕ) → k < blocks j → spareUsed (decode (encode j)) k (from (encode j) (512 * k)) ≡ false
+  spare-fine : (k : ℕ) → k < blocks j → spareUsed (decode (encode j) .head) k (from (encode j) (512 * k)) ≡ false
   unfolding spareUsed
   spare-fine k h =
-      any-false _ _ (λ s l. rw (kind-is k, spare-same (decode (encode j)) j sizes-read (kindAt (j .offers) k) s) (spare-clear k s h l))
+      any-false _ _ (λ s l. rw head-is (spare-clear k s h l))
 
   -- The job that the file says is not refused.
   read-fine : Fine (decode (encode j))
   read-fine = fine (decode (encode j)) (same-fine (decode (encode j)) j read-back ok)
 
-  record-fine : (b : BlockKind) (r : ℕ) → r < records (decode (encode j)) b → badRecord (decode (encode j)) b r ≡ false
+  record-fine : (b : BlockKind) (r : ℕ) → r < records (decode (encode j) .head) b → badRecord (decode (encode j)) b r ≡ false
   unfolding badRecord
   record-fine header r h = refl
   record-fine (offerBlock b) r h = read-fine .offer (21 * b + r) (omega arith)
@@ -233,7 +235,7 @@ module _ (j : FileJob) (ok : jobRefusal j ≡ 0) where
   block-fine : (k : ℕ) → k < blocks j → blockRefusal (encode j) k ≡ 0
   unfolding blockRefusal
   block-fine k h =
-      none-met _ (sums-fine k h, (due-fine k h, (spare-fine k h, (any-false _ _ (record-fine (kindAt (decode (encode j) .offers) k)), tt))))
+      none-met _ (sums-fine k h, (due-fine k h, (spare-fine k h, (any-false _ _ (record-fine (kindAt (decode (encode j) .head) k)), tt))))
 
   mark-is : getD (encode j) 5 0 ≡ 1
   unfolding headerBytes
@@ -257,7 +259,7 @@ module _ (j : FileJob) (ok : jobRefusal j ≡ 0) where
       rw (ne-eqb (length (encode j)) 0 (omega arith), z, le-ltb (512 * 74) (length (encode j)) (omega arith))
 
   blocks-is : blocks (decode (encode j)) ≡ blocks j
-  blocks-is = let s = sizes-read in rw (s .offers, s .tallies)
+  blocks-is = ap blockCount head-is
 
   count-fine : badCount (encode j) ≡ false
   unfolding badCount

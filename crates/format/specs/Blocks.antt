@@ -1,14 +1,14 @@
 -- Blocks of 512 bytes: what block k of a job's file holds, and which of its bytes are spare.
-use Prim.Native.Nat.{ℕ, _+_, _*_, _-_, _/_, _%_, min}
 use mathlib.Core.Bool.{Bool, cond, _||_}
 use mathlib.Core.List.{List, [], _∷_, _++_}
+use Prim.Native.Nat.{ℕ, _+_, _*_, _-_, _/_, _%_, min}
 use lib.Dec.{leb, ltb}
 use mir.Syntax.{w32}
 use mir.Val.{ofZ}
 use Rattle.laws.specs.Below.{naturals, sum}
 use Rattle.format.specs.Bytes.{bytes16, bytes32}
 use Rattle.format.specs.Codes.{codeBytes}
-use Rattle.format.specs.Job.{FileJob, Offer, Tally}
+use Rattle.format.specs.Job.{Head, FileJob, Offer, Tally}
 
 -- The kinds of block; an offer and a tally block with its place among those of its kind.
 pub data BlockKind : Type 0 where
@@ -25,29 +25,29 @@ blocksFor n = (n + 20) / 21
 abbrev pub offersAt : ℕ
 offersAt = 1
 
--- The grocer block, after the blocks of n offers.
-abbrev pub grocersAt : ℕ → ℕ
-grocersAt n = offersAt + blocksFor n
+-- The grocer block, after the offer blocks.
+abbrev pub grocersAt : Head → ℕ
+grocersAt h = offersAt + blocksFor (h .offers)
 
 -- The first tally block, after the one grocer block.
-abbrev pub talliesAt : ℕ → ℕ
-talliesAt n = grocersAt n + 1
+abbrev pub talliesAt : Head → ℕ
+talliesAt h = grocersAt h + 1
 
--- How many blocks a file of n offers and t tallies has; "T = 0 has no tally block".
-abbrev pub blockCount : ℕ → ℕ → ℕ
-blockCount n t = talliesAt n + blocksFor t
+-- How many blocks a file has; "T = 0 has no tally block".
+abbrev pub blockCount : Head → ℕ
+blockCount h = talliesAt h + blocksFor (h .tallies)
 
 -- How many blocks a job's file has.
 abbrev pub blocks : FileJob → ℕ
-blocks j = blockCount (j .offers) (j .tallies)
+blocks j = blockCount (j .head)
 
--- What block k of a file of n offers is, by the plan.
-unfoldable pub kindAt : ℕ → ℕ → BlockKind
-kindAt n k =
+-- What block k of a file is, by the plan.
+unfoldable pub kindAt : Head → ℕ → BlockKind
+kindAt h k =
     cond (ltb k offersAt) header
-    (cond (ltb k (grocersAt n)) (offerBlock (k - offersAt))
-    (cond (ltb k (talliesAt n)) grocerBlock
-    (tallyBlock (k - talliesAt n))))
+    (cond (ltb k (grocersAt h)) (offerBlock (k - offersAt))
+    (cond (ltb k (talliesAt h)) grocerBlock
+    (tallyBlock (k - talliesAt h))))
 
 -- "Byte 0 kind (0 header, 1 offers, 2 grocers, 3 tallies)"
 abbrev pub blockKindNumber : BlockKind → ℕ
@@ -57,11 +57,11 @@ blockKindNumber grocerBlock = 2
 blockKindNumber (tallyBlock b) = 3
 
 -- "byte 1 number of records"
-abbrev pub records : FileJob → BlockKind → ℕ
-records j header = 1
-records j (offerBlock b) = min 21 (j .offers - 21 * b)
-records j grocerBlock = j .grocers
-records j (tallyBlock b) = min 21 (j .tallies - 21 * b)
+abbrev pub records : Head → BlockKind → ℕ
+records h header = 1
+records h (offerBlock b) = min 21 (h .offers - 21 * b)
+records h grocerBlock = h .grocers
+records h (tallyBlock b) = min 21 (h .tallies - 21 * b)
 
 -- "Offer and tally records have 24 bytes (21 a block), grocer records one byte"; the header's one record has all 504.
 abbrev pub recordSize : BlockKind → ℕ
@@ -78,8 +78,8 @@ fieldSize grocerBlock = 1
 fieldSize (tallyBlock b) = 18
 
 -- "byte 4 K, byte 5 always 1, bytes 6–7 M, 8–9 N, 10–11 T"
-unfoldable pub headerBytes : FileJob → List ℕ
-headerBytes j = j .boxes ∷ 1 ∷ bytes16 (j .grocers) ++ bytes16 (j .offers) ++ bytes16 (j .tallies)
+unfoldable pub headerBytes : Head → List ℕ
+headerBytes h = h .boxes ∷ 1 ∷ bytes16 (h .grocers) ++ bytes16 (h .offers) ++ bytes16 (h .tallies)
 
 -- "Offer: 0–3 price, 4 owner, 5 digit count, 6–15 digits."
 unfoldable pub offerBytes : Offer → List ℕ
@@ -91,14 +91,14 @@ tallyBytes t = bytes16 (t .grocer) ++ t .box ∷ codeBytes (t .code) ++ bytes32 
 
 -- The fields of record r of a block; "Grocer: owner."
 unfoldable pub recordBytes : FileJob → BlockKind → ℕ → List ℕ
-recordBytes j header r = headerBytes j
+recordBytes j header r = headerBytes (j .head)
 recordBytes j (offerBlock b) r = offerBytes (j .offer (21 * b + r))
 recordBytes j grocerBlock r = j .grocerOwner r ∷ []
 recordBytes j (tallyBlock b) r = tallyBytes (j .tally (21 * b + r))
 
 -- "A byte of 4–507 outside every field named here is spare and 0": byte 4 + s, past the block's records or past a record's fields.
-unfoldable pub spare : FileJob → BlockKind → ℕ → Bool
-spare j b s = leb (records j b) (s / recordSize b) || leb (fieldSize b) (s % recordSize b)
+unfoldable pub spare : Head → BlockKind → ℕ → Bool
+spare h b s = leb (records h b) (s / recordSize b) || leb (fieldSize b) (s % recordSize b)
 
 -- "The first sum is bytes 0–507 added modulo 65,521"
 unfoldable pub firstSum : (ℕ → ℕ) → ℕ

@@ -1,7 +1,7 @@
 -- A job's file, and the job that a file says.
-use Prim.Native.Nat.{ℕ, _+_, _*_, _-_, _/_, _%_}
 use mathlib.Core.Bool.{cond}
 use mathlib.Core.List.{List, _∷_, _++_}
+use Prim.Native.Nat.{ℕ, _+_, _*_, _-_, _/_, _%_}
 use lib.Dec.{ltb}
 use lib.ListN.{getD}
 use mir.Syntax.{w32}
@@ -9,19 +9,19 @@ use mir.Val.{toZ}
 use Rattle.laws.specs.Tables.{tabulate}
 use Rattle.format.specs.Bytes.{from, after, word16, word32, bytes16}
 use Rattle.format.specs.Codes.{readCode}
-use Rattle.format.specs.Job.{FileJob, Offer, Tally}
-use Rattle.format.specs.Blocks.{BlockKind, blocks, offersAt, grocersAt, talliesAt, kindAt, blockKindNumber}
-use Rattle.format.specs.Blocks.{records, recordSize, recordBytes, spare, firstSum, secondSum}
+use Rattle.format.specs.Job.{Head, FileJob, Offer, Tally}
+use Rattle.format.specs.Blocks.{BlockKind, blocks, offersAt, grocersAt, talliesAt, kindAt}
+use Rattle.format.specs.Blocks.{blockKindNumber, records, recordSize, recordBytes, spare, firstSum, secondSum}
 
 -- Byte 4 + s of a block: a byte of a record's field, or a spare 0.
 unfoldable pub recordByte : FileJob → BlockKind → ℕ → ℕ
-recordByte j b s = cond (spare j b s) 0 (getD (recordBytes j b (s / recordSize b)) (s % recordSize b) 0)
+recordByte j b s = cond (spare (j .head) b s) 0 (getD (recordBytes j b (s / recordSize b)) (s % recordSize b) 0)
 
 -- Byte p of block k, below 508: "Byte 0 kind, byte 1 number of records, bytes 2–3 block number, bytes 4–507 records".
 unfoldable pub bodyByte : FileJob → ℕ → ℕ → ℕ
 bodyByte j k p =
-    let b = kindAt (j .offers) k in
-    cond (ltb p 4) (getD (blockKindNumber b ∷ records j b ∷ bytes16 k) p 0) (recordByte j b (p - 4))
+    let b = kindAt (j .head) k in
+    cond (ltb p 4) (getD (blockKindNumber b ∷ records (j .head) b ∷ bytes16 k) p 0) (recordByte j b (p - 4))
 
 -- Byte p of a block whose first 508 are g: "508–509 first sum, 510–511 second sum".
 unfoldable pub blockByte : (ℕ → ℕ) → ℕ → ℕ
@@ -43,16 +43,17 @@ readTally g = record { grocer = word16 g; box = g 2; code = readCode (after g 3)
 abbrev pub recordAt : ℕ → ℕ → ℕ
 recordAt k i = 512 * (k + i / 21) + 4 + 24 * (i % 21)
 
+-- The numbers that a file's header says: headerBytes the other way round.
+unfoldable pub readHead : List ℕ → Head
+readHead f = record { boxes = getD f 4 0; grocers = word16 (from f 6); offers = word16 (from f 8); tallies = word16 (from f 10) }
+
 -- The job that a file says, whatever its bytes are.
 unfoldable pub decode : List ℕ → FileJob
 decode f =
-    let n = word16 (from f 8) in
+    let h = readHead f in
     record {
-      boxes = getD f 4 0;
-      grocers = word16 (from f 6);
-      offers = n;
-      tallies = word16 (from f 10);
+      head = h;
       offer = λ i. readOffer (from f (recordAt offersAt i));
-      grocerOwner = from f (512 * grocersAt n + 4);
-      tally = λ i. readTally (from f (recordAt (talliesAt n) i));
+      grocerOwner = from f (512 * grocersAt h + 4);
+      tally = λ i. readTally (from f (recordAt (talliesAt h) i));
     }

@@ -10,99 +10,144 @@ use Rattle.laws.specs.Tables.{overwrite, recell}
 use Rattle.format.specs.First.{firstOf}
 use Rattle.format.specs.Bytes.{from}
 use Rattle.format.specs.Codes.{Code, readCode, codeBytes}
-use Rattle.format.specs.Job.{FileJob, placeOf}
+use Rattle.format.specs.Limits.{maxBoxes, maxGrocers, maxOffers, maxTallies}
+use Rattle.format.specs.Job.{Head, headOf, FileJob, Offer, Tally, placeOf}
 use Rattle.format.specs.Blocks.{blockCount}
 use Rattle.format.specs.File.{encode, decode}
 use Rattle.format.specs.Refusals.{fileRefusal, jobRefusal}
 
--- The job's tables with its codes; a code takes eleven bytes, as in the file.
-pub record FileTables : Type 0 where
+-- The offers' tables; a code takes eleven bytes, as in the file.
+pub record OfferTables : Type 0 where
   pub price : List ℕ
-  pub offerOwner : List ℕ
-  pub offerCode : List ℕ
+  pub owner : List ℕ
+  pub code : List ℕ
+
+-- The tallies' tables.
+pub record TallyTables : Type 0 where
+  pub grocer : List ℕ
+  pub box : List ℕ
+  pub code : List ℕ
+  pub count : List ℤ
+
+-- The job's tables with its codes.
+pub record FileTables : Type 0 where
+  pub offers : OfferTables
   pub grocerOwner : List ℕ
-  pub tallyGrocer : List ℕ
-  pub tallyBox : List ℕ
-  pub tallyCode : List ℕ
-  pub tallyCount : List ℤ
+  pub tallies : TallyTables
 
 -- What the reader is lent: these tables, and one for "the place of its offer as the reader found it".
 pub record ReaderTables : Type 0 where
   pub job : FileTables
   pub tallyOffer : List ℕ
 
+-- The offers' lent lists as tables.
+abbrev pub offerTables : (price owner code : List ℕ) → OfferTables
+offerTables p o c = record { price = p; owner = o; code = c }
+
+-- The tallies' lent lists as tables.
+abbrev pub tallyTables : (grocer box code : List ℕ) → List ℤ → TallyTables
+tallyTables g b c n = record { grocer = g; box = b; code = c; count = n }
+
 -- The lent lists as tables.
 abbrev pub fileTables : (price offerOwner offerCode grocerOwner tallyGrocer tallyBox tallyCode : List ℕ) → List ℤ → FileTables
-fileTables p o c g tg tb tc n =
-    record { price = p; offerOwner = o; offerCode = c; grocerOwner = g; tallyGrocer = tg; tallyBox = tb; tallyCode = tc; tallyCount = n }
+fileTables p o c g tg tb tc n = record { offers = offerTables p o c; grocerOwner = g; tallies = tallyTables tg tb tc n }
 
 -- The reader's lent lists as tables.
 abbrev pub readerTables : FileTables → (tallyOffer : List ℕ) → ReaderTables
 readerTables j p = record { job = j; tallyOffer = p }
 
--- 20: a table "shorter than K, M, N and T as given need", for m grocers, n offers and t tallies.
-unfoldable pub shortTables : ℕ → ℕ → ℕ → FileTables → Bool
-shortTables m n t l =
+-- 20 of the tables of n offers: one is shorter than they need.
+unfoldable pub shortOffers : ℕ → OfferTables → Bool
+shortOffers n l = anyOf (ltb (length (l .price)) n ∷ ltb (length (l .owner)) n ∷ ltb (length (l .code)) (n * 11) ∷ [])
+
+-- 20 of the tables of t tallies.
+unfoldable pub shortTallies : ℕ → TallyTables → Bool
+shortTallies t l =
     anyOf (
-    ltb (length (l .price)) n ∷ ltb (length (l .offerOwner)) n ∷ ltb (length (l .offerCode)) (n * 11) ∷
-    ltb (length (l .grocerOwner)) m ∷
-    ltb (length (l .tallyGrocer)) t ∷ ltb (length (l .tallyBox)) t ∷ ltb (length (l .tallyCode)) (t * 11) ∷ ltb (length (l .tallyCount)) t ∷ [])
+    ltb (length (l .grocer)) t ∷ ltb (length (l .box)) t ∷ ltb (length (l .code)) (t * 11) ∷ ltb (length (l .count)) t ∷ [])
+
+-- 20: a table "shorter than K, M, N and T as given need".
+unfoldable pub shortTables : Head → FileTables → Bool
+shortTables h l =
+    anyOf (
+    shortOffers (h .offers) (l .offers) ∷ ltb (length (l .grocerOwner)) (h .grocers) ∷ shortTallies (h .tallies) (l .tallies) ∷ [])
+
+-- Each of the offers' tables has the words that n offers need.
+pub record LongOffers (n : ℕ) (l : OfferTables) : Type 0 where
+  pub price : n ≤ length (l .price)
+  pub owner : n ≤ length (l .owner)
+  pub code : n * 11 ≤ length (l .code)
+
+-- Each of the tallies' tables has the words that t tallies need.
+pub record LongTallies (t : ℕ) (l : TallyTables) : Type 0 where
+  pub grocer : t ≤ length (l .grocer)
+  pub box : t ≤ length (l .box)
+  pub code : t * 11 ≤ length (l .code)
+  pub count : t ≤ length (l .count)
 
 -- Each table has the words that K, M, N and T need.
-pub record Long (m n t : ℕ) (l : FileTables) : Type 0 where
-  pub price : n ≤ length (l .price)
-  pub offerOwner : n ≤ length (l .offerOwner)
-  pub offerCode : n * 11 ≤ length (l .offerCode)
-  pub grocerOwner : m ≤ length (l .grocerOwner)
-  pub tallyGrocer : t ≤ length (l .tallyGrocer)
-  pub tallyBox : t ≤ length (l .tallyBox)
-  pub tallyCode : t * 11 ≤ length (l .tallyCode)
-  pub tallyCount : t ≤ length (l .tallyCount)
+pub record Long (h : Head) (l : FileTables) : Type 0 where
+  pub offers : LongOffers (h .offers) (l .offers)
+  pub grocerOwner : h .grocers ≤ length (l .grocerOwner)
+  pub tallies : LongTallies (h .tallies) (l .tallies)
+
+-- Code i of a table of eleven bytes each.
+abbrev pub codeOf : List ℕ → ℕ → Code
+codeOf l i = readCode (from l (i * 11))
+
+-- Offer i of the offers' tables.
+abbrev pub offerOf : OfferTables → ℕ → Offer
+offerOf l i = record { price = getD (l .price) i 0; owner = getD (l .owner) i 0; code = codeOf (l .code) i }
+
+-- Tally i of the tallies' tables.
+abbrev pub tallyOf : TallyTables → ℕ → Tally
+tallyOf l i =
+    record { grocer = getD (l .grocer) i 0; box = getD (l .box) i 0; code = codeOf (l .code) i; count = getD (l .count) i (pos 0) }
 
 -- The job that tables hold, for K, M, N and T as given: digits as written, "and not the place".
-unfoldable pub fileJobOf : ℕ → ℕ → ℕ → ℕ → FileTables → FileJob
-fileJobOf k m n t l =
-    record {
-      boxes = k;
-      grocers = m;
-      offers = n;
-      tallies = t;
-      offer = λ i. record { price = getD (l .price) i 0; owner = getD (l .offerOwner) i 0; code = readCode (from (l .offerCode) (i * 11)) };
-      grocerOwner = λ i. getD (l .grocerOwner) i 0;
-      tally =
-          λ i. record {
-            grocer = getD (l .tallyGrocer) i 0;
-            box = getD (l .tallyBox) i 0;
-            code = readCode (from (l .tallyCode) (i * 11));
-            count = getD (l .tallyCount) i (pos 0);
-          };
-    }
+unfoldable pub fileJobOf : Head → FileTables → FileJob
+fileJobOf h l =
+    record { head = h; offer = offerOf (l .offers); grocerOwner = λ i. getD (l .grocerOwner) i 0; tally = tallyOf (l .tallies) }
 
 -- n codes written into a table of eleven bytes each.
 unfoldable pub storeCodes : ℕ → (ℕ → Code) → List ℕ → List ℕ
 storeCodes n code l = recell n 11 (λ i p. getD (codeBytes (code i)) p 0) l
 
+-- n offers written into their tables.
+unfoldable pub storeOffers : ℕ → (ℕ → Offer) → OfferTables → OfferTables
+storeOffers n offer l =
+    record {
+      price = overwrite n (λ i. offer i .price) (l .price);
+      owner = overwrite n (λ i. offer i .owner) (l .owner);
+      code = storeCodes n (λ i. offer i .code) (l .code);
+    }
+
+-- t tallies written into their tables.
+unfoldable pub storeTallies : ℕ → (ℕ → Tally) → TallyTables → TallyTables
+storeTallies t tally l =
+    record {
+      grocer = overwrite t (λ i. tally i .grocer) (l .grocer);
+      box = overwrite t (λ i. tally i .box) (l .box);
+      code = storeCodes t (λ i. tally i .code) (l .code);
+      count = overwrite t (λ i. tally i .count) (l .count);
+    }
+
 -- A job written into tables; "Words past the needed length are not touched."
 unfoldable pub store : FileJob → FileTables → FileTables
 store j l =
     record {
-      price = overwrite (j .offers) (λ i. j .offer i .price) (l .price);
-      offerOwner = overwrite (j .offers) (λ i. j .offer i .owner) (l .offerOwner);
-      offerCode = storeCodes (j .offers) (λ i. j .offer i .code) (l .offerCode);
-      grocerOwner = overwrite (j .grocers) (j .grocerOwner) (l .grocerOwner);
-      tallyGrocer = overwrite (j .tallies) (λ i. j .tally i .grocer) (l .tallyGrocer);
-      tallyBox = overwrite (j .tallies) (λ i. j .tally i .box) (l .tallyBox);
-      tallyCode = storeCodes (j .tallies) (λ i. j .tally i .code) (l .tallyCode);
-      tallyCount = overwrite (j .tallies) (λ i. j .tally i .count) (l .tallyCount);
+      offers = storeOffers (j .head .offers) (j .offer) (l .offers);
+      grocerOwner = overwrite (j .head .grocers) (j .grocerOwner) (l .grocerOwner);
+      tallies = storeTallies (j .head .tallies) (j .tally) (l .tallies);
     }
 
 -- The reader's tables once it has accepted a job: its words, and for each tally the place of its offer.
 unfoldable pub storeRead : FileJob → ReaderTables → ReaderTables
-storeRead j l = record { job = store j (l .job); tallyOffer = overwrite (j .tallies) (placeOf j) (l .tallyOffer) }
+storeRead j l = record { job = store j (l .job); tallyOffer = overwrite (j .head .tallies) (placeOf j) (l .tallyOffer) }
 
 -- What the reader answers: K, M, N and T, or a refusal's number.
 pub data ReadAnswer : Type 0 where
-  sizes : (boxes grocers offers tallies : ℕ) → ReadAnswer
+  sizes : (head : Head) → ReadAnswer
   refused : (number : ℕ) → ReadAnswer
 
 -- The reader's answer with its tables as they are afterwards.
@@ -110,9 +155,13 @@ pub record ReadOutcome : Type 0 where
   pub answer : ReadAnswer
   pub tables : ReaderTables
 
--- 20 of the reader: a table "shorter than the largest job needs", which has 255 grocers, 500 offers and 1,000 tallies.
+-- The head of the largest job: 16 boxes, 255 grocers, 500 offers and 1,000 tallies.
+abbrev pub largest : Head
+largest = headOf maxBoxes maxGrocers maxOffers maxTallies
+
+-- 20 of the reader: a table "shorter than the largest job needs".
 unfoldable pub shortReader : ReaderTables → Bool
-shortReader l = shortTables 255 500 1_000 (l .job) || ltb (length (l .tallyOffer)) 1_000
+shortReader l = shortTables largest (l .job) || ltb (length (l .tallyOffer)) maxTallies
 
 -- The reader's refusal: 20 before the file is looked at, then the file's.
 unfoldable pub readRefusal : List ℕ → ReaderTables → ℕ
@@ -124,7 +173,7 @@ readResult f l =
     let j = decode f in
     let r = readRefusal f l in
     cond (eqb r 0)
-    (record { answer = sizes (j .boxes) (j .grocers) (j .offers) (j .tallies); tables = storeRead j l })
+    (record { answer = sizes (j .head); tables = storeRead j l })
     (record { answer = refused r; tables = l })
 
 -- What the writer answers: the file's length, or a refusal's number.
@@ -138,18 +187,18 @@ pub record WriteOutcome : Type 0 where
   pub out : List ℕ
 
 -- 20 of the writer: a table, or the buffer for the file, shorter than K, M, N and T as given need.
-unfoldable pub shortWriter : ℕ → ℕ → ℕ → FileTables → List ℕ → Bool
-shortWriter m n t l out = shortTables m n t l || ltb (length out) (512 * blockCount n t)
+unfoldable pub shortWriter : Head → FileTables → List ℕ → Bool
+shortWriter h l out = shortTables h l || ltb (length out) (512 * blockCount h)
 
 -- The writer's refusal: 20, then the job's.
-unfoldable pub writeRefusal : ℕ → ℕ → ℕ → ℕ → FileTables → List ℕ → ℕ
-writeRefusal k m n t l out = firstOf (firstMet ((shortWriter m n t l out, 20) ∷ []) ∷ jobRefusal (fileJobOf k m n t l) ∷ [])
+unfoldable pub writeRefusal : Head → FileTables → List ℕ → ℕ
+writeRefusal h l out = firstOf (firstMet ((shortWriter h l out, 20) ∷ []) ∷ jobRefusal (fileJobOf h l) ∷ [])
 
 -- What the writer gives: the file in front of the rest of the buffer, or the buffer as it was.
-unfoldable pub writeResult : ℕ → ℕ → ℕ → ℕ → FileTables → List ℕ → WriteOutcome
-writeResult k m n t l out =
-    let file = encode (fileJobOf k m n t l) in
-    let r = writeRefusal k m n t l out in
+unfoldable pub writeResult : Head → FileTables → List ℕ → WriteOutcome
+writeResult h l out =
+    let file = encode (fileJobOf h l) in
+    let r = writeRefusal h l out in
     cond (eqb r 0)
     (record { answer = wrote (length file); out = file ++ drop (length file) out })
     (record { answer = notWritten r; out = out })

@@ -17,7 +17,7 @@ use Rattle.model.specs.Words.{ownerWords, messageCount, stepCount}
 use Rattle.model.specs.Tables.{JobTables, jobOf}
 use Rattle.model.specs.Cases.{jobE}
 use Rattle.format.specs.Codes.{isPlace, isCode, value, codeNumber, written, dropZeros, sameOffer}
-use Rattle.format.specs.Job.{FileJob, badSizes, badOffer, badOwner, badTally, badRecords, names, placeOf, shared, unnamed}
+use Rattle.format.specs.Job.{Head, FileJob, badSizes, badOffer, badOwner, badTally, badRecords, names, placeOf, shared, unnamed}
 use Rattle.format.specs.Blocks.{firstSum, secondSum}
 use Rattle.format.specs.File.{encode, decode}
 use Rattle.format.specs.Refusals.{jobRefusal, fileRefusal}
@@ -141,9 +141,9 @@ module _ (j k : FileJob) (s : SameWords j k) (ok : jobRefusal k ≡ 0) (a b : Jo
   same-job : jobOf a ≡ jobOf b
   unfolding jobOf
   same-job =
-      let eo = size (p .offers) (s .sizes .offers) (q .offers) in
-      let eg = size (p .grocers) (s .sizes .grocers) (q .grocers) in
-      let et = size (p .tallies) (s .sizes .tallies) (q .tallies) in
+      let eo = size (p .offers) (ap (λ (h : Head). h .offers) (s .head)) (q .offers) in
+      let eg = size (p .grocers) (ap (λ (h : Head). h .grocers) (s .head)) (q .grocers) in
+      let et = size (p .tallies) (ap (λ (h : Head). h .tallies) (s .head)) (q .tallies) in
       let price = words-same (a .offers) (b .offers) (a .price) (b .price) 0 eo (λ i l. p .price i (first-offer i l) ∙ s .offer i (offer-in i l) .price ∙ sym (q .price i (offer-in i l))) in
       let offerOwner = words-same (a .offers) (b .offers) (a .offerOwner) (b .offerOwner) 0 eo (λ i l. p .offerOwner i (first-offer i l) ∙ s .offer i (offer-in i l) .owner ∙ sym (q .offerOwner i (offer-in i l))) in
       let grocerOwner = words-same (a .grocers) (b .grocers) (a .grocerOwner) (b .grocerOwner) 0 eg (λ i l. p .grocerOwner i (first-grocer i l) ∙ s .grocerOwner i (grocer-in i l) ∙ sym (q .grocerOwner i (grocer-in i l))) in
@@ -152,7 +152,7 @@ module _ (j k : FileJob) (s : SameWords j k) (ok : jobRefusal k ≡ 0) (a b : Jo
       let tallyOffer = words-same (a .tallies) (b .tallies) (a .tallyOffer) (b .tallyOffer) 0 et (λ i l. p .tallyOffer i (first-tally i l) ∙ place-same j k s ok i (tally-in i l) ∙ sym (q .tallyOffer i (tally-in i l))) in
       let tallyCount = words-same (a .tallies) (b .tallies) (a .tallyCount) (b .tallyCount) (pos 0) et (λ i l. p .tallyCount i (first-tally i l) ∙ s .tally i (tally-in i l) .count ∙ sym (q .tallyCount i (tally-in i l))) in
       λ i. record {
-        boxes = size (p .boxes) (s .sizes .boxes) (q .boxes) i;
+        boxes = size (p .boxes) (ap (λ (h : Head). h .boxes) (s .head)) (q .boxes) i;
         grocers = eg i;
         offers = eo i;
         tallies = et i;
@@ -165,23 +165,23 @@ module _ (j k : FileJob) (s : SameWords j k) (ok : jobRefusal k ≡ 0) (a b : Jo
         tallyCount = tallyCount i;
       }
     where
-      first-offer : (i : ℕ) → i < a .offers → i < j .offers
+      first-offer : (i : ℕ) → i < a .offers → i < j .head .offers
       first-offer i l = omega (arith, p .offers)
 
-      offer-in : (i : ℕ) → i < a .offers → i < k .offers
-      offer-in i l = omega (arith, p .offers, s .sizes .offers)
+      offer-in : (i : ℕ) → i < a .offers → i < k .head .offers
+      offer-in i l = omega (arith, p .offers, ap (λ (h : Head). h .offers) (s .head))
 
-      first-grocer : (i : ℕ) → i < a .grocers → i < j .grocers
+      first-grocer : (i : ℕ) → i < a .grocers → i < j .head .grocers
       first-grocer i l = omega (arith, p .grocers)
 
-      grocer-in : (i : ℕ) → i < a .grocers → i < k .grocers
-      grocer-in i l = omega (arith, p .grocers, s .sizes .grocers)
+      grocer-in : (i : ℕ) → i < a .grocers → i < k .head .grocers
+      grocer-in i l = omega (arith, p .grocers, ap (λ (h : Head). h .grocers) (s .head))
 
-      first-tally : (i : ℕ) → i < a .tallies → i < j .tallies
+      first-tally : (i : ℕ) → i < a .tallies → i < j .head .tallies
       first-tally i l = omega (arith, p .tallies)
 
-      tally-in : (i : ℕ) → i < a .tallies → i < k .tallies
-      tally-in i l = omega (arith, p .tallies, s .sizes .tallies)
+      tally-in : (i : ℕ) → i < a .tallies → i < k .head .tallies
+      tally-in i l = omega (arith, p .tallies, ap (λ (h : Head). h .tallies) (s .head))
 
 -- The job that the reader leaves of E's file is E.
 e-same : jobOf (jobRead (encode fileE) blankJob) ≡ jobOf jobE
@@ -198,7 +198,7 @@ e-printed : printed (encode fileE) ≡ textE
 unfolding fileE plainSum
 e-printed =
     settle .accepted (encode fileE) e-accepted
-    ∙ text-same (read-back fileE e-written .sizes .grocers) (fun-ext e-amount)
+    ∙ text-same (ap (λ (h : Head). h .grocers) (read-back fileE e-written .head)) (fun-ext e-amount)
     (ap ownerWords e-same ∙ Settlement.cases .e-words) (ap messageCount e-same ∙ Settlement.cases .e-messages) (ap stepCount e-same ∙ Settlement.cases .e-steps)
     ∙ e-text
   where

@@ -12,7 +12,7 @@ use Rattle.model.specs.Steps.{effectOf}
 use Rattle.model.specs.Tables.{JobTables, StateTables, jobOf, view, store}
 use Rattle.model.specs.Step.{Asked, stepOf, accepted, stepAnswer, isAccepted, stepped, stepRefusal, stepTables, moved}
 use Rattle.model.proofs.Refusal.{accepted-zero}
-use Rattle.format.specs.Job.{placeOf}
+use Rattle.format.specs.Job.{Head, placeOf}
 use Rattle.format.specs.Blocks.{blockCount}
 use Rattle.format.specs.Refusals.{fileRefusal}
 use Rattle.format.specs.Tables.{ReaderTables, FileTables, ReadAnswer, ReadOutcome, WriteAnswer, WriteOutcome, wrote, notWritten, fileJobOf, shortReader, readRefusal, readResult, sizes, refused, writeRefusal, writeResult}
@@ -31,13 +31,13 @@ step-does : (f : JobTables) (t : StateTables) (q : Asked) → stepped f t q .ans
 unfolding stepped stepTables moved stepOf
 step-does f t q h = rw (step-zero (stepRefusal f t q) h)
 
-read-own-buffer : (k m n t : ℕ) (r : ReaderTables) (out : List ℕ) → writeRefusal k m n t (r .job) out ≡ 0 → shortReader r ≡ false →
-    readResult (take (512 * blockCount n t) (writeResult k m n t (r .job) out .out)) r
-    ≡ record { answer = sizes k m n t; tables = record { job = r .job; tallyOffer = overwrite t (placeOf (fileJobOf k m n t (r .job))) (r .tallyOffer) } }
-read-own-buffer k m n t r out ok h =
-    read-buffer k m n t (r .job) out ok r h
-    ∙ sym (read-written k m n t (r .job) out ok r h)
-    ∙ read-own k m n t r out ok h
+read-own-buffer : (x : Head) (r : ReaderTables) (out : List ℕ) → writeRefusal x (r .job) out ≡ 0 → shortReader r ≡ false →
+    readResult (take (512 * blockCount x) (writeResult x (r .job) out .out)) r
+    ≡ record { answer = sizes x; tables = record { job = r .job; tallyOffer = overwrite (x .tallies) (placeOf (fileJobOf x (r .job))) (r .tallyOffer) } }
+read-own-buffer x r out ok h =
+    read-buffer x (r .job) out ok r h
+    ∙ sym (read-written x (r .job) out ok r h)
+    ∙ read-own x r out ok h
 
 -- A reader that accepts a file was lent no short table.
 reader-whole : (f : List ℕ) (l : ReaderTables) → readRefusal f l ≡ 0 → shortReader l ≡ false
@@ -51,7 +51,7 @@ read-two f l h e =
 
 -- Writing what an outcome of the reader holds.
 abbrev again : ReadAnswer → FileTables → List ℕ → WriteOutcome
-again (sizes k m n t) j out = writeResult k m n t j out
+again (sizes x) j out = writeResult x j out
 again (refused r) j out = record { answer = notWritten r; out = out }
 
 -- The length that the writer answers.

@@ -76,13 +76,13 @@ module _ (file : List ℕ) (ok : fileRefusal file ≡ 0) (f : JobTables) (h : Ho
   in-file : InRange job
   in-file = accepted-range file ok
 
-  offer-in : (o : ℕ) → o < f .offers → o < job .offers
+  offer-in : (o : ℕ) → o < f .offers → o < job .head .offers
   offer-in o l = omega (arith, h .offers)
 
-  grocer-in : (g : ℕ) → g < f .grocers → g < job .grocers
+  grocer-in : (g : ℕ) → g < f .grocers → g < job .head .grocers
   grocer-in g l = omega (arith, h .grocers)
 
-  tally-in : (t : ℕ) → t < f .tallies → t < job .tallies
+  tally-in : (t : ℕ) → t < f .tallies → t < job .head .tallies
   tally-in t l = omega (arith, h .tallies)
 
   -- The words of the tables are the file's.
@@ -143,7 +143,7 @@ module _ (file : List ℕ) (ok : fileRefusal file ≡ 0) (f : JobTables) (h : Ho
   -- The amount of a tally is count × price of the offer its code names.
   its-amount : (t : ℕ) → t < f .tallies → price-of f t ≡ job .tally t .count *ℤ pos (job .offer (placeOf job t) .price)
   its-amount t l =
-      let p : placeOf job t < job .offers = in-file .place t (tally-in t l) in
+      let p : placeOf job t < job .head .offers = in-file .place t (tally-in t l) in
       ap₂ (λ (x : ℤ) (y : ℕ). x *ℤ pos y) (h .tallyCount t (tally-in t l)) (ap (λ (o : ℕ). jobOf f .price o) (h .tallyOffer t (tally-in t l)) ∙ h .price (placeOf job t) p)
 
   pub sums-ok : (g : ℕ) → plainSum (jobOf f) g ≡ owedByFile job g
@@ -160,69 +160,69 @@ module _ (f : List ℕ) (l : ReaderTables) (ok : readRefusal f l ≡ 0) where
   tables = readResult f l .tables .job
 
   abbrev read-job-of : FileJob
-  read-job-of = fileJobOf (decode f .boxes) (decode f .grocers) (decode f .offers) (decode f .tallies) tables
+  read-job-of = fileJobOf (decode f .head) tables
 
   range : InRange read-job-of
   range = read-range f l ok
 
-  long : Long (decode f .grocers) (decode f .offers) (decode f .tallies) tables
-  long = long-tables (decode f .grocers) (decode f .offers) (decode f .tallies) tables (read-long f l ok)
+  long : Long (decode f .head) tables
+  long = long-tables (decode f .head) tables (read-long f l ok)
 
-  place-below : (t : ℕ) → t < decode f .tallies → getD (readResult f l .tables .tallyOffer) t 0 < decode f .offers
+  place-below : (t : ℕ) → t < decode f .head .tallies → getD (readResult f l .tables .tallyOffer) t 0 < decode f .head .offers
   unfolding fileJobOf
   place-below t h = rw (read-place f l ok t h) (range .place t h)
 
-  place-long : decode f .tallies ≤ length (readResult f l .tables .tallyOffer)
+  place-long : decode f .head .tallies ≤ length (readResult f l .tables .tallyOffer)
   unfolding storeRead
-  place-long = rw (read-accepted f l ok) (long-overwrite (decode f .tallies) (placeOf (decode f)) (l .tallyOffer))
+  place-long = rw (read-accepted f l ok) (long-overwrite (decode f .head .tallies) (placeOf (decode f)) (l .tallyOffer))
 
   whole-ok : jobShort (jobRead f l) (jobLengths (jobRead f l)) ≡ false
   unfolding jobShort jobLengths jobRead
   whole-ok =
       rw (
-        le-ltb (length (tables .price)) (decode f .offers) (long .price),
-        le-ltb (length (tables .offerOwner)) (decode f .offers) (long .offerOwner),
-        le-ltb (length (tables .grocerOwner)) (decode f .grocers) (long .grocerOwner),
-        le-ltb (length (tables .tallyGrocer)) (decode f .tallies) (long .tallyGrocer),
-        le-ltb (length (tables .tallyBox)) (decode f .tallies) (long .tallyBox),
-        le-ltb (length (readResult f l .tables .tallyOffer)) (decode f .tallies) place-long,
-        le-ltb (length (tables .tallyCount)) (decode f .tallies) (long .tallyCount),
+        le-ltb (length (tables .offers .price)) (decode f .head .offers) (long .offers .price),
+        le-ltb (length (tables .offers .owner)) (decode f .head .offers) (long .offers .owner),
+        le-ltb (length (tables .grocerOwner)) (decode f .head .grocers) (long .grocerOwner),
+        le-ltb (length (tables .tallies .grocer)) (decode f .head .tallies) (long .tallies .grocer),
+        le-ltb (length (tables .tallies .box)) (decode f .head .tallies) (long .tallies .box),
+        le-ltb (length (readResult f l .tables .tallyOffer)) (decode f .head .tallies) place-long,
+        le-ltb (length (tables .tallies .count)) (decode f .head .tallies) (long .tallies .count),
       )
 
   same : SameWords read-job-of (decode f)
   same = read-job f l ok
 
   -- Each word is the file's: a tally's box,
-  its-own-box : (t : ℕ) → t < decode f .tallies → jobOf (jobRead f l) .tallyBox t ≡ decode f .tally t .box
+  its-own-box : (t : ℕ) → t < decode f .head .tallies → jobOf (jobRead f l) .tallyBox t ≡ decode f .tally t .box
   unfolding jobOf jobRead fileJobOf
-  its-own-box t h = word-in (decode f .tallies) (tables .tallyBox) 0 t h ∙ same .tally t h .box
+  its-own-box t h = word-in (decode f .head .tallies) (tables .tallies .box) 0 t h ∙ same .tally t h .box
 
-  its-grocer : (t : ℕ) → t < decode f .tallies → jobOf (jobRead f l) .tallyGrocer t ≡ decode f .tally t .grocer
+  its-grocer : (t : ℕ) → t < decode f .head .tallies → jobOf (jobRead f l) .tallyGrocer t ≡ decode f .tally t .grocer
   unfolding jobOf jobRead fileJobOf
-  its-grocer t h = word-in (decode f .tallies) (tables .tallyGrocer) 0 t h ∙ same .tally t h .grocer
+  its-grocer t h = word-in (decode f .head .tallies) (tables .tallies .grocer) 0 t h ∙ same .tally t h .grocer
 
   -- its place is that of the offer its code names,
-  its-place : (t : ℕ) → t < decode f .tallies → jobOf (jobRead f l) .tallyOffer t ≡ placeOf (decode f) t
+  its-place : (t : ℕ) → t < decode f .head .tallies → jobOf (jobRead f l) .tallyOffer t ≡ placeOf (decode f) t
   unfolding jobOf jobRead storeRead
   its-place t h =
-      word-in (decode f .tallies) (readResult f l .tables .tallyOffer) 0 t h
-      ∙ rw (read-accepted f l ok) (getD-overwrite (decode f .tallies) (placeOf (decode f)) (l .tallyOffer) t 0 h)
+      word-in (decode f .head .tallies) (readResult f l .tables .tallyOffer) 0 t h
+      ∙ rw (read-accepted f l ok) (getD-overwrite (decode f .head .tallies) (placeOf (decode f)) (l .tallyOffer) t 0 h)
 
-  its-count : (t : ℕ) → t < decode f .tallies → jobOf (jobRead f l) .tallyCount t ≡ decode f .tally t .count
+  its-count : (t : ℕ) → t < decode f .head .tallies → jobOf (jobRead f l) .tallyCount t ≡ decode f .tally t .count
   unfolding jobOf jobRead fileJobOf
-  its-count t h = word-in (decode f .tallies) (tables .tallyCount) (pos 0) t h ∙ same .tally t h .count
+  its-count t h = word-in (decode f .head .tallies) (tables .tallies .count) (pos 0) t h ∙ same .tally t h .count
 
-  its-price : (o : ℕ) → o < decode f .offers → jobOf (jobRead f l) .price o ≡ decode f .offer o .price
+  its-price : (o : ℕ) → o < decode f .head .offers → jobOf (jobRead f l) .price o ≡ decode f .offer o .price
   unfolding jobOf jobRead fileJobOf
-  its-price o h = word-in (decode f .offers) (tables .price) 0 o h ∙ same .offer o h .price
+  its-price o h = word-in (decode f .head .offers) (tables .offers .price) 0 o h ∙ same .offer o h .price
 
-  its-owner : (o : ℕ) → o < decode f .offers → jobOf (jobRead f l) .offerOwner o ≡ decode f .offer o .owner
+  its-owner : (o : ℕ) → o < decode f .head .offers → jobOf (jobRead f l) .offerOwner o ≡ decode f .offer o .owner
   unfolding jobOf jobRead fileJobOf
-  its-owner o h = word-in (decode f .offers) (tables .offerOwner) 0 o h ∙ same .offer o h .owner
+  its-owner o h = word-in (decode f .head .offers) (tables .offers .owner) 0 o h ∙ same .offer o h .owner
 
-  grocer-owner : (g : ℕ) → g < decode f .grocers → jobOf (jobRead f l) .grocerOwner g ≡ decode f .grocerOwner g
+  grocer-owner : (g : ℕ) → g < decode f .head .grocers → jobOf (jobRead f l) .grocerOwner g ≡ decode f .grocerOwner g
   unfolding jobOf jobRead fileJobOf
-  grocer-owner g h = word-in (decode f .grocers) (tables .grocerOwner) 0 g h ∙ same .grocerOwner g h
+  grocer-owner g h = word-in (decode f .head .grocers) (tables .grocerOwner) 0 g h ∙ same .grocerOwner g h
 
   holds-ok : Holds (decode f) (jobRead f l)
   unfolding jobRead
@@ -241,11 +241,11 @@ module _ (f : List ℕ) (l : ReaderTables) (ok : readRefusal f l ≡ 0) where
   }
 
   -- The code of a tally names the offer at its place, and no other.
-  named-ok : (t : ℕ) → t < decode f .tallies → (placeOf (decode f) t < decode f .offers) × (names (decode f) t (placeOf (decode f) t) ≡ true)
+  named-ok : (t : ℕ) → t < decode f .head .tallies → (placeOf (decode f) t < decode f .head .offers) × (names (decode f) t (placeOf (decode f) t) ≡ true)
   unfolding names
   named-ok t h = let r = accepted-range f (read-file f l ok) in (r .place t h, r .named t h)
 
-  other-ok : (t i : ℕ) → t < decode f .tallies → i < decode f .offers → names (decode f) t i ≡ true → placeOf (decode f) t ≡ i
+  other-ok : (t i : ℕ) → t < decode f .head .tallies → i < decode f .head .offers → names (decode f) t i ≡ true → placeOf (decode f) t ≡ i
   unfolding names
   other-ok t i h m e = only-place (decode f) t (fine (decode f) (job-accepted f (read-file f l ok)) .shared) i m e
 

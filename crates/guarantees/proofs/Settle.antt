@@ -14,16 +14,16 @@ use Rattle.laws.proofs.Bools.{split}
 use Rattle.model.specs.Words.{ownerWords, messageCount, stepCount}
 use Rattle.model.specs.Tables.{JobTables, StateTables, jobOf, stateLengths, stateShort, lentShort}
 use Rattle.model.specs.Run.{RunAnswer, finished, reported, ran}
-use Rattle.format.specs.File.{decode}
+use Rattle.format.specs.File.{readHead, decode}
 use Rattle.format.specs.Refusals.{fileRefusal}
-use Rattle.format.specs.Tables.{ReaderTables, ReadOutcome, shortTables, shortReader, readRefusal}
+use Rattle.format.specs.Tables.{ReaderTables, ReadOutcome, LongOffers, LongTallies, largest, shortReader, readRefusal}
 use Rattle.guarantees.specs.Demand3.{owedByFile, Accepted}
 use Rattle.printing.specs.Printed.{jobRead, digitsOf, decimal, signedDecimal, line, grocerLines, settledText, refusedText, blankJob, blankState, runText, jobText, readText, printed}
 use Rattle.guarantees.specs.Settle.{valueOf, amountOf, Settle}
 use Rattle.printing.proofs.Digits.{below-power}
 use Rattle.format.proofs.Order.{reader-file}
 use Rattle.format.proofs.Accept.{long, accepted-range}
-use Rattle.format.proofs.Tables.{read-accepted, read-refused}
+use Rattle.format.proofs.Tables.{read-accepted, read-refused, tables-long}
 use Rattle.model.proofs.Demand3.{demand3-run}
 use Rattle.guarantees.proofs.Demand3.{accepted}
 
@@ -78,27 +78,19 @@ zeros n = rw (length-replicate {A = ℕ} n 0) (le-refl n)
 zeros-signed : (n : ℕ) → n ≤ length (replicate n (pos 0))
 zeros-signed n = rw (length-replicate n (pos 0)) (le-refl n)
 
-reader-enough : (l : ReaderTables) → 500 ≤ length (l .job .price) → 500 ≤ length (l .job .offerOwner) → 5_500 ≤ length (l .job .offerCode) → 255 ≤ length (l .job .grocerOwner) →
-    1_000 ≤ length (l .job .tallyGrocer) → 1_000 ≤ length (l .job .tallyBox) → 11_000 ≤ length (l .job .tallyCode) → 1_000 ≤ length (l .job .tallyCount) → 1_000 ≤ length (l .tallyOffer) →
-    shortReader l ≡ false
-unfolding shortReader shortTables
-reader-enough l a b c d e f g h i =
-    rw (
-      le-ltb (length (l .job .price)) 500 a,
-      le-ltb (length (l .job .offerOwner)) 500 b,
-      le-ltb (length (l .job .offerCode)) 5_500 c,
-      le-ltb (length (l .job .grocerOwner)) 255 d,
-      le-ltb (length (l .job .tallyGrocer)) 1_000 e,
-      le-ltb (length (l .job .tallyBox)) 1_000 f,
-      le-ltb (length (l .job .tallyCode)) 11_000 g,
-      le-ltb (length (l .job .tallyCount)) 1_000 h,
-      le-ltb (length (l .tallyOffer)) 1_000 i,
-    )
+reader-enough : (l : ReaderTables) → LongOffers 500 (l .job .offers) → 255 ≤ length (l .job .grocerOwner) → LongTallies 1_000 (l .job .tallies) → 1_000 ≤ length (l .tallyOffer) → shortReader l ≡ false
+unfolding shortReader
+reader-enough l o g t p =
+    rw (tables-long largest (l .job) (record { offers = o; grocerOwner = g; tallies = t }), le-ltb (length (l .tallyOffer)) 1_000 p)
 
 blank-reader : shortReader blankJob ≡ false
 unfolding blankJob
 blank-reader =
-    reader-enough blankJob (zeros 500) (zeros 500) (zeros 5_500) (zeros 255) (zeros 1_000) (zeros 1_000) (zeros 11_000) (zeros-signed 1_000) (zeros 1_000)
+    reader-enough blankJob
+    (record { price = zeros 500; owner = zeros 500; code = zeros 5_500 })
+    (zeros 255)
+    (record { grocer = zeros 1_000; box = zeros 1_000; code = zeros 11_000; count = zeros-signed 1_000 })
+    (zeros 1_000)
 
 state-enough : (job : JobTables) (t : StateTables) → job .boxes ≤ 16 → job .grocers ≤ 255 → job .offers ≤ 500 →
     8_000 ≤ length (t .known) → 8_000 ≤ length (t .priceTransit) → 4_080 ≤ length (t .working) → 4_080 ≤ length (t .totalTransit) → 255 ≤ length (t .statement) → 1_536 ≤ length (t .done) → 1 ≤ length (t .sent) →
@@ -158,16 +150,16 @@ module _ (file : List ℕ) (ok : fileRefusal file ≡ 0) where
   answer-is = given .run blankState [] .answer ∙ rw lent-ok
 
   -- and each statement is what the file says is owed.
-  amount-is : (g : ℕ) → g < decode file .grocers → getD (ran job blankState [] .tables .statement) g (pos 0) ≡ owedByFile (decode file) g
+  amount-is : (g : ℕ) → g < decode file .head .grocers → getD (ran job blankState [] .tables .statement) g (pos 0) ≡ owedByFile (decode file) g
   unfolding jobRead
   amount-is g h = demand3-run job (given .settles) blankState [] .statements lent-ok g h ∙ given .sums g
 
-  settled-is : printed file ≡ settledText (decode file .grocers) (owedByFile (decode file)) (ownerWords (jobOf job)) (messageCount (jobOf job)) (stepCount (jobOf job))
+  settled-is : printed file ≡ settledText (decode file .head .grocers) (owedByFile (decode file)) (ownerWords (jobOf job)) (messageCount (jobOf job)) (stepCount (jobOf job))
   unfolding printed readText jobText runText jobRead
   settled-is =
       ap (λ (o : ReadOutcome). readText file (o .answer)) (read-accepted file blankJob read-ok)
-      ∙ ap (λ (a : RunAnswer). runText (decode file .grocers) a (ran job blankState [] .tables .statement)) answer-is
-      ∙ text-cong (decode file .grocers) (λ g. getD (ran job blankState [] .tables .statement) g (pos 0)) (owedByFile (decode file)) (ownerWords (jobOf job)) (messageCount (jobOf job)) (stepCount (jobOf job)) amount-is
+      ∙ ap (λ (a : RunAnswer). runText (decode file .head .grocers) a (ran job blankState [] .tables .statement)) answer-is
+      ∙ text-cong (decode file .head .grocers) (λ g. getD (ran job blankState [] .tables .statement) g (pos 0)) (owedByFile (decode file)) (ownerWords (jobOf job)) (messageCount (jobOf job)) (stepCount (jobOf job)) amount-is
 
 refused-is : (file : List ℕ) → (fileRefusal file ≡ 0 → ⊥) → printed file ≡ refusedText (fileRefusal file)
 unfolding printed readText
@@ -177,7 +169,7 @@ refused-is file met =
 
 -- The first n bytes of a file say the file's length, if they are a file.
 cut-is : (file : List ℕ) (n : ℕ) → fileRefusal file ≡ 0 → n < length file → fileRefusal (take n file) ≡ 0 → ⊥
-unfolding decode
+unfolding decode readHead
 cut-is file n ok h cut =
     let whole = long file ok in
     let part = long (take n file) cut in

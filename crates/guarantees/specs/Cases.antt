@@ -10,10 +10,11 @@ use Rattle.model.specs.Words.{ownerWords, stepCount}
 use Rattle.model.specs.Tables.{JobTables, jobOf}
 use Rattle.model.specs.Ranges.{jobInRange}
 use Rattle.format.specs.Codes.{Code, isCode, codeNumber, written, dropZeros, sameOffer}
-use Rattle.format.specs.Job.{FileJob, Offer, Tally}
+use Rattle.format.specs.Job.{headOf, FileJob, Offer, Tally}
 use Rattle.format.specs.Blocks.{blockCount, firstSum, secondSum}
 use Rattle.format.specs.File.{encode}
 use Rattle.format.specs.Refusals.{fileRefusal}
+use Rattle.format.specs.Tables.{largest}
 use Rattle.guarantees.specs.Demand3.{owedByFile, Holds}
 use Rattle.printing.specs.Printed.{printed}
 use Rattle.model.specs.Cases as Settlement
@@ -44,10 +45,7 @@ talliesE =
 unfoldable pub fileE : FileJob
 fileE =
     record {
-      boxes = 2;
-      grocers = 2;
-      offers = 2;
-      tallies = 4;
+      head = headOf 2 2 2 4;
       offer = λ i. getD offersE i (record { price = 0; owner = 0; code = code [] });
       grocerOwner = λ i. getD (1 ∷ 0 ∷ []) i 0;
       tally = λ i. getD talliesE i (record { grocer = 0; box = 0; code = code []; count = pos 0 });
@@ -91,4 +89,4 @@ pub record Cases : Type 0 where
   pub byte-507-first : firstSum (alone 507) ≡ 255
   pub byte-507-second : secondSum (alone 507) ≡ 255
   -- Without ◆: the longest file has 74 blocks.
-  pub longest : blockCount 500 1_000 ≡ 74
+  pub longest : blockCount largest ≡ 74

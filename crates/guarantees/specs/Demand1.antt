@@ -14,6 +14,7 @@ use Rattle.model.specs.Step.{Asked, refused as notDone, outcome, stepped, refus
 use Rattle.model.specs.Run.{refused, runRefusals, ran}
 use Rattle.model.specs.Reconcile.{TallyRecord, refused as notOwed, deskRefusals, reconciled}
 use Rattle.format.specs.First.{firstOf, firstBelow}
+use Rattle.format.specs.Job.{Head}
 use Rattle.format.specs.Tables.{ReaderTables, FileTables, refused as notRead, notWritten, readRefusal, readResult, writeRefusal, writeResult}
 use Rattle.model.specs.Local.{bookRefusals}
 use Rattle.messages.specs.Refusals.{jobRefusals}
@@ -62,8 +63,8 @@ pub record Demand1 : Type 0 where
   pub desk : (m n wanted : ℕ) (prices : List ℕ) (records : List TallyRecord) → (firstMet (deskRefusals m n wanted prices records) ≡ 0 → ⊥) →
       reconciled m n wanted prices records ≡ notOwed (firstMet (deskRefusals m n wanted prices records))
   -- and the writer.
-  pub writer : (k m n t : ℕ) (l : FileTables) (out : List ℕ) → (writeRefusal k m n t l out ≡ 0 → ⊥) →
-      writeResult k m n t l out ≡ record { answer = notWritten (writeRefusal k m n t l out); out = out }
+  pub writer : (h : Head) (l : FileTables) (out : List ℕ) → (writeRefusal h l out ≡ 0 → ⊥) →
+      writeResult h l out ≡ record { answer = notWritten (writeRefusal h l out); out = out }
   -- The local book, whatever meets its contract, leaves its five tables,
   pub book : (f : JobTables) (b : ℕ) (before : BookTables) (r : Answer) (after : BookTables) → Booked f b before r after →
       (firstMet (bookRefusals f (bookLengths before) b) ≡ 0 → ⊥) →

@@ -10,7 +10,7 @@ use Rattle.model.specs.Steps.{effectOf}
 use Rattle.model.specs.Tables.{JobTables, StateTables, jobOf, view, store}
 use Rattle.model.specs.Step.{Asked, stepOf, accepted, stepped}
 use Rattle.format.specs.Codes.{Code, isCode, written, dropZeros, sameOffer}
-use Rattle.format.specs.Job.{placeOf}
+use Rattle.format.specs.Job.{Head, placeOf}
 use Rattle.format.specs.Blocks.{blocks, blockCount}
 use Rattle.format.specs.File.{decode}
 use Rattle.format.specs.Tables.{FileTables, ReaderTables, fileJobOf, storeRead, shortReader, readRefusal, readResult, sizes, refused}
@@ -24,23 +24,23 @@ Bytes file = (p : ℕ) → getD file p 0 < 256
 pub record Demand2 : Type 0 where
   -- Writing what was read gives the file, byte for byte, in front of the rest of the buffer.
   pub writeRead : (file : List ℕ) (l : ReaderTables) → Bytes file → readRefusal file l ≡ 0 → (out : List ℕ) → length file ≤ length out →
-      writeResult (decode file .boxes) (decode file .grocers) (decode file .offers) (decode file .tallies) (readResult file l .tables .job) out
+      writeResult (decode file .head) (readResult file l .tables .job) out
       ≡ record { answer = wrote (length file); out = file ++ drop (length file) out }
   -- Each job has one file: two accepted files that read alike are equal.
   pub oneFile : (f f′ : List ℕ) (l : ReaderTables) → Bytes f → Bytes f′ → readRefusal f l ≡ 0 → readRefusal f′ l ≡ 0 →
       readResult f l ≡ readResult f′ l → f ≡ f′
   -- Reading what was written gives K, M, N and T and, in whatever tables, the words of the job that was written, digits as written;
   -- beside them the places.
-  pub readWrite : (k m n t : ℕ) (l : FileTables) (out : List ℕ) → writeRefusal k m n t l out ≡ 0 → (r : ReaderTables) → shortReader r ≡ false →
-      readResult (take (512 * blockCount n t) (writeResult k m n t l out .out)) r
-      ≡ record { answer = sizes k m n t; tables = storeRead (fileJobOf k m n t l) r }
+  pub readWrite : (h : Head) (l : FileTables) (out : List ℕ) → writeRefusal h l out ≡ 0 → (r : ReaderTables) → shortReader r ≡ false →
+      readResult (take (512 * blockCount h) (writeResult h l out .out)) r
+      ≡ record { answer = sizes h; tables = storeRead (fileJobOf h l) r }
   -- Into the tables it was written from: every word is as it was.
-  pub readOwn : (k m n t : ℕ) (r : ReaderTables) (out : List ℕ) → writeRefusal k m n t (r .job) out ≡ 0 → shortReader r ≡ false →
-      readResult (take (512 * blockCount n t) (writeResult k m n t (r .job) out .out)) r
-      ≡ record { answer = sizes k m n t; tables = record { job = r .job; tallyOffer = overwrite t (placeOf (fileJobOf k m n t (r .job))) (r .tallyOffer) } }
+  pub readOwn : (h : Head) (r : ReaderTables) (out : List ℕ) → writeRefusal h (r .job) out ≡ 0 → shortReader r ≡ false →
+      readResult (take (512 * blockCount h) (writeResult h (r .job) out .out)) r
+      ≡ record { answer = sizes h; tables = record { job = r .job; tallyOffer = overwrite (h .tallies) (placeOf (fileJobOf h (r .job))) (r .tallyOffer) } }
   -- What was written are bytes: the file that reading takes back is one that a disk can hold.
-  pub writtenBytes : (k m n t : ℕ) (l : FileTables) (out : List ℕ) → writeRefusal k m n t l out ≡ 0 →
-      Bytes (take (512 * blockCount n t) (writeResult k m n t l out .out))
+  pub writtenBytes : (h : Head) (l : FileTables) (out : List ℕ) → writeRefusal h l out ≡ 0 →
+      Bytes (take (512 * blockCount h) (writeResult h l out .out))
   -- Two codes name one offer exactly when they agree after leading zeros are dropped.
   pub codes : (c d : Code) → isCode c ≡ true → isCode d ≡ true → (sameOffer c d ≡ true) ↔ (dropZeros (written c) ≡ dropZeros (written d))
   -- In an accepted file, changing one or two bytes of one block always gives refusal 2:

@@ -20,33 +20,34 @@ use Rattle.format.specs.Tables.{ReaderTables, sizes, readRefusal, readResult}
 
 -- What grocer g is owed by a file's job: count × price over its tallies, each at the price of the offer that its code names.
 unfoldable pub owedByFile : FileJob → ℕ → ℤ
-owedByFile j g = sum integers (j .tallies) (λ t. only integers (eqb (j .tally t .grocer) g) (j .tally t .count *ℤ pos (j .offer (placeOf j t) .price)))
+owedByFile j g = sum integers (j .head .tallies) (λ t. only integers (eqb (j .tally t .grocer) g) (j .tally t .count *ℤ pos (j .offer (placeOf j t) .price)))
 
 -- A job's tables hold what its file says.
 pub record Holds (j : FileJob) (f : JobTables) : Type 0 where
-  pub boxes : f .boxes ≡ j .boxes
-  pub grocers : f .grocers ≡ j .grocers
-  pub offers : f .offers ≡ j .offers
-  pub tallies : f .tallies ≡ j .tallies
+  pub boxes : f .boxes ≡ j .head .boxes
+  pub grocers : f .grocers ≡ j .head .grocers
+  pub offers : f .offers ≡ j .head .offers
+  pub tallies : f .tallies ≡ j .head .tallies
   -- Prices and owners.
-  pub price : (o : ℕ) → o < j .offers → jobOf f .price o ≡ j .offer o .price
-  pub offerOwner : (o : ℕ) → o < j .offers → jobOf f .offerOwner o ≡ j .offer o .owner
-  pub grocerOwner : (g : ℕ) → g < j .grocers → jobOf f .grocerOwner g ≡ j .grocerOwner g
+  pub price : (o : ℕ) → o < j .head .offers → jobOf f .price o ≡ j .offer o .price
+  pub offerOwner : (o : ℕ) → o < j .head .offers → jobOf f .offerOwner o ≡ j .offer o .owner
+  pub grocerOwner : (g : ℕ) → g < j .head .grocers → jobOf f .grocerOwner g ≡ j .grocerOwner g
   -- Each tally's grocer, box and count,
-  pub tallyGrocer : (t : ℕ) → t < j .tallies → jobOf f .tallyGrocer t ≡ j .tally t .grocer
-  pub tallyBox : (t : ℕ) → t < j .tallies → jobOf f .tallyBox t ≡ j .tally t .box
-  pub tallyCount : (t : ℕ) → t < j .tallies → jobOf f .tallyCount t ≡ j .tally t .count
+  pub tallyGrocer : (t : ℕ) → t < j .head .tallies → jobOf f .tallyGrocer t ≡ j .tally t .grocer
+  pub tallyBox : (t : ℕ) → t < j .head .tallies → jobOf f .tallyBox t ≡ j .tally t .box
+  pub tallyCount : (t : ℕ) → t < j .head .tallies → jobOf f .tallyCount t ≡ j .tally t .count
   -- and the place of the offer its code names.
-  pub tallyOffer : (t : ℕ) → t < j .tallies → jobOf f .tallyOffer t ≡ placeOf j t
+  pub tallyOffer : (t : ℕ) → t < j .head .tallies → jobOf f .tallyOffer t ≡ placeOf j t
 
 -- "An accepted job holds what a file without a refusal says, each tally with the place of the offer its code names."
 pub record Accepted (file : List ℕ) (l : ReaderTables) : Type 0 where
   pub holds : Holds (decode file) (jobRead file l)
   -- The code of each tally names the offer at its place, and no other.
-  pub named : (t : ℕ) → t < decode file .tallies → (placeOf (decode file) t < decode file .offers) × (names (decode file) t (placeOf (decode file) t) ≡ true)
-  pub noOther : (t i : ℕ) → t < decode file .tallies → i < decode file .offers → names (decode file) t i ≡ true → placeOf (decode file) t ≡ i
+  pub named : (t : ℕ) → t < decode file .head .tallies →
+      (placeOf (decode file) t < decode file .head .offers) × (names (decode file) t (placeOf (decode file) t) ≡ true)
+  pub noOther : (t i : ℕ) → t < decode file .head .tallies → i < decode file .head .offers → names (decode file) t i ≡ true → placeOf (decode file) t ≡ i
   -- The reader answers K, M, N and T.
-  pub answer : readResult file l .answer ≡ sizes (decode file .boxes) (decode file .grocers) (decode file .offers) (decode file .tallies)
+  pub answer : readResult file l .answer ≡ sizes (decode file .head)
   -- Every word is in range, and every table is as long as it must be.
   pub settles : Settles (jobRead file l)
   -- So demand 3 holds of every list of step requests and of every run.

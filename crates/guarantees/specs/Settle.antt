@@ -29,7 +29,7 @@ pub record Settle : Type 0 where
   -- and 2 × K + 2 × (messages) steps.
   pub accepted : (file : List ℕ) → fileRefusal file ≡ 0 →
       printed file
-      ≡ settledText (decode file .grocers) (owedByFile (decode file))
+      ≡ settledText (decode file .head .grocers) (owedByFile (decode file))
       (ownerWords (jobOf (jobRead file blankJob)))
       (messageCount (jobOf (jobRead file blankJob)))
       (stepCount (jobOf (jobRead file blankJob)))

@@ -25,7 +25,7 @@ hostRead n l s = record { answer = n; tables = l; sizes = s }
 
 -- The reader's answer as a number; K, M, N and T go into the buffer for sizes.
 unfoldable pub readAs : ReadAnswer → ReaderTables → List ℕ → HostRead
-readAs (sizes boxes grocers offers tallies) l s = hostRead 0 l (put (boxes ∷ grocers ∷ offers ∷ tallies ∷ []) s)
+readAs (sizes h) l s = hostRead 0 l (put (h .boxes ∷ h .grocers ∷ h .offers ∷ h .tallies ∷ []) s)
 readAs (notRead number) l s = hostRead number l s
 
 -- The host's reader: 20 also where the buffer for sizes is shorter than four words.

@@ -44,7 +44,7 @@ fn nearer(keys: &[u64], at: usize, half: usize, number: u64) -> usize
 
 // Where a number stands in the index if it does: every number behind is larger, and the numbers before are not.
 fn halve(keys: &[u64], n: usize, number: u64) -> usize
-    requires { ⌜ (0 < n) × ((n ≤ 500) × (n ≤ length (now keys))) ⌝ }
+    requires { ⌜ (0 < n) × ((n ≤ 1000) × (n ≤ length (now keys))) ⌝ }
     ensures { λ r. ⌜ Bracket (now (keys .entry)) n number r 1 ⌝ }
 {
     let mut at: usize = 0;
@@ -59,7 +59,7 @@ fn halve(keys: &[u64], n: usize, number: u64) -> usize
 
 // The place of the offer with this number, or n where no offer has it.
 pub fn place(keys: &[u64], places: &[u16], n: usize, number: u64) -> usize
-    requires { ⌜ (n ≤ 500) × ((n ≤ length (now keys)) × (n ≤ length (now places))) ⌝ }
+    requires { ⌜ (n ≤ 1000) × ((n ≤ length (now keys)) × (n ≤ length (now places))) ⌝ }
     ensures { λ r. ⌜ ((numbers : List ℕ) → IsIndex (now (keys .entry)) (now (places .entry)) numbers n → sharesNumber numbers n ≡ false → r ≡ placeOf
         numbers n number) ⌝ }
 {

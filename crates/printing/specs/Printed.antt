@@ -14,10 +14,12 @@ use Rattle.format.specs.Tables.{ReadAnswer, sizes, refused as notRead, ReaderTa
 -- and the places it found; no digits.
 unfoldable pub jobRead : List ℕ → ReaderTables → JobTables
 jobRead file l =
-    let j = decode file in
+    let h = decode file .head in
     let r = readResult file l .tables in
-    jobTables (j .boxes) (j .grocers) (j .offers) (j .tallies) (r .job .price) (r .job .offerOwner) (r .job .grocerOwner)
-    (r .job .tallyGrocer) (r .job .tallyBox) (r .tallyOffer) (r .job .tallyCount)
+    let o = r .job .offers in
+    let t = r .job .tallies in
+    jobTables (h .boxes) (h .grocers) (h .offers) (h .tallies) (o .price) (o .owner) (r .job .grocerOwner)
+    (t .grocer) (t .box) (r .tallyOffer) (t .count)
 
 -- The last k decimal digits of n in ASCII; all of them, without leading zeros, where k are enough.
 unfoldable pub digitsOf : ℕ → ℕ → List ℕ
@@ -92,7 +94,7 @@ jobText f = let o = ran f blankState [] in runText (f .grocers) (o .answer) (o .
 
 -- What is printed once a file is read.
 unfoldable pub readText : List ℕ → ReadAnswer → List ℕ
-readText file (sizes boxes grocers offers tallies) = jobText (jobRead file blankJob)
+readText file (sizes head) = jobText (jobRead file blankJob)
 readText file (notRead number) = refusedText number
 
 -- What `settle` prints: it "reads a job file from standard input, runs it with no choices and prints".

@@ -18,34 +18,10 @@ use Rattle.laws.proofs.Below.{any-next, any-at, find-passes, find-none, any-con
 use Rattle.laws.proofs.Tables.{getD-overwrite}
 use Rattle.format.specs.Codes.{codeNumber, sameOffer}
 use Rattle.format.specs.Job.{FileJob, names, placeOf, shared, unnamed}
-use Rattle.format.specs.Blocks.{offersAt, talliesAt}
-use Rattle.format.specs.File.{decode, readOffer, readTally}
+use Rattle.format.specs.File.{decode}
 use Rattle.index.specs.Index.{sharesNumber, placeOf as placeIn}
-use Rattle.fills.specs.Fills.{Holds, codesIn}
-use Rattle.reader.specs.Sound.{Sound, Placed, lastRefusal}
+use Rattle.reader.specs.Sound.{Placed, lastRefusal}
 use Rattle.format.proofs.Range.{unnamed-place}
-
--- ---- records in the file
-
--- The code of offer i stands at place 5 of its record,
-pub offer-code : (f : List ℕ) (i : ℕ) → codesIn f offersAt 5 i ≡ decode f .offer i .code
-unfolding decode readOffer
-offer-code f i = refl
-
--- that of tally i at place 3 of its.
-pub tally-code : (f : List ℕ) (n first i : ℕ) → n ≡ decode f .offers → first ≡ talliesAt n → codesIn f first 3 i ≡ decode f .tally i .code
-unfolding decode readTally
-tally-code f n first i e q = ap (λ (k : ℕ). codesIn f k 3 i) (q ∙ ap talliesAt e)
-
-module _ {f : List ℕ} (s : Sound f) where
-  -- The offers' blocks are in the file,
-  pub offers-held : (n : ℕ) → n ≡ decode f .offers → Holds f offersAt n
-  offers-held n e = record { few = omega (arith, s .few-offers); low = omega arith; room = omega (arith, s .long) }
-
-  -- and the tallies'.
-  pub tallies-held : (n first t : ℕ) → n ≡ decode f .offers → first ≡ talliesAt n → t ≡ decode f .tallies → Holds f first t
-  tallies-held n first t e q z =
-      record { few = omega (arith, s .few-tallies); low = omega (arith, s .few-offers); room = omega (arith, s .long, ap talliesAt e) }
 
 -- ---- numbers
 
@@ -53,7 +29,7 @@ module _ {f : List ℕ} (s : Sound f) where
 abbrev pub Numbers : List ℕ → FileJob → ℕ → Type 0
 Numbers numbers j n = (i : ℕ) → i < n → getD numbers i 0 ≡ codeNumber (j .offer i .code)
 
-module _ (j : FileJob) (n : ℕ) (numbers : List ℕ) (e : n ≡ j .offers) (right : Numbers numbers j n) where
+module _ (j : FileJob) (n : ℕ) (numbers : List ℕ) (e : n ≡ j .head .offers) (right : Numbers numbers j n) where
   -- Two of them are one exactly where two offers share a number.
   pub shared-is : sharesNumber numbers n ≡ shared j
   unfolding sharesNumber shared sameOffer
@@ -69,18 +45,18 @@ module _ (j : FileJob) (n : ℕ) (numbers : List ℕ) (e : n ≡ j .offers) (rig
       ∙ ap (λ (m : ℕ). find m (λ i. eqb (codeNumber (j .offer i .code)) (codeNumber (j .tally t .code)))) e
 
 -- A place is at most N.
-pub place-most : (j : FileJob) (t : ℕ) → placeOf j t ≤ j .offers
+pub place-most : (j : FileJob) (t : ℕ) → placeOf j t ≤ j .head .offers
 unfolding placeOf
 place-most j t =
-    split (any (j .offers) (names j t))
-    (λ e. let l = find-passes (j .offers) (names j t) e .0 in omega arith)
-    (λ e. let l = find-none (j .offers) (names j t) e in omega arith)
+    split (any (j .head .offers) (names j t))
+    (λ e. let l = find-passes (j .head .offers) (names j t) e .0 in omega arith)
+    (λ e. let l = find-none (j .head .offers) (names j t) e in omega arith)
 
 -- ---- tallies looked up, one a turn
 
 -- One of the first i tallies has a code that names no offer.
 unfoldable pub unnamedBelow : FileJob → ℕ → Bool
-unnamedBelow j i = any i (λ t. not (any (j .offers) (names j t)))
+unnamedBelow j i = any i (λ t. not (any (j .head .offers) (names j t)))
 
 -- None is looked up yet.
 pub none-yet : (j : FileJob) → unnamedBelow j 0 ≡ false
@@ -88,23 +64,23 @@ unfolding unnamedBelow any
 none-yet j = refl
 
 -- One that names an offer.
-pub named-more : (j : FileJob) (n i p : ℕ) → n ≡ j .offers → p ≡ placeOf j i → (p ≡ n → ⊥) → unnamedBelow j i ≡ false → unnamedBelow j (i + 1) ≡ false
+pub named-more : (j : FileJob) (n i p : ℕ) → n ≡ j .head .offers → p ≡ placeOf j i → (p ≡ n → ⊥) → unnamedBelow j i ≡ false → unnamedBelow j (i + 1) ≡ false
 unfolding unnamedBelow
 named-more j n i p e q d h =
-    any-next i (λ t. not (any (j .offers) (names j t)))
-    ∙ rw (h, unnamed-place j i) (ne-eqb (placeOf j i) (j .offers) (λ z. d (q ∙ z ∙ sym e)))
+    any-next i (λ t. not (any (j .head .offers) (names j t)))
+    ∙ rw (h, unnamed-place j i) (ne-eqb (placeOf j i) (j .head .offers) (λ z. d (q ∙ z ∙ sym e)))
 
 -- One that names none.
-pub unnamed-hit : (j : FileJob) (n i p t : ℕ) → n ≡ j .offers → t ≡ j .tallies → p ≡ placeOf j i → p ≡ n → i < t → unnamed j ≡ true
+pub unnamed-hit : (j : FileJob) (n i p t : ℕ) → n ≡ j .head .offers → t ≡ j .head .tallies → p ≡ placeOf j i → p ≡ n → i < t → unnamed j ≡ true
 unfolding unnamed
 unnamed-hit j n i p t e z q d l =
-    any-at (j .tallies) (λ t. not (any (j .offers) (names j t))) i (omega arith)
-    (unnamed-place j i ∙ eq-eqb (placeOf j i) (j .offers) (sym q ∙ d ∙ e))
+    any-at (j .head .tallies) (λ t. not (any (j .head .offers) (names j t))) i (omega arith)
+    (unnamed-place j i ∙ eq-eqb (placeOf j i) (j .head .offers) (sym q ∙ d ∙ e))
 
 -- All are looked up.
-pub unnamed-end : (j : FileJob) (i t : ℕ) → i ≤ t → t ≤ i → t ≡ j .tallies → unnamedBelow j i ≡ false → unnamed j ≡ false
+pub unnamed-end : (j : FileJob) (i t : ℕ) → i ≤ t → t ≤ i → t ≡ j .head .tallies → unnamedBelow j i ≡ false → unnamed j ≡ false
 unfolding unnamed unnamedBelow
-unnamed-end j i t a b z h = ap (λ (m : ℕ). any m (λ t. not (any (j .offers) (names j t)))) (sym z ∙ sym (le-antisymm a b)) ∙ h
+unnamed-end j i t a b z h = ap (λ (m : ℕ). any m (λ t. not (any (j .head .offers) (names j t)))) (sym z ∙ sym (le-antisymm a b)) ∙ h
 
 -- Nothing is kept yet.
 pub placed-none : (j : FileJob) (l : List ℕ) → Placed j l 0
@@ -127,10 +103,9 @@ placed-end {j} {l} i t a b p = subst (λ (k : ℕ). Placed j l k) (le-antisymm a
 
 -- ---- 7 and 8
 
--- Words filled with the numbers of the codes in the file are the offers' numbers.
-pub numbers-right : (f l numbers : List ℕ) (n : ℕ) → numbers ≡ overwrite n (λ i. codeNumber (codesIn f offersAt 5 i)) l → Numbers numbers (decode f) n
-numbers-right f l numbers n e i h =
-    ap (λ (x : List ℕ). getD x i 0) e ∙ getD-overwrite n (λ i. codeNumber (codesIn f offersAt 5 i)) l i 0 h ∙ ap codeNumber (offer-code f i)
+-- Words filled with the numbers of the offers' codes are those numbers.
+pub numbers-right : (f l numbers : List ℕ) (n : ℕ) → numbers ≡ overwrite n (λ i. codeNumber (decode f .offer i .code)) l → Numbers numbers (decode f) n
+numbers-right f l numbers n e i h = ap (λ (x : List ℕ). getD x i 0) e ∙ getD-overwrite n (λ i. codeNumber (decode f .offer i .code)) l i 0 h
 
 -- Two offers share a number: 7.
 pub last-7 : (j : FileJob) → shared j ≡ true → 7 ≡ lastRefusal j

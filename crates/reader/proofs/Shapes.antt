@@ -1,15 +1,14 @@
 -- What is known of a file of which nothing is refused but 7 and 8. Assumes nothing.
-use mathlib.Core.Path.{_≡_, sym, _∙_}
+use mathlib.Core.Path.{_≡_, refl, sym, subst, _∙_}
 use mathlib.Core.List.{List}
 use Prim.Native.Nat.{ℕ, _≤_}
 use native.Mathlib.Omega.{arith}
 use lib.ListN.{length}
+use Rattle.format.specs.Job.{Head}
 use Rattle.format.specs.File.{decode}
 use Rattle.format.specs.Refusals.{fileRefusal}
 use Rattle.blocks.specs.Shape.{shapeRefusal}
-use Rattle.blocks.specs.Due.{Is, Most}
-use Rattle.reader.specs.Sound.{Sound, lastRefusal}
-use Rattle.blocks.specs.declared.plan.Sizes.{Sizes}
+use Rattle.reader.specs.Sound.{Sound, Placed, Kept, lastRefusal}
 use Rattle.blocks.proofs.ShapeOrder as form
 
 -- Something before 7 and 8 is refused.
@@ -21,30 +20,28 @@ pub shape-passed : (f : List ℕ) (r : ℕ) → shapeRefusal f ≡ 0 → r ≡ l
 unfolding lastRefusal
 shape-passed f r e q = q ∙ sym (form.shape-accepted f e)
 
--- Its length, its sizes and its codes are right.
-pub sound : (f : List ℕ) → shapeRefusal f ≡ 0 → Sound f
+-- Its length, its numbers and its codes are right.
+pub sound : (f : List ℕ) → shapeRefusal f ≡ 0 → Sound f (decode f .head)
 sound f ok =
     let z = form.shape-sizes f ok in
     record {
-      long = form.shape-long f ok;
-      few-boxes = z .boxes-most;
-      few-grocers = z .grocers-most;
-      few-offers = z .offers-most;
-      few-tallies = z .tallies-most;
+      whole = record {
+        says = refl;
+        most = record { boxes = z .boxes-most; grocers = z .grocers-most; offers = z .offers-most; tallies = z .tallies-most };
+        long = form.shape-long f ok;
+      };
       offer = λ i h. form.shape-offer f ok i h .code;
       tally = λ i h. form.shape-tally f ok i h .code;
     }
 
 -- A sound file has its header.
-pub has-header : {f : List ℕ} → Sound f → 12 ≤ length f
-has-header s = omega (arith, s .long)
+pub has-header : {f : List ℕ} {h : Head} → Sound f h → 12 ≤ length f
+has-header s = omega (arith, s .whole .long)
 
--- The sizes read from a sound file's header are at most the largest ones.
-pub sizes-most : {f : List ℕ} {s : Sizes} → Sound f → Is f s → Most s
-sizes-most z i =
-    record {
-      boxes = omega (arith, z .few-boxes, i .boxes);
-      grocers = omega (arith, z .few-grocers, i .grocers);
-      offers = omega (arith, z .few-offers, i .offers);
-      tallies = omega (arith, z .few-tallies, i .tallies);
-    }
+-- What is known of the numbers that the header says is known of those that were read.
+pub sound-read : {f : List ℕ} {h : Head} → h ≡ decode f .head → Sound f (decode f .head) → Sound f h
+sound-read {f} e s = subst (Sound f) (sym e) s
+
+-- A sound file whose tallies' places are kept.
+pub kept-read : {f places : List ℕ} {h : Head} → h ≡ decode f .head → Sound f (decode f .head) → Placed (decode f) places (h .tallies) → Kept f places
+kept-read {f} {places} e s p = record { sound = s; placed = subst (λ (x : Head). Placed (decode f) places (x .tallies)) e p }

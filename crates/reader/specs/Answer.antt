@@ -1,11 +1,12 @@
 -- What the reader answers, in the format's words.
+use Rattle.format.specs.Job.{headOf}
 use Rattle.format.specs.Tables.{ReadAnswer, sizes, refused, ReadOutcome, ReaderTables}
 use Rattle.reader.specs.declared.Answer.{Answer}
 use Rattle.reader.specs.declared.Answer.the-variants.{Job, Refused}
 
 -- `Job` is K, M, N and T of an accepted file, `Refused` a refusal's number.
 abbrev pub answerOf : Answer → ReadAnswer
-answerOf (Job boxes grocers offers tallies) = sizes boxes grocers offers tallies
+answerOf (Job boxes grocers offers tallies) = sizes (headOf boxes grocers offers tallies)
 answerOf (Refused number) = refused number
 
 -- An answer, and the tables as they are afterwards.

@@ -4,27 +4,25 @@ ghost use Prim.Native.Nat.{_≤_};
 ghost use lib.ListN.{length};
 ghost use Rattle.format.specs.Refusals.{fileRefusal};
 ghost use Rattle.format.specs.Tables.{sizes, fileTables, readerTables, readResult};
-ghost use Rattle.blocks.specs.Due.{Most};
+ghost use Rattle.blocks.specs.Due.{asHead, Most};
 ghost use Rattle.reader.specs.Answer.{answerOf, outcome};
 ghost use Rattle.reader.specs.Sound.{Kept};
 use crate::look::job_refusal;
-use crate::look::owners_at;
-use crate::look::tallies_at;
-use blocks::plan::Sizes;
-use blocks::plan::read_sizes;
+use blocks::plan::Head;
+use blocks::plan::MAX_GROCERS;
+use blocks::plan::MAX_OFFERS;
+use blocks::plan::MAX_TALLIES;
+use blocks::plan::read_head;
 use blocks::refusals::shape_refusal;
-use fills::fill::fill_bytes;
-use fills::fill::fill_codes;
-use fills::fill::fill_counts;
-use fills::fill::fill_prices;
-use fills::fill::fill_row;
-use fills::fill::fill_same;
-use fills::fill::fill_words;
+use fills::fill::fill_offers;
+use fills::fill::fill_owners;
+use fills::fill::fill_tallies;
+use fills::fill::fill_tally_ends;
 use fills::fill::narrow;
 
 mod look;
 
-// What the reader answers: the sizes of the job that it read, or why it refused the file.
+// What the reader answers: the numbers of the job that it read, or why it refused the file.
 pub enum Answer {
     Job {
         boxes: u16,
@@ -45,22 +43,19 @@ fn file_refusal(f: &[u8], places: &mut [u16]) -> u16
     if r != 0 {
         return r;
     }
-    let s = read_sizes(f);
-    let n = s.offers;
-    let t = s.tallies;
-    job_refusal(f, n, t, places)
+    job_refusal(f, read_head(f), places)
 }
 
-// The answer that says a job's sizes.
-fn job_of(s: Sizes) -> Answer
-    requires { ⌜ Most s ⌝ }
-    ensures { λ r. ⌜ answerOf r ≡ sizes (s .boxes) (s .grocers) (s .offers) (s .tallies) ⌝ }
+// The answer that says a job's numbers.
+fn job_of(head: Head) -> Answer
+    requires { ⌜ Most (asHead head) ⌝ }
+    ensures { λ r. ⌜ answerOf r ≡ sizes (asHead head) ⌝ }
 {
     Answer::Job {
-        boxes: narrow(s.boxes),
-        grocers: narrow(s.grocers),
-        offers: narrow(s.offers),
-        tallies: narrow(s.tallies),
+        boxes: narrow(head.boxes),
+        grocers: narrow(head.grocers),
+        offers: narrow(head.offers),
+        tallies: narrow(head.tallies),
     }
 }
 
@@ -68,46 +63,43 @@ fn job_of(s: Sizes) -> Answer
 pub fn read(
     file: &[u8],
     price: &mut [u32],
-    owner: &mut [u16],
-    code: &mut [u8],
-    gowner: &mut [u16],
-    tgrocer: &mut [u16],
-    tbox: &mut [u16],
-    tcode: &mut [u8],
-    tcount: &mut [i32],
-    toffer: &mut [u16],
+    offer_owner: &mut [u16],
+    offer_code: &mut [u8],
+    grocer_owner: &mut [u16],
+    tally_grocer: &mut [u16],
+    tally_box: &mut [u16],
+    tally_code: &mut [u8],
+    tally_count: &mut [i32],
+    tally_offer: &mut [u16],
 ) -> Answer
     ensures { λ r. ⌜
-        outcome r (readerTables (fileTables (now (price .exit)) (now (owner .exit)) (now (code .exit)) (now (gowner .exit)) (now (tgrocer .exit))
-        (now (tbox .exit)) (now (tcode .exit)) (now (tcount .exit))) (now (toffer .exit)))
-        ≡ readResult (now (file .entry)) (readerTables (fileTables (now (price .entry)) (now (owner .entry)) (now (code .entry)) (now (gowner .entry))
-        (now (tgrocer .entry)) (now (tbox .entry)) (now (tcode .entry)) (now (tcount .entry))) (now (toffer .entry))) ⌝ }
+        outcome r (readerTables (fileTables (now (price .exit)) (now («offer_owner» .exit)) (now («offer_code» .exit)) (now («grocer_owner» .exit))
+        (now («tally_grocer» .exit)) (now («tally_box» .exit)) (now («tally_code» .exit)) (now («tally_count» .exit))) (now («tally_offer» .exit)))
+        ≡ readResult (now (file .entry)) (readerTables (fileTables (now (price .entry)) (now («offer_owner» .entry)) (now («offer_code» .entry))
+        (now («grocer_owner» .entry)) (now («tally_grocer» .entry)) (now («tally_box» .entry)) (now («tally_code» .entry)) (now («tally_count» .entry)))
+        (now («tally_offer» .entry))) ⌝ }
 {
-    let few = (price.len() < 500) | (owner.len() < 500) | (code.len() < 5500);
-    let fewer = few | (gowner.len() < 255) | (tgrocer.len() < 1000) | (tbox.len() < 1000);
-    if fewer | (tcode.len() < 11000) | (tcount.len() < 1000) | (toffer.len() < 1000) {
+    let offers = (price.len() < MAX_OFFERS)
+        | (offer_owner.len() < MAX_OFFERS)
+        | (offer_code.len() < MAX_OFFERS * 11);
+    let tallies = (tally_grocer.len() < MAX_TALLIES)
+        | (tally_box.len() < MAX_TALLIES)
+        | (tally_code.len() < MAX_TALLIES * 11);
+    let short = offers
+        | (grocer_owner.len() < MAX_GROCERS)
+        | (tallies | (tally_count.len() < MAX_TALLIES));
+    if short | (tally_offer.len() < MAX_TALLIES) {
         return Answer::Refused(20);
     }
-    let mut places = [0u16; 1000];
+    let mut places = [0u16; MAX_TALLIES];
     let r = file_refusal(file, &mut places);
     if r != 0 {
         return Answer::Refused(r);
     }
-    let s = read_sizes(file);
-    let m = s.grocers;
-    let n = s.offers;
-    let t = s.tallies;
-    let row = owners_at(n);
-    let first = tallies_at(n);
-    let answer = job_of(s);
-    fill_prices(file, 1, n, price);
-    fill_bytes(file, 1, 4, n, owner);
-    fill_codes(file, 1, 5, n, code);
-    fill_row(file, row, m, gowner);
-    fill_words(file, first, t, tgrocer);
-    fill_bytes(file, first, 2, t, tbox);
-    fill_codes(file, first, 3, t, tcode);
-    fill_counts(file, first, 14, t, tcount);
-    fill_same(&places, t, toffer);
-    answer
+    let head = read_head(file);
+    fill_offers(file, head, price, offer_owner, offer_code);
+    fill_owners(file, head, grocer_owner);
+    fill_tallies(file, head, tally_grocer, tally_box, tally_code);
+    fill_tally_ends(file, head, &places, tally_count, tally_offer);
+    job_of(head)
 }

@@ -1,61 +1,55 @@
 // The offers that the tallies' codes name: refusals 7 and 8, and the place of each tally's offer.
 ghost use mathlib.Core.Path.{_≡_};
 ghost use mathlib.Core.Bool.{false};
-ghost use Prim.Native.Nat.{_+_, _*_, _≤_, _<_};
+ghost use Prim.Native.Nat.{_≤_, _<_};
 ghost use lib.ListN.{length};
 ghost use Rattle.format.specs.Job.{placeOf, unnamed};
-ghost use Rattle.format.specs.Blocks.{grocersAt, talliesAt};
+ghost use Rattle.format.specs.Blocks.{talliesAt};
 ghost use Rattle.format.specs.File.{decode};
-ghost use Rattle.reader.specs.Sound.{Sound, Ready, Placed, lastRefusal};
+ghost use Rattle.blocks.specs.Due.{asHead};
+ghost use Rattle.reader.specs.Sound.{Sound, Indexed, Ready, Placed, lastRefusal};
+use blocks::plan::Head;
+use blocks::plan::MAX_OFFERS;
+use blocks::plan::tallies_at;
 use fills::code::number_at;
 use fills::fill::fill_numbers;
 use fills::fill::narrow;
 use fills::place::record_at;
 
-// The first tally block of a file of n offers.
-pub fn tallies_at(n: usize) -> usize
-    requires { ⌜ n ≤ 500 ⌝ }
-    ensures { λ r. ⌜ r ≡ talliesAt n ⌝ }
+// Makes the index of the offers.
+fn index_offers(f: &[u8], head: Head, keys: &mut [u64], order: &mut [u16])
+    requires { ⌜ Sound (now f) (asHead head) ⌝ }
+    requires { ⌜ (head .offers ≤ length (now keys)) × (head .offers ≤ length (now order)) ⌝ }
+    ensures { λ _. ⌜ Indexed (now (f .entry)) (now (keys .exit)) (now (order .exit)) (asHead head) ⌝ }
 {
-    2 + (n + 20) / 21
+    let mut numbers = [0u64; MAX_OFFERS];
+    fill_numbers(f, head, &mut numbers);
+    let mut spare = [0u16; MAX_OFFERS];
+    index::build::build(&numbers, keys, order, &mut spare, head.offers);
 }
 
-// Where the owners of the grocers stand in a file of n offers.
-pub fn owners_at(n: usize) -> usize
-    requires { ⌜ n ≤ 500 ⌝ }
-    ensures { λ r. ⌜ r ≡ 512 * grocersAt n + 4 ⌝ }
-{
-    512 * (1 + (n + 20) / 21) + 4
-}
-
-// The place of the offer that the code of tally i names, or n where it names none.
-fn find_place(f: &[u8], keys: &[u64], order: &[u16], n: usize, first: usize, i: usize) -> usize
-    requires { ⌜ Ready (now f) (now keys) (now order) n ⌝ }
-    requires { ⌜ (first ≡ talliesAt n) × (i < decode (now f) .tallies) ⌝ }
+// The place of the offer that the code of tally i names, or N where it names none.
+fn find_place(f: &[u8], head: Head, keys: &[u64], order: &[u16], first: usize, i: usize) -> usize
+    requires { ⌜ Ready (now f) (now keys) (now order) (asHead head) ⌝ }
+    requires { ⌜ (first ≡ talliesAt (asHead head)) × (i < head .tallies) ⌝ }
     ensures { λ r. ⌜ r ≡ placeOf (decode (now (f .entry))) i ⌝ }
 {
     let number = number_at(f, record_at(first, i) + 3);
-    index::look::place(keys, order, n, number)
+    index::look::place(keys, order, head.offers, number)
 }
 
 // Looks each tally up, once, and keeps its place; whether a tally's code names no offer.
-fn find_places(
-    f: &[u8],
-    keys: &[u64],
-    order: &[u16],
-    n: usize,
-    t: usize,
-    places: &mut [u16],
-) -> bool
-    requires { ⌜ Ready (now f) (now keys) (now order) n ⌝ }
-    requires { ⌜ (t ≡ decode (now f) .tallies) × (t ≤ length (now places)) ⌝ }
+fn find_places(f: &[u8], head: Head, keys: &[u64], order: &[u16], places: &mut [u16]) -> bool
+    requires { ⌜ Ready (now f) (now keys) (now order) (asHead head) × (head .tallies ≤ length (now places)) ⌝ }
     ensures { λ r. ⌜ r ≡ unnamed (decode (now (f .entry))) ⌝ }
-    ensures { λ r. ⌜ (r ≡ false → Placed (decode (now (f .entry))) (now (places .exit)) t) ⌝ }
+    ensures { λ r. ⌜ (r ≡ false → Placed (decode (now (f .entry))) (now (places .exit)) (head .tallies)) ⌝ }
 {
-    let first = tallies_at(n);
+    let first = tallies_at(head);
+    let n = head.offers;
+    let t = head.tallies;
     let mut i: usize = 0;
     while i < t {
-        let p = find_place(f, keys, order, n, first, i);
+        let p = find_place(f, head, keys, order, first, i);
         if p == n {
             return true;
         }
@@ -66,22 +60,18 @@ fn find_places(
 }
 
 // 7 and 8 of a file of which nothing before them is refused, and, where neither is met, the place of each tally's offer.
-pub fn job_refusal(f: &[u8], n: usize, t: usize, places: &mut [u16]) -> u16
-    requires { ⌜ Sound (now f) ⌝ }
-    requires { ⌜ (n ≡ decode (now f) .offers) × (t ≡ decode (now f) .tallies) ⌝ }
-    requires { ⌜ t ≤ length (now places) ⌝ }
+pub fn job_refusal(f: &[u8], head: Head, places: &mut [u16]) -> u16
+    requires { ⌜ Sound (now f) (asHead head) × (head .tallies ≤ length (now places)) ⌝ }
     ensures { λ r. ⌜ r ≡ lastRefusal (decode (now (f .entry))) ⌝ }
-    ensures { λ r. ⌜ (r ≡ 0 → Placed (decode (now (f .entry))) (now (places .exit)) t) ⌝ }
+    ensures { λ r. ⌜ (r ≡ 0 → Placed (decode (now (f .entry))) (now (places .exit)) (head .tallies)) ⌝ }
 {
-    let mut numbers = [0u64; 500];
-    fill_numbers(f, 1, 5, n, &mut numbers);
-    let mut keys = [0u64; 500];
-    let mut order = [0u16; 500];
-    index::build::build(&numbers, &mut keys, &mut order, n);
-    if index::look::shared(&keys, n) {
+    let mut keys = [0u64; MAX_OFFERS];
+    let mut order = [0u16; MAX_OFFERS];
+    index_offers(f, head, &mut keys, &mut order);
+    if index::look::shared(&keys, head.offers) {
         return 7;
     }
-    if find_places(f, &keys, &order, n, t, places) {
+    if find_places(f, head, &keys, &order, places) {
         return 8;
     }
     0

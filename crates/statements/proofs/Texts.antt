@@ -6,6 +6,7 @@ use native.Mathlib.Omega.{arith}
 use Rattle.model.specs.Tables.{JobTables, jobTables, StateTables}
 use Rattle.model.specs.Run.{RunAnswer, RunOutcome, ran}
 use Rattle.run.specs.Run.{given}
+use Rattle.format.specs.Job.{Head, headOf}
 use Rattle.format.specs.File.{decode}
 use Rattle.format.specs.Tables.{ReaderTables, ReadOutcome, readRefusal, readResult}
 use Rattle.format.proofs.Tables.{read-sizes, read-file}
@@ -27,20 +28,21 @@ module _ (file : List ℕ) (l : ReaderTables) (a : Answer) (e : outcome a l ≡ 
   refused-text n h = ap (λ (x : Answer). readText file (answerOf x)) (sym h) ∙ ap (λ (o : ReadOutcome). readText file (o .answer)) e
 
   module _ (k m n t : ℕ) (h : a ≡ Job k m n t) where
-    is : (readRefusal file blankJob ≡ 0) × (decode file .boxes ≡ k) × (decode file .grocers ≡ m) × (decode file .offers ≡ n) × (decode file .tallies ≡ t)
-    is = read-sizes file blankJob k m n t (ap (λ (o : ReadOutcome). o .answer) (sym e) ∙ ap answerOf h)
+    is : (readRefusal file blankJob ≡ 0) × (decode file .head ≡ headOf k m n t)
+    is = read-sizes file blankJob (headOf k m n t) (ap (λ (o : ReadOutcome). o .answer) (sym e) ∙ ap answerOf h)
 
     -- An accepted file has at most 255 grocers.
     pub grocers-few : m ≤ 255
-    grocers-few = omega (arith, is .2, accepted-range file (read-file file blankJob (is .0)) .sizes .grocers-most)
+    grocers-few = omega (arith, ap (λ (h : Head). h .grocers) (is .1), accepted-range file (read-file file blankJob (is .0)) .sizes .grocers-most)
 
     -- The tables that were read are the job's, and what is printed of it is printed of the file.
-    pub job-text : jobText (jobTables k m n t (l .job .price) (l .job .offerOwner) (l .job .grocerOwner) (l .job .tallyGrocer) (l .job .tallyBox) (l .tallyOffer) (l .job .tallyCount)) ≡ printed file
+    pub job-text : jobText (jobTables k m n t (l .job .offers .price) (l .job .offers .owner) (l .job .grocerOwner) (l .job .tallies .grocer) (l .job .tallies .box) (l .tallyOffer) (l .job .tallies .count)) ≡ printed file
     unfolding printed readText jobRead
     job-text =
-        ap
-        (λ (o : ReadOutcome). jobText (jobTables k m n t (o .tables .job .price) (o .tables .job .offerOwner) (o .tables .job .grocerOwner) (o .tables .job .tallyGrocer) (o .tables .job .tallyBox)
-        (o .tables .tallyOffer) (o .tables .job .tallyCount)))
-        e
-        ∙ rw (sym (is .1), sym (is .2), sym (is .3), sym (is .4))
-        (ap (λ (x : Answer). readText file (answerOf x)) (sym h) ∙ ap (λ (o : ReadOutcome). readText file (o .answer)) e)
+        ap (λ (o : ReadOutcome). text (headOf k m n t) (o .tables)) e
+        ∙ ap (λ (h : Head). text h (readResult file blankJob .tables)) (sym (is .1))
+        ∙ ap (λ (x : Answer). readText file (answerOf x)) (sym h) ∙ ap (λ (o : ReadOutcome). readText file (o .answer)) e
+      where
+        text : Head → ReaderTables → List ℕ
+        text h l = jobText (jobTables (h .boxes) (h .grocers) (h .offers) (h .tallies) (l .job .offers .price) (l .job .offers .owner) (l .job .grocerOwner)
+            (l .job .tallies .grocer) (l .job .tallies .box) (l .tallyOffer) (l .job .tallies .count))

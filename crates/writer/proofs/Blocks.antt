@@ -29,29 +29,29 @@ some-bytes grocerBlock = omega arith
 some-bytes (tallyBlock b) = omega arith
 
 -- A record's bytes past its fields are 0, as are those past the block's records.
-record-is : (j : FileJob) (b : BlockKind) (s : ℕ) → recordByte j b s ≡ cond (ltb s (records j b * recordSize b)) (rowsOf (recordSize b) (λ r. bytesOf (recordBytes j b r)) s) 0
+record-is : (j : FileJob) (b : BlockKind) (s : ℕ) → recordByte j b s ≡ cond (ltb s (records (j .head) b * recordSize b)) (rowsOf (recordSize b) (λ r. bytesOf (recordBytes j b r)) s) 0
 unfolding recordByte spare
 record-is j b s =
-    elim (decLt s (records j b * recordSize b)) [
-      | yes l ↦ rw (lt-ltb s (records j b * recordSize b) l, lt-leb (records j b) (s / recordSize b) (div-lt-iff-lt-mul (some-bytes b) .1 l))
+    elim (decLt s (records (j .head) b * recordSize b)) [
+      | yes l ↦ rw (lt-ltb s (records (j .head) b * recordSize b) l, lt-leb (records (j .head) b) (s / recordSize b) (div-lt-iff-lt-mul (some-bytes b) .1 l))
           (split (leb (fieldSize b) (s % recordSize b))
           (λ e. rw e (sym (List·getD-eq-default (recordBytes j b (s / recordSize b)) 0 (rw fields-length (leb-true _ _ e)))))
           (λ e. rw e))
-      | no l ↦ rw (le-ltb s (records j b * recordSize b) (omega (arith, l)), le-leb (records j b) (s / recordSize b) (behind l))
+      | no l ↦ rw (le-ltb s (records (j .head) b * recordSize b) (omega (arith, l)), le-leb (records (j .head) b) (s / recordSize b) (behind l))
     ]
   where
-    behind : (s < records j b * recordSize b → ⊥) → records j b ≤ s / recordSize b
+    behind : (s < records (j .head) b * recordSize b → ⊥) → records (j .head) b ≤ s / recordSize b
     behind l =
-        elim (decLt (s / recordSize b) (records j b)) [
+        elim (decLt (s / recordSize b) (records (j .head) b)) [
           | yes h ↦ absurd (l (div-lt-iff-lt-mul (some-bytes b) .0 h))
           | no h ↦ omega (arith, h)
         ]
 
 -- Block k of a job's file is its head, its records and zeros.
-pub body-is : (j : FileJob) (k p : ℕ) → bodyByte j k p ≡ bodyOf (blockKindNumber (kindAt (j .offers) k) ∷ records j (kindAt (j .offers) k) ∷ bytes16 k) (recordSize (kindAt (j .offers) k))
-    (records j (kindAt (j .offers) k)) (λ r. bytesOf (recordBytes j (kindAt (j .offers) k) r)) p
+pub body-is : (j : FileJob) (k p : ℕ) → bodyByte j k p ≡ bodyOf (blockKindNumber (kindAt (j .head) k) ∷ records (j .head) (kindAt (j .head) k) ∷ bytes16 k) (recordSize (kindAt (j .head) k))
+    (records (j .head) (kindAt (j .head) k)) (λ r. bytesOf (recordBytes j (kindAt (j .head) k) r)) p
 unfolding bodyByte bodyOf
-body-is j k p = rw (record-is j (kindAt (j .offers) k) (p - 4))
+body-is j k p = rw (record-is j (kindAt (j .head) k) (p - 4))
 
 -- ---- a block's bytes
 

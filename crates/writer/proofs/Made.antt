@@ -6,6 +6,8 @@ use native.Mathlib.Omega.{arith}
 use lib.ListN.{length, getD, set, List·getD-append, List·getD-eq-default}
 use lib.Seq.{getD-append-add}
 use Rattle.format.specs.Bytes.{from, bytes16}
+use Rattle.format.specs.Job.{headOf}
+use Rattle.format.specs.Blocks.{headerBytes}
 use Rattle.format.specs.File.{blockByte}
 use Rattle.writer.specs.Puts.{put, bytesOf, rowsOf, bodyOf, keepOf, recordBody}
 use Rattle.writer.proofs.Puts.{put-next, store-put, store-next}
@@ -28,7 +30,8 @@ head-put at kind records number d d′ room e =
 
 -- K, 1, M, N and T are the header's record.
 pub sizes-put : (k m n t : ℕ) (d d₂ d₃ d₄ : List ℕ) → 12 ≤ length d → d₂ ≡ put 6 2 (bytesOf (bytes16 m)) (set (set d 4 k) 5 1) → d₃ ≡ put 8 2 (bytesOf (bytes16 n)) d₂ → d₄ ≡ put 10 2 (bytesOf (bytes16 t)) d₃ →
-    d₄ ≡ put 4 8 (bytesOf (k ∷ 1 ∷ bytes16 m ++ bytes16 n ++ bytes16 t)) d
+    d₄ ≡ put 4 8 (bytesOf (headerBytes (headOf k m n t))) d
+unfolding headerBytes
 sizes-put k m n t d d₂ d₃ d₄ room e₂ e₃ e₄ =
     let f = bytesOf (k ∷ 1 ∷ bytes16 m ++ bytes16 n ++ bytes16 t) in
     let q₂ : d₂ ≡ put 4 4 f d =

@@ -11,12 +11,11 @@ use Rattle.laws.proofs.Tables.{length-tabulate}
 use Rattle.laws.proofs.Bools.{or-off}
 use Rattle.laws.proofs.Checks.{unmet}
 use Rattle.format.specs.Bytes.{bytes16}
-use Rattle.format.specs.Job.{FileJob}
+use Rattle.format.specs.Job.{Head, FileJob}
 use Rattle.format.specs.Blocks.{BlockKind, header, offerBlock, grocerBlock, tallyBlock, blocksFor, blockCount, grocersAt, talliesAt, kindAt, blockKindNumber, records, recordSize, headerBytes, offerBytes, tallyBytes, recordBytes}
 use Rattle.format.specs.File.{bodyByte, blockByte, encode}
 use Rattle.format.specs.Refusals.{jobRefusal}
-use Rattle.format.specs.Tables.{FileTables, fileJobOf, wrote, notWritten, shortTables, shortWriter, writeRefusal, writeResult}
-use Rattle.checks.specs.Rows.{offerOf, tallyOf}
+use Rattle.format.specs.Tables.{FileTables, offerOf, tallyOf, fileJobOf, wrote, notWritten, shortTables, shortWriter, writeRefusal, writeResult}
 use Rattle.writer.specs.Puts.{put, bytesOf, bodyOf, recordBody, blocksOf}
 use Rattle.writer.specs.Ready.{Ready}
 use Rattle.format.proofs.Firsts.{each}
@@ -27,94 +26,91 @@ use Rattle.writer.proofs.Puts.{put-none, put-front}
 use Rattle.writer.proofs.Blocks.{body-is, blocks-behind, block-behind}
 
 -- The body of a block whose kind is known.
-kind-body : (j : FileJob) (k p : ℕ) (b : BlockKind) → kindAt (j .offers) k ≡ b → bodyByte j k p ≡ bodyOf (blockKindNumber b ∷ records j b ∷ bytes16 k) (recordSize b) (records j b) (λ r. bytesOf (recordBytes j b r)) p
-kind-body j k p b e = body-is j k p ∙ ap (λ (b : BlockKind). bodyOf (blockKindNumber b ∷ records j b ∷ bytes16 k) (recordSize b) (records j b) (λ r. bytesOf (recordBytes j b r)) p) e
+kind-body : (j : FileJob) (k p : ℕ) (b : BlockKind) → kindAt (j .head) k ≡ b → bodyByte j k p ≡ bodyOf (blockKindNumber b ∷ records (j .head) b ∷ bytes16 k) (recordSize b) (records (j .head) b) (λ r. bytesOf (recordBytes j b r)) p
+kind-body j k p b e = body-is j k p ∙ ap (λ (b : BlockKind). bodyOf (blockKindNumber b ∷ records (j .head) b ∷ bytes16 k) (recordSize b) (records (j .head) b) (λ r. bytesOf (recordBytes j b r)) p) e
 
-module _ (k m n t : ℕ) (l : FileTables) where
-  header-body : (p : ℕ) → bodyOf (0 ∷ 1 ∷ bytes16 0) 504 1 (λ _. bytesOf (k ∷ 1 ∷ bytes16 m ++ bytes16 n ++ bytes16 t)) p ≡ bodyByte (fileJobOf k m n t l) 0 p
-  unfolding fileJobOf recordBytes headerBytes
-  header-body p = sym (kind-body (fileJobOf k m n t l) 0 p header (kind-header n))
-
-  offer-body : (b p : ℕ) → b < blocksFor n → recordBody 1 1 n (λ i. offerBytes (offerOf (l .price) (l .offerOwner) (l .offerCode) i)) b p ≡ bodyByte (fileJobOf k m n t l) (1 + b) p
+module _ (h : Head) (l : FileTables) where
+  header-body : (p : ℕ) → bodyOf (0 ∷ 1 ∷ bytes16 0) 504 1 (λ _. bytesOf (headerBytes h)) p ≡ bodyByte (fileJobOf h l) 0 p
   unfolding fileJobOf recordBytes
-  offer-body b p h = sym (kind-body (fileJobOf k m n t l) (1 + b) p (offerBlock b) (kind-offers n b h))
+  header-body p = sym (kind-body (fileJobOf h l) 0 p header (kind-header h))
 
-  grocer-body : (p : ℕ) → bodyOf (2 ∷ m ∷ bytes16 (grocersAt n)) 1 m (λ r. bytesOf (getD (l .grocerOwner) r 0 ∷ [])) p ≡ bodyByte (fileJobOf k m n t l) (grocersAt n) p
+  offer-body : (b p : ℕ) → b < blocksFor (h .offers) → recordBody 1 1 (h .offers) (λ i. offerBytes (offerOf (l .offers) i)) b p ≡ bodyByte (fileJobOf h l) (1 + b) p
   unfolding fileJobOf recordBytes
-  grocer-body p = sym (kind-body (fileJobOf k m n t l) (grocersAt n) p grocerBlock (kind-grocers n))
+  offer-body b p q = sym (kind-body (fileJobOf h l) (1 + b) p (offerBlock b) (kind-offers h b q))
 
-  tally-body : (b p : ℕ) → recordBody 3 (talliesAt n) t (λ i. tallyBytes (tallyOf (l .tallyGrocer) (l .tallyBox) (l .tallyCode) (l .tallyCount) i)) b p ≡ bodyByte (fileJobOf k m n t l) (talliesAt n + b) p
+  grocer-body : (p : ℕ) → bodyOf (2 ∷ h .grocers ∷ bytes16 (grocersAt h)) 1 (h .grocers) (λ r. bytesOf (getD (l .grocerOwner) r 0 ∷ [])) p ≡ bodyByte (fileJobOf h l) (grocersAt h) p
   unfolding fileJobOf recordBytes
-  tally-body b p = sym (kind-body (fileJobOf k m n t l) (talliesAt n + b) p (tallyBlock b) (kind-tallies n b))
+  grocer-body p = sym (kind-body (fileJobOf h l) (grocersAt h) p grocerBlock (kind-grocers h))
+
+  tally-body : (b p : ℕ) → recordBody 3 (talliesAt h) (h .tallies) (λ i. tallyBytes (tallyOf (l .tallies) i)) b p ≡ bodyByte (fileJobOf h l) (talliesAt h + b) p
+  unfolding fileJobOf recordBytes
+  tally-body b p = sym (kind-body (fileJobOf h l) (talliesAt h + b) p (tallyBlock b) (kind-tallies h b))
 
   -- All blocks from the front on are the file.
-  file-front : (d : List ℕ) → put 0 (512 * blockCount n t) (blocksOf (bodyByte (fileJobOf k m n t l))) d ≡ encode (fileJobOf k m n t l) ++ drop (length (encode (fileJobOf k m n t l))) d
+  file-front : (d : List ℕ) → put 0 (512 * blockCount h) (blocksOf (bodyByte (fileJobOf h l))) d ≡ encode (fileJobOf h l) ++ drop (length (encode (fileJobOf h l))) d
   unfolding encode fileJobOf
   file-front d =
-      let f = blocksOf (bodyByte (fileJobOf k m n t l)) in
-      put-front (512 * blockCount n t) f d
-      ∙ ap (λ (x : ℕ). tabulate (512 * blockCount n t) f ++ drop x d) (sym (length-tabulate (512 * blockCount n t) f))
+      let f = blocksOf (bodyByte (fileJobOf h l)) in
+      put-front (512 * blockCount h) f d
+      ∙ ap (λ (x : ℕ). tabulate (512 * blockCount h) f ++ drop x d) (sym (length-tabulate (512 * blockCount h) f))
 
   -- Header, offer blocks, grocer block and tally blocks.
-  pub file-put : (d d₁ d₂ d₃ d₄ : List ℕ) → 512 * blockCount n t ≤ length d →
-      d₁ ≡ put 0 512 (blockByte (bodyOf (0 ∷ 1 ∷ bytes16 0) 504 1 (λ _. bytesOf (k ∷ 1 ∷ bytes16 m ++ bytes16 n ++ bytes16 t)))) d →
-      d₂ ≡ put 512 (blocksFor n * 512) (blocksOf (recordBody 1 1 n (λ i. offerBytes (offerOf (l .price) (l .offerOwner) (l .offerCode) i)))) d₁ →
-      d₃ ≡ put (512 * grocersAt n) 512 (blockByte (bodyOf (2 ∷ m ∷ bytes16 (grocersAt n)) 1 m (λ r. bytesOf (getD (l .grocerOwner) r 0 ∷ [])))) d₂ →
-      d₄ ≡ put (512 * talliesAt n) (blocksFor t * 512) (blocksOf (recordBody 3 (talliesAt n) t (λ i. tallyBytes (tallyOf (l .tallyGrocer) (l .tallyBox) (l .tallyCode) (l .tallyCount) i)))) d₃ →
-      d₄ ≡ encode (fileJobOf k m n t l) ++ drop (length (encode (fileJobOf k m n t l))) d
+  pub file-put : (d d₁ d₂ d₃ d₄ : List ℕ) → 512 * blockCount h ≤ length d →
+      d₁ ≡ put 0 512 (blockByte (bodyOf (0 ∷ 1 ∷ bytes16 0) 504 1 (λ _. bytesOf (headerBytes h)))) d →
+      d₂ ≡ put 512 (blocksFor (h .offers) * 512) (blocksOf (recordBody 1 1 (h .offers) (λ i. offerBytes (offerOf (l .offers) i)))) d₁ →
+      d₃ ≡ put (512 * grocersAt h) 512 (blockByte (bodyOf (2 ∷ h .grocers ∷ bytes16 (grocersAt h)) 1 (h .grocers) (λ r. bytesOf (getD (l .grocerOwner) r 0 ∷ [])))) d₂ →
+      d₄ ≡ put (512 * talliesAt h) (blocksFor (h .tallies) * 512) (blocksOf (recordBody 3 (talliesAt h) (h .tallies) (λ i. tallyBytes (tallyOf (l .tallies) i)))) d₃ →
+      d₄ ≡ encode (fileJobOf h l) ++ drop (length (encode (fileJobOf h l))) d
   file-put d d₁ d₂ d₃ d₄ room e₁ e₂ e₃ e₄ =
-      let body = bodyByte (fileJobOf k m n t l) in
+      let body = bodyByte (fileJobOf h l) in
       let q₁ : d₁ ≡ put 0 512 (blocksOf body) d = e₁ ∙ ap (put 0 512 (blockByte _)) (put-none 0 (blocksOf body) d) ∙ block-behind body _ 0 d (omega arith) header-body in
-      let q₂ : d₂ ≡ put 0 (512 * grocersAt n) (blocksOf body) d = e₂ ∙ ap (put 512 (blocksFor n * 512) _) q₁ ∙ blocks-behind body _ 1 (blocksFor n) d (omega arith) offer-body in
-      let q₃ : d₃ ≡ put 0 (512 * talliesAt n) (blocksOf body) d = e₃ ∙ ap (put (512 * grocersAt n) 512 _) q₂ ∙ block-behind body _ (grocersAt n) d (omega arith) grocer-body in
-      e₄ ∙ ap (put (512 * talliesAt n) (blocksFor t * 512) _) q₃ ∙ blocks-behind body _ (talliesAt n) (blocksFor t) d (omega arith) (λ b p h. tally-body b p) ∙ file-front d
+      let q₂ : d₂ ≡ put 0 (512 * grocersAt h) (blocksOf body) d = e₂ ∙ ap (put 512 (blocksFor (h .offers) * 512) _) q₁ ∙ blocks-behind body _ 1 (blocksFor (h .offers)) d (omega arith) offer-body in
+      let q₃ : d₃ ≡ put 0 (512 * talliesAt h) (blocksOf body) d = e₃ ∙ ap (put (512 * grocersAt h) 512 _) q₂ ∙ block-behind body _ (grocersAt h) d (omega arith) grocer-body in
+      e₄ ∙ ap (put (512 * talliesAt h) (blocksFor (h .tallies) * 512) _) q₃ ∙ blocks-behind body _ (talliesAt h) (blocksFor (h .tallies)) d (omega arith) (λ b p q. tally-body b p) ∙ file-front d
 
 -- ---- where nothing is refused
 
-module _ (k m n t : ℕ) (l : FileTables) (out : List ℕ) (ok : writeRefusal k m n t l out ≡ 0) where
-  not-short : shortWriter m n t l out ≡ false
+module _ (h : Head) (l : FileTables) (out : List ℕ) (ok : writeRefusal h l out ≡ 0) where
+  not-short : shortWriter h l out ≡ false
   unfolding writeRefusal
   not-short = unmet _ refl (each _ ok 0) .0
 
-  taken : jobRefusal (fileJobOf k m n t l) ≡ 0
+  taken : jobRefusal (fileJobOf h l) ≡ 0
   unfolding writeRefusal
   taken = each _ ok 1
 
   -- The file can be put.
-  pub ready : Ready k m n t l out
+  pub ready : Ready h l out
   unfolding shortWriter fileJobOf
   ready =
-      let s = or-off (shortTables m n t l) _ not-short in
-      let r = in-range (fileJobOf k m n t l) taken in
+      let s = or-off (shortTables h l) _ not-short in
+      let r = in-range (fileJobOf h l) taken in
       let z = r .sizes in
       record {
-        boxes = z .boxes-most;
-        grocers = z .grocers-most;
-        offers = z .offers-most;
-        tallies = z .tallies-most;
-        long = long-tables m n t l (s .0);
+        most = record { boxes = z .boxes-most; grocers = z .grocers-most; offers = z .offers-most; tallies = z .tallies-most };
+        long = long-tables h l (s .0);
         room = ltb-false _ _ (s .1);
-        offerOwner = record { small = λ i h. omega (arith, r .offer i h .owner, z .boxes-most) };
-        grocerOwner = record { small = λ i h. omega (arith, r .grocerOwner i h, z .boxes-most) };
-        tallyBox = record { small = λ i h. omega (arith, r .tally i h .box, z .boxes-most) };
+        offerOwner = record { small = λ i q. omega (arith, r .offer i q .owner, z .boxes-most) };
+        grocerOwner = record { small = λ i q. omega (arith, r .grocerOwner i q, z .boxes-most) };
+        tallyBox = record { small = λ i q. omega (arith, r .tally i q .box, z .boxes-most) };
       }
 
 -- ---- what the writer gives
 
-module _ (k m n t : ℕ) (l : FileTables) (out : List ℕ) where
+module _ (h : Head) (l : FileTables) (out : List ℕ) where
   -- A refusal, and the buffer as it was.
-  pub refused-is : (r : ℕ) → r ≡ writeRefusal k m n t l out → (r ≡ 0 → ⊥) → record { answer = notWritten r; out = out } ≡ writeResult k m n t l out
-  refused-is r e h =
+  pub refused-is : (r : ℕ) → r ≡ writeRefusal h l out → (r ≡ 0 → ⊥) → record { answer = notWritten r; out = out } ≡ writeResult h l out
+  refused-is r e q =
       ap (λ (x : ℕ). record { answer = notWritten x; out = out }) e
-      ∙ sym (write-refused k m n t l out (λ z. h (e ∙ z)))
+      ∙ sym (write-refused h l out (λ z. q (e ∙ z)))
 
-  file-length : length (encode (fileJobOf k m n t l)) ≡ 512 * blockCount n t
+  file-length : length (encode (fileJobOf h l)) ≡ 512 * blockCount h
   unfolding encode fileJobOf
   file-length = length-tabulate _ _
 
   -- The file's length, and the file in front of the rest.
-  pub written-is : writeRefusal k m n t l out ≡ 0 → (x : ℕ) (d : List ℕ) → x ≡ 512 * blockCount n t → d ≡ encode (fileJobOf k m n t l) ++ drop (length (encode (fileJobOf k m n t l))) out → record
-      { answer = wrote x; out = d } ≡ writeResult k m n t l out
-  written-is ok x d e h =
-      ap₂ (λ (x : ℕ) (d : List ℕ). record { answer = wrote x; out = d }) (e ∙ sym file-length) h
-      ∙ sym (write-accepted k m n t l out ok)
+  pub written-is : writeRefusal h l out ≡ 0 → (x : ℕ) (d : List ℕ) → x ≡ 512 * blockCount h → d ≡ encode (fileJobOf h l) ++ drop (length (encode (fileJobOf h l))) out → record
+      { answer = wrote x; out = d } ≡ writeResult h l out
+  written-is ok x d e q =
+      ap₂ (λ (x : ℕ) (d : List ℕ). record { answer = wrote x; out = d }) (e ∙ sym file-length) q
+      ∙ sym (write-accepted h l out ok)

@@ -2,18 +2,17 @@
 use mathlib.Core.List.{List}
 use Prim.Native.Nat.{ℕ, _*_, _≤_}
 use lib.ListN.{length}
+use Rattle.format.specs.Job.{Head}
 use Rattle.format.specs.Blocks.{blockCount}
 use Rattle.format.specs.Tables.{FileTables, Long}
+use Rattle.blocks.specs.Due.{Most}
 use Rattle.writer.specs.Puts.{Small}
 
 -- K, M, N and T are in range, each table and the buffer are long enough, and each word that takes one byte fits it.
-pub record Ready (k m n t : ℕ) (l : FileTables) (out : List ℕ) : Type 0 where
-  pub boxes : k ≤ 16
-  pub grocers : m ≤ 255
-  pub offers : n ≤ 500
-  pub tallies : t ≤ 1_000
-  pub long : Long m n t l
-  pub room : 512 * blockCount n t ≤ length out
-  pub offerOwner : Small (l .offerOwner) n
-  pub grocerOwner : Small (l .grocerOwner) m
-  pub tallyBox : Small (l .tallyBox) t
+pub record Ready (h : Head) (l : FileTables) (out : List ℕ) : Type 0 where
+  pub most : Most h
+  pub long : Long h l
+  pub room : 512 * blockCount h ≤ length out
+  pub offerOwner : Small (l .offers .owner) (h .offers)
+  pub grocerOwner : Small (l .grocerOwner) (h .grocers)
+  pub tallyBox : Small (l .tallies .box) (h .tallies)

@@ -1,12 +1,13 @@
 // Blocks put into the buffer for the file: head, records, zeros and both sums.
 ghost use mathlib.Core.Path.{_≡_};
-ghost use mathlib.Core.List.{[], _∷_, _++_};
+ghost use mathlib.Core.List.{[], _∷_};
 ghost use Prim.Native.Nat.{_+_, _-_, _*_, _≤_, _<_, min};
 ghost use lib.ListN.{length, getD};
 ghost use Rattle.format.specs.Bytes.{from, bytes16};
-ghost use Rattle.format.specs.Blocks.{offerBytes, tallyBytes};
+ghost use Rattle.format.specs.Blocks.{headerBytes, offerBytes, tallyBytes};
 ghost use Rattle.format.specs.File.{blockByte};
-ghost use Rattle.checks.specs.Rows.{offerOf, tallyOf};
+ghost use Rattle.format.specs.Tables.{offerTables, tallyTables, LongOffers, LongTallies, offerOf, tallyOf};
+ghost use Rattle.blocks.specs.Due.{asHead, Most};
 ghost use Rattle.writer.specs.Puts.{put, bytesOf, bodyOf, keepOf, recordBody, Small};
 use crate::bytes::byte;
 use crate::bytes::put_zeros;
@@ -14,8 +15,8 @@ use crate::bytes::put16;
 use crate::records::put_offers;
 use crate::records::put_owners;
 use crate::records::put_tallies;
+use blocks::plan::Head;
 use blocks::sums::sums;
-use checks::sizes::size_of;
 
 // The first four bytes of a block.
 fn put_head(out: &mut [u8], at: usize, kind: u8, records: usize, number: usize)
@@ -53,25 +54,25 @@ fn part_of(n: usize, first: usize) -> usize
 }
 
 // The header's record: K, 1, M, N and T.
-fn put_sizes(out: &mut [u8], boxes: u16, grocers: u16, offers: u16, tallies: u16)
-    requires { ⌜ (12 ≤ length (now out)) × (boxes < 256) ⌝ }
-    ensures { λ _. ⌜ now (out .exit) ≡ put 4 8 (bytesOf (boxes ∷ 1 ∷ bytes16 grocers ++ bytes16 offers ++ bytes16 tallies)) (now (out .entry)) ⌝ }
+fn put_sizes(out: &mut [u8], head: Head)
+    requires { ⌜ (12 ≤ length (now out)) × Most (asHead head) ⌝ }
+    ensures { λ _. ⌜ now (out .exit) ≡ put 4 8 (bytesOf (headerBytes (asHead head))) (now (out .entry)) ⌝ }
 {
-    out[4] = boxes as u8;
+    out[4] = byte(head.boxes);
     out[5] = 1;
-    put16(out, 6, size_of(grocers));
-    put16(out, 8, size_of(offers));
-    put16(out, 10, size_of(tallies));
+    put16(out, 6, head.grocers);
+    put16(out, 8, head.offers);
+    put16(out, 10, head.tallies);
 }
 
 // The header block.
-pub fn put_header(out: &mut [u8], boxes: u16, grocers: u16, offers: u16, tallies: u16)
-    requires { ⌜ (512 ≤ length (now out)) × (boxes < 256) ⌝ }
-    ensures { λ _. ⌜ now (out .exit) ≡ put 0 512 (blockByte (bodyOf (0 ∷ 1 ∷ bytes16 0) 504 1
-        (λ _. bytesOf (boxes ∷ 1 ∷ bytes16 grocers ++ bytes16 offers ++ bytes16 tallies)))) (now (out .entry)) ⌝ }
+pub fn put_header(out: &mut [u8], head: Head)
+    requires { ⌜ (512 ≤ length (now out)) × Most (asHead head) ⌝ }
+    ensures { λ _. ⌜ now (out .exit) ≡ put 0 512 (blockByte (bodyOf (0 ∷ 1 ∷ bytes16 0) 504 1 (λ _. bytesOf (headerBytes (asHead head)))))
+        (now (out .entry)) ⌝ }
 {
     put_head(out, 0, 0, 1, 0);
-    put_sizes(out, boxes, grocers, offers, tallies);
+    put_sizes(out, head);
     close_block(out, 0, 12);
 }
 
@@ -81,34 +82,35 @@ pub fn put_offer_block(
     b: usize,
     n: usize,
     price: &[u32],
-    owner: &[u16],
-    code: &[u8],
+    offer_owner: &[u16],
+    offer_code: &[u8],
 )
     requires { ⌜ (n ≤ 500) × ((21 * b < n) × (512 * (2 + b) ≤ length (now out))) ⌝ }
-    requires { ⌜ (n ≤ length (now price)) × ((n ≤ length (now owner)) × (n * 11 ≤ length (now code))) ⌝ }
-    requires { ⌜ Small (now owner) n ⌝ }
+    requires { ⌜ LongOffers n (offerTables (now price) (now «offer_owner») (now «offer_code»)) ⌝ }
+    requires { ⌜ Small (now «offer_owner») n ⌝ }
     ensures { λ _. ⌜ now (out .exit) ≡ put (512 * (1 + b)) 512 (blockByte
-        (recordBody 1 1 n (λ i. offerBytes (offerOf (now (price .entry)) (now (owner .entry)) (now (code .entry)) i)) b)) (now (out .entry)) ⌝ }
+        (recordBody 1 1 n (λ i. offerBytes (offerOf (offerTables (now (price .entry)) (now («offer_owner» .entry))
+        (now («offer_code» .entry))) i)) b)) (now (out .entry)) ⌝ }
 {
     let number = 1 + b;
     let at = 512 * number;
     let first = 21 * b;
     let count = part_of(n, first);
     put_head(out, at, 1, count, number);
-    put_offers(out, at + 4, first, count, price, owner, code);
+    put_offers(out, at + 4, first, count, price, offer_owner, offer_code);
     close_block(out, at, 4 + count * 24);
 }
 
 // The grocer block, block k, of m grocers.
-pub fn put_grocer_block(out: &mut [u8], k: usize, m: usize, gowner: &[u16])
+pub fn put_grocer_block(out: &mut [u8], k: usize, m: usize, grocer_owner: &[u16])
     requires { ⌜ (m ≤ 255) × ((k < 65536) × (512 * (k + 1) ≤ length (now out))) ⌝ }
-    requires { ⌜ (m ≤ length (now gowner)) × Small (now gowner) m ⌝ }
+    requires { ⌜ (m ≤ length (now «grocer_owner»)) × Small (now «grocer_owner») m ⌝ }
     ensures { λ _. ⌜ now (out .exit) ≡ put (512 * k) 512 (blockByte (bodyOf (2 ∷ m ∷ bytes16 k) 1 m
-        (λ r. bytesOf (getD (now (gowner .entry)) r 0 ∷ [])))) (now (out .entry)) ⌝ }
+        (λ r. bytesOf (getD (now («grocer_owner» .entry)) r 0 ∷ [])))) (now (out .entry)) ⌝ }
 {
     let at = 512 * k;
     put_head(out, at, 2, m, k);
-    put_owners(out, at + 4, m, gowner);
+    put_owners(out, at + 4, m, grocer_owner);
     close_block(out, at, 4 + m);
 }
 
@@ -118,16 +120,17 @@ pub fn put_tally_block(
     k: usize,
     b: usize,
     t: usize,
-    tgrocer: &[u16],
-    tbox: &[u16],
-    tcode: &[u8],
-    tcount: &[i32],
+    tally_grocer: &[u16],
+    tally_box: &[u16],
+    tally_code: &[u8],
+    tally_count: &[i32],
 )
     requires { ⌜ (t ≤ 1000) × ((21 * b < t) × ((k ≤ 100) × (512 * (k + b + 1) ≤ length (now out)))) ⌝ }
-    requires { ⌜ (t ≤ length (now tgrocer)) × ((t ≤ length (now tbox)) × ((t * 11 ≤ length (now tcode)) × (t ≤ length (now tcount)))) ⌝ }
-    requires { ⌜ Small (now tbox) t ⌝ }
+    requires { ⌜ LongTallies t (tallyTables (now «tally_grocer») (now «tally_box») (now «tally_code») (now «tally_count»)) ⌝ }
+    requires { ⌜ Small (now «tally_box») t ⌝ }
     ensures { λ _. ⌜ now (out .exit) ≡ put (512 * (k + b)) 512 (blockByte
-        (recordBody 3 k t (λ i. tallyBytes (tallyOf (now (tgrocer .entry)) (now (tbox .entry)) (now (tcode .entry)) (now (tcount .entry)) i)) b))
+        (recordBody 3 k t (λ i. tallyBytes (tallyOf (tallyTables (now («tally_grocer» .entry)) (now («tally_box» .entry)) (now («tally_code» .entry))
+        (now («tally_count» .entry))) i)) b))
         (now (out .entry)) ⌝ }
 {
     let number = k + b;
@@ -135,6 +138,15 @@ pub fn put_tally_block(
     let first = 21 * b;
     let count = part_of(t, first);
     put_head(out, at, 3, count, number);
-    put_tallies(out, at + 4, first, count, tgrocer, tbox, tcode, tcount);
+    put_tallies(
+        out,
+        at + 4,
+        first,
+        count,
+        tally_grocer,
+        tally_box,
+        tally_code,
+        tally_count,
+    );
     close_block(out, at, 4 + count * 24);
 }

@@ -1,5 +1,6 @@
 // The writer of the job file.
 ghost use mathlib.Core.Path.{_≡_};
+ghost use Rattle.format.specs.Job.{headOf};
 ghost use Rattle.format.specs.Tables.{fileTables, writeResult};
 ghost use Rattle.writer.specs.Outcome.{outcomeOf};
 
@@ -10,6 +11,7 @@ mod records;
 
 use checks::refusal::write_refusal;
 use checks::sizes::file_length;
+use checks::sizes::head_of;
 use file::put_file;
 
 // What the writer answers: the file's length, or a refusal's number.
@@ -25,51 +27,46 @@ pub fn write(
     offers: u16,
     tallies: u16,
     price: &[u32],
-    owner: &[u16],
-    code: &[u8],
-    gowner: &[u16],
-    tgrocer: &[u16],
-    tbox: &[u16],
-    tcode: &[u8],
-    tcount: &[i32],
+    offer_owner: &[u16],
+    offer_code: &[u8],
+    grocer_owner: &[u16],
+    tally_grocer: &[u16],
+    tally_box: &[u16],
+    tally_code: &[u8],
+    tally_count: &[i32],
     out: &mut [u8],
 ) -> Answer
-    ensures { λ r. ⌜ outcomeOf r (now (out .exit)) ≡ writeResult boxes grocers offers tallies
-        (fileTables (now (price .entry)) (now (owner .entry)) (now (code .entry)) (now (gowner .entry)) (now (tgrocer .entry)) (now (tbox .entry))
-        (now (tcode .entry)) (now (tcount .entry))) (now (out .entry)) ⌝ }
+    ensures { λ r. ⌜ outcomeOf r (now (out .exit)) ≡ writeResult (headOf boxes grocers offers tallies)
+        (fileTables (now (price .entry)) (now («offer_owner» .entry)) (now («offer_code» .entry)) (now («grocer_owner» .entry))
+        (now («tally_grocer» .entry)) (now («tally_box» .entry)) (now («tally_code» .entry)) (now («tally_count» .entry))) (now (out .entry)) ⌝ }
 {
+    let head = head_of(boxes, grocers, offers, tallies);
     let refusal = write_refusal(
-        boxes,
-        grocers,
-        offers,
-        tallies,
+        head,
         price,
-        owner,
-        code,
-        gowner,
-        tgrocer,
-        tbox,
-        tcode,
-        tcount,
+        offer_owner,
+        offer_code,
+        grocer_owner,
+        tally_grocer,
+        tally_box,
+        tally_code,
+        tally_count,
         out,
     );
     if refusal != 0 {
         return Answer::Refused(refusal);
     }
     put_file(
-        boxes,
-        grocers,
-        offers,
-        tallies,
+        head,
         price,
-        owner,
-        code,
-        gowner,
-        tgrocer,
-        tbox,
-        tcode,
-        tcount,
+        offer_owner,
+        offer_code,
+        grocer_owner,
+        tally_grocer,
+        tally_box,
+        tally_code,
+        tally_count,
         out,
     );
-    Answer::Wrote(file_length(offers as usize, tallies as usize))
+    Answer::Wrote(file_length(head))
 }

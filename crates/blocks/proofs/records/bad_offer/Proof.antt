@@ -12,11 +12,11 @@ use Rattle.blocks.proofs.records.bad_offer.Tie as tie
 returns : tie.Need-returns
 unfolding badOffer readOffer
 returns c =
-    let z = c .before in
+    let z = c .before .before in
     let p = z .before .before in
     let s = p .before .before in
     let e = c .is-code .ensures ∙ ap (λ (g : ℕ → ℕ). isCode (readCode g)) (from-after (s .args .f .now) (s .args .at) 5) in
-    rw (← (s .pre .1), p .word32 .ensures, z .size .ensures .0, e)
+    rw (p .word32 .ensures, z .size .ensures .0, e)
 
 pub bad-offer-spec : {M : Type 1} → statement M
 bad-offer-spec =

@@ -6,29 +6,24 @@ use borrow.Author.Needs.{needs}
 use Rattle.laws.specs.Below.{any}
 use Rattle.laws.proofs.Below.{any-end, any-more}
 use Rattle.format.specs.Job.{badOffer}
-use Rattle.format.specs.File.{decode}
-use Rattle.blocks.proofs.Places.{offer-at}
+use Rattle.format.specs.Bytes.{from}
+use Rattle.format.specs.File.{readOffer}
+use Rattle.blocks.specs.Due.{asHead}
 use Rattle.blocks.proofs.records.bad_offers.Statement.{statement}
 use Rattle.blocks.proofs.records.bad_offers.Tie as tie
 
 abbrev Inv-loop : tie.InvT-loop
-Inv-loop f k count boxes at found₀ i₀ found i = (i ≤ count) × (found ≡ any i (λ r. badOffer (decode f) (decode f .offer (21 * (k - 1) + r))))
+Inv-loop f at count head found₀ i₀ found i = (i ≤ count) × (found ≡ any i (λ r. badOffer (asHead head) (readOffer (from f (at + 24 * r)))))
 
 abbrev μ-loop : tie.MeasureT-loop
-μ-loop f k count boxes at found₀ i₀ found i = count - i
+μ-loop f at count head found₀ i₀ found i = count - i
 
 loop-holds : tie.Need-loop-holds Inv-loop μ-loop
 unfolding any
 loop-holds c = (omega arith, refl)
 
 loop-again : tie.Need-loop-again Inv-loop μ-loop
-loop-again c =
-    let l = c .before .before in
-    let s = l .before .before in
-    let f = s .args .f .now in (
-      omega arith,
-      any-more (l .loop .i) _ _ _ (l .loop .inv .1) (c .bad-offer .ensures ∙ ap (badOffer (decode f)) (offer-at f (s .args .k) (l .loop .i) (omega arith) (omega arith))),
-    )
+loop-again c = (omega arith, any-more _ _ _ _ (c .before .before .loop .inv .1) (c .bad-offer .ensures))
 
 returns : tie.Need-returns Inv-loop μ-loop
 returns c = any-end _ _ _ _ (omega arith) (c .before .loop .inv .1)
@@ -39,8 +34,6 @@ bad-offers-spec =
     (tie.spec
     Inv-loop
     μ-loop
-    (λ c. search needs)
-    (λ c. search needs)
     loop-holds
     (λ c. search needs)
     (λ c. search needs)

@@ -19,13 +19,13 @@ unfolding badTally readTally
 returns c =
     let v = c .before in
     let q = v .before in
-    let z = q .before in
-    let g = z .before .before in
+    let z = q .before .before in
+    let g = z .before .before .before in
     let s = g .before .before in
     let f = s .args .f .now in
     let e = q .is-code .ensures ∙ ap (λ (g : ℕ → ℕ). isCode (readCode g)) (from-after f (s .args .at) 3) in
     let n = c .bad-count .ensures ∙ ap (λ (x : ℕ). ltb 99999 (natAbs (toZ w32 x))) (v .word32 .ensures ∙ ap word32 (from-after f (s .args .at) 14)) in
-    rw (← (s .pre .1 .0), ← (s .pre .1 .1), g .word16 .ensures .0, z .size .ensures .0, e, n)
+    rw (g .word16 .ensures .0, z .size .ensures .0, e, n)
 
 pub bad-tally-spec : {M : Type 1} → statement M
 bad-tally-spec =

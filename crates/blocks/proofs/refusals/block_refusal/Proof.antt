@@ -1,8 +1,9 @@
 -- `blocks::refusals::block_refusal` meets its contract. Assumes nothing.
 use Prim.Native.Nat.{ℕ}
-use mathlib.Core.Path.{_≡_, sym, ap, _∙_}
+use mathlib.Core.Path.{_≡_, sym, ap, subst, _∙_}
 use Rattle.laws.specs.Below.{any}
 use Rattle.laws.specs.Checks.{firstMet}
+use Rattle.format.specs.Job.{Head}
 use Rattle.format.specs.Blocks.{kindAt, blockKindNumber, records}
 use Rattle.format.specs.File.{decode}
 use Rattle.format.specs.Refusals.{blockRefusal, badRecord}
@@ -12,26 +13,21 @@ use Rattle.blocks.proofs.refusals.block_refusal.Statement.{statement}
 use Rattle.blocks.proofs.refusals.block_refusal.Tie as tie
 
 -- What the code has computed is what is due.
-due : (c : tie.After-records-at) → Due (c .before .before .before .args .f .now) (c .before .before .before .args .k) (c .before .kind-at .result) (c .records-at .result)
+due : (c : tie.After-records-at) → Due (decode (c .before .before .before .args .f .now) .head) (c .before .before .before .args .k) (c .before .kind-at .result) (c .records-at .result)
 due c =
     let s = c .before .before .before in
-    let j = decode (s .args .f .now) in
-    let i = s .pre .1 .0 in
-    record {
-      kind = c .before .kind-at .ensures ∙ ap (λ (n : ℕ). blockKindNumber (kindAt n (s .args .k))) (i .offers);
-      count = c .records-at .ensures .0 j (sym (i .grocers)) (sym (i .offers)) (sym (i .tallies)) ∙ ap (λ (n : ℕ). records j (kindAt n (s .args .k))) (i .offers);
-      few = c .records-at .ensures .1;
-    }
+    subst (λ (h : Head). Due h (s .args .k) (c .before .kind-at .result) (c .records-at .result)) (s .pre .1 .0)
+    (record { kind = c .before .kind-at .ensures; count = c .records-at .ensures .0; few = c .records-at .ensures .1 })
 
 -- The check of the records, in the definition's words.
 bad : (c : tie.After-bad-records) →
     let a = c .before .before .before .before .before .before .before .before .before .before .args in
-    any (records (decode (a .f .now)) (kindAt (decode (a .f .now) .offers) (a .k))) (badRecord (decode (a .f .now)) (kindAt (decode (a .f .now) .offers) (a .k))) ≡ c .bad-records .result
+    any (records (decode (a .f .now) .head) (kindAt (decode (a .f .now) .head) (a .k))) (badRecord (decode (a .f .now)) (kindAt (decode (a .f .now) .head) (a .k))) ≡ c .bad-records .result
 bad c =
     let r = c .before .before .before .before .before .before .before in
     let a = r .before .before .before .args in
     let j = decode (a .f .now) in
-    ap (λ (n : ℕ). any n (badRecord j (kindAt (j .offers) (a .k)))) (sym (due r .count)) ∙ sym (c .bad-records .ensures)
+    ap (λ (n : ℕ). any n (badRecord j (kindAt (j .head) (a .k)))) (sym (due r .count)) ∙ sym (c .bad-records .ensures)
 
 returns : tie.Need-returns
 unfolding blockRefusal firstMet

@@ -12,10 +12,10 @@ use Rattle.blocks.proofs.refusals.blocks_refusal.Statement.{statement}
 use Rattle.blocks.proofs.refusals.blocks_refusal.Tie as tie
 
 abbrev Inv-loop : tie.InvT-loop
-Inv-loop f s n others i₀ i = (i ≤ others) × (firstBelow i (λ k. blockRefusal f (1 + k)) ≡ 0)
+Inv-loop f head n others i₀ i = (i ≤ others) × (firstBelow i (λ k. blockRefusal f (1 + k)) ≡ 0)
 
 abbrev μ-loop : tie.MeasureT-loop
-μ-loop f s n others i₀ i = others - i
+μ-loop f head n others i₀ i = others - i
 
 loop-holds : tie.Need-loop-holds Inv-loop μ-loop
 unfolding firstBelow

@@ -14,7 +14,7 @@ returns c = rw (← (c .before .sums-differ .ensures), c .if1 .taken)
 not-due-requires : tie.Need-not-due-requires
 not-due-requires c κs =
     let s = c .before .before .before in
-    (omega arith, due-header (s .args .f .now))
+    (omega arith, due-header _)
 
 returns-2 : tie.Need-returns-2
 unfolding headerRefusal firstMet

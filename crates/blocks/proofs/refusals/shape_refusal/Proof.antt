@@ -1,12 +1,12 @@
 -- `blocks::refusals::shape_refusal` meets its contract. Assumes nothing.
 use Prim.Native.Nat.{ℕ, _*_}
-use mathlib.Core.Path.{_≡_, sym, ap, ap₂, _∙_}
+use mathlib.Core.Path.{_≡_, sym, ap, subst, _∙_}
 use mathlib.Core.Bool.{false}
 use native.Mathlib.Omega.{arith}
 use Rattle.format.specs.Blocks.{blocks, blockCount}
 use Rattle.format.specs.File.{decode}
 use Rattle.format.specs.Refusals.{badLength, headerRefusal}
-use Rattle.blocks.specs.Due.{Most}
+use Rattle.blocks.specs.Due.{asHead, Most}
 use Rattle.blocks.proofs.ShapeOrder.{length-in, header-sizes, count-off, count-on, shape-length, shape-header, shape-count, shape-blocks}
 use borrow.Author.Needs.{needs}
 use Rattle.blocks.proofs.refusals.shape_refusal.Statement.{statement}
@@ -20,21 +20,15 @@ right c = sym (c .before .bad-length .ensures) ∙ c .if1 .left
 top : (c : tie.Else2) → headerRefusal (c .before .before .before .before .before .args .f .now) ≡ 0
 top c = sym (c .before .header-refusal .ensures) ∙ c .if2 .left
 
--- The sizes that are read are at most the largest ones.
-most : (c : tie.After-read-sizes) → Most (c .read-sizes .result)
+-- The numbers that are read are at most the largest ones.
+most : (c : tie.After-read-head) → Most (asHead (c .read-head .result))
 most c =
-    let i = c .read-sizes .ensures in
     let z = header-sizes _ (top (c .before)) in
-    record {
-      boxes = omega (arith, i .boxes, z .boxes-most);
-      grocers = omega (arith, i .grocers, z .grocers-most);
-      offers = omega (arith, i .offers, z .offers-most);
-      tallies = omega (arith, i .tallies, z .tallies-most);
-    }
+    subst Most (sym (c .read-head .ensures)) (record { boxes = z .boxes-most; grocers = z .grocers-most; offers = z .offers-most; tallies = z .tallies-most })
 
 -- The block count is the one that the header says.
 counted : (c : tie.After-block-count) → c .block-count .result ≡ blocks (decode (c .before .before .before .before .before .before .before .args .f .now))
-counted c = let i = c .before .read-sizes .ensures in c .block-count .ensures ∙ ap₂ blockCount (i .offers) (i .tallies)
+counted c = c .block-count .ensures ∙ ap blockCount (c .before .read-head .ensures)
 
 returns : tie.Need-returns
 returns c = sym (shape-length _ (sym (c .before .bad-length .ensures) ∙ c .if1 .taken))
@@ -45,8 +39,8 @@ header-refusal-requires c κs = omega (arith, length-in _ (right c) .0)
 returns-2 : tie.Need-returns-2
 returns-2 c = c .before .header-refusal .ensures ∙ sym (shape-header _ (right (c .before .before)) (λ e. c .if2 .taken (c .before .header-refusal .ensures ∙ e)))
 
-read-sizes-requires : tie.Need-read-sizes-requires
-read-sizes-requires c κs = omega (arith, length-in _ (right (c .before .before)) .0)
+read-head-requires : tie.Need-read-head-requires
+read-head-requires c κs = omega (arith, length-in _ (right (c .before .before)) .0)
 
 block-count-requires : tie.Need-block-count-requires
 block-count-requires c κs = let m = most c in (omega (arith, m .offers), omega (arith, m .tallies))
@@ -64,7 +58,7 @@ blocks-refusal-requires : tie.Need-blocks-refusal-requires
 blocks-refusal-requires c κs =
     let b = c .before in
     let m = most (b .before) in
-    ((omega (arith, c .if3 .left), omega (arith, c .if3 .left, length-in _ (right (b .before .before .before .before)) .1), counted b), (b .before .read-sizes .ensures, m))
+    ((omega (arith, c .if3 .left), omega (arith, c .if3 .left, length-in _ (right (b .before .before .before .before)) .1), counted b), (b .before .read-head .ensures, m))
 
 returns-4 : tie.Need-returns-4
 returns-4 c =
@@ -81,7 +75,7 @@ shape-refusal-spec =
     returns
     header-refusal-requires
     returns-2
-    read-sizes-requires
+    read-head-requires
     block-count-requires
     mul-if3
     returns-3

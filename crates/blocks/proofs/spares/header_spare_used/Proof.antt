@@ -9,7 +9,7 @@ use Rattle.blocks.proofs.spares.header_spare_used.Statement.{statement}
 use Rattle.blocks.proofs.spares.header_spare_used.Tie as tie
 
 returns : tie.Need-returns
-returns c = c .spare-in .ensures ∙ spare-due _ 0 0 1 (due-header (c .before .before .args .f .now)) header (kind-header _)
+returns c = c .spare-in .ensures ∙ spare-due _ (c .before .before .args .f .now) 0 0 1 (due-header _) header (kind-header _)
 
 pub header-spare-used-spec : {M : Type 1} → statement M
 header-spare-used-spec = tie.close (tie.spec (λ c κs. search needs) returns)

@@ -17,13 +17,13 @@ returns : tie.Need-returns
 returns c =
     let s = c .before .before .before in
     let d = due-one _ _ _ _ (s .pre .1) (c .before .if1 .taken) .0 in
-    c .spare-in .ensures ∙ spare-due _ _ _ _ (s .pre .1) _ d
+    c .spare-in .ensures ∙ spare-due _ (s .args .f .now) _ _ _ (s .pre .1) _ d
 
 returns-2 : tie.Need-returns-2
 returns-2 c =
     let s = c .before .before .before .before in
     let d = due-two _ _ _ _ (s .pre .1) (c .before .if2 .taken) .0 in
-    c .spare-in2 .ensures ∙ spare-due _ _ _ _ (s .pre .1) _ d
+    c .spare-in2 .ensures ∙ spare-due _ (s .args .f .now) _ _ _ (s .pre .1) _ d
 
 spare-in-requires-3 : tie.Need-spare-in-requires-3
 spare-in-requires-3 c κs =
@@ -36,7 +36,7 @@ returns-3 c =
     let e = c .before in
     let s = e .before .before .before in
     let d = due-three _ _ _ _ (s .pre .1) (s .pre .0 .1) (e .before .if1 .left) (e .if2 .left) .0 in
-    c .spare-in3 .ensures ∙ spare-due _ _ _ _ (s .pre .1) _ d
+    c .spare-in3 .ensures ∙ spare-due _ (s .args .f .now) _ _ _ (s .pre .1) _ d
 
 pub spare-used-spec : {M : Type 1} → statement M
 spare-used-spec =

@@ -7,7 +7,7 @@ use borrow.Author.Needs.{needs}
 use Rattle.laws.specs.Tables.{overwrite}
 use Rattle.format.specs.Codes.{codeNumber}
 use Rattle.fills.proofs.Filling.{fill-none, fill-more, fill-end}
-use Rattle.checks.specs.Rows.{codeOf}
+use Rattle.format.specs.Tables.{codeOf}
 use Rattle.checks.proofs.codes.number_all.Statement.{statement}
 use Rattle.checks.proofs.codes.number_all.Tie as tie
 

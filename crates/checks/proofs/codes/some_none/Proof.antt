@@ -11,7 +11,7 @@ use Rattle.laws.specs.Below.{any}
 use Rattle.laws.proofs.Below.{any-more}
 use Rattle.index.specs.Index.{IsIndex, sharesNumber, placeOf}
 use Rattle.format.specs.Codes.{codeNumber}
-use Rattle.checks.specs.Rows.{codeOf}
+use Rattle.format.specs.Tables.{codeOf}
 use denote.Ref.{now}
 use Rattle.checks.proofs.codes.some_none.Statement.{statement}
 use Rattle.checks.proofs.codes.some_none.Tie as tie
@@ -42,7 +42,7 @@ returns : tie.Need-returns Inv-loop μ-loop
 returns c =
     let l = c .before in
     let s = l .before .before .before .before in
-    λ numbers x d. subst (λ (i : ℕ). l .loop .bad ≡ any i (λ i. eqb (placeOf numbers (s .args .n) (codeNumber (codeOf (now (s .args .tcode)) i))) (s .args .n)))
+    λ numbers x d. subst (λ (i : ℕ). l .loop .bad ≡ any i (λ i. eqb (placeOf numbers (s .args .n) (codeNumber (codeOf (now (s .args .tally-code)) i))) (s .args .n)))
     (le-antisymm (l .loop .inv .0) (c .loop-test .left)) (l .loop .inv .1 numbers x d)
 
 pub some-none-spec : {M : Type 1} → statement M

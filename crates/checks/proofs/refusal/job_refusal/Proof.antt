@@ -1,65 +1,56 @@
 -- `checks::refusal::job_refusal` meets its contract. Assumes nothing.
 use mathlib.Core.Path.{_≡_, sym, _∙_}
 use mathlib.Core.Bool.{false}
-use native.Mathlib.Omega.{arith}
 use denote.Ref.{now}
 use borrow.Author.Needs.{needs}
-use Rattle.format.specs.Job.{FileJob, badSizes, badRecords}
+use Rattle.format.specs.Job.{badSizes, badRecords}
 use Rattle.format.specs.Tables.{FileTables, fileTables, fileJobOf}
-use Rattle.format.proofs.Range.{sizes-in}
 use Rattle.format.proofs.Order.{job-4, job-6}
-use Rattle.checks.proofs.Joining.{job-rest, has-codes, offer-codes, tally-codes}
+use Rattle.blocks.specs.Due.{asHead}
+use Rattle.checks.proofs.Joining.{job-rest, most, has-codes, offer-codes, tally-codes}
 use Rattle.checks.proofs.refusal.job_refusal.Statement.{statement}
 use Rattle.checks.proofs.refusal.job_refusal.Tie as tie
 
--- The tables and their job.
+-- The tables.
 abbrev tables : tie.Start → FileTables
 tables s =
     let a = s .args in
-    fileTables (now (a .price)) (now (a .owner)) (now (a .code)) (now (a .gowner)) (now (a .tgrocer)) (now (a .tbox)) (now (a .tcode)) (now (a .tcount))
-
-abbrev job : tie.Start → FileJob
-job s = let a = s .args in fileJobOf (a .boxes) (a .grocers) (a .offers) (a .tallies) (tables s)
+    fileTables (now (a .price)) (now (a .offer-owner)) (now (a .offer-code)) (now (a .grocer-owner)) (now (a .tally-grocer)) (now (a .tally-box)) (now (a .tally-code)) (now (a .tally-count))
 
 -- The function's entry, from its first check.
 abbrev first : tie.After-bad-sizes → tie.Start
 first c = c .before .before .before .before .before .before .before .before
 
 -- 4 is not met.
-sizes-fine : (c : tie.Else1) → badSizes (job (first (c .before))) ≡ false
-sizes-fine c = sym (c .before .bad-sizes .ensures (tables (first (c .before)))) ∙ c .if1 .left
+sizes-fine : (c : tie.Else1) → badSizes (asHead (first (c .before) .args .head)) ≡ false
+sizes-fine c = sym (c .before .bad-sizes .ensures) ∙ c .if1 .left
 
 -- 6 is not met.
-records-fine : (c : tie.Else2) → badRecords (job (first (c .before .before .before))) ≡ false
+records-fine : (c : tie.Else2) → let s = first (c .before .before .before) in badRecords (fileJobOf (asHead (s .args .head)) (tables s)) ≡ false
 records-fine c = sym (c .before .bad-records .ensures) ∙ c .if2 .left
 
 returns : tie.Need-returns
-returns c = let s = first (c .before) in sym (job-4 (job s) (sym (c .before .bad-sizes .ensures (tables s)) ∙ c .if1 .taken))
+unfolding fileJobOf
+returns c = sym (job-4 _ (sym (c .before .bad-sizes .ensures) ∙ c .if1 .taken))
 
 returns-2 : tie.Need-returns-2
-returns-2 c = let s = first (c .before .before .before) in sym (job-6 (job s) (sizes-fine (c .before .before)) (sym (c .before .bad-records .ensures) ∙ c .if2 .taken))
+unfolding fileJobOf
+returns-2 c = sym (job-6 _ (sizes-fine (c .before .before)) (sym (c .before .bad-records .ensures) ∙ c .if2 .taken))
 
 codes-refusal-requires : tie.Need-codes-refusal-requires
-unfolding fileJobOf
 codes-refusal-requires c κs =
     let e = c .before .before in
-    let s = first (e .before .before .before) in
-    let a = s .args in
-    let n : c .before .size-of .result ≡ a .offers = c .before .size-of .ensures .0 in
-    let t : c .size-of2 .result ≡ a .tallies = c .size-of2 .ensures .0 in
-    let r = records-fine e in (
-      (omega (arith, sizes-in (job s) (sizes-fine (e .before .before)) .offers-most), (omega (arith, s .pre .offerCode), omega (arith, s .pre .tallyCode))),
-      (rw n (offer-codes (a .boxes) (a .grocers) (a .offers) (a .tallies) (tables s) r), rw t (tally-codes (a .boxes) (a .grocers) (a .offers) (a .tallies) (tables s) r)),
-    )
+    let s = first (e .before) in
+    let h = asHead (s .args .head) in
+    let r = records-fine c in
+    ((most h (sizes-fine e), (s .pre .offers .code, s .pre .tallies .code)), (offer-codes h (tables s) r, tally-codes h (tables s) r))
 
 returns-3 : tie.Need-returns-3
+unfolding fileJobOf
 returns-3 c =
-    let e = c .before .before .before in
+    let e = c .before in
     let s = first (e .before .before .before) in
-    let a = s .args in
-    let h = has-codes (a .boxes) (a .grocers) (a .offers) (a .tallies) (tables s) in
-    c .codes-refusal .ensures (job s) (rw (c .before .before .size-of .ensures .0, c .before .size-of2 .ensures .0) h)
-    ∙ sym (job-rest (job s) (sizes-fine (e .before .before)) (records-fine e))
+    c .codes-refusal .ensures _ (has-codes (asHead (s .args .head)) (tables s)) ∙ sym (job-rest _ (sizes-fine (e .before .before)) (records-fine e))
 
 pub job-refusal-spec : {M : Type 1} → statement M
 job-refusal-spec =
@@ -67,9 +58,7 @@ job-refusal-spec =
     (tie.spec
     (λ c κs. search needs)
     returns
-    (λ c κs. search needs)
+    (λ c κs. first (c .before) .pre)
     returns-2
-    (λ c κs. search needs)
-    (λ c κs. search needs)
     codes-refusal-requires
     returns-3)

@@ -4,19 +4,21 @@ use Rattle.format.specs.Tables.{shortTables, shortWriter}
 use Rattle.checks.proofs.sizes.short_writer.Statement.{statement}
 use Rattle.checks.proofs.sizes.short_writer.Tie as tie
 
+-- The entry, from the first call.
+abbrev entry : tie.After-shared-slice-known8 → tie.Start
+entry c = c .before .before .before .before .before .before .before .before
+
 returns : tie.Need-returns
 unfolding shortWriter shortTables
 returns c =
-    rw (c .file-length .ensures, c .before .size-of3 .ensures .0, c .before .before .size-of2 .ensures .0, c .before .before .before .size-of .ensures .0)
+    let t = c .before .before in
+    rw (t .before .short-offers .ensures, t .short-tallies .ensures, c .file-length .ensures)
 
 pub short-writer-spec : {M : Type 1} → statement M
 short-writer-spec =
     tie.close
     (tie.spec
-    (λ c κs. search needs)
-    (λ c κs. search needs)
-    (λ c κs. search needs)
-    (λ c κs. search needs)
-    (λ c. search needs)
-    (λ c. search needs)
+    (λ c κs. entry c .pre .offers)
+    (λ c κs. entry (c .before) .pre .tallies)
+    (λ c κs. entry (c .before .before .before) .pre)
     returns)

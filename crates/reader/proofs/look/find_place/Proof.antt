@@ -1,36 +1,57 @@
 -- `reader::look::find_place` meets its contract. Assumes nothing.
-use mathlib.Core.Path.{refl, ap, _∙_}
+use mathlib.Core.Path.{_≡_, ap, _∙_}
 use native.Mathlib.Omega.{arith}
+use Prim.Native.Nat.{ℕ}
 use borrow.Author.Needs.{needs}
 use Rattle.format.specs.Codes.{isCode, codeNumber}
-use Rattle.format.specs.File.{decode}
+use Rattle.format.specs.Job.{Head}
+use Rattle.format.specs.Blocks.{talliesAt}
+use Rattle.format.specs.File.{recordAt, decode}
+use Rattle.blocks.specs.Due.{asHead}
 use Rattle.index.specs.Index.{placeOf}
-use Rattle.fills.proofs.Filling.{code-in}
-use Rattle.reader.proofs.Places.{tally-code, tallies-held, place-is}
+use Rattle.fills.proofs.Records.{tally-room, tally-code}
+use Rattle.reader.proofs.Places.{place-is}
 use Rattle.reader.proofs.look.find_place.Statement.{statement}
 use Rattle.reader.proofs.look.find_place.Tie as tie
 
+-- The entry.
+abbrev entry : tie.After-record-at → tie.Start
+entry c = c .before .before .before .before
+
+-- Where the record stands.
+stands : (c : tie.After-record-at) → c .record-at .result ≡ recordAt (talliesAt (asHead (entry c .args .head))) (entry c .args .i)
+stands c = let s = entry c in c .record-at .ensures ∙ ap (λ (k : ℕ). recordAt k (s .args .i)) (s .pre .1 .0)
+
+record-at-requires : tie.Need-record-at-requires
+record-at-requires c κs =
+    let s = c .before .before .before in
+    let m = s .pre .0 .sound .whole .most in
+    (omega (arith, s .pre .1 .0, m .offers), omega (arith, s .pre .1 .1, m .tallies))
+
+add-number-at : tie.Need-add-number-at
+add-number-at c = let s = entry c in omega (arith, stands c, tally-room (s .pre .0 .sound .whole) (s .args .i) (s .pre .1 .1))
+
 number-at-requires : tie.Need-number-at-requires
 number-at-requires c κs =
-    let s = c .before .before .before .before in
-    let f = s .args .f .now in
-    let r = s .pre .0 in
-    let q = s .pre .1 .0 in
-    let e = code-in f (s .args .first) (s .args .i) 3 (c .record-at .result) (c .record-at .ensures) ∙ tally-code f (s .args .n) (s .args .first) (s .args .i) (r .offers) q in
-    let h = tallies-held (r .sound) (s .args .n) (s .args .first) (decode f .tallies) (r .offers) q refl in
-    (omega (arith, h .room, c .record-at .ensures, s .pre .1 .1), ap isCode e ∙ r .sound .tally (s .args .i) (s .pre .1 .1))
+    let s = entry c in
+    let z = s .pre .0 .sound in
+    let i = s .args .i in
+    (omega (arith, stands c, tally-room (z .whole) i (s .pre .1 .1)), ap isCode (tally-code (s .args .f .now) i (z .whole) (stands c)) ∙ z .tally i (s .pre .1 .1))
+
+place-requires : tie.Need-place-requires
+place-requires c κs = let r = entry (c .before) .pre .0 in (omega (arith, r .sound .whole .most .offers), (r .keys-long, r .order-long))
 
 returns : tie.Need-returns
 returns c =
-    let s = c .before .before .before .before .before .before in
+    let at = c .before .before in
+    let s = entry at in
     let f = s .args .f .now in
     let r = s .pre .0 in
-    let at = c .before .before in
-    let e = code-in f (s .args .first) (s .args .i) 3 (at .record-at .result) (at .record-at .ensures) ∙ tally-code f (s .args .n) (s .args .first) (s .args .i) (r .offers) (s .pre .1 .0) in
-    c .place .ensures (r .numbers) (r .index) (r .apart)
-    ∙ ap (placeOf (r .numbers) (s .args .n)) (c .before .number-at .ensures ∙ ap codeNumber e)
-    ∙ place-is (decode f) (s .args .n) (r .numbers) (r .offers) (r .right) (s .args .i)
+    let n = s .args .head .offers in
+    let x = r .indexed in
+    c .place .ensures (x .numbers) (x .index) (r .apart)
+    ∙ ap (placeOf (x .numbers) n) (c .before .number-at .ensures ∙ ap codeNumber (tally-code f (s .args .i) (r .sound .whole) (stands at)))
+    ∙ place-is (decode f) n (x .numbers) (ap (λ (h : Head). h .offers) (r .sound .whole .says)) (x .right) (s .args .i)
 
 pub find-place-spec : {M : Type 1} → statement M
-find-place-spec =
-    tie.close (tie.spec (λ c κs. search needs) (λ c. search needs) number-at-requires (λ c κs. search needs) returns)
+find-place-spec = tie.close (tie.spec record-at-requires add-number-at number-at-requires place-requires returns)

@@ -11,31 +11,45 @@ use Rattle.writer.proofs.Blocks.{closed}
 use Rattle.writer.proofs.block.close_block.Statement.{statement}
 use Rattle.writer.proofs.block.close_block.Tie as tie
 
+-- The entry, and the calls, each from the next.
+abbrev entry : tie.After-put-zeros → tie.Start
+entry c = c .before .before .before
+
+abbrev cleared : tie.After-sums → tie.After-put-zeros
+cleared c = c .before .before .before .before
+
+abbrev first : tie.After-put16-arg2 → tie.After-put16
+first c = c .before .before .before
+
 put16-requires : tie.Need-put16-requires
 unfolding firstSum
-put16-requires c κs = (omega (arith, c .before .before .before .before .before .put-zeros .kept .0, c .before .before .before .before .before .before .before .before .pre .0), omega (arith, c .before .sums .ensures .0))
+put16-requires c κs =
+    let z = cleared (c .before) in
+    (omega (arith, z .put-zeros .kept .0, entry z .pre .0), omega (arith, c .before .sums .ensures .0))
 
 put16-requires-2 : tie.Need-put16-requires-2
 unfolding secondSum
-put16-requires-2 c κs = (
-  omega (
-    arith,
-    c .before .before .before .put16 .kept .0,
-    c .before .before .before .before .before .before .before .before .before .put-zeros .kept .0,
-    c .before .before
-        .before .before .before .before .before .before .before .before .before .before .pre .0,
-  ),
-  omega (arith, c .before .before .before .before .before .sums .ensures .1),
-)
+put16-requires-2 c κs =
+    let p = first c in
+    let m = p .before .before in
+    let z = cleared m in
+    (omega (arith, p .put16 .kept .0, z .put-zeros .kept .0, entry z .pre .0), omega (arith, m .sums .ensures .1))
+
+same-length : tie.Need-same-length
+same-length c =
+    let q = c .before .before in
+    let p = first (q .before) in
+    q .put162 .kept .0 ∙ p .put16 .kept .0 ∙ cleared (p .before .before) .put-zeros .kept .0
 
 returns : tie.Need-returns
 returns c =
-    let p = c .before .before .before .before .before .before in
+    let q = c .before .before in
+    let p = first (q .before) in
     let m = p .before .before in
-    let z = m .before .before .before .before in
-    let s = z .before .before .before in
+    let z = cleared m in
+    let s = entry z in
     let a = s .args in
-    c .before .before .put162 .ensures
+    q .put162 .ensures
     ∙ ap (put (a .at + 510) 2 (bytesOf (bytes16 (m .sums .result .second)))) (p .put16 .ensures)
     ∙ closed (a .at) (a .used) (now (a .out)) (s .pre .1) (s .pre .0) _ (z .put-zeros .ensures) _ _ (m .sums .ensures .0) (m .sums .ensures .1)
 
@@ -51,5 +65,5 @@ close-block-spec =
     put16-requires
     (λ c. search needs)
     put16-requires-2
-    (λ c. search needs)
+    same-length
     returns)

@@ -22,10 +22,11 @@ same-length c = c .before .before .put16 .kept .0 ∙ simp length-set
 
 returns : tie.Need-returns
 returns c =
-    let s = c .before .before .before .before .before .before in
-    let a = s .args in
-    head-put (a .at) (a .kind) (a .records) (a .number) (now (a .out)) _ (s .pre .0)
-    (c .before .before .put16 .ensures ∙ ap (λ (v : ℕ). put (a .at + 2) 2 (bytesOf (bytes16 (a .number))) (set (set (now (a .out)) (a .at) (a .kind)) (a .at + 1) v)) (c .before .before .before .before .byte .ensures))
+    let p = c .before .before in
+    let b = p .before .before in
+    let a = b .before .before .args in
+    head-put (a .at) (a .kind) (a .records) (a .number) (now (a .out)) _ (b .before .before .pre .0)
+    (p .put16 .ensures ∙ ap (λ (v : ℕ). put (a .at + 2) 2 (bytesOf (bytes16 (a .number))) (set (set (now (a .out)) (a .at) (a .kind)) (a .at + 1) v)) (b .byte .ensures))
 
 pub put-head-spec : {M : Type 1} → statement M
 put-head-spec =

@@ -1,33 +1,59 @@
 -- `writer::block::put_tally_block` meets its contract. Assumes nothing.
+use mathlib.Core.Path.{_∙_}
 use native.Mathlib.Omega.{arith}
 use denote.Ref.{now}
 use borrow.Author.Needs.{needs}
 use Rattle.format.specs.Blocks.{tallyBytes}
-use Rattle.checks.specs.Rows.{tallyOf}
+use Rattle.format.specs.Tables.{tallyTables, tallyOf}
 use Rattle.writer.proofs.Made.{records-made}
 use Rattle.writer.proofs.block.put_tally_block.Statement.{statement}
 use Rattle.writer.proofs.block.put_tally_block.Tie as tie
 
+-- The entry, and the calls, each from the next.
+abbrev entry : tie.After-part-of → tie.Start
+entry c = c .before .before .before .before .before
+
+abbrev parted : tie.After-put-head → tie.After-part-of
+parted c = c .before .before
+
+abbrev headed : tie.After-put-tallies-arg → tie.After-put-head
+headed c = c .before .before .before
+
+abbrev filled : tie.After-close-block-arg → tie.After-put-tallies
+filled c = c .before .before .before
+
 put-tallies-requires : tie.Need-put-tallies-requires
 put-tallies-requires c κs =
-    let s = c .before .before .before .before .before .before .before .before .before .before in
-    let e = c .before .before .before .before .before .part-of .ensures in (
-      (omega (arith, e), omega (arith, e, c .before .before .before .put-head .kept .0, s .pre .0)),
-      (
-        (omega (arith, e, s .pre .1 .0), (omega (arith, e, s .pre .1 .0), (omega (arith, e, s .pre .1 .0), omega (arith, e, s .pre .1 .0)))),
-        record
-            { small = λ i h. s .pre .1 .1 .small i (omega (arith, h, e)) },
-      ),
+    let h = headed c in
+    let s = entry (parted h) in
+    let e = parted h .part-of .ensures in (
+      (omega (arith, e), omega (arith, e, h .put-head .kept .0, s .pre .0)),
+      ((omega (arith, e, s .pre .1 .0 .grocer), (omega (arith, e, s .pre .1 .0 .box), (omega (arith, e, s .pre .1 .0 .code), omega (arith, e, s .pre .1 .0 .count)))), record { small = λ i h. s .pre .1 .1 .small i (omega (arith, h, e)) }),
     )
+
+close-block-requires : tie.Need-close-block-requires
+close-block-requires c κs =
+    let f = filled c in
+    let h = headed (f .before) in
+    let s = entry (parted h) in
+    (omega (arith, f .put-tallies .kept .0, h .put-head .kept .0, s .pre .0), omega (arith, parted h .part-of .ensures))
+
+same-length : tie.Need-same-length
+same-length c =
+    let z = c .before .before in
+    let f = filled (z .before) in
+    z .close-block .kept .0 ∙ f .put-tallies .kept .0 ∙ headed (f .before) .put-head .kept .0
 
 returns : tie.Need-returns
 returns c =
-    let s = c .before .before .before .before .before .before .before .before .before .before .before .before .before .before .before .before .before in
+    let z = c .before .before in
+    let f = filled (z .before) in
+    let h = headed (f .before) in
+    let p = parted h in
+    let s = entry p in
     let a = s .args in
-    records-made 3 (a .k) (a .t) (a .b) _ (λ i. tallyBytes (tallyOf (now (a .tgrocer)) (now (a .tbox)) (now (a .tcode)) (now (a .tcount)) i)) (now (a .out)) _ _ _
-    (c .before .before .before .before .before .before .before .before .before .before .before .before .part-of .ensures) (omega (arith, s .pre .0))
-    (c .before .before .before .before .before .before .before .before .before .before .put-head .ensures) (c .before .before .before .before .before .before .put-tallies .ensures)
-    (c .before .before .close-block .ensures)
+    records-made 3 (a .k) (a .t) (a .b) _ (λ i. tallyBytes (tallyOf (tallyTables (now (a .tally-grocer)) (now (a .tally-box)) (now (a .tally-code)) (now (a .tally-count))) i)) (now (a .out)) _ _ _
+    (p .part-of .ensures) (omega (arith, s .pre .0)) (h .put-head .ensures) (f .put-tallies .ensures) (z .close-block .ensures)
 
 pub put-tally-block-spec : {M : Type 1} → statement M
 put-tally-block-spec =
@@ -42,6 +68,6 @@ put-tally-block-spec =
     put-tallies-requires
     (λ c. search needs)
     (λ c. search needs)
-    (λ c κs. search needs)
-    (λ c. search needs)
+    close-block-requires
+    same-length
     returns)

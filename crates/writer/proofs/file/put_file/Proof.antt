@@ -1,92 +1,118 @@
 -- `writer::file::put_file` meets its contract. Assumes nothing.
 use Prim.Native.Nat.{ℕ, _+_, _*_}
-use mathlib.Core.Path.{ap, _∙_}
+use mathlib.Core.Path.{_≡_, ap, _∙_}
 use mathlib.Core.List.{[], _∷_}
 use native.Mathlib.Omega.{arith}
-use lib.ListN.{getD}
+use lib.ListN.{length, getD}
 use denote.Ref.{now}
 use borrow.Author.Needs.{needs}
 use Rattle.format.specs.Bytes.{bytes16}
 use Rattle.format.specs.Blocks.{blocksFor, tallyBytes}
 use Rattle.format.specs.File.{blockByte}
-use Rattle.format.specs.Tables.{fileTables}
-use Rattle.checks.specs.Rows.{tallyOf}
+use Rattle.format.specs.Tables.{FileTables, fileTables, tallyOf}
+use Rattle.blocks.specs.Due.{asHead}
 use Rattle.writer.specs.Puts.{put, bytesOf, bodyOf, recordBody, blocksOf}
 use Rattle.writer.proofs.Written.{file-put}
 use Rattle.writer.proofs.file.put_file.Statement.{statement}
 use Rattle.writer.proofs.file.put_file.Tie as tie
 
+-- The calls, each from the next, and the entry.
+abbrev start : tie.After-slice-known → tie.Start
+start c = c .before .before .before .before .before .before .before .before
+
+abbrev entry : tie.After-grocers-at → tie.Start
+entry c = start (c .before)
+
+abbrev planned : tie.After-put-header → tie.After-grocers-at
+planned c = c .before .before
+
+abbrev headed : tie.After-put-offer-blocks-arg → tie.After-put-header
+headed c = c .before .before .before
+
+abbrev offered : tie.After-put-grocer-block-arg → tie.After-put-offer-blocks
+offered c = c .before .before .before
+
+abbrev owned : tie.After-put-tally-blocks-arg → tie.After-put-grocer-block
+owned c = c .before .before .before
+
+-- The call of `grocers_at`, from each later call.
+abbrev plan-offered : tie.After-put-offer-blocks → tie.After-grocers-at
+plan-offered c = planned (headed (c .before))
+
+abbrev plan-owned : tie.After-put-grocer-block → tie.After-grocers-at
+plan-owned c = plan-offered (offered (c .before))
+
+-- The tables.
+abbrev tables : tie.Start → FileTables
+tables s =
+    let a = s .args in
+    fileTables (now (a .price)) (now (a .offer-owner)) (now (a .offer-code)) (now (a .grocer-owner)) (now (a .tally-grocer)) (now (a .tally-box)) (now (a .tally-code)) (now (a .tally-count))
+
+-- The buffer keeps its length.
+long-offered : (c : tie.After-put-offer-blocks) → length (c .put-offer-blocks .last .0) ≡ length (now (entry (plan-offered c) .args .out))
+long-offered c = c .put-offer-blocks .kept .0 ∙ headed (c .before) .put-header .kept .0
+
+long-owned : (c : tie.After-put-grocer-block) → length (c .put-grocer-block .last .0) ≡ length (now (entry (plan-owned c) .args .out))
+long-owned c = c .put-grocer-block .kept .0 ∙ long-offered (offered (c .before))
+
+grocers-at-requires : tie.Need-grocers-at-requires
+grocers-at-requires c κs = omega (arith, start c .pre .most .offers)
+
+put-header-requires : tie.Need-put-header-requires
+put-header-requires c κs = let p = entry (c .before) .pre in (omega (arith, p .room), p .most)
+
+put-offer-blocks-requires : tie.Need-put-offer-blocks-requires
+put-offer-blocks-requires c κs =
+    let a = headed c in
+    let p = entry (planned a) .pre in
+    ((p .most .offers, omega (arith, a .put-header .kept .0, p .room)), (p .long .offers, p .offerOwner))
+
 put-grocer-block-requires : tie.Need-put-grocer-block-requires
 put-grocer-block-requires c κs =
-    let s = c .before .before .before .before .before .before .before .before .before .before .before .before .before .before .before .before .before .before in
-    let r = s .pre in
-    let e = c .before .before .before .before .before .before .before .before .before .blocks-for .ensures in (
-      (
-        r .grocers,
-        (
-          omega (arith, e, r .offers),
-          omega (
-            arith,
-            e,
-            c .before .before .before .put-offer-blocks .kept .0,
-            c .before .before .before .before .before .before .before .put-header .kept .0,
-            r
-                .room,
-          ),
-        ),
-      ),
-      (r .long .grocerOwner, r .grocerOwner),
-    )
+    let o = offered c in
+    let g = plan-offered o in
+    let p = entry g .pre in
+    let e = g .grocers-at .ensures in
+    ((p .most .grocers, (omega (arith, e, p .most .offers), omega (arith, e, long-offered o, p .room))), (p .long .grocerOwner, p .grocerOwner))
+
+add-put-tally-blocks : tie.Need-add-put-tally-blocks
+add-put-tally-blocks c = let g = plan-owned (owned c) in omega (arith, g .grocers-at .ensures, entry g .pre .most .offers)
 
 put-tally-blocks-requires : tie.Need-put-tally-blocks-requires
 put-tally-blocks-requires c κs =
-    let s = c .before .before .before .before .before .before .before .before .before .before .before .before .before .before .before .before .before .before .before .before .before .before in
-    let r = s .pre in
-    let e = c .before .before .before .before .before .before .before .before .before .before .before .before .before .blocks-for .ensures in (
-      (
-        r .tallies,
-        (
-          omega (arith, e, r .offers),
-          omega (
-            arith,
-            e,
-            c .before .before .before .put-grocer-block .kept .0,
-            c .before .before .before .before .before .before .before .put-offer-blocks
-                .kept .0,
-            c .before .before .before .before .before .before .before .before .before .before .before .put-header .kept .0,
-            r .room,
-          ),
-        ),
-      ),
-      ((r .long .tallyGrocer, (r .long .tallyBox, (r .long .tallyCode, r .long .tallyCount))), r .tallyBox),
-    )
+    let w = owned c in
+    let g = plan-owned w in
+    let p = entry g .pre in
+    let e = g .grocers-at .ensures in
+    ((p .most .tallies, (omega (arith, e, p .most .offers), omega (arith, e, long-owned w, p .room))), (p .long .tallies, p .tallyBox))
+
+same-length : tie.Need-same-length
+same-length c = let t = c .before .before in t .put-tally-blocks .kept .0 ∙ long-owned (owned (t .before))
 
 returns : tie.Need-returns
 returns c =
-    let s = c .before .before .before .before .before .before .before .before .before .before .before .before .before .before .before .before .before .before .before .before .before .before .before .before .before in
-    let a = s .args in
-    let e = c .before .before .before .before .before .before .before .before .before .before .before .before .before .before .before .before .blocks-for .ensures in
-    file-put (a .boxes) (a .grocers) (a .offers) (a .tallies) (fileTables (now (a .price)) (now (a .owner)) (now (a .code)) (now (a .gowner)) (now (a .tgrocer)) (now (a .tbox)) (now (a .tcode))
-    (now (a .tcount))) (now (a .out)) _ _ _ _ (s .pre .room)
-    (c .before .before .before .before .before .before .before .before .before .before .before .before .before .before .put-header .ensures)
-    (c .before .before .before .before .before .before .before .before .before .before .put-offer-blocks .ensures)
-    (c .before .before .before .before .before .before .put-grocer-block .ensures ∙ ap (λ (q : ℕ). put (512 * (1 + q)) 512
-    (blockByte (bodyOf (2 ∷ a .grocers ∷ bytes16 (1 + q)) 1 (a .grocers) (λ r. bytesOf (getD (now (a .gowner)) r 0 ∷ []))))
-    (c .before .before .before .before .before .before .before .before .before .before .put-offer-blocks .last .0)) e)
-    (c .before .before .put-tally-blocks .ensures ∙ ap (λ (q : ℕ). put (512 * (1 + q + 1)) (blocksFor (a .tallies) * 512)
-    (blocksOf (recordBody 3 (1 + q + 1) (a .tallies) (λ i. tallyBytes (tallyOf (now (a .tgrocer)) (now (a .tbox)) (now (a .tcode)) (now (a .tcount)) i))))
-    (c .before .before .before .before .before .before .put-grocer-block .last .0)) e)
+    let t = c .before .before in
+    let w = owned (t .before) in
+    let o = offered (w .before) in
+    let a = headed (o .before) in
+    let g = planned a in
+    let s = entry g in
+    let h = asHead (s .args .head) in
+    let l = tables s in
+    let e = g .grocers-at .ensures in
+    file-put h l (now (s .args .out)) _ _ _ _ (s .pre .room) (a .put-header .ensures) (o .put-offer-blocks .ensures)
+    (w .put-grocer-block .ensures ∙ ap (λ (k : ℕ). put (512 * k) 512 (blockByte (bodyOf (2 ∷ h .grocers ∷ bytes16 k) 1 (h .grocers) (λ r. bytesOf (getD (l .grocerOwner) r 0 ∷ [])))) (o .put-offer-blocks .last .0)) e)
+    (t .put-tally-blocks .ensures ∙ ap (λ (k : ℕ). put (512 * (k + 1)) (blocksFor (h .tallies) * 512) (blocksOf (recordBody 3 (k + 1) (h .tallies) (λ i. tallyBytes (tallyOf (l .tallies) i)))) (w .put-grocer-block .last .0)) e)
 
 pub put-file-spec : {M : Type 1} → statement M
 put-file-spec =
     tie.close
     (tie.spec
-    (λ c κs. search needs)
-    (λ c. search needs)
-    (λ c κs. search needs)
-    (λ c κs. search needs)
+    grocers-at-requires
+    put-header-requires
+    put-offer-blocks-requires
     put-grocer-block-requires
-    (λ c. search needs)
+    add-put-tally-blocks
     put-tally-blocks-requires
-    (λ c. search needs)
+    same-length
     returns)

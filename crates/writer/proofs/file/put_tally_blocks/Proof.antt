@@ -8,7 +8,7 @@ use denote.Ref.{now}
 use borrow.Author.Needs.{needs}
 use Rattle.format.specs.Blocks.{tallyBytes}
 use Rattle.format.specs.File.{blockByte}
-use Rattle.checks.specs.Rows.{tallyOf}
+use Rattle.format.specs.Tables.{tallyTables, tallyOf}
 use Rattle.writer.specs.Puts.{put, recordBody, blocksOf}
 use Rattle.writer.proofs.Puts.{put-none}
 use Rattle.writer.proofs.Blocks.{block-next}
@@ -17,7 +17,7 @@ use Rattle.writer.proofs.file.put_tally_blocks.Tie as tie
 
 abbrev Inv-loop : tie.InvT-loop
 Inv-loop out₀ k t tgrocer tbox tcode tcount blocks b₀ out b =
-    (b ≤ blocks) × (length out ≡ length out₀) × (out ≡ put (512 * k) (b * 512) (blocksOf (recordBody 3 k t (λ i. tallyBytes (tallyOf tgrocer tbox tcode tcount i)))) out₀)
+    (b ≤ blocks) × (length out ≡ length out₀) × (out ≡ put (512 * k) (b * 512) (blocksOf (recordBody 3 k t (λ i. tallyBytes (tallyOf (tallyTables tgrocer tbox tcode tcount) i)))) out₀)
 
 abbrev μ-loop : tie.MeasureT-loop
 μ-loop out₀ k t tgrocer tbox tcode tcount blocks b₀ out b = blocks - b
@@ -25,24 +25,32 @@ abbrev μ-loop : tie.MeasureT-loop
 loop-holds : tie.Need-loop-holds Inv-loop μ-loop
 loop-holds c = (omega arith, refl, put-none _ _ _)
 
+-- The entry, from the call before the loop, and the block's body.
+abbrev entry : tie.After-blocks-for Inv-loop μ-loop → tie.Start Inv-loop μ-loop
+entry c = c .before .before .before .before .before
+
+abbrev body : tie.Start Inv-loop μ-loop → ℕ → ℕ → ℕ
+body s = recordBody 3 (s .args .k) (s .args .t) (λ i. tallyBytes (tallyOf (tallyTables (now (s .args .tally-grocer)) (now (s .args .tally-box)) (now (s .args .tally-code)) (now (s .args .tally-count))) i))
+
 put-tally-block-requires : tie.Need-put-tally-block-requires Inv-loop μ-loop
 put-tally-block-requires c κs =
     let l = c .before .before in
-    let s = l .before .before .before .before .before .before in
+    let s = entry (l .before) in
     let e = l .before .blocks-for .ensures in
-    ((s .pre .0 .0, (omega (arith, e, c .before .loop-test .taken), (s .pre .0 .1 .0, omega (arith, e, c .before .loop-test .taken, s .pre .0, l .loop .inv .1)))), s .pre .1)
+    let h = c .before .loop-test .taken in
+    ((s .pre .0 .0, (omega (arith, e, h), (s .pre .0 .1 .0, omega (arith, e, h, s .pre .0, l .loop .inv .1)))), s .pre .1)
 
 loop-again : tie.Need-loop-again Inv-loop μ-loop
 loop-again c =
-    let l = c .before .before .before .before .before in
-    let s = l .before .before .before .before .before .before in (
-      omega (arith, c .before .before .before .before .loop-test .taken),
-      c .before .before .put-tally-block .kept .0 ∙ l .loop .inv .1,
-      c .before .before .put-tally-block .ensures
-          ∙ ap (put (512 * ((s .args .k) + l .loop .b)) 512 (blockByte (recordBody 3 (s .args .k) (s .args .t)
-          (λ i. tallyBytes (tallyOf (now (s .args .tgrocer)) (now (s .args .tbox)) (now (s .args .tcode)) (now (s .args .tcount)) i)) (l .loop .b)))) (l .loop .inv .2)
-          ∙ block-next (recordBody 3 (s .args .k) (s .args .t) (λ i. tallyBytes (tallyOf (now (s .args .tgrocer)) (now (s .args .tbox)) (now (s .args .tcode)) (now (s .args .tcount)) i))) (s .args .k)
-          (l .loop .b) (now (s .args .out)) (omega (arith, c .before .before .before .before .loop-test .taken, l .before .blocks-for .ensures, s .pre .0)),
+    let p = c .before .before in
+    let i = p .before .before in
+    let l = i .before in
+    let s = entry (l .before) in (
+      omega (arith, i .loop-test .taken),
+      p .put-tally-block .kept .0 ∙ l .loop .inv .1,
+      p .put-tally-block .ensures
+          ∙ ap (put (512 * (s .args .k + l .loop .b)) 512 (blockByte (body s (l .loop .b)))) (l .loop .inv .2)
+          ∙ block-next (body s) (s .args .k) (l .loop .b) (now (s .args .out)) (omega (arith, i .loop-test .taken, l .before .blocks-for .ensures, s .pre .0)),
     )
 
 same-length : tie.Need-same-length Inv-loop μ-loop
@@ -51,10 +59,8 @@ same-length c = c .before .loop .inv .1
 returns : tie.Need-returns Inv-loop μ-loop
 returns c =
     let l = c .before in
-    let s = l .before .before .before .before .before .before in
-    l .loop .inv .2 ∙ ap (λ (b : ℕ). put (512 * (s .args .k)) (b * 512) (blocksOf (recordBody 3 (s .args .k) (s .args .t)
-    (λ i. tallyBytes (tallyOf (now (s .args .tgrocer)) (now (s .args .tbox)) (now (s .args .tcode)) (now (s .args .tcount)) i)))) (now (s .args .out)))
-    (le-antisymm (l .loop .inv .0) (c .loop-test .left) ∙ l .before .blocks-for .ensures)
+    let s = entry (l .before) in
+    l .loop .inv .2 ∙ ap (λ (b : ℕ). put (512 * s .args .k) (b * 512) (blocksOf (body s)) (now (s .args .out))) (le-antisymm (l .loop .inv .0) (c .loop-test .left) ∙ l .before .blocks-for .ensures)
 
 pub put-tally-blocks-spec : {M : Type 1} → statement M
 put-tally-blocks-spec =

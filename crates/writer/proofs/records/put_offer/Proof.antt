@@ -10,27 +10,41 @@ use Rattle.writer.proofs.Rows.{offer-put}
 use Rattle.writer.proofs.records.put_offer.Statement.{statement}
 use Rattle.writer.proofs.records.put_offer.Tie as tie
 
+-- The entry, and the calls, each from the next.
+abbrev entry : tie.After-put32 → tie.Start
+entry c = c .before .before .before .before .before .before .before
+
+abbrev priced : tie.After-copy-code-arg → tie.After-put32
+priced c = c .before .before .before .before
+
+abbrev coded : tie.After-put-zeros-arg → tie.After-copy-code
+coded c = c .before .before .before
+
 -- The buffer has its length once the code is copied.
-long-copied : (c : tie.After-copy-code) → length (c .copy-code .last .1 .1 .0) ≡ length (now (c .before .before .before .before .before .before .before .before .before .before .before .before .args .out))
-long-copied c = c .copy-code .kept .1 .1 .0 ∙ length-set (c .before .before .before .before .before .put32 .last .0) _ _ ∙ c .before .before .before .before .before .put32 .kept .0
+long-copied : (c : tie.After-copy-code) → length (c .copy-code .last .1 .1 .0) ≡ length (now (entry (priced (c .before)) .args .out))
+long-copied c = let p = priced (c .before) in c .copy-code .kept .1 .1 .0 ∙ length-set (p .put32 .last .0) _ _ ∙ p .put32 .kept .0
 
 copy-code-requires : tie.Need-copy-code-requires
-copy-code-requires c κs = let s = c .before .before .before .before .before .before .before .before .before .before .before in
-    (s .pre .1 .0 .1 .1, simp length-set (omega (arith, s .pre .0, c .before .before .before .before .put32 .kept .0)))
+copy-code-requires c κs =
+    let p = priced c in
+    let s = entry p in
+    (s .pre .1 .0 .1 .1, simp length-set (omega (arith, s .pre .0, p .put32 .kept .0)))
 
 put-zeros-requires : tie.Need-put-zeros-requires
-put-zeros-requires c κs = omega (arith, long-copied (c .before .before .before), c .before .before .before .before .before .before .before .before .before .before .before .before .before .before .before .pre .0)
+put-zeros-requires c κs = let k = coded c in omega (arith, long-copied k, entry (priced (k .before)) .pre .0)
 
 same-length : tie.Need-same-length
-same-length c = c .before .before .put-zeros .kept .0 ∙ long-copied (c .before .before .before .before .before .before)
+same-length c = let z = c .before .before in z .put-zeros .kept .0 ∙ long-copied (coded (z .before))
 
 returns : tie.Need-returns
 returns c =
-    let q = c .before .before .before .before .before .before in
-    let s = q .before .before .before .before .before .before .before .before .before .before .before .before in
+    let z = c .before .before in
+    let q = coded (z .before) in
+    let p = priced (q .before) in
+    let s = entry p in
     let a = s .args in
-    offer-put (getD (now (a .price)) (a .i) 0) (getD (now (a .owner)) (a .i) 0) (from (now (a .code)) (a .i * 11)) (a .at) (now (a .out)) _ _ _ (s .pre .0)
-    (q .before .before .before .before .before .put32 .ensures) (long-copied q) (q .copy-code .ensures) (c .before .before .put-zeros .ensures)
+    offer-put (getD (now (a .price)) (a .i) 0) (getD (now (a .offer-owner)) (a .i) 0) (from (now (a .offer-code)) (a .i * 11)) (a .at) (now (a .out)) _ _ _ (s .pre .0)
+    (p .put32 .ensures) (long-copied q) (q .copy-code .ensures) (z .put-zeros .ensures)
 
 pub put-offer-spec : {M : Type 1} → statement M
 put-offer-spec =

@@ -7,7 +7,7 @@ use lib.ListN.{length}
 use denote.Ref.{now}
 use borrow.Author.Needs.{needs}
 use Rattle.format.specs.Blocks.{offerBytes}
-use Rattle.checks.specs.Rows.{offerOf}
+use Rattle.format.specs.Tables.{offerTables, offerOf}
 use Rattle.writer.specs.Puts.{put, bytesOf, rowsOf}
 use Rattle.writer.proofs.Puts.{put-none}
 use Rattle.writer.proofs.Blocks.{row-next}
@@ -16,7 +16,7 @@ use Rattle.writer.proofs.records.put_offers.Tie as tie
 
 abbrev Inv-loop : tie.InvT-loop
 Inv-loop out₀ at first n price owner code r₀ out r =
-    (r ≤ n) × (length out ≡ length out₀) × (out ≡ put at (r * 24) (rowsOf 24 (λ r. bytesOf (offerBytes (offerOf price owner code (first + r))))) out₀)
+    (r ≤ n) × (length out ≡ length out₀) × (out ≡ put at (r * 24) (rowsOf 24 (λ r. bytesOf (offerBytes (offerOf (offerTables price owner code) (first + r))))) out₀)
 
 abbrev μ-loop : tie.MeasureT-loop
 μ-loop out₀ at first n price owner code r₀ out r = n - r
@@ -37,8 +37,8 @@ loop-again c =
       omega (arith, c .before .before .before .before .loop-test .taken),
       c .before .before .put-offer .kept .0 ∙ l .loop .inv .1,
       c .before .before .put-offer .ensures
-          ∙ ap (put (s .args .at + l .loop .r * 24) 24 (bytesOf (offerBytes (offerOf (now (s .args .price)) (now (s .args .owner)) (now (s .args .code)) (s .args .first + l .loop .r))))) (l .loop .inv .2)
-          ∙ row-next 24 (λ r. bytesOf (offerBytes (offerOf (now (s .args .price)) (now (s .args .owner)) (now (s .args .code)) (s .args .first + r)))) (s .args .at) (l .loop .r) (now (s .args .out))
+          ∙ ap (put (s .args .at + l .loop .r * 24) 24 (bytesOf (offerBytes (offerOf (offerTables (now (s .args .price)) (now (s .args .offer-owner)) (now (s .args .offer-code))) (s .args .first + l .loop .r))))) (l .loop .inv .2)
+          ∙ row-next 24 (λ r. bytesOf (offerBytes (offerOf (offerTables (now (s .args .price)) (now (s .args .offer-owner)) (now (s .args .offer-code))) (s .args .first + r)))) (s .args .at) (l .loop .r) (now (s .args .out))
           (omega (arith, c .before .before .before .before .loop-test .taken, s .pre .0)),
     )
 
@@ -50,7 +50,7 @@ returns c =
     let l = c .before in
     let s = l .before .before .before .before .before in
     l .loop .inv .2 ∙ ap (λ (r : ℕ). put (s .args .at) (r * 24) (rowsOf 24 (λ r. bytesOf
-    (offerBytes (offerOf (now (s .args .price)) (now (s .args .owner)) (now (s .args .code)) (s .args .first + r))))) (now (s .args .out))) (le-antisymm (l .loop .inv .0) (c .loop-test .left))
+    (offerBytes (offerOf (offerTables (now (s .args .price)) (now (s .args .offer-owner)) (now (s .args .offer-code))) (s .args .first + r))))) (now (s .args .out))) (le-antisymm (l .loop .inv .0) (c .loop-test .left))
 
 pub put-offers-spec : {M : Type 1} → statement M
 put-offers-spec =

@@ -27,7 +27,7 @@ loop-again : tie.Need-loop-again Inv-loop μ-loop
 loop-again c =
     let l = c .before .before in
     let s = l .before in
-    (omega arith, simp length-set (l .loop .inv .1), rw (l .loop .inv .2) (store-next (s .args .at) (l .loop .i) (bytesOf (now (s .args .gowner))) (now (s .args .out)) _ (omega arith) refl))
+    (omega arith, simp length-set (l .loop .inv .1), rw (l .loop .inv .2) (store-next (s .args .at) (l .loop .i) (bytesOf (now (s .args .grocer-owner))) (now (s .args .out)) _ (omega arith) refl))
 
 same-length : tie.Need-same-length Inv-loop μ-loop
 same-length c = c .before .loop .inv .1
@@ -36,7 +36,7 @@ returns : tie.Need-returns Inv-loop μ-loop
 returns c =
     let l = c .before in
     let s = l .before in
-    l .loop .inv .2 ∙ ap (λ (i : ℕ). put (s .args .at) i (bytesOf (now (s .args .gowner))) (now (s .args .out))) (le-antisymm (l .loop .inv .0) (c .loop-test .left))
+    l .loop .inv .2 ∙ ap (λ (i : ℕ). put (s .args .at) i (bytesOf (now (s .args .grocer-owner))) (now (s .args .out))) (le-antisymm (l .loop .inv .0) (c .loop-test .left))
 
 pub put-owners-spec : {M : Type 1} → statement M
 put-owners-spec =

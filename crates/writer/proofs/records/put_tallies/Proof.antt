@@ -7,7 +7,7 @@ use lib.ListN.{length}
 use denote.Ref.{now}
 use borrow.Author.Needs.{needs}
 use Rattle.format.specs.Blocks.{tallyBytes}
-use Rattle.checks.specs.Rows.{tallyOf}
+use Rattle.format.specs.Tables.{tallyTables, tallyOf}
 use Rattle.writer.specs.Puts.{put, bytesOf, rowsOf}
 use Rattle.writer.proofs.Puts.{put-none}
 use Rattle.writer.proofs.Blocks.{row-next}
@@ -16,7 +16,7 @@ use Rattle.writer.proofs.records.put_tallies.Tie as tie
 
 abbrev Inv-loop : tie.InvT-loop
 Inv-loop out₀ at first n tgrocer tbox tcode tcount r₀ out r =
-    (r ≤ n) × (length out ≡ length out₀) × (out ≡ put at (r * 24) (rowsOf 24 (λ r. bytesOf (tallyBytes (tallyOf tgrocer tbox tcode tcount (first + r))))) out₀)
+    (r ≤ n) × (length out ≡ length out₀) × (out ≡ put at (r * 24) (rowsOf 24 (λ r. bytesOf (tallyBytes (tallyOf (tallyTables tgrocer tbox tcode tcount) (first + r))))) out₀)
 
 abbrev μ-loop : tie.MeasureT-loop
 μ-loop out₀ at first n tgrocer tbox tcode tcount r₀ out r = n - r
@@ -37,8 +37,9 @@ loop-again c =
       omega (arith, c .before .before .before .before .loop-test .taken),
       c .before .before .put-tally .kept .0 ∙ l .loop .inv .1,
       c .before .before .put-tally .ensures
-          ∙ ap (put (s .args .at + l .loop .r * 24) 24 (bytesOf (tallyBytes (tallyOf (now (s .args .tgrocer)) (now (s .args .tbox)) (now (s .args .tcode)) (now (s .args .tcount)) (s .args .first + l .loop .r))))) (l .loop .inv .2)
-          ∙ row-next 24 (λ r. bytesOf (tallyBytes (tallyOf (now (s .args .tgrocer)) (now (s .args .tbox)) (now (s .args .tcode)) (now (s .args .tcount)) (s .args .first + r)))) (s .args .at)
+          ∙ ap (put (s .args .at + l .loop .r * 24) 24
+          (bytesOf (tallyBytes (tallyOf (tallyTables (now (s .args .tally-grocer)) (now (s .args .tally-box)) (now (s .args .tally-code)) (now (s .args .tally-count))) (s .args .first + l .loop .r))))) (l .loop .inv .2)
+          ∙ row-next 24 (λ r. bytesOf (tallyBytes (tallyOf (tallyTables (now (s .args .tally-grocer)) (now (s .args .tally-box)) (now (s .args .tally-code)) (now (s .args .tally-count))) (s .args .first + r)))) (s .args .at)
           (l .loop .r) (now (s .args .out)) (omega (arith, c .before .before .before .before .loop-test .taken, s .pre .0)),
     )
 
@@ -50,7 +51,7 @@ returns c =
     let l = c .before in
     let s = l .before .before .before .before .before in
     l .loop .inv .2 ∙ ap (λ (r : ℕ). put (s .args .at) (r * 24) (rowsOf 24 (λ r. bytesOf
-    (tallyBytes (tallyOf (now (s .args .tgrocer)) (now (s .args .tbox)) (now (s .args .tcode)) (now (s .args .tcount)) (s .args .first + r))))) (now (s .args .out)))
+    (tallyBytes (tallyOf (tallyTables (now (s .args .tally-grocer)) (now (s .args .tally-box)) (now (s .args .tally-code)) (now (s .args .tally-count))) (s .args .first + r))))) (now (s .args .out)))
     (le-antisymm (l .loop .inv .0) (c .loop-test .left))
 
 pub put-tallies-spec : {M : Type 1} → statement M

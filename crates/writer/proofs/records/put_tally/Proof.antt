@@ -15,47 +15,59 @@ use Rattle.writer.proofs.Rows.{tally-put}
 use Rattle.writer.proofs.records.put_tally.Statement.{statement}
 use Rattle.writer.proofs.records.put_tally.Tie as tie
 
+-- The entry, and the calls, each from the next.
+abbrev entry : tie.After-put16 → tie.Start
+entry c = c .before .before .before .before .before .before .before .before
+
+abbrev wrote : tie.After-copy-code-arg → tie.After-put16
+wrote c = c .before .before .before .before
+
+abbrev coded : tie.After-bits → tie.After-copy-code
+coded c = c .before .before .before .before .before
+
+abbrev counted : tie.After-put-zeros-arg → tie.After-put32
+counted c = c .before .before .before
+
 -- The buffer has its length once the code is copied.
-long-copied : (c : tie.After-copy-code) → length (c .copy-code .last .1 .1 .0) ≡ length (now (c .before .before .before .before .before .before .before .before .before .before .before .before .before .args .out))
-long-copied c = c .copy-code .kept .1 .1 .0 ∙ length-set (c .before .before .before .before .before .put16 .last .0) _ _ ∙ c .before .before .before .before .before .put16 .kept .0
+long-copied : (c : tie.After-copy-code) → length (c .copy-code .last .1 .1 .0) ≡ length (now (entry (wrote (c .before)) .args .out))
+long-copied c = let g = wrote (c .before) in c .copy-code .kept .1 .1 .0 ∙ length-set (g .put16 .last .0) _ _ ∙ g .put16 .kept .0
 
 copy-code-requires : tie.Need-copy-code-requires
-copy-code-requires c κs = let s = c .before .before .before .before .before .before .before .before .before .before .before .before in
-    (s .pre .1 .0 .1 .1 .0, simp length-set (omega (arith, s .pre .0, c .before .before .before .before .put16 .kept .0)))
+copy-code-requires c κs =
+    let g = wrote c in
+    let s = entry g in
+    (s .pre .1 .0 .1 .1 .0, simp length-set (omega (arith, s .pre .0, g .put16 .kept .0)))
 
 put32-requires : tie.Need-put32-requires
-put32-requires c κs = omega (
-  arith,
-  long-copied (c .before .before .before .before .before),
-  c .before .before .before .before .before .before .before .before .before .before .before .before .before
-      .before .before .before .before .before .pre .0,
-)
+put32-requires c κs = let k = coded c in omega (arith, long-copied k, entry (wrote (k .before)) .pre .0)
 
 put-zeros-requires : tie.Need-put-zeros-requires
-put-zeros-requires c κs = omega (
-  arith,
-  c .before .before .before .put32 .kept .0,
-  long-copied (c .before .before .before .before .before .before .before .before .before),
-  c .before .before .before
-      .before .before .before .before .before .before .before .before .before .before .before .before .before .before .before .before .before .before .before .pre .0,
-)
+put-zeros-requires c κs =
+    let n = counted c in
+    let k = coded (n .before) in
+    omega (arith, n .put32 .kept .0, long-copied k, entry (wrote (k .before)) .pre .0)
 
 same-length : tie.Need-same-length
-same-length c = c .before .before .put-zeros .kept .0 ∙ c .before .before .before .before .before .before .put32 .kept .0 ∙ long-copied (c .before .before .before .before .before .before .before .before .before .before .before .before)
+same-length c =
+    let z = c .before .before in
+    let n = counted (z .before) in
+    z .put-zeros .kept .0 ∙ n .put32 .kept .0 ∙ long-copied (coded (n .before))
 
 returns : tie.Need-returns
 returns c =
-    let f = c .before .before .before .before .before .before in
-    let q = f .before .before .before .before .before .before in
-    let s = q .before .before .before .before .before .before .before .before .before .before .before .before .before in
+    let e = c .before .before in
+    let n = counted (e .before) in
+    let q = coded (n .before) in
+    let g = wrote (q .before) in
+    let s = entry g in
     let a = s .args in
-    let z = getD (now (a .tcount)) (a .i) (pos 0) in
-    let w : f .before .bits .result ≡ ofZ w32 z = f .before .bits .ensures ∙ ap (ofZ w32) (toZ-ofZ {w = w32} {z = z} (record { sfits = f .before .before .bits-arg .given })) in
-    tally-put (getD (now (a .tgrocer)) (a .i) 0) (getD (now (a .tbox)) (a .i) 0) (from (now (a .tcode)) (a .i * 11)) z (a .at) (now (a .out)) _ _ _ _ (s .pre .0)
-    (q .before .before .before .before .before .put16 .ensures ∙ ap (λ (v : ℕ). put (a .at) 2 (bytesOf (bytes16 v)) (now (a .out))) (q .before .before .before .before .before .before .size-of .ensures .0))
+    let z = getD (now (a .tally-count)) (a .i) (pos 0) in
+    let w : n .before .bits .result ≡ ofZ w32 z = n .before .bits .ensures ∙ ap (ofZ w32) (toZ-ofZ {w = w32} {z = z} (record { sfits = n .before .before .bits-arg .given })) in
+    tally-put (getD (now (a .tally-grocer)) (a .i) 0) (getD (now (a .tally-box)) (a .i) 0) (from (now (a .tally-code)) (a .i * 11)) z (a .at) (now (a .out)) _ _ _ _ (s .pre .0)
+    (g .put16 .ensures ∙ ap (λ (v : ℕ). put (a .at) 2 (bytesOf (bytes16 v)) (now (a .out))) (g .before .size-of .ensures .0))
     (long-copied q) (q .copy-code .ensures)
-    (f .put32 .ensures ∙ ap (λ (v : ℕ). put (a .at + 14) 4 (bytesOf (bytes32 v)) (q .copy-code .last .1 .1 .0)) w)
-    (c .before .before .put-zeros .ensures)
+    (n .put32 .ensures ∙ ap (λ (v : ℕ). put (a .at + 14) 4 (bytesOf (bytes32 v)) (q .copy-code .last .1 .1 .0)) w)
+    (e .put-zeros .ensures)
 
 pub put-tally-spec : {M : Type 1} → statement M
 put-tally-spec =

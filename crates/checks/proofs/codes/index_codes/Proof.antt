@@ -1,0 +1,49 @@
+-- `checks::codes::index_codes` meets its contract. Assumes nothing.
+use mathlib.Core.Path.{sym}
+use native.Mathlib.Omega.{arith}
+use denote.Ref.{now}
+use borrow.Author.Needs.{needs}
+use Rattle.checks.proofs.Naming.{numbers-right}
+use Rattle.checks.proofs.codes.index_codes.Statement.{statement}
+use Rattle.checks.proofs.codes.index_codes.Tie as tie
+
+-- The numbers are written, from the call of `build`; and the entry.
+abbrev filled : tie.After-spare → tie.After-number-all
+filled c = c .before .before .before .before .before
+
+abbrev entry : tie.After-number-all → tie.Start
+entry c = c .before .before .before .before .before
+
+-- The call of `build`, from the end.
+abbrev built : tie.After-spare2 → tie.After-build
+built c = c .before .before .before .before .before
+
+number-all-requires : tie.Need-number-all-requires
+number-all-requires c κs =
+    let p = c .before .before .before .before .pre .0 in
+    ((p .1 .0, omega (arith, p .0)), p .1 .1)
+
+build-requires : tie.Need-build-requires
+build-requires c κs =
+    let n = filled c in
+    let p = entry n .pre in
+    ((omega (arith, p .0 .0), omega (arith, p .0 .0, n .number-all .kept .1 .1 .0)), (p .1 .0, (p .1 .1, omega (arith, p .0 .0))))
+
+returns : tie.Need-returns
+returns c =
+    let b = built c in
+    let n = filled (b .before) in
+    record { numbers = _; index = b .build .ensures; right = numbers-right (now (entry n .args .code)) _ _ _ (n .number-all .ensures) }
+
+pub index-codes-spec : {M : Type 1} → statement M
+index-codes-spec =
+    tie.close
+    (tie.spec
+    (λ c. search needs)
+    number-all-requires
+    (λ c. sym (c .before .before .number-all .kept .1 .1 .0))
+    (λ c. search needs)
+    build-requires
+    (λ c. built c .build .kept .1 .0)
+    (λ c. built c .build .kept .1 .1 .0)
+    returns)

@@ -1,0 +1,80 @@
+-- The fields of a file's records where they stand, and the room that a whole file has for them. Assumes nothing.
+use mathlib.Core.Path.{_≡_, refl, sym, ap, _∙_}
+use mathlib.Core.List.{List}
+use Prim.Native.Nat.{ℕ, _+_, _*_, _≤_, _<_}
+use native.Mathlib.Omega.{arith}
+use lib.ListN.{length, getD}
+use mir.Syntax.{w32}
+use mir.Val.{toZ}
+use Rattle.format.specs.Bytes.{from, after, word16, word32}
+use Rattle.format.specs.Codes.{readCode}
+use Rattle.format.specs.Job.{Head}
+use Rattle.format.specs.Blocks.{offersAt, grocersAt, talliesAt}
+use Rattle.format.specs.File.{readOffer, readTally, recordAt, decode}
+use Rattle.fills.specs.Fills.{Whole}
+
+module _ {f : List ℕ} {h : Head} (w : Whole f h) where
+  -- Each offer's record is in the file,
+  pub offer-room : (i : ℕ) → i < h .offers → recordAt offersAt i + 24 ≤ length f
+  offer-room i l = omega (arith, w .long)
+
+  -- each tally's,
+  pub tally-room : (i : ℕ) → i < h .tallies → recordAt (talliesAt h) i + 24 ≤ length f
+  tally-room i l = omega (arith, w .long)
+
+  -- and the owners of the grocers.
+  pub owner-room : 512 * grocersAt h + 4 + h .grocers ≤ length f
+  owner-room = omega (arith, w .long, w .most .grocers)
+
+-- The code at a place behind another.
+code-shift : (f : List ℕ) (at place : ℕ) → readCode (from f (at + place)) ≡ readCode (after (from f at) place)
+code-shift f at place =
+    let e : (k : ℕ) → from f (at + place) k ≡ after (from f at) place k = λ k. ap (λ (p : ℕ). getD f p 0) (omega arith) in
+    λ i. record { size = e 0 i; digit = λ k. e (1 + k) i }
+
+-- The fields of offer i, whose record stands at `at`.
+module _ (f : List ℕ) (i : ℕ) {at : ℕ} (e : at ≡ recordAt offersAt i) where
+  pub offer-price : word32 (from f at) ≡ decode f .offer i .price
+  unfolding decode readOffer
+  offer-price = ap (λ (p : ℕ). word32 (from f p)) e
+
+  pub offer-owner : getD f (at + 4) 0 ≡ decode f .offer i .owner
+  unfolding decode readOffer
+  offer-owner = ap (λ (p : ℕ). getD f (p + 4) 0) e
+
+  pub offer-code : readCode (from f (at + 5)) ≡ decode f .offer i .code
+  unfolding decode readOffer
+  offer-code = code-shift f at 5 ∙ ap (λ (p : ℕ). readCode (after (from f p) 5)) e
+
+-- The first tally block is the one that the header says.
+tally-at : (f : List ℕ) {h : Head} (i : ℕ) {at : ℕ} → Whole f h → at ≡ recordAt (talliesAt h) i → at ≡ recordAt (talliesAt (decode f .head)) i
+tally-at f i w e = e ∙ ap (λ (x : Head). recordAt (talliesAt x) i) (w .says)
+
+-- The fields of tally i.
+module _ (f : List ℕ) {h : Head} (i : ℕ) {at : ℕ} (w : Whole f h) (e : at ≡ recordAt (talliesAt h) i) where
+  pub tally-grocer : word16 (from f at) ≡ decode f .tally i .grocer
+  unfolding decode readTally
+  tally-grocer = ap (λ (p : ℕ). word16 (from f p)) (tally-at f i w e)
+
+  pub tally-box : getD f (at + 2) 0 ≡ decode f .tally i .box
+  unfolding decode readTally
+  tally-box = ap (λ (p : ℕ). getD f (p + 2) 0) (tally-at f i w e)
+
+  pub tally-code : readCode (from f (at + 3)) ≡ decode f .tally i .code
+  unfolding decode readTally
+  tally-code = code-shift f at 3 ∙ ap (λ (p : ℕ). readCode (after (from f p) 3)) (tally-at f i w e)
+
+  pub tally-count : toZ w32 (word32 (from f (at + 14))) ≡ decode f .tally i .count
+  unfolding decode readTally
+  tally-count = ap (λ (g : ℕ → ℕ). toZ w32 (word32 g)) shift ∙ ap (λ (p : ℕ). toZ w32 (word32 (after (from f p) 14))) (tally-at f i w e)
+    where
+      shift : from f (at + 14) ≡ after (from f at) 14
+      shift = λ d k. ap (λ (p : ℕ). getD f p 0) (here k) d
+        where
+          here : (k : ℕ) → at + 14 + k ≡ at + (14 + k)
+          here k = omega arith
+
+-- The owner of grocer i.
+pub grocer-owner : (f : List ℕ) {h : Head} (i : ℕ) {at : ℕ} → Whole f h → at ≡ 512 * grocersAt h + 4 → getD f (at + i) 0 ≡ decode f .grocerOwner i
+unfolding decode
+grocer-owner f i w e = ap (λ (p : ℕ). getD f (p + i) 0) (e ∙ ap (λ (x : Head). 512 * grocersAt x + 4) (w .says))

@@ -1,0 +1,117 @@
+-- `fills::fill::fill_offers` meets its contract. The invariant: the first i offers are written. Assumes nothing.
+use mathlib.Core.Path.{_≡_, refl, _∙_}
+use Prim.Native.Nat.{_+_, _≤_, _-_}
+use native.Mathlib.Omega.{arith}
+use lib.ListN.{length, length-set}
+use borrow.Author.Needs.{needs}
+use Rattle.laws.specs.Tables.{overwrite}
+use Rattle.format.specs.File.{decode}
+use Rattle.format.specs.Tables.{storeCodes}
+use Rattle.fills.proofs.Filling.{fill-none, fill-more, fill-end, codes-none, codes-more, codes-end}
+use Rattle.fills.proofs.Records.{offer-room, offer-price, offer-owner, offer-code}
+use Rattle.fills.proofs.fill.fill_offers.Statement.{statement}
+use Rattle.fills.proofs.fill.fill_offers.Tie as tie
+
+abbrev Inv-loop : tie.InvT-loop
+Inv-loop f price₀ owner₀ code₀ n i₀ price owner code i =
+    (i ≤ n) ×
+    (length price ≡ length price₀) × (price ≡ overwrite i (λ k. decode f .offer k .price) price₀) ×
+    (length owner ≡ length owner₀) × (owner ≡ overwrite i (λ k. decode f .offer k .owner) owner₀) ×
+    (length code ≡ length code₀) × (code ≡ storeCodes i (λ k. decode f .offer k .code) code₀)
+
+abbrev μ-loop : tie.MeasureT-loop
+μ-loop f price₀ owner₀ code₀ n i₀ price owner code i = n - i
+
+-- The entry, from the loop.
+abbrev entry : tie.At-loop Inv-loop μ-loop → tie.Start Inv-loop μ-loop
+entry l = l .before .before .before .before .before
+
+loop-holds : tie.Need-loop-holds Inv-loop μ-loop
+loop-holds c = (omega arith, refl, fill-none _ _, refl, fill-none _ _, refl, codes-none _ _)
+
+record-at-requires : tie.Need-record-at-requires Inv-loop μ-loop
+record-at-requires c κs = (omega arith, omega (arith, entry (c .before) .pre .0 .most .offers))
+
+-- The record is in the file.
+room : (c : tie.After-record-at Inv-loop μ-loop) → c .record-at .result + 24 ≤ length (entry (c .before .before) .args .f .now)
+room c = omega (arith, c .record-at .ensures, offer-room (entry (c .before .before) .pre .0) (c .before .before .loop .i) (c .before .loop-test .taken))
+
+word32-requires : tie.Need-word32-requires Inv-loop μ-loop
+word32-requires c κs = omega (arith, room c)
+
+slice-write-price : tie.Need-slice-write-price Inv-loop μ-loop
+slice-write-price c = let l = c .before .before .before in omega (arith, entry l .pre .1 .price, l .loop .inv .1)
+
+add-wide : tie.Need-add-wide Inv-loop μ-loop
+add-wide c = omega (arith, room (c .before))
+
+read-wide : tie.Need-shared-slice-read-wide Inv-loop μ-loop
+read-wide c = omega (arith, room (c .before .before))
+
+slice-write-offer-owner : tie.Need-slice-write-offer-owner Inv-loop μ-loop
+slice-write-offer-owner c = let l = c .before .before .before .before .before in omega (arith, entry l .pre .1 .owner, l .loop .inv .3)
+
+add-copy-code : tie.Need-add-copy-code Inv-loop μ-loop
+add-copy-code c = omega (arith, room (c .before .before .before))
+
+copy-code-requires : tie.Need-copy-code-requires Inv-loop μ-loop
+copy-code-requires c κs =
+    let at = c .before .before .before .before in
+    let l = at .before .before in
+    (omega (arith, room at), omega (arith, entry l .pre .1 .code, l .loop .inv .5))
+
+loop-again : tie.Need-loop-again Inv-loop μ-loop
+loop-again c =
+    let k = c .before .before in
+    let o = k .before .before in
+    let p = o .before .before in
+    let at = p .before in
+    let l = at .before .before in
+    let s = entry l in
+    let f = s .args .f .now in
+    let i = l .loop .i in
+    let v = l .loop .inv in
+    let e = at .record-at .ensures in
+    let long = k .copy-code .kept .1 .1 .0 ∙ v .5 in (
+      omega arith,
+      simp length-set (v .1),
+      fill-more _ i _ _ _ (v .2) (omega (arith, s .pre .1 .price)) (p .word32 .ensures ∙ offer-price f i e),
+      simp length-set (v .3),
+      fill-more _ i _ _ _ (v .4) (omega (arith, s .pre .1 .owner)) (o .wide .ensures ∙ offer-owner f i e),
+      long,
+      codes-more _ i _ _ _ _ (v .6) (omega (arith, s .pre .1 .code)) long (k .copy-code .ensures) (offer-code f i e),
+    )
+
+returns : tie.Need-returns Inv-loop μ-loop
+returns c =
+    let l = c .before in
+    let v = l .loop .inv in
+    let n = c .loop-test .left in
+    (fill-end _ (l .loop .i) _ _ _ (v .2) (v .0) n, (fill-end _ (l .loop .i) _ _ _ (v .4) (v .0) n, codes-end _ (l .loop .i) _ _ _ (v .6) (v .0) n))
+
+pub fill-offers-spec : {M : Type 1} → statement M
+fill-offers-spec =
+    tie.close
+    (tie.spec
+    Inv-loop
+    μ-loop
+    loop-holds
+    record-at-requires
+    word32-requires
+    (λ c. search needs)
+    slice-write-price
+    add-wide
+    read-wide
+    (λ c κs. search needs)
+    (λ c. search needs)
+    slice-write-offer-owner
+    add-copy-code
+    (λ c. search needs)
+    copy-code-requires
+    (λ c. search needs)
+    (λ c. search needs)
+    loop-again
+    (λ c. c .before .loop .inv .1)
+    (λ c. c .before .loop .inv .3)
+    (λ c. c .before .loop .inv .5)
+    returns)

@@ -1,0 +1,74 @@
+-- `fills::fill::fill_owners` meets its contract. The invariant: the first i words are written. Assumes nothing.
+use mathlib.Core.Path.{_≡_, refl, ap, _∙_}
+use Prim.Native.Nat.{ℕ, _+_, _*_, _≤_, _-_}
+use native.Mathlib.Omega.{arith}
+use lib.ListN.{length, length-set}
+use borrow.Author.Needs.{needs}
+use Rattle.laws.specs.Tables.{overwrite}
+use Rattle.format.specs.File.{decode}
+use Rattle.fills.proofs.Filling.{fill-none, fill-more, fill-end}
+use Rattle.fills.proofs.Records.{owner-room, grocer-owner}
+use Rattle.fills.proofs.fill.fill_owners.Statement.{statement}
+use Rattle.fills.proofs.fill.fill_owners.Tie as tie
+
+abbrev Inv-loop : tie.InvT-loop
+Inv-loop f words₀ at m i₀ words i = (i ≤ m) × (length words ≡ length words₀) × (words ≡ overwrite i (decode f .grocerOwner) words₀)
+
+abbrev μ-loop : tie.MeasureT-loop
+μ-loop f words₀ at m i₀ words i = m - i
+
+grocers-at-requires : tie.Need-grocers-at-requires Inv-loop μ-loop
+grocers-at-requires c κs = omega (arith, c .before .before .pre .0 .most .offers)
+
+mul-at : tie.Need-mul-at Inv-loop μ-loop
+mul-at c = omega (arith, c .grocers-at .ensures, c .before .before .before .pre .0 .most .offers)
+
+add-at : tie.Need-add-at Inv-loop μ-loop
+add-at c = omega (arith, c .grocers-at .ensures, c .before .before .before .pre .0 .most .offers)
+
+loop-holds : tie.Need-loop-holds Inv-loop μ-loop
+loop-holds c = (omega arith, refl, fill-none _ _)
+
+-- The owner is in the file.
+room : (c : tie.In-loop Inv-loop μ-loop) → 512 * c .before .before .grocers-at .result + 4 + c .before .loop .i + 1 ≤ length (c .before .before .before .before .before .args .f .now)
+room c =
+    let a = c .before .before in
+    let h = a .before .before .before .args .head .grocers in
+    omega (arith, a .grocers-at .ensures, owner-room (a .before .before .before .pre .0), c .loop-test .taken)
+
+add-wide : tie.Need-add-wide Inv-loop μ-loop
+add-wide c = omega (arith, room c)
+
+read-wide : tie.Need-shared-slice-read-wide Inv-loop μ-loop
+read-wide c = omega (arith, room (c .before))
+
+loop-again : tie.Need-loop-again Inv-loop μ-loop
+loop-again c =
+    let l = c .before .before .before in
+    let s = l .before .before .before .before in
+    let at = ap (λ (k : ℕ). 512 * k + 4) (l .before .grocers-at .ensures) in
+    (omega arith, simp length-set (l .loop .inv .1), fill-more _ (l .loop .i) _ _ _ (l .loop .inv .2) (omega arith) (c .wide .ensures ∙ grocer-owner (s .args .f .now) (l .loop .i) (s .pre .0) at))
+
+returns : tie.Need-returns Inv-loop μ-loop
+returns c = fill-end _ (c .before .loop .i) _ _ _ (c .before .loop .inv .2) (c .before .loop .inv .0) (c .loop-test .left)
+
+pub fill-owners-spec : {M : Type 1} → statement M
+fill-owners-spec =
+    tie.close
+    (tie.spec
+    Inv-loop
+    μ-loop
+    grocers-at-requires
+    mul-at
+    add-at
+    loop-holds
+    add-wide
+    read-wide
+    (λ c κs. search needs)
+    (λ c. search needs)
+    (λ c. search needs)
+    (λ c. search needs)
+    (λ c. search needs)
+    loop-again
+    (λ c. c .before .loop .inv .1)
+    returns)

@@ -1,0 +1,26 @@
+-- The largest numbers of a job, "Terms and sizes" of 01.
+use Prim.Native.Nat.{ℕ}
+
+-- Boxes, K: 1 to 16.
+abbrev pub maxBoxes : ℕ
+maxBoxes = 16
+
+-- Grocers, M: 1 to 255.
+abbrev pub maxGrocers : ℕ
+maxGrocers = 255
+
+-- Offers, N: 1 to 500.
+abbrev pub maxOffers : ℕ
+maxOffers = 500
+
+-- Tallies, T: 0 to 1,000.
+abbrev pub maxTallies : ℕ
+maxTallies = 1_000
+
+-- A price, in tenths of a cent.
+abbrev pub maxPrice : ℕ
+maxPrice = 9_999_999
+
+-- A count is within ±99,999.
+abbrev pub maxCount : ℕ
+maxCount = 99_999
