@@ -41,11 +41,11 @@ talliesE =
     record { grocer = 0; box = 1; code = code (55 ∷ 55 ∷ []); count = negsuc 0 } ∷
     record { grocer = 0; box = 1; code = code (48 ∷ 52 ∷ 49 ∷ 50 ∷ []); count = pos 4 } ∷ []
 
--- E as its file says it: K 2, grocer owners 1, 0.
+-- E as its file says it: K 2, grocer owners 1, 0, cycle 0.
 unfoldable pub fileE : FileJob
 fileE =
     record {
-      head = headOf 2 2 2 4;
+      head = headOf 2 2 2 4 0;
       offer = λ i. getD offersE i (record { price = 0; owner = 0; code = code [] });
       grocerOwner = λ i. getD (1 ∷ 0 ∷ []) i 0;
       tally = λ i. getD talliesE i (record { grocer = 0; box = 0; code = code []; count = pos 0 });

@@ -11,9 +11,9 @@ ghost use Rattle.step.specs.Answer.{answerOf as stepAnswer};
 ghost use Rattle.run.specs.Run.{answerOf as runAnswer};
 ghost use Rattle.host.specs.Host.{hostRead, readAs, readByHost, hostRun, runAs, ranByHost, hostStep, stepNumber, steppedByHost};
 
-// The number of the reader's answer; K, M, N and T of an accepted file go in front of the buffer.
+// The number of the reader's answer; K, M, N, T and the cycle of an accepted file go in front of the buffer.
 fn tell_sizes(a: reader::Answer, sizes: &mut [u16]) -> u16
-    requires { ⌜ 4 ≤ length (now sizes) ⌝ }
+    requires { ⌜ 5 ≤ length (now sizes) ⌝ }
     ensures { λ r. ⌜ ((l : ReaderTables) → hostRead r l (now (sizes .exit)) ≡ readAs (readAnswer a) l (now (sizes .entry))) ⌝ }
 {
     match a {
@@ -22,11 +22,13 @@ fn tell_sizes(a: reader::Answer, sizes: &mut [u16]) -> u16
             grocers,
             offers,
             tallies,
+            cycle,
         } => {
             sizes[0] = boxes;
             sizes[1] = grocers;
             sizes[2] = offers;
             sizes[3] = tallies;
+            sizes[4] = cycle;
             0
         }
         reader::Answer::Refused(n) => n,
@@ -63,7 +65,7 @@ fn step_number(a: step::Answer) -> u16
     }
 }
 
-// Reads a job file into the lent tables, and its K, M, N and T into the buffer for sizes. A refusal leaves every word as it was.
+// Reads a job file into the lent tables, and its K, M, N, T and cycle into the buffer for sizes. A refusal leaves every word as it was.
 #[no_mangle]
 pub extern "C" fn settlement_read(
     file: &[u8],
@@ -87,7 +89,7 @@ pub extern "C" fn settlement_read(
         (now (tbox .entry)) (now (tcode .entry)) (now (tcount .entry))) (now (toffer .entry)))
         (now (sizes .entry)) ⌝ }
 {
-    if sizes.len() < 4 {
+    if sizes.len() < 5 {
         return 20;
     }
     let a = reader::read(

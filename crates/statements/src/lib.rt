@@ -108,6 +108,7 @@ pub fn settled(file: &[u8], out: &mut [u8; 8192]) -> usize
             grocers: m,
             offers: n,
             tallies: t,
+            cycle: _,
         } => put_job(
             out,
             k,

@@ -13,7 +13,7 @@ slice-write-sizes-3 : tie.Need-slice-write-sizes-3
 slice-write-sizes-3 c = set-set-in (c .before .before .before .args .sizes .now) 0 _ 1 _ 2 (omega (arith, c .before .before .before .pre))
 
 returns : tie.Need-returns
-returns c = told-sizes _ _ _ _ _ (c .before .before .before .args .sizes .now) (c .before .before .before .pre) (c .before .a .given .1)
+returns c = told-sizes _ _ _ _ _ _ (c .before .before .before .args .sizes .now) (c .before .before .before .pre) (c .before .a .given .1)
 
 returns-2 : tie.Need-returns-2
 returns-2 c = told-refused _ _ _ (c .before .a2 .given .1)

@@ -63,14 +63,14 @@ unfolding blankJob
 put-job-requires c κs =
     let m = lent c .before .before .before in
     let r = back (m .before .before) in
-    (grocers-few (file r) (tables r) (r .read .result) (r .read .ensures) _ _ _ _ (m .a .given .1), le-of-eq (sym (lent c .before .put-job-arg .given .0 .1)))
+    (grocers-few (file r) (tables r) (r .read .result) (r .read .ensures) _ _ _ _ _ (m .a .given .1), le-of-eq (sym (lent c .before .put-job-arg .given .0 .1)))
 
 returns : tie.Need-returns
 unfolding blankJob
 returns c =
     let m = lent (c .before) .before .before .before in
     let r = back (m .before .before) in
-    shown (reworded (job-text (file r) (tables r) (r .read .result) (r .read .ensures) _ _ _ _ (m .a .given .1)) (c .put-job .ensures))
+    shown (reworded (job-text (file r) (tables r) (r .read .result) (r .read .ensures) _ _ _ _ _ (m .a .given .1)) (c .put-job .ensures))
 
 returns-2 : tie.Need-returns-2
 unfolding blankJob
