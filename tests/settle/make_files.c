@@ -26,6 +26,15 @@ static size_t random_file(uint64_t seed, struct sizes sizes)
 {
     seed_random(seed);
     random_job(&job, sizes);
+    job.cycle = 0;
+    return write_file(&job, file);
+}
+
+/* E of the last cycle: its lines are E's. */
+static size_t last_cycle(void)
+{
+    sample_job(&job);
+    job.cycle = UINT16_MAX;
     return write_file(&job, file);
 }
 
@@ -118,6 +127,7 @@ static size_t kind_not_due(void) { return e_with(2, 0, 3); }
 static size_t block_number_not_due(void) { return e_with(3, 2, 2); }
 static size_t boxes_17(void) { return e_with(0, 4, 17); }
 static size_t spare_byte(void) { return e_with(1, 507, 1); }
+static size_t byte_behind_cycle(void) { return e_with(0, 14, 1); }
 static size_t owner_too_large(void) { return e_with(2, 5, 2); }
 static size_t bad_digit(void) { return e_with(3, 8, ':'); }
 static size_t unknown_code(void) { return e_with(3, 10, '3'); }
@@ -167,6 +177,7 @@ static const struct sample {
     {"largest_amounts", largest_amounts, 0},
     {"largest_negative", largest_negative, 0},
     {"halves", halves, 0},
+    {"last_cycle", last_cycle, 0},
     {"empty", empty, 1},
     {"one_byte", one_byte, 1},
     {"byte_short", byte_short, 1},
@@ -181,6 +192,7 @@ static const struct sample {
     {"block_number_not_due", block_number_not_due, 3},
     {"boxes_17", boxes_17, 4},
     {"spare_byte", spare_byte, 5},
+    {"byte_behind_cycle", byte_behind_cycle, 5},
     {"owner_too_large", owner_too_large, 6},
     {"bad_digit", bad_digit, 6},
     {"price_too_large", price_too_large, 6},
