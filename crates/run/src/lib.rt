@@ -2,9 +2,8 @@
 mod steps;
 
 ghost use mathlib.Core.Path.{_≡_};
-ghost use Rattle.laws.specs.Checks.{firstMet};
 ghost use Rattle.model.specs.Lent.{jobLent, stateBefore, stateAfter};
-ghost use Rattle.model.specs.Run.{ran, runRefusals};
+ghost use Rattle.model.specs.Run.{ran};
 ghost use Rattle.run.specs.Run.{answerOf, given};
 use apply::Sizes;
 
@@ -18,8 +17,9 @@ pub enum Answer {
     Refused(u16),
 }
 
-// The first of the conditions 20 and 21 that is met, or 0. The state's old words are not examined.
-fn refusal(
+// The run of a job, from a fresh state: its steps are picked first, by the marks alone, and then done one after the other.
+// The state's old words are not examined.
+pub fn run(
     boxes: u16,
     grocers: u16,
     offers: u16,
@@ -31,16 +31,18 @@ fn refusal(
     tally_box: &[u16],
     tally_offer: &[u16],
     tally_count: &[i32],
-    known: &[u32],
-    price_transit: &[u32],
-    working: &[i64],
-    total_transit: &[i64],
-    statement: &[i64],
-    done: &[u16],
-    sent: &[u32],
-) -> u16
-    ensures { λ r. ⌜ r ≡ firstMet (runRefusals (jobLent boxes grocers offers tallies price «offer_owner» «grocer_owner» «tally_grocer» «tally_box»
-        «tally_offer» «tally_count») (stateBefore known «price_transit» working «total_transit» statement done sent)) ⌝ }
+    known: &mut [u32],
+    price_transit: &mut [u32],
+    working: &mut [i64],
+    total_transit: &mut [i64],
+    statement: &mut [i64],
+    done: &mut [u16],
+    sent: &mut [u32],
+    choices: &[u16],
+) -> Answer
+    ensures { λ r. ⌜ given (answerOf r) (stateAfter known «price_transit» working «total_transit» statement done sent) ≡ ran
+        (jobLent boxes grocers offers tallies price «offer_owner» «grocer_owner» «tally_grocer» «tally_box» «tally_offer» «tally_count»)
+        (stateBefore known «price_transit» working «total_transit» statement done sent) (now (choices .entry)) ⌝ }
 {
     if tables::checks::job_short(
         boxes,
@@ -68,7 +70,7 @@ fn refusal(
             sent,
         )
     {
-        return 20;
+        return Answer::Refused(20);
     }
     if !tables::checks::job_in_range(
         boxes,
@@ -83,59 +85,7 @@ fn refusal(
         tally_offer,
         tally_count,
     ) {
-        return 21;
-    }
-    0
-}
-
-// The run of a job, from a fresh state: its steps are picked first, by the marks alone, and then done one after the other.
-pub fn run(
-    boxes: u16,
-    grocers: u16,
-    offers: u16,
-    tallies: u16,
-    price: &[u32],
-    offer_owner: &[u16],
-    grocer_owner: &[u16],
-    tally_grocer: &[u16],
-    tally_box: &[u16],
-    tally_offer: &[u16],
-    tally_count: &[i32],
-    known: &mut [u32],
-    price_transit: &mut [u32],
-    working: &mut [i64],
-    total_transit: &mut [i64],
-    statement: &mut [i64],
-    done: &mut [u16],
-    sent: &mut [u32],
-    choices: &[u16],
-) -> Answer
-    ensures { λ r. ⌜ given (answerOf r) (stateAfter known «price_transit» working «total_transit» statement done sent) ≡ ran
-        (jobLent boxes grocers offers tallies price «offer_owner» «grocer_owner» «tally_grocer» «tally_box» «tally_offer» «tally_count»)
-        (stateBefore known «price_transit» working «total_transit» statement done sent) (now (choices .entry)) ⌝ }
-{
-    let r = refusal(
-        boxes,
-        grocers,
-        offers,
-        tallies,
-        price,
-        offer_owner,
-        grocer_owner,
-        tally_grocer,
-        tally_box,
-        tally_offer,
-        tally_count,
-        known,
-        price_transit,
-        working,
-        total_transit,
-        statement,
-        done,
-        sent,
-    );
-    if r != 0 {
-        return Answer::Refused(r);
+        return Answer::Refused(21);
     }
     let z = Sizes {
         boxes: boxes,

@@ -14,11 +14,15 @@ booked c = c .before .before .before .before .before .before .before .before .be
 abbrev outset : tie.After-book → tie.Else1
 outset c = c .before .before .before .before .before .before
 
+-- Places, from places after them.
+abbrev book : tie.After-tell-numbers-arg → tie.After-book
+book c = c .before .before .before .before .before .before .before .before .before .before
+
 returns : tie.Need-returns
 returns c = booked-short _ _ _ _ (c .if1 .taken)
 
 tell-numbers-requires : tie.Need-tell-numbers-requires
-tell-numbers-requires c κs = outset (c .before .before .before .before .before .before .before .before .before .before) .if1 .left
+tell-numbers-requires c κs = outset ((book c)) .if1 .left
 
 same-length : tie.Need-same-length
 same-length c = booked (told c) .book .kept .1 .1 .1 .1 .1 .1 .1 .1 .1 .1 .1 .1 .0

@@ -25,6 +25,13 @@ Inv-loop k n price owner known₀ o₀ known o =
 abbrev μ-loop : tie.MeasureT-loop
 μ-loop k n price owner known₀ o₀ known o = n - o
 
+-- Places, from places after them.
+abbrev outset : tie.After-shared-slice-known3 Inv-loop μ-loop → tie.Start Inv-loop μ-loop
+outset c = c .before .before .before .before .before .before
+
+abbrev outset-2 : tie.After-shared-slice-known4 Inv-loop μ-loop → tie.Start Inv-loop μ-loop
+outset-2 c = c .before .before .before .before .before .before .before .before
+
 loop-holds : tie.Need-loop-holds Inv-loop μ-loop
 loop-holds c =
     let s = c .before .before .before in
@@ -32,13 +39,13 @@ loop-holds c =
 
 place-requires : tie.Need-place-requires Inv-loop μ-loop
 place-requires c κs =
-    let s = c .before .before .before .before .before .before in
+    let s = outset c in
     let l = s .pre .owner< (c .before .before .loop .o) (omega arith) in
     (s .pre .offers≤, (omega (arith, s .pre .boxes≤), omega arith))
 
 mul-known-2 : tie.Need-mul-known-2 Inv-loop μ-loop
 mul-known-2 c =
-    let s = c .before .before .before .before .before .before .before .before in
+    let s = outset-2 c in
     let l = s .pre .owner< (c .before .before .before .before .loop .o) (omega arith) in
     omega (
       arith,
@@ -50,13 +57,13 @@ mul-known-2 c =
 
 slice-write-known : tie.Need-slice-write-known Inv-loop μ-loop
 slice-write-known c =
-    let s = c .before .before .before .before .before .before .before .before in
+    let s = outset-2 c in
     let l = s .pre .owner< (c .before .before .before .before .loop .o) (omega arith) in
     omega (arith, c .before .place .ensures, c .before .before .before .before .loop .inv .1, s .pre .knownLong, cell-in _ (s .args .k) (s .args .n) (c .before .before .before .before .loop .o) l (omega arith))
 
 loop-again : tie.Need-loop-again Inv-loop μ-loop
 loop-again c =
-    let s = c .before .before .before .before .before .before .before .before in
+    let s = outset-2 c in
     let b = c .before .before .before .before in
     let lo : b .loop .o < s .args .n = omega arith in
     let l = s .pre .owner< (b .loop .o) lo in

@@ -1,12 +1,15 @@
 -- `run::run` meets its contract: refused, or its steps are picked and then done. Assumes nothing.
-use mathlib.Core.Path.{refl, sym, _∙_}
+use mathlib.Core.Path.{_≡_, refl, sym}
 use native.Mathlib.Omega.{arith}
 use borrow.Author.Needs.{needs}
+use borrow.Author.Tests.{not-true, not-false}
 use denote.Ref.{now}
 use Rattle.model.specs.Tables.{JobTables, jobTables, jobOf, StateTables, stateTables}
+use Rattle.laws.specs.Checks.{firstMet}
+use Rattle.model.specs.Run.{runRefusals}
 use Rattle.order.specs.Order.{OfJob}
 use Rattle.run.specs.Run.{Begins, answerOf}
-use Rattle.run.proofs.Ends.{begins, begins-needs, begins-sharers, begins-prices, begins-totals, needs-of, sharers-of, of-job, begins-walk, run-few, all-in, run-finished, run-refused, sent-room}
+use Rattle.run.proofs.Ends.{begins, refused-short, long-job, refused-range, refused-none, begins-needs, begins-sharers, begins-prices, begins-totals, needs-of, sharers-of, of-job, begins-walk, run-few, all-in, run-finished, run-refused, sent-room}
 use Rattle.run.proofs.run.Statement.{statement}
 use Rattle.run.proofs.run.Tie as tie
 
@@ -18,16 +21,23 @@ job s = jobTables (s .args .boxes) (s .args .grocers) (s .args .offers) (s .args
 abbrev lent : tie.Start → StateTables
 lent s = stateTables (now (s .args .known)) (now (s .args .price-transit)) (now (s .args .working)) (now (s .args .total-transit)) (now (s .args .statement)) (now (s .args .done)) (now (s .args .sent))
 
--- Places.
-abbrev known : tie.After-refusal → tie.After-slice-known3
-known c = c .before .before .before .before .before .before .before .before .before .before
+-- Places: the start and the tests of a refusal, from places after them.
+abbrev slices : tie.After-job-short → tie.After-slice-known
+slices c = c .before .before .before .before .before
 
-abbrev shared : tie.After-slice-known3 → tie.After-shared-slice-known4
+abbrev shared : tie.After-slice-known → tie.After-shared-slice-known2
 shared c = c .before .before .before .before .before
 
-abbrev entry : tie.After-refusal → tie.Start
-entry c = shared (known c) .before .before .before .before
+abbrev entry : tie.After-job-short → tie.Start
+entry c = shared (slices c) .before .before
 
+abbrev lengths : tie.After-state-short → tie.After-state-short-arg3
+lengths c = c .before .before .before .before .before
+
+abbrev tested : tie.After-state-short → tie.After-job-short
+tested c = lengths c .before .before .before
+
+-- The tables of messages, the order and the steps done.
 abbrev made : tie.After-put-order-arg → tie.After-total-table
 made c = c .before .before .before
 
@@ -37,22 +47,41 @@ priced c = c .before .before
 abbrev shares : tie.After-price-table → tie.After-sharers
 shares c = c .before .before
 
-abbrev ordered : tie.After-all-steps-arg → tie.After-put-order
-ordered c = c .before .before .before .before .before .before
+abbrev reordered : tie.After-all-steps-arg → tie.After-needs3
+reordered c = c .before .before .before
 
-abbrev arguments : tie.After-all-steps-arg5 → tie.After-all-steps-arg
-arguments c = c .before .before .before .before
+abbrev ordered : tie.After-all-steps-arg5 → tie.After-put-order
+ordered c = reordered (c .before .before .before .before) .before .before .before
 
-abbrev done : tie.After-statement → tie.After-known
-done c = c .before .before .before .before .before .before
+abbrev written : tie.After-statement → tie.After-slice-known7
+written c = c .before .before .before
 
--- Past the refusal the run may begin.
-may : (e : tie.Else1) → Begins (job (entry (e .before))) (lent (entry (e .before)))
-may e = begins _ _ (sym (e .before .refusal .ensures) ∙ e .if1 .left)
+abbrev done : tie.After-statement → tie.After-all-steps
+done c = written c .before .before .before .before
+
+-- Past the refusals the run may begin.
+none-met : (e : tie.Else2) → let s = entry (tested (e .before .before .before)) in 0 ≡ firstMet (runRefusals (job s) (lent s))
+none-met e =
+    let a = e .before .before .before in
+    refused-none _ _ _ _ _ (tested a .job-short .ensures) (a .state-short .ensures) (e .before .before .if1 .left) (e .before .job-in-range .ensures) (not-false _ (e .if2 .left))
+
+may : (e : tie.Else2) → Begins (job (entry (tested (e .before .before .before)))) (lent (entry (tested (e .before .before .before))))
+may e = begins _ _ (sym (none-met e))
 
 returns : tie.Need-returns
 unfolding answerOf
-returns c = let s = entry (c .before) in run-refused (job s) (lent s) _ _ (c .before .refusal .ensures) (c .if1 .taken)
+returns c =
+    let a = c .before in
+    run-refused _ _ _ 20 (refused-short _ _ _ _ (tested a .job-short .ensures) (a .state-short .ensures) (c .if1 .taken)) (λ z. omega arith)
+
+job-in-range-requires : tie.Need-job-in-range-requires
+job-in-range-requires c κs = long-job _ (lent (entry (tested (c .before)))) _ _ (tested (c .before) .job-short .ensures) (c .if1 .left)
+
+returns-2 : tie.Need-returns-2
+unfolding answerOf
+returns-2 c =
+    let a = c .before .before .before in
+    run-refused _ _ _ 21 (refused-range _ _ _ _ _ (tested a .job-short .ensures) (a .state-short .ensures) (c .before .before .if1 .left) (c .before .job-in-range .ensures) (not-true _ (c .if2 .taken))) (λ z. omega arith)
 
 needs-requires : tie.Need-needs-requires
 needs-requires c κs = begins-needs _ _ (may c)
@@ -67,7 +96,7 @@ total-table-requires : tie.Need-total-table-requires
 total-table-requires c κs = let w = shares (c .before) in begins-totals _ _ (may (w .before .before)) _ _ (w .before .needs .ensures) (w .sharers .ensures)
 
 -- The tables of messages are the job's.
-of-it : (c : tie.After-total-table) → let s = entry (shares (priced c) .before .before .before) in OfJob (s .args .boxes) (priced c .price-table .result) (c .total-table .result) (jobOf (job s))
+of-it : (c : tie.After-total-table) → let s = entry (tested (shares (priced c) .before .before .before .before .before)) in OfJob (s .args .boxes) (priced c .price-table .result) (c .total-table .result) (jobOf (job s))
 of-it c =
     let w = shares (priced c) in
     of-job _ _ (may (w .before .before)) _ _ (w .before .needs .ensures) (w .sharers .ensures) _ _ (priced c .price-table .ensures) (c .total-table .ensures)
@@ -80,7 +109,7 @@ put-order-requires c κs =
 
 all-steps-requires : tie.Need-all-steps-requires
 all-steps-requires c κs =
-    let o = ordered (arguments c) in
+    let o = ordered c in
     let m = made (o .before .before) in
     let w = shares (priced m) in
     let g = may (w .before .before) in
@@ -90,19 +119,19 @@ all-steps-requires c κs =
 
 write-sent : tie.Need-slice-write-sent
 write-sent c =
-    let o = ordered (arguments (done c .before .before)) in
+    let o = ordered (done c .before) in
     omega (arith, sent-room _ _ (may (shares (priced (made (o .before .before))) .before .before)))
 
-cast-steps : tie.Need-cast-t68
+cast-steps : tie.Need-cast-t69
 cast-steps c =
-    let o = ordered (arguments (done c .before .before)) in
+    let o = ordered (done c .before) in
     omega (arith, o .put-order .ensures .1 _ (of-it (made (o .before .before))) .picked .in-order)
 
-returns-2 : tie.Need-returns-2
+returns-3 : tie.Need-returns-3
 unfolding answerOf
-returns-2 c =
-    let a = done c .before in
-    let o = ordered (arguments (a .before)) in
+returns-3 c =
+    let a = done c in
+    let o = ordered (a .before) in
     let m = made (o .before .before) in
     let w = shares (priced m) in
     let e = w .before .before in
@@ -110,12 +139,13 @@ returns-2 c =
     let en = w .before .needs .ensures in
     let es = w .sharers .ensures in
     run-finished _ _ g _ _ _ _ _ _ (needs-of _ _ g _ _ en es) (sharers-of _ _ g _ _ en es) (o .put-order .ensures .1 _ (of-it m)) _ _ _ (a .all-steps .ensures) (o .put-order .ensures .0) refl refl
-    _ (e .before .refusal .ensures) (e .if1 .left)
+    0 (none-met e) refl
 
 pub run-spec : {M : Type 1} → statement M
 run-spec =
     tie.close
     (tie.spec
+    (λ c κs. tt)
     (λ c κs. tt)
     (λ c. refl)
     (λ c. refl)
@@ -125,6 +155,15 @@ run-spec =
     (λ c. refl)
     (λ c. refl)
     returns
+    job-in-range-requires
+    (λ c. refl)
+    (λ c. refl)
+    (λ c. refl)
+    (λ c. refl)
+    (λ c. refl)
+    (λ c. refl)
+    (λ c. refl)
+    returns-2
     needs-requires
     sharers-requires
     price-table-requires
@@ -140,4 +179,4 @@ run-spec =
     (λ c. search needs)
     (λ c. search needs)
     (λ c. search needs)
-    returns-2)
+    returns-3)

@@ -29,6 +29,10 @@ bad c =
     let j = decode (a .f .now) in
     ap (λ (n : ℕ). any n (badRecord j (kindAt (j .head) (a .k)))) (sym (due r .count)) ∙ sym (c .bad-records .ensures)
 
+-- Places, from places after them.
+abbrev records-at : tie.Else3 → tie.After-records-at
+records-at c = c .before .before .before .before .before .before
+
 returns : tie.Need-returns
 unfolding blockRefusal firstMet
 returns c = rw (← (c .before .sums-differ .ensures), c .if1 .taken)
@@ -60,7 +64,7 @@ returns-3 c =
 
 bad-records-requires : tie.Need-bad-records-requires
 bad-records-requires c κs =
-    let r = c .before .before .before .before .before .before in
+    let r = records-at c in
     let s = r .before .before .before in
     ((s .pre .0 .0, s .pre .0 .1), (s .pre .1 .0, due r))
 

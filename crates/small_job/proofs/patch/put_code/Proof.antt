@@ -12,8 +12,12 @@ Inv-loop f₀ at digits n i₀ f i = length f ≡ length f₀
 abbrev μ-loop : tie.MeasureT-loop
 μ-loop f₀ at digits n i₀ f i = 10 - i
 
+-- Places, from places after them.
+abbrev turn : tie.After-slice-known3 Inv-loop μ-loop → tie.At-loop Inv-loop μ-loop
+turn c = c .before .before .before .before .before .before
+
 loop-again : tie.Need-loop-again Inv-loop μ-loop
-loop-again c = c .before .before .set2 .kept .0 ∙ c .before .before .before .before .before .before .loop .inv
+loop-again c = c .before .before .set2 .kept .0 ∙ turn c .loop .inv
 
 same-length : tie.Need-same-length Inv-loop μ-loop
 same-length c = c .before .loop .inv ∙ c .before .before .before .before .set .kept .0

@@ -57,6 +57,10 @@ more-is c =
     let e = c .before .before .before .before in
     c .bit-word .ensures ∙ ap (λ (x : ℕ). only naturals (bit (e .before .loop .b) x) 1) (e .before .before .clear-bit .ensures)
 
+-- Places, from places after them.
+abbrev outset : tie.After-loop Inv-loop μ-loop → tie.Start Inv-loop μ-loop
+outset c = c .before .before .before .before .before .before .before
+
 clear-bit-requires : tie.Need-clear-bit-requires Inv-loop μ-loop
 clear-bit-requires c κs = c .before .before .before .before .pre .0 .owner< (c .before .before .before .before .args .n) (omega arith)
 
@@ -110,7 +114,7 @@ loop-again c =
 
 returns : tie.Need-returns Inv-loop μ-loop
 returns c =
-    let s = c .before .before .before .before .before .before .before in
+    let s = outset c in
     let done : c .before .loop .b ≡ 16 = le-antisymm (c .before .loop .inv .0) (c .loop-test .left) in
     c .before .loop .inv .1 ∙ ap (λ (b : ℕ). passingTable (s .args .back) (s .args .n) (owners s) (masks s) b) done ∙ passing-all (s .args .back) (s .args .n) (owners s) (masks s)
 

@@ -21,6 +21,10 @@ Inv-loop k kind a prices totals done first asks found₀ b₀ found b = (b ≤ k
 abbrev μ-loop : tie.MeasureT-loop
 μ-loop k kind a prices totals done first asks found₀ b₀ found b = k - b
 
+-- Places, from places after them.
+abbrev outset : tie.After-one Inv-loop μ-loop → tie.Start Inv-loop μ-loop
+outset c = c .before .before .before .before .before .before .before
+
 returns : tie.Need-returns Inv-loop μ-loop
 returns c =
     let s = c .before .before .before in
@@ -39,7 +43,7 @@ is-open-requires c κs = (search needs, λ asks. c .before .before .before .is-r
 add-found : tie.Need-add-found Inv-loop μ-loop
 add-found c =
     let l = c .before .before .before .loop in
-    let s = c .before .before .before .before .before .before .before in
+    let s = outset c in
     omega (
       arith,
       counted-fits (λ i. listedBy _ _ _ _ (rowOf _ _ _ * _ + i)) (l .b) (l .found) (c .one .result) (l .inv .1)
@@ -50,7 +54,7 @@ add-found c =
 loop-again : tie.Need-loop-again Inv-loop μ-loop
 loop-again c =
     let l = c .before .before .before .loop in
-    let s = c .before .before .before .before .before .before .before in (
+    let s = outset c in (
       search needs,
       counted (λ i. listedBy _ _ _ _ (rowOf _ _ _ * _ + i)) (l .b) (l .found) (c .one .result) (l .inv .1)
           (opened _ _ _ _ (s .args .kind) (s .args .a) (l .b) (c .before .is-open .result) (c .one .result) (search needs) (c .before .is-open .ensures) (c .one .ensures)),

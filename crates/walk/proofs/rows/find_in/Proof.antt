@@ -15,6 +15,10 @@ Inv-loop k c rows prices totals done n left₀ r₀ left r = (r ≤ n) × (left 
 abbrev μ-loop : tie.MeasureT-loop
 μ-loop k c rows prices totals done n left₀ r₀ left r = n - r
 
+-- Places, from places after them.
+abbrev outset : tie.After-find-row Inv-loop μ-loop → tie.Start Inv-loop μ-loop
+outset c = c .before .before .before .before .before .before
+
 loop-holds : tie.Need-loop-holds Inv-loop μ-loop
 loop-holds c = (search needs, omega (arith, rows-none (now (c .before .args .rows))))
 
@@ -28,7 +32,7 @@ find-row-requires c κs =
 returns : tie.Need-returns Inv-loop μ-loop
 returns c =
     let l = c .before .before .before .before .loop in
-    let s = c .before .before .before .before .before .before in
+    let s = outset c in
     rw (found-row (s .args .k) _ _ _ _ (s .pre .1 .0) (l .r) (l .left) _ (l .inv .1) (omega arith)) at (c .find-row .ensures)
 
 loop-again : tie.Need-loop-again Inv-loop μ-loop

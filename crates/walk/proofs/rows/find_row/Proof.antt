@@ -39,6 +39,10 @@ open-at s b l t e =
 some-ready : (s : Start) → 1 ≤ rowCount (s .args .k) (now (s .args .prices)) (now (s .args .totals)) (now (s .args .done)) (rowOf (s .args .k) (s .args .r / s .args .k + 1) (s .args .r % s .args .k))
 some-ready s = rw (row-digits (s .args .k) (s .args .r)) (omega (arith, s .pre .1 .1))
 
+-- Places, from places after them.
+abbrev outset : tie.After-one Inv-loop μ-loop → tie.Start Inv-loop μ-loop
+outset c = c .before .before .before .before .before .before
+
 add-kind : tie.Need-add-kind Inv-loop μ-loop
 add-kind c =
     let s = c .before in
@@ -69,13 +73,13 @@ returns c =
 sub-left : tie.Need-sub-left Inv-loop μ-loop
 sub-left c =
     let l = c .before .before .before .before .loop in
-    let s = c .before .before .before .before .before .before in
+    let s = outset c in
     less-fits (listedBy _ _ _ _) (s .args .r * s .args .k + l .b) (l .left) _ (l .inv .1) _ _ (open-at s (l .b) (c .before .before .before .loop-test .taken) _ (c .before .before .is-open .ensures)) (c .one .ensures) (c .before .if1 .left)
 
 loop-again : tie.Need-loop-again Inv-loop μ-loop
 loop-again c =
     let l = c .before .before .before .before .loop in
-    let s = c .before .before .before .before .before .before in (
+    let s = outset c in (
       search needs,
       search-next (s .args .k) _ _ _ (s .args .r) _ _ (l .b)
           (passed (listedBy _ _ _ _) (s .args .r * s .args .k + l .b) (l .left) _ (l .inv .1) _ _ (open-at s (l .b) (c .before .before .before .loop-test .taken) _

@@ -7,6 +7,10 @@ use Rattle.walk.proofs.Changed.{rows-kept, one-ready, own-renewed, clos
 use Rattle.walk.proofs.rows.renew.Statement.{statement}
 use Rattle.walk.proofs.rows.renew.Tie as tie
 
+-- Places, from places after them.
+abbrev else2 : tie.After-renew-row2 → tie.Else2
+else2 c = c .before .before .before .before .before .before
+
 one-less-requires : tie.Need-one-less-requires
 one-less-requires c κs = let s = c .before .before in one-ready (s .args .k) (s .args .kind) (s .args .a) (s .args .b) _ _ _ _ (s .pre .0) (s .pre .1)
 
@@ -52,7 +56,7 @@ renew-row-requires c κs =
 
 returns-4 : tie.Need-returns-4
 returns-4 c =
-    let e = c .before .before .before .before .before .before in
+    let e = else2 c in
     let s = e .before .before .before .before .before in
     renewed-multiplied (s .args .k) _ _ _ (s .args .kind) (s .args .a) (s .args .b) _ _
     (rows-kept (s .args .k) (s .args .kind) (s .args .a) (s .args .b) _ _ _ _ (s .pre .0) (s .pre .1))
