@@ -12,8 +12,8 @@ use Rattle.statements.proofs.put_job.Statement.{statement}
 use Rattle.statements.proofs.put_job.Tie as tie
 
 abbrev job : tie.Start → JobTables
-job s = jobTables (s .args .boxes) (s .args .grocers) (s .args .offers) (s .args .tallies) (now (s .args .price)) (now (s .args .owner)) (now (s .args .gowner)) (now (s .args .tgrocer))
-    (now (s .args .tbox)) (now (s .args .toffer)) (now (s .args .tcount))
+job s = jobTables (s .args .boxes) (s .args .grocers) (s .args .offers) (s .args .tallies) (now (s .args .price)) (now (s .args .offer-owner)) (now (s .args .grocer-owner)) (now (s .args .tally-grocer))
+    (now (s .args .tally-box)) (now (s .args .tally-offer)) (now (s .args .tally-count))
 
 -- The state that the run leaves.
 abbrev left : tie.After-run → StateTables
