@@ -27,14 +27,14 @@ tables r =
     (w .1 .1 .1 .1 .1 .1 .1 .1 .0)
 
 -- The call of `read`, from where all its tables are back; and from where the first is lent again.
-abbrev back : tie.After-toffer2 → tie.After-read
+abbrev back : tie.After-tally-offer2 → tie.After-read
 back c = c .before .before .before .before .before .before .before .before .before
 
 abbrev was-read : tie.After-price3 → tie.After-read
 was-read c = back (c .before .before .before .before .before)
 
 -- Where the first is lent, from the last.
-abbrev lent : tie.After-tcount3 → tie.After-price3
+abbrev lent : tie.After-tally-count3 → tie.After-price3
 lent c = c .before .before .before .before .before .before
 
 slice-aggregate-put-job : tie.Need-slice-aggregate-put-job
