@@ -6,10 +6,11 @@ use denote.Ref.{RefT, now}
 use denote.Triple.Both.{Both}
 use Rattle.model.specs.Tables.{JobTables, jobTables, StateTables, stateTables}
 
--- A lent slice of words, and one of signed words, at both moments.
+-- A lent slice of words, at both moments.
 abbrev pub Words : Type 0
 Words = Both (RefT (List ℕ)) (RefT (List ℕ))
 
+-- One of signed words.
 abbrev pub SignedWords : Type 0
 SignedWords = Both (RefT (List ℤ)) (RefT (List ℤ))
 

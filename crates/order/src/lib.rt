@@ -39,7 +39,8 @@ fn choose(
     requires { ⌜ IsRows k (now prices) (now totals) (now done) (now rows) ⌝ }
     requires { ⌜ (i < length (now choices)) × (1 ≤ ready) × (ready ≡ count (6 * k * k) (listedBy k (now prices) (now totals) (now done))) ⌝ }
     requires { ⌜ EveryJob k (now prices) (now totals) (λ j. Picked j (now done) (now order) i (drop i (now choices))) ⌝ }
-    ensures { λ _. ⌜ MarksFrom k (now (done .entry)) (now (done .exit)) × IsRows k (now (prices .entry)) (now (totals .entry)) (now (done .exit)) (now (rows .exit)) ⌝ }
+    ensures { λ _. ⌜ MarksFrom k (now (done .entry)) (now (done .exit)) × IsRows k (now (prices .entry)) (now (totals .entry)) (now (done .exit))
+        (now (rows .exit)) ⌝ }
     ensures { λ _. ⌜ EveryJob k (now (prices .entry)) (now (totals .entry)) (λ j. Kept j (now (done .entry)) (now (order .entry)) i
         (drop i (now (choices .entry))) (now (done .exit)) (now (order .exit)) (i + 1) (drop (i + 1) (now (choices .entry)))) ⌝ }
 {

@@ -69,6 +69,7 @@ pub record PriceFitsIn (e : Tallies) (known transit : List ℕ) (working : List 
   pub a-in : a < e .boxes
   pub b-in : b < e .boxes
 
+-- The same for kinds 4 to 6.
 pub record TotalFitsIn (k m : ℕ) (owner : List ℕ) (working transit statement : List ℤ) (sent : List ℕ) (kind a b : ℕ) : Type 0 where
   pub boxes-in : k ≤ maxBoxes
   pub grocers-in : m ≤ maxGrocers

@@ -22,7 +22,7 @@ returns : tie.Need-returns
 returns c = booked-short _ _ _ _ (c .if1 .taken)
 
 tell-numbers-requires : tie.Need-tell-numbers-requires
-tell-numbers-requires c κs = outset ((book c)) .if1 .left
+tell-numbers-requires c κs = outset (book c) .if1 .left
 
 same-length : tie.Need-same-length
 same-length c = booked (told c) .book .kept .1 .1 .1 .1 .1 .1 .1 .1 .1 .1 .1 .1 .0

@@ -31,13 +31,13 @@ tally-requires : tie.Need-tally-requires Inv-loop μ-loop
 tally-requires c κs = (c .loop-test .taken, c .before .before .before .before .before .pre .1)
 
 mul-list : tie.Need-mul-list Inv-loop μ-loop
-mul-list c = omega (arith, c .before .before .loop .inv .0, (outset c) .pre .0)
+mul-list c = omega (arith, c .before .before .loop .inv .0, outset c .pre .0)
 
 array-set-from-list : tie.Need-array-set-from-list Inv-loop μ-loop
-array-set-from-list c = omega (arith, c .before .loop-test .taken, (outset c) .pre .0)
+array-set-from-list c = omega (arith, c .before .loop-test .taken, outset c .pre .0)
 
 add-i : tie.Need-add-i Inv-loop μ-loop
-add-i c = omega (arith, c .before .before .loop .inv .0, (outset c) .pre .0)
+add-i c = omega (arith, c .before .before .loop .inv .0, outset c .pre .0)
 
 loop-less : tie.Need-loop-less Inv-loop μ-loop
 loop-less c = omega (arith, c .before .loop-test .taken)

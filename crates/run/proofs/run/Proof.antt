@@ -9,7 +9,8 @@ use Rattle.laws.specs.Checks.{firstMet}
 use Rattle.model.specs.Run.{runRefusals}
 use Rattle.order.specs.Order.{OfJob}
 use Rattle.run.specs.Run.{Begins, answerOf}
-use Rattle.run.proofs.Ends.{begins, refused-short, long-job, refused-range, refused-none, begins-needs, begins-sharers, begins-prices, begins-totals, needs-of, sharers-of, of-job, begins-walk, run-few, all-in, run-finished, run-refused, sent-room}
+use Rattle.run.proofs.Ends.{begins, refused-short, long-job, refused-range, refused-none, begins-needs, begins-sharers, begins-prices, begins-totals}
+use Rattle.run.proofs.Ends.{needs-of, sharers-of, of-job, begins-walk, run-few, all-in, run-finished, run-refused, sent-room}
 use Rattle.run.proofs.run.Statement.{statement}
 use Rattle.run.proofs.run.Tie as tie
 
