@@ -41,6 +41,8 @@ pub record Demand2 : Type 0 where
   -- What was written are bytes, the cycle being any 16-bit number: the file that reading takes back is one that a disk can hold.
   pub writtenBytes : (h : Head) (l : FileTables) (out : List ℕ) → h .cycle < 65536 → writeRefusal h l out ≡ 0 →
       Bytes (take (512 * blockCount h) (writeResult h l out .out))
+  -- And a cycle that was read is such a number, whatever the file's bytes are.
+  pub cycleRead : (file : List ℕ) → Bytes file → decode file .head .cycle < 65536
   -- Two codes name one offer exactly when they agree after leading zeros are dropped.
   pub codes : (c d : Code) → isCode c ≡ true → isCode d ≡ true → (sameOffer c d ≡ true) ↔ (dropZeros (written c) ≡ dropZeros (written d))
   -- In an accepted file, changing one or two bytes of one block always gives refusal 2:
