@@ -31,7 +31,7 @@ struct buffers {
     uint16_t tally_grocer[TALLIES], tally_box[TALLIES], tally_offer[TALLIES];
     uint8_t tally_code[TALLIES * CODE];
     int32_t tally_count[TALLIES];
-    uint16_t sizes[4];
+    uint16_t sizes[SETTLEMENT_SIZES];
     uint8_t file[FILE_BYTES];
     uint32_t known[BOXES * OFFERS], price_transit[BOXES * OFFERS];
     int64_t working[BOXES * GROCERS], total_transit[BOXES * GROCERS], statement[GROCERS];
@@ -46,7 +46,7 @@ enum operation { READ, WRITE, STEP, RUN, RECONCILE };
 struct work {
     enum operation operation;
     struct buffers start;
-    uint16_t boxes, grocers, offers, tallies;
+    uint16_t boxes, grocers, offers, tallies, cycle;
     size_t file_len;
     uint16_t kind, first, second;
     uint16_t choices[TALLIES];
@@ -71,9 +71,9 @@ static size_t call(const struct calls *c, const struct work *w, struct buffers *
                        WORDS(b->grocer_owner), WORDS(b->tally_grocer), WORDS(b->tally_box), WORDS(b->tally_code),
                        WORDS(b->tally_count), WORDS(b->tally_offer), WORDS(b->sizes));
     case WRITE:
-        return c->write(SIZES, WORDS(b->price), WORDS(b->offer_owner), WORDS(b->offer_code), WORDS(b->grocer_owner),
-                        WORDS(b->tally_grocer), WORDS(b->tally_box), WORDS(b->tally_code), WORDS(b->tally_count),
-                        WORDS(b->file));
+        return c->write(SIZES, w->cycle, WORDS(b->price), WORDS(b->offer_owner), WORDS(b->offer_code),
+                        WORDS(b->grocer_owner), WORDS(b->tally_grocer), WORDS(b->tally_box), WORDS(b->tally_code),
+                        WORDS(b->tally_count), WORDS(b->file));
     case STEP:
         return c->step(TABLES, w->kind, w->first, w->second);
     case RUN:
@@ -124,7 +124,7 @@ static bool code_used(const struct buffers *b, unsigned n, uint64_t number)
     return false;
 }
 
-/* A job of these sizes: every word random within its range. */
+/* A job of these sizes, of some cycle: every word random within its range. */
 static void make_job(struct work *w, unsigned k, unsigned m, unsigned n, unsigned t)
 {
     struct buffers *b = &w->start;
@@ -133,6 +133,7 @@ static void make_job(struct work *w, unsigned k, unsigned m, unsigned n, unsigne
     w->grocers = (uint16_t)m;
     w->offers = (uint16_t)n;
     w->tallies = (uint16_t)t;
+    w->cycle = (uint16_t)(257 * (m + n + t));
     for (unsigned o = 0; o < n; o++) {
         uint64_t number;
         do

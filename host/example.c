@@ -1,4 +1,5 @@
 /* A host program: settles a job twice, by steps in an order of its own and by one run, and compares the statements.
+ * It prints amounts in tenths of a cent, as the library keeps them; the program settle prints whole cents.
  *
  *   example [FILE]    the job file, or standard input
  *

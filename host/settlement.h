@@ -90,8 +90,8 @@
 #define SETTLEMENT_MAX_DONE (6 * SETTLEMENT_MAX_BOXES * SETTLEMENT_MAX_BOXES)
 #define SETTLEMENT_SENT 1
 
-/* Words of `sizes` (K, M, N, T) and of `report` (words sent, messages, steps). */
-#define SETTLEMENT_SIZES 4
+/* Words of `sizes` (K, M, N, T and the settlement cycle) and of `report` (words sent, messages, steps). */
+#define SETTLEMENT_SIZES 5
 #define SETTLEMENT_REPORT 3
 
 /* Answers: accepted, or what is refused. */
@@ -124,10 +124,11 @@
 extern "C" {
 #endif
 
-/* Reads the bytes of a job file into the tables of a job, and K, M, N and T into sizes[0] to sizes[3].
+/* Reads the bytes of a job file into the tables of a job, K, M, N and T into sizes[0] to sizes[3], and the settlement
+ * cycle into sizes[4]. The cycle is any number of 16 bits, 0 included: none is refused, and no other call is lent it.
  *
  * Needed lengths do not depend on the file: price, offer_owner 500; offer_code 5,500; grocer_owner 255;
- * tally_grocer, tally_box, tally_count, tally_offer 1,000; tally_code 11,000; sizes 4. An accepted file writes the
+ * tally_grocer, tally_box, tally_count, tally_offer 1,000; tally_code 11,000; sizes 5. An accepted file writes the
  * first M, N or T entries of each table, as above, and no others.
  *
  * Refusals, in the order in which they are looked for: 20, then 1; then of the header 2, 3, 4, 5 and 1 (the block
@@ -250,6 +251,7 @@ uint16_t settlement_run(
  */
 struct settlement_job {
     uint16_t boxes, grocers, offers, tallies; /* K, M, N, T */
+    uint16_t cycle;
     uint32_t price[SETTLEMENT_MAX_OFFERS];
     uint16_t offer_owner[SETTLEMENT_MAX_OFFERS];
     uint8_t offer_code[SETTLEMENT_MAX_OFFER_CODES];
@@ -289,7 +291,7 @@ struct settlement_state {
     SETTLEMENT_TABLE((s)->working), SETTLEMENT_TABLE((s)->total_transit), SETTLEMENT_TABLE((s)->statement),            \
     SETTLEMENT_TABLE((s)->done), SETTLEMENT_TABLE((s)->sent)
 
-/* settlement_read into a job, its sizes too; a refusal leaves the job as it was. */
+/* settlement_read into a job, its sizes and its cycle too; a refusal leaves the job as it was. */
 static inline uint16_t settlement_read_job(const uint8_t *file, size_t file_len, struct settlement_job *job)
 {
     uint16_t sizes[SETTLEMENT_SIZES] = {0};
@@ -299,6 +301,7 @@ static inline uint16_t settlement_read_job(const uint8_t *file, size_t file_len,
         job->grocers = sizes[1];
         job->offers = sizes[2];
         job->tallies = sizes[3];
+        job->cycle = sizes[4];
     }
     return answer;
 }

@@ -94,14 +94,15 @@ size_t ask_write(struct calling *calling, struct sizes sizes)
     struct table tables[ALL_TABLES], lent[ALL_TABLES];
     size_t length = 0;
     twins_as_lent(&calling->lending, tables);
-    uint16_t refusal = model_write(sizes, tables, file, &length);
+    uint16_t refusal = model_write(sizes, calling->job.cycle, tables, file, &length);
     if (!refusal) memcpy(calling->lending.twin[OUT].words, file, length);
     hand_over(&calling->lending, lent);
-    size_t answer = entries_write(sizes.boxes, sizes.grocers, sizes.offers, sizes.tallies, SLICE(const uint32_t, PRICE),
-                                  SLICE(const uint16_t, OFFER_OWNER), SLICE(const uint8_t, OFFER_CODE),
-                                  SLICE(const uint16_t, GROCER_OWNER), SLICE(const uint16_t, TALLY_GROCER),
-                                  SLICE(const uint16_t, TALLY_BOX), SLICE(const uint8_t, TALLY_CODE),
-                                  SLICE(const int32_t, TALLY_COUNT), SLICE(uint8_t, OUT));
+    size_t answer = entries_write(sizes.boxes, sizes.grocers, sizes.offers, sizes.tallies, calling->job.cycle,
+                                  SLICE(const uint32_t, PRICE), SLICE(const uint16_t, OFFER_OWNER),
+                                  SLICE(const uint8_t, OFFER_CODE), SLICE(const uint16_t, GROCER_OWNER),
+                                  SLICE(const uint16_t, TALLY_GROCER), SLICE(const uint16_t, TALLY_BOX),
+                                  SLICE(const uint8_t, TALLY_CODE), SLICE(const int32_t, TALLY_COUNT),
+                                  SLICE(uint8_t, OUT));
     hand_back(&calling->lending, lent, WRITE, answer >= BLOCK ? 0 : (uint16_t)answer);
     compare_call(calling, "writer", answer, refusal ? refusal : length);
     return answer;

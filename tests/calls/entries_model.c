@@ -41,7 +41,8 @@ static void read_file_words(struct job *job, struct sizes sizes, const struct ta
 }
 
 /* Where sizes and words are in their ranges, the writer refuses just what the reader would refuse of its file. */
-uint16_t model_write(struct sizes sizes, const struct table tables[ALL_TABLES], uint8_t file[MOST_FILE], size_t *length)
+uint16_t model_write(struct sizes sizes, uint16_t cycle, const struct table tables[ALL_TABLES],
+                     uint8_t file[MOST_FILE], size_t *length)
 {
     static struct job job, read;
     if (writer_is_short(sizes, tables)) return 20;
@@ -49,6 +50,7 @@ uint16_t model_write(struct sizes sizes, const struct table tables[ALL_TABLES], 
     for (unsigned i = 0; i < WRITER_WORDS; i++)
         if (!words_in_range(tables[writer_words[i]], sizes)) return 6;
     read_file_words(&job, sizes, tables);
+    job.cycle = cycle;
     *length = write_file(&job, file);
     return read_file(file, *length, &read);
 }

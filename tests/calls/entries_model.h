@@ -5,8 +5,8 @@
 #include "model.h"
 
 /* The writer on lent tables: its refusal, or 0, the file and its length. */
-uint16_t model_write(struct sizes sizes, const struct table tables[ALL_TABLES], uint8_t file[MOST_FILE],
-                     size_t *length);
+uint16_t model_write(struct sizes sizes, uint16_t cycle, const struct table tables[ALL_TABLES],
+                     uint8_t file[MOST_FILE], size_t *length);
 
 /* The words between two boxes: prices from an owner to a holder, totals from a holder to an owner. */
 uint16_t price_words(const struct job *job, size_t sender, size_t receiver);

@@ -27,7 +27,7 @@ ENTRY size_t entries_write(ENTRIES_WRITE)
         JOB_OF, [OFFER_CODE] = {OFFER_CODE, offer_code_len, (void *)offer_code},
         [TALLY_CODE] = {TALLY_CODE, tally_code_len, (void *)tally_code}, [OUT] = {OUT, out_len, out}};
     size_t length = 0;
-    uint16_t refusal = model_write((struct sizes){boxes, grocers, offers, tallies}, tables, file, &length);
+    uint16_t refusal = model_write((struct sizes){boxes, grocers, offers, tallies}, cycle, tables, file, &length);
     if (refusal) return refusal;
     memcpy(out, file, length);
     return length;

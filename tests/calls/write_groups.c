@@ -197,6 +197,7 @@ static void read_and_write_again(size_t length)
     memcpy(again.lending.table[FILE_BYTES].words, again.lending.twin[FILE_BYTES].words, length);
     expect(call_read(&again.lending) == 0, "the reader refuses the file");
     compare_with_twins(&again.lending);
+    again.job.cycle = (uint16_t)word_of(&again, SIZES, 4);
     expect(ask_write(&again, calling.job.sizes) == length, "the file is not written again");
     expect(memcmp(again.lending.table[OUT].words, calling.lending.table[OUT].words, length) == 0, "the files differ");
     close_calling(&again);
@@ -225,6 +226,24 @@ static void read_again(void)
         random_job(&calling.job, random_sizes(i % 8 ? TINY : i % 64 ? SMALL : LARGEST));
         open_calling(&calling, SPARE);
         read_and_write_again(ask_write(&calling, calling.job.sizes));
+        close_calling(&calling);
+    }
+}
+
+/* E of one cycle and another: it stands in bytes 12 and 13, and comes back. */
+static void cycles(void)
+{
+    static const uint16_t tried[] = {0, 1, 255, 256, 499, 500, 32768, 65534, 65535};
+    for (size_t i = 0; i < sizeof tried / sizeof tried[0]; i++) {
+        at_case("cycle %u", tried[i]);
+        sample_job(&calling.job);
+        calling.job.cycle = tried[i];
+        open_calling(&calling, SPARE);
+        expect_write(calling.job.sizes, WHOLE);
+        expect(word_of(&calling, OUT, 12) + 256 * word_of(&calling, OUT, 13) == tried[i] &&
+                   word_of(&calling, OUT, 14) == 0,
+               "the cycle does not stand in bytes 12 and 13");
+        read_and_write_again(WHOLE);
         close_calling(&calling);
     }
 }
@@ -266,5 +285,6 @@ void check_writer(void)
     run_group("writer: sizes at and beyond their values", largest_sizes);
     run_group("writer: the longest file, read and written again", longest_file);
     run_group("writer: files that are read and written again", read_again);
+    run_group("writer: any settlement cycle, read and written again", cycles);
     run_group("writer: random jobs, words and sizes", random_jobs);
 }

@@ -75,9 +75,9 @@ uint16_t settlement_read(
                tally_grocer_len, tally_box, tally_box_len, tally_offer, tally_offer_len, tally_count, tally_count_len);
     IS_LENT(job, offer_code, 11 * 500);
     IS_LENT(job, tally_code, 11 * 1000);
-    EXPECT(sizes_len == 4);
+    EXPECT(sizes_len == 5);
     if (next_answer == SETTLEMENT_ACCEPTED)
-        for (uint16_t i = 0; i < 4; i++)
+        for (uint16_t i = 0; i < 5; i++)
             sizes[i] = (uint16_t)(i + 11);
     return next_answer;
 }
@@ -141,10 +141,10 @@ int main(void)
 {
     next_answer = SETTLEMENT_DAMAGED;
     EXPECT(settlement_read_job(file, sizeof file, &job) == SETTLEMENT_DAMAGED);
-    EXPECT(job.boxes == 0 && job.grocers == 0 && job.offers == 0 && job.tallies == 0);
+    EXPECT(job.boxes == 0 && job.grocers == 0 && job.offers == 0 && job.tallies == 0 && job.cycle == 0);
     next_answer = SETTLEMENT_ACCEPTED;
     EXPECT(settlement_read_job(file, sizeof file, &job) == SETTLEMENT_ACCEPTED);
-    EXPECT(job.boxes == 11 && job.grocers == 12 && job.offers == 13 && job.tallies == 14);
+    EXPECT(job.boxes == 11 && job.grocers == 12 && job.offers == 13 && job.tallies == 14 && job.cycle == 15);
     next_answer = SETTLEMENT_NOT_READY;
     EXPECT(settlement_step_job(&job, &state, 3, 1, 2) == SETTLEMENT_NOT_READY);
     next_answer = SETTLEMENT_OUT_OF_RANGE;

@@ -11,7 +11,7 @@ enum { RECORDS_FROM = 4, SUMS_FROM = 508, MODULUS = 65521 };
 static const struct {
     size_t size, fields, full;
 } layout[] = {
-    [HEADER] = {8, 8, 1},
+    [HEADER] = {10, 10, 1},
     [OFFER_BLOCKS] = {24, 16, 21},
     [GROCER_BLOCKS] = {1, 1, 255},
     [TALLY_BLOCKS] = {24, 18, 21},
@@ -164,15 +164,17 @@ static bool read_records(const uint8_t *block, struct due due, struct job *job)
 
 /* The whole file */
 
-static uint16_t read_header(const uint8_t *block, struct sizes *sizes)
+static uint16_t read_header(const uint8_t *block, struct job *job)
 {
     struct due due = {HEADER, 1, 0};
+    struct sizes *sizes = &job->sizes;
     if (!sums_agree(block)) return 2;
     if (!is_as_due(block, due, 0)) return 3;
     sizes->boxes = block[4];
     sizes->grocers = (uint16_t)get_number(block + 6, 2);
     sizes->offers = (uint16_t)get_number(block + 8, 2);
     sizes->tallies = (uint16_t)get_number(block + 10, 2);
+    job->cycle = (uint16_t)get_number(block + 12, 2);
     if (block[5] != 1 || !sizes_in_range(*sizes)) return 4;
     return spare_is_zero(block, due) ? 0 : 5;
 }
@@ -222,7 +224,7 @@ static uint16_t find_places(struct job *job)
 uint16_t read_file(const uint8_t *file, size_t length, struct job *job)
 {
     if (length == 0 || length % BLOCK != 0 || length > MOST_FILE) return 1;
-    uint16_t refusal = read_header(file, &job->sizes);
+    uint16_t refusal = read_header(file, job);
     if (refusal) return refusal;
     if (length / BLOCK != blocks_of(job->sizes)) return 1;
     for (size_t number = 1; number < length / BLOCK; number++) {
@@ -240,13 +242,14 @@ static void write_code_field(uint8_t *bytes, const struct code *code)
     memcpy(bytes + 1, code->field, FIELD);
 }
 
-static void write_header(uint8_t *record, struct sizes sizes)
+static void write_header(uint8_t *record, const struct job *job)
 {
-    record[0] = (uint8_t)sizes.boxes;
+    record[0] = (uint8_t)job->sizes.boxes;
     record[1] = 1;
-    set_number(record + 2, 2, sizes.grocers);
-    set_number(record + 4, 2, sizes.offers);
-    set_number(record + 6, 2, sizes.tallies);
+    set_number(record + 2, 2, job->sizes.grocers);
+    set_number(record + 4, 2, job->sizes.offers);
+    set_number(record + 6, 2, job->sizes.tallies);
+    set_number(record + 8, 2, job->cycle);
 }
 
 static void write_offer(uint8_t *record, const struct offer *offer)
@@ -267,7 +270,7 @@ static void write_tally(uint8_t *record, const struct tally *tally)
 static void write_record(uint8_t *record, const struct job *job, unsigned kind, size_t place)
 {
     switch (kind) {
-    case HEADER: write_header(record, job->sizes); break;
+    case HEADER: write_header(record, job); break;
     case OFFER_BLOCKS: write_offer(record, &job->offer[place]); break;
     case GROCER_BLOCKS: record[0] = (uint8_t)job->grocer_owner[place]; break;
     default: write_tally(record, &job->tally[place]); break;

@@ -138,6 +138,7 @@ void random_job(struct job *job, struct sizes sizes)
         if (t > 0 && one_in(6)) job->tally[t] = job->tally[below((uint32_t)t)];
         job->tally[t].code = random_code(number[job->tally[t].place]);
     }
+    job->cycle = one_in(2) ? 0 : wild_number(500);
 }
 
 void sample_job(struct job *job)

@@ -22,7 +22,7 @@ struct sizes random_sizes(struct sizes most);
 struct sizes sizes_with_tallies(struct sizes most);
 extern const struct sizes TINY, SMALL, MEDIUM, LARGEST;
 
-/* An accepted job of these sizes. */
+/* An accepted job of these sizes, of cycle 0 or any other. */
 void random_job(struct job *job, struct sizes sizes);
 
 /* E of the specification. */

@@ -377,6 +377,7 @@ void write_code_words(const struct job *job, const struct table tables[ALL_TABLE
     put_word(tables[SIZES], 1, job->sizes.grocers);
     put_word(tables[SIZES], 2, job->sizes.offers);
     put_word(tables[SIZES], 3, job->sizes.tallies);
+    put_word(tables[SIZES], 4, job->cycle);
 }
 
 static void clear_words(struct table table, struct sizes sizes)

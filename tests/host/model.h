@@ -27,6 +27,7 @@ struct tally {
 
 struct job {
     struct sizes sizes;
+    uint16_t cycle;
     struct offer offer[MOST_OFFERS];
     uint16_t grocer_owner[MOST_GROCERS];
     struct tally tally[MOST_TALLIES];

@@ -66,7 +66,7 @@ static const struct edit edits[] = {
     {"0 offers", 4, 0, 8, 2, {0, 0}},
     {"501 offers", 4, 0, 8, 2, {0xF5, 1}},
     {"1,001 tallies", 4, 0, 10, 2, {0xE9, 3}},
-    {"first spare byte of the header", 5, 0, 12, 1, {1}},
+    {"first spare byte of the header", 5, 0, 14, 1, {1}},
     {"last spare byte of the header", 5, 0, 507, 1, {255}},
     {"22 tallies need one block more", 1, 0, 10, 2, {22, 0}},
     {"no tallies need one block less", 1, 0, 10, 2, {0, 0}},
@@ -122,6 +122,11 @@ enum { EDITS = sizeof edits / sizeof edits[0] };
 static const struct edit others[] = {
     {"2 records in the header", 3, 0, 1, 1, {2}},
     {"16 boxes", 0, 0, 4, 1, {16}},
+    {"cycle 1", 0, 0, 12, 2, {1, 0}},
+    {"cycle 256", 0, 0, 12, 2, {0, 1}},
+    {"cycle 65,535", 0, 0, 12, 2, {255, 255}},
+    {"cycle 65,535 and a spare byte", 5, 0, 12, 3, {255, 255, 1}},
+    {"second spare byte of the header", 5, 0, 15, 1, {1}},
     {"3 grocers, 2 in the block", 3, 0, 6, 1, {3}},
     {"3 tallies, 4 in the block", 3, 0, 10, 1, {3}},
     {"offer block with 1 record", 3, 1, 1, 1, {1}},
@@ -227,6 +232,31 @@ static void block_count_in_order(void)
         expect_answer(length + 1, 1);
         at_case("%s, and 75 blocks", edits[i].what);
         expect_answer(75 * BLOCK, 1);
+    }
+}
+
+/* E of one cycle and another: the reader answers it in sizes[4], and a cycle is never refused. */
+static void cycles(void)
+{
+    static const uint16_t tried[] = {0, 1, 255, 256, 499, 500, 32768, 65534, 65535};
+    for (size_t i = 0; i < sizeof tried / sizeof tried[0]; i++) {
+        at_case("cycle %u", tried[i]);
+        sample_job(&job);
+        job.cycle = tried[i];
+        size_t length = write_file(&job, file);
+        expect(file[12] + 256 * file[13] == tried[i], "the cycle does not stand in bytes 12 and 13");
+        expect_answer(length, 0);
+        expect(word_at(lending.table[SIZES], 4) == tried[i], "sizes[4] is not the cycle");
+        at_case("cycle %u, four words for sizes", tried[i]);
+        put_both(&lending, SIZES, 4, 12345);
+        lending.lend[SIZES] = 4;
+        expect_answer(length, 20);
+        lend_whole(&lending);
+        at_case("cycle %u, byte 14 not 0", tried[i]);
+        file[14] = 1;
+        write_sums(file);
+        expect_answer(length, 5);
+        expect(word_at(lending.table[SIZES], 4) == 12345, "a refused reader wrote sizes[4]");
     }
 }
 
@@ -353,7 +383,7 @@ static void random_bytes(void)
 static size_t likely_place(void)
 {
     switch (below(4)) {
-    case 0: return below(12);
+    case 0: return below(16);
     case 1: return 4 + below(3 * 24);
     default: return below(508);
     }
@@ -518,6 +548,7 @@ void check_reader(void)
     group("reader: of two faults the earlier is refused", order_of_refusals);
     group("reader: the block count in its place", block_count_in_order);
     group("reader: files cut, longer and empty", lengths);
+    group("reader: any settlement cycle", cycles);
     group("reader: each buffer short", short_buffers);
     group("reader: random files", random_files);
     group("reader: one or two bytes of a block changed", changed_bytes);

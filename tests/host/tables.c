@@ -71,7 +71,7 @@ uint64_t needed(enum table_name name, struct sizes sizes)
     case SENT: return 1;
     case OFFER_CODE: return 11 * n;
     case TALLY_CODE: return 11 * t;
-    case SIZES: return 4;
+    case SIZES: return 5;
     case NUMBERS:
     case REPORT: return 3;
     case PRICE_WORDS:

@@ -1,5 +1,6 @@
-/* Writes the sample job files and, beside each, what the program settle has to print for it: make_files FOLDER.
-   Files come from the model's encoder and output from the model's reader and run. */
+/* Writes the sample job files and, beside each NAME.job, the lines that it comes to: make_files FOLDER. NAME.cents has amounts in
+   whole cents, as the program settle has to print them, and NAME.out in tenths of a cent, as the library keeps them and
+   host/example.c prints them. Files come from the model's encoder and lines from the model's reader and run. */
 #include <inttypes.h>
 #include <stdio.h>
 #include <stdlib.h>
@@ -25,6 +26,15 @@ static size_t random_file(uint64_t seed, struct sizes sizes)
 {
     seed_random(seed);
     random_job(&job, sizes);
+    job.cycle = 0;
+    return write_file(&job, file);
+}
+
+/* E of the last cycle: its lines are E's. */
+static size_t last_cycle(void)
+{
+    sample_job(&job);
+    job.cycle = UINT16_MAX;
     return write_file(&job, file);
 }
 
@@ -73,6 +83,20 @@ static size_t largest_negative(void)
     return write_file(&job, file);
 }
 
+/* One price of a tenth, so that each grocer's count is its amount: halves, and what is at and around zero. */
+static size_t halves(void)
+{
+    static const int32_t amounts[] = {25, 24, 26, -25, -24, -26, 0, 1, 4, 5, 6, -1, -4, -5, -6, 15, -15, 35, 95, -95, 99999, -99999};
+    const uint16_t grocers = sizeof amounts / sizeof amounts[0];
+    one_tally_job(&job, (struct sizes){2, grocers, 1, grocers}, 1, (struct tally){0});
+    for (uint16_t t = 0; t < grocers; t++) {
+        job.tally[t].grocer = t;
+        job.tally[t].box = t % 2;
+        job.tally[t].count = amounts[t];
+    }
+    return write_file(&job, file);
+}
+
 /* Files that are refused */
 
 /* A byte of E's file, with the sums of its block made right. */
@@ -103,6 +127,7 @@ static size_t kind_not_due(void) { return e_with(2, 0, 3); }
 static size_t block_number_not_due(void) { return e_with(3, 2, 2); }
 static size_t boxes_17(void) { return e_with(0, 4, 17); }
 static size_t spare_byte(void) { return e_with(1, 507, 1); }
+static size_t byte_behind_cycle(void) { return e_with(0, 14, 1); }
 static size_t owner_too_large(void) { return e_with(2, 5, 2); }
 static size_t bad_digit(void) { return e_with(3, 8, ':'); }
 static size_t unknown_code(void) { return e_with(3, 10, '3'); }
@@ -151,6 +176,8 @@ static const struct sample {
     {"every_pair", every_pair, 0},
     {"largest_amounts", largest_amounts, 0},
     {"largest_negative", largest_negative, 0},
+    {"halves", halves, 0},
+    {"last_cycle", last_cycle, 0},
     {"empty", empty, 1},
     {"one_byte", one_byte, 1},
     {"byte_short", byte_short, 1},
@@ -165,6 +192,7 @@ static const struct sample {
     {"block_number_not_due", block_number_not_due, 3},
     {"boxes_17", boxes_17, 4},
     {"spare_byte", spare_byte, 5},
+    {"byte_behind_cycle", byte_behind_cycle, 5},
     {"owner_too_large", owner_too_large, 6},
     {"bad_digit", bad_digit, 6},
     {"price_too_large", price_too_large, 6},
@@ -185,17 +213,41 @@ static FILE *open_file(const char *folder, const char *name, const char *ending)
     exit(2);
 }
 
-static void print_statements(FILE *stream)
+/* Tenths of a cent in whole cents, to the nearest, a half going away from zero: the whole number c of which 10 * c is nearest, found
+   by looking at those around. */
+static int64_t in_cents(int64_t tenths)
+{
+    int64_t best = tenths / 10 - 2;
+    for (int64_t c = best + 1; c <= tenths / 10 + 2; c++) {
+        int64_t off = llabs(10 * c - tenths), least = llabs(10 * best - tenths);
+        if (off < least || (off == least && llabs(c) > llabs(best))) best = c;
+    }
+    return best;
+}
+
+static int64_t in_tenths(int64_t tenths) { return tenths; }
+
+static void print_statements(FILE *stream, int64_t (*unit)(int64_t))
 {
     static struct machine machine;
     struct step picked[MOST_STEPS];
     struct report report = run_all(&machine, &job, (struct table){CHOICES, 0, NULL}, picked);
     for (uint16_t g = 0; g < job.sizes.grocers; g++) {
         if (machine.statement[g] != plain_sum(&job, g)) exit(3);
-        fprintf(stream, "%u %" PRId64 "\n", g, machine.statement[g]);
+        fprintf(stream, "%u %" PRId64 "\n", g, unit(machine.statement[g]));
     }
     if (report.words != words_of_job(&job)) exit(3);
     fprintf(stream, "words %u\nmessages %u\nsteps %u\n", report.words, report.messages, report.steps);
+}
+
+static void make_lines(const char *folder, const struct sample *sample, const char *ending, int64_t (*unit)(int64_t))
+{
+    FILE *stream = open_file(folder, sample->name, ending);
+    if (sample->due)
+        fprintf(stream, "refused %u\n", sample->due);
+    else
+        print_statements(stream, unit);
+    fclose(stream);
 }
 
 static void make_sample(const char *folder, const struct sample *sample)
@@ -210,12 +262,8 @@ static void make_sample(const char *folder, const struct sample *sample)
         fprintf(stderr, "%s: the model refuses with %u, meant is %u\n", sample->name, refusal, sample->due);
         exit(3);
     }
-    stream = open_file(folder, sample->name, "out");
-    if (refusal)
-        fprintf(stream, "refused %u\n", refusal);
-    else
-        print_statements(stream);
-    fclose(stream);
+    make_lines(folder, sample, "cents", in_cents);
+    make_lines(folder, sample, "out", in_tenths);
 }
 
 int main(int argc, char **argv)

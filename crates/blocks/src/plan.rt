@@ -20,28 +20,31 @@ pub const MAX_OFFERS: usize = 500;
 
 pub const MAX_TALLIES: usize = 1000;
 
-// The numbers of a header: how many boxes, grocers, offers and tallies.
+// The numbers of a header: how many boxes, grocers, offers and tallies, and the settlement cycle.
 pub struct Head {
     pub boxes: usize,
     pub grocers: usize,
     pub offers: usize,
     pub tallies: usize,
+    pub cycle: u16,
 }
 
 // The numbers that a file's header says.
 pub fn read_head(f: &[u8]) -> Head
-    requires { ⌜ 12 ≤ length (now f) ⌝ }
+    requires { ⌜ 14 ≤ length (now f) ⌝ }
     ensures { λ r. ⌜ asHead r ≡ decode (now (f .entry)) .head ⌝ }
 {
     let boxes = size(f[4]);
     let grocers = word16(f, 6);
     let offers = word16(f, 8);
     let tallies = word16(f, 10);
+    let cycle = word16(f, 12) as u16;
     Head {
         boxes: boxes,
         grocers: grocers,
         offers: offers,
         tallies: tallies,
+        cycle: cycle,
     }
 }
 

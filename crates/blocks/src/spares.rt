@@ -46,7 +46,7 @@ pub fn header_spare_used(f: &[u8]) -> bool
     requires { ⌜ 512 ≤ length (now f) ⌝ }
     ensures { λ r. ⌜ r ≡ spareUsed (decode (now (f .entry)) .head) 0 (from (now (f .entry)) 0) ⌝ }
 {
-    spare_in(f, 4, 1, 504, 8)
+    spare_in(f, 4, 1, 504, 10)
 }
 
 // The same of block k, which is not the header.

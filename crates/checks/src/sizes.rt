@@ -15,9 +15,9 @@ pub fn size_of(x: u16) -> usize
     x as usize
 }
 
-// K, M, N and T as given.
-pub fn head_of(boxes: u16, grocers: u16, offers: u16, tallies: u16) -> Head
-    ensures { λ r. ⌜ (asHead r ≡ headOf boxes grocers offers tallies) × Fits (asHead r) ⌝ }
+// K, M, N and T as given, and the cycle.
+pub fn head_of(boxes: u16, grocers: u16, offers: u16, tallies: u16, cycle: u16) -> Head
+    ensures { λ r. ⌜ (asHead r ≡ headOf boxes grocers offers tallies cycle) × Fits (asHead r) ⌝ }
 {
     let k = size_of(boxes);
     let m = size_of(grocers);
@@ -28,6 +28,7 @@ pub fn head_of(boxes: u16, grocers: u16, offers: u16, tallies: u16) -> Head
         grocers: m,
         offers: n,
         tallies: t,
+        cycle: cycle,
     }
 }
 

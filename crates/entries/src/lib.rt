@@ -34,6 +34,7 @@ pub extern "C" fn entries_write(
     grocers: u16,
     offers: u16,
     tallies: u16,
+    cycle: u16,
     price: &[u32],
     offer_owner: &[u16],
     offer_code: &[u8],
@@ -44,7 +45,7 @@ pub extern "C" fn entries_write(
     tally_count: &[i32],
     out: &mut [u8],
 ) -> usize
-    ensures { λ r. ⌜ written r (now (out .exit)) ≡ writtenAs (writeResult (headOf boxes grocers offers tallies) (fileTables (now (price .entry))
+    ensures { λ r. ⌜ written r (now (out .exit)) ≡ writtenAs (writeResult (headOf boxes grocers offers tallies cycle) (fileTables (now (price .entry))
         (now («offer_owner» .entry)) (now («offer_code» .entry)) (now («grocer_owner» .entry)) (now («tally_grocer» .entry))
         (now («tally_box» .entry)) (now («tally_code» .entry)) (now («tally_count» .entry))) (now (out .entry))) ⌝ }
 {
@@ -53,6 +54,7 @@ pub extern "C" fn entries_write(
         grocers,
         offers,
         tallies,
+        cycle,
         price,
         offer_owner,
         offer_code,

@@ -48,7 +48,7 @@ module _ (f f′ : List ℕ) (k : ℕ) (k₀ : 0 < k) (same : (p : ℕ) → p < 
   same-head : decode f′ .head ≡ decode f .head
   unfolding decode readHead
   same-head =
-      rw (same 4 (omega arith), same 6 (omega arith), same 7 (omega arith), same 8 (omega arith), same 9 (omega arith), same 10 (omega arith), same 11 (omega arith))
+      rw (same 4 (omega arith), same 6 (omega arith), same 7 (omega arith), same 8 (omega arith), same 9 (omega arith), same 10 (omega arith), same 11 (omega arith), same 12 (omega arith), same 13 (omega arith))
 
   same-block : (m q : ℕ) → m < k → q < 512 → from f′ (512 * m) q ≡ from f (512 * m) q
   same-block m q hm hq = same (512 * m + q) (omega arith)

@@ -79,7 +79,7 @@ module _ (f : List ℕ) (bytes : (p : ℕ) → getD f p 0 < 256) (mark : getD f 
   anywhere : (at : ℕ) → Bytes (from f at)
   anywhere at k = bytes (at + k)
 
-  header-bytes : headerBytes (decode f .head) ≡ tabulate 8 (from f 4)
+  header-bytes : headerBytes (decode f .head) ≡ tabulate 10 (from f 4)
   unfolding headerBytes decode readHead tabulate
   header-bytes =
       let m₀ : word16 (from f 6) % 256 ≡ getD f 6 0 = omega (arith, bytes 6) in
@@ -88,12 +88,14 @@ module _ (f : List ℕ) (bytes : (p : ℕ) → getD f p 0 < 256) (mark : getD f 
       let n₁ : word16 (from f 8) / 256 ≡ getD f 9 0 = omega (arith, bytes 8) in
       let t₀ : word16 (from f 10) % 256 ≡ getD f 10 0 = omega (arith, bytes 10) in
       let t₁ : word16 (from f 10) / 256 ≡ getD f 11 0 = omega (arith, bytes 10) in
-      rw (m₀, m₁, n₀, n₁, t₀, t₁, mark)
+      let c₀ : word16 (from f 12) % 256 ≡ getD f 12 0 = omega (arith, bytes 12) in
+      let c₁ : word16 (from f 12) / 256 ≡ getD f 13 0 = omega (arith, bytes 12) in
+      rw (m₀, m₁, n₀, n₁, t₀, t₁, c₀, c₁, mark)
 
   -- A byte of a field.
   field-at : (b : BlockKind) (k s : ℕ) → At (decode f .head) k b → s < 504 → s % recordSize b < fieldSize b → getD (recordBytes (decode f) b (s / recordSize b)) (s % recordSize b) 0 ≡ from f (512 * k) (4 + s)
   unfolding recordBytes decode
-  field-at header k s (at-header e) hs h = field-read f _ 8 4 (s % 504) header-bytes h _ (omega arith)
+  field-at header k s (at-header e) hs h = field-read f _ 10 4 (s % 504) header-bytes h _ (omega arith)
   field-at (offerBlock b) k s (at-offers _ e _) hs h = field-read f _ 16 (recordAt offersAt (21 * b + s / 24)) (s % 24) (offer-bytes _ (anywhere (recordAt offersAt (21 * b + s / 24)))) h _ (omega arith)
   field-at grocerBlock k s (at-grocers e) hs h =
       let z : s % 1 ≡ 0 = omega arith in

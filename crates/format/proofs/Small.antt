@@ -79,7 +79,7 @@ small-code : (c : Code) → isCode c ≡ true → Small (codeBytes c)
 unfolding codeBytes
 small-code c h = cons (omega (arith, code-is c h .few)) (small-tabulate 10 (c .digit) (digit-small c h))
 
-module _ (j : FileJob) (ok : jobRefusal j ≡ 0) where
+module _ (j : FileJob) (ok : jobRefusal j ≡ 0) (cycle : j .head .cycle < 65536) where
   range : InRange j
   range = in-range j ok
 
@@ -87,7 +87,10 @@ module _ (j : FileJob) (ok : jobRefusal j ≡ 0) where
   unfolding headerBytes
   small-header =
       let s = range .sizes in
-      cons (omega arith) (cons (omega arith) (append (append (small16 (j .head .grocers) (omega arith)) (small16 (j .head .offers) (omega arith))) (small16 (j .head .tallies) (omega arith))))
+      let m = small16 (j .head .grocers) (omega arith) in
+      let n = small16 (j .head .offers) (omega arith) in
+      let t = small16 (j .head .tallies) (omega arith) in
+      cons (omega arith) (cons (omega arith) (append (append (append m n) t) (small16 (j .head .cycle) cycle)))
 
   small-record : (b : BlockKind) (r : ℕ) → r < records (j .head) b → Small (recordBytes j b r)
   unfolding recordBytes offerBytes tallyBytes
@@ -138,7 +141,7 @@ module _ (j : FileJob) (ok : jobRefusal j ≡ 0) where
       (λ e. rw e (body-small k q h))
       (λ e. rw e (append (small16 (firstSum (bodyByte j k)) (omega arith)) (small16 (secondSum (bodyByte j k)) (omega arith)) .at (q - 508)))
 
-  -- Every byte of a written job's file is below 256.
+  -- Every byte of a written job's file is below 256, where its cycle is a 16-bit number.
   pub encode-small : (p : ℕ) → getD (encode j) p 0 < 256
   unfolding encode
   encode-small p = small-tabulate (512 * blocks j) _ (λ i l. block-small (i / 512) (i % 512) (omega arith)) .at p

@@ -264,11 +264,12 @@ module _ (h : Head) (l : FileTables) (out : List ℕ) (ok : writeRefusal h l out
   unfolding fileJobOf
   buffer-file = ap (λ (x : ℕ). take x (writeResult h l out .out)) (sym (long-is (fileJobOf h l) written-job)) ∙ written-file
 
-  -- and each of its words is a byte.
-  pub written-bytes : (p : ℕ) → getD (take (512 * blockCount h) (writeResult h l out .out)) p 0 < 256
-  written-bytes p = rw buffer-file (encode-small (fileJobOf h l) written-job p)
+  -- and each of its words is a byte, where the cycle is a 16-bit number.
+  pub written-bytes : h .cycle < 65536 → (p : ℕ) → getD (take (512 * blockCount h) (writeResult h l out .out)) p 0 < 256
+  unfolding fileJobOf
+  written-bytes c p = rw buffer-file (encode-small (fileJobOf h l) written-job c p)
 
-  -- The reader accepts the writer's file, answers the writer's K, M, N and T, and writes the writer's words, with each tally's place.
+  -- The reader accepts the writer's file, answers the writer's K, M, N and T with its cycle, and writes the writer's words, with each tally's place.
   pub read-written : (r : ReaderTables) → shortReader r ≡ false → readResult (encode (fileJobOf h l)) r ≡ record { answer = sizes h; tables = storeRead (fileJobOf h l) r }
   unfolding fileJobOf
   read-written r s =

@@ -78,7 +78,7 @@ module _ (j : FileJob) where
       record-at k (r * recordSize b + c) hk h ∙ rw (e, not-spare (j .head) b r c hr hc, digits-div r l, digits-mod r l)
 
   -- The bytes of each kind of record, where the reader looks for them.
-  header-at : (c : ℕ) → c < 8 → from (encode j) 4 c ≡ getD (headerBytes (j .head)) c 0
+  header-at : (c : ℕ) → c < 10 → from (encode j) 4 c ≡ getD (headerBytes (j .head)) c 0
   unfolding recordBytes
   header-at c h = ap (λ (p : ℕ). getD (encode j) p 0) (omega arith) ∙ field-at 0 header 0 c (omega arith) (kind-header (j .head)) (omega arith) h (omega arith)
 
@@ -132,6 +132,10 @@ module _ (j : FileJob) (ok : jobRefusal j ≡ 0) where
   unfolding headerBytes
   size-tallies = rw (header-at j 6 (omega arith), header-at j 7 (omega arith)) (word-bytes16 (j .head .tallies))
 
+  size-cycle : word16 (from (encode j) 12) ≡ j .head .cycle
+  unfolding headerBytes
+  size-cycle = rw (header-at j 8 (omega arith), header-at j 9 (omega arith)) (word-bytes16 (j .head .cycle))
+
   offer-read : (i : ℕ) → i < j .head .offers → OfferWords (readOffer (from (encode j) (recordAt offersAt i))) (j .offer i)
   unfolding readOffer offerBytes codeBytes
   offer-read i h =
@@ -161,7 +165,7 @@ module _ (j : FileJob) (ok : jobRefusal j ≡ 0) where
   unfolding readHead headerBytes
   head-read =
       let b = header-at j 0 (omega arith) in
-      λ i. record { boxes = b i; grocers = size-grocers i; offers = size-offers i; tallies = size-tallies i }
+      λ i. record { boxes = b i; grocers = size-grocers i; offers = size-offers i; tallies = size-tallies i; cycle = size-cycle i }
 
   -- The job that a written job's file says has the job's words, digits as written.
   pub read-back : SameWords (decode (encode j)) j

@@ -72,14 +72,14 @@ recordSize (tallyBlock b) = 24
 
 -- The bytes of a record that its fields take, from its first byte on.
 abbrev pub fieldSize : BlockKind → ℕ
-fieldSize header = 8
+fieldSize header = 10
 fieldSize (offerBlock b) = 16
 fieldSize grocerBlock = 1
 fieldSize (tallyBlock b) = 18
 
--- "byte 4 K, byte 5 always 1, bytes 6–7 M, 8–9 N, 10–11 T"
+-- "byte 4 K, byte 5 always 1, bytes 6–7 M, 8–9 N, 10–11 T"; "Header bytes 12–13 now hold the settlement cycle" (02 §1).
 unfoldable pub headerBytes : Head → List ℕ
-headerBytes h = h .boxes ∷ 1 ∷ bytes16 (h .grocers) ++ bytes16 (h .offers) ++ bytes16 (h .tallies)
+headerBytes h = h .boxes ∷ 1 ∷ bytes16 (h .grocers) ++ bytes16 (h .offers) ++ bytes16 (h .tallies) ++ bytes16 (h .cycle)
 
 -- "Offer: 0–3 price, 4 owner, 5 digit count, 6–15 digits."
 unfoldable pub offerBytes : Offer → List ℕ

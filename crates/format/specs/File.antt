@@ -45,7 +45,14 @@ recordAt k i = 512 * (k + i / 21) + 4 + 24 * (i % 21)
 
 -- The numbers that a file's header says: headerBytes the other way round.
 unfoldable pub readHead : List ℕ → Head
-readHead f = record { boxes = getD f 4 0; grocers = word16 (from f 6); offers = word16 (from f 8); tallies = word16 (from f 10) }
+readHead f =
+    record {
+      boxes = getD f 4 0;
+      grocers = word16 (from f 6);
+      offers = word16 (from f 8);
+      tallies = word16 (from f 10);
+      cycle = word16 (from f 12);
+    }
 
 -- The job that a file says, whatever its bytes are.
 unfoldable pub decode : List ℕ → FileJob

@@ -22,16 +22,17 @@ pub record Tally : Type 0 where
   pub code : Code
   pub count : ℤ
 
--- The numbers of the header: boxes K, grocers M, offers N and tallies T.
+-- The numbers of the header: boxes K, grocers M, offers N and tallies T, and the settlement cycle, any 16-bit number.
 pub record Head : Type 0 where
   pub boxes : ℕ
   pub grocers : ℕ
   pub offers : ℕ
   pub tallies : ℕ
+  pub cycle : ℕ
 
 -- The same, as a contract names them.
-abbrev pub headOf : (boxes grocers offers tallies : ℕ) → Head
-headOf k m n t = record { boxes = k; grocers = m; offers = n; tallies = t }
+abbrev pub headOf : (boxes grocers offers tallies cycle : ℕ) → Head
+headOf k m n t c = record { boxes = k; grocers = m; offers = n; tallies = t; cycle = c }
 
 -- A job: its head, and the tables of which the first N, M and T entries count.
 pub record FileJob : Type 0 where

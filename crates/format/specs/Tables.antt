@@ -145,7 +145,7 @@ store j l =
 unfoldable pub storeRead : FileJob → ReaderTables → ReaderTables
 storeRead j l = record { job = store j (l .job); tallyOffer = overwrite (j .head .tallies) (placeOf j) (l .tallyOffer) }
 
--- What the reader answers: K, M, N and T, or a refusal's number.
+-- What the reader answers: K, M, N and T with the cycle, or a refusal's number.
 pub data ReadAnswer : Type 0 where
   sizes : (head : Head) → ReadAnswer
   refused : (number : ℕ) → ReadAnswer
@@ -155,9 +155,9 @@ pub record ReadOutcome : Type 0 where
   pub answer : ReadAnswer
   pub tables : ReaderTables
 
--- The head of the largest job: 16 boxes, 255 grocers, 500 offers and 1,000 tallies.
+-- The head of the largest job: 16 boxes, 255 grocers, 500 offers and 1,000 tallies. No table goes by the cycle.
 abbrev pub largest : Head
-largest = headOf maxBoxes maxGrocers maxOffers maxTallies
+largest = headOf maxBoxes maxGrocers maxOffers maxTallies 0
 
 -- 20 of the reader: a table "shorter than the largest job needs".
 unfoldable pub shortReader : ReaderTables → Bool

@@ -21,6 +21,7 @@ use Rattle.format.specs.Job.{Head, FileJob, badSizes, badOffer, badOwner, badTa
 use Rattle.format.specs.Blocks.{firstSum, secondSum}
 use Rattle.format.specs.File.{encode, decode}
 use Rattle.format.specs.Refusals.{jobRefusal, fileRefusal}
+use Rattle.cents.specs.Cents.{nearest, cents}
 use Rattle.guarantees.specs.Demand3.{owedByFile, Holds}
 use Rattle.printing.specs.Printed.{jobRead, digitsOf, decimal, signedDecimal, line, grocerLines, settledText, blankJob, printed}
 use Rattle.guarantees.specs.Cases.{code, alone, fileE, textE, Cases}
@@ -191,7 +192,7 @@ e-amount : (g : ℕ) → owedByFile (decode (encode fileE)) g ≡ plainSum (jobO
 e-amount g = sym (given (encode fileE) e-accepted .sums g) ∙ ap (λ (j : Job). plainSum j g) e-same
 
 e-text : settledText 2 (plainSum (jobOf jobE)) 3 3 10 ≡ textE
-unfolding settledText grocerLines line decimal digitsOf signedDecimal
+unfolding settledText grocerLines line decimal digitsOf signedDecimal cents nearest only naturals
 e-text = rw (Settlement.cases .e-amount-0, Settlement.cases .e-amount-1)
 
 e-printed : printed (encode fileE) ≡ textE

@@ -14,6 +14,7 @@ use Rattle.model.specs.Step.{Asked, stepOf, accepted, stepAnswer, isAccepted, s
 use Rattle.model.proofs.Refusal.{accepted-zero}
 use Rattle.format.specs.Job.{Head, placeOf}
 use Rattle.format.specs.Blocks.{blockCount}
+use Rattle.format.specs.File.{readHead, decode}
 use Rattle.format.specs.Refusals.{fileRefusal}
 use Rattle.format.specs.Tables.{ReaderTables, FileTables, ReadAnswer, ReadOutcome, WriteAnswer, WriteOutcome, wrote, notWritten, fileJobOf, shortReader, readRefusal, readResult, sizes, refused, writeRefusal, writeResult}
 use Rattle.guarantees.specs.Demand2.{Bytes, Demand2}
@@ -81,6 +82,11 @@ one-file f f′ l bytes bytes′ ok ok′ same =
     ∙ ap₂ (λ (n : ℕ) (r : List ℕ). take n r) long (ap (λ (w : WriteOutcome). w .out) same-write)
     ∙ take-front f′ (drop (length f′) out)
 
+-- The cycle that two bytes say.
+cycle-read : (f : List ℕ) → ((p : ℕ) → getD f p 0 < 256) → decode f .head .cycle < 65536
+unfolding decode readHead
+cycle-read f bytes = omega (arith, bytes 12, bytes 13)
+
 pub demand2 : Demand2
 unfolding Bytes
 demand2 = record {
@@ -88,7 +94,8 @@ demand2 = record {
   oneFile = one-file;
   readWrite = read-buffer;
   readOwn = read-own-buffer;
-  writtenBytes = written-bytes;
+  writtenBytes = λ x l out c ok. written-bytes x l out ok c;
+  cycleRead = cycle-read;
   codes = same-offer;
   damage = λ f f′ l bytes bytes′ ok k i j hk hi hj long same differs. read-two f′ l (reader-whole f l ok) (damaged f f′ bytes bytes′ (read-file f l ok) k i j hk hi hj long same differs);
   step = step-does;

@@ -6,10 +6,10 @@ use Prim.Native.Nat.{ℕ, zero, suc, _+_, _-_, _*_, _/_, _%_, _^_, _<_, _≤_}
 use native.Mathlib.Omega.{arith}
 use native.Mathlib.Nat.{pow-suc, mul-le-mul, le-refl}
 use lib.Dec.{ltb}
-use lib.IntN.{ℤ, pos, negsuc, negℤ}
-use lib.ListN.{getD, length, take, replicate, length-replicate}
+use lib.IntN.{ℤ, pos, negsuc, negℤ, natAbs}
+use lib.ListN.{getD, length, take, drop, replicate, length-replicate}
 use lib.Seq.{getD-take, length-take-le}
-use borrow.Author.Tests.{lt-ltb, le-ltb, ne-eqb}
+use borrow.Author.Tests.{lt-ltb, le-ltb, ne-eqb, ltb-true, ltb-false}
 use Rattle.laws.proofs.Bools.{split}
 use Rattle.model.specs.Words.{ownerWords, messageCount, stepCount}
 use Rattle.model.specs.Tables.{JobTables, StateTables, jobOf, stateLengths, stateShort, lentShort}
@@ -18,8 +18,10 @@ use Rattle.format.specs.File.{readHead, decode}
 use Rattle.format.specs.Refusals.{fileRefusal}
 use Rattle.format.specs.Tables.{ReaderTables, ReadOutcome, LongOffers, LongTallies, largest, shortReader, readRefusal}
 use Rattle.guarantees.specs.Demand3.{owedByFile, Accepted}
+use Rattle.cents.specs.Cents.{cents}
 use Rattle.printing.specs.Printed.{jobRead, digitsOf, decimal, signedDecimal, line, grocerLines, settledText, refusedText, blankJob, blankState, runText, jobText, readText, printed}
 use Rattle.guarantees.specs.Settle.{valueOf, amountOf, Settle}
+use Rattle.cents.proofs.Rounding.{none-below, rounding}
 use Rattle.printing.proofs.Digits.{below-power}
 use Rattle.format.proofs.Order.{reader-file}
 use Rattle.format.proofs.Accept.{long, accepted-range}
@@ -69,6 +71,34 @@ amount-reads (pos n) =
     let (c, s, e, h) = begins n n in
     plain-amount (digitsOf (suc n) n) s c e h ∙ ap pos (number-reads n)
 amount-reads (negsuc n) = unfold amountOf in ap (λ (m : ℕ). negℤ (pos m)) (number-reads (suc n))
+
+-- ---- there is no `-0`
+
+-- The digits of a number above 0 begin with one from 1 to 9.
+leads : (k n : ℕ) → 1 ≤ n → n < 10 ^ suc k → (d : ℕ) × (t : List ℕ) × (digitsOf (suc k) n ≡ d ∷ t) × (49 ≤ d) × (d ≤ 57)
+unfolding digitsOf
+leads zero n some small = (48 + n, [], rw (lt-ltb n 10 (omega arith)), omega arith, omega arith)
+leads (suc k) n some small =
+    split (ltb n 10)
+    (λ e. let l = ltb-true n 10 e in (48 + n, [], rw e, omega arith, omega arith))
+    (λ e.
+    let l = ltb-false n 10 e in
+    let (d, t, f, a, b) = leads k (n / 10) (omega arith) (omega (arith, pow-suc 10 (suc k))) in
+    (d, t ++ ((48 + n % 10) ∷ []), rw (e, f), a, b))
+
+-- A minus sign stands in front of them alone.
+signed-minus : (z : ℤ) (s : List ℕ) → signedDecimal z ≡ 45 ∷ s → (d : ℕ) × (t : List ℕ) × (s ≡ d ∷ t) × (49 ≤ d) × (d ≤ 57)
+unfolding signedDecimal decimal
+signed-minus (pos n) s e =
+    let (c, t, f, h) = begins n n in
+    absurd (omega (arith, ap (λ (l : List ℕ). getD l 0 0) (sym f ∙ e), h))
+signed-minus (negsuc n) s e =
+    let (d, t, f, a, b) = leads (suc n) (suc n) (omega arith) (below-power (suc n)) in
+    (d, t, ap (drop 1) (sym e) ∙ f, a, b)
+
+no-cent : (z : ℤ) → natAbs z < 5 → signedDecimal (cents z) ≡ 48 ∷ []
+unfolding signedDecimal decimal digitsOf
+no-cent z h = rw (none-below z h)
 
 -- ---- the blank buffers are long enough
 
@@ -122,7 +152,7 @@ lines-cong : (m : ℕ) (a b : ℕ → ℤ) → ((g : ℕ) → g < m → a g ≡ 
 unfolding grocerLines
 lines-cong zero a b h = refl
 lines-cong (suc m) a b h =
-    ap₂ (λ (x : List ℕ) (z : ℤ). x ++ line (decimal m) (signedDecimal z)) (lines-cong m a b (λ g l. h g (omega arith))) (h m (omega arith))
+    ap₂ (λ (x : List ℕ) (z : ℤ). x ++ line (decimal m) (signedDecimal (cents z))) (lines-cong m a b (λ g l. h g (omega arith))) (h m (omega arith))
 
 text-cong : (m : ℕ) (a b : ℕ → ℤ) (w c n : ℕ) → ((g : ℕ) → g < m → a g ≡ b g) → settledText m a w c n ≡ settledText m b w c n
 unfolding settledText
@@ -178,4 +208,13 @@ cut-is file n ok h cut =
     omega (arith, same 8 (omega arith), same 9 (omega arith), same 10 (omega arith), same 11 (omega arith))
 
 pub settle : Settle
-settle = record { accepted = settled-is; refused = refused-is; cut = cut-is; reads = number-reads; readsAmount = amount-reads }
+settle = record {
+  accepted = settled-is;
+  refused = refused-is;
+  cut = cut-is;
+  reads = number-reads;
+  readsAmount = λ z. amount-reads (cents z);
+  rounded = rounding;
+  noCent = no-cent;
+  minus = λ z. signed-minus (cents z);
+}

@@ -41,21 +41,21 @@ talliesE =
     record { grocer = 0; box = 1; code = code (55 ∷ 55 ∷ []); count = negsuc 0 } ∷
     record { grocer = 0; box = 1; code = code (48 ∷ 52 ∷ 49 ∷ 50 ∷ []); count = pos 4 } ∷ []
 
--- E as its file says it: K 2, grocer owners 1, 0.
+-- E as its file says it: K 2, grocer owners 1, 0, cycle 0.
 unfoldable pub fileE : FileJob
 fileE =
     record {
-      head = headOf 2 2 2 4;
+      head = headOf 2 2 2 4 0;
       offer = λ i. getD offersE i (record { price = 0; owner = 0; code = code [] });
       grocerOwner = λ i. getD (1 ∷ 0 ∷ []) i 0;
       tally = λ i. getD talliesE i (record { grocer = 0; box = 0; code = code []; count = pos 0 });
     }
 
--- What 01 prints for E, a line each: "0 2250", "1 2500", "words 3", "messages 3", "steps 10".
+-- What is printed for E, a line each: "0 225", "1 250", "words 3", "messages 3", "steps 10".
 abbrev pub textE : List ℕ
 textE =
-    48 ∷ 32 ∷ 50 ∷ 50 ∷ 53 ∷ 48 ∷ 10
-    ∷ 49 ∷ 32 ∷ 50 ∷ 53 ∷ 48 ∷ 48 ∷ 10
+    48 ∷ 32 ∷ 50 ∷ 50 ∷ 53 ∷ 10
+    ∷ 49 ∷ 32 ∷ 50 ∷ 53 ∷ 48 ∷ 10
     ∷ 119 ∷ 111 ∷ 114 ∷ 100 ∷ 115 ∷ 32 ∷ 51 ∷ 10
     ∷ 109 ∷ 101 ∷ 115 ∷ 115 ∷ 97 ∷ 103 ∷ 101 ∷ 115 ∷ 32 ∷ 51 ∷ 10
     ∷ 115 ∷ 116 ∷ 101 ∷ 112 ∷ 115 ∷ 32 ∷ 49 ∷ 48 ∷ 10 ∷ []

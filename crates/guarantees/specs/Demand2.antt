@@ -29,7 +29,7 @@ pub record Demand2 : Type 0 where
   -- Each job has one file: two accepted files that read alike are equal.
   pub oneFile : (f f′ : List ℕ) (l : ReaderTables) → Bytes f → Bytes f′ → readRefusal f l ≡ 0 → readRefusal f′ l ≡ 0 →
       readResult f l ≡ readResult f′ l → f ≡ f′
-  -- Reading what was written gives K, M, N and T and, in whatever tables, the words of the job that was written, digits as written;
+  -- Reading what was written gives K, M, N, T and the cycle and, in whatever tables, the words of the job that was written, digits as written;
   -- beside them the places.
   pub readWrite : (h : Head) (l : FileTables) (out : List ℕ) → writeRefusal h l out ≡ 0 → (r : ReaderTables) → shortReader r ≡ false →
       readResult (take (512 * blockCount h) (writeResult h l out .out)) r
@@ -38,9 +38,11 @@ pub record Demand2 : Type 0 where
   pub readOwn : (h : Head) (r : ReaderTables) (out : List ℕ) → writeRefusal h (r .job) out ≡ 0 → shortReader r ≡ false →
       readResult (take (512 * blockCount h) (writeResult h (r .job) out .out)) r
       ≡ record { answer = sizes h; tables = record { job = r .job; tallyOffer = overwrite (h .tallies) (placeOf (fileJobOf h (r .job))) (r .tallyOffer) } }
-  -- What was written are bytes: the file that reading takes back is one that a disk can hold.
-  pub writtenBytes : (h : Head) (l : FileTables) (out : List ℕ) → writeRefusal h l out ≡ 0 →
+  -- What was written are bytes, the cycle being any 16-bit number: the file that reading takes back is one that a disk can hold.
+  pub writtenBytes : (h : Head) (l : FileTables) (out : List ℕ) → h .cycle < 65536 → writeRefusal h l out ≡ 0 →
       Bytes (take (512 * blockCount h) (writeResult h l out .out))
+  -- And a cycle that was read is such a number, whatever the file's bytes are.
+  pub cycleRead : (file : List ℕ) → Bytes file → decode file .head .cycle < 65536
   -- Two codes name one offer exactly when they agree after leading zeros are dropped.
   pub codes : (c d : Code) → isCode c ≡ true → isCode d ≡ true → (sameOffer c d ≡ true) ↔ (dropZeros (written c) ≡ dropZeros (written d))
   -- In an accepted file, changing one or two bytes of one block always gives refusal 2:

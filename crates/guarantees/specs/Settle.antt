@@ -1,15 +1,16 @@
--- What `settle` prints for a job file are the amounts owed.
+-- What `settle` prints for a job file are the amounts owed, in whole cents.
 use mathlib.Core.Path.{_≡_}
 use mathlib.Core.Bool.{cond}
 use mathlib.Core.List.{List, [], _∷_}
-use Prim.Native.Nat.{ℕ, _+_, _-_, _*_, _<_}
+use Prim.Native.Nat.{ℕ, _+_, _-_, _*_, _≤_, _<_}
 use lib.Dec.{eqb}
-use lib.IntN.{ℤ, pos, negℤ}
+use lib.IntN.{ℤ, pos, negℤ, natAbs}
 use lib.ListN.{length, take}
 use Rattle.model.specs.Words.{ownerWords, messageCount, stepCount}
 use Rattle.model.specs.Tables.{jobOf}
 use Rattle.format.specs.File.{decode}
 use Rattle.format.specs.Refusals.{fileRefusal}
+use Rattle.cents.specs.Cents.{cents, Cents}
 use Rattle.printing.specs.Printed.{jobRead, decimal, signedDecimal, settledText, refusedText, blankJob, printed}
 use Rattle.guarantees.specs.Demand3.{owedByFile}
 
@@ -25,7 +26,7 @@ amountOf (c ∷ s) = cond (eqb c 45) (negℤ (pos (valueOf s 0))) (pos (valueOf 
 
 -- What is printed is what the file says is owed, or its refusal.
 pub record Settle : Type 0 where
-  -- An accepted file: each grocer's line says what the file says is owed; then the words of the owner tables, the messages,
+  -- An accepted file: each grocer's line says, in whole cents, what the file says is owed; then the words of the owner tables, the messages,
   -- and 2 × K + 2 × (messages) steps.
   pub accepted : (file : List ℕ) → fileRefusal file ≡ 0 →
       printed file
@@ -37,6 +38,11 @@ pub record Settle : Type 0 where
   pub refused : (file : List ℕ) → (fileRefusal file ≡ 0 → ⊥) → printed file ≡ refusedText (fileRefusal file)
   -- Cut short anywhere, an accepted file is refused.
   pub cut : (file : List ℕ) (n : ℕ) → fileRefusal file ≡ 0 → n < length file → fileRefusal (take n file) ≡ 0 → ⊥
-  -- A printed number is the number, and a printed amount the amount.
+  -- A printed number is the number, and a printed amount the cents of the amount.
   pub reads : (n : ℕ) → valueOf (decimal n) 0 ≡ n
-  pub readsAmount : (z : ℤ) → amountOf (signedDecimal z) ≡ z
+  pub readsAmount : (z : ℤ) → amountOf (signedDecimal (cents z)) ≡ cents z
+  -- Which are the nearest, a half going away from zero.
+  pub rounded : Cents
+  -- There is no `-0`: an amount of less than half a cent is printed as `0`, and behind a minus sign stands a digit from 1 to 9.
+  pub noCent : (z : ℤ) → natAbs z < 5 → signedDecimal (cents z) ≡ 48 ∷ []
+  pub minus : (z : ℤ) (s : List ℕ) → signedDecimal (cents z) ≡ 45 ∷ s → (d : ℕ) × (t : List ℕ) × (s ≡ d ∷ t) × (49 ≤ d) × (d ≤ 57)

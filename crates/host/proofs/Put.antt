@@ -21,10 +21,11 @@ put-three (x ∷ []) a b c h = absurd (omega (arith, h))
 put-three (x ∷ y ∷ []) a b c h = absurd (omega (arith, h))
 put-three (x ∷ y ∷ z ∷ l) a b c h = refl
 
--- Four words.
-pub put-four : (l : List ℕ) (a b c d : ℕ) → 4 ≤ length l → set (set (set (set l 0 a) 1 b) 2 c) 3 d ≡ put (a ∷ b ∷ c ∷ d ∷ []) l
-put-four [] a b c d h = absurd (omega (arith, h))
-put-four (x ∷ []) a b c d h = absurd (omega (arith, h))
-put-four (x ∷ y ∷ []) a b c d h = absurd (omega (arith, h))
-put-four (x ∷ y ∷ z ∷ []) a b c d h = absurd (omega (arith, h))
-put-four (x ∷ y ∷ z ∷ w ∷ l) a b c d h = refl
+-- Five words.
+pub put-five : (l : List ℕ) (a b c d e : ℕ) → 5 ≤ length l → set (set (set (set (set l 0 a) 1 b) 2 c) 3 d) 4 e ≡ put (a ∷ b ∷ c ∷ d ∷ e ∷ []) l
+put-five [] a b c d e h = absurd (omega (arith, h))
+put-five (x ∷ []) a b c d e h = absurd (omega (arith, h))
+put-five (x ∷ y ∷ []) a b c d e h = absurd (omega (arith, h))
+put-five (x ∷ y ∷ z ∷ []) a b c d e h = absurd (omega (arith, h))
+put-five (x ∷ y ∷ z ∷ w ∷ []) a b c d e h = absurd (omega (arith, h))
+put-five (x ∷ y ∷ z ∷ w ∷ v ∷ l) a b c d e h = refl

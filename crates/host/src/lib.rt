@@ -11,9 +11,9 @@ ghost use Rattle.step.specs.Answer.{answerOf as stepAnswer};
 ghost use Rattle.run.specs.Run.{answerOf as runAnswer};
 ghost use Rattle.host.specs.Host.{hostRead, readAs, readByHost, hostRun, runAs, ranByHost, hostStep, stepNumber, steppedByHost};
 
-// The number of the reader's answer; K, M, N and T of an accepted file go in front of the buffer.
+// The number of the reader's answer; K, M, N, T and the cycle of an accepted file go in front of the buffer.
 fn tell_sizes(a: reader::Answer, sizes: &mut [u16]) -> u16
-    requires { ⌜ 4 ≤ length (now sizes) ⌝ }
+    requires { ⌜ 5 ≤ length (now sizes) ⌝ }
     ensures { λ r. ⌜ ((l : ReaderTables) → hostRead r l (now (sizes .exit)) ≡ readAs (readAnswer a) l (now (sizes .entry))) ⌝ }
 {
     match a {
@@ -22,11 +22,13 @@ fn tell_sizes(a: reader::Answer, sizes: &mut [u16]) -> u16
             grocers,
             offers,
             tallies,
+            cycle,
         } => {
             sizes[0] = boxes;
             sizes[1] = grocers;
             sizes[2] = offers;
             sizes[3] = tallies;
+            sizes[4] = cycle;
             0
         }
         reader::Answer::Refused(n) => n,
@@ -63,44 +65,46 @@ fn step_number(a: step::Answer) -> u16
     }
 }
 
-// Reads a job file into the lent tables, and its K, M, N and T into the buffer for sizes. A refusal leaves every word as it was.
+// Reads a job file into the lent tables, and its K, M, N, T and cycle into the buffer for sizes. A refusal leaves every word as it was.
 #[no_mangle]
 pub extern "C" fn settlement_read(
     file: &[u8],
     price: &mut [u32],
-    owner: &mut [u16],
-    code: &mut [u8],
-    gowner: &mut [u16],
-    tgrocer: &mut [u16],
-    tbox: &mut [u16],
-    tcode: &mut [u8],
-    tcount: &mut [i32],
-    toffer: &mut [u16],
+    offer_owner: &mut [u16],
+    offer_code: &mut [u8],
+    grocer_owner: &mut [u16],
+    tally_grocer: &mut [u16],
+    tally_box: &mut [u16],
+    tally_code: &mut [u8],
+    tally_count: &mut [i32],
+    tally_offer: &mut [u16],
     sizes: &mut [u16],
 ) -> u16
     ensures { λ r. ⌜ hostRead r
-        (readerTables (fileTables (now (price .exit)) (now (owner .exit)) (now (code .exit)) (now (gowner .exit)) (now (tgrocer .exit))
-        (now (tbox .exit)) (now (tcode .exit)) (now (tcount .exit))) (now (toffer .exit)))
+        (readerTables (fileTables (now (price .exit)) (now («offer_owner» .exit)) (now («offer_code» .exit)) (now («grocer_owner» .exit)) (now
+        («tally_grocer» .exit))
+        (now («tally_box» .exit)) (now («tally_code» .exit)) (now («tally_count» .exit))) (now («tally_offer» .exit)))
         (now (sizes .exit))
         ≡ readByHost (now (file .entry))
-        (readerTables (fileTables (now (price .entry)) (now (owner .entry)) (now (code .entry)) (now (gowner .entry)) (now (tgrocer .entry))
-        (now (tbox .entry)) (now (tcode .entry)) (now (tcount .entry))) (now (toffer .entry)))
+        (readerTables (fileTables (now (price .entry)) (now («offer_owner» .entry)) (now («offer_code» .entry)) (now («grocer_owner» .entry)) (now
+        («tally_grocer» .entry))
+        (now («tally_box» .entry)) (now («tally_code» .entry)) (now («tally_count» .entry))) (now («tally_offer» .entry)))
         (now (sizes .entry)) ⌝ }
 {
-    if sizes.len() < 4 {
+    if sizes.len() < 5 {
         return 20;
     }
     let a = reader::read(
         file,
         price,
-        owner,
-        code,
-        gowner,
-        tgrocer,
-        tbox,
-        tcode,
-        tcount,
-        toffer,
+        offer_owner,
+        offer_code,
+        grocer_owner,
+        tally_grocer,
+        tally_box,
+        tally_code,
+        tally_count,
+        tally_offer,
     );
     tell_sizes(a, sizes)
 }
@@ -113,16 +117,16 @@ pub extern "C" fn settlement_step(
     offers: u16,
     tallies: u16,
     price: &[u32],
-    owner: &[u16],
-    gowner: &[u16],
-    tgrocer: &[u16],
-    tbox: &[u16],
-    toffer: &[u16],
-    tcount: &[i32],
+    offer_owner: &[u16],
+    grocer_owner: &[u16],
+    tally_grocer: &[u16],
+    tally_box: &[u16],
+    tally_offer: &[u16],
+    tally_count: &[i32],
     known: &mut [u32],
-    ptransit: &mut [u32],
+    price_transit: &mut [u32],
     working: &mut [i64],
-    ttransit: &mut [i64],
+    total_transit: &mut [i64],
     statement: &mut [i64],
     done: &mut [u16],
     sent: &mut [u32],
@@ -131,10 +135,10 @@ pub extern "C" fn settlement_step(
     second: u16,
 ) -> u16
     ensures { λ r. ⌜ hostStep r
-        (stateAfter known ptransit working ttransit statement done sent)
+        (stateAfter known «price_transit» working «total_transit» statement done sent)
         ≡ steppedByHost
-        (jobLent boxes grocers offers tallies price owner gowner tgrocer tbox toffer tcount)
-        (stateBefore known ptransit working ttransit statement done sent)
+        (jobLent boxes grocers offers tallies price «offer_owner» «grocer_owner» «tally_grocer» «tally_box» «tally_offer» «tally_count»)
+        (stateBefore known «price_transit» working «total_transit» statement done sent)
         (asked kind first second) ⌝ }
 {
     let a = step::step(
@@ -143,16 +147,16 @@ pub extern "C" fn settlement_step(
         offers,
         tallies,
         price,
-        owner,
-        gowner,
-        tgrocer,
-        tbox,
-        toffer,
-        tcount,
+        offer_owner,
+        grocer_owner,
+        tally_grocer,
+        tally_box,
+        tally_offer,
+        tally_count,
         known,
-        ptransit,
+        price_transit,
         working,
-        ttransit,
+        total_transit,
         statement,
         done,
         sent,
@@ -171,16 +175,16 @@ pub extern "C" fn settlement_run(
     offers: u16,
     tallies: u16,
     price: &[u32],
-    owner: &[u16],
-    gowner: &[u16],
-    tgrocer: &[u16],
-    tbox: &[u16],
-    toffer: &[u16],
-    tcount: &[i32],
+    offer_owner: &[u16],
+    grocer_owner: &[u16],
+    tally_grocer: &[u16],
+    tally_box: &[u16],
+    tally_offer: &[u16],
+    tally_count: &[i32],
     known: &mut [u32],
-    ptransit: &mut [u32],
+    price_transit: &mut [u32],
     working: &mut [i64],
-    ttransit: &mut [i64],
+    total_transit: &mut [i64],
     statement: &mut [i64],
     done: &mut [u16],
     sent: &mut [u32],
@@ -188,11 +192,11 @@ pub extern "C" fn settlement_run(
     report: &mut [u32],
 ) -> u16
     ensures { λ r. ⌜ hostRun r
-        (stateAfter known ptransit working ttransit statement done sent)
+        (stateAfter known «price_transit» working «total_transit» statement done sent)
         (now (report .exit))
         ≡ ranByHost
-        (jobLent boxes grocers offers tallies price owner gowner tgrocer tbox toffer tcount)
-        (stateBefore known ptransit working ttransit statement done sent)
+        (jobLent boxes grocers offers tallies price «offer_owner» «grocer_owner» «tally_grocer» «tally_box» «tally_offer» «tally_count»)
+        (stateBefore known «price_transit» working «total_transit» statement done sent)
         (now (choices .entry))
         (now (report .entry)) ⌝ }
 {
@@ -205,16 +209,16 @@ pub extern "C" fn settlement_run(
         offers,
         tallies,
         price,
-        owner,
-        gowner,
-        tgrocer,
-        tbox,
-        toffer,
-        tcount,
+        offer_owner,
+        grocer_owner,
+        tally_grocer,
+        tally_box,
+        tally_offer,
+        tally_count,
         known,
-        ptransit,
+        price_transit,
         working,
-        ttransit,
+        total_transit,
         statement,
         done,
         sent,

@@ -8,6 +8,7 @@ use lib.ListN.{getD, replicate}
 use Rattle.model.specs.Tables.{JobTables, jobTables, StateTables, stateTables}
 use Rattle.model.specs.Run.{RunAnswer, finished, refused, ran}
 use Rattle.format.specs.File.{decode}
+use Rattle.cents.specs.Cents.{cents}
 use Rattle.format.specs.Tables.{ReadAnswer, sizes, refused as notRead, ReaderTables, fileTables, readerTables, readResult}
 
 -- The job's tables after the reader has read a file into the tables l: K, M, N and T as it answers them, the words it stored,
@@ -30,7 +31,7 @@ digitsOf (suc k) n = cond (ltb n 10) ((48 + n) ∷ []) (digitsOf k (n / 10) ++ (
 unfoldable pub decimal : ℕ → List ℕ
 decimal n = digitsOf (suc n) n
 
--- An amount: negative ones with a minus sign.
+-- A whole number: negative ones with a minus sign.
 unfoldable pub signedDecimal : ℤ → List ℕ
 signedDecimal (pos n) = decimal n
 signedDecimal (negsuc n) = 45 ∷ decimal (suc n)
@@ -39,10 +40,10 @@ signedDecimal (negsuc n) = 45 ∷ decimal (suc n)
 unfoldable pub line : List ℕ → List ℕ → List ℕ
 line name value = name ++ (32 ∷ value) ++ (10 ∷ [])
 
--- The lines of the first m grocers: number and amount in tenths of a cent.
+-- The lines of the first m grocers: number and amount in whole cents; `amount` is in tenths.
 unfoldable pub grocerLines : ℕ → (ℕ → ℤ) → List ℕ
 grocerLines zero amount = []
-grocerLines (suc m) amount = grocerLines m amount ++ line (decimal m) (signedDecimal (amount m))
+grocerLines (suc m) amount = grocerLines m amount ++ line (decimal m) (signedDecimal (cents (amount m)))
 
 -- The words of the output, in ASCII: "words",
 abbrev pub wordsName : List ℕ

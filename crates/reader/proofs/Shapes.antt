@@ -35,7 +35,7 @@ sound f ok =
     }
 
 -- A sound file has its header.
-pub has-header : {f : List ℕ} {h : Head} → Sound f h → 12 ≤ length f
+pub has-header : {f : List ℕ} {h : Head} → Sound f h → 14 ≤ length f
 has-header s = omega (arith, s .whole .long)
 
 -- What is known of the numbers that the header says is known of those that were read.

@@ -29,6 +29,7 @@ pub enum Answer {
         grocers: u16,
         offers: u16,
         tallies: u16,
+        cycle: u16,
     },
     Refused(u16),
 }
@@ -56,6 +57,7 @@ fn job_of(head: Head) -> Answer
         grocers: narrow(head.grocers),
         offers: narrow(head.offers),
         tallies: narrow(head.tallies),
+        cycle: head.cycle,
     }
 }
 

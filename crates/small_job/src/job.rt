@@ -39,7 +39,7 @@ pub fn small() -> Job {
     }
 }
 
-// E's file.
+// E's file, of cycle 0.
 pub fn small_file() -> [u8; 2048] {
     let j = small();
     let price = j.price;
@@ -56,6 +56,7 @@ pub fn small_file() -> [u8; 2048] {
         2,
         2,
         4,
+        0,
         &price,
         &owner,
         &code,

@@ -27,9 +27,9 @@ module _ (file : List ℕ) (l : ReaderTables) (a : Answer) (e : outcome a l ≡ 
   unfolding printed readText
   refused-text n h = ap (λ (x : Answer). readText file (answerOf x)) (sym h) ∙ ap (λ (o : ReadOutcome). readText file (o .answer)) e
 
-  module _ (k m n t : ℕ) (h : a ≡ Job k m n t) where
-    is : (readRefusal file blankJob ≡ 0) × (decode file .head ≡ headOf k m n t)
-    is = read-sizes file blankJob (headOf k m n t) (ap (λ (o : ReadOutcome). o .answer) (sym e) ∙ ap answerOf h)
+  module _ (k m n t c : ℕ) (h : a ≡ Job k m n t c) where
+    is : (readRefusal file blankJob ≡ 0) × (decode file .head ≡ headOf k m n t c)
+    is = read-sizes file blankJob (headOf k m n t c) (ap (λ (o : ReadOutcome). o .answer) (sym e) ∙ ap answerOf h)
 
     -- An accepted file has at most 255 grocers.
     pub grocers-few : m ≤ 255
@@ -39,7 +39,7 @@ module _ (file : List ℕ) (l : ReaderTables) (a : Answer) (e : outcome a l ≡ 
     pub job-text : jobText (jobTables k m n t (l .job .offers .price) (l .job .offers .owner) (l .job .grocerOwner) (l .job .tallies .grocer) (l .job .tallies .box) (l .tallyOffer) (l .job .tallies .count)) ≡ printed file
     unfolding printed readText jobRead
     job-text =
-        ap (λ (o : ReadOutcome). text (headOf k m n t) (o .tables)) e
+        ap (λ (o : ReadOutcome). text (headOf k m n t c) (o .tables)) e
         ∙ ap (λ (h : Head). text h (readResult file blankJob .tables)) (sym (is .1))
         ∙ ap (λ (x : Answer). readText file (answerOf x)) (sym h) ∙ ap (λ (o : ReadOutcome). readText file (o .answer)) e
       where

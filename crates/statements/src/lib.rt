@@ -33,21 +33,22 @@ fn put_job(
     offers: u16,
     tallies: u16,
     price: &[u32],
-    owner: &[u16],
-    gowner: &[u16],
-    tgrocer: &[u16],
-    tbox: &[u16],
-    toffer: &[u16],
-    tcount: &[i32],
+    offer_owner: &[u16],
+    grocer_owner: &[u16],
+    tally_grocer: &[u16],
+    tally_box: &[u16],
+    tally_offer: &[u16],
+    tally_count: &[i32],
 ) -> usize
     requires { ⌜ (grocers ≤ 255) × (8192 ≤ length (now out)) ⌝ }
-    ensures { λ r. ⌜ Put 0 (jobText (jobTables boxes grocers offers tallies (now (price .entry)) (now (owner .entry)) (now (gowner .entry))
-        (now (tgrocer .entry)) (now (tbox .entry)) (now (toffer .entry)) (now (tcount .entry)))) (now (out .entry)) (now (out .exit)) r ⌝ }
+    ensures { λ r. ⌜ Put 0 (jobText (jobTables boxes grocers offers tallies (now (price .entry)) (now («offer_owner» .entry)) (now («grocer_owner» .entry))
+        (now («tally_grocer» .entry)) (now («tally_box» .entry)) (now («tally_offer» .entry)) (now («tally_count» .entry)))) (now (out .entry)) (now (out
+        .exit)) r ⌝ }
 {
     let mut known = [0u32; 8000];
-    let mut ptransit = [0u32; 8000];
+    let mut price_transit = [0u32; 8000];
     let mut working = [0i64; 4080];
-    let mut ttransit = [0i64; 4080];
+    let mut total_transit = [0i64; 4080];
     let mut statement = [0i64; 255];
     let mut done = [0u16; 1536];
     let mut sent = [0u32; 1];
@@ -57,16 +58,16 @@ fn put_job(
         offers,
         tallies,
         price,
-        owner,
-        gowner,
-        tgrocer,
-        tbox,
-        toffer,
-        tcount,
+        offer_owner,
+        grocer_owner,
+        tally_grocer,
+        tally_box,
+        tally_offer,
+        tally_count,
         &mut known,
-        &mut ptransit,
+        &mut price_transit,
         &mut working,
-        &mut ttransit,
+        &mut total_transit,
         &mut statement,
         &mut done,
         &mut sent,
@@ -82,25 +83,25 @@ pub fn settled(file: &[u8], out: &mut [u8; 8192]) -> usize
     ensures { λ r. ⌜ drop r (now (out .exit)) ≡ drop r (now (out .entry)) ⌝ }
 {
     let mut price = [0u32; 500];
-    let mut owner = [0u16; 500];
-    let mut code = [0u8; 5500];
-    let mut gowner = [0u16; 255];
-    let mut tgrocer = [0u16; 1000];
-    let mut tbox = [0u16; 1000];
-    let mut tcode = [0u8; 11000];
-    let mut tcount = [0i32; 1000];
-    let mut toffer = [0u16; 1000];
+    let mut offer_owner = [0u16; 500];
+    let mut offer_code = [0u8; 5500];
+    let mut grocer_owner = [0u16; 255];
+    let mut tally_grocer = [0u16; 1000];
+    let mut tally_box = [0u16; 1000];
+    let mut tally_code = [0u8; 11000];
+    let mut tally_count = [0i32; 1000];
+    let mut tally_offer = [0u16; 1000];
     let a = reader::read(
         file,
         &mut price,
-        &mut owner,
-        &mut code,
-        &mut gowner,
-        &mut tgrocer,
-        &mut tbox,
-        &mut tcode,
-        &mut tcount,
-        &mut toffer,
+        &mut offer_owner,
+        &mut offer_code,
+        &mut grocer_owner,
+        &mut tally_grocer,
+        &mut tally_box,
+        &mut tally_code,
+        &mut tally_count,
+        &mut tally_offer,
     );
     match a {
         reader::Answer::Job {
@@ -108,6 +109,7 @@ pub fn settled(file: &[u8], out: &mut [u8; 8192]) -> usize
             grocers: m,
             offers: n,
             tallies: t,
+            cycle: _,
         } => put_job(
             out,
             k,
@@ -115,12 +117,12 @@ pub fn settled(file: &[u8], out: &mut [u8; 8192]) -> usize
             n,
             t,
             &price,
-            &owner,
-            &gowner,
-            &tgrocer,
-            &tbox,
-            &toffer,
-            &tcount,
+            &offer_owner,
+            &grocer_owner,
+            &tally_grocer,
+            &tally_box,
+            &tally_offer,
+            &tally_count,
         ),
         reader::Answer::Refused(n) => put_refused(out, n),
     }

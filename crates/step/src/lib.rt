@@ -3,7 +3,7 @@ ghost use mathlib.Core.Path.{_≡_};
 ghost use mathlib.Core.Bool.{true};
 ghost use Prim.Native.Nat.{_*_, _≤_};
 ghost use Rattle.model.specs.Steps.{kindOf};
-ghost use Rattle.model.specs.Tables.{jobTables, stateTables};
+ghost use Rattle.model.specs.Lent.{jobLent, stateBefore, stateAfter};
 ghost use Rattle.model.specs.Ranges.{upTo};
 ghost use Rattle.model.specs.Step.{asked, outcome, stepped};
 ghost use Rattle.rules.specs.Marks.{MarksIn, marked};
@@ -129,15 +129,9 @@ pub fn step(
     first: u16,
     second: u16,
 ) -> Answer
-    ensures { λ r. ⌜ outcome (answerOf r)
-        (stateTables (now (known .exit)) (now («price_transit» .exit)) (now (working .exit)) (now («total_transit» .exit)) (now (statement .exit))
-        (now (done .exit)) (now (sent .exit)))
-        ≡ stepped
-        (jobTables boxes grocers offers tallies (now (price .entry)) (now («offer_owner» .entry)) (now («grocer_owner» .entry))
-        (now («tally_grocer» .entry)) (now («tally_box» .entry)) (now («tally_offer» .entry)) (now («tally_count» .entry)))
-        (stateTables (now (known .entry)) (now («price_transit» .entry)) (now (working .entry)) (now («total_transit» .entry))
-        (now (statement .entry)) (now (done .entry)) (now (sent .entry)))
-        (asked kind first second) ⌝ }
+    ensures { λ r. ⌜ outcome (answerOf r) (stateAfter known «price_transit» working «total_transit» statement done sent) ≡ stepped
+        (jobLent boxes grocers offers tallies price «offer_owner» «grocer_owner» «tally_grocer» «tally_box» «tally_offer» «tally_count»)
+        (stateBefore known «price_transit» working «total_transit» statement done sent) (asked kind first second) ⌝ }
 {
     let z = Sizes {
         boxes,

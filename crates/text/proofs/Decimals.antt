@@ -14,6 +14,7 @@ use mir.Val.{SFits}
 use borrow.Author.Tests.{lt-ltb, ltb-true, ltb-false}
 use Rattle.io.specs.Digits.{digits, glyph, Fewest}
 use Rattle.laws.proofs.Bools.{split}
+use Rattle.cents.specs.Cents.{cents}
 use Rattle.printing.specs.Printed.{digitsOf, decimal, signedDecimal, line, grocerLines}
 use Rattle.printing.proofs.Digits.{below-power}
 use Rattle.text.specs.Puts.{put, Put}
@@ -121,7 +122,7 @@ count-short name n h = omega (arith, line-long name (decimal n), decimal-few 19 
 
 -- One grocer's line more.
 pub grocer-more : (g : ℕ) (amount : ℕ → ℤ) {at r : ℕ} {d e f : List ℕ} →
-    Put 0 (grocerLines g amount) d e at → Put at (line (decimal g) (signedDecimal (amount g))) e f r → Put 0 (grocerLines (g + 1) amount) d f r
+    Put 0 (grocerLines g amount) d e at → Put at (line (decimal g) (signedDecimal (cents (amount g)))) e f r → Put 0 (grocerLines (g + 1) amount) d f r
 unfolding grocerLines
 grocer-more g amount a b = rw (add-one g) (behind a b)
 

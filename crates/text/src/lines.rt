@@ -20,7 +20,7 @@ fn put_count(out: &mut [u8], at: usize, name: &[u8], n: u64) -> usize
     put_byte(out, end, b'\n')
 }
 
-// A grocer's number and amount.
+// A grocer's number and whole cents.
 fn put_statement(out: &mut [u8], at: usize, g: u64, z: i64) -> usize
     requires { ⌜ at + 43 ≤ length (now out) ⌝ }
     ensures { λ r. ⌜ Put at (line (decimal g) (signedDecimal z)) (now (out .entry)) (now (out .exit)) r ⌝ }
@@ -31,7 +31,7 @@ fn put_statement(out: &mut [u8], at: usize, g: u64, z: i64) -> usize
     put_byte(out, end, b'\n')
 }
 
-// The lines of the first m grocers.
+// The lines of the first m grocers, whose amounts are in tenths of a cent.
 fn put_statements(out: &mut [u8], m: usize, statement: &[i64]) -> usize
     requires { ⌜ (m ≤ 255) × (m ≤ length (now statement)) × (8192 ≤ length (now out)) ⌝ }
     ensures { λ r. ⌜ Put 0 (grocerLines m (λ g. getD (now (statement .entry)) g (pos 0))) (now (out .entry)) (now (out .exit)) r ⌝ }
@@ -40,7 +40,8 @@ fn put_statements(out: &mut [u8], m: usize, statement: &[i64]) -> usize
     let mut at: usize = 0;
     let mut g: usize = 0;
     while g < m {
-        let z = statement[g];
+        let amount = statement[g];
+        let z = cents::cents(amount);
         at = put_statement(out, at, g as u64, z);
         g += 1;
     }

@@ -28,28 +28,29 @@ head-put at kind records number d d′ room e =
     e ∙ ap (put (at + 2) 2 (bytesOf (bytes16 number))) (stored-two at kind records f d (omega arith) refl refl)
     ∙ put-next at 2 f d 2 (bytesOf (bytes16 number)) (omega arith) (two (number % 256) (number / 256) (kind ∷ records ∷ []) [])
 
--- K, 1, M, N and T are the header's record.
-pub sizes-put : (k m n t : ℕ) (d d₂ d₃ d₄ : List ℕ) → 12 ≤ length d → d₂ ≡ put 6 2 (bytesOf (bytes16 m)) (set (set d 4 k) 5 1) → d₃ ≡ put 8 2 (bytesOf (bytes16 n)) d₂ → d₄ ≡ put 10 2 (bytesOf (bytes16 t)) d₃ →
-    d₄ ≡ put 4 8 (bytesOf (headerBytes (headOf k m n t))) d
+-- K, 1, M, N, T and the cycle are the header's record.
+pub sizes-put : (k m n t c : ℕ) (d d₂ d₃ d₄ d₅ : List ℕ) → 14 ≤ length d → d₂ ≡ put 6 2 (bytesOf (bytes16 m)) (set (set d 4 k) 5 1) → d₃ ≡ put 8 2 (bytesOf (bytes16 n)) d₂ → d₄ ≡ put 10 2 (bytesOf (bytes16 t)) d₃ →
+    d₅ ≡ put 12 2 (bytesOf (bytes16 c)) d₄ → d₅ ≡ put 4 10 (bytesOf (headerBytes (headOf k m n t c))) d
 unfolding headerBytes
-sizes-put k m n t d d₂ d₃ d₄ room e₂ e₃ e₄ =
-    let f = bytesOf (k ∷ 1 ∷ bytes16 m ++ bytes16 n ++ bytes16 t) in
+sizes-put k m n t c d d₂ d₃ d₄ d₅ room e₂ e₃ e₄ e₅ =
+    let f = bytesOf (k ∷ 1 ∷ bytes16 m ++ bytes16 n ++ bytes16 t ++ bytes16 c) in
     let q₂ : d₂ ≡ put 4 4 f d =
     e₂ ∙ ap (put 6 2 (bytesOf (bytes16 m))) (stored-two 4 k 1 f d (omega arith) refl refl)
-    ∙ put-next 4 2 f d 2 (bytesOf (bytes16 m)) (omega arith) (two (m % 256) (m / 256) (k ∷ 1 ∷ []) (bytes16 n ++ bytes16 t)) in
-    let q₃ : d₃ ≡ put 4 6 f d = e₃ ∙ ap (put 8 2 (bytesOf (bytes16 n))) q₂ ∙ put-next 4 4 f d 2 (bytesOf (bytes16 n)) (omega arith) (two (n % 256) (n / 256) (k ∷ 1 ∷ bytes16 m) (bytes16 t)) in
-    e₄ ∙ ap (put 10 2 (bytesOf (bytes16 t))) q₃ ∙ put-next 4 6 f d 2 (bytesOf (bytes16 t)) (omega arith) (two (t % 256) (t / 256) (k ∷ 1 ∷ bytes16 m ++ bytes16 n) [])
+    ∙ put-next 4 2 f d 2 (bytesOf (bytes16 m)) (omega arith) (two (m % 256) (m / 256) (k ∷ 1 ∷ []) (bytes16 n ++ bytes16 t ++ bytes16 c)) in
+    let q₃ : d₃ ≡ put 4 6 f d = e₃ ∙ ap (put 8 2 (bytesOf (bytes16 n))) q₂ ∙ put-next 4 4 f d 2 (bytesOf (bytes16 n)) (omega arith) (two (n % 256) (n / 256) (k ∷ 1 ∷ bytes16 m) (bytes16 t ++ bytes16 c)) in
+    let q₄ : d₄ ≡ put 4 8 f d = e₄ ∙ ap (put 10 2 (bytesOf (bytes16 t))) q₃ ∙ put-next 4 6 f d 2 (bytesOf (bytes16 t)) (omega arith) (two (t % 256) (t / 256) (k ∷ 1 ∷ bytes16 m ++ bytes16 n) (bytes16 c)) in
+    e₅ ∙ ap (put 12 2 (bytesOf (bytes16 c))) q₄ ∙ put-next 4 8 f d 2 (bytesOf (bytes16 c)) (omega arith) (two (c % 256) (c / 256) (k ∷ 1 ∷ bytes16 m ++ bytes16 n ++ bytes16 t) [])
 
--- The header, of eight bytes x.
-pub header-made : (x : List ℕ) (d d₁ d₂ d₃ : List ℕ) → length x ≡ 8 → 512 ≤ length d → d₁ ≡ put 0 4 (bytesOf (0 ∷ 1 ∷ bytes16 0)) d → d₂ ≡ put 4 8 (bytesOf x) d₁ →
-    d₃ ≡ put 0 512 (blockByte (keepOf 12 (from d₂ 0))) d₂ → d₃ ≡ put 0 512 (blockByte (bodyOf (0 ∷ 1 ∷ bytes16 0) 504 1 (λ _. bytesOf x))) d
-header-made x d d₁ d₂ d₃ eight room e₁ e₂ e₃ =
-    block-made f 0 8 (bytesOf (0 ∷ 1 ∷ bytes16 0)) (bytesOf x) d d₁ d₂ d₃ room (omega arith) e₁ e₂ e₃
+-- The header, of ten bytes x.
+pub header-made : (x : List ℕ) (d d₁ d₂ d₃ : List ℕ) → length x ≡ 10 → 512 ≤ length d → d₁ ≡ put 0 4 (bytesOf (0 ∷ 1 ∷ bytes16 0)) d → d₂ ≡ put 4 10 (bytesOf x) d₁ →
+    d₃ ≡ put 0 512 (blockByte (keepOf 14 (from d₂ 0))) d₂ → d₃ ≡ put 0 512 (blockByte (bodyOf (0 ∷ 1 ∷ bytes16 0) 504 1 (λ _. bytesOf x))) d
+header-made x d d₁ d₂ d₃ ten room e₁ e₂ e₃ =
+    block-made f 0 10 (bytesOf (0 ∷ 1 ∷ bytes16 0)) (bytesOf x) d d₁ d₂ d₃ room (omega arith) e₁ e₂ e₃
     (λ k h. sym (body-head _ 504 1 _ k h))
     (λ k h. let e : k % 504 ≡ k = omega arith in sym (body-row _ 504 1 _ k (omega arith) ∙ ap (bytesOf x) e))
     (λ p l h.
     let e : 4 + (p - 4) ≡ p = omega arith in
-    let g : 8 ≤ (p - 4) % 504 = omega arith in
+    let g : 10 ≤ (p - 4) % 504 = omega arith in
     ap f (sym e) ∙ body-row _ 504 1 _ (p - 4) (omega arith) ∙ List·getD-eq-default x 0 {n = (p - 4) % 504} (omega arith))
   where
     f : ℕ → ℕ

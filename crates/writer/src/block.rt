@@ -17,6 +17,7 @@ use crate::records::put_owners;
 use crate::records::put_tallies;
 use blocks::plan::Head;
 use blocks::sums::sums;
+use checks::sizes::size_of;
 
 // The first four bytes of a block.
 fn put_head(out: &mut [u8], at: usize, kind: u8, records: usize, number: usize)
@@ -53,16 +54,17 @@ fn part_of(n: usize, first: usize) -> usize
     21
 }
 
-// The header's record: K, 1, M, N and T.
+// The header's record: K, 1, M, N, T and the cycle.
 fn put_sizes(out: &mut [u8], head: Head)
-    requires { ⌜ (12 ≤ length (now out)) × Most (asHead head) ⌝ }
-    ensures { λ _. ⌜ now (out .exit) ≡ put 4 8 (bytesOf (headerBytes (asHead head))) (now (out .entry)) ⌝ }
+    requires { ⌜ (14 ≤ length (now out)) × Most (asHead head) ⌝ }
+    ensures { λ _. ⌜ now (out .exit) ≡ put 4 10 (bytesOf (headerBytes (asHead head))) (now (out .entry)) ⌝ }
 {
     out[4] = byte(head.boxes);
     out[5] = 1;
     put16(out, 6, head.grocers);
     put16(out, 8, head.offers);
     put16(out, 10, head.tallies);
+    put16(out, 12, size_of(head.cycle));
 }
 
 // The header block.
@@ -73,7 +75,7 @@ pub fn put_header(out: &mut [u8], head: Head)
 {
     put_head(out, 0, 0, 1, 0);
     put_sizes(out, head);
-    close_block(out, 0, 12);
+    close_block(out, 0, 14);
 }
 
 // Offer block b, of n offers.

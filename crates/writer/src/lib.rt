@@ -26,6 +26,7 @@ pub fn write(
     grocers: u16,
     offers: u16,
     tallies: u16,
+    cycle: u16,
     price: &[u32],
     offer_owner: &[u16],
     offer_code: &[u8],
@@ -36,11 +37,11 @@ pub fn write(
     tally_count: &[i32],
     out: &mut [u8],
 ) -> Answer
-    ensures { λ r. ⌜ outcomeOf r (now (out .exit)) ≡ writeResult (headOf boxes grocers offers tallies)
+    ensures { λ r. ⌜ outcomeOf r (now (out .exit)) ≡ writeResult (headOf boxes grocers offers tallies cycle)
         (fileTables (now (price .entry)) (now («offer_owner» .entry)) (now («offer_code» .entry)) (now («grocer_owner» .entry))
         (now («tally_grocer» .entry)) (now («tally_box» .entry)) (now («tally_code» .entry)) (now («tally_count» .entry))) (now (out .entry)) ⌝ }
 {
-    let head = head_of(boxes, grocers, offers, tallies);
+    let head = head_of(boxes, grocers, offers, tallies, cycle);
     let refusal = write_refusal(
         head,
         price,

@@ -8,6 +8,10 @@ use Rattle.host.proofs.settlement_read.Tie as tie
 abbrev was-read : tie.After-slice-known18 → tie.After-read
 was-read c = c .before .before .before .before .before .before .before .before .before .before .before .before .before .before .before .before .before .before .before .before .before
 
+-- The test of the length of sizes, from the call of `read`.
+abbrev long : tie.After-read → tie.Else1
+long c = c .before .before .before .before .before .before .before .before .before .before
+
 returns : tie.Need-returns
 returns c = read-short _ _ _ (c .if1 .taken)
 
@@ -42,7 +46,7 @@ same-length-10 : tie.Need-same-length-10
 same-length-10 c = c .before .before .tell-sizes .kept .1 .0
 
 returns-2 : tie.Need-returns-2
-returns-2 c = read-told _ _ _ _ _ _ _ (was-read c .before .before .before .before .before .before .before .before .before .before .if1 .left) (was-read c .read .ensures) (c .before .before .tell-sizes .ensures)
+returns-2 c = read-told _ _ _ _ _ _ _ (long (was-read c) .if1 .left) (was-read c .read .ensures) (c .before .before .tell-sizes .ensures)
 
 pub settlement-read-spec : {M : Type 1} → statement M
 settlement-read-spec =

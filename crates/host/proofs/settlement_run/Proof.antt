@@ -8,6 +8,10 @@ use Rattle.host.proofs.settlement_run.Tie as tie
 abbrev ran : tie.After-slice-known10 → tie.After-run
 ran c = c .before .before .before .before .before .before .before .before .before .before .before .before .before .before .before
 
+-- The test of the report's length, from the call of `run`.
+abbrev long : tie.After-run → tie.Else1
+long c = c .before .before .before .before .before .before .before .before
+
 returns : tie.Need-returns
 returns c = run-short _ _ _ _ (c .if1 .taken)
 
@@ -36,7 +40,7 @@ same-length-8 : tie.Need-same-length-8
 same-length-8 c = c .before .before .tell-report .kept .1 .0
 
 returns-2 : tie.Need-returns-2
-returns-2 c = run-told _ _ _ _ _ _ _ _ (ran c .before .before .before .before .before .before .before .before .if1 .left) (ran c .run .ensures) (c .before .before .tell-report .ensures)
+returns-2 c = run-told _ _ _ _ _ _ _ _ (long (ran c) .if1 .left) (ran c .run .ensures) (c .before .before .tell-report .ensures)
 
 pub settlement-run-spec : {M : Type 1} → statement M
 settlement-run-spec =

@@ -5,7 +5,6 @@ use Rattle.run.specs.declared.Answer.{Answer}
 use Rattle.run.specs.Run.{answerOf}
 use Rattle.text.proofs.Puts.{reworded}
 use Rattle.printing.specs.Printed.{runText}
-use borrow.Author.Needs.{needs}
 use Rattle.statements.proofs.put_answer.Statement.{statement}
 use Rattle.statements.proofs.put_answer.Tie as tie
 
@@ -33,10 +32,10 @@ pub put-answer-spec : {M : Type 1} → statement M
 put-answer-spec =
     tie.close
     (tie.spec
-    (λ c. search needs)
-    (λ c κs. search needs)
-    (λ c. search needs)
-    (λ c κs. search needs)
+    (λ c. c .match .keys1)
+    (λ c κs. c .before .before .before .before .before .pre)
+    (λ c. c .match .keys2)
+    (λ c κs. c .before .before .before .before .before .pre .2)
     same-length
     returns
     same-length-2

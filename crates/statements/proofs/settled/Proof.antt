@@ -2,17 +2,21 @@
 use mathlib.Core.Path.{refl, sym}
 use mathlib.Core.List.{List}
 use Prim.Native.Nat.{ℕ}
+use native.Mathlib.Nat.{le-of-eq}
 use denote.Ref.{now}
 use Rattle.format.specs.Tables.{ReaderTables, fileTables, readerTables}
 use Rattle.text.proofs.Puts.{reworded, shown}
 use Rattle.printing.specs.Printed.{blankJob}
 use Rattle.statements.proofs.Texts.{refused-text, grocers-few, job-text}
-use borrow.Author.Needs.{needs}
 use Rattle.statements.proofs.settled.Statement.{statement}
 use Rattle.statements.proofs.settled.Tie as tie
 
+-- The entry, from the call of `read`.
+abbrev entry : tie.After-read → tie.Start
+entry r = r .before .before .before .before .before .before .before .before .before .before .before
+
 abbrev file : tie.After-read → List ℕ
-file r = now (r .before .before .before .before .before .before .before .before .before .before .before .args .file)
+file r = now (entry r .args .file)
 
 -- The tables as the reader leaves them.
 abbrev tables : tie.After-read → ReaderTables
@@ -22,9 +26,16 @@ tables r =
     (fileTables (w .0) (w .1 .0) (w .1 .1 .0) (w .1 .1 .1 .0) (w .1 .1 .1 .1 .0) (w .1 .1 .1 .1 .1 .0) (w .1 .1 .1 .1 .1 .1 .0) (w .1 .1 .1 .1 .1 .1 .1 .0))
     (w .1 .1 .1 .1 .1 .1 .1 .1 .0)
 
--- The call of `read`, from where the first table is lent again.
+-- The call of `read`, from where all its tables are back; and from where the first is lent again.
+abbrev back : tie.After-tally-offer2 → tie.After-read
+back c = c .before .before .before .before .before .before .before .before .before
+
 abbrev was-read : tie.After-price3 → tie.After-read
-was-read c = c .before .before .before .before .before .before .before .before .before .before .before .before .before .before
+was-read c = back (c .before .before .before .before .before)
+
+-- Where the first is lent, from the last.
+abbrev lent : tie.After-tally-count3 → tie.After-price3
+lent c = c .before .before .before .before .before .before
 
 slice-aggregate-put-job : tie.Need-slice-aggregate-put-job
 slice-aggregate-put-job c = sym (was-read c .read .kept .1 .0)
@@ -45,27 +56,27 @@ slice-aggregate-put-job-6 : tie.Need-slice-aggregate-put-job-6
 slice-aggregate-put-job-6 c = sym (was-read (c .before .before .before .before .before) .read .kept .1 .1 .1 .1 .1 .1 .1 .1 .1 .0)
 
 slice-aggregate-put-job-7 : tie.Need-slice-aggregate-put-job-7
-slice-aggregate-put-job-7 c = sym (was-read (c .before .before .before .before .before .before) .read .kept .1 .1 .1 .1 .1 .1 .1 .1 .0)
+slice-aggregate-put-job-7 c = sym (was-read (lent c) .read .kept .1 .1 .1 .1 .1 .1 .1 .1 .0)
 
 put-job-requires : tie.Need-put-job-requires
 unfolding blankJob
 put-job-requires c κs =
-    let m = c .before .before .before .before .before .before .before .before .before in
-    let r = m .before .before .before .before .before .before .before .before .before .before .before in
-    (grocers-few (file r) (tables r) (r .read .result) (r .read .ensures) _ _ _ _ (m .a .given .1), search needs)
+    let m = lent c .before .before .before in
+    let r = back (m .before .before) in
+    (grocers-few (file r) (tables r) (r .read .result) (r .read .ensures) _ _ _ _ _ (m .a .given .1), le-of-eq (sym (lent c .before .put-job-arg .given .0 .1)))
 
 returns : tie.Need-returns
 unfolding blankJob
 returns c =
-    let m = c .before .before .before .before .before .before .before .before .before .before in
-    let r = m .before .before .before .before .before .before .before .before .before .before .before in
-    shown (reworded (job-text (file r) (tables r) (r .read .result) (r .read .ensures) _ _ _ _ (m .a .given .1)) (c .put-job .ensures))
+    let m = lent (c .before) .before .before .before in
+    let r = back (m .before .before) in
+    shown (reworded (job-text (file r) (tables r) (r .read .result) (r .read .ensures) _ _ _ _ _ (m .a .given .1)) (c .put-job .ensures))
 
 returns-2 : tie.Need-returns-2
 unfolding blankJob
 returns-2 c =
     let m = c .before .before .before in
-    let r = m .before .before .before .before .before .before .before .before .before .before .before in
+    let r = back (m .before .before) in
     shown (reworded (refused-text (file r) (tables r) (r .read .result) (r .read .ensures) _ (m .a2 .given .1)) (c .put-refused .ensures))
 
 pub settled-spec : {M : Type 1} → statement M
@@ -82,7 +93,7 @@ settled-spec =
     (λ c. refl)
     (λ c. refl)
     (λ c κs. tt)
-    (λ c. search needs)
+    (λ c. c .match .keys1)
     slice-aggregate-put-job
     slice-aggregate-put-job-2
     slice-aggregate-put-job-3
@@ -91,7 +102,7 @@ settled-spec =
     slice-aggregate-put-job-6
     slice-aggregate-put-job-7
     put-job-requires
-    (λ c. search needs)
-    (λ c κs. search needs)
+    (λ c. c .match .keys2)
+    (λ c κs. le-of-eq (sym (c .put-refused-arg .given .0 .1)))
     returns
     returns-2)

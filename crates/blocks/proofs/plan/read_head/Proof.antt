@@ -1,5 +1,6 @@
 -- `blocks::plan::read_head` meets its contract. Assumes nothing.
 use Rattle.format.specs.File.{readHead, decode}
+use native.Mathlib.Omega.{arith}
 use borrow.Author.Needs.{needs}
 use Rattle.blocks.proofs.plan.read_head.Statement.{statement}
 use Rattle.blocks.proofs.plan.read_head.Tie as tie
@@ -7,8 +8,9 @@ use Rattle.blocks.proofs.plan.read_head.Tie as tie
 returns : tie.Need-returns
 unfolding decode readHead
 returns c =
-    let g = c .before .before in
-    rw (g .before .size .ensures .0, g .word16 .ensures .0, c .before .word162 .ensures .0, c .word163 .ensures .0)
+    let t = c .before in
+    let g = t .before .before in
+    rw (g .before .size .ensures .0, g .word16 .ensures .0, t .before .word162 .ensures .0, t .word163 .ensures .0, c .word164 .ensures .0)
 
 pub read-head-spec : {M : Type 1} → statement M
 read-head-spec =
@@ -19,4 +21,6 @@ read-head-spec =
     (λ c κs. search needs)
     (λ c κs. search needs)
     (λ c κs. search needs)
+    (λ c κs. search needs)
+    (λ c. record { fits = omega (arith, c .word164 .ensures .1) })
     returns)

@@ -12,6 +12,10 @@ use borrow.Author.Needs.{needs}
 use Rattle.blocks.proofs.refusals.block_refusal.Statement.{statement}
 use Rattle.blocks.proofs.refusals.block_refusal.Tie as tie
 
+-- Places, from places after them.
+abbrev records-at : tie.Else3 → tie.After-records-at
+records-at c = c .before .before .before .before .before .before
+
 -- What the code has computed is what is due.
 due : (c : tie.After-records-at) → Due (decode (c .before .before .before .args .f .now) .head) (c .before .before .before .args .k) (c .before .kind-at .result) (c .records-at .result)
 due c =
@@ -21,17 +25,13 @@ due c =
 
 -- The check of the records, in the definition's words.
 bad : (c : tie.After-bad-records) →
-    let a = c .before .before .before .before .before .before .before .before .before .before .args in
+    let a = records-at (c .before) .before .before .before .args in
     any (records (decode (a .f .now) .head) (kindAt (decode (a .f .now) .head) (a .k))) (badRecord (decode (a .f .now)) (kindAt (decode (a .f .now) .head) (a .k))) ≡ c .bad-records .result
 bad c =
-    let r = c .before .before .before .before .before .before .before in
+    let r = records-at (c .before) in
     let a = r .before .before .before .args in
     let j = decode (a .f .now) in
     ap (λ (n : ℕ). any n (badRecord j (kindAt (j .head) (a .k)))) (sym (due r .count)) ∙ sym (c .bad-records .ensures)
-
--- Places, from places after them.
-abbrev records-at : tie.Else3 → tie.After-records-at
-records-at c = c .before .before .before .before .before .before
 
 returns : tie.Need-returns
 unfolding blockRefusal firstMet

@@ -26,8 +26,12 @@ most c =
     let z = header-sizes _ (top (c .before)) in
     subst Most (sym (c .read-head .ensures)) (record { boxes = z .boxes-most; grocers = z .grocers-most; offers = z .offers-most; tallies = z .tallies-most })
 
+-- The entry, from where the header is read.
+abbrev entry : tie.After-read-head → tie.Start
+entry c = c .before .before .before .before .before .before
+
 -- The block count is the one that the header says.
-counted : (c : tie.After-block-count) → c .block-count .result ≡ blocks (decode (c .before .before .before .before .before .before .before .args .f .now))
+counted : (c : tie.After-block-count) → c .block-count .result ≡ blocks (decode (entry (c .before) .args .f .now))
 counted c = c .block-count .ensures ∙ ap blockCount (c .before .read-head .ensures)
 
 returns : tie.Need-returns

@@ -44,12 +44,12 @@ one-step-spec =
     tie.close
     (tie.spec
     price-step-requires
-    (λ c. search needs)
-    (λ c. search needs)
-    (λ c. search needs)
+    (λ c. priced c .price-step .kept .1 .1 .1 .1 .1 .1 .1 .1 .1 .0)
+    (λ c. priced c .price-step .kept .1 .1 .1 .1 .1 .1 .1 .1 .1 .1 .0)
+    (λ c. priced c .price-step .kept .1 .1 .1 .1 .1 .1 .1 .1 .1 .1 .1 .0)
     returns
     total-step-requires
-    (λ c. search needs)
-    (λ c. search needs)
-    (λ c. search needs)
+    (λ c. totalled c .total-step .kept .1 .1 .1 .1 .0)
+    (λ c. totalled c .total-step .kept .1 .1 .1 .1 .1 .0)
+    (λ c. totalled c .total-step .kept .1 .1 .1 .1 .1 .1 .0)
     returns-2)

@@ -1,11 +1,12 @@
 -- `text::lines::put_statements` meets its contract. The loop's invariant: the lines of the first g grocers are put. Assumes nothing.
-use mathlib.Core.Path.{_≡_, ap}
+use mathlib.Core.Path.{_≡_, ap, _∙_}
 use Prim.Native.Nat.{_≤_, _*_, _-_}
 use native.Mathlib.Omega.{arith}
 use denote.Ref.{now}
 use lib.IntN.{ℤ, pos}
 use lib.ListN.{getD}
 use Rattle.laws.proofs.Signed.{read64}
+use Rattle.cents.specs.Cents.{cents}
 use Rattle.printing.specs.Printed.{decimal, signedDecimal, line, grocerLines}
 use Rattle.text.specs.Puts.{Put}
 use Rattle.text.proofs.Puts.{same-long, reworded}
@@ -23,17 +24,20 @@ loop-holds : tie.Need-loop-holds Inv-loop μ-loop
 loop-holds c = (grocer-none _ _, omega arith, omega arith)
 
 put-statement-requires : tie.Need-put-statement-requires Inv-loop μ-loop
-put-statement-requires c κs = let i = c .before .before .before .loop .inv in omega (arith, same-long (i .0))
+put-statement-requires c κs = let i = c .before .before .before .before .loop .inv in omega (arith, same-long (i .0))
 
 loop-again : tie.Need-loop-again Inv-loop μ-loop
 loop-again c =
-    let l = c .before .before .before .before .before .before .loop in
-    let w = now (c .before .before .before .before .before .before .before .before .args .statement) in
+    let p = c .before .before in
+    let k = p .before .before in
+    let l = k .before .before .before .loop in
+    let w = now (k .before .before .before .before .before .args .statement) in
     let z = getD w (l .g) (pos 0) in
-    let fits = c .before .before .before .before .z .given in
-    let p = reworded (ap (λ (y : ℤ). line (decimal (l .g)) (signedDecimal y)) (read64 z fits)) (c .before .before .put-statement .ensures) in (
-      grocer-more (l .g) (λ i. getD w i (pos 0)) (l .inv .0) p,
-      omega (arith, p .next, l .inv .1, grocer-short (l .g) z (omega arith) (abs-64 z (record { sfits = fits }))),
+    let y = k .cents .result in
+    let e : y ≡ cents z = k .cents .ensures ∙ ap cents (read64 z (k .before .amount .given)) in
+    let q = reworded (ap (λ (x : ℤ). line (decimal (l .g)) (signedDecimal x)) (read64 y (k .cents .ok) ∙ e)) (p .put-statement .ensures) in (
+      grocer-more (l .g) (λ i. getD w i (pos 0)) (l .inv .0) q,
+      omega (arith, q .next, l .inv .1, grocer-short (l .g) (cents z) (omega arith) (rw e at (abs-64 y (record { sfits = k .cents .ok })))),
       omega arith,
     )
 
@@ -55,6 +59,7 @@ put-statements-spec =
     loop-holds
     (λ c. omega arith)
     (λ c. omega arith)
+    (λ c κs. tt)
     put-statement-requires
     (λ c. omega arith)
     (λ c. omega arith)

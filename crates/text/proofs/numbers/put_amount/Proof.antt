@@ -16,11 +16,12 @@ sized k = k .size .ensures ∙ ap natAbs (toZ-ofZ {w = w64} (k .before .before .
 
 returns : tie.Need-returns
 returns c =
-    let b = c .before .before .before .before .before .before in
+    let d = c .before .before in
+    let b = d .before .before .before .before in
     let t = b .before .before in
     let s = t .before .before .before in
     let n = below-zero {w = w64} (s .args .z) (s .fits .z) (t .if1 .taken) in
-    reworded (signed-below (n .1) (sized (t .before))) (behind (b .put-byte .ensures) (c .before .before .put-decimal .ensures))
+    reworded (signed-below (n .1) (sized (t .before))) (behind (b .put-byte .ensures) (d .put-decimal .ensures))
 
 returns-2 : tie.Need-returns-2
 returns-2 c =

@@ -21,6 +21,9 @@ first c = c .before .before .before
 abbrev second : tie.After-put16-arg3 → tie.After-put162
 second c = c .before .before .before
 
+abbrev third : tie.After-size-of → tie.After-put163
+third c = c .before .before .before .before
+
 -- The buffer keeps its length.
 long : (c : tie.After-put16) → length (c .put16 .last .0) ≡ length (now (entry (c .before .before) .args .out))
 long c = c .put16 .kept .0 ∙ simp length-set
@@ -50,23 +53,34 @@ put16-requires-3 c κs =
     let s = entry (p .before .before) in
     (omega (arith, q .put162 .kept .0, long p, s .pre .0), omega (arith, s .pre .1 .tallies))
 
+put16-requires-4 : tie.Need-put16-requires-4
+put16-requires-4 c κs =
+    let r = third c in
+    let q = second (r .before) in
+    let p = first (q .before) in
+    let s = entry (p .before .before) in
+    (omega (arith, r .put163 .kept .0, q .put162 .kept .0, long p, s .pre .0), omega (arith, c .size-of .ensures .1))
+
 same-length : tie.Need-same-length
 same-length c =
-    let r = c .before .before in
+    let z = c .before .before in
+    let r = third (z .before) in
     let q = second (r .before) in
-    r .put163 .kept .0 ∙ q .put162 .kept .0 ∙ long (first (q .before))
+    z .put164 .kept .0 ∙ r .put163 .kept .0 ∙ q .put162 .kept .0 ∙ long (first (q .before))
 
 returns : tie.Need-returns
 returns c =
-    let r = c .before .before in
+    let z = c .before .before in
+    let r = third (z .before) in
     let q = second (r .before) in
     let p = first (q .before) in
     let b = p .before .before in
     let s = entry b in
     let h = s .args .head in
-    sizes-put (h .boxes) (h .grocers) (h .offers) (h .tallies) (now (s .args .out)) _ _ _ (s .pre .0)
+    sizes-put (h .boxes) (h .grocers) (h .offers) (h .tallies) (h .cycle) (now (s .args .out)) _ _ _ _ (s .pre .0)
     (p .put16 .ensures ∙ ap (λ (v : ℕ). put 6 2 (bytesOf (bytes16 (h .grocers))) (set (set (now (s .args .out)) 4 v) 5 1)) (b .byte .ensures))
     (q .put162 .ensures) (r .put163 .ensures)
+    (z .put164 .ensures ∙ ap (λ (v : ℕ). put 12 2 (bytesOf (bytes16 v)) (r .put163 .last .0)) (z .before .size-of .ensures .0))
 
 pub put-sizes-spec : {M : Type 1} → statement M
-put-sizes-spec = tie.close (tie.spec byte-requires write-out write-out-2 put16-requires put16-requires-2 put16-requires-3 same-length returns)
+put-sizes-spec = tie.close (tie.spec byte-requires write-out write-out-2 put16-requires put16-requires-2 put16-requires-3 (λ c κs. search needs) put16-requires-4 same-length returns)
