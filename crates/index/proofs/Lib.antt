@@ -1,4 +1,3 @@
--- The laws of the sort and of the look-up.
+-- The laws of the sort.
 pub mod Sorting
 pub mod Digits
-pub mod Looking

@@ -1,12 +1,12 @@
--- `index::look::halve` meets its contract. The invariant: the last key that is at most the number is among the `len` places from `at` on. Assumes nothing.
+-- `lookup::look::halve` meets its contract. The invariant: the last key that is at most the number is among the `len` places from `at` on. Assumes nothing.
 use native.Mathlib.Omega.{arith}
 use denote.Ref.{now}
-use Rattle.index.proofs.Looking.{bracket-start, bracket-half, bracket-end}
+use Rattle.lookup.proofs.Looking.{bracket-start, bracket-half, bracket-end}
 use Prim.Native.Nat.{_<_}
-use Rattle.index.specs.Index.{Bracket}
+use Rattle.lookup.specs.Lookup.{Bracket}
 use borrow.Author.Needs.{needs}
-use Rattle.index.proofs.look.halve.Statement.{statement}
-use Rattle.index.proofs.look.halve.Tie as tie
+use Rattle.lookup.proofs.look.halve.Statement.{statement}
+use Rattle.lookup.proofs.look.halve.Tie as tie
 
 abbrev Inv-loop : tie.InvT-loop
 Inv-loop keys n number at₀ len₀ at len = (0 < len) × Bracket keys n number at len

@@ -11,7 +11,7 @@ use borrow.Author.Tests.{eqb-true, eqb-false, eq-eqb, ltb-true, ltb-false, leb-t
 use Rattle.laws.specs.Below.{any}
 use Rattle.laws.proofs.Bools.{split, clash, eqb-same, no-true}
 use Rattle.laws.proofs.Below.{any-at, any-find, find-none, find-only, count-some, count-two}
-use Rattle.index.specs.Index.{times, keyAt, Ascending, IsIndex, sharesNumber, placeOf, Bracket}
+use Rattle.lookup.specs.Lookup.{times, keyAt, Ascending, IsIndex, sharesNumber, placeOf, Bracket}
 
 module _ {keys places numbers : List ℕ} {n : ℕ} (x : IsIndex keys places numbers n) where
   key-at : (i : ℕ) → i < n → getD keys i 0 ≡ getD numbers (getD places i 0) 0

@@ -1,11 +1,11 @@
--- `index::look::place` meets its contract. Assumes nothing.
+-- `lookup::look::place` meets its contract. Assumes nothing.
 use mathlib.Core.Path.{_≡_, sym, _∙_}
 use native.Mathlib.Omega.{arith}
 use denote.Ref.{now}
-use Rattle.index.proofs.Looking.{found, missing, bracket-miss}
+use Rattle.lookup.proofs.Looking.{found, missing, bracket-miss}
 use borrow.Author.Needs.{needs}
-use Rattle.index.proofs.look.place.Statement.{statement}
-use Rattle.index.proofs.look.place.Tie as tie
+use Rattle.lookup.proofs.look.place.Statement.{statement}
+use Rattle.lookup.proofs.look.place.Tie as tie
 
 returns : tie.Need-returns
 returns c =

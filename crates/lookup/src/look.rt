@@ -5,8 +5,14 @@ ghost use mathlib.Core.Bool.{false, cond};
 ghost use Prim.Native.Nat.{ℕ, _+_, _≤_, _<_};
 ghost use lib.Dec.{leb};
 ghost use lib.ListN.{length, getD};
-ghost use Rattle.index.specs.Index.{IsIndex, sharesNumber, placeOf, Bracket};
-use crate::sort::index_of;
+ghost use Rattle.lookup.specs.Lookup.{IsIndex, sharesNumber, placeOf, Bracket};
+
+// A place as an index.
+pub fn index_of(place: u16) -> usize
+    ensures { λ r. ⌜ r ≡ place ⌝ }
+{
+    place as usize
+}
 
 // Whether two offers share a number.
 pub fn shared(keys: &[u64], n: usize) -> bool

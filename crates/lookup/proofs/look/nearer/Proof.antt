@@ -1,14 +1,14 @@
--- `index::look::nearer` meets its contract. Assumes nothing.
+-- `lookup::look::nearer` meets its contract. Assumes nothing.
 use mathlib.Core.Bool.{Bool}
 use Prim.Native.Nat.{_+_, _≤_}
 use native.Mathlib.Omega.{arith}
 use lib.ListN.{getD}
 use lib.Dec.{leb}
 use denote.Ref.{now}
-use Rattle.index.proofs.Looking.{flag-le, shifted, shifted-le}
+use Rattle.lookup.proofs.Looking.{flag-le, shifted, shifted-le}
 use borrow.Author.Needs.{needs}
-use Rattle.index.proofs.look.nearer.Statement.{statement}
-use Rattle.index.proofs.look.nearer.Tie as tie
+use Rattle.lookup.proofs.look.nearer.Statement.{statement}
+use Rattle.lookup.proofs.look.nearer.Tie as tie
 
 abbrev entry : tie.After-over → tie.Start
 entry c = c .before .before .before

@@ -1,13 +1,13 @@
--- `index::look::shared` meets its contract. The invariant: no two neighbours before i are equal. Assumes nothing.
+-- `lookup::look::shared` meets its contract. The invariant: no two neighbours before i are equal. Assumes nothing.
 use native.Mathlib.Omega.{arith}
 use denote.Ref.{now}
-use Rattle.index.proofs.Looking.{keys-shared, none-shared, neighbours-more}
+use Rattle.lookup.proofs.Looking.{keys-shared, none-shared, neighbours-more}
 use Prim.Native.Nat.{ℕ, _<_, _+_, _-_}
 use mathlib.Core.Path.{_≡_, sym}
 use lib.ListN.{getD}
 use borrow.Author.Needs.{needs}
-use Rattle.index.proofs.look.shared.Statement.{statement}
-use Rattle.index.proofs.look.shared.Tie as tie
+use Rattle.lookup.proofs.look.shared.Statement.{statement}
+use Rattle.lookup.proofs.look.shared.Tie as tie
 
 abbrev Inv-loop : tie.InvT-loop
 Inv-loop keys n i₀ i = (0 < i) × ((k : ℕ) → k + 1 < i → getD keys k 0 ≡ getD keys (k + 1) 0 → ⊥)

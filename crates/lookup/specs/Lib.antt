@@ -1,0 +1,2 @@
+-- Definitions of the index of offers and its look-up.
+pub mod Lookup
