@@ -4,26 +4,10 @@ ghost use Prim.Native.Nat.{_≤_};
 ghost use lib.ListN.{length, take, drop};
 ghost use Rattle.io.specs.Counts.{Counts};
 ghost use Rattle.model.specs.Tables.{jobTables};
-ghost use Rattle.run.specs.Run.{answerOf};
 ghost use Rattle.text.specs.Puts.{Put};
-ghost use Rattle.printing.specs.Printed.{runText, jobText, printed};
-use text::lines::put_refused;
-use text::lines::put_settled;
-
-// The lines of a run's answer.
-fn put_answer(out: &mut [u8], grocers: u16, statement: &[i64], a: run::Answer) -> usize
-    requires { ⌜ (grocers ≤ 255) × (grocers ≤ length (now statement)) × (8192 ≤ length (now out)) ⌝ }
-    ensures { λ r. ⌜ Put 0 (runText grocers (answerOf a) (now (statement .entry))) (now (out .entry)) (now (out .exit)) r ⌝ }
-{
-    match a {
-        run::Answer::Finished {
-            words,
-            messages,
-            steps,
-        } => put_settled(out, grocers as usize, statement, words, messages, steps),
-        run::Answer::Refused(n) => put_refused(out, n),
-    }
-}
+ghost use Rattle.printing.specs.Printed.{jobText, printed};
+use answers::put_answer;
+use answers::put_refused;
 
 // The lines of a job: it is run with no choices.
 fn put_job(

@@ -14,8 +14,7 @@ use mir.Val.{SFits}
 use borrow.Author.Tests.{lt-ltb, ltb-true, ltb-false}
 use Rattle.io.specs.Digits.{digits, glyph, Fewest}
 use Rattle.laws.proofs.Bools.{split}
-use Rattle.cents.specs.Cents.{cents}
-use Rattle.printing.specs.Printed.{digitsOf, decimal, signedDecimal, line, grocerLines}
+use Rattle.printing.specs.Printed.{digitsOf, decimal, signedDecimal, line}
 use Rattle.printing.proofs.Digits.{below-power}
 use Rattle.text.specs.Puts.{put, Put}
 use Rattle.text.proofs.Puts.{behind, reworded}
@@ -112,21 +111,6 @@ pub line-long : (name value : List ℕ) → length (line name value) ≡ length 
 unfolding line
 line-long name value = length-append (name ++ (32 ∷ value)) (10 ∷ []) ∙ rw (length-append name (32 ∷ value)) (omega arith)
 
--- A grocer's line has at most 3 digits, a space, a sign, 19 digits and its end.
-pub grocer-short : (g : ℕ) (z : ℤ) → g < 1000 → natAbs z < 10 ^ 19 → length (line (decimal g) (signedDecimal z)) ≤ 25
-grocer-short g z h k = omega (arith, line-long (decimal g) (signedDecimal z), decimal-few 2 g h, signed-few 18 z k)
-
 -- A line of a name and a number.
 pub count-short : (name : List ℕ) (n : ℕ) → n < 10 ^ 20 → length (line name (decimal n)) ≤ length name + 22
 count-short name n h = omega (arith, line-long name (decimal n), decimal-few 19 n h)
-
--- One grocer's line more.
-pub grocer-more : (g : ℕ) (amount : ℕ → ℤ) {at r : ℕ} {d e f : List ℕ} →
-    Put 0 (grocerLines g amount) d e at → Put at (line (decimal g) (signedDecimal (cents (amount g)))) e f r → Put 0 (grocerLines (g + 1) amount) d f r
-unfolding grocerLines
-grocer-more g amount a b = rw (add-one g) (behind a b)
-
--- No line yet.
-pub grocer-none : (amount : ℕ → ℤ) (d : List ℕ) → Put 0 (grocerLines 0 amount) d d 0
-unfolding grocerLines put
-grocer-none amount d = record { next = refl; room = omega arith; bytes = refl }

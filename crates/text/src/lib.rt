@@ -1,3 +1,2 @@
-// The lines that settle prints, put into a buffer.
-pub mod lines;
+// Bytes and numbers put into a buffer.
 pub mod numbers;

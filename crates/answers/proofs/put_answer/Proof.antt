@@ -1,12 +1,12 @@
--- `statements::put_answer` meets its contract, by the answer. Assumes nothing.
+-- `answers::put_answer` meets its contract, by the answer. Assumes nothing.
 use mathlib.Core.Path.{sym, ap}
 use denote.Ref.{now}
 use Rattle.run.specs.declared.Answer.{Answer}
 use Rattle.run.specs.Run.{answerOf}
 use Rattle.text.proofs.Puts.{reworded}
 use Rattle.printing.specs.Printed.{runText}
-use Rattle.statements.proofs.put_answer.Statement.{statement}
-use Rattle.statements.proofs.put_answer.Tie as tie
+use Rattle.answers.proofs.put_answer.Statement.{statement}
+use Rattle.answers.proofs.put_answer.Tie as tie
 
 same-length : tie.Need-same-length
 same-length c = c .before .before .put-settled .kept .0

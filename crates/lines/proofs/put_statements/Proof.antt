@@ -1,4 +1,4 @@
--- `text::lines::put_statements` meets its contract. The loop's invariant: the lines of the first g grocers are put. Assumes nothing.
+-- `lines::put_statements` meets its contract. The loop's invariant: the lines of the first g grocers are put. Assumes nothing.
 use mathlib.Core.Path.{_≡_, ap, _∙_}
 use Prim.Native.Nat.{_≤_, _*_, _-_}
 use native.Mathlib.Omega.{arith}
@@ -8,17 +8,18 @@ use lib.ListN.{getD}
 use Rattle.laws.proofs.Signed.{read64}
 use Rattle.cents.specs.Cents.{cents}
 use Rattle.printing.specs.Printed.{decimal, signedDecimal, line, grocerLines}
 use Rattle.text.specs.Puts.{Put}
 use Rattle.text.proofs.Puts.{same-long, reworded}
-use Rattle.text.proofs.Decimals.{grocer-none, grocer-more, grocer-short, abs-64}
-use Rattle.text.proofs.lines.put_statements.Statement.{statement}
-use Rattle.text.proofs.lines.put_statements.Tie as tie
+use Rattle.text.proofs.Decimals.{abs-64}
+use Rattle.lines.proofs.Grocers.{grocer-none, grocer-more, grocer-short}
+use Rattle.lines.proofs.put_statements.Statement.{statement}
+use Rattle.lines.proofs.put_statements.Tie as tie
 
 abbrev Inv-loop : tie.InvT-loop
-Inv-loop out₀ m statement at₀ g₀ out at g = Put 0 (grocerLines g (λ i. getD statement i (pos 0))) out₀ out at × (at ≤ 25 * g) × (g ≤ m)
+Inv-loop out₀ grocers statement at₀ g₀ out at g = Put 0 (grocerLines g (λ i. getD statement i (pos 0))) out₀ out at × (at ≤ 25 * g) × (g ≤ grocers)
 
 abbrev μ-loop : tie.MeasureT-loop
-μ-loop out₀ m statement at₀ g₀ out at g = m - g
+μ-loop out₀ grocers statement at₀ g₀ out at g = grocers - g
 
 loop-holds : tie.Need-loop-holds Inv-loop μ-loop
 loop-holds c = (grocer-none _ _, omega arith, omega arith)
@@ -47,7 +48,7 @@ same-length c = same-long (c .before .loop .inv .0)
 returns : tie.Need-returns Inv-loop μ-loop
 returns c =
     let l = c .before .loop in
-    let e : l .g ≡ c .before .before .before .args .m = omega arith in
+    let e : l .g ≡ c .before .before .before .args .grocers = omega arith in
     (rw e at (l .inv .0), omega arith)
 
 pub put-statements-spec : {M : Type 1} → statement M

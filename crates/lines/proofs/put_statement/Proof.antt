@@ -1,15 +1,15 @@
--- `text::lines::put_statement` meets its contract. Assumes nothing.
+-- `lines::put_statement` meets its contract. Assumes nothing.
 use mathlib.Core.Path.{ap, _∙_}
 use native.Mathlib.Omega.{arith}
 use mir.Syntax.{w64}
 use mir.Facts.{toZ-ofZ}
 use Rattle.printing.specs.Printed.{signedDecimal}
 use Rattle.text.specs.Puts.{Put}
 use Rattle.text.proofs.Puts.{same-long, reworded}
 use Rattle.text.proofs.Decimals.{decimal-few, signed-few, abs-64, lined}
 use borrow.Author.Needs.{needs}
-use Rattle.text.proofs.lines.put_statement.Statement.{statement}
-use Rattle.text.proofs.lines.put_statement.Tie as tie
+use Rattle.lines.proofs.put_statement.Statement.{statement}
+use Rattle.lines.proofs.put_statement.Tie as tie
 
 -- From the amount back to the space, from there to the grocer's number, and from there to the entry.
 abbrev spaced : tie.After-put-amount → tie.After-put-byte

@@ -1,8 +1,8 @@
--- `text::lines::put_refused` meets its contract. Assumes nothing.
+-- `answers::put_refused` meets its contract. Assumes nothing.
 use Rattle.printing.specs.Printed.{refusedText}
 use borrow.Author.Needs.{needs}
-use Rattle.text.proofs.lines.put_refused.Statement.{statement}
-use Rattle.text.proofs.lines.put_refused.Tie as tie
+use Rattle.answers.proofs.put_refused.Statement.{statement}
+use Rattle.answers.proofs.put_refused.Tie as tie
 
 returns : tie.Need-returns
 unfolding refusedText

@@ -1,11 +1,11 @@
--- `text::lines::put_settled` meets its contract. Assumes nothing.
+-- `answers::put_settled` meets its contract. Assumes nothing.
 use mathlib.Core.Path.{refl, _∙_}
 use native.Mathlib.Omega.{arith}
 use Rattle.printing.specs.Printed.{wordsName, messagesName, settledText}
 use Rattle.text.proofs.Puts.{behind, same-long}
 use Rattle.text.proofs.Decimals.{count-short}
-use Rattle.text.proofs.lines.put_settled.Statement.{statement}
-use Rattle.text.proofs.lines.put_settled.Tie as tie
+use Rattle.answers.proofs.put_settled.Statement.{statement}
+use Rattle.answers.proofs.put_settled.Tie as tie
 
 put-count-requires : tie.Need-put-count-requires
 put-count-requires c κs =

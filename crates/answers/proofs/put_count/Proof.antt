@@ -1,11 +1,11 @@
--- `text::lines::put_count` meets its contract. Assumes nothing.
+-- `answers::put_count` meets its contract. Assumes nothing.
 use mathlib.Core.Path.{_∙_}
 use native.Mathlib.Omega.{arith}
 use Rattle.text.proofs.Puts.{same-long}
 use Rattle.text.proofs.Decimals.{decimal-few, lined}
 use borrow.Author.Needs.{needs}
-use Rattle.text.proofs.lines.put_count.Statement.{statement}
-use Rattle.text.proofs.lines.put_count.Tie as tie
+use Rattle.answers.proofs.put_count.Statement.{statement}
+use Rattle.answers.proofs.put_count.Tie as tie
 
 -- From the number back to the space, from there to the name, and from there to the entry.
 abbrev spaced : tie.After-put-decimal → tie.After-put-byte
