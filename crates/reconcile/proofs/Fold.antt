@@ -27,7 +27,7 @@ use Rattle.reconcile.specs.declared.Answer.{Answer}
 use Rattle.reconcile.specs.declared.Answer.the-variants.{Owed, Refused}
 use Rattle.reconcile.specs.Records.{recordOf, recordsOf, answerOf}
 use Rattle.reconcile.specs.Serial.{headInRange, opened, share, withRecord, withRecords, Summable}
-use Rattle.reconcile.proofs.Amounts.{product-abs}
+use Rattle.records.proofs.Amounts.{product-abs}
 
 -- What a record in range has.
 module _ (m n : ℕ) (r : TallyRecord) (h : recordInRange m n r ≡ true) where

@@ -1,5 +1,4 @@
 -- The serial sum is the model's answer, one record more, and what the walks by hand share.
-pub mod Amounts
 pub mod Cut
 pub mod Fold
 pub mod More

@@ -17,7 +17,7 @@ use Rattle.model.proofs.Step.{up-at}
 use Rattle.reconcile.specs.declared.Answer.{Answer}
 use Rattle.reconcile.specs.declared.Answer.the-variants.{Owed, Refused}
 use Rattle.reconcile.specs.Serial.{withRecord, Summable}
-use Rattle.reconcile.proofs.Amounts.{sum-abs}
+use Rattle.records.proofs.Amounts.{sum-abs}
 use Rattle.reconcile.proofs.Fold.{place-in, count-in}
 
 module _ (m n g : ℕ) (ps : List ℕ) (a : Answer) (r : TallyRecord) where

@@ -1,13 +1,12 @@
 // The reconciliation desk: what one grocer is owed, from a lent list of tally records.
 ghost use mathlib.Core.Path.{_≡_};
 ghost use Prim.Native.Nat.{_≤_};
-ghost use lib.IntN.{pos, natAbs, _+ℤ_, _*ℤ_};
 ghost use lib.ListN.{take};
-ghost use Rattle.model.specs.Ranges.{maxPrice, maxCount, maxAmount};
-ghost use Rattle.model.specs.Reconcile.{recordInRange, reconciled};
+ghost use Rattle.model.specs.Reconcile.{reconciled};
 ghost use Rattle.reconcile.specs.Records.{tallyRecord, recordsOf, answerOf};
 ghost use Rattle.reconcile.specs.Serial.{opened, Summable, withRecord};
-use tables::ranges::is_count;
+use records::add_product;
+use records::record_in_range;
 use tables::ranges::upto32;
 
 // A tally record: the place is that of its offer.
@@ -22,37 +21,6 @@ pub struct Tally {
 pub enum Answer {
     Owed(i64),
     Refused(u16),
-}
-
-// Whether a record is in range, by its fields.
-fn record_in_range(
-    grocer: u16,
-    tbox: u16,
-    place: u16,
-    count: i32,
-    grocers: u16,
-    offers: u16,
-) -> bool
-    ensures { λ r. ⌜ r ≡ recordInRange grocers offers (tallyRecord grocer tbox place count) ⌝ }
-{
-    if grocer >= grocers {
-        return false;
-    }
-    if tbox >= 16 {
-        return false;
-    }
-    if place >= offers {
-        return false;
-    }
-    is_count(count)
-}
-
-// A sum with count × price added.
-fn add_product(sum: i64, count: i32, price: u32) -> i64
-    requires { ⌜ (natAbs sum ≤ maxAmount) × (natAbs count ≤ maxCount) × (price ≤ maxPrice) ⌝ }
-    ensures { λ r. ⌜ r ≡ sum +ℤ (count *ℤ pos price) ⌝ }
-{
-    sum + (count as i64) * (price as i64)
 }
 
 // The answer before any record: nothing is owed, or a condition that looks at no record refuses.
@@ -74,7 +42,7 @@ fn open(len: usize, price: &[u32], grocers: u16, offers: u16, wanted: u16) -> An
 fn add_record(
     answer: Answer,
     grocer: u16,
-    tbox: u16,
+    tally_box: u16,
     place: u16,
     count: i32,
     price: &[u32],
@@ -83,12 +51,12 @@ fn add_record(
     wanted: u16,
 ) -> Answer
     requires { ⌜ Summable offers (now price) answer ⌝ }
-    ensures { λ r. ⌜ r ≡ withRecord grocers offers wanted (now (price .entry)) answer (tallyRecord grocer tbox place count) ⌝ }
+    ensures { λ r. ⌜ r ≡ withRecord grocers offers wanted (now (price .entry)) answer (tallyRecord grocer «tally_box» place count) ⌝ }
 {
     match answer {
         Answer::Refused(n) => Answer::Refused(n),
         Answer::Owed(sum) => {
-            if !record_in_range(grocer, tbox, place, count, grocers, offers) {
+            if !record_in_range(grocer, tally_box, place, count, grocers, offers) {
                 return Answer::Refused(21);
             }
             if grocer != wanted {

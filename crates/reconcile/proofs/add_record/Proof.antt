@@ -11,7 +11,7 @@ use Rattle.reconcile.proofs.add_record.Tie as tie
 
 -- The record whose fields are passed.
 abbrev passes : tie.After-record-in-range → TallyRecord
-passes c = let x = c .before .before .before .before .before .args in tallyRecord (x .grocer) (x .tbox) (x .place) (x .count)
+passes c = let x = c .before .before .before .before .before .args in tallyRecord (x .grocer) (x .tally-box) (x .place) (x .count)
 
 -- What the test says of it.
 tested : (c : tie.After-record-in-range)

@@ -1,8 +1,8 @@
--- `reconcile::add_product` meets its contract: the product and the sum fit (proofs/Amounts.antt). Assumes nothing.
+-- `records::add_product` meets its contract: the product and the sum fit (proofs/Amounts.antt). Assumes nothing.
 use borrow.Author.Needs.{needs}
-use Rattle.reconcile.proofs.Amounts.{count-fits, product-fits, sum-fits, sum-is}
-use Rattle.reconcile.proofs.add_product.Statement.{statement}
-use Rattle.reconcile.proofs.add_product.Tie as tie
+use Rattle.records.proofs.Amounts.{count-fits, product-fits, sum-fits, sum-is}
+use Rattle.records.proofs.add_product.Statement.{statement}
+use Rattle.records.proofs.add_product.Tie as tie
 
 cast-result : tie.Need-cast-result
 cast-result c = count-fits (c .args .sum) (c .args .count) (c .args .price) (c .pre .0) (c .pre .1) (c .pre .2)

@@ -1,4 +1,4 @@
--- `reconcile::record_in_range` meets its contract: each answer by the tests that led there. Assumes nothing.
+-- `records::record_in_range` meets its contract: each answer by the tests that led there. Assumes nothing.
 use mathlib.Core.Path.{_∙_}
 use native.Mathlib.Omega.{arith}
 use borrow.Author.Needs.{needs}
@@ -6,8 +6,8 @@ use borrow.Author.Tests.{lt-ltb, le-ltb}
 use Rattle.laws.proofs.Signed.{read32}
 use Rattle.model.specs.Ranges.{maxBoxes}
 use Rattle.model.specs.Reconcile.{recordInRange}
-use Rattle.reconcile.proofs.record_in_range.Statement.{statement}
-use Rattle.reconcile.proofs.record_in_range.Tie as tie
+use Rattle.records.proofs.record_in_range.Statement.{statement}
+use Rattle.records.proofs.record_in_range.Tie as tie
 
 returns : tie.Need-returns
 unfolding recordInRange
@@ -19,7 +19,7 @@ returns-2 : tie.Need-returns-2
 unfolding recordInRange
 returns-2 c =
     let x = c .before .before .args in
-    simp (lt-ltb (x .grocer) (x .grocers) (omega arith), le-ltb (x .tbox) maxBoxes (omega arith))
+    simp (lt-ltb (x .grocer) (x .grocers) (omega arith), le-ltb (x .tally-box) maxBoxes (omega arith))
 
 returns-3 : tie.Need-returns-3
 unfolding recordInRange
@@ -27,7 +27,7 @@ returns-3 c =
     let x = c .before .before .before .args in
     simp (
       lt-ltb (x .grocer) (x .grocers) (omega arith),
-      lt-ltb (x .tbox) maxBoxes (omega arith),
+      lt-ltb (x .tally-box) maxBoxes (omega arith),
       le-ltb (x .place) (x .offers) (omega arith),
     )
 
@@ -39,7 +39,7 @@ returns-4 c =
     c .is-count .ensures ∙ simp (
       read32 (x .count) (k .fits .count .sfits),
       lt-ltb (x .grocer) (x .grocers) (omega arith),
-      lt-ltb (x .tbox) maxBoxes (omega arith),
+      lt-ltb (x .tally-box) maxBoxes (omega arith),
       lt-ltb (x .place) (x .offers) (omega arith),
     )
 
