@@ -26,7 +26,8 @@ use Rattle.reconcile.specs.declared.Tally.{Tally}
 use Rattle.reconcile.specs.declared.Answer.{Answer}
 use Rattle.reconcile.specs.declared.Answer.the-variants.{Owed, Refused}
 use Rattle.reconcile.specs.Records.{recordOf, recordsOf, answerOf}
-use Rattle.reconcile.specs.Serial.{headInRange, opened, share, withRecord, withRecords, Summable}
+use Rattle.reconcile.specs.Serial.{opened, share, withRecord, withRecords, Summable}
+use Rattle.records.specs.Head.{headInRange}
 use Rattle.records.proofs.Amounts.{product-abs}
 
 -- What a record in range has.

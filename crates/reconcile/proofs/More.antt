@@ -1,10 +1,11 @@
--- One record more, by the tests that code makes. Assumes nothing.
-use mathlib.Core.Path.{_≡_, ap, _∙_}
+-- The answer before any record, and one record more, by the tests that code makes. Assumes nothing.
+use mathlib.Core.Path.{_≡_, refl, ap, _∙_}
 use mathlib.Core.List.{List}
-use mathlib.Core.Bool.{true, false}
+use mathlib.Core.Bool.{Bool, true, false, cond}
 use Prim.Native.Nat.{ℕ, _<_, _≤_}
 use native.Mathlib.Omega.{arith}
 use lib.ListN.{getD, length}
+use lib.Dec.{ltb}
 use lib.IntN.{ℤ, pos, natAbs, _+ℤ_, _*ℤ_, +ℤ-idr}
 use borrow.Author.Tests.{eq-eqb, ne-eqb}
 use mir.Syntax.{w64}
@@ -16,9 +17,30 @@ use Rattle.model.specs.Reconcile.{TallyRecord, recordInRange}
 use Rattle.model.proofs.Step.{up-at}
 use Rattle.reconcile.specs.declared.Answer.{Answer}
 use Rattle.reconcile.specs.declared.Answer.the-variants.{Owed, Refused}
-use Rattle.reconcile.specs.Serial.{withRecord, Summable}
+use Rattle.reconcile.specs.Serial.{opened, withRecord, Summable}
+use Rattle.records.specs.Head.{headInRange, headRefusal}
 use Rattle.records.proofs.Amounts.{sum-abs}
 use Rattle.reconcile.proofs.Fold.{place-in, count-in}
+
+-- The answer before any record, from the number of its refusal.
+by-number : (b h : Bool) (r : ℕ) → r ≡ cond b 20 (cond h 0 21) → 0 < r → Refused r ≡ cond b (Refused 20) (cond h (Owed (pos 0)) (Refused 21))
+by-number true h r e l = ap Refused e
+by-number false true r e l = absurd (omega arith)
+by-number false false r e l = ap Refused e
+
+by-none : (b h : Bool) (r : ℕ) → r ≡ cond b 20 (cond h 0 21) → r ≤ 0 → Owed (pos 0) ≡ cond b (Refused 20) (cond h (Owed (pos 0)) (Refused 21))
+by-none true h r e l = absurd (omega arith)
+by-none false true r e l = refl
+by-none false false r e l = absurd (omega arith)
+
+module _ (m n g : ℕ) (ps : List ℕ) (len r : ℕ) (e : r ≡ headRefusal m n g ps len) where
+  pub opened-refused : 0 < r → Refused r ≡ opened m n g ps len
+  unfolding opened headRefusal
+  opened-refused l = by-number (ltb (length ps) n) (headInRange m n g ps len) r e l
+
+  pub opened-owed : r ≤ 0 → Owed (pos 0) ≡ opened m n g ps len
+  unfolding opened headRefusal
+  opened-owed l = by-none (ltb (length ps) n) (headInRange m n g ps len) r e l
 
 module _ (m n g : ℕ) (ps : List ℕ) (a : Answer) (r : TallyRecord) where
   -- A refusal stays.

@@ -1,22 +1,17 @@
 -- The serial sum as code makes it: an answer before any record, and one record after the other.
 use mathlib.Core.Path.{_≡_}
 use mathlib.Core.List.{List, [], _∷_}
-use mathlib.Core.Bool.{Bool, true, cond, _&&_}
+use mathlib.Core.Bool.{true, cond}
 use Prim.Native.Nat.{ℕ, _≤_}
 use lib.ListN.{getD, length}
-use lib.Dec.{eqb, ltb, leb}
+use lib.Dec.{eqb, ltb}
 use lib.IntN.{ℤ, pos, natAbs, _+ℤ_, _*ℤ_}
 use Rattle.laws.specs.Below.{only, integers}
-use Rattle.laws.specs.Checks.{allOf}
-use Rattle.model.specs.Ranges.{maxGrocers, maxOffers, maxTallies, maxPrice, maxAmount, upTo}
+use Rattle.model.specs.Ranges.{maxPrice, maxAmount, upTo}
 use Rattle.model.specs.Reconcile.{TallyRecord, recordInRange}
+use Rattle.records.specs.Head.{headInRange}
 use Rattle.reconcile.specs.declared.Answer.{Answer}
 use Rattle.reconcile.specs.declared.Answer.the-variants.{Owed, Refused}
-
--- What 21 looks at beside the records: M, N, the prices, the number of records and the grocer wanted.
-unfoldable pub headInRange : ℕ → ℕ → ℕ → List ℕ → ℕ → Bool
-headInRange m n g prices len =
-    allOf ((leb 1 m && leb m maxGrocers) ∷ (leb 1 n && leb n maxOffers) ∷ upTo maxPrice n prices ∷ leb len maxTallies ∷ ltb g m ∷ [])
 
 -- The answer before any of len records.
 unfoldable pub opened : ℕ → ℕ → ℕ → List ℕ → ℕ → Answer

@@ -6,8 +6,8 @@ ghost use Rattle.model.specs.Reconcile.{reconciled};
 ghost use Rattle.reconcile.specs.Records.{tallyRecord, recordsOf, answerOf};
 ghost use Rattle.reconcile.specs.Serial.{opened, Summable, withRecord};
 use records::add_product;
+use records::head_refusal;
 use records::record_in_range;
-use tables::ranges::upto32;
 
 // A tally record: the place is that of its offer.
 pub struct Tally {
@@ -27,15 +27,11 @@ pub enum Answer {
 fn open(len: usize, price: &[u32], grocers: u16, offers: u16, wanted: u16) -> Answer
     ensures { λ r. ⌜ r ≡ opened grocers offers wanted (now (price .entry)) len ⌝ }
 {
-    let n = offers as usize;
-    if price.len() < n {
-        return Answer::Refused(20);
+    let number = head_refusal(len, price, grocers, offers, wanted);
+    if number > 0 {
+        return Answer::Refused(number);
     }
-    let sizes = ((1 <= grocers) & (grocers <= 255)) & ((1 <= offers) & (offers <= 500));
-    if sizes & upto32(price, n, 9_999_999) & (len <= 1000) & (wanted < grocers) {
-        return Answer::Owed(0);
-    }
-    Answer::Refused(21)
+    Answer::Owed(0)
 }
 
 // The serial sum: the answer with one record more; out of range it is refused, of another grocer passed over.

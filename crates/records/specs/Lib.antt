@@ -1,0 +1,2 @@
+-- What the desk looks at before any record.
+pub mod Head
