@@ -63,7 +63,6 @@ fn refusal(
         (jobLent boxes grocers offers tallies price «offer_owner» «grocer_owner» «tally_grocer» «tally_box» «tally_offer» «tally_count») n b)) ⌝ }
 {
     let lent_short = tables::checks::job_short(
-        boxes,
         grocers,
         offers,
         tallies,

@@ -2,7 +2,7 @@
 ghost use mathlib.Core.Path.{_≡_};
 ghost use mathlib.Core.Bool.{false};
 ghost use mathlib.Core.List.{[]};
-ghost use Prim.Native.Nat.{_*_};
+ghost use Prim.Native.Nat.{ℕ, _*_};
 ghost use Rattle.model.specs.Tables.{jobTables, jobLengths, jobShort, stateTables, stateLengths, stateShort};
 ghost use Rattle.model.specs.Lent.{jobLent, stateBefore};
 ghost use Rattle.model.specs.Ranges.{sizesInRange, jobWordsInRange, jobInRange, stateInRange};
@@ -35,7 +35,6 @@ pub fn marks(k: u16) -> usize
 
 // 20: whether a table of the job is shorter than M, N and T as given need.
 pub fn job_short(
-    boxes: u16,
     grocers: u16,
     offers: u16,
     tallies: u16,
@@ -47,9 +46,9 @@ pub fn job_short(
     tally_offer: &[u16],
     tally_count: &[i32],
 ) -> bool
-    ensures { λ r. ⌜ r ≡ jobShort
+    ensures { λ r. ⌜ ((boxes : ℕ) → r ≡ jobShort
         (jobLent boxes grocers offers tallies price «offer_owner» «grocer_owner» «tally_grocer» «tally_box» «tally_offer» «tally_count»)
-        (jobLengths (jobLent boxes grocers offers tallies price «offer_owner» «grocer_owner» «tally_grocer» «tally_box» «tally_offer» «tally_count»)) ⌝ }
+        (jobLengths (jobLent boxes grocers offers tallies price «offer_owner» «grocer_owner» «tally_grocer» «tally_box» «tally_offer» «tally_count»))) ⌝ }
 {
     let m = grocers as usize;
     let n = offers as usize;

@@ -4,12 +4,12 @@ use mathlib.Core.List.{List}
 use Prim.Native.Nat.{ℕ, _≤_}
 use native.Mathlib.Omega.{arith}
 use borrow.Author.Needs.{needs}
-use lib.ListN.{replicate}
+use lib.ListN.{length, replicate}
 use denote.Ref.{now}
 use Rattle.laws.specs.Tables.{overwrite}
 use Rattle.laws.proofs.Tables.{overwrite-cong}
 use Rattle.local.specs.Pack.{packedTallies, packedStart, packedGrocer, packedNumber, packedCount, OrderIn}
-use Rattle.local.proofs.Packing.{packed-le, order-in, grocer-put, count-put}
+use Rattle.local.proofs.Packing.{packed-le, order-in, item-put, grocer-put, count-put}
 use Rattle.local.proofs.pack.pack.Statement.{statement}
 use Rattle.local.proofs.pack.pack.Tie as tie
 
@@ -40,33 +40,36 @@ total-is c = c .index-of .ensures ∙ ordered c .order-tallies .ensures .0
 total-in : (c : tie.After-index-of) → c .index-of .result ≤ entry c .args .tallies
 total-in c = let s = entry c in omega (arith, total-is c, packed-le (now (s .args .tally-box)) (now (s .args .tally-offer)) (s .args .tallies) (now (s .args .local-offers)) (s .args .l) (s .args .b))
 
-in-order : (c : tie.After-index-of) → OrderIn (order c) (c .index-of .result) (entry c .args .tallies)
-in-order c =
+in-order : (c : tie.After-index-of) (size : ℕ) → entry c .args .tallies ≤ size → OrderIn (order c) (c .index-of .result) size
+in-order c size h =
     let s = entry c in
     order-in (now (s .args .tally-box)) (now (s .args .tally-offer)) (s .args .tallies) (now (s .args .local-offers)) (s .args .l) (s .args .b)
-    (replicate 1_000 0) (order c) (c .index-of .result) (ordered c .order-tallies .ensures .1 .1) (total-is c)
+    (replicate 1_000 0) (order c) (c .index-of .result) (ordered c .order-tallies .ensures .1 .1) (total-is c) size h
     (s .pre .0 .0 .tallies-in) (omega (arith, s .pre .0 .0 .tallies-in, ordered c .order-tallies .kept .1 .1 .1 .1 .1 .1 .1 .0))
 
 put-grocers-requires : tie.Need-put-grocers-requires
 put-grocers-requires c κs =
     let i = c .before .before .before in
-    let s = entry i in
-    (in-order i, ((s .pre .0 .1 .items-long, omega (arith, total-in i, s .pre .1 .1 .1 .1 .0)), s .pre .0 .1 .item-in))
+    let s = entry i in (
+      (in-order i (length (now (s .args .tally-grocer))) (s .pre .0 .1 .items-long), omega (arith, total-in i, s .pre .1 .1 .1 .1 .0)),
+      item-put (now (s .args .tally-box)) (now (s .args .tally-offer)) (s .args .tallies) (now (s .args .local-offers)) (s .args .l) (s .args .b) (replicate 1_000 0) (order i) (i .index-of .result)
+          (ordered i .order-tallies .ensures .1 .1) (total-is i) (now (s .args .tally-grocer)) (s .pre .0 .1),
+    )
 
 put-counts-requires : tie.Need-put-counts-requires
 put-counts-requires c κs =
     let i = counted (grocers-put c) in
     let s = entry i in
-    (in-order i, (s .pre .1 .1 .1 .0, omega (arith, total-in i, s .pre .1 .1 .1 .1 .1)))
+    (in-order i (length (now (s .args .tally-count))) (s .pre .1 .1 .1 .0), omega (arith, total-in i, s .pre .1 .1 .1 .1 .1))
 
 same-length : tie.Need-same-length
 same-length c = ordered (counted (grocers-put (c .before .before))) .order-tallies .kept .1 .1 .1 .1 .1 .1 .0
 
 same-length-2 : tie.Need-same-length-2
-same-length-2 c = grocers-put (c .before .before) .put-grocers .kept .1 .1 .1 .1 .1 .0
+same-length-2 c = grocers-put (c .before .before) .put-grocers .kept .1 .1 .1 .1 .0
 
 same-length-3 : tie.Need-same-length-3
-same-length-3 c = c .before .put-counts .kept .1 .1 .1 .1 .0
+same-length-3 c = c .before .put-counts .kept .1 .1 .1 .0
 
 returns : tie.Need-returns
 returns c =

@@ -17,10 +17,10 @@ use Rattle.local.proofs.pack.put_counts.Statement.{statement}
 use Rattle.local.proofs.pack.put_counts.Tie as tie
 
 abbrev Inv-loop : tie.InvT-loop
-Inv-loop order n counts tallies out₀ i₀ out i = (i ≤ n) × (out ≡ overwrite i (packedCount counts order) out₀)
+Inv-loop order n counts out₀ i₀ out i = (i ≤ n) × (out ≡ overwrite i (packedCount counts order) out₀)
 
 abbrev μ-loop : tie.MeasureT-loop
-μ-loop order n counts tallies out₀ i₀ out i = n - i
+μ-loop order n counts out₀ i₀ out i = n - i
 
 abbrev entry : tie.In-loop Inv-loop μ-loop → tie.Start Inv-loop μ-loop
 entry c = c .before .before .before
@@ -29,23 +29,23 @@ entry c = c .before .before .before
 abbrev word : tie.Start Inv-loop μ-loop → ℕ → ℤ
 word s = packedCount (now (s .args .counts)) (now (s .args .order))
 
-tally-in : (c : tie.After-index-of Inv-loop μ-loop) → c .index-of .result < entry (c .before .before) .args .tallies
+tally-in : (c : tie.After-index-of Inv-loop μ-loop) → c .index-of .result < length (now (entry (c .before .before) .args .counts))
 tally-in c = let e = c .before .before in omega (arith, c .index-of .ensures, entry e .pre .0 .tally-in (e .before .loop .i) (e .loop-test .taken))
 
 long : (c : tie.At-loop Inv-loop μ-loop) → length (c .loop .out) ≡ length (now (c .before .before .args .out))
-long c = let s = c .before .before in ap length (c .loop .inv .1) ∙ length-overwrite (c .loop .i) (word s) (now (s .args .out)) (omega (arith, c .loop .inv .0, s .pre .1 .1))
+long c = let s = c .before .before in ap length (c .loop .inv .1) ∙ length-overwrite (c .loop .i) (word s) (now (s .args .out)) (omega (arith, c .loop .inv .0, s .pre .1))
 
 loop-holds : tie.Need-loop-holds Inv-loop μ-loop
 loop-holds c = let s = c .before in (omega arith, sym (overwrite-none (pos 0) (word s) (now (s .args .out))))
 
 mul-out : tie.Need-mul-out Inv-loop μ-loop
-mul-out c = let s = entry (c .before .before) in omega (arith, tally-in c, s .pre .1 .0, s .good)
+mul-out c = let s = entry (c .before .before) in omega (arith, tally-in c, s .good)
 
 shared-slice-copy-out-out : tie.Need-shared-slice-copy-out-out Inv-loop μ-loop
-shared-slice-copy-out-out c = omega (arith, tally-in c, entry (c .before .before) .pre .1 .0)
+shared-slice-copy-out-out c = tally-in c
 
 slice-set-from-out : tie.Need-slice-set-from-out Inv-loop μ-loop
-slice-set-from-out c = let e = c .before .before .before in omega (arith, long (e .before), e .loop-test .taken, entry e .pre .1 .1)
+slice-set-from-out c = let e = c .before .before .before in omega (arith, long (e .before), e .loop-test .taken, entry e .pre .1)
 
 loop-again : tie.Need-loop-again Inv-loop μ-loop
 unfolding packedCount
@@ -57,7 +57,7 @@ loop-again c =
       omega (arith, e .loop-test .taken),
       ap₂ (λ (l : List ℤ) (v : ℤ). set l i v) (e .before .loop .inv .1)
           (read32 (getD (now (s .args .counts)) (c .before .index-of .result) (pos 0)) (c .out .given) ∙ ap (λ (t : ℕ). getD (now (s .args .counts)) t (pos 0)) same)
-          ∙ overwrite-next (pos 0) i (word s) (now (s .args .out)) (omega (arith, e .loop-test .taken, s .pre .1 .1)),
+          ∙ overwrite-next (pos 0) i (word s) (now (s .args .out)) (omega (arith, e .loop-test .taken, s .pre .1)),
     )
 
 same-length : tie.Need-same-length Inv-loop μ-loop

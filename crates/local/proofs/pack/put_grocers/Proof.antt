@@ -15,10 +15,10 @@ use Rattle.local.proofs.pack.put_grocers.Statement.{statement}
 use Rattle.local.proofs.pack.put_grocers.Tie as tie
 
 abbrev Inv-loop : tie.InvT-loop
-Inv-loop order n grocers tallies places out₀ i₀ out i = (i ≤ n) × (out ≡ overwrite i (packedGrocer places grocers order) out₀)
+Inv-loop order n grocers places out₀ i₀ out i = (i ≤ n) × (out ≡ overwrite i (packedGrocer places grocers order) out₀)
 
 abbrev μ-loop : tie.MeasureT-loop
-μ-loop order n grocers tallies places out₀ i₀ out i = n - i
+μ-loop order n grocers places out₀ i₀ out i = n - i
 
 abbrev entry : tie.In-loop Inv-loop μ-loop → tie.Start Inv-loop μ-loop
 entry c = c .before .before .before .before .before
@@ -27,23 +27,29 @@ entry c = c .before .before .before .before .before
 abbrev word : tie.Start Inv-loop μ-loop → ℕ → ℕ
 word s = packedGrocer (now (s .args .places)) (now (s .args .grocers)) (now (s .args .order))
 
-tally-in : (c : tie.After-index-of Inv-loop μ-loop) → c .index-of .result < entry (c .before .before) .args .tallies
-tally-in c = let e = c .before .before in omega (arith, c .index-of .ensures, entry e .pre .0 .tally-in (e .before .loop .i) (e .loop-test .taken))
+tally-in : (c : tie.After-index-of Inv-loop μ-loop) → c .index-of .result < length (now (entry (c .before .before) .args .grocers))
+tally-in c = let e = c .before .before in omega (arith, c .index-of .ensures, entry e .pre .0 .0 .tally-in (e .before .loop .i) (e .loop-test .taken))
+
+-- The grocer of the tally that is next.
+grocer-is : (c : tie.After-index-of2 Inv-loop μ-loop) →
+    let e = c .before .before .before .before in
+    c .index-of2 .result ≡ at (now (entry e .args .grocers)) (at (now (entry e .args .order)) (e .before .loop .i))
+grocer-is c = let i = c .before .before in c .index-of2 .ensures ∙ ap (at (now (entry (i .before .before) .args .grocers))) (i .index-of .ensures)
 
 grocer-in : (c : tie.After-index-of2 Inv-loop μ-loop) → c .index-of2 .result < 500
-grocer-in c = let i = c .before .before in omega (arith, c .index-of2 .ensures, entry (i .before .before) .pre .1 .1 (i .index-of .result) (tally-in i))
+grocer-in c = let e = c .before .before .before .before in omega (arith, grocer-is c, entry e .pre .1 (e .before .loop .i) (e .loop-test .taken))
 
 long : (c : tie.At-loop Inv-loop μ-loop) → length (c .loop .out) ≡ length (now (c .before .before .before .before .args .out))
-long c = let s = c .before .before .before .before in ap length (c .loop .inv .1) ∙ length-overwrite (c .loop .i) (word s) (now (s .args .out)) (omega (arith, c .loop .inv .0, s .pre .1 .0 .1))
+long c = let s = c .before .before .before .before in ap length (c .loop .inv .1) ∙ length-overwrite (c .loop .i) (word s) (now (s .args .out)) (omega (arith, c .loop .inv .0, s .pre .0 .1))
 
 loop-holds : tie.Need-loop-holds Inv-loop μ-loop
 loop-holds c = let s = c .before .before .before in (omega arith, sym (overwrite-none 0 (word s) (now (s .args .out))))
 
 mul-index-of-2 : tie.Need-mul-index-of-2 Inv-loop μ-loop
-mul-index-of-2 c = let s = entry (c .before .before) in omega (arith, tally-in c, s .pre .0, s .good)
+mul-index-of-2 c = let s = entry (c .before .before) in omega (arith, tally-in c, s .good)
 
 shared-slice-read-index-of-2 : tie.Need-shared-slice-read-index-of-2 Inv-loop μ-loop
-shared-slice-read-index-of-2 c = omega (arith, tally-in (c .before), entry (c .before .before .before) .pre .1 .0 .0)
+shared-slice-read-index-of-2 c = tally-in (c .before)
 
 mul-out : tie.Need-mul-out Inv-loop μ-loop
 mul-out c = omega (arith, grocer-in c)
@@ -52,19 +58,17 @@ element-copy-out-out : tie.Need-element-copy-out-out Inv-loop μ-loop
 element-copy-out-out c = grocer-in c
 
 slice-write-out : tie.Need-slice-write-out Inv-loop μ-loop
-slice-write-out c = let e = c .before .before .before .before .before in omega (arith, long (e .before), e .loop-test .taken, entry e .pre .1 .0 .1)
+slice-write-out c = let e = c .before .before .before .before .before in omega (arith, long (e .before), e .loop-test .taken, entry e .pre .0 .1)
 
 loop-again : tie.Need-loop-again Inv-loop μ-loop
 unfolding packedGrocer
 loop-again c =
     let e = c .before .before .before .before .before in
     let s = entry e in
-    let i = e .before .loop .i in
-    let grocers = now (s .args .grocers) in
-    let same : c .before .index-of2 .result ≡ at grocers (at (now (s .args .order)) i) = c .before .index-of2 .ensures ∙ ap (at grocers) (c .before .before .before .index-of .ensures) in (
+    let i = e .before .loop .i in (
       omega (arith, e .loop-test .taken),
-      ap₂ (λ (l : List ℕ) (v : ℕ). set l i v) (e .before .loop .inv .1) (ap (at (now (s .args .places))) same)
-          ∙ overwrite-next 0 i (word s) (now (s .args .out)) (omega (arith, e .loop-test .taken, s .pre .1 .0 .1)),
+      ap₂ (λ (l : List ℕ) (v : ℕ). set l i v) (e .before .loop .inv .1) (ap (at (now (s .args .places))) (grocer-is (c .before)))
+          ∙ overwrite-next 0 i (word s) (now (s .args .out)) (omega (arith, e .loop-test .taken, s .pre .0 .1)),
     )
 
 same-length : tie.Need-same-length Inv-loop μ-loop
