@@ -41,12 +41,14 @@ state-in-range-requires c κs = let e = c .before in state-long (job (entry e)) 
 returns-2 : tie.Need-returns-2
 returns-2 c =
     let e = c .before .before .before in
-    met-range (job (entry e)) (state (entry e)) _ _ (e .before .before .job-short .ensures (entry e .args .z .boxes)) (e .before .state-short .ensures) (e .if1 .left) _ _ (c .before .before .job-in-range .ensures) (c .before .state-in-range .ensures) (c .if2 .taken)
+    met-range (job (entry e)) (state (entry e)) _ _ (e .before .before .job-short .ensures (entry e .args .z .boxes)) (e .before .state-short .ensures) (e .if1 .left) _ _
+    (c .before .before .job-in-range .ensures) (c .before .state-in-range .ensures) (c .if2 .taken)
 
 returns-3 : tie.Need-returns-3
 returns-3 c =
     let e = c .before .before .before in
-    met-none (job (entry e)) (state (entry e)) _ _ (e .before .before .job-short .ensures (entry e .args .z .boxes)) (e .before .state-short .ensures) (e .if1 .left) _ _ (c .before .before .job-in-range .ensures) (c .before .state-in-range .ensures) (c .if2 .left)
+    met-none (job (entry e)) (state (entry e)) _ _ (e .before .before .job-short .ensures (entry e .args .z .boxes)) (e .before .state-short .ensures) (e .if1 .left) _ _
+    (c .before .before .job-in-range .ensures) (c .before .state-in-range .ensures) (c .if2 .left)
 
 pub early-refusal-spec : {M : Type 1} → statement M
 early-refusal-spec =

@@ -82,7 +82,8 @@ returns-2 : tie.Need-returns-2
 unfolding answerOf
 returns-2 c =
     let a = c .before .before .before in
-    run-refused _ _ _ 21 (refused-range _ _ _ _ _ (tested a .job-short .ensures (entry (tested a) .args .boxes)) (a .state-short .ensures) (c .before .before .if1 .left) (c .before .job-in-range .ensures) (not-true _ (c .if2 .taken))) (λ z. omega arith)
+    run-refused _ _ _ 21
+    (refused-range _ _ _ _ _ (tested a .job-short .ensures (entry (tested a) .args .boxes)) (a .state-short .ensures) (c .before .before .if1 .left) (c .before .job-in-range .ensures) (not-true _ (c .if2 .taken))) (λ z. omega arith)
 
 needs-requires : tie.Need-needs-requires
 needs-requires c κs = begins-needs _ _ (may c)

@@ -57,7 +57,8 @@ base-of c = c .row-start2 .result
 -- A tally of another box adds nothing to any word.
 none : (s : Start) (at base p i j : ℕ) → Skips (s .args .t) (now (s .args .tally-box)) (s .args .a) i j → (x : ℕ) → i ≤ x → x < j → share (place s base) (brought s at) p x ≡ integers .none
 unfolding integers
-none s at base p i j k x l q = other-share (now (s .args .offer-owner)) (now (s .args .tally-box)) (now (s .args .tally-offer)) (now (s .args .tally-count)) (now (s .args .prices)) (place s base) (s .args .a) (s .args .from) at p x (k .none x l q)
+none s at base p i j k x l q =
+    other-share (now (s .args .offer-owner)) (now (s .args .tally-box)) (now (s .args .tally-offer)) (now (s .args .tally-count)) (now (s .args .prices)) (place s base) (s .args .a) (s .args .from) at p x (k .none x l q)
 
 -- The word of a tally's grocer in row a is within the table, and small enough to add to.
 inside : (c : tie.In-loop Inv-loop μ-loop) → let r = rows (c .before .before) in place (entry r) (base-of r) (c .before .loop .i) < length (now (entry r .args .working))
