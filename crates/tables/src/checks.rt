@@ -16,7 +16,6 @@ use crate::limits::MAX_TALLIES;
 use crate::ranges::around32;
 use crate::ranges::around64;
 use crate::ranges::under16;
-use crate::ranges::upto16;
 use crate::ranges::upto32;
 
 // The words of a table of a rows and b columns.
@@ -199,6 +198,6 @@ pub fn state_in_range(
         & around64(working, km)
         & around64(total_transit, km)
         & around64(statement, grocers as usize)
-        & upto16(done, kk, 1)
+        & under16(done, kk, 2)
         & upto32(sent, 1, MAX_SENT)
 }
