@@ -58,7 +58,7 @@ fn products_fit(
         prices,
         working,
     );
-    totals::row::row_fits(&row, m)
+    tables::ranges::around64(&row, m)
 }
 
 // Kinds 1 to 3: whether what the step leaves is in range, with the table of messages of prices.

@@ -11,12 +11,12 @@ ghost use Rattle.model.specs.Ranges.{maxAmount};
 ghost use Rattle.links.specs.Links.{Linked};
 ghost use Rattle.totals.specs.Row.{RowIn, AmountsIn};
 ghost use Rattle.totals.specs.Credit.{CreditIn, cleared, credited, creditWord, creditAll};
-use crate::num::amount_fits;
 use crate::num::index;
 use crate::num::plus;
 use crate::num::row_start;
 use crate::walk::begin;
 use links::HEADS;
+use tables::ranges::is_amount;
 
 // Whether box a, if it is the owner, adds a total of box `from` to the statement.
 fn is_credited(owner: u16, mask: u16, a: u16, from: u16) -> bool
@@ -64,7 +64,7 @@ pub fn credit_fits(
 {
     let at = row_start(m, from);
     for g in 0..m {
-        if !amount_fits(credit_word(at + g, a, from, g, owner, sharers, source, statement)) {
+        if !is_amount(credit_word(at + g, a, from, g, owner, sharers, source, statement)) {
             return false;
         }
     }

@@ -1,16 +1,10 @@
-// Numbers: widths, sums and products that fit, and the range of an amount.
+// Numbers: widths, and sums and products that fit.
 ghost use mathlib.Core.Path.{_≡_};
 ghost use Prim.Native.Nat.{_*_, _≤_, _<_};
-ghost use lib.Dec.{leb};
 ghost use lib.IntN.{pos, natAbs, _+ℤ_, _*ℤ_};
 ghost use mir.Syntax.{w64};
 ghost use mir.Val.{SFits};
-ghost use Rattle.model.specs.Ranges.{maxPrice, maxCount, maxAmount};
-
-// An amount is within ±10^15.
-const MAX_AMOUNT: i64 = 1_000_000_000_000_000;
-
-const MIN_AMOUNT: i64 = -1_000_000_000_000_000;
+ghost use Rattle.model.specs.Ranges.{maxPrice, maxCount};
 
 // A 16-bit number as an index.
 pub fn index(x: u16) -> usize
@@ -63,14 +57,4 @@ pub fn amount(count: i32, price: u32) -> i64
     ensures { λ r. ⌜ r ≡ count *ℤ pos price ⌝ }
 {
     times(wide_count(count), wide_price(price))
-}
-
-// Whether an amount is within ±10^15.
-pub fn amount_fits(x: i64) -> bool
-    ensures { λ r. ⌜ r ≡ leb (natAbs x) maxAmount ⌝ }
-{
-    if x > MAX_AMOUNT {
-        return false;
-    }
-    x >= MIN_AMOUNT
 }

@@ -1,30 +1,15 @@
-// The row of a box: multiplied, and held to its range.
+// The row of a box, multiplied.
 ghost use mathlib.Core.Path.{_≡_};
 ghost use Prim.Native.Nat.{ℕ, _+_, _*_, _≤_, _<_};
 ghost use lib.ListN.{length, getD};
 ghost use lib.IntN.{pos, natAbs};
 ghost use Rattle.links.specs.Links.{Linked};
-ghost use Rattle.model.specs.Ranges.{maxAmount, around};
 ghost use Rattle.totals.specs.Row.{tallies, RowIn, TallyIn, RowTallies, isTaken, raised, brings, productRow, rowOf, putRow};
 use crate::num::amount;
-use crate::num::amount_fits;
 use crate::num::index;
 use crate::num::plus;
 use crate::num::row_start;
 use links::HEADS;
-
-// Whether the first m words of a row are within ±10^15.
-pub fn row_fits(row: &[i64; 255], m: usize) -> bool
-    requires { ⌜ m ≤ 255 ⌝ }
-    ensures { λ r. ⌜ r ≡ around maxAmount m (now (row .entry)) ⌝ }
-{
-    for g in 0..m {
-        if !amount_fits(row[g]) {
-            return false;
-        }
-    }
-    true
-}
 
 // Row a of a table of amounts.
 fn row_at(m: usize, a: u16, working: &[i64]) -> [i64; 255]

@@ -26,14 +26,14 @@ product-row-requires c κs =
       amount-row (s .args .z .boxes) (s .args .z .grocers) (s .args .a) (now (s .args .working)) (p .1 .1) (p .1 .2),
     )
 
-row-fits-requires : tie.Need-row-fits-requires
-row-fits-requires c κs = entry (c .before .before) .pre .0 .grocers-in
+around64-requires : tie.Need-around64-requires
+around64-requires c κs = entry (c .before .before) .pre .0 .grocers-in
 
 returns : tie.Need-returns
 returns c =
     let row = c .before .before in
     let s = entry (row .before) in
-    rw (row .product-row .ensures (s .args .z .boxes) (s .pre .1 .2)) at (c .row-fits .ensures)
+    rw (row .product-row .ensures (s .args .z .boxes) (s .pre .1 .2)) at (c .around64 .ensures)
 
 pub products-fit-spec : {M : Type 1} → statement M
 products-fit-spec =
@@ -43,5 +43,5 @@ products-fit-spec =
     (λ c. search needs)
     (λ c. search needs)
     product-row-requires
-    row-fits-requires
+    around64-requires
     returns)

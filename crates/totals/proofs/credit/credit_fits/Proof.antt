@@ -41,12 +41,12 @@ abbrev entry : tie.In-loop Inv-loop μ-loop → Start
 entry c = c .before .before .before .before
 
 -- What the calls say of the word.
-told : (c : tie.After-amount-fits Inv-loop μ-loop) (k : ℕ) → entry (c .before .before) .args .from < k → c .amount-fits .result ≡ within (entry (c .before .before)) k (c .before .before .before .loop .g)
+told : (c : tie.After-is-amount Inv-loop μ-loop) (k : ℕ) → entry (c .before .before) .args .from < k → c .is-amount .result ≡ within (entry (c .before .before)) k (c .before .before .before .loop .g)
 told c k lf =
     let w = c .before .credit-word in
     let e = c .before .before in
     let s = entry e in
-    c .amount-fits .ensures
+    c .is-amount .ensures
     ∙ ap (λ (z : ℤ). leb (natAbs z) maxAmount)
     (read64 (w .result) (w .ok) ∙ w .ensures
     ∙ sym (credit-at k (s .args .m) (s .args .from) (test s) (now (s .args .source)) (now (s .args .statement)) lf (e .before .loop .g) (e .before .before .row-start .result)
@@ -80,14 +80,14 @@ credit-word-requires c κs =
 returns : tie.Need-returns Inv-loop μ-loop
 returns c k lf =
     let e = c .before .before .before in
-    sym (all-fails (entry e .args .m) (within (entry e) k) (e .before .loop .g) (e .loop-test .taken) (sym (told (c .before) k lf) ∙ not-true (c .before .amount-fits .result) (c .if1 .taken)))
+    sym (all-fails (entry e .args .m) (within (entry e) k) (e .before .loop .g) (e .loop-test .taken) (sym (told (c .before) k lf) ∙ not-true (c .before .is-amount .result) (c .if1 .taken)))
 
 loop-again : tie.Need-loop-again Inv-loop μ-loop
 loop-again c =
     let e = c .before .before .before in
     let g = e .before .loop .g in (
       omega (arith, e .loop-test .taken),
-      λ k lf. all-next g (within (entry e) k) ∙ and-true (e .before .loop .inv .1 k lf) (sym (told (c .before) k lf) ∙ not-false (c .before .amount-fits .result) (c .if1 .left)),
+      λ k lf. all-next g (within (entry e) k) ∙ and-true (e .before .loop .inv .1 k lf) (sym (told (c .before) k lf) ∙ not-false (c .before .is-amount .result) (c .if1 .left)),
     )
 
 returns-2 : tie.Need-returns-2 Inv-loop μ-loop
