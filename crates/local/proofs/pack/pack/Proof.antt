@@ -3,12 +3,12 @@ use mathlib.Core.Path.{_≡_, ap, _∙_}
 use mathlib.Core.List.{List}
 use Prim.Native.Nat.{ℕ, _≤_}
 use native.Mathlib.Omega.{arith}
-use borrow.Author.Needs.{needs}
 use lib.ListN.{length, replicate}
-use denote.Ref.{now}
+use borrow.Author.Needs.{needs}
 use Rattle.laws.specs.Tables.{overwrite}
 use Rattle.laws.proofs.Tables.{overwrite-cong}
 use Rattle.local.specs.Pack.{packedTallies, packedStart, packedGrocer, packedNumber, packedCount, OrderIn}
+use denote.Ref.{now}
 use Rattle.local.proofs.Packing.{packed-le, order-in, item-put, grocer-put, count-put}
 use Rattle.local.proofs.pack.pack.Statement.{statement}
 use Rattle.local.proofs.pack.pack.Tie as tie

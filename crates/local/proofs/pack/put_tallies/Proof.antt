@@ -4,15 +4,15 @@ use mathlib.Core.List.{List}
 use Prim.Native.Nat.{ℕ, _<_, _≤_, _-_}
 use native.Mathlib.Omega.{arith}
 use native.Mathlib.Nat.{le-antisymm}
-use borrow.Author.Needs.{needs}
 use lib.ListN.{length, getD, set}
 use lib.IntN.{ℤ, pos}
-use denote.Ref.{now}
+use borrow.Author.Needs.{needs}
 use Rattle.laws.specs.Tables.{overwrite}
 use Rattle.laws.proofs.Tables.{length-overwrite, overwrite-none, overwrite-next}
 use Rattle.laws.proofs.Signed.{read32}
 use Rattle.local.specs.Sort.{at}
 use Rattle.local.specs.Pack.{packedGrocer, packedCount}
+use denote.Ref.{now}
 use Rattle.local.proofs.pack.put_tallies.Statement.{statement}
 use Rattle.local.proofs.pack.put_tallies.Tie as tie
 
