@@ -9,12 +9,12 @@ use borrow.Author.Needs.{needs}
 use Rattle.laws.proofs.Tables.{row-in}
 use Rattle.prices.specs.Prices.{PriceRows, PricesIn}
 use Rattle.totals.specs.Row.{Tallies, tallies, RowIn, RowTallies}
-use Rattle.totals.specs.Row as totals
-use Rattle.totals.proofs.Rows.{amount-row, tally-rows}
 use Rattle.apply.specs.Apply.{PriceStepOut}
+use Rattle.totals.proofs.Rows.{amount-row, tally-rows}
 use denote.Ref.{now}
 use Rattle.apply.proofs.Sides.{prices-sent-out, own-multiplied-out, prices-received-out}
 use Rattle.apply.proofs.price_step.Statement.{statement}
+use Rattle.totals.specs.Row as totals
 use Rattle.apply.proofs.price_step.Tie as tie
 
 -- The tables of tallies, as they are lent.

@@ -4,13 +4,13 @@ use mathlib.Core.List.{List}
 use Prim.Native.Nat.{ℕ, _≤_}
 use native.Mathlib.Omega.{arith}
 use borrow.Author.Needs.{needs}
-use denote.Ref.{now}
 use Rattle.laws.specs.Checks.{firstMet}
 use Rattle.model.specs.Tables.{JobTables, jobTables}
 use Rattle.model.specs.Local.{bookShort, bookRefusals}
 use Rattle.local.specs.Sort.{at}
 use Rattle.local.specs.Lists.{PlacesIn}
 use Rattle.local.specs.Book.{BookTables, bookTables, bookLengths}
+use denote.Ref.{now}
 use Rattle.local.proofs.Ready.{box-in, long, whole, offer-owners, grocer-owners, offer-tallies, grocer-tallies, places-in}
 use Rattle.local.proofs.Booking.{booked-refused, booked-written}
 use Rattle.local.proofs.book.book.Statement.{statement}

@@ -2,9 +2,9 @@
 use mathlib.Core.Path.{sym, _∙_}
 use mathlib.Core.Bool.{true}
 use borrow.Author.Needs.{needs}
-use denote.Ref.{now}
 use Rattle.laws.proofs.Bools.{or-off}
 use Rattle.model.specs.Tables.{JobTables, jobTables}
+use denote.Ref.{now}
 use Rattle.local.proofs.Ready.{met-20, met-21, met-23, met-none}
 use Rattle.local.proofs.book.refusal.Statement.{statement}
 use Rattle.local.proofs.book.refusal.Tie as tie

@@ -4,13 +4,13 @@ use mathlib.Core.Bool.{Bool, true, cond}
 use mathlib.Core.List.{List}
 use Prim.Native.Nat.{ℕ, _<_, _≤_, _+_, _-_, _*_}
 use native.Mathlib.Omega.{arith}
-use native.Mathlib.Nat.{le-antisymm, mul-le-mul, mul-le-mul-right}
+use native.Mathlib.Nat.{le-antisymm, mul-le-mul}
 use lib.ListN.{length, getD}
 use borrow.Author.Needs.{needs}
 use Rattle.laws.specs.Below.{count}
 use Rattle.laws.specs.Tables.{cell}
 use Rattle.laws.proofs.Below.{count-next, count-le, only-le, count-start}
-use Rattle.laws.proofs.Tables.{cell-in, cell-at}
+use Rattle.laws.proofs.Tables.{cell-at}
 use Rattle.laws.proofs.Loops.{guarded, guarded-more, guarded-none, row-stored}
 use Rattle.laws.proofs.Bools.{cond-no}
 use Rattle.links.specs.Links.{Skips}

@@ -1,8 +1,8 @@
 -- `tables::checks::state_in_range` meets its contract: what each of the range checks ensures. Assumes nothing.
 use borrow.Author.Needs.{needs}
-use denote.Ref.{now}
 use Rattle.model.specs.Tables.{StateTables, stateTables}
 use Rattle.tables.specs.Sizes.{sizes}
+use denote.Ref.{now}
 use Rattle.tables.proofs.Whole.{StateWhole, state-whole}
 use Rattle.tables.proofs.Loops.{words-tested}
 use Rattle.tables.proofs.checks.state_in_range.Statement.{statement}
