@@ -1,6 +1,6 @@
--- A loop that tests one word a turn and answers false at the first that fails, and such tests of the state's tables. Assumes nothing.
+-- A loop that tests one word a turn and answers false at the first that fails, and such tests of the job's and the state's tables. Assumes nothing.
 use mathlib.Core.Path.{_≡_, refl, sym, _∙_}
-use mathlib.Core.Bool.{Bool, true, false}
+use mathlib.Core.Bool.{Bool, true, false, _&&_}
 use mathlib.Core.List.{List, [], _∷_}
 use Prim.Native.Nat.{ℕ, _+_, _*_, _<_, _≤_}
 use native.Mathlib.Nat.{le-antisymm}
@@ -12,8 +12,8 @@ use Rattle.laws.specs.Below.{all}
 use Rattle.laws.specs.Checks.{allOf}
 use Rattle.laws.proofs.Bools.{split, and-true}
 use Rattle.laws.proofs.Below.{all-next, all-fails, all-cong}
-use Rattle.model.specs.Tables.{StateTables}
-use Rattle.model.specs.Ranges.{maxPrice, maxAmount, maxSent, upTo, under, around, stateInRange}
+use Rattle.model.specs.Tables.{JobTables, StateTables}
+use Rattle.model.specs.Ranges.{maxPrice, maxCount, maxAmount, maxSent, upTo, under, around, sizesInRange, jobWordsInRange, jobInRange, stateInRange}
 use Rattle.tables.specs.Sizes.{sizes}
 
 module _ (p : ℕ → Bool) where
@@ -50,3 +50,10 @@ pub words-tested : (k m n : ℕ) (t : StateTables) (kn km kk : ℕ) → kn ≡ k
 unfolding stateInRange
 words-tested k m n t kn km kk kn-is km-is kk-is a b c d e g h a-is b-is c-is d-is e-is g-is h-is =
     rw (a-is, b-is, c-is, d-is, e-is, g-is, h-is, kn-is, km-is, kk-is, under-two (6 * k * k) (t .done))
+
+-- The tests of the job's sizes and tables.
+pub job-tested : (f : JobTables) (z a b c d e g h : Bool) → z ≡ sizesInRange f → a ≡ upTo maxPrice (f .offers) (f .price) → b ≡ under (f .boxes) (f .offers) (f .offerOwner) →
+    c ≡ under (f .boxes) (f .grocers) (f .grocerOwner) → d ≡ under (f .grocers) (f .tallies) (f .tallyGrocer) → e ≡ under (f .boxes) (f .tallies) (f .tallyBox) →
+    g ≡ under (f .offers) (f .tallies) (f .tallyOffer) → h ≡ around maxCount (f .tallies) (f .tallyCount) → (z && allOf (a ∷ b ∷ c ∷ d ∷ e ∷ g ∷ h ∷ [])) ≡ jobInRange f
+unfolding jobInRange jobWordsInRange
+job-tested f z a b c d e g h z-is a-is b-is c-is d-is e-is g-is h-is = rw (z-is, a-is, b-is, c-is, d-is, e-is, g-is, h-is)
