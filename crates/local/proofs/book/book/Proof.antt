@@ -86,15 +86,19 @@ list-requires : tie.Need-list-requires
 list-requires c κs =
     let e = c .before in
     let s = entry e in
-    let f = job s in
-    ((offer-owners f (bookLengths (lent s)) (s .args .b) (accepted e), offer-tallies f (bookLengths (lent s)) (s .args .b) (accepted e)), (box-in f (bookLengths (lent s)) (s .args .b) (accepted e), long f (bookLengths (lent s)) (s .args .b) (accepted e) .localOffers))
+    let f = job s in (
+      (offer-owners f (bookLengths (lent s)) (s .args .b) (accepted e), offer-tallies f (bookLengths (lent s)) (s .args .b) (accepted e)),
+      (box-in f (bookLengths (lent s)) (s .args .b) (accepted e), long f (bookLengths (lent s)) (s .args .b) (accepted e) .localOffers),
+    )
 
 list-requires-2 : tie.Need-list-requires-2
 list-requires-2 c κs =
     let e = open-1 (c .before .before .before) in
     let s = entry e in
-    let f = job s in
-    ((grocer-owners f (bookLengths (lent s)) (s .args .b) (accepted e), grocer-tallies f (bookLengths (lent s)) (s .args .b) (accepted e)), (box-in f (bookLengths (lent s)) (s .args .b) (accepted e), long f (bookLengths (lent s)) (s .args .b) (accepted e) .localGrocers))
+    let f = job s in (
+      (grocer-owners f (bookLengths (lent s)) (s .args .b) (accepted e), grocer-tallies f (bookLengths (lent s)) (s .args .b) (accepted e)),
+      (box-in f (bookLengths (lent s)) (s .args .b) (accepted e), long f (bookLengths (lent s)) (s .args .b) (accepted e) .localGrocers),
+    )
 
 pack-requires : tie.Need-pack-requires
 pack-requires c κs =

@@ -35,8 +35,9 @@ sort-requires : tie.Need-sort-requires
 sort-requires c κs =
     let i = c .before .before .before in
     let s = entry i in
-    keys-ready (s .args .k) (s .args .n) (s .args .b) (now (s .args .owners)) (now (s .args .items)) (now (s .args .boxes)) (s .args .tallies) (i .before .before .before .needs .result) (i .before .classes .result) (s .pre .0 .0) (s .pre .1 .0)
-    (i .before .before .before .needs .ensures) (i .before .classes .ensures) (i .index-of .result + 1) (replicate 18 0) (now (s .args .out)) (m-is i) (omega (arith, m-is i, s .pre .0 .0 .k-in)) (s .pre .1 .1)
+    keys-ready (s .args .k) (s .args .n) (s .args .b) (now (s .args .owners)) (now (s .args .items)) (now (s .args .boxes)) (s .args .tallies) (i .before .before .before .needs .result)
+    (i .before .classes .result) (s .pre .0 .0) (s .pre .1 .0) (i .before .before .before .needs .ensures) (i .before .classes .ensures) (i .index-of .result + 1)
+    (replicate 18 0) (now (s .args .out)) (m-is i) (omega (arith, m-is i, s .pre .0 .0 .k-in)) (s .pre .1 .1)
 
 same-length : tie.Need-same-length
 same-length c = c .before .before .before .sort .kept .1 .1 .1 .1 .0
