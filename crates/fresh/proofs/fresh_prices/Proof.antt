@@ -85,7 +85,7 @@ place-requires : tie.Need-place-requires Inv-loop μ-loop
 place-requires c κs =
     let e = c .before in
     let s = entry (e .before .before) in
-    (s .pre .offers≤, (omega (arith, owner-in e, s .pre .boxes≤), e .loop-test .taken))
+    (s .pre .offers≤, (omega (arith, owner-in e, s .pre .boxes≤), omega (arith, e .loop-test .taken)))
 
 mul-known-2 : tie.Need-mul-known-2 Inv-loop μ-loop
 mul-known-2 c =

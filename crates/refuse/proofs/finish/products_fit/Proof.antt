@@ -1,6 +1,10 @@
 -- `refuse::finish::products_fit` meets its contract: the row of products is in range. Assumes nothing.
+use mathlib.Core.Path.{_≡_, ap, _∙_}
+use native.Mathlib.Omega.{arith}
+use lib.ListN.{length}
 use borrow.Author.Needs.{needs}
-use Rattle.totals.specs.Row.{Tallies, tallies}
+use Rattle.laws.proofs.Tables.{length-tabulate}
+use Rattle.totals.specs.Row.{Tallies, tallies, productRow}
 use Rattle.totals.proofs.Rows.{amount-row, tally-rows}
 use denote.Ref.{now}
 use Rattle.refuse.proofs.finish.products_fit.Statement.{statement}
@@ -26,8 +30,13 @@ product-row-requires c κs =
       amount-row (s .args .z .boxes) (s .args .z .grocers) (s .args .a) (now (s .args .working)) (p .1 .1) (p .1 .2),
     )
 
+-- The row has 255 words.
+row-long : (c : tie.After-product-row) → length (c .product-row .result) ≡ 255
+unfolding productRow
+row-long c = let s = entry (c .before) in ap length (c .product-row .ensures (s .args .z .boxes) (s .pre .1 .2)) ∙ length-tabulate 255 _
+
 around64-requires : tie.Need-around64-requires
-around64-requires c κs = entry (c .before .before) .pre .0 .grocers-in
+around64-requires c κs = omega (arith, row-long (c .before), entry (c .before .before) .pre .0 .grocers-in)
 
 returns : tie.Need-returns
 returns c =
@@ -43,5 +52,6 @@ products-fit-spec =
     (λ c. search needs)
     (λ c. search needs)
     product-row-requires
+    (λ c. search needs)
     around64-requires
     returns)
