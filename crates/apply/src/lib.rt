@@ -53,7 +53,6 @@ pub fn price_step(
         (now («price_transit» .entry)) (now (working .entry)) (x .kind) (x .first) (x .second)
         (now (known .exit)) (now («price_transit» .exit)) (now (working .exit)) r ⌝ }
 {
-    let k = z.boxes as usize;
     let m = z.grocers as usize;
     let n = z.offers as usize;
     let t = z.tallies as usize;
@@ -61,7 +60,6 @@ pub fn price_step(
     let b = x.second;
     if x.kind == 1 {
         return prices::send::send_prices(
-            k,
             n,
             a,
             b,
@@ -74,7 +72,6 @@ pub fn price_step(
     }
     if x.kind == 2 {
         totals::row::add_products(
-            k,
             m,
             n,
             t,
@@ -92,7 +89,6 @@ pub fn price_step(
         return 0;
     }
     totals::row::add_products(
-        k,
         m,
         n,
         t,
@@ -108,7 +104,6 @@ pub fn price_step(
         working,
     );
     prices::receive::receive_prices(
-        k,
         n,
         a,
         b,
@@ -138,13 +133,11 @@ pub fn total_step(
         (now («total_transit» .entry)) (now (statement .entry)) (x .kind) (x .first) (x .second)
         (now (working .exit)) (now («total_transit» .exit)) (now (statement .exit)) r ⌝ }
 {
-    let k = z.boxes as usize;
     let m = z.grocers as usize;
     let a = x.first;
     let b = x.second;
     if x.kind == 4 {
         return totals::send::send_totals(
-            k,
             m,
             a,
             b,
@@ -157,7 +150,6 @@ pub fn total_step(
     }
     if x.kind == 5 {
         totals::credit::credit(
-            k,
             m,
             a,
             a,
@@ -170,7 +162,6 @@ pub fn total_step(
         return 0;
     }
     totals::credit::credit(
-        k,
         m,
         a,
         b,

@@ -1,5 +1,4 @@
 -- Own prices known, and what the tables must be for them to be written.
-use mathlib.Core.Path.{_≡_}
 use mathlib.Core.List.{List}
 use mathlib.Core.Bool.{cond}
 use Prim.Native.Nat.{ℕ, _*_, _≤_, _<_}
@@ -11,16 +10,6 @@ use Rattle.laws.specs.Tables.{recell}
 -- The table of known prices: an owner's own prices, else 0.
 unfoldable pub ownPrices : ℕ → ℕ → List ℕ → List ℕ → List ℕ → List ℕ
 ownPrices k n price owner known = recell k n (λ b o. cond (eqb (getD owner o 0) b) (getD price o 0) 0) known
-
--- Tables long enough, owners below k, and a table of known prices that is 0.
-pub record OwnIn (k n : ℕ) (price owner known : List ℕ) : Type 0 where
-  pub boxes≤ : k ≤ 16
-  pub offers≤ : n ≤ 500
-  pub priceLong : n ≤ length price
-  pub ownerLong : n ≤ length owner
-  pub knownLong : k * n ≤ length known
-  pub owner< : (o : ℕ) → o < n → getD owner o 0 < k
-  pub zero : (i : ℕ) → i < k * n → getD known i 0 ≡ 0
 
 -- What the price tables of a fresh state require: tables long enough, sizes in range and owners below k.
 pub record FreshPrices (k n : ℕ) (price owner known transit : List ℕ) : Type 0 where

@@ -4,7 +4,7 @@ ghost use Prim.Native.Nat.{_+_, _*_, _≤_, _<_};
 ghost use lib.IntN.{pos};
 ghost use lib.ListN.{length};
 ghost use Rattle.laws.specs.Tables.{overwrite};
-ghost use Rattle.fresh.specs.Fresh.{ownPrices, OwnIn, FreshPrices, FreshTotals};
+ghost use Rattle.fresh.specs.Fresh.{ownPrices, FreshPrices, FreshTotals};
 
 // The first n words become 0.
 pub fn zero16(s: &mut [u16], n: usize)
@@ -44,18 +44,7 @@ fn place(n: usize, owner: u16, o: usize) -> usize
     owner as usize * n + o
 }
 
-// Every owner knows the prices of its own offers, in a table of zeros.
-fn own_prices(k: usize, n: usize, price: &[u32], owner: &[u16], known: &mut [u32])
-    requires { ⌜ OwnIn k n (now price) (now owner) (now known) ⌝ }
-    ensures { λ _. ⌜ now (known .exit) ≡ ownPrices k n (now (price .entry)) (now (owner .entry)) (now (known .entry)) ⌝ }
-{
-    for o in 0..n {
-        let p = place(n, owner[o], o);
-        known[p] = price[o];
-    }
-}
-
-// The price tables of a fresh state, whatever they held before: own prices are known, and none is in transit.
+// The price tables of a fresh state, whatever they held before: every owner knows the prices of its own offers, and none is in transit.
 pub fn fresh_prices(
     boxes: u16,
     offers: u16,
@@ -68,11 +57,14 @@ pub fn fresh_prices(
     ensures { λ _. ⌜ (now (known .exit) ≡ ownPrices boxes offers (now (price .entry)) (now («offer_owner» .entry)) (overwrite (boxes * offers) (λ i. 0)
         (now (known .entry)))) × (now («price_transit» .exit) ≡ overwrite (boxes * offers) (λ i. 0) (now («price_transit» .entry))) ⌝ }
 {
-    let k = boxes as usize;
     let n = offers as usize;
-    zero32(known, k * n);
-    own_prices(k, n, price, offer_owner, known);
-    zero32(price_transit, k * n);
+    let words = boxes as usize * n;
+    zero32(price_transit, words);
+    zero32(known, words);
+    for o in 0..n {
+        let p = place(n, offer_owner[o], o);
+        known[p] = price[o];
+    }
 }
 
 // The tables of totals of a fresh state, whatever they held before: all words are 0.

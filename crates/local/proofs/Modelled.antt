@@ -11,19 +11,18 @@ use borrow.Author.Tests.{eqb-true, eq-eqb, ne-eqb, lt-ltb}
 use Rattle.laws.specs.Below.{naturals, only, any, count, find, ascending}
 use Rattle.laws.proofs.Bools.{split, clash, and-one}
 use Rattle.laws.proofs.Sums.{sum-cong}
-use Rattle.laws.proofs.Below.{count-cong, find-only, find-passes, find-none}
+use Rattle.laws.proofs.Below.{count-cong, find-only, find-passes, find-none, any-cong, find-cong}
 use Rattle.laws.specs.Tables.{overwrite}
 use Rattle.laws.proofs.Tables.{overwrite-cong, length-tabulate, getD-tabulate, getD-overwrite, word-in}
+use Rattle.laws.proofs.Ascending.{ascending-cong}
 use Rattle.model.specs.Job.{heldBy, needs, shares, priceWord, totalWord}
 use Rattle.model.specs.Tables.{JobTables, jobOf}
 use Rattle.model.specs.Ranges.{jobInRange}
 use Rattle.model.specs.Local.{localOffers, localGrocers, localGrocer, ofOffer, start, starts, Packed}
-use Rattle.tables.proofs.Extra.{any-cong}
 use Rattle.local.specs.Sort.{at, inFront, begin, keyCount, sorted}
 use Rattle.local.specs.Lists.{localList, heldOf, classOf, numberIn}
 use Rattle.local.specs.Pack.{tallyKey, packedTallies, packedStart, packedNumber, packedCount}
-use Rattle.laws.proofs.Ascending.{ascending-cong}
-use Rattle.local.proofs.Extra.{chained-cong, find-cong}
+use Rattle.local.proofs.Extra.{chained-cong}
 use Rattle.local.proofs.Sorting.{begin-suc, length-sorted, sorted-in, sorted-once, part-once}
 use Rattle.local.proofs.Placing.{begin-le}
 use Rattle.local.proofs.Listing.{sorted-list}
@@ -43,7 +42,7 @@ list-cong k n b owner owner′ marked marked′ ho hm =
 
 module _ (k n : ℕ) (owner : ℕ → ℕ) (marked : ℕ → Bool) (b : ℕ) where
   abbrev class : ℕ → ℕ
-  class x = classOf k b (owner x) (only naturals (marked x) 1)
+  class x = classOf k b (owner x) (marked x)
 
   as-sorted : sorted class n (k + 1) ≡ localList k n owner marked b
   as-sorted = sorted-list k b n owner class marked (λ x l. refl)

@@ -63,7 +63,6 @@ fn refusal(
         (jobLent boxes grocers offers tallies price «offer_owner» «grocer_owner» «tally_grocer» «tally_box» «tally_offer» «tally_count») n b)) ⌝ }
 {
     let lent_short = tables::checks::job_short(
-        boxes,
         grocers,
         offers,
         tallies,
@@ -158,7 +157,7 @@ pub fn book(
         offers as usize,
         tally_offer,
         tally_box,
-        t,
+        tallies,
         boxes,
         b,
         local_offers,
@@ -168,7 +167,7 @@ pub fn book(
         grocers as usize,
         tally_grocer,
         tally_box,
-        t,
+        tallies,
         boxes,
         b,
         local_grocers,

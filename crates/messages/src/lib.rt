@@ -38,7 +38,6 @@ fn job_refusal(
         (jobLent boxes grocers offers tallies price «offer_owner» «grocer_owner» «tally_grocer» «tally_box» «tally_offer» «tally_count»)) ⌝ }
 {
     if job_short(
-        boxes,
         grocers,
         offers,
         tallies,

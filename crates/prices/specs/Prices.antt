@@ -1,19 +1,25 @@
 -- The price tables after prices are sent or received: rows are boxes, columns are offers.
 use mathlib.Core.Bool.{cond, _&&_}
 use mathlib.Core.List.{List}
-use Prim.Native.Nat.{ℕ, _*_, _≤_, _<_}
+use Prim.Native.Nat.{ℕ, _+_, _*_, _≤_, _<_}
 use lib.ListN.{length}
 use lib.Dec.{eqb}
 use Rattle.laws.specs.Tables.{cell, recell}
 use Rattle.words.specs.Message.{wordIn}
 
--- What the calls on price tables require: k boxes and n offers in range, boxes a and b of them, and tables as long as k and n need.
-pub record PricesIn (k n a b : ℕ) (owner known transit : List ℕ) : Type 0 where
-  pub boxes-in : k ≤ 16
+-- What the calls on price tables require: n offers and boxes a and b in range, row a of the prices known, and row c of those in transit.
+pub record PriceRows (n a b c : ℕ) (owner known transit : List ℕ) : Type 0 where
   pub offers-in : n ≤ 500
+  pub a-in : a < 16
+  pub b-in : b < 16
+  pub owner-long : n ≤ length owner
+  pub known-long : a * n + n ≤ length known
+  pub transit-long : c * n + n ≤ length transit
+
+-- Boxes a and b are of k boxes, and the tables as long as k and n need.
+pub record PricesIn (k n a b : ℕ) (known transit : List ℕ) : Type 0 where
   pub a-in : a < k
   pub b-in : b < k
-  pub owner-long : n ≤ length owner
   pub known-long : k * n ≤ length known
   pub transit-long : k * n ≤ length transit
 

@@ -1,11 +1,11 @@
 // Step 3 on the price tables.
 ghost use mathlib.Core.Path.{_≡_};
 ghost use mathlib.Core.Bool.{cond};
-ghost use Prim.Native.Nat.{_+_, _<_};
+ghost use Prim.Native.Nat.{ℕ, _+_, _<_};
 ghost use lib.ListN.{length, getD, set};
 ghost use Rattle.words.specs.Message.{wordIn};
 ghost use Rattle.links.specs.Links.{Linked};
-ghost use Rattle.prices.specs.Prices.{PricesIn, receivedKnown, receivedTransit};
+ghost use Rattle.prices.specs.Prices.{PriceRows, PricesIn, receivedKnown, receivedTransit};
 use links::HEADS;
 
 // Takes the price of offer o out of transit, in the row of box a, if a is to have it from box b.
@@ -34,7 +34,6 @@ fn receive_one(
 
 // Box a receives the prices that box b has sent it, walking over the offers of b. They are known to it, and no longer in transit.
 pub fn receive_prices(
-    k: usize,
     n: usize,
     a: u16,
     b: u16,
@@ -44,10 +43,11 @@ pub fn receive_prices(
     known: &mut [u32],
     transit: &mut [u32],
 )
-    requires { ⌜ PricesIn k n a b (now owner) (now known) (now transit) ⌝ }
+    requires { ⌜ PriceRows n a b a (now owner) (now known) (now transit) ⌝ }
     requires { ⌜ Linked n (now owner) (now links) ⌝ }
-    ensures { λ r. ⌜ (now (known .exit) ≡ receivedKnown k n a b (now (owner .entry)) (now (needs .entry)) (now (known .entry)) (now (transit .entry)))
-        × (now (transit .exit) ≡ receivedTransit k n a b (now (owner .entry)) (now (needs .entry)) (now (known .entry)) (now (transit .entry))) ⌝ }
+    ensures { λ r. ⌜ ((k : ℕ) → PricesIn k n a b (now (known .entry)) (now (transit .entry)) →
+        (now (known .exit) ≡ receivedKnown k n a b (now (owner .entry)) (now (needs .entry)) (now (known .entry)) (now (transit .entry)))
+        × (now (transit .exit) ≡ receivedTransit k n a b (now (owner .entry)) (now (needs .entry)) (now (known .entry)) (now (transit .entry)))) ⌝ }
 {
     let row = a as usize * n;
     let mut o = links[b as usize] as usize;

@@ -1,12 +1,12 @@
 // Step 1 on the price tables.
 ghost use mathlib.Core.Path.{_≡_};
 ghost use mathlib.Core.Bool.{cond};
-ghost use Prim.Native.Nat.{_+_, _<_};
+ghost use Prim.Native.Nat.{ℕ, _+_, _<_};
 ghost use lib.ListN.{length, getD, set};
 ghost use Rattle.laws.specs.Below.{naturals, only, count};
 ghost use Rattle.words.specs.Message.{wordIn};
 ghost use Rattle.links.specs.Links.{Linked};
-ghost use Rattle.prices.specs.Prices.{PricesIn, sentTransit};
+ghost use Rattle.prices.specs.Prices.{PriceRows, PricesIn, sentTransit};
 use links::HEADS;
 
 // Sends the price of offer o, from row `from` to row `to`, if box b is to have it from box a: 1 where it is, else 0.
@@ -35,7 +35,6 @@ fn send_one(
 
 // Box a sends to box b the prices of its offers that b needs, walking over its own offers. Their number.
 pub fn send_prices(
-    k: usize,
     n: usize,
     a: u16,
     b: u16,
@@ -45,9 +44,10 @@ pub fn send_prices(
     known: &[u32],
     transit: &mut [u32],
 ) -> u32
-    requires { ⌜ PricesIn k n a b (now owner) (now known) (now transit) ⌝ }
+    requires { ⌜ PriceRows n a b b (now owner) (now known) (now transit) ⌝ }
     requires { ⌜ Linked n (now owner) (now links) ⌝ }
-    ensures { λ r. ⌜ (now (transit .exit) ≡ sentTransit k n a b (now (owner .entry)) (now (needs .entry)) (now (known .entry)) (now (transit .entry)))
+    ensures { λ r. ⌜ ((k : ℕ) → PricesIn k n a b (now (known .entry)) (now (transit .entry)) →
+        now (transit .exit) ≡ sentTransit k n a b (now (owner .entry)) (now (needs .entry)) (now (known .entry)) (now (transit .entry)))
         × (r ≡ count n (wordIn (now (owner .entry)) (now (needs .entry)) a b)) ⌝ }
 {
     let from = a as usize * n;

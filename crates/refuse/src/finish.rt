@@ -45,7 +45,6 @@ fn products_fit(
 {
     let m = z.grocers as usize;
     let row = totals::row::product_row(
-        z.boxes as usize,
         m,
         z.offers as usize,
         z.tallies as usize,
@@ -59,7 +58,7 @@ fn products_fit(
         prices,
         working,
     );
-    totals::row::row_fits(&row, m)
+    tables::ranges::around64(&row, m)
 }
 
 // Kinds 1 to 3: whether what the step leaves is in range, with the table of messages of prices.
@@ -133,7 +132,6 @@ pub fn total_fits(
     ensures { λ r. ⌜ r ≡ totalFits (z .boxes) (z .grocers) (now («grocer_owner» .entry)) (now (sharers .entry)) (now (table .entry))
         (now (working .entry)) (now («total_transit» .entry)) (now (statement .entry)) (now (sent .entry)) (x .kind) (x .first) (x .second) ⌝ }
 {
-    let k = z.boxes as usize;
     let m = z.grocers as usize;
     let a = x.first;
     let b = x.second;
@@ -141,7 +139,7 @@ pub fn total_fits(
         return sent_fits(table, sent, a, b);
     }
     if x.kind == 5 {
-        return credit_fits(k, m, a, a, grocer_owner, sharers, working, statement);
+        return credit_fits(m, a, a, grocer_owner, sharers, working, statement);
     }
-    credit_fits(k, m, a, b, grocer_owner, sharers, total_transit, statement)
+    credit_fits(m, a, b, grocer_owner, sharers, total_transit, statement)
 }

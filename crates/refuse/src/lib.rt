@@ -47,7 +47,6 @@ pub fn early_refusal(
     let offers = z.offers;
     let tallies = z.tallies;
     if job_short(
-        boxes,
         grocers,
         offers,
         tallies,

@@ -45,7 +45,6 @@ pub fn run(
         (stateBefore known «price_transit» working «total_transit» statement done sent) (now (choices .entry)) ⌝ }
 {
     if tables::checks::job_short(
-        boxes,
         grocers,
         offers,
         tallies,

@@ -2,10 +2,10 @@
 ghost use mathlib.Core.Path.{_≡_};
 ghost use mathlib.Core.Bool.{false};
 ghost use mathlib.Core.List.{[]};
-ghost use Prim.Native.Nat.{_*_};
+ghost use Prim.Native.Nat.{ℕ, _*_};
 ghost use Rattle.model.specs.Tables.{jobTables, jobLengths, jobShort, stateTables, stateLengths, stateShort};
 ghost use Rattle.model.specs.Lent.{jobLent, stateBefore};
-ghost use Rattle.model.specs.Ranges.{sizesInRange, jobWordsInRange, jobInRange, stateInRange};
+ghost use Rattle.model.specs.Ranges.{sizesInRange, jobInRange, stateInRange};
 ghost use Rattle.tables.specs.Sizes.{sizes};
 use crate::limits::MAX_BOXES;
 use crate::limits::MAX_GROCERS;
@@ -16,7 +16,6 @@ use crate::limits::MAX_TALLIES;
 use crate::ranges::around32;
 use crate::ranges::around64;
 use crate::ranges::under16;
-use crate::ranges::upto16;
 use crate::ranges::upto32;
 
 // The words of a table of a rows and b columns.
@@ -35,7 +34,6 @@ pub fn marks(k: u16) -> usize
 
 // 20: whether a table of the job is shorter than M, N and T as given need.
 pub fn job_short(
-    boxes: u16,
     grocers: u16,
     offers: u16,
     tallies: u16,
@@ -47,9 +45,9 @@ pub fn job_short(
     tally_offer: &[u16],
     tally_count: &[i32],
 ) -> bool
-    ensures { λ r. ⌜ r ≡ jobShort
+    ensures { λ r. ⌜ ((boxes : ℕ) → r ≡ jobShort
         (jobLent boxes grocers offers tallies price «offer_owner» «grocer_owner» «tally_grocer» «tally_box» «tally_offer» «tally_count»)
-        (jobLengths (jobLent boxes grocers offers tallies price «offer_owner» «grocer_owner» «tally_grocer» «tally_box» «tally_offer» «tally_count»)) ⌝ }
+        (jobLengths (jobLent boxes grocers offers tallies price «offer_owner» «grocer_owner» «tally_grocer» «tally_box» «tally_offer» «tally_count»))) ⌝ }
 {
     let m = grocers as usize;
     let n = offers as usize;
@@ -101,40 +99,6 @@ pub fn sizes_in_range(boxes: u16, grocers: u16, offers: u16, tallies: u16) -> bo
         & (tallies <= MAX_TALLIES)
 }
 
-// 21: whether every word of the job's tables is in range.
-fn job_words_in_range(
-    boxes: u16,
-    grocers: u16,
-    offers: u16,
-    tallies: u16,
-    price: &[u32],
-    offer_owner: &[u16],
-    grocer_owner: &[u16],
-    tally_grocer: &[u16],
-    tally_box: &[u16],
-    tally_offer: &[u16],
-    tally_count: &[i32],
-) -> bool
-    requires { ⌜ jobShort
-        (jobTables boxes grocers offers tallies (now price) (now «offer_owner») (now «grocer_owner»)
-        (now «tally_grocer») (now «tally_box») (now «tally_offer») (now «tally_count»))
-        (jobLengths (jobTables boxes grocers offers tallies (now price) (now «offer_owner») (now «grocer_owner»)
-        (now «tally_grocer») (now «tally_box») (now «tally_offer») (now «tally_count»))) ≡ false ⌝ }
-    ensures { λ r. ⌜ r ≡ jobWordsInRange
-        (jobLent boxes grocers offers tallies price «offer_owner» «grocer_owner» «tally_grocer» «tally_box» «tally_offer» «tally_count») ⌝ }
-{
-    let m = grocers as usize;
-    let n = offers as usize;
-    let t = tallies as usize;
-    upto32(price, n, MAX_PRICE)
-        & under16(offer_owner, n, boxes)
-        & under16(grocer_owner, m, boxes)
-        & under16(tally_grocer, t, grocers)
-        & under16(tally_box, t, boxes)
-        & under16(tally_offer, t, offers)
-        & around32(tally_count, t)
-}
-
 // 21: whether K, M, N and T and every word of the job's tables are in range.
 pub fn job_in_range(
     boxes: u16,
@@ -157,20 +121,17 @@ pub fn job_in_range(
     ensures { λ r. ⌜ r ≡ jobInRange
         (jobLent boxes grocers offers tallies price «offer_owner» «grocer_owner» «tally_grocer» «tally_box» «tally_offer» «tally_count») ⌝ }
 {
+    let m = grocers as usize;
+    let n = offers as usize;
+    let t = tallies as usize;
     sizes_in_range(boxes, grocers, offers, tallies)
-        & job_words_in_range(
-            boxes,
-            grocers,
-            offers,
-            tallies,
-            price,
-            offer_owner,
-            grocer_owner,
-            tally_grocer,
-            tally_box,
-            tally_offer,
-            tally_count,
-        )
+        & (upto32(price, n, MAX_PRICE)
+            & under16(offer_owner, n, boxes)
+            & under16(grocer_owner, m, boxes)
+            & under16(tally_grocer, t, grocers)
+            & under16(tally_box, t, boxes)
+            & under16(tally_offer, t, offers)
+            & around32(tally_count, t))
 }
 
 // 21: whether every word of the state's tables is in range.
@@ -200,6 +161,6 @@ pub fn state_in_range(
         & around64(working, km)
         & around64(total_transit, km)
         & around64(statement, grocers as usize)
-        & upto16(done, kk, 1)
+        & under16(done, kk, 2)
         & upto32(sent, 1, MAX_SENT)
 }

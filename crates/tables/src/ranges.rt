@@ -24,19 +24,6 @@ pub fn under16(s: &[u16], n: usize, m: u16) -> bool
 }
 
 // Whether the first n words of s are at most m.
-pub fn upto16(s: &[u16], n: usize, m: u16) -> bool
-    requires { ⌜ n ≤ length (now s) ⌝ }
-    ensures { λ r. ⌜ r ≡ upTo m n (now (s .entry)) ⌝ }
-{
-    for i in 0..n {
-        if s[i] > m {
-            return false;
-        }
-    }
-    true
-}
-
-// Whether the first n words of s are at most m.
 pub fn upto32(s: &[u32], n: usize, m: u32) -> bool
     requires { ⌜ n ≤ length (now s) ⌝ }
     ensures { λ r. ⌜ r ≡ upTo m n (now (s .entry)) ⌝ }

@@ -4,7 +4,7 @@ use mathlib.Core.Bool.{Bool, true, cond, _&&_}
 use mathlib.Core.List.{List}
 use Prim.Native.Nat.{ℕ, _+_, _*_, _≤_, _<_}
 use lib.ListN.{length, getD, set}
-use lib.Dec.{eqb}
+use lib.Dec.{eqb, ltb}
 use lib.IntN.{ℤ, pos, natAbs, _+ℤ_, _*ℤ_}
 use Rattle.laws.specs.Below.{integers, sum, only}
 use Rattle.laws.specs.Tables.{tabulate, cell, recell}
@@ -56,14 +56,19 @@ pub record PricesIn (k n : ℕ) (prices : List ℕ) : Type 0 where
   pub long : k * n ≤ length prices
   pub words-in : upTo maxPrice (k * n) prices ≡ true
 
+-- Row a of a table of amounts, m words, is there and in range.
+pub record RowIn (m a : ℕ) (l : List ℤ) : Type 0 where
+  pub long : a * m + m ≤ length l
+  pub words-in : (g : ℕ) → g < m → natAbs (getD l (a * m + g) (pos 0)) ≤ maxAmount
+
 -- A table of n amounts is long enough and in range.
 pub record AmountsIn (n : ℕ) (l : List ℤ) : Type 0 where
   pub long : n ≤ length l
   pub words-in : around maxAmount n l ≡ true
 
--- Row a of a table of amounts, in a row of 255 words.
-unfoldable pub rowOf : ℕ → ℕ → ℕ → List ℤ → List ℤ
-rowOf k m a l = tabulate maxGrocers (cell k m l (pos 0) a)
+-- Row a of a table of amounts, m words, in a row of 255 words: the others are 0.
+unfoldable pub rowOf : ℕ → ℕ → List ℤ → List ℤ
+rowOf m a l = tabulate maxGrocers (λ g. cond (ltb g m) (getD l (a * m + g) (pos 0)) (pos 0))
 
 -- A table of amounts with row a written anew.
 unfoldable pub putRow : ℕ → ℕ → ℕ → List ℤ → List ℤ → List ℤ
@@ -85,18 +90,26 @@ productAt offer counts prices at i = getD counts i (pos 0) *ℤ pos (getD prices
 abbrev pub brings : List ℕ → List ℕ → List ℕ → List ℤ → List ℕ → ℕ → ℕ → ℕ → ℕ → ℤ
 brings owner holder offer counts prices a from at i = only integers (isTaken owner holder offer a from i) (productAt offer counts prices at i)
 
--- Tally i of these tables, with n prices from a place on.
-pub record TallyIn (owner grocer holder offer : List ℕ) (counts : List ℤ) (prices : List ℕ) (n at i : ℕ) : Type 0 where
-  pub owner-long : n ≤ length owner
+-- Tally i of these tables, with prices from a place on.
+pub record TallyIn (owner grocer holder offer : List ℕ) (counts : List ℤ) (prices : List ℕ) (at i : ℕ) : Type 0 where
   pub grocer-long : i < length grocer
   pub holder-long : i < length holder
   pub offer-long : i < length offer
   pub count-long : i < length counts
-  pub price-long : at + n ≤ length prices
-  pub grocer-in : getD grocer i 0 < maxGrocers
-  pub offer-in : getD offer i 0 < n
+  pub owner-long : getD offer i 0 < length owner
+  pub price-long : at + getD offer i 0 < length prices
   pub count-in : natAbs (getD counts i (pos 0)) ≤ maxCount
   pub price-in : getD prices (at + getD offer i 0) 0 ≤ maxPrice
+
+-- What multiplying for box a requires: m grocers, n offers, t tallies and box a in range, and so each tally, with row a of the prices.
+pub record RowTallies (m n t a : ℕ) (owner grocer holder offer : List ℕ) (counts : List ℤ) (prices : List ℕ) : Type 0 where
+  pub grocers-in : m ≤ maxGrocers
+  pub offers-in : n ≤ maxOffers
+  pub tallies-in : t ≤ maxTallies
+  pub box-in : a < maxBoxes
+  pub grocer-in : (i : ℕ) → i < t → getD grocer i 0 < m
+  pub offer-in : (i : ℕ) → i < t → getD offer i 0 < n
+  pub tally-in : (i : ℕ) → i < t → TallyIn owner grocer holder offer counts prices (a * n) i
 
 module _ (e : Tallies) (prices : List ℕ) (a from : ℕ) where
   -- Count × price of tally i, at the prices of row a.

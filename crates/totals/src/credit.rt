@@ -1,7 +1,7 @@
 // Steps 5 and 6: box a adds totals of box `from` to its statements, and they become 0.
 ghost use mathlib.Core.Path.{_≡_};
 ghost use mathlib.Core.Bool.{cond, _&&_, _||_};
-ghost use Prim.Native.Nat.{_*_, _≤_, _<_};
+ghost use Prim.Native.Nat.{ℕ, _*_, _≤_, _<_};
 ghost use lib.Dec.{eqb, leb};
 ghost use lib.ListN.{length, getD, set};
 ghost use lib.IntN.{pos, natAbs, _+ℤ_};
@@ -9,14 +9,14 @@ ghost use Rattle.laws.specs.Below.{all};
 ghost use Rattle.laws.specs.Masks.{bit};
 ghost use Rattle.model.specs.Ranges.{maxAmount};
 ghost use Rattle.links.specs.Links.{Linked};
-ghost use Rattle.totals.specs.Row.{AmountsIn};
+ghost use Rattle.totals.specs.Row.{RowIn, AmountsIn};
 ghost use Rattle.totals.specs.Credit.{CreditIn, cleared, credited, creditWord, creditAll};
-use crate::num::amount_fits;
 use crate::num::index;
 use crate::num::plus;
 use crate::num::row_start;
 use crate::walk::begin;
 use links::HEADS;
+use tables::ranges::is_amount;
 
 // Whether box a, if it is the owner, adds a total of box `from` to the statement.
 fn is_credited(owner: u16, mask: u16, a: u16, from: u16) -> bool
@@ -49,7 +49,6 @@ fn credit_word(
 
 // Whether every statement is within ±10^15 once box a has added the totals of box `from`.
 pub fn credit_fits(
-    k: usize,
     m: usize,
     a: u16,
     from: u16,
@@ -58,14 +57,14 @@ pub fn credit_fits(
     source: &[i64],
     statement: &[i64],
 ) -> bool
-    requires { ⌜ (k ≤ 16) × (m ≤ 255) × (from < k) × (m ≤ length (now owner)) ⌝ }
-    requires { ⌜ AmountsIn (k * m) (now source) × AmountsIn m (now statement) ⌝ }
-    ensures { λ r. ⌜ r ≡ all m (λ g. leb (natAbs (creditWord k m from (credited (now (owner .entry)) (now (sharers .entry)) a from)
-        (now (source .entry)) (now (statement .entry)) g)) maxAmount) ⌝ }
+    requires { ⌜ (m ≤ 255) × (from < 16) × (m ≤ length (now owner)) ⌝ }
+    requires { ⌜ RowIn m from (now source) × AmountsIn m (now statement) ⌝ }
+    ensures { λ r. ⌜ ((k : ℕ) → from < k → r ≡ all m (λ g. leb (natAbs (creditWord k m from (credited (now (owner .entry)) (now (sharers .entry)) a from)
+        (now (source .entry)) (now (statement .entry)) g)) maxAmount)) ⌝ }
 {
     let at = row_start(m, from);
     for g in 0..m {
-        if !amount_fits(credit_word(at + g, a, from, g, owner, sharers, source, statement)) {
+        if !is_amount(credit_word(at + g, a, from, g, owner, sharers, source, statement)) {
             return false;
         }
     }
@@ -99,7 +98,6 @@ fn credit_one(
 
 // Steps 5 and 6 of box a: its own totals, where `from` is a, or those that box `from` has sent, over the grocers that box a owns.
 pub fn credit(
-    k: usize,
     m: usize,
     a: u16,
     from: u16,
@@ -109,15 +107,16 @@ pub fn credit(
     source: &mut [i64],
     statement: &mut [i64],
 )
-    requires { ⌜ (k ≤ 16) × (m ≤ 255) × (from < k) × (m ≤ length (now owner)) ⌝ }
-    requires { ⌜ AmountsIn (k * m) (now source) × AmountsIn m (now statement) ⌝ }
+    requires { ⌜ (m ≤ 255) × (from < 16) × (m ≤ length (now owner)) ⌝ }
+    requires { ⌜ RowIn m from (now source) × AmountsIn m (now statement) ⌝ }
     requires { ⌜ (a < 16) × Linked m (now owner) (now links) ⌝ }
-    ensures { λ _. ⌜ (now (source .exit) ≡ cleared k m from (credited (now (owner .entry)) (now (sharers .entry)) a from) (now (source .entry))) ×
+    ensures { λ _. ⌜ ((k : ℕ) → from < k → k * m ≤ length (now (source .entry)) →
+        (now (source .exit) ≡ cleared k m from (credited (now (owner .entry)) (now (sharers .entry)) a from) (now (source .entry))) ×
         (now (statement .exit) ≡ creditAll k m from (credited (now (owner .entry)) (now (sharers .entry)) a from) (now (source .entry))
-        (now (statement .entry))) ⌝ }
+        (now (statement .entry)))) ⌝ }
 {
     let at = row_start(m, from);
-    let mut g = begin(m, a, links, owner);
+    let mut g = begin(a, links);
     while g < m {
         credit_one(at + g, a, from, g, owner, sharers, source, statement);
         g = index(links[HEADS + g]);

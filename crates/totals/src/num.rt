@@ -1,16 +1,10 @@
-// Numbers: widths, sums and products that fit, and the range of an amount.
+// Numbers: an index, a row, and a sum and a product that fit.
 ghost use mathlib.Core.Path.{_≡_};
 ghost use Prim.Native.Nat.{_*_, _≤_, _<_};
-ghost use lib.Dec.{leb};
 ghost use lib.IntN.{pos, natAbs, _+ℤ_, _*ℤ_};
 ghost use mir.Syntax.{w64};
 ghost use mir.Val.{SFits};
-ghost use Rattle.model.specs.Ranges.{maxPrice, maxCount, maxAmount};
-
-// An amount is within ±10^15.
-const MAX_AMOUNT: i64 = 1_000_000_000_000_000;
-
-const MIN_AMOUNT: i64 = -1_000_000_000_000_000;
+ghost use Rattle.model.specs.Ranges.{maxPrice, maxCount};
 
 // A 16-bit number as an index.
 pub fn index(x: u16) -> usize
@@ -35,42 +29,10 @@ pub fn plus(x: i64, y: i64) -> i64
     x + y
 }
 
-// The product of two numbers that is known to fit.
-fn times(x: i64, y: i64) -> i64
-    requires { ⌜ SFits w64 (x *ℤ y) ⌝ }
-    ensures { λ r. ⌜ r ≡ x *ℤ y ⌝ }
-{
-    x * y
-}
-
-// A count as an amount.
-fn wide_count(x: i32) -> i64
-    ensures { λ r. ⌜ r ≡ x ⌝ }
-{
-    x as i64
-}
-
-// A price as an amount.
-fn wide_price(x: u32) -> i64
-    ensures { λ r. ⌜ r ≡ pos x ⌝ }
-{
-    x as i64
-}
-
 // Count × price.
 pub fn amount(count: i32, price: u32) -> i64
     requires { ⌜ (natAbs count ≤ maxCount) × (price ≤ maxPrice) ⌝ }
     ensures { λ r. ⌜ r ≡ count *ℤ pos price ⌝ }
 {
-    times(wide_count(count), wide_price(price))
-}
-
-// Whether an amount is within ±10^15.
-pub fn amount_fits(x: i64) -> bool
-    ensures { λ r. ⌜ r ≡ leb (natAbs x) maxAmount ⌝ }
-{
-    if x > MAX_AMOUNT {
-        return false;
-    }
-    x >= MIN_AMOUNT
+    (count as i64) * (price as i64)
 }

@@ -1,35 +1,20 @@
-// The row of a box: multiplied, and held to its range.
+// The row of a box, multiplied.
 ghost use mathlib.Core.Path.{_≡_};
-ghost use Prim.Native.Nat.{_+_, _*_, _≤_, _<_};
+ghost use Prim.Native.Nat.{ℕ, _+_, _*_, _≤_, _<_};
 ghost use lib.ListN.{length, getD};
 ghost use lib.IntN.{pos, natAbs};
 ghost use Rattle.links.specs.Links.{Linked};
-ghost use Rattle.model.specs.Ranges.{maxAmount, around};
-ghost use Rattle.totals.specs.Row.{tallies, TalliesIn, PricesIn, AmountsIn, TallyIn, isTaken, raised, brings, productRow, rowOf, putRow};
+ghost use Rattle.totals.specs.Row.{tallies, RowIn, TallyIn, RowTallies, isTaken, raised, brings, productRow, rowOf, putRow};
 use crate::num::amount;
-use crate::num::amount_fits;
 use crate::num::index;
 use crate::num::plus;
 use crate::num::row_start;
 use links::HEADS;
 
-// Whether the first m words of a row are within ±10^15.
-pub fn row_fits(row: &[i64; 255], m: usize) -> bool
-    requires { ⌜ m ≤ 255 ⌝ }
-    ensures { λ r. ⌜ r ≡ around maxAmount m (now (row .entry)) ⌝ }
-{
-    for g in 0..m {
-        if !amount_fits(row[g]) {
-            return false;
-        }
-    }
-    true
-}
-
 // Row a of a table of amounts.
-fn row_at(k: usize, m: usize, a: u16, working: &[i64]) -> [i64; 255]
-    requires { ⌜ (k ≤ 16) × (m ≤ 255) × (a < k) × (k * m ≤ length (now working)) ⌝ }
-    ensures { λ r. ⌜ r ≡ rowOf k m a (now (working .entry)) ⌝ }
+fn row_at(m: usize, a: u16, working: &[i64]) -> [i64; 255]
+    requires { ⌜ (m ≤ 255) × (a < 16) × (a * m + m ≤ length (now working)) ⌝ }
+    ensures { λ r. ⌜ r ≡ rowOf m a (now (working .entry)) ⌝ }
 {
     let mut row = [0i64; 255];
     let at = row_start(m, a);
@@ -62,7 +47,6 @@ fn is_taken(
 
 // Adds what tally i brings to the row of box a, which begins at a place, at its grocer: count × price where the tally is taken, else nothing.
 fn add_tally(
-    n: usize,
     at: usize,
     base: usize,
     a: u16,
@@ -76,7 +60,7 @@ fn add_tally(
     prices: &[u32],
     row: &mut [i64],
 )
-    requires { ⌜ TallyIn (now «offer_owner») (now «tally_grocer») (now «tally_box») (now «tally_offer») (now «tally_count») (now prices) n at i ⌝ }
+    requires { ⌜ TallyIn (now «offer_owner») (now «tally_grocer») (now «tally_box») (now «tally_offer») (now «tally_count») (now prices) at i ⌝ }
     requires { ⌜ (base + getD (now «tally_grocer») i 0 < length (now row)) × (natAbs (getD (now row) (base + getD (now «tally_grocer») i 0) (pos 0)) ≤
         2_000_000_000_000_000) ⌝ }
     ensures { λ _. ⌜ now (row .exit) ≡ raised (now (row .entry)) (base + getD (now («tally_grocer» .entry)) i 0)
@@ -95,7 +79,6 @@ fn add_tally(
 
 // Row a of the working totals after multiplying the tallies of box a whose offers box `from` owns, at the prices of row a.
 pub fn product_row(
-    k: usize,
     m: usize,
     n: usize,
     t: usize,
@@ -109,18 +92,15 @@ pub fn product_row(
     prices: &[u32],
     working: &[i64],
 ) -> [i64; 255]
-    requires { ⌜ TalliesIn (tallies k m n t (now «offer_owner») (now «tally_grocer») (now «tally_box») (now «tally_offer») (now «tally_count»)) ⌝ }
-    requires { ⌜ PricesIn k n (now prices) ⌝ }
-    requires { ⌜ AmountsIn (k * m) (now working) ⌝ }
-    requires { ⌜ a < k ⌝ }
-    ensures { λ r. ⌜ r ≡ productRow (tallies k m n t (now («offer_owner» .entry)) (now («tally_grocer» .entry)) (now («tally_box» .entry))
-        (now («tally_offer» .entry)) (now («tally_count» .entry))) (now (prices .entry)) a from (now (working .entry)) ⌝ }
+    requires { ⌜ RowTallies m n t a (now «offer_owner») (now «tally_grocer») (now «tally_box») (now «tally_offer») (now «tally_count») (now prices) ⌝ }
+    requires { ⌜ RowIn m a (now working) ⌝ }
+    ensures { λ r. ⌜ ((k : ℕ) → a < k → r ≡ productRow (tallies k m n t (now («offer_owner» .entry)) (now («tally_grocer» .entry))
+        (now («tally_box» .entry)) (now («tally_offer» .entry)) (now («tally_count» .entry))) (now (prices .entry)) a from (now (working .entry))) ⌝ }
 {
-    let mut row = row_at(k, m, a, working);
+    let mut row = row_at(m, a, working);
     let at = row_start(n, a);
     for i in 0..t {
         add_tally(
-            n,
             at,
             0,
             a,
@@ -140,7 +120,6 @@ pub fn product_row(
 
 // Multiplies the tallies of box a whose offers box `from` owns into row a of the working totals, in place, by a walk over the tallies of box a alone.
 pub fn add_products(
-    k: usize,
     m: usize,
     n: usize,
     t: usize,
@@ -155,14 +134,13 @@ pub fn add_products(
     prices: &[u32],
     working: &mut [i64],
 )
-    requires { ⌜ TalliesIn (tallies k m n t (now «offer_owner») (now «tally_grocer») (now «tally_box») (now «tally_offer») (now «tally_count»)) ⌝ }
-    requires { ⌜ PricesIn k n (now prices) ⌝ }
-    requires { ⌜ AmountsIn (k * m) (now working) ⌝ }
-    requires { ⌜ a < k ⌝ }
+    requires { ⌜ RowTallies m n t a (now «offer_owner») (now «tally_grocer») (now «tally_box») (now «tally_offer») (now «tally_count») (now prices) ⌝ }
+    requires { ⌜ RowIn m a (now working) ⌝ }
     requires { ⌜ Linked t (now «tally_box») (now «tally_links») ⌝ }
-    ensures { λ _. ⌜ now (working .exit) ≡ putRow k m a (productRow (tallies k m n t (now («offer_owner» .entry)) (now («tally_grocer» .entry))
+    ensures { λ _. ⌜ ((k : ℕ) → a < k → k * m ≤ length (now (working .entry)) →
+        now (working .exit) ≡ putRow k m a (productRow (tallies k m n t (now («offer_owner» .entry)) (now («tally_grocer» .entry))
         (now («tally_box» .entry)) (now («tally_offer» .entry)) (now («tally_count» .entry))) (now (prices .entry))
-        a from (now (working .entry))) (now (working .entry)) ⌝ }
+        a from (now (working .entry))) (now (working .entry))) ⌝ }
 {
     let at = row_start(n, a);
     let base = row_start(m, a);
@@ -170,7 +148,6 @@ pub fn add_products(
     let mut i = index(tally_links[b]);
     while i < t {
         add_tally(
-            n,
             at,
             base,
             a,

@@ -1,7 +1,7 @@
 // Step 4: box a sends totals of box b's grocers, and its working totals of them become 0.
 ghost use mathlib.Core.Path.{_≡_};
 ghost use mathlib.Core.Bool.{cond};
-ghost use Prim.Native.Nat.{_*_, _≤_, _<_};
+ghost use Prim.Native.Nat.{ℕ, _+_, _*_, _≤_, _<_};
 ghost use lib.ListN.{length, getD, set};
 ghost use lib.IntN.{pos};
 ghost use Rattle.laws.specs.Below.{naturals, only, count};
@@ -41,7 +41,6 @@ fn send_one(
 
 // Step 4 of box a to box b, over the grocers that box b owns: the number of totals sent.
 pub fn send_totals(
-    k: usize,
     m: usize,
     a: u16,
     b: u16,
@@ -51,16 +50,18 @@ pub fn send_totals(
     working: &mut [i64],
     transit: &mut [i64],
 ) -> u32
-    requires { ⌜ (k ≤ 16) × (m ≤ 255) × (a < k) × (m ≤ length (now owner)) × (k * m ≤ length (now working)) × (k * m ≤ length (now transit)) ⌝ }
+    requires { ⌜ (m ≤ 255) × (a < 16) × (m ≤ length (now owner)) × (a * m + m ≤ length (now working)) × (a * m + m ≤ length (now transit)) ⌝ }
     requires { ⌜ (b < 16) × Linked m (now owner) (now links) ⌝ }
     ensures { λ r. ⌜ (r ≡ count m (wordIn (now (owner .entry)) (now (sharers .entry)) b a)) ×
-        (now (working .exit) ≡ cleared k m a (wordIn (now (owner .entry)) (now (sharers .entry)) b a) (now (working .entry))) ×
-        (now (transit .exit) ≡ sentTotals k m a (wordIn (now (owner .entry)) (now (sharers .entry)) b a) (now (working .entry))
+        ((k : ℕ) → a < k → k * m ≤ length (now (working .entry)) →
+        now (working .exit) ≡ cleared k m a (wordIn (now (owner .entry)) (now (sharers .entry)) b a) (now (working .entry))) ×
+        ((k : ℕ) → a < k → k * m ≤ length (now (transit .entry)) →
+        now (transit .exit) ≡ sentTotals k m a (wordIn (now (owner .entry)) (now (sharers .entry)) b a) (now (working .entry))
         (now (transit .entry))) ⌝ }
 {
     let at = row_start(m, a);
     let mut sent: u32 = 0;
-    let mut g = begin(m, b, links, owner);
+    let mut g = begin(b, links);
     while g < m {
         sent += send_one(at + g, a, b, g, owner, sharers, working, transit);
         g = index(links[HEADS + g]);

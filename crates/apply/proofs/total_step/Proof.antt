@@ -1,26 +1,39 @@
 -- `apply::total_step` meets its contract, kind by kind. Assumes nothing.
 use mathlib.Core.Path.{_≡_, _∙_}
-use Prim.Native.Nat.{ℕ, _<_}
+use Prim.Native.Nat.{ℕ, _+_, _*_, _≤_, _<_}
+use native.Mathlib.Nat.{le-trans}
 use native.Mathlib.Omega.{arith}
 use borrow.Author.Needs.{needs}
+use Rattle.laws.proofs.Tables.{row-in}
+use Rattle.totals.proofs.Rows.{amount-row}
 use denote.Ref.{now}
 use Rattle.apply.proofs.Sides.{totals-sent-out, own-added-out, totals-received-out}
 use Rattle.apply.proofs.total_step.Statement.{statement}
 use Rattle.apply.proofs.total_step.Tie as tie
 
 -- The start, from where the kind is asked.
-abbrev entry : tie.After-struct-known3 → tie.Start
-entry c = c .before .before .before .before
+abbrev entry : tie.After-struct-known2 → tie.Start
+entry c = c .before .before .before
 
 -- A box below K is below 16.
 below16 : (s : tie.Start) (b : ℕ) → b < s .args .z .boxes → b < 16
 below16 s b h = omega (arith, h, s .pre .boxes-in)
 
+-- A row of the totals, of the working ones or of those in transit.
+rows-long : (s : tie.Start) (b n : ℕ) → b < s .args .z .boxes → s .args .z .boxes * s .args .z .grocers ≤ n → b * s .args .z .grocers + s .args .z .grocers ≤ n
+rows-long s b n h l = le-trans (row-in b (s .args .z .boxes) (s .args .z .grocers) h) l
+
 send-totals-requires : tie.Need-send-totals-requires
 send-totals-requires c κs =
     let s = entry (c .before .before .before) in
     let p = s .pre in (
-      (p .boxes-in, p .grocers-in, p .a-in, p .owner-long, p .working-in .long, p .transit-in .long),
+      (
+        p .grocers-in,
+        below16 s (s .args .x .first) (p .a-in),
+        p .owner-long,
+        rows-long s (s .args .x .first) _ (p .a-in) (p .working-in .long),
+        rows-long s (s .args .x .first) _ (p .a-in) (p .transit-in .long),
+      ),
       (below16 s (s .args .x .second) (p .b-in), p .grocers-linked),
     )
 
@@ -32,14 +45,19 @@ returns c =
     let e = call .send-totals .ensures in
     let o = totals-sent-out (s .args .z .boxes) (s .args .z .grocers) (now (s .args .grocer-owner)) (now (s .args .sharers)) (now (s .args .working)) (now (s .args .total-transit)) (now (s .args .statement)) (s .args .x .kind)
     (s .args .x .first) (s .args .x .second) (if1 .if1 .taken) in
-    record { working-is = e .1 ∙ o .working-is; transit-is = e .2 ∙ o .transit-is; statement-is = o .statement-is; sent-is = e .0 ∙ o .sent-is }
+    record {
+      working-is = e .1 (s .args .z .boxes) (s .pre .a-in) (s .pre .working-in .long) ∙ o .working-is;
+      transit-is = e .2 (s .args .z .boxes) (s .pre .a-in) (s .pre .transit-in .long) ∙ o .transit-is;
+      statement-is = o .statement-is;
+      sent-is = e .0 ∙ o .sent-is;
+    }
 
 credit-requires : tie.Need-credit-requires
 credit-requires c κs =
     let s = entry (c .before .before .before .before .before) in
     let p = s .pre in (
-      (p .boxes-in, p .grocers-in, p .a-in, p .owner-long),
-      ((p .working-in, p .statement-in), (below16 s (s .args .x .first) (p .a-in), p .grocers-linked)),
+      (p .grocers-in, below16 s (s .args .x .first) (p .a-in), p .owner-long),
+      ((amount-row (s .args .z .boxes) (s .args .z .grocers) (s .args .x .first) (now (s .args .working)) (p .working-in) (p .a-in), p .statement-in), (below16 s (s .args .x .first) (p .a-in), p .grocers-linked)),
     )
 
 returns-2 : tie.Need-returns-2
@@ -49,14 +67,15 @@ returns-2 c =
     let s = entry (if2 .before .before .before) in
     let o = own-added-out (s .args .z .boxes) (s .args .z .grocers) (now (s .args .grocer-owner)) (now (s .args .sharers)) (now (s .args .working)) (now (s .args .total-transit)) (now (s .args .statement)) (s .args .x .kind)
     (s .args .x .first) (s .args .x .second) (if2 .if2 .taken) in
-    record { working-is = call .credit .ensures .0 ∙ o .working-is; transit-is = o .transit-is; statement-is = call .credit .ensures .1 ∙ o .statement-is; sent-is = o .sent-is }
+    let e = call .credit .ensures (s .args .z .boxes) (s .pre .a-in) (s .pre .working-in .long) in
+    record { working-is = e .0 ∙ o .working-is; transit-is = o .transit-is; statement-is = e .1 ∙ o .statement-is; sent-is = o .sent-is }
 
 credit-requires-2 : tie.Need-credit-requires-2
 credit-requires-2 c κs =
     let s = entry (c .before .before .before .before .before) in
     let p = s .pre in (
-      (p .boxes-in, p .grocers-in, p .b-in, p .owner-long),
-      ((p .transit-in, p .statement-in), (below16 s (s .args .x .first) (p .a-in), p .grocers-linked)),
+      (p .grocers-in, below16 s (s .args .x .second) (p .b-in), p .owner-long),
+      ((amount-row (s .args .z .boxes) (s .args .z .grocers) (s .args .x .second) (now (s .args .total-transit)) (p .transit-in) (p .b-in), p .statement-in), (below16 s (s .args .x .first) (p .a-in), p .grocers-linked)),
     )
 
 returns-3 : tie.Need-returns-3
@@ -67,23 +86,23 @@ returns-3 c =
     let sixth : s .args .x .kind ≡ 6 = omega (arith, s .pre .kind-from, s .pre .kind-to, if2 .if2 .left, if2 .before .before .if1 .left) in
     let o = totals-received-out (s .args .z .boxes) (s .args .z .grocers) (now (s .args .grocer-owner)) (now (s .args .sharers)) (now (s .args .working)) (now (s .args .total-transit)) (now (s .args .statement)) (s .args .x .kind)
     (s .args .x .first) (s .args .x .second) sixth in
-    record { working-is = o .working-is; transit-is = call .credit2 .ensures .0 ∙ o .transit-is; statement-is = call .credit2 .ensures .1 ∙ o .statement-is; sent-is = o .sent-is }
+    let e = call .credit2 .ensures (s .args .z .boxes) (s .pre .b-in) (s .pre .transit-in .long) in
+    record { working-is = o .working-is; transit-is = e .0 ∙ o .transit-is; statement-is = e .1 ∙ o .statement-is; sent-is = o .sent-is }
 
 pub total-step-spec : {M : Type 1} → statement M
 total-step-spec =
     tie.close
     (tie.spec
     (λ c. search needs)
-    (λ c. search needs)
     send-totals-requires
+    (λ c. c .before .before .send-totals .kept .1 .1 .1 .1 .1 .1 .0)
     (λ c. c .before .before .send-totals .kept .1 .1 .1 .1 .1 .1 .1 .0)
-    (λ c. c .before .before .send-totals .kept .1 .1 .1 .1 .1 .1 .1 .1 .0)
     returns
     credit-requires
+    (λ c. c .before .before .credit .kept .1 .1 .1 .1 .1 .1 .0)
     (λ c. c .before .before .credit .kept .1 .1 .1 .1 .1 .1 .1 .0)
-    (λ c. c .before .before .credit .kept .1 .1 .1 .1 .1 .1 .1 .1 .0)
     returns-2
     credit-requires-2
+    (λ c. c .before .before .credit2 .kept .1 .1 .1 .1 .1 .1 .0)
     (λ c. c .before .before .credit2 .kept .1 .1 .1 .1 .1 .1 .1 .0)
-    (λ c. c .before .before .credit2 .kept .1 .1 .1 .1 .1 .1 .1 .1 .0)
     returns-3)

@@ -30,23 +30,25 @@ entry c = start (c .before)
 returns : tie.Need-returns
 returns c =
     let s = start (c .before) in
-    met-short (job s) (state s) (c .before .before .job-short .result) (c .before .state-short .result) (c .before .before .job-short .ensures) (c .before .state-short .ensures) (c .if1 .taken)
+    met-short (job s) (state s) (c .before .before .job-short .result) (c .before .state-short .result) (c .before .before .job-short .ensures (s .args .z .boxes)) (c .before .state-short .ensures) (c .if1 .taken)
 
 job-in-range-requires : tie.Need-job-in-range-requires
-job-in-range-requires c κs = job-long (job (entry c)) (state (entry c)) _ _ (c .before .before .job-short .ensures) (c .before .state-short .ensures) (c .if1 .left)
+job-in-range-requires c κs = job-long (job (entry c)) (state (entry c)) _ _ (c .before .before .job-short .ensures (entry c .args .z .boxes)) (c .before .state-short .ensures) (c .if1 .left)
 
 state-in-range-requires : tie.Need-state-in-range-requires
-state-in-range-requires c κs = let e = c .before in state-long (job (entry e)) (state (entry e)) _ _ (e .before .before .job-short .ensures) (e .before .state-short .ensures) (e .if1 .left)
+state-in-range-requires c κs = let e = c .before in state-long (job (entry e)) (state (entry e)) _ _ (e .before .before .job-short .ensures (entry e .args .z .boxes)) (e .before .state-short .ensures) (e .if1 .left)
 
 returns-2 : tie.Need-returns-2
 returns-2 c =
     let e = c .before .before .before in
-    met-range (job (entry e)) (state (entry e)) _ _ (e .before .before .job-short .ensures) (e .before .state-short .ensures) (e .if1 .left) _ _ (c .before .before .job-in-range .ensures) (c .before .state-in-range .ensures) (c .if2 .taken)
+    met-range (job (entry e)) (state (entry e)) _ _ (e .before .before .job-short .ensures (entry e .args .z .boxes)) (e .before .state-short .ensures) (e .if1 .left) _ _
+    (c .before .before .job-in-range .ensures) (c .before .state-in-range .ensures) (c .if2 .taken)
 
 returns-3 : tie.Need-returns-3
 returns-3 c =
     let e = c .before .before .before in
-    met-none (job (entry e)) (state (entry e)) _ _ (e .before .before .job-short .ensures) (e .before .state-short .ensures) (e .if1 .left) _ _ (c .before .before .job-in-range .ensures) (c .before .state-in-range .ensures) (c .if2 .left)
+    met-none (job (entry e)) (state (entry e)) _ _ (e .before .before .job-short .ensures (entry e .args .z .boxes)) (e .before .state-short .ensures) (e .if1 .left) _ _
+    (c .before .before .job-in-range .ensures) (c .before .state-in-range .ensures) (c .if2 .left)
 
 pub early-refusal-spec : {M : Type 1} → statement M
 early-refusal-spec =

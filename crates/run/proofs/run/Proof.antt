@@ -64,7 +64,7 @@ done c = written c .before .before .before .before
 none-met : (e : tie.Else2) → let s = entry (tested (e .before .before .before)) in 0 ≡ firstMet (runRefusals (job s) (lent s))
 none-met e =
     let a = e .before .before .before in
-    refused-none _ _ _ _ _ (tested a .job-short .ensures) (a .state-short .ensures) (e .before .before .if1 .left) (e .before .job-in-range .ensures) (not-false _ (e .if2 .left))
+    refused-none _ _ _ _ _ (tested a .job-short .ensures (entry (tested a) .args .boxes)) (a .state-short .ensures) (e .before .before .if1 .left) (e .before .job-in-range .ensures) (not-false _ (e .if2 .left))
 
 may : (e : tie.Else2) → Begins (job (entry (tested (e .before .before .before)))) (lent (entry (tested (e .before .before .before))))
 may e = begins _ _ (sym (none-met e))
@@ -73,16 +73,17 @@ returns : tie.Need-returns
 unfolding answerOf
 returns c =
     let a = c .before in
-    run-refused _ _ _ 20 (refused-short _ _ _ _ (tested a .job-short .ensures) (a .state-short .ensures) (c .if1 .taken)) (λ z. omega arith)
+    run-refused _ _ _ 20 (refused-short _ _ _ _ (tested a .job-short .ensures (entry (tested a) .args .boxes)) (a .state-short .ensures) (c .if1 .taken)) (λ z. omega arith)
 
 job-in-range-requires : tie.Need-job-in-range-requires
-job-in-range-requires c κs = long-job _ (lent (entry (tested (c .before)))) _ _ (tested (c .before) .job-short .ensures) (c .if1 .left)
+job-in-range-requires c κs = long-job _ (lent (entry (tested (c .before)))) _ _ (tested (c .before) .job-short .ensures (entry (tested (c .before)) .args .boxes)) (c .if1 .left)
 
 returns-2 : tie.Need-returns-2
 unfolding answerOf
 returns-2 c =
     let a = c .before .before .before in
-    run-refused _ _ _ 21 (refused-range _ _ _ _ _ (tested a .job-short .ensures) (a .state-short .ensures) (c .before .before .if1 .left) (c .before .job-in-range .ensures) (not-true _ (c .if2 .taken))) (λ z. omega arith)
+    run-refused _ _ _ 21
+    (refused-range _ _ _ _ _ (tested a .job-short .ensures (entry (tested a) .args .boxes)) (a .state-short .ensures) (c .before .before .if1 .left) (c .before .job-in-range .ensures) (not-true _ (c .if2 .taken))) (λ z. omega arith)
 
 needs-requires : tie.Need-needs-requires
 needs-requires c κs = begins-needs _ _ (may c)

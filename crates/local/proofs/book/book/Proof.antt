@@ -4,14 +4,14 @@ use mathlib.Core.List.{List}
 use Prim.Native.Nat.{ℕ, _≤_}
 use native.Mathlib.Omega.{arith}
 use borrow.Author.Needs.{needs}
-use denote.Ref.{now}
 use Rattle.laws.specs.Checks.{firstMet}
 use Rattle.model.specs.Tables.{JobTables, jobTables}
 use Rattle.model.specs.Local.{bookShort, bookRefusals}
 use Rattle.local.specs.Sort.{at}
 use Rattle.local.specs.Lists.{PlacesIn}
 use Rattle.local.specs.Book.{BookTables, bookTables, bookLengths}
-use Rattle.local.proofs.Ready.{long, whole, offer-owners, grocer-owners, offer-tallies, grocer-tallies, places-in}
+use denote.Ref.{now}
+use Rattle.local.proofs.Ready.{box-in, long, whole, offer-owners, grocer-owners, offer-tallies, grocer-tallies, places-in}
 use Rattle.local.proofs.Booking.{booked-refused, booked-written}
 use Rattle.local.proofs.book.book.Statement.{statement}
 use Rattle.local.proofs.book.book.Tie as tie
@@ -86,15 +86,19 @@ list-requires : tie.Need-list-requires
 list-requires c κs =
     let e = c .before in
     let s = entry e in
-    let f = job s in
-    ((offer-owners f (bookLengths (lent s)) (s .args .b) (accepted e), offer-tallies f (bookLengths (lent s)) (s .args .b) (accepted e)), long f (bookLengths (lent s)) (s .args .b) (accepted e) .localOffers)
+    let f = job s in (
+      (offer-owners f (bookLengths (lent s)) (s .args .b) (accepted e), offer-tallies f (bookLengths (lent s)) (s .args .b) (accepted e)),
+      (box-in f (bookLengths (lent s)) (s .args .b) (accepted e), long f (bookLengths (lent s)) (s .args .b) (accepted e) .localOffers),
+    )
 
 list-requires-2 : tie.Need-list-requires-2
 list-requires-2 c κs =
     let e = open-1 (c .before .before .before) in
     let s = entry e in
-    let f = job s in
-    ((grocer-owners f (bookLengths (lent s)) (s .args .b) (accepted e), grocer-tallies f (bookLengths (lent s)) (s .args .b) (accepted e)), long f (bookLengths (lent s)) (s .args .b) (accepted e) .localGrocers)
+    let f = job s in (
+      (grocer-owners f (bookLengths (lent s)) (s .args .b) (accepted e), grocer-tallies f (bookLengths (lent s)) (s .args .b) (accepted e)),
+      (box-in f (bookLengths (lent s)) (s .args .b) (accepted e), long f (bookLengths (lent s)) (s .args .b) (accepted e) .localGrocers),
+    )
 
 pack-requires : tie.Need-pack-requires
 pack-requires c κs =

@@ -2,9 +2,9 @@
 use mathlib.Core.Path.{sym, _∙_}
 use mathlib.Core.Bool.{true}
 use borrow.Author.Needs.{needs}
-use denote.Ref.{now}
 use Rattle.laws.proofs.Bools.{or-off}
 use Rattle.model.specs.Tables.{JobTables, jobTables}
+use denote.Ref.{now}
 use Rattle.local.proofs.Ready.{met-20, met-21, met-23, met-none}
 use Rattle.local.proofs.book.refusal.Statement.{statement}
 use Rattle.local.proofs.book.refusal.Tie as tie
@@ -25,24 +25,24 @@ returns : tie.Need-returns
 returns c n e =
     let d = c .before in
     let s = entry d in
-    met-20 (job s) n (s .args .b) (d .job-short .result) (s .args .short) true (d .job-short .ensures) e (c .if1 .taken)
+    met-20 (job s) n (s .args .b) (d .job-short .result) (s .args .short) true (d .job-short .ensures (s .args .boxes)) e (c .if1 .taken)
 
 job-in-range-requires : tie.Need-job-in-range-requires
-job-in-range-requires c κs = sym (c .before .job-short .ensures) ∙ or-off (c .before .job-short .result) (entry (c .before) .args .short) (c .if1 .left) .0
+job-in-range-requires c κs = sym (c .before .job-short .ensures (entry (c .before) .args .boxes)) ∙ or-off (c .before .job-short .result) (entry (c .before) .args .short) (c .if1 .left) .0
 
 returns-2 : tie.Need-returns-2
 returns-2 c n e =
     let i = c .before in
     let d = long i in
     let s = entry d in
-    met-21 (job s) n (s .args .b) (d .job-short .result) (s .args .short) (i .job-in-range .result) (d .job-short .ensures) e (i .before .if1 .left) (i .job-in-range .ensures) (c .if2 .taken)
+    met-21 (job s) n (s .args .b) (d .job-short .result) (s .args .short) (i .job-in-range .result) (d .job-short .ensures (s .args .boxes)) e (i .before .if1 .left) (i .job-in-range .ensures) (c .if2 .taken)
 
 returns-3 : tie.Need-returns-3
 returns-3 c n e =
     let i = c .before .before in
     let d = long i in
     let s = entry d in
-    met-23 (job s) n (s .args .b) (d .job-short .result) (s .args .short) (i .job-in-range .result) (d .job-short .ensures) e (i .before .if1 .left) (i .job-in-range .ensures)
+    met-23 (job s) n (s .args .b) (d .job-short .result) (s .args .short) (i .job-in-range .result) (d .job-short .ensures (s .args .boxes)) e (i .before .if1 .left) (i .job-in-range .ensures)
     (c .before .if2 .left) (c .if3 .taken)
 
 returns-4 : tie.Need-returns-4
@@ -50,7 +50,7 @@ returns-4 c n e =
     let i = c .before .before in
     let d = long i in
     let s = entry d in
-    met-none (job s) n (s .args .b) (d .job-short .result) (s .args .short) (i .job-in-range .result) (d .job-short .ensures) e (i .before .if1 .left) (i .job-in-range .ensures)
+    met-none (job s) n (s .args .b) (d .job-short .result) (s .args .short) (i .job-in-range .result) (d .job-short .ensures (s .args .boxes)) e (i .before .if1 .left) (i .job-in-range .ensures)
     (c .before .if2 .left) (c .if3 .left)
 
 pub refusal-spec : {M : Type 1} → statement M

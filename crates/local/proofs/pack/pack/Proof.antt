@@ -3,13 +3,13 @@ use mathlib.Core.Path.{_≡_, ap, _∙_}
 use mathlib.Core.List.{List}
 use Prim.Native.Nat.{ℕ, _≤_}
 use native.Mathlib.Omega.{arith}
+use lib.ListN.{length, replicate}
 use borrow.Author.Needs.{needs}
-use lib.ListN.{replicate}
-use denote.Ref.{now}
 use Rattle.laws.specs.Tables.{overwrite}
 use Rattle.laws.proofs.Tables.{overwrite-cong}
 use Rattle.local.specs.Pack.{packedTallies, packedStart, packedGrocer, packedNumber, packedCount, OrderIn}
-use Rattle.local.proofs.Packing.{packed-le, order-in, grocer-put, count-put}
+use denote.Ref.{now}
+use Rattle.local.proofs.Packing.{packed-le, order-in, item-put, grocer-put, count-put}
 use Rattle.local.proofs.pack.pack.Statement.{statement}
 use Rattle.local.proofs.pack.pack.Tie as tie
 
@@ -20,12 +20,12 @@ entry c = c .before .before .before .before .before .before .before .before .bef
 abbrev ordered : tie.After-index-of → tie.After-order-tallies
 ordered c = c .before .before .before .before .before
 
--- Where the local grocers are put, and where that is done before the counts are.
-abbrev counted : tie.After-put-grocers → tie.After-index-of
-counted c = c .before .before .before .before
+-- Where the tallies are put.
+abbrev counted : tie.After-put-tallies → tie.After-index-of
+counted c = c .before .before .before .before .before
 
-abbrev grocers-put : tie.After-put-counts-arg → tie.After-put-grocers
-grocers-put c = c .before .before .before .before
+abbrev put : tie.After-packed-counts → tie.After-put-tallies
+put c = c .before .before .before
 
 abbrev order : tie.After-index-of → List ℕ
 order c = ordered c .order-tallies .last .1 .1 .1 .1 .1 .1 .1 .0
@@ -40,53 +40,45 @@ total-is c = c .index-of .ensures ∙ ordered c .order-tallies .ensures .0
 total-in : (c : tie.After-index-of) → c .index-of .result ≤ entry c .args .tallies
 total-in c = let s = entry c in omega (arith, total-is c, packed-le (now (s .args .tally-box)) (now (s .args .tally-offer)) (s .args .tallies) (now (s .args .local-offers)) (s .args .l) (s .args .b))
 
-in-order : (c : tie.After-index-of) → OrderIn (order c) (c .index-of .result) (entry c .args .tallies)
-in-order c =
+in-order : (c : tie.After-index-of) (size : ℕ) → entry c .args .tallies ≤ size → OrderIn (order c) (c .index-of .result) size
+in-order c size h =
     let s = entry c in
     order-in (now (s .args .tally-box)) (now (s .args .tally-offer)) (s .args .tallies) (now (s .args .local-offers)) (s .args .l) (s .args .b)
-    (replicate 1_000 0) (order c) (c .index-of .result) (ordered c .order-tallies .ensures .1 .1) (total-is c)
+    (replicate 1_000 0) (order c) (c .index-of .result) (ordered c .order-tallies .ensures .1 .1) (total-is c) size h
     (s .pre .0 .0 .tallies-in) (omega (arith, s .pre .0 .0 .tallies-in, ordered c .order-tallies .kept .1 .1 .1 .1 .1 .1 .1 .0))
 
-put-grocers-requires : tie.Need-put-grocers-requires
-put-grocers-requires c κs =
-    let i = c .before .before .before in
-    let s = entry i in
-    (in-order i, ((s .pre .0 .1 .items-long, omega (arith, total-in i, s .pre .1 .1 .1 .1 .0)), s .pre .0 .1 .item-in))
-
-put-counts-requires : tie.Need-put-counts-requires
-put-counts-requires c κs =
-    let i = counted (grocers-put c) in
-    let s = entry i in
-    (in-order i, (s .pre .1 .1 .1 .0, omega (arith, total-in i, s .pre .1 .1 .1 .1 .1)))
+put-tallies-requires : tie.Need-put-tallies-requires
+put-tallies-requires c κs =
+    let i = c .before .before .before .before in
+    let s = entry i in (
+      (in-order i (length (now (s .args .tally-grocer))) (s .pre .0 .1 .items-long), in-order i (length (now (s .args .tally-count))) (s .pre .1 .1 .1 .0)),
+      (
+        (omega (arith, total-in i, s .pre .1 .1 .1 .1 .0), omega (arith, total-in i, s .pre .1 .1 .1 .1 .1)),
+        item-put (now (s .args .tally-box)) (now (s .args .tally-offer)) (s .args .tallies) (now (s .args .local-offers)) (s .args .l) (s .args .b) (replicate 1_000 0) (order i) (i .index-of .result)
+            (ordered i .order-tallies .ensures .1 .1) (total-is i) (now (s .args .tally-grocer)) (s .pre .0 .1),
+      ),
+    )
 
 same-length : tie.Need-same-length
-same-length c = ordered (counted (grocers-put (c .before .before))) .order-tallies .kept .1 .1 .1 .1 .1 .1 .0
-
-same-length-2 : tie.Need-same-length-2
-same-length-2 c = grocers-put (c .before .before) .put-grocers .kept .1 .1 .1 .1 .1 .0
-
-same-length-3 : tie.Need-same-length-3
-same-length-3 c = c .before .put-counts .kept .1 .1 .1 .1 .0
+same-length c = ordered (counted (put c)) .order-tallies .kept .1 .1 .1 .1 .1 .1 .0
 
 returns : tie.Need-returns
 returns c =
-    let p = c .before in
-    let q = grocers-put (p .before) in
-    let i = counted q in
-    let s = entry i in
-    let n = ordered i .order-tallies .result in (
+    let p = put c .put-tallies in
+    let i = counted (put c) in
+    let s = entry i in (
       ordered i .order-tallies .ensures .0,
       (
         ordered i .order-tallies .ensures .1 .0,
         (
-          q .put-grocers .ensures
+          p .ensures .0
               ∙ overwrite-cong (i .index-of .result) (packedGrocer (i .before .numbers .result) (now (s .args .tally-grocer)) (order i))
               (packedNumber (now (s .args .local-grocers)) (s .args .g) (now (s .args .tally-grocer)) (packed s)) (now (s .args .packed-grocers))
               (grocer-put (now (s .args .tally-box)) (now (s .args .tally-offer)) (s .args .tallies) (now (s .args .local-offers)) (s .args .l) (s .args .b) (replicate 1_000 0) (order i) (i .index-of .result)
               (ordered i .order-tallies .ensures .1 .1) (total-is i) (i .before .numbers .result) (now (s .args .tally-grocer)) (now (s .args .local-grocers)) (s .args .g) (i .before .numbers .ensures)
               (s .pre .0 .1))
               ∙ ap (λ (k : ℕ). overwrite k (packedNumber (now (s .args .local-grocers)) (s .args .g) (now (s .args .tally-grocer)) (packed s)) (now (s .args .packed-grocers))) (i .index-of .ensures),
-          p .put-counts .ensures
+          p .ensures .1
               ∙ overwrite-cong (i .index-of .result) (packedCount (now (s .args .tally-count)) (order i)) (packedCount (now (s .args .tally-count)) (packed s)) (now (s .args .packed-counts))
               (count-put (now (s .args .tally-box)) (now (s .args .tally-offer)) (s .args .tallies) (now (s .args .local-offers)) (s .args .l) (s .args .b) (replicate 1_000 0) (order i) (i .index-of .result)
               (ordered i .order-tallies .ensures .1 .1) (total-is i) (now (s .args .tally-count)))
@@ -104,10 +96,8 @@ pack-spec =
     (λ c κs. search needs)
     (λ c κs. search needs)
     (λ c. search needs)
-    put-grocers-requires
-    (λ c. search needs)
-    put-counts-requires
+    put-tallies-requires
     same-length
-    same-length-2
-    same-length-3
+    (λ c. put c .put-tallies .kept .1 .1 .1 .1 .1 .0)
+    (λ c. put c .put-tallies .kept .1 .1 .1 .1 .1 .1 .0)
     returns)

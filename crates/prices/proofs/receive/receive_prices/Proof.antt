@@ -4,11 +4,11 @@ use mathlib.Core.Bool.{Bool, true, false, cond}
 use mathlib.Core.List.{List}
 use Prim.Native.Nat.{ℕ, _<_, _≤_, _+_, _-_, _*_}
 use native.Mathlib.Omega.{arith}
-use native.Mathlib.Nat.{le-antisymm, mul-le-mul, mul-le-mul-right}
+use native.Mathlib.Nat.{le-antisymm, mul-le-mul}
 use lib.ListN.{length, getD}
 use borrow.Author.Needs.{needs}
 use Rattle.laws.specs.Tables.{cell}
-use Rattle.laws.proofs.Tables.{cell-in, cell-at}
+use Rattle.laws.proofs.Tables.{cell-at}
 use Rattle.laws.proofs.Loops.{guarded, guarded-more, guarded-next, guarded-none, row-stored}
 use Rattle.laws.proofs.Bools.{cond-no}
 use Rattle.links.specs.Links.{Skips}
@@ -21,7 +21,7 @@ use Rattle.prices.proofs.receive.receive_prices.Statement.{statement}
 use Rattle.prices.proofs.receive.receive_prices.Tie as tie
 
 abbrev Inv-loop : tie.InvT-loop
-Inv-loop k n a b owner needs links known₀ transit₀ row o₀ known transit o =
+Inv-loop n a b owner needs links known₀ transit₀ row o₀ known transit o =
     (o ≤ n)
     × (length known ≡ length known₀)
     × (length transit ≡ length transit₀)
@@ -30,7 +30,7 @@ Inv-loop k n a b owner needs links known₀ transit₀ row o₀ known transit o 
     × (o < n → getD owner o 0 ≡ b)
 
 abbrev μ-loop : tie.MeasureT-loop
-μ-loop k n a b owner needs links known₀ transit₀ row o₀ known transit o = n - o
+μ-loop n a b owner needs links known₀ transit₀ row o₀ known transit o = n - o
 
 abbrev Start : Type 0
 Start = tie.Start Inv-loop μ-loop
@@ -69,7 +69,7 @@ due-theirs s x = word-owner (now (s .args .owner)) (now (s .args .needs)) (s .ar
 
 -- The first offer of box b, and the next after one of them.
 starts : (s : Start) → Skips (s .args .n) (now (s .args .owner)) (s .args .b) 0 (getD (now (s .args .links)) (s .args .b) 0)
-starts s = s .pre .1 .begins (s .args .b) (omega (arith, s .pre .0 .b-in, s .pre .0 .boxes-in))
+starts s = s .pre .1 .begins (s .args .b) (omega (arith, s .pre .0 .b-in))
 
 walks : (e : tie.In-loop Inv-loop μ-loop) → Skips (entry e .args .n) (now (entry e .args .owner)) (entry e .args .b) (e .before .loop .o + 1) (getD (now (entry e .args .links)) (17 + e .before .loop .o) 0)
 walks e =
@@ -77,21 +77,14 @@ walks e =
     let l = e .loop-test .taken in
     goes-on (s .args .n) (now (s .args .owner)) (now (s .args .links)) (s .args .b) (e .before .loop .o) (s .pre .1) l (e .before .loop .inv .5 l)
 
--- The tables are small, and the row is inside them.
-cells : (s : Start) → s .args .k * s .args .n ≤ 8000
-cells s = mul-le-mul (s .pre .0 .boxes-in) (s .pre .0 .offers-in)
-
-row-in : (s : Start) (o : ℕ) → o < s .args .n → row s + o < s .args .k * s .args .n
-row-in s o l = cell-in (s .args .a) (s .args .k) (s .args .n) o (s .pre .0 .a-in) l
-
 mul-row : tie.Need-mul-row Inv-loop μ-loop
-mul-row c = let s = c .before .before .before in omega (arith, mul-le-mul-right (s .args .n) (s .pre .0 .a-in), cells s)
+mul-row c = let s = c .before .before .before in omega (arith, mul-le-mul (s .pre .0 .a-in) (s .pre .0 .offers-in))
 
 mul-o : tie.Need-mul-o Inv-loop μ-loop
-mul-o c = let s = c .before .before .before in omega (arith, s .pre .0 .b-in, s .pre .0 .boxes-in)
+mul-o c = let s = c .before .before .before in omega (arith, s .pre .0 .b-in)
 
 element-copy-out-o : tie.Need-element-copy-out-o Inv-loop μ-loop
-element-copy-out-o c = let s = c .before .before .before in omega (arith, s .pre .0 .b-in, s .pre .0 .boxes-in)
+element-copy-out-o c = let s = c .before .before .before in omega (arith, s .pre .0 .b-in)
 
 cast-o : tie.Need-cast-o Inv-loop μ-loop
 cast-o c = let s = c .before .before .before .before in omega (arith, starts s .to, s .pre .0 .offers-in)
@@ -116,12 +109,12 @@ receive-one-requires c κs =
     let s = entry e in
     let o = e .before .loop .o in
     let l = e .loop-test .taken in (
-      omega (arith, s .pre .0 .a-in, s .pre .0 .boxes-in),
+      s .pre .0 .a-in,
       (
         omega (arith, l, s .pre .0 .offers-in),
         (
           omega (arith, l, s .pre .0 .owner-long),
-          (omega (arith, row-in s o l, s .pre .0 .known-long, e .before .loop .inv .1), omega (arith, row-in s o l, s .pre .0 .transit-long, e .before .loop .inv .2)),
+          (omega (arith, l, s .pre .0 .known-long, e .before .loop .inv .1), omega (arith, l, s .pre .0 .transit-long, e .before .loop .inv .2)),
         ),
       ),
     )
@@ -156,11 +149,11 @@ loop-again c =
       call .kept .0 ∙ inv .1,
       call .kept .1 .0 ∙ inv .2,
       λ i. ap (λ (t : List ℕ). getD t i 0) (call .ensures .0)
-          ∙ guarded-more (e .before .loop .known) 0 (came s) (knew s) (row s) o (due s) (omega (arith, row-in s o l, s .pre .0 .known-long, inv .1)) (inv .3) _
+          ∙ guarded-more (e .before .loop .known) 0 (came s) (knew s) (row s) o (due s) (omega (arith, l, s .pre .0 .known-long, inv .1)) (inv .3) _
           (inv .4 (row s + o) ∙ cond-no _ 0 (came s (row s + o)) (guarded-next (row s) o (due s))) i
           ∙ ap (λ (t : Bool). cond t (came s i) (knew s i)) (past i),
       λ i. ap (λ (t : List ℕ). getD t i 0) (call .ensures .1)
-          ∙ guarded-more (e .before .loop .transit) 0 (λ x. 0) (came s) (row s) o (due s) (omega (arith, row-in s o l, s .pre .0 .transit-long, inv .2)) (inv .4) 0 refl i
+          ∙ guarded-more (e .before .loop .transit) 0 (λ x. 0) (came s) (row s) o (due s) (omega (arith, l, s .pre .0 .transit-long, inv .2)) (inv .4) 0 refl i
           ∙ ap (λ (t : Bool). cond t 0 (came s i)) (past i),
       walks e .hits,
     )
@@ -173,15 +166,15 @@ same-length-2 c = c .before .loop .inv .2
 
 returns : tie.Need-returns Inv-loop μ-loop
 unfolding receivedKnown receivedTransit
-returns c =
+returns c k h =
     let s = begun (c .before .before) in
     let inv = c .before .loop .inv in
     let end : c .before .loop .o ≡ s .args .n = le-antisymm (inv .0) (c .loop-test .left) in (
-      row-stored (s .args .k) (s .args .n) (s .args .a) (row s) (c .before .loop .o) (now (s .args .known)) (c .before .loop .known) 0
-          (due s) (came s) (cell (s .args .k) (s .args .n) (now (s .args .transit)) 0 (s .args .a)) (s .pre .0 .a-in) (s .pre .0 .known-long) refl end (inv .1) (inv .3)
-          (λ o l. sym (cell-at (s .args .k) (s .args .n) (now (s .args .transit)) 0 (s .args .a) o (s .pre .0 .a-in) l)),
-      row-stored (s .args .k) (s .args .n) (s .args .a) (row s) (c .before .loop .o) (now (s .args .transit)) (c .before .loop .transit) 0
-          (due s) (λ i. 0) (λ o. 0) (s .pre .0 .a-in) (s .pre .0 .transit-long) refl end (inv .2) (inv .4) (λ o l. refl),
+      row-stored k (s .args .n) (s .args .a) (row s) (c .before .loop .o) (now (s .args .known)) (c .before .loop .known) 0
+          (due s) (came s) (cell k (s .args .n) (now (s .args .transit)) 0 (s .args .a)) (h .a-in) (h .known-long) refl end (inv .1) (inv .3)
+          (λ o l. sym (cell-at k (s .args .n) (now (s .args .transit)) 0 (s .args .a) o (h .a-in) l)),
+      row-stored k (s .args .n) (s .args .a) (row s) (c .before .loop .o) (now (s .args .transit)) (c .before .loop .transit) 0
+          (due s) (λ i. 0) (λ o. 0) (h .a-in) (h .transit-long) refl end (inv .2) (inv .4) (λ o l. refl),
     )
 
 pub receive-prices-spec : {M : Type 1} → statement M

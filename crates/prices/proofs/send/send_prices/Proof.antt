@@ -4,13 +4,13 @@ use mathlib.Core.Bool.{Bool, true, cond}
 use mathlib.Core.List.{List}
 use Prim.Native.Nat.{ℕ, _<_, _≤_, _+_, _-_, _*_}
 use native.Mathlib.Omega.{arith}
-use native.Mathlib.Nat.{le-antisymm, mul-le-mul, mul-le-mul-right}
+use native.Mathlib.Nat.{le-antisymm, mul-le-mul}
 use lib.ListN.{length, getD}
 use borrow.Author.Needs.{needs}
 use Rattle.laws.specs.Below.{count}
 use Rattle.laws.specs.Tables.{cell}
 use Rattle.laws.proofs.Below.{count-next, count-le, only-le, count-start}
-use Rattle.laws.proofs.Tables.{cell-in, cell-at}
+use Rattle.laws.proofs.Tables.{cell-at}
 use Rattle.laws.proofs.Loops.{guarded, guarded-more, guarded-none, row-stored}
 use Rattle.laws.proofs.Bools.{cond-no}
 use Rattle.links.specs.Links.{Skips}
@@ -23,7 +23,7 @@ use Rattle.prices.proofs.send.send_prices.Statement.{statement}
 use Rattle.prices.proofs.send.send_prices.Tie as tie
 
 abbrev Inv-loop : tie.InvT-loop
-Inv-loop k n a b owner needs links known transit₀ from to sent₀ o₀ transit sent o =
+Inv-loop n a b owner needs links known transit₀ from to sent₀ o₀ transit sent o =
     (o ≤ n)
     × (sent ≡ count o (wordIn owner needs a b))
     × (length transit ≡ length transit₀)
@@ -31,7 +31,7 @@ Inv-loop k n a b owner needs links known transit₀ from to sent₀ o₀ transit
     × (o < n → getD owner o 0 ≡ a)
 
 abbrev μ-loop : tie.MeasureT-loop
-μ-loop k n a b owner needs links known transit₀ from to sent₀ o₀ transit sent o = n - o
+μ-loop n a b owner needs links known transit₀ from to sent₀ o₀ transit sent o = n - o
 
 abbrev Start : Type 0
 Start = tie.Start Inv-loop μ-loop
@@ -54,16 +54,6 @@ new s i = getD (now (s .args .known)) (from s + (i - to s)) 0
 abbrev old : Start → ℕ → ℕ
 old s i = getD (now (s .args .transit)) i 0
 
--- The tables are small, and both rows are inside them.
-cells : (s : Start) → s .args .k * s .args .n ≤ 8000
-cells s = mul-le-mul (s .pre .0 .boxes-in) (s .pre .0 .offers-in)
-
-from-in : (s : Start) (o : ℕ) → o < s .args .n → from s + o < s .args .k * s .args .n
-from-in s o l = cell-in (s .args .a) (s .args .k) (s .args .n) o (s .pre .0 .a-in) l
-
-to-in : (s : Start) (o : ℕ) → o < s .args .n → to s + o < s .args .k * s .args .n
-to-in s o l = cell-in (s .args .b) (s .args .k) (s .args .n) o (s .pre .0 .b-in) l
-
 -- The entry of the call, from a turn of the loop.
 abbrev begun : tie.After-o Inv-loop μ-loop → Start
 begun c = c .before .before .before .before
@@ -77,7 +67,7 @@ due-own s x = word-owner (now (s .args .owner)) (now (s .args .needs)) (s .args 
 
 -- The first offer of box a, and the next after one of them.
 starts : (s : Start) → Skips (s .args .n) (now (s .args .owner)) (s .args .a) 0 (getD (now (s .args .links)) (s .args .a) 0)
-starts s = s .pre .1 .begins (s .args .a) (omega (arith, s .pre .0 .a-in, s .pre .0 .boxes-in))
+starts s = s .pre .1 .begins (s .args .a) (omega (arith, s .pre .0 .a-in))
 
 walks : (e : tie.In-loop Inv-loop μ-loop) → Skips (entry e .args .n) (now (entry e .args .owner)) (entry e .args .a) (e .before .loop .o + 1) (getD (now (entry e .args .links)) (17 + e .before .loop .o) 0)
 walks e =
@@ -86,16 +76,16 @@ walks e =
     goes-on (s .args .n) (now (s .args .owner)) (now (s .args .links)) (s .args .a) (e .before .loop .o) (s .pre .1) l (e .before .loop .inv .4 l)
 
 mul-from : tie.Need-mul-from Inv-loop μ-loop
-mul-from c = let s = c .before .before .before in omega (arith, mul-le-mul-right (s .args .n) (s .pre .0 .a-in), cells s)
+mul-from c = let s = c .before .before .before in omega (arith, mul-le-mul (s .pre .0 .a-in) (s .pre .0 .offers-in))
 
 mul-to : tie.Need-mul-to Inv-loop μ-loop
-mul-to c = let s = c .before .before .before in omega (arith, mul-le-mul-right (s .args .n) (s .pre .0 .b-in), cells s)
+mul-to c = let s = c .before .before .before in omega (arith, mul-le-mul (s .pre .0 .b-in) (s .pre .0 .offers-in))
 
 mul-o : tie.Need-mul-o Inv-loop μ-loop
-mul-o c = let s = c .before .before .before in omega (arith, s .pre .0 .a-in, s .pre .0 .boxes-in)
+mul-o c = let s = c .before .before .before in omega (arith, s .pre .0 .a-in)
 
 element-copy-out-o : tie.Need-element-copy-out-o Inv-loop μ-loop
-element-copy-out-o c = let s = c .before .before .before in omega (arith, s .pre .0 .a-in, s .pre .0 .boxes-in)
+element-copy-out-o c = let s = c .before .before .before in omega (arith, s .pre .0 .a-in)
 
 cast-o : tie.Need-cast-o Inv-loop μ-loop
 cast-o c = let s = c .before .before .before .before in omega (arith, starts s .to, s .pre .0 .offers-in)
@@ -118,12 +108,12 @@ send-one-requires c κs =
     let s = entry e in
     let o = e .before .loop .o in
     let l = e .loop-test .taken in (
-      omega (arith, s .pre .0 .b-in, s .pre .0 .boxes-in),
+      s .pre .0 .b-in,
       (
         omega (arith, l, s .pre .0 .offers-in),
         (
           omega (arith, l, s .pre .0 .owner-long),
-          (omega (arith, from-in s o l, to-in s o l, s .pre .0 .known-long), omega (arith, to-in s o l, s .pre .0 .transit-long, e .before .loop .inv .2)),
+          (omega (arith, l, s .pre .0 .known-long), omega (arith, l, s .pre .0 .transit-long, e .before .loop .inv .2)),
         ),
       ),
     )
@@ -164,7 +154,7 @@ loop-again c =
       ap₂ _+_ (inv .1) (call .ensures .0) ∙ sym (count-next o (due s)) ∙ sym (count-passed (s .args .n) own (s .args .a) (o + 1) j (walks e) (due s) (due-own s)),
       call .kept .0 ∙ inv .2,
       λ i. ap (λ (t : List ℕ). getD t i 0) (call .ensures .1)
-          ∙ guarded-more (e .before .loop .transit) 0 (new s) (old s) (to s) o (due s) (omega (arith, to-in s o l, s .pre .0 .transit-long, inv .2)) (inv .3) _
+          ∙ guarded-more (e .before .loop .transit) 0 (new s) (old s) (to s) o (due s) (omega (arith, l, s .pre .0 .transit-long, inv .2)) (inv .3) _
           (ap (λ (x : ℕ). getD (now (s .args .known)) (from s + x) 0) (omega arith)) i
           ∙ ap (λ (t : Bool). cond t (new s i) (old s i)) (sym (guarded-passed (s .args .n) own (s .args .a) (o + 1) j (walks e) (due s) (due-own s) (to s) i)),
       walks e .hits,
@@ -174,10 +164,10 @@ same-length : tie.Need-same-length Inv-loop μ-loop
 same-length c = c .before .loop .inv .2
 
 -- The new word of column o is the sender's.
-row-word : (s : Start) (o : ℕ) → o < s .args .n → new s (to s + o) ≡ cell (s .args .k) (s .args .n) (now (s .args .known)) 0 (s .args .a) o
-row-word s o l =
+row-word : (s : Start) (k : ℕ) → s .args .a < k → (o : ℕ) → o < s .args .n → new s (to s + o) ≡ cell k (s .args .n) (now (s .args .known)) 0 (s .args .a) o
+row-word s k la o l =
     ap (λ (x : ℕ). getD (now (s .args .known)) (from s + x) 0) (omega arith)
-    ∙ sym (cell-at (s .args .k) (s .args .n) (now (s .args .known)) 0 (s .args .a) o (s .pre .0 .a-in) l)
+    ∙ sym (cell-at k (s .args .n) (now (s .args .known)) 0 (s .args .a) o la l)
 
 returns : tie.Need-returns Inv-loop μ-loop
 unfolding sentTransit
@@ -185,8 +175,8 @@ returns c =
     let s = begun (c .before .before) in
     let inv = c .before .loop .inv in
     let end : c .before .loop .o ≡ s .args .n = le-antisymm (inv .0) (c .loop-test .left) in (
-      row-stored (s .args .k) (s .args .n) (s .args .b) (to s) (c .before .loop .o) (now (s .args .transit)) (c .before .loop .transit) 0
-          (due s) (new s) (cell (s .args .k) (s .args .n) (now (s .args .known)) 0 (s .args .a)) (s .pre .0 .b-in) (s .pre .0 .transit-long) refl end (inv .2) (inv .3) (row-word s),
+      (λ k h. row-stored k (s .args .n) (s .args .b) (to s) (c .before .loop .o) (now (s .args .transit)) (c .before .loop .transit) 0
+          (due s) (new s) (cell k (s .args .n) (now (s .args .known)) 0 (s .args .a)) (h .b-in) (h .transit-long) refl end (inv .2) (inv .3) (row-word s k (h .a-in))),
       inv .1 ∙ ap (λ (m : ℕ). count m (due s)) end,
     )
 

@@ -6,7 +6,7 @@ use Rattle.tables.proofs.checks.job_short.Tie as tie
 
 returns : tie.Need-returns
 unfolding jobShort jobLengths
-returns c = refl
+returns c boxes = refl
 
 pub job-short-spec : {M : Type 1} → statement M
 job-short-spec = tie.close (tie.spec returns)

@@ -2,7 +2,7 @@
 use mathlib.Core.Path.{_≡_, refl, sym, ap, ap₂, _∙_, subst}
 use mathlib.Core.Bool.{Bool, true, cond, _&&_}
 use mathlib.Core.List.{List}
-use Prim.Native.Nat.{ℕ, _≤_, _<_, _+_, _*_, _-_}
+use Prim.Native.Nat.{ℕ, _≤_, _<_, _+_, _-_}
 use native.Mathlib.Nat.{le-antisymm}
 use native.Mathlib.Omega.{arith}
 use lib.Dec.{ltb}
@@ -11,7 +11,6 @@ use lib.IntN.{ℤ, pos, natAbs, _+ℤ_}
 use borrow.Author.Needs.{needs}
 use Rattle.laws.proofs.Loops.{guarded, guarded-more, guarded-next, guarded-none, front-more, front-next, front-none, row-stored}
 use Rattle.laws.proofs.Bools.{cond-no}
-use Rattle.laws.proofs.Tables.{row-in}
 use Rattle.links.specs.Links.{Skips}
 use Rattle.totals.specs.Credit.{credited, cleared}
 use Rattle.links.proofs.Walks.{guarded-passed}
@@ -23,7 +22,7 @@ use Rattle.model.proofs.Step.{around-at}
 use Rattle.totals.proofs.credit.credit.Tie as tie
 
 abbrev Inv-loop : tie.InvT-loop
-Inv-loop k m a from owner sharers links source₀ statement₀ at g₀ source statement g =
+Inv-loop m a from owner sharers links source₀ statement₀ at g₀ source statement g =
     (g ≤ m)
     × (length source ≡ length source₀)
     × (length statement ≡ length statement₀)
@@ -32,7 +31,7 @@ Inv-loop k m a from owner sharers links source₀ statement₀ at g₀ source st
     × (g < m → getD owner g 0 ≡ a)
 
 abbrev μ-loop : tie.MeasureT-loop
-μ-loop k m a from owner sharers links source₀ statement₀ at g₀ source statement g = m - g
+μ-loop m a from owner sharers links source₀ statement₀ at g₀ source statement g = m - g
 
 abbrev Start : Type 0
 Start = tie.Start Inv-loop μ-loop
@@ -60,10 +59,8 @@ abbrev start : tie.In-loop Inv-loop μ-loop → ℕ
 start c = c .before .before .before .row-start .result
 
 -- A word of the row lies within the table.
-place : (c : tie.In-loop Inv-loop μ-loop) → start c + c .before .loop .g < entry c .args .k * entry c .args .m
-place c =
-    let s = entry c in
-    omega (arith, row-in (s .args .from) (s .args .k) (s .args .m) (s .pre .0 .2), c .before .before .before .row-start .ensures, c .loop-test .taken)
+place : (c : tie.In-loop Inv-loop μ-loop) → start c + c .before .loop .g < length (now (entry c .args .source))
+place c = omega (arith, c .before .before .before .row-start .ensures, c .loop-test .taken, entry c .pre .1 .0 .0 .long)
 
 -- The words that a turn adds are those at the start.
 total-is : (c : tie.In-loop Inv-loop μ-loop) → getD (c .before .loop .source) (start c + c .before .loop .g) (pos 0) ≡ was (entry c) (start c + c .before .loop .g)
@@ -72,6 +69,11 @@ total-is c =
     let i = start c + c .before .loop .g in
     c .before .loop .inv .3 i ∙ cond-no _ (pos 0) (was s i) (guarded-next (start c) (c .before .loop .g) (test s))
 
+was-in : (c : tie.In-loop Inv-loop μ-loop) → natAbs (was (entry c) (start c + c .before .loop .g)) ≤ 1_000_000_000_000_000
+was-in c =
+    let g = c .before .loop .g in
+    subst (λ (x : ℕ). natAbs (was (entry c) (x + g)) ≤ 1_000_000_000_000_000) (sym (c .before .before .before .row-start .ensures)) (entry c .pre .1 .0 .0 .words-in g (c .loop-test .taken))
+
 old-is : (c : tie.In-loop Inv-loop μ-loop) → getD (c .before .loop .statement) (c .before .loop .g) (pos 0) ≡ old (entry c) (c .before .loop .g)
 old-is c =
     let s = entry c in
@@ -79,21 +81,21 @@ old-is c =
     c .before .loop .inv .4 g ∙ cond-no _ (old s g +ℤ was s (start c + g)) (old s g) (front-next g (test s g))
 
 row-start-requires : tie.Need-row-start-requires Inv-loop μ-loop
-row-start-requires c κs = (omega (arith, c .before .pre .0 .1), omega (arith, c .before .pre .0 .0, c .before .pre .0 .2))
+row-start-requires c κs = (omega (arith, c .before .pre .0 .0), c .before .pre .0 .1)
 
 -- The totals that are credited are of box a's grocers.
 keyed : (s : Start) (x : ℕ) → test s x ≡ true → getD (now (s .args .owner)) x 0 ≡ s .args .a
 keyed s = credit-owner (now (s .args .owner)) (now (s .args .sharers)) (s .args .a) (s .args .from)
 
 begin-requires : tie.Need-begin-requires Inv-loop μ-loop
-begin-requires c κs = c .before .before .pre .1 .1
+begin-requires c κs = c .before .before .pre .1 .1 .0
 
 loop-holds : tie.Need-loop-holds Inv-loop μ-loop
 loop-holds c =
     let s = c .before .before .before in
     let g = c .begin .result in
     let at = c .before .row-start .result in
-    let k : Skips (s .args .m) (now (s .args .owner)) (s .args .a) 0 g = c .begin .ensures in (
+    let k : Skips (s .args .m) (now (s .args .owner)) (s .args .a) 0 g = c .begin .ensures (s .args .m) (now (s .args .owner)) (s .pre .1 .1 .1) in (
       k .to,
       refl,
       refl,
@@ -103,7 +105,7 @@ loop-holds c =
     )
 
 add-credit-one : tie.Need-add-credit-one Inv-loop μ-loop
-add-credit-one c = omega (arith, place c, entry c .pre .1 .0 .0 .long)
+add-credit-one c = omega (arith, place c)
 
 credit-one-requires : tie.Need-credit-one-requires Inv-loop μ-loop
 credit-one-requires c κs =
@@ -112,17 +114,17 @@ credit-one-requires c κs =
     let g = e .before .loop .g in
     let inv = e .before .loop .inv in
     record {
-      from-in = omega (arith, s .pre .0 .0, s .pre .0 .2);
-      grocer-in = omega (arith, s .pre .0 .1, e .loop-test .taken);
-      owner-long = omega (arith, s .pre .0 .3, e .loop-test .taken);
-      total-long = omega (arith, place e, s .pre .1 .0 .0 .long, inv .1);
+      from-in = s .pre .0 .1;
+      grocer-in = omega (arith, s .pre .0 .0, e .loop-test .taken);
+      owner-long = omega (arith, s .pre .0 .2, e .loop-test .taken);
+      total-long = omega (arith, place e, inv .1);
       statement-long = omega (arith, s .pre .1 .0 .1 .long, e .loop-test .taken, inv .2);
-      total-in = subst (λ (z : ℤ). natAbs z ≤ 1_000_000_000_000_000) (sym (total-is e)) (around-at 1_000_000_000_000_000 (s .args .k * s .args .m) (now (s .args .source)) (start e + g) (s .pre .1 .0 .0 .words-in) (place e));
+      total-in = subst (λ (z : ℤ). natAbs z ≤ 1_000_000_000_000_000) (sym (total-is e)) (was-in e);
       statement-in = subst (λ (z : ℤ). natAbs z ≤ 1_000_000_000_000_000) (sym (old-is e)) (around-at 1_000_000_000_000_000 (s .args .m) (now (s .args .statement)) g (s .pre .1 .0 .1 .words-in) (e .loop-test .taken));
     }
 
 element-copy-out-index : tie.Need-element-copy-out-index Inv-loop μ-loop
-element-copy-out-index c = let e = c .before .before .before .before .before in omega (arith, e .loop-test .taken, entry e .pre .0 .1)
+element-copy-out-index c = let e = c .before .before .before .before .before in omega (arith, e .loop-test .taken, entry e .pre .0 .0)
 
 -- The link goes to the next grocer of box a.
 link : (c : tie.After-index Inv-loop μ-loop) →
@@ -151,7 +153,7 @@ loop-again c =
       call .kept .1 .1 .1 .1 .1 .1 .0 ∙ inv .1,
       call .kept .1 .1 .1 .1 .1 .1 .1 .0 ∙ inv .2,
       λ i. ap (λ (l : List ℤ). getD l i (pos 0)) (call .ensures .0)
-          ∙ guarded-more (e .before .loop .source) (pos 0) (λ i. pos 0) (was s) at g (test s) (omega (arith, place e, s .pre .1 .0 .0 .long, inv .1)) (inv .3) (pos 0) refl i
+          ∙ guarded-more (e .before .loop .source) (pos 0) (λ i. pos 0) (was s) at g (test s) (omega (arith, place e, inv .1)) (inv .3) (pos 0) refl i
           ∙ ap (λ (t : Bool). cond t (pos 0) (was s i)) (sym (guarded-passed (s .args .m) (now (s .args .owner)) (s .args .a) (g + 1) h k (test s) (keyed s) at i)),
       λ i. ap (λ (l : List ℤ). getD l i (pos 0)) (call .ensures .1)
           ∙ front-more (e .before .loop .statement) (pos 0) (λ i. old s i +ℤ was s (at + i)) (old s) g (test s) (omega (arith, s .pre .1 .0 .1 .long, e .loop-test .taken, inv .2)) (inv .4) _ (ap₂ _+ℤ_ (old-is e) (total-is e)) i
@@ -167,16 +169,14 @@ same-length-2 c = c .before .loop .inv .2
 
 returns : tie.Need-returns Inv-loop μ-loop
 unfolding cleared
-returns c =
+returns c k lf long =
     let s = c .before .before .before .before .before in
-    let k = s .args .k in
     let m = s .args .m in
     let at = c .before .before .before .row-start in
     let inv = c .before .loop .inv in
     let done : c .before .loop .g ≡ m = le-antisymm (inv .0) (c .loop-test .left) in (
-      row-stored k m (s .args .from) (at .result) (c .before .loop .g) (now (s .args .source)) (c .before .loop .source) (pos 0) (test s) (λ i. pos 0) (λ g. pos 0) (s .pre .0 .2)
-          (s .pre .1 .0 .0 .long) (at .ensures) done (inv .1) (inv .3) (λ o l. refl),
-      credit-stored k m (s .args .from) (test s) (now (s .args .source)) (now (s .args .statement)) (s .pre .0 .2) (c .before .loop .statement) (at .result) (c .before .loop .g) (s .pre .1 .0 .1 .long) (at .ensures) done (inv .2) (inv .4),
+      row-stored k m (s .args .from) (at .result) (c .before .loop .g) (now (s .args .source)) (c .before .loop .source) (pos 0) (test s) (λ i. pos 0) (λ g. pos 0) lf long (at .ensures) done (inv .1) (inv .3) (λ o l. refl),
+      credit-stored k m (s .args .from) (test s) (now (s .args .source)) (now (s .args .statement)) lf (c .before .loop .statement) (at .result) (c .before .loop .g) (s .pre .1 .0 .1 .long) (at .ensures) done (inv .2) (inv .4),
     )
 
 pub credit-spec : {M : Type 1} → statement M

@@ -2,45 +2,38 @@
 -- Assumes nothing.
 use mathlib.Core.Path.{_≡_, refl, sym, ap, _∙_, subst}
 use mathlib.Core.List.{List}
-use Prim.Native.Nat.{ℕ, _≤_, _<_, _+_, _*_, _-_}
+use Prim.Native.Nat.{ℕ, _≤_, _<_, _+_, _-_}
 use native.Mathlib.Nat.{le-antisymm}
 use native.Mathlib.Omega.{arith}
 use lib.ListN.{length, getD, length-set}
 use lib.IntN.{ℤ, pos, natAbs, _+ℤ_, +ℤ-idr}
 use borrow.Author.Needs.{needs}
 use Rattle.laws.specs.Below.{integers, sum}
-use Rattle.laws.proofs.Loops.{share, pile-more, pile-size}
+use Rattle.laws.proofs.Loops.{share, pile-more}
 use Rattle.laws.proofs.Sums.{sum-start, sum-over}
 use Rattle.links.specs.Links.{Skips}
-use Rattle.totals.specs.Row.{Tallies, tallies, brings}
+use Rattle.totals.specs.Row.{brings}
 use denote.Ref.{now}
-use Rattle.totals.proofs.Rows.{tally-in, brought-abs, grocer-cell, row-piled}
+use Rattle.totals.proofs.Rows.{tally-at, small-still, row-piled}
 use Rattle.totals.proofs.Walks.{goes-to, other-share}
 use Rattle.totals.proofs.row.add_products.Statement.{statement}
-use Rattle.model.proofs.Step.{around-at}
 use Rattle.totals.proofs.row.add_products.Tie as tie
 
 abbrev Inv-loop : tie.InvT-loop
-Inv-loop k m n t a from links owner grocer holder offer counts prices working₀ at base b i₀ working i =
+Inv-loop m n t a from links owner grocer holder offer counts prices working₀ at base b i₀ working i =
     (i ≤ t)
     × (length working ≡ length working₀)
     × ((p : ℕ) → getD working p (pos 0) ≡ getD working₀ p (pos 0) +ℤ sum integers i (share (λ j. base + getD grocer j 0) (brings owner holder offer counts prices a from at) p))
     × (i < t → getD holder i 0 ≡ a)
 
 abbrev μ-loop : tie.MeasureT-loop
-μ-loop k m n t a from links owner grocer holder offer counts prices working₀ at base b i₀ working i = t - i
+μ-loop m n t a from links owner grocer holder offer counts prices working₀ at base b i₀ working i = t - i
 
 abbrev Start : Type 0
 Start = tie.Start Inv-loop μ-loop
 
-abbrev tables : Start → Tallies
-tables s = tallies (s .args .k) (s .args .m) (s .args .n) (s .args .t) (now (s .args .offer-owner)) (now (s .args .tally-grocer)) (now (s .args .tally-box)) (now (s .args .tally-offer)) (now (s .args .tally-count))
-
-abbrev prices : Start → List ℕ
-prices s = now (s .args .prices)
-
 abbrev brought : Start → ℕ → ℕ → ℤ
-brought s at = brings (now (s .args .offer-owner)) (now (s .args .tally-box)) (now (s .args .tally-offer)) (now (s .args .tally-count)) (prices s) (s .args .a) (s .args .from) at
+brought s at = brings (now (s .args .offer-owner)) (now (s .args .tally-box)) (now (s .args .tally-offer)) (now (s .args .tally-count)) (now (s .args .prices)) (s .args .a) (s .args .from) at
 
 abbrev place : Start → ℕ → ℕ → ℕ
 place s base i = base + getD (now (s .args .tally-grocer)) i 0
@@ -64,49 +57,45 @@ base-of c = c .row-start2 .result
 -- A tally of another box adds nothing to any word.
 none : (s : Start) (at base p i j : ℕ) → Skips (s .args .t) (now (s .args .tally-box)) (s .args .a) i j → (x : ℕ) → i ≤ x → x < j → share (place s base) (brought s at) p x ≡ integers .none
 unfolding integers
-none s at base p i j k x l q = other-share (now (s .args .offer-owner)) (now (s .args .tally-box)) (now (s .args .tally-offer)) (now (s .args .tally-count)) (prices s) (place s base) (s .args .a) (s .args .from) at p x (k .none x l q)
+none s at base p i j k x l q =
+    other-share (now (s .args .offer-owner)) (now (s .args .tally-box)) (now (s .args .tally-offer)) (now (s .args .tally-count)) (now (s .args .prices)) (place s base) (s .args .a) (s .args .from) at p x (k .none x l q)
 
 -- The word of a tally's grocer in row a is within the table, and small enough to add to.
-inside : (c : tie.In-loop Inv-loop μ-loop) → let r = rows (c .before .before) in place (entry r) (base-of r) (c .before .loop .i) < entry r .args .k * entry r .args .m
+inside : (c : tie.In-loop Inv-loop μ-loop) → let r = rows (c .before .before) in place (entry r) (base-of r) (c .before .loop .i) < length (now (entry r .args .working))
 inside c =
     let r = rows (c .before .before) in
     let s = entry r in
-    grocer-cell (tables s) (prices s) (s .args .a) (s .args .from) (at-of r) (s .pre .0) (s .pre .1 .0) (s .pre .1 .1 .1 .0) (r .before .row-start .ensures) (base-of r) (c .before .loop .i) (r .row-start2 .ensures) (c .loop-test .taken)
+    omega (arith, r .row-start2 .ensures, s .pre .0 .grocer-in (c .before .loop .i) (c .loop-test .taken), s .pre .1 .0 .long)
 
 small : (c : tie.In-loop Inv-loop μ-loop) → let r = rows (c .before .before) in natAbs (getD (c .before .loop .working) (place (entry r) (base-of r) (c .before .loop .i)) (pos 0)) ≤ 2_000_000_000_000_000
 small c =
     let r = rows (c .before .before) in
     let s = entry r in
-    let at = at-of r in
     let i = c .before .loop .i in
-    let p = place s (base-of r) i in
-    omega (
-      arith,
-      s .pre .0 .tallies-in,
-      c .loop-test .taken,
-      pile-size (now (s .args .working)) (c .before .loop .working) (place s (base-of r)) (brought s at) i p 1_000_000_000_000_000 999_989_900_001 (c .before .loop .inv .2 p)
-          (around-at 1_000_000_000_000_000 (s .args .k * s .args .m) (now (s .args .working)) p (s .pre .1 .1 .0 .words-in) (inside c))
-          (λ j l. brought-abs (tables s) (prices s) (s .args .a) (s .args .from) at (s .pre .0) (s .pre .1 .0) (s .pre .1 .1 .1 .0) (r .before .row-start .ensures) j (omega (arith, l, c .loop-test .taken))),
-    )
+    let g = getD (now (s .args .tally-grocer)) i 0 in
+    small-still (s .args .m) (s .args .n) (s .args .t) (s .args .a) (now (s .args .offer-owner)) (now (s .args .tally-grocer)) (now (s .args .tally-box)) (now (s .args .tally-offer)) (now (s .args .tally-count))
+    (now (s .args .prices)) (s .args .from) (at-of r) (s .pre .0) (r .before .row-start .ensures) (now (s .args .working)) (c .before .loop .working) (place s (base-of r)) i (place s (base-of r) i) (c .loop-test .taken)
+    (subst (λ (x : ℕ). natAbs (getD (now (s .args .working)) (x + g) (pos 0)) ≤ 1_000_000_000_000_000) (sym (r .row-start2 .ensures)) (s .pre .1 .0 .words-in g (s .pre .0 .grocer-in i (c .loop-test .taken))))
+    (c .before .loop .inv .2 (place s (base-of r) i))
 
 row-start-requires : tie.Need-row-start-requires Inv-loop μ-loop
-row-start-requires c κs = let s = lent c in (s .pre .0 .offers-in, omega (arith, s .pre .0 .boxes-in, s .pre .1 .1 .1 .0))
+row-start-requires c κs = let s = lent c in (s .pre .0 .offers-in, s .pre .0 .box-in)
 
 row-start-requires-2 : tie.Need-row-start-requires-2 Inv-loop μ-loop
-row-start-requires-2 c κs = let s = lent (c .before) in (omega (arith, s .pre .0 .grocers-in), omega (arith, s .pre .0 .boxes-in, s .pre .1 .1 .1 .0))
+row-start-requires-2 c κs = let s = lent (c .before) in (omega (arith, s .pre .0 .grocers-in), s .pre .0 .box-in)
 
 mul-index : tie.Need-mul-index Inv-loop μ-loop
-mul-index c = let s = entry (c .before) in omega (arith, c .index .ensures, s .pre .0 .boxes-in, s .pre .1 .1 .1 .0)
+mul-index c = let s = entry (c .before) in omega (arith, c .index .ensures, s .pre .0 .box-in)
 
 element-copy-out-index : tie.Need-element-copy-out-index Inv-loop μ-loop
-element-copy-out-index c = let s = entry (c .before) in omega (arith, c .index .ensures, s .pre .0 .boxes-in, s .pre .1 .1 .1 .0)
+element-copy-out-index c = let s = entry (c .before) in omega (arith, c .index .ensures, s .pre .0 .box-in)
 
 -- The walk begins at the first tally of box a.
 first-of : (c : tie.After-index2 Inv-loop μ-loop) → let s = entry (rows c) in Skips (s .args .t) (now (s .args .tally-box)) (s .args .a) 0 (c .index2 .result)
 first-of c =
     let s = entry (rows c) in
     subst (λ (x : ℕ). Skips (s .args .t) (now (s .args .tally-box)) (s .args .a) 0 x) (sym (c .index2 .ensures ∙ ap (λ (b : ℕ). getD (now (s .args .tally-links)) b 0) (c .before .before .index .ensures)))
-    (s .pre .1 .1 .1 .1 .begins (s .args .a) (omega (arith, s .pre .0 .boxes-in, s .pre .1 .1 .1 .0)))
+    (s .pre .1 .1 .begins (s .args .a) (omega (arith, s .pre .0 .box-in)))
 
 loop-holds : tie.Need-loop-holds Inv-loop μ-loop
 unfolding integers
@@ -128,8 +117,9 @@ add-tally-requires c κs =
     let e = c .before in
     let r = rows (e .before .before) in
     let s = entry r in (
-      tally-in (tables s) (prices s) (s .args .a) (s .args .from) (at-of r) (s .pre .0) (s .pre .1 .0) (s .pre .1 .1 .1 .0) (r .before .row-start .ensures) (e .before .loop .i) (e .loop-test .taken),
-      (omega (arith, inside e, s .pre .1 .1 .0 .long, e .before .loop .inv .1), small e),
+      tally-at (s .args .m) (s .args .n) (s .args .t) (s .args .a) (now (s .args .offer-owner)) (now (s .args .tally-grocer)) (now (s .args .tally-box)) (now (s .args .tally-offer)) (now (s .args .tally-count))
+          (now (s .args .prices)) (s .args .from) (at-of r) (s .pre .0) (r .before .row-start .ensures) (e .before .loop .i) (e .loop-test .taken),
+      (omega (arith, inside e, e .before .loop .inv .1), small e),
     )
 
 add-index : tie.Need-add-index Inv-loop μ-loop
@@ -149,7 +139,7 @@ link : (c : tie.After-index3 Inv-loop μ-loop) →
 link c =
     let e = c .before .before .before .before .before in
     let s = entry (rows (e .before .before)) in
-    goes-to (s .args .t) (now (s .args .tally-box)) (now (s .args .tally-links)) (s .args .a) (e .before .loop .i) (c .index3 .result) (s .pre .1 .1 .1 .1) (e .loop-test .taken)
+    goes-to (s .args .t) (now (s .args .tally-box)) (now (s .args .tally-links)) (s .args .a) (e .before .loop .i) (c .index3 .result) (s .pre .1 .1) (e .loop-test .taken)
     (e .before .loop .inv .3 (e .loop-test .taken)) (c .index3 .ensures)
 
 loop-less : tie.Need-loop-less Inv-loop μ-loop
@@ -171,7 +161,7 @@ loop-again c =
       k .to,
       ap length (call .ensures) ∙ length-set w (place s base i) _ ∙ inv .1,
       λ p. ap (λ (l : List ℤ). getD l p (pos 0)) (call .ensures)
-          ∙ pile-more (now (s .args .working)) w (place s base) (brought s at) i (inv .2) (omega (arith, inside e, s .pre .1 .1 .0 .long, inv .1)) p
+          ∙ pile-more (now (s .args .working)) w (place s base) (brought s at) i (inv .2) (omega (arith, inside e, inv .1)) p
           ∙ ap (λ (z : ℤ). getD (now (s .args .working)) p (pos 0) +ℤ z) (sym (sum-over integers (i + 1) h (share (place s base) (brought s at) p) (k .from) (none s at base p (i + 1) h k))),
       k .hits,
     )
@@ -180,12 +170,12 @@ same-length : tie.Need-same-length Inv-loop μ-loop
 same-length c = c .before .loop .inv .1
 
 returns : tie.Need-returns Inv-loop μ-loop
-returns c =
+returns c k la long =
     let r = rows (c .before .before) in
     let s = entry r in
     let inv = c .before .loop .inv in
-    row-piled (tables s) (prices s) (s .args .a) (s .args .from) (at-of r) (s .pre .0) (s .pre .1 .0) (s .pre .1 .1 .1 .0) (r .before .row-start .ensures) (base-of r) (now (s .args .working))
-    (c .before .loop .working) (r .row-start2 .ensures) (s .pre .1 .1 .0 .long) (inv .1)
+    row-piled (s .args .m) (s .args .n) (s .args .t) (s .args .a) (now (s .args .offer-owner)) (now (s .args .tally-grocer)) (now (s .args .tally-box)) (now (s .args .tally-offer)) (now (s .args .tally-count))
+    (now (s .args .prices)) (s .args .from) (at-of r) (s .pre .0) (r .before .row-start .ensures) k la (base-of r) (now (s .args .working)) (c .before .loop .working) (r .row-start2 .ensures) long (inv .1)
     (λ p. inv .2 p ∙ ap (λ (n : ℕ). getD (now (s .args .working)) p (pos 0) +ℤ sum integers n (share (place s (base-of r)) (brought s (at-of r)) p)) (le-antisymm (inv .0) (c .loop-test .left)))
 
 pub add-products-spec : {M : Type 1} → statement M

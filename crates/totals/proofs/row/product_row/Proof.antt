@@ -8,35 +8,29 @@ use lib.ListN.{length, getD, length-set}
 use lib.IntN.{ℤ, pos, natAbs, _+ℤ_, +ℤ-idr}
 use borrow.Author.Needs.{needs}
 use Rattle.laws.specs.Below.{integers, sum}
-use Rattle.laws.proofs.Loops.{share, pile-more, pile-size}
+use Rattle.laws.proofs.Loops.{share, pile-more}
 use Rattle.laws.proofs.Tables.{is-tabulate}
 use Rattle.laws.proofs.Sums.{sum-start}
-use Rattle.totals.specs.Row.{Tallies, tallies, brings, raised, productRow}
+use Rattle.totals.specs.Row.{brings, raised, productRow}
 use denote.Ref.{now}
-use Rattle.totals.proofs.Rows.{tally-in, brought-abs, brought-sum, row-word, row-size}
+use Rattle.totals.proofs.Rows.{tally-at, small-still, brought-sum, row-word, row-size}
 use Rattle.totals.proofs.row.product_row.Statement.{statement}
 use Rattle.totals.proofs.row.product_row.Tie as tie
 
 abbrev Inv-loop : tie.InvT-loop
-Inv-loop k m n t a from owner grocer holder offer counts prices working row₀ at i₀ row i =
+Inv-loop m n t a from owner grocer holder offer counts prices working row₀ at i₀ row i =
     (i ≤ t)
     × (length row ≡ 255)
     × ((g : ℕ) → getD row g (pos 0) ≡ getD row₀ g (pos 0) +ℤ sum integers i (share (λ j. getD grocer j 0) (brings owner holder offer counts prices a from at) g))
 
 abbrev μ-loop : tie.MeasureT-loop
-μ-loop k m n t a from owner grocer holder offer counts prices working row₀ at i₀ row i = t - i
+μ-loop m n t a from owner grocer holder offer counts prices working row₀ at i₀ row i = t - i
 
 abbrev Start : Type 0
 Start = tie.Start Inv-loop μ-loop
 
-abbrev tables : Start → Tallies
-tables s = tallies (s .args .k) (s .args .m) (s .args .n) (s .args .t) (now (s .args .offer-owner)) (now (s .args .tally-grocer)) (now (s .args .tally-box)) (now (s .args .tally-offer)) (now (s .args .tally-count))
-
-abbrev prices : Start → List ℕ
-prices s = now (s .args .prices)
-
 abbrev brought : Start → ℕ → ℕ → ℤ
-brought s at = brings (now (s .args .offer-owner)) (now (s .args .tally-box)) (now (s .args .tally-offer)) (now (s .args .tally-count)) (prices s) (s .args .a) (s .args .from) at
+brought s at = brings (now (s .args .offer-owner)) (now (s .args .tally-box)) (now (s .args .tally-offer)) (now (s .args .tally-count)) (now (s .args .prices)) (s .args .a) (s .args .from) at
 
 abbrev place : Start → ℕ → ℕ
 place s i = getD (now (s .args .tally-grocer)) i 0
@@ -51,31 +45,24 @@ abbrev entry : tie.After-row-start Inv-loop μ-loop → Start
 entry c = lent (c .before .before)
 
 -- A grocer's place is within the row, and the row's word there is small enough to add to.
-grocer-in : (c : tie.In-loop Inv-loop μ-loop) → place (entry (began c)) (c .before .loop .i) < 255
-grocer-in c =
-    let s = entry (began c) in
-    tally-in (tables s) (prices s) (s .args .a) (s .args .from) (began c .row-start .result) (s .pre .0) (s .pre .1 .0) (s .pre .1 .1 .1) (began c .row-start .ensures) (c .before .loop .i) (c .loop-test .taken) .grocer-in
+grocer-in : (c : tie.In-loop Inv-loop μ-loop) → place (entry (began c)) (c .before .loop .i) < entry (began c) .args .m
+grocer-in c = entry (began c) .pre .0 .grocer-in (c .before .loop .i) (c .loop-test .taken)
 
 small : (c : tie.In-loop Inv-loop μ-loop) → natAbs (getD (c .before .loop .row) (place (entry (began c)) (c .before .loop .i)) (pos 0)) ≤ 2_000_000_000_000_000
 small c =
     let s = entry (began c) in
-    let at = began c .row-start .result in
-    let i = c .before .loop .i in
-    omega (
-      arith,
-      s .pre .0 .tallies-in,
-      c .loop-test .taken,
-      pile-size (began c .before .row-at .result) (c .before .loop .row) (place s) (brought s at) i (place s i) 1_000_000_000_000_000 999_989_900_001 (c .before .loop .inv .2 (place s i))
-          (subst (λ (r : List ℤ). natAbs (getD r (place s i) (pos 0)) ≤ 1_000_000_000_000_000) (sym (began c .before .row-at .ensures))
-          (row-size (s .args .k) (s .args .m) (s .args .a) (now (s .args .working)) (place s i) (s .pre .1 .1 .0) (grocer-in c)))
-          (λ r l. brought-abs (tables s) (prices s) (s .args .a) (s .args .from) at (s .pre .0) (s .pre .1 .0) (s .pre .1 .1 .1) (began c .row-start .ensures) r (omega (arith, l, c .loop-test .taken))),
-    )
+    let row = began c .before .row-at in
+    let p = place s (c .before .loop .i) in
+    small-still (s .args .m) (s .args .n) (s .args .t) (s .args .a) (now (s .args .offer-owner)) (now (s .args .tally-grocer)) (now (s .args .tally-box)) (now (s .args .tally-offer)) (now (s .args .tally-count))
+    (now (s .args .prices)) (s .args .from) (began c .row-start .result) (s .pre .0) (began c .row-start .ensures) (row .result) (c .before .loop .row) (place s) (c .before .loop .i) p (c .loop-test .taken)
+    (subst (λ (r : List ℤ). natAbs (getD r p (pos 0)) ≤ 1_000_000_000_000_000) (sym (row .ensures)) (row-size (s .args .m) (s .args .a) (now (s .args .working)) p (s .pre .1) (grocer-in c) (s .pre .0 .grocers-in)))
+    (c .before .loop .inv .2 p)
 
 row-at-requires : tie.Need-row-at-requires Inv-loop μ-loop
-row-at-requires c κs = let s = lent c in (s .pre .0 .boxes-in, s .pre .0 .grocers-in, s .pre .1 .1 .1, s .pre .1 .1 .0 .long)
+row-at-requires c κs = let s = lent c in (s .pre .0 .grocers-in, s .pre .0 .box-in, s .pre .1 .long)
 
 row-start-requires : tie.Need-row-start-requires Inv-loop μ-loop
-row-start-requires c κs = let s = lent (c .before) in (s .pre .0 .offers-in, omega (arith, s .pre .0 .boxes-in, s .pre .1 .1 .1))
+row-start-requires c κs = let s = lent (c .before) in (s .pre .0 .offers-in, s .pre .0 .box-in)
 
 loop-holds : tie.Need-loop-holds Inv-loop μ-loop
 unfolding integers
@@ -93,14 +80,11 @@ from-0 x = omega arith
 
 add-tally-requires : tie.Need-add-tally-requires Inv-loop μ-loop
 add-tally-requires c κs =
-    let s = entry (began (c .before)) in (
-      tally-in (tables s) (prices s) (s .args .a) (s .args .from) (began (c .before) .row-start .result) (s .pre .0) (s .pre .1 .0) (s .pre .1 .1 .1) (began (c .before) .row-start .ensures)
-          (c .before .before .loop .i) (c .before .loop-test .taken),
-      (
-        omega (arith, grocer-in (c .before), c .before .before .loop .inv .1),
-        rw (from-0 (place s (c .before .before .loop .i)))
-            (small (c .before)),
-      ),
+    let e = c .before in
+    let s = entry (began e) in (
+      tally-at (s .args .m) (s .args .n) (s .args .t) (s .args .a) (now (s .args .offer-owner)) (now (s .args .tally-grocer)) (now (s .args .tally-box)) (now (s .args .tally-offer)) (now (s .args .tally-count))
+          (now (s .args .prices)) (s .args .from) (began e .row-start .result) (s .pre .0) (began e .row-start .ensures) (e .before .loop .i) (e .loop-test .taken),
+      (omega (arith, grocer-in e, s .pre .0 .grocers-in, e .before .loop .inv .1), rw (from-0 (place s (e .before .loop .i))) (small e)),
     )
 
 loop-again : tie.Need-loop-again Inv-loop μ-loop
@@ -114,21 +98,22 @@ loop-again c =
     let stored = c .before .add-tally .ensures ∙ ap (λ (g : ℕ). raised row g (brought s at i)) (from-0 (place s i)) in (
       omega (arith, e .loop-test .taken),
       ap length stored ∙ length-set row (place s i) _ ∙ inv .1,
-      λ g. ap (λ (l : List ℤ). getD l g (pos 0)) stored ∙ pile-more (began e .before .row-at .result) row (place s) (brought s at) i (inv .2) (omega (arith, grocer-in e, inv .1)) g,
+      λ g. ap (λ (l : List ℤ). getD l g (pos 0)) stored ∙ pile-more (began e .before .row-at .result) row (place s) (brought s at) i (inv .2) (omega (arith, grocer-in e, s .pre .0 .grocers-in, inv .1)) g,
     )
 
 returns : tie.Need-returns Inv-loop μ-loop
 unfolding productRow
-returns c =
+returns c k la =
     let b = c .before .before in
     let s = entry b in
     let inv = c .before .loop .inv in
     is-tabulate (c .before .loop .row) 255 _ (pos 0) (inv .1)
     (λ g l. inv .2 g
     ∙ ap₂ _+ℤ_
-    (ap (λ (r : List ℤ). getD r g (pos 0)) (b .before .row-at .ensures) ∙ row-word (s .args .k) (s .args .m) (s .args .a) (now (s .args .working)) g l)
+    (ap (λ (r : List ℤ). getD r g (pos 0)) (b .before .row-at .ensures) ∙ row-word k (s .args .m) (s .args .a) (now (s .args .working)) g la l)
     (ap (λ (n : ℕ). sum integers n (share (place s) (brought s (b .row-start .result)) g)) (le-antisymm (inv .0) (c .loop-test .left))
-    ∙ brought-sum (tables s) (prices s) (s .args .a) (s .args .from) (b .row-start .result) (s .pre .0) (s .pre .1 .0) (s .pre .1 .1 .1) (b .row-start .ensures) g))
+    ∙ brought-sum (s .args .m) (s .args .n) (s .args .t) (s .args .a) (now (s .args .offer-owner)) (now (s .args .tally-grocer)) (now (s .args .tally-box)) (now (s .args .tally-offer)) (now (s .args .tally-count))
+    (now (s .args .prices)) (s .args .from) (b .row-start .result) (s .pre .0) (b .row-start .ensures) k la g))
 
 pub product-row-spec : {M : Type 1} → statement M
 product-row-spec =

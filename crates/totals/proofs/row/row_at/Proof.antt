@@ -11,7 +11,7 @@ use borrow.Author.Tests.{le-ltb}
 use borrow.Author.Needs.{needs}
 use Rattle.laws.proofs.Signed.{read64}
 use Rattle.laws.proofs.Loops.{getD-zeros, stored-more, front-here, front-else}
-use Rattle.laws.proofs.Tables.{is-tabulate, row-in, cell-in-row}
+use Rattle.laws.proofs.Tables.{is-tabulate}
 use Rattle.laws.proofs.Bools.{cond-no}
 use Rattle.totals.specs.Row.{rowOf}
 use denote.Ref.{now}
@@ -19,19 +19,19 @@ use Rattle.totals.proofs.row.row_at.Statement.{statement}
 use Rattle.totals.proofs.row.row_at.Tie as tie
 
 abbrev Inv-loop : tie.InvT-loop
-Inv-loop k m a working row₀ at g₀ row g = (g ≤ m) × (length row ≡ 255) × ((i : ℕ) → getD row i (pos 0) ≡ cond (ltb i g) (getD working (at + i) (pos 0)) (pos 0))
+Inv-loop m a working row₀ at g₀ row g = (g ≤ m) × (length row ≡ 255) × ((i : ℕ) → getD row i (pos 0) ≡ cond (ltb i g) (getD working (at + i) (pos 0)) (pos 0))
 
 abbrev μ-loop : tie.MeasureT-loop
-μ-loop k m a working row₀ at g₀ row g = m - g
+μ-loop m a working row₀ at g₀ row g = m - g
 
 -- A word of the row lies within the table.
 place : (c : tie.In-loop Inv-loop μ-loop) → c .before .before .row-start .result + c .before .loop .g < length (now (c .before .before .before .args .working))
 place c =
     let s = c .before .before .before in
-    omega (arith, row-in (s .args .a) (s .args .k) (s .args .m) (s .pre .2), c .before .before .row-start .ensures, s .pre .3, c .loop-test .taken)
+    omega (arith, c .before .before .row-start .ensures, s .pre .2, c .loop-test .taken)
 
 row-start-requires : tie.Need-row-start-requires Inv-loop μ-loop
-row-start-requires c κs = (omega (arith, c .pre .1), omega (arith, c .pre .0, c .pre .2))
+row-start-requires c κs = (omega (arith, c .pre .0), c .pre .1)
 
 loop-holds : tie.Need-loop-holds Inv-loop μ-loop
 loop-holds c = (search needs, refl, λ i. getD-zeros 255 i (pos 0) ∙ sym (cond-no _ (getD (now (c .before .args .working)) (c .row-start .result + i) (pos 0)) (pos 0) (le-ltb i 0 (omega arith))))
@@ -56,7 +56,7 @@ loop-again c =
     let inv = e .before .loop .inv in (
       omega (arith, e .loop-test .taken),
       length-set row _ _ ∙ inv .1,
-      stored-more row (pos 0) (λ i. getD w (at + i) (pos 0)) (λ i. pos 0) (λ i. ltb i g) (λ i. ltb i (g + 1)) g (omega (arith, e .loop-test .taken, s .pre .1, inv .1)) (inv .2) (front-here g) (front-else g) _
+      stored-more row (pos 0) (λ i. getD w (at + i) (pos 0)) (λ i. pos 0) (λ i. ltb i g) (λ i. ltb i (g + 1)) g (omega (arith, e .loop-test .taken, s .pre .0, inv .1)) (inv .2) (front-here g) (front-else g) _
           (read64 (getD w (at + g) (pos 0)) (c .v .given)),
     )
 
@@ -67,8 +67,7 @@ returns c =
     let inv = c .before .loop .inv in
     is-tabulate (c .before .loop .row) 255 _ (pos 0) (inv .1)
     (λ i l. inv .2 i
-    ∙ ap₂ (λ (x y : ℕ). cond (ltb i x) (getD (now (s .args .working)) (y + i) (pos 0)) (pos 0)) (le-antisymm (inv .0) (c .loop-test .left)) (c .before .before .row-start .ensures)
-    ∙ sym (cell-in-row (s .args .k) (s .args .m) (now (s .args .working)) (pos 0) (s .args .a) i (s .pre .2)))
+    ∙ ap₂ (λ (x y : ℕ). cond (ltb i x) (getD (now (s .args .working)) (y + i) (pos 0)) (pos 0)) (le-antisymm (inv .0) (c .loop-test .left)) (c .before .before .row-start .ensures))
 
 pub row-at-spec : {M : Type 1} → statement M
 row-at-spec =

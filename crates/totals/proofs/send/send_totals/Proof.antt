@@ -4,7 +4,7 @@
 use mathlib.Core.Path.{_≡_, refl, sym, ap, ap₂, _∙_}
 use mathlib.Core.Bool.{Bool, true, false, cond}
 use mathlib.Core.List.{List}
-use Prim.Native.Nat.{ℕ, _≤_, _<_, _+_, _*_, _-_}
+use Prim.Native.Nat.{ℕ, _≤_, _<_, _+_, _-_}
 use native.Mathlib.Nat.{le-antisymm}
 use native.Mathlib.Omega.{arith}
 use lib.ListN.{length, getD}
@@ -15,7 +15,7 @@ use Rattle.laws.specs.Tables.{cell}
 use Rattle.laws.proofs.Below.{count-next, count-le, only-le, count-start}
 use Rattle.laws.proofs.Loops.{guarded, guarded-more, guarded-next, guarded-none, row-stored}
 use Rattle.laws.proofs.Bools.{cond-no}
-use Rattle.laws.proofs.Tables.{row-in, cell-at}
+use Rattle.laws.proofs.Tables.{cell-at}
 use Rattle.links.specs.Links.{Skips}
 use Rattle.words.specs.Message.{wordIn}
 use Rattle.totals.specs.Credit.{cleared, sentTotals}
@@ -27,7 +27,7 @@ use Rattle.totals.proofs.send.send_totals.Statement.{statement}
 use Rattle.totals.proofs.send.send_totals.Tie as tie
 
 abbrev Inv-loop : tie.InvT-loop
-Inv-loop k m a b owner sharers links working₀ transit₀ at sent₀ g₀ working transit sent g =
+Inv-loop m a b owner sharers links working₀ transit₀ at sent₀ g₀ working transit sent g =
     (g ≤ m)
     × (sent ≡ count g (wordIn owner sharers b a))
     × (length working ≡ length working₀)
@@ -37,7 +37,7 @@ Inv-loop k m a b owner sharers links working₀ transit₀ at sent₀ g₀ worki
     × (g < m → getD owner g 0 ≡ b)
 
 abbrev μ-loop : tie.MeasureT-loop
-μ-loop k m a b owner sharers links working₀ transit₀ at sent₀ g₀ working transit sent g = m - g
+μ-loop m a b owner sharers links working₀ transit₀ at sent₀ g₀ working transit sent g = m - g
 
 abbrev Start : Type 0
 Start = tie.Start Inv-loop μ-loop
@@ -64,28 +64,29 @@ called c = c .before .before .before .before
 abbrev start : tie.In-loop Inv-loop μ-loop → ℕ
 start c = c .before .before .before .row-start .result
 
--- A word of the row lies within a table.
-place : (c : tie.In-loop Inv-loop μ-loop) → start c + c .before .loop .g < entry c .args .k * entry c .args .m
+-- A word of the row lies within both tables.
+place : (c : tie.In-loop Inv-loop μ-loop) → (start c + c .before .loop .g < length (now (entry c .args .working))) × (start c + c .before .loop .g < length (now (entry c .args .transit)))
 place c =
     let s = entry c in
-    omega (arith, row-in (s .args .a) (s .args .k) (s .args .m) (s .pre .0 .2), c .before .before .before .row-start .ensures, c .loop-test .taken)
+    let e = c .before .before .before .row-start .ensures in
+    (omega (arith, e, c .loop-test .taken, s .pre .0 .3), omega (arith, e, c .loop-test .taken, s .pre .0 .4))
 
 row-start-requires : tie.Need-row-start-requires Inv-loop μ-loop
-row-start-requires c κs = (omega (arith, c .before .pre .0 .1), omega (arith, c .before .pre .0 .0, c .before .pre .0 .2))
+row-start-requires c κs = (omega (arith, c .before .pre .0 .0), c .before .pre .0 .1)
 
 -- The totals in the message are of box b's grocers.
 keyed : (s : Start) (x : ℕ) → test s x ≡ true → getD (now (s .args .owner)) x 0 ≡ s .args .b
 keyed s = word-owner (now (s .args .owner)) (now (s .args .sharers)) (s .args .b) (s .args .a)
 
 begin-requires : tie.Need-begin-requires Inv-loop μ-loop
-begin-requires c κs = c .before .before .pre .1
+begin-requires c κs = c .before .before .pre .1 .0
 
 loop-holds : tie.Need-loop-holds Inv-loop μ-loop
 loop-holds c =
     let s = c .before .before .before in
     let g = c .begin .result in
     let at = c .before .row-start .result in
-    let k : Skips (s .args .m) (now (s .args .owner)) (s .args .b) 0 g = c .begin .ensures in
+    let k : Skips (s .args .m) (now (s .args .owner)) (s .args .b) 0 g = c .begin .ensures (s .args .m) (now (s .args .owner)) (s .pre .1 .1) in
     let idle : (i : ℕ) → guarded at g (test s) i ≡ false = λ i. guarded-passed (s .args .m) (now (s .args .owner)) (s .args .b) 0 g k (test s) (keyed s) at i ∙ guarded-none at (test s) i in (
       k .to,
       sym (count-passed (s .args .m) (now (s .args .owner)) (s .args .b) 0 g k (test s) (keyed s) ∙ count-start (test s)),
@@ -97,18 +98,18 @@ loop-holds c =
     )
 
 add-send-one : tie.Need-add-send-one Inv-loop μ-loop
-add-send-one c = let s = entry c in omega (arith, place c, s .pre .0 .4)
+add-send-one c = omega (arith, place c .0)
 
 send-one-requires : tie.Need-send-one-requires Inv-loop μ-loop
 send-one-requires c κs =
     let e = c .before .before in
     let s = entry e in
     let inv = e .before .loop .inv in (
-      omega (arith, s .pre .0 .0, s .pre .0 .2),
-      omega (arith, s .pre .0 .1, e .loop-test .taken),
-      omega (arith, s .pre .0 .3, e .loop-test .taken),
-      omega (arith, place e, s .pre .0 .4, inv .2),
-      omega (arith, place e, s .pre .0 .5, inv .3),
+      s .pre .0 .1,
+      omega (arith, s .pre .0 .0, e .loop-test .taken),
+      omega (arith, s .pre .0 .2, e .loop-test .taken),
+      omega (arith, place e .0, inv .2),
+      omega (arith, place e .1, inv .3),
     )
 
 add-sent : tie.Need-add-sent Inv-loop μ-loop
@@ -116,10 +117,10 @@ add-sent c =
     let e = c .before .before .before .before .before in
     let s = entry e in
     let g = e .before .loop .g in
-    omega (arith, count-le g (test s), only-le (test s g) 1, c .before .before .send-one .ensures .0, e .before .loop .inv .1, e .loop-test .taken, s .pre .0 .1)
+    omega (arith, count-le g (test s), only-le (test s g) 1, c .before .before .send-one .ensures .0, e .before .loop .inv .1, e .loop-test .taken, s .pre .0 .0)
 
 element-copy-out-index : tie.Need-element-copy-out-index Inv-loop μ-loop
-element-copy-out-index c = let e = c .before .before .before .before .before in omega (arith, e .loop-test .taken, entry e .pre .0 .1)
+element-copy-out-index c = let e = c .before .before .before .before .before in omega (arith, e .loop-test .taken, entry e .pre .0 .0)
 
 -- The link goes to the next grocer of box b.
 link : (c : tie.After-index Inv-loop μ-loop) →
@@ -150,10 +151,10 @@ loop-again c =
       call .kept .1 .1 .1 .1 .1 .1 .0 ∙ inv .2,
       call .kept .1 .1 .1 .1 .1 .1 .1 .0 ∙ inv .3,
       λ i. ap (λ (l : List ℤ). getD l i (pos 0)) (call .ensures .1)
-          ∙ guarded-more (e .before .loop .working) (pos 0) (λ i. pos 0) (was s) at g (test s) (omega (arith, place e, s .pre .0 .4, inv .2)) (inv .4) (pos 0) refl i
+          ∙ guarded-more (e .before .loop .working) (pos 0) (λ i. pos 0) (was s) at g (test s) (omega (arith, place e .0, inv .2)) (inv .4) (pos 0) refl i
           ∙ ap (λ (t : Bool). cond t (pos 0) (was s i)) (over i),
       λ i. ap (λ (l : List ℤ). getD l i (pos 0)) (call .ensures .2)
-          ∙ guarded-more (e .before .loop .transit) (pos 0) (was s) (way s) at g (test s) (omega (arith, place e, s .pre .0 .5, inv .3)) (inv .5) _ (inv .4 (at + g) ∙ cond-no _ (pos 0) (was s (at + g)) (guarded-next at g (test s))) i
+          ∙ guarded-more (e .before .loop .transit) (pos 0) (was s) (way s) at g (test s) (omega (arith, place e .1, inv .3)) (inv .5) _ (inv .4 (at + g) ∙ cond-no _ (pos 0) (was s (at + g)) (guarded-next at g (test s))) i
           ∙ ap (λ (t : Bool). cond t (was s i) (way s i)) (over i),
       k .hits,
     )
@@ -168,17 +169,17 @@ returns : tie.Need-returns Inv-loop μ-loop
 unfolding cleared sentTotals
 returns c =
     let s = c .before .before .before .before .before in
-    let k = s .args .k in
     let m = s .args .m in
     let a = s .args .a in
     let at = c .before .before .before .row-start in
     let inv = c .before .loop .inv in
     let done : c .before .loop .g ≡ m = le-antisymm (inv .0) (c .loop-test .left) in (
       inv .1 ∙ ap (λ (n : ℕ). count n (test s)) done,
-      row-stored k m a (at .result) (c .before .loop .g) (now (s .args .working)) (c .before .loop .working) (pos 0) (test s) (λ i. pos 0) (λ g. pos 0) (s .pre .0 .2) (s .pre .0 .4) (at .ensures) done (inv .2) (inv .4) (λ o l. refl),
-      row-stored k m a (at .result) (c .before .loop .g) (now (s .args .transit)) (c .before .loop .transit) (pos 0) (test s) (was s) (cell k m (now (s .args .working)) (pos 0) a) (s .pre .0 .2)
-          (s .pre .0 .5) (at .ensures) done (inv .3) (inv .5)
-          (λ o l. sym (cell-at k m (now (s .args .working)) (pos 0) a o (s .pre .0 .2) l)),
+      (λ k la long. row-stored k m a (at .result) (c .before .loop .g) (now (s .args .working)) (c .before .loop .working) (pos 0) (test s) (λ i. pos 0) (λ g. pos 0) la long (at .ensures) done (inv .2) (inv .4)
+          (λ o l. refl)),
+      λ k la long. row-stored k m a (at .result) (c .before .loop .g) (now (s .args .transit)) (c .before .loop .transit) (pos 0) (test s) (was s) (cell k m (now (s .args .working)) (pos 0) a) la long
+          (at .ensures) done (inv .3) (inv .5)
+          (λ o l. sym (cell-at k m (now (s .args .working)) (pos 0) a o la l)),
     )
 
 pub send-totals-spec : {M : Type 1} → statement M

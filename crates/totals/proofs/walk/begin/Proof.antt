@@ -10,11 +10,11 @@ use Rattle.totals.proofs.walk.begin.Statement.{statement}
 use Rattle.totals.proofs.walk.begin.Tie as tie
 
 returns : tie.Need-returns
-returns c =
-    let s = c .before .before .before .before in
+returns c n keys h =
+    let s = c .before .before .before in
     let v = s .args .v in
     let links = now (s .args .links) in
-    subst (λ (x : ℕ). Skips (s .args .n) (now (s .args .keys)) v 0 x) (sym (c .index2 .ensures ∙ ap (λ (b : ℕ). getD links b 0) (c .before .before .index .ensures))) (s .pre .1 .begins v (omega (arith, s .pre .0)))
+    subst (λ (x : ℕ). Skips n keys v 0 x) (sym (c .index2 .ensures ∙ ap (λ (b : ℕ). getD links b 0) (c .before .before .index .ensures))) (h .begins v (omega (arith, s .pre)))
 
 pub begin-spec : {M : Type 1} → statement M
 begin-spec =
