@@ -1,7 +1,6 @@
 -- `steps::one_step` meets its contract: one side does the step, and the tables of the other stay. Assumes nothing.
 use mathlib.Core.Path.{refl}
 use native.Mathlib.Omega.{arith}
-use borrow.Author.Needs.{needs}
 use Rattle.steps.proofs.one_step.Statement.{statement}
 use Rattle.steps.proofs.one_step.Tie as tie
 
