@@ -78,6 +78,21 @@ turn c = c .before .before .before
 abbrev at-start : tie.At-loop Inv-loop μ-loop → tie.Start Inv-loop μ-loop
 at-start c = start-3 (c .before .before .before)
 
+-- The tables at the first turn, made fresh, and at a turn.
+abbrev fresh-at : tie.At-loop Inv-loop μ-loop → StateTables
+fresh-at c =
+    let f = totalled (offers (grocers (c .before .before .before) .before) .before) in
+    let p = priced (f .before .before .before) in
+    withoutMarks (p .fresh-prices .last .1 .1 .1 .1 .0) (p .fresh-prices .last .1 .1 .1 .1 .1 .0) (f .fresh-totals .last .1 .1 .0) (f .fresh-totals .last .1 .1 .1 .0) (f .fresh-totals .last .1 .1 .1 .1 .0)
+
+abbrev held : tie.At-loop Inv-loop μ-loop → StateTables
+held c = let l = c .loop in withoutMarks (l .known) (l .price-transit) (l .working) (l .total-transit) (l .statement)
+
+-- What holds at a turn.
+turning : (c : tie.At-loop Inv-loop μ-loop) → let s = at-start c in
+    Turning (job s) (fresh-at c) (held c) (now (s .args .needs)) (now (s .args .sharers)) (now (s .args .order)) (s .args .n) (c .loop .i) (c .loop .words) (c .loop .messages)
+turning c = c .loop .inv .1
+
 fresh-prices-requires : tie.Need-fresh-prices-requires Inv-loop μ-loop
 fresh-prices-requires c κs = let s = entry (begun c) in prices-fresh (job s) (lent s) _ _ _ _ (s .pre)
 
@@ -115,28 +130,24 @@ step-at-requires c κs = let l = c .before .before .loop in turn-place _ _ _ _ _
 one-step-requires : tie.Need-one-step-requires Inv-loop μ-loop
 one-step-requires c κs =
     let x = told (found c) in
-    let l = turn x .loop in
-    may-step _ _ _ _ _ _ _ (l .i) _ _ (l .inv .1) (x .before .before .loop-test .taken) _ _ _ (x .step-at .ensures) _ _ _ (l .inv .2)
+    may-step _ _ _ _ _ _ _ _ _ _ (turning (turn x)) (x .before .before .loop-test .taken) _ _ _ (x .step-at .ensures) _ _ _ (turn x .loop .inv .2)
 
 add-words : tie.Need-add-words Inv-loop μ-loop
 add-words c =
     let y = stepped (c .before .before) in
     let x = told (found (y .before)) in
-    let l = turn x .loop in
-    record { fits = words-fit _ _ _ _ _ _ _ (l .i) _ _ (l .inv .1) (x .before .before .loop-test .taken) _ _ _ (x .step-at .ensures) _ _ (y .one-step .ensures) }
+    record { fits = words-fit _ _ _ _ _ _ _ _ _ _ (turning (turn x)) (x .before .before .loop-test .taken) _ _ _ (x .step-at .ensures) _ _ (y .one-step .ensures) }
 
 sent-by-requires : tie.Need-sent-by-requires Inv-loop μ-loop
 sent-by-requires c κs =
     let x = told (found (stepped (c .before .before) .before)) in
-    let l = turn x .loop in
-    kind-between _ _ _ _ _ _ _ (l .i) _ _ (l .inv .1) (x .before .before .loop-test .taken) _ _ _ (x .step-at .ensures)
+    kind-between _ _ _ _ _ _ _ _ _ _ (turning (turn x)) (x .before .before .loop-test .taken) _ _ _ (x .step-at .ensures)
 
 add-messages : tie.Need-add-messages Inv-loop μ-loop
 add-messages c =
     let y = stepped (c .before .before .before) in
     let x = told (found (y .before)) in
-    let l = turn x .loop in
-    record { fits = messages-fit _ _ _ _ _ _ _ (l .i) _ _ (l .inv .1) (x .before .before .loop-test .taken) _ _ _ (x .step-at .ensures) _ _ (y .one-step .ensures) _ (c .sent-by .ensures) }
+    record { fits = messages-fit _ _ _ _ _ _ _ _ _ _ (turning (turn x)) (x .before .before .loop-test .taken) _ _ _ (x .step-at .ensures) _ _ (y .one-step .ensures) _ (c .sent-by .ensures) }
 
 loop-less : tie.Need-loop-less Inv-loop μ-loop
 loop-less c = let x = told (found (stepped (c .before .before .before) .before)) in falls _ (turn x .loop .i) (x .before .before .loop-test .taken)
@@ -145,16 +156,10 @@ loop-again : tie.Need-loop-again Inv-loop μ-loop
 loop-again c =
     let y = stepped (c .before .before .before) in
     let x = told (found (y .before)) in
-    let l = turn x .loop in
-    let t = x .before .before .loop-test .taken in
-    let s = at-start (turn x) in
-    let p = x .step-at .result in (
-      up (l .i) _ t,
-      turning-next (job s) _ (withoutMarks (l .known) (l .price-transit) (l .working) (l .total-transit) (l .statement)) (now (s .args .needs)) (now (s .args .sharers)) (now (s .args .order)) (s .args .n)
-          (l .i) (l .words) (l .messages) (l .inv .1) t (p .kind) (p .first) (p .second) (x .step-at .ensures)
-          (withoutMarks (y .one-step .last .1 .1 .1 .1 .1 .1 .1 .1 .1 .1 .1 .1 .0) (y .one-step .last .1 .1 .1 .1 .1 .1 .1 .1 .1 .1 .1 .1 .1 .0) (y .one-step .last .1 .1 .1 .1 .1 .1 .1 .1 .1 .1 .1 .1 .1 .1 .0)
-          (y .one-step .last .1 .1 .1 .1 .1 .1 .1 .1 .1 .1 .1 .1 .1 .1 .1 .0) (y .one-step .last .1 .1 .1 .1 .1 .1 .1 .1 .1 .1 .1 .1 .1 .1 .1 .1 .0)) (y .one-step .result) (y .one-step .ensures) (c .sent-by .result) (c .sent-by .ensures),
-      l .inv .2,
+    let t = x .before .before .loop-test .taken in (
+      up (turn x .loop .i) _ t,
+      turning-next _ _ _ _ _ _ _ _ _ _ (turning (turn x)) t _ _ _ (x .step-at .ensures) _ _ (y .one-step .ensures) _ (c .sent-by .ensures),
+      turn x .loop .inv .2,
     )
 
 returns : tie.Need-returns Inv-loop μ-loop
