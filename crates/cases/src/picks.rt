@@ -1,9 +1,9 @@
 // Which step a choice picks from E's list of ready steps: no outcome of a run shows it.
+use rows::all_rows;
+use rows::find_in;
 use show::wide16;
 use walk::Place;
-use walk::rows::all_rows;
-use walk::rows::find_in;
-use walk::rows::ready_steps;
+use walk::ready_steps;
 
 // The line of a choice.
 fn step_line(choice: u16, ready: u16, p: Place) {

@@ -45,9 +45,9 @@ fn choose(
         (drop i (now (choices .entry))) (now (done .exit)) (now (order .exit)) (i + 1) (drop (i + 1) (now (choices .entry)))) ⌝ }
 {
     let c = choices[i] % ready;
-    let p = walk::rows::find_in(k, c, rows, prices, totals, done);
+    let p = rows::find_in(k, c, rows, prices, totals, done);
     put_step(k, p, i, done, order);
-    walk::rows::renew(k, p.kind, p.first, p.second, prices, totals, done, rows);
+    renew::renew(k, p.kind, p.first, p.second, prices, totals, done, rows);
 }
 
 // While choices are left and some step is ready, each choice picks a step. How many are picked.
@@ -66,9 +66,9 @@ fn chosen(
         (now (choices .entry)) (now (done .exit)) (now (order .exit)) r []) ⌝ }
 {
     let n = choices.len();
-    let mut rows = walk::rows::rows_for(n, k, prices, totals, done);
+    let mut rows = rows::rows_for(n, k, prices, totals, done);
     for i in 0..n {
-        let ready = walk::rows::ready_steps(k, &rows);
+        let ready = walk::ready_steps(k, &rows);
         if ready == 0 {
             return i;
         }
@@ -95,7 +95,7 @@ fn turn(
     ensures { λ r. ⌜ EveryJob k (now (prices .entry)) (now (totals .entry)) (λ j. Passed j (now (done .entry)) (now (order .entry)) n
         (here k (p .kind) (p .first) (p .second)) (now (done .exit)) (now (order .exit)) r) ⌝ }
 {
-    if !walk::is_listed(k, p, prices, totals, done) {
+    if !rules::ready::permitted(k, p.kind, p.first, p.second, prices, totals, done) {
         return n;
     }
     put_step(k, p, n, done, order);

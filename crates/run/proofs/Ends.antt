@@ -16,7 +16,7 @@ use Rattle.laws.proofs.Below.{count-le}
 use Rattle.laws.proofs.Tables.{overwrite-one}
 use Rattle.model.specs.Job.{Job, pricesDue, totalsDue, needWord, sharerWord}
 use Rattle.model.specs.Steps.{Steps, Step, State, fresh, effectOf}
-use Rattle.model.specs.Tables.{JobTables, jobOf, StateTables, store, stepsDone, marksOf, jobLengths, stateLengths, jobShort, stateShort, lentShort}
+use Rattle.model.specs.Tables.{JobTables, jobOf, StateTables, store, stepsDone, marksOf, StateLengths, jobLengths, stateLengths, jobShort, stateShort, lentShort}
 use Rattle.model.specs.Ranges.{jobInRange}
 use Rattle.model.specs.Words.{over, messagesOf, messageCount, stepCount}
 use Rattle.model.specs.Run.{readyCount, pick, picks, run, runState, afterSteps, RunAnswer, finished, refused, reported, runRefusals, ran}
@@ -26,7 +26,8 @@ use Rattle.tables.specs.Sizes.{sizes}
 use Rattle.walk.specs.Walk.{WalkIn}
 use Rattle.order.specs.Order.{OfJob, MarksFrom, Ordered, markAll, noSteps}
 use Rattle.run.specs.declared.Answer.the-variants.{Finished, Refused}
-use Rattle.run.specs.Run.{Begins, answerOf, given, withoutMarks, AllIn, AllOut, afterOrder}
+use Rattle.steps.specs.All.{withoutMarks, AllIn, AllOut, afterOrder}
+use Rattle.run.specs.Run.{Begins, answerOf, given, refusalBy}
 use Rattle.model.proofs.Step.{range}
 use Rattle.model.proofs.Lent.{state-long}
 use Rattle.tables.proofs.Sizes.{short-sizes}
@@ -35,8 +36,8 @@ use Rattle.tables.proofs.Holders.{need-words, sharer-words}
 use Rattle.tables.proofs.InJob.{placed-offers, placed-grocers, owned-offers, owned-grocers, price-sent, total-sent}
 use Rattle.prices.proofs.Effect.{tables-eq}
 use Rattle.order.proofs.Pick.{steps-length}
-use Rattle.run.proofs.Way.{some-box}
-use Rattle.run.proofs.Turns.{after-marks}
+use Rattle.steps.proofs.Way.{some-box}
+use Rattle.steps.proofs.Turns.{after-marks}
 
 -- At most 16 boxes have at most 512 messages.
 messages-few : (j : Job) → j .boxes ≤ 16 → messageCount j ≤ 512
@@ -183,30 +184,35 @@ unfolding reported
 refused-said zero a h = absurd (h refl)
 refused-said (suc n) a h = refl
 
--- The conditions 20 and 21.
-module _ (f : JobTables) (t : StateTables) where
-  short-both : (a b : Bool) → a ≡ jobShort f (jobLengths f) → b ≡ stateShort (sizes (f .boxes) (f .grocers) (f .offers)) (stateLengths t) → (a || b) ≡ lentShort f t
-  unfolding lentShort
-  short-both a b ea eb = rw (ea, eb ∙ short-sizes f (stateLengths t))
+-- No table of the job is short where neither its nor the state's are.
+pub long-job : (f : JobTables) (a b : Bool) → a ≡ jobShort f (jobLengths f) → (a || b) ≡ false → jobShort f (jobLengths f) ≡ false
+long-job f false b ea h = sym ea
+long-job f true b ea h = sym ea ∙ h
 
-  pub refused-short : (a b : Bool) → a ≡ jobShort f (jobLengths f) → b ≡ stateShort (sizes (f .boxes) (f .grocers) (f .offers)) (stateLengths t) → (a || b) ≡ true → 20 ≡ firstMet (runRefusals f t)
-  unfolding firstMet runRefusals
+-- The conditions 20 and 21, told from the lengths n of the state's tables.
+module _ (f : JobTables) (n : StateLengths) where
+  short-both : (a b : Bool) → a ≡ jobShort f (jobLengths f) → b ≡ stateShort (sizes (f .boxes) (f .grocers) (f .offers)) n → (a || b) ≡ (jobShort f (jobLengths f) || stateShort f n)
+  short-both a b ea eb = rw (ea, eb ∙ short-sizes f n)
+
+  pub refused-short : (a b : Bool) → a ≡ jobShort f (jobLengths f) → b ≡ stateShort (sizes (f .boxes) (f .grocers) (f .offers)) n → (a || b) ≡ true → 20 ≡ refusalBy f n
+  unfolding refusalBy
   refused-short a b ea eb h = rw (sym (short-both a b ea eb) ∙ h)
 
-  pub long-job : (a b : Bool) → a ≡ jobShort f (jobLengths f) → (a || b) ≡ false → jobShort f (jobLengths f) ≡ false
-  long-job false b ea h = sym ea
-  long-job true b ea h = sym ea ∙ h
+  module _ (a b c : Bool) (ea : a ≡ jobShort f (jobLengths f)) (eb : b ≡ stateShort (sizes (f .boxes) (f .grocers) (f .offers)) n) (h : (a || b) ≡ false) (ec : c ≡ jobInRange f) where
+    pub refused-range : c ≡ false → 21 ≡ refusalBy f n
+    unfolding refusalBy
+    refused-range z = rw (sym (short-both a b ea eb) ∙ h, sym ec ∙ z)
 
-  pub refused-range : (a b c : Bool) → a ≡ jobShort f (jobLengths f) → b ≡ stateShort (sizes (f .boxes) (f .grocers) (f .offers)) (stateLengths t) → (a || b) ≡ false → c ≡ jobInRange f
-      → c ≡ false → 21 ≡ firstMet (runRefusals f t)
-  unfolding firstMet runRefusals
-  refused-range a b c ea eb h ec n = rw (sym (short-both a b ea eb) ∙ h, sym ec ∙ n)
+    pub refused-none : c ≡ true → 0 ≡ refusalBy f n
+    unfolding refusalBy
+    refused-none z = rw (sym (short-both a b ea eb) ∙ h, sym ec ∙ z)
 
-  pub refused-none : (a b c : Bool) → a ≡ jobShort f (jobLengths f) → b ≡ stateShort (sizes (f .boxes) (f .grocers) (f .offers)) (stateLengths t) → (a || b) ≡ false → c ≡ jobInRange f
-      → c ≡ true → 0 ≡ firstMet (runRefusals f t)
-  unfolding firstMet runRefusals
-  refused-none a b c ea eb h ec n = rw (sym (short-both a b ea eb) ∙ h, sym ec ∙ n)
+-- They are the refusals of the run.
+pub refusal-is : (f : JobTables) (t : StateTables) → refusalBy f (stateLengths t) ≡ firstMet (runRefusals f t)
+unfolding refusalBy firstMet runRefusals lentShort
+refusal-is f t = refl
 
+module _ (f : JobTables) (t : StateTables) where
   -- No refusal: the run may begin.
   pub begins : firstMet (runRefusals f t) ≡ 0 → Begins f t
   unfolding firstMet runRefusals lentShort

@@ -1,20 +1,10 @@
--- The answer of a run as its contract cites it, and what its steps leave in the tables of prices and totals.
+-- The answer of a run as its contract cites it, and what a run begins with.
 use mathlib.Core.Path.{_≡_}
-use mathlib.Core.Bool.{true, false}
-use mathlib.Core.List.{List, []}
-use Prim.Native.Nat.{ℕ, _*_, _≤_, _<_}
-use lib.IntN.{ℤ}
-use lib.ListN.{length, getD}
-use Rattle.laws.specs.Tables.{tabulate}
-use Rattle.model.specs.Job.{Job, needWord, sharerWord}
-use Rattle.model.specs.Steps.{Step, State, fresh}
-use Rattle.model.specs.Words.{over, messagesOf}
-use Rattle.model.specs.Tables.{JobTables, jobOf, StateTables, stateTables, store, jobLengths, stateLengths, jobShort, stateShort}
-use Rattle.model.specs.Ranges.{jobInRange, under}
-use Rattle.model.specs.Run.{RunAnswer, finished, refused, RunOutcome, afterSteps}
-use Rattle.totals.specs.Row.{Tallies}
-use Rattle.apply.specs.Apply.{PriceStepIn, PriceStepOut, TotalStepIn, TotalStepOut}
-use Rattle.order.specs.Order.{stepsIn, markAll, noSteps, permittedAt}
+use mathlib.Core.Bool.{true, false, cond, not, _||_}
+use Prim.Native.Nat.{ℕ}
+use Rattle.model.specs.Tables.{JobTables, StateTables, StateLengths, jobLengths, stateLengths, jobShort, stateShort}
+use Rattle.model.specs.Ranges.{jobInRange}
+use Rattle.model.specs.Run.{RunAnswer, finished, refused, RunOutcome}
 use Rattle.run.specs.declared.Answer.{Answer}
 use Rattle.run.specs.declared.Answer.the-variants.{Finished, Refused}
 
@@ -33,56 +23,11 @@ pub record Begins (f : JobTables) (t : StateTables) : Type 0 where
   pub job-long : jobShort f (jobLengths f) ≡ false
   pub state-long : stateShort f (stateLengths t) ≡ false
 
--- The tables of prices and totals alone.
-abbrev pub withoutMarks : List ℕ → List ℕ → List ℤ → List ℤ → List ℤ → StateTables
-withoutMarks known transit working totals statement = stateTables known transit working totals statement [] []
+-- The lengths of the state's tables.
+abbrev pub lengthsOf : ℕ → ℕ → ℕ → ℕ → ℕ → ℕ → ℕ → StateLengths
+lengthsOf known transit working totals statement done sent =
+    record { known = known; priceTransit = transit; working = working; totalTransit = totals; statement = statement; done = done; sent = sent }
 
--- What one step of either side requires, prices or totals, by its kind.
-pub record StepIn (e : Tallies) (gowner olinks glinks tlinks known transit : List ℕ) (working totals statement : List ℤ) (kind a b : ℕ) : Type 0 where
-  pub price-side : kind ≤ 3 → PriceStepIn e olinks tlinks known transit working kind a b
-  pub total-side : 3 < kind → TotalStepIn (e .boxes) (e .grocers) gowner glinks working totals statement kind a b
-
--- What it leaves, and how many words it sent: the tables of the other side stay.
-pub record StepOut (e : Tallies) (gowner needs sharers : List ℕ) (t t′ : StateTables) (kind a b sent : ℕ) : Type 0 where
-  pub price-side : kind ≤ 3 → PriceStepOut e needs (t .known) (t .priceTransit) (t .working) kind a b (t′ .known) (t′ .priceTransit) (t′ .working) sent
-      × (t′ .totalTransit ≡ t .totalTransit) × (t′ .statement ≡ t .statement)
-  pub total-side : 3 < kind → TotalStepOut (e .boxes) (e .grocers) gowner sharers (t .working) (t .totalTransit) (t .statement) kind a b
-      (t′ .working) (t′ .totalTransit) (t′ .statement) sent × (t′ .known ≡ t .known) × (t′ .priceTransit ≡ t .priceTransit)
-
--- The first n words of an order are places of steps of the job, each permitted where those before it are done.
-pub record Does (j : Job) (n : ℕ) (order : List ℕ) : Type 0 where
-  pub long : n ≤ length order
-  pub few : n ≤ 1536
-  pub places-in : under (6 * j .boxes * j .boxes) n order ≡ true
-  pub in-turn : (i : ℕ) → i < n → permittedAt j (markAll noSteps (stepsIn (j .boxes) i order)) (getD order i 0) ≡ true
-
--- What doing all steps of an order requires: a run may begin, need words and sharer words are the job's, and the order is one of its steps.
-pub record AllIn (f : JobTables) (t : StateTables) (needs sharers order : List ℕ) (n : ℕ) : Type 0 where
-  pub job-in : jobInRange f ≡ true
-  pub job-long : jobShort f (jobLengths f) ≡ false
-  pub known-long : f .boxes * f .offers ≤ length (t .known)
-  pub transit-long : f .boxes * f .offers ≤ length (t .priceTransit)
-  pub working-long : f .boxes * f .grocers ≤ length (t .working)
-  pub totals-long : f .boxes * f .grocers ≤ length (t .totalTransit)
-  pub statement-long : f .grocers ≤ length (t .statement)
-  pub needs-are : needs ≡ tabulate 500 (needWord (jobOf f))
-  pub sharers-are : sharers ≡ tabulate 255 (sharerWord (jobOf f))
-  pub does : Does (jobOf f) n order
-
--- The state after the steps of an order, from a fresh one.
-unfoldable pub afterOrder : Job → ℕ → List ℕ → State
-afterOrder j n order = afterSteps j (fresh j) (stepsIn (j .boxes) n order)
-
--- The tables of prices and totals t′ hold the state s, written over t.
-pub record Holds (j : Job) (s : State) (t t′ : StateTables) : Type 0 where
-  pub known : t′ .known ≡ store j s t .known
-  pub priceTransit : t′ .priceTransit ≡ store j s t .priceTransit
-  pub working : t′ .working ≡ store j s t .working
-  pub totalTransit : t′ .totalTransit ≡ store j s t .totalTransit
-  pub statement : t′ .statement ≡ store j s t .statement
-
--- What it leaves after n steps: the tables hold the state after them, and words and messages sent are counted.
-pub record AllOut (j : Job) (t t′ : StateTables) (order : List ℕ) (n words messages : ℕ) : Type 0 where
-  pub holds : Holds j (afterOrder j n order) t t′
-  pub words-are : words ≡ afterOrder j n order .sent
-  pub messages-are : messages ≡ over messagesOf (stepsIn (j .boxes) n order)
+-- The number of the refusal, or 0, told from the lengths of the state's tables alone.
+unfoldable pub refusalBy : JobTables → StateLengths → ℕ
+refusalBy f n = cond (jobShort f (jobLengths f) || stateShort f n) 20 (cond (not (jobInRange f)) 21 0)

@@ -1,10 +1,10 @@
 // The run: it starts fresh, picks steps until all are done, and reports the words sent, the messages and the steps.
-mod steps;
-
 ghost use mathlib.Core.Path.{_≡_};
 ghost use Rattle.model.specs.Lent.{jobLent, stateBefore, stateAfter};
 ghost use Rattle.model.specs.Run.{ran};
-ghost use Rattle.run.specs.Run.{answerOf, given};
+ghost use Rattle.model.specs.Tables.{stateShort};
+ghost use Rattle.tables.specs.Sizes.{sizes};
+ghost use Rattle.run.specs.Run.{answerOf, given, lengthsOf, refusalBy};
 use apply::Sizes;
 
 // What a run answers: words sent, messages and steps; or the number of the condition that refuses it.
@@ -15,6 +15,84 @@ pub enum Answer {
         steps: u32,
     },
     Refused(u16),
+}
+
+// How many words of each table of the state are lent.
+struct Lengths {
+    known: usize,
+    price_transit: usize,
+    working: usize,
+    total_transit: usize,
+    statement: usize,
+    done: usize,
+    sent: usize,
+}
+
+// 20: whether a table of the state is shorter than K, M and N as given need.
+fn state_short(z: Sizes, lent: Lengths) -> bool
+    ensures { λ r. ⌜ r ≡ stateShort (sizes (z .boxes) (z .grocers) (z .offers)) (lengthsOf (lent .known) (lent .«price_transit») (lent .working)
+        (lent .«total_transit») (lent .statement) (lent .done) (lent .sent)) ⌝ }
+{
+    let kn = tables::checks::words(z.boxes, z.offers);
+    let km = tables::checks::words(z.boxes, z.grocers);
+    let kk = tables::checks::marks(z.boxes);
+    (lent.known < kn)
+        | (lent.price_transit < kn)
+        | (lent.working < km)
+        | (lent.total_transit < km)
+        | (lent.statement < z.grocers as usize)
+        | (lent.done < kk)
+        | (lent.sent < 1)
+}
+
+// The number of the condition that refuses the run, 20 or 21, or 0. Of the state's tables only the lengths matter.
+fn refusal(
+    z: Sizes,
+    price: &[u32],
+    offer_owner: &[u16],
+    grocer_owner: &[u16],
+    tally_grocer: &[u16],
+    tally_box: &[u16],
+    tally_offer: &[u16],
+    tally_count: &[i32],
+    lent: Lengths,
+) -> u16
+    ensures { λ r. ⌜ r ≡ refusalBy (jobLent (z .boxes) (z .grocers) (z .offers) (z .tallies) price «offer_owner» «grocer_owner» «tally_grocer»
+        «tally_box» «tally_offer» «tally_count») (lengthsOf (lent .known) (lent .«price_transit») (lent .working) (lent .«total_transit»)
+        (lent .statement) (lent .done) (lent .sent)) ⌝ }
+{
+    if tables::checks::job_short(
+        z.grocers,
+        z.offers,
+        z.tallies,
+        price,
+        offer_owner,
+        grocer_owner,
+        tally_grocer,
+        tally_box,
+        tally_offer,
+        tally_count,
+    )
+        | state_short(z, lent)
+    {
+        return 20;
+    }
+    if !tables::checks::job_in_range(
+        z.boxes,
+        z.grocers,
+        z.offers,
+        z.tallies,
+        price,
+        offer_owner,
+        grocer_owner,
+        tally_grocer,
+        tally_box,
+        tally_offer,
+        tally_count,
+    ) {
+        return 21;
+    }
+    0
 }
 
 // The run of a job, from a fresh state: its steps are picked first, by the marks alone, and then done one after the other.
@@ -44,54 +122,35 @@ pub fn run(
         (jobLent boxes grocers offers tallies price «offer_owner» «grocer_owner» «tally_grocer» «tally_box» «tally_offer» «tally_count»)
         (stateBefore known «price_transit» working «total_transit» statement done sent) (now (choices .entry)) ⌝ }
 {
-    if tables::checks::job_short(
-        grocers,
-        offers,
-        tallies,
-        price,
-        offer_owner,
-        grocer_owner,
-        tally_grocer,
-        tally_box,
-        tally_offer,
-        tally_count,
-    )
-        | tables::checks::state_short(
-            boxes,
-            grocers,
-            offers,
-            known,
-            price_transit,
-            working,
-            total_transit,
-            statement,
-            done,
-            sent,
-        )
-    {
-        return Answer::Refused(20);
-    }
-    if !tables::checks::job_in_range(
-        boxes,
-        grocers,
-        offers,
-        tallies,
-        price,
-        offer_owner,
-        grocer_owner,
-        tally_grocer,
-        tally_box,
-        tally_offer,
-        tally_count,
-    ) {
-        return Answer::Refused(21);
-    }
     let z = Sizes {
         boxes: boxes,
         grocers: grocers,
         offers: offers,
         tallies: tallies,
     };
+    let lent = Lengths {
+        known: known.len(),
+        price_transit: price_transit.len(),
+        working: working.len(),
+        total_transit: total_transit.len(),
+        statement: statement.len(),
+        done: done.len(),
+        sent: sent.len(),
+    };
+    let r = refusal(
+        z,
+        price,
+        offer_owner,
+        grocer_owner,
+        tally_grocer,
+        tally_box,
+        tally_offer,
+        tally_count,
+        lent,
+    );
+    if r != 0 {
+        return Answer::Refused(r);
+    }
     let needs = tables::masks::needs(boxes, tallies, tally_box, tally_offer);
     let sharers = tables::masks::sharers(boxes, tallies, tally_box, tally_grocer);
     let prices = tables::messages::price_table(offers, offer_owner, &needs);

@@ -25,9 +25,12 @@ module _ (f : JobTables) (t : StateTables) (q : Asked) {needs sharers : List ℕ
   facts : Given f t needs sharers q
   facts = given f t needs sharers q (d .applies z)
 
-  -- Marking and counting, where the words are few.
-  pub noting : (more : ℕ) → more ≤ 500 → (MarksIn (f .boxes) (q .kind) (q .first) (q .second) (t .done)) × ((upTo 1 (6 * f .boxes * f .boxes) (t .done) ≡ true) × (SentIn (t .sent) × (more ≤ 500)))
-  noting more few = (marks-in f t needs sharers q facts, (facts .words-in .done, (sent-in f t needs sharers q facts, few)))
+  -- Marking, and counting the words sent where these are few.
+  pub marking : (MarksIn (f .boxes) (q .kind) (q .first) (q .second) (t .done)) × (upTo 1 (6 * f .boxes * f .boxes) (t .done) ≡ true)
+  marking = (marks-in f t needs sharers q facts, facts .words-in .done)
+
+  pub counting : (more : ℕ) → more ≤ 500 → SentIn (t .sent) × (more ≤ 500)
+  counting more few = (sent-in f t needs sharers q facts, few)
 
   -- Kinds 1 to 3.
   module _ (k : q .kind ≤ 3) where

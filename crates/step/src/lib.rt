@@ -1,14 +1,9 @@
 // The step: one request on the lent tables.
 ghost use mathlib.Core.Path.{_≡_};
-ghost use mathlib.Core.Bool.{true};
-ghost use Prim.Native.Nat.{_*_, _≤_};
-ghost use Rattle.model.specs.Steps.{kindOf};
 ghost use Rattle.model.specs.Lent.{jobLent, stateBefore, stateAfter};
-ghost use Rattle.model.specs.Ranges.{upTo};
 ghost use Rattle.model.specs.Step.{asked, outcome, stepped};
-ghost use Rattle.rules.specs.Marks.{MarksIn, marked};
 ghost use Rattle.totals.specs.Row.{tallies};
-ghost use Rattle.apply.specs.Apply.{SentIn, sentMore, PriceStepOut, TotalStepOut};
+ghost use Rattle.apply.specs.Apply.{PriceStepOut, TotalStepOut};
 ghost use Rattle.step.specs.Answer.{answerOf};
 ghost use Rattle.step.specs.Lent.{PricesLent, TotalsLent};
 use apply::Sizes;
@@ -92,18 +87,6 @@ fn move_totals(
     )
 }
 
-// The step is marked as done, and the words that it sent are counted.
-fn note(z: Sizes, x: Step, more: u32, done: &mut [u16], sent: &mut [u32])
-    requires { ⌜ MarksIn (z .boxes) (x .kind) (x .first) (x .second) (now done) ⌝ }
-    requires { ⌜ upTo 1 (6 * z .boxes * z .boxes) (now done) ≡ true ⌝ }
-    requires { ⌜ SentIn (now sent) × (more ≤ 500) ⌝ }
-    ensures { λ _. ⌜ (now (done .exit) ≡ marked (z .boxes) (kindOf (x .kind)) (x .first) (x .second) (now (done .entry))) ×
-        (now (sent .exit) ≡ sentMore (now (sent .entry)) more) ⌝ }
-{
-    rules::marks::mark(z.boxes, x.kind, x.first, x.second, done);
-    apply::raise(sent, more);
-}
-
 // One step request. K, M, N and T and the three numbers of the request may be anything, and so may every lent word.
 // The tables of the state are left as the step's line says, or, where it is refused, as they were.
 pub fn step(
@@ -169,6 +152,7 @@ pub fn step(
     if r != 0 {
         return Answer::Refused(r);
     }
+    rules::marks::mark(boxes, kind, first, second, done);
     if kind <= 3 {
         let more = move_prices(
             z,
@@ -183,7 +167,7 @@ pub fn step(
             working,
             x,
         );
-        note(z, x, more, done, sent);
+        apply::raise(sent, more);
         return Answer::Accepted;
     }
     let more = move_totals(
@@ -195,6 +179,6 @@ pub fn step(
         statement,
         x,
     );
-    note(z, x, more, done, sent);
+    apply::raise(sent, more);
     Answer::Accepted
 }

@@ -1,6 +1,7 @@
 -- The laws that the proofs of this crate cite.
+
 pub mod Places
+pub mod Sends
 pub mod Walking
 pub mod InModel
-pub mod ByRow
-pub mod Changed
+pub mod Rows

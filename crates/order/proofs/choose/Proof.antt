@@ -9,7 +9,7 @@ use Rattle.laws.specs.Below.{count}
 use Rattle.model.specs.Steps.{kindOf, mark}
 use Rattle.model.specs.Tables.{stepsDone}
 use Rattle.walk.specs.Walk.{listedBy}
-use Rattle.walk.proofs.Changed.{rows-before}
+use Rattle.renew.proofs.Changed.{rows-before}
 use Rattle.order.proofs.Found.{marked-steps, found-open, room-of, kept-of, marks-long}
 use Rattle.order.proofs.choose.Statement.{statement}
 use Rattle.order.proofs.choose.Tie as tie

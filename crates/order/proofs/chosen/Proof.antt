@@ -10,7 +10,7 @@ use denote.Ref.{now}
 use Rattle.laws.specs.Below.{count}
 use Rattle.walk.specs.Walk.{listedBy}
 use Rattle.walk.specs.Rows.{IsRows}
-use Rattle.walk.proofs.ByRow.{rows-few, rows-ready}
+use Rattle.rows.proofs.ByRow.{rows-few, rows-ready}
 use Rattle.order.specs.Order.{MarksFrom, Kept, EveryJob}
 use Rattle.order.proofs.Pick.{kept-none, kept-both, kept-over, kept-last}
 use Rattle.order.proofs.Found.{ready-of, walk-on, marks-own, marks-over}

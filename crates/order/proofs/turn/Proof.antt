@@ -7,11 +7,12 @@ use borrow.Author.Needs.{needs}
 use borrow.Author.Tests.{not-true, not-false}
 use denote.Ref.{now}
 use Rattle.walk.specs.Walk.{here, listedBy}
+use Rattle.walk.proofs.Places.{listed-at}
 use Rattle.order.proofs.Found.{not-of, place-room-of, passed-of}
 use Rattle.order.proofs.turn.Statement.{statement}
 use Rattle.order.proofs.turn.Tie as tie
 
-abbrev entry : tie.After-is-listed → tie.Start
+abbrev entry : tie.After-permitted → tie.Start
 entry c = c .before .before .before
 
 abbrev put : tie.After-slice-known2 → tie.After-put-step
@@ -20,10 +21,15 @@ put c = c .before .before
 abbrev tested : tie.After-put-step-arg2 → tie.Else1
 tested c = c .before .before
 
+-- The test of the step is the test of its place.
+tested-at : (c : tie.After-permitted) → let s = entry c in
+    c .permitted .result ≡ listedBy (s .args .k) (now (s .args .prices)) (now (s .args .totals)) (now (s .args .done)) (here (s .args .k) (s .args .p .kind) (s .args .p .first) (s .args .p .second))
+tested-at c = let s = entry c in c .permitted .ensures ∙ listed-at (s .args .k) (s .args .p .kind) (s .args .p .first) (s .args .p .second) _ _ _ (s .pre .0)
+
 -- The step is ready,
 listed : (e : tie.Else1) → let s = entry (e .before) in
     listedBy (s .args .k) (now (s .args .prices)) (now (s .args .totals)) (now (s .args .done)) (here (s .args .k) (s .args .p .kind) (s .args .p .first) (s .args .p .second)) ≡ true
-listed e = sym (e .before .is-listed .ensures) ∙ not-false _ (e .if1 .left)
+listed e = sym (tested-at (e .before)) ∙ not-false _ (e .if1 .left)
 
 -- and there is room for it.
 has-room : (e : tie.Else1) → entry (e .before) .args .n < 1536
@@ -38,7 +44,7 @@ returns c =
     let s = entry (c .before) in (
       s .pre .1 .0 .1,
       λ j o. not-of (s .args .k) _ _ j o (now (s .args .done)) _ _ _ (s .pre .0) (now (s .args .order)) (s .args .n) (s .pre .1 .1 .0 j o) (s .pre .1 .1 .1 j o)
-          (sym (c .before .is-listed .ensures) ∙ not-true _ (c .if1 .taken)),
+          (sym (tested-at (c .before)) ∙ not-true _ (c .if1 .taken)),
     )
 
 put-step-requires : tie.Need-put-step-requires

@@ -1,15 +1,14 @@
 -- `run::run` meets its contract: refused, or its steps are picked and then done. Assumes nothing.
-use mathlib.Core.Path.{_≡_, refl, sym}
+use mathlib.Core.Path.{_≡_, refl, sym, _∙_}
 use native.Mathlib.Omega.{arith}
 use borrow.Author.Needs.{needs}
-use borrow.Author.Tests.{not-true, not-false}
 use denote.Ref.{now}
-use Rattle.model.specs.Tables.{JobTables, jobTables, jobOf, StateTables, stateTables}
+use Rattle.model.specs.Tables.{JobTables, jobTables, jobOf, StateTables, stateTables, stateLengths}
 use Rattle.laws.specs.Checks.{firstMet}
 use Rattle.model.specs.Run.{runRefusals}
 use Rattle.order.specs.Order.{OfJob}
 use Rattle.run.specs.Run.{Begins, answerOf}
-use Rattle.run.proofs.Ends.{begins, refused-short, long-job, refused-range, refused-none, begins-needs, begins-sharers, begins-prices, begins-totals}
+use Rattle.run.proofs.Ends.{begins, refusal-is, begins-needs, begins-sharers, begins-prices, begins-totals}
 use Rattle.run.proofs.Ends.{needs-of, sharers-of, of-job, begins-walk, run-few, all-in, run-finished, run-refused, sent-room}
 use Rattle.run.proofs.run.Statement.{statement}
 use Rattle.run.proofs.run.Tie as tie
@@ -22,21 +21,15 @@ job s = jobTables (s .args .boxes) (s .args .grocers) (s .args .offers) (s .args
 abbrev lent : tie.Start → StateTables
 lent s = stateTables (now (s .args .known)) (now (s .args .price-transit)) (now (s .args .working)) (now (s .args .total-transit)) (now (s .args .statement)) (now (s .args .done)) (now (s .args .sent))
 
--- Places: the start and the tests of a refusal, from places after them.
-abbrev slices : tie.After-job-short → tie.After-slice-known
-slices c = c .before .before .before .before .before
+-- Places: the start, from the refusal.
+abbrev slices : tie.After-refusal → tie.After-shared-slice-known6
+slices c = c .before .before .before .before .before .before
 
-abbrev shared : tie.After-slice-known → tie.After-shared-slice-known2
-shared c = c .before .before .before .before .before
+abbrev shared : tie.After-shared-slice-known6 → tie.Start
+shared c = c .before .before .before .before .before .before
 
-abbrev entry : tie.After-job-short → tie.Start
-entry c = shared (slices c) .before .before
-
-abbrev lengths : tie.After-state-short → tie.After-state-short-arg3
-lengths c = c .before .before .before .before .before
-
-abbrev tested : tie.After-state-short → tie.After-job-short
-tested c = lengths c .before .before .before
+abbrev entry : tie.After-refusal → tie.Start
+entry c = shared (slices c)
 
 -- The tables of messages, the order and the steps done.
 abbrev made : tie.After-put-order-arg → tie.After-total-table
@@ -60,30 +53,18 @@ written c = c .before .before .before
 abbrev done : tie.After-statement → tie.After-all-steps
 done c = written c .before .before .before .before
 
--- Past the refusals the run may begin.
-none-met : (e : tie.Else2) → let s = entry (tested (e .before .before .before)) in 0 ≡ firstMet (runRefusals (job s) (lent s))
-none-met e =
-    let a = e .before .before .before in
-    refused-none _ _ _ _ _ (tested a .job-short .ensures (entry (tested a) .args .boxes)) (a .state-short .ensures) (e .before .before .if1 .left) (e .before .job-in-range .ensures) (not-false _ (e .if2 .left))
+-- The number is that of the run's refusal.
+number : (c : tie.After-refusal) → c .refusal .result ≡ firstMet (runRefusals (job (entry c)) (lent (entry c)))
+unfolding stateLengths
+number c = c .refusal .ensures ∙ refusal-is (job (entry c)) (lent (entry c))
 
-may : (e : tie.Else2) → Begins (job (entry (tested (e .before .before .before)))) (lent (entry (tested (e .before .before .before))))
-may e = begins _ _ (sym (none-met e))
+-- Past it the run may begin.
+may : (e : tie.Else1) → Begins (job (entry (e .before))) (lent (entry (e .before)))
+may e = begins (job (entry (e .before))) (lent (entry (e .before))) (sym (number (e .before)) ∙ e .if1 .left)
 
 returns : tie.Need-returns
 unfolding answerOf
-returns c =
-    let a = c .before in
-    run-refused _ _ _ 20 (refused-short _ _ _ _ (tested a .job-short .ensures (entry (tested a) .args .boxes)) (a .state-short .ensures) (c .if1 .taken)) (λ z. omega arith)
-
-job-in-range-requires : tie.Need-job-in-range-requires
-job-in-range-requires c κs = long-job _ (lent (entry (tested (c .before)))) _ _ (tested (c .before) .job-short .ensures (entry (tested (c .before)) .args .boxes)) (c .if1 .left)
-
-returns-2 : tie.Need-returns-2
-unfolding answerOf
-returns-2 c =
-    let a = c .before .before .before in
-    run-refused _ _ _ 21
-    (refused-range _ _ _ _ _ (tested a .job-short .ensures (entry (tested a) .args .boxes)) (a .state-short .ensures) (c .before .before .if1 .left) (c .before .job-in-range .ensures) (not-true _ (c .if2 .taken))) (λ z. omega arith)
+returns c = let s = entry (c .before) in run-refused (job s) (lent s) (now (s .args .choices)) _ (number (c .before)) (c .if1 .taken)
 
 needs-requires : tie.Need-needs-requires
 needs-requires c κs = begins-needs _ _ (may c)
@@ -98,7 +79,7 @@ total-table-requires : tie.Need-total-table-requires
 total-table-requires c κs = let w = shares (c .before) in begins-totals _ _ (may (w .before .before)) _ _ (w .before .needs .ensures) (w .sharers .ensures)
 
 -- The tables of messages are the job's.
-of-it : (c : tie.After-total-table) → let s = entry (tested (shares (priced c) .before .before .before .before .before)) in OfJob (s .args .boxes) (priced c .price-table .result) (c .total-table .result) (jobOf (job s))
+of-it : (c : tie.After-total-table) → let s = entry (shares (priced c) .before .before .before) in OfJob (s .args .boxes) (priced c .price-table .result) (c .total-table .result) (jobOf (job s))
 of-it c =
     let w = shares (priced c) in
     of-job _ _ (may (w .before .before)) _ _ (w .before .needs .ensures) (w .sharers .ensures) _ _ (priced c .price-table .ensures) (c .total-table .ensures)
@@ -124,48 +105,32 @@ write-sent c =
     let o = ordered (done c .before) in
     omega (arith, sent-room _ _ (may (shares (priced (made (o .before .before))) .before .before)))
 
-cast-steps : tie.Need-cast-t69
+cast-steps : tie.Need-cast-t62
 cast-steps c =
     let o = ordered (done c .before) in
     omega (arith, o .put-order .ensures .1 _ (of-it (made (o .before .before))) .picked .in-order)
 
-returns-3 : tie.Need-returns-3
+returns-2 : tie.Need-returns-2
 unfolding answerOf
-returns-3 c =
+returns-2 c =
     let a = done c in
     let o = ordered (a .before) in
     let m = made (o .before .before) in
     let w = shares (priced m) in
     let e = w .before .before in
     let g = may e in
+    let s = entry (e .before) in
     let en = w .before .needs .ensures in
     let es = w .sharers .ensures in
-    run-finished _ _ g _ _ _ _ _ _ (needs-of _ _ g _ _ en es) (sharers-of _ _ g _ _ en es) (o .put-order .ensures .1 _ (of-it m)) _ _ _ (a .all-steps .ensures) (o .put-order .ensures .0) refl refl
-    0 (none-met e) refl
+    run-finished (job s) (lent s) g _ _ (now (s .args .choices)) _ _ _ (needs-of _ _ g _ _ en es) (sharers-of _ _ g _ _ en es) (o .put-order .ensures .1 _ (of-it m)) _ _ _ (a .all-steps .ensures)
+    (o .put-order .ensures .0) refl refl _ (number (e .before)) (e .if1 .left)
 
 pub run-spec : {M : Type 1} → statement M
 run-spec =
     tie.close
     (tie.spec
     (λ c κs. tt)
-    (λ c κs. tt)
-    (λ c. refl)
-    (λ c. refl)
-    (λ c. refl)
-    (λ c. refl)
-    (λ c. refl)
-    (λ c. refl)
-    (λ c. refl)
     returns
-    job-in-range-requires
-    (λ c. refl)
-    (λ c. refl)
-    (λ c. refl)
-    (λ c. refl)
-    (λ c. refl)
-    (λ c. refl)
-    (λ c. refl)
-    returns-2
     needs-requires
     sharers-requires
     price-table-requires
@@ -181,4 +146,4 @@ run-spec =
     (λ c. done c .all-steps .kept .1 .1 .1 .1 .1 .1 .1 .1 .1 .1 .1 .1 .1 .1 .1 .1 .0)
     (λ c. ordered (done c .before) .put-order .kept .1 .1 .1 .1 .0)
     (λ c. search needs)
-    returns-3)
+    returns-2)

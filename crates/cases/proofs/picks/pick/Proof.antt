@@ -3,7 +3,7 @@ use mathlib.Core.Path.{sym, _∙_}
 use native.Mathlib.Nat.{mod-lt}
 use native.Mathlib.Omega.{arith}
 use borrow.Author.Needs.{needs}
-use Rattle.walk.proofs.ByRow.{rows-few, rows-ready}
+use Rattle.rows.proofs.ByRow.{rows-few, rows-ready}
 use Rattle.cases.proofs.picks.pick.Statement.{statement}
 use Rattle.cases.proofs.picks.pick.Tie as tie
 

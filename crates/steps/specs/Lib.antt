@@ -1,0 +1,2 @@
+-- What the steps of an order require and leave.
+pub mod All

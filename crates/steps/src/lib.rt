@@ -1,0 +1,156 @@
+// The steps of an order, done one after the other on the tables of prices and totals.
+ghost use mathlib.Core.Path.{_≡_};
+ghost use Prim.Native.Nat.{suc, _*_, _/_, _%_, _≤_, _<_};
+ghost use Rattle.model.specs.Tables.{jobTables, jobOf};
+ghost use Rattle.totals.specs.Row.{tallies};
+ghost use Rattle.steps.specs.All.{withoutMarks, StepIn, StepOut, AllIn, AllOut};
+use apply::Sizes;
+use apply::Step;
+
+// Words and messages sent, counted as steps are done.
+pub struct Sent {
+    pub words: u32,
+    pub messages: u32,
+}
+
+// The step of a place, of k boxes.
+fn step_at(k: u16, place: u16) -> Step
+    requires { ⌜ (1 ≤ k) × (k ≤ 16) × (place < 6 * k * k) ⌝ }
+    ensures { λ r. ⌜ (r .kind ≡ suc (place / k / k)) × (r .first ≡ place / k % k) × (r .second ≡ place % k) ⌝ }
+{
+    let row = place / k;
+    Step {
+        kind: row / k + 1,
+        first: row % k,
+        second: place % k,
+    }
+}
+
+// One step, on the side of prices or of totals. The words sent.
+fn one_step(
+    z: Sizes,
+    offer_owner: &[u16],
+    grocer_owner: &[u16],
+    tally_grocer: &[u16],
+    tally_box: &[u16],
+    tally_offer: &[u16],
+    tally_count: &[i32],
+    needs: &[u16; 500],
+    sharers: &[u16; 255],
+    offer_links: &[u16; 517],
+    grocer_links: &[u16; 272],
+    tally_links: &[u16; 1017],
+    known: &mut [u32],
+    price_transit: &mut [u32],
+    working: &mut [i64],
+    total_transit: &mut [i64],
+    statement: &mut [i64],
+    x: Step,
+) -> u32
+    requires { ⌜ StepIn (tallies (z .boxes) (z .grocers) (z .offers) (z .tallies) (now «offer_owner») (now «tally_grocer») (now «tally_box»)
+        (now «tally_offer») (now «tally_count»)) (now «grocer_owner») (now «offer_links») (now «grocer_links») (now «tally_links») (now known)
+        (now «price_transit») (now working) (now «total_transit») (now statement) (x .kind) (x .first) (x .second) ⌝ }
+    ensures { λ r. ⌜ StepOut (tallies (z .boxes) (z .grocers) (z .offers) (z .tallies) (now («offer_owner» .entry)) (now («tally_grocer» .entry))
+        (now («tally_box» .entry)) (now («tally_offer» .entry)) (now («tally_count» .entry))) (now («grocer_owner» .entry)) (now (needs .entry))
+        (now (sharers .entry)) (withoutMarks (now (known .entry)) (now («price_transit» .entry)) (now (working .entry)) (now («total_transit» .entry))
+        (now (statement .entry))) (withoutMarks (now (known .exit)) (now («price_transit» .exit)) (now (working .exit)) (now («total_transit» .exit))
+        (now (statement .exit))) (x .kind) (x .first) (x .second) r ⌝ }
+{
+    if x.kind <= 3 {
+        return apply::price_step(
+            z,
+            offer_owner,
+            tally_grocer,
+            tally_box,
+            tally_offer,
+            tally_count,
+            needs,
+            offer_links,
+            tally_links,
+            known,
+            price_transit,
+            working,
+            x,
+        );
+    }
+    apply::total_step(
+        z,
+        grocer_owner,
+        sharers,
+        grocer_links,
+        working,
+        total_transit,
+        statement,
+        x,
+    )
+}
+
+// From a fresh state, whatever the tables held before, the first n steps of an order: offers, grocers and tallies are linked once.
+pub fn all_steps(
+    z: Sizes,
+    price: &[u32],
+    offer_owner: &[u16],
+    grocer_owner: &[u16],
+    tally_grocer: &[u16],
+    tally_box: &[u16],
+    tally_offer: &[u16],
+    tally_count: &[i32],
+    needs: &[u16; 500],
+    sharers: &[u16; 255],
+    order: &[u16; 1536],
+    n: usize,
+    known: &mut [u32],
+    price_transit: &mut [u32],
+    working: &mut [i64],
+    total_transit: &mut [i64],
+    statement: &mut [i64],
+) -> Sent
+    requires { ⌜ AllIn (jobTables (z .boxes) (z .grocers) (z .offers) (z .tallies) (now price) (now «offer_owner») (now «grocer_owner»)
+        (now «tally_grocer») (now «tally_box») (now «tally_offer») (now «tally_count»)) (withoutMarks (now known) (now «price_transit») (now working)
+        (now «total_transit») (now statement)) (now needs) (now sharers) (now order) n ⌝ }
+    ensures { λ r. ⌜ AllOut (jobOf (jobTables (z .boxes) (z .grocers) (z .offers) (z .tallies) (now (price .entry)) (now («offer_owner» .entry))
+        (now («grocer_owner» .entry)) (now («tally_grocer» .entry)) (now («tally_box» .entry)) (now («tally_offer» .entry))
+        (now («tally_count» .entry)))) (withoutMarks (now (known .entry)) (now («price_transit» .entry)) (now (working .entry))
+        (now («total_transit» .entry)) (now (statement .entry))) (withoutMarks (now (known .exit)) (now («price_transit» .exit)) (now (working .exit))
+        (now («total_transit» .exit)) (now (statement .exit))) (now (order .entry)) n (r .words) (r .messages) ⌝ }
+{
+    fresh::fresh_prices(z.boxes, z.offers, price, offer_owner, known, price_transit);
+    fresh::fresh_totals(z.boxes, z.grocers, working, total_transit, statement);
+    let mut offer_links = [0u16; 517];
+    let mut grocer_links = [0u16; 272];
+    let mut tally_links = [0u16; 1017];
+    links::link(z.offers as usize, offer_owner, &mut offer_links);
+    links::link(z.grocers as usize, grocer_owner, &mut grocer_links);
+    links::link(z.tallies as usize, tally_box, &mut tally_links);
+    let mut words: u32 = 0;
+    let mut messages: u32 = 0;
+    for i in 0..n {
+        let x = step_at(z.boxes, order[i]);
+        let more = one_step(
+            z,
+            offer_owner,
+            grocer_owner,
+            tally_grocer,
+            tally_box,
+            tally_offer,
+            tally_count,
+            needs,
+            sharers,
+            &offer_links,
+            &grocer_links,
+            &tally_links,
+            known,
+            price_transit,
+            working,
+            total_transit,
+            statement,
+            x,
+        );
+        words += more;
+        messages += walk::sent_by(x.kind);
+    }
+    Sent {
+        words: words,
+        messages: messages,
+    }
+}
