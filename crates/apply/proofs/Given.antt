@@ -12,7 +12,8 @@ use Rattle.laws.proofs.Checks.{each-of}
 use Rattle.model.specs.Job.{needWord, sharerWord}
 use Rattle.model.specs.Steps.{kindOf, oneBox}
 use Rattle.model.specs.Tables.{JobTables, jobOf, StateTables, jobLengths, stateLengths}
-use Rattle.model.specs.Ranges.{maxPrice, maxAmount, maxSent, upTo, around, stateInRange}
+use Rattle.laws.specs.Limits.{maxPrice, maxAmount, maxSent}
+use Rattle.model.specs.Ranges.{upTo, around, stateInRange}
 use Rattle.model.specs.Step.{Asked, isKind, boxesFit}
 use Rattle.rules.specs.Marks.{MarksIn}
 use Rattle.links.specs.Links.{Linked}

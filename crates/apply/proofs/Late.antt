@@ -13,7 +13,8 @@ use Rattle.laws.proofs.Checks.{one-left}
 use Rattle.model.specs.Job.{priceWord, totalWord}
 use Rattle.model.specs.Steps.{kindOf}
 use Rattle.model.specs.Tables.{JobTables, jobOf, StateTables, stateTables, stateLengths}
-use Rattle.model.specs.Ranges.{maxPrice, maxAmount, maxSent, upTo, around, stateInRange}
+use Rattle.laws.specs.Limits.{maxPrice, maxAmount, maxSent}
+use Rattle.model.specs.Ranges.{upTo, around, stateInRange}
 use Rattle.model.specs.Step.{Asked, moved}
 use Rattle.words.specs.Message.{wordIn}
 use Rattle.prices.specs.Prices.{sentTransit, receivedKnown, receivedTransit}

@@ -11,7 +11,8 @@ use Rattle.laws.specs.Tables.{tabulate}
 use Rattle.model.specs.Job.{needWord, sharerWord}
 use Rattle.model.specs.Steps.{kindOf}
 use Rattle.model.specs.Tables.{JobTables, jobOf, StateTables, jobLengths, stateLengths, jobShort, stateShort}
-use Rattle.model.specs.Ranges.{maxBoxes, maxGrocers, maxSent, jobInRange, stateInRange}
+use Rattle.laws.specs.Limits.{maxBoxes, maxGrocers, maxSent}
+use Rattle.model.specs.Ranges.{jobInRange, stateInRange}
 use Rattle.model.specs.Step.{Asked, isKind, boxesFit}
 use Rattle.words.specs.Message.{wordIn}
 use Rattle.links.specs.Links.{Linked}

@@ -1,7 +1,7 @@
 -- The numbers of a header as code holds them, and what is due in a block.
 use Prim.Native.Nat.{ℕ, _≤_}
 use mathlib.Core.Path.{_≡_}
-use Rattle.format.specs.Limits.{maxBoxes, maxGrocers, maxOffers, maxTallies}
+use Rattle.laws.specs.Limits.{maxBoxes, maxGrocers, maxOffers, maxTallies}
 use Rattle.format.specs.Job.{Head, headOf}
 use Rattle.format.specs.Blocks.{kindAt, blockKindNumber, records}
 use Rattle.blocks.specs.declared.plan.Head.{Head as HeadWords}

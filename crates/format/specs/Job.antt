@@ -6,7 +6,7 @@ use lib.Dec.{leb, ltb}
 use lib.IntN.{ℤ, natAbs}
 use Rattle.laws.specs.Below.{any, find}
 use Rattle.laws.specs.Checks.{anyOf}
-use Rattle.format.specs.Limits.{maxBoxes, maxGrocers, maxOffers, maxTallies, maxPrice, maxCount}
+use Rattle.laws.specs.Limits.{maxBoxes, maxGrocers, maxOffers, maxTallies, maxPrice, maxCount}
 use Rattle.format.specs.Codes.{Code, isCode, sameOffer}
 
 -- An offer: its price in tenths of a cent, the box that owns it, and its code.

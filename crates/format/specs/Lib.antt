@@ -1,7 +1,6 @@
 -- The job file: codes, jobs, blocks, files, refusals, and the lent tables of reader and writer.
 
 pub mod First
-pub mod Limits
 pub mod Bytes
 pub mod Codes
 pub mod Job

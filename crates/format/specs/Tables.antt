@@ -10,7 +10,7 @@ use Rattle.laws.specs.Tables.{overwrite, recell}
 use Rattle.format.specs.First.{firstOf}
 use Rattle.format.specs.Bytes.{from}
 use Rattle.format.specs.Codes.{Code, readCode, codeBytes}
-use Rattle.format.specs.Limits.{maxBoxes, maxGrocers, maxOffers, maxTallies}
+use Rattle.laws.specs.Limits.{maxBoxes, maxGrocers, maxOffers, maxTallies}
 use Rattle.format.specs.Job.{Head, headOf, FileJob, Offer, Tally, placeOf}
 use Rattle.format.specs.Blocks.{blockCount}
 use Rattle.format.specs.File.{encode, decode}

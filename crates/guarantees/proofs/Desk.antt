@@ -17,7 +17,8 @@ use Rattle.laws.proofs.Sums.{sum-cong}
 use Rattle.laws.proofs.Tables.{length-tabulate, word-in}
 use Rattle.model.specs.Job.{Job, held, amount, plainSum}
 use Rattle.model.specs.Tables.{JobTables, jobOf}
-use Rattle.model.specs.Ranges.{maxBoxes, maxGrocers, maxOffers, maxTallies, maxPrice, maxCount, upTo, under, around, sizesInRange, jobWordsInRange, jobInRange}
+use Rattle.laws.specs.Limits.{maxBoxes, maxGrocers, maxOffers, maxTallies, maxPrice, maxCount}
+use Rattle.model.specs.Ranges.{upTo, under, around, sizesInRange, jobWordsInRange, jobInRange}
 use Rattle.model.specs.Reconcile.{TallyRecord, owed, recordInRange, recordsInRange, serialAmount, deskRefusals, deskAnswer, reconciled}
 use Rattle.model.proofs.Step.{under-at, range, limits}
 use Rattle.reconcile.specs.Records.{tallyRecord}

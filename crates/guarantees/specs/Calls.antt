@@ -15,7 +15,8 @@ use Rattle.laws.specs.Tables.{tabulate}
 use Rattle.model.specs.Job.{Job, needWord, sharerWord, plainSum}
 use Rattle.model.specs.Words.{ownerWords}
 use Rattle.model.specs.Tables.{JobTables, jobOf}
-use Rattle.model.specs.Ranges.{maxAmount, jobInRange}
+use Rattle.laws.specs.Limits.{maxAmount}
+use Rattle.model.specs.Ranges.{jobInRange}
 use Rattle.model.specs.Local.{priceTable, totalTable}
 use Rattle.model.specs.Reconcile.{TallyRecord, owed, reconciled}
 use Rattle.tables.specs.Messages.{cellAt}

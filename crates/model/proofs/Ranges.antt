@@ -12,7 +12,7 @@ use Rattle.laws.proofs.Sums.{sum-cong}
 use Rattle.laws.proofs.Signed.{abs-times, sum-abs-count, only-abs}
 use Rattle.model.specs.Job.{heldBy, Job, amount, held}
 use Rattle.model.specs.Steps.{Steps, added, State}
-use Rattle.model.specs.Ranges.{maxGrocers, maxOffers, maxTallies, maxPrice, maxCount, maxAmount, maxSent}
+use Rattle.laws.specs.Limits.{maxGrocers, maxOffers, maxTallies, maxPrice, maxCount, maxAmount, maxSent}
 use Rattle.model.proofs.Range.{InRange, held-box}
 use Rattle.model.specs.Boxes.{knows, priceOnWay, gone, arrived, partOf, paid, stateByRules}
 use Rattle.model.proofs.Parts.{part-zero, part-same}

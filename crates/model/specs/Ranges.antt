@@ -6,41 +6,10 @@ use Prim.Native.Nat.{ℕ, _*_}
 use lib.ListN.{getD}
 use lib.Dec.{ltb, leb}
 use lib.IntN.{ℤ, pos, natAbs}
+use Rattle.laws.specs.Limits.{maxBoxes, maxGrocers, maxOffers, maxTallies, maxPrice, maxCount, maxAmount, maxSent}
 use Rattle.laws.specs.Below.{all}
 use Rattle.laws.specs.Checks.{allOf}
 use Rattle.model.specs.Tables.{JobTables, jobLengths, jobShort, StateTables}
-
--- Boxes, K: 1 to 16.
-abbrev pub maxBoxes : ℕ
-maxBoxes = 16
-
--- Grocers, M: 1 to 255.
-abbrev pub maxGrocers : ℕ
-maxGrocers = 255
-
--- Offers, N: 1 to 500.
-abbrev pub maxOffers : ℕ
-maxOffers = 500
-
--- Tallies, T: 0 to 1,000.
-abbrev pub maxTallies : ℕ
-maxTallies = 1_000
-
--- Tenths of a cent.
-abbrev pub maxPrice : ℕ
-maxPrice = 9_999_999
-
--- Corrections are negative: a count is within ±99,999.
-abbrev pub maxCount : ℕ
-maxCount = 99_999
-
--- Amounts are within ±10^15.
-abbrev pub maxAmount : ℕ
-maxAmount = 1_000_000_000_000_000
-
--- The count of words sent is 0 to 1,000,000.
-abbrev pub maxSent : ℕ
-maxSent = 1_000_000
 
 -- The first n words of a table are at most m.
 unfoldable pub upTo : ℕ → ℕ → List ℕ → Bool

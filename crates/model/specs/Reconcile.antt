@@ -7,7 +7,8 @@ use lib.Dec.{eqb, ltb, leb}
 use lib.IntN.{ℤ, pos, natAbs, _+ℤ_, _*ℤ_}
 use Rattle.laws.specs.Below.{only, integers}
 use Rattle.laws.specs.Checks.{firstMet, allOf}
-use Rattle.model.specs.Ranges.{maxBoxes, maxGrocers, maxOffers, maxTallies, maxPrice, maxCount, upTo}
+use Rattle.laws.specs.Limits.{maxBoxes, maxGrocers, maxOffers, maxTallies, maxPrice, maxCount}
+use Rattle.model.specs.Ranges.{upTo}
 
 -- A tally record: grocer, box, place and count.
 pub record TallyRecord : Type 0 where

@@ -19,7 +19,8 @@ use Rattle.laws.specs.Checks.{firstMet}
 use Rattle.laws.proofs.Bools.{and-comm}
 use Rattle.laws.proofs.Checks.{each-of}
 use Rattle.laws.proofs.Signed.{abs-plus, only-abs}
-use Rattle.model.specs.Ranges.{maxBoxes, maxGrocers, maxOffers, maxTallies, maxPrice, maxCount, maxAmount, upTo}
+use Rattle.laws.specs.Limits.{maxBoxes, maxGrocers, maxOffers, maxTallies, maxPrice, maxCount, maxAmount}
+use Rattle.model.specs.Ranges.{upTo}
 use Rattle.model.specs.Reconcile.{TallyRecord, recordInRange, recordsInRange, serialAmount, DeskAnswer, owed, refused, deskRefusals, deskAnswer, reconciled}
 use Rattle.model.proofs.Step.{up-at}
 use Rattle.reconcile.specs.declared.Tally.{Tally}

@@ -12,7 +12,8 @@ use mir.Syntax.{w64}
 use mir.Val.{ofZ, toZ}
 use Rattle.laws.specs.Below.{only, integers}
 use Rattle.laws.proofs.Signed.{read64-abs}
-use Rattle.model.specs.Ranges.{maxPrice, maxCount, maxAmount, upTo}
+use Rattle.laws.specs.Limits.{maxPrice, maxCount, maxAmount}
+use Rattle.model.specs.Ranges.{upTo}
 use Rattle.model.specs.Reconcile.{TallyRecord, recordInRange}
 use Rattle.model.proofs.Step.{up-at}
 use Rattle.reconcile.specs.declared.Answer.{Answer}

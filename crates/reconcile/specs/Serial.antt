@@ -7,7 +7,8 @@ use lib.ListN.{getD, length}
 use lib.Dec.{eqb, ltb}
 use lib.IntN.{ℤ, pos, natAbs, _+ℤ_, _*ℤ_}
 use Rattle.laws.specs.Below.{only, integers}
-use Rattle.model.specs.Ranges.{maxPrice, maxAmount, upTo}
+use Rattle.laws.specs.Limits.{maxPrice, maxAmount}
+use Rattle.model.specs.Ranges.{upTo}
 use Rattle.model.specs.Reconcile.{TallyRecord, recordInRange}
 use Rattle.records.specs.Head.{headInRange}
 use Rattle.reconcile.specs.declared.Answer.{Answer}

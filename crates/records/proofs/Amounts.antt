@@ -6,7 +6,7 @@ use lib.IntN.{ℤ, pos, natAbs, _+ℤ_, _*ℤ_}
 use mir.Syntax.{w32, w64}
 use mir.Val.{SFits, ofZ, toZ}
 use Rattle.laws.proofs.Signed.{abs-plus, abs-times-le, fits64-as, read32-abs, read64-abs}
-use Rattle.model.specs.Ranges.{maxPrice, maxCount, maxAmount}
+use Rattle.laws.specs.Limits.{maxPrice, maxCount, maxAmount}
 
 -- The size of count × price.
 pub product-abs : (c : ℤ) (p : ℕ) → natAbs c ≤ maxCount → p ≤ maxPrice → natAbs (c *ℤ pos p) ≤ 999_989_900_001

@@ -5,7 +5,8 @@ use Prim.Native.Nat.{ℕ}
 use lib.ListN.{length}
 use lib.Dec.{ltb, leb}
 use Rattle.laws.specs.Checks.{allOf}
-use Rattle.model.specs.Ranges.{maxGrocers, maxOffers, maxTallies, maxPrice, upTo}
+use Rattle.laws.specs.Limits.{maxGrocers, maxOffers, maxTallies, maxPrice}
+use Rattle.model.specs.Ranges.{upTo}
 
 -- What 21 looks at beside the records: M, N, the prices, the number of records and the grocer wanted.
 unfoldable pub headInRange : ℕ → ℕ → ℕ → List ℕ → ℕ → Bool

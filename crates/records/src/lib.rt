@@ -2,7 +2,7 @@
 ghost use mathlib.Core.Path.{_≡_};
 ghost use Prim.Native.Nat.{_≤_};
 ghost use lib.IntN.{pos, natAbs, _+ℤ_, _*ℤ_};
-ghost use Rattle.model.specs.Ranges.{maxPrice, maxCount, maxAmount};
+ghost use Rattle.laws.specs.Limits.{maxPrice, maxCount, maxAmount};
 ghost use Rattle.model.specs.Reconcile.{recordInRange};
 ghost use Rattle.records.specs.Head.{headRefusal};
 use tables::ranges::is_count;

@@ -10,7 +10,8 @@ use lib.ListN.{getD}
 use lib.IntN.{ℤ}
 use Rattle.model.specs.Tables.{JobTables, jobOf, StateTables, jobLengths}
 use Rattle.model.specs.Local.{priceTable, totalTable}
-use Rattle.model.specs.Ranges.{maxAmount, maxSent, around, stateInRange}
+use Rattle.laws.specs.Limits.{maxAmount, maxSent}
+use Rattle.model.specs.Ranges.{around, stateInRange}
 use Rattle.model.specs.Step.{Asked, moved}
 use Rattle.rules.specs.Rules.{wordsTo}
 use Rattle.totals.specs.Row.{Tallies, productRow}

@@ -8,7 +8,8 @@ use lib.ListN.{length, getD}
 use lib.IntN.{ℤ, natAbs}
 use Rattle.laws.specs.Below.{all}
 use Rattle.model.specs.Tables.{JobTables, jobOf, jobLengths, jobShort, StateTables, stateLengths, stateShort, lentShort, view}
-use Rattle.model.specs.Ranges.{maxBoxes, maxGrocers, maxAmount, maxSent, around, jobInRange, stateInRange}
+use Rattle.laws.specs.Limits.{maxBoxes, maxGrocers, maxAmount, maxSent}
+use Rattle.model.specs.Ranges.{around, jobInRange, stateInRange}
 use Rattle.model.specs.Step.{Asked, stepRules, moved, stepRefusal}
 use Rattle.rules.specs.Rules.{wordsTo}
 use Rattle.totals.specs.Row.{Tallies, TalliesIn, PricesIn, AmountsIn, productRow}

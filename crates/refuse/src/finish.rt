@@ -1,7 +1,8 @@
 // The late 21: whether what a step leaves is in range. One table decides, by kind.
 ghost use mathlib.Core.Path.{_≡_};
 ghost use Prim.Native.Nat.{_*_, _<_};
-ghost use Rattle.model.specs.Ranges.{maxAmount, around};
+ghost use Rattle.laws.specs.Limits.{maxAmount};
+ghost use Rattle.model.specs.Ranges.{around};
 ghost use Rattle.totals.specs.Row.{tallies, TalliesIn, PricesIn, AmountsIn, productRow};
 ghost use Rattle.apply.specs.Apply.{SentIn};
 ghost use Rattle.refuse.specs.Late.{sentFits, priceFits, totalFits, PriceFitsIn, TotalFitsIn};

@@ -13,7 +13,8 @@ use Rattle.laws.specs.Checks.{allOf}
 use Rattle.laws.proofs.Bools.{split, and-true}
 use Rattle.laws.proofs.Below.{all-next, all-fails, all-cong}
 use Rattle.model.specs.Tables.{JobTables, StateTables}
-use Rattle.model.specs.Ranges.{maxPrice, maxCount, maxAmount, maxSent, upTo, under, around, sizesInRange, jobWordsInRange, jobInRange, stateInRange}
+use Rattle.laws.specs.Limits.{maxPrice, maxCount, maxAmount, maxSent}
+use Rattle.model.specs.Ranges.{upTo, under, around, sizesInRange, jobWordsInRange, jobInRange, stateInRange}
 use Rattle.tables.specs.Sizes.{sizes}
 
 module _ (p : ℕ → Bool) where

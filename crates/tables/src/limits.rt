@@ -1,4 +1,4 @@
-// The limits of "Terms and sizes", as crates/model/specs/Ranges.antt names them.
+// The limits of "Terms and sizes", as crates/laws/specs/Limits.antt names them.
 pub const MAX_BOXES: u16 = 16;
 
 pub const MAX_GROCERS: u16 = 255;

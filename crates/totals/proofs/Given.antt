@@ -7,7 +7,8 @@ use borrow.Author.Tests.{leb-true}
 use Rattle.laws.proofs.Bools.{and-l, and-r}
 use Rattle.laws.proofs.Checks.{each-of}
 use Rattle.model.specs.Tables.{JobTables, jobLengths}
-use Rattle.model.specs.Ranges.{maxBoxes, maxGrocers, maxOffers, maxTallies, maxPrice, maxCount, upTo, under, around, sizesInRange, jobWordsInRange, jobInRange}
+use Rattle.laws.specs.Limits.{maxBoxes, maxGrocers, maxOffers, maxTallies, maxPrice, maxCount}
+use Rattle.model.specs.Ranges.{upTo, under, around, sizesInRange, jobWordsInRange, jobInRange}
 use Rattle.totals.specs.Row.{TalliesIn}
 use Rattle.model.proofs.Lent.{JobLong}
 use Rattle.totals.proofs.Effect.{talliesOf}

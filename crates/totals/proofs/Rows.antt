@@ -20,7 +20,8 @@ use Rattle.laws.proofs.Loops.{share, pile-size, eqb-shift}
 use Rattle.laws.proofs.Signed.{abs-times-le, only-abs}
 use Rattle.laws.proofs.Sums.{sum-cong, sum-none, only-no}
 use Rattle.laws.proofs.Tables.{pos-right, cell-in, is-recell, getD-tabulate, getD-overwrite, row-in, cell-at, cell-in-row}
-use Rattle.model.specs.Ranges.{maxAmount, around}
+use Rattle.laws.specs.Limits.{maxAmount}
+use Rattle.model.specs.Ranges.{around}
 use Rattle.totals.specs.Row.{Tallies, tallies, TalliesIn, PricesIn, RowIn, AmountsIn, TallyIn, RowTallies, raised, isTaken, productAt, brings, rowOf, putRow, product, productSum, productRow}
 use Rattle.model.proofs.Step.{under-at, up-at, around-at}
 

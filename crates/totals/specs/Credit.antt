@@ -7,7 +7,7 @@ use lib.Dec.{eqb}
 use lib.IntN.{ℤ, pos, natAbs, _+ℤ_}
 use Rattle.laws.specs.Masks.{bit}
 use Rattle.laws.specs.Tables.{overwrite, word, cell, recell}
-use Rattle.model.specs.Ranges.{maxBoxes, maxGrocers, maxAmount}
+use Rattle.laws.specs.Limits.{maxBoxes, maxGrocers, maxAmount}
 
 -- A table of k rows of m amounts with 0 in row a at the grocers that pass p.
 unfoldable pub cleared : ℕ → ℕ → ℕ → (ℕ → Bool) → List ℤ → List ℤ

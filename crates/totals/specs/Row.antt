@@ -8,7 +8,8 @@ use lib.Dec.{eqb, ltb}
 use lib.IntN.{ℤ, pos, natAbs, _+ℤ_, _*ℤ_}
 use Rattle.laws.specs.Below.{integers, sum, only}
 use Rattle.laws.specs.Tables.{tabulate, cell, recell}
-use Rattle.model.specs.Ranges.{maxBoxes, maxGrocers, maxOffers, maxTallies, maxPrice, maxCount, maxAmount, upTo, under, around}
+use Rattle.laws.specs.Limits.{maxBoxes, maxGrocers, maxOffers, maxTallies, maxPrice, maxCount, maxAmount}
+use Rattle.model.specs.Ranges.{upTo, under, around}
 
 -- The tables of tallies and the owners of their offers, with K, M, N and T.
 pub record Tallies : Type 0 where

@@ -7,7 +7,7 @@ ghost use lib.ListN.{length, getD, set};
 ghost use lib.IntN.{pos, natAbs, _+ℤ_};
 ghost use Rattle.laws.specs.Below.{all};
 ghost use Rattle.laws.specs.Masks.{bit};
-ghost use Rattle.model.specs.Ranges.{maxAmount};
+ghost use Rattle.laws.specs.Limits.{maxAmount};
 ghost use Rattle.links.specs.Links.{Linked};
 ghost use Rattle.totals.specs.Row.{RowIn, AmountsIn};
 ghost use Rattle.totals.specs.Credit.{CreditIn, cleared, credited, creditWord, creditAll};

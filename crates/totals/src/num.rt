@@ -4,7 +4,7 @@ ghost use Prim.Native.Nat.{_*_, _≤_, _<_};
 ghost use lib.IntN.{pos, natAbs, _+ℤ_, _*ℤ_};
 ghost use mir.Syntax.{w64};
 ghost use mir.Val.{SFits};
-ghost use Rattle.model.specs.Ranges.{maxPrice, maxCount};
+ghost use Rattle.laws.specs.Limits.{maxPrice, maxCount};
 
 // A 16-bit number as an index.
 pub fn index(x: u16) -> usize

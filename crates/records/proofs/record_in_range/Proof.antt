@@ -4,7 +4,7 @@ use native.Mathlib.Omega.{arith}
 use borrow.Author.Needs.{needs}
 use borrow.Author.Tests.{lt-ltb, le-ltb}
 use Rattle.laws.proofs.Signed.{read32}
-use Rattle.model.specs.Ranges.{maxBoxes}
+use Rattle.laws.specs.Limits.{maxBoxes}
 use Rattle.model.specs.Reconcile.{recordInRange}
 use Rattle.records.proofs.record_in_range.Statement.{statement}
 use Rattle.records.proofs.record_in_range.Tie as tie

@@ -10,7 +10,8 @@ use lib.IntN.{ℤ, pos, natAbs}
 use lib.Dec.{leb}
 use Rattle.laws.specs.Below.{all}
 use Rattle.laws.proofs.Signed.{read32}
-use Rattle.model.specs.Ranges.{around, maxCount}
+use Rattle.laws.specs.Limits.{maxCount}
+use Rattle.model.specs.Ranges.{around}
 use Rattle.tables.proofs.Loops.{test-none, test-more, test-fails, test-ends}
 use Rattle.tables.proofs.ranges.around32.Statement.{statement}
 use Rattle.tables.proofs.ranges.around32.Tie as tie

@@ -13,7 +13,7 @@ use Rattle.laws.specs.Below.{all}
 use Rattle.laws.proofs.Bools.{and-true}
 use Rattle.laws.proofs.Below.{all-next, all-fails, all-start}
 use Rattle.laws.proofs.Signed.{read64}
-use Rattle.model.specs.Ranges.{maxAmount}
+use Rattle.laws.specs.Limits.{maxAmount}
 use Rattle.totals.specs.Credit.{credited, creditWord}
 use denote.Ref.{now}
 use Rattle.totals.proofs.Credits.{credit-at}

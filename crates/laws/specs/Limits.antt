@@ -24,3 +24,11 @@ maxPrice = 9_999_999
 -- A count is within ±99,999.
 abbrev pub maxCount : ℕ
 maxCount = 99_999
+
+-- Amounts are within ±10^15.
+abbrev pub maxAmount : ℕ
+maxAmount = 1_000_000_000_000_000
+
+-- The count of words sent is 0 to 1,000,000.
+abbrev pub maxSent : ℕ
+maxSent = 1_000_000
