@@ -1,10 +1,10 @@
-// Codes in the file: their numbers, and their bytes.
+// Codes and names in the file: their numbers, and their bytes.
 ghost use mathlib.Core.Path.{_≡_};
 ghost use mathlib.Core.Bool.{true};
 ghost use Prim.Native.Nat.{_+_, _-_, _≤_};
 ghost use lib.ListN.{length};
 ghost use Rattle.format.specs.Bytes.{from};
-ghost use Rattle.format.specs.Codes.{readCode, isCode, codeNumber};
+ghost use Rattle.format.specs.Codes.{readCode, isCode, codeNumber, nameOf, nameNumber};
 ghost use Rattle.fills.specs.Fills.{Copied};
 use blocks::bytes::size;
 
@@ -30,6 +30,16 @@ pub fn number_at(f: &[u8], at: usize) -> u64
         i += 1;
     }
     value
+}
+
+// The number of the name of this issuer and of the code whose eleven bytes stand at `at`.
+pub fn name_at(f: &[u8], at: usize, issuer: usize) -> u64
+    requires { ⌜ (at + 11 ≤ length (now f)) × (issuer ≤ 65535) ⌝ }
+    requires { ⌜ isCode (readCode (from (now f) at)) ≡ true ⌝ }
+    ensures { λ r. ⌜ r ≡ nameNumber (nameOf issuer (readCode (from (now (f .entry)) at))) ⌝ }
+{
+    let number = number_at(f, at);
+    (issuer as u64) * 10_000_000_000 + number
 }
 
 // Copies the eleven bytes of a code from the file to a table.

@@ -9,3 +9,4 @@ pub mod Blocks
 pub mod File
 pub mod Refusals
 pub mod Tables
+pub mod Lent

@@ -3,3 +3,4 @@ pub mod Below
 pub mod Tables
 pub mod Masks
 pub mod Checks
+pub mod Lent
