@@ -91,9 +91,10 @@ pub fn read(
         | (offer_issuer.len() < MAX_OFFERS);
     let tallies = (tally_grocer.len() < MAX_TALLIES)
         | (tally_box.len() < MAX_TALLIES)
-        | (tally_code.len() < MAX_TALLIES * 11);
-    let ends = (tally_count.len() < MAX_TALLIES) | (tally_issuer.len() < MAX_TALLIES);
-    let short = offers | (grocer_owner.len() < MAX_GROCERS) | (tallies | ends);
+        | (tally_code.len() < MAX_TALLIES * 11)
+        | (tally_count.len() < MAX_TALLIES)
+        | (tally_issuer.len() < MAX_TALLIES);
+    let short = offers | (grocer_owner.len() < MAX_GROCERS) | tallies;
     if short | (tally_offer.len() < MAX_TALLIES) {
         return Answer::Refused(20);
     }
