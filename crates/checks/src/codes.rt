@@ -1,4 +1,4 @@
-// 7 and 8: the numbers of the codes.
+// 7 and 8: the numbers of the names.
 ghost use mathlib.Core.Path.{_≡_};
 ghost use mathlib.Core.Bool.{true, false};
 ghost use mathlib.Core.List.{List, [], _∷_};

@@ -14,8 +14,11 @@ use Rattle.checks.proofs.codes.names_refusal.Tie as tie
 abbrev made : tie.After-shared → tie.After-index-names
 made c = c .before .before .before .before
 
+abbrev start : tie.After-places → tie.Start
+start c = c .before .before .before .before .before .before
+
 abbrev entry : tie.After-index-names → tie.Start
-entry c = c .before .before .before .before .before .before .before
+entry c = start (c .before)
 
 -- A job whose names the tables hold.
 abbrev Has : FileJob → tie.Start → Type 0
@@ -23,7 +26,7 @@ Has j s = HasNames j (now (s .args .offer-code)) (now (s .args .offer-issuer)) (
 
 index-names-requires : tie.Need-index-names-requires
 index-names-requires c κs =
-    let s = c .before .before .before .before .before .before in
+    let s = start c in
     let m = s .pre .0 .0 .offers in
     ((m, s .pre .0 .1, s .pre .0 .2, s .pre .1 .1 .0), (omega (arith, m), omega (arith, m)))
 
