@@ -41,7 +41,8 @@ pub fn write(
     out: &mut [u8],
 ) -> Answer
     ensures { λ r. ⌜ outcomeOf r (now (out .exit)) ≡ writeResult (headOf boxes grocers offers tallies cycle)
-        (fileLent price «offer_owner» «offer_code» «offer_issuer» «grocer_owner» «tally_grocer» «tally_box» «tally_code» «tally_count» «tally_issuer») (now (out .entry)) ⌝ }
+        (fileLent price «offer_owner» «offer_code» «offer_issuer» «grocer_owner» «tally_grocer» «tally_box»
+        «tally_code» «tally_count» «tally_issuer») (now (out .entry)) ⌝ }
 {
     let head = head_of(boxes, grocers, offers, tallies, cycle);
     let refusal = write_refusal(
