@@ -142,7 +142,8 @@ pub fn put_tally_block(
     requires { ⌜ LongTallies t (tallyTables (now «tally_grocer») (now «tally_box») (now «tally_code») (now «tally_count») (now «tally_issuer»)) ⌝ }
     requires { ⌜ Small (now «tally_box») t ⌝ }
     ensures { λ _. ⌜ now (out .exit) ≡ put (512 * (k + b)) 512 (blockByte
-        (recordBody 3 k t (λ i. tallyBytes (tallyOf (talliesLent «tally_grocer» «tally_box» «tally_code» «tally_count» «tally_issuer») i)) b)) (now (out .entry)) ⌝ }
+        (recordBody 3 k t (λ i. tallyBytes (tallyOf (talliesLent «tally_grocer» «tally_box» «tally_code» «tally_count» «tally_issuer») i)) b))
+        (now (out .entry)) ⌝ }
 {
     let number = k + b;
     let at = 512 * number;

@@ -40,8 +40,9 @@ pub fn write(
     tally_issuer: &[u16],
     out: &mut [u8],
 ) -> Answer
-    ensures { λ r. ⌜ outcomeOf r (now (out .exit)) ≡ writeResult (headOf boxes grocers offers tallies cycle) (fileLent price «offer_owner» «offer_code» «offer_issuer»
-        «grocer_owner» «tally_grocer» «tally_box» «tally_code» «tally_count» «tally_issuer») (now (out .entry)) ⌝ }
+    ensures { λ r. ⌜ outcomeOf r (now (out .exit)) ≡ writeResult (headOf boxes grocers offers tallies cycle)
+        (fileLent price «offer_owner» «offer_code» «offer_issuer» «grocer_owner» «tally_grocer» «tally_box»
+        «tally_code» «tally_count» «tally_issuer») (now (out .entry)) ⌝ }
 {
     let head = head_of(boxes, grocers, offers, tallies, cycle);
     let refusal = write_refusal(

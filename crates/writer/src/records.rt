@@ -51,8 +51,8 @@ pub fn put_tally(
     requires { ⌜ (i < length (now «tally_grocer»)) × (i < length (now «tally_box»)) × (i * 11 + 11 ≤ length (now «tally_code»)) ⌝ }
     requires { ⌜ (i < length (now «tally_count»)) × (i < length (now «tally_issuer»)) ⌝ }
     requires { ⌜ getD (now «tally_box») i 0 < 256 ⌝ }
-    ensures { λ _. ⌜ now (out .exit) ≡ put at 24 (bytesOf (tallyBytes (tallyOf (talliesLent «tally_grocer» «tally_box» «tally_code» «tally_count» «tally_issuer») i)))
-        (now (out .entry)) ⌝ }
+    ensures { λ _. ⌜ now (out .exit) ≡ put at 24
+        (bytesOf (tallyBytes (tallyOf (talliesLent «tally_grocer» «tally_box» «tally_code» «tally_count» «tally_issuer») i))) (now (out .entry)) ⌝ }
 {
     put16(out, at, size_of(tally_grocer[i]));
     out[at + 2] = tally_box[i] as u8;
