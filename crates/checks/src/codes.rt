@@ -15,6 +15,7 @@ ghost use Rattle.format.specs.Tables.{codeOf, nameIn};
 ghost use Rattle.blocks.specs.Due.{asHead, Most};
 ghost use Rattle.checks.specs.Rows.{Codes, Indexed, HasNames};
 use crate::sizes::size_of;
+use blocks::codes::CODE_BYTES;
 use blocks::plan::Head;
 use blocks::plan::MAX_OFFERS;
 use fills::code::name_at;
@@ -29,7 +30,7 @@ fn number_all(code: &[u8], issuer: &[u16], n: usize, numbers: &mut [u64])
 {
     let mut i: usize = 0;
     while i < n {
-        numbers[i] = name_at(code, i * 11, size_of(issuer[i]));
+        numbers[i] = name_at(code, i * CODE_BYTES, size_of(issuer[i]));
         i += 1;
     }
 }
@@ -60,7 +61,7 @@ fn names_none(
     ensures { λ r. ⌜ ((numbers : List ℕ) → IsIndex (now (keys .entry)) (now (places .entry)) numbers n → sharesNumber numbers n ≡ false → r ≡ eqb
         (placeOf numbers n (nameNumber (nameIn (now («tally_code» .entry)) (now («tally_issuer» .entry)) i))) n) ⌝ }
 {
-    let number = name_at(tally_code, i * 11, size_of(tally_issuer[i]));
+    let number = name_at(tally_code, i * CODE_BYTES, size_of(tally_issuer[i]));
     let at = place(keys, places, n, number);
     at == n
 }

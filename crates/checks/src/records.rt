@@ -10,15 +10,21 @@ ghost use Rattle.format.specs.Job.{badOffer, badOwner, badTally, badRecords};
 ghost use Rattle.format.specs.Tables.{offerTables, tallyTables, fileTables, offerOf, tallyOf, fileJobOf};
 ghost use Rattle.blocks.specs.Due.{asHead};
 use crate::sizes::size_of;
+use blocks::codes::CODE_BYTES;
 use blocks::codes::is_code;
 use blocks::plan::Head;
 use blocks::records::MAX_PRICE;
+
+// The largest count and the least.
+const MAX_COUNT: i32 = 99_999;
+
+const MIN_COUNT: i32 = -99_999;
 
 // Whether a count is outside −99,999 to 99,999.
 fn bad_count(z: i32) -> bool
     ensures { λ r. ⌜ r ≡ ltb 99_999 (natAbs z) ⌝ }
 {
-    (z < -99_999) | (99_999 < z)
+    (z < MIN_COUNT) | (MAX_COUNT < z)
 }
 
 // Whether a field of offer i is outside its range; its issuer has all 16 bits.
@@ -27,7 +33,7 @@ fn bad_offer(head: Head, price: &[u32], offer_owner: &[u16], offer_code: &[u8], 
     ensures { λ r. ⌜ ((s : List ℕ) → r ≡ badOffer (asHead head)
         (offerOf (offerTables (now (price .entry)) (now («offer_owner» .entry)) (now («offer_code» .entry)) s) i)) ⌝ }
 {
-    let at = i * 11;
+    let at = i * CODE_BYTES;
     (MAX_PRICE < price[i]) | (head.boxes <= size_of(offer_owner[i])) | !is_code(offer_code, at)
 }
 
@@ -45,7 +51,7 @@ fn bad_tally(
     ensures { λ r. ⌜ ((s : List ℕ) → r ≡ badTally (asHead head)
         (tallyOf (tallyTables (now («tally_grocer» .entry)) (now («tally_box» .entry)) (now («tally_code» .entry)) (now («tally_count» .entry)) s) i)) ⌝ }
 {
-    let at = i * 11;
+    let at = i * CODE_BYTES;
     let ranges = (head.grocers <= size_of(tally_grocer[i])) | (head.boxes <= size_of(tally_box[i]));
     ranges | !is_code(tally_code, at) | bad_count(tally_count[i])
 }

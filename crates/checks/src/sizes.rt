@@ -6,6 +6,7 @@ ghost use Rattle.format.specs.Blocks.{blockCount};
 ghost use Rattle.format.specs.Tables.{shortOffers, shortTallies, shortWriter};
 ghost use Rattle.format.specs.Lent.{offersLent, talliesLent, fileLent};
 ghost use Rattle.blocks.specs.Due.{asHead, Fits};
+use blocks::codes::CODE_BYTES;
 use blocks::plan::Head;
 use blocks::plan::block_count;
 
@@ -54,7 +55,7 @@ fn short_offers(
 {
     (price.len() < n)
         | (offer_owner.len() < n)
-        | (offer_code.len() < n * 11)
+        | (offer_code.len() < n * CODE_BYTES)
         | (offer_issuer.len() < n)
 }
 
@@ -72,7 +73,7 @@ fn short_tallies(
 {
     (tally_grocer.len() < t)
         | (tally_box.len() < t)
-        | (tally_code.len() < t * 11)
+        | (tally_code.len() < t * CODE_BYTES)
         | (tally_count.len() < t)
         | (tally_issuer.len() < t)
 }

@@ -7,6 +7,7 @@ ghost use Rattle.format.specs.Bytes.{from};
 ghost use Rattle.format.specs.Codes.{readCode, isCode, codeNumber, nameOf, nameNumber};
 ghost use Rattle.fills.specs.Fills.{Copied};
 use blocks::bytes::size;
+use blocks::codes::CODE_BYTES;
 
 // The digit that a byte writes.
 fn digit(x: u8) -> u64
@@ -48,7 +49,7 @@ pub fn copy_code(f: &[u8], at: usize, code: &mut [u8], to: usize)
     ensures { λ _. ⌜ Copied (from (now (f .entry)) at) to 11 (now (code .entry)) (now (code .exit)) ⌝ }
 {
     let mut k: usize = 0;
-    while k < 11 {
+    while k < CODE_BYTES {
         code[to + k] = f[at + k];
         k += 1;
     }

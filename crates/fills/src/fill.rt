@@ -17,6 +17,7 @@ use crate::place::record_at;
 use blocks::bytes::signed;
 use blocks::bytes::word16;
 use blocks::bytes::word32;
+use blocks::codes::CODE_BYTES;
 use blocks::plan::Head;
 use blocks::plan::grocers_at;
 use blocks::plan::tallies_at;
@@ -56,7 +57,7 @@ pub fn fill_offers(
         let at = record_at(1, i);
         price[i] = word32(f, at);
         offer_owner[i] = wide(f[at + 4]);
-        copy_code(f, at + 5, offer_code, i * 11);
+        copy_code(f, at + 5, offer_code, i * CODE_BYTES);
         i += 1;
     }
 }
@@ -112,7 +113,7 @@ pub fn fill_tallies(
         let at = record_at(first, i);
         tally_grocer[i] = narrow(word16(f, at));
         tally_box[i] = wide(f[at + 2]);
-        copy_code(f, at + 3, tally_code, i * 11);
+        copy_code(f, at + 3, tally_code, i * CODE_BYTES);
         i += 1;
     }
 }

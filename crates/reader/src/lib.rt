@@ -9,6 +9,7 @@ ghost use Rattle.blocks.specs.Due.{asHead, Most};
 ghost use Rattle.reader.specs.Answer.{answerOf, outcome};
 ghost use Rattle.reader.specs.Sound.{Kept};
 use crate::look::job_refusal;
+use blocks::codes::CODE_BYTES;
 use blocks::plan::Head;
 use blocks::plan::MAX_GROCERS;
 use blocks::plan::MAX_OFFERS;
@@ -87,11 +88,11 @@ pub fn read(
 {
     let offers = (price.len() < MAX_OFFERS)
         | (offer_owner.len() < MAX_OFFERS)
-        | (offer_code.len() < MAX_OFFERS * 11)
+        | (offer_code.len() < MAX_OFFERS * CODE_BYTES)
         | (offer_issuer.len() < MAX_OFFERS);
     let tallies = (tally_grocer.len() < MAX_TALLIES)
         | (tally_box.len() < MAX_TALLIES)
-        | (tally_code.len() < MAX_TALLIES * 11)
+        | (tally_code.len() < MAX_TALLIES * CODE_BYTES)
         | (tally_count.len() < MAX_TALLIES)
         | (tally_issuer.len() < MAX_TALLIES);
     let short = offers | (grocer_owner.len() < MAX_GROCERS) | tallies;

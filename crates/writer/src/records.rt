@@ -10,6 +10,7 @@ use crate::bytes::put_zeros;
 use crate::bytes::put16;
 use crate::bytes::put32;
 use blocks::bytes::bits;
+use blocks::codes::CODE_BYTES;
 use checks::sizes::size_of;
 use fills::code::copy_code;
 
@@ -31,7 +32,7 @@ pub fn put_offer(
 {
     put32(out, at, price[i]);
     out[at + 4] = offer_owner[i] as u8;
-    copy_code(offer_code, i * 11, out, at + 5);
+    copy_code(offer_code, i * CODE_BYTES, out, at + 5);
     put16(out, at + 16, size_of(offer_issuer[i]));
     put_zeros(out, at + 18, 6);
 }
@@ -56,7 +57,7 @@ pub fn put_tally(
 {
     put16(out, at, size_of(tally_grocer[i]));
     out[at + 2] = tally_box[i] as u8;
-    copy_code(tally_code, i * 11, out, at + 3);
+    copy_code(tally_code, i * CODE_BYTES, out, at + 3);
     put32(out, at + 14, bits(tally_count[i]));
     put16(out, at + 18, size_of(tally_issuer[i]));
     put_zeros(out, at + 20, 4);
