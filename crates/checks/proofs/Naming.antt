@@ -9,12 +9,16 @@ use Rattle.laws.specs.Below.{any}
 use Rattle.laws.specs.Checks.{firstMet}
 use Rattle.laws.proofs.Below.{any-cong}
 use Rattle.index.specs.Index.{sharesNumber, placeOf as placeIn}
-use Rattle.format.specs.Codes.{Name, isCode, nameNumber}
+use Rattle.format.specs.Codes.{Name, nameOf, isCode, nameNumber}
 use Rattle.format.specs.Job.{Head, FileJob, offerName, names, placeOf, shared, unnamed}
-use Rattle.format.specs.Tables.{nameIn}
+use Rattle.format.specs.Tables.{codeOf, nameIn}
 use Rattle.checks.specs.Rows.{Codes, Indexed, HasNames}
 use Rattle.format.proofs.Range.{unnamed-place}
 use Rattle.fills.proofs.Naming as naming
+
+-- The number of a code under an issuer that is read is that of the name.
+pub named : (code issuer : List ℕ) (i : ℕ) {r x : ℕ} → r ≡ nameNumber (nameOf x (codeOf code i)) → x ≡ getD issuer i 0 → r ≡ nameNumber (nameIn code issuer i)
+named code issuer i e q = e ∙ ap (λ (x : ℕ). nameNumber (nameOf x (codeOf code i))) q
 
 module _ (j : FileJob) (code issuer tcode tissuer keys places : List ℕ) (h : Head) (has : HasNames j code issuer tcode tissuer h)
     (x : Indexed code issuer keys places (h .offers)) (codes : Codes code (h .offers)) where

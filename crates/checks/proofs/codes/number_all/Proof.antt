@@ -1,14 +1,15 @@
 -- `checks::codes::number_all` meets its contract. The invariant: the first i numbers are written. Assumes nothing.
-use Prim.Native.Nat.{ℕ, _≤_, _-_}
-use mathlib.Core.Path.{_≡_, refl, ap, _∙_}
+use Prim.Native.Nat.{_≤_, _-_}
+use mathlib.Core.Path.{_≡_, refl}
 use native.Mathlib.Omega.{arith}
 use lib.ListN.{length, length-set}
 use denote.Ref.{now}
 use borrow.Author.Needs.{needs}
 use Rattle.laws.specs.Tables.{overwrite}
-use Rattle.format.specs.Codes.{nameOf, nameNumber}
+use Rattle.format.specs.Codes.{nameNumber}
+use Rattle.format.specs.Tables.{nameIn}
 use Rattle.fills.proofs.Filling.{fill-none, fill-more, fill-end}
-use Rattle.format.specs.Tables.{codeOf, nameIn}
+use Rattle.checks.proofs.Naming.{named}
 use Rattle.checks.proofs.codes.number_all.Statement.{statement}
 use Rattle.checks.proofs.codes.number_all.Tie as tie
 
@@ -28,20 +29,13 @@ name-at-requires c κs =
     let s = l .before .before .before .before in
     ((omega arith, c .size-of .ensures .1), s .pre .1 .code (l .loop .i) (b .loop-test .taken))
 
--- The number of name i.
-number-is : (c : tie.After-name-at Inv-loop μ-loop) →
-    let l = c .before .before .before .before in
-    let a = l .before .before .before .before .args in
-    c .name-at .result ≡ nameNumber (nameIn (now (a .code)) (now (a .issuer)) (l .loop .i))
-number-is c =
-    let l = c .before .before .before .before in
-    let s = l .before .before .before .before in
-    c .name-at .ensures ∙ ap (λ (x : ℕ). nameNumber (nameOf x (codeOf (now (s .args .code)) (l .loop .i)))) (c .before .size-of .ensures .0)
-
 loop-again : tie.Need-loop-again Inv-loop μ-loop
 loop-again c =
     let l = c .before .before .before .before in
-    (omega arith, simp length-set (l .loop .inv .1), fill-more _ (l .loop .i) _ _ (c .name-at .result) (l .loop .inv .2) (omega arith) (number-is c))
+    let i = l .loop .i in
+    let a = l .before .before .before .before .args in
+    let e = named (now (a .code)) (now (a .issuer)) i (c .name-at .ensures) (c .before .size-of .ensures .0) in
+    (omega arith, simp length-set (l .loop .inv .1), fill-more _ i _ _ (c .name-at .result) (l .loop .inv .2) (omega arith) e)
 
 same-length : tie.Need-same-length Inv-loop μ-loop
 same-length c = c .before .loop .inv .1

@@ -1,5 +1,4 @@
 -- `checks::records::bad_records` meets its contract. Assumes nothing.
-use borrow.Author.Needs.{needs}
 use Rattle.checks.proofs.Joining.{record-tests}
 use Rattle.checks.proofs.records.bad_records.Statement.{statement}
 use Rattle.checks.proofs.records.bad_records.Tie as tie

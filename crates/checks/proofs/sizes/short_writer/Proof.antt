@@ -1,5 +1,4 @@
 -- `checks::sizes::short_writer` meets its contract. Assumes nothing.
-use borrow.Author.Needs.{needs}
 use Rattle.format.specs.Tables.{shortTables, shortWriter}
 use Rattle.checks.proofs.sizes.short_writer.Statement.{statement}
 use Rattle.checks.proofs.sizes.short_writer.Tie as tie

@@ -1,5 +1,5 @@
 -- `writer::records::put_offer` meets its contract. Assumes nothing.
-use Prim.Native.Nat.{ℕ, _*_, _+_, _≤_}
+use Prim.Native.Nat.{ℕ, _*_, _+_}
 use mathlib.Core.Path.{_≡_, ap, _∙_}
 use native.Mathlib.Omega.{arith}
 use lib.ListN.{length, getD, length-set}
@@ -27,6 +27,10 @@ sized c = c .before .before
 abbrev issued : tie.After-put-zeros-arg → tie.After-put16
 issued c = c .before .before .before
 
+-- The entry, from the issuer's call.
+abbrev first : tie.After-put16-arg → tie.Start
+first c = entry (priced (coded c .before))
+
 -- The buffer has its length once the code is copied.
 long-copied : (c : tie.After-copy-code) → length (c .copy-code .last .1 .1 .0) ≡ length (now (entry (priced (c .before)) .args .out))
 long-copied c = let p = priced (c .before) in c .copy-code .kept .1 .1 .0 ∙ length-set (p .put32 .last .0) _ _ ∙ p .put32 .kept .0
@@ -37,25 +41,23 @@ copy-code-requires c κs =
     let s = entry p in
     (s .pre .1 .0 .2, simp length-set (omega (arith, s .pre .0, p .put32 .kept .0)))
 
--- The room at the entry, from the issuer's call.
-room : (c : tie.After-size-of) → entry (priced (coded (sized c) .before)) .args .at + 24 ≤ length (now (entry (priced (coded (sized c) .before)) .args .out))
-room c = entry (priced (coded (sized c) .before)) .pre .0
-
 issuer-in : tie.Need-shared-slice-read-size-of
-issuer-in c = entry (priced (coded (c .before) .before)) .pre .1 .0 .3
+issuer-in c = first (c .before) .pre .1 .0 .3
 
 put16-requires : tie.Need-put16-requires
-put16-requires c κs = (omega (arith, long-copied (coded (sized c)), room c), omega (arith, c .size-of .ensures .1))
-
--- The buffer has its length once the issuer is put.
-long-issued : (c : tie.After-put16) → length (c .put16 .last .0) ≡ length (now (entry (priced (coded (sized (c .before)) .before)) .args .out))
-long-issued c = c .put16 .kept .0 ∙ long-copied (coded (sized (c .before)))
+put16-requires c κs = (omega (arith, long-copied (coded (sized c)), first (sized c) .pre .0), omega (arith, c .size-of .ensures .1))
 
 put-zeros-requires : tie.Need-put-zeros-requires
-put-zeros-requires c κs = omega (arith, long-issued (issued c), room (issued c .before))
+put-zeros-requires c κs =
+    let n = issued c in
+    let b = sized (n .before) in
+    omega (arith, n .put16 .kept .0, long-copied (coded b), first b .pre .0)
 
 same-length : tie.Need-same-length
-same-length c = let z = c .before .before in z .put-zeros .kept .0 ∙ long-issued (issued (z .before))
+same-length c =
+    let z = c .before .before in
+    let n = issued (z .before) in
+    z .put-zeros .kept .0 ∙ n .put16 .kept .0 ∙ long-copied (coded (sized (n .before)))
 
 returns : tie.Need-returns
 returns c =
