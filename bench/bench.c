@@ -27,8 +27,9 @@ struct buffers {
     uint32_t price[OFFERS];
     uint16_t offer_owner[OFFERS];
     uint8_t offer_code[OFFERS * CODE];
+    uint16_t offer_issuer[OFFERS];
     uint16_t grocer_owner[GROCERS];
-    uint16_t tally_grocer[TALLIES], tally_box[TALLIES], tally_offer[TALLIES];
+    uint16_t tally_grocer[TALLIES], tally_box[TALLIES], tally_offer[TALLIES], tally_issuer[TALLIES];
     uint8_t tally_code[TALLIES * CODE];
     int32_t tally_count[TALLIES];
     uint16_t sizes[SETTLEMENT_SIZES];
@@ -68,12 +69,13 @@ static size_t call(const struct calls *c, const struct work *w, struct buffers *
     switch (w->operation) {
     case READ:
         return c->read(b->file, w->file_len, WORDS(b->price), WORDS(b->offer_owner), WORDS(b->offer_code),
-                       WORDS(b->grocer_owner), WORDS(b->tally_grocer), WORDS(b->tally_box), WORDS(b->tally_code),
-                       WORDS(b->tally_count), WORDS(b->tally_offer), WORDS(b->sizes));
+                       WORDS(b->offer_issuer), WORDS(b->grocer_owner), WORDS(b->tally_grocer), WORDS(b->tally_box),
+                       WORDS(b->tally_code), WORDS(b->tally_count), WORDS(b->tally_issuer), WORDS(b->tally_offer),
+                       WORDS(b->sizes));
     case WRITE:
         return c->write(SIZES, w->cycle, WORDS(b->price), WORDS(b->offer_owner), WORDS(b->offer_code),
-                        WORDS(b->grocer_owner), WORDS(b->tally_grocer), WORDS(b->tally_box), WORDS(b->tally_code),
-                        WORDS(b->tally_count), WORDS(b->file));
+                        WORDS(b->offer_issuer), WORDS(b->grocer_owner), WORDS(b->tally_grocer), WORDS(b->tally_box),
+                        WORDS(b->tally_code), WORDS(b->tally_count), WORDS(b->tally_issuer), WORDS(b->file));
     case STEP:
         return c->step(TABLES, w->kind, w->first, w->second);
     case RUN:
@@ -124,7 +126,7 @@ static bool code_used(const struct buffers *b, unsigned n, uint64_t number)
     return false;
 }
 
-/* A job of these sizes, of some cycle: every word random within its range. */
+/* A job of these sizes, of some cycle and of issuer 0: every other word random within its range. */
 static void make_job(struct work *w, unsigned k, unsigned m, unsigned n, unsigned t)
 {
     struct buffers *b = &w->start;
@@ -151,6 +153,35 @@ static void make_job(struct work *w, unsigned k, unsigned m, unsigned n, unsigne
         b->tally_box[i] = (uint16_t)below(k);
         b->tally_offer[i] = (uint16_t)o;
         b->tally_count[i] = (int32_t)below(199999) - 99999;
+        put_code(b->tally_code + i * CODE, code_value(b->offer_code + o * CODE), 1 + below(10));
+    }
+}
+
+static bool name_used(const struct buffers *b, unsigned n, unsigned issuer, uint64_t number)
+{
+    for (unsigned o = 0; o < n; o++)
+        if (b->offer_issuer[o] == issuer && code_value(b->offer_code + o * CODE) == number)
+            return true;
+    return false;
+}
+
+/* One of so many issuers for each offer, and for about half of them the number of an offer before. */
+static void give_issuers(struct work *w, unsigned issuers)
+{
+    struct buffers *b = &w->start;
+    for (unsigned o = 0; o < w->offers; o++) {
+        unsigned issuer;
+        uint64_t number;
+        do {
+            issuer = below(issuers);
+            number = code_value(b->offer_code + (below(2) ? o : below(o + 1)) * CODE);
+        } while (name_used(b, o, issuer, number));
+        b->offer_issuer[o] = (uint16_t)issuer;
+        put_code(b->offer_code + o * CODE, number, 1 + below(10));
+    }
+    for (unsigned i = 0; i < w->tallies; i++) {
+        unsigned o = b->tally_offer[i];
+        b->tally_issuer[i] = b->offer_issuer[o];
         put_code(b->tally_code + i * CODE, code_value(b->offer_code + o * CODE), 1 + below(10));
     }
 }
@@ -201,6 +232,33 @@ static void write_file(struct work *w)
     memcpy(w->start.file, room[0].file, sizeof room[0].file);
 }
 
+/* The writer on names that no offer has or that two have. */
+static void wrong_names(struct work *w)
+{
+    static struct buffers kept;
+    struct buffers *b = &w->start;
+    for (unsigned i = 0; i < 20; i++) {
+        unsigned o = below(w->offers), from = below(w->offers);
+        kept = *b;
+        if (w->tallies && below(2))
+            b->tally_issuer[below(w->tallies)] = (uint16_t)below(4);
+        else if (below(2))
+            b->offer_issuer[o] = (uint16_t)below(4);
+        else
+            memcpy(b->offer_code + o * CODE, b->offer_code + from * CODE, CODE);
+        agree_on(w, WRITE, "writer of wrong names");
+        *b = kept;
+    }
+}
+
+/* A byte of a block: any, or one of an issuer where the block has records of 24 bytes. */
+static unsigned damaged_place(const uint8_t *block)
+{
+    if (block[0] % 2 == 0 || below(3))
+        return below(508);
+    return 4 + 24 * below(block[1]) + (block[0] == 1 ? 16 : 18) + below(2);
+}
+
 static void damage(struct work *w)
 {
     uint8_t kept[FILE_BYTES];
@@ -208,7 +266,7 @@ static void damage(struct work *w)
     for (unsigned i = 0; i < 40; i++) {
         size_t block = below((unsigned)(w->file_len / BLOCK)) * BLOCK;
         uint8_t *p = w->start.file + block;
-        unsigned at = below(508), a = 0, b = 0;
+        unsigned at = damaged_place(p), a = 0, b = 0;
         p[at] = (uint8_t)below(256);
         for (unsigned k = 0; k < 508; k++) {
             a += p[k];
@@ -266,8 +324,11 @@ static void agree_at_random(struct work *w)
 {
     for (unsigned i = 0; i < 60; i++) {
         make_job(w, 1 + below(16), 1 + below(i % 2 ? 255 : 12), 1 + below(i % 2 ? 500 : 20), below(i % 2 ? 1001 : 60));
+        if (i % 3)
+            give_issuers(w, i % 3 == 1 ? 3 : 65536);
         write_file(w);
         agree_on(w, READ, "reader");
+        wrong_names(w);
         damage(w);
         run_both(w);
         w->wanted = (uint16_t)below(w->grocers);
@@ -371,20 +432,22 @@ struct item {
     const char *name, *what;
     enum operation operation;
     unsigned kind, choices;
+    unsigned issuers; /* 1: issuer 0 alone */
 };
 
 static const struct item items[] = {
-    { "read", "reader, the longest file", READ, 0, 0 },
-    { "write", "writer, the same job", WRITE, 0, 0 },
-    { "step1", "step 1, send prices", STEP, 1, 0 },
-    { "step2", "step 2, multiply own", STEP, 2, 0 },
-    { "step3", "step 3, receive prices", STEP, 3, 0 },
-    { "step4", "step 4, send totals", STEP, 4, 0 },
-    { "step5", "step 5, own totals", STEP, 5, 0 },
-    { "step6", "step 6, receive totals", STEP, 6, 0 },
-    { "run", "run without choices", RUN, 0, 0 },
-    { "choices", "run with choices", RUN, 0, TALLIES },
-    { "reconcile", "reconciliation, 1,000 records", RECONCILE, 0, 0 },
+    { "read", "reader, the longest file", READ, 0, 0, 1 },
+    { "write", "writer, the same job", WRITE, 0, 0, 1 },
+    { "issuers", "reader, many issuers", READ, 0, 0, 65536 },
+    { "step1", "step 1, send prices", STEP, 1, 0, 1 },
+    { "step2", "step 2, multiply own", STEP, 2, 0, 1 },
+    { "step3", "step 3, receive prices", STEP, 3, 0, 1 },
+    { "step4", "step 4, send totals", STEP, 4, 0, 1 },
+    { "step5", "step 5, own totals", STEP, 5, 0, 1 },
+    { "step6", "step 6, receive totals", STEP, 6, 0, 1 },
+    { "run", "run without choices", RUN, 0, 0, 1 },
+    { "choices", "run with choices", RUN, 0, TALLIES, 1 },
+    { "reconcile", "reconciliation, 1,000 records", RECONCILE, 0, 0, 1 },
 };
 enum { ITEMS = sizeof items / sizeof *items };
 
@@ -415,6 +478,8 @@ static void prepare(struct work *w, const struct item *item, bool whole, unsigne
         make_job(w, BOXES, GROCERS, OFFERS, TALLIES);
     else
         make_job(w, BOXES, GROCERS / 10, OFFERS / 10, TALLIES / 10);
+    if (item->issuers > 1)
+        give_issuers(w, item->issuers);
     if (item->operation == READ) {
         w->operation = WRITE;
         w->file_len = call(&plain, w, &w->start);

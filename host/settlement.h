@@ -39,6 +39,10 @@
  * and for the reader alone
  *   offer_code    uint8_t     11 N   the code of offer i is bytes 11 i to 11 i + 10: digit count, then ten bytes,
  *   tally_code    uint8_t     11 T   ASCII digits first and 0 after them; likewise of tally i
+ *   offer_issuer  uint16_t    N      issuer of offer i, 0 for old offers
+ *   tally_issuer  uint16_t    T      issuer of the offer of tally i
+ * An issuer and a code name an offer. Two names are one offer where the issuers are equal and the codes' numbers agree
+ * without leading zeros. An issuer is any number of 16 bits, 0 included: none is refused, and no other call is lent it.
  *
  * TABLES OF A STATE           words  what stands where
  *   known         uint32_t    K N    price of offer o that box b knows: word b N + o
@@ -102,8 +106,8 @@
 #define SETTLEMENT_BAD_HEADER 4     /* byte 5, K, M, N or T of the header */
 #define SETTLEMENT_SPARE_BYTE 5     /* a spare byte is not 0 */
 #define SETTLEMENT_BAD_FIELD 6      /* of a record */
-#define SETTLEMENT_SHARED_NUMBER 7  /* of two offers */
-#define SETTLEMENT_UNKNOWN_CODE 8   /* of a tally */
+#define SETTLEMENT_SHARED_NUMBER 7  /* of two offers, under one issuer */
+#define SETTLEMENT_UNKNOWN_CODE 8   /* of a tally, under its issuer */
 #define SETTLEMENT_SHORT 20         /* a lent table */
 #define SETTLEMENT_OUT_OF_RANGE 21  /* K, M, N, T or a word of a table, or a word that the step would leave */
 #define SETTLEMENT_BAD_KIND 22      /* not 1 to 6 */
@@ -127,9 +131,9 @@ extern "C" {
 /* Reads the bytes of a job file into the tables of a job, K, M, N and T into sizes[0] to sizes[3], and the settlement
  * cycle into sizes[4]. The cycle is any number of 16 bits, 0 included: none is refused, and no other call is lent it.
  *
- * Needed lengths do not depend on the file: price, offer_owner 500; offer_code 5,500; grocer_owner 255;
- * tally_grocer, tally_box, tally_count, tally_offer 1,000; tally_code 11,000; sizes 5. An accepted file writes the
- * first M, N or T entries of each table, as above, and no others.
+ * Needed lengths do not depend on the file: price, offer_owner, offer_issuer 500; offer_code 5,500; grocer_owner 255;
+ * tally_grocer, tally_box, tally_count, tally_issuer, tally_offer 1,000; tally_code 11,000; sizes 5. An accepted file
+ * writes the first M, N or T entries of each table, as above, and no others.
  *
  * Refusals, in the order in which they are looked for: 20, then 1; then of the header 2, 3, 4, 5 and 1 (the block
  * count); then of each other block, ascending, 2, 3, 5, 6; then 7, 8.
@@ -141,19 +145,21 @@ extern "C" {
  *    5  a spare byte not 0
  *    6  a record with a field outside its range, an owner, box or grocer too large, a bad digit, or a byte after the
  *       digits not 0
- *    7  two offers share a number
- *    8  a tally's code names no offer
+ *    7  two offers share a number under one issuer
+ *    8  a tally's code names no offer of its issuer
  */
 uint16_t settlement_read(
     const uint8_t *file, size_t file_len,
     uint32_t *price, size_t price_len,
     uint16_t *offer_owner, size_t offer_owner_len,
     uint8_t *offer_code, size_t offer_code_len,
+    uint16_t *offer_issuer, size_t offer_issuer_len,
     uint16_t *grocer_owner, size_t grocer_owner_len,
     uint16_t *tally_grocer, size_t tally_grocer_len,
     uint16_t *tally_box, size_t tally_box_len,
     uint8_t *tally_code, size_t tally_code_len,
     int32_t *tally_count, size_t tally_count_len,
+    uint16_t *tally_issuer, size_t tally_issuer_len,
     uint16_t *tally_offer, size_t tally_offer_len,
     uint16_t *sizes, size_t sizes_len);
 
@@ -245,7 +251,7 @@ uint16_t settlement_run(
  * Two structs with the tables of the largest job, and the three calls on them: each table stands in its place once,
  * here, and is lent whole. A host need not use any of this. It is plain C, which nothing proves.
  *
- * A job has about 30,000 bytes and a state 134,000: they belong in static memory or on the heap, not on a small stack.
+ * A job has about 33,000 bytes and a state 134,000: they belong in static memory or on the heap, not on a small stack.
  * SETTLEMENT_READ_INTO and SETTLEMENT_LENT take other structs as well, with more members or, for a step and a run, with
  * smaller tables, as long as these are arrays with the names below, and not pointers.
  */
@@ -255,11 +261,13 @@ struct settlement_job {
     uint32_t price[SETTLEMENT_MAX_OFFERS];
     uint16_t offer_owner[SETTLEMENT_MAX_OFFERS];
     uint8_t offer_code[SETTLEMENT_MAX_OFFER_CODES];
+    uint16_t offer_issuer[SETTLEMENT_MAX_OFFERS];
     uint16_t grocer_owner[SETTLEMENT_MAX_GROCERS];
     uint16_t tally_grocer[SETTLEMENT_MAX_TALLIES];
     uint16_t tally_box[SETTLEMENT_MAX_TALLIES];
     uint8_t tally_code[SETTLEMENT_MAX_TALLY_CODES];
     int32_t tally_count[SETTLEMENT_MAX_TALLIES];
+    uint16_t tally_issuer[SETTLEMENT_MAX_TALLIES];
     uint16_t tally_offer[SETTLEMENT_MAX_TALLIES];
 };
 
@@ -279,8 +287,9 @@ struct settlement_state {
 /* The arguments of settlement_read between the file and sizes; j points to a job. */
 #define SETTLEMENT_READ_INTO(j)                                                                                        \
     SETTLEMENT_TABLE((j)->price), SETTLEMENT_TABLE((j)->offer_owner), SETTLEMENT_TABLE((j)->offer_code),               \
-    SETTLEMENT_TABLE((j)->grocer_owner), SETTLEMENT_TABLE((j)->tally_grocer), SETTLEMENT_TABLE((j)->tally_box),        \
-    SETTLEMENT_TABLE((j)->tally_code), SETTLEMENT_TABLE((j)->tally_count), SETTLEMENT_TABLE((j)->tally_offer)
+    SETTLEMENT_TABLE((j)->offer_issuer), SETTLEMENT_TABLE((j)->grocer_owner), SETTLEMENT_TABLE((j)->tally_grocer),     \
+    SETTLEMENT_TABLE((j)->tally_box), SETTLEMENT_TABLE((j)->tally_code), SETTLEMENT_TABLE((j)->tally_count),           \
+    SETTLEMENT_TABLE((j)->tally_issuer), SETTLEMENT_TABLE((j)->tally_offer)
 
 /* The arguments that settlement_step and settlement_run begin with; j points to a job, s to a state. */
 #define SETTLEMENT_LENT(j, s)                                                                                          \

@@ -9,7 +9,7 @@
 
 static bool is_lent(unsigned name)
 {
-    return name < JOB_TABLES || name == OFFER_CODE || name == TALLY_CODE || name == SIZES || name >= HOST_TABLES;
+    return name < JOB_TABLES || (name >= OFFER_CODE && name <= SIZES) || name >= HOST_TABLES;
 }
 
 static size_t words_of(unsigned name, struct sizes sizes)
@@ -25,7 +25,7 @@ void open_calling(struct calling *calling, uint32_t spare)
         if (is_lent(name)) lengths[name] = words_of(name, calling->job.sizes) + below(spare + 1);
     open_lending(&calling->lending, lengths);
     write_job_words(&calling->job, calling->lending.twin);
-    write_code_words(&calling->job, calling->lending.twin);
+    write_reader_words(&calling->job, calling->lending.twin);
     copy_twins(&calling->lending);
 }
 
@@ -99,9 +99,10 @@ size_t ask_write(struct calling *calling, struct sizes sizes)
     hand_over(&calling->lending, lent);
     size_t answer = entries_write(sizes.boxes, sizes.grocers, sizes.offers, sizes.tallies, calling->job.cycle,
                                   SLICE(const uint32_t, PRICE), SLICE(const uint16_t, OFFER_OWNER),
-                                  SLICE(const uint8_t, OFFER_CODE), SLICE(const uint16_t, GROCER_OWNER),
-                                  SLICE(const uint16_t, TALLY_GROCER), SLICE(const uint16_t, TALLY_BOX),
-                                  SLICE(const uint8_t, TALLY_CODE), SLICE(const int32_t, TALLY_COUNT),
+                                  SLICE(const uint8_t, OFFER_CODE), SLICE(const uint16_t, OFFER_ISSUER),
+                                  SLICE(const uint16_t, GROCER_OWNER), SLICE(const uint16_t, TALLY_GROCER),
+                                  SLICE(const uint16_t, TALLY_BOX), SLICE(const uint8_t, TALLY_CODE),
+                                  SLICE(const int32_t, TALLY_COUNT), SLICE(const uint16_t, TALLY_ISSUER),
                                   SLICE(uint8_t, OUT));
     hand_back(&calling->lending, lent, WRITE, answer >= BLOCK ? 0 : (uint16_t)answer);
     compare_call(calling, "writer", answer, refusal ? refusal : length);

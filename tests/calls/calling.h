@@ -14,7 +14,7 @@ struct calling {
 /* Spare words that buffers have at the most. */
 enum { SPARE = 6 };
 
-/* Lends the job's tables and codes, and buffers for all that the calls write; they have up to this many spare words. */
+/* Lends the job's tables and names, and buffers for all that the calls write; they have up to this many spare words. */
 void open_calling(struct calling *calling, uint32_t spare);
 
 /* The same with tables of zeros that are just long enough for these sizes, which may be out of range. */

@@ -21,9 +21,10 @@ enum { ENTRIES_TABLE = 256, ENTRIES_NUMBERS = 3, ENTRIES_MAX_RECORDS = 1024 };
 #define ENTRIES_WRITE                                                                                                  \
     uint16_t boxes, uint16_t grocers, uint16_t offers, uint16_t tallies, uint16_t cycle, const uint32_t *price,        \
         size_t price_len, const uint16_t *offer_owner, size_t offer_owner_len, const uint8_t *offer_code,              \
-        size_t offer_code_len, const uint16_t *grocer_owner, size_t grocer_owner_len, const uint16_t *tally_grocer,    \
-        size_t tally_grocer_len, const uint16_t *tally_box, size_t tally_box_len, const uint8_t *tally_code,           \
-        size_t tally_code_len, const int32_t *tally_count, size_t tally_count_len, uint8_t *out, size_t out_len
+        size_t offer_code_len, const uint16_t *offer_issuer, size_t offer_issuer_len, const uint16_t *grocer_owner,    \
+        size_t grocer_owner_len, const uint16_t *tally_grocer, size_t tally_grocer_len, const uint16_t *tally_box,     \
+        size_t tally_box_len, const uint8_t *tally_code, size_t tally_code_len, const int32_t *tally_count,            \
+        size_t tally_count_len, const uint16_t *tally_issuer, size_t tally_issuer_len, uint8_t *out, size_t out_len
 size_t entries_write(ENTRIES_WRITE);
 
 /* What the grocer wanted is owed, into owed[0]. The fields of the records are lent apart, one word of each for every

@@ -15,6 +15,7 @@ static bool writer_is_short(struct sizes sizes, const struct table tables[])
     for (unsigned i = 0; i < WRITER_WORDS; i++)
         if (is_short(tables[writer_words[i]], sizes)) return true;
     return is_short(tables[OFFER_CODE], sizes) || is_short(tables[TALLY_CODE], sizes) ||
+           is_short(tables[OFFER_ISSUER], sizes) || is_short(tables[TALLY_ISSUER], sizes) ||
            tables[OUT].length < BLOCK * blocks_of(sizes);
 }
 
@@ -26,18 +27,23 @@ static struct code code_at(struct table table, size_t entry)
     return code;
 }
 
+static struct name name_at(struct table issuers, struct table codes, size_t entry)
+{
+    return (struct name){(uint16_t)word_at(issuers, entry), code_at(codes, entry)};
+}
+
 static void read_file_words(struct job *job, struct sizes sizes, const struct table tables[])
 {
     job->sizes = sizes;
     for (size_t o = 0; o < sizes.offers; o++)
         job->offer[o] = (struct offer){(uint32_t)word_at(tables[PRICE], o), (uint16_t)word_at(tables[OFFER_OWNER], o),
-                                       code_at(tables[OFFER_CODE], o)};
+                                       name_at(tables[OFFER_ISSUER], tables[OFFER_CODE], o)};
     for (size_t g = 0; g < sizes.grocers; g++) job->grocer_owner[g] = (uint16_t)word_at(tables[GROCER_OWNER], g);
     for (size_t t = 0; t < sizes.tallies; t++)
         job->tally[t] = (struct tally){.grocer = (uint16_t)word_at(tables[TALLY_GROCER], t),
                                        .box = (uint16_t)word_at(tables[TALLY_BOX], t),
                                        .count = (int32_t)word_at(tables[TALLY_COUNT], t),
-                                       .code = code_at(tables[TALLY_CODE], t)};
+                                       .name = name_at(tables[TALLY_ISSUER], tables[TALLY_CODE], t)};
 }
 
 /* Where sizes and words are in their ranges, the writer refuses just what the reader would refuse of its file. */

@@ -23,9 +23,12 @@ ENTRY size_t entries_write(ENTRIES_WRITE)
     static uint8_t file[MOST_FILE];
     const uint16_t *tally_offer = NULL;
     const size_t tally_offer_len = 0;
-    const struct table tables[ALL_TABLES] = {
-        JOB_OF, [OFFER_CODE] = {OFFER_CODE, offer_code_len, (void *)offer_code},
-        [TALLY_CODE] = {TALLY_CODE, tally_code_len, (void *)tally_code}, [OUT] = {OUT, out_len, out}};
+    const struct table tables[ALL_TABLES] = {JOB_OF,
+                                             [OFFER_CODE] = {OFFER_CODE, offer_code_len, (void *)offer_code},
+                                             [OFFER_ISSUER] = {OFFER_ISSUER, offer_issuer_len, (void *)offer_issuer},
+                                             [TALLY_CODE] = {TALLY_CODE, tally_code_len, (void *)tally_code},
+                                             [TALLY_ISSUER] = {TALLY_ISSUER, tally_issuer_len, (void *)tally_issuer},
+                                             [OUT] = {OUT, out_len, out}};
     size_t length = 0;
     uint16_t refusal = model_write((struct sizes){boxes, grocers, offers, tallies}, cycle, tables, file, &length);
     if (refusal) return refusal;

@@ -31,7 +31,7 @@ struct write_case {
     const char *what;
     size_t due;
     struct sizes sizes;       /* of no boxes, no grocers, no offers and no tallies: E's */
-    struct change changes[2]; /* to place 0 of the prices, word 0: none */
+    struct change changes[3]; /* to place 0 of the prices, word 0: none */
     const char *offers[2], *tally;
 };
 
@@ -72,6 +72,17 @@ static const struct write_case cases[] = {
     {.what = "offers 7 and 07", .due = 7, .offers = {"7", "07"}},
     {.what = "tally code 413", .due = 8, .tally = "413"},
     {.what = "tally code 4120", .due = 8, .tally = "4120"},
+    {.what = "offer 412 of issuer 1, its tallies too",
+     .due = WHOLE,
+     .changes = {{OFFER_ISSUER, 0, 1}, {TALLY_ISSUER, 0, 1}, {TALLY_ISSUER, 3, 1}}},
+    {.what = "offers 7 and 07 of issuer 9",
+     .due = 7,
+     .changes = {{OFFER_ISSUER, 0, 9}, {OFFER_ISSUER, 1, 9}},
+     .offers = {"7", "07"}},
+    {.what = "offers 7 and 07 of issuers 9 and 0", .due = 8, .changes = {{OFFER_ISSUER, 0, 9}}, .offers = {"7", "07"}},
+    {.what = "offer 412 of issuer 1, its tallies old", .due = 8, .changes = {{OFFER_ISSUER, 0, 1}}},
+    {.what = "tally 412 of issuer 1", .due = 8, .changes = {{TALLY_ISSUER, 0, 1}}},
+    {.what = "tally 412 of issuer 256", .due = 8, .changes = {{TALLY_ISSUER, 0, 256}}},
     {.what = "4 before 6", .due = 4, .sizes = {17, 2, 2, 4}, .changes = {{PRICE, 1, 10000000}}},
     {.what = "6 before 7", .due = 6, .changes = {{TALLY_COUNT, 3, 100000}}, .offers = {"00412", "0412"}},
     {.what = "7 before 8", .due = 7, .changes = {{TALLY_COUNT, 3, 4}}, .offers = {"00412", "0412"}},
@@ -88,11 +99,12 @@ static void put_code(enum table_name name, size_t entry, const char *digits)
 
 static void change(const struct write_case *c)
 {
-    for (unsigned i = 0; i < 2; i++) {
+    for (unsigned i = 0; i < 3; i++) {
         struct change change = c->changes[i];
         if (change.name != PRICE || change.word) put_both(&calling.lending, change.name, change.place, change.word);
-        if (c->offers[i]) put_code(OFFER_CODE, i, c->offers[i]);
     }
+    for (unsigned i = 0; i < 2; i++)
+        if (c->offers[i]) put_code(OFFER_CODE, i, c->offers[i]);
     if (c->tally) put_code(TALLY_CODE, 0, c->tally);
 }
 
@@ -111,12 +123,14 @@ static void other_words(void)
 
 /* Short buffers */
 
-static const enum table_name lent_words[] = {PRICE,     OFFER_OWNER, OFFER_CODE,  GROCER_OWNER, TALLY_GROCER,
-                                             TALLY_BOX, TALLY_CODE,  TALLY_COUNT, OUT};
+static const enum table_name lent_words[] = {PRICE,        OFFER_OWNER,  OFFER_CODE, OFFER_ISSUER,
+                                             GROCER_OWNER, TALLY_GROCER, TALLY_BOX,  TALLY_CODE,
+                                             TALLY_COUNT,  TALLY_ISSUER, OUT};
+enum { LENT_WORDS = sizeof lent_words / sizeof lent_words[0] };
 
 static void short_buffers(void)
 {
-    for (size_t i = 0; i < sizeof lent_words / sizeof lent_words[0]; i++) {
+    for (size_t i = 0; i < LENT_WORDS; i++) {
         open_sample();
         make_fault(&calling, lent_words[i], SHORT);
         expect_write(calling.job.sizes, 20);
@@ -163,16 +177,24 @@ static void largest_job(struct job *job)
     for (size_t o = 0; o < MOST_OFFERS; o++) {
         uint64_t number = o % 2 ? o * 19999999 : o;
         size_t digits = o % 2 ? 10 : 3 + o / 2 % 8;
-        job->offer[o] = (struct offer){(uint32_t)(o * 20040 + 39), (uint16_t)(o % 16), code_with(number, digits)};
+        job->offer[o] = (struct offer){(uint32_t)(o * 20040 + 39), (uint16_t)(o % 16), {0, code_with(number, digits)}};
     }
     for (size_t g = 0; g < MOST_GROCERS; g++) job->grocer_owner[g] = (uint16_t)((g * 5 + 3) % 16);
     for (size_t t = 0; t < MOST_TALLIES; t++) {
         uint16_t place = (uint16_t)(t * 7 % 500);
         uint64_t number = place % 2 ? place * UINT64_C(19999999) : place;
-        job->tally[t] =
-            (struct tally){(uint16_t)(t % 255), (uint16_t)(t * 3 % 16), place, (int32_t)(t * 200) - MOST_COUNT,
-                           code_with(number, place % 2 ? 10 : 3 + t / 3 % 8)};
+        job->tally[t] = (struct tally){(uint16_t)(t % 255),
+                                       (uint16_t)(t * 3 % 16),
+                                       place,
+                                       (int32_t)(t * 200) - MOST_COUNT,
+                                       {0, code_with(number, place % 2 ? 10 : 3 + t / 3 % 8)}};
     }
+}
+
+/* 125 numbers, each under four issuers, 65,535 among them. */
+static struct name issued_name(uint32_t offer)
+{
+    return (struct name){(uint16_t)(65535 - offer % 4 * 16411), code_with(offer / 4 * UINT64_C(80645161), 10)};
 }
 
 static void expect_sums(uint64_t bytes, uint64_t sums)
@@ -193,7 +215,7 @@ static void read_and_write_again(size_t length)
     open_lending(&again.lending, lengths);
     memcpy(again.lending.twin[FILE_BYTES].words, calling.lending.table[OUT].words, length);
     write_job_words(&calling.job, again.lending.twin);
-    write_code_words(&calling.job, again.lending.twin);
+    write_reader_words(&calling.job, again.lending.twin);
     memcpy(again.lending.table[FILE_BYTES].words, again.lending.twin[FILE_BYTES].words, length);
     expect(call_read(&again.lending) == 0, "the reader refuses the file");
     compare_with_twins(&again.lending);
@@ -210,6 +232,13 @@ static void longest_file(void)
     open_calling(&calling, SPARE);
     expect_write(LARGEST, MOST_FILE);
     expect_sums(1511826, 27851930147);
+    read_and_write_again(MOST_FILE);
+    close_calling(&calling);
+    at_case("the longest file, its names of four issuers");
+    for (uint32_t o = 0; o < MOST_OFFERS; o++) calling.job.offer[o].name = issued_name(o);
+    for (size_t t = 0; t < MOST_TALLIES; t++) calling.job.tally[t].name = issued_name(calling.job.tally[t].place);
+    open_calling(&calling, SPARE);
+    expect_write(LARGEST, MOST_FILE);
     read_and_write_again(MOST_FILE);
     close_calling(&calling);
 }
@@ -248,17 +277,56 @@ static void cycles(void)
     }
 }
 
+/* Two bytes of the file, and that the one behind them is 0. */
+static void expect_issuer(size_t place, uint16_t issuer)
+{
+    expect(word_of(&calling, OUT, place) + 256 * word_of(&calling, OUT, place + 1) == issuer &&
+               word_of(&calling, OUT, place + 2) == 0,
+           "the issuer does not stand in bytes %zu and %zu", place, place + 1);
+}
+
+/* E of one issuer and another: it stands in bytes 16 and 17 of an offer and 18 and 19 of a tally, and comes back. */
+static void any_issuers(void)
+{
+    static const uint16_t tried[] = {0, 1, 255, 256, 257, 5521, 32767, 32768, 65534, 65535};
+    for (size_t i = 0; i < sizeof tried / sizeof tried[0]; i++) {
+        at_case("issuer %u", tried[i]);
+        sample_job(&calling.job);
+        for (size_t o = 0; o < 2; o++) calling.job.offer[o].name.issuer = tried[i];
+        for (size_t t = 0; t < 4; t++) calling.job.tally[t].name.issuer = tried[i];
+        open_calling(&calling, SPARE);
+        expect_write(calling.job.sizes, WHOLE);
+        for (size_t o = 0; o < 2; o++) expect_issuer(BLOCK + 4 + 24 * o + 16, tried[i]);
+        for (size_t t = 0; t < 4; t++) expect_issuer(3 * BLOCK + 4 + 24 * t + 18, tried[i]);
+        read_and_write_again(WHOLE);
+        close_calling(&calling);
+    }
+}
+
+static void names_of_issuers(void)
+{
+    for (const struct named *c = named; c->what; c++) {
+        at_case("%s", c->what);
+        named_job(&calling.job, c);
+        open_calling(&calling, SPARE);
+        expect_write(calling.job.sizes, c->due ? c->due : WHOLE);
+        if (!c->due) read_and_write_again(WHOLE);
+        close_calling(&calling);
+    }
+}
+
 /* Random jobs with some words changed, and other sizes beside them */
 
 static void change_some_word(void)
 {
-    enum table_name name = lent_words[below(8)];
+    enum table_name name = lent_words[below(LENT_WORDS - 1)];
     size_t length = calling.lending.lend[name];
     if (length == 0) return;
     struct range range = range_of(name, calling.job.sizes);
-    int64_t word = name == OFFER_CODE || name == TALLY_CODE ? '0' + below(12) - 1
-                   : one_in(2)                              ? range.most + 1
-                                                            : range.most;
+    int64_t word = name == OFFER_CODE || name == TALLY_CODE       ? '0' + below(12) - 1
+                   : name == OFFER_ISSUER || name == TALLY_ISSUER ? below(3)
+                   : one_in(2)                                    ? range.most + 1
+                                                                  : range.most;
     put_both(&calling.lending, name, below((uint32_t)length), one_in(4) ? (int64_t)random_word() : word);
 }
 
@@ -272,7 +340,7 @@ static void random_jobs(void)
         for (uint32_t changes = below(4); changes > 0; changes--) change_some_word();
         if (one_in(8)) sizes.boxes = wild_number(sizes.boxes);
         if (one_in(8)) sizes.tallies = wild_number(sizes.tallies);
-        if (one_in(8)) calling.lending.lend[lent_words[below(9)]] = below(8);
+        if (one_in(8)) calling.lending.lend[lent_words[below(LENT_WORDS)]] = below(8);
         ask_write(&calling, sizes);
         close_calling(&calling);
     }
@@ -286,5 +354,7 @@ void check_writer(void)
     run_group("writer: the longest file, read and written again", longest_file);
     run_group("writer: files that are read and written again", read_again);
     run_group("writer: any settlement cycle, read and written again", cycles);
+    run_group("writer: any issuer, read and written again", any_issuers);
+    run_group("writer: names of two issuers, read and written again", names_of_issuers);
     run_group("writer: random jobs, words and sizes", random_jobs);
 }

@@ -62,11 +62,13 @@ uint16_t settlement_read(
     uint32_t *price, size_t price_len,
     uint16_t *offer_owner, size_t offer_owner_len,
     uint8_t *offer_code, size_t offer_code_len,
+    uint16_t *offer_issuer, size_t offer_issuer_len,
     uint16_t *grocer_owner, size_t grocer_owner_len,
     uint16_t *tally_grocer, size_t tally_grocer_len,
     uint16_t *tally_box, size_t tally_box_len,
     uint8_t *tally_code, size_t tally_code_len,
     int32_t *tally_count, size_t tally_count_len,
+    uint16_t *tally_issuer, size_t tally_issuer_len,
     uint16_t *tally_offer, size_t tally_offer_len,
     uint16_t *sizes, size_t sizes_len)
 {
@@ -74,7 +76,9 @@ uint16_t settlement_read(
     expect_job(price, price_len, offer_owner, offer_owner_len, grocer_owner, grocer_owner_len, tally_grocer,
                tally_grocer_len, tally_box, tally_box_len, tally_offer, tally_offer_len, tally_count, tally_count_len);
     IS_LENT(job, offer_code, 11 * 500);
+    IS_LENT(job, offer_issuer, 500);
     IS_LENT(job, tally_code, 11 * 1000);
+    IS_LENT(job, tally_issuer, 1000);
     EXPECT(sizes_len == 5);
     if (next_answer == SETTLEMENT_ACCEPTED)
         for (uint16_t i = 0; i < 5; i++)

@@ -12,9 +12,9 @@ static const struct {
     size_t size, fields, full;
 } layout[] = {
     [HEADER] = {10, 10, 1},
-    [OFFER_BLOCKS] = {24, 16, 21},
+    [OFFER_BLOCKS] = {24, 18, 21},
     [GROCER_BLOCKS] = {1, 1, 255},
-    [TALLY_BLOCKS] = {24, 18, 21},
+    [TALLY_BLOCKS] = {24, 20, 21},
 };
 
 /* What a block of the file has to be: its kind, its number of records, the number of its first one. */
@@ -127,7 +127,8 @@ static bool read_offer(const uint8_t *record, struct job *job, size_t place)
     struct offer *offer = &job->offer[place];
     offer->price = get_number(record, 4);
     offer->owner = record[4];
-    return read_code(record + 5, &offer->code) && offer->price <= MOST_PRICE && offer->owner < job->sizes.boxes;
+    offer->name.issuer = (uint16_t)get_number(record + 16, 2);
+    return read_code(record + 5, &offer->name.code) && offer->price <= MOST_PRICE && offer->owner < job->sizes.boxes;
 }
 
 static bool read_grocer(const uint8_t *record, struct job *job, size_t place)
@@ -142,8 +143,9 @@ static bool read_tally(const uint8_t *record, struct job *job, size_t place)
     tally->grocer = (uint16_t)get_number(record, 2);
     tally->box = record[2];
     tally->count = (int32_t)get_number(record + 14, 4);
-    return read_code(record + 3, &tally->code) && tally->grocer < job->sizes.grocers && tally->box < job->sizes.boxes &&
-           tally->count >= -MOST_COUNT && tally->count <= MOST_COUNT;
+    tally->name.issuer = (uint16_t)get_number(record + 18, 2);
+    return read_code(record + 3, &tally->name.code) && tally->grocer < job->sizes.grocers &&
+           tally->box < job->sizes.boxes && tally->count >= -MOST_COUNT && tally->count <= MOST_COUNT;
 }
 
 static bool read_record(const uint8_t *record, struct job *job, unsigned kind, size_t place)
@@ -195,18 +197,24 @@ static uint64_t number_of(const struct code *code)
     return number;
 }
 
+/* Whether two names are one offer: 7 and 8 both go by this. */
+static bool same_offer(const struct name *a, const struct name *b)
+{
+    return a->issuer == b->issuer && number_of(&a->code) == number_of(&b->code);
+}
+
 static bool share_a_number(const struct job *job)
 {
     for (size_t o = 0; o < job->sizes.offers; o++)
         for (size_t p = 0; p < o; p++)
-            if (number_of(&job->offer[o].code) == number_of(&job->offer[p].code)) return true;
+            if (same_offer(&job->offer[o].name, &job->offer[p].name)) return true;
     return false;
 }
 
 static bool find_place(const struct job *job, struct tally *tally)
 {
     for (uint16_t o = 0; o < job->sizes.offers; o++)
-        if (number_of(&job->offer[o].code) == number_of(&tally->code)) {
+        if (same_offer(&job->offer[o].name, &tally->name)) {
             tally->place = o;
             return true;
         }
@@ -256,15 +264,17 @@ static void write_offer(uint8_t *record, const struct offer *offer)
 {
     set_number(record, 4, offer->price);
     record[4] = (uint8_t)offer->owner;
-    write_code_field(record + 5, &offer->code);
+    write_code_field(record + 5, &offer->name.code);
+    set_number(record + 16, 2, offer->name.issuer);
 }
 
 static void write_tally(uint8_t *record, const struct tally *tally)
 {
     set_number(record, 2, tally->grocer);
     record[2] = (uint8_t)tally->box;
-    write_code_field(record + 3, &tally->code);
+    write_code_field(record + 3, &tally->name.code);
     set_number(record + 14, 4, (uint32_t)tally->count);
+    set_number(record + 18, 2, tally->name.issuer);
 }
 
 static void write_record(uint8_t *record, const struct job *job, unsigned kind, size_t place)

@@ -119,7 +119,7 @@ static void random_tally(struct tally *tally, struct sizes few)
                             .count = (int32_t)random_in(-MOST_COUNT, MOST_COUNT)};
 }
 
-void random_job(struct job *job, struct sizes sizes)
+void random_old_job(struct job *job, struct sizes sizes)
 {
     uint64_t number[MOST_OFFERS];
     struct sizes few = random_sizes(sizes);
@@ -129,38 +129,70 @@ void random_job(struct job *job, struct sizes sizes)
     job->sizes = sizes;
     random_numbers(number, sizes.offers);
     for (size_t o = 0; o < sizes.offers; o++)
-        job->offer[o] = (struct offer){(uint32_t)random_in(0, MOST_PRICE), random_owner(sizes.boxes, owners),
-                                       random_code(number[o])};
+        job->offer[o] = (struct offer){
+            (uint32_t)random_in(0, MOST_PRICE), random_owner(sizes.boxes, owners), {0, random_code(number[o])}};
     owners = (uint16_t)(1 + below(sizes.boxes));
     for (size_t g = 0; g < sizes.grocers; g++) job->grocer_owner[g] = random_owner(sizes.boxes, owners);
     for (size_t t = 0; t < sizes.tallies; t++) {
         random_tally(&job->tally[t], few);
         if (t > 0 && one_in(6)) job->tally[t] = job->tally[below((uint32_t)t)];
-        job->tally[t].code = random_code(number[job->tally[t].place]);
+        job->tally[t].name.code = random_code(number[job->tally[t].place]);
     }
     job->cycle = one_in(2) ? 0 : wild_number(500);
+}
+
+/* An issuer and a number for each of N offers, no two offers with both the same: any; or of few issuers, three at
+   least, and so few numbers that some stand under several issuers. */
+static void random_issuers(uint16_t issuer[], uint64_t number[], size_t offers)
+{
+    const uint16_t few[] = {0, 1, 65535, wild_number(2)};
+    bool any = one_in(3);
+    uint64_t bound = any ? UINT64_C(10000000000) : offers / 2 + 1 + below(8);
+    for (size_t o = 0; o < offers; o++) {
+        bool fresh = false;
+        while (!fresh) {
+            issuer[o] = any ? (uint16_t)random_word() : few[below(4)];
+            number[o] = random_word() % bound;
+            fresh = true;
+            for (size_t p = 0; p < o; p++) fresh &= issuer[p] != issuer[o] || number[p] != number[o];
+        }
+    }
+}
+
+void random_job(struct job *job, struct sizes sizes)
+{
+    uint16_t issuer[MOST_OFFERS];
+    uint64_t number[MOST_OFFERS];
+    random_old_job(job, sizes);
+    if (one_in(2)) return;
+    random_issuers(issuer, number, sizes.offers);
+    for (size_t o = 0; o < sizes.offers; o++) job->offer[o].name = (struct name){issuer[o], random_code(number[o])};
+    for (size_t t = 0; t < sizes.tallies; t++) {
+        uint16_t place = job->tally[t].place;
+        job->tally[t].name = (struct name){issuer[place], random_code(number[place])};
+    }
 }
 
 void sample_job(struct job *job)
 {
     memset(job, 0, sizeof *job);
     job->sizes = (struct sizes){2, 2, 2, 4};
-    job->offer[0] = (struct offer){500, 0, code_of("00412")};
-    job->offer[1] = (struct offer){1250, 1, code_of("77")};
+    job->offer[0] = (struct offer){500, 0, {0, code_of("00412")}};
+    job->offer[1] = (struct offer){1250, 1, {0, code_of("77")}};
     job->grocer_owner[0] = 1;
-    job->tally[0] = (struct tally){0, 0, 0, 3, code_of("412")};
-    job->tally[1] = (struct tally){1, 0, 1, 2, code_of("077")};
-    job->tally[2] = (struct tally){0, 1, 1, -1, code_of("77")};
-    job->tally[3] = (struct tally){0, 1, 0, 4, code_of("0412")};
+    job->tally[0] = (struct tally){0, 0, 0, 3, {0, code_of("412")}};
+    job->tally[1] = (struct tally){1, 0, 1, 2, {0, code_of("077")}};
+    job->tally[2] = (struct tally){0, 1, 1, -1, {0, code_of("77")}};
+    job->tally[3] = (struct tally){0, 1, 0, 4, {0, code_of("0412")}};
 }
 
 void one_tally_job(struct job *job, struct sizes sizes, uint32_t price, struct tally tally)
 {
     memset(job, 0, sizeof *job);
     job->sizes = sizes;
-    for (uint16_t o = 0; o < sizes.offers; o++) job->offer[o] = (struct offer){price, 0, code_of_number(o, 0)};
+    for (uint16_t o = 0; o < sizes.offers; o++) job->offer[o] = (struct offer){price, 0, {0, code_of_number(o, 0)}};
     for (uint16_t g = 0; g < sizes.grocers; g++) job->grocer_owner[g] = (uint16_t)(sizes.boxes - 1);
-    tally.code = code_of_number(tally.place, 0);
+    tally.name = (struct name){0, code_of_number(tally.place, 0)};
     for (size_t t = 0; t < sizes.tallies; t++) job->tally[t] = tally;
 }
 
@@ -171,11 +203,68 @@ void ruled_job(struct job *job, struct sizes sizes, struct rules rules)
     memset(job, 0, sizeof *job);
     job->sizes = sizes;
     for (size_t o = 0; o < sizes.offers; o++)
-        job->offer[o] = (struct offer){0, by_rule(rules.offer_owner, o), code_of_number(o, 0)};
+        job->offer[o] = (struct offer){0, by_rule(rules.offer_owner, o), {0, code_of_number(o, 0)}};
     for (size_t g = 0; g < sizes.grocers; g++) job->grocer_owner[g] = by_rule(rules.grocer_owner, g);
     for (size_t t = 0; t < sizes.tallies; t++) {
         uint16_t place = by_rule(rules.tally_offer, t);
-        job->tally[t] = (struct tally){by_rule(rules.tally_grocer, t), by_rule(rules.tally_box, t), place, 0,
-                                       code_of_number(place, 0)};
+        job->tally[t] = (struct tally){
+            by_rule(rules.tally_grocer, t), by_rule(rules.tally_box, t), place, 0, {0, code_of_number(place, 0)}};
+    }
+}
+
+const struct named named[] = {
+    {"5521 under two issuers", {{1, "5521"}, {2, "5521"}}, {{1, "5521"}, {2, "05521"}}, 0, {0, 1}},
+    {"5521 under two issuers, tallied crosswise", {{1, "5521"}, {2, "5521"}}, {{2, "5521"}, {1, "5521"}}, 0, {1, 0}},
+    {"5521 under two issuers, one tallied twice", {{1, "5521"}, {2, "5521"}}, {{2, "5521"}, {2, "5521"}}, 0, {1, 1}},
+    {"5521 of an old offer too", {{7, "5521"}, {0, "5521"}}, {{0, "5521"}, {7, "5521"}}, 0, {1, 0}},
+    {"a known number under another issuer", {{1, "5521"}, {2, "77"}}, {{1, "5521"}, {2, "5521"}}, 8, {0}},
+    {"a known number under a third issuer", {{1, "5521"}, {2, "5521"}}, {{1, "5521"}, {3, "5521"}}, 8, {0}},
+    {"a known number of an old offer", {{1, "5521"}, {0, "77"}}, {{0, "5521"}, {0, "77"}}, 8, {0}},
+    {"a known issuer, another number", {{1, "5521"}, {2, "77"}}, {{1, "5521"}, {2, "5522"}}, 8, {0}},
+    {"a number twice under one issuer", {{1, "5521"}, {1, "5521"}}, {{1, "5521"}, {1, "5521"}}, 7, {0}},
+    {"a number twice, once with zeros", {{9, "5521"}, {9, "0005521"}}, {{9, "5521"}, {9, "5521"}}, 7, {0}},
+    {"a number twice under one issuer, and a tally of another",
+     {{1, "5521"}, {1, "5521"}},
+     {{2, "5521"}, {1, "5521"}},
+     7,
+     {0}},
+    {"(0, 0412) and (0, 412) agree", {{0, "0412"}, {0, "77"}}, {{0, "412"}, {0, "77"}}, 0, {0, 1}},
+    {"(0, 0412) and (1, 412) do not", {{0, "0412"}, {0, "77"}}, {{1, "412"}, {0, "77"}}, 8, {0}},
+    {"offers (0, 0412) and (0, 412) share", {{0, "0412"}, {0, "412"}}, {{0, "412"}, {0, "412"}}, 7, {0}},
+    {"offers (0, 0412) and (1, 412) do not", {{0, "0412"}, {1, "412"}}, {{1, "412"}, {0, "412"}}, 0, {1, 0}},
+    {"issuer 65,535 with 9999999999",
+     {{65535, "9999999999"}, {65534, "9999999999"}},
+     {{65534, "9999999999"}, {65535, "9999999999"}},
+     0,
+     {1, 0}},
+    {"issuer 65,535 with 9999999999, and with 0",
+     {{65535, "9999999999"}, {65535, "0"}},
+     {{65535, "00"}, {65535, "9999999999"}},
+     0,
+     {1, 0}},
+    {"issuers with one low byte", {{1, "5521"}, {257, "5521"}}, {{257, "5521"}, {1, "5521"}}, 0, {1, 0}},
+    {"issuers with one high byte", {{512, "5521"}, {513, "5521"}}, {{513, "5521"}, {512, "5521"}}, 0, {1, 0}},
+    {"issuers with their bytes exchanged", {{258, "5521"}, {513, "5521"}}, {{513, "5521"}, {258, "5521"}}, 0, {1, 0}},
+    {"issuer and number exchanged", {{1, "2"}, {2, "1"}}, {{2, "1"}, {1, "2"}}, 0, {1, 0}},
+    {"the last number of issuer 0, the first of issuer 1",
+     {{0, "9999999999"}, {1, "0"}},
+     {{1, "0"}, {0, "9999999999"}},
+     0,
+     {1, 0}},
+    {"names with one issuer x 10^9 + number", {{0, "1000000000"}, {1, "0"}}, {{1, "0"}, {0, "1000000000"}}, 0, {1, 0}},
+    {"names with one issuer x 2^32 + number", {{0, "4294967296"}, {1, "0"}}, {{1, "0"}, {0, "4294967296"}}, 0, {1, 0}},
+    {"names with one issuer x 2^33 + number", {{0, "8589934592"}, {1, "0"}}, {{1, "0"}, {0, "8589934592"}}, 0, {1, 0}},
+    {0},
+};
+
+void named_job(struct job *job, const struct named *named)
+{
+    memset(job, 0, sizeof *job);
+    job->sizes = (struct sizes){2, 2, 2, 2};
+    for (uint16_t i = 0; i < 2; i++) {
+        struct name offer = {named->offers[i].issuer, code_of(named->offers[i].digits)};
+        struct name tally = {named->tallies[i].issuer, code_of(named->tallies[i].digits)};
+        job->offer[i] = (struct offer){i ? 399 : 1250, (uint16_t)(1 - i), offer};
+        job->tally[i] = (struct tally){i, i, named->places[i], i ? -7 : 3, tally};
     }
 }

@@ -22,7 +22,8 @@ struct sizes random_sizes(struct sizes most);
 struct sizes sizes_with_tallies(struct sizes most);
 extern const struct sizes TINY, SMALL, MEDIUM, LARGEST;
 
-/* An accepted job of these sizes, of cycle 0 or any other. */
+/* An accepted job of these sizes, of cycle 0 or any other: of old offers alone; and half of the time of issuers too. */
+void random_old_job(struct job *job, struct sizes sizes);
 void random_job(struct job *job, struct sizes sizes);
 
 /* E of the specification. */
@@ -39,5 +40,18 @@ struct rules {
     struct rule offer_owner, grocer_owner, tally_grocer, tally_box, tally_offer;
 };
 void ruled_job(struct job *job, struct sizes sizes, struct rules rules);
+
+/* Cases of issuers: two offers, of 1,250 in box 1 and of 399 in box 0, and two tallies, 3 of grocer 0 in box 0 and -7
+   of grocer 1 in box 1; the refusal, or 0 and the places of the tallies' offers. The last has no text. */
+struct named {
+    const char *what;
+    struct {
+        uint16_t issuer;
+        const char *digits;
+    } offers[2], tallies[2];
+    uint16_t due, places[2];
+};
+extern const struct named named[];
+void named_job(struct job *job, const struct named *named);
 
 #endif

@@ -369,10 +369,16 @@ static void write_code(struct table table, size_t entry, const struct code *code
     for (size_t i = 0; i < FIELD; i++) put_word(table, 11 * entry + 1 + i, code->field[i]);
 }
 
-void write_code_words(const struct job *job, const struct table tables[ALL_TABLES])
+void write_reader_words(const struct job *job, const struct table tables[ALL_TABLES])
 {
-    for (size_t o = 0; o < job->sizes.offers; o++) write_code(tables[OFFER_CODE], o, &job->offer[o].code);
-    for (size_t t = 0; t < job->sizes.tallies; t++) write_code(tables[TALLY_CODE], t, &job->tally[t].code);
+    for (size_t o = 0; o < job->sizes.offers; o++) {
+        write_code(tables[OFFER_CODE], o, &job->offer[o].name.code);
+        put_word(tables[OFFER_ISSUER], o, job->offer[o].name.issuer);
+    }
+    for (size_t t = 0; t < job->sizes.tallies; t++) {
+        write_code(tables[TALLY_CODE], t, &job->tally[t].name.code);
+        put_word(tables[TALLY_ISSUER], t, job->tally[t].name.issuer);
+    }
     put_word(tables[SIZES], 0, job->sizes.boxes);
     put_word(tables[SIZES], 1, job->sizes.grocers);
     put_word(tables[SIZES], 2, job->sizes.offers);

@@ -13,16 +13,22 @@ struct code {
     uint8_t digits, field[FIELD];
 };
 
+/* What names an offer: its issuer, 0 for old offers, and its code. */
+struct name {
+    uint16_t issuer;
+    struct code code;
+};
+
 struct offer {
     uint32_t price;
     uint16_t owner;
-    struct code code;
+    struct name name;
 };
 
 struct tally {
     uint16_t grocer, box, place;
     int32_t count;
-    struct code code;
+    struct name name;
 };
 
 struct job {
@@ -81,9 +87,9 @@ uint16_t job_tables_refusal(struct sizes sizes, const struct table tables[ALL_TA
 uint16_t step_tables_refusal(struct sizes sizes, const struct table tables[ALL_TABLES]);
 uint16_t run_tables_refusal(struct sizes sizes, const struct table tables[ALL_TABLES]);
 
-/* The words of a job or a state as they should stand in tables, and back. */
+/* Words as they should stand in tables: of a job, those that the reader alone gives, and of a state; and back. */
 void write_job_words(const struct job *job, const struct table tables[ALL_TABLES]);
-void write_code_words(const struct job *job, const struct table tables[ALL_TABLES]);
+void write_reader_words(const struct job *job, const struct table tables[ALL_TABLES]);
 void write_state_words(const struct machine *machine, const struct table tables[ALL_TABLES]);
 void read_job_words(struct job *job, struct sizes sizes, const struct table tables[ALL_TABLES]);
 void read_state_words(struct machine *machine, const struct job *job, const struct table tables[ALL_TABLES]);

@@ -34,6 +34,8 @@ static void expect_answer(size_t length, uint16_t due)
     expect(answer == due, "reader answered %u, the specification says %u", answer, due);
 }
 
+static void change_byte(uint8_t *byte) { *byte ^= (uint8_t)(1 + below(255)); }
+
 static size_t write_sample_job(void)
 {
     sample_job(&job);
@@ -75,7 +77,7 @@ static const struct edit edits[] = {
     {"kind of the offers", 3, 1, 0, 1, {2}},
     {"record count of the offers", 3, 1, 1, 1, {3}},
     {"block number of the offers", 3, 1, 2, 1, {2}},
-    {"first spare byte of an offer", 5, 1, 20, 1, {1}},
+    {"first spare byte of an offer", 5, 1, 22, 1, {1}},
     {"last spare byte of an offer", 5, 1, 27, 1, {1}},
     {"first byte after the offers", 5, 1, 52, 1, {1}},
     {"last byte after the offers", 5, 1, 507, 1, {1}},
@@ -99,7 +101,7 @@ static const struct edit edits[] = {
     {"kind of the tallies", 3, 3, 0, 1, {0}},
     {"record count of the tallies", 3, 3, 1, 1, {21}},
     {"block number of the tallies", 3, 3, 3, 1, {1}},
-    {"first spare byte of a tally", 5, 3, 22, 1, {1}},
+    {"first spare byte of a tally", 5, 3, 24, 1, {1}},
     {"last spare byte of a tally", 5, 3, 27, 1, {1}},
     {"first byte after the tallies", 5, 3, 100, 1, {1}},
     {"grocer of a tally is 2", 6, 3, 4, 1, {2}},
@@ -115,6 +117,7 @@ static const struct edit edits[] = {
     {"count -2,147,483,648", 6, 3, 18, 4, {0, 0, 0, 0x80}},
     {"two offers with number 412", 7, 1, 33, 4, {3, '4', '1', '2'}},
     {"a tally with number 4120", 8, 3, 7, 5, {4, '4', '1', '2', '0'}},
+    {"a tally of issuer 1", 8, 3, 22, 1, {1}},
 };
 enum { EDITS = sizeof edits / sizeof edits[0] };
 
@@ -151,6 +154,14 @@ static const struct edit others[] = {
     {"a tally with number 0", 8, 3, 7, 4, {1, '0', 0, 0}},
     {"a tally with number 41", 8, 3, 7, 4, {2, '4', '1', 0}},
     {"count 0", 0, 3, 18, 4, {0}},
+    {"an offer of issuer 1", 8, 1, 20, 1, {1}},
+    {"an offer of issuer 256", 8, 1, 21, 1, {1}},
+    {"a tally of issuer 256", 8, 3, 23, 1, {1}},
+    {"a tally of issuer 65,535", 8, 3, 22, 2, {255, 255}},
+    {"issuer 65,535 and a spare byte of an offer", 5, 1, 20, 3, {255, 255, 1}},
+    {"issuer 65,535 and a spare byte of a tally", 5, 3, 22, 3, {255, 255, 1}},
+    {"second spare byte of an offer", 5, 1, 23, 1, {1}},
+    {"second spare byte of a tally", 5, 3, 25, 1, {1}},
 };
 enum { OTHERS = sizeof others / sizeof others[0] };
 
@@ -260,6 +271,93 @@ static void cycles(void)
     }
 }
 
+/* Issuers */
+
+/* Bytes 16 and 17 of an offer's record and 18 and 19 of a tally's, in a file of one block of each. */
+static uint8_t *offer_issuer(size_t offer) { return file + BLOCK + 4 + 24 * offer + 16; }
+static uint8_t *tally_issuer(size_t tally) { return file + 3 * BLOCK + 4 + 24 * tally + 18; }
+
+/* E with all its names of one issuer. */
+static size_t write_issued_job(uint16_t issuer)
+{
+    sample_job(&job);
+    for (size_t o = 0; o < job.sizes.offers; o++) job.offer[o].name.issuer = issuer;
+    for (size_t t = 0; t < job.sizes.tallies; t++) job.tally[t].name.issuer = issuer;
+    return write_file(&job, file);
+}
+
+/* The first words of a table, and that the one behind them is as it was. */
+static void expect_words(enum table_name name, int64_t due, size_t length, int64_t behind)
+{
+    for (size_t place = 0; place < length; place++)
+        expect(word_at(lending.table[name], place) == due, "%s[%zu] is not %lld", table_text(name), place,
+               (long long)due);
+    expect(word_at(lending.table[name], length) == behind, "%s is written behind the job", table_text(name));
+}
+
+/* E of one issuer and another: the reader answers it for each record, and an issuer is never refused. */
+static void any_issuers(void)
+{
+    static const uint16_t tried[] = {0, 1, 255, 256, 257, 5521, 32767, 32768, 65534, 65535};
+    for (size_t i = 0; i < sizeof tried / sizeof tried[0]; i++) {
+        at_case("issuer %u", tried[i]);
+        size_t length = write_issued_job(tried[i]);
+        expect(offer_issuer(1)[0] + 256 * offer_issuer(1)[1] == tried[i], "bytes 16 and 17 of an offer differ");
+        expect(tally_issuer(3)[0] + 256 * tally_issuer(3)[1] == tried[i], "bytes 18 and 19 of a tally differ");
+        put_both(&lending, OFFER_ISSUER, 2, 12345);
+        put_both(&lending, TALLY_ISSUER, 4, 23456);
+        expect_answer(length, 0);
+        expect_words(OFFER_ISSUER, tried[i], 2, 12345);
+        expect_words(TALLY_ISSUER, tried[i], 4, 23456);
+        expect(word_at(lending.table[TALLY_OFFER], 1) == 1, "the place of a tally's offer differs");
+        at_case("issuer %u, and a byte behind it", tried[i]);
+        for (size_t place = 0; place < 2; place++) put_both(&lending, OFFER_ISSUER, place, 54321);
+        offer_issuer(0)[2] = 1;
+        write_sums(file + BLOCK);
+        expect_answer(length, 5);
+        expect_words(OFFER_ISSUER, 54321, 2, 12345);
+    }
+}
+
+static void names_of_issuers(void)
+{
+    for (const struct named *c = named; c->what; c++) {
+        at_case("%s", c->what);
+        named_job(&job, c);
+        expect_answer(write_file(&job, file), c->due);
+        if (c->due) continue;
+        for (size_t t = 0; t < 2; t++)
+            expect(word_at(lending.table[TALLY_OFFER], t) == c->places[t], "tally %zu has another offer", t);
+    }
+}
+
+/* One or two bytes of issuers in one block, its sums not made right: always 2. */
+static void change_issuer_bytes(size_t length, uint8_t *(*issuer)(size_t), size_t records)
+{
+    for (size_t one = 0; one < 2 * records; one++)
+        for (size_t two = 0; two <= one; two++) {
+            uint8_t *first = issuer(one / 2) + one % 2, *second = issuer(two / 2) + two % 2;
+            uint8_t kept[2] = {*first, *second};
+            at_case("bytes %zu and %zu of issuers changed", one, two);
+            change_byte(first);
+            if (second != first) change_byte(second);
+            expect_answer(length, 2);
+            *second = kept[1];
+            *first = kept[0];
+        }
+}
+
+static void changed_issuers(void)
+{
+    static const uint16_t tried[] = {0, 1, 256, 65535};
+    for (size_t i = 0; i < sizeof tried / sizeof tried[0]; i++) {
+        size_t length = write_issued_job(tried[i]);
+        change_issuer_bytes(length, offer_issuer, job.sizes.offers);
+        change_issuer_bytes(length, tally_issuer, job.sizes.tallies);
+        expect_answer(length, 0);
+    }
+}
+
 static void short_buffers(void)
 {
     for (unsigned name = 0; name < ALL_TABLES; name++) {
@@ -311,8 +409,6 @@ static void random_files(void)
         expect_answer(length, 0);
     }
 }
-
-static void change_byte(uint8_t *byte) { *byte ^= (uint8_t)(1 + below(255)); }
 
 /* One or two bytes of one block: always 2. */
 static void change_and_ask(size_t length, size_t place)
@@ -370,7 +466,7 @@ static void random_bytes(void)
         for (size_t at = 0; at < 4 * BLOCK; at += BLOCK) write_sums(file + at);
         expect_answer(4 * BLOCK, 3);
         length = write_sample_job();
-        fill_randomly(3 * BLOCK + 4, 3 * BLOCK + 22);
+        fill_randomly(3 * BLOCK + 4, 3 * BLOCK + 24);
         write_sums(file + 3 * BLOCK);
         expect_answer(length, 6);
     }
@@ -457,13 +553,20 @@ static void each_code(void)
         code.field[place] = bytes[at / 13 / FIELD];
         at_case("%u digits, byte %u is %u", digits, place, code.field[place]);
         one_tally_job(&job, (struct sizes){1, 1, 1, 1}, 1, (struct tally){0});
-        job.offer[0].code = code;
+        job.offer[0].name.code = code;
         ask_read(&lending, file, write_file(&job, file));
-        job.tally[0].code = code;
+        job.tally[0].name.code = code;
         ask_read(&lending, file, write_file(&job, file));
-        job.offer[0].code = code_of_number(123, 2);
+        job.offer[0].name.code = code_of_number(123, 2);
         ask_read(&lending, file, write_file(&job, file));
     }
+}
+
+/* One of so many issuers, and a code of one of so many numbers. */
+static struct name near_name(uint32_t issuers, uint32_t numbers)
+{
+    uint16_t issuer = (uint16_t)below(issuers);
+    return (struct name){issuer, code_of_number(below(numbers), below(numbers > 10 ? 9 : 10))};
 }
 
 /* Codes that share a number, or nearly, and tallies of them. */
@@ -471,9 +574,24 @@ static void near_codes(void)
 {
     for (unsigned long i = 0; i < 2 * job_count; i++) {
         random_job(&job, random_sizes(TINY));
-        for (size_t o = 0; o < job.sizes.offers; o++) job.offer[o].code = code_of_number(below(12), below(9));
-        for (size_t t = 0; t < job.sizes.tallies; t++) job.tally[t].code = code_of_number(below(8), below(10));
+        for (size_t o = 0; o < job.sizes.offers; o++) job.offer[o].name = near_name(1, 12);
+        for (size_t t = 0; t < job.sizes.tallies; t++) job.tally[t].name = near_name(1, 8);
         at_case("near codes %lu", i);
+        ask_read(&lending, file, write_file(&job, file));
+    }
+}
+
+/* The same under three issuers: numbers that are shared by offers of one issuer or of several, and names that are of an
+   offer, or nearly. */
+static void near_names(void)
+{
+    for (unsigned long i = 0; i < 2 * job_count; i++) {
+        random_job(&job, random_sizes(TINY));
+        uint32_t numbers = 2 + below(4);
+        for (size_t o = 0; o < job.sizes.offers; o++) job.offer[o].name = near_name(3, numbers);
+        for (size_t t = 0; t < job.sizes.tallies; t++)
+            job.tally[t].name = one_in(8) ? near_name(3, numbers) : job.offer[below(job.sizes.offers)].name;
+        at_case("near names %lu", i);
         ask_read(&lending, file, write_file(&job, file));
     }
 }
@@ -509,12 +627,12 @@ static const struct edge edges[] = {
 
 static void cases_of_files(void)
 {
-    struct tally tally = {0, 0, 0, 1, {0, {0}}};
+    struct tally tally = {.count = 1};
     for (size_t i = 0; i < sizeof edges / sizeof edges[0]; i++) {
         tally.count = edges[i].count;
         one_tally_job(&job, (struct sizes){1, 1, 1, 1}, edges[i].price, tally);
-        job.offer[0].code = code_of(edges[i].offer);
-        job.tally[0].code = code_of(edges[i].tally);
+        job.offer[0].name.code = code_of(edges[i].offer);
+        job.tally[0].name.code = code_of(edges[i].tally);
         at_case("%s", edges[i].what);
         expect_answer(write_file(&job, file), edges[i].due);
     }
@@ -549,6 +667,9 @@ void check_reader(void)
     group("reader: the block count in its place", block_count_in_order);
     group("reader: files cut, longer and empty", lengths);
     group("reader: any settlement cycle", cycles);
+    group("reader: any issuer", any_issuers);
+    group("reader: names of two issuers", names_of_issuers);
+    group("reader: one or two bytes of issuers changed", changed_issuers);
     group("reader: each buffer short", short_buffers);
     group("reader: random files", random_files);
     group("reader: one or two bytes of a block changed", changed_bytes);
@@ -558,4 +679,5 @@ void check_reader(void)
     group("reader: every byte in turn, the sums made right", each_byte);
     group("reader: every place of a code", each_code);
     group("reader: codes that share a number or nearly", near_codes);
+    group("reader: names of few issuers and numbers", near_names);
 }

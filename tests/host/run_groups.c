@@ -49,7 +49,7 @@ static void expect_statement(uint16_t grocer, int64_t amount)
 
 static void one_tally_case(const char *what, uint16_t tallies, uint32_t price, int32_t count, int64_t amount)
 {
-    one_tally_job(&settlement.job, (struct sizes){2, 1, 1, tallies}, price, (struct tally){0, 1, 0, count, {0, {0}}});
+    one_tally_job(&settlement.job, (struct sizes){2, 1, 1, tallies}, price, (struct tally){.box = 1, .count = count});
     run_case(what, 1, 1, 6);
     expect_statement(0, amount);
     close_settlement(&settlement);
@@ -224,22 +224,48 @@ static void largest_runs(void)
     }
 }
 
-/* A file read into the tables of the largest job, and the run on those very tables. */
-static void from_file_to_statements(void)
+/* The job's file read into the tables of the largest job, and the run on those very tables. */
+static void open_for_files(void)
 {
-    static uint8_t file[MOST_FILE];
     size_t lengths[ALL_TABLES];
     for (unsigned name = 0; name < ALL_TABLES; name++) lengths[name] = needed(name, LARGEST);
     lengths[FILE_BYTES] = MOST_FILE;
     open_lending(&settlement.lending, lengths);
+}
+
+static void read_and_run(void)
+{
+    static uint8_t file[MOST_FILE];
+    expect(ask_read(&settlement.lending, file, write_file(&settlement.job, file)) == 0, "the file was refused");
+    struct sizes read = {(uint16_t)lent_word(&settlement, SIZES, 0), (uint16_t)lent_word(&settlement, SIZES, 1),
+                         (uint16_t)lent_word(&settlement, SIZES, 2), (uint16_t)lent_word(&settlement, SIZES, 3)};
+    expect(ask_run(&settlement, read, &picks) == 0, "the run was refused");
+    expect_plain_sums(&settlement);
+}
+
+static void from_file_to_statements(void)
+{
+    open_for_files();
     for (unsigned long i = 0; i < 10 + job_count / 20; i++) {
         at_case("file %lu", i);
         random_job(&settlement.job, random_sizes(i % 8 ? SMALL : LARGEST));
-        expect(ask_read(&settlement.lending, file, write_file(&settlement.job, file)) == 0, "the file was refused");
-        struct sizes read = {(uint16_t)lent_word(&settlement, SIZES, 0), (uint16_t)lent_word(&settlement, SIZES, 1),
-                             (uint16_t)lent_word(&settlement, SIZES, 2), (uint16_t)lent_word(&settlement, SIZES, 3)};
-        expect(ask_run(&settlement, read, &picks) == 0, "the run was refused");
-        expect_plain_sums(&settlement);
+        read_and_run();
+    }
+    close_settlement(&settlement);
+}
+
+/* Each accepted case of issuers: 3 of the first tally's offer and -7 of the second's, at 1,250 or 399 each. */
+static void issuers_to_statements(void)
+{
+    open_for_files();
+    for (const struct named *c = named; c->what; c++) {
+        if (c->due) continue;
+        at_case("%s", c->what);
+        named_job(&settlement.job, c);
+        read_and_run();
+        int64_t first = c->places[0] ? 1197 : 3750, second = c->places[1] ? -2793 : -8750;
+        expect(lent_word(&settlement, STATEMENT, 0) == first, "grocer 0 is not owed %lld", (long long)first);
+        expect(lent_word(&settlement, STATEMENT, 1) == second, "grocer 1 is not owed %lld", (long long)second);
     }
     close_settlement(&settlement);
 }
@@ -271,5 +297,6 @@ void check_run(void)
     run_group("run: random runs, and lists that end alike", random_runs);
     run_group("run: the largest jobs", largest_runs);
     run_group("run: from a file to its statements", from_file_to_statements);
+    run_group("run: one number under two issuers, from the file to the statements", issuers_to_statements);
     run_group("run: what the state buffers held is not looked at", blank_state);
 }

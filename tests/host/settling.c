@@ -125,8 +125,9 @@ uint16_t ask_run(struct settlement *settlement, struct sizes sizes, struct picks
     return answer;
 }
 
-static const enum table_name reader_tables[] = {PRICE,     OFFER_OWNER, OFFER_CODE,  GROCER_OWNER, TALLY_GROCER,
-                                                TALLY_BOX, TALLY_CODE,  TALLY_COUNT, TALLY_OFFER,  SIZES};
+static const enum table_name reader_tables[] = {PRICE,        OFFER_OWNER,  OFFER_CODE,  OFFER_ISSUER,
+                                                GROCER_OWNER, TALLY_GROCER, TALLY_BOX,   TALLY_CODE,
+                                                TALLY_COUNT,  TALLY_ISSUER, TALLY_OFFER, SIZES};
 enum { READER_TABLES = sizeof reader_tables / sizeof reader_tables[0] };
 
 void open_reading(struct lending *lending, uint32_t spare, size_t length)
@@ -158,7 +159,7 @@ uint16_t ask_read(struct lending *lending, const uint8_t *file, size_t length)
     uint16_t due = reader_is_short(tables) ? 20 : read_file(file, length, &job);
     if (!due) {
         write_job_words(&job, lending->twin);
-        write_code_words(&job, lending->twin);
+        write_reader_words(&job, lending->twin);
     }
     uint16_t answer = call_read(lending);
     expect(answer == due, "reader answered %u, should be %u", answer, due);

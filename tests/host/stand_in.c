@@ -33,27 +33,30 @@ static uint16_t read_into(const struct table tables[ALL_TABLES])
     uint16_t refusal = read_file(tables[FILE_BYTES].words, tables[FILE_BYTES].length, &job);
     if (refusal) return refusal;
     write_job_words(&job, tables);
-    write_code_words(&job, tables);
+    write_reader_words(&job, tables);
     return 0;
 }
 
 ENTRY settlement_read(const uint8_t *file, size_t l0, uint32_t *price, size_t l1, uint16_t *offer_owner, size_t l2,
-                      uint8_t *offer_code, size_t l3, uint16_t *grocer_owner, size_t l4, uint16_t *tally_grocer,
-                      size_t l5, uint16_t *tally_box, size_t l6, uint8_t *tally_code, size_t l7, int32_t *tally_count,
-                      size_t l8, uint16_t *tally_offer, size_t l9, uint16_t *sizes, size_t l10)
+                      uint8_t *offer_code, size_t l3, uint16_t *offer_issuer, size_t l4, uint16_t *grocer_owner,
+                      size_t l5, uint16_t *tally_grocer, size_t l6, uint16_t *tally_box, size_t l7, uint8_t *tally_code,
+                      size_t l8, int32_t *tally_count, size_t l9, uint16_t *tally_issuer, size_t l10,
+                      uint16_t *tally_offer, size_t l11, uint16_t *sizes, size_t l12)
 {
     const struct table tables[ALL_TABLES] = {
         [FILE_BYTES] = {FILE_BYTES, l0, (void *)file},
         [PRICE] = {PRICE, l1, price},
         [OFFER_OWNER] = {OFFER_OWNER, l2, offer_owner},
         [OFFER_CODE] = {OFFER_CODE, l3, offer_code},
-        [GROCER_OWNER] = {GROCER_OWNER, l4, grocer_owner},
-        [TALLY_GROCER] = {TALLY_GROCER, l5, tally_grocer},
-        [TALLY_BOX] = {TALLY_BOX, l6, tally_box},
-        [TALLY_CODE] = {TALLY_CODE, l7, tally_code},
-        [TALLY_COUNT] = {TALLY_COUNT, l8, tally_count},
-        [TALLY_OFFER] = {TALLY_OFFER, l9, tally_offer},
-        [SIZES] = {SIZES, l10, sizes},
+        [OFFER_ISSUER] = {OFFER_ISSUER, l4, offer_issuer},
+        [GROCER_OWNER] = {GROCER_OWNER, l5, grocer_owner},
+        [TALLY_GROCER] = {TALLY_GROCER, l6, tally_grocer},
+        [TALLY_BOX] = {TALLY_BOX, l7, tally_box},
+        [TALLY_CODE] = {TALLY_CODE, l8, tally_code},
+        [TALLY_COUNT] = {TALLY_COUNT, l9, tally_count},
+        [TALLY_ISSUER] = {TALLY_ISSUER, l10, tally_issuer},
+        [TALLY_OFFER] = {TALLY_OFFER, l11, tally_offer},
+        [SIZES] = {SIZES, l12, sizes},
     };
     return read_into(tables);
 }

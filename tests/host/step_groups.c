@@ -175,7 +175,7 @@ static const struct late lates[] = {
 static void open_late(struct step step, int sign, uint16_t tallies)
 {
     uint16_t box = step.kind == SEND_PRICES || step.kind == RECEIVE_PRICES;
-    one_tally_job(&settlement.job, (struct sizes){2, 1, 1, tallies}, 3, (struct tally){0, box, 0, 7 * sign, {0, {0}}});
+    one_tally_job(&settlement.job, (struct sizes){2, 1, 1, tallies}, 3, (struct tally){.box = box, .count = 7 * sign});
     settlement.job.tally[1].box = !box;
     open_settlement(&settlement, SPARE, 0);
     put_both(&settlement.lending, PRICE_TRANSIT, 1, 3);
@@ -213,8 +213,7 @@ static void late_refusals(void)
 static void sums_on_the_way(void)
 {
     at_case("a sum beyond the range on the way");
-    one_tally_job(&settlement.job, (struct sizes){1, 1, 1, 1000}, MOST_PRICE,
-                  (struct tally){0, 0, 0, MOST_COUNT, {0, {0}}});
+    one_tally_job(&settlement.job, (struct sizes){1, 1, 1, 1000}, MOST_PRICE, (struct tally){.count = MOST_COUNT});
     for (size_t t = 500; t < 1000; t++) settlement.job.tally[t].count = -MOST_COUNT;
     open_settlement(&settlement, SPARE, 0);
     put_both(&settlement.lending, WORKING, 0, MOST_AMOUNT);
@@ -239,7 +238,7 @@ static void sums_on_the_way(void)
 /* Two boxes hold a tally of offer 0 and grocer 0; box 0 owns the offers, box 1 the grocers. */
 static void open_beside(struct step step, int sign)
 {
-    one_tally_job(&settlement.job, (struct sizes){2, 3, 3, 2}, 5, (struct tally){0, 0, 0, sign, {0, {0}}});
+    one_tally_job(&settlement.job, (struct sizes){2, 3, 3, 2}, 5, (struct tally){.count = sign});
     settlement.job.tally[1].box = 1;
     open_settlement(&settlement, SPARE, 0);
     mark_all_but(step);

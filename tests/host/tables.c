@@ -22,7 +22,9 @@ static const struct {
     [DONE] = {"done", 2, false},
     [SENT] = {"sent", 4, false},
     [OFFER_CODE] = {"offer_code", 1, false},
+    [OFFER_ISSUER] = {"offer_issuer", 2, false},
     [TALLY_CODE] = {"tally_code", 1, false},
+    [TALLY_ISSUER] = {"tally_issuer", 2, false},
     [SIZES] = {"sizes", 2, false},
     [REPORT] = {"report", 4, false},
     [FILE_BYTES] = {"file", 1, false},
@@ -50,6 +52,7 @@ uint64_t needed(enum table_name name, struct sizes sizes)
     switch (name) {
     case PRICE:
     case LOCAL_OFFERS:
+    case OFFER_ISSUER:
     case OFFER_OWNER: return n;
     case GROCER_OWNER:
     case LOCAL_GROCERS:
@@ -59,6 +62,7 @@ uint64_t needed(enum table_name name, struct sizes sizes)
     case TALLY_OFFER:
     case PACKED_GROCERS:
     case PACKED_COUNTS:
+    case TALLY_ISSUER:
     case TALLY_COUNT: return t;
     case STARTS: return n + 1;
     case KNOWN:

@@ -25,7 +25,7 @@ static size_t e(void)
 static size_t random_file(uint64_t seed, struct sizes sizes)
 {
     seed_random(seed);
-    random_job(&job, sizes);
+    random_old_job(&job, sizes);
     job.cycle = 0;
     return write_file(&job, file);
 }
@@ -63,7 +63,7 @@ static size_t every_pair(void)
     }
     for (uint16_t t = 0; t < sizes.tallies; t++) {
         uint16_t box = t / boxes, offer = t % boxes;
-        job.tally[t] = (struct tally){offer, box, offer, t - 100, code_of_number(offer, 3)};
+        job.tally[t] = (struct tally){offer, box, offer, t - 100, {0, code_of_number(offer, 3)}};
     }
     return write_file(&job, file);
 }
@@ -94,6 +94,27 @@ static size_t halves(void)
         job.tally[t].box = t % 2;
         job.tally[t].count = amounts[t];
     }
+    return write_file(&job, file);
+}
+
+/* 5521 of issuers 1 and 2 and of an old offer, at 1,250, 399 and 80, each with tallies of both grocers: grocer 0 is owed
+   3 x 1,250 + 2 x 399 - 1 x 80 = 4,468, in cents 447, and grocer 1 4 x 399 + 5 x 80 + 1 x 1,250 = 3,246, in cents 325.
+   Box 0 owns the first offer and grocer 1, box 1 the rest. Box 1 sends two prices and a total, box 0 a price and a
+   total: 5 words, 4 messages, 2 x 2 + 2 x 4 = 12 steps. */
+static size_t issuers(void)
+{
+    memset(&job, 0, sizeof job);
+    job.sizes = (struct sizes){2, 2, 3, 6};
+    job.offer[0] = (struct offer){1250, 0, {1, code_of("5521")}};
+    job.offer[1] = (struct offer){399, 1, {2, code_of("5521")}};
+    job.offer[2] = (struct offer){80, 1, {0, code_of("05521")}};
+    job.grocer_owner[0] = 1;
+    job.tally[0] = (struct tally){0, 0, 0, 3, {1, code_of("5521")}};
+    job.tally[1] = (struct tally){0, 1, 1, 2, {2, code_of("0005521")}};
+    job.tally[2] = (struct tally){0, 1, 2, -1, {0, code_of("5521")}};
+    job.tally[3] = (struct tally){1, 0, 1, 4, {2, code_of("5521")}};
+    job.tally[4] = (struct tally){1, 0, 2, 5, {0, code_of("005521")}};
+    job.tally[5] = (struct tally){1, 1, 0, 1, {1, code_of("05521")}};
     return write_file(&job, file);
 }
 
@@ -150,14 +171,30 @@ static size_t bad_count_unknown_code(void)
 {
     sample_job(&job);
     job.tally[3].count = MOST_COUNT + 1;
-    job.tally[3].code = code_of("4120");
+    job.tally[3].name.code = code_of("4120");
     return write_file(&job, file);
 }
 
 static size_t shared_number(void)
 {
     sample_job(&job);
-    job.offer[1].code = code_of("0000000412");
+    job.offer[1].name.code = code_of("0000000412");
+    return write_file(&job, file);
+}
+
+/* The second 5521 of issuer 1 too. */
+static size_t shared_number_one_issuer(void)
+{
+    issuers();
+    job.offer[1].name.issuer = 1;
+    return write_file(&job, file);
+}
+
+/* A tally of 5521 of issuer 3, which has no offer. */
+static size_t known_number_other_issuer(void)
+{
+    issuers();
+    job.tally[3].name.issuer = 3;
     return write_file(&job, file);
 }
 
@@ -178,6 +215,7 @@ static const struct sample {
     {"largest_negative", largest_negative, 0},
     {"halves", halves, 0},
     {"last_cycle", last_cycle, 0},
+    {"issuers", issuers, 0},
     {"empty", empty, 1},
     {"one_byte", one_byte, 1},
     {"byte_short", byte_short, 1},
@@ -198,7 +236,9 @@ static const struct sample {
     {"price_too_large", price_too_large, 6},
     {"bad_count_unknown_code", bad_count_unknown_code, 6},
     {"shared_number", shared_number, 7},
+    {"shared_number_one_issuer", shared_number_one_issuer, 7},
     {"unknown_code", unknown_code, 8},
+    {"known_number_other_issuer", known_number_other_issuer, 8},
 };
 
 /* Output */

@@ -8,6 +8,9 @@ ghost use Rattle.format.specs.Bytes.{from};
 ghost use Rattle.format.specs.Codes.{isCode, readCode};
 use crate::bytes::size;
 
+// The bytes of a code, in the file as in a table: its digit count, then its field of ten.
+pub const CODE_BYTES: usize = 11;
+
 // Whether byte x is as due at place k of the field of a code of n digits.
 fn is_place(x: u8, k: usize, n: usize) -> bool
     ensures { λ r. ⌜ r ≡ cond (ltb k n) (leb 48 x && leb x 57) (eqb x 0) ⌝ }

@@ -22,11 +22,16 @@ use crate::plan::Head;
 // The largest price, in tenths of a cent.
 pub const MAX_PRICE: u32 = 9_999_999;
 
+// The 32 bits of the largest count, 99,999, and of the least, −99,999.
+const MAX_COUNT: u32 = 99_999;
+
+const MIN_COUNT: u32 = 4_294_867_297;
+
 // Whether the count that 32 bits say is outside −99,999 to 99,999.
 pub fn bad_count(v: u32) -> bool
     ensures { λ r. ⌜ r ≡ ltb 99999 (natAbs (toZ w32 v)) ⌝ }
 {
-    (99999 < v) & (v < 4294867297)
+    (MAX_COUNT < v) & (v < MIN_COUNT)
 }
 
 // Whether a field of the offer at a place is outside its range.

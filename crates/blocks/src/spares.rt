@@ -57,10 +57,10 @@ pub fn spare_used(f: &[u8], k: usize, kind: usize, count: usize) -> bool
 {
     let at = 512 * k + 4;
     if kind == 1 {
-        return spare_in(f, at, count, 24, 16);
+        return spare_in(f, at, count, 24, 18);
     }
     if kind == 2 {
         return spare_in(f, at, count, 1, 1);
     }
-    spare_in(f, at, count, 24, 18)
+    spare_in(f, at, count, 24, 20)
 }

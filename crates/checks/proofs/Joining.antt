@@ -12,7 +12,7 @@ use Rattle.format.specs.Job.{Head, FileJob, badSizes, badOffer, badOwner, badTa
 use Rattle.format.specs.Refusals.{jobRefusal}
 use Rattle.format.specs.Tables.{FileTables, Long, offerOf, tallyOf, fileJobOf, shortTables, shortWriter}
 use Rattle.blocks.specs.Due.{Most}
-use Rattle.checks.specs.Rows.{Codes, HasCodes}
+use Rattle.checks.specs.Rows.{Codes, HasNames}
 use Rattle.format.proofs.Range.{sizes-in, offer-in, tally-in}
 use Rattle.format.proofs.Tables.{long-tables}
 
@@ -31,10 +31,10 @@ pub most : (h : Head) → badSizes h ≡ false → Most h
 most h e = let z = sizes-in h e in record { boxes = z .boxes-most; grocers = z .grocers-most; offers = z .offers-most; tallies = z .tallies-most }
 
 module _ (h : Head) (l : FileTables) where
-  -- The tables hold the job's codes.
-  pub has-codes : HasCodes (fileJobOf h l) (l .offers .code) (l .tallies .code) h
+  -- The tables hold the job's names.
+  pub has-names : HasNames (fileJobOf h l) (l .offers .code) (l .offers .issuer) (l .tallies .code) (l .tallies .issuer) h
   unfolding fileJobOf
-  has-codes = record { head = refl; offer = λ i. refl; tally = λ i. refl }
+  has-names = record { head = refl; offer = λ i. refl; tally = λ i. refl }
 
   -- Where 6 is not met each code is one.
   pub offer-codes : badRecords (fileJobOf h l) ≡ false → Codes (l .offers .code) (h .offers)

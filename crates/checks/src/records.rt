@@ -1,35 +1,43 @@
 // 6: each record of the tables.
 ghost use mathlib.Core.Path.{_≡_};
-ghost use Prim.Native.Nat.{_+_, _*_, _≤_, _<_};
+ghost use mathlib.Core.List.{List};
+ghost use Prim.Native.Nat.{ℕ, _+_, _*_, _≤_, _<_};
 ghost use lib.Dec.{ltb};
 ghost use lib.IntN.{natAbs};
 ghost use lib.ListN.{length, getD};
 ghost use Rattle.laws.specs.Below.{any};
 ghost use Rattle.format.specs.Job.{badOffer, badOwner, badTally, badRecords};
-ghost use Rattle.format.specs.Tables.{offerTables, tallyTables, fileTables, LongOffers, LongTallies, Long, offerOf, tallyOf, fileJobOf};
+ghost use Rattle.format.specs.Tables.{offerTables, tallyTables, fileTables, offerOf, tallyOf, fileJobOf};
 ghost use Rattle.blocks.specs.Due.{asHead};
 use crate::sizes::size_of;
+use blocks::codes::CODE_BYTES;
 use blocks::codes::is_code;
 use blocks::plan::Head;
 use blocks::records::MAX_PRICE;
+
+// The largest count and the least.
+const MAX_COUNT: i32 = 99_999;
+
+const MIN_COUNT: i32 = -99_999;
 
 // Whether a count is outside −99,999 to 99,999.
 fn bad_count(z: i32) -> bool
     ensures { λ r. ⌜ r ≡ ltb 99_999 (natAbs z) ⌝ }
 {
-    (z < -99_999) | (99_999 < z)
+    (z < MIN_COUNT) | (MAX_COUNT < z)
 }
 
-// Whether a field of offer i is outside its range.
+// Whether a field of offer i is outside its range; its issuer has all 16 bits.
 fn bad_offer(head: Head, price: &[u32], offer_owner: &[u16], offer_code: &[u8], i: usize) -> bool
     requires { ⌜ (i < length (now price)) × ((i < length (now «offer_owner»)) × (i * 11 + 11 ≤ length (now «offer_code»))) ⌝ }
-    ensures { λ r. ⌜ r ≡ badOffer (asHead head) (offerOf (offerTables (now (price .entry)) (now («offer_owner» .entry)) (now («offer_code» .entry))) i) ⌝ }
+    ensures { λ r. ⌜ ((s : List ℕ) → r ≡ badOffer (asHead head)
+        (offerOf (offerTables (now (price .entry)) (now («offer_owner» .entry)) (now («offer_code» .entry)) s) i)) ⌝ }
 {
-    let at = i * 11;
+    let at = i * CODE_BYTES;
     (MAX_PRICE < price[i]) | (head.boxes <= size_of(offer_owner[i])) | !is_code(offer_code, at)
 }
 
-// Whether a field of tally i is outside its range.
+// Whether a field of tally i is outside its range, likewise.
 fn bad_tally(
     head: Head,
     tally_grocer: &[u16],
@@ -40,19 +48,19 @@ fn bad_tally(
 ) -> bool
     requires { ⌜ (i < length (now «tally_grocer»)) × (i < length (now «tally_box»)) ⌝ }
     requires { ⌜ (i * 11 + 11 ≤ length (now «tally_code»)) × (i < length (now «tally_count»)) ⌝ }
-    ensures { λ r. ⌜ r ≡ badTally (asHead head)
-        (tallyOf (tallyTables (now («tally_grocer» .entry)) (now («tally_box» .entry)) (now («tally_code» .entry)) (now («tally_count» .entry))) i) ⌝ }
+    ensures { λ r. ⌜ ((s : List ℕ) → r ≡ badTally (asHead head)
+        (tallyOf (tallyTables (now («tally_grocer» .entry)) (now («tally_box» .entry)) (now («tally_code» .entry)) (now («tally_count» .entry)) s) i)) ⌝ }
 {
-    let at = i * 11;
+    let at = i * CODE_BYTES;
     let ranges = (head.grocers <= size_of(tally_grocer[i])) | (head.boxes <= size_of(tally_box[i]));
     ranges | !is_code(tally_code, at) | bad_count(tally_count[i])
 }
 
 // Whether one of the offers is.
 fn bad_offers(head: Head, price: &[u32], offer_owner: &[u16], offer_code: &[u8]) -> bool
-    requires { ⌜ LongOffers (head .offers) (offerTables (now price) (now «offer_owner») (now «offer_code»)) ⌝ }
-    ensures { λ r. ⌜ r ≡ any (head .offers) (λ i. badOffer (asHead head)
-        (offerOf (offerTables (now (price .entry)) (now («offer_owner» .entry)) (now («offer_code» .entry))) i)) ⌝ }
+    requires { ⌜ (head .offers ≤ length (now price)) × (head .offers ≤ length (now «offer_owner»)) × (head .offers * 11 ≤ length (now «offer_code»)) ⌝ }
+    ensures { λ r. ⌜ ((s : List ℕ) → r ≡ any (head .offers) (λ i. badOffer (asHead head)
+        (offerOf (offerTables (now (price .entry)) (now («offer_owner» .entry)) (now («offer_code» .entry)) s) i))) ⌝ }
 {
     let n = head.offers;
     let mut bad = false;
@@ -88,9 +96,10 @@ fn bad_tallies(
     tally_code: &[u8],
     tally_count: &[i32],
 ) -> bool
-    requires { ⌜ LongTallies (head .tallies) (tallyTables (now «tally_grocer») (now «tally_box») (now «tally_code») (now «tally_count»)) ⌝ }
-    ensures { λ r. ⌜ r ≡ any (head .tallies) (λ i. badTally (asHead head)
-        (tallyOf (tallyTables (now («tally_grocer» .entry)) (now («tally_box» .entry)) (now («tally_code» .entry)) (now («tally_count» .entry))) i)) ⌝ }
+    requires { ⌜ (head .tallies ≤ length (now «tally_grocer»)) × (head .tallies ≤ length (now «tally_box»)) ⌝ }
+    requires { ⌜ (head .tallies * 11 ≤ length (now «tally_code»)) × (head .tallies ≤ length (now «tally_count»)) ⌝ }
+    ensures { λ r. ⌜ ((s : List ℕ) → r ≡ any (head .tallies) (λ i. badTally (asHead head)
+        (tallyOf (tallyTables (now («tally_grocer» .entry)) (now («tally_box» .entry)) (now («tally_code» .entry)) (now («tally_count» .entry)) s) i))) ⌝ }
 {
     let t = head.tallies;
     let mut bad = false;
@@ -114,11 +123,13 @@ pub fn bad_records(
     tally_code: &[u8],
     tally_count: &[i32],
 ) -> bool
-    requires { ⌜ Long (asHead head) (fileTables (now price) (now «offer_owner») (now «offer_code») (now «grocer_owner»)
-        (now «tally_grocer») (now «tally_box») (now «tally_code») (now «tally_count»)) ⌝ }
-    ensures { λ r. ⌜ r ≡ badRecords (fileJobOf (asHead head)
-        (fileTables (now (price .entry)) (now («offer_owner» .entry)) (now («offer_code» .entry)) (now («grocer_owner» .entry))
-        (now («tally_grocer» .entry)) (now («tally_box» .entry)) (now («tally_code» .entry)) (now («tally_count» .entry)))) ⌝ }
+    requires { ⌜ (head .offers ≤ length (now price)) × (head .offers ≤ length (now «offer_owner»)) × (head .offers * 11 ≤ length (now «offer_code»)) ⌝ }
+    requires { ⌜ head .grocers ≤ length (now «grocer_owner») ⌝ }
+    requires { ⌜ (head .tallies ≤ length (now «tally_grocer»)) × (head .tallies ≤ length (now «tally_box»)) ⌝ }
+    requires { ⌜ (head .tallies * 11 ≤ length (now «tally_code»)) × (head .tallies ≤ length (now «tally_count»)) ⌝ }
+    ensures { λ r. ⌜ ((s s′ : List ℕ) → r ≡ badRecords (fileJobOf (asHead head) (fileTables
+        (offerTables (now (price .entry)) (now («offer_owner» .entry)) (now («offer_code» .entry)) s) (now («grocer_owner» .entry))
+        (tallyTables (now («tally_grocer» .entry)) (now («tally_box» .entry)) (now («tally_code» .entry)) (now («tally_count» .entry)) s′)))) ⌝ }
 {
     bad_offers(head, price, offer_owner, offer_code)
         | bad_owners(head, grocer_owner)

@@ -1,9 +1,10 @@
 // The writer's refusal: "The writer checks 20, 4, 6, 7, 8."
 ghost use mathlib.Core.Path.{_≡_};
 ghost use Rattle.format.specs.Refusals.{jobRefusal};
-ghost use Rattle.format.specs.Tables.{fileTables, fileJobOf, writeRefusal, Long};
+ghost use Rattle.format.specs.Tables.{offerTables, tallyTables, fileTables, fileJobOf, writeRefusal, Long};
+ghost use Rattle.format.specs.Lent.{fileLent};
 ghost use Rattle.blocks.specs.Due.{asHead, Fits};
-use crate::codes::codes_refusal;
+use crate::codes::names_refusal;
 use crate::records::bad_records;
 use crate::sizes::short_writer;
 use blocks::plan::Head;
@@ -15,17 +16,19 @@ fn job_refusal(
     price: &[u32],
     offer_owner: &[u16],
     offer_code: &[u8],
+    offer_issuer: &[u16],
     grocer_owner: &[u16],
     tally_grocer: &[u16],
     tally_box: &[u16],
     tally_code: &[u8],
     tally_count: &[i32],
+    tally_issuer: &[u16],
 ) -> u16
-    requires { ⌜ Long (asHead head) (fileTables (now price) (now «offer_owner») (now «offer_code») (now «grocer_owner»)
-        (now «tally_grocer») (now «tally_box») (now «tally_code») (now «tally_count»)) ⌝ }
-    ensures { λ r. ⌜ r ≡ jobRefusal (fileJobOf (asHead head)
-        (fileTables (now (price .entry)) (now («offer_owner» .entry)) (now («offer_code» .entry)) (now («grocer_owner» .entry))
-        (now («tally_grocer» .entry)) (now («tally_box» .entry)) (now («tally_code» .entry)) (now («tally_count» .entry)))) ⌝ }
+    requires { ⌜ Long (asHead head) (fileTables
+        (offerTables (now price) (now «offer_owner») (now «offer_code») (now «offer_issuer»)) (now «grocer_owner»)
+        (tallyTables (now «tally_grocer») (now «tally_box») (now «tally_code») (now «tally_count») (now «tally_issuer»))) ⌝ }
+    ensures { λ r. ⌜ r ≡ jobRefusal (fileJobOf (asHead head) (fileLent price «offer_owner» «offer_code» «offer_issuer» «grocer_owner» «tally_grocer» «tally_box»
+        «tally_code» «tally_count» «tally_issuer»)) ⌝ }
 {
     if bad_sizes(head) {
         return 4;
@@ -43,7 +46,7 @@ fn job_refusal(
     ) {
         return 6;
     }
-    codes_refusal(head, offer_code, tally_code)
+    names_refusal(head, offer_code, offer_issuer, tally_code, tally_issuer)
 }
 
 // The writer's refusal of any tables, or 0.
@@ -52,28 +55,31 @@ pub fn write_refusal(
     price: &[u32],
     offer_owner: &[u16],
     offer_code: &[u8],
+    offer_issuer: &[u16],
     grocer_owner: &[u16],
     tally_grocer: &[u16],
     tally_box: &[u16],
     tally_code: &[u8],
     tally_count: &[i32],
+    tally_issuer: &[u16],
     out: &[u8],
 ) -> u16
     requires { ⌜ Fits (asHead head) ⌝ }
-    ensures { λ r. ⌜ r ≡ writeRefusal (asHead head)
-        (fileTables (now (price .entry)) (now («offer_owner» .entry)) (now («offer_code» .entry)) (now («grocer_owner» .entry))
-        (now («tally_grocer» .entry)) (now («tally_box» .entry)) (now («tally_code» .entry)) (now («tally_count» .entry))) (now (out .entry)) ⌝ }
+    ensures { λ r. ⌜ r ≡ writeRefusal (asHead head) (fileLent price «offer_owner» «offer_code» «offer_issuer» «grocer_owner» «tally_grocer» «tally_box»
+        «tally_code» «tally_count» «tally_issuer») (now (out .entry)) ⌝ }
 {
     if short_writer(
         head,
         price,
         offer_owner,
         offer_code,
+        offer_issuer,
         grocer_owner,
         tally_grocer,
         tally_box,
         tally_code,
         tally_count,
+        tally_issuer,
         out,
     ) {
         return 20;
@@ -83,10 +89,12 @@ pub fn write_refusal(
         price,
         offer_owner,
         offer_code,
+        offer_issuer,
         grocer_owner,
         tally_grocer,
         tally_box,
         tally_code,
         tally_count,
+        tally_issuer,
     )
 }

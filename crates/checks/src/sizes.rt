@@ -3,8 +3,10 @@ ghost use mathlib.Core.Path.{_≡_};
 ghost use Prim.Native.Nat.{_*_, _≤_};
 ghost use Rattle.format.specs.Job.{headOf};
 ghost use Rattle.format.specs.Blocks.{blockCount};
-ghost use Rattle.format.specs.Tables.{offerTables, tallyTables, fileTables, shortOffers, shortTallies, shortWriter};
+ghost use Rattle.format.specs.Tables.{shortOffers, shortTallies, shortWriter};
+ghost use Rattle.format.specs.Lent.{offersLent, talliesLent, fileLent};
 ghost use Rattle.blocks.specs.Due.{asHead, Fits};
+use blocks::codes::CODE_BYTES;
 use blocks::plan::Head;
 use blocks::plan::block_count;
 
@@ -41,11 +43,20 @@ pub fn file_length(head: Head) -> usize
 }
 
 // 20 of the tables of n offers.
-fn short_offers(n: usize, price: &[u32], offer_owner: &[u16], offer_code: &[u8]) -> bool
+fn short_offers(
+    n: usize,
+    price: &[u32],
+    offer_owner: &[u16],
+    offer_code: &[u8],
+    offer_issuer: &[u16],
+) -> bool
     requires { ⌜ n ≤ 65535 ⌝ }
-    ensures { λ r. ⌜ r ≡ shortOffers n (offerTables (now (price .entry)) (now («offer_owner» .entry)) (now («offer_code» .entry))) ⌝ }
+    ensures { λ r. ⌜ r ≡ shortOffers n (offersLent price «offer_owner» «offer_code» «offer_issuer») ⌝ }
 {
-    (price.len() < n) | (offer_owner.len() < n) | (offer_code.len() < n * 11)
+    (price.len() < n)
+        | (offer_owner.len() < n)
+        | (offer_code.len() < n * CODE_BYTES)
+        | (offer_issuer.len() < n)
 }
 
 // 20 of the tables of t tallies.
@@ -55,15 +66,16 @@ fn short_tallies(
     tally_box: &[u16],
     tally_code: &[u8],
     tally_count: &[i32],
+    tally_issuer: &[u16],
 ) -> bool
     requires { ⌜ t ≤ 65535 ⌝ }
-    ensures { λ r. ⌜ r ≡ shortTallies t
-        (tallyTables (now («tally_grocer» .entry)) (now («tally_box» .entry)) (now («tally_code» .entry)) (now («tally_count» .entry))) ⌝ }
+    ensures { λ r. ⌜ r ≡ shortTallies t (talliesLent «tally_grocer» «tally_box» «tally_code» «tally_count» «tally_issuer») ⌝ }
 {
     (tally_grocer.len() < t)
         | (tally_box.len() < t)
-        | (tally_code.len() < t * 11)
+        | (tally_code.len() < t * CODE_BYTES)
         | (tally_count.len() < t)
+        | (tally_issuer.len() < t)
 }
 
 // 20: whether a table, or the buffer for the file, is shorter than K, M, N and T as given need.
@@ -72,25 +84,27 @@ pub fn short_writer(
     price: &[u32],
     offer_owner: &[u16],
     offer_code: &[u8],
+    offer_issuer: &[u16],
     grocer_owner: &[u16],
     tally_grocer: &[u16],
     tally_box: &[u16],
     tally_code: &[u8],
     tally_count: &[i32],
+    tally_issuer: &[u16],
     out: &[u8],
 ) -> bool
     requires { ⌜ Fits (asHead head) ⌝ }
-    ensures { λ r. ⌜ r ≡ shortWriter (asHead head)
-        (fileTables (now (price .entry)) (now («offer_owner» .entry)) (now («offer_code» .entry)) (now («grocer_owner» .entry))
-        (now («tally_grocer» .entry)) (now («tally_box» .entry)) (now («tally_code» .entry)) (now («tally_count» .entry))) (now (out .entry)) ⌝ }
+    ensures { λ r. ⌜ r ≡ shortWriter (asHead head) (fileLent price «offer_owner» «offer_code» «offer_issuer» «grocer_owner» «tally_grocer» «tally_box»
+        «tally_code» «tally_count» «tally_issuer») (now (out .entry)) ⌝ }
 {
-    let offers = short_offers(head.offers, price, offer_owner, offer_code);
+    let offers = short_offers(head.offers, price, offer_owner, offer_code, offer_issuer);
     let tallies = short_tallies(
         head.tallies,
         tally_grocer,
         tally_box,
         tally_code,
         tally_count,
+        tally_issuer,
     );
     offers | (grocer_owner.len() < head.grocers) | tallies | (out.len() < file_length(head))
 }

@@ -5,7 +5,8 @@ ghost use lib.ListN.{take, length};
 ghost use Rattle.laws.specs.Tables.{recell};
 ghost use Rattle.model.specs.Lent.{jobLent};
 ghost use Rattle.format.specs.Job.{headOf};
-ghost use Rattle.format.specs.Tables.{fileTables, writeResult};
+ghost use Rattle.format.specs.Tables.{writeResult};
+ghost use Rattle.format.specs.Lent.{fileLent};
 ghost use Rattle.messages.specs.Answers.{said as saidMessages, tablesGiven};
 ghost use Rattle.tables.specs.Messages.{cellAt};
 ghost use Rattle.local.specs.Book.{said as saidBook, bookTables};
@@ -38,16 +39,17 @@ pub extern "C" fn entries_write(
     price: &[u32],
     offer_owner: &[u16],
     offer_code: &[u8],
+    offer_issuer: &[u16],
     grocer_owner: &[u16],
     tally_grocer: &[u16],
     tally_box: &[u16],
     tally_code: &[u8],
     tally_count: &[i32],
+    tally_issuer: &[u16],
     out: &mut [u8],
 ) -> usize
-    ensures { λ r. ⌜ written r (now (out .exit)) ≡ writtenAs (writeResult (headOf boxes grocers offers tallies cycle) (fileTables (now (price .entry))
-        (now («offer_owner» .entry)) (now («offer_code» .entry)) (now («grocer_owner» .entry)) (now («tally_grocer» .entry))
-        (now («tally_box» .entry)) (now («tally_code» .entry)) (now («tally_count» .entry))) (now (out .entry))) ⌝ }
+    ensures { λ r. ⌜ written r (now (out .exit)) ≡ writtenAs (writeResult (headOf boxes grocers offers tallies cycle) (fileLent price «offer_owner» «offer_code»
+        «offer_issuer» «grocer_owner» «tally_grocer» «tally_box» «tally_code» «tally_count» «tally_issuer») (now (out .entry))) ⌝ }
 {
     let a = writer::write(
         boxes,
@@ -58,11 +60,13 @@ pub extern "C" fn entries_write(
         price,
         offer_owner,
         offer_code,
+        offer_issuer,
         grocer_owner,
         tally_grocer,
         tally_box,
         tally_code,
         tally_count,
+        tally_issuer,
         out,
     );
     number(a)

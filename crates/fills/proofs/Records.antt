@@ -1,5 +1,5 @@
 -- The fields of a file's records where they stand, and the room that a whole file has for them. Assumes nothing.
-use mathlib.Core.Path.{_≡_, refl, sym, ap, _∙_}
+use mathlib.Core.Path.{_≡_, refl, sym, ap, ap₂, _∙_}
 use mathlib.Core.List.{List}
 use Prim.Native.Nat.{ℕ, _+_, _*_, _≤_, _<_}
 use native.Mathlib.Omega.{arith}
@@ -7,8 +7,8 @@ use lib.ListN.{length, getD}
 use mir.Syntax.{w32}
 use mir.Val.{toZ}
 use Rattle.format.specs.Bytes.{from, after, word16, word32}
-use Rattle.format.specs.Codes.{readCode}
-use Rattle.format.specs.Job.{Head}
+use Rattle.format.specs.Codes.{Code, readCode, nameOf, nameNumber}
+use Rattle.format.specs.Job.{Head, offerName, tallyName}
 use Rattle.format.specs.Blocks.{offersAt, grocersAt, talliesAt}
 use Rattle.format.specs.File.{readOffer, readTally, recordAt, decode}
 use Rattle.fills.specs.Fills.{Whole}
@@ -32,6 +32,12 @@ code-shift f at place =
     let e : (k : ℕ) → from f (at + place) k ≡ after (from f at) place k = λ k. ap (λ (p : ℕ). getD f p 0) (omega arith) in
     λ i. record { size = e 0 i; digit = λ k. e (1 + k) i }
 
+-- The word at a place behind another.
+pub word-shift : (f : List ℕ) (at place : ℕ) → word16 (from f (at + place)) ≡ word16 (after (from f at) place)
+word-shift f at place =
+    let e : (k : ℕ) → from f (at + place) k ≡ after (from f at) place k = λ k. ap (λ (p : ℕ). getD f p 0) (omega arith) in
+    rw (e 0, e 1)
+
 -- The fields of offer i, whose record stands at `at`.
 module _ (f : List ℕ) (i : ℕ) {at : ℕ} (e : at ≡ recordAt offersAt i) where
   pub offer-price : word32 (from f at) ≡ decode f .offer i .price
@@ -45,6 +51,14 @@ module _ (f : List ℕ) (i : ℕ) {at : ℕ} (e : at ≡ recordAt offersAt i) wh
   pub offer-code : readCode (from f (at + 5)) ≡ decode f .offer i .code
   unfolding decode readOffer
   offer-code = code-shift f at 5 ∙ ap (λ (p : ℕ). readCode (after (from f p) 5)) e
+
+  pub offer-issuer : word16 (from f (at + 16)) ≡ decode f .offer i .issuer
+  unfolding decode readOffer
+  offer-issuer = word-shift f at 16 ∙ ap (λ (p : ℕ). word16 (after (from f p) 16)) e
+
+  -- The number of its name, by the issuer and the code that are read.
+  pub offer-name : (s : ℕ) → s ≡ word16 (from f (at + 16)) → nameNumber (nameOf s (readCode (from f (at + 5)))) ≡ nameNumber (offerName (decode f) i)
+  offer-name s q = ap₂ (λ (x : ℕ) (c : Code). nameNumber (nameOf x c)) (q ∙ offer-issuer) offer-code
 
 -- The first tally block is the one that the header says.
 tally-at : (f : List ℕ) {h : Head} (i : ℕ) {at : ℕ} → Whole f h → at ≡ recordAt (talliesAt h) i → at ≡ recordAt (talliesAt (decode f .head)) i
@@ -73,6 +87,14 @@ module _ (f : List ℕ) {h : Head} (i : ℕ) {at : ℕ} (w : Whole f h) (e : at 
         where
           here : (k : ℕ) → at + 14 + k ≡ at + (14 + k)
           here k = omega arith
+
+  pub tally-issuer : word16 (from f (at + 18)) ≡ decode f .tally i .issuer
+  unfolding decode readTally
+  tally-issuer = word-shift f at 18 ∙ ap (λ (p : ℕ). word16 (after (from f p) 18)) (tally-at f i w e)
+
+  -- The number of the name that it has for its offer.
+  pub tally-name : (s : ℕ) → s ≡ word16 (from f (at + 18)) → nameNumber (nameOf s (readCode (from f (at + 3)))) ≡ nameNumber (tallyName (decode f) i)
+  tally-name s q = ap₂ (λ (x : ℕ) (c : Code). nameNumber (nameOf x c)) (q ∙ tally-issuer) tally-code
 
 -- The owner of grocer i.
 pub grocer-owner : (f : List ℕ) {h : Head} (i : ℕ) {at : ℕ} → Whole f h → at ≡ 512 * grocersAt h + 4 → getD f (at + i) 0 ≡ decode f .grocerOwner i

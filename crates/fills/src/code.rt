@@ -1,12 +1,13 @@
-// Codes in the file: their numbers, and their bytes.
+// Codes and names in the file: their numbers, and their bytes.
 ghost use mathlib.Core.Path.{_≡_};
 ghost use mathlib.Core.Bool.{true};
 ghost use Prim.Native.Nat.{_+_, _-_, _≤_};
 ghost use lib.ListN.{length};
 ghost use Rattle.format.specs.Bytes.{from};
-ghost use Rattle.format.specs.Codes.{readCode, isCode, codeNumber};
+ghost use Rattle.format.specs.Codes.{readCode, isCode, codeNumber, nameOf, nameNumber};
 ghost use Rattle.fills.specs.Fills.{Copied};
 use blocks::bytes::size;
+use blocks::codes::CODE_BYTES;
 
 // The digit that a byte writes.
 fn digit(x: u8) -> u64
@@ -32,13 +33,23 @@ pub fn number_at(f: &[u8], at: usize) -> u64
     value
 }
 
+// The number of the name of this issuer and of the code whose eleven bytes stand at `at`.
+pub fn name_at(f: &[u8], at: usize, issuer: usize) -> u64
+    requires { ⌜ (at + 11 ≤ length (now f)) × (issuer ≤ 65535) ⌝ }
+    requires { ⌜ isCode (readCode (from (now f) at)) ≡ true ⌝ }
+    ensures { λ r. ⌜ r ≡ nameNumber (nameOf issuer (readCode (from (now (f .entry)) at))) ⌝ }
+{
+    let number = number_at(f, at);
+    (issuer as u64) * 10_000_000_000 + number
+}
+
 // Copies the eleven bytes of a code from the file to a table.
 pub fn copy_code(f: &[u8], at: usize, code: &mut [u8], to: usize)
     requires { ⌜ (at + 11 ≤ length (now f)) × (to + 11 ≤ length (now code)) ⌝ }
     ensures { λ _. ⌜ Copied (from (now (f .entry)) at) to 11 (now (code .entry)) (now (code .exit)) ⌝ }
 {
     let mut k: usize = 0;
-    while k < 11 {
+    while k < CODE_BYTES {
         code[to + k] = f[at + k];
         k += 1;
     }

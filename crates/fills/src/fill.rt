@@ -1,20 +1,23 @@
 // The tables, each filled from the records of a file; words past those are not touched.
 ghost use mathlib.Core.Path.{_≡_};
 ghost use mathlib.Core.Bool.{true};
-ghost use Prim.Native.Nat.{ℕ, _≤_, _<_, _*_};
+ghost use Prim.Native.Nat.{ℕ, _+_, _≤_, _<_, _*_};
 ghost use lib.ListN.{length, getD};
 ghost use Rattle.laws.specs.Tables.{overwrite};
-ghost use Rattle.format.specs.Codes.{isCode, codeNumber};
-ghost use Rattle.format.specs.File.{decode};
-ghost use Rattle.format.specs.Tables.{offerTables, LongOffers, storeCodes};
+ghost use Rattle.format.specs.Codes.{isCode, nameNumber};
+ghost use Rattle.format.specs.Bytes.{from, after, word16};
+ghost use Rattle.format.specs.Job.{offerName};
+ghost use Rattle.format.specs.File.{recordAt, decode};
+ghost use Rattle.format.specs.Tables.{storeCodes};
 ghost use Rattle.blocks.specs.Due.{asHead};
 ghost use Rattle.fills.specs.Fills.{Whole};
 use crate::code::copy_code;
-use crate::code::number_at;
+use crate::code::name_at;
 use crate::place::record_at;
 use blocks::bytes::signed;
 use blocks::bytes::word16;
 use blocks::bytes::word32;
+use blocks::codes::CODE_BYTES;
 use blocks::plan::Head;
 use blocks::plan::grocers_at;
 use blocks::plan::tallies_at;
@@ -34,7 +37,7 @@ pub fn narrow(x: usize) -> u16
     x as u16
 }
 
-// The offers' tables.
+// The offers' tables up to the code.
 pub fn fill_offers(
     f: &[u8],
     head: Head,
@@ -43,7 +46,7 @@ pub fn fill_offers(
     offer_code: &mut [u8],
 )
     requires { ⌜ Whole (now f) (asHead head) ⌝ }
-    requires { ⌜ LongOffers (head .offers) (offerTables (now price) (now «offer_owner») (now «offer_code»)) ⌝ }
+    requires { ⌜ (head .offers ≤ length (now price)) × (head .offers ≤ length (now «offer_owner»)) × (head .offers * 11 ≤ length (now «offer_code»)) ⌝ }
     ensures { λ _. ⌜ now (price .exit) ≡ overwrite (head .offers) (λ i. decode (now (f .entry)) .offer i .price) (now (price .entry)) ⌝ }
     ensures { λ _. ⌜ now («offer_owner» .exit) ≡ overwrite (head .offers) (λ i. decode (now (f .entry)) .offer i .owner) (now («offer_owner» .entry)) ⌝ }
     ensures { λ _. ⌜ now («offer_code» .exit) ≡ storeCodes (head .offers) (λ i. decode (now (f .entry)) .offer i .code) (now («offer_code» .entry)) ⌝ }
@@ -54,21 +57,22 @@ pub fn fill_offers(
         let at = record_at(1, i);
         price[i] = word32(f, at);
         offer_owner[i] = wide(f[at + 4]);
-        copy_code(f, at + 5, offer_code, i * 11);
+        copy_code(f, at + 5, offer_code, i * CODE_BYTES);
         i += 1;
     }
 }
 
-// The numbers of the offers' codes.
-pub fn fill_numbers(f: &[u8], head: Head, numbers: &mut [u64])
+// The numbers of the offers' names.
+pub fn fill_names(f: &[u8], head: Head, numbers: &mut [u64])
     requires { ⌜ Whole (now f) (asHead head) × (head .offers ≤ length (now numbers)) ⌝ }
     requires { ⌜ ((i : ℕ) → i < head .offers → isCode (decode (now f) .offer i .code) ≡ true) ⌝ }
-    ensures { λ _. ⌜ now (numbers .exit) ≡ overwrite (head .offers) (λ i. codeNumber (decode (now (f .entry)) .offer i .code)) (now (numbers .entry)) ⌝ }
+    ensures { λ _. ⌜ now (numbers .exit) ≡ overwrite (head .offers) (λ i. nameNumber (offerName (decode (now (f .entry))) i)) (now (numbers .entry)) ⌝ }
 {
     let n = head.offers;
     let mut i: usize = 0;
     while i < n {
-        numbers[i] = number_at(f, record_at(1, i) + 5);
+        let at = record_at(1, i);
+        numbers[i] = name_at(f, at + 5, word16(f, at + 16));
         i += 1;
     }
 }
@@ -109,7 +113,7 @@ pub fn fill_tallies(
         let at = record_at(first, i);
         tally_grocer[i] = narrow(word16(f, at));
         tally_box[i] = wide(f[at + 2]);
-        copy_code(f, at + 3, tally_code, i * 11);
+        copy_code(f, at + 3, tally_code, i * CODE_BYTES);
         i += 1;
     }
 }
@@ -134,6 +138,19 @@ pub fn fill_tally_ends(
         let v = signed(word32(f, record_at(first, i) + 14));
         tally_count[i] = v;
         tally_offer[i] = places[i];
+        i += 1;
+    }
+}
+
+// A table of 16-bit words: those at byte `at` of the first n records of 24 bytes whose first block is `first`.
+pub fn fill_words(f: &[u8], first: usize, n: usize, at: usize, words: &mut [u16])
+    requires { ⌜ (first ≤ 100) × (n ≤ 1000) × (at ≤ 22) × (n ≤ length (now words)) ⌝ }
+    requires { ⌜ ((i : ℕ) → i < n → recordAt first i + 24 ≤ length (now f)) ⌝ }
+    ensures { λ _. ⌜ now (words .exit) ≡ overwrite n (λ i. word16 (after (from (now (f .entry)) (recordAt first i)) at)) (now (words .entry)) ⌝ }
+{
+    let mut i: usize = 0;
+    while i < n {
+        words[i] = narrow(word16(f, record_at(first, i) + at));
         i += 1;
     }
 }

@@ -1,7 +1,7 @@
--- Two codes name one offer where they agree after leading zeros are dropped, and only there. Assumes nothing.
+-- Two names are one offer where their issuers are equal and their codes agree after leading zeros are dropped, and only there. Assumes nothing.
 use mathlib.Core.Path.{_≡_, refl, sym, _∙_, ap}
 use mathlib.Core.Logic.{_↔_}
-use mathlib.Core.Bool.{true, cond, _&&_}
+use mathlib.Core.Bool.{Bool, true, cond, _&&_}
 use mathlib.Core.List.{List, [], _∷_, _++_}
 use Prim.Native.Nat.{ℕ, zero, suc, _+_, _-_, _*_, _^_, _≤_, _<_}
 use native.Mathlib.Omega.{arith}
@@ -11,10 +11,10 @@ use lib.Dec.{leb, eqb, lit<}
 use borrow.Author.Tests.{lt-ltb, le-ltb, leb-true, eqb-true, eq-eqb}
 use Rattle.laws.specs.Below.{all}
 use Rattle.laws.specs.Tables.{tabulate}
-use Rattle.laws.proofs.Bools.{split, and-l, and-r}
+use Rattle.laws.proofs.Bools.{split, and-l, and-r, and-true, same-test}
 use Rattle.laws.proofs.Below.{all-at, all-cong}
 use Rattle.laws.proofs.Tables.{tabulate-snoc}
-use Rattle.format.specs.Codes.{Code, isPlace, isCode, value, codeNumber, written, dropZeros, sameOffer}
+use Rattle.format.specs.Codes.{Code, Name, isPlace, isCode, value, codeNumber, written, dropZeros, sameOffer, nameNumber}
 
 -- The first n bytes are ASCII digits.
 abbrev pub Digits : (ℕ → ℕ) → ℕ → Type 0
@@ -169,20 +169,59 @@ drop-written g (suc n) l = drop-is (g 0) (tabulate n (λ i. g (suc i)))
 count-drop : (g : ℕ → ℕ) (n : ℕ) → 1 ≤ n → count 0 (dropZeros (tabulate n g)) ≡ value n g
 count-drop g n l = ap (count 0) (drop-written g n l) ∙ count-zero _ ∙ count-strip _ ∙ count-written g n
 
--- Two codes name one offer exactly when they agree once leading zeros are dropped.
-pub same-offer : (c d : Code) → isCode c ≡ true → isCode d ≡ true → (sameOffer c d ≡ true) ↔ (dropZeros (written c) ≡ dropZeros (written d))
-unfolding sameOffer codeNumber written
-same-offer c d hc hd =
+-- Two codes write one number exactly when they agree once leading zeros are dropped.
+same-number : (c d : Code) → isCode c ≡ true → isCode d ≡ true → (codeNumber c ≡ codeNumber d) ↔ (dropZeros (written c) ≡ dropZeros (written d))
+unfolding codeNumber written
+same-number c d hc hd =
     let p = code-is c hc in
     let q = code-is d hd in (
-      λ e. drop-written _ _ (p .some) ∙ ap orZero (same-strip _ _ _ _ (p .digits) (q .digits) (eqb-true _ _ e)) ∙ sym (drop-written _ _ (q .some)),
-      λ e. eq-eqb _ _ (sym (count-drop _ _ (p .some)) ∙ ap (count 0) e ∙ count-drop _ _ (q .some)),
+      λ e. drop-written _ _ (p .some) ∙ ap orZero (same-strip _ _ _ _ (p .digits) (q .digits) e) ∙ sym (drop-written _ _ (q .some)),
+      λ e. sym (count-drop _ _ (p .some)) ∙ ap (count 0) e ∙ count-drop _ _ (q .some),
     )
 
--- Two codes that name one offer as a third does name one offer.
-pub same-trans : (a b c : Code) → sameOffer a c ≡ true → sameOffer b c ≡ true → sameOffer a b ≡ true
+-- What two names that are one offer have in common: the issuer, and the number.
+pub same-parts : (a b : Name) → sameOffer a b ≡ true → (a .issuer ≡ b .issuer) × (codeNumber (a .code) ≡ codeNumber (b .code))
 unfolding sameOffer
-same-trans a b c p q = eq-eqb (codeNumber a) (codeNumber b) (eqb-true (codeNumber a) (codeNumber c) p ∙ sym (eqb-true (codeNumber b) (codeNumber c) q))
+same-parts a b e =
+    let i = eqb (a .issuer) (b .issuer) in
+    let n = eqb (codeNumber (a .code)) (codeNumber (b .code)) in
+    (eqb-true _ _ (and-l i n e), eqb-true _ _ (and-r i n e))
+
+-- And the other way round.
+pub parts-same : (a b : Name) → a .issuer ≡ b .issuer → codeNumber (a .code) ≡ codeNumber (b .code) → sameOffer a b ≡ true
+unfolding sameOffer
+parts-same a b p q = and-true (eq-eqb _ _ p) (eq-eqb _ _ q)
+
+-- Two names are one offer exactly when their issuers are equal and their codes agree once leading zeros are dropped.
+pub same-offer : (a b : Name) → isCode (a .code) ≡ true → isCode (b .code) ≡ true →
+    (sameOffer a b ≡ true) ↔ ((a .issuer ≡ b .issuer) × (dropZeros (written (a .code)) ≡ dropZeros (written (b .code))))
+same-offer a b ha hb =
+    let n = same-number (a .code) (b .code) ha hb in (
+      λ e. (same-parts a b e .0, n .0 (same-parts a b e .1)),
+      λ e. parts-same a b (e .0) (n .1 (e .1)),
+    )
+
+-- Two names that are one offer with a third are one offer.
+pub same-trans : (a b c : Name) → sameOffer a c ≡ true → sameOffer b c ≡ true → sameOffer a b ≡ true
+same-trans a b c p q =
+    let x = same-parts a c p in
+    let y = same-parts b c q in
+    parts-same a b (x .0 ∙ sym (y .0)) (x .1 ∙ sym (y .1))
+
+-- A code's number has at most ten digits.
+pub number-below : (c : Code) → isCode c ≡ true → codeNumber c < 10_000_000_000
+unfolding codeNumber
+number-below c h = let i = code-is c h in value-bound (c .digit) (c .size) 10 (i .digits) (i .few)
+
+-- Two names are one offer exactly where their numbers are equal.
+pub same-name : (a b : Name) → isCode (a .code) ≡ true → isCode (b .code) ≡ true → sameOffer a b ≡ eqb (nameNumber a) (nameNumber b)
+unfolding nameNumber
+same-name a b ha hb =
+    let n = number-below (a .code) ha in
+    let k = number-below (b .code) hb in
+    same-test (sameOffer a b) (eqb (nameNumber a) (nameNumber b))
+    (λ e. let p = same-parts a b e in eq-eqb (nameNumber a) (nameNumber b) (omega (arith, p .0, p .1)))
+    (λ e. let z = eqb-true (nameNumber a) (nameNumber b) e in parts-same a b (omega arith) (omega arith))
 
 -- Codes of one size and one field name the same offers.
 pub number-cong : (c d : Code) → isCode d ≡ true → c .size ≡ d .size → ((k : ℕ) → k < 10 → c .digit k ≡ d .digit k) → codeNumber c ≡ codeNumber d

@@ -69,6 +69,7 @@ module _ (f f′ : List ℕ) (k : ℕ) (k₀ : 0 < k) (same : (p : ℕ) → p < 
         price = rw (at 0 (omega arith), at 1 (omega arith), at 2 (omega arith), at 3 (omega arith));
         owner = at 4 (omega arith);
         code = record { size = at 5 (omega arith); digit = λ d l. at (5 + (1 + d)) (omega arith) };
+        issuer = rw (at 16 (omega arith), at 17 (omega arith));
       }
     where
       at : (c : ℕ) → c < 24 → from f′ (recordAt offersAt i) c ≡ from f (recordAt offersAt i) c
@@ -83,6 +84,7 @@ module _ (f f′ : List ℕ) (k : ℕ) (k₀ : 0 < k) (same : (p : ℕ) → p < 
         box = at 2 (omega arith);
         code = record { size = at 3 (omega arith); digit = λ d l. at (3 + (1 + d)) (omega arith) };
         count = rw (at 14 (omega arith), at 15 (omega arith), at 16 (omega arith), at 17 (omega arith));
+        issuer = rw (at 18 (omega arith), at 19 (omega arith));
       })
     where
       b : ℕ

@@ -22,11 +22,11 @@ code-bytes a b s = ap₂ _∷_ (s .size) (tabulate-cong 10 (a .digit) (b .digit)
 
 offer-bytes : (a b : Offer) → OfferWords a b → offerBytes a ≡ offerBytes b
 unfolding offerBytes
-offer-bytes a b s = rw (s .price, s .owner, code-bytes (a .code) (b .code) (s .code))
+offer-bytes a b s = rw (s .price, s .owner, s .issuer, code-bytes (a .code) (b .code) (s .code))
 
 tally-bytes : (a b : Tally) → TallyWords a b → tallyBytes a ≡ tallyBytes b
 unfolding tallyBytes
-tally-bytes a b s = rw (s .grocer, s .box, s .count, code-bytes (a .code) (b .code) (s .code))
+tally-bytes a b s = rw (s .grocer, s .box, s .count, s .issuer, code-bytes (a .code) (b .code) (s .code))
 
 module _ (a b : FileJob) (s : SameWords a b) where
   record-bytes : (z : BlockKind) (r : ℕ) → r < records (b .head) z → recordBytes a z r ≡ recordBytes b z r

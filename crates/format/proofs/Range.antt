@@ -13,7 +13,7 @@ use Rattle.laws.proofs.Bools.{split, clash, or-off}
 use Rattle.laws.proofs.Below.{any-at, any-none, find-passes, find-none, any-false}
 use Rattle.laws.proofs.Checks.{none-of, unmet, none-met}
 use Rattle.format.specs.Codes.{isCode, sameOffer}
-use Rattle.format.specs.Job.{Head, FileJob, Offer, Tally, badSizes, badOffer, badOwner, badTally, badRecords, names, placeOf, shared, unnamed}
+use Rattle.format.specs.Job.{Head, FileJob, Offer, Tally, badSizes, badOffer, badOwner, badTally, badRecords, offerName, tallyName, names, placeOf, shared, unnamed}
 use Rattle.format.specs.Refusals.{jobRefusal}
 use Rattle.format.proofs.Codes.{same-trans}
 
@@ -46,9 +46,9 @@ pub record InRange (j : FileJob) : Type 0 where
   pub offer : (i : ℕ) → i < j .head .offers → OfferIn (j .head) (j .offer i)
   pub grocerOwner : (i : ℕ) → i < j .head .grocers → j .grocerOwner i < j .head .boxes
   pub tally : (t : ℕ) → t < j .head .tallies → TallyIn (j .head) (j .tally t)
-  pub apart : (i k : ℕ) → k < i → i < j .head .offers → sameOffer (j .offer k .code) (j .offer i .code) ≡ false
+  pub apart : (i k : ℕ) → k < i → i < j .head .offers → sameOffer (offerName j k) (offerName j i) ≡ false
   pub place : (t : ℕ) → t < j .head .tallies → placeOf j t < j .head .offers
-  pub named : (t : ℕ) → t < j .head .tallies → sameOffer (j .offer (placeOf j t) .code) (j .tally t .code) ≡ true
+  pub named : (t : ℕ) → t < j .head .tallies → sameOffer (offerName j (placeOf j t)) (tallyName j t) ≡ true
 
 -- What 4 says where it is not met.
 pub sizes-in : (h : Head) → badSizes h ≡ false → SizesIn h
@@ -123,20 +123,20 @@ fine-job j f =
 
 -- ---- the place of a tally's offer
 
--- No two offers share a number.
-pub apart : (j : FileJob) → shared j ≡ false → (i k : ℕ) → k < i → i < j .head .offers → sameOffer (j .offer k .code) (j .offer i .code) ≡ false
+-- No two offers share a number under one issuer.
+pub apart : (j : FileJob) → shared j ≡ false → (i k : ℕ) → k < i → i < j .head .offers → sameOffer (offerName j k) (offerName j i) ≡ false
 unfolding shared
 apart j h i k l m =
-    any-none i (λ k. sameOffer (j .offer k .code) (j .offer i .code)) k l
-    (any-none (j .head .offers) (λ i. any i (λ k. sameOffer (j .offer k .code) (j .offer i .code))) i m h)
+    any-none i (λ k. sameOffer (offerName j k) (offerName j i)) k l
+    (any-none (j .head .offers) (λ i. any i (λ k. sameOffer (offerName j k) (offerName j i))) i m h)
 
 module _ (j : FileJob) (t : ℕ) where
-  -- A code that names an offer has a place below N, and names the offer there.
-  pub named-place : any (j .head .offers) (names j t) ≡ true → (placeOf j t < j .head .offers) × (sameOffer (j .offer (placeOf j t) .code) (j .tally t .code) ≡ true)
+  -- A name that an offer has, has a place below N, and names the offer there.
+  pub named-place : any (j .head .offers) (names j t) ≡ true → (placeOf j t < j .head .offers) × (sameOffer (offerName j (placeOf j t)) (tallyName j t) ≡ true)
   unfolding placeOf names
   named-place h = find-passes (j .head .offers) (names j t) h
 
-  -- A code names no offer exactly where its place is N.
+  -- A tally names no offer exactly where its place is N.
   pub unnamed-place : not (any (j .head .offers) (names j t)) ≡ eqb (placeOf j t) (j .head .offers)
   unfolding placeOf
   unnamed-place =
@@ -144,21 +144,21 @@ module _ (j : FileJob) (t : ℕ) where
       (λ e. let l = find-passes (j .head .offers) (names j t) e .0 in rw e (sym (ne-eqb (placeOf j t) (j .head .offers) (omega arith))))
       (λ e. rw e (sym (eq-eqb (placeOf j t) (j .head .offers) (find-none (j .head .offers) (names j t) e))))
 
-  -- Where no two offers share a number, the offer that the code names is the one at its place.
-  pub only-place : shared j ≡ false → (i : ℕ) → i < j .head .offers → sameOffer (j .offer i .code) (j .tally t .code) ≡ true → placeOf j t ≡ i
+  -- Where no two offers share a name, the offer that a tally names is the one at its place.
+  pub only-place : shared j ≡ false → (i : ℕ) → i < j .head .offers → sameOffer (offerName j i) (tallyName j t) ≡ true → placeOf j t ≡ i
   only-place h i l e =
       elim (ℕ-discrete (placeOf j t) i) [
         | yes q ↦ q
         | no d ↦ elim (decLt (placeOf j t) i) [
-          | yes m ↦ absurd (clash (same-trans _ _ (j .tally t .code) (n .1) e) (apart j h i (placeOf j t) m l))
-          | no m ↦ absurd (clash (same-trans _ _ (j .tally t .code) e (n .1)) (apart j h (placeOf j t) i (omega (arith, m, d)) (n .0)))
+          | yes m ↦ absurd (clash (same-trans _ _ (tallyName j t) (n .1) e) (apart j h i (placeOf j t) m l))
+          | no m ↦ absurd (clash (same-trans _ _ (tallyName j t) e (n .1)) (apart j h (placeOf j t) i (omega (arith, m, d)) (n .0)))
         ]
       ]
     where
       here : any (j .head .offers) (names j t) ≡ true
       here = any-at (j .head .offers) (names j t) i l (unfold names in e)
 
-      n : (placeOf j t < j .head .offers) × (sameOffer (j .offer (placeOf j t) .code) (j .tally t .code) ≡ true)
+      n : (placeOf j t < j .head .offers) × (sameOffer (offerName j (placeOf j t)) (tallyName j t) ≡ true)
       n = named-place here
 
 -- A job that is not refused is in range.

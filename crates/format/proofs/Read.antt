@@ -32,19 +32,22 @@ Bytes g = (k : ℕ) → g k < 256
 -- ---- records: what is read and written again is what stood there
 
 -- An offer's fields.
-pub offer-bytes : (g : ℕ → ℕ) → Bytes g → offerBytes (readOffer g) ≡ tabulate 16 g
+pub offer-bytes : (g : ℕ → ℕ) → Bytes g → offerBytes (readOffer g) ≡ tabulate 18 g
 unfolding offerBytes readOffer codeBytes tabulate
-offer-bytes g b = ap (λ (l : List ℕ). l ++ (g 4 ∷ g 5 ∷ tabulate 10 (after g 6))) (bytes-word32 (g 0) (g 1) (g 2) (g 3) (b 0) (b 1) (b 2))
+offer-bytes g b =
+    ap (λ (l : List ℕ). l ++ (g 4 ∷ g 5 ∷ tabulate 10 (after g 6)) ++ bytes16 (word16 (after g 16))) (bytes-word32 (g 0) (g 1) (g 2) (g 3) (b 0) (b 1) (b 2)) ∙
+    ap (λ (l : List ℕ). (g 0 ∷ g 1 ∷ g 2 ∷ g 3 ∷ []) ++ (g 4 ∷ g 5 ∷ tabulate 10 (after g 6)) ++ l) (bytes-word16 (g 16) (g 17) (b 16))
 
 -- A tally's fields.
-pub tally-bytes : (g : ℕ → ℕ) → Bytes g → tallyBytes (readTally g) ≡ tabulate 18 g
+pub tally-bytes : (g : ℕ → ℕ) → Bytes g → tallyBytes (readTally g) ≡ tabulate 20 g
 unfolding tallyBytes readTally codeBytes tabulate
 tally-bytes g b =
     let v = word32 (after g 14) in
     let z : ofZ w32 (toZ w32 v) ≡ v = ofZ-toZ {w = w32} (record { fits = omega (arith, b 14, b 15, b 16, b 17) }) in
     rw z
-    (ap (λ (l : List ℕ). l ++ (g 2 ∷ g 3 ∷ tabulate 10 (after g 4)) ++ bytes32 v) (bytes-word16 (g 0) (g 1) (b 0)) ∙
-    ap (λ (l : List ℕ). (g 0 ∷ g 1 ∷ []) ++ (g 2 ∷ g 3 ∷ tabulate 10 (after g 4)) ++ l) (bytes-word32 (g 14) (g 15) (g 16) (g 17) (b 14) (b 15) (b 16)))
+    (ap (λ (l : List ℕ). l ++ (g 2 ∷ g 3 ∷ tabulate 10 (after g 4)) ++ bytes32 v ++ bytes16 (word16 (after g 18))) (bytes-word16 (g 0) (g 1) (b 0)) ∙
+    ap (λ (l : List ℕ). (g 0 ∷ g 1 ∷ []) ++ (g 2 ∷ g 3 ∷ tabulate 10 (after g 4)) ++ l ++ bytes16 (word16 (after g 18))) (bytes-word32 (g 14) (g 15) (g 16) (g 17) (b 14) (b 15) (b 16)) ∙
+    ap (λ (l : List ℕ). (g 0 ∷ g 1 ∷ []) ++ (g 2 ∷ g 3 ∷ tabulate 10 (after g 4)) ++ (g 14 ∷ g 15 ∷ g 16 ∷ g 17 ∷ []) ++ l) (bytes-word16 (g 18) (g 19) (b 18)))
 
 sum-bytes : (g : ℕ → ℕ) → Bytes g → bytes16 (word16 (after g 508)) ++ bytes16 (word16 (after g 510)) ≡ tabulate 4 (after g 508)
 unfolding tabulate
@@ -96,11 +99,11 @@ module _ (f : List ℕ) (bytes : (p : ℕ) → getD f p 0 < 256) (mark : getD f 
   field-at : (b : BlockKind) (k s : ℕ) → At (decode f .head) k b → s < 504 → s % recordSize b < fieldSize b → getD (recordBytes (decode f) b (s / recordSize b)) (s % recordSize b) 0 ≡ from f (512 * k) (4 + s)
   unfolding recordBytes decode
   field-at header k s (at-header e) hs h = field-read f _ 10 4 (s % 504) header-bytes h _ (omega arith)
-  field-at (offerBlock b) k s (at-offers _ e _) hs h = field-read f _ 16 (recordAt offersAt (21 * b + s / 24)) (s % 24) (offer-bytes _ (anywhere (recordAt offersAt (21 * b + s / 24)))) h _ (omega arith)
+  field-at (offerBlock b) k s (at-offers _ e _) hs h = field-read f _ 18 (recordAt offersAt (21 * b + s / 24)) (s % 24) (offer-bytes _ (anywhere (recordAt offersAt (21 * b + s / 24)))) h _ (omega arith)
   field-at grocerBlock k s (at-grocers e) hs h =
       let z : s % 1 ≡ 0 = omega arith in
       rw z (ap (λ (p : ℕ). getD f p 0) (omega arith))
-  field-at (tallyBlock b) k s (at-tallies _ e) hs h = field-read f _ 18 (recordAt (talliesAt (decode f .head)) (21 * b + s / 24)) (s % 24)
+  field-at (tallyBlock b) k s (at-tallies _ e) hs h = field-read f _ 20 (recordAt (talliesAt (decode f .head)) (21 * b + s / 24)) (s % 24)
       (tally-bytes _ (anywhere (recordAt (talliesAt (decode f .head)) (21 * b + s / 24)))) h _ (omega arith)
 
   record-read : (b : BlockKind) (k s : ℕ) → At (decode f .head) k b → s < 504 → (spare (decode f .head) b s ≡ true → from f (512 * k) (4 + s) ≡ 0) → recordByte (decode f) b s ≡ from f (512 * k) (4 + s)

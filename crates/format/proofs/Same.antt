@@ -1,13 +1,12 @@
 -- Two jobs with the same words are refused alike. Assumes nothing.
-use mathlib.Core.Path.{_≡_, _∙_, ap, ap₂}
+use mathlib.Core.Path.{_≡_, _∙_, ap}
 use mathlib.Core.Bool.{true, not}
 use Prim.Native.Nat.{ℕ, _<_}
 use native.Mathlib.Omega.{arith}
-use lib.Dec.{eqb}
 use Rattle.laws.specs.Below.{any, find}
 use Rattle.laws.proofs.Below.{any-cong, find-cong}
-use Rattle.format.specs.Codes.{Code, isCode, codeNumber, sameOffer}
-use Rattle.format.specs.Job.{Head, FileJob, Offer, Tally, badOffer, badTally, names, placeOf, shared, unnamed}
+use Rattle.format.specs.Codes.{Code, Name, isCode, codeNumber, sameOffer}
+use Rattle.format.specs.Job.{Head, FileJob, Offer, Tally, badOffer, badTally, offerName, tallyName, names, placeOf, shared, unnamed}
 use Rattle.format.specs.Refusals.{jobRefusal}
 use Rattle.format.proofs.Codes.{code-cong, number-cong}
 use Rattle.format.proofs.Range.{fine, fine-job, offer-in, tally-in}
@@ -22,6 +21,7 @@ pub record OfferWords (a b : Offer) : Type 0 where
   pub price : a .price ≡ b .price
   pub owner : a .owner ≡ b .owner
   pub code : SameCode (a .code) (b .code)
+  pub issuer : a .issuer ≡ b .issuer
 
 -- Two tallies with the same words.
 pub record TallyWords (a b : Tally) : Type 0 where
@@ -29,6 +29,7 @@ pub record TallyWords (a b : Tally) : Type 0 where
   pub box : a .box ≡ b .box
   pub code : SameCode (a .code) (b .code)
   pub count : a .count ≡ b .count
+  pub issuer : a .issuer ≡ b .issuer
 
 -- The same head, and the same words in each table as far as it counts: two jobs that are one.
 pub record SameWords (a b : FileJob) : Type 0 where
@@ -42,6 +43,12 @@ same-code a b s = code-cong a b (s .size) (s .digit)
 
 same-number : (a b : Code) → SameCode a b → isCode b ≡ true → codeNumber a ≡ codeNumber b
 same-number a b s h = number-cong a b h (s .size) (s .digit)
+
+-- Names with the same issuers and the same codes are one offer alike.
+name-cong : (a a′ b b′ : Name) → a .issuer ≡ b .issuer → codeNumber (a .code) ≡ codeNumber (b .code) →
+    a′ .issuer ≡ b′ .issuer → codeNumber (a′ .code) ≡ codeNumber (b′ .code) → sameOffer a a′ ≡ sameOffer b b′
+unfolding sameOffer
+name-cong a a′ b b′ p q p′ q′ = rw (p, q, p′, q′)
 
 -- A record's refusal goes by the head and the record: 6 of an offer,
 pub offer-same : (h : Head) (o p : Offer) → OfferWords o p → badOffer h o ≡ badOffer h p
@@ -61,19 +68,24 @@ module _ (a b : FileJob) (s : SameWords a b) (ok : jobRefusal b ≡ 0) where
   tally-number i h = same-number _ _ (s .tally i h .code) (tally-in (b .head) (b .tally i) (fine b ok .tally i h) .code)
 
   names-same : (t : ℕ) → t < b .head .tallies → (i : ℕ) → i < b .head .offers → names a t i ≡ names b t i
-  unfolding names sameOffer
-  names-same t h i l = ap₂ eqb (offer-number i l) (tally-number t h)
+  unfolding names
+  names-same t h i l =
+      name-cong (offerName a i) (tallyName a t) (offerName b i) (tallyName b t) (s .offer i l .issuer) (offer-number i l) (s .tally t h .issuer) (tally-number t h)
 
   -- Each tally's place is the same.
   pub place-same : (t : ℕ) → t < b .head .tallies → placeOf a t ≡ placeOf b t
   unfolding placeOf
   place-same t h = ap (λ (h : Head). find (h .offers) (names a t)) (s .head) ∙ find-cong (b .head .offers) (names a t) (names b t) (names-same t h)
 
+  offers-same : (k i : ℕ) → k < b .head .offers → i < b .head .offers → sameOffer (offerName a k) (offerName a i) ≡ sameOffer (offerName b k) (offerName b i)
+  offers-same k i p q =
+      name-cong (offerName a k) (offerName a i) (offerName b k) (offerName b i) (s .offer k p .issuer) (offer-number k p) (s .offer i q .issuer) (offer-number i q)
+
   shared-same : shared a ≡ shared b
-  unfolding shared sameOffer
+  unfolding shared
   shared-same =
-      ap (λ (h : Head). any (h .offers) (λ i. any i (λ k. sameOffer (a .offer k .code) (a .offer i .code)))) (s .head)
-      ∙ any-cong (b .head .offers) _ _ (λ i l. any-cong i _ _ (λ k m. ap₂ eqb (offer-number k (omega arith)) (offer-number i l)))
+      ap (λ (h : Head). any (h .offers) (λ i. any i (λ k. sameOffer (offerName a k) (offerName a i)))) (s .head)
+      ∙ any-cong (b .head .offers) _ _ (λ i l. any-cong i _ _ (λ k m. offers-same k i (omega arith) l))
 
   unnamed-same : unnamed a ≡ unnamed b
   unfolding unnamed

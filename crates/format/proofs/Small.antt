@@ -15,7 +15,7 @@ use Rattle.laws.proofs.Bools.{split}
 use Rattle.laws.proofs.Tables.{getD-tabulate, length-tabulate}
 use Rattle.format.specs.Bytes.{bytes16, bytes32}
 use Rattle.format.specs.Codes.{Code, isCode, codeBytes}
-use Rattle.format.specs.Job.{FileJob}
+use Rattle.format.specs.Job.{FileJob, Words16}
 use Rattle.format.specs.Blocks.{BlockKind, header, offerBlock, grocerBlock, tallyBlock, blocks, kindAt, blockKindNumber, records, recordSize, headerBytes, offerBytes, tallyBytes, recordBytes, spare, firstSum, secondSum}
 use Rattle.format.specs.File.{recordByte, bodyByte, blockByte, encode}
 use Rattle.format.specs.Refusals.{jobRefusal}
@@ -79,7 +79,7 @@ small-code : (c : Code) → isCode c ≡ true → Small (codeBytes c)
 unfolding codeBytes
 small-code c h = cons (omega (arith, code-is c h .few)) (small-tabulate 10 (c .digit) (digit-small c h))
 
-module _ (j : FileJob) (ok : jobRefusal j ≡ 0) (cycle : j .head .cycle < 65536) where
+module _ (j : FileJob) (ok : jobRefusal j ≡ 0) (words : Words16 j) where
   range : InRange j
   range = in-range j ok
 
@@ -90,21 +90,27 @@ module _ (j : FileJob) (ok : jobRefusal j ≡ 0) (cycle : j .head .cycle < 65536
       let m = small16 (j .head .grocers) (omega arith) in
       let n = small16 (j .head .offers) (omega arith) in
       let t = small16 (j .head .tallies) (omega arith) in
-      cons (omega arith) (cons (omega arith) (append (append (append m n) t) (small16 (j .head .cycle) cycle)))
+      cons (omega arith) (cons (omega arith) (append (append (append m n) t) (small16 (j .head .cycle) (words .cycle))))
 
   small-record : (b : BlockKind) (r : ℕ) → r < records (j .head) b → Small (recordBytes j b r)
   unfolding recordBytes offerBytes tallyBytes
   small-record header r h = small-header
   small-record (offerBlock b) r h =
       let o = range .offer (21 * b + r) (omega arith) in
-      append (small32 (j .offer (21 * b + r) .price) (omega arith)) (cons (omega (arith, range .sizes .boxes-most)) (small-code _ (o .code)))
+      let i = words .offerIssuer (21 * b + r) (omega arith) in
+      append
+      (append (small32 (j .offer (21 * b + r) .price) (omega arith)) (cons (omega (arith, range .sizes .boxes-most)) (small-code _ (o .code))))
+      (small16 (j .offer (21 * b + r) .issuer) i)
   small-record grocerBlock r h = cons (omega (arith, range .grocerOwner r h, range .sizes .boxes-most)) nil
   small-record (tallyBlock b) r h =
       let t = range .tally (21 * b + r) (omega arith) in
       let s = range .sizes in
+      let i = words .tallyIssuer (21 * b + r) (omega arith) in
       append
+      (append
       (append (small16 (j .tally (21 * b + r) .grocer) (omega arith)) (cons (omega arith) (small-code _ (t .code))))
-      (small32 (ofZ w32 (j .tally (21 * b + r) .count)) (bits-small (j .tally (21 * b + r) .count) (t .count)))
+      (small32 (ofZ w32 (j .tally (21 * b + r) .count)) (bits-small (j .tally (21 * b + r) .count) (t .count))))
+      (small16 (j .tally (21 * b + r) .issuer) i)
 
   record-small : (b : BlockKind) (s : ℕ) → recordByte j b s < 256
   unfolding recordByte
@@ -141,7 +147,7 @@ module _ (j : FileJob) (ok : jobRefusal j ≡ 0) (cycle : j .head .cycle < 65536
       (λ e. rw e (body-small k q h))
       (λ e. rw e (append (small16 (firstSum (bodyByte j k)) (omega arith)) (small16 (secondSum (bodyByte j k)) (omega arith)) .at (q - 508)))
 
-  -- Every byte of a written job's file is below 256, where its cycle is a 16-bit number.
+  -- Every byte of a written job's file is below 256, where its cycle and issuers are 16-bit numbers.
   pub encode-small : (p : ℕ) → getD (encode j) p 0 < 256
   unfolding encode
   encode-small p = small-tabulate (512 * blocks j) _ (λ i l. block-small (i / 512) (i % 512) (omega arith)) .at p

@@ -16,7 +16,7 @@ use Rattle.laws.proofs.Checks.{none-of, unmet}
 use Rattle.laws.proofs.Bools.{or-off}
 use Rattle.format.specs.Bytes.{from}
 use Rattle.format.specs.Codes.{Code, codeBytes, readCode}
-use Rattle.format.specs.Job.{Head, FileJob, Offer, Tally, placeOf}
+use Rattle.format.specs.Job.{Head, FileJob, Offer, Tally, Words16, placeOf}
 use Rattle.format.specs.Blocks.{blockCount}
 use Rattle.format.specs.File.{encode, decode}
 use Rattle.format.specs.Refusals.{fileRefusal, jobRefusal}
@@ -68,7 +68,8 @@ module _ (n : ℕ) (l : OfferTables) where
   -- Offers that were stored are read back.
   offers-stored : (offer : ℕ → Offer) (i : ℕ) → i < n → OfferWords (offerOf (storeOffers n offer l) i) (offer i)
   unfolding storeOffers
-  offers-stored offer i h = record { price = getD-overwrite _ _ _ i 0 h; owner = getD-overwrite _ _ _ i 0 h; code = code-stored _ _ _ i h }
+  offers-stored offer i h =
+      record { price = getD-overwrite _ _ _ i 0 h; owner = getD-overwrite _ _ _ i 0 h; code = code-stored _ _ _ i h; issuer = getD-overwrite _ _ _ i 0 h }
 
   -- Offers with the same words are stored alike.
   offers-same : (p q : ℕ → Offer) → ((i : ℕ) → i < n → OfferWords (p i) (q i)) → storeOffers n p l ≡ storeOffers n q l
@@ -77,12 +78,14 @@ module _ (n : ℕ) (l : OfferTables) where
       let e₀ = overwrite-cong n (λ i. p i .price) (λ i. q i .price) (l .price) (λ i h. w i h .price) in
       let e₁ = overwrite-cong n (λ i. p i .owner) (λ i. q i .owner) (l .owner) (λ i h. w i h .owner) in
       let e₂ = codes-same n (λ i. p i .code) (λ i. q i .code) (l .code) (λ i h. w i h .code) in
-      λ i. record { price = e₀ i; owner = e₁ i; code = e₂ i }
+      let e₃ = overwrite-cong n (λ i. p i .issuer) (λ i. q i .issuer) (l .issuer) (λ i h. w i h .issuer) in
+      λ i. record { price = e₀ i; owner = e₁ i; code = e₂ i; issuer = e₃ i }
 
   -- Their tables are long enough for them,
   offers-long : (offer : ℕ → Offer) → LongOffers n (storeOffers n offer l)
   unfolding storeOffers storeCodes recell
-  offers-long offer = record { price = long-overwrite _ _ (l .price); owner = long-overwrite _ _ (l .owner); code = long-overwrite _ _ (l .code) }
+  offers-long offer =
+      record { price = long-overwrite _ _ (l .price); owner = long-overwrite _ _ (l .owner); code = long-overwrite _ _ (l .code); issuer = long-overwrite _ _ (l .issuer) }
 
   -- and stored where they were read, they change no word.
   offers-own : LongOffers n l → storeOffers n (offerOf l) l ≡ l
@@ -91,26 +94,33 @@ module _ (n : ℕ) (l : OfferTables) where
       let e₀ = overwrite-same n (λ i. getD (l .price) i 0) (l .price) 0 (h .price) (λ i q. refl) in
       let e₁ = overwrite-same n (λ i. getD (l .owner) i 0) (l .owner) 0 (h .owner) (λ i q. refl) in
       let e₂ = codes-own n (l .code) (h .code) in
-      λ i. record { price = e₀ i; owner = e₁ i; code = e₂ i }
+      let e₃ = overwrite-same n (λ i. getD (l .issuer) i 0) (l .issuer) 0 (h .issuer) (λ i q. refl) in
+      λ i. record { price = e₀ i; owner = e₁ i; code = e₂ i; issuer = e₃ i }
 
   -- No table of theirs is short,
   long-offers : shortOffers n l ≡ false → LongOffers n l
   unfolding shortOffers
   long-offers e =
-      let r = none-of (ltb (length (l .price)) n ∷ ltb (length (l .owner)) n ∷ ltb (length (l .code)) (n * 11) ∷ []) e in
-      record { price = ltb-false _ _ (r .0); owner = ltb-false _ _ (r .1 .0); code = ltb-false _ _ (r .1 .1 .0) }
+      let r = none-of (ltb (length (l .price)) n ∷ ltb (length (l .owner)) n ∷ ltb (length (l .code)) (n * 11) ∷ ltb (length (l .issuer)) n ∷ []) e in
+      record { price = ltb-false _ _ (r .0); owner = ltb-false _ _ (r .1 .0); code = ltb-false _ _ (r .1 .1 .0); issuer = ltb-false _ _ (r .1 .1 .1 .0) }
 
   -- and the other way round.
   pub enough-offers : LongOffers n l → shortOffers n l ≡ false
   unfolding shortOffers
-  enough-offers h = rw (le-ltb _ _ (h .price), le-ltb _ _ (h .owner), le-ltb _ _ (h .code))
+  enough-offers h = rw (le-ltb _ _ (h .price), le-ltb _ _ (h .owner), le-ltb _ _ (h .code), le-ltb _ _ (h .issuer))
 
 -- The same of tallies.
 module _ (t : ℕ) (l : TallyTables) where
   tallies-stored : (tally : ℕ → Tally) (i : ℕ) → i < t → TallyWords (tallyOf (storeTallies t tally l) i) (tally i)
   unfolding storeTallies
   tallies-stored tally i h =
-      record { grocer = getD-overwrite _ _ _ i 0 h; box = getD-overwrite _ _ _ i 0 h; code = code-stored _ _ _ i h; count = getD-overwrite _ _ _ i (pos 0) h }
+      record {
+        grocer = getD-overwrite _ _ _ i 0 h;
+        box = getD-overwrite _ _ _ i 0 h;
+        code = code-stored _ _ _ i h;
+        count = getD-overwrite _ _ _ i (pos 0) h;
+        issuer = getD-overwrite _ _ _ i 0 h;
+      }
 
   tallies-same : (p q : ℕ → Tally) → ((i : ℕ) → i < t → TallyWords (p i) (q i)) → storeTallies t p l ≡ storeTallies t q l
   unfolding storeTallies
@@ -119,12 +129,19 @@ module _ (t : ℕ) (l : TallyTables) where
       let e₁ = overwrite-cong t (λ i. p i .box) (λ i. q i .box) (l .box) (λ i h. w i h .box) in
       let e₂ = codes-same t (λ i. p i .code) (λ i. q i .code) (l .code) (λ i h. w i h .code) in
       let e₃ = overwrite-cong t (λ i. p i .count) (λ i. q i .count) (l .count) (λ i h. w i h .count) in
-      λ i. record { grocer = e₀ i; box = e₁ i; code = e₂ i; count = e₃ i }
+      let e₄ = overwrite-cong t (λ i. p i .issuer) (λ i. q i .issuer) (l .issuer) (λ i h. w i h .issuer) in
+      λ i. record { grocer = e₀ i; box = e₁ i; code = e₂ i; count = e₃ i; issuer = e₄ i }
 
   tallies-long : (tally : ℕ → Tally) → LongTallies t (storeTallies t tally l)
   unfolding storeTallies storeCodes recell
   tallies-long tally =
-      record { grocer = long-overwrite _ _ (l .grocer); box = long-overwrite _ _ (l .box); code = long-overwrite _ _ (l .code); count = long-overwrite _ _ (l .count) }
+      record {
+        grocer = long-overwrite _ _ (l .grocer);
+        box = long-overwrite _ _ (l .box);
+        code = long-overwrite _ _ (l .code);
+        count = long-overwrite _ _ (l .count);
+        issuer = long-overwrite _ _ (l .issuer);
+      }
 
   tallies-own : LongTallies t l → storeTallies t (tallyOf l) l ≡ l
   unfolding storeTallies
@@ -133,17 +150,25 @@ module _ (t : ℕ) (l : TallyTables) where
       let e₁ = overwrite-same t (λ i. getD (l .box) i 0) (l .box) 0 (h .box) (λ i q. refl) in
       let e₂ = codes-own t (l .code) (h .code) in
       let e₃ = overwrite-same t (λ i. getD (l .count) i (pos 0)) (l .count) (pos 0) (h .count) (λ i q. refl) in
-      λ i. record { grocer = e₀ i; box = e₁ i; code = e₂ i; count = e₃ i }
+      let e₄ = overwrite-same t (λ i. getD (l .issuer) i 0) (l .issuer) 0 (h .issuer) (λ i q. refl) in
+      λ i. record { grocer = e₀ i; box = e₁ i; code = e₂ i; count = e₃ i; issuer = e₄ i }
 
   long-tallies : shortTallies t l ≡ false → LongTallies t l
   unfolding shortTallies
   long-tallies e =
-      let r = none-of (ltb (length (l .grocer)) t ∷ ltb (length (l .box)) t ∷ ltb (length (l .code)) (t * 11) ∷ ltb (length (l .count)) t ∷ []) e in
-      record { grocer = ltb-false _ _ (r .0); box = ltb-false _ _ (r .1 .0); code = ltb-false _ _ (r .1 .1 .0); count = ltb-false _ _ (r .1 .1 .1 .0) }
+      let r =
+      none-of (ltb (length (l .grocer)) t ∷ ltb (length (l .box)) t ∷ ltb (length (l .code)) (t * 11) ∷ ltb (length (l .count)) t ∷ ltb (length (l .issuer)) t ∷ []) e in
+      record {
+        grocer = ltb-false _ _ (r .0);
+        box = ltb-false _ _ (r .1 .0);
+        code = ltb-false _ _ (r .1 .1 .0);
+        count = ltb-false _ _ (r .1 .1 .1 .0);
+        issuer = ltb-false _ _ (r .1 .1 .1 .1 .0);
+      }
 
   pub enough-tallies : LongTallies t l → shortTallies t l ≡ false
   unfolding shortTallies
-  enough-tallies h = rw (le-ltb _ _ (h .grocer), le-ltb _ _ (h .box), le-ltb _ _ (h .code), le-ltb _ _ (h .count))
+  enough-tallies h = rw (le-ltb _ _ (h .grocer), le-ltb _ _ (h .box), le-ltb _ _ (h .code), le-ltb _ _ (h .count), le-ltb _ _ (h .issuer))
 
 module _ (j : FileJob) (l : FileTables) where
   -- The job that tables hold once a job is stored there is that job, digits as written.
@@ -264,8 +289,8 @@ module _ (h : Head) (l : FileTables) (out : List ℕ) (ok : writeRefusal h l out
   unfolding fileJobOf
   buffer-file = ap (λ (x : ℕ). take x (writeResult h l out .out)) (sym (long-is (fileJobOf h l) written-job)) ∙ written-file
 
-  -- and each of its words is a byte, where the cycle is a 16-bit number.
-  pub written-bytes : h .cycle < 65536 → (p : ℕ) → getD (take (512 * blockCount h) (writeResult h l out .out)) p 0 < 256
+  -- and each of its words is a byte, where the cycle and the issuers are 16-bit numbers.
+  pub written-bytes : Words16 (fileJobOf h l) → (p : ℕ) → getD (take (512 * blockCount h) (writeResult h l out .out)) p 0 < 256
   unfolding fileJobOf
   written-bytes c p = rw buffer-file (encode-small (fileJobOf h l) written-job c p)
 

@@ -5,7 +5,7 @@ use mathlib.Core.List.{[], _∷_, _++_}
 use Prim.Native.Nat.{ℕ, _+_, _*_, _-_, _/_, _%_, _≤_, _<_}
 use native.Mathlib.Omega.{arith}
 use lib.Dec.{eqb}
-use lib.ListN.{getD, length, List·getD-append}
+use lib.ListN.{getD, length, length-append, List·getD-append}
 use lib.Seq.{getD-append-add}
 use lib.Arith.{digits-div, digits-mod}
 use mir.Syntax.{w32}
@@ -18,7 +18,7 @@ use Rattle.laws.proofs.Tables.{getD-tabulate, length-tabulate}
 use Rattle.laws.proofs.Checks.{none-met}
 use Rattle.laws.proofs.Below.{any-false}
 use Rattle.format.specs.First.{firstBelow}
-use Rattle.format.specs.Bytes.{from, after, word16, bytes32}
+use Rattle.format.specs.Bytes.{from, after, word16, bytes16, bytes32}
 use Rattle.format.specs.Codes.{codeBytes}
 use Rattle.format.specs.Job.{Head, FileJob, Offer, Tally}
 use Rattle.format.specs.Blocks.{BlockKind, header, offerBlock, grocerBlock, tallyBlock, blockCount, blocks, offersAt, grocersAt, talliesAt, kindAt}
@@ -82,7 +82,7 @@ module _ (j : FileJob) where
   unfolding recordBytes
   header-at c h = ap (λ (p : ℕ). getD (encode j) p 0) (omega arith) ∙ field-at 0 header 0 c (omega arith) (kind-header (j .head)) (omega arith) h (omega arith)
 
-  offer-at : (i : ℕ) → i < j .head .offers → (c : ℕ) → c < 16 → from (encode j) (recordAt offersAt i) c ≡ getD (offerBytes (j .offer i)) c 0
+  offer-at : (i : ℕ) → i < j .head .offers → (c : ℕ) → c < 18 → from (encode j) (recordAt offersAt i) c ≡ getD (offerBytes (j .offer i)) c 0
   unfolding recordBytes
   offer-at i hi c hc =
       let e : 21 * (i / 21) + i % 21 ≡ i = omega arith in
@@ -90,7 +90,7 @@ module _ (j : FileJob) where
       field-at (offersAt + i / 21) (offerBlock (i / 21)) (i % 21) c (omega arith) (kind-offers (j .head) (i / 21) (omega arith)) (omega arith) hc (omega arith) ∙
       ap (λ (n : ℕ). getD (offerBytes (j .offer n)) c 0) e
 
-  tally-at : (i : ℕ) → i < j .head .tallies → (c : ℕ) → c < 18 → from (encode j) (recordAt (talliesAt (j .head)) i) c ≡ getD (tallyBytes (j .tally i)) c 0
+  tally-at : (i : ℕ) → i < j .head .tallies → (c : ℕ) → c < 20 → from (encode j) (recordAt (talliesAt (j .head)) i) c ≡ getD (tallyBytes (j .tally i)) c 0
   unfolding recordBytes
   tally-at i hi c hc =
       let e : 21 * (i / 21) + i % 21 ≡ i = omega arith in
@@ -109,15 +109,19 @@ offer-digit : (o : Offer) (k : ℕ) → k < 10 → getD (offerBytes o) (6 + k) 0
 unfolding offerBytes codeBytes
 offer-digit o k l =
     let v = o .price in
-    getD-append-add (v % 256 ∷ v / 256 % 256 ∷ v / 65536 % 256 ∷ v / 16777216 ∷ o .owner ∷ o .code .size ∷ []) (tabulate 10 (o .code .digit)) k 0 ∙ getD-tabulate 10 (o .code .digit) k 0 l
+    let d = tabulate 10 (o .code .digit) in
+    getD-append-add (v % 256 ∷ v / 256 % 256 ∷ v / 65536 % 256 ∷ v / 16777216 ∷ o .owner ∷ o .code .size ∷ []) (d ++ bytes16 (o .issuer)) k 0 ∙
+    List·getD-append d (bytes16 (o .issuer)) 0 k (rw length-tabulate l) ∙ getD-tabulate 10 (o .code .digit) k 0 l
 
 tally-digit : (t : Tally) (k : ℕ) → k < 10 → getD (tallyBytes t) (4 + k) 0 ≡ t .code .digit k
 unfolding tallyBytes codeBytes
 tally-digit t k l =
     let v = t .grocer in
     let d = tabulate 10 (t .code .digit) in
-    getD-append-add (v % 256 ∷ v / 256 ∷ t .box ∷ t .code .size ∷ []) (d ++ bytes32 (ofZ w32 (t .count))) k 0 ∙
-    List·getD-append d (bytes32 (ofZ w32 (t .count))) 0 k (rw length-tabulate l) ∙ getD-tabulate 10 (t .code .digit) k 0 l
+    let b = bytes32 (ofZ w32 (t .count)) in
+    getD-append-add (v % 256 ∷ v / 256 ∷ t .box ∷ t .code .size ∷ []) ((d ++ b) ++ bytes16 (t .issuer)) k 0 ∙
+    List·getD-append (d ++ b) (bytes16 (t .issuer)) 0 k (rw (length-append, length-tabulate) (omega arith)) ∙
+    List·getD-append d b 0 k (rw length-tabulate l) ∙ getD-tabulate 10 (t .code .digit) k 0 l
 
 module _ (j : FileJob) (ok : jobRefusal j ≡ 0) where
   size-grocers : word16 (from (encode j) 6) ≡ j .head .grocers
@@ -137,7 +141,7 @@ module _ (j : FileJob) (ok : jobRefusal j ≡ 0) where
   size-cycle = rw (header-at j 8 (omega arith), header-at j 9 (omega arith)) (word-bytes16 (j .head .cycle))
 
   offer-read : (i : ℕ) → i < j .head .offers → OfferWords (readOffer (from (encode j) (recordAt offersAt i))) (j .offer i)
-  unfolding readOffer offerBytes codeBytes
+  unfolding readOffer offerBytes codeBytes tabulate
   offer-read i h =
       let o = j .offer i in
       let at = offer-at j i h in
@@ -145,6 +149,7 @@ module _ (j : FileJob) (ok : jobRefusal j ≡ 0) where
         price = rw (at 0 (omega arith), at 1 (omega arith), at 2 (omega arith), at 3 (omega arith)) (word-bytes32 (o .price));
         owner = at 4 (omega arith);
         code = record { size = at 5 (omega arith); digit = λ k l. ap (from (encode j) (recordAt offersAt i)) (omega arith) ∙ at (6 + k) (omega arith) ∙ offer-digit o k l };
+        issuer = rw (at 16 (omega arith), at 17 (omega arith)) (word-bytes16 (o .issuer));
       }
 
   tally-read : (i : ℕ) → i < j .head .tallies → TallyWords (readTally (from (encode j) (recordAt (talliesAt (j .head)) i))) (j .tally i)
@@ -159,6 +164,7 @@ module _ (j : FileJob) (ok : jobRefusal j ≡ 0) where
         count =
             rw (at 14 (omega arith), at 15 (omega arith), at 16 (omega arith), at 17 (omega arith), word-bytes32 (ofZ w32 (t .count)))
             (read32-abs (t .count) (let b = in-range j ok .tally i h .count in omega arith));
+        issuer = rw (at 18 (omega arith), at 19 (omega arith)) (word-bytes16 (t .issuer));
       }
 
   head-read : readHead (encode j) ≡ j .head

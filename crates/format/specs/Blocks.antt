@@ -73,21 +73,21 @@ recordSize (tallyBlock b) = 24
 -- The bytes of a record that its fields take, from its first byte on.
 abbrev pub fieldSize : BlockKind → ℕ
 fieldSize header = 10
-fieldSize (offerBlock b) = 16
+fieldSize (offerBlock b) = 18
 fieldSize grocerBlock = 1
-fieldSize (tallyBlock b) = 18
+fieldSize (tallyBlock b) = 20
 
 -- "byte 4 K, byte 5 always 1, bytes 6–7 M, 8–9 N, 10–11 T"; "Header bytes 12–13 now hold the settlement cycle" (02 §1).
 unfoldable pub headerBytes : Head → List ℕ
 headerBytes h = h .boxes ∷ 1 ∷ bytes16 (h .grocers) ++ bytes16 (h .offers) ++ bytes16 (h .tallies) ++ bytes16 (h .cycle)
 
--- "Offer: 0–3 price, 4 owner, 5 digit count, 6–15 digits."
+-- "Offer: 0–3 price, 4 owner, 5 digit count, 6–15 digits"; "Offer bytes 16–17 and tally bytes 18–19 hold a 16-bit issuer" (02 §2).
 unfoldable pub offerBytes : Offer → List ℕ
-offerBytes o = bytes32 (o .price) ++ o .owner ∷ codeBytes (o .code)
+offerBytes o = bytes32 (o .price) ++ o .owner ∷ codeBytes (o .code) ++ bytes16 (o .issuer)
 
--- "Tally: 0–1 grocer, 2 box, 3 digit count, 4–13 digits, 14–17 count, signed 32-bit two's complement."
+-- "Tally: 0–1 grocer, 2 box, 3 digit count, 4–13 digits, 14–17 count, signed 32-bit two's complement"; 18–19 issuer.
 unfoldable pub tallyBytes : Tally → List ℕ
-tallyBytes t = bytes16 (t .grocer) ++ t .box ∷ codeBytes (t .code) ++ bytes32 (ofZ w32 (t .count))
+tallyBytes t = bytes16 (t .grocer) ++ t .box ∷ codeBytes (t .code) ++ bytes32 (ofZ w32 (t .count)) ++ bytes16 (t .issuer)
 
 -- The fields of record r of a block; "Grocer: owner."
 unfoldable pub recordBytes : FileJob → BlockKind → ℕ → List ℕ

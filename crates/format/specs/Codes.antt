@@ -1,4 +1,4 @@
--- Offer codes: "A code has 1 to 10 ASCII digits."
+-- Offer codes and names: "A code has 1 to 10 ASCII digits", and "the clearing agreement now names offers by issuer and number" (02 §2).
 use Prim.Native.Nat.{ℕ, zero, suc, _+_, _-_, _*_}
 use mathlib.Core.Bool.{Bool, cond, _&&_}
 use mathlib.Core.List.{List, [], _∷_}
@@ -39,9 +39,22 @@ dropZeros [] = []
 dropZeros (d ∷ []) = d ∷ []
 dropZeros (d ∷ e ∷ ds) = cond (eqb d 48) (dropZeros (e ∷ ds)) (d ∷ e ∷ ds)
 
--- These two codes name one offer: every look-up goes through this definition.
-unfoldable pub sameOffer : Code → Code → Bool
-sameOffer c d = eqb (codeNumber c) (codeNumber d)
+-- What names an offer: its issuer, "0 for old offers", and its code.
+pub record Name : Type 0 where
+  pub issuer : ℕ
+  pub code : Code
+
+-- The same, of an issuer and a code.
+abbrev pub nameOf : ℕ → Code → Name
+nameOf s c = record { issuer = s; code = c }
+
+-- "Two codes name one offer when issuers are equal and the numbers agree without leading zeros": every look-up goes through this definition.
+unfoldable pub sameOffer : Name → Name → Bool
+sameOffer a b = eqb (a .issuer) (b .issuer) && eqb (codeNumber (a .code)) (codeNumber (b .code))
+
+-- The number of a name, by which the index sorts: the issuer in front of ten digits.
+unfoldable pub nameNumber : Name → ℕ
+nameNumber a = a .issuer * 10_000_000_000 + codeNumber (a .code)
 
 -- A code in eleven bytes, in the file as in a table: the digit count, then the field of ten.
 unfoldable pub codeBytes : Code → List ℕ

@@ -33,11 +33,18 @@ encode j = tabulate (512 * blocks j) (λ p. blockByte (bodyByte j (p / 512)) (p 
 
 -- The offer that a record's bytes say: offerBytes the other way round.
 unfoldable pub readOffer : (ℕ → ℕ) → Offer
-readOffer g = record { price = word32 g; owner = g 4; code = readCode (after g 5) }
+readOffer g = record { price = word32 g; owner = g 4; code = readCode (after g 5); issuer = word16 (after g 16) }
 
 -- The tally that a record's bytes say: tallyBytes the other way round.
 unfoldable pub readTally : (ℕ → ℕ) → Tally
-readTally g = record { grocer = word16 g; box = g 2; code = readCode (after g 3); count = toZ w32 (word32 (after g 14)) }
+readTally g =
+    record {
+      grocer = word16 g;
+      box = g 2;
+      code = readCode (after g 3);
+      count = toZ w32 (word32 (after g 14));
+      issuer = word16 (after g 18);
+    }
 
 -- Where record i stands, of the records of 24 bytes whose first block is block k.
 abbrev pub recordAt : ℕ → ℕ → ℕ

@@ -1,26 +1,28 @@
 -- A job as its file says it, and conditions 4, 6, 7 and 8 on it: the same for the reader and the writer.
 use mathlib.Core.Bool.{Bool, not, _||_}
 use mathlib.Core.List.{[], _∷_}
-use Prim.Native.Nat.{ℕ}
+use Prim.Native.Nat.{ℕ, _<_}
 use lib.Dec.{leb, ltb}
 use lib.IntN.{ℤ, natAbs}
 use Rattle.laws.specs.Below.{any, find}
 use Rattle.laws.specs.Checks.{anyOf}
 use Rattle.laws.specs.Limits.{maxBoxes, maxGrocers, maxOffers, maxTallies, maxPrice, maxCount}
-use Rattle.format.specs.Codes.{Code, isCode, sameOffer}
+use Rattle.format.specs.Codes.{Code, Name, nameOf, isCode, sameOffer}
 
--- An offer: its price in tenths of a cent, the box that owns it, and its code.
+-- An offer: its price in tenths of a cent, the box that owns it, its code, and its issuer, any 16-bit number.
 pub record Offer : Type 0 where
   pub price : ℕ
   pub owner : ℕ
   pub code : Code
+  pub issuer : ℕ
 
--- A tally: its grocer, the box that holds it, its offer's code, and its count.
+-- A tally: its grocer, the box that holds it, its offer's code, its count, and its offer's issuer.
 pub record Tally : Type 0 where
   pub grocer : ℕ
   pub box : ℕ
   pub code : Code
   pub count : ℤ
+  pub issuer : ℕ
 
 -- The numbers of the header: boxes K, grocers M, offers N and tallies T, and the settlement cycle, any 16-bit number.
 pub record Head : Type 0 where
@@ -72,18 +74,32 @@ badRecords j =
     any (j .head .grocers) (λ i. badOwner (j .head) (j .grocerOwner i)) ||
     any (j .head .tallies) (λ i. badTally (j .head) (j .tally i))
 
--- The code of tally t names offer i.
-unfoldable pub names : FileJob → ℕ → ℕ → Bool
-names j t i = sameOffer (j .offer i .code) (j .tally t .code)
+-- The name of offer i.
+abbrev pub offerName : FileJob → ℕ → Name
+offerName j i = nameOf (j .offer i .issuer) (j .offer i .code)
 
--- The place of tally t's offer, or N where its code names none.
+-- The name that tally t has for its offer.
+abbrev pub tallyName : FileJob → ℕ → Name
+tallyName j t = nameOf (j .tally t .issuer) (j .tally t .code)
+
+-- Tally t names offer i.
+unfoldable pub names : FileJob → ℕ → ℕ → Bool
+names j t i = sameOffer (offerName j i) (tallyName j t)
+
+-- The place of tally t's offer, or N where it names none.
 unfoldable pub placeOf : FileJob → ℕ → ℕ
 placeOf j t = find (j .head .offers) (names j t)
 
--- 7: "two offers share a number".
+-- 7: "two offers share a number", under one issuer.
 unfoldable pub shared : FileJob → Bool
-shared j = any (j .head .offers) (λ i. any i (λ k. sameOffer (j .offer k .code) (j .offer i .code)))
+shared j = any (j .head .offers) (λ i. any i (λ k. sameOffer (offerName j k) (offerName j i)))
 
--- 8: "a tally's code names no offer".
+-- 8: "a tally's code names no offer", under its issuer.
 unfoldable pub unnamed : FileJob → Bool
 unnamed j = any (j .head .tallies) (λ t. not (any (j .head .offers) (names j t)))
+
+-- The words of a job that may be any 16 bits are 16 bits: the cycle and the issuers.
+pub record Words16 (j : FileJob) : Type 0 where
+  pub cycle : j .head .cycle < 65536
+  pub offerIssuer : (i : ℕ) → i < j .head .offers → j .offer i .issuer < 65536
+  pub tallyIssuer : (t : ℕ) → t < j .head .tallies → j .tally t .issuer < 65536

@@ -8,3 +8,4 @@ pub mod Blocks
 pub mod File
 pub mod Refusals
 pub mod Tables
+pub mod Lent

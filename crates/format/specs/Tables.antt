@@ -9,7 +9,7 @@ use Rattle.laws.specs.Checks.{anyOf, firstMet}
 use Rattle.laws.specs.Tables.{overwrite, recell}
 use Rattle.format.specs.First.{firstOf}
 use Rattle.format.specs.Bytes.{from}
-use Rattle.format.specs.Codes.{Code, readCode, codeBytes}
+use Rattle.format.specs.Codes.{Code, Name, nameOf, readCode, codeBytes}
 use Rattle.laws.specs.Limits.{maxBoxes, maxGrocers, maxOffers, maxTallies}
 use Rattle.format.specs.Job.{Head, headOf, FileJob, Offer, Tally, placeOf}
 use Rattle.format.specs.Blocks.{blockCount}
@@ -21,6 +21,7 @@ pub record OfferTables : Type 0 where
   pub price : List ℕ
   pub owner : List ℕ
   pub code : List ℕ
+  pub issuer : List ℕ
 
 -- The tallies' tables.
 pub record TallyTables : Type 0 where
@@ -28,6 +29,7 @@ pub record TallyTables : Type 0 where
   pub box : List ℕ
   pub code : List ℕ
   pub count : List ℤ
+  pub issuer : List ℕ
 
 -- The job's tables with its codes.
 pub record FileTables : Type 0 where
@@ -41,16 +43,16 @@ pub record ReaderTables : Type 0 where
   pub tallyOffer : List ℕ
 
 -- The offers' lent lists as tables.
-abbrev pub offerTables : (price owner code : List ℕ) → OfferTables
-offerTables p o c = record { price = p; owner = o; code = c }
+abbrev pub offerTables : (price owner code issuer : List ℕ) → OfferTables
+offerTables p o c i = record { price = p; owner = o; code = c; issuer = i }
 
 -- The tallies' lent lists as tables.
-abbrev pub tallyTables : (grocer box code : List ℕ) → List ℤ → TallyTables
-tallyTables g b c n = record { grocer = g; box = b; code = c; count = n }
+abbrev pub tallyTables : (grocer box code : List ℕ) → (count : List ℤ) → (issuer : List ℕ) → TallyTables
+tallyTables g b c n i = record { grocer = g; box = b; code = c; count = n; issuer = i }
 
 -- The lent lists as tables.
-abbrev pub fileTables : (price offerOwner offerCode grocerOwner tallyGrocer tallyBox tallyCode : List ℕ) → List ℤ → FileTables
-fileTables p o c g tg tb tc n = record { offers = offerTables p o c; grocerOwner = g; tallies = tallyTables tg tb tc n }
+abbrev pub fileTables : OfferTables → (grocerOwner : List ℕ) → TallyTables → FileTables
+fileTables o g t = record { offers = o; grocerOwner = g; tallies = t }
 
 -- The reader's lent lists as tables.
 abbrev pub readerTables : FileTables → (tallyOffer : List ℕ) → ReaderTables
@@ -58,13 +60,16 @@ readerTables j p = record { job = j; tallyOffer = p }
 
 -- 20 of the tables of n offers: one is shorter than they need.
 unfoldable pub shortOffers : ℕ → OfferTables → Bool
-shortOffers n l = anyOf (ltb (length (l .price)) n ∷ ltb (length (l .owner)) n ∷ ltb (length (l .code)) (n * 11) ∷ [])
+shortOffers n l =
+    anyOf (
+    ltb (length (l .price)) n ∷ ltb (length (l .owner)) n ∷ ltb (length (l .code)) (n * 11) ∷ ltb (length (l .issuer)) n ∷ [])
 
 -- 20 of the tables of t tallies.
 unfoldable pub shortTallies : ℕ → TallyTables → Bool
 shortTallies t l =
     anyOf (
-    ltb (length (l .grocer)) t ∷ ltb (length (l .box)) t ∷ ltb (length (l .code)) (t * 11) ∷ ltb (length (l .count)) t ∷ [])
+    ltb (length (l .grocer)) t ∷ ltb (length (l .box)) t ∷ ltb (length (l .code)) (t * 11) ∷
+    ltb (length (l .count)) t ∷ ltb (length (l .issuer)) t ∷ [])
 
 -- 20: a table "shorter than K, M, N and T as given need".
 unfoldable pub shortTables : Head → FileTables → Bool
@@ -77,6 +82,7 @@ pub record LongOffers (n : ℕ) (l : OfferTables) : Type 0 where
   pub price : n ≤ length (l .price)
   pub owner : n ≤ length (l .owner)
   pub code : n * 11 ≤ length (l .code)
+  pub issuer : n ≤ length (l .issuer)
 
 -- Each of the tallies' tables has the words that t tallies need.
 pub record LongTallies (t : ℕ) (l : TallyTables) : Type 0 where
@@ -84,6 +90,7 @@ pub record LongTallies (t : ℕ) (l : TallyTables) : Type 0 where
   pub box : t ≤ length (l .box)
   pub code : t * 11 ≤ length (l .code)
   pub count : t ≤ length (l .count)
+  pub issuer : t ≤ length (l .issuer)
 
 -- Each table has the words that K, M, N and T need.
 pub record Long (h : Head) (l : FileTables) : Type 0 where
@@ -95,14 +102,25 @@ pub record Long (h : Head) (l : FileTables) : Type 0 where
 abbrev pub codeOf : List ℕ → ℕ → Code
 codeOf l i = readCode (from l (i * 11))
 
+-- Name i of a table of codes and one of issuers.
+abbrev pub nameIn : (code issuer : List ℕ) → ℕ → Name
+nameIn c s i = nameOf (getD s i 0) (codeOf c i)
+
 -- Offer i of the offers' tables.
 abbrev pub offerOf : OfferTables → ℕ → Offer
-offerOf l i = record { price = getD (l .price) i 0; owner = getD (l .owner) i 0; code = codeOf (l .code) i }
+offerOf l i =
+    record { price = getD (l .price) i 0; owner = getD (l .owner) i 0; code = codeOf (l .code) i; issuer = getD (l .issuer) i 0 }
 
 -- Tally i of the tallies' tables.
 abbrev pub tallyOf : TallyTables → ℕ → Tally
 tallyOf l i =
-    record { grocer = getD (l .grocer) i 0; box = getD (l .box) i 0; code = codeOf (l .code) i; count = getD (l .count) i (pos 0) }
+    record {
+      grocer = getD (l .grocer) i 0;
+      box = getD (l .box) i 0;
+      code = codeOf (l .code) i;
+      count = getD (l .count) i (pos 0);
+      issuer = getD (l .issuer) i 0;
+    }
 
 -- The job that tables hold, for K, M, N and T as given: digits as written, "and not the place".
 unfoldable pub fileJobOf : Head → FileTables → FileJob
@@ -120,6 +138,7 @@ storeOffers n offer l =
       price = overwrite n (λ i. offer i .price) (l .price);
       owner = overwrite n (λ i. offer i .owner) (l .owner);
       code = storeCodes n (λ i. offer i .code) (l .code);
+      issuer = overwrite n (λ i. offer i .issuer) (l .issuer);
     }
 
 -- t tallies written into their tables.
@@ -130,6 +149,7 @@ storeTallies t tally l =
       box = overwrite t (λ i. tally i .box) (l .box);
       code = storeCodes t (λ i. tally i .code) (l .code);
       count = overwrite t (λ i. tally i .count) (l .count);
+      issuer = overwrite t (λ i. tally i .issuer) (l .issuer);
     }
 
 -- A job written into tables; "Words past the needed length are not touched."

@@ -16,7 +16,7 @@ use Rattle.model.specs.Job.{Job, plainSum}
 use Rattle.model.specs.Words.{ownerWords, messageCount, stepCount}
 use Rattle.model.specs.Tables.{JobTables, jobOf}
 use Rattle.model.specs.Cases.{jobE}
-use Rattle.format.specs.Codes.{isPlace, isCode, value, codeNumber, written, dropZeros, sameOffer}
+use Rattle.format.specs.Codes.{isPlace, isCode, value, codeNumber, written, dropZeros, nameOf, sameOffer}
 use Rattle.format.specs.Job.{Head, FileJob, badSizes, badOffer, badOwner, badTally, badRecords, names, placeOf, shared, unnamed}
 use Rattle.format.specs.Blocks.{firstSum, secondSum}
 use Rattle.format.specs.File.{encode, decode}
@@ -24,7 +24,7 @@ use Rattle.format.specs.Refusals.{jobRefusal, fileRefusal}
 use Rattle.cents.specs.Cents.{nearest, cents}
 use Rattle.guarantees.specs.Demand3.{owedByFile, Holds}
 use Rattle.printing.specs.Printed.{jobRead, digitsOf, decimal, signedDecimal, line, grocerLines, settledText, blankJob, printed}
-use Rattle.guarantees.specs.Cases.{code, alone, fileE, textE, Cases}
+use Rattle.guarantees.specs.Cases.{code, alone, fileE, twoIssuers, textE, Cases}
 use Rattle.model.proofs.Step.{range}
 use Rattle.model.proofs.Quiet.{no-tallies-words, no-tallies-steps}
 use Rattle.format.proofs.Same.{SameWords, place-same}
@@ -42,13 +42,43 @@ zeros-dropped : dropZeros (written (code (48 ∷ 48 ∷ 48 ∷ []))) ≡ 48 ∷ 
 unfolding dropZeros written tabulate
 zeros-dropped = refl
 
-agree : sameOffer (code (48 ∷ 52 ∷ 49 ∷ 50 ∷ [])) (code (52 ∷ 49 ∷ 50 ∷ [])) ≡ true
+agree : sameOffer (nameOf 0 (code (48 ∷ 52 ∷ 49 ∷ 50 ∷ []))) (nameOf 0 (code (52 ∷ 49 ∷ 50 ∷ []))) ≡ true
 unfolding sameOffer codeNumber value
 agree = refl
 
-apart : sameOffer (code (52 ∷ 49 ∷ 50 ∷ 48 ∷ [])) (code (52 ∷ 49 ∷ 50 ∷ [])) ≡ false
+apart : sameOffer (nameOf 0 (code (52 ∷ 49 ∷ 50 ∷ 48 ∷ []))) (nameOf 0 (code (52 ∷ 49 ∷ 50 ∷ []))) ≡ false
 unfolding sameOffer codeNumber value
 apart = refl
+
+issuers-apart : sameOffer (nameOf 0 (code (52 ∷ 49 ∷ 50 ∷ []))) (nameOf 1 (code (52 ∷ 49 ∷ 50 ∷ []))) ≡ false
+unfolding sameOffer codeNumber value
+issuers-apart = refl
+
+issuers-agree : sameOffer (nameOf 1 (code (48 ∷ 52 ∷ 49 ∷ 50 ∷ []))) (nameOf 1 (code (52 ∷ 49 ∷ 50 ∷ []))) ≡ true
+unfolding sameOffer codeNumber value
+issuers-agree = refl
+
+-- ---- 5521 of two issuers
+
+two-written : jobRefusal (twoIssuers 1 2 2) ≡ 0
+unfolding twoIssuers jobRefusal firstMet badSizes badRecords badOffer badOwner badTally isCode isPlace names shared unnamed sameOffer codeNumber value any all
+two-written = refl
+
+two-owed-0 : owedByFile (twoIssuers 1 2 2) 0 ≡ pos 300
+unfolding twoIssuers owedByFile placeOf names sameOffer codeNumber value find any sum only integers
+two-owed-0 = refl
+
+two-owed-1 : owedByFile (twoIssuers 1 2 2) 1 ≡ pos 700
+unfolding twoIssuers owedByFile placeOf names sameOffer codeNumber value find any sum only integers
+two-owed-1 = refl
+
+two-unknown : jobRefusal (twoIssuers 1 2 3) ≡ 8
+unfolding twoIssuers jobRefusal firstMet badSizes badRecords badOffer badOwner badTally isCode isPlace names shared unnamed sameOffer codeNumber value any all
+two-unknown = refl
+
+two-shared : jobRefusal (twoIssuers 2 2 2) ≡ 7
+unfolding twoIssuers jobRefusal firstMet badSizes badRecords badOffer badOwner badTally isCode isPlace names shared unnamed sameOffer codeNumber value any all
+two-shared = refl
 
 ten-digits : isCode (code (48 ∷ 49 ∷ 50 ∷ 51 ∷ 52 ∷ 53 ∷ 54 ∷ 55 ∷ 56 ∷ 57 ∷ [])) ≡ true
 unfolding isCode isPlace all
@@ -213,6 +243,13 @@ cases = record {
   zeros-dropped = zeros-dropped;
   agree = agree;
   apart = apart;
+  issuers-apart = issuers-apart;
+  issuers-agree = issuers-agree;
+  two-accepted = written-accepted (twoIssuers 1 2 2) two-written;
+  two-owed-0 = two-owed-0;
+  two-owed-1 = two-owed-1;
+  two-unknown = two-unknown;
+  two-shared = two-shared;
   ten-digits = ten-digits;
   no-digits = no-digits;
   eleven-digits = eleven-digits;

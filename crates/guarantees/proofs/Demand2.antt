@@ -1,23 +1,26 @@
 -- Demand 2 holds. Assumes nothing.
 use mathlib.Core.Path.{_≡_, refl, sym, ap, ap₂, _∙_}
 use mathlib.Core.List.{List, [], _∷_, _++_}
-use mathlib.Core.Bool.{true, false}
-use Prim.Native.Nat.{ℕ, _*_, _<_, _≤_}
+use mathlib.Core.Bool.{true, false, not}
+use Prim.Native.Nat.{ℕ, _+_, _*_, _<_, _≤_}
 use native.Mathlib.Omega.{arith}
 use lib.Dec.{eqb}
+use borrow.Author.Tests.{eq-eqb}
 use lib.ListN.{take, drop, length, getD, length-append}
 use Rattle.laws.specs.Tables.{overwrite}
+use Rattle.laws.proofs.Below.{any-cong, find-cong}
 use Rattle.laws.proofs.Bools.{no-true}
 use Rattle.model.specs.Steps.{effectOf}
 use Rattle.model.specs.Tables.{JobTables, StateTables, jobOf, view, store}
 use Rattle.model.specs.Step.{Asked, stepOf, accepted, stepAnswer, isAccepted, stepped, stepRefusal, stepTables, moved}
 use Rattle.model.proofs.Refusal.{accepted-zero}
-use Rattle.format.specs.Job.{Head, placeOf}
+use Rattle.format.specs.Job.{Head, FileJob, names, placeOf, shared, unnamed, Words16}
+use Rattle.format.specs.Codes.{Name, sameOffer}
 use Rattle.format.specs.Blocks.{blockCount}
-use Rattle.format.specs.File.{readHead, decode}
+use Rattle.format.specs.File.{readHead, readOffer, readTally, decode}
 use Rattle.format.specs.Refusals.{fileRefusal}
 use Rattle.format.specs.Tables.{ReaderTables, FileTables, ReadAnswer, ReadOutcome, WriteAnswer, WriteOutcome, wrote, notWritten, fileJobOf, shortReader, readRefusal, readResult, sizes, refused, writeRefusal, writeResult}
-use Rattle.guarantees.specs.Demand2.{Bytes, Demand2}
+use Rattle.guarantees.specs.Demand2.{Bytes, sameNumber, namedBefore, NoIssuers, AsBefore, Demand2}
 use Rattle.format.proofs.Codes.{same-offer}
 use Rattle.format.proofs.Damage.{damaged}
 use Rattle.format.proofs.Order.{reader-20, reader-file}
@@ -82,10 +85,37 @@ one-file f f′ l bytes bytes′ ok ok′ same =
     ∙ ap₂ (λ (n : ℕ) (r : List ℕ). take n r) long (ap (λ (w : WriteOutcome). w .out) same-write)
     ∙ take-front f′ (drop (length f′) out)
 
--- The cycle that two bytes say.
-cycle-read : (f : List ℕ) → ((p : ℕ) → getD f p 0 < 256) → decode f .head .cycle < 65536
-unfolding decode readHead
-cycle-read f bytes = omega (arith, bytes 12, bytes 13)
+-- A word that two bytes say.
+word-small : (a b : ℕ) → a < 256 → b < 256 → a + 256 * b < 65536
+word-small a b h k = omega arith
+
+words-read : (f : List ℕ) → ((p : ℕ) → getD f p 0 < 256) → Words16 (decode f)
+unfolding decode readHead readOffer readTally
+words-read f bytes =
+    record {
+      cycle = word-small _ _ (bytes 12) (bytes 13);
+      offerIssuer = λ i h. word-small _ _ (bytes _) (bytes _);
+      tallyIssuer = λ t h. word-small _ _ (bytes _) (bytes _);
+    }
+
+-- Names of issuer 0 are one offer where their numbers agree.
+zero-same : (a b : Name) → a .issuer ≡ 0 → b .issuer ≡ 0 → sameOffer a b ≡ sameNumber (a .code) (b .code)
+unfolding sameOffer sameNumber
+zero-same a b p q = rw (p, q)
+
+module _ (j : FileJob) (z : NoIssuers j) where
+  names-before : (t : ℕ) → t < j .head .tallies → (i : ℕ) → i < j .head .offers → names j t i ≡ namedBefore j t i
+  unfolding names
+  names-before t h i l = zero-same _ _ (z .offer i l) (z .tally t h)
+
+  as-before : AsBefore j
+  unfolding placeOf shared unnamed
+  as-before =
+      record {
+        place = λ t h. find-cong (j .head .offers) (names j t) (namedBefore j t) (names-before t h);
+        seven = any-cong (j .head .offers) _ _ (λ i l. any-cong i _ _ (λ k m. zero-same _ _ (z .offer k (omega arith)) (z .offer i l)));
+        eight = any-cong (j .head .tallies) _ _ (λ t h. ap not (any-cong (j .head .offers) (names j t) (namedBefore j t) (names-before t h)));
+      }
 
 pub demand2 : Demand2
 unfolding Bytes
@@ -95,8 +125,9 @@ demand2 = record {
   readWrite = read-buffer;
   readOwn = read-own-buffer;
   writtenBytes = λ x l out c ok. written-bytes x l out ok c;
-  cycleRead = cycle-read;
-  codes = same-offer;
+  wordsRead = words-read;
+  names = same-offer;
+  oldNames = as-before;
   damage = λ f f′ l bytes bytes′ ok k i j hk hi hj long same differs. read-two f′ l (reader-whole f l ok) (damaged f f′ bytes bytes′ (read-file f l ok) k i j hk hi hj long same differs);
   step = step-does;
 }

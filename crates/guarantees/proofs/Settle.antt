@@ -117,9 +117,9 @@ blank-reader : shortReader blankJob ≡ false
 unfolding blankJob
 blank-reader =
     reader-enough blankJob
-    (record { price = zeros 500; owner = zeros 500; code = zeros 5_500 })
+    (record { price = zeros 500; owner = zeros 500; code = zeros 5_500; issuer = zeros 500 })
     (zeros 255)
-    (record { grocer = zeros 1_000; box = zeros 1_000; code = zeros 11_000; count = zeros-signed 1_000 })
+    (record { grocer = zeros 1_000; box = zeros 1_000; code = zeros 11_000; count = zeros-signed 1_000; issuer = zeros 1_000 })
     (zeros 1_000)
 
 state-enough : (job : JobTables) (t : StateTables) → job .boxes ≤ 16 → job .grocers ≤ 255 → job .offers ≤ 500 →

@@ -1,4 +1,4 @@
--- The whole table of ◆ cases, in 01's order.
+-- The whole table of ◆ cases, in 01's order, and the cases of names with issuers (02 §2).
 use mathlib.Core.Path.{_≡_}
 use mathlib.Core.List.{List, [], _∷_}
 use mathlib.Core.Bool.{true, false, cond}
@@ -9,11 +9,11 @@ use lib.IntN.{pos, negsuc}
 use Rattle.model.specs.Words.{ownerWords, stepCount}
 use Rattle.model.specs.Tables.{JobTables, jobOf}
 use Rattle.model.specs.Ranges.{jobInRange}
-use Rattle.format.specs.Codes.{Code, isCode, codeNumber, written, dropZeros, sameOffer}
+use Rattle.format.specs.Codes.{Code, isCode, codeNumber, written, dropZeros, nameOf, sameOffer}
 use Rattle.format.specs.Job.{headOf, FileJob, Offer, Tally}
+use Rattle.format.specs.Refusals.{jobRefusal, fileRefusal}
 use Rattle.format.specs.Blocks.{blockCount, firstSum, secondSum}
 use Rattle.format.specs.File.{encode}
-use Rattle.format.specs.Refusals.{fileRefusal}
 use Rattle.format.specs.Tables.{largest}
 use Rattle.guarantees.specs.Demand3.{owedByFile, Holds}
 use Rattle.printing.specs.Printed.{printed}
@@ -27,28 +27,46 @@ code l = record { size = length l; digit = λ k. getD l k 0 }
 abbrev pub alone : ℕ → ℕ → ℕ
 alone p q = cond (eqb q p) 255 0
 
--- E's offers: "00412" 500 owner 0, "77" 1250 owner 1.
+-- E's offers: "00412" 500 owner 0, "77" 1250 owner 1, both of issuer 0.
 abbrev pub offersE : List Offer
 offersE =
-    record { price = 500; owner = 0; code = code (48 ∷ 48 ∷ 52 ∷ 49 ∷ 50 ∷ []) } ∷
-    record { price = 1250; owner = 1; code = code (55 ∷ 55 ∷ []) } ∷ []
+    record { price = 500; owner = 0; code = code (48 ∷ 48 ∷ 52 ∷ 49 ∷ 50 ∷ []); issuer = 0 } ∷
+    record { price = 1250; owner = 1; code = code (55 ∷ 55 ∷ []); issuer = 0 } ∷ []
 
 -- Its tallies (grocer, box, code, count): (0,0,"412",3) (1,0,"077",2) (0,1,"77",−1) (0,1,"0412",4).
 abbrev pub talliesE : List Tally
 talliesE =
-    record { grocer = 0; box = 0; code = code (52 ∷ 49 ∷ 50 ∷ []); count = pos 3 } ∷
-    record { grocer = 1; box = 0; code = code (48 ∷ 55 ∷ 55 ∷ []); count = pos 2 } ∷
-    record { grocer = 0; box = 1; code = code (55 ∷ 55 ∷ []); count = negsuc 0 } ∷
-    record { grocer = 0; box = 1; code = code (48 ∷ 52 ∷ 49 ∷ 50 ∷ []); count = pos 4 } ∷ []
+    record { grocer = 0; box = 0; code = code (52 ∷ 49 ∷ 50 ∷ []); count = pos 3; issuer = 0 } ∷
+    record { grocer = 1; box = 0; code = code (48 ∷ 55 ∷ 55 ∷ []); count = pos 2; issuer = 0 } ∷
+    record { grocer = 0; box = 1; code = code (55 ∷ 55 ∷ []); count = negsuc 0; issuer = 0 } ∷
+    record { grocer = 0; box = 1; code = code (48 ∷ 52 ∷ 49 ∷ 50 ∷ []); count = pos 4; issuer = 0 } ∷ []
 
 -- E as its file says it: K 2, grocer owners 1, 0, cycle 0.
 unfoldable pub fileE : FileJob
 fileE =
     record {
       head = headOf 2 2 2 4 0;
-      offer = λ i. getD offersE i (record { price = 0; owner = 0; code = code [] });
+      offer = λ i. getD offersE i (record { price = 0; owner = 0; code = code []; issuer = 0 });
       grocerOwner = λ i. getD (1 ∷ 0 ∷ []) i 0;
-      tally = λ i. getD talliesE i (record { grocer = 0; box = 0; code = code []; count = pos 0 });
+      tally = λ i. getD talliesE i (record { grocer = 0; box = 0; code = code []; count = pos 0; issuer = 0 });
+    }
+
+-- "A dairy and a soap maker both printed offer 5521": an offer 5521 of this issuer, at this price.
+abbrev pub offer5521 : (issuer price : ℕ) → Offer
+offer5521 s p = record { price = p; owner = 0; code = code (53 ∷ 53 ∷ 50 ∷ 49 ∷ []); issuer = s }
+
+-- This grocer hands in one coupon of offer 5521 of this issuer.
+abbrev pub tally5521 : (grocer issuer : ℕ) → Tally
+tally5521 g s = record { grocer = g; box = 0; code = code (53 ∷ 53 ∷ 50 ∷ 49 ∷ []); count = pos 1; issuer = s }
+
+-- K 1, two grocers; two offers 5521, of these issuers, at 300 and 700; grocer 0 hands in a coupon of the first, grocer 1 one of the second.
+unfoldable pub twoIssuers : (first second tallied : ℕ) → FileJob
+twoIssuers a b c =
+    record {
+      head = headOf 1 2 2 2 0;
+      offer = λ i. getD (offer5521 a 300 ∷ offer5521 b 700 ∷ []) i (offer5521 0 0);
+      grocerOwner = λ i. 0;
+      tally = λ i. getD (tally5521 0 a ∷ tally5521 1 c ∷ []) i (tally5521 0 0);
     }
 
 -- What is printed for E, a line each: "0 225", "1 250", "words 3", "messages 3", "steps 10".
@@ -66,8 +84,17 @@ pub record Cases : Type 0 where
   pub zeros : codeNumber (code (48 ∷ 48 ∷ 48 ∷ [])) ≡ 0
   pub zeros-dropped : dropZeros (written (code (48 ∷ 48 ∷ 48 ∷ []))) ≡ 48 ∷ []
   -- "0412" and "412" agree; "4120" does not.
-  pub agree : sameOffer (code (48 ∷ 52 ∷ 49 ∷ 50 ∷ [])) (code (52 ∷ 49 ∷ 50 ∷ [])) ≡ true
-  pub apart : sameOffer (code (52 ∷ 49 ∷ 50 ∷ 48 ∷ [])) (code (52 ∷ 49 ∷ 50 ∷ [])) ≡ false
+  pub agree : sameOffer (nameOf 0 (code (48 ∷ 52 ∷ 49 ∷ 50 ∷ []))) (nameOf 0 (code (52 ∷ 49 ∷ 50 ∷ []))) ≡ true
+  pub apart : sameOffer (nameOf 0 (code (52 ∷ 49 ∷ 50 ∷ 48 ∷ []))) (nameOf 0 (code (52 ∷ 49 ∷ 50 ∷ []))) ≡ false
+  -- 02 §2: "412" of issuer 1 is another offer than "412" of issuer 0, and "0412" of issuer 1 the same as "412" of issuer 1.
+  pub issuers-apart : sameOffer (nameOf 0 (code (52 ∷ 49 ∷ 50 ∷ []))) (nameOf 1 (code (52 ∷ 49 ∷ 50 ∷ []))) ≡ false
+  pub issuers-agree : sameOffer (nameOf 1 (code (48 ∷ 52 ∷ 49 ∷ 50 ∷ []))) (nameOf 1 (code (52 ∷ 49 ∷ 50 ∷ []))) ≡ true
+  -- 5521 of issuers 1 and 2, both tallied, settle to two amounts; a known number under another issuer is 8; one number twice under one issuer is 7.
+  pub two-accepted : fileRefusal (encode (twoIssuers 1 2 2)) ≡ 0
+  pub two-owed-0 : owedByFile (twoIssuers 1 2 2) 0 ≡ pos 300
+  pub two-owed-1 : owedByFile (twoIssuers 1 2 2) 1 ≡ pos 700
+  pub two-unknown : jobRefusal (twoIssuers 1 2 3) ≡ 8
+  pub two-shared : jobRefusal (twoIssuers 2 2 2) ≡ 7
   -- Without ◆: 10 digits pass; 0 or 11 do not.
   pub ten-digits : isCode (code (48 ∷ 49 ∷ 50 ∷ 51 ∷ 52 ∷ 53 ∷ 54 ∷ 55 ∷ 56 ∷ 57 ∷ [])) ≡ true
   pub no-digits : isCode (code []) ≡ false

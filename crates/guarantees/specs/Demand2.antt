@@ -1,16 +1,18 @@
--- Demand 2: one file for each job and one job for each accepted file; codes; damage; and what an accepted step does.
+-- Demand 2: one file for each job and one job for each accepted file; names of offers; damage; and what an accepted step does.
 use mathlib.Core.Path.{_≡_}
 use mathlib.Core.List.{List, _++_}
-use mathlib.Core.Bool.{true, false}
+use mathlib.Core.Bool.{Bool, true, false, not}
 use mathlib.Core.Logic.{_↔_}
 use Prim.Native.Nat.{ℕ, _+_, _*_, _<_, _≤_}
+use lib.Dec.{eqb}
 use lib.ListN.{length, getD, drop, take}
+use Rattle.laws.specs.Below.{any, find}
 use Rattle.laws.specs.Tables.{overwrite}
 use Rattle.model.specs.Steps.{effectOf}
 use Rattle.model.specs.Tables.{JobTables, StateTables, jobOf, view, store}
 use Rattle.model.specs.Step.{Asked, stepOf, accepted, stepped}
-use Rattle.format.specs.Codes.{Code, isCode, written, dropZeros, sameOffer}
-use Rattle.format.specs.Job.{Head, placeOf}
+use Rattle.format.specs.Codes.{Code, isCode, codeNumber, written, dropZeros, Name, sameOffer}
+use Rattle.format.specs.Job.{Head, FileJob, placeOf, shared, unnamed, Words16}
 use Rattle.format.specs.Blocks.{blocks, blockCount}
 use Rattle.format.specs.File.{decode}
 use Rattle.format.specs.Tables.{FileTables, ReaderTables, fileJobOf, storeRead, shortReader, readRefusal, readResult, sizes, refused}
@@ -19,6 +21,25 @@ use Rattle.format.specs.Tables.{writeRefusal, writeResult, wrote}
 -- A file's words are bytes.
 unfoldable pub Bytes : List ℕ → Type 0
 Bytes file = (p : ℕ) → getD file p 0 < 256
+
+-- The rule of before 02 §2: two codes name one offer when their numbers agree.
+unfoldable pub sameNumber : Code → Code → Bool
+sameNumber c d = eqb (codeNumber c) (codeNumber d)
+
+-- Under the rule of before the code of tally t names offer i.
+abbrev pub namedBefore : FileJob → ℕ → ℕ → Bool
+namedBefore j t i = sameNumber (j .offer i .code) (j .tally t .code)
+
+-- Every issuer of a job is 0, "0 for old offers".
+pub record NoIssuers (j : FileJob) : Type 0 where
+  pub offer : (i : ℕ) → i < j .head .offers → j .offer i .issuer ≡ 0
+  pub tally : (t : ℕ) → t < j .head .tallies → j .tally t .issuer ≡ 0
+
+-- Each look-up, and with it 7 and 8, is that of the rule of before: "Files with zeros there settle as before."
+pub record AsBefore (j : FileJob) : Type 0 where
+  pub place : (t : ℕ) → t < j .head .tallies → placeOf j t ≡ find (j .head .offers) (namedBefore j t)
+  pub seven : shared j ≡ any (j .head .offers) (λ i. any i (λ k. sameNumber (j .offer k .code) (j .offer i .code)))
+  pub eight : unnamed j ≡ any (j .head .tallies) (λ t. not (any (j .head .offers) (namedBefore j t)))
 
 -- Demand 2 whole.
 pub record Demand2 : Type 0 where
@@ -38,13 +59,16 @@ pub record Demand2 : Type 0 where
   pub readOwn : (h : Head) (r : ReaderTables) (out : List ℕ) → writeRefusal h (r .job) out ≡ 0 → shortReader r ≡ false →
       readResult (take (512 * blockCount h) (writeResult h (r .job) out .out)) r
       ≡ record { answer = sizes h; tables = record { job = r .job; tallyOffer = overwrite (h .tallies) (placeOf (fileJobOf h (r .job))) (r .tallyOffer) } }
-  -- What was written are bytes, the cycle being any 16-bit number: the file that reading takes back is one that a disk can hold.
-  pub writtenBytes : (h : Head) (l : FileTables) (out : List ℕ) → h .cycle < 65536 → writeRefusal h l out ≡ 0 →
+  -- What was written are bytes, cycle and issuers being any 16-bit numbers: the file that reading takes back is one that a disk can hold.
+  pub writtenBytes : (h : Head) (l : FileTables) (out : List ℕ) → Words16 (fileJobOf h l) → writeRefusal h l out ≡ 0 →
       Bytes (take (512 * blockCount h) (writeResult h l out .out))
-  -- And a cycle that was read is such a number, whatever the file's bytes are.
-  pub cycleRead : (file : List ℕ) → Bytes file → decode file .head .cycle < 65536
-  -- Two codes name one offer exactly when they agree after leading zeros are dropped.
-  pub codes : (c d : Code) → isCode c ≡ true → isCode d ≡ true → (sameOffer c d ≡ true) ↔ (dropZeros (written c) ≡ dropZeros (written d))
+  -- And those that were read are such numbers, whatever the file's bytes are.
+  pub wordsRead : (file : List ℕ) → Bytes file → Words16 (decode file)
+  -- Two names are one offer exactly when their issuers are equal and their codes agree after leading zeros are dropped.
+  pub names : (a b : Name) → isCode (a .code) ≡ true → isCode (b .code) ≡ true →
+      (sameOffer a b ≡ true) ↔ ((a .issuer ≡ b .issuer) × (dropZeros (written (a .code)) ≡ dropZeros (written (b .code))))
+  -- Where every issuer is 0, each look-up is that of the numbers alone.
+  pub oldNames : (j : FileJob) → NoIssuers j → AsBefore j
   -- In an accepted file, changing one or two bytes of one block always gives refusal 2:
   -- f′ differs from f at most at bytes i and j of block k, and somewhere.
   pub damage : (f f′ : List ℕ) (l : ReaderTables) → Bytes f → Bytes f′ → readRefusal f l ≡ 0 →

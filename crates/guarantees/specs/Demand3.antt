@@ -18,7 +18,7 @@ use Rattle.printing.specs.Printed.{jobRead}
 use Rattle.format.specs.Refusals.{fileRefusal}
 use Rattle.format.specs.Tables.{ReaderTables, sizes, readRefusal, readResult}
 
--- What grocer g is owed by a file's job: count × price over its tallies, each at the price of the offer that its code names.
+-- What grocer g is owed by a file's job: count × price over its tallies, each at the price of the offer that it names.
 unfoldable pub owedByFile : FileJob → ℕ → ℤ
 owedByFile j g = sum integers (j .head .tallies) (λ t. only integers (eqb (j .tally t .grocer) g) (j .tally t .count *ℤ pos (j .offer (placeOf j t) .price)))
 
@@ -36,13 +36,13 @@ pub record Holds (j : FileJob) (f : JobTables) : Type 0 where
   pub tallyGrocer : (t : ℕ) → t < j .head .tallies → jobOf f .tallyGrocer t ≡ j .tally t .grocer
   pub tallyBox : (t : ℕ) → t < j .head .tallies → jobOf f .tallyBox t ≡ j .tally t .box
   pub tallyCount : (t : ℕ) → t < j .head .tallies → jobOf f .tallyCount t ≡ j .tally t .count
-  -- and the place of the offer its code names.
+  -- and the place of the offer that it names, by issuer and code.
   pub tallyOffer : (t : ℕ) → t < j .head .tallies → jobOf f .tallyOffer t ≡ placeOf j t
 
 -- "An accepted job holds what a file without a refusal says, each tally with the place of the offer its code names."
 pub record Accepted (file : List ℕ) (l : ReaderTables) : Type 0 where
   pub holds : Holds (decode file) (jobRead file l)
-  -- The code of each tally names the offer at its place, and no other.
+  -- Each tally names the offer at its place, and no other.
   pub named : (t : ℕ) → t < decode file .head .tallies →
       (placeOf (decode file) t < decode file .head .offers) × (names (decode file) t (placeOf (decode file) t) ≡ true)
   pub noOther : (t i : ℕ) → t < decode file .head .tallies → i < decode file .head .offers → names (decode file) t i ≡ true → placeOf (decode file) t ≡ i

@@ -5,7 +5,8 @@ ghost use lib.ListN.{length};
 ghost use Rattle.model.specs.Tables.{StateTables};
 ghost use Rattle.model.specs.Lent.{jobLent, stateBefore, stateAfter};
 ghost use Rattle.model.specs.Step.{asked};
-ghost use Rattle.format.specs.Tables.{fileTables, ReaderTables, readerTables};
+ghost use Rattle.format.specs.Tables.{ReaderTables};
+ghost use Rattle.format.specs.Lent.{readerBefore, readerAfter};
 ghost use Rattle.reader.specs.Answer.{answerOf as readAnswer};
 ghost use Rattle.step.specs.Answer.{answerOf as stepAnswer};
 ghost use Rattle.run.specs.Run.{answerOf as runAnswer};
@@ -72,24 +73,22 @@ pub extern "C" fn settlement_read(
     price: &mut [u32],
     offer_owner: &mut [u16],
     offer_code: &mut [u8],
+    offer_issuer: &mut [u16],
     grocer_owner: &mut [u16],
     tally_grocer: &mut [u16],
     tally_box: &mut [u16],
     tally_code: &mut [u8],
     tally_count: &mut [i32],
+    tally_issuer: &mut [u16],
     tally_offer: &mut [u16],
     sizes: &mut [u16],
 ) -> u16
     ensures { λ r. ⌜ hostRead r
-        (readerTables (fileTables (now (price .exit)) (now («offer_owner» .exit)) (now («offer_code» .exit)) (now («grocer_owner» .exit)) (now
-        («tally_grocer» .exit))
-        (now («tally_box» .exit)) (now («tally_code» .exit)) (now («tally_count» .exit))) (now («tally_offer» .exit)))
-        (now (sizes .exit))
+        (readerAfter price «offer_owner» «offer_code» «offer_issuer» «grocer_owner» «tally_grocer» «tally_box» «tally_code» «tally_count» «tally_issuer»
+        «tally_offer») (now (sizes .exit))
         ≡ readByHost (now (file .entry))
-        (readerTables (fileTables (now (price .entry)) (now («offer_owner» .entry)) (now («offer_code» .entry)) (now («grocer_owner» .entry)) (now
-        («tally_grocer» .entry))
-        (now («tally_box» .entry)) (now («tally_code» .entry)) (now («tally_count» .entry))) (now («tally_offer» .entry)))
-        (now (sizes .entry)) ⌝ }
+        (readerBefore price «offer_owner» «offer_code» «offer_issuer» «grocer_owner» «tally_grocer» «tally_box» «tally_code» «tally_count» «tally_issuer»
+        «tally_offer») (now (sizes .entry)) ⌝ }
 {
     if sizes.len() < 5 {
         return 20;
@@ -99,11 +98,13 @@ pub extern "C" fn settlement_read(
         price,
         offer_owner,
         offer_code,
+        offer_issuer,
         grocer_owner,
         tally_grocer,
         tally_box,
         tally_code,
         tally_count,
+        tally_issuer,
         tally_offer,
     );
     tell_sizes(a, sizes)

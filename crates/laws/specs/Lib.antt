@@ -4,3 +4,4 @@ pub mod Tables
 pub mod Masks
 pub mod Checks
 pub mod Limits
+pub mod Lent

@@ -8,7 +8,7 @@ use denote.Ref.{now}
 use Rattle.laws.specs.Checks.{firstMet}
 use Rattle.model.specs.Job.{Job}
 use Rattle.model.specs.Tables.{JobTables, jobTables, jobOf}
-use Rattle.model.specs.Lent.{Words, SignedWords}
+use Rattle.laws.specs.Lent.{Words, SignedWords}
 use Rattle.model.specs.Local.{localOffers, localGrocers, start, starts, Packed, BookLengths, bookRefusals}
 use Rattle.local.specs.Sort.{inFront}
 use Rattle.local.specs.declared.book.Answer.{Answer}

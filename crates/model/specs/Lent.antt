@@ -1,18 +1,8 @@
 -- The tables of a job and of a state as a contract names them: lent slices, at the call's begin and at its end.
-use mathlib.Core.List.{List}
 use Prim.Native.Nat.{ℕ}
-use lib.IntN.{ℤ}
-use denote.Ref.{RefT, now}
-use denote.Triple.Both.{Both}
+use denote.Ref.{now}
+use Rattle.laws.specs.Lent.{Words, SignedWords}
 use Rattle.model.specs.Tables.{JobTables, jobTables, StateTables, stateTables}
-
--- A lent slice of words, at both moments.
-abbrev pub Words : Type 0
-Words = Both (RefT (List ℕ)) (RefT (List ℕ))
-
--- One of signed words.
-abbrev pub SignedWords : Type 0
-SignedWords = Both (RefT (List ℤ)) (RefT (List ℤ))
 
 -- The job's tables: K, M, N and T, and what the seven slices hold when the call begins. No call writes them.
 abbrev pub jobLent : (k m n t : ℕ) (price offerOwner grocerOwner tallyGrocer tallyBox tallyOffer : Words) (tallyCount : SignedWords) → JobTables

@@ -9,10 +9,10 @@ use Rattle.model.specs.Tables.{JobTables, jobTables, StateTables, stateTables}
 use Rattle.model.specs.Run.{RunAnswer, finished, refused, ran}
 use Rattle.format.specs.File.{decode}
 use Rattle.cents.specs.Cents.{cents}
-use Rattle.format.specs.Tables.{ReadAnswer, sizes, refused as notRead, ReaderTables, fileTables, readerTables, readResult}
+use Rattle.format.specs.Tables.{ReadAnswer, sizes, refused as notRead, ReaderTables, offerTables, tallyTables, fileTables, readerTables, readResult}
 
 -- The job's tables after the reader has read a file into the tables l: K, M, N and T as it answers them, the words it stored,
--- and the places it found; no digits.
+-- and the places it found; no digits and no issuers.
 unfoldable pub jobRead : List ℕ → ReaderTables → JobTables
 jobRead file l =
     let h = decode file .head in
@@ -74,8 +74,10 @@ refusedText n = line refusedName (decimal n)
 unfoldable pub blankJob : ReaderTables
 blankJob =
     readerTables
-    (fileTables (replicate 500 0) (replicate 500 0) (replicate 5_500 0) (replicate 255 0)
-    (replicate 1_000 0) (replicate 1_000 0) (replicate 11_000 0) (replicate 1_000 (pos 0)))
+    (fileTables
+    (offerTables (replicate 500 0) (replicate 500 0) (replicate 5_500 0) (replicate 500 0))
+    (replicate 255 0)
+    (tallyTables (replicate 1_000 0) (replicate 1_000 0) (replicate 11_000 0) (replicate 1_000 (pos 0)) (replicate 1_000 0)))
     (replicate 1_000 0)
 
 -- and the run.

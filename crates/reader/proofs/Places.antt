@@ -1,48 +1,21 @@
--- What the index says of a file's offers is what the format says: shared numbers, and the places of the tallies' offers. Assumes nothing.
-use mathlib.Core.Path.{_≡_, refl, sym, ap, ap₂, _∙_, subst}
+-- The tallies' offers, looked up one by one, and what 7 and 8 come to. Assumes nothing.
+use mathlib.Core.Path.{_≡_, refl, sym, ap, _∙_, subst}
 use mathlib.Core.Bool.{Bool, true, false, not}
 use mathlib.Core.List.{List}
 use Prim.Native.Nat.{ℕ, _+_, _<_, _≤_}
 use native.Mathlib.Decide.{ℕ-discrete}
 use native.Mathlib.Nat.{le-antisymm}
 use native.Mathlib.Omega.{arith}
-use lib.Dec.{eqb}
 use lib.ListN.{length, getD, set}
 use lib.Seq.{getD-set-same, getD-set-other}
 use borrow.Author.Tests.{eq-eqb, ne-eqb}
-use Rattle.laws.specs.Below.{any, find}
+use Rattle.laws.specs.Below.{any}
 use Rattle.laws.specs.Checks.{firstMet}
-use Rattle.laws.specs.Tables.{overwrite}
 use Rattle.laws.proofs.Bools.{split}
-use Rattle.laws.proofs.Below.{any-next, any-at, find-passes, find-none, any-cong, find-cong}
-use Rattle.laws.proofs.Tables.{getD-overwrite}
-use Rattle.format.specs.Codes.{codeNumber, sameOffer}
+use Rattle.laws.proofs.Below.{any-next, any-at, find-passes, find-none}
 use Rattle.format.specs.Job.{FileJob, names, placeOf, shared, unnamed}
-use Rattle.format.specs.File.{decode}
-use Rattle.index.specs.Index.{sharesNumber, placeOf as placeIn}
 use Rattle.reader.specs.Sound.{Placed, lastRefusal}
 use Rattle.format.proofs.Range.{unnamed-place}
-
--- ---- numbers
-
--- The numbers of the offers, in a list.
-abbrev pub Numbers : List ℕ → FileJob → ℕ → Type 0
-Numbers numbers j n = (i : ℕ) → i < n → getD numbers i 0 ≡ codeNumber (j .offer i .code)
-
-module _ (j : FileJob) (n : ℕ) (numbers : List ℕ) (e : n ≡ j .head .offers) (right : Numbers numbers j n) where
-  -- Two of them are one exactly where two offers share a number.
-  pub shared-is : sharesNumber numbers n ≡ shared j
-  unfolding sharesNumber shared sameOffer
-  shared-is =
-      any-cong n _ _ (λ i l. any-cong i _ _ (λ k m. ap₂ eqb (right k (omega arith)) (right i l)))
-      ∙ ap (λ (m : ℕ). any m (λ i. any i (λ k. eqb (codeNumber (j .offer k .code)) (codeNumber (j .offer i .code))))) e
-
-  -- The place of a tally's number is the place of its offer.
-  pub place-is : (t : ℕ) → placeIn numbers n (codeNumber (j .tally t .code)) ≡ placeOf j t
-  unfolding placeIn placeOf names sameOffer
-  place-is t =
-      find-cong n _ _ (λ i l. ap (λ (x : ℕ). eqb x (codeNumber (j .tally t .code))) (right i l))
-      ∙ ap (λ (m : ℕ). find m (λ i. eqb (codeNumber (j .offer i .code)) (codeNumber (j .tally t .code)))) e
 
 -- A place is at most N.
 pub place-most : (j : FileJob) (t : ℕ) → placeOf j t ≤ j .head .offers
@@ -54,7 +27,7 @@ place-most j t =
 
 -- ---- tallies looked up, one a turn
 
--- One of the first i tallies has a code that names no offer.
+-- One of the first i tallies names no offer.
 unfoldable pub unnamedBelow : FileJob → ℕ → Bool
 unnamedBelow j i = any i (λ t. not (any (j .head .offers) (names j t)))
 
@@ -103,16 +76,12 @@ placed-end {j} {l} i t a b p = subst (λ (k : ℕ). Placed j l k) (le-antisymm a
 
 -- ---- 7 and 8
 
--- Words filled with the numbers of the offers' codes are those numbers.
-pub numbers-right : (f l numbers : List ℕ) (n : ℕ) → numbers ≡ overwrite n (λ i. codeNumber (decode f .offer i .code)) l → Numbers numbers (decode f) n
-numbers-right f l numbers n e i h = ap (λ (x : List ℕ). getD x i 0) e ∙ getD-overwrite n (λ i. codeNumber (decode f .offer i .code)) l i 0 h
-
--- Two offers share a number: 7.
+-- Two offers share a name: 7.
 pub last-7 : (j : FileJob) → shared j ≡ true → 7 ≡ lastRefusal j
 unfolding lastRefusal firstMet
 last-7 j h = rw h
 
--- None do, and a tally's code names no offer: 8.
+-- None do, and a tally names no offer: 8.
 pub last-8 : (j : FileJob) → shared j ≡ false → unnamed j ≡ true → 8 ≡ lastRefusal j
 unfolding lastRefusal firstMet
 last-8 j h u = rw (h, u)

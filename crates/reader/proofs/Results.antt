@@ -11,7 +11,9 @@ use Rattle.laws.specs.Tables.{overwrite}
 use Rattle.laws.proofs.Tables.{overwrite-cong}
 use Rattle.laws.proofs.Bools.{or-off}
 use Rattle.format.specs.Job.{Head, placeOf}
-use Rattle.format.specs.File.{decode}
+use Rattle.format.specs.Bytes.{from, after, word16}
+use Rattle.format.specs.Blocks.{offersAt, talliesAt}
+use Rattle.format.specs.File.{readOffer, readTally, recordAt, decode}
 use Rattle.format.specs.Refusals.{fileRefusal}
 use Rattle.format.specs.Tables.{ReaderTables, storeCodes, storeOffers, storeTallies, store, storeRead, ReadAnswer, sizes, refused, largest, shortTables, shortReader, Long, readRefusal, readResult}
 use Rattle.blocks.specs.Due.{Most}
@@ -24,11 +26,13 @@ pub record Filled (f : List ℕ) (h : Head) (l l′ : ReaderTables) : Type 0 whe
   pub price : l′ .job .offers .price ≡ overwrite (h .offers) (λ i. decode f .offer i .price) (l .job .offers .price)
   pub owner : l′ .job .offers .owner ≡ overwrite (h .offers) (λ i. decode f .offer i .owner) (l .job .offers .owner)
   pub code : l′ .job .offers .code ≡ storeCodes (h .offers) (λ i. decode f .offer i .code) (l .job .offers .code)
+  pub issuer : l′ .job .offers .issuer ≡ overwrite (h .offers) (λ i. decode f .offer i .issuer) (l .job .offers .issuer)
   pub grocerOwner : l′ .job .grocerOwner ≡ overwrite (h .grocers) (decode f .grocerOwner) (l .job .grocerOwner)
   pub tallyGrocer : l′ .job .tallies .grocer ≡ overwrite (h .tallies) (λ i. decode f .tally i .grocer) (l .job .tallies .grocer)
   pub tallyBox : l′ .job .tallies .box ≡ overwrite (h .tallies) (λ i. decode f .tally i .box) (l .job .tallies .box)
   pub tallyCode : l′ .job .tallies .code ≡ storeCodes (h .tallies) (λ i. decode f .tally i .code) (l .job .tallies .code)
   pub tallyCount : l′ .job .tallies .count ≡ overwrite (h .tallies) (λ i. decode f .tally i .count) (l .job .tallies .count)
+  pub tallyIssuer : l′ .job .tallies .issuer ≡ overwrite (h .tallies) (λ i. decode f .tally i .issuer) (l .job .tallies .issuer)
   pub tallyOffer : l′ .tallyOffer ≡ overwrite (h .tallies) (placeOf (decode f)) (l .tallyOffer)
 
 -- They are the tables that the format says.
@@ -37,12 +41,24 @@ unfolding storeRead store storeOffers storeTallies
 filled-stored f l l′ w =
     λ i. record {
       job = record {
-        offers = record { price = w .price i; owner = w .owner i; code = w .code i };
+        offers = record { price = w .price i; owner = w .owner i; code = w .code i; issuer = w .issuer i };
         grocerOwner = w .grocerOwner i;
-        tallies = record { grocer = w .tallyGrocer i; box = w .tallyBox i; code = w .tallyCode i; count = w .tallyCount i };
+        tallies = record { grocer = w .tallyGrocer i; box = w .tallyBox i; code = w .tallyCode i; count = w .tallyCount i; issuer = w .tallyIssuer i };
       };
       tallyOffer = w .tallyOffer i;
     }
+
+-- The words at bytes 16 and 17 of the offers are their issuers,
+pub offer-issuers : (f old : List ℕ) {new : List ℕ} (n : ℕ) → new ≡ overwrite n (λ i. word16 (after (from f (recordAt offersAt i)) 16)) old →
+    new ≡ overwrite n (λ i. decode f .offer i .issuer) old
+unfolding decode readOffer
+offer-issuers f old n w = w
+
+-- and those at bytes 18 and 19 of the tallies theirs.
+pub tally-issuers : (f old : List ℕ) {new : List ℕ} (n : ℕ) {first : ℕ} → first ≡ talliesAt (decode f .head) →
+    new ≡ overwrite n (λ i. word16 (after (from f (recordAt first i)) 18)) old → new ≡ overwrite n (λ i. decode f .tally i .issuer) old
+unfolding decode readTally
+tally-issuers f old n e w = w ∙ ap (λ (k : ℕ). overwrite n (λ i. word16 (after (from f (recordAt k i)) 18)) old) e
 
 -- The places that were kept are the places that are stored.
 pub places-stored : (f places old : List ℕ) {new : List ℕ} (h : Head) → h ≡ decode f .head → Placed (decode f) places (decode f .head .tallies) → new ≡ overwrite (h .tallies) (λ i. getD places i 0) old →
@@ -84,6 +100,7 @@ room h l m s =
           price = omega (arith, m .offers, r .offers .price);
           owner = omega (arith, m .offers, r .offers .owner);
           code = omega (arith, m .offers, r .offers .code);
+          issuer = omega (arith, m .offers, r .offers .issuer);
         };
         grocerOwner = omega (arith, m .grocers, r .grocerOwner);
         tallies = record {
@@ -91,6 +108,7 @@ room h l m s =
           box = omega (arith, m .tallies, r .tallies .box);
           code = omega (arith, m .tallies, r .tallies .code);
           count = omega (arith, m .tallies, r .tallies .count);
+          issuer = omega (arith, m .tallies, r .tallies .issuer);
         };
       };
       tallyOffer = omega (arith, m .tallies, ltb-false (length (l .tallyOffer)) 1_000 (o .1));

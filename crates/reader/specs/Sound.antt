@@ -5,8 +5,8 @@ use mathlib.Core.List.{List, [], _∷_}
 use Prim.Native.Nat.{ℕ, _<_, _≤_}
 use lib.ListN.{length, getD}
 use Rattle.laws.specs.Checks.{firstMet}
-use Rattle.format.specs.Codes.{isCode, codeNumber}
-use Rattle.format.specs.Job.{Head, FileJob, placeOf, shared, unnamed}
+use Rattle.format.specs.Codes.{isCode, nameNumber}
+use Rattle.format.specs.Job.{Head, FileJob, offerName, placeOf, shared, unnamed}
 use Rattle.format.specs.File.{decode}
 use Rattle.fills.specs.Fills.{Whole}
 use Rattle.index.specs.Index.{IsIndex, sharesNumber}
@@ -17,13 +17,13 @@ pub record Sound (f : List ℕ) (h : Head) : Type 0 where
   pub offer : (i : ℕ) → i < h .offers → isCode (decode f .offer i .code) ≡ true
   pub tally : (t : ℕ) → t < h .tallies → isCode (decode f .tally t .code) ≡ true
 
--- The index of a file's offers, by the numbers of their codes.
+-- The index of a file's offers, by the numbers of their names.
 pub record Indexed (f keys order : List ℕ) (h : Head) : Type 0 where
   pub numbers : List ℕ
   pub index : IsIndex keys order numbers (h .offers)
-  pub right : (i : ℕ) → i < h .offers → getD numbers i 0 ≡ codeNumber (decode f .offer i .code)
+  pub right : (i : ℕ) → i < h .offers → getD numbers i 0 ≡ nameNumber (offerName (decode f) i)
 
--- The index of a sound file's offers, no two of which share a number.
+-- The index of a sound file's offers, no two of which share a name.
 pub record Ready (f keys order : List ℕ) (h : Head) : Type 0 where
   pub sound : Sound f h
   pub keys-long : h .offers ≤ length keys

@@ -3,21 +3,25 @@ ghost use mathlib.Core.Path.{_≡_};
 ghost use Prim.Native.Nat.{_≤_};
 ghost use lib.ListN.{length};
 ghost use Rattle.format.specs.Refusals.{fileRefusal};
-ghost use Rattle.format.specs.Tables.{sizes, fileTables, readerTables, readResult};
+ghost use Rattle.format.specs.Tables.{sizes, readResult};
+ghost use Rattle.format.specs.Lent.{readerBefore, readerAfter};
 ghost use Rattle.blocks.specs.Due.{asHead, Most};
 ghost use Rattle.reader.specs.Answer.{answerOf, outcome};
 ghost use Rattle.reader.specs.Sound.{Kept};
 use crate::look::job_refusal;
+use blocks::codes::CODE_BYTES;
 use blocks::plan::Head;
 use blocks::plan::MAX_GROCERS;
 use blocks::plan::MAX_OFFERS;
 use blocks::plan::MAX_TALLIES;
 use blocks::plan::read_head;
+use blocks::plan::tallies_at;
 use blocks::refusals::shape_refusal;
 use fills::fill::fill_offers;
 use fills::fill::fill_owners;
 use fills::fill::fill_tallies;
 use fills::fill::fill_tally_ends;
+use fills::fill::fill_words;
 use fills::fill::narrow;
 
 mod look;
@@ -67,29 +71,31 @@ pub fn read(
     price: &mut [u32],
     offer_owner: &mut [u16],
     offer_code: &mut [u8],
+    offer_issuer: &mut [u16],
     grocer_owner: &mut [u16],
     tally_grocer: &mut [u16],
     tally_box: &mut [u16],
     tally_code: &mut [u8],
     tally_count: &mut [i32],
+    tally_issuer: &mut [u16],
     tally_offer: &mut [u16],
 ) -> Answer
     ensures { λ r. ⌜
-        outcome r (readerTables (fileTables (now (price .exit)) (now («offer_owner» .exit)) (now («offer_code» .exit)) (now («grocer_owner» .exit))
-        (now («tally_grocer» .exit)) (now («tally_box» .exit)) (now («tally_code» .exit)) (now («tally_count» .exit))) (now («tally_offer» .exit)))
-        ≡ readResult (now (file .entry)) (readerTables (fileTables (now (price .entry)) (now («offer_owner» .entry)) (now («offer_code» .entry))
-        (now («grocer_owner» .entry)) (now («tally_grocer» .entry)) (now («tally_box» .entry)) (now («tally_code» .entry)) (now («tally_count» .entry)))
-        (now («tally_offer» .entry))) ⌝ }
+        outcome r (readerAfter price «offer_owner» «offer_code» «offer_issuer» «grocer_owner» «tally_grocer» «tally_box» «tally_code» «tally_count»
+        «tally_issuer» «tally_offer»)
+        ≡ readResult (now (file .entry)) (readerBefore price «offer_owner» «offer_code» «offer_issuer» «grocer_owner» «tally_grocer» «tally_box» «tally_code»
+        «tally_count» «tally_issuer» «tally_offer») ⌝ }
 {
     let offers = (price.len() < MAX_OFFERS)
         | (offer_owner.len() < MAX_OFFERS)
-        | (offer_code.len() < MAX_OFFERS * 11);
+        | (offer_code.len() < MAX_OFFERS * CODE_BYTES)
+        | (offer_issuer.len() < MAX_OFFERS);
     let tallies = (tally_grocer.len() < MAX_TALLIES)
         | (tally_box.len() < MAX_TALLIES)
-        | (tally_code.len() < MAX_TALLIES * 11);
-    let short = offers
-        | (grocer_owner.len() < MAX_GROCERS)
-        | (tallies | (tally_count.len() < MAX_TALLIES));
+        | (tally_code.len() < MAX_TALLIES * CODE_BYTES)
+        | (tally_count.len() < MAX_TALLIES)
+        | (tally_issuer.len() < MAX_TALLIES);
+    let short = offers | (grocer_owner.len() < MAX_GROCERS) | tallies;
     if short | (tally_offer.len() < MAX_TALLIES) {
         return Answer::Refused(20);
     }
@@ -100,8 +106,10 @@ pub fn read(
     }
     let head = read_head(file);
     fill_offers(file, head, price, offer_owner, offer_code);
+    fill_words(file, 1, head.offers, 16, offer_issuer);
     fill_owners(file, head, grocer_owner);
     fill_tallies(file, head, tally_grocer, tally_box, tally_code);
     fill_tally_ends(file, head, &places, tally_count, tally_offer);
+    fill_words(file, tallies_at(head), head.tallies, 18, tally_issuer);
     job_of(head)
 }

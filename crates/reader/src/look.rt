@@ -1,4 +1,4 @@
-// The offers that the tallies' codes name: refusals 7 and 8, and the place of each tally's offer.
+// The offers that the tallies name: refusals 7 and 8, and the place of each tally's offer.
 ghost use mathlib.Core.Path.{_≡_};
 ghost use mathlib.Core.Bool.{false};
 ghost use Prim.Native.Nat.{_≤_, _<_};
@@ -8,11 +8,12 @@ ghost use Rattle.format.specs.Blocks.{talliesAt};
 ghost use Rattle.format.specs.File.{decode};
 ghost use Rattle.blocks.specs.Due.{asHead};
 ghost use Rattle.reader.specs.Sound.{Sound, Indexed, Ready, Placed, lastRefusal};
+use blocks::bytes::word16;
 use blocks::plan::Head;
 use blocks::plan::MAX_OFFERS;
 use blocks::plan::tallies_at;
-use fills::code::number_at;
-use fills::fill::fill_numbers;
+use fills::code::name_at;
+use fills::fill::fill_names;
 use fills::fill::narrow;
 use fills::place::record_at;
 
@@ -23,22 +24,23 @@ fn index_offers(f: &[u8], head: Head, keys: &mut [u64], order: &mut [u16])
     ensures { λ _. ⌜ Indexed (now (f .entry)) (now (keys .exit)) (now (order .exit)) (asHead head) ⌝ }
 {
     let mut numbers = [0u64; MAX_OFFERS];
-    fill_numbers(f, head, &mut numbers);
+    fill_names(f, head, &mut numbers);
     let mut spare = [0u16; MAX_OFFERS];
     index::build::build(&numbers, keys, order, &mut spare, head.offers);
 }
 
-// The place of the offer that the code of tally i names, or N where it names none.
+// The place of the offer that tally i names, or N where it names none.
 fn find_place(f: &[u8], head: Head, keys: &[u64], order: &[u16], first: usize, i: usize) -> usize
     requires { ⌜ Ready (now f) (now keys) (now order) (asHead head) ⌝ }
     requires { ⌜ (first ≡ talliesAt (asHead head)) × (i < head .tallies) ⌝ }
     ensures { λ r. ⌜ r ≡ placeOf (decode (now (f .entry))) i ⌝ }
 {
-    let number = number_at(f, record_at(first, i) + 3);
+    let at = record_at(first, i);
+    let number = name_at(f, at + 3, word16(f, at + 18));
     index::look::place(keys, order, head.offers, number)
 }
 
-// Looks each tally up, once, and keeps its place; whether a tally's code names no offer.
+// Looks each tally up, once, and keeps its place; whether a tally names no offer.
 fn find_places(f: &[u8], head: Head, keys: &[u64], order: &[u16], places: &mut [u16]) -> bool
     requires { ⌜ Ready (now f) (now keys) (now order) (asHead head) × (head .tallies ≤ length (now places)) ⌝ }
     ensures { λ r. ⌜ r ≡ unnamed (decode (now (f .entry))) ⌝ }

@@ -60,11 +60,13 @@ pub fn small_file() -> [u8; 2048] {
         &price,
         &owner,
         &code,
+        &[0, 0],
         &gowner,
         &tgrocer,
         &tbox,
         &tcode,
         &tcount,
+        &[0, 0, 0, 0],
         &mut f,
     );
     f

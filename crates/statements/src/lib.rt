@@ -69,22 +69,26 @@ pub fn settled(file: &[u8], out: &mut [u8; 8192]) -> usize
     let mut price = [0u32; 500];
     let mut offer_owner = [0u16; 500];
     let mut offer_code = [0u8; 5500];
+    let mut offer_issuer = [0u16; 500];
     let mut grocer_owner = [0u16; 255];
     let mut tally_grocer = [0u16; 1000];
     let mut tally_box = [0u16; 1000];
     let mut tally_code = [0u8; 11000];
     let mut tally_count = [0i32; 1000];
+    let mut tally_issuer = [0u16; 1000];
     let mut tally_offer = [0u16; 1000];
     let a = reader::read(
         file,
         &mut price,
         &mut offer_owner,
         &mut offer_code,
+        &mut offer_issuer,
         &mut grocer_owner,
         &mut tally_grocer,
         &mut tally_box,
         &mut tally_code,
         &mut tally_count,
+        &mut tally_issuer,
         &mut tally_offer,
     );
     match a {

@@ -24,13 +24,13 @@ copied-put g at n d d′ room e c = is-put at n g d room d′ e (c .before) (c .
 
 -- ---- an offer
 
-module _ (p w : ℕ) (g : ℕ → ℕ) where
+module _ (p w : ℕ) (g : ℕ → ℕ) (s : ℕ) where
   abbrev offer : Offer
-  offer = record { price = p; owner = w; code = readCode g }
+  offer = record { price = p; owner = w; code = readCode g; issuer = s }
 
   price-byte : (k : ℕ) → k < 4 → bytesOf (bytes32 p) k ≡ bytesOf (offerBytes offer) k
   unfolding offerBytes
-  price-byte k h = sym (List·getD-append (bytes32 p) (w ∷ codeBytes (readCode g)) 0 k h)
+  price-byte k h = sym (List·getD-append (bytes32 p) (w ∷ codeBytes (readCode g) ++ bytes16 s) 0 k h)
 
   owner-byte : w ≡ bytesOf (offerBytes offer) 4
   unfolding offerBytes
@@ -38,32 +38,41 @@ module _ (p w : ℕ) (g : ℕ → ℕ) where
 
   offer-code : (k : ℕ) → k < 11 → g k ≡ bytesOf (offerBytes offer) (5 + k)
   unfolding offerBytes
-  offer-code k h = sym (getD-append-add (p % 256 ∷ p / 256 % 256 ∷ p / 65536 % 256 ∷ p / 16777216 ∷ w ∷ []) (codeBytes (readCode g)) k 0 ∙ code-byte g k h)
+  offer-code k h =
+      sym (getD-append-add (p % 256 ∷ p / 256 % 256 ∷ p / 65536 % 256 ∷ p / 16777216 ∷ w ∷ []) (codeBytes (readCode g) ++ bytes16 s) k 0
+      ∙ List·getD-append (codeBytes (readCode g)) (bytes16 s) 0 k (unfold codeBytes tabulate in h)
+      ∙ code-byte g k h)
 
-  offer-spare : (k : ℕ) → 0 ≡ bytesOf (offerBytes offer) (16 + k)
+  offer-issuer : (k : ℕ) → k < 2 → bytesOf (bytes16 s) k ≡ bytesOf (offerBytes offer) (16 + k)
   unfolding offerBytes codeBytes tabulate
-  offer-spare k = sym (List·getD-eq-default (offerBytes offer) 0 {n = 16 + k} (omega arith))
+  offer-issuer k h = sym (getD-append-add (p % 256 ∷ p / 256 % 256 ∷ p / 65536 % 256 ∷ p / 16777216 ∷ w ∷ codeBytes (readCode g)) (bytes16 s) k 0)
 
-  -- Price, owner, code and zeros are the offer's 24 bytes.
-  pub offer-put : (at : ℕ) (d d₁ d₃ d₄ : List ℕ) → at + 24 ≤ length d → d₁ ≡ put at 4 (bytesOf (bytes32 p)) d → length d₃ ≡ length d →
-      Copied g (at + 5) 11 (set d₁ (at + 4) w) d₃ → d₄ ≡ put (at + 16) 8 (λ _. 0) d₃ → d₄ ≡ put at 24 (bytesOf (offerBytes offer)) d
-  offer-put at d d₁ d₃ d₄ room e₁ l₃ c₃ e₄ =
+  offer-spare : (k : ℕ) → 0 ≡ bytesOf (offerBytes offer) (18 + k)
+  unfolding offerBytes codeBytes tabulate
+  offer-spare k = sym (List·getD-eq-default (offerBytes offer) 0 {n = 18 + k} (omega arith))
+
+  -- Price, owner, code, issuer and zeros are the offer's 24 bytes.
+  pub offer-put : (at : ℕ) (d d₁ d₃ d₄ d₅ : List ℕ) → at + 24 ≤ length d → d₁ ≡ put at 4 (bytesOf (bytes32 p)) d → length d₃ ≡ length d →
+      Copied g (at + 5) 11 (set d₁ (at + 4) w) d₃ → d₄ ≡ put (at + 16) 2 (bytesOf (bytes16 s)) d₃ → d₅ ≡ put (at + 18) 6 (λ _. 0) d₄ →
+      d₅ ≡ put at 24 (bytesOf (offerBytes offer)) d
+  offer-put at d d₁ d₃ d₄ d₅ room e₁ l₃ c₃ e₄ e₅ =
       let f = bytesOf (offerBytes offer) in
       let l₁ : length d₁ ≡ length d = ap length e₁ ∙ length-put at 4 (bytesOf (bytes32 p)) d (omega arith) in
       let l₂ : length (set d₁ (at + 4) w) ≡ length d = length-set d₁ (at + 4) w ∙ l₁ in
       let q₂ : set d₁ (at + 4) w ≡ put at 5 f d = rw (e₁, put-cong at 4 (bytesOf (bytes32 p)) f d price-byte) (store-next at 4 f d w (omega arith) owner-byte) in
       let q₃ : d₃ ≡ put at 16 f d = copied-put g (at + 5) 11 (set d₁ (at + 4) w) d₃ (omega arith) (l₃ ∙ sym l₂) c₃ ∙ ap (put (at + 5) 11 g) q₂ ∙ put-next at 5 f d 11 g (omega arith) offer-code in
-      e₄ ∙ ap (put (at + 16) 8 (λ _. 0)) q₃ ∙ put-next at 16 f d 8 (λ _. 0) (omega arith) (λ k h. offer-spare k)
+      let q₄ : d₄ ≡ put at 18 f d = e₄ ∙ ap (put (at + 16) 2 (bytesOf (bytes16 s))) q₃ ∙ put-next at 16 f d 2 (bytesOf (bytes16 s)) (omega arith) offer-issuer in
+      e₅ ∙ ap (put (at + 18) 6 (λ _. 0)) q₄ ∙ put-next at 18 f d 6 (λ _. 0) (omega arith) (λ k h. offer-spare k)
 
 -- ---- a tally
 
-module _ (m b : ℕ) (g : ℕ → ℕ) (z : ℤ) where
+module _ (m b : ℕ) (g : ℕ → ℕ) (z : ℤ) (s : ℕ) where
   abbrev tally : Tally
-  tally = record { grocer = m; box = b; code = readCode g; count = z }
+  tally = record { grocer = m; box = b; code = readCode g; count = z; issuer = s }
 
   grocer-byte : (k : ℕ) → k < 2 → bytesOf (bytes16 m) k ≡ bytesOf (tallyBytes tally) k
   unfolding tallyBytes
-  grocer-byte k h = sym (List·getD-append (bytes16 m) (b ∷ codeBytes (readCode g) ++ bytes32 (ofZ w32 z)) 0 k h)
+  grocer-byte k h = sym (List·getD-append (bytes16 m) (b ∷ codeBytes (readCode g) ++ bytes32 (ofZ w32 z) ++ bytes16 s) 0 k h)
 
   box-byte : b ≡ bytesOf (tallyBytes tally) 2
   unfolding tallyBytes
@@ -72,27 +81,37 @@ module _ (m b : ℕ) (g : ℕ → ℕ) (z : ℤ) where
   tally-code : (k : ℕ) → k < 11 → g k ≡ bytesOf (tallyBytes tally) (3 + k)
   unfolding tallyBytes
   tally-code k h =
-      sym (getD-append-add (m % 256 ∷ m / 256 ∷ b ∷ []) (codeBytes (readCode g) ++ bytes32 (ofZ w32 z)) k 0
-      ∙ List·getD-append (codeBytes (readCode g)) (bytes32 (ofZ w32 z)) 0 k (unfold codeBytes tabulate in h)
+      let c = codeBytes (readCode g) in
+      let n = bytes32 (ofZ w32 z) in
+      sym (getD-append-add (m % 256 ∷ m / 256 ∷ b ∷ []) (c ++ n ++ bytes16 s) k 0
+      ∙ List·getD-append (c ++ n) (bytes16 s) 0 k (unfold codeBytes tabulate in omega arith)
+      ∙ List·getD-append c n 0 k (unfold codeBytes tabulate in h)
       ∙ code-byte g k h)
 
   count-byte : (k : ℕ) → k < 4 → bytesOf (bytes32 (ofZ w32 z)) k ≡ bytesOf (tallyBytes tally) (14 + k)
   unfolding tallyBytes codeBytes tabulate
-  count-byte k h = sym (getD-append-add (m % 256 ∷ m / 256 ∷ b ∷ codeBytes (readCode g)) (bytes32 (ofZ w32 z)) k 0)
+  count-byte k h =
+      let n = bytes32 (ofZ w32 z) in
+      sym (getD-append-add (m % 256 ∷ m / 256 ∷ b ∷ codeBytes (readCode g)) (n ++ bytes16 s) k 0 ∙ List·getD-append n (bytes16 s) 0 k h)
 
-  tally-spare : (k : ℕ) → 0 ≡ bytesOf (tallyBytes tally) (18 + k)
+  tally-issuer : (k : ℕ) → k < 2 → bytesOf (bytes16 s) k ≡ bytesOf (tallyBytes tally) (18 + k)
   unfolding tallyBytes codeBytes tabulate
-  tally-spare k = sym (List·getD-eq-default (tallyBytes tally) 0 {n = 18 + k} (omega arith))
+  tally-issuer k h = sym (getD-append-add (m % 256 ∷ m / 256 ∷ b ∷ codeBytes (readCode g) ++ bytes32 (ofZ w32 z)) (bytes16 s) k 0)
 
-  -- Grocer, box, code, count and zeros are the tally's 24 bytes.
-  pub tally-put : (at : ℕ) (d d₁ d₃ d₄ d₅ : List ℕ) → at + 24 ≤ length d → d₁ ≡ put at 2 (bytesOf (bytes16 m)) d → length d₃ ≡ length d →
-      Copied g (at + 3) 11 (set d₁ (at + 2) b) d₃ → d₄ ≡ put (at + 14) 4 (bytesOf (bytes32 (ofZ w32 z))) d₃ → d₅ ≡ put (at + 18) 6 (λ _. 0) d₄ →
-      d₅ ≡ put at 24 (bytesOf (tallyBytes tally)) d
-  tally-put at d d₁ d₃ d₄ d₅ room e₁ l₃ c₃ e₄ e₅ =
+  tally-spare : (k : ℕ) → 0 ≡ bytesOf (tallyBytes tally) (20 + k)
+  unfolding tallyBytes codeBytes tabulate
+  tally-spare k = sym (List·getD-eq-default (tallyBytes tally) 0 {n = 20 + k} (omega arith))
+
+  -- Grocer, box, code, count, issuer and zeros are the tally's 24 bytes.
+  pub tally-put : (at : ℕ) (d d₁ d₃ d₄ d₅ d₆ : List ℕ) → at + 24 ≤ length d → d₁ ≡ put at 2 (bytesOf (bytes16 m)) d → length d₃ ≡ length d →
+      Copied g (at + 3) 11 (set d₁ (at + 2) b) d₃ → d₄ ≡ put (at + 14) 4 (bytesOf (bytes32 (ofZ w32 z))) d₃ → d₅ ≡ put (at + 18) 2 (bytesOf (bytes16 s)) d₄ →
+      d₆ ≡ put (at + 20) 4 (λ _. 0) d₅ → d₆ ≡ put at 24 (bytesOf (tallyBytes tally)) d
+  tally-put at d d₁ d₃ d₄ d₅ d₆ room e₁ l₃ c₃ e₄ e₅ e₆ =
       let f = bytesOf (tallyBytes tally) in
       let l₁ : length d₁ ≡ length d = ap length e₁ ∙ length-put at 2 (bytesOf (bytes16 m)) d (omega arith) in
       let l₂ : length (set d₁ (at + 2) b) ≡ length d = length-set d₁ (at + 2) b ∙ l₁ in
       let q₂ : set d₁ (at + 2) b ≡ put at 3 f d = rw (e₁, put-cong at 2 (bytesOf (bytes16 m)) f d grocer-byte) (store-next at 2 f d b (omega arith) box-byte) in
       let q₃ : d₃ ≡ put at 14 f d = copied-put g (at + 3) 11 (set d₁ (at + 2) b) d₃ (omega arith) (l₃ ∙ sym l₂) c₃ ∙ ap (put (at + 3) 11 g) q₂ ∙ put-next at 3 f d 11 g (omega arith) tally-code in
       let q₄ : d₄ ≡ put at 18 f d = e₄ ∙ ap (put (at + 14) 4 (bytesOf (bytes32 (ofZ w32 z)))) q₃ ∙ put-next at 14 f d 4 (bytesOf (bytes32 (ofZ w32 z))) (omega arith) count-byte in
-      e₅ ∙ ap (put (at + 18) 6 (λ _. 0)) q₄ ∙ put-next at 18 f d 6 (λ _. 0) (omega arith) (λ k h. tally-spare k)
+      let q₅ : d₅ ≡ put at 20 f d = e₅ ∙ ap (put (at + 18) 2 (bytesOf (bytes16 s))) q₄ ∙ put-next at 18 f d 2 (bytesOf (bytes16 s)) (omega arith) tally-issuer in
+      e₆ ∙ ap (put (at + 20) 4 (λ _. 0)) q₅ ∙ put-next at 20 f d 4 (λ _. 0) (omega arith) (λ k h. tally-spare k)

@@ -7,6 +7,7 @@ ghost use Rattle.format.specs.Bytes.{from, bytes16};
 ghost use Rattle.format.specs.Blocks.{headerBytes, offerBytes, tallyBytes};
 ghost use Rattle.format.specs.File.{blockByte};
 ghost use Rattle.format.specs.Tables.{offerTables, tallyTables, LongOffers, LongTallies, offerOf, tallyOf};
+ghost use Rattle.format.specs.Lent.{offersLent, talliesLent};
 ghost use Rattle.blocks.specs.Due.{asHead, Most};
 ghost use Rattle.writer.specs.Puts.{put, bytesOf, bodyOf, keepOf, recordBody, Small};
 use crate::bytes::byte;
@@ -86,20 +87,29 @@ pub fn put_offer_block(
     price: &[u32],
     offer_owner: &[u16],
     offer_code: &[u8],
+    offer_issuer: &[u16],
 )
     requires { ⌜ (n ≤ 500) × ((21 * b < n) × (512 * (2 + b) ≤ length (now out))) ⌝ }
-    requires { ⌜ LongOffers n (offerTables (now price) (now «offer_owner») (now «offer_code»)) ⌝ }
+    requires { ⌜ LongOffers n (offerTables (now price) (now «offer_owner») (now «offer_code») (now «offer_issuer»)) ⌝ }
     requires { ⌜ Small (now «offer_owner») n ⌝ }
     ensures { λ _. ⌜ now (out .exit) ≡ put (512 * (1 + b)) 512 (blockByte
-        (recordBody 1 1 n (λ i. offerBytes (offerOf (offerTables (now (price .entry)) (now («offer_owner» .entry))
-        (now («offer_code» .entry))) i)) b)) (now (out .entry)) ⌝ }
+        (recordBody 1 1 n (λ i. offerBytes (offerOf (offersLent price «offer_owner» «offer_code» «offer_issuer») i)) b)) (now (out .entry)) ⌝ }
 {
     let number = 1 + b;
     let at = 512 * number;
     let first = 21 * b;
     let count = part_of(n, first);
     put_head(out, at, 1, count, number);
-    put_offers(out, at + 4, first, count, price, offer_owner, offer_code);
+    put_offers(
+        out,
+        at + 4,
+        first,
+        count,
+        price,
+        offer_owner,
+        offer_code,
+        offer_issuer,
+    );
     close_block(out, at, 4 + count * 24);
 }
 
@@ -126,13 +136,13 @@ pub fn put_tally_block(
     tally_box: &[u16],
     tally_code: &[u8],
     tally_count: &[i32],
+    tally_issuer: &[u16],
 )
     requires { ⌜ (t ≤ 1000) × ((21 * b < t) × ((k ≤ 100) × (512 * (k + b + 1) ≤ length (now out)))) ⌝ }
-    requires { ⌜ LongTallies t (tallyTables (now «tally_grocer») (now «tally_box») (now «tally_code») (now «tally_count»)) ⌝ }
+    requires { ⌜ LongTallies t (tallyTables (now «tally_grocer») (now «tally_box») (now «tally_code») (now «tally_count») (now «tally_issuer»)) ⌝ }
     requires { ⌜ Small (now «tally_box») t ⌝ }
     ensures { λ _. ⌜ now (out .exit) ≡ put (512 * (k + b)) 512 (blockByte
-        (recordBody 3 k t (λ i. tallyBytes (tallyOf (tallyTables (now («tally_grocer» .entry)) (now («tally_box» .entry)) (now («tally_code» .entry))
-        (now («tally_count» .entry))) i)) b))
+        (recordBody 3 k t (λ i. tallyBytes (tallyOf (talliesLent «tally_grocer» «tally_box» «tally_code» «tally_count» «tally_issuer») i)) b))
         (now (out .entry)) ⌝ }
 {
     let number = k + b;
@@ -149,6 +159,7 @@ pub fn put_tally_block(
         tally_box,
         tally_code,
         tally_count,
+        tally_issuer,
     );
     close_block(out, at, 4 + count * 24);
 }

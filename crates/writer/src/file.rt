@@ -6,6 +6,7 @@ ghost use lib.ListN.{length, drop};
 ghost use Rattle.format.specs.Blocks.{blocksFor, offerBytes, tallyBytes};
 ghost use Rattle.format.specs.File.{encode};
 ghost use Rattle.format.specs.Tables.{offerTables, tallyTables, fileTables, LongOffers, LongTallies, offerOf, tallyOf, fileJobOf};
+ghost use Rattle.format.specs.Lent.{offersLent, talliesLent, fileLent};
 ghost use Rattle.blocks.specs.Due.{asHead};
 ghost use Rattle.writer.specs.Puts.{put, recordBody, blocksOf, Small};
 ghost use Rattle.writer.specs.Ready.{Ready};
@@ -18,18 +19,25 @@ use blocks::plan::blocks_for;
 use blocks::plan::grocers_at;
 
 // All offer blocks, of n offers.
-fn put_offer_blocks(out: &mut [u8], n: usize, price: &[u32], offer_owner: &[u16], offer_code: &[u8])
+fn put_offer_blocks(
+    out: &mut [u8],
+    n: usize,
+    price: &[u32],
+    offer_owner: &[u16],
+    offer_code: &[u8],
+    offer_issuer: &[u16],
+)
     requires { ⌜ (n ≤ 500) × (512 * (1 + blocksFor n) ≤ length (now out)) ⌝ }
-    requires { ⌜ LongOffers n (offerTables (now price) (now «offer_owner») (now «offer_code»)) ⌝ }
+    requires { ⌜ LongOffers n (offerTables (now price) (now «offer_owner») (now «offer_code») (now «offer_issuer»)) ⌝ }
     requires { ⌜ Small (now «offer_owner») n ⌝ }
     ensures { λ _. ⌜ now (out .exit) ≡ put 512 (blocksFor n * 512) (blocksOf
-        (recordBody 1 1 n (λ i. offerBytes (offerOf (offerTables (now (price .entry)) (now («offer_owner» .entry)) (now («offer_code» .entry))) i))))
+        (recordBody 1 1 n (λ i. offerBytes (offerOf (offersLent price «offer_owner» «offer_code» «offer_issuer») i))))
         (now (out .entry)) ⌝ }
 {
     let blocks = blocks_for(n);
     let mut b: usize = 0;
     while b < blocks {
-        put_offer_block(out, b, n, price, offer_owner, offer_code);
+        put_offer_block(out, b, n, price, offer_owner, offer_code, offer_issuer);
         b += 1;
     }
 }
@@ -43,13 +51,13 @@ fn put_tally_blocks(
     tally_box: &[u16],
     tally_code: &[u8],
     tally_count: &[i32],
+    tally_issuer: &[u16],
 )
     requires { ⌜ (t ≤ 1000) × ((k ≤ 100) × (512 * (k + blocksFor t) ≤ length (now out))) ⌝ }
-    requires { ⌜ LongTallies t (tallyTables (now «tally_grocer») (now «tally_box») (now «tally_code») (now «tally_count»)) ⌝ }
+    requires { ⌜ LongTallies t (tallyTables (now «tally_grocer») (now «tally_box») (now «tally_code») (now «tally_count») (now «tally_issuer»)) ⌝ }
     requires { ⌜ Small (now «tally_box») t ⌝ }
     ensures { λ _. ⌜ now (out .exit) ≡ put (512 * k) (blocksFor t * 512) (blocksOf
-        (recordBody 3 k t (λ i. tallyBytes (tallyOf (tallyTables (now («tally_grocer» .entry)) (now («tally_box» .entry)) (now («tally_code» .entry))
-        (now («tally_count» .entry))) i))))
+        (recordBody 3 k t (λ i. tallyBytes (tallyOf (talliesLent «tally_grocer» «tally_box» «tally_code» «tally_count» «tally_issuer») i))))
         (now (out .entry)) ⌝ }
 {
     let blocks = blocks_for(t);
@@ -64,6 +72,7 @@ fn put_tally_blocks(
             tally_box,
             tally_code,
             tally_count,
+            tally_issuer,
         );
         b += 1;
     }
@@ -75,23 +84,32 @@ pub fn put_file(
     price: &[u32],
     offer_owner: &[u16],
     offer_code: &[u8],
+    offer_issuer: &[u16],
     grocer_owner: &[u16],
     tally_grocer: &[u16],
     tally_box: &[u16],
     tally_code: &[u8],
     tally_count: &[i32],
+    tally_issuer: &[u16],
     out: &mut [u8],
 )
-    requires { ⌜ Ready (asHead head) (fileTables (now price) (now «offer_owner») (now «offer_code») (now «grocer_owner»)
-        (now «tally_grocer») (now «tally_box») (now «tally_code») (now «tally_count»)) (now out) ⌝ }
-    ensures { λ _. ⌜ now (out .exit) ≡ (let file = encode (fileJobOf (asHead head)
-        (fileTables (now (price .entry)) (now («offer_owner» .entry)) (now («offer_code» .entry)) (now («grocer_owner» .entry))
-        (now («tally_grocer» .entry)) (now («tally_box» .entry)) (now («tally_code» .entry)) (now («tally_count» .entry))))
+    requires { ⌜ Ready (asHead head) (fileTables
+        (offerTables (now price) (now «offer_owner») (now «offer_code») (now «offer_issuer»)) (now «grocer_owner»)
+        (tallyTables (now «tally_grocer») (now «tally_box») (now «tally_code») (now «tally_count») (now «tally_issuer»))) (now out) ⌝ }
+    ensures { λ _. ⌜ now (out .exit) ≡ (let file = encode (fileJobOf (asHead head) (fileLent price «offer_owner» «offer_code» «offer_issuer» «grocer_owner»
+        «tally_grocer» «tally_box» «tally_code» «tally_count» «tally_issuer»))
         in file ++ drop (length file) (now (out .entry))) ⌝ }
 {
     let k = grocers_at(head);
     put_header(out, head);
-    put_offer_blocks(out, head.offers, price, offer_owner, offer_code);
+    put_offer_blocks(
+        out,
+        head.offers,
+        price,
+        offer_owner,
+        offer_code,
+        offer_issuer,
+    );
     put_grocer_block(out, k, head.grocers, grocer_owner);
     put_tally_blocks(
         out,
@@ -101,5 +119,6 @@ pub fn put_file(
         tally_box,
         tally_code,
         tally_count,
+        tally_issuer,
     );
 }

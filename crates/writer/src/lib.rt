@@ -1,7 +1,8 @@
 // The writer of the job file.
 ghost use mathlib.Core.Path.{_≡_};
 ghost use Rattle.format.specs.Job.{headOf};
-ghost use Rattle.format.specs.Tables.{fileTables, writeResult};
+ghost use Rattle.format.specs.Tables.{writeResult};
+ghost use Rattle.format.specs.Lent.{fileLent};
 ghost use Rattle.writer.specs.Outcome.{outcomeOf};
 
 mod block;
@@ -30,16 +31,18 @@ pub fn write(
     price: &[u32],
     offer_owner: &[u16],
     offer_code: &[u8],
+    offer_issuer: &[u16],
     grocer_owner: &[u16],
     tally_grocer: &[u16],
     tally_box: &[u16],
     tally_code: &[u8],
     tally_count: &[i32],
+    tally_issuer: &[u16],
     out: &mut [u8],
 ) -> Answer
     ensures { λ r. ⌜ outcomeOf r (now (out .exit)) ≡ writeResult (headOf boxes grocers offers tallies cycle)
-        (fileTables (now (price .entry)) (now («offer_owner» .entry)) (now («offer_code» .entry)) (now («grocer_owner» .entry))
-        (now («tally_grocer» .entry)) (now («tally_box» .entry)) (now («tally_code» .entry)) (now («tally_count» .entry))) (now (out .entry)) ⌝ }
+        (fileLent price «offer_owner» «offer_code» «offer_issuer» «grocer_owner» «tally_grocer» «tally_box»
+        «tally_code» «tally_count» «tally_issuer») (now (out .entry)) ⌝ }
 {
     let head = head_of(boxes, grocers, offers, tallies, cycle);
     let refusal = write_refusal(
@@ -47,11 +50,13 @@ pub fn write(
         price,
         offer_owner,
         offer_code,
+        offer_issuer,
         grocer_owner,
         tally_grocer,
         tally_box,
         tally_code,
         tally_count,
+        tally_issuer,
         out,
     );
     if refusal != 0 {
@@ -62,11 +67,13 @@ pub fn write(
         price,
         offer_owner,
         offer_code,
+        offer_issuer,
         grocer_owner,
         tally_grocer,
         tally_box,
         tally_code,
         tally_count,
+        tally_issuer,
         out,
     );
     Answer::Wrote(file_length(head))

@@ -3,12 +3,14 @@ ghost use mathlib.Core.Path.{_≡_};
 ghost use Prim.Native.Nat.{_+_, _*_, _≤_, _<_};
 ghost use lib.ListN.{length, getD};
 ghost use Rattle.format.specs.Blocks.{offerBytes, tallyBytes};
-ghost use Rattle.format.specs.Tables.{offerTables, tallyTables, offerOf, tallyOf};
+ghost use Rattle.format.specs.Tables.{offerOf, tallyOf};
+ghost use Rattle.format.specs.Lent.{offersLent, talliesLent};
 ghost use Rattle.writer.specs.Puts.{put, bytesOf, rowsOf, Small};
 use crate::bytes::put_zeros;
 use crate::bytes::put16;
 use crate::bytes::put32;
 use blocks::bytes::bits;
+use blocks::codes::CODE_BYTES;
 use checks::sizes::size_of;
 use fills::code::copy_code;
 
@@ -19,19 +21,20 @@ pub fn put_offer(
     price: &[u32],
     offer_owner: &[u16],
     offer_code: &[u8],
+    offer_issuer: &[u16],
     i: usize,
 )
     requires { ⌜ at + 24 ≤ length (now out) ⌝ }
-    requires { ⌜ (i < length (now price)) × ((i < length (now «offer_owner»)) × (i * 11 + 11 ≤ length (now «offer_code»))) ⌝ }
+    requires { ⌜ (i < length (now price)) × (i < length (now «offer_owner»)) × (i * 11 + 11 ≤ length (now «offer_code»)) × (i < length (now «offer_issuer»)) ⌝ }
     requires { ⌜ getD (now «offer_owner») i 0 < 256 ⌝ }
-    ensures { λ _. ⌜ now (out .exit) ≡ put at 24 (bytesOf (offerBytes (offerOf (offerTables (now (price .entry)) (now («offer_owner» .entry))
-        (now («offer_code» .entry))) i)))
+    ensures { λ _. ⌜ now (out .exit) ≡ put at 24 (bytesOf (offerBytes (offerOf (offersLent price «offer_owner» «offer_code» «offer_issuer») i)))
         (now (out .entry)) ⌝ }
 {
     put32(out, at, price[i]);
     out[at + 4] = offer_owner[i] as u8;
-    copy_code(offer_code, i * 11, out, at + 5);
-    put_zeros(out, at + 16, 8);
+    copy_code(offer_code, i * CODE_BYTES, out, at + 5);
+    put16(out, at + 16, size_of(offer_issuer[i]));
+    put_zeros(out, at + 18, 6);
 }
 
 // Tally i in 24 bytes.
@@ -42,20 +45,22 @@ pub fn put_tally(
     tally_box: &[u16],
     tally_code: &[u8],
     tally_count: &[i32],
+    tally_issuer: &[u16],
     i: usize,
 )
     requires { ⌜ at + 24 ≤ length (now out) ⌝ }
-    requires { ⌜ (i < length (now «tally_grocer»)) × ((i < length (now «tally_box»)) × ((i * 11 + 11 ≤ length (now «tally_code»)) × (i <
-        length (now «tally_count»)))) ⌝ }
+    requires { ⌜ (i < length (now «tally_grocer»)) × (i < length (now «tally_box»)) × (i * 11 + 11 ≤ length (now «tally_code»)) ⌝ }
+    requires { ⌜ (i < length (now «tally_count»)) × (i < length (now «tally_issuer»)) ⌝ }
     requires { ⌜ getD (now «tally_box») i 0 < 256 ⌝ }
-    ensures { λ _. ⌜ now (out .exit) ≡ put at 24 (bytesOf (tallyBytes (tallyOf (tallyTables (now («tally_grocer» .entry)) (now («tally_box» .entry))
-        (now («tally_code» .entry)) (now («tally_count» .entry))) i))) (now (out .entry)) ⌝ }
+    ensures { λ _. ⌜ now (out .exit) ≡ put at 24
+        (bytesOf (tallyBytes (tallyOf (talliesLent «tally_grocer» «tally_box» «tally_code» «tally_count» «tally_issuer») i))) (now (out .entry)) ⌝ }
 {
     put16(out, at, size_of(tally_grocer[i]));
     out[at + 2] = tally_box[i] as u8;
-    copy_code(tally_code, i * 11, out, at + 3);
+    copy_code(tally_code, i * CODE_BYTES, out, at + 3);
     put32(out, at + 14, bits(tally_count[i]));
-    put_zeros(out, at + 18, 6);
+    put16(out, at + 18, size_of(tally_issuer[i]));
+    put_zeros(out, at + 20, 4);
 }
 
 // N offers from `first` on, one after the other.
@@ -67,16 +72,26 @@ pub fn put_offers(
     price: &[u32],
     offer_owner: &[u16],
     offer_code: &[u8],
+    offer_issuer: &[u16],
 )
     requires { ⌜ (n ≤ 21) × (at + n * 24 ≤ length (now out)) ⌝ }
-    requires { ⌜ (first + n ≤ length (now price)) × ((first + n ≤ length (now «offer_owner»)) × ((first + n) * 11 ≤ length (now «offer_code»))) ⌝ }
+    requires { ⌜ (first + n ≤ length (now price)) × (first + n ≤ length (now «offer_owner»)) ⌝ }
+    requires { ⌜ ((first + n) * 11 ≤ length (now «offer_code»)) × (first + n ≤ length (now «offer_issuer»)) ⌝ }
     requires { ⌜ Small (now «offer_owner») (first + n) ⌝ }
     ensures { λ _. ⌜ now (out .exit) ≡ put at (n * 24) (rowsOf 24 (λ r. bytesOf
-        (offerBytes (offerOf (offerTables (now (price .entry)) (now («offer_owner» .entry)) (now («offer_code» .entry))) (first + r))))) (now (out .entry)) ⌝ }
+        (offerBytes (offerOf (offersLent price «offer_owner» «offer_code» «offer_issuer») (first + r))))) (now (out .entry)) ⌝ }
 {
     let mut r: usize = 0;
     while r < n {
-        put_offer(out, at + r * 24, price, offer_owner, offer_code, first + r);
+        put_offer(
+            out,
+            at + r * 24,
+            price,
+            offer_owner,
+            offer_code,
+            offer_issuer,
+            first + r,
+        );
         r += 1;
     }
 }
@@ -91,15 +106,14 @@ pub fn put_tallies(
     tally_box: &[u16],
     tally_code: &[u8],
     tally_count: &[i32],
+    tally_issuer: &[u16],
 )
     requires { ⌜ (n ≤ 21) × (at + n * 24 ≤ length (now out)) ⌝ }
-    requires { ⌜ (first + n ≤ length (now «tally_grocer»)) × ((first + n ≤ length (now «tally_box»)) ×
-        (((first + n) * 11 ≤ length (now «tally_code»)) × (first + n ≤ length (now «tally_count»)))) ⌝ }
+    requires { ⌜ (first + n ≤ length (now «tally_grocer»)) × (first + n ≤ length (now «tally_box»)) × ((first + n) * 11 ≤ length (now «tally_code»)) ⌝ }
+    requires { ⌜ (first + n ≤ length (now «tally_count»)) × (first + n ≤ length (now «tally_issuer»)) ⌝ }
     requires { ⌜ Small (now «tally_box») (first + n) ⌝ }
     ensures { λ _. ⌜ now (out .exit) ≡ put at (n * 24) (rowsOf 24 (λ r. bytesOf
-        (tallyBytes (tallyOf (tallyTables (now («tally_grocer» .entry)) (now («tally_box» .entry)) (now («tally_code» .entry))
-        (now («tally_count» .entry))) (first + r))))) (now (out .entry))
-        ⌝ }
+        (tallyBytes (tallyOf (talliesLent «tally_grocer» «tally_box» «tally_code» «tally_count» «tally_issuer») (first + r))))) (now (out .entry)) ⌝ }
 {
     let mut r: usize = 0;
     while r < n {
@@ -110,6 +124,7 @@ pub fn put_tallies(
             tally_box,
             tally_code,
             tally_count,
+            tally_issuer,
             first + r,
         );
         r += 1;

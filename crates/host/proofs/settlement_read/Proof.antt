@@ -5,45 +5,15 @@ use Rattle.host.proofs.settlement_read.Statement.{statement}
 use Rattle.host.proofs.settlement_read.Tie as tie
 
 -- The call of `read`, from the last return.
-abbrev was-read : tie.After-slice-known18 → tie.After-read
-was-read c = c .before .before .before .before .before .before .before .before .before .before .before .before .before .before .before .before .before .before .before .before .before
+abbrev was-read : tie.After-slice-known22 → tie.After-read
+was-read c = let m = c .before .before .before .before .before .before .before .before .before .before .before .before .before in m .before .before .before .before .before .before .before .before .before .before .before .before
 
 -- The test of the length of sizes, from the call of `read`.
 abbrev long : tie.After-read → tie.Else1
-long c = c .before .before .before .before .before .before .before .before .before .before
+long c = c .before .before .before .before .before .before .before .before .before .before .before .before
 
 returns : tie.Need-returns
 returns c = read-short _ _ _ (c .if1 .taken)
-
-same-length : tie.Need-same-length
-same-length c = was-read c .read .kept .1 .0
-
-same-length-2 : tie.Need-same-length-2
-same-length-2 c = was-read c .read .kept .1 .1 .0
-
-same-length-3 : tie.Need-same-length-3
-same-length-3 c = was-read c .read .kept .1 .1 .1 .0
-
-same-length-4 : tie.Need-same-length-4
-same-length-4 c = was-read c .read .kept .1 .1 .1 .1 .0
-
-same-length-5 : tie.Need-same-length-5
-same-length-5 c = was-read c .read .kept .1 .1 .1 .1 .1 .0
-
-same-length-6 : tie.Need-same-length-6
-same-length-6 c = was-read c .read .kept .1 .1 .1 .1 .1 .1 .0
-
-same-length-7 : tie.Need-same-length-7
-same-length-7 c = was-read c .read .kept .1 .1 .1 .1 .1 .1 .1 .0
-
-same-length-8 : tie.Need-same-length-8
-same-length-8 c = was-read c .read .kept .1 .1 .1 .1 .1 .1 .1 .1 .0
-
-same-length-9 : tie.Need-same-length-9
-same-length-9 c = was-read c .read .kept .1 .1 .1 .1 .1 .1 .1 .1 .1 .0
-
-same-length-10 : tie.Need-same-length-10
-same-length-10 c = c .before .before .tell-sizes .kept .1 .0
 
 returns-2 : tie.Need-returns-2
 returns-2 c = read-told _ _ _ _ _ _ _ (long (was-read c) .if1 .left) (was-read c .read .ensures) (c .before .before .tell-sizes .ensures)
@@ -55,14 +25,16 @@ settlement-read-spec =
     returns
     (λ c κs. tt)
     (λ c κs. search needs)
-    same-length
-    same-length-2
-    same-length-3
-    same-length-4
-    same-length-5
-    same-length-6
-    same-length-7
-    same-length-8
-    same-length-9
-    same-length-10
+    (λ c. was-read c .read .kept .1 .0)
+    (λ c. was-read c .read .kept .1 .1 .0)
+    (λ c. was-read c .read .kept .1 .1 .1 .0)
+    (λ c. was-read c .read .kept .1 .1 .1 .1 .0)
+    (λ c. was-read c .read .kept .1 .1 .1 .1 .1 .0)
+    (λ c. was-read c .read .kept .1 .1 .1 .1 .1 .1 .0)
+    (λ c. was-read c .read .kept .1 .1 .1 .1 .1 .1 .1 .0)
+    (λ c. was-read c .read .kept .1 .1 .1 .1 .1 .1 .1 .1 .0)
+    (λ c. was-read c .read .kept .1 .1 .1 .1 .1 .1 .1 .1 .1 .0)
+    (λ c. was-read c .read .kept .1 .1 .1 .1 .1 .1 .1 .1 .1 .1 .0)
+    (λ c. was-read c .read .kept .1 .1 .1 .1 .1 .1 .1 .1 .1 .1 .1 .0)
+    (λ c. c .before .before .tell-sizes .kept .1 .0)
     returns-2)

@@ -1,20 +1,22 @@
 -- `reader::read` meets its contract. Assumes nothing.
-use mathlib.Core.Path.{_≡_, sym, _∙_}
+use mathlib.Core.Path.{_≡_, sym, ap, _∙_}
 use mathlib.Core.Bool.{false}
 use native.Mathlib.Omega.{arith}
 use lib.ListN.{length}
 use borrow.Author.Needs.{needs}
-use Rattle.format.specs.Tables.{ReaderTables, fileTables, readerTables, shortOffers, shortTallies, shortTables, shortReader}
+use Rattle.format.specs.Tables.{ReaderTables, offerTables, tallyTables, fileTables, readerTables, shortOffers, shortTallies, shortTables, shortReader}
+use Rattle.format.specs.Blocks.{talliesAt}
 use Rattle.blocks.specs.Due.{asHead}
+use Rattle.fills.proofs.Records.{offer-room, tally-room}
 use Rattle.reader.specs.Sound.{Kept, Sound}
 use Rattle.reader.proofs.Shapes.{has-header, sound-read}
-use Rattle.reader.proofs.Results.{Room, room, read-20, read-file, read-job, places-stored}
+use Rattle.reader.proofs.Results.{Room, room, read-20, read-file, read-job, offer-issuers, tally-issuers, places-stored}
 use Rattle.reader.proofs.read.Statement.{statement}
 use Rattle.reader.proofs.read.Tie as tie
 
 -- The entry, from the first branch, and from the one after the file's refusal.
-abbrev start : tie.After-slice-known8 → tie.Start
-start c = c .before .before .before .before .before .before .before .before .before
+abbrev start : tie.After-slice-known10 → tie.Start
+start c = let m = c .before .before .before .before .before in m .before .before .before .before .before .before
 
 abbrev refused : tie.Else2 → tie.After-file-refusal
 refused c = c .before .before
@@ -29,8 +31,11 @@ entry c = start (whole (refused c) .before)
 abbrev headed : tie.After-fill-offers-arg3 → tie.After-read-head
 headed c = c .before .before .before
 
-abbrev offered : tie.After-fill-owners-arg → tie.After-fill-offers
+abbrev offered : tie.After-fill-words-arg → tie.After-fill-offers
 offered c = c .before .before .before .before .before .before .before
+
+abbrev issued : tie.After-fill-owners-arg → tie.After-fill-words
+issued c = c .before .before .before
 
 abbrev owned : tie.After-fill-tallies-arg3 → tie.After-fill-owners
 owned c = c .before .before .before .before .before
@@ -38,12 +43,18 @@ owned c = c .before .before .before .before .before
 abbrev tallied : tie.After-places3 → tie.After-fill-tallies
 tallied c = c .before .before .before .before .before .before .before
 
-abbrev ended : tie.After-slice-known16 → tie.After-fill-tally-ends
+abbrev ended : tie.After-slice-known19 → tie.After-fill-tally-ends
 ended c = c .before .before .before
 
+abbrev last-issued : tie.After-slice-known20 → tie.After-fill-words2
+last-issued c = c .before .before
+
 -- The call of `read_head`, from each later call.
+abbrev head-issued : tie.After-fill-words → tie.After-read-head
+head-issued c = headed (offered (c .before) .before)
+
 abbrev head-owned : tie.After-fill-owners → tie.After-read-head
-head-owned c = headed (offered (c .before) .before)
+head-owned c = head-issued (issued (c .before))
 
 abbrev head-tallied : tie.After-fill-tallies → tie.After-read-head
 head-tallied c = head-owned (owned (c .before))
@@ -51,19 +62,30 @@ head-tallied c = head-owned (owned (c .before))
 abbrev head-ended : tie.After-fill-tally-ends → tie.After-read-head
 head-ended c = head-tallied (tallied (c .before .before .before))
 
--- The calls that fill tables, from the end.
-abbrev calls : tie.After-job-of → tie.After-fill-offers × (tie.After-fill-owners × tie.After-fill-tallies)
+-- The last calls, from the end: the issuers of the tallies, and the tallies' ends.
+abbrev words-end : tie.After-job-of → tie.After-fill-words2
+words-end c = last-issued (c .before)
+
+abbrev tallies-end : tie.After-fill-words2 → tie.After-fill-tally-ends
+tallies-end c = ended (c .before .before .before)
+
+-- The other calls that fill tables, from the end.
+abbrev calls : tie.After-job-of → tie.After-fill-offers × tie.After-fill-words × tie.After-fill-owners × tie.After-fill-tallies
 calls c =
-    let t = tallied (ended (c .before) .before .before .before) in
+    let t = tallied (tallies-end (words-end c) .before .before .before) in
     let g = owned (t .before) in
-    (offered (g .before), (g, t))
+    let w = issued (g .before) in
+    (offered (w .before), w, g, t)
 
 -- The tables as they are lent.
 abbrev lent : tie.Start → ReaderTables
 lent s =
     let a = s .args in
     readerTables
-    (fileTables (a .price .now) (a .offer-owner .now) (a .offer-code .now) (a .grocer-owner .now) (a .tally-grocer .now) (a .tally-box .now) (a .tally-code .now) (a .tally-count .now))
+    (fileTables
+    (offerTables (a .price .now) (a .offer-owner .now) (a .offer-code .now) (a .offer-issuer .now))
+    (a .grocer-owner .now)
+    (tallyTables (a .tally-grocer .now) (a .tally-box .now) (a .tally-code .now) (a .tally-count .now) (a .tally-issuer .now)))
     (a .tally-offer .now)
 
 -- None of them is short.
@@ -94,10 +116,19 @@ read-head-requires : tie.Need-read-head-requires
 read-head-requires c κs = has-header (kept c .sound)
 
 fill-offers-requires : tie.Need-fill-offers-requires
-fill-offers-requires c κs = let h = headed c in (known h .whole, free h .tables .offers)
+fill-offers-requires c κs =
+    let h = headed c in
+    let o = free h .tables .offers in
+    (known h .whole, (o .price, o .owner, o .code))
+
+fill-words-requires : tie.Need-fill-words-requires
+fill-words-requires c κs =
+    let h = headed (offered c .before) in
+    let w = known h .whole in
+    ((omega arith, omega (arith, w .most .offers), omega arith, free h .tables .offers .issuer), offer-room w)
 
 fill-owners-requires : tie.Need-fill-owners-requires
-fill-owners-requires c κs = let h = headed (offered c .before) in (known h .whole, free h .tables .grocerOwner)
+fill-owners-requires c κs = let h = head-issued (issued c) in (known h .whole, free h .tables .grocerOwner)
 
 fill-tallies-requires : tie.Need-fill-tallies-requires
 fill-tallies-requires c κs =
@@ -116,29 +147,49 @@ fill-tally-ends-requires c κs =
     let w = known h .whole in
     ((w, omega (arith, places-long p, w .most .tallies)), (free h .tables .tallies .count, free h .tallyOffer))
 
+tallies-at-requires : tie.Need-tallies-at-requires
+tallies-at-requires c κs = omega (arith, known (head-ended (ended c)) .whole .most .offers)
+
+-- The first tally block.
+first-is : (c : tie.After-tallies-at) → c .tallies-at .result ≡ talliesAt (asHead (head-ended (ended (c .before)) .read-head .result))
+first-is c = c .tallies-at .ensures
+
+fill-words-requires-2 : tie.Need-fill-words-requires-2
+fill-words-requires-2 c κs =
+    let a = c .before in
+    let h = head-ended (ended (a .before)) in
+    let w = known h .whole in
+    let e = first-is a in
+    ((omega (arith, e, w .most .offers), w .most .tallies, omega arith, free h .tables .tallies .issuer), λ i l. rw e (tally-room w i l))
+
 job-of-requires : tie.Need-job-of-requires
-job-of-requires c κs = known (head-ended (ended c)) .whole .most
+job-of-requires c κs = known (head-ended (tallies-end (last-issued c))) .whole .most
 
 returns-3 : tie.Need-returns-3
 returns-3 c =
-    let n = ended (c .before) in
-    let t = tallied (n .before .before .before) in
-    let g = owned (t .before) in
-    let o = offered (g .before) in
+    let z = words-end c in
+    let n = tallies-end z in
+    let q = calls c in
+    let o = q .0 in
+    let g = q .2 in
+    let t = q .3 in
     let h = headed (o .before) in
     let s = entry (h .before) in
     let e = h .read-head .ensures in
+    let f = s .args .file .now in
     read-job _ _ (asHead (h .read-head .result)) (c .job-of .ensures) (long (whole (refused (h .before)))) (sym (refused (h .before) .file-refusal .ensures .0) ∙ h .before .if2 .left) e
     (record {
       price = o .fill-offers .ensures .0;
       owner = o .fill-offers .ensures .1 .0;
       code = o .fill-offers .ensures .1 .1;
+      issuer = offer-issuers f _ _ (q .1 .fill-words .ensures);
       grocerOwner = g .fill-owners .ensures;
       tallyGrocer = t .fill-tallies .ensures .0;
       tallyBox = t .fill-tallies .ensures .1 .0;
       tallyCode = t .fill-tallies .ensures .1 .1;
       tallyCount = n .fill-tally-ends .ensures .0;
-      tallyOffer = places-stored (s .args .file .now) _ (s .args .tally-offer .now) _ e (kept (h .before) .placed) (n .fill-tally-ends .ensures .1);
+      tallyIssuer = tally-issuers f _ _ (first-is (z .before .before) ∙ ap talliesAt e) (z .fill-words2 .ensures);
+      tallyOffer = places-stored f _ (s .args .tally-offer .now) _ e (kept (h .before) .placed) (n .fill-tally-ends .ensures .1);
     })
 
 pub read-spec : {M : Type 1} → statement M
@@ -153,18 +204,23 @@ read-spec =
     returns-2
     read-head-requires
     fill-offers-requires
+    fill-words-requires
     fill-owners-requires
     fill-tallies-requires
     places-long
     fill-tally-ends-requires
+    tallies-at-requires
+    fill-words-requires-2
     job-of-requires
     (λ c. calls c .0 .fill-offers .kept .1 .1 .0)
     (λ c. calls c .0 .fill-offers .kept .1 .1 .1 .0)
     (λ c. calls c .0 .fill-offers .kept .1 .1 .1 .1 .0)
-    (λ c. calls c .1 .0 .fill-owners .kept .1 .1 .0)
-    (λ c. calls c .1 .1 .fill-tallies .kept .1 .1 .0)
-    (λ c. calls c .1 .1 .fill-tallies .kept .1 .1 .1 .0)
-    (λ c. calls c .1 .1 .fill-tallies .kept .1 .1 .1 .1 .0)
-    (λ c. ended (c .before) .fill-tally-ends .kept .1 .1 .1 .0)
-    (λ c. ended (c .before) .fill-tally-ends .kept .1 .1 .1 .1 .0)
+    (λ c. calls c .1 .fill-words .kept .1 .1 .1 .1 .0)
+    (λ c. calls c .2 .fill-owners .kept .1 .1 .0)
+    (λ c. calls c .3 .fill-tallies .kept .1 .1 .0)
+    (λ c. calls c .3 .fill-tallies .kept .1 .1 .1 .0)
+    (λ c. calls c .3 .fill-tallies .kept .1 .1 .1 .1 .0)
+    (λ c. tallies-end (words-end c) .fill-tally-ends .kept .1 .1 .1 .0)
+    (λ c. words-end c .fill-words2 .kept .1 .1 .1 .1 .0)
+    (λ c. tallies-end (words-end c) .fill-tally-ends .kept .1 .1 .1 .1 .0)
     returns-3)

@@ -4,7 +4,7 @@ use mathlib.Core.List.{List}
 use Prim.Native.Nat.{ℕ}
 use native.Mathlib.Nat.{le-of-eq}
 use denote.Ref.{now}
-use Rattle.format.specs.Tables.{ReaderTables, fileTables, readerTables}
+use Rattle.format.specs.Tables.{ReaderTables, offerTables, tallyTables, fileTables, readerTables}
 use Rattle.text.proofs.Puts.{reworded, shown}
 use Rattle.printing.specs.Printed.{blankJob}
 use Rattle.statements.proofs.Texts.{refused-text, grocers-few, job-text}
@@ -13,7 +13,7 @@ use Rattle.statements.proofs.settled.Tie as tie
 
 -- The entry, from the call of `read`.
 abbrev entry : tie.After-read → tie.Start
-entry r = r .before .before .before .before .before .before .before .before .before .before .before
+entry r = let b = r .before .before .before .before .before .before in b .before .before .before .before .before .before .before
 
 abbrev file : tie.After-read → List ℕ
 file r = now (entry r .args .file)
@@ -23,12 +23,15 @@ abbrev tables : tie.After-read → ReaderTables
 tables r =
     let w = r .read .last .1 in
     readerTables
-    (fileTables (w .0) (w .1 .0) (w .1 .1 .0) (w .1 .1 .1 .0) (w .1 .1 .1 .1 .0) (w .1 .1 .1 .1 .1 .0) (w .1 .1 .1 .1 .1 .1 .0) (w .1 .1 .1 .1 .1 .1 .1 .0))
-    (w .1 .1 .1 .1 .1 .1 .1 .1 .0)
+    (fileTables
+    (offerTables (w .0) (w .1 .0) (w .1 .1 .0) (w .1 .1 .1 .0))
+    (w .1 .1 .1 .1 .0)
+    (tallyTables (w .1 .1 .1 .1 .1 .0) (w .1 .1 .1 .1 .1 .1 .0) (w .1 .1 .1 .1 .1 .1 .1 .0) (w .1 .1 .1 .1 .1 .1 .1 .1 .0) (w .1 .1 .1 .1 .1 .1 .1 .1 .1 .0)))
+    (w .1 .1 .1 .1 .1 .1 .1 .1 .1 .1 .0)
 
 -- The call of `read`, from where all its tables are back; and from where the first is lent again.
 abbrev back : tie.After-tally-offer2 → tie.After-read
-back c = c .before .before .before .before .before .before .before .before .before
+back c = c .before .before .before .before .before .before .before .before .before .before .before
 
 abbrev was-read : tie.After-price3 → tie.After-read
 was-read c = back (c .before .before .before .before .before)
@@ -44,19 +47,19 @@ slice-aggregate-put-job-2 : tie.Need-slice-aggregate-put-job-2
 slice-aggregate-put-job-2 c = sym (was-read (c .before) .read .kept .1 .1 .0)
 
 slice-aggregate-put-job-3 : tie.Need-slice-aggregate-put-job-3
-slice-aggregate-put-job-3 c = sym (was-read (c .before .before) .read .kept .1 .1 .1 .1 .0)
+slice-aggregate-put-job-3 c = sym (was-read (c .before .before) .read .kept .1 .1 .1 .1 .1 .0)
 
 slice-aggregate-put-job-4 : tie.Need-slice-aggregate-put-job-4
-slice-aggregate-put-job-4 c = sym (was-read (c .before .before .before) .read .kept .1 .1 .1 .1 .1 .0)
+slice-aggregate-put-job-4 c = sym (was-read (c .before .before .before) .read .kept .1 .1 .1 .1 .1 .1 .0)
 
 slice-aggregate-put-job-5 : tie.Need-slice-aggregate-put-job-5
-slice-aggregate-put-job-5 c = sym (was-read (c .before .before .before .before) .read .kept .1 .1 .1 .1 .1 .1 .0)
+slice-aggregate-put-job-5 c = sym (was-read (c .before .before .before .before) .read .kept .1 .1 .1 .1 .1 .1 .1 .0)
 
 slice-aggregate-put-job-6 : tie.Need-slice-aggregate-put-job-6
-slice-aggregate-put-job-6 c = sym (was-read (c .before .before .before .before .before) .read .kept .1 .1 .1 .1 .1 .1 .1 .1 .1 .0)
+slice-aggregate-put-job-6 c = sym (was-read (c .before .before .before .before .before) .read .kept .1 .1 .1 .1 .1 .1 .1 .1 .1 .1 .1 .0)
 
 slice-aggregate-put-job-7 : tie.Need-slice-aggregate-put-job-7
-slice-aggregate-put-job-7 c = sym (was-read (lent c) .read .kept .1 .1 .1 .1 .1 .1 .1 .1 .0)
+slice-aggregate-put-job-7 c = sym (was-read (lent c) .read .kept .1 .1 .1 .1 .1 .1 .1 .1 .1 .0)
 
 put-job-requires : tie.Need-put-job-requires
 unfolding blankJob
@@ -83,6 +86,8 @@ pub settled-spec : {M : Type 1} → statement M
 settled-spec =
     tie.close
     (tie.spec
+    (λ c. refl)
+    (λ c. refl)
     (λ c. refl)
     (λ c. refl)
     (λ c. refl)

@@ -3,7 +3,7 @@ use mathlib.Core.Path.{_≡_, sym, ap, _∙_}
 use denote.Ref.{now}
 use borrow.Author.Needs.{needs}
 use Rattle.format.specs.Job.{Head}
-use Rattle.format.specs.Tables.{FileTables, fileTables, writeRefusal, writeResult}
+use Rattle.format.specs.Tables.{FileTables, offerTables, tallyTables, fileTables, writeRefusal, writeResult}
 use Rattle.blocks.specs.Due.{asHead}
 use Rattle.writer.proofs.Written.{ready, refused-is, written-is}
 use Rattle.writer.proofs.write.Statement.{statement}
@@ -11,7 +11,7 @@ use Rattle.writer.proofs.write.Tie as tie
 
 -- The entry, from the call of `head_of`; that call from those after it.
 abbrev entry : tie.After-head-of → tie.Start
-entry c = c .before .before .before .before .before .before .before .before .before
+entry c = c .before .before .before .before .before .before .before .before .before .before .before
 
 abbrev headed : tie.After-write-refusal → tie.After-head-of
 headed c = c .before .before
@@ -23,7 +23,8 @@ put c = c .before .before .before
 abbrev tables : tie.Start → FileTables
 tables s =
     let a = s .args in
-    fileTables (now (a .price)) (now (a .offer-owner)) (now (a .offer-code)) (now (a .grocer-owner)) (now (a .tally-grocer)) (now (a .tally-box)) (now (a .tally-code)) (now (a .tally-count))
+    fileTables (offerTables (now (a .price)) (now (a .offer-owner)) (now (a .offer-code)) (now (a .offer-issuer))) (now (a .grocer-owner))
+    (tallyTables (now (a .tally-grocer)) (now (a .tally-box)) (now (a .tally-code)) (now (a .tally-count)) (now (a .tally-issuer)))
 
 -- Nothing is refused.
 taken : (c : tie.Else1) → let h = headed (c .before) in let s = entry h in writeRefusal (asHead (h .head-of .result)) (tables s) (now (s .args .out)) ≡ 0

@@ -1,4 +1,4 @@
--- `checks::codes::some_none` meets its contract. The invariant: the tests of the first i codes are joined. Assumes nothing.
+-- `checks::codes::some_none` meets its contract. The invariant: the tests of the first i tallies are joined. Assumes nothing.
 use mathlib.Core.Path.{_≡_, refl, subst}
 use mathlib.Core.Bool.{false}
 use mathlib.Core.List.{List}
@@ -10,18 +10,18 @@ use borrow.Author.Needs.{needs}
 use Rattle.laws.specs.Below.{any}
 use Rattle.laws.proofs.Below.{any-more}
 use Rattle.index.specs.Index.{IsIndex, sharesNumber, placeOf}
-use Rattle.format.specs.Codes.{codeNumber}
-use Rattle.format.specs.Tables.{codeOf}
+use Rattle.format.specs.Codes.{nameNumber}
+use Rattle.format.specs.Tables.{nameIn}
 use denote.Ref.{now}
 use Rattle.checks.proofs.codes.some_none.Statement.{statement}
 use Rattle.checks.proofs.codes.some_none.Tie as tie
 
 abbrev Inv-loop : tie.InvT-loop
-Inv-loop keys places n tcode t bad₀ i₀ bad i =
-    (i ≤ t) × ((numbers : List ℕ) → IsIndex keys places numbers n → sharesNumber numbers n ≡ false → bad ≡ any i (λ i. eqb (placeOf numbers n (codeNumber (codeOf tcode i))) n))
+Inv-loop keys places n tcode tissuer t bad₀ i₀ bad i =
+    (i ≤ t) × ((numbers : List ℕ) → IsIndex keys places numbers n → sharesNumber numbers n ≡ false → bad ≡ any i (λ i. eqb (placeOf numbers n (nameNumber (nameIn tcode tissuer i))) n))
 
 abbrev μ-loop : tie.MeasureT-loop
-μ-loop keys places n tcode t bad₀ i₀ bad i = t - i
+μ-loop keys places n tcode tissuer t bad₀ i₀ bad i = t - i
 
 loop-holds : tie.Need-loop-holds Inv-loop μ-loop
 unfolding any
@@ -30,8 +30,8 @@ loop-holds c = (omega arith, λ numbers x d. refl)
 names-none-requires : tie.Need-names-none-requires Inv-loop μ-loop
 names-none-requires c κs =
     let l = c .before in
-    let s = l .before .before .before .before in
-    (s .pre .0, (omega arith, s .pre .1 .1 .code (l .loop .i) (c .loop-test .taken)))
+    let s = l .before .before .before .before .before in
+    (s .pre .0, (omega arith, omega arith, s .pre .1 .2 .code (l .loop .i) (c .loop-test .taken)))
 
 loop-again : tie.Need-loop-again Inv-loop μ-loop
 loop-again c =
@@ -41,8 +41,8 @@ loop-again c =
 returns : tie.Need-returns Inv-loop μ-loop
 returns c =
     let l = c .before in
-    let s = l .before .before .before .before in
-    λ numbers x d. subst (λ (i : ℕ). l .loop .bad ≡ any i (λ i. eqb (placeOf numbers (s .args .n) (codeNumber (codeOf (now (s .args .tally-code)) i))) (s .args .n)))
+    let s = l .before .before .before .before .before in
+    λ numbers x d. subst (λ (i : ℕ). l .loop .bad ≡ any i (λ i. eqb (placeOf numbers (s .args .n) (nameNumber (nameIn (now (s .args .tally-code)) (now (s .args .tally-issuer)) i))) (s .args .n)))
     (le-antisymm (l .loop .inv .0) (c .loop-test .left)) (l .loop .inv .1 numbers x d)
 
 pub some-none-spec : {M : Type 1} → statement M

@@ -6,7 +6,7 @@ use Rattle.checks.proofs.records.bad_offer.Tie as tie
 
 returns : tie.Need-returns
 unfolding badOffer
-returns c = rw (c .before .before .size-of .ensures .0, c .is-code .ensures)
+returns c = λ s. rw (c .before .before .size-of .ensures .0, c .is-code .ensures)
 
 pub bad-offer-spec : {M : Type 1} → statement M
 bad-offer-spec =

@@ -1,5 +1,4 @@
 -- `checks::records::bad_records` meets its contract. Assumes nothing.
-use borrow.Author.Needs.{needs}
 use Rattle.checks.proofs.Joining.{record-tests}
 use Rattle.checks.proofs.records.bad_records.Statement.{statement}
 use Rattle.checks.proofs.records.bad_records.Tie as tie
@@ -12,7 +11,7 @@ pub bad-records-spec : {M : Type 1} → statement M
 bad-records-spec =
     tie.close
     (tie.spec
-    (λ c κs. entry c .pre .offers)
-    (λ c κs. entry (c .before) .pre .grocerOwner)
-    (λ c κs. entry (c .before .before) .pre .tallies)
-    (λ c. record-tests _ _ (c .before .before .bad-offers .ensures) (c .before .bad-owners .ensures) (c .bad-tallies .ensures)))
+    (λ c κs. entry c .pre .0)
+    (λ c κs. entry (c .before) .pre .1 .0)
+    (λ c κs. entry (c .before .before) .pre .1 .1)
+    (λ c. λ s s′. record-tests _ _ (c .before .before .bad-offers .ensures s) (c .before .bad-owners .ensures) (c .bad-tallies .ensures s′)))

@@ -1,6 +1,7 @@
 -- `checks::records::bad_tallies` meets its contract. The invariant: the tests of the first i records are joined. Assumes nothing.
 use mathlib.Core.Path.{_≡_, refl}
-use Prim.Native.Nat.{_≤_, _-_}
+use mathlib.Core.List.{List}
+use Prim.Native.Nat.{ℕ, _≤_, _-_}
 use native.Mathlib.Omega.{arith}
 use borrow.Author.Needs.{needs}
 use Rattle.laws.specs.Below.{any}
@@ -12,27 +13,27 @@ use Rattle.checks.proofs.records.bad_tallies.Statement.{statement}
 use Rattle.checks.proofs.records.bad_tallies.Tie as tie
 
 abbrev Inv-loop : tie.InvT-loop
-Inv-loop head grocer box code count n bad₀ i₀ bad i = (i ≤ n) × (bad ≡ any i (λ i. badTally (asHead head) (tallyOf (tallyTables grocer box code count) i)))
+Inv-loop head grocer box code count n bad₀ i₀ bad i = (i ≤ n) × ((s : List ℕ) → bad ≡ any i (λ i. badTally (asHead head) (tallyOf (tallyTables grocer box code count s) i)))
 
 abbrev μ-loop : tie.MeasureT-loop
 μ-loop head grocer box code count n bad₀ i₀ bad i = n - i
 
 loop-holds : tie.Need-loop-holds Inv-loop μ-loop
 unfolding any
-loop-holds c = (omega arith, refl)
+loop-holds c = (omega arith, λ s. refl)
 
 bad-tally-requires : tie.Need-bad-tally-requires Inv-loop μ-loop
 bad-tally-requires c κs =
     let l = c .before in
     let p = l .before .before .before .before .pre in
     let h = c .loop-test .taken in
-    ((omega (arith, p .grocer), omega (arith, p .box)), (omega (arith, p .code), omega (arith, p .count)))
+    ((omega (arith, p .0 .0), omega (arith, p .0 .1)), (omega (arith, p .1 .0), omega (arith, p .1 .1)))
 
 loop-again : tie.Need-loop-again Inv-loop μ-loop
-loop-again c = (omega arith, any-more _ _ _ _ (c .before .before .loop .inv .1) (c .bad-tally .ensures))
+loop-again c = (omega arith, λ s. any-more _ _ _ _ (c .before .before .loop .inv .1 s) (c .bad-tally .ensures s))
 
 returns : tie.Need-returns Inv-loop μ-loop
-returns c = any-end _ _ _ _ (omega arith) (c .before .loop .inv .1)
+returns c = λ s. any-end _ _ _ _ (omega arith) (c .before .loop .inv .1 s)
 
 pub bad-tallies-spec : {M : Type 1} → statement M
 bad-tallies-spec =

@@ -4,10 +4,10 @@ use mathlib.Core.Bool.{false}
 use denote.Ref.{now}
 use borrow.Author.Needs.{needs}
 use Rattle.format.specs.Job.{badSizes, badRecords}
-use Rattle.format.specs.Tables.{FileTables, fileTables, fileJobOf}
+use Rattle.format.specs.Tables.{FileTables, offerTables, tallyTables, fileTables, fileJobOf}
 use Rattle.format.proofs.Order.{job-4, job-6}
 use Rattle.blocks.specs.Due.{asHead}
-use Rattle.checks.proofs.Joining.{job-rest, most, has-codes, offer-codes, tally-codes}
+use Rattle.checks.proofs.Joining.{job-rest, most, has-names, offer-codes, tally-codes}
 use Rattle.checks.proofs.refusal.job_refusal.Statement.{statement}
 use Rattle.checks.proofs.refusal.job_refusal.Tie as tie
 
@@ -15,42 +15,58 @@ use Rattle.checks.proofs.refusal.job_refusal.Tie as tie
 abbrev tables : tie.Start → FileTables
 tables s =
     let a = s .args in
-    fileTables (now (a .price)) (now (a .offer-owner)) (now (a .offer-code)) (now (a .grocer-owner)) (now (a .tally-grocer)) (now (a .tally-box)) (now (a .tally-code)) (now (a .tally-count))
+    fileTables (offerTables (now (a .price)) (now (a .offer-owner)) (now (a .offer-code)) (now (a .offer-issuer))) (now (a .grocer-owner))
+    (tallyTables (now (a .tally-grocer)) (now (a .tally-box)) (now (a .tally-code)) (now (a .tally-count)) (now (a .tally-issuer)))
 
 -- The function's entry, from its first check.
 abbrev first : tie.After-bad-sizes → tie.Start
-first c = c .before .before .before .before .before .before .before .before
+first c = c .before .before .before .before .before .before .before .before .before .before
 
 -- 4 is not met.
 sizes-fine : (c : tie.Else1) → badSizes (asHead (first (c .before) .args .head)) ≡ false
 sizes-fine c = sym (c .before .bad-sizes .ensures) ∙ c .if1 .left
 
+-- What the records say of 6, whatever their issuers.
+records-at : (c : tie.After-bad-records) → let s = first (c .before .before) in badRecords (fileJobOf (asHead (s .args .head)) (tables s)) ≡ c .bad-records .result
+records-at c =
+    let a = first (c .before .before) .args in
+    sym (c .bad-records .ensures (now (a .offer-issuer)) (now (a .tally-issuer)))
+
 -- 6 is not met.
 records-fine : (c : tie.Else2) → let s = first (c .before .before .before) in badRecords (fileJobOf (asHead (s .args .head)) (tables s)) ≡ false
-records-fine c = sym (c .before .bad-records .ensures) ∙ c .if2 .left
+records-fine c = records-at (c .before) ∙ c .if2 .left
 
 returns : tie.Need-returns
 unfolding fileJobOf
 returns c = sym (job-4 _ (sym (c .before .bad-sizes .ensures) ∙ c .if1 .taken))
 
+bad-records-requires : tie.Need-bad-records-requires
+bad-records-requires c κs =
+    let p = first (c .before) .pre in
+    let o = p .offers in
+    let t = p .tallies in
+    ((o .price, o .owner, o .code), (p .grocerOwner, ((t .grocer, t .box), (t .code, t .count))))
+
 returns-2 : tie.Need-returns-2
 unfolding fileJobOf
-returns-2 c = sym (job-6 _ (sizes-fine (c .before .before)) (sym (c .before .bad-records .ensures) ∙ c .if2 .taken))
+returns-2 c = sym (job-6 _ (sizes-fine (c .before .before)) (records-at (c .before) ∙ c .if2 .taken))
 
-codes-refusal-requires : tie.Need-codes-refusal-requires
-codes-refusal-requires c κs =
+names-refusal-requires : tie.Need-names-refusal-requires
+names-refusal-requires c κs =
     let e = c .before .before in
     let s = first (e .before) in
     let h = asHead (s .args .head) in
     let r = records-fine c in
-    ((most h (sizes-fine e), (s .pre .offers .code, s .pre .tallies .code)), (offer-codes h (tables s) r, tally-codes h (tables s) r))
+    let o = s .pre .offers in
+    let t = s .pre .tallies in
+    ((most h (sizes-fine e), o .code, o .issuer), ((t .code, t .issuer), (offer-codes h (tables s) r, tally-codes h (tables s) r)))
 
 returns-3 : tie.Need-returns-3
 unfolding fileJobOf
 returns-3 c =
     let e = c .before in
     let s = first (e .before .before .before) in
-    c .codes-refusal .ensures _ (has-codes (asHead (s .args .head)) (tables s)) ∙ sym (job-rest _ (sizes-fine (e .before .before)) (records-fine e))
+    c .names-refusal .ensures _ (has-names (asHead (s .args .head)) (tables s)) ∙ sym (job-rest _ (sizes-fine (e .before .before)) (records-fine e))
 
 pub job-refusal-spec : {M : Type 1} → statement M
 job-refusal-spec =
@@ -58,7 +74,7 @@ job-refusal-spec =
     (tie.spec
     (λ c κs. search needs)
     returns
-    (λ c κs. first (c .before) .pre)
+    bad-records-requires
     returns-2
-    codes-refusal-requires
+    names-refusal-requires
     returns-3)

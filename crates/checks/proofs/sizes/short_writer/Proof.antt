@@ -1,12 +1,11 @@
 -- `checks::sizes::short_writer` meets its contract. Assumes nothing.
-use borrow.Author.Needs.{needs}
 use Rattle.format.specs.Tables.{shortTables, shortWriter}
 use Rattle.checks.proofs.sizes.short_writer.Statement.{statement}
 use Rattle.checks.proofs.sizes.short_writer.Tie as tie
 
 -- The entry, from the first call.
-abbrev entry : tie.After-shared-slice-known8 → tie.Start
-entry c = c .before .before .before .before .before .before .before .before
+abbrev entry : tie.After-shared-slice-known10 → tie.Start
+entry c = c .before .before .before .before .before .before .before .before .before .before
 
 returns : tie.Need-returns
 unfolding shortWriter shortTables

@@ -40,7 +40,7 @@ word32-requires : tie.Need-word32-requires Inv-loop μ-loop
 word32-requires c κs = omega (arith, room c)
 
 slice-write-price : tie.Need-slice-write-price Inv-loop μ-loop
-slice-write-price c = let l = c .before .before .before in omega (arith, entry l .pre .1 .price, l .loop .inv .1)
+slice-write-price c = let l = c .before .before .before in omega (arith, entry l .pre .1 .0, l .loop .inv .1)
 
 add-wide : tie.Need-add-wide Inv-loop μ-loop
 add-wide c = omega (arith, room (c .before))
@@ -49,7 +49,7 @@ read-wide : tie.Need-shared-slice-read-wide Inv-loop μ-loop
 read-wide c = omega (arith, room (c .before .before))
 
 slice-write-offer-owner : tie.Need-slice-write-offer-owner Inv-loop μ-loop
-slice-write-offer-owner c = let l = c .before .before .before .before .before in omega (arith, entry l .pre .1 .owner, l .loop .inv .3)
+slice-write-offer-owner c = let l = c .before .before .before .before .before in omega (arith, entry l .pre .1 .1, l .loop .inv .3)
 
 add-copy-code : tie.Need-add-copy-code Inv-loop μ-loop
 add-copy-code c = omega (arith, room (c .before .before .before))
@@ -58,7 +58,7 @@ copy-code-requires : tie.Need-copy-code-requires Inv-loop μ-loop
 copy-code-requires c κs =
     let at = c .before .before .before .before in
     let l = at .before .before in
-    (omega (arith, room at), omega (arith, entry l .pre .1 .code, l .loop .inv .5))
+    (omega (arith, room at), omega (arith, entry l .pre .1 .2, l .loop .inv .5))
 
 loop-again : tie.Need-loop-again Inv-loop μ-loop
 loop-again c =
@@ -75,11 +75,11 @@ loop-again c =
     let long = k .copy-code .kept .1 .1 .0 ∙ v .5 in (
       omega arith,
       simp length-set (v .1),
-      fill-more _ i _ _ _ (v .2) (omega (arith, s .pre .1 .price)) (p .word32 .ensures ∙ offer-price f i e),
+      fill-more _ i _ _ _ (v .2) (omega (arith, s .pre .1 .0)) (p .word32 .ensures ∙ offer-price f i e),
       simp length-set (v .3),
-      fill-more _ i _ _ _ (v .4) (omega (arith, s .pre .1 .owner)) (o .wide .ensures ∙ offer-owner f i e),
+      fill-more _ i _ _ _ (v .4) (omega (arith, s .pre .1 .1)) (o .wide .ensures ∙ offer-owner f i e),
       long,
-      codes-more _ i _ _ _ _ (v .6) (omega (arith, s .pre .1 .code)) long (k .copy-code .ensures) (offer-code f i e),
+      codes-more _ i _ _ _ _ (v .6) (omega (arith, s .pre .1 .2)) long (k .copy-code .ensures) (offer-code f i e),
     )
 
 returns : tie.Need-returns Inv-loop μ-loop

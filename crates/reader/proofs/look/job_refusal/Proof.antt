@@ -4,7 +4,9 @@ use native.Mathlib.Omega.{arith}
 use borrow.Author.Needs.{needs}
 use Rattle.format.specs.Job.{Head, shared}
 use Rattle.format.specs.File.{decode}
-use Rattle.reader.proofs.Places.{shared-is, last-7, last-8, last-0}
+use Rattle.index.specs.Index.{sharesNumber}
+use Rattle.fills.proofs.Naming.{shared-is}
+use Rattle.reader.proofs.Places.{last-7, last-8, last-0}
 use Rattle.reader.proofs.look.job_refusal.Statement.{statement}
 use Rattle.reader.proofs.look.job_refusal.Tie as tie
 
@@ -30,11 +32,13 @@ index-offers-requires c κs =
 
 -- What the index says of shared numbers is what the format says.
 shared-told : (c : tie.After-shared) → shared (decode (entry (made c) .args .f .now)) ≡ c .shared .result
+unfolding sharesNumber
 shared-told c =
     let x = made c in
     let s = entry x in
     let i = x .index-offers .ensures in
-    sym (shared-is (decode (s .args .f .now)) (s .args .head .offers) _ (ap (λ (h : Head). h .offers) (s .pre .0 .whole .says)) (i .right)) ∙ sym (c .shared .ensures _ _ (i .index))
+    sym (shared-is (decode (s .args .f .now)) (i .numbers) (s .args .head .offers) (sym (ap (λ (h : Head). h .offers) (s .pre .0 .whole .says))) (s .pre .0 .offer) (i .right))
+    ∙ sym (c .shared .ensures _ (i .numbers) (i .index))
 
 shared-requires : tie.Need-shared-requires
 shared-requires c κs =

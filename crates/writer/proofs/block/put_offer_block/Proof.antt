@@ -11,7 +11,7 @@ use Rattle.writer.proofs.block.put_offer_block.Tie as tie
 
 -- The entry, and the calls, each from the next.
 abbrev entry : tie.After-part-of → tie.Start
-entry c = c .before .before .before .before .before
+entry c = c .before .before .before .before .before .before
 
 abbrev parted : tie.After-put-head → tie.After-part-of
 parted c = c .before .before
@@ -26,9 +26,13 @@ put-offers-requires : tie.Need-put-offers-requires
 put-offers-requires c κs =
     let h = headed c in
     let s = entry (parted h) in
+    let l = s .pre .1 .0 in
     let e = parted h .part-of .ensures in (
       (omega (arith, e), omega (arith, e, h .put-head .kept .0, s .pre .0)),
-      ((omega (arith, e, s .pre .1 .0 .price), (omega (arith, e, s .pre .1 .0 .owner), omega (arith, e, s .pre .1 .0 .code))), record { small = λ i h. s .pre .1 .1 .small i (omega (arith, h, e)) }),
+      (
+        (omega (arith, e, l .price), omega (arith, e, l .owner)),
+        ((omega (arith, e, l .code), omega (arith, e, l .issuer)), record { small = λ i h. s .pre .1 .1 .small i (omega (arith, h, e)) }),
+      ),
     )
 
 close-block-requires : tie.Need-close-block-requires
@@ -52,7 +56,7 @@ returns c =
     let p = parted h in
     let s = entry p in
     let a = s .args in
-    records-made 1 1 (a .n) (a .b) _ (λ i. offerBytes (offerOf (offerTables (now (a .price)) (now (a .offer-owner)) (now (a .offer-code))) i)) (now (a .out)) _ _ _
+    records-made 1 1 (a .n) (a .b) _ (λ i. offerBytes (offerOf (offerTables (now (a .price)) (now (a .offer-owner)) (now (a .offer-code)) (now (a .offer-issuer))) i)) (now (a .out)) _ _ _
     (p .part-of .ensures) (omega (arith, s .pre .0)) (h .put-head .ensures) (f .put-offers .ensures) (z .close-block .ensures)
 
 pub put-offer-block-spec : {M : Type 1} → statement M

@@ -5,11 +5,10 @@ use mathlib.Core.List.{[], _∷_}
 use native.Mathlib.Omega.{arith}
 use lib.ListN.{length, getD}
 use denote.Ref.{now}
-use borrow.Author.Needs.{needs}
 use Rattle.format.specs.Bytes.{bytes16}
 use Rattle.format.specs.Blocks.{blocksFor, tallyBytes}
 use Rattle.format.specs.File.{blockByte}
-use Rattle.format.specs.Tables.{FileTables, fileTables, tallyOf}
+use Rattle.format.specs.Tables.{FileTables, offerTables, tallyTables, fileTables, tallyOf}
 use Rattle.blocks.specs.Due.{asHead}
 use Rattle.writer.specs.Puts.{put, bytesOf, bodyOf, recordBody, blocksOf}
 use Rattle.writer.proofs.Written.{file-put}
@@ -18,7 +17,7 @@ use Rattle.writer.proofs.file.put_file.Tie as tie
 
 -- The calls, each from the next, and the entry.
 abbrev start : tie.After-slice-known → tie.Start
-start c = c .before .before .before .before .before .before .before .before
+start c = c .before .before .before .before .before .before .before .before .before .before
 
 abbrev entry : tie.After-grocers-at → tie.Start
 entry c = start (c .before)
@@ -46,7 +45,8 @@ plan-owned c = plan-offered (offered (c .before))
 abbrev tables : tie.Start → FileTables
 tables s =
     let a = s .args in
-    fileTables (now (a .price)) (now (a .offer-owner)) (now (a .offer-code)) (now (a .grocer-owner)) (now (a .tally-grocer)) (now (a .tally-box)) (now (a .tally-code)) (now (a .tally-count))
+    fileTables (offerTables (now (a .price)) (now (a .offer-owner)) (now (a .offer-code)) (now (a .offer-issuer))) (now (a .grocer-owner))
+    (tallyTables (now (a .tally-grocer)) (now (a .tally-box)) (now (a .tally-code)) (now (a .tally-count)) (now (a .tally-issuer)))
 
 -- The buffer keeps its length.
 long-offered : (c : tie.After-put-offer-blocks) → length (c .put-offer-blocks .last .0) ≡ length (now (entry (plan-offered c) .args .out))

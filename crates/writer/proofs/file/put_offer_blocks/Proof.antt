@@ -16,21 +16,23 @@ use Rattle.writer.proofs.file.put_offer_blocks.Statement.{statement}
 use Rattle.writer.proofs.file.put_offer_blocks.Tie as tie
 
 abbrev Inv-loop : tie.InvT-loop
-Inv-loop out₀ n price owner code blocks b₀ out b =
-    (b ≤ blocks) × (length out ≡ length out₀) × (out ≡ put 512 (b * 512) (blocksOf (recordBody 1 1 n (λ i. offerBytes (offerOf (offerTables price owner code) i)))) out₀)
+Inv-loop out₀ n price owner code issuer blocks b₀ out b =
+    (b ≤ blocks) × (length out ≡ length out₀) × (out ≡ put 512 (b * 512) (blocksOf (recordBody 1 1 n (λ i. offerBytes (offerOf (offerTables price owner code issuer) i)))) out₀)
 
 abbrev μ-loop : tie.MeasureT-loop
-μ-loop out₀ n price owner code blocks b₀ out b = blocks - b
+μ-loop out₀ n price owner code issuer blocks b₀ out b = blocks - b
 
 loop-holds : tie.Need-loop-holds Inv-loop μ-loop
 loop-holds c = (omega arith, refl, put-none _ _ _)
 
 -- The entry, from the call before the loop, and the block's body.
 abbrev entry : tie.After-blocks-for Inv-loop μ-loop → tie.Start Inv-loop μ-loop
-entry c = c .before .before .before .before .before
+entry c = c .before .before .before .before .before .before
 
 abbrev body : tie.Start Inv-loop μ-loop → ℕ → ℕ → ℕ
-body s = recordBody 1 1 (s .args .n) (λ i. offerBytes (offerOf (offerTables (now (s .args .price)) (now (s .args .offer-owner)) (now (s .args .offer-code))) i))
+body s =
+    let a = s .args in
+    recordBody 1 1 (a .n) (λ i. offerBytes (offerOf (offerTables (now (a .price)) (now (a .offer-owner)) (now (a .offer-code)) (now (a .offer-issuer))) i))
 
 put-offer-block-requires : tie.Need-put-offer-block-requires Inv-loop μ-loop
 put-offer-block-requires c κs =
