@@ -59,14 +59,15 @@ word32-requires c κs = omega (arith, room c)
 write-count : tie.Need-slice-set-from-v Inv-loop μ-loop
 write-count c = let l = c .before .before .before .before in omega (arith, entry l .pre .1 .0, l .loop .inv .1)
 
-write-issuer : tie.Need-slice-write-tally-issuer Inv-loop μ-loop
-write-issuer c =
-    let l = c .before .before .before .before .before .before in
-    omega (arith, entry l .pre .1 .1, l .loop .inv .3)
+-- The loop, from where the issuer is written, and from where the place is read.
+abbrev issued : tie.After-narrow Inv-loop μ-loop → tie.At-loop Inv-loop μ-loop
+issued c = c .before .before .before .before .before .before
 
--- The loop, from where the place is read.
 abbrev turn : tie.After-shared-slice-known3 Inv-loop μ-loop → tie.At-loop Inv-loop μ-loop
-turn c = c .before .before .before .before .before .before .before
+turn c = issued (c .before)
+
+write-issuer : tie.Need-slice-write-tally-issuer Inv-loop μ-loop
+write-issuer c = let l = issued c in omega (arith, entry l .pre .1 .1, l .loop .inv .3)
 
 loop-again : tie.Need-loop-again Inv-loop μ-loop
 loop-again c =
