@@ -124,19 +124,23 @@ pub fn fill_tally_ends(
     head: Head,
     places: &[u16],
     tally_count: &mut [i32],
+    tally_issuer: &mut [u16],
     tally_offer: &mut [u16],
 )
     requires { ⌜ Whole (now f) (asHead head) × (head .tallies ≤ length (now places)) ⌝ }
-    requires { ⌜ (head .tallies ≤ length (now «tally_count»)) × (head .tallies ≤ length (now «tally_offer»)) ⌝ }
+    requires { ⌜ (head .tallies ≤ length (now «tally_count»)) × (head .tallies ≤ length (now «tally_issuer»)) × (head .tallies ≤ length (now «tally_offer»)) ⌝ }
     ensures { λ _. ⌜ now («tally_count» .exit) ≡ overwrite (head .tallies) (λ i. decode (now (f .entry)) .tally i .count) (now («tally_count» .entry)) ⌝ }
+    ensures { λ _. ⌜ now («tally_issuer» .exit) ≡ overwrite (head .tallies) (λ i. decode (now (f .entry)) .tally i .issuer) (now («tally_issuer» .entry)) ⌝ }
     ensures { λ _. ⌜ now («tally_offer» .exit) ≡ overwrite (head .tallies) (λ i. getD (now (places .entry)) i 0) (now («tally_offer» .entry)) ⌝ }
 {
     let first = tallies_at(head);
     let t = head.tallies;
     let mut i: usize = 0;
     while i < t {
-        let v = signed(word32(f, record_at(first, i) + 14));
+        let at = record_at(first, i);
+        let v = signed(word32(f, at + 14));
         tally_count[i] = v;
+        tally_issuer[i] = narrow(word16(f, at + 18));
         tally_offer[i] = places[i];
         i += 1;
     }

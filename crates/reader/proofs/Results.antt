@@ -12,8 +12,8 @@ use Rattle.laws.proofs.Tables.{overwrite-cong}
 use Rattle.laws.proofs.Bools.{or-off}
 use Rattle.format.specs.Job.{Head, placeOf}
 use Rattle.format.specs.Bytes.{from, after, word16}
-use Rattle.format.specs.Blocks.{offersAt, talliesAt}
-use Rattle.format.specs.File.{readOffer, readTally, recordAt, decode}
+use Rattle.format.specs.Blocks.{offersAt}
+use Rattle.format.specs.File.{readOffer, recordAt, decode}
 use Rattle.format.specs.Refusals.{fileRefusal}
 use Rattle.format.specs.Tables.{ReaderTables, storeCodes, storeOffers, storeTallies, store, storeRead, ReadAnswer, sizes, refused, largest, shortTables, shortReader, Long, readRefusal, readResult}
 use Rattle.blocks.specs.Due.{Most}
@@ -48,17 +48,11 @@ filled-stored f l l′ w =
       tallyOffer = w .tallyOffer i;
     }
 
--- The words at bytes 16 and 17 of the offers are their issuers,
+-- The words at bytes 16 and 17 of the offers are their issuers.
 pub offer-issuers : (f old : List ℕ) {new : List ℕ} (n : ℕ) → new ≡ overwrite n (λ i. word16 (after (from f (recordAt offersAt i)) 16)) old →
     new ≡ overwrite n (λ i. decode f .offer i .issuer) old
 unfolding decode readOffer
 offer-issuers f old n w = w
-
--- and those at bytes 18 and 19 of the tallies theirs.
-pub tally-issuers : (f old : List ℕ) {new : List ℕ} (n : ℕ) {first : ℕ} → first ≡ talliesAt (decode f .head) →
-    new ≡ overwrite n (λ i. word16 (after (from f (recordAt first i)) 18)) old → new ≡ overwrite n (λ i. decode f .tally i .issuer) old
-unfolding decode readTally
-tally-issuers f old n e w = w ∙ ap (λ (k : ℕ). overwrite n (λ i. word16 (after (from f (recordAt k i)) 18)) old) e
 
 -- The places that were kept are the places that are stored.
 pub places-stored : (f places old : List ℕ) {new : List ℕ} (h : Head) → h ≡ decode f .head → Placed (decode f) places (decode f .head .tallies) → new ≡ overwrite (h .tallies) (λ i. getD places i 0) old →

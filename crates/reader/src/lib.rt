@@ -15,7 +15,6 @@ use blocks::plan::MAX_GROCERS;
 use blocks::plan::MAX_OFFERS;
 use blocks::plan::MAX_TALLIES;
 use blocks::plan::read_head;
-use blocks::plan::tallies_at;
 use blocks::refusals::shape_refusal;
 use fills::fill::fill_offers;
 use fills::fill::fill_owners;
@@ -109,7 +108,6 @@ pub fn read(
     fill_words(file, 1, head.offers, 16, offer_issuer);
     fill_owners(file, head, grocer_owner);
     fill_tallies(file, head, tally_grocer, tally_box, tally_code);
-    fill_tally_ends(file, head, &places, tally_count, tally_offer);
-    fill_words(file, tallies_at(head), head.tallies, 18, tally_issuer);
+    fill_tally_ends(file, head, &places, tally_count, tally_issuer, tally_offer);
     job_of(head)
 }

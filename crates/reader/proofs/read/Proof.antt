@@ -1,16 +1,15 @@
 -- `reader::read` meets its contract. Assumes nothing.
-use mathlib.Core.Path.{_≡_, sym, ap, _∙_}
+use mathlib.Core.Path.{_≡_, sym, _∙_}
 use mathlib.Core.Bool.{false}
 use native.Mathlib.Omega.{arith}
 use lib.ListN.{length}
 use borrow.Author.Needs.{needs}
 use Rattle.format.specs.Tables.{ReaderTables, offerTables, tallyTables, fileTables, readerTables, shortOffers, shortTallies, shortTables, shortReader}
-use Rattle.format.specs.Blocks.{talliesAt}
 use Rattle.blocks.specs.Due.{asHead}
-use Rattle.fills.proofs.Records.{offer-room, tally-room}
+use Rattle.fills.proofs.Records.{offer-room}
 use Rattle.reader.specs.Sound.{Kept, Sound}
 use Rattle.reader.proofs.Shapes.{has-header, sound-read}
-use Rattle.reader.proofs.Results.{Room, room, read-20, read-file, read-job, offer-issuers, tally-issuers, places-stored}
+use Rattle.reader.proofs.Results.{Room, room, read-20, read-file, read-job, offer-issuers, places-stored}
 use Rattle.reader.proofs.read.Statement.{statement}
 use Rattle.reader.proofs.read.Tie as tie
 
@@ -43,11 +42,8 @@ owned c = c .before .before .before .before .before
 abbrev tallied : tie.After-places3 → tie.After-fill-tallies
 tallied c = c .before .before .before .before .before .before .before
 
-abbrev ended : tie.After-slice-known19 → tie.After-fill-tally-ends
-ended c = c .before .before .before
-
-abbrev last-issued : tie.After-slice-known20 → tie.After-fill-words2
-last-issued c = c .before .before
+abbrev ended : tie.After-slice-known20 → tie.After-fill-tally-ends
+ended c = c .before .before .before .before .before
 
 -- The call of `read_head`, from each later call.
 abbrev head-issued : tie.After-fill-words → tie.After-read-head
@@ -60,19 +56,12 @@ abbrev head-tallied : tie.After-fill-tallies → tie.After-read-head
 head-tallied c = head-owned (owned (c .before))
 
 abbrev head-ended : tie.After-fill-tally-ends → tie.After-read-head
-head-ended c = head-tallied (tallied (c .before .before .before))
+head-ended c = head-tallied (tallied (c .before .before .before .before))
 
--- The last calls, from the end: the issuers of the tallies, and the tallies' ends.
-abbrev words-end : tie.After-job-of → tie.After-fill-words2
-words-end c = last-issued (c .before)
-
-abbrev tallies-end : tie.After-fill-words2 → tie.After-fill-tally-ends
-tallies-end c = ended (c .before .before .before)
-
--- The other calls that fill tables, from the end.
+-- The calls that fill tables, from the end.
 abbrev calls : tie.After-job-of → tie.After-fill-offers × tie.After-fill-words × tie.After-fill-owners × tie.After-fill-tallies
 calls c =
-    let t = tallied (tallies-end (words-end c) .before .before .before) in
+    let t = tallied (ended (c .before) .before .before .before .before) in
     let g = owned (t .before) in
     let w = issued (g .before) in
     (offered (w .before), w, g, t)
@@ -142,33 +131,18 @@ places-long c = sym (refused (head-tallied (tallied c) .before) .file-refusal .k
 
 fill-tally-ends-requires : tie.Need-fill-tally-ends-requires
 fill-tally-ends-requires c κs =
-    let p = c .before .before in
+    let p = c .before .before .before in
     let h = head-tallied (tallied p) in
     let w = known h .whole in
-    ((w, omega (arith, places-long p, w .most .tallies)), (free h .tables .tallies .count, free h .tallyOffer))
-
-tallies-at-requires : tie.Need-tallies-at-requires
-tallies-at-requires c κs = omega (arith, known (head-ended (ended c)) .whole .most .offers)
-
--- The first tally block.
-first-is : (c : tie.After-tallies-at) → c .tallies-at .result ≡ talliesAt (asHead (head-ended (ended (c .before)) .read-head .result))
-first-is c = c .tallies-at .ensures
-
-fill-words-requires-2 : tie.Need-fill-words-requires-2
-fill-words-requires-2 c κs =
-    let a = c .before in
-    let h = head-ended (ended (a .before)) in
-    let w = known h .whole in
-    let e = first-is a in
-    ((omega (arith, e, w .most .offers), w .most .tallies, omega arith, free h .tables .tallies .issuer), λ i l. rw e (tally-room w i l))
+    let t = free h .tables .tallies in
+    ((w, omega (arith, places-long p, w .most .tallies)), (t .count, t .issuer, free h .tallyOffer))
 
 job-of-requires : tie.Need-job-of-requires
-job-of-requires c κs = known (head-ended (tallies-end (last-issued c))) .whole .most
+job-of-requires c κs = known (head-ended (ended c)) .whole .most
 
 returns-3 : tie.Need-returns-3
 returns-3 c =
-    let z = words-end c in
-    let n = tallies-end z in
+    let n = ended (c .before) in
     let q = calls c in
     let o = q .0 in
     let g = q .2 in
@@ -188,8 +162,8 @@ returns-3 c =
       tallyBox = t .fill-tallies .ensures .1 .0;
       tallyCode = t .fill-tallies .ensures .1 .1;
       tallyCount = n .fill-tally-ends .ensures .0;
-      tallyIssuer = tally-issuers f _ _ (first-is (z .before .before) ∙ ap talliesAt e) (z .fill-words2 .ensures);
-      tallyOffer = places-stored f _ (s .args .tally-offer .now) _ e (kept (h .before) .placed) (n .fill-tally-ends .ensures .1);
+      tallyIssuer = n .fill-tally-ends .ensures .1 .0;
+      tallyOffer = places-stored f _ (s .args .tally-offer .now) _ e (kept (h .before) .placed) (n .fill-tally-ends .ensures .1 .1);
     })
 
 pub read-spec : {M : Type 1} → statement M
@@ -209,8 +183,6 @@ read-spec =
     fill-tallies-requires
     places-long
     fill-tally-ends-requires
-    tallies-at-requires
-    fill-words-requires-2
     job-of-requires
     (λ c. calls c .0 .fill-offers .kept .1 .1 .0)
     (λ c. calls c .0 .fill-offers .kept .1 .1 .1 .0)
@@ -220,7 +192,7 @@ read-spec =
     (λ c. calls c .3 .fill-tallies .kept .1 .1 .0)
     (λ c. calls c .3 .fill-tallies .kept .1 .1 .1 .0)
     (λ c. calls c .3 .fill-tallies .kept .1 .1 .1 .1 .0)
-    (λ c. tallies-end (words-end c) .fill-tally-ends .kept .1 .1 .1 .0)
-    (λ c. words-end c .fill-words2 .kept .1 .1 .1 .1 .0)
-    (λ c. tallies-end (words-end c) .fill-tally-ends .kept .1 .1 .1 .1 .0)
+    (λ c. ended (c .before) .fill-tally-ends .kept .1 .1 .1 .0)
+    (λ c. ended (c .before) .fill-tally-ends .kept .1 .1 .1 .1 .0)
+    (λ c. ended (c .before) .fill-tally-ends .kept .1 .1 .1 .1 .1 .0)
     returns-3)
