@@ -1,0 +1,1 @@
+-- Lemmas on counts in the order of their keys.

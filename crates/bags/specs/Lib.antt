@@ -1,0 +1,2 @@
+-- What sorting the counts of bags comes to.
+pub mod Bags
