@@ -23,7 +23,7 @@ use Rattle.model.specs.Tables.{JobTables, countedOf, nobody, jobOf, jobL
 use Rattle.model.specs.Ranges.{upTo, sizesInRange, jobWordsInRange, jobInRange, stateInRange}
 use Rattle.model.specs.Step.{Asked, stepRules, moved, refusals, stepRefusal, stepTables}
 use Rattle.model.specs.Run.{run, runState, reported, finished, runRefusals, ran}
-use Rattle.model.specs.Handed.{handedTables, Standing, handedInRange}
+use Rattle.model.specs.Handed.{handedTables, Standing, handedInRange, Handed}
 use Rattle.model.proofs.Step.{job-in, in-handed, up-at}
 use Rattle.model.proofs.Lent.{job-long}
 
@@ -107,6 +107,10 @@ module _ (f : JobTables) (boxes : List ℕ) (s : Standing f boxes) where
       let w = job-in f (in-handed f ok) in
       and-true (and-l (sizesInRange f) (jobWordsInRange f) ok) (all-each (_ ∷ _ ∷ _ ∷ _ ∷ _ ∷ _ ∷ _ ∷ [])
       (w .price, (w .offerOwner, (w .grocerOwner, (w .tallyGrocer, (boxes-few ok, (w .tallyOffer, (w .tallyCount, tt))))))))
+
+  -- So they are what inner calls are handed.
+  pub handed-in : jobInRange f ≡ true → Handed (handedTables f boxes)
+  handed-in ok = record { bare = refl; inside = handed-range ok }
 
   -- The state's tables are looked at as before.
   pub handed-state-short : (n : StateLengths) → stateShort (handedTables f boxes) n ≡ stateShort f n

@@ -1,6 +1,6 @@
 -- The job's tables as inner calls are handed them: without bags, a superseded tally with the box `nobody`.
 use mathlib.Core.Path.{_≡_}
-use mathlib.Core.Bool.{Bool, cond, _&&_}
+use mathlib.Core.Bool.{Bool, true, cond, _&&_}
 use mathlib.Core.List.{List, [], _∷_}
 use Prim.Native.Nat.{ℕ, _<_, _≤_}
 use lib.ListN.{getD, length}
@@ -34,3 +34,8 @@ handedInRange f =
     ∷ under (f .offers) (f .tallies) (f .tallyOffer)
     ∷ around maxCount (f .tallies) (f .tallyCount)
     ∷ [])
+
+-- Tables as inner calls are handed them: without bags, and in range.
+pub record Handed (f : JobTables) : Type 0 where
+  pub bare : f .tallyBag ≡ []
+  pub inside : handedInRange f ≡ true

@@ -1,8 +1,10 @@
 // Conditions 20 and 21 on the tables of a job and of a state.
 ghost use mathlib.Core.Path.{_≡_};
-ghost use mathlib.Core.Bool.{false};
+ghost use mathlib.Core.Bool.{false, _||_};
 ghost use mathlib.Core.List.{[]};
 ghost use Prim.Native.Nat.{ℕ, _*_};
+ghost use lib.Dec.{ltb};
+ghost use lib.ListN.{length};
 ghost use Rattle.model.specs.Tables.{jobTables, jobLengths, jobShort, stateTables, stateLengths, stateShort};
 ghost use Rattle.model.specs.Lent.{jobLent, stateBefore};
 ghost use Rattle.model.specs.Ranges.{sizesInRange, jobInRange, stateInRange};
@@ -59,6 +61,14 @@ pub fn job_short(
         | (tally_box.len() < t)
         | (tally_offer.len() < t)
         | (tally_count.len() < t)
+}
+
+// 20: whether the bags or the revisions are fewer than T as given.
+pub fn bags_short(tallies: u16, tally_bag: &[u16], tally_revision: &[u16]) -> bool
+    ensures { λ r. ⌜ r ≡ (ltb (length (now («tally_bag» .entry))) tallies || ltb (length (now («tally_revision» .entry))) tallies) ⌝ }
+{
+    let t = tallies as usize;
+    (tally_bag.len() < t) | (tally_revision.len() < t)
 }
 
 // 20: whether a table of the state is shorter than K, M and N as given need.
