@@ -277,7 +277,7 @@ module _ (f : JobTables) (t : StateTables) (needs sharers order : List ℕ) (n :
 
         -- The counts are small,
         pub words-few : words + more ≤ 1_000_000
-        words-few = omega (arith, words-next, within f (g .job-in .inside) (g .job-long) t (afterOrder job (i + 1) order) turn-sound .sent≤)
+        words-few = omega (arith, words-next, within f (g .job-in .inside) t (afterOrder job (i + 1) order) turn-sound .sent≤)
 
         pub messages-few : messages ≤ 1536
         unfolding jobOf
