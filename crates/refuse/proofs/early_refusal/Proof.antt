@@ -105,8 +105,7 @@ standing-boxes-requires : tie.Need-standing-boxes-requires
 unfolding jobLengths
 standing-boxes-requires c κs =
     let e = whole-at (c .before) in
-    let f = job (entry e) in
-    (
+    let f = job (entry e) in (
       columns-in f (whole e) (bags-long f (state (entry e)) _ _ _ (job-told (e .before)) (bags-told (e .before)) (e .before .state-short .ensures) (e .if1 .left)) (inside (c .before)),
       (long-tables f (jobLengths f) (whole e) .tallyBox, omega (arith, few (c .before), c .standing-boxes-arg .given .0 .1)),
     )
