@@ -11,13 +11,19 @@ use borrow.Author.Tests.{ne-eqb}
 use Rattle.laws.specs.Below.{count}
 use Rattle.laws.specs.Tables.{tabulate}
 use Rattle.laws.specs.Checks.{firstMet}
+use Rattle.laws.proofs.Bools.{or-off}
 use Rattle.laws.proofs.Sums.{sum-max}
 use Rattle.laws.proofs.Below.{count-le}
 use Rattle.laws.proofs.Tables.{overwrite-one}
 use Rattle.model.specs.Job.{Job, pricesDue, totalsDue, needWord, sharerWord}
 use Rattle.model.specs.Steps.{Steps, Step, State, fresh, effectOf}
-use Rattle.model.specs.Tables.{JobTables, jobOf, StateTables, store, stepsDone, marksOf, StateLengths, jobLengths, stateLengths, jobShort, stateShort, lentShort}
+use Rattle.model.specs.Tables.{JobTables, jobOf, StateTables, store, stepsDone, marksOf, StateLengths, jobLengths, stateLengths, jobShort, bagsShort, stateShort, lentShort, countedOf}
+use Rattle.recount.specs.Recount.{countedTwice}
+use Rattle.bags.specs.Bags.{Columns}
 use Rattle.model.specs.Ranges.{jobInRange}
+use Rattle.model.specs.Handed.{handedTables, Standing}
+use Rattle.model.proofs.Handed.{handed-whole, handed-in, handed-run}
+use Rattle.tables.proofs.Standing.{columns-in}
 use Rattle.model.specs.Words.{over, messagesOf, messageCount, stepCount}
 use Rattle.model.specs.Run.{readyCount, pick, picks, run, runState, afterSteps, RunAnswer, finished, refused, reported, runRefusals, ran}
 use Rattle.tables.specs.Masks.{holderWord, Placed, Owned}
@@ -29,7 +35,7 @@ use Rattle.run.specs.declared.Answer.the-variants.{Finished, Refused}
 use Rattle.steps.specs.All.{withoutMarks, AllIn, AllOut, afterOrder}
 use Rattle.run.specs.Run.{Begins, answerOf, given, refusalBy}
 use Rattle.model.proofs.Step.{range}
-use Rattle.model.proofs.Lent.{state-long}
+use Rattle.model.proofs.Lent.{job-long, state-long}
 use Rattle.tables.proofs.Sizes.{short-sizes}
 use Rattle.tables.proofs.Whole.{JobWhole, job-whole}
 use Rattle.tables.proofs.Holders.{need-words, sharer-words}
@@ -87,17 +93,17 @@ module _ (f : JobTables) (t : StateTables) (g : Begins f t) where
 
     -- They are the job's, and so are the tables of messages that are made from them.
     pub needs-of : needs ≡ tabulate 500 (needWord (jobOf f))
-    needs-of = en ∙ need-words f
+    needs-of = en ∙ need-words f (g .job-in .bare)
 
     pub sharers-of : sharers ≡ tabulate 255 (sharerWord (jobOf f))
-    sharers-of = es ∙ sharer-words f
+    sharers-of = es ∙ sharer-words f (g .job-in .bare)
 
     module _ (prices totals : List (List ℕ)) (ep : prices ≡ sentTable false (f .offers) (f .offerOwner) needs) (et : totals ≡ sentTable true (f .grocers) (f .grocerOwner) sharers) where
       pub of-job : OfJob (f .boxes) prices totals (jobOf f)
       unfolding jobOf
       of-job = record {
         boxes-are = refl;
-        boxes-in = range f (g .job-in) .boxes≤;
+        boxes-in = range f (g .job-in .inside) .boxes≤;
         some = some-box f (g .job-in);
         prices-are = ep ∙ ap (sentTable false (f .offers) (f .offerOwner)) en ∙ price-sent f (g .job-in);
         totals-are = et ∙ ap (sentTable true (f .grocers) (f .grocerOwner)) es ∙ total-sent f (g .job-in);
@@ -111,7 +117,7 @@ module _ (f : JobTables) (t : StateTables) (g : Begins f t) where
   -- The walk may begin.
   pub begins-walk : WalkIn (f .boxes) (t .done)
   unfolding stateLengths jobOf
-  begins-walk = record { some = some-box f (g .job-in); boxes-in = range f (g .job-in) .boxes≤; done-long = state-long f (stateLengths t) (g .state-long) .done }
+  begins-walk = record { some = some-box f (g .job-in); boxes-in = range f (g .job-in .inside) .boxes≤; done-long = state-long f (stateLengths t) (g .state-long) .done }
 
   -- All steps of the order may be done.
   module _ (needs sharers cs done order : List ℕ) (n : ℕ) (en : needs ≡ tabulate 500 (needWord (jobOf f))) (es : sharers ≡ tabulate 255 (sharerWord (jobOf f))) (w : Ordered (jobOf f) cs done order n) where
@@ -173,10 +179,11 @@ module _ (f : JobTables) (t : StateTables) (g : Begins f t) where
       unfolding jobOf
       steps-is = sym (steps-length (f .boxes) n order (rw (w .picked .long) (w .picked .in-order))) ∙ ap length (w .steps-are)
 
-      -- No refusal: this is the run.
-      pub run-finished : (x : ℕ) → x ≡ firstMet (runRefusals f t) → x ≡ 0 → given (answerOf (Finished words messages n)) t′ ≡ ran f t cs
-      unfolding ran answerOf reported
-      run-finished x e z = rw (sym e ∙ z) (λ i. given (finished (words-is i) (messages-is i) (steps-is i)) (tables-are i))
+      -- What is answered, and the tables.
+      pub run-ended : given (answerOf (Finished words messages n)) t′
+          ≡ given (finished (end .sent) (over messagesOf (run (jobOf f) cs)) (length (run (jobOf f) cs))) (store (jobOf f) end t)
+      unfolding answerOf
+      run-ended = λ i. given (finished (words-is i) (messages-is i) (steps-is i)) (tables-are i)
 
 -- A number that is not 0 is a refusal.
 pub refused-said : (n : ℕ) (a : RunAnswer) → (n ≡ 0 → ⊥) → refused n ≡ reported n a
@@ -184,49 +191,87 @@ unfolding reported
 refused-said zero a h = absurd (h refl)
 refused-said (suc n) a h = refl
 
--- No table of the job is short where neither its nor the state's are.
-pub long-job : (f : JobTables) (a b : Bool) → a ≡ jobShort f (jobLengths f) → (a || b) ≡ false → jobShort f (jobLengths f) ≡ false
-long-job f false b ea h = sym ea
-long-job f true b ea h = sym ea ∙ h
-
 -- The conditions 20 and 21, told from the lengths n of the state's tables.
-module _ (f : JobTables) (n : StateLengths) where
-  short-both : (a b : Bool) → a ≡ jobShort f (jobLengths f) → b ≡ stateShort (sizes (f .boxes) (f .grocers) (f .offers)) n → (a || b) ≡ (jobShort f (jobLengths f) || stateShort f n)
-  short-both a b ea eb = rw (ea, eb ∙ short-sizes f n)
+module _ (f : JobTables) (n : StateLengths) (a b c : Bool) (ea : a ≡ jobShort f (jobLengths f)) (eb : b ≡ bagsShort f (jobLengths f))
+    (ec : c ≡ stateShort (sizes (f .boxes) (f .grocers) (f .offers)) n) where
+  short-all : ((a || b) || c) ≡ ((jobShort f (jobLengths f) || bagsShort f (jobLengths f)) || stateShort f n)
+  short-all = rw (ea, eb, ec ∙ short-sizes f n)
 
-  pub refused-short : (a b : Bool) → a ≡ jobShort f (jobLengths f) → b ≡ stateShort (sizes (f .boxes) (f .grocers) (f .offers)) n → (a || b) ≡ true → 20 ≡ refusalBy f n
+  pub refused-short : ((a || b) || c) ≡ true → 20 ≡ refusalBy f n
   unfolding refusalBy
-  refused-short a b ea eb h = rw (sym (short-both a b ea eb) ∙ h)
+  refused-short h = rw (sym short-all ∙ h)
 
-  module _ (a b c : Bool) (ea : a ≡ jobShort f (jobLengths f)) (eb : b ≡ stateShort (sizes (f .boxes) (f .grocers) (f .offers)) n) (h : (a || b) ≡ false) (ec : c ≡ jobInRange f) where
-    pub refused-range : c ≡ false → 21 ≡ refusalBy f n
-    unfolding refusalBy
-    refused-range z = rw (sym (short-both a b ea eb) ∙ h, sym ec ∙ z)
+  module _ (h : ((a || b) || c) ≡ false) where
+    -- No table of the job is short.
+    pub long-job : jobShort f (jobLengths f) ≡ false
+    long-job = sym ea ∙ or-off a b (or-off (a || b) c h .0) .0
 
-    pub refused-none : c ≡ true → 0 ≡ refusalBy f n
-    unfolding refusalBy
-    refused-none z = rw (sym (short-both a b ea eb) ∙ h, sym ec ∙ z)
+    module _ (d : Bool) (ed : d ≡ jobInRange f) where
+      pub refused-range : d ≡ false → 21 ≡ refusalBy f n
+      unfolding refusalBy
+      refused-range z = rw (sym short-all ∙ h, sym ed ∙ z)
 
--- They are the refusals of the run.
-pub refusal-is : (f : JobTables) (t : StateTables) → refusalBy f (stateLengths t) ≡ firstMet (runRefusals f t)
-unfolding refusalBy firstMet runRefusals lentShort
-refusal-is f t = refl
+      pub refused-none : d ≡ true → 0 ≡ refusalBy f n
+      unfolding refusalBy
+      refused-none z = rw (sym short-all ∙ h, sym ed ∙ z)
+
+first-two : (a b c : Bool) → (cond {A = ℕ} a 20 (cond (not b) 21 0) ≡ 0 → ⊥) → cond {A = ℕ} a 20 (cond (not b) 21 (cond c 9 0)) ≡ cond a 20 (cond (not b) 21 0)
+first-two true b c k = refl
+first-two false false c k = refl
+first-two false true c k = absurd (k refl)
 
 module _ (f : JobTables) (t : StateTables) where
-  -- No refusal: the run may begin.
-  pub begins : firstMet (runRefusals f t) ≡ 0 → Begins f t
-  unfolding firstMet runRefusals lentShort
-  begins h =
-      let p = parts (jobShort f (jobLengths f)) (stateShort f (stateLengths t)) (jobInRange f) h in
-      record { job-in = p .1 .1; job-long = p .0; state-long = p .1 .0 }
-    where
-      parts : (a b c : Bool) → cond {A = ℕ} (a || b) 20 (cond (not c) 21 0) ≡ 0 → (a ≡ false) × ((b ≡ false) × (c ≡ true))
-      parts true b c h = absurd (omega arith)
-      parts false true c h = absurd (omega arith)
-      parts false false false h = absurd (omega arith)
-      parts false false true h = (refl, (refl, refl))
+  -- They are the first refusals of the run.
+  refusal-is : (refusalBy f (stateLengths t) ≡ 0 → ⊥) → refusalBy f (stateLengths t) ≡ firstMet (runRefusals f t)
+  unfolding refusalBy firstMet runRefusals lentShort
+  refusal-is h = sym (first-two (lentShort f t) (jobInRange f) (countedTwice (countedOf f)) h)
 
-  -- A refusal: no word is changed.
-  pub run-refused : (cs : List ℕ) (n : ℕ) → n ≡ firstMet (runRefusals f t) → (n ≡ 0 → ⊥) → given (answerOf (Refused n)) t ≡ ran f t cs
+  -- One of them is met: no word is changed.
+  pub run-refused : (cs : List ℕ) (n : ℕ) → n ≡ refusalBy f (stateLengths t) → (n ≡ 0 → ⊥) → given (answerOf (Refused n)) t ≡ ran f t cs
   unfolding ran answerOf
-  run-refused cs n e h = rw (← e, ne-eqb n 0 h) (ap (λ (a : RunAnswer). given a t) (refused-said n _ h))
+  run-refused cs n e h = let q = e ∙ refusal-is (λ z. h (e ∙ z)) in rw (← q, ne-eqb n 0 h) (ap (λ (a : RunAnswer). given a t) (refused-said n _ h))
+
+  -- Neither 20 nor 21 is met.
+  module _ (z : refusalBy f (stateLengths t) ≡ 0) where
+    neither : (lentShort f t ≡ false) × (jobInRange f ≡ true)
+    unfolding refusalBy lentShort
+    neither = parts (lentShort f t) (jobInRange f) z
+      where
+        parts : (a b : Bool) → cond {A = ℕ} a 20 (cond (not b) 21 0) ≡ 0 → (a ≡ false) × (b ≡ true)
+        parts true b h = absurd (omega arith)
+        parts false false h = absurd (omega arith)
+        parts false true h = (refl, refl)
+
+    tables-long : (jobShort f (jobLengths f) ≡ false) × (bagsShort f (jobLengths f) ≡ false) × (stateShort f (stateLengths t) ≡ false)
+    unfolding lentShort
+    tables-long =
+        let l = or-off (jobShort f (jobLengths f) || bagsShort f (jobLengths f)) (stateShort f (stateLengths t)) (neither .0) in
+        let b = or-off (jobShort f (jobLengths f)) (bagsShort f (jobLengths f)) (l .0) in (b .0, b .1, l .1)
+
+    -- The tallies may be looked at.
+    pub begins-columns : Columns (f .tallies) (f .tallyGrocer) (f .tallyOffer) (f .tallyBag) (f .tallyRevision)
+    begins-columns = columns-in f (tables-long .0) (tables-long .1) (neither .1)
+
+    pub begins-boxes : f .tallies ≤ length (f .tallyBox)
+    unfolding jobLengths
+    begins-boxes = job-long f (jobLengths f) (tables-long .0) .tallyBox
+
+    -- 9: no word is changed.
+    pub run-twice : (cs : List ℕ) (c : Bool) → c ≡ countedTwice (countedOf f) → c ≡ true → given (answerOf (Refused 9)) t ≡ ran f t cs
+    unfolding ran answerOf runRefusals firstMet
+    run-twice cs c e h = rw (neither .0, neither .1, sym e ∙ h) (ap (λ (a : RunAnswer). given a t) (refused-said 9 _ (λ q. omega arith)))
+
+    -- No refusal: with the boxes of the tallies that stand the run may begin, and what it comes to is the run of the tables as lent.
+    module _ (standing : List ℕ) (s : Standing f standing) where
+      pub begins : Begins (handedTables f standing) t
+      unfolding stateShort
+      begins = record {
+        job-in = handed-in f standing s (neither .1);
+        job-long = handed-whole f standing s (tables-long .0);
+        state-long = tables-long .2;
+      }
+
+      pub run-finished : (cs : List ℕ) (c : Bool) → c ≡ countedTwice (countedOf f) → c ≡ false →
+          given (finished (runState (jobOf (handedTables f standing)) cs .sent) (over messagesOf (run (jobOf (handedTables f standing)) cs)) (length (run (jobOf (handedTables f standing)) cs)))
+          (store (jobOf (handedTables f standing)) (runState (jobOf (handedTables f standing)) cs) t) ≡ ran f t cs
+      run-finished cs c e h = sym (handed-run f standing s t cs (neither .0) (neither .1) (sym e ∙ h))

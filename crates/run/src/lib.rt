@@ -1,6 +1,6 @@
 // The run: it starts fresh, picks steps until all are done, and reports the words sent, the messages and the steps.
 ghost use mathlib.Core.Path.{_≡_};
-ghost use Rattle.model.specs.Lent.{jobLent, stateBefore, stateAfter};
+ghost use Rattle.model.specs.Lent.{bagLent, stateBefore, stateAfter};
 ghost use Rattle.model.specs.Run.{ran};
 ghost use Rattle.model.specs.Tables.{stateShort};
 ghost use Rattle.tables.specs.Sizes.{sizes};
@@ -55,10 +55,12 @@ fn refusal(
     tally_box: &[u16],
     tally_offer: &[u16],
     tally_count: &[i32],
+    tally_bag: &[u16],
+    tally_revision: &[u16],
     lent: Lengths,
 ) -> u16
-    ensures { λ r. ⌜ r ≡ refusalBy (jobLent (z .boxes) (z .grocers) (z .offers) (z .tallies) price «offer_owner» «grocer_owner» «tally_grocer»
-        «tally_box» «tally_offer» «tally_count») (lengthsOf (lent .known) (lent .«price_transit») (lent .working) (lent .«total_transit»)
+    ensures { λ r. ⌜ r ≡ refusalBy (bagLent (z .boxes) (z .grocers) (z .offers) (z .tallies) price «offer_owner» «grocer_owner» «tally_grocer»
+        «tally_box» «tally_offer» «tally_count» «tally_bag» «tally_revision») (lengthsOf (lent .known) (lent .«price_transit») (lent .working) (lent .«total_transit»)
         (lent .statement) (lent .done) (lent .sent)) ⌝ }
 {
     if tables::checks::job_short(
@@ -73,6 +75,7 @@ fn refusal(
         tally_offer,
         tally_count,
     )
+        | tables::checks::bags_short(z.tallies, tally_bag, tally_revision)
         | state_short(z, lent)
     {
         return 20;
@@ -109,6 +112,8 @@ pub fn run(
     tally_box: &[u16],
     tally_offer: &[u16],
     tally_count: &[i32],
+    tally_bag: &[u16],
+    tally_revision: &[u16],
     known: &mut [u32],
     price_transit: &mut [u32],
     working: &mut [i64],
@@ -119,7 +124,8 @@ pub fn run(
     choices: &[u16],
 ) -> Answer
     ensures { λ r. ⌜ given (answerOf r) (stateAfter known «price_transit» working «total_transit» statement done sent) ≡ ran
-        (jobLent boxes grocers offers tallies price «offer_owner» «grocer_owner» «tally_grocer» «tally_box» «tally_offer» «tally_count»)
+        (bagLent boxes grocers offers tallies price «offer_owner» «grocer_owner» «tally_grocer» «tally_box» «tally_offer» «tally_count»
+        «tally_bag» «tally_revision»)
         (stateBefore known «price_transit» working «total_transit» statement done sent) (now (choices .entry)) ⌝ }
 {
     let z = Sizes {
@@ -146,13 +152,27 @@ pub fn run(
         tally_box,
         tally_offer,
         tally_count,
+        tally_bag,
+        tally_revision,
         lent,
     );
     if r != 0 {
         return Answer::Refused(r);
     }
-    let needs = tables::masks::needs(boxes, tallies, tally_box, tally_offer);
-    let sharers = tables::masks::sharers(boxes, tallies, tally_box, tally_grocer);
+    let mut standing = [0u16; 1000];
+    if bags::standing_boxes(
+        tallies as usize,
+        tally_grocer,
+        tally_box,
+        tally_offer,
+        tally_bag,
+        tally_revision,
+        &mut standing,
+    ) {
+        return Answer::Refused(9);
+    }
+    let needs = tables::masks::needs(boxes, tallies, &standing, tally_offer);
+    let sharers = tables::masks::sharers(boxes, tallies, &standing, tally_grocer);
     let prices = tables::messages::price_table(offers, offer_owner, &needs);
     let totals = tables::messages::total_table(grocers, grocer_owner, &sharers);
     let mut order = [0u16; 1536];
@@ -163,7 +183,7 @@ pub fn run(
         offer_owner,
         grocer_owner,
         tally_grocer,
-        tally_box,
+        &standing,
         tally_offer,
         tally_count,
         &needs,
