@@ -61,8 +61,9 @@ pub fn message_tables(
     if r != 0 {
         return Answer::Refused(r);
     }
-    let needing = needs(boxes, tallies, &standing, tally_offer);
-    let sharing = sharers(boxes, tallies, &standing, tally_grocer);
+    let held: &[u16] = &standing;
+    let needing = needs(boxes, tallies, held, tally_offer);
+    let sharing = sharers(boxes, tallies, held, tally_grocer);
     let p = price_table(offers, offer_owner, &needing);
     let t = total_table(grocers, grocer_owner, &sharing);
     let words = words::word_total(

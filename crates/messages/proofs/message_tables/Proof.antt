@@ -38,7 +38,7 @@ abbrev entry : tie.Else1 → tie.Start
 entry c = start (refusal c)
 
 abbrev needed : tie.After-sharers → tie.After-needs
-needed c = c .before .before
+needed c = c .before
 
 abbrev accepted-at : tie.After-needs → tie.Else1
 accepted-at c = c .before .before
@@ -94,7 +94,7 @@ needs-requires : tie.Need-needs-requires
 needs-requires c κs = let e = c .before in placed-offers (handed e) (in-range e) (whole e)
 
 sharers-requires : tie.Need-sharers-requires
-sharers-requires c κs = let e = accepted-at (c .before) in placed-grocers (handed e) (in-range e) (whole e)
+sharers-requires c κs = let e = accepted-at c in placed-grocers (handed e) (in-range e) (whole e)
 
 price-table-requires : tie.Need-price-table-requires
 price-table-requires c κs = offers-owned (c .before)
@@ -130,7 +130,6 @@ message-tables-spec =
     returns
     (λ c. sym (long (c .before)))
     needs-requires
-    (λ c. sym (long (accepted-at (c .before))))
     sharers-requires
     price-table-requires
     total-table-requires
