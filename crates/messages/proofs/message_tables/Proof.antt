@@ -3,9 +3,8 @@ use mathlib.Core.Path.{_≡_, sym, ap, ap₂, _∙_}
 use mathlib.Core.Bool.{true, false}
 use mathlib.Core.List.{List}
 use Prim.Native.Nat.{ℕ, _+_}
-use borrow.Author.Needs.{needs}
 use lib.ListN.{length}
-use denote.Ref.{now}
+use borrow.Author.Needs.{needs}
 use Rattle.model.specs.Tables.{JobTables, bagTables, jobOf}
 use Rattle.model.specs.Ranges.{Settles}
 use Rattle.model.specs.Handed.{handedTables, Standing, Handed}
@@ -14,6 +13,7 @@ use Rattle.model.specs.Local.{priceTable, totalTable}
 use Rattle.messages.specs.Sums.{othersSum}
 use Rattle.tables.specs.Masks.{Owned}
 use Rattle.tables.specs.Messages.{sentTable}
+use denote.Ref.{now}
 use Rattle.model.proofs.Handed.{handed-job, handed-whole, handed-in}
 use Rattle.tables.proofs.Whole.{JobWhole, job-whole}
 use Rattle.tables.proofs.Standing.{accepted}
