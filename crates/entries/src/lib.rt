@@ -3,7 +3,7 @@ ghost use mathlib.Core.Path.{_≡_};
 ghost use Prim.Native.Nat.{_≤_, _<_};
 ghost use lib.ListN.{take, length};
 ghost use Rattle.laws.specs.Tables.{recell};
-ghost use Rattle.model.specs.Lent.{jobLent};
+ghost use Rattle.model.specs.Lent.{bagLent};
 ghost use Rattle.format.specs.Job.{headOf};
 ghost use Rattle.format.specs.Tables.{writeResult};
 ghost use Rattle.format.specs.Lent.{fileLent};
@@ -215,13 +215,16 @@ pub extern "C" fn entries_message_tables(
     tally_box: &[u16],
     tally_offer: &[u16],
     tally_count: &[i32],
+    tally_bag: &[u16],
+    tally_revision: &[u16],
     price_words: &mut [u16],
     total_words: &mut [u16],
     job_words: &mut [u32],
 ) -> u16
     ensures { λ r. ⌜ messagesTold r (now («price_words» .exit)) (now («total_words» .exit)) (now («job_words» .exit))
         ≡ messagesBy
-        (jobLent boxes grocers offers tallies price «offer_owner» «grocer_owner» «tally_grocer» «tally_box» «tally_offer» «tally_count»)
+        (bagLent boxes grocers offers tallies price «offer_owner» «grocer_owner» «tally_grocer» «tally_box» «tally_offer» «tally_count»
+        «tally_bag» «tally_revision»)
         (now («price_words» .entry)) (now («total_words» .entry)) (now («job_words» .entry)) ⌝ }
 {
     if (price_words.len() < 256) | (total_words.len() < 256) | (job_words.len() < 1) {
@@ -242,6 +245,8 @@ pub extern "C" fn entries_message_tables(
         tally_box,
         tally_offer,
         tally_count,
+        tally_bag,
+        tally_revision,
         &mut prices,
         &mut totals,
     );
@@ -282,6 +287,8 @@ pub extern "C" fn entries_book(
     tally_box: &[u16],
     tally_offer: &[u16],
     tally_count: &[i32],
+    tally_bag: &[u16],
+    tally_revision: &[u16],
     book_box: u16,
     local_offers: &mut [u16],
     local_grocers: &mut [u16],
@@ -291,7 +298,8 @@ pub extern "C" fn entries_book(
     numbers: &mut [u16],
 ) -> u16
     ensures { λ r. ⌜ BookedBy
-        (jobLent boxes grocers offers tallies price «offer_owner» «grocer_owner» «tally_grocer» «tally_box» «tally_offer» «tally_count»)
+        (bagLent boxes grocers offers tallies price «offer_owner» «grocer_owner» «tally_grocer» «tally_box» «tally_offer» «tally_count»
+        «tally_bag» «tally_revision»)
         «book_box»
         (bookTables (now («local_offers» .entry)) (now («local_grocers» .entry)) (now (starts .entry)) (now («packed_grocers» .entry))
         (now («packed_counts» .entry)))
@@ -316,6 +324,8 @@ pub extern "C" fn entries_book(
         tally_box,
         tally_offer,
         tally_count,
+        tally_bag,
+        tally_revision,
         book_box,
         local_offers,
         local_grocers,

@@ -17,11 +17,10 @@ use Rattle.model.specs.Words.{ownerWords}
 use Rattle.model.specs.Tables.{JobTables, jobOf}
 use Rattle.laws.specs.Limits.{maxAmount}
 use Rattle.model.specs.Ranges.{jobInRange}
-use Rattle.model.specs.Local.{priceTable, totalTable}
+use Rattle.model.specs.Local.{priceTable, totalTable, jobRefusals}
 use Rattle.model.specs.Reconcile.{TallyRecord, owed, reconciled}
 use Rattle.tables.specs.Messages.{cellAt}
 use Rattle.messages.specs.Sums.{rowSum, columnSum, tableSum}
-use Rattle.messages.specs.Refusals.{jobRefusals}
 use Rattle.messages.specs.Answers.{made, tablesGiven, messageTables}
 use Rattle.local.specs.Book.{BookTables, Booked, said}
 use Rattle.local.specs.declared.book.Answer.{Answer}
