@@ -1,12 +1,14 @@
 -- Two jobs with the same words are refused alike. Assumes nothing.
-use mathlib.Core.Path.{_≡_, _∙_, ap}
+use mathlib.Core.Path.{_≡_, refl, _∙_, ap}
 use mathlib.Core.Bool.{true, not}
 use Prim.Native.Nat.{ℕ, _<_}
 use native.Mathlib.Omega.{arith}
 use Rattle.laws.specs.Below.{any, find}
 use Rattle.laws.proofs.Below.{any-cong, find-cong}
+use Rattle.recount.specs.Recount.{countedTwice}
+use Rattle.recount.proofs.Recount.{recount-laws}
 use Rattle.format.specs.Codes.{Code, Name, isCode, codeNumber, sameOffer}
-use Rattle.format.specs.Job.{Head, FileJob, Offer, Tally, badOffer, badTally, offerName, tallyName, names, placeOf, shared, unnamed}
+use Rattle.format.specs.Job.{Head, FileJob, Offer, Tally, badOffer, badTally, offerName, tallyName, names, placeOf, shared, unnamed, countedTallies}
 use Rattle.format.specs.Refusals.{jobRefusal}
 use Rattle.format.proofs.Codes.{code-cong, number-cong}
 use Rattle.format.proofs.Range.{fine, fine-job, offer-in, tally-in}
@@ -30,6 +32,8 @@ pub record TallyWords (a b : Tally) : Type 0 where
   pub code : SameCode (a .code) (b .code)
   pub count : a .count ≡ b .count
   pub issuer : a .issuer ≡ b .issuer
+  pub bag : a .bag ≡ b .bag
+  pub revision : a .revision ≡ b .revision
 
 -- The same head, and the same words in each table as far as it counts: two jobs that are one.
 pub record SameWords (a b : FileJob) : Type 0 where
@@ -93,6 +97,23 @@ module _ (a b : FileJob) (s : SameWords a b) (ok : jobRefusal b ≡ 0) where
       ap (λ (h : Head). any (h .tallies) (λ t. not (any (h .offers) (names a t)))) (s .head)
       ∙ any-cong (b .head .tallies) _ _ (λ t l. ap not (any-cong (b .head .offers) (names a t) (names b t) (names-same t l)))
 
+  -- What the recount rule looks at is the same.
+  twice-same : countedTwice (countedTallies a) ≡ countedTwice (countedTallies b)
+  unfolding countedTallies
+  twice-same =
+      let e : a .head .tallies ≡ b .head .tallies = ap (λ (h : Head). h .tallies) (s .head) in
+      recount-laws .orderTwice (countedTallies b) (countedTallies a) (λ t. t) (λ t. t) (record {
+        size = e;
+        inside = λ t h. rw e at h;
+        back = λ t h. rw e h;
+        there = λ t h. refl;
+        here = λ t h. refl;
+        grocer = λ t h. s .tally t (rw e at h) .grocer;
+        offer = λ t h. place-same t (rw e at h);
+        bag = λ t h. s .tally t (rw e at h) .bag;
+        revision = λ t h. s .tally t (rw e at h) .revision;
+      })
+
   -- A job with the words of one that is not refused is not refused.
   pub same-fine : jobRefusal a ≡ 0
   same-fine =
@@ -105,4 +126,5 @@ module _ (a b : FileJob) (s : SameWords a b) (ok : jobRefusal b ≡ 0) where
         tally = λ i h. let h′ : i < b .head .tallies = rw e at h in rw e (tally-same (b .head) _ _ (s .tally i h′) ∙ f .tally i h′);
         shared = shared-same ∙ f .shared;
         unnamed = unnamed-same ∙ f .unnamed;
+        once = twice-same ∙ f .once;
       })
