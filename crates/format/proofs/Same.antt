@@ -5,7 +5,7 @@ use Prim.Native.Nat.{ℕ, _<_}
 use native.Mathlib.Omega.{arith}
 use Rattle.laws.specs.Below.{any, find}
 use Rattle.laws.proofs.Below.{any-cong, find-cong}
-use Rattle.recount.specs.Recount.{countedTwice}
+use Rattle.recount.specs.Recount.{Counted, countedTwice}
 use Rattle.recount.proofs.Recount.{recount-laws}
 use Rattle.format.specs.Codes.{Code, Name, isCode, codeNumber, sameOffer}
 use Rattle.format.specs.Job.{Head, FileJob, Offer, Tally, badOffer, badTally, offerName, tallyName, names, placeOf, shared, unnamed, countedTallies}
@@ -64,6 +64,22 @@ pub tally-same : (h : Head) (o p : Tally) → TallyWords o p → badTally h o �
 unfolding badTally
 tally-same h o p w = rw (w .grocer, w .box, w .count, same-code (o .code) (p .code) (w .code))
 
+-- Counts with the same words meet 9 alike.
+pub twice-cong : (a b : Counted) → a .size ≡ b .size → ((t : ℕ) → t < b .size → a .grocer t ≡ b .grocer t) → ((t : ℕ) → t < b .size → a .offer t ≡ b .offer t) →
+    ((t : ℕ) → t < b .size → a .bag t ≡ b .bag t) → ((t : ℕ) → t < b .size → a .revision t ≡ b .revision t) → countedTwice a ≡ countedTwice b
+twice-cong a b e grocer offer bag revision =
+    recount-laws .orderTwice b a (λ t. t) (λ t. t) (record {
+      size = e;
+      inside = λ t h. rw e at h;
+      back = λ t h. rw e h;
+      there = λ t h. refl;
+      here = λ t h. refl;
+      grocer = λ t h. grocer t (rw e at h);
+      offer = λ t h. offer t (rw e at h);
+      bag = λ t h. bag t (rw e at h);
+      revision = λ t h. revision t (rw e at h);
+    })
+
 module _ (a b : FileJob) (s : SameWords a b) (ok : jobRefusal b ≡ 0) where
   offer-number : (i : ℕ) → i < b .head .offers → codeNumber (a .offer i .code) ≡ codeNumber (b .offer i .code)
   offer-number i h = same-number _ _ (s .offer i h .code) (offer-in (b .head) (b .offer i) (fine b ok .offer i h) .code)
@@ -101,18 +117,8 @@ module _ (a b : FileJob) (s : SameWords a b) (ok : jobRefusal b ≡ 0) where
   twice-same : countedTwice (countedTallies a) ≡ countedTwice (countedTallies b)
   unfolding countedTallies
   twice-same =
-      let e : a .head .tallies ≡ b .head .tallies = ap (λ (h : Head). h .tallies) (s .head) in
-      recount-laws .orderTwice (countedTallies b) (countedTallies a) (λ t. t) (λ t. t) (record {
-        size = e;
-        inside = λ t h. rw e at h;
-        back = λ t h. rw e h;
-        there = λ t h. refl;
-        here = λ t h. refl;
-        grocer = λ t h. s .tally t (rw e at h) .grocer;
-        offer = λ t h. place-same t (rw e at h);
-        bag = λ t h. s .tally t (rw e at h) .bag;
-        revision = λ t h. s .tally t (rw e at h) .revision;
-      })
+      twice-cong (countedTallies a) (countedTallies b) (ap (λ (h : Head). h .tallies) (s .head))
+      (λ t h. s .tally t h .grocer) place-same (λ t h. s .tally t h .bag) (λ t h. s .tally t h .revision)
 
   -- A job with the words of one that is not refused is not refused.
   pub same-fine : jobRefusal a ≡ 0

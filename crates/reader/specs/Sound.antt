@@ -8,7 +8,7 @@ use Rattle.laws.specs.Checks.{firstMet}
 use Rattle.format.specs.Codes.{isCode, nameNumber}
 use Rattle.format.specs.Job.{Head, FileJob, offerName, placeOf, shared, unnamed}
 use Rattle.format.specs.File.{decode}
-use Rattle.fills.specs.Fills.{Whole}
+use Rattle.fills.specs.Fills.{Whole, Placed}
 use Rattle.index.specs.Index.{IsIndex, sharesNumber}
 
 -- The file is as long as its header says, no number of it is above its largest, and its codes are codes.
@@ -30,10 +30,6 @@ pub record Ready (f keys order : List ℕ) (h : Head) : Type 0 where
   pub order-long : h .offers ≤ length order
   pub indexed : Indexed f keys order h
   pub apart : sharesNumber (indexed .numbers) (h .offers) ≡ false
-
--- The first t words are the places of the offers that the first t tallies name.
-pub record Placed (j : FileJob) (places : List ℕ) (t : ℕ) : Type 0 where
-  pub at : (i : ℕ) → i < t → getD places i 0 ≡ placeOf j i
 
 -- A file that is not refused is sound, and the place of each tally's offer is kept.
 pub record Kept (f places : List ℕ) : Type 0 where
