@@ -1,5 +1,5 @@
 // The index of offers: their places sorted by number. Offers that share a number are neighbours in it, and a number is found by halving.
 pub mod build;
-mod sort;
+pub mod sort;
 
 pub use lookup::look;
