@@ -1,6 +1,6 @@
 -- The codes, names and bags that lent tables hold, and the index of the names.
 use Prim.Native.Nat.{ℕ, _*_, _<_, _≤_}
-use mathlib.Core.Bool.{true}
+use mathlib.Core.Bool.{true, false}
 use mathlib.Core.Path.{_≡_}
 use mathlib.Core.List.{List}
 use lib.ListN.{getD, length}
@@ -29,14 +29,14 @@ pub record Finds (j : FileJob) (keys order tallyCode tallyIssuer : List ℕ) (n 
   pub place : (i : ℕ) → isCode (codeOf tallyCode i) ≡ true → placeIn numbers n (nameNumber (nameIn tallyCode tallyIssuer i)) ≡ placeOf j i
 
 -- Numbers that are at most their largest, tables long enough for them, and each code is one.
-pub record NamesIn (h : Head) (code issuer tallyCode tallyIssuer : List ℕ) : Type 0 where
+pub record NamesIn (h : Head) (code issuer tcode tissuer : List ℕ) : Type 0 where
   pub most : Most h
   pub offerCode : h .offers * 11 ≤ length code
   pub offerIssuer : h .offers ≤ length issuer
-  pub tallyCode : h .tallies * 11 ≤ length tallyCode
-  pub tallyIssuer : h .tallies ≤ length tallyIssuer
+  pub tallyCode : h .tallies * 11 ≤ length tcode
+  pub tallyIssuer : h .tallies ≤ length tissuer
   pub offers : Codes code (h .offers)
-  pub tallies : Codes tallyCode (h .tallies)
+  pub tallies : Codes tcode (h .tallies)
 
 -- A job with these numbers, whose names these tables hold.
 pub record HasNames (j : FileJob) (code issuer tallyCode tallyIssuer : List ℕ) (h : Head) : Type 0 where
@@ -45,7 +45,7 @@ pub record HasNames (j : FileJob) (code issuer tallyCode tallyIssuer : List ℕ)
   pub tally : (i : ℕ) → tallyName j i ≡ nameIn tallyCode tallyIssuer i
 
 -- A job whose tallies' grocers, bags and revisions these tables hold.
-pub record HasBags (j : FileJob) (grocer bag revision : List ℕ) : Type 0 where
-  pub grocer : (i : ℕ) → j .tally i .grocer ≡ getD grocer i 0
-  pub bag : (i : ℕ) → j .tally i .bag ≡ getD bag i 0
-  pub revision : (i : ℕ) → j .tally i .revision ≡ getD revision i 0
+pub record HasBags (j : FileJob) (grocers bags revisions : List ℕ) : Type 0 where
+  pub grocer : (i : ℕ) → j .tally i .grocer ≡ getD grocers i 0
+  pub bag : (i : ℕ) → j .tally i .bag ≡ getD bags i 0
+  pub revision : (i : ℕ) → j .tally i .revision ≡ getD revisions i 0

@@ -162,7 +162,13 @@ pub fn last_refusal(
     if r != 0 {
         return r;
     }
-    if columns_twice(head.tallies, tally_grocer, &places, tally_bag, tally_revision) {
+    if columns_twice(
+        head.tallies,
+        tally_grocer,
+        &places,
+        tally_bag,
+        tally_revision,
+    ) {
         return 9;
     }
     0

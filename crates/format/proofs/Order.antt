@@ -1,6 +1,6 @@
 -- The first condition met in the order is the one refused: each refusal of reader and writer, at its place. Assumes nothing.
-use mathlib.Core.Path.{_≡_, refl, _∙_}
-use mathlib.Core.Bool.{true, false}
+use mathlib.Core.Path.{_≡_, refl, sym, _∙_}
+use mathlib.Core.Bool.{Bool, true, false}
 use mathlib.Core.List.{List, [], _∷_}
 use Prim.Native.Nat.{ℕ, _+_, _-_, _<_}
 use native.Mathlib.Omega.{arith}
@@ -115,3 +115,27 @@ module _ (j : FileJob) where
   pub job-9 : badSizes (j .head) ≡ false → badRecords j ≡ false → shared j ≡ false → unnamed j ≡ false → countedTwice (countedTallies j) ≡ true → jobRefusal j ≡ 9
   unfolding jobRefusal firstMet
   job-9 a b c d e = rw (a, b, c, d, e)
+
+-- ---- 9 behind 7 and 8
+
+-- Where 7 or 8 is met, 9 is not asked.
+pub before-9 : (a b c : Bool) (r : ℕ) → r ≡ firstMet ((a, 7) ∷ (b, 8) ∷ []) → (r ≡ 0 → ⊥) → r ≡ firstMet ((a, 7) ∷ (b, 8) ∷ (c, 9) ∷ [])
+unfolding firstMet
+before-9 true b c r e n = e
+before-9 false true c r e n = e
+before-9 false false c r e n = absurd (n e)
+
+-- Where neither is met, 9 decides.
+pub only-9 : (a b c : Bool) → firstMet ((a, 7) ∷ (b, 8) ∷ []) ≡ 0 → firstMet ((a, 7) ∷ (b, 8) ∷ (c, 9) ∷ []) ≡ firstMet ((c, 9) ∷ [])
+unfolding firstMet
+only-9 true b c e = absurd (omega arith)
+only-9 false true c e = absurd (omega arith)
+only-9 false false c e = refl
+
+-- It is met,
+pub then-9 : (a b c : Bool) → firstMet ((a, 7) ∷ (b, 8) ∷ []) ≡ 0 → c ≡ true → 9 ≡ firstMet ((a, 7) ∷ (b, 8) ∷ (c, 9) ∷ [])
+then-9 a b c e h = sym (only-9 a b c e ∙ one-met c 9 h)
+
+-- or not.
+pub not-9 : (a b c : Bool) → firstMet ((a, 7) ∷ (b, 8) ∷ []) ≡ 0 → c ≡ false → 0 ≡ firstMet ((a, 7) ∷ (b, 8) ∷ (c, 9) ∷ [])
+not-9 a b c e h = sym (only-9 a b c e ∙ one-off c 9 h)
