@@ -145,7 +145,8 @@ pub fn last_refusal(
     tally_revision: &[u16],
 ) -> u16
     requires { ⌜ NamesIn (asHead head) (now «offer_code») (now «offer_issuer») (now «tally_code») (now «tally_issuer») ⌝ }
-    requires { ⌜ (head .tallies ≤ length (now «tally_grocer»)) × (head .tallies ≤ length (now «tally_bag»)) × (head .tallies ≤ length (now «tally_revision»)) ⌝ }
+    requires { ⌜ (head .tallies ≤ length (now «tally_grocer»)) × (head .tallies ≤ length (now «tally_bag»)) × (head .tallies ≤
+        length (now «tally_revision»)) ⌝ }
     ensures { λ r. ⌜ ((j : FileJob) → HasNames j (now («offer_code» .entry)) (now («offer_issuer» .entry)) (now («tally_code» .entry))
         (now («tally_issuer» .entry)) (asHead head) → HasBags j (now («tally_grocer» .entry)) (now («tally_bag» .entry)) (now («tally_revision» .entry)) →
         r ≡ firstMet ((shared j, 7) ∷ (unnamed j, 8) ∷ (countedTwice (countedTallies j), 9) ∷ [])) ⌝ }
