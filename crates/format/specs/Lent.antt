@@ -10,7 +10,8 @@ offersLent price owner code issuer = offerTables (now (price .entry)) (now (owne
 -- the tallies',
 abbrev pub talliesLent : (grocer box code : Words) (count : SignedWords) (issuer bag revision : Words) → TallyTables
 talliesLent grocer box code count issuer bag revision =
-    tallyTables (now (grocer .entry)) (now (box .entry)) (now (code .entry)) (now (count .entry)) (now (issuer .entry)) (now (bag .entry)) (now (revision .entry))
+    tallyTables (now (grocer .entry)) (now (box .entry)) (now (code .entry)) (now (count .entry)) (now (issuer .entry)) (now (bag .entry))
+    (now (revision .entry))
 
 -- and all of them.
 abbrev pub fileLent :
@@ -38,6 +39,6 @@ readerAfter price offerOwner offerCode offerIssuer grocerOwner tallyGrocer tally
     (fileTables
     (offerTables (now (price .exit)) (now (offerOwner .exit)) (now (offerCode .exit)) (now (offerIssuer .exit)))
     (now (grocerOwner .exit))
-    (tallyTables (now (tallyGrocer .exit)) (now (tallyBox .exit)) (now (tallyCode .exit)) (now (tallyCount .exit)) (now (tallyIssuer .exit)) (now (tallyBag .exit))
-    (now (tallyRevision .exit))))
+    (tallyTables (now (tallyGrocer .exit)) (now (tallyBox .exit)) (now (tallyCode .exit)) (now (tallyCount .exit)) (now (tallyIssuer .exit))
+    (now (tallyBag .exit)) (now (tallyRevision .exit))))
     (now (tallyOffer .exit))

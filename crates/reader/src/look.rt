@@ -7,7 +7,8 @@ ghost use Rattle.format.specs.Job.{placeOf, unnamed};
 ghost use Rattle.format.specs.Blocks.{talliesAt};
 ghost use Rattle.format.specs.File.{decode};
 ghost use Rattle.blocks.specs.Due.{asHead};
-ghost use Rattle.reader.specs.Sound.{Sound, Indexed, Ready, Placed, lastRefusal};
+ghost use Rattle.fills.specs.Fills.{Placed};
+ghost use Rattle.reader.specs.Sound.{Sound, Indexed, Ready, namesRefusal};
 use blocks::bytes::word16;
 use blocks::plan::Head;
 use blocks::plan::MAX_OFFERS;
@@ -61,10 +62,10 @@ fn find_places(f: &[u8], head: Head, keys: &[u64], order: &[u16], places: &mut [
     false
 }
 
-// 7 and 8 of a file of which nothing before them is refused, and, where neither is met, the place of each tally's offer.
-pub fn job_refusal(f: &[u8], head: Head, places: &mut [u16]) -> u16
+// 7 or 8 of a file of which nothing before them is refused, and, where neither is met, the place of each tally's offer.
+pub fn names_refusal(f: &[u8], head: Head, places: &mut [u16]) -> u16
     requires { ⌜ Sound (now f) (asHead head) × (head .tallies ≤ length (now places)) ⌝ }
-    ensures { λ r. ⌜ r ≡ lastRefusal (decode (now (f .entry))) ⌝ }
+    ensures { λ r. ⌜ r ≡ namesRefusal (decode (now (f .entry))) ⌝ }
     ensures { λ r. ⌜ (r ≡ 0 → Placed (decode (now (f .entry))) (now (places .exit)) (head .tallies)) ⌝ }
 {
     let mut keys = [0u64; MAX_OFFERS];

@@ -7,8 +7,8 @@ use lib.ListN.{length, length-set}
 use borrow.Author.Needs.{needs}
 use Rattle.format.specs.Job.{Head}
 use Rattle.format.specs.File.{decode}
-use Rattle.reader.specs.Sound.{Placed}
-use Rattle.reader.proofs.Places.{unnamedBelow, none-yet, named-more, unnamed-hit, unnamed-end, placed-none, placed-more, placed-end, place-most}
+use Rattle.fills.specs.Fills.{Placed}
+use Rattle.fills.proofs.Places.{unnamedBelow, none-yet, named-more, unnamed-hit, unnamed-end, placed-none, placed-more, placed-end, place-most}
 use Rattle.reader.proofs.look.find_places.Statement.{statement}
 use Rattle.reader.proofs.look.find_places.Tie as tie
 

@@ -1,4 +1,4 @@
--- `reader::look::job_refusal` meets its contract. Assumes nothing.
+-- `reader::look::names_refusal` meets its contract. Assumes nothing.
 use mathlib.Core.Path.{_≡_, sym, ap, _∙_}
 use native.Mathlib.Omega.{arith}
 use borrow.Author.Needs.{needs}
@@ -6,9 +6,9 @@ use Rattle.format.specs.Job.{Head, shared}
 use Rattle.format.specs.File.{decode}
 use Rattle.index.specs.Index.{sharesNumber}
 use Rattle.fills.proofs.Naming.{shared-is}
-use Rattle.reader.proofs.Places.{last-7, last-8, last-0}
-use Rattle.reader.proofs.look.job_refusal.Statement.{statement}
-use Rattle.reader.proofs.look.job_refusal.Tie as tie
+use Rattle.reader.proofs.Last.{names-7, names-8, names-0}
+use Rattle.reader.proofs.look.names_refusal.Statement.{statement}
+use Rattle.reader.proofs.look.names_refusal.Tie as tie
 
 -- The index is made, from the question after it; and the entry.
 abbrev made : tie.After-shared → tie.After-index-offers
@@ -46,7 +46,7 @@ shared-requires c κs =
     omega (arith, entry x .pre .0 .whole .most .offers, x .index-offers .kept .1 .1 .0)
 
 returns : tie.Need-returns
-returns c = (last-7 _ (shared-told (c .before) ∙ c .if1 .taken), λ e. absurd (omega arith))
+returns c = (names-7 _ (shared-told (c .before) ∙ c .if1 .taken), λ e. absurd (omega arith))
 
 find-places-requires : tie.Need-find-places-requires
 find-places-requires c κs =
@@ -69,16 +69,16 @@ returns-2 : tie.Need-returns-2
 returns-2 c =
     let p = looked (c .before) in
     let e = apart (p .before) in
-    (last-8 _ (shared-told (e .before) ∙ e .if1 .left) (sym (p .find-places .ensures .0) ∙ c .if2 .taken), λ z. absurd (omega arith))
+    (names-8 _ (shared-told (e .before) ∙ e .if1 .left) (sym (p .find-places .ensures .0) ∙ c .if2 .taken), λ z. absurd (omega arith))
 
 returns-3 : tie.Need-returns-3
 returns-3 c =
     let p = looked (c .before) in
     let e = apart (p .before) in
-    (last-0 _ (shared-told (e .before) ∙ e .if1 .left) (sym (p .find-places .ensures .0) ∙ c .if2 .left), λ z. p .find-places .ensures .1 (c .if2 .left))
+    (names-0 _ (shared-told (e .before) ∙ e .if1 .left) (sym (p .find-places .ensures .0) ∙ c .if2 .left), λ z. p .find-places .ensures .1 (c .if2 .left))
 
-pub job-refusal-spec : {M : Type 1} → statement M
-job-refusal-spec =
+pub names-refusal-spec : {M : Type 1} → statement M
+names-refusal-spec =
     tie.close
     (tie.spec
     (λ c. search needs)

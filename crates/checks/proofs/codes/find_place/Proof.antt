@@ -1,13 +1,11 @@
--- `checks::codes::names_none` meets its contract. Assumes nothing.
-use Prim.Native.Nat.{ℕ}
+-- `checks::codes::find_place` meets its contract. Assumes nothing.
 use mathlib.Core.Path.{ap, _∙_}
-use lib.Dec.{eqb}
 use denote.Ref.{now}
 use borrow.Author.Needs.{needs}
 use Rattle.index.specs.Index.{placeOf}
 use Rattle.checks.proofs.Naming.{named}
-use Rattle.checks.proofs.codes.names_none.Statement.{statement}
-use Rattle.checks.proofs.codes.names_none.Tie as tie
+use Rattle.checks.proofs.codes.find_place.Statement.{statement}
+use Rattle.checks.proofs.codes.find_place.Tie as tie
 
 -- The entry, from the issuer.
 abbrev entry : tie.After-size-of → tie.Start
@@ -18,12 +16,13 @@ name-at-requires c κs = let p = entry c .pre .1 in ((p .0, c .size-of .ensures 
 
 returns : tie.Need-returns
 returns c =
-    let a = entry (c .before .before) .args in
+    let s = entry (c .before .before) in
+    let a = s .args in
     let e = named (now (a .tally-code)) (now (a .tally-issuer)) (a .i) (c .before .name-at .ensures) (c .before .before .size-of .ensures .0) in
-    λ numbers x d. ap (λ (p : ℕ). eqb p (a .n)) (c .place .ensures numbers x d ∙ ap (placeOf numbers (a .n)) e)
+    λ j x. c .place .ensures (x .numbers) (x .index) (x .apart) ∙ ap (placeOf (x .numbers) (a .n)) e ∙ x .place (a .i) (s .pre .1 .2)
 
-pub names-none-spec : {M : Type 1} → statement M
-names-none-spec =
+pub find-place-spec : {M : Type 1} → statement M
+find-place-spec =
     tie.close
     (tie.spec
     (λ c. search needs)

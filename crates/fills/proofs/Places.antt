@@ -1,4 +1,4 @@
--- The tallies' offers, looked up one by one, and what 7 and 8 come to. Assumes nothing.
+-- The tallies' offers, looked up one by one. Assumes nothing.
 use mathlib.Core.Path.{_≡_, refl, sym, ap, _∙_, subst}
 use mathlib.Core.Bool.{Bool, true, false, not}
 use mathlib.Core.List.{List}
@@ -10,12 +10,11 @@ use lib.ListN.{length, getD, set}
 use lib.Seq.{getD-set-same, getD-set-other}
 use borrow.Author.Tests.{eq-eqb, ne-eqb}
 use Rattle.laws.specs.Below.{any}
-use Rattle.laws.specs.Checks.{firstMet}
 use Rattle.laws.proofs.Bools.{split}
 use Rattle.laws.proofs.Below.{any-next, any-at, find-passes, find-none}
-use Rattle.format.specs.Job.{FileJob, names, placeOf, shared, unnamed}
-use Rattle.reader.specs.Sound.{Placed, lastRefusal}
+use Rattle.format.specs.Job.{FileJob, names, placeOf, unnamed}
 use Rattle.format.proofs.Range.{unnamed-place}
+use Rattle.fills.specs.Fills.{Placed}
 
 -- A place is at most N.
 pub place-most : (j : FileJob) (t : ℕ) → placeOf j t ≤ j .head .offers
@@ -73,20 +72,3 @@ placed-more {j} {l} {i} v p h e =
 -- All are kept.
 pub placed-end : {j : FileJob} {l : List ℕ} (i t : ℕ) → i ≤ t → t ≤ i → Placed j l i → Placed j l t
 placed-end {j} {l} i t a b p = subst (λ (k : ℕ). Placed j l k) (le-antisymm a b) p
-
--- ---- 7 and 8
-
--- Two offers share a name: 7.
-pub last-7 : (j : FileJob) → shared j ≡ true → 7 ≡ lastRefusal j
-unfolding lastRefusal firstMet
-last-7 j h = rw h
-
--- None do, and a tally names no offer: 8.
-pub last-8 : (j : FileJob) → shared j ≡ false → unnamed j ≡ true → 8 ≡ lastRefusal j
-unfolding lastRefusal firstMet
-last-8 j h u = rw (h, u)
-
--- Neither is met.
-pub last-0 : (j : FileJob) → shared j ≡ false → unnamed j ≡ false → 0 ≡ lastRefusal j
-unfolding lastRefusal firstMet
-last-0 j h u = rw (h, u)
