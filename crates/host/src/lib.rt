@@ -80,15 +80,17 @@ pub extern "C" fn settlement_read(
     tally_code: &mut [u8],
     tally_count: &mut [i32],
     tally_issuer: &mut [u16],
+    tally_bag: &mut [u16],
+    tally_revision: &mut [u16],
     tally_offer: &mut [u16],
     sizes: &mut [u16],
 ) -> u16
     ensures { λ r. ⌜ hostRead r
         (readerAfter price «offer_owner» «offer_code» «offer_issuer» «grocer_owner» «tally_grocer» «tally_box» «tally_code» «tally_count» «tally_issuer»
-        «tally_offer») (now (sizes .exit))
+        «tally_bag» «tally_revision» «tally_offer») (now (sizes .exit))
         ≡ readByHost (now (file .entry))
         (readerBefore price «offer_owner» «offer_code» «offer_issuer» «grocer_owner» «tally_grocer» «tally_box» «tally_code» «tally_count» «tally_issuer»
-        «tally_offer») (now (sizes .entry)) ⌝ }
+        «tally_bag» «tally_revision» «tally_offer») (now (sizes .entry)) ⌝ }
 {
     if sizes.len() < 5 {
         return 20;
@@ -105,6 +107,8 @@ pub extern "C" fn settlement_read(
         tally_code,
         tally_count,
         tally_issuer,
+        tally_bag,
+        tally_revision,
         tally_offer,
     );
     tell_sizes(a, sizes)
