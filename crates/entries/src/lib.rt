@@ -46,10 +46,13 @@ pub extern "C" fn entries_write(
     tally_code: &[u8],
     tally_count: &[i32],
     tally_issuer: &[u16],
+    tally_bag: &[u16],
+    tally_revision: &[u16],
     out: &mut [u8],
 ) -> usize
     ensures { λ r. ⌜ written r (now (out .exit)) ≡ writtenAs (writeResult (headOf boxes grocers offers tallies cycle) (fileLent price «offer_owner» «offer_code»
-        «offer_issuer» «grocer_owner» «tally_grocer» «tally_box» «tally_code» «tally_count» «tally_issuer») (now (out .entry))) ⌝ }
+        «offer_issuer» «grocer_owner» «tally_grocer» «tally_box» «tally_code» «tally_count» «tally_issuer» «tally_bag»
+        «tally_revision») (now (out .entry))) ⌝ }
 {
     let a = writer::write(
         boxes,
@@ -67,6 +70,8 @@ pub extern "C" fn entries_write(
         tally_code,
         tally_count,
         tally_issuer,
+        tally_bag,
+        tally_revision,
         out,
     );
     number(a)

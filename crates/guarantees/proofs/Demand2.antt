@@ -96,6 +96,8 @@ words-read f bytes =
       cycle = word-small _ _ (bytes 12) (bytes 13);
       offerIssuer = λ i h. word-small _ _ (bytes _) (bytes _);
       tallyIssuer = λ t h. word-small _ _ (bytes _) (bytes _);
+      tallyBag = λ t h. word-small _ _ (bytes _) (bytes _);
+      tallyRevision = λ t h. word-small _ _ (bytes _) (bytes _);
     }
 
 -- Names of issuer 0 are one offer where their numbers agree.

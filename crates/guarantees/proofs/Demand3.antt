@@ -259,6 +259,7 @@ accepted f l ok = record {
   holds = holds-ok f l ok;
   named = named-ok f l ok;
   noOther = other-ok f l ok;
+  once = accepted-range f (read-file f l ok) .once;
   answer = ap (λ (o : ReadOutcome). o .answer) (read-accepted f l ok);
   settles = settles f l ok;
   steps = demand3 (jobRead f l) (settles f l ok);

@@ -59,7 +59,7 @@ pub record Demand2 : Type 0 where
   pub readOwn : (h : Head) (r : ReaderTables) (out : List ℕ) → writeRefusal h (r .job) out ≡ 0 → shortReader r ≡ false →
       readResult (take (512 * blockCount h) (writeResult h (r .job) out .out)) r
       ≡ record { answer = sizes h; tables = record { job = r .job; tallyOffer = overwrite (h .tallies) (placeOf (fileJobOf h (r .job))) (r .tallyOffer) } }
-  -- What was written are bytes, cycle and issuers being any 16-bit numbers: the file that reading takes back is one that a disk can hold.
+  -- What was written are bytes, cycle, issuers, bags and revisions being any 16-bit numbers: the file that reading takes back is one that a disk can hold.
   pub writtenBytes : (h : Head) (l : FileTables) (out : List ℕ) → Words16 (fileJobOf h l) → writeRefusal h l out ≡ 0 →
       Bytes (take (512 * blockCount h) (writeResult h l out .out))
   -- And those that were read are such numbers, whatever the file's bytes are.

@@ -1,7 +1,7 @@
 -- Demand 3, of every job in range and so of every accepted file: what step and run are lent of a file that the reader has accepted.
 use mathlib.Core.Path.{_≡_}
 use mathlib.Core.List.{List}
-use mathlib.Core.Bool.{true}
+use mathlib.Core.Bool.{true, false}
 use Prim.Native.Nat.{ℕ, _<_}
 use lib.Dec.{eqb}
 use lib.IntN.{ℤ, pos, _*ℤ_}
@@ -12,7 +12,8 @@ use Rattle.model.specs.Tables.{JobTables, StateTables, jobOf}
 use Rattle.model.specs.Ranges.{jobInRange, Settles}
 use Rattle.model.specs.Requests.{Request}
 use Rattle.model.specs.Demand3.{Demand3, RunIsList}
-use Rattle.format.specs.Job.{FileJob, names, placeOf}
+use Rattle.recount.specs.Recount.{countedTwice}
+use Rattle.format.specs.Job.{FileJob, names, placeOf, countedTallies}
 use Rattle.format.specs.File.{decode}
 use Rattle.printing.specs.Printed.{jobRead}
 use Rattle.format.specs.Refusals.{fileRefusal}
@@ -46,6 +47,8 @@ pub record Accepted (file : List ℕ) (l : ReaderTables) : Type 0 where
   pub named : (t : ℕ) → t < decode file .head .tallies →
       (placeOf (decode file) t < decode file .head .offers) × (names (decode file) t (placeOf (decode file) t) ≡ true)
   pub noOther : (t i : ℕ) → t < decode file .head .tallies → i < decode file .head .offers → names (decode file) t i ≡ true → placeOf (decode file) t ≡ i
+  -- No bag and revision stands twice for a grocer and offer.
+  pub once : countedTwice (countedTallies (decode file)) ≡ false
   -- The reader answers K, M, N and T.
   pub answer : readResult file l .answer ≡ sizes (decode file .head)
   -- Every word is in range, and every table is as long as it must be.
