@@ -10,6 +10,7 @@ use lib.ListN.{take, drop, length, getD, length-append}
 use Rattle.laws.specs.Tables.{overwrite}
 use Rattle.laws.proofs.Below.{any-cong, find-cong}
 use Rattle.laws.proofs.Bools.{no-true}
+use Rattle.recount.proofs.Recount.{recount-laws}
 use Rattle.model.specs.Steps.{effectOf}
 use Rattle.model.specs.Tables.{JobTables, StateTables, jobOf, view, store}
 use Rattle.model.specs.Step.{Asked, stepOf, accepted, stepAnswer, isAccepted, stepped, stepRefusal, stepTables, moved}
@@ -129,6 +130,7 @@ demand2 = record {
   writtenBytes = λ x l out c ok. written-bytes x l out ok c;
   wordsRead = words-read;
   names = same-offer;
+  recount = recount-laws;
   oldNames = as-before;
   damage = λ f f′ l bytes bytes′ ok k i j hk hi hj long same differs. read-two f′ l (reader-whole f l ok) (damaged f f′ bytes bytes′ (read-file f l ok) k i j hk hi hj long same differs);
   step = step-does;

@@ -8,6 +8,7 @@ use lib.Dec.{eqb}
 use lib.ListN.{length, getD, drop, take}
 use Rattle.laws.specs.Below.{any, find}
 use Rattle.laws.specs.Tables.{overwrite}
+use Rattle.recount.specs.Recount.{RecountLaws}
 use Rattle.model.specs.Steps.{effectOf}
 use Rattle.model.specs.Tables.{JobTables, StateTables, jobOf, view, store}
 use Rattle.model.specs.Step.{Asked, stepOf, accepted, stepped}
@@ -69,6 +70,8 @@ pub record Demand2 : Type 0 where
       (sameOffer a b ≡ true) ↔ ((a .issuer ≡ b .issuer) × (dropZeros (written (a .code)) ≡ dropZeros (written (b .code))))
   -- Where every issuer is 0, each look-up is that of the numbers alone.
   pub oldNames : (j : FileJob) → NoIssuers j → AsBefore j
+  -- Which counts of a bag stand: in whatever order their records come the same, and where 9 is not met one of each bag, the highest revision.
+  pub recount : RecountLaws
   -- In an accepted file, changing one or two bytes of one block always gives refusal 2:
   -- f′ differs from f at most at bytes i and j of block k, and somewhere.
   pub damage : (f f′ : List ℕ) (l : ReaderTables) → Bytes f → Bytes f′ → readRefusal f l ≡ 0 →

@@ -50,6 +50,8 @@ fn put_job(
         tally_box,
         tally_offer,
         tally_count,
+        tally_bag,
+        tally_revision,
         &mut known,
         &mut price_transit,
         &mut working,
