@@ -6,7 +6,9 @@ use Rattle.host.proofs.settlement_read.Tie as tie
 
 -- The call of `read`, from the last return.
 abbrev was-read : tie.After-slice-known26 → tie.After-read
-was-read c = let m = c .before .before .before .before .before .before .before .before .before .before .before .before .before .before .before in m .before .before .before .before .before .before .before .before .before .before .before .before .before .before
+was-read c =
+    let m = c .before .before .before .before .before .before .before .before .before .before .before .before .before .before .before in
+    m .before .before .before .before .before .before .before .before .before .before .before .before .before .before
 
 -- The test of the length of sizes, from the call of `read`.
 abbrev long : tie.After-read → tie.Else1
