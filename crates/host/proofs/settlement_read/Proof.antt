@@ -5,10 +5,11 @@ use Rattle.host.proofs.settlement_read.Statement.{statement}
 use Rattle.host.proofs.settlement_read.Tie as tie
 
 -- The call of `read`, from the last return.
+abbrev told : tie.After-slice-known26 → tie.After-slice-known20
+told c = c .before .before .before .before .before .before .before .before .before .before .before .before .before .before .before
+
 abbrev was-read : tie.After-slice-known26 → tie.After-read
-was-read c =
-    let m = c .before .before .before .before .before .before .before .before .before .before .before .before .before .before .before in
-    m .before .before .before .before .before .before .before .before .before .before .before .before .before .before
+was-read c = told c .before .before .before .before .before .before .before .before .before .before .before .before .before .before
 
 -- The test of the length of sizes, from the call of `read`.
 abbrev long : tie.After-read → tie.Else1
