@@ -36,9 +36,15 @@ back c = c .before .before .before .before .before .before .before .before .befo
 abbrev was-read : tie.After-price3 → tie.After-read
 was-read c = back (c .before .before .before .before .before)
 
--- Where the first is lent, from the last.
+-- Where the first is lent, from the last three.
+abbrev lent-count : tie.After-tally-count3 → tie.After-price3
+lent-count c = c .before .before .before .before .before .before
+
+abbrev lent-bag : tie.After-tally-bag3 → tie.After-price3
+lent-bag c = lent-count (c .before)
+
 abbrev lent : tie.After-tally-revision3 → tie.After-price3
-lent c = c .before .before .before .before .before .before .before .before
+lent c = lent-bag (c .before)
 
 slice-aggregate-put-job : tie.Need-slice-aggregate-put-job
 slice-aggregate-put-job c = sym (was-read c .read .kept .1 .0)
@@ -59,10 +65,10 @@ slice-aggregate-put-job-6 : tie.Need-slice-aggregate-put-job-6
 slice-aggregate-put-job-6 c = sym (was-read (c .before .before .before .before .before) .read .kept .1 .1 .1 .1 .1 .1 .1 .1 .1 .1 .1 .1 .1 .0)
 
 slice-aggregate-put-job-7 : tie.Need-slice-aggregate-put-job-7
-slice-aggregate-put-job-7 c = sym (was-read (c .before .before .before .before .before .before) .read .kept .1 .1 .1 .1 .1 .1 .1 .1 .1 .0)
+slice-aggregate-put-job-7 c = sym (was-read (lent-count c) .read .kept .1 .1 .1 .1 .1 .1 .1 .1 .1 .0)
 
 slice-aggregate-put-job-8 : tie.Need-slice-aggregate-put-job-8
-slice-aggregate-put-job-8 c = sym (was-read (c .before .before .before .before .before .before .before) .read .kept .1 .1 .1 .1 .1 .1 .1 .1 .1 .1 .1 .0)
+slice-aggregate-put-job-8 c = sym (was-read (lent-bag c) .read .kept .1 .1 .1 .1 .1 .1 .1 .1 .1 .1 .1 .0)
 
 slice-aggregate-put-job-9 : tie.Need-slice-aggregate-put-job-9
 slice-aggregate-put-job-9 c = sym (was-read (lent c) .read .kept .1 .1 .1 .1 .1 .1 .1 .1 .1 .1 .1 .1 .0)

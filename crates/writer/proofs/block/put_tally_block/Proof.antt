@@ -59,7 +59,8 @@ returns c =
     let p = parted h in
     let s = entry p in
     let a = s .args in
-    records-made 3 (a .k) (a .t) (a .b) _ (λ i. tallyBytes (tallyOf (tallyTables (now (a .tally-grocer)) (now (a .tally-box)) (now (a .tally-code)) (now (a .tally-count)) (now (a .tally-issuer)) (now (a .tally-bag)) (now (a .tally-revision))) i)) (now (a .out)) _ _ _
+    records-made 3 (a .k) (a .t) (a .b) _
+    (λ i. tallyBytes (tallyOf (tallyTables (now (a .tally-grocer)) (now (a .tally-box)) (now (a .tally-code)) (now (a .tally-count)) (now (a .tally-issuer)) (now (a .tally-bag)) (now (a .tally-revision))) i)) (now (a .out)) _ _ _
     (p .part-of .ensures) (omega (arith, s .pre .0)) (h .put-head .ensures) (f .put-tallies .ensures) (z .close-block .ensures)
 
 pub put-tally-block-spec : {M : Type 1} → statement M
