@@ -6,11 +6,11 @@ use Prim.Native.Nat.{ℕ, zero, suc, _<_, _≤_}
 use native.Mathlib.Omega.{arith}
 use lib.ListN.{getD, length}
 use lib.Dec.{ltb, leb}
-use lib.IntN.{pos}
+use lib.IntN.{pos, natAbs}
 use borrow.Author.Tests.{lt-ltb, le-ltb, le-leb}
 use Rattle.laws.specs.Checks.{firstMet}
 use Rattle.laws.specs.Tables.{tabulate}
-use Rattle.laws.specs.Limits.{maxGrocers, maxOffers, maxTallies, maxPrice, maxCount}
+use Rattle.laws.specs.Limits.{maxBoxes, maxGrocers, maxOffers, maxTallies, maxPrice, maxCount}
 use Rattle.laws.proofs.Bools.{and-true, and-l}
 use Rattle.laws.proofs.Checks.{Each, each-of, all-each}
 use Rattle.laws.proofs.Tables.{length-tabulate, getD-tabulate}
@@ -42,7 +42,7 @@ module _ (f : JobTables) (ok : jobInRange f ≡ true) where
   tally-in-range : (t : ℕ) → t < f .tallies → recordInRange (f .grocers) (f .offers) (tally t) ≡ true
   unfolding recordInRange
   tally-in-range t l =
-      all-each (_ ∷ _ ∷ _ ∷ _ ∷ [])
+      all-each (ltb (getD (f .tallyGrocer) t 0) (f .grocers) ∷ ltb (getD (f .tallyBox) t 0) maxBoxes ∷ ltb (getD (f .tallyOffer) t 0) (f .offers) ∷ leb (natAbs (getD (f .tallyCount) t (pos 0))) maxCount ∷ [])
       (
         lt-ltb _ _ (under-at (f .grocers) (f .tallies) (f .tallyGrocer) t (words .tallyGrocer) l),
         (
