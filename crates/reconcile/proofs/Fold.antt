@@ -28,7 +28,7 @@ use Rattle.model.specs.Reconcile.{TallyRecord, recordInRange, recordsInRange, r
 use Rattle.model.proofs.Step.{up-at}
 use Rattle.model.proofs.Desk.{serial-standing}
 use Rattle.records.specs.Head.{headInRange, headRefusal}
-use Rattle.records.specs.Rows.{share, recordKey, withNumber, Takes, Kept}
+use Rattle.records.specs.Rows.{share, recordKey, withNumber, Takes, Kept, Took}
 use Rattle.records.proofs.Taking.{place-in, count-in, share-abs}
 use Rattle.records.proofs.Amounts.{product-abs}
 use Rattle.reconcile.specs.declared.Tally.{Tally}
@@ -212,16 +212,16 @@ module _ (ts : List Tally) (ps : List ℕ) (m n g : ℕ) where
       let (o, q) = open-still i k keys shares t z in
       record { few = omega (arith, o .few); long = o .long; priced = o .priced }
 
-  pub taken-next : (i k k′ : ℕ) (keys keys′ : List ℕ) (shares shares′ : List ℤ) → i < length ts → Taken i k keys shares → k′ ≡ withNumber m n k (recordOf (getD ts i none)) →
-      (k′ ≡ 0 → Kept ps g i (recordOf (getD ts i none)) keys keys′ shares shares′) → Taken (i + 1) k′ keys′ shares′
-  taken-next i k k′ keys keys′ shares shares′ l t e p = record {
-    number = e ∙ ap (λ (x : ℕ). withNumber m n x (recordOf (getD ts i none))) (t .number)
+  pub taken-next : (i k k′ : ℕ) (keys keys′ : List ℕ) (shares shares′ : List ℤ) → i < length ts → Taken i k keys shares → Took ps m n g k i (recordOf (getD ts i none)) keys keys′ shares shares′ k′ →
+      Taken (i + 1) k′ keys′ shares′
+  taken-next i k k′ keys keys′ shares shares′ l t p = record {
+    number = p .number ∙ ap (λ (x : ℕ). withNumber m n x (recordOf (getD ts i none))) (t .number)
         ∙ number-more m n (headRefusal m n g ps (length ts)) (recordsInRange m n (recordsOf (take i ts))) (recordOf (getD ts i none))
         ∙ ap (numberOf (headRefusal m n g ps (length ts)))
         (sym (ranged-snoc m n (recordsOf (take i ts)) (recordOf (getD ts i none)))
         ∙ ap (recordsInRange m n) (sym (records-snoc (take i ts) (getD ts i none)) ∙ ap recordsOf (sym (take-suc ts i none l) ∙ ap (λ (j : ℕ). take j ts) (sym (add-one i)))));
-    rows = λ z. let z′ = number-was m n k (recordOf (getD ts i none)) (sym e ∙ z) in
-        rows-next ts ps g i keys keys′ shares shares′ (taken-takes i k keys shares l t z′ .few) (t .rows z′) (p z);
+    rows = λ z. let z′ = number-was m n k (recordOf (getD ts i none)) (sym (p .number) ∙ z) in
+        rows-next ts ps g i keys keys′ shares shares′ (taken-takes i k keys shares l t z′ .few) (t .rows z′) (p .kept z);
   }
 
   module _ (i k : ℕ) (keys : List ℕ) (shares : List ℤ) (e : i + 0 ≡ length ts) (t : Taken i k keys shares) where

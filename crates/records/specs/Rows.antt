@@ -40,6 +40,11 @@ pub record Kept (prices : List ℕ) (g i : ℕ) (r : TallyRecord) (keys keys′ 
   pub bag : r .bag < 65_536
   pub revision : r .revision < 65_536
 
+-- Record i is looked at: the number with it, and what is kept where there is no refusal.
+pub record Took (prices : List ℕ) (m n g k i : ℕ) (r : TallyRecord) (keys keys′ : List ℕ) (shares shares′ : List ℤ) (k′ : ℕ) : Type 0 where
+  pub number : k′ ≡ withNumber m n k r
+  pub kept : k′ ≡ 0 → Kept prices g i r keys keys′ shares shares′
+
 -- The sum of the shares that are not marked.
 unfoldable pub unmarked : ℕ → List ℕ → List ℤ → ℤ
 unmarked n marks shares = sum integers n (λ t. only integers (eqb (getD marks t 0) 0) (getD shares t (pos 0)))

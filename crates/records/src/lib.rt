@@ -8,7 +8,7 @@ ghost use Rattle.laws.specs.Below.{only, integers};
 ghost use Rattle.laws.specs.Limits.{maxPrice, maxCount, maxAmount};
 ghost use Rattle.model.specs.Reconcile.{recordInRange};
 ghost use Rattle.records.specs.Head.{headRefusal};
-ghost use Rattle.records.specs.Rows.{tallyRecord, share, withNumber, Takes, Kept, unmarked};
+ghost use Rattle.records.specs.Rows.{tallyRecord, share, Takes, Took, unmarked};
 use bags::count_key;
 use tables::ranges::is_count;
 use tables::ranges::upto32;
@@ -89,9 +89,8 @@ pub fn take_record(
     shares: &mut [i64; 1000],
 ) -> u16
     requires { ⌜ (number ≡ 0 → Takes offers (now price) i) ⌝ }
-    ensures { λ r. ⌜ r ≡ withNumber grocers offers number (tallyRecord grocer «tally_box» place count bag revision) ⌝ }
-    ensures { λ r. ⌜ (r ≡ 0 → Kept (now (price .entry)) wanted i (tallyRecord grocer «tally_box» place count bag revision)
-        (now (keys .entry)) (now (keys .exit)) (now (shares .entry)) (now (shares .exit))) ⌝ }
+    ensures { λ r. ⌜ Took (now (price .entry)) grocers offers wanted number i (tallyRecord grocer «tally_box» place count bag revision)
+        (now (keys .entry)) (now (keys .exit)) (now (shares .entry)) (now (shares .exit)) r ⌝ }
 {
     if number > 0 {
         return number;

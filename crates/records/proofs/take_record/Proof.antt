@@ -27,15 +27,19 @@ tested c =
 returns : tie.Need-returns
 returns c =
     let s = c .before .before in
-    (number-stays (s .args .grocers) (s .args .offers) (s .args .number) (passes s) (c .if1 .taken), λ e. absurd (omega (arith, c .if1 .taken)))
+    record {
+      number = number-stays (s .args .grocers) (s .args .offers) (s .args .number) (passes s) (c .if1 .taken);
+      kept = λ e. absurd (omega (arith, c .if1 .taken));
+    }
 
 returns-2 : tie.Need-returns-2
 returns-2 c =
     let t = c .before in
-    let s = t .before .before .before in (
-      number-out (s .args .grocers) (s .args .offers) (s .args .number) (passes s) (t .before .if1 .left) (sym (tested t) ∙ not-true (t .record-in-range .result) (c .if2 .taken)),
-      λ e. absurd (omega arith),
-    )
+    let s = t .before .before .before in
+    record {
+      number = number-out (s .args .grocers) (s .args .offers) (s .args .number) (passes s) (t .before .if1 .left) (sym (tested t) ∙ not-true (t .record-in-range .result) (c .if2 .taken));
+      kept = λ e. absurd (omega arith);
+    }
 
 takes : (c : tie.Else1) → Takes (c .before .before .args .offers) (now (c .before .before .args .price)) (c .before .before .args .i)
 takes c = c .before .before .pre (omega (arith, c .if1 .left))
@@ -74,15 +78,16 @@ returns-3 c =
     let x = s .args in
     let i = takes (e .before .before) .few in
     let p = priced (x .grocers) (x .offers) (passes s) (in-range e) (now (x .price)) (x .i) (takes (e .before .before)) in
-    let said = rw (read32 (x .count) (s .fits .count .sfits)) at (c .share-of .ensures (x .tally-box) (x .bag) (x .revision)) in (
-      number-in (x .grocers) (x .offers) (x .number) (passes s) (e .before .before .if1 .left) (in-range e),
-      λ z. record {
+    let said = rw (read32 (x .count) (s .fits .count .sfits)) at (c .share-of .ensures (x .tally-box) (x .bag) (x .revision)) in
+    record {
+      number = number-in (x .grocers) (x .offers) (x .number) (passes s) (e .before .before .if1 .left) (in-range e);
+      kept = λ z. record {
         key = ap (set (now (x .keys)) (x .i)) (key-is s (c .before .count-key .result) (c .before .count-key .ensures));
         worth = ap (set (now (x .shares)) (x .i)) (share-read (now (x .price)) (x .wanted) (passes s) (c .share-of .result) said (p .1) (p .2));
         bag = omega (arith, s .fits .bag);
         revision = omega (arith, s .fits .revision);
-      },
-    )
+      };
+    }
 
 pub take-record-spec : {M : Type 1} → statement M
 take-record-spec =
