@@ -314,8 +314,11 @@ amounts-in-range m n g ps rs z e =
     let s = each-of ((leb 1 m && leb m maxGrocers) ∷ (leb 1 n && leb n maxOffers) ∷ upTo maxPrice n ps ∷ leb (length rs) maxTallies ∷ recordsInRange m n rs ∷ ltb g m ∷ []) ok in
     let few : length rs ≤ 1000 = leb-true (length rs) 1000 (s .1 .1 .1 .0) in
     rw (← is, serial-standing ps g rs)
-    (omega (arith, sum-abs (length rs) 999_989_900_001
-    (λ t. only integers (stands (countedRecords rs) t && eqb (recordIn rs t .grocer) g) (recordIn rs t .count *ℤ pos (getD ps (recordIn rs t .place) 0)))
-    (λ t l. let r = recordIn rs t in let h = ranged-in m n rs (s .1 .1 .1 .1 .0) t l in
-    only-abs (stands (countedRecords rs) t && eqb (r .grocer) g) (r .count *ℤ pos (getD ps (r .place) 0)) 999_989_900_001
-    (product-abs (r .count) (getD ps (r .place) 0) (count-in m n r h) (up-at maxPrice n ps (r .place) (s .1 .1 .0) (place-in m n r h))))))
+    (omega (
+      arith,
+      sum-abs (length rs) 999_989_900_001
+          (λ t. only integers (stands (countedRecords rs) t && eqb (recordIn rs t .grocer) g) (recordIn rs t .count *ℤ pos (getD ps (recordIn rs t .place) 0)))
+          (λ t l. let r = recordIn rs t in let h = ranged-in m n rs (s .1 .1 .1 .1 .0) t l in
+          only-abs (stands (countedRecords rs) t && eqb (r .grocer) g) (r .count *ℤ pos (getD ps (r .place) 0)) 999_989_900_001
+          (product-abs (r .count) (getD ps (r .place) 0) (count-in m n r h) (up-at maxPrice n ps (r .place) (s .1 .1 .0) (place-in m n r h)))),
+    ))

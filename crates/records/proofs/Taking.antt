@@ -71,8 +71,11 @@ unmarked-next t marks shares = sum-next integers t (λ t. only integers (eqb (ge
 pub unmarked-abs : (t : ℕ) (marks : List ℕ) (shares : List ℤ) → t ≤ 1000 → ((k : ℕ) → k < t → natAbs (getD shares k (pos 0)) ≤ 999_989_900_001) → natAbs (unmarked t marks shares) ≤ maxAmount
 unfolding unmarked
 unmarked-abs t marks shares few small =
-    omega (arith, sum-abs t 999_989_900_001 (λ t. only integers (eqb (getD marks t 0) 0) (getD shares t (pos 0)))
-    (λ k l. only-abs (eqb (getD marks k 0) 0) (getD shares k (pos 0)) 999_989_900_001 (small k l)))
+    omega (
+      arith,
+      sum-abs t 999_989_900_001 (λ t. only integers (eqb (getD marks t 0) 0) (getD shares t (pos 0)))
+          (λ k l. only-abs (eqb (getD marks k 0) 0) (getD shares k (pos 0)) 999_989_900_001 (small k l)),
+    )
 
 -- The number by the tests that led there.
 module _ (m n k : ℕ) (r : TallyRecord) where
