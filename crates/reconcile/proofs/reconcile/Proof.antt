@@ -1,7 +1,8 @@
 -- `reconcile::reconcile` meets its contract: a walk of its MIR, by hand, with a loop. `head_refusal` is called once, `take_record` in each turn and `settle` at the end: all that the proof knows of them is that they meet their contracts.
--- The slice of records is looked into once, before the loop, and shut once, after it; between the two the share of its row stands in the invariant. The arrays of keys and shares are lent in each turn, each for a lifetime of its own, and come back at what the callee left. What is known after i records is `Taken` (proofs/Fold.antt).
+-- The slice of records is looked into once, before the loop, and shut once, after it; between the two the share of its row stands in the invariant.
+-- The arrays of keys and shares are lent in each turn, each for a lifetime of its own, and come back at what the callee left. What is known after i records is `Taken` (proofs/Fold.antt).
 -- Assumes nothing.
-use Rattle.reconcile.proofs.Walk.{_≡_, refl, sym, _∙_, subst, ℕ, suc, zero, _+_, _<_, _^_, Bool, false, List, [], _∷_, ltb, lt→ltb, ltb→lt, lit<, ℤ, pos, length, getD, replicate, Nat·lt-wfRel, WellFounded}
+use Rattle.reconcile.proofs.Walk.{_≡_, refl, sym, ℕ, suc, zero, _+_, _<_, _^_, Bool, false, List, [], _∷_, ltb, lt→ltb, ltb→lt, lit<, ℤ, pos, length, getD, replicate, Nat·lt-wfRel, WellFounded}
 use Rattle.reconcile.proofs.Walk.{InvImage·wf, URA, fullShare, Ty, named, erased, imm, mut, w16, w32, w64, tyInt, tyBool, tyPtr, tyRef, tyArray, Val, vint, vbool, vptr, ofZ, SProp, ent, sep, ex, emp, id⊢, via, exE}
 use Rattle.reconcile.proofs.Walk.{fst∗, snd∗, Lft, GName, Share, Fml, ftrue, fat, froom, fdies, flft, fobor, flent, fres, Memory, Routine, Heap, Out, Env, Calls, Loops, Wp, WpFn, Tables, atReturn, afterSeq}
 use Rattle.reconcile.proofs.Walk.{afterBlock, afterTurn, Atoms, sem, Fun, fact, givenOf, tables, tablesOf, FmC, fmOf, WpFn-mono, Given, Item, ‵, raw, _⊛_, some, later, ⋆, anyQ, atRet, Sq, runs}
@@ -316,7 +317,8 @@ module _ {M : Type 1} (𝓤 : URA M) (H : Heap 𝓤) (A : Atoms 𝓤) (W : Given
 
     module _ (l₀ l₁ l₂ l₃ l₄ l₅ l₆ l₇ l₈ l₉ l₁₀ l₁₁ l₁₂ l₁₃ l₁₄ l₁₅ l₁₆ l₁₇ l₁₈ l₁₉ : ℕ) where
       abbrev En : Env 𝓤 H
-      En = (D′.mir, l₀) ∷ (slice₁, l₁) ∷ (slice₂, l₂) ∷ (tyInt w16, l₃) ∷ (tyInt w16, l₄) ∷ (tyInt w16, l₅) ∷ (tyInt w16, l₆) ∷ (array, l₇) ∷ (array, l₈) ∷ (tyInt w64, l₉) ∷ (T′.mir, l₁₀) ∷ (tyInt w64, l₁₁) ∷ (tyInt w64, l₁₂) ∷ (tyBool, l₁₃) ∷ (tyPtr, l₁₄) ∷ (T′.mir, l₁₅) ∷ (lent, l₁₆) ∷ (lent, l₁₇) ∷ (shown, l₁₈) ∷ (shown, l₁₉) ∷ []
+      En = (D′.mir, l₀) ∷ (slice₁, l₁) ∷ (slice₂, l₂) ∷ (tyInt w16, l₃) ∷ (tyInt w16, l₄) ∷ (tyInt w16, l₅) ∷ (tyInt w16, l₆) ∷ (array, l₇) ∷ (array, l₈) ∷ (tyInt w64, l₉)
+          ∷ (T′.mir, l₁₀) ∷ (tyInt w64, l₁₁) ∷ (tyInt w64, l₁₂) ∷ (tyBool, l₁₃) ∷ (tyPtr, l₁₄) ∷ (T′.mir, l₁₅) ∷ (lent, l₁₆) ∷ (lent, l₁₇) ∷ (shown, l₁₈) ∷ (shown, l₁₉) ∷ []
 
       -- The parameters' locals, room for the result, _11, _18 and _19.
       abbrev Params : List (Item 𝓤) → List (Item 𝓤)
@@ -514,7 +516,8 @@ module _ {M : Type 1} (𝓤 : URA M) (H : Heap 𝓤) (A : Atoms 𝓤) (W : Given
     walk =
         qed W ((‵ (flft κ q) ⊛ ‵ (flft κ′ q′) ⊛ ‵ ftrue) ∷ ‵ (owns (ShrSlice (named 0) κ T.the-row ∷ ShrSlice (named 1) κ′ u32 ∷ u16 ∷ u16 ∷ u16 ∷ []) (s, (p, (m, (k, (w, tt))))) at) ∷ []) ∵
         enter ! C Λ code.function (v₁ ∷ v₂ ∷ vint w16 m ∷ vint w16 k ∷ vint w16 w ∷ []) _ $
-        alloc1 ! (λ l₀. alloc1 ! (λ l₁. alloc1 ! (λ l₂. alloc1 ! (λ l₃. alloc1 ! (λ l₄. alloc1 ! (λ l₅. alloc1 ! (λ l₆. alloc1 ! (λ l₇. alloc1 ! (λ l₈. alloc1 ! (λ l₉. alloc1 ! (λ l₁₀. alloc1 ! (λ l₁₁. alloc1 ! (λ l₁₂. alloc1 ! (λ l₁₃. alloc1 ! (λ l₁₄. alloc1 ! (λ l₁₅. alloc1 ! (λ l₁₆. alloc1 ! (λ l₁₇. alloc1 ! (λ l₁₈. alloc1 ! (λ l₁₉. alloc0 ! $
+        alloc1 ! (λ l₀. alloc1 ! (λ l₁. alloc1 ! (λ l₂. alloc1 ! (λ l₃. alloc1 ! (λ l₄. alloc1 ! (λ l₅. alloc1 ! (λ l₆. alloc1 ! (λ l₇. alloc1 ! (λ l₈. alloc1 ! (λ l₉.
+        alloc1 ! (λ l₁₀. alloc1 ! (λ l₁₁. alloc1 ! (λ l₁₂. alloc1 ! (λ l₁₃. alloc1 ! (λ l₁₄. alloc1 ! (λ l₁₅. alloc1 ! (λ l₁₆. alloc1 ! (λ l₁₇. alloc1 ! (λ l₁₈. alloc1 ! (λ l₁₉. alloc0 ! $
         passed l₀ l₁ l₂ l₃ l₄ l₅ l₆ l₇ l₈ l₉ l₁₀ l₁₁ l₁₂ l₁₃ l₁₄ l₁₅ l₁₆ l₁₇ l₁₈ l₁₉))))))))))))))))))))
 
 module _ {M : Type 1} (𝓤 : URA M) (H : Heap 𝓤) (A : Atoms 𝓤) (W : Given 𝓤 H A) (mem″ : Memory → SProp 𝓤) (run : Routine → Fun 𝓤) (𝓣 : Tables 𝓤 H)
