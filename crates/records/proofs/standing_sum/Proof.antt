@@ -8,12 +8,12 @@ use lib.Dec.{eqb}
 use lib.IntN.{ℤ, pos, natAbs, _+ℤ_}
 use mir.Syntax.{w64}
 use mir.Val.{ofZ, toZ}
-use denote.Ref.{now}
 use borrow.Author.Needs.{needs}
 use Rattle.laws.specs.Below.{sum, only, integers}
 use Rattle.laws.specs.Limits.{maxAmount}
 use Rattle.laws.proofs.Signed.{read64-abs}
 use Rattle.records.specs.Rows.{unmarked}
+use denote.Ref.{now}
 use Rattle.records.proofs.Taking.{unmarked-next, unmarked-abs}
 use Rattle.records.proofs.standing_sum.Statement.{statement}
 use Rattle.records.proofs.standing_sum.Tie as tie
