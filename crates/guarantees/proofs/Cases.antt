@@ -160,7 +160,7 @@ below-4 P a b c d (suc (suc (suc zero))) l = d
 below-4 P a b c d (suc (suc (suc (suc i)))) l = absurd (omega arith)
 
 e-tables : Holds fileE jobE
-unfolding fileE jobOf word placeOf names sameOffer codeNumber value find any
+unfolding fileE jobOf word placeOf names sameOffer codeNumber value find any tabulate
 e-tables = record {
   boxes = refl;
   grocers = refl;

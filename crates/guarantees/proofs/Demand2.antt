@@ -128,11 +128,10 @@ all-loose j n t l = eq-eqb (j .tally t .bag) 0 (n .tally t l)
 
 old-tallies : (j : FileJob) → NoBags j → (countedTwice (countedTallies j) ≡ false) × ((t : ℕ) → t < j .head .tallies → stands (countedTallies j) t ≡ true)
 unfolding countedTwice countedTallies
-old-tallies j n =
-    (
-      any-false (j .head .tallies) _ (λ t l. any-false t _ (λ u m. rw (all-loose j n t l))),
-      λ t l. loose-stands (countedTallies j) t (all-loose j n t l),
-    )
+old-tallies j n = (
+  any-false (j .head .tallies) _ (λ t l. any-false t _ (λ u m. rw (all-loose j n t l))),
+  λ t l. loose-stands (countedTallies j) t (all-loose j n t l),
+)
 
 pub demand2 : Demand2
 unfolding Bytes

@@ -42,11 +42,10 @@ module _ (f : JobTables) (ok : jobInRange f ≡ true) where
   tally-in-range : (t : ℕ) → t < f .tallies → recordInRange (f .grocers) (f .offers) (tally t) ≡ true
   unfolding recordInRange
   tally-in-range t l =
-      all-each (ltb (getD (f .tallyGrocer) t 0) (f .grocers) ∷ ltb (getD (f .tallyBox) t 0) maxBoxes ∷ ltb (getD (f .tallyOffer) t 0) (f .offers) ∷ leb (natAbs (getD (f .tallyCount) t (pos 0))) maxCount ∷ [])
-      (
+      all-each (ltb (getD (f .tallyGrocer) t 0) (f .grocers) ∷ ltb (getD (f .tallyBox) t 0) maxBoxes ∷ ltb (getD (f .tallyOffer) t 0) (f .offers) ∷ leb (natAbs (getD (f .tallyCount) t (pos 0))) maxCount ∷ []) (
         lt-ltb _ _ (under-at (f .grocers) (f .tallies) (f .tallyGrocer) t (words .tallyGrocer) l),
         (
-          lt-ltb _ _ (omega (arith, under-at (f .boxes) (f .tallies) (f .tallyBox) t (boxes-under f ok) l, words .boxes≤)),
+          lt-ltb (getD (f .tallyBox) t 0) maxBoxes (omega (arith, under-at (f .boxes) (f .tallies) (f .tallyBox) t (boxes-under f ok) l, words .boxes≤)),
           (
             lt-ltb _ _ (under-at (f .offers) (f .tallies) (f .tallyOffer) t (words .tallyOffer) l),
             (le-leb _ _ (around-at maxCount (f .tallies) (f .tallyCount) t (words .tallyCount) l), tt),
@@ -75,7 +74,12 @@ module _ (f : JobTables) (ok : jobInRange f ≡ true) where
         ∷ leb (length (jobRecords f)) maxTallies ∷ recordsInRange (f .grocers) (f .offers) (jobRecords f) ∷ ltb g (f .grocers) ∷ [])
     unfolding jobRecords jobInRange sizesInRange
     in-range =
-        let sizes = each-of (_ ∷ _ ∷ _ ∷ _ ∷ []) (and-l (sizesInRange f) (jobWordsInRange f) ok) in
+        let sizes = each-of (
+        (leb 1 (f .boxes) && leb (f .boxes) maxBoxes)
+        ∷ (leb 1 (f .grocers) && leb (f .grocers) maxGrocers)
+        ∷ (leb 1 (f .offers) && leb (f .offers) maxOffers)
+        ∷ leb (f .tallies) maxTallies
+        ∷ []) (and-l (sizesInRange f) (jobWordsInRange f) ok) in
         let few : leb (length (tabulate (f .tallies) tally)) maxTallies ≡ true = rw (length-tabulate (f .tallies) tally) (sizes .1 .1 .1 .0) in
         (sizes .1 .0, (sizes .1 .1 .0, (words .price, (few, (each-in-range (f .grocers) (f .offers) (f .tallies) tally tally-in-range, (lt-ltb g (f .grocers) l, tt))))))
 

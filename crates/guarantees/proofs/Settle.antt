@@ -172,7 +172,7 @@ module _ (file : List ℕ) (ok : fileRefusal file ≡ 0) where
   unfolding lentShort jobRead
   lent-ok =
       let s = accepted-range file ok .sizes in
-      rw (given .settles .whole, blank-state job (s .boxes-most) (s .grocers-most) (s .offers-most))
+      rw (given .settles .whole, given .settles .bags, blank-state job (s .boxes-most) (s .grocers-most) (s .offers-most))
 
   -- The run is not refused: its answer is the job's words, messages and steps,
   answer-is : ran job blankState [] .answer ≡ finished (ownerWords (jobOf job)) (messageCount (jobOf job)) (stepCount (jobOf job))

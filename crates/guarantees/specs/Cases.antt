@@ -77,9 +77,9 @@ recounted a b =
       offer = λ i. record { price = 10; owner = 1; code = code (52 ∷ 49 ∷ 50 ∷ []); issuer = 0 };
       grocerOwner = λ i. 1;
       tally = λ i. getD (
-      record { grocer = 0; box = 0; code = code (52 ∷ 49 ∷ 50 ∷ []); count = pos 5; issuer = 0; bag = 7; revision = a } ∷
-      record { grocer = 0; box = 1; code = code (48 ∷ 52 ∷ 49 ∷ 50 ∷ []); count = pos 4; issuer = 0; bag = 7; revision = b } ∷ []) i
-      (record { grocer = 0; box = 0; code = code []; count = pos 0; issuer = 0; bag = 0; revision = 0 });
+          record { grocer = 0; box = 0; code = code (52 ∷ 49 ∷ 50 ∷ []); count = pos 5; issuer = 0; bag = 7; revision = a } ∷
+          record { grocer = 0; box = 1; code = code (48 ∷ 52 ∷ 49 ∷ 50 ∷ []); count = pos 4; issuer = 0; bag = 7; revision = b } ∷ []) i
+          (record { grocer = 0; box = 0; code = code []; count = pos 0; issuer = 0; bag = 0; revision = 0 });
     }
 
 -- What is printed for E, a line each: "0 225", "1 250", "words 3", "messages 3", "steps 10".

@@ -5,18 +5,18 @@
 use mathlib.Core.Path.{_≡_, refl, sym, ap, _∙_}
 use mathlib.Core.List.{List, [], _∷_, _++_}
 use mathlib.Core.Bool.{Bool, true, false, cond, _&&_, not}
-use Prim.Native.Nat.{ℕ, zero, suc, _+_, _*_, _<_, _≤_}
+use Prim.Native.Nat.{ℕ, zero, suc, _+_, _<_, _≤_}
 use native.Mathlib.Numerals.{add-one}
 use native.Mathlib.Omega.{arith}
-use lib.ListN.{getD, length, take, set, replicate, length-set, length-replicate}
+use lib.ListN.{getD, length, take, replicate, length-set, length-replicate}
 use lib.Seq.{take-suc, take-all, getD-set-same, getD-set-other}
 use lib.Dec.{eqb, ltb, leb}
 use lib.IntN.{ℤ, pos, natAbs, _*ℤ_}
-use borrow.Author.Tests.{leb-true, ltb-false, eqb-true, eqb-false, eq-eqb, ne-eqb}
+use borrow.Author.Tests.{leb-true, ltb-false, eqb-true, eqb-false}
 use Rattle.laws.specs.Below.{sum, only, integers}
 use Rattle.laws.specs.Checks.{firstMet}
 use Rattle.laws.specs.Limits.{maxGrocers, maxOffers, maxTallies, maxPrice, maxAmount}
-use Rattle.laws.proofs.Bools.{split, clash, and-l, and-r}
+use Rattle.laws.proofs.Bools.{split, and-l, and-r}
 use Rattle.laws.proofs.Checks.{each-of}
 use Rattle.laws.proofs.Sums.{sum-cong}
 use Rattle.laws.proofs.Signed.{sum-abs, only-abs}
@@ -33,7 +33,6 @@ use Rattle.records.proofs.Taking.{place-in, count-in, share-abs}
 use Rattle.records.proofs.Amounts.{product-abs}
 use Rattle.reconcile.specs.declared.Tally.{Tally}
 use Rattle.reconcile.specs.declared.Answer.{Answer}
-use Rattle.reconcile.specs.declared.Answer.the-variants.{Owed, Refused}
 use Rattle.reconcile.specs.Records.{recordOf, recordsOf, answerOf}
 use Rattle.reconcile.specs.Serial.{settled, Summable}
 
@@ -314,8 +313,11 @@ amounts-in-range m n g ps rs z e =
     let s = each-of ((leb 1 m && leb m maxGrocers) ∷ (leb 1 n && leb n maxOffers) ∷ upTo maxPrice n ps ∷ leb (length rs) maxTallies ∷ recordsInRange m n rs ∷ ltb g m ∷ []) ok in
     let few : length rs ≤ 1000 = leb-true (length rs) 1000 (s .1 .1 .1 .0) in
     rw (← is, serial-standing ps g rs)
-    (omega (arith, sum-abs (length rs) 999_989_900_001
-    (λ t. only integers (stands (countedRecords rs) t && eqb (recordIn rs t .grocer) g) (recordIn rs t .count *ℤ pos (getD ps (recordIn rs t .place) 0)))
-    (λ t l. let r = recordIn rs t in let h = ranged-in m n rs (s .1 .1 .1 .1 .0) t l in
-    only-abs (stands (countedRecords rs) t && eqb (r .grocer) g) (r .count *ℤ pos (getD ps (r .place) 0)) 999_989_900_001
-    (product-abs (r .count) (getD ps (r .place) 0) (count-in m n r h) (up-at maxPrice n ps (r .place) (s .1 .1 .0) (place-in m n r h))))))
+    (omega (
+      arith,
+      sum-abs (length rs) 999_989_900_001
+          (λ t. only integers (stands (countedRecords rs) t && eqb (recordIn rs t .grocer) g) (recordIn rs t .count *ℤ pos (getD ps (recordIn rs t .place) 0)))
+          (λ t l. let r = recordIn rs t in let h = ranged-in m n rs (s .1 .1 .1 .1 .0) t l in
+          only-abs (stands (countedRecords rs) t && eqb (r .grocer) g) (r .count *ℤ pos (getD ps (r .place) 0)) 999_989_900_001
+          (product-abs (r .count) (getD ps (r .place) 0) (count-in m n r h) (up-at maxPrice n ps (r .place) (s .1 .1 .0) (place-in m n r h)))),
+    ))

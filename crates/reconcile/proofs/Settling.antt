@@ -13,7 +13,6 @@ use Rattle.laws.proofs.Sums.{sum-cong}
 use Rattle.recount.specs.Recount.{Counted, stands, countedTwice}
 use Rattle.bags.specs.Bags.{Struck}
 use Rattle.records.specs.Rows.{unmarked}
-use Rattle.reconcile.specs.declared.Answer.{Answer}
 use Rattle.reconcile.specs.declared.Answer.the-variants.{Owed, Refused}
 use Rattle.reconcile.specs.Serial.{settled}
 

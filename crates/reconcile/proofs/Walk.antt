@@ -26,7 +26,8 @@ pub use contract.Running.{givenOf, tables}
 unfoldable pub use contract.Running.{tablesOf}
 pub use sound.WpLaws.{FmC, fmOf, WpFn-mono}
 use types.Kit.{Goal, Step, cut, mean}
-pub use types.Kit.{Given, Item, ‵, raw, _⊛_, some, later, ⋆, anyQ, atRet, Sq, runs, params′, _$_, _∵_, !, qed, by, move, keep, use0, use1, use2, use3, show, drop, split, join, pick, rewrite, fsplit, fjoin, suffices, frame, await, done, feqI}
+pub use types.Kit.{Given, Item, ‵, raw, _⊛_, some, later, ⋆, anyQ, atRet, Sq, runs, params′, _$_, _∵_, !, qed, by}
+pub use types.Kit.{move, keep, use0, use1, use2, use3, show, drop, split, join, pick, rewrite, fsplit, fjoin, suffices, frame, await, done, feqI}
 pub use types.Part.{whole, sub, look-in, agg, rep}
 pub use types.SemTy.{Body}
 pub use types.Run.{

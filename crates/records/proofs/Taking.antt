@@ -1,12 +1,11 @@
 -- One record more: the number of the refusal, and what is kept. Assumes nothing.
-use mathlib.Core.Path.{_≡_, refl, sym, ap, _∙_}
+use mathlib.Core.Path.{_≡_, ap, _∙_}
 use mathlib.Core.List.{List, [], _∷_}
-use mathlib.Core.Bool.{true, false, cond}
-use Prim.Native.Nat.{ℕ, _+_, _*_, _<_, _≤_}
+use mathlib.Core.Bool.{true, false}
+use Prim.Native.Nat.{ℕ, _+_, _<_, _≤_}
 use native.Mathlib.Omega.{arith}
 use lib.Dec.{eqb, ltb, leb}
-use lib.ListN.{getD, length, set}
-use lib.Seq.{getD-set-same, getD-set-other}
+use lib.ListN.{getD, length}
 use lib.IntN.{ℤ, pos, natAbs, _+ℤ_, _*ℤ_, +ℤ-idl}
 use mir.Syntax.{w64}
 use mir.Val.{ofZ, toZ}
@@ -17,8 +16,8 @@ use Rattle.laws.proofs.Checks.{each-of}
 use Rattle.laws.proofs.Sums.{sum-next}
 use Rattle.laws.proofs.Signed.{read64-abs, sum-abs, only-abs}
 use Rattle.model.specs.Reconcile.{TallyRecord, recordInRange}
+use Rattle.records.specs.Rows.{share, withNumber, Takes, unmarked}
 use Rattle.model.proofs.Step.{up-at}
-use Rattle.records.specs.Rows.{share, recordKey, withNumber, Takes, Kept, unmarked}
 use Rattle.records.proofs.Amounts.{product-abs}
 
 -- What a record in range has.
@@ -71,8 +70,11 @@ unmarked-next t marks shares = sum-next integers t (λ t. only integers (eqb (ge
 pub unmarked-abs : (t : ℕ) (marks : List ℕ) (shares : List ℤ) → t ≤ 1000 → ((k : ℕ) → k < t → natAbs (getD shares k (pos 0)) ≤ 999_989_900_001) → natAbs (unmarked t marks shares) ≤ maxAmount
 unfolding unmarked
 unmarked-abs t marks shares few small =
-    omega (arith, sum-abs t 999_989_900_001 (λ t. only integers (eqb (getD marks t 0) 0) (getD shares t (pos 0)))
-    (λ k l. only-abs (eqb (getD marks k 0) 0) (getD shares k (pos 0)) 999_989_900_001 (small k l)))
+    omega (
+      arith,
+      sum-abs t 999_989_900_001 (λ t. only integers (eqb (getD marks t 0) 0) (getD shares t (pos 0)))
+          (λ k l. only-abs (eqb (getD marks k 0) 0) (getD shares k (pos 0)) 999_989_900_001 (small k l)),
+    )
 
 -- The number by the tests that led there.
 module _ (m n k : ℕ) (r : TallyRecord) where

@@ -1,15 +1,18 @@
 -- `reconcile::reconcile` meets its contract: a walk of its MIR, by hand, with a loop. `head_refusal` is called once, `take_record` in each turn and `settle` at the end: all that the proof knows of them is that they meet their contracts.
--- The slice of records is looked into once, before the loop, and shut once, after it; between the two the share of its row stands in the invariant. The arrays of keys and shares are lent in each turn, each for a lifetime of its own, and come back at what the callee left. What is known after i records is `Taken` (proofs/Fold.antt).
+-- The slice of records is looked into once, before the loop, and shut once, after it; between the two the share of its row stands in the invariant.
+-- The arrays of keys and shares are lent in each turn, each for a lifetime of its own, and come back at what the callee left. What is known after i records is `Taken` (proofs/Fold.antt).
 -- Assumes nothing.
-use Rattle.reconcile.proofs.Walk.{_≡_, refl, sym, _∙_, subst, ℕ, suc, zero, _+_, _<_, _^_, Bool, false, List, [], _∷_, ltb, lt→ltb, ltb→lt, lit<, ℤ, pos, length, getD, replicate, Nat·lt-wfRel, WellFounded}
+use Rattle.reconcile.proofs.Walk.{_≡_, refl, sym, ℕ, suc, zero, _+_, _<_, _^_, Bool, false, List, [], _∷_, ltb, lt→ltb, ltb→lt, lit<, ℤ, pos, length, getD, replicate, Nat·lt-wfRel, WellFounded}
 use Rattle.reconcile.proofs.Walk.{InvImage·wf, URA, fullShare, Ty, named, erased, imm, mut, w16, w32, w64, tyInt, tyBool, tyPtr, tyRef, tyArray, Val, vint, vbool, vptr, ofZ, SProp, ent, sep, ex, emp, id⊢, via, exE}
 use Rattle.reconcile.proofs.Walk.{fst∗, snd∗, Lft, GName, Share, Fml, ftrue, fat, froom, fdies, flft, fobor, flent, fres, Memory, Routine, Heap, Out, Env, Calls, Loops, Wp, WpFn, Tables, atReturn, afterSeq}
 use Rattle.reconcile.proofs.Walk.{afterBlock, afterTurn, Atoms, sem, Fun, fact, givenOf, tables, tablesOf, FmC, fmOf, WpFn-mono, Given, Item, ‵, raw, _⊛_, some, later, ⋆, anyQ, atRet, Sq, runs}
 use Rattle.reconcile.proofs.Walk.{params′, _$_, _∵_, !, qed, by, move, keep, use0, use1, use2, use3, use4, use6, show, drop, split, join, pick, rewrite, fsplit, fjoin, suffices, frame, await, done, whole, sub, look-in}
 use Rattle.reconcile.proofs.Walk.{look, look-raw, store, init, forget, stop, hop, fld, from, load, lit, of-opd, bin, rep, addr, and-then, no-more, assigns, assigns-last, stays, leaves-loop, first, blocks}
 use Rattle.reconcile.proofs.Walk.{Below, again, loops, land, returns, enter, alloc1, alloc0, params1, pass1, pass0, free1, free0, exec, arr-parts, owns, Is, shows, pointee, shares, partAt, mem, Body, uint-vals}
-use Rattle.reconcile.proofs.Walk.{uint-tells, uint-makes, uint-lawful, uint-copy, sint-makes, sint-lawful, sint-copy, u16, u32, u64, i32, i64, usize, RefT, MutRef, ShrRef, sliceTy, sliceVal, ShrSlice, Room, slice-vals, shr-slice-tells, shr-slice-lawful}
-use Rattle.reconcile.proofs.Walk.{shr-slice-copy, row, place-is, elem-out, elem-back, looks-slice, shuts-slice, owned, facts, peeks, heard, nothing, Contract, Triple, calls-at, ensured, lasts, Lasts, Vals, lft-new, lft-end, lent-back}
+use Rattle.reconcile.proofs.Walk.{uint-tells, uint-makes, uint-lawful, uint-copy, sint-makes, sint-lawful, sint-copy, u16, u32, u64, i32}
+use Rattle.reconcile.proofs.Walk.{i64, usize, RefT, MutRef, ShrRef, sliceTy, sliceVal, ShrSlice, Room, slice-vals, shr-slice-tells, shr-slice-lawful}
+use Rattle.reconcile.proofs.Walk.{shr-slice-copy, row, place-is, elem-out, elem-back, looks-slice, shuts-slice, owned, facts, peeks, heard}
+use Rattle.reconcile.proofs.Walk.{nothing, Contract, Triple, calls-at, ensured, lasts, Lasts, Vals, lft-new, lft-end, lent-back}
 use Rattle.reconcile.proofs.Walk.{onEntry, Meets, tripleOf, entered, cited, says, Stays, stay-dropped, walkOf, Walks, ends-at, walked, walk-meets, holds, fails, fits-at, fits-below, fits-end, fits-next, over}
 use Rattle.reconcile.proofs.Walk.{within, next, from-none, less, Array, arrayVal, array-typed, lends-ref, ref-back, lends-shr}
 use denote.Enum.Laws as EL
@@ -316,7 +319,8 @@ module _ {M : Type 1} (𝓤 : URA M) (H : Heap 𝓤) (A : Atoms 𝓤) (W : Given
 
     module _ (l₀ l₁ l₂ l₃ l₄ l₅ l₆ l₇ l₈ l₉ l₁₀ l₁₁ l₁₂ l₁₃ l₁₄ l₁₅ l₁₆ l₁₇ l₁₈ l₁₉ : ℕ) where
       abbrev En : Env 𝓤 H
-      En = (D′.mir, l₀) ∷ (slice₁, l₁) ∷ (slice₂, l₂) ∷ (tyInt w16, l₃) ∷ (tyInt w16, l₄) ∷ (tyInt w16, l₅) ∷ (tyInt w16, l₆) ∷ (array, l₇) ∷ (array, l₈) ∷ (tyInt w64, l₉) ∷ (T′.mir, l₁₀) ∷ (tyInt w64, l₁₁) ∷ (tyInt w64, l₁₂) ∷ (tyBool, l₁₃) ∷ (tyPtr, l₁₄) ∷ (T′.mir, l₁₅) ∷ (lent, l₁₆) ∷ (lent, l₁₇) ∷ (shown, l₁₈) ∷ (shown, l₁₉) ∷ []
+      En = (D′.mir, l₀) ∷ (slice₁, l₁) ∷ (slice₂, l₂) ∷ (tyInt w16, l₃) ∷ (tyInt w16, l₄) ∷ (tyInt w16, l₅) ∷ (tyInt w16, l₆) ∷ (array, l₇) ∷ (array, l₈) ∷ (tyInt w64, l₉)
+          ∷ (T′.mir, l₁₀) ∷ (tyInt w64, l₁₁) ∷ (tyInt w64, l₁₂) ∷ (tyBool, l₁₃) ∷ (tyPtr, l₁₄) ∷ (T′.mir, l₁₅) ∷ (lent, l₁₆) ∷ (lent, l₁₇) ∷ (shown, l₁₈) ∷ (shown, l₁₉) ∷ []
 
       -- The parameters' locals, room for the result, _11, _18 and _19.
       abbrev Params : List (Item 𝓤) → List (Item 𝓤)
@@ -370,7 +374,8 @@ module _ {M : Type 1} (𝓤 : URA M) (H : Heap 𝓤) (A : Atoms 𝓤) (W : Given
             (λ u′.
             use1 W (later (some (λ (r : Answer). ((‵ (flft (α ∷ []) fullShare) ⊛ (‵ (flft (β ∷ []) fullShare) ⊛ ‵ ftrue)) ⊛ ‵ (D.the-row .own r (u′ ∷ []))) ⊛ raw
             (ensured 𝓤 H A settles.ended (settles.clauses 𝓤 H A mem″ run) (α ∷ [], (β ∷ [], tt)) (to-settles i c u xs zs α β l₇ l₈ δ ε .0 .3) tt r)))) (id⊢ 𝓤 _) $ await ! tt $ pick ! (λ r.
-            split ! $ move ! (1 ∷ []) $ use1 W (raw (fact 𝓤 (Said i c u xs zs α β l₇ l₈ δ ε r))) (settles-said i c u xs zs α β l₇ l₈ δ ε r) $ heard ! (Said i c u xs zs α β l₇ l₈ δ ε r) (λ said. split ! $ move ! (1 ∷ []) $
+            split ! $ move ! (1 ∷ []) $ use1 W (raw (fact 𝓤 (Said i c u xs zs α β l₇ l₈ δ ε r))) (settles-said i c u xs zs α β l₇ l₈ δ ε r) $
+            heard ! (Said i c u xs zs α β l₇ l₈ δ ε r) (λ said. split ! $ move ! (1 ∷ []) $
             facts ! D.the-row (Is D.the-row) (shows 𝓤 H A D.the-row) r (u′ ∷ []) (λ is.
             -- [the tokens; the two lender's parts; number, i; 4 to 23; `Dies`]
             land ! (from ! (stop !)) (init ! 17 refl (EL.lawful D.the-type D′.the-laws 𝓤 H A W tt .typed r _ is .0)) $
@@ -379,8 +384,8 @@ module _ {M : Type 1} (𝓤 : URA M) (H : Heap 𝓤) (A : Atoms 𝓤) (W : Given
             move ! (1 ∷ []) $ split ! $ lft-end ! tt $ move ! (0 ∷ 3 ∷ []) $ lent-back ! tt $ use1 W (‵ (froom array l₈ 0)) (array-room 𝓤 H A W i64 1000 zs l₈ 0) $
             move ! (21 ∷ 22 ∷ []) $ shuts-slice ! tt T.the-row q″ ys b o $
             -- [the token of s; shares; true; keys; number, i; 4 to 19; the token of prices; what it owns; `Dies`]
-            returns ! (look ! 18 refl) $ forget ! 4 refl $ forget ! 5 refl $ forget ! 7 refl $ forget ! 8 refl $ forget ! 13 refl $ forget ! 14 refl $ forget ! 15 refl $ forget ! 16 refl $ forget ! 17 refl $ forget ! 18 refl $ forget ! 20 refl $
-            forget ! 21 refl $
+            returns ! (look ! 18 refl) $ forget ! 4 refl $ forget ! 5 refl $ forget ! 7 refl $ forget ! 8 refl $ forget ! 13 refl $ forget ! 14 refl $ forget ! 15 refl $ forget ! 16 refl $
+            forget ! 17 refl $ forget ! 18 refl $ forget ! 20 refl $ forget ! 21 refl $
             move ! (18 ∷ 24 ∷ 13 ∷ 25 ∷ 14 ∷ 26 ∷ 15 ∷ 27 ∷ 16 ∷ 28 ∷ 17 ∷ 29 ∷ 4 ∷ 30 ∷ 3 ∷ 31 ∷ 1 ∷ 32 ∷ 5 ∷ 33 ∷ 6 ∷ 34 ∷ 19 ∷ 35 ∷ 7 ∷ 36 ∷ 8 ∷ 37 ∷ 9 ∷ 38 ∷ 10 ∷ 39 ∷ 11 ∷ 40 ∷ 12 ∷ 41 ∷ 20 ∷ 42 ∷ 21 ∷ 43 ∷ []) $
             free1 ! $ free1 ! $ free1 ! $ free1 ! $ free1 ! $ free1 ! $ free1 ! $ free1 ! $ free1 ! $ free1 ! $ free1 ! $ free1 ! $ free1 ! $ free1 ! $ free1 ! $ free1 ! $ free1 ! $ free1 ! $ free1 ! $ free1 ! $ free0 ! $
             keep ! (0 ∷ 2 ∷ []) $ by ! (exits r u′ (answers i c u xs zs α β l₇ l₈ δ ε e known r said) is)))))))))
@@ -508,13 +513,15 @@ module _ {M : Type 1} (𝓤 : URA M) (H : Heap 𝓤) (A : Atoms 𝓤) (W : Given
           pass1 ! (init ! 32 refl (tt, record { fits = gm })) $ pass1 ! (init ! 30 refl (tt, record { fits = gk })) $ pass1 ! (init ! 28 refl (tt, record { fits = gw })) $ pass0 ! $
           move ! (41 ∷ []) $ fsplit ! $ move ! (1 ∷ []) $ fsplit ! $ move ! (43 ∷ []) $ split ! $ move ! (1 ∷ []) $ split ! $
           -- [the token of prices; true; the token of s; what prices owns; what the numbers own; what s owns; the locals, from 6 on]
-          keep ! (32 ∷ 26 ∷ 30 ∷ 28 ∷ 24 ∷ 20 ∷ 18 ∷ 16 ∷ 14 ∷ 12 ∷ 10 ∷ 42 ∷ 40 ∷ 38 ∷ 36 ∷ 34 ∷ 44 ∷ 22 ∷ 8 ∷ 6 ∷ 2 ∷ 5 ∷ 0 ∷ 3 ∷ 45 ∷ 43 ∷ 41 ∷ 39 ∷ 37 ∷ 35 ∷ 33 ∷ 31 ∷ 29 ∷ 27 ∷ 25 ∷ 23 ∷ 21 ∷ 19 ∷ 17 ∷ 15 ∷ 13 ∷ 11 ∷ 9 ∷ 7 ∷ []) $ begins
+          keep ! (32 ∷ 26 ∷ 30 ∷ 28 ∷ 24 ∷ 20 ∷ 18 ∷ 16 ∷ 14 ∷ 12 ∷ 10 ∷ 42 ∷ 40 ∷ 38 ∷ 36 ∷ 34 ∷ 44 ∷ 22 ∷ 8 ∷ 6 ∷ 2 ∷ 5 ∷ 0 ∷ 3 ∷ 45 ∷ 43 ∷ 41 ∷ 39 ∷ 37 ∷ 35 ∷ 33 ∷ 31 ∷ 29 ∷ 27 ∷ 25 ∷ 23 ∷ 21 ∷ 19 ∷ 17 ∷ 15 ∷ 13 ∷ 11 ∷ 9 ∷ 7 ∷ []) $
+          begins
 
     walk : ent 𝓤 (onEntry 𝓤 H A self.signature (κ, (κ′, tt)) (q, (q′, tt)) (s, (p, (m, (k, (w, tt))))) at) (WpFn 𝓤 H C Λ code.function (v₁ ∷ v₂ ∷ vint w16 m ∷ vint w16 k ∷ vint w16 w ∷ []) Post)
     walk =
         qed W ((‵ (flft κ q) ⊛ ‵ (flft κ′ q′) ⊛ ‵ ftrue) ∷ ‵ (owns (ShrSlice (named 0) κ T.the-row ∷ ShrSlice (named 1) κ′ u32 ∷ u16 ∷ u16 ∷ u16 ∷ []) (s, (p, (m, (k, (w, tt))))) at) ∷ []) ∵
         enter ! C Λ code.function (v₁ ∷ v₂ ∷ vint w16 m ∷ vint w16 k ∷ vint w16 w ∷ []) _ $
-        alloc1 ! (λ l₀. alloc1 ! (λ l₁. alloc1 ! (λ l₂. alloc1 ! (λ l₃. alloc1 ! (λ l₄. alloc1 ! (λ l₅. alloc1 ! (λ l₆. alloc1 ! (λ l₇. alloc1 ! (λ l₈. alloc1 ! (λ l₉. alloc1 ! (λ l₁₀. alloc1 ! (λ l₁₁. alloc1 ! (λ l₁₂. alloc1 ! (λ l₁₃. alloc1 ! (λ l₁₄. alloc1 ! (λ l₁₅. alloc1 ! (λ l₁₆. alloc1 ! (λ l₁₇. alloc1 ! (λ l₁₈. alloc1 ! (λ l₁₉. alloc0 ! $
+        alloc1 ! (λ l₀. alloc1 ! (λ l₁. alloc1 ! (λ l₂. alloc1 ! (λ l₃. alloc1 ! (λ l₄. alloc1 ! (λ l₅. alloc1 ! (λ l₆. alloc1 ! (λ l₇. alloc1 ! (λ l₈. alloc1 ! (λ l₉.
+        alloc1 ! (λ l₁₀. alloc1 ! (λ l₁₁. alloc1 ! (λ l₁₂. alloc1 ! (λ l₁₃. alloc1 ! (λ l₁₄. alloc1 ! (λ l₁₅. alloc1 ! (λ l₁₆. alloc1 ! (λ l₁₇. alloc1 ! (λ l₁₈. alloc1 ! (λ l₁₉. alloc0 ! $
         passed l₀ l₁ l₂ l₃ l₄ l₅ l₆ l₇ l₈ l₉ l₁₀ l₁₁ l₁₂ l₁₃ l₁₄ l₁₅ l₁₆ l₁₇ l₁₈ l₁₉))))))))))))))))))))
 
 module _ {M : Type 1} (𝓤 : URA M) (H : Heap 𝓤) (A : Atoms 𝓤) (W : Given 𝓤 H A) (mem″ : Memory → SProp 𝓤) (run : Routine → Fun 𝓤) (𝓣 : Tables 𝓤 H)

@@ -1,11 +1,11 @@
 -- `records::share_of` meets its contract. Assumes nothing.
 use mathlib.Core.Path.{refl}
-use denote.Ref.{now}
 use borrow.Author.Needs.{needs}
 use borrow.Author.Tests.{ne-eqb}
 use Rattle.laws.specs.Below.{only, integers}
 use Rattle.laws.proofs.Signed.{read32}
 use Rattle.records.specs.Rows.{tallyRecord}
+use denote.Ref.{now}
 use Rattle.records.proofs.Taking.{share-is}
 use Rattle.records.proofs.share_of.Statement.{statement}
 use Rattle.records.proofs.share_of.Tie as tie

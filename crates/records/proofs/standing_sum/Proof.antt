@@ -8,12 +8,12 @@ use lib.Dec.{eqb}
 use lib.IntN.{ℤ, pos, natAbs, _+ℤ_}
 use mir.Syntax.{w64}
 use mir.Val.{ofZ, toZ}
-use denote.Ref.{now}
 use borrow.Author.Needs.{needs}
 use Rattle.laws.specs.Below.{sum, only, integers}
 use Rattle.laws.specs.Limits.{maxAmount}
 use Rattle.laws.proofs.Signed.{read64-abs}
 use Rattle.records.specs.Rows.{unmarked}
+use denote.Ref.{now}
 use Rattle.records.proofs.Taking.{unmarked-next, unmarked-abs}
 use Rattle.records.proofs.standing_sum.Statement.{statement}
 use Rattle.records.proofs.standing_sum.Tie as tie
@@ -62,10 +62,12 @@ loop-again c =
     let s = entry l in
     let t = k .before .before .loop-test .taken in
     let e = c .add-unmarked .ensures
-        ∙ ap₂ (λ (x y : ℤ). x +ℤ only integers (eqb (getD (now (s .args .marks)) (l .loop .t) 0) 0) y) (l .loop .inv .1) (share-reads l t)
-        ∙ sym (unmarked-next (l .loop .t) (now (s .args .marks)) (now (s .args .shares))) in
-    (omega (arith, t), ap (λ (z : ℤ). toZ w64 (ofZ w64 z)) e ∙ read64-abs (unmarked (l .loop .t + 1) (now (s .args .marks)) (now (s .args .shares)))
-    (omega (arith, unmarked-abs (l .loop .t + 1) (now (s .args .marks)) (now (s .args .shares)) (omega (arith, t, s .pre .0 .0)) (λ k q. s .pre .1 k (omega (arith, t))))))
+    ∙ ap₂ (λ (x y : ℤ). x +ℤ only integers (eqb (getD (now (s .args .marks)) (l .loop .t) 0) 0) y) (l .loop .inv .1) (share-reads l t)
+    ∙ sym (unmarked-next (l .loop .t) (now (s .args .marks)) (now (s .args .shares))) in (
+      omega (arith, t),
+      ap (λ (z : ℤ). toZ w64 (ofZ w64 z)) e ∙ read64-abs (unmarked (l .loop .t + 1) (now (s .args .marks)) (now (s .args .shares)))
+          (omega (arith, unmarked-abs (l .loop .t + 1) (now (s .args .marks)) (now (s .args .shares)) (omega (arith, t, s .pre .0 .0)) (λ k q. s .pre .1 k (omega (arith, t))))),
+    )
 
 returns : tie.Need-returns Inv-loop μ-loop
 returns c =

@@ -3,13 +3,13 @@ use mathlib.Core.Path.{_≡_, sym, ap, _∙_}
 use mathlib.Core.Bool.{true}
 use Prim.Native.Nat.{ℕ, _+_, _*_}
 use native.Mathlib.Omega.{arith}
+use lib.ListN.{set}
 use borrow.Author.Needs.{needs}
 use borrow.Author.Tests.{not-true, not-false}
-use denote.Ref.{now}
-use lib.ListN.{set}
 use Rattle.laws.proofs.Signed.{read32}
 use Rattle.model.specs.Reconcile.{TallyRecord, recordInRange}
 use Rattle.records.specs.Rows.{tallyRecord, recordKey, Takes}
+use denote.Ref.{now}
 use Rattle.records.proofs.Taking.{priced, number-stays, number-out, number-in, share-read}
 use Rattle.records.proofs.take_record.Statement.{statement}
 use Rattle.records.proofs.take_record.Tie as tie
