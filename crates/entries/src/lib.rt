@@ -83,18 +83,23 @@ fn tally(
     tally_box: &[u16],
     tally_offer: &[u16],
     tally_count: &[i32],
+    tally_bag: &[u16],
+    tally_revision: &[u16],
     i: usize,
 ) -> Tally
     requires { ⌜ i < length (now «tally_grocer») ⌝ }
-    requires { ⌜ Fields (length (now «tally_grocer»)) (now «tally_grocer») (now «tally_box») (now «tally_offer») (now «tally_count») ⌝ }
+    requires { ⌜ Fields (length (now «tally_grocer»)) (now «tally_grocer») (now «tally_box») (now «tally_offer») (now «tally_count») (now «tally_bag»)
+        (now «tally_revision») ⌝ }
     ensures { λ r. ⌜ r ≡ lentTally (now («tally_grocer» .entry)) (now («tally_box» .entry)) (now («tally_offer» .entry))
-        (now («tally_count» .entry)) i ⌝ }
+        (now («tally_count» .entry)) (now («tally_bag» .entry)) (now («tally_revision» .entry)) i ⌝ }
 {
     Tally {
         grocer: tally_grocer[i],
         tally_box: tally_box[i],
         place: tally_offer[i],
         count: tally_count[i],
+        bag: tally_bag[i],
+        revision: tally_revision[i],
     }
 }
 
@@ -104,11 +109,15 @@ fn records(
     tally_box: &[u16],
     tally_offer: &[u16],
     tally_count: &[i32],
+    tally_bag: &[u16],
+    tally_revision: &[u16],
 ) -> [Tally; 1024]
     requires { ⌜ length (now «tally_grocer») ≤ 1024 ⌝ }
-    requires { ⌜ Fields (length (now «tally_grocer»)) (now «tally_grocer») (now «tally_box») (now «tally_offer») (now «tally_count») ⌝ }
+    requires { ⌜ Fields (length (now «tally_grocer»)) (now «tally_grocer») (now «tally_box») (now «tally_offer») (now «tally_count») (now «tally_bag»)
+        (now «tally_revision») ⌝ }
     ensures { λ r. ⌜ recordsOf (take (length (now («tally_grocer» .entry))) r) ≡ lentRecords (length (now («tally_grocer» .entry)))
-        (now («tally_grocer» .entry)) (now («tally_box» .entry)) (now («tally_offer» .entry)) (now («tally_count» .entry)) ⌝ }
+        (now («tally_grocer» .entry)) (now («tally_box» .entry)) (now («tally_offer» .entry)) (now («tally_count» .entry))
+        (now («tally_bag» .entry)) (now («tally_revision» .entry)) ⌝ }
 {
     let n = tally_grocer.len();
     let none = Tally {
@@ -116,10 +125,20 @@ fn records(
         tally_box: 0,
         place: 0,
         count: 0,
+        bag: 0,
+        revision: 0,
     };
     let mut list = [none; 1024];
     for i in 0..n {
-        let t = tally(tally_grocer, tally_box, tally_offer, tally_count, i);
+        let t = tally(
+            tally_grocer,
+            tally_box,
+            tally_offer,
+            tally_count,
+            tally_bag,
+            tally_revision,
+            i,
+        );
         list[i] = t;
     }
     list
@@ -146,6 +165,8 @@ pub extern "C" fn entries_reconcile(
     tally_box: &[u16],
     tally_offer: &[u16],
     tally_count: &[i32],
+    tally_bag: &[u16],
+    tally_revision: &[u16],
     price: &[u32],
     grocers: u16,
     offers: u16,
@@ -153,17 +174,27 @@ pub extern "C" fn entries_reconcile(
     owed: &mut [i64],
 ) -> u16
     ensures { λ r. ⌜ told r (now (owed .exit)) ≡ toldBy grocers offers wanted (now (price .entry)) (now («tally_grocer» .entry))
-        (now («tally_box» .entry)) (now («tally_offer» .entry)) (now («tally_count» .entry)) (now (owed .entry)) ⌝ }
+        (now («tally_box» .entry)) (now («tally_offer» .entry)) (now («tally_count» .entry)) (now («tally_bag» .entry))
+        (now («tally_revision» .entry)) (now (owed .entry)) ⌝ }
 {
     let n = tally_grocer.len();
     let few = (1024 < n)
         | (tally_box.len() < n)
         | (tally_offer.len() < n)
-        | (tally_count.len() < n);
+        | (tally_count.len() < n)
+        | (tally_bag.len() < n)
+        | (tally_revision.len() < n);
     if few | (owed.len() < 1) {
         return 20;
     }
-    let list = records(tally_grocer, tally_box, tally_offer, tally_count);
+    let list = records(
+        tally_grocer,
+        tally_box,
+        tally_offer,
+        tally_count,
+        tally_bag,
+        tally_revision,
+    );
     let a = reconcile::reconcile_few(list, n, price, grocers, offers, wanted);
     tell(a, owed)
 }

@@ -9,6 +9,7 @@ use lib.Dec.{ltb, leb}
 use lib.IntN.{pos, natAbs}
 use borrow.Author.Tests.{lt-ltb, le-ltb, le-leb}
 use Rattle.laws.specs.Checks.{firstMet}
+use Rattle.laws.specs.Limits.{maxBoxes, maxGrocers, maxOffers, maxTallies, maxPrice, maxCount}
 use Rattle.laws.specs.Tables.{tabulate}
 use Rattle.laws.specs.Limits.{maxBoxes, maxGrocers, maxOffers, maxTallies, maxPrice, maxCount}
 use Rattle.laws.proofs.Bools.{and-true, and-l}
@@ -29,6 +30,24 @@ each-in-range : (m n k : ℕ) (r : ℕ → TallyRecord) → ((t : ℕ) → t < k
 unfolding recordsInRange tabulate
 each-in-range m n zero r h = refl
 each-in-range m n (suc k) r h = and-true (h 0 (omega arith)) (each-in-range m n k (λ i. r (suc i)) (λ t l. h (suc t) (omega arith)))
+
+-- Tally t of lent tables as a record.
+abbrev tally : JobTables → ℕ → TallyRecord
+tally f t =
+    tallyRecord (getD (f .tallyGrocer) t 0) (getD (f .tallyBox) t 0) (getD (f .tallyOffer) t 0) (getD (f .tallyCount) t (pos 0))
+    (getD (f .tallyBag) t 0) (getD (f .tallyRevision) t 0)
+
+-- The records are the job's tallies.
+own : (f : JobTables) → OwnRecords f (jobRecords f)
+unfolding jobRecords recordIn
+own f = record {
+  size = length-tabulate (f .tallies) (tally f);
+  grocer = λ t l. ap (λ (r : TallyRecord). r .grocer) (getD-tabulate (f .tallies) (tally f) t _ l);
+  place = λ t l. ap (λ (r : TallyRecord). r .place) (getD-tabulate (f .tallies) (tally f) t _ l);
+  counted = λ t l. ap (λ (r : TallyRecord). r .count) (getD-tabulate (f .tallies) (tally f) t _ l);
+  bag = λ t l. ap (λ (r : TallyRecord). r .bag) (getD-tabulate (f .tallies) (tally f) t _ l);
+  revision = λ t l. ap (λ (r : TallyRecord). r .revision) (getD-tabulate (f .tallies) (tally f) t _ l);
+}
 
 module _ (f : JobTables) (ok : jobInRange f ≡ true) where
   -- Tally t as a record.

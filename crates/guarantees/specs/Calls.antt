@@ -12,6 +12,7 @@ use Rattle.laws.specs.Below.{naturals, sum, only}
 use Rattle.laws.specs.Checks.{firstMet}
 use Rattle.laws.specs.Masks.{without}
 use Rattle.laws.specs.Tables.{tabulate}
+use Rattle.recount.specs.Recount.{countedTwice}
 use Rattle.model.specs.Job.{Job, needWord, sharerWord, plainSum}
 use Rattle.model.specs.Words.{ownerWords}
 use Rattle.recount.specs.Recount.{countedTwice}

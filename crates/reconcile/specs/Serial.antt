@@ -7,8 +7,6 @@ use lib.ListN.{getD, length}
 use lib.IntN.{ℤ, pos, natAbs}
 use Rattle.laws.specs.Below.{sum, only, integers}
 use Rattle.recount.specs.Recount.{Counted, stands, countedTwice}
--- What one record adds to an amount is passed on.
-pub use Rattle.records.specs.Rows.{share}
 use Rattle.reconcile.specs.declared.Answer.{Answer}
 use Rattle.reconcile.specs.declared.Answer.the-variants.{Owed, Refused}
 
