@@ -1,6 +1,6 @@
 -- What a run begins with, and what it comes to. Assumes nothing.
 use mathlib.Core.Path.{_≡_, refl, sym, ap, _∙_}
-use mathlib.Core.Bool.{Bool, true, false, cond, _||_, not}
+use mathlib.Core.Bool.{Bool, true, false, cond, _||_}
 use mathlib.Core.List.{List, [], _∷_}
 use Prim.Native.Nat.{ℕ, zero, suc, _≤_}
 use native.Mathlib.Omega.{arith}
@@ -11,19 +11,18 @@ use borrow.Author.Tests.{ne-eqb}
 use Rattle.laws.specs.Below.{count}
 use Rattle.laws.specs.Tables.{tabulate}
 use Rattle.laws.specs.Checks.{firstMet}
-use Rattle.laws.proofs.Bools.{or-off}
+use Rattle.laws.proofs.Bools.{or-true, or-false}
 use Rattle.laws.proofs.Sums.{sum-max}
 use Rattle.laws.proofs.Below.{count-le}
 use Rattle.laws.proofs.Tables.{overwrite-one}
 use Rattle.model.specs.Job.{Job, pricesDue, totalsDue, needWord, sharerWord}
 use Rattle.model.specs.Steps.{Steps, Step, State, fresh, effectOf}
-use Rattle.model.specs.Tables.{JobTables, jobOf, StateTables, store, stepsDone, marksOf, StateLengths, jobLengths, stateLengths, jobShort, bagsShort, stateShort, lentShort, countedOf}
-use Rattle.recount.specs.Recount.{countedTwice}
-use Rattle.bags.specs.Bags.{Columns}
-use Rattle.model.specs.Ranges.{jobInRange}
+use Rattle.model.specs.Tables.{JobTables, jobOf, StateTables, store, stepsDone, marksOf, StateLengths, jobLengths, stateLengths, jobShort, bagsShort, stateShort, lentShort}
+use Rattle.model.specs.Ranges.{Settles}
+use Rattle.model.specs.Local.{jobRefusals}
 use Rattle.model.specs.Handed.{handedTables, Standing}
 use Rattle.model.proofs.Handed.{handed-whole, handed-in, handed-run}
-use Rattle.tables.proofs.Standing.{columns-in}
+use Rattle.tables.proofs.Standing.{accepted}
 use Rattle.model.specs.Words.{over, messagesOf, messageCount, stepCount}
 use Rattle.model.specs.Run.{readyCount, pick, picks, run, runState, afterSteps, RunAnswer, finished, refused, reported, runRefusals, ran}
 use Rattle.tables.specs.Masks.{holderWord, Placed, Owned}
@@ -33,9 +32,9 @@ use Rattle.walk.specs.Walk.{WalkIn}
 use Rattle.order.specs.Order.{OfJob, MarksFrom, Ordered, markAll, noSteps}
 use Rattle.run.specs.declared.Answer.the-variants.{Finished, Refused}
 use Rattle.steps.specs.All.{withoutMarks, AllIn, AllOut, afterOrder}
-use Rattle.run.specs.Run.{Begins, answerOf, given, refusalBy}
+use Rattle.run.specs.Run.{Begins, answerOf, given}
 use Rattle.model.proofs.Step.{range}
-use Rattle.model.proofs.Lent.{job-long, state-long}
+use Rattle.model.proofs.Lent.{state-long}
 use Rattle.tables.proofs.Sizes.{short-sizes}
 use Rattle.tables.proofs.Whole.{JobWhole, job-whole}
 use Rattle.tables.proofs.Holders.{need-words, sharer-words}
@@ -191,87 +190,41 @@ unfolding reported
 refused-said zero a h = absurd (h refl)
 refused-said (suc n) a h = refl
 
--- The conditions 20 and 21, told from the lengths n of the state's tables.
-module _ (f : JobTables) (n : StateLengths) (a b c : Bool) (ea : a ≡ jobShort f (jobLengths f)) (eb : b ≡ bagsShort f (jobLengths f))
-    (ec : c ≡ stateShort (sizes (f .boxes) (f .grocers) (f .offers)) n) where
-  short-all : ((a || b) || c) ≡ ((jobShort f (jobLengths f) || bagsShort f (jobLengths f)) || stateShort f n)
-  short-all = rw (ea, eb, ec ∙ short-sizes f n)
+-- The refusals of a run: 20 on the state's tables, and those of the job's.
+module _ (f : JobTables) (t : StateTables) (c : Bool) (e : c ≡ stateShort (sizes (f .boxes) (f .grocers) (f .offers)) (stateLengths t)) where
+  state-is : c ≡ stateShort f (stateLengths t)
+  state-is = e ∙ short-sizes f (stateLengths t)
 
-  pub refused-short : ((a || b) || c) ≡ true → 20 ≡ refusalBy f n
-  unfolding refusalBy
-  refused-short h = rw (sym short-all ∙ h)
+  -- A table of the state is short: no word is changed.
+  pub run-short : (cs : List ℕ) → c ≡ true → given (answerOf (Refused 20)) t ≡ ran f t cs
+  unfolding ran answerOf runRefusals firstMet lentShort
+  run-short cs h = rw (sym state-is ∙ h, or-true (jobShort f (jobLengths f) || bagsShort f (jobLengths f))) (ap (λ (a : RunAnswer). given a t) (refused-said 20 _ (λ q. omega arith)))
 
-  module _ (h : ((a || b) || c) ≡ false) where
-    -- No table of the job is short.
-    pub long-job : jobShort f (jobLengths f) ≡ false
-    long-job = sym ea ∙ or-off a b (or-off (a || b) c h .0) .0
+  -- None is: the refusals are those of the job's tables.
+  module _ (h : c ≡ false) where
+    refusal-is : firstMet (runRefusals f t) ≡ firstMet (jobRefusals f)
+    unfolding runRefusals jobRefusals firstMet lentShort
+    refusal-is = rw (sym state-is ∙ h, or-false (jobShort f (jobLengths f) || bagsShort f (jobLengths f)))
 
-    module _ (d : Bool) (ed : d ≡ jobInRange f) where
-      pub refused-range : d ≡ false → 21 ≡ refusalBy f n
-      unfolding refusalBy
-      refused-range z = rw (sym short-all ∙ h, sym ed ∙ z)
-
-      pub refused-none : d ≡ true → 0 ≡ refusalBy f n
-      unfolding refusalBy
-      refused-none z = rw (sym short-all ∙ h, sym ed ∙ z)
-
-first-two : (a b c : Bool) → (cond {A = ℕ} a 20 (cond (not b) 21 0) ≡ 0 → ⊥) → cond {A = ℕ} a 20 (cond (not b) 21 (cond c 9 0)) ≡ cond a 20 (cond (not b) 21 0)
-first-two true b c k = refl
-first-two false false c k = refl
-first-two false true c k = absurd (k refl)
-
-module _ (f : JobTables) (t : StateTables) where
-  -- They are the first refusals of the run.
-  refusal-is : (refusalBy f (stateLengths t) ≡ 0 → ⊥) → refusalBy f (stateLengths t) ≡ firstMet (runRefusals f t)
-  unfolding refusalBy firstMet runRefusals lentShort
-  refusal-is h = sym (first-two (lentShort f t) (jobInRange f) (countedTwice (countedOf f)) h)
-
-  -- One of them is met: no word is changed.
-  pub run-refused : (cs : List ℕ) (n : ℕ) → n ≡ refusalBy f (stateLengths t) → (n ≡ 0 → ⊥) → given (answerOf (Refused n)) t ≡ ran f t cs
-  unfolding ran answerOf
-  run-refused cs n e h = let q = e ∙ refusal-is (λ z. h (e ∙ z)) in rw (← q, ne-eqb n 0 h) (ap (λ (a : RunAnswer). given a t) (refused-said n _ h))
-
-  -- Neither 20 nor 21 is met.
-  module _ (z : refusalBy f (stateLengths t) ≡ 0) where
-    neither : (lentShort f t ≡ false) × (jobInRange f ≡ true)
-    unfolding refusalBy lentShort
-    neither = parts (lentShort f t) (jobInRange f) z
-      where
-        parts : (a b : Bool) → cond {A = ℕ} a 20 (cond (not b) 21 0) ≡ 0 → (a ≡ false) × (b ≡ true)
-        parts true b h = absurd (omega arith)
-        parts false false h = absurd (omega arith)
-        parts false true h = (refl, refl)
-
-    tables-long : (jobShort f (jobLengths f) ≡ false) × (bagsShort f (jobLengths f) ≡ false) × (stateShort f (stateLengths t) ≡ false)
-    unfolding lentShort
-    tables-long =
-        let l = or-off (jobShort f (jobLengths f) || bagsShort f (jobLengths f)) (stateShort f (stateLengths t)) (neither .0) in
-        let b = or-off (jobShort f (jobLengths f)) (bagsShort f (jobLengths f)) (l .0) in (b .0, b .1, l .1)
-
-    -- The tallies may be looked at.
-    pub begins-columns : Columns (f .tallies) (f .tallyGrocer) (f .tallyOffer) (f .tallyBag) (f .tallyRevision)
-    begins-columns = columns-in f (tables-long .0) (tables-long .1) (neither .1)
-
-    pub begins-boxes : f .tallies ≤ length (f .tallyBox)
-    unfolding jobLengths
-    begins-boxes = job-long f (jobLengths f) (tables-long .0) .tallyBox
-
-    -- 9: no word is changed.
-    pub run-twice : (cs : List ℕ) (c : Bool) → c ≡ countedTwice (countedOf f) → c ≡ true → given (answerOf (Refused 9)) t ≡ ran f t cs
-    unfolding ran answerOf runRefusals firstMet
-    run-twice cs c e h = rw (neither .0, neither .1, sym e ∙ h) (ap (λ (a : RunAnswer). given a t) (refused-said 9 _ (λ q. omega arith)))
+    pub run-refused : (cs : List ℕ) (n : ℕ) → n ≡ firstMet (jobRefusals f) → (n ≡ 0 → ⊥) → given (answerOf (Refused n)) t ≡ ran f t cs
+    unfolding ran answerOf
+    run-refused cs n q k = rw (refusal-is, ← q, ne-eqb n 0 k) (ap (λ (a : RunAnswer). given a t) (refused-said n _ k))
 
     -- No refusal: with the boxes of the tallies that stand the run may begin, and what it comes to is the run of the tables as lent.
-    module _ (standing : List ℕ) (s : Standing f standing) where
+    module _ (z : firstMet (jobRefusals f) ≡ 0) (standing : List ℕ) (s : Standing f standing) where
+      settled : Settles f
+      settled = accepted f z
+
       pub begins : Begins (handedTables f standing) t
       unfolding stateShort
       begins = record {
-        job-in = handed-in f standing s (neither .1);
-        job-long = handed-whole f standing s (tables-long .0);
-        state-long = tables-long .2;
+        job-in = handed-in f standing s (settled .inRange);
+        job-long = handed-whole f standing s (settled .whole);
+        state-long = sym state-is ∙ h;
       }
 
-      pub run-finished : (cs : List ℕ) (c : Bool) → c ≡ countedTwice (countedOf f) → c ≡ false →
+      pub run-finished : (cs : List ℕ) →
           given (finished (runState (jobOf (handedTables f standing)) cs .sent) (over messagesOf (run (jobOf (handedTables f standing)) cs)) (length (run (jobOf (handedTables f standing)) cs)))
           (store (jobOf (handedTables f standing)) (runState (jobOf (handedTables f standing)) cs) t) ≡ ran f t cs
-      run-finished cs c e h = sym (handed-run f standing s t cs (neither .0) (neither .1) (sym e ∙ h))
+      unfolding lentShort
+      run-finished cs = sym (handed-run f standing s t cs (rw (settled .whole, settled .bags, sym state-is ∙ h)) (settled .inRange) (settled .once))

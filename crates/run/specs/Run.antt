@@ -1,9 +1,8 @@
 -- The answer of a run as its contract cites it, and what a run begins with.
 use mathlib.Core.Path.{_≡_}
-use mathlib.Core.Bool.{true, false, cond, not, _||_}
+use mathlib.Core.Bool.{false}
 use Prim.Native.Nat.{ℕ}
-use Rattle.model.specs.Tables.{JobTables, StateTables, StateLengths, jobLengths, stateLengths, jobShort, bagsShort, stateShort}
-use Rattle.model.specs.Ranges.{jobInRange}
+use Rattle.model.specs.Tables.{JobTables, StateTables, StateLengths, jobLengths, stateLengths, jobShort, stateShort}
 use Rattle.model.specs.Handed.{Handed}
 use Rattle.model.specs.Run.{RunAnswer, finished, refused, RunOutcome}
 use Rattle.run.specs.declared.Answer.{Answer}
@@ -28,7 +27,3 @@ pub record Begins (f : JobTables) (t : StateTables) : Type 0 where
 abbrev pub lengthsOf : ℕ → ℕ → ℕ → ℕ → ℕ → ℕ → ℕ → StateLengths
 lengthsOf known transit working totals statement done sent =
     record { known = known; priceTransit = transit; working = working; totalTransit = totals; statement = statement; done = done; sent = sent }
-
--- 20 and 21, or 0, told from the lengths of the state's tables alone.
-unfoldable pub refusalBy : JobTables → StateLengths → ℕ
-refusalBy f n = cond (jobShort f (jobLengths f) || bagsShort f (jobLengths f) || stateShort f n) 20 (cond (not (jobInRange f)) 21 0)

@@ -4,7 +4,7 @@ ghost use Rattle.model.specs.Lent.{bagLent, stateBefore, stateAfter};
 ghost use Rattle.model.specs.Run.{ran};
 ghost use Rattle.model.specs.Tables.{stateShort};
 ghost use Rattle.tables.specs.Sizes.{sizes};
-ghost use Rattle.run.specs.Run.{answerOf, given, lengthsOf, refusalBy};
+ghost use Rattle.run.specs.Run.{answerOf, given, lengthsOf};
 use apply::Sizes;
 
 // What a run answers: words sent, messages and steps; or the number of the condition that refuses it.
@@ -43,59 +43,6 @@ fn state_short(z: Sizes, lent: Lengths) -> bool
         | (lent.statement < z.grocers as usize)
         | (lent.done < kk)
         | (lent.sent < 1)
-}
-
-// The number of the condition that refuses the run, 20 or 21, or 0. Of the state's tables only the lengths matter.
-fn refusal(
-    z: Sizes,
-    price: &[u32],
-    offer_owner: &[u16],
-    grocer_owner: &[u16],
-    tally_grocer: &[u16],
-    tally_box: &[u16],
-    tally_offer: &[u16],
-    tally_count: &[i32],
-    tally_bag: &[u16],
-    tally_revision: &[u16],
-    lent: Lengths,
-) -> u16
-    ensures { λ r. ⌜ r ≡ refusalBy (bagLent (z .boxes) (z .grocers) (z .offers) (z .tallies) price «offer_owner» «grocer_owner» «tally_grocer»
-        «tally_box» «tally_offer» «tally_count» «tally_bag» «tally_revision») (lengthsOf (lent .known) (lent .«price_transit») (lent .working) (lent .«total_transit»)
-        (lent .statement) (lent .done) (lent .sent)) ⌝ }
-{
-    if tables::checks::job_short(
-        z.grocers,
-        z.offers,
-        z.tallies,
-        price,
-        offer_owner,
-        grocer_owner,
-        tally_grocer,
-        tally_box,
-        tally_offer,
-        tally_count,
-    )
-        | tables::checks::bags_short(z.tallies, tally_bag, tally_revision)
-        | state_short(z, lent)
-    {
-        return 20;
-    }
-    if !tables::checks::job_in_range(
-        z.boxes,
-        z.grocers,
-        z.offers,
-        z.tallies,
-        price,
-        offer_owner,
-        grocer_owner,
-        tally_grocer,
-        tally_box,
-        tally_offer,
-        tally_count,
-    ) {
-        return 21;
-    }
-    0
 }
 
 // The run of a job, from a fresh state: its steps are picked first, by the marks alone, and then done one after the other.
@@ -143,8 +90,15 @@ pub fn run(
         done: done.len(),
         sent: sent.len(),
     };
-    let r = refusal(
-        z,
+    if state_short(z, lent) {
+        return Answer::Refused(20);
+    }
+    let mut standing = [0u16; 1000];
+    let r = tables::checks::job_refusal(
+        boxes,
+        grocers,
+        offers,
+        tallies,
         price,
         offer_owner,
         grocer_owner,
@@ -154,22 +108,10 @@ pub fn run(
         tally_count,
         tally_bag,
         tally_revision,
-        lent,
+        &mut standing,
     );
     if r != 0 {
         return Answer::Refused(r);
-    }
-    let mut standing = [0u16; 1000];
-    if bags::standing_boxes(
-        tallies as usize,
-        tally_grocer,
-        tally_box,
-        tally_offer,
-        tally_bag,
-        tally_revision,
-        &mut standing,
-    ) {
-        return Answer::Refused(9);
     }
     let needs = tables::masks::needs(boxes, tallies, &standing, tally_offer);
     let sharers = tables::masks::sharers(boxes, tallies, &standing, tally_grocer);

@@ -5,13 +5,13 @@ use Prim.Native.Nat.{ℕ}
 use native.Mathlib.Omega.{arith}
 use borrow.Author.Needs.{needs}
 use denote.Ref.{now}
-use Rattle.recount.specs.Recount.{countedTwice}
-use Rattle.model.specs.Tables.{JobTables, bagTables, countedOf, jobOf, StateTables, stateTables, stateLengths}
+use Rattle.laws.specs.Checks.{firstMet}
+use Rattle.model.specs.Tables.{JobTables, bagTables, jobOf, StateTables, stateTables, stateLengths}
+use Rattle.model.specs.Local.{jobRefusals}
 use Rattle.model.specs.Handed.{handedTables, Standing}
 use Rattle.order.specs.Order.{OfJob}
-use Rattle.run.specs.Run.{Begins, answerOf, refusalBy}
-use Rattle.tables.proofs.Standing.{standing-boxes}
-use Rattle.run.proofs.Ends.{begins, begins-columns, begins-boxes, begins-needs, begins-sharers, begins-prices, begins-totals, run-ended, run-twice}
+use Rattle.run.specs.Run.{Begins, answerOf}
+use Rattle.run.proofs.Ends.{begins, begins-needs, begins-sharers, begins-prices, begins-totals, run-ended, run-short}
 use Rattle.run.proofs.Ends.{needs-of, sharers-of, of-job, begins-walk, run-few, all-in, run-finished, run-refused, sent-room}
 use Rattle.run.proofs.run.Statement.{statement}
 use Rattle.run.proofs.run.Tie as tie
@@ -24,14 +24,14 @@ job s = bagTables (s .args .boxes) (s .args .grocers) (s .args .offers) (s .args
 abbrev lent : tie.Start → StateTables
 lent s = stateTables (now (s .args .known)) (now (s .args .price-transit)) (now (s .args .working)) (now (s .args .total-transit)) (now (s .args .statement)) (now (s .args .done)) (now (s .args .sent))
 
--- Places: the start, from the refusal.
-abbrev slices : tie.After-refusal → tie.After-shared-slice-known8
+-- Places: the start, from the test of the state's lengths.
+abbrev slices : tie.After-state-short → tie.After-shared-slice-known8
 slices c = c .before .before .before .before .before .before
 
 abbrev shared : tie.After-shared-slice-known8 → tie.After-shared-slice-known4
 shared c = c .before .before .before .before
 
-abbrev entry : tie.After-refusal → tie.Start
+abbrev entry : tie.After-state-short → tie.Start
 entry c = shared (slices c) .before .before .before .before
 
 -- The boxes of the tallies that stand, the tables of messages, the order and the steps done.
@@ -50,10 +50,10 @@ needed c = c .before .before
 abbrev stood : tie.After-sharers → tie.Else2
 stood c = needed c .before .before
 
-abbrev looked : tie.Else2 → tie.After-standing-boxes
+abbrev looked : tie.Else2 → tie.After-job-refusal
 looked e = e .before .before
 
-abbrev whole : tie.After-standing-boxes → tie.Else1
+abbrev whole : tie.After-job-refusal → tie.Else1
 whole c = c .before .before
 
 abbrev reordered : tie.After-all-steps-arg → tie.After-standing5
@@ -68,58 +68,47 @@ written c = c .before .before .before
 abbrev done : tie.After-statement → tie.After-all-steps
 done c = written c .before .before .before .before
 
--- Neither 20 nor 21 is met.
-no-early : (e : tie.Else1) → refusalBy (job (entry (e .before))) (stateLengths (lent (entry (e .before)))) ≡ 0
-unfolding stateLengths
-no-early e = sym (e .before .refusal .ensures) ∙ e .if1 .left
-
 returns : tie.Need-returns
 unfolding answerOf stateLengths
-returns c = let s = entry (c .before) in run-refused (job s) (lent s) (now (s .args .choices)) _ (c .before .refusal .ensures) (c .if1 .taken)
-
-standing-boxes-requires : tie.Need-standing-boxes-requires
-standing-boxes-requires c κs =
-    let e = c .before in
-    let s = entry (e .before) in
-    let w = begins-columns (job s) (lent s) (no-early e) in (w, (begins-boxes (job s) (lent s) (no-early e), omega (arith, w .few)))
-
--- 9, and the boxes.
-twice-told : (c : tie.After-standing-boxes) → c .standing-boxes .result ≡ countedTwice (countedOf (job (entry (whole c .before))))
-unfolding countedOf
-twice-told c = c .standing-boxes .ensures .0
+returns c = let s = entry (c .before) in run-short (job s) (lent s) _ (c .before .state-short .ensures) (now (s .args .choices)) (c .if1 .taken)
 
 returns-2 : tie.Need-returns-2
-unfolding answerOf
+unfolding answerOf stateLengths
 returns-2 c =
     let b = c .before .before in
-    let s = entry (whole b .before) in
-    run-twice (job s) (lent s) (no-early (whole b)) (now (s .args .choices)) _ (twice-told b) (c .if2 .taken)
+    let w = whole b in
+    let s = entry (w .before) in
+    run-refused (job s) (lent s) _ (w .before .state-short .ensures) (w .if1 .left) (now (s .args .choices)) _ (b .job-refusal .ensures .0) (c .if2 .taken)
 
+-- No refusal: the boxes of the tallies that stand, and the tables with them.
 abbrev standing : tie.Else2 → List ℕ
-standing e = looked e .standing-boxes .last .1 .1 .1 .1 .1 .1 .0
+standing e = looked e .job-refusal .last .1 .1 .1 .1 .1 .1 .1 .1 .1 .1 .1 .1 .1 .0
 
 abbrev start : tie.Else2 → tie.Start
 start e = entry (whole (looked e) .before)
 
+none-met : (e : tie.Else2) → firstMet (jobRefusals (job (start e))) ≡ 0
+none-met e = sym (looked e .job-refusal .ensures .0) ∙ e .if2 .left
+
 stand : (e : tie.Else2) → Standing (job (start e)) (standing e)
-unfolding countedOf
-stand e = standing-boxes (job (start e)) (standing e) (looked e .standing-boxes .ensures .1 (e .if2 .left))
+stand e = looked e .job-refusal .ensures .1 (e .if2 .left)
 
 abbrev handed : tie.Else2 → JobTables
 handed e = handedTables (job (start e)) (standing e)
 
 -- With them the run may begin.
 may : (e : tie.Else2) → Begins (handed e) (lent (start e))
-may e = begins (job (start e)) (lent (start e)) (no-early (whole (looked e))) (standing e) (stand e)
+unfolding stateLengths
+may e = begins (job (start e)) (lent (start e)) _ (whole (looked e) .before .state-short .ensures) (whole (looked e) .if1 .left) (none-met e) (standing e) (stand e)
 
 needs-lent : tie.Need-slice-aggregate-needs
-needs-lent c = sym (looked (c .before) .standing-boxes .kept .1 .1 .1 .1 .1 .1 .0)
+needs-lent c = sym (looked (c .before) .job-refusal .kept .1 .1 .1 .1 .1 .1 .1 .1 .1 .1 .1 .1 .1 .0)
 
 needs-requires : tie.Need-needs-requires
 needs-requires c κs = begins-needs _ _ (may (c .before))
 
 sharers-lent : tie.Need-slice-aggregate-sharers
-sharers-lent c = sym (looked (c .before .before .before) .standing-boxes .kept .1 .1 .1 .1 .1 .1 .0)
+sharers-lent c = sym (looked (c .before .before .before) .job-refusal .kept .1 .1 .1 .1 .1 .1 .1 .1 .1 .1 .1 .1 .1 .0)
 
 sharers-requires : tie.Need-sharers-requires
 sharers-requires c κs = begins-sharers _ _ (may (c .before .before .before))
@@ -144,7 +133,7 @@ put-order-requires c κs =
 all-steps-lent : tie.Need-slice-aggregate-all-steps
 all-steps-lent c =
     let o = c .before .before .before in
-    sym (looked (stood (shares (priced (made (o .before .before))))) .standing-boxes .kept .1 .1 .1 .1 .1 .1 .0)
+    sym (looked (stood (shares (priced (made (o .before .before))))) .job-refusal .kept .1 .1 .1 .1 .1 .1 .1 .1 .1 .1 .1 .1 .1 .0)
 
 all-steps-requires : tie.Need-all-steps-requires
 all-steps-requires c κs =
@@ -167,7 +156,7 @@ cast-steps c =
     omega (arith, o .put-order .ensures .1 _ (of-it (made (o .before .before))) .picked .in-order)
 
 returns-3 : tie.Need-returns-3
-unfolding answerOf
+unfolding answerOf stateLengths
 returns-3 c =
     let a = done c in
     let o = ordered (a .before) in
@@ -180,7 +169,7 @@ returns-3 c =
     let es = w .sharers .ensures in
     run-ended (handed e) (lent s) g _ _ (now (s .args .choices)) _ _ _ (needs-of _ _ g _ _ en es) (sharers-of _ _ g _ _ en es) (o .put-order .ensures .1 _ (of-it m)) _ _ _ (a .all-steps .ensures)
     (o .put-order .ensures .0) refl refl
-    ∙ run-finished (job s) (lent s) (no-early (whole (looked e))) (standing e) (stand e) (now (s .args .choices)) _ (twice-told (looked e)) (e .if2 .left)
+    ∙ run-finished (job s) (lent s) _ (whole (looked e) .before .state-short .ensures) (whole (looked e) .if1 .left) (none-met e) (standing e) (stand e) (now (s .args .choices))
 
 pub run-spec : {M : Type 1} → statement M
 run-spec =
@@ -188,8 +177,8 @@ run-spec =
     (tie.spec
     (λ c κs. tt)
     returns
-    (λ c. search needs)
-    standing-boxes-requires
+    (λ c. refl)
+    (λ c κs. search needs)
     returns-2
     needs-lent
     needs-requires
