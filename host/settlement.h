@@ -71,8 +71,8 @@
  * It starts from a fresh state of a job in range that does not meet 9, and from then on only settlement_step writes the
  * state. The job has 2 K + 2 x (messages) steps. Each is accepted once, in any order in which it is ready; a refused
  * request changes nothing and may be made again later. The settlement is finished when every step that the job has is
- * done: then statement has the plain sums over the tallies that stand, and working, price_transit and total_transit have
- * 0 alone. Until then some step is ready. So a host knows that it is finished
+ * done: then statement has the plain sums over the tallies that stand, and working, price_transit and total_transit
+ * have 0 alone. Until then some step is ready. So a host knows that it is finished
  * - by asking: it has asked for every kind 1 to 6 with every first and second below K, no table lent short, and none
  *   was accepted. Each was then answered 23, 24 or 25, and none 26.
  * - or by counting: as many requests were accepted as settlement_run says in report[2] for the same job, whatever its

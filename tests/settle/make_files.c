@@ -63,7 +63,7 @@ static size_t every_pair(void)
     }
     for (uint16_t t = 0; t < sizes.tallies; t++) {
         uint16_t box = t / boxes, offer = t % boxes;
-        job.tally[t] = (struct tally){offer, box, offer, t - 100, {0, code_of_number(offer, 3)}};
+        job.tally[t] = (struct tally){offer, box, offer, t - 100, {0, code_of_number(offer, 3)}, 0, 0};
     }
     return write_file(&job, file);
 }
@@ -109,12 +109,12 @@ static size_t issuers(void)
     job.offer[1] = (struct offer){399, 1, {2, code_of("5521")}};
     job.offer[2] = (struct offer){80, 1, {0, code_of("05521")}};
     job.grocer_owner[0] = 1;
-    job.tally[0] = (struct tally){0, 0, 0, 3, {1, code_of("5521")}};
-    job.tally[1] = (struct tally){0, 1, 1, 2, {2, code_of("0005521")}};
-    job.tally[2] = (struct tally){0, 1, 2, -1, {0, code_of("5521")}};
-    job.tally[3] = (struct tally){1, 0, 1, 4, {2, code_of("5521")}};
-    job.tally[4] = (struct tally){1, 0, 2, 5, {0, code_of("005521")}};
-    job.tally[5] = (struct tally){1, 1, 0, 1, {1, code_of("05521")}};
+    job.tally[0] = (struct tally){0, 0, 0, 3, {1, code_of("5521")}, 0, 0};
+    job.tally[1] = (struct tally){0, 1, 1, 2, {2, code_of("0005521")}, 0, 0};
+    job.tally[2] = (struct tally){0, 1, 2, -1, {0, code_of("5521")}, 0, 0};
+    job.tally[3] = (struct tally){1, 0, 1, 4, {2, code_of("5521")}, 0, 0};
+    job.tally[4] = (struct tally){1, 0, 2, 5, {0, code_of("005521")}, 0, 0};
+    job.tally[5] = (struct tally){1, 1, 0, 1, {1, code_of("05521")}, 0, 0};
     return write_file(&job, file);
 }
 
