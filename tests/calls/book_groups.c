@@ -191,6 +191,26 @@ static void first_box_loses(void)
     }
 }
 
+/* 1,000 tallies in bags: all that stand are in the boxes' books, each once. */
+static void largest_in_bags(void)
+{
+    for (unsigned long i = 0; i < 2 + job_count / 1000; i++) {
+        const struct tally *tally = calling.job.tally;
+        int64_t packed = 0, standing = 0;
+        spread_job(&calling.job);
+        give_bags(&calling.job);
+        open_calling(&calling, SPARE);
+        for (uint16_t box = 0; box < MOST_BOXES; box++) {
+            at_case("largest job %lu in bags, box %u", i, box);
+            expect_book(LARGEST, box, 0);
+            packed += word_of(&calling, NUMBERS, 2);
+        }
+        for (size_t t = 0; t < MOST_TALLIES; t++) standing += stands(tally, MOST_TALLIES, t);
+        expect(packed == standing, "%lld tallies are in books, %lld stand", (long long)packed, (long long)standing);
+        close_calling(&calling);
+    }
+}
+
 /* E with a bag and revision twice: behind 20 and 21, before 23. */
 static void counted_twice_in_order(void)
 {
@@ -237,6 +257,7 @@ void check_books(void)
     run_group("book: every box of the largest job", largest_job);
     run_group("book: bags", bags);
     run_group("book: one bag in two boxes, and what the first loses", first_box_loses);
+    run_group("book: every box of the largest job in bags", largest_in_bags);
     run_group("book: a bag and revision twice comes between", counted_twice_in_order);
     run_group("book: random jobs beside a plain search", random_jobs);
 }

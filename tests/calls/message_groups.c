@@ -175,6 +175,26 @@ static void bags(void)
         }
 }
 
+/* 1,000 tallies in bags, in one order and in another. */
+static void largest_in_bags(void)
+{
+    for (unsigned long i = 0; i < 2 + job_count / 1000; i++) {
+        int64_t words = 0;
+        spread_job(&calling.job);
+        give_bags(&calling.job);
+        for (unsigned order = 0; order < 2; order++) {
+            at_case("largest job %lu in bags, order %u", i, order);
+            open_calling(&calling, SPARE);
+            expect_messages(LARGEST, 0);
+            expect_ones(&calling.job);
+            if (order > 0) expect_words_of_job(words);
+            words = word_of(&calling, JOB_WORDS, 0);
+            close_calling(&calling);
+            shuffle_tallies(&calling.job);
+        }
+    }
+}
+
 /* E with a bag and revision twice: behind 20 and 21. */
 static void counted_twice_in_order(void)
 {
@@ -219,6 +239,7 @@ void check_messages(void)
     run_group("tables of messages: K, M, N and T at and beyond their values", sizes_out_of_range);
     run_group("tables of messages: the largest job", largest_job);
     run_group("tables of messages: bags", bags);
+    run_group("tables of messages: the largest job in bags", largest_in_bags);
     run_group("tables of messages: a bag and revision twice comes after these", counted_twice_in_order);
     run_group("tables of messages: random jobs beside plain counts", random_jobs);
 }

@@ -393,6 +393,7 @@ static void random_jobs(void)
         open_calling(&calling, SPARE);
         struct sizes sizes = calling.job.sizes;
         at_case("random job %lu", i);
+        if (one_in(4)) near_bags(&calling);
         for (uint32_t changes = below(4); changes > 0; changes--) change_some_word();
         if (one_in(8)) sizes.boxes = wild_number(sizes.boxes);
         if (one_in(8)) sizes.tallies = wild_number(sizes.tallies);
