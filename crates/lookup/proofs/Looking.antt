@@ -119,6 +119,14 @@ top-less a b shift l =
     let u = 2 ^ shift in
     omega (arith, div-add-mod' a u, div-add-mod' b u, mod-lt a (pow-pos shift), mul-le-mul-right {m = suc (a / u)} {n = b / u} u l)
 
+-- No top digit begins behind the next.
+pub starts-rise : {keys starts : List ℕ} {shift n : ℕ} → Tops keys starts shift n → (t : ℕ) → t < 511 → getD starts t 0 ≤ getD starts (t + 1) 0
+starts-rise {keys} {starts} {shift} {n} x t l = split (ltb (getD starts (t + 1) 0) (getD starts t 0))
+    (λ q. let h : getD starts (t + 1) 0 < getD starts t 0 = ltb-true _ _ q in
+    let m : getD starts (t + 1) 0 < n = omega (arith, x .start-in t (omega arith)) in
+    absurd (omega (arith, x .lesser t (getD starts (t + 1) 0) (omega arith) h, x .others (t + 1) (getD starts (t + 1) 0) (omega arith) (omega arith) m)))
+    (λ q. ltb-false _ _ q)
+
 module _ {keys starts : List ℕ} {shift n : ℕ} (x : Tops keys starts shift n) (number : ℕ) where
   -- No key has a top digit that is too large.
   pub top-out : 511 ≤ number / 2 ^ shift → (i : ℕ) → i < n → getD keys i 0 ≡ number → ⊥
@@ -134,13 +142,9 @@ module _ {keys starts : List ℕ} {shift n : ℕ} (x : Tops keys starts shift n)
     top-behind : (i : ℕ) → to ≤ i → i < n → number < getD keys i 0
     top-behind i h q = top-less number (getD keys i 0) shift (omega (arith, x .others (t + 1) i (omega arith) (omega arith) q, e))
 
-    -- No top digit begins behind the next.
+    -- The next one does not begin before.
     pub top-rises : from ≤ to
-    top-rises = split (ltb to from)
-        (λ q. let h : to < from = ltb-true to from q in
-        let m : to < n = omega (arith, x .start-in t (omega arith)) in
-        absurd (omega (arith, x .lesser t to (omega arith) (omega arith), x .others (t + 1) to (omega arith) (omega arith) m)))
-        (λ q. ltb-false to from q)
+    top-rises = omega (arith, starts-rise x t l)
 
     -- Where there is no key of the top digit, none is the number.
     pub top-none : from ≡ to → (i : ℕ) → i < n → getD keys i 0 ≡ number → ⊥
@@ -189,7 +193,7 @@ half-kept keys n number at len half b l p = split (leb (getD keys (at + half) 0)
     }))
 
 -- The same, as code has it.
-pub bracket-half : {keys : List ℕ} {n number at len : ℕ} (r : ℕ) → Bracket keys n number at len → 1 < len
+pub bracket-half : {keys : List ℕ} {n number at len : ℕ} (r : ℕ) → Bracket keys n number at len → 0 < len
     → r ≡ cond (leb (getD keys (at + len / 2) 0) number) (at + len / 2) at → (0 < len - len / 2) × Bracket keys n number r (len - len / 2)
 bracket-half {keys} {n} {number} {at} {len} r b l e =
     (omega arith, subst (λ (x : ℕ). Bracket keys n number x (len - len / 2)) (sym e) (half-kept keys n number at len (len / 2) b (omega arith) (omega arith)))

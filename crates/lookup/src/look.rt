@@ -5,7 +5,7 @@ ghost use mathlib.Core.Bool.{false, cond};
 ghost use Prim.Native.Nat.{ℕ, _+_, _≤_, _<_};
 ghost use lib.Dec.{leb};
 ghost use lib.ListN.{length, getD};
-ghost use Rattle.lookup.specs.Lookup.{IsIndex, sharesNumber, placeOf, Tops, Bracket};
+ghost use Rattle.lookup.specs.Lookup.{IsIndex, sharesNumber, placeOf, Tops, Widest, Bracket};
 
 // How many digits of 9 bits there are: the index is sorted by such digits, and looked up by the top one,
 pub const DIGITS: usize = 512;
@@ -53,17 +53,20 @@ fn nearer(keys: &[u64], at: usize, half: usize, number: u64) -> usize
     at + (half >> shift)
 }
 
-// Where a number stands in the index if it does, of the places from `from` on.
-fn halve(keys: &[u64], from: usize, count: usize, number: u64) -> usize
-    requires { ⌜ (0 < count) × ((count ≤ 1000) × (from + count ≤ length (now keys))) ⌝ }
+// Where a number stands in the index if it does, of the places from `from` on. They are halved as often as the most places of a top digit
+// are, which is the same for every number and so foreseen: where one place is left, it stays.
+fn halve(keys: &[u64], from: usize, count: usize, widest: usize, number: u64) -> usize
+    requires { ⌜ (0 < count) × ((count ≤ 1000) × ((count ≤ widest) × (from + count ≤ length (now keys)))) ⌝ }
     ensures { λ r. ⌜ ((n : ℕ) → Bracket (now (keys .entry)) n number from count → Bracket (now (keys .entry)) n number r 1) ⌝ }
 {
     let mut at = from;
     let mut len = count;
-    while len > 1 {
+    let mut most = widest;
+    while most > 1 {
         let half = len / 2;
         at = nearer(keys, at, half, number);
         len -= half;
+        most -= most / 2;
     }
     at
 }
@@ -74,11 +77,12 @@ pub fn place(
     places: &[u16],
     starts: &[u16; DIGITS],
     shift: usize,
+    widest: usize,
     n: usize,
     number: u64,
 ) -> usize
     requires { ⌜ (n ≤ 1000) × ((n ≤ length (now keys)) × (n ≤ length (now places))) ⌝ }
-    requires { ⌜ Tops (now keys) (now starts) shift n ⌝ }
+    requires { ⌜ Tops (now keys) (now starts) shift n × Widest (now starts) widest ⌝ }
     ensures { λ r. ⌜ ((numbers : List ℕ) → IsIndex (now (keys .entry)) (now (places .entry)) numbers n → sharesNumber numbers n ≡ false → r ≡ placeOf
         numbers n number) ⌝ }
 {
@@ -91,7 +95,7 @@ pub fn place(
     if from == to {
         return n;
     }
-    let at = halve(keys, from, to - from, number);
+    let at = halve(keys, from, to - from, widest, number);
     if keys[at] == number {
         return index_of(places[at]);
     }

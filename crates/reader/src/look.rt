@@ -39,16 +39,17 @@ fn find_place(
     order: &[u16],
     starts: &[u16; DIGITS],
     shift: usize,
+    widest: usize,
     first: usize,
     i: usize,
 ) -> usize
-    requires { ⌜ Ready (now f) (now keys) (now order) (now starts) shift (asHead head) ⌝ }
+    requires { ⌜ Ready (now f) (now keys) (now order) (now starts) shift widest (asHead head) ⌝ }
     requires { ⌜ (first ≡ talliesAt (asHead head)) × (i < head .tallies) ⌝ }
     ensures { λ r. ⌜ r ≡ placeOf (decode (now (f .entry))) i ⌝ }
 {
     let at = record_at(first, i);
     let number = name_at(f, at + 3, word16(f, at + 18));
-    index::look::place(keys, order, starts, shift, head.offers, number)
+    index::look::place(keys, order, starts, shift, widest, head.offers, number)
 }
 
 // Looks each tally up, once, and keeps its place; whether a tally names no offer.
@@ -59,9 +60,10 @@ fn find_places(
     order: &[u16],
     starts: &[u16; DIGITS],
     shift: usize,
+    widest: usize,
     places: &mut [u16],
 ) -> bool
-    requires { ⌜ Ready (now f) (now keys) (now order) (now starts) shift (asHead head) × (head .tallies ≤ length (now places)) ⌝ }
+    requires { ⌜ Ready (now f) (now keys) (now order) (now starts) shift widest (asHead head) × (head .tallies ≤ length (now places)) ⌝ }
     ensures { λ r. ⌜ r ≡ unnamed (decode (now (f .entry))) ⌝ }
     ensures { λ r. ⌜ (r ≡ false → Placed (decode (now (f .entry))) (now (places .exit)) (head .tallies)) ⌝ }
 {
@@ -70,7 +72,7 @@ fn find_places(
     let t = head.tallies;
     let mut i: usize = 0;
     while i < t {
-        let p = find_place(f, head, keys, order, starts, shift, first, i);
+        let p = find_place(f, head, keys, order, starts, shift, widest, first, i);
         if p == n {
             return true;
         }
@@ -94,7 +96,8 @@ pub fn names_refusal(f: &[u8], head: Head, places: &mut [u16]) -> u16
     }
     let shift = index::tops::top_shift(&keys, head.offers);
     let starts = index::tops::tops(&keys, head.offers, shift);
-    if find_places(f, head, &keys, &order, &starts, shift, places) {
+    let widest = index::tops::widest(&starts);
+    if find_places(f, head, &keys, &order, &starts, shift, widest, places) {
         return 8;
     }
     0

@@ -8,6 +8,7 @@ use borrow.Author.Needs.{needs}
 use Rattle.format.specs.Job.{Head, FileJob, shared, unnamed}
 use Rattle.blocks.specs.Due.{asHead}
 use Rattle.index.specs.Index.{sharesNumber}
+use Rattle.index.proofs.Topping.{starts-rise}
 use Rattle.checks.specs.Rows.{HasNames}
 use Rattle.checks.proofs.Naming.{shared-is, finds, seven, eight, neither}
 use Rattle.checks.proofs.codes.names_refusal.Statement.{statement}
@@ -27,14 +28,17 @@ entry c = start (c .before)
 abbrev looked : tie.After-slice-known2 → tie.After-find-places
 looked c = c .before .before
 
-abbrev topped : tie.After-find-places-arg → tie.After-tops
-topped c = c .before .before .before .before
+abbrev wide : tie.After-find-places-arg → tie.After-widest
+wide c = c .before .before .before .before
+
+abbrev topped : tie.After-starts → tie.After-tops
+topped c = c .before
 
 abbrev shifted : tie.After-keys5 → tie.Else1
 shifted c = c .before .before .before
 
 abbrev apart : tie.After-find-places-arg → tie.Else1
-apart c = shifted (topped c .before)
+apart c = shifted (topped (wide c .before) .before)
 
 -- A job whose names the tables hold.
 abbrev Has : FileJob → tie.Start → Type 0
@@ -68,13 +72,17 @@ tops-requires c κs =
     let x = made (e .before) .index-names in
     (omega (arith, offers-most e), (omega (arith, offers-most e, x .kept .1 .1 .1 .0), (x .ensures .index .ascending, c .before .top-shift .ensures)))
 
+widest-requires : tie.Need-widest-requires
+widest-requires c κs = starts-rise (topped c .tops .ensures)
+
 find-places-requires : tie.Need-find-places-requires
 find-places-requires c κs =
     let x = made (apart c .before) in
     let s = entry x in
     let p = s .pre .0 in
     let m = p .most .offers in
-    (((m, (omega (arith, m, x .index-names .kept .1 .1 .1 .0), omega (arith, m, x .index-names .kept .1 .1 .1 .1 .0))), topped c .tops .ensures), ((p .tallyCode, p .tallyIssuer, p .tallies), s .pre .1))
+    let k = x .index-names .kept .1 .1 .1 in
+    (((m, (omega (arith, m, k .0), omega (arith, m, k .1 .0))), (topped (wide c .before) .tops .ensures, wide c .widest .ensures)), ((p .tallyCode, p .tallyIssuer, p .tallies), s .pre .1))
 
 -- No two numbers of the index are equal.
 apart-at : (c : tie.Else1) → let x = made (c .before) .index-names .ensures in sharesNumber (x .numbers) (entry (made (c .before)) .args .head .offers) ≡ false
@@ -119,6 +127,7 @@ names-refusal-spec =
     top-shift-requires
     (λ c. search needs)
     tops-requires
+    widest-requires
     (λ c. search needs)
     (λ c. search needs)
     find-places-requires

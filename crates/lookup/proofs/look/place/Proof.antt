@@ -28,14 +28,14 @@ rises : (c : tie.After-index-of2) → c .before .before .index-of .result ≤ c 
 rises c =
     let e = topped c in
     let s = entry e in
-    top-rises (s .pre .1) (s .args .number) (top s) _ _ (small e) refl (c .before .before .index-of .ensures) (c .index-of2 .ensures)
+    top-rises (s .pre .1 .0) (s .args .number) (top s) _ _ (small e) refl (c .before .before .index-of .ensures) (c .index-of2 .ensures)
 
 -- and the number is in between.
 range : (c : tie.After-index-of2) → let s = entry (topped c) in let from = c .before .before .index-of .result in Bracket (now (s .args .keys)) (s .args .n) (s .args .number) from (c .index-of2 .result - from)
 range c =
     let e = topped c in
     let s = entry e in
-    bracket-start (s .pre .1) (s .args .number) (top s) _ _ (small e) refl (c .before .before .index-of .ensures) (c .index-of2 .ensures)
+    bracket-start (s .pre .1 .0) (s .args .number) (top s) _ _ (small e) refl (c .before .before .index-of .ensures) (c .index-of2 .ensures)
 
 -- What is left of it.
 one : (c : tie.After-halve) → let s = entry (topped (c .before .before)) in Bracket (now (s .args .keys)) (s .args .n) (s .args .number) (c .halve .result) 1
@@ -48,7 +48,7 @@ returns : tie.Need-returns
 returns c =
     λ numbers x d.
     let s = c .before .before .before in
-    missing x (s .args .number) d (top-out (s .pre .1) (s .args .number) (c .if1 .taken))
+    missing x (s .args .number) d (top-out (s .pre .1 .0) (s .args .number) (c .if1 .taken))
 
 returns-2 : tie.Need-returns-2
 returns-2 c =
@@ -56,12 +56,14 @@ returns-2 c =
     let b = c .before in
     let e = topped b in
     let s = entry e in
-    missing x (s .args .number) d (top-none (s .pre .1) (s .args .number) (top s) _ _ (small e) refl (b .before .before .index-of .ensures) (b .index-of2 .ensures) (c .if2 .taken))
+    missing x (s .args .number) d (top-none (s .pre .1 .0) (s .args .number) (top s) _ _ (small e) refl (b .before .before .index-of .ensures) (b .index-of2 .ensures) (c .if2 .taken))
 
 halve-requires : tie.Need-halve-requires
 halve-requires c κs =
     let s = entry (topped (c .before)) in
-    omega (arith, c .if2 .left, rises (c .before), range (c .before) .inside, s .pre .0 .0, s .pre .0 .1 .0)
+    let b = c .before in
+    let w = s .pre .1 .1 .within (top s) (small (topped b)) in
+    omega (arith, c .if2 .left, rises b, range b .inside, s .pre .0 .0, s .pre .0 .1 .0, w, b .before .before .index-of .ensures, b .index-of2 .ensures)
 
 returns-3 : tie.Need-returns-3
 returns-3 c =
@@ -82,7 +84,7 @@ pub place-spec : {M : Type 1} → statement M
 place-spec =
     tie.close
     (tie.spec
-    (λ c. c .before .before .pre .1 .topped .shift-in)
+    (λ c. c .before .before .pre .1 .0 .topped .shift-in)
     returns
     (λ c. omega (arith, small c))
     (λ c. omega (arith, small c))

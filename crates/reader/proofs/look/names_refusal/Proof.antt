@@ -6,6 +6,7 @@ use borrow.Author.Needs.{needs}
 use Rattle.format.specs.Job.{Head, shared}
 use Rattle.format.specs.File.{decode}
 use Rattle.index.specs.Index.{sharesNumber}
+use Rattle.index.proofs.Topping.{starts-rise}
 use Rattle.fills.proofs.Naming.{shared-is}
 use Rattle.reader.proofs.Last.{names-7, names-8, names-0}
 use Rattle.reader.proofs.look.names_refusal.Statement.{statement}
@@ -22,14 +23,17 @@ entry c = c .before .before .before .before .before
 abbrev looked : tie.After-slice-known2 → tie.After-find-places
 looked c = c .before .before
 
-abbrev topped : tie.After-find-places-arg → tie.After-tops
-topped c = c .before .before .before .before
+abbrev wide : tie.After-find-places-arg → tie.After-widest
+wide c = c .before .before .before .before
+
+abbrev topped : tie.After-starts → tie.After-tops
+topped c = c .before
 
 abbrev shifted : tie.After-keys5 → tie.Else1
 shifted c = c .before .before .before
 
 abbrev apart : tie.After-find-places-arg → tie.Else1
-apart c = shifted (topped c .before)
+apart c = shifted (topped (wide c .before) .before)
 
 index-offers-requires : tie.Need-index-offers-requires
 index-offers-requires c κs =
@@ -70,6 +74,9 @@ tops-requires c κs =
     let x = made (e .before) .index-offers in
     (omega (arith, offers-most e), (omega (arith, offers-most e, x .kept .1 .1 .0), (x .ensures .index .ascending, c .before .top-shift .ensures)))
 
+widest-requires : tie.Need-widest-requires
+widest-requires c κs = starts-rise (topped c .tops .ensures)
+
 find-places-requires : tie.Need-find-places-requires
 find-places-requires c κs =
     let e = apart c in
@@ -83,7 +90,8 @@ find-places-requires c κs =
         order-long = omega (arith, m, x .index-offers .kept .1 .1 .1 .0);
         indexed = i;
         apart = sym (e .before .shared .ensures _ _ (i .index)) ∙ e .if1 .left;
-        tops = topped c .tops .ensures;
+        tops = topped (wide c .before) .tops .ensures;
+        wide = wide c .widest .ensures;
       },
       s .pre .1,
     )
@@ -114,6 +122,7 @@ names-refusal-spec =
     top-shift-requires
     (λ c. search needs)
     tops-requires
+    widest-requires
     (λ c. search needs)
     (λ c. search needs)
     find-places-requires
