@@ -32,6 +32,7 @@ struct buffers {
     uint16_t tally_grocer[TALLIES], tally_box[TALLIES], tally_offer[TALLIES], tally_issuer[TALLIES];
     uint8_t tally_code[TALLIES * CODE];
     int32_t tally_count[TALLIES];
+    uint16_t tally_bag[TALLIES], tally_revision[TALLIES];
     uint16_t sizes[SETTLEMENT_SIZES];
     uint8_t file[FILE_BYTES];
     uint32_t known[BOXES * OFFERS], price_transit[BOXES * OFFERS];
@@ -61,8 +62,9 @@ struct work {
 #define SIZES w->boxes, w->grocers, w->offers, w->tallies
 #define TABLES                                                                                                        \
     SIZES, WORDS(b->price), WORDS(b->offer_owner), WORDS(b->grocer_owner), WORDS(b->tally_grocer),                    \
-        WORDS(b->tally_box), WORDS(b->tally_offer), WORDS(b->tally_count), WORDS(b->known), WORDS(b->price_transit),  \
-        WORDS(b->working), WORDS(b->total_transit), WORDS(b->statement), WORDS(b->done), WORDS(b->sent)
+        WORDS(b->tally_box), WORDS(b->tally_offer), WORDS(b->tally_count), WORDS(b->tally_bag),                       \
+        WORDS(b->tally_revision), WORDS(b->known), WORDS(b->price_transit), WORDS(b->working),                        \
+        WORDS(b->total_transit), WORDS(b->statement), WORDS(b->done), WORDS(b->sent)
 
 static size_t call(const struct calls *c, const struct work *w, struct buffers *b)
 {
@@ -70,20 +72,21 @@ static size_t call(const struct calls *c, const struct work *w, struct buffers *
     case READ:
         return c->read(b->file, w->file_len, WORDS(b->price), WORDS(b->offer_owner), WORDS(b->offer_code),
                        WORDS(b->offer_issuer), WORDS(b->grocer_owner), WORDS(b->tally_grocer), WORDS(b->tally_box),
-                       WORDS(b->tally_code), WORDS(b->tally_count), WORDS(b->tally_issuer), WORDS(b->tally_offer),
-                       WORDS(b->sizes));
+                       WORDS(b->tally_code), WORDS(b->tally_count), WORDS(b->tally_issuer), WORDS(b->tally_bag),
+                       WORDS(b->tally_revision), WORDS(b->tally_offer), WORDS(b->sizes));
     case WRITE:
         return c->write(SIZES, w->cycle, WORDS(b->price), WORDS(b->offer_owner), WORDS(b->offer_code),
                         WORDS(b->offer_issuer), WORDS(b->grocer_owner), WORDS(b->tally_grocer), WORDS(b->tally_box),
-                        WORDS(b->tally_code), WORDS(b->tally_count), WORDS(b->tally_issuer), WORDS(b->file));
+                        WORDS(b->tally_code), WORDS(b->tally_count), WORDS(b->tally_issuer), WORDS(b->tally_bag),
+                        WORDS(b->tally_revision), WORDS(b->file));
     case STEP:
         return c->step(TABLES, w->kind, w->first, w->second);
     case RUN:
         return c->run(TABLES, w->choices, w->choices_len, WORDS(b->report));
     case RECONCILE:
         return c->reconcile(b->tally_grocer, w->tallies, b->tally_box, w->tallies, b->tally_offer, w->tallies,
-                            b->tally_count, w->tallies, WORDS(b->price), w->grocers, w->offers, w->wanted,
-                            WORDS(b->owed));
+                            b->tally_count, w->tallies, b->tally_bag, w->tallies, b->tally_revision, w->tallies,
+                            WORDS(b->price), w->grocers, w->offers, w->wanted, WORDS(b->owed));
     }
     return 0;
 }
@@ -126,7 +129,7 @@ static bool code_used(const struct buffers *b, unsigned n, uint64_t number)
     return false;
 }
 
-/* A job of these sizes, of some cycle and of issuer 0: every other word random within its range. */
+/* A job of these sizes, of some cycle, of issuer 0 and without bags: every other word random within its range. */
 static void make_job(struct work *w, unsigned k, unsigned m, unsigned n, unsigned t)
 {
     struct buffers *b = &w->start;
@@ -184,6 +187,46 @@ static void give_issuers(struct work *w, unsigned issuers)
         b->tally_issuer[i] = b->offer_issuer[o];
         put_code(b->tally_code + i * CODE, code_value(b->offer_code + o * CODE), 1 + below(10));
     }
+}
+
+/* Tally i is of the grocer, offer, name and bag of tally `from`. */
+static void count_again(struct buffers *b, unsigned i, unsigned from)
+{
+    b->tally_grocer[i] = b->tally_grocer[from];
+    b->tally_offer[i] = b->tally_offer[from];
+    b->tally_issuer[i] = b->tally_issuer[from];
+    b->tally_bag[i] = b->tally_bag[from];
+    put_code(b->tally_code + i * CODE, code_value(b->tally_code + from * CODE), 1 + below(10));
+}
+
+static bool one_bag(const struct buffers *b, unsigned i, unsigned k)
+{
+    return b->tally_bag[i] == b->tally_bag[k] && b->tally_grocer[i] == b->tally_grocer[k] &&
+           b->tally_offer[i] == b->tally_offer[k];
+}
+
+/* A bag for each tally, of so many numbers from `least` on. About half of them count again what a tally before them
+   counted; the revisions of one bag are different, and in no order. */
+static void give_bags(struct work *w, unsigned least, unsigned bags)
+{
+    struct buffers *b = &w->start;
+    for (unsigned i = 0; i < w->tallies; i++) {
+        unsigned before = 0;
+        b->tally_bag[i] = (uint16_t)(least + below(bags));
+        if (i && below(2))
+            count_again(b, i, below(i));
+        for (unsigned k = 0; k < i; k++)
+            before += one_bag(b, i, k);
+        b->tally_revision[i] = (uint16_t)(before * 40503);
+    }
+}
+
+static bool superseded(const struct buffers *b, unsigned tallies, unsigned i)
+{
+    for (unsigned k = 0; b->tally_bag[i] && k < tallies; k++)
+        if (one_bag(b, i, k) && b->tally_revision[i] < b->tally_revision[k])
+            return true;
+    return false;
 }
 
 static void make_fresh(struct work *w)
@@ -251,12 +294,33 @@ static void wrong_names(struct work *w)
     }
 }
 
-/* A byte of a block: any, or one of an issuer where the block has records of 24 bytes. */
+/* Every call on a job in which some tally's bag and revision are another one's, for the same grocer and offer or nearly. */
+static void wrong_bags(struct work *w)
+{
+    static struct buffers kept;
+    struct buffers *b = &w->start;
+    for (unsigned i = 0; w->tallies && i < 20; i++) {
+        unsigned t = below(w->tallies), from = below(w->tallies);
+        kept = *b;
+        if (below(4))
+            count_again(b, t, from);
+        b->tally_bag[t] = b->tally_bag[from];
+        b->tally_revision[t] = (uint16_t)(b->tally_revision[from] + (below(4) == 0));
+        w->wanted = b->tally_grocer[t];
+        agree_on(w, WRITE, "writer of a bag counted twice");
+        agree_on(w, RUN, "run of a bag counted twice");
+        agree_on(w, STEP, "step of a bag counted twice");
+        agree_on(w, RECONCILE, "reconciliation of a bag counted twice");
+        *b = kept;
+    }
+}
+
+/* A byte of a block: any, or one of an issuer, a bag or a revision where the block has records of 24 bytes. */
 static unsigned damaged_place(const uint8_t *block)
 {
     if (block[0] % 2 == 0 || below(3))
         return below(508);
-    return 4 + 24 * below(block[1]) + (block[0] == 1 ? 16 : 18) + below(2);
+    return 4 + 24 * below(block[1]) + (block[0] == 1 ? 16 + below(2) : 18 + below(6));
 }
 
 static void damage(struct work *w)
@@ -303,7 +367,8 @@ static void statements_right(const struct work *w)
     int64_t sum[GROCERS] = { 0 };
     const struct buffers *b = &w->start;
     for (unsigned i = 0; i < w->tallies; i++)
-        sum[b->tally_grocer[i]] += (int64_t)b->tally_count[i] * b->price[b->tally_offer[i]];
+        if (!superseded(b, w->tallies, i))
+            sum[b->tally_grocer[i]] += (int64_t)b->tally_count[i] * b->price[b->tally_offer[i]];
     if (memcmp(sum, room[0].statement, w->grocers * sizeof *sum))
         fail("statements and the plain sums");
 }
@@ -326,9 +391,12 @@ static void agree_at_random(struct work *w)
         make_job(w, 1 + below(16), 1 + below(i % 2 ? 255 : 12), 1 + below(i % 2 ? 500 : 20), below(i % 2 ? 1001 : 60));
         if (i % 3)
             give_issuers(w, i % 3 == 1 ? 3 : 65536);
+        if (i % 4 > 1)
+            give_bags(w, 0, i % 4 == 2 ? 3 : 65536);
         write_file(w);
         agree_on(w, READ, "reader");
         wrong_names(w);
+        wrong_bags(w);
         damage(w);
         run_both(w);
         w->wanted = (uint16_t)below(w->grocers);
@@ -433,21 +501,33 @@ struct item {
     enum operation operation;
     unsigned kind, choices;
     unsigned issuers; /* 1: issuer 0 alone */
+    unsigned bags;    /* 0: no bags */
 };
 
 static const struct item items[] = {
-    { "read", "reader, the longest file", READ, 0, 0, 1 },
-    { "write", "writer, the same job", WRITE, 0, 0, 1 },
-    { "issuers", "reader, many issuers", READ, 0, 0, 65536 },
-    { "step1", "step 1, send prices", STEP, 1, 0, 1 },
-    { "step2", "step 2, multiply own", STEP, 2, 0, 1 },
-    { "step3", "step 3, receive prices", STEP, 3, 0, 1 },
-    { "step4", "step 4, send totals", STEP, 4, 0, 1 },
-    { "step5", "step 5, own totals", STEP, 5, 0, 1 },
-    { "step6", "step 6, receive totals", STEP, 6, 0, 1 },
-    { "run", "run without choices", RUN, 0, 0, 1 },
-    { "choices", "run with choices", RUN, 0, TALLIES, 1 },
-    { "reconcile", "reconciliation, 1,000 records", RECONCILE, 0, 0, 1 },
+    { "read", "reader, the longest file", READ, 0, 0, 1, 0 },
+    { "write", "writer, the same job", WRITE, 0, 0, 1, 0 },
+    { "issuers", "reader, many issuers", READ, 0, 0, 65536, 0 },
+    { "step1", "step 1, send prices", STEP, 1, 0, 1, 0 },
+    { "step2", "step 2, multiply own", STEP, 2, 0, 1, 0 },
+    { "step3", "step 3, receive prices", STEP, 3, 0, 1, 0 },
+    { "step4", "step 4, send totals", STEP, 4, 0, 1, 0 },
+    { "step5", "step 5, own totals", STEP, 5, 0, 1, 0 },
+    { "step6", "step 6, receive totals", STEP, 6, 0, 1, 0 },
+    { "run", "run without choices", RUN, 0, 0, 1, 0 },
+    { "choices", "run with choices", RUN, 0, TALLIES, 1, 0 },
+    { "reconcile", "reconciliation, 1,000 records", RECONCILE, 0, 0, 1, 0 },
+    { "read-bags", "reader, tallies in bags", READ, 0, 0, 1, 65535 },
+    { "write-bags", "writer, tallies in bags", WRITE, 0, 0, 1, 65535 },
+    { "step1-bags", "step 1, tallies in bags", STEP, 1, 0, 1, 65535 },
+    { "step2-bags", "step 2, tallies in bags", STEP, 2, 0, 1, 65535 },
+    { "step3-bags", "step 3, tallies in bags", STEP, 3, 0, 1, 65535 },
+    { "step4-bags", "step 4, tallies in bags", STEP, 4, 0, 1, 65535 },
+    { "step5-bags", "step 5, tallies in bags", STEP, 5, 0, 1, 65535 },
+    { "step6-bags", "step 6, tallies in bags", STEP, 6, 0, 1, 65535 },
+    { "run-bags", "run, tallies in bags", RUN, 0, 0, 1, 65535 },
+    { "choices-bags", "run with choices, in bags", RUN, 0, TALLIES, 1, 65535 },
+    { "reconcile-bags", "reconciliation, in bags", RECONCILE, 0, 0, 1, 65535 },
 };
 enum { ITEMS = sizeof items / sizeof *items };
 
@@ -480,6 +560,8 @@ static void prepare(struct work *w, const struct item *item, bool whole, unsigne
         make_job(w, BOXES, GROCERS / 10, OFFERS / 10, TALLIES / 10);
     if (item->issuers > 1)
         give_issuers(w, item->issuers);
+    if (item->bags)
+        give_bags(w, 1, item->bags);
     if (item->operation == READ) {
         w->operation = WRITE;
         w->file_len = call(&plain, w, &w->start);

@@ -28,40 +28,51 @@
  * 500, T tallies 0 to 1,000. Owners and boxes are below K, tally_grocer below M, tally_offer below N. A price is 0 to
  * 9,999,999 tenths of a cent, a count -99,999 to 99,999, an amount within +-10^15 tenths of a cent.
  *
- * TABLES OF A JOB             words  word i
- *   price         uint32_t    N      price of offer i
- *   offer_owner   uint16_t    N      box that owns offer i
- *   grocer_owner  uint16_t    M      box that owns grocer i
- *   tally_grocer  uint16_t    T      grocer of tally i
- *   tally_box     uint16_t    T      box that holds tally i
- *   tally_offer   uint16_t    T      place of the offer of tally i
- *   tally_count   int32_t     T      count of tally i
+ * TABLES OF A JOB              words  word i
+ *   price          uint32_t    N      price of offer i
+ *   offer_owner    uint16_t    N      box that owns offer i
+ *   grocer_owner   uint16_t    M      box that owns grocer i
+ *   tally_grocer   uint16_t    T      grocer of tally i
+ *   tally_box      uint16_t    T      box that holds tally i
+ *   tally_offer    uint16_t    T      place of the offer of tally i
+ *   tally_count    int32_t     T      count of tally i
+ *   tally_bag      uint16_t    T      bag of tally i, 0 for loose coupons
+ *   tally_revision uint16_t    T      revision of the count of tally i
  * and for the reader alone
- *   offer_code    uint8_t     11 N   the code of offer i is bytes 11 i to 11 i + 10: digit count, then ten bytes,
- *   tally_code    uint8_t     11 T   ASCII digits first and 0 after them; likewise of tally i
- *   offer_issuer  uint16_t    N      issuer of offer i, 0 for old offers
- *   tally_issuer  uint16_t    T      issuer of the offer of tally i
+ *   offer_code     uint8_t     11 N   the code of offer i is bytes 11 i to 11 i + 10: digit count, then ten bytes,
+ *   tally_code     uint8_t     11 T   ASCII digits first and 0 after them; likewise of tally i
+ *   offer_issuer   uint16_t    N      issuer of offer i, 0 for old offers
+ *   tally_issuer   uint16_t    T      issuer of the offer of tally i
  * An issuer and a code name an offer. Two names are one offer where the issuers are equal and the codes' numbers agree
  * without leading zeros. An issuer is any number of 16 bits, 0 included: none is refused, and no other call is lent it.
  *
- * TABLES OF A STATE           words  what stands where
- *   known         uint32_t    K N    price of offer o that box b knows: word b N + o
- *   price_transit uint32_t    K N    price of offer o sent to box b and not yet received: word b N + o
- *   working       int64_t     K M    working total of grocer g in box b: word b M + g
- *   total_transit int64_t     K M    total of grocer g sent by box b and not yet received: word b M + g
- *   statement     int64_t     M      statement of grocer g: word g
- *   done          uint16_t    6 K K  1 where the step of kind, first and second is done, else 0: word
- *                                    ((kind - 1) K + first) K + second
- *   sent          uint32_t    1      words sent so far, 0 to 1,000,000
+ * WHICH TALLIES STAND
+ * A bag may be counted again, by the same box or by another one. Among tallies of the same grocer, offer (by its place)
+ * and bag, whichever box holds them, only the one with the highest revision stands. Bag 0 is loose coupons: those
+ * tallies all stand, whatever their revisions. The order of tallies does not matter. A superseded tally counts for no
+ * amount, need, message or step; where steps are told below, tallies are those that stand. It keeps its words in the
+ * tables, which have their ranges like all others: a host lends all tallies, and each call finds those that stand.
+ * Bags and revisions are any numbers of 16 bits. One bag and revision twice for a grocer and offer, the bag not 0, is
+ * refused (9), also under a higher revision. Files of before have 0 in both fields and settle as before.
+ *
+ * TABLES OF A STATE            words  what stands where
+ *   known          uint32_t    K N    price of offer o that box b knows: word b N + o
+ *   price_transit  uint32_t    K N    price of offer o sent to box b and not yet received: word b N + o
+ *   working        int64_t     K M    working total of grocer g in box b: word b M + g
+ *   total_transit  int64_t     K M    total of grocer g sent by box b and not yet received: word b M + g
+ *   statement      int64_t     M      statement of grocer g: word g
+ *   done           uint16_t    6 K K  1 where the step of kind, first and second is done, else 0: word
+ *                                     ((kind - 1) K + first) K + second
+ *   sent           uint32_t    1      words sent so far, 0 to 1,000,000
  * A fresh state has the price of each offer known in the box that owns it (word offer_owner[o] N + o of known), and 0
  * in every other word.
  *
  * A SETTLEMENT BY STEPS
- * It starts from a fresh state of a job in range, and from then on only settlement_step writes the state. The job has
- * 2 K + 2 x (messages) steps. Each is accepted once, in any order in which it is ready; a refused request changes
- * nothing and may be made again later. The settlement is finished when every step that the job has is done: then
- * statement has the plain sums, and working, price_transit and total_transit have 0 alone. Until then some step is
- * ready. So a host knows that it is finished
+ * It starts from a fresh state of a job in range that does not meet 9, and from then on only settlement_step writes the
+ * state. The job has 2 K + 2 x (messages) steps. Each is accepted once, in any order in which it is ready; a refused
+ * request changes nothing and may be made again later. The settlement is finished when every step that the job has is
+ * done: then statement has the plain sums over the tallies that stand, and working, price_transit and total_transit
+ * have 0 alone. Until then some step is ready. So a host knows that it is finished
  * - by asking: it has asked for every kind 1 to 6 with every first and second below K, no table lent short, and none
  *   was accepted. Each was then answered 23, 24 or 25, and none 26.
  * - or by counting: as many requests were accepted as settlement_run says in report[2] for the same job, whatever its
@@ -108,6 +119,7 @@
 #define SETTLEMENT_BAD_FIELD 6      /* of a record */
 #define SETTLEMENT_SHARED_NUMBER 7  /* of two offers, under one issuer */
 #define SETTLEMENT_UNKNOWN_CODE 8   /* of a tally, under its issuer */
+#define SETTLEMENT_COUNTED_TWICE 9  /* one bag and revision, for a grocer and offer */
 #define SETTLEMENT_SHORT 20         /* a lent table */
 #define SETTLEMENT_OUT_OF_RANGE 21  /* K, M, N, T or a word of a table, or a word that the step would leave */
 #define SETTLEMENT_BAD_KIND 22      /* not 1 to 6 */
@@ -132,11 +144,12 @@ extern "C" {
  * cycle into sizes[4]. The cycle is any number of 16 bits, 0 included: none is refused, and no other call is lent it.
  *
  * Needed lengths do not depend on the file: price, offer_owner, offer_issuer 500; offer_code 5,500; grocer_owner 255;
- * tally_grocer, tally_box, tally_count, tally_issuer, tally_offer 1,000; tally_code 11,000; sizes 5. An accepted file
- * writes the first M, N or T entries of each table, as above, and no others.
+ * tally_grocer, tally_box, tally_count, tally_issuer, tally_bag, tally_revision, tally_offer 1,000; tally_code 11,000;
+ * sizes 5. An accepted file writes the first M, N or T entries of each table, as above, superseded tallies too, and no
+ * others.
  *
  * Refusals, in the order in which they are looked for: 20, then 1; then of the header 2, 3, 4, 5 and 1 (the block
- * count); then of each other block, ascending, 2, 3, 5, 6; then 7, 8.
+ * count); then of each other block, ascending, 2, 3, 5, 6; then 7, 8, 9.
  *   20  a table shorter than said above
  *    1  length 0, not a multiple of 512, over 74 blocks, or not the block count that the header's sizes make
  *    2  the sums of a block differ from those stored
@@ -147,6 +160,7 @@ extern "C" {
  *       digits not 0
  *    7  two offers share a number under one issuer
  *    8  a tally's code names no offer of its issuer
+ *    9  one bag and revision twice for a grocer and offer, the bag not 0
  */
 uint16_t settlement_read(
     const uint8_t *file, size_t file_len,
@@ -160,6 +174,8 @@ uint16_t settlement_read(
     uint8_t *tally_code, size_t tally_code_len,
     int32_t *tally_count, size_t tally_count_len,
     uint16_t *tally_issuer, size_t tally_issuer_len,
+    uint16_t *tally_bag, size_t tally_bag_len,
+    uint16_t *tally_revision, size_t tally_revision_len,
     uint16_t *tally_offer, size_t tally_offer_len,
     uint16_t *sizes, size_t sizes_len);
 
@@ -187,6 +203,7 @@ uint16_t settlement_read(
  * Refusals, in the order in which they are looked for:
  *   20  a table shorter than needed
  *   21  K, M, N, T or a needed word of a table of the job or the state outside its range, a done mark not 0 or 1
+ *    9  one bag and revision twice for a grocer and offer, the bag not 0
  *   22  kind not 1 to 6
  *   23  a box not below K; or first and second equal for kinds 1, 3, 4, 6, or different for kinds 2, 5
  *   24  an empty message: the job has no such step
@@ -203,6 +220,8 @@ uint16_t settlement_step(
     const uint16_t *tally_box, size_t tally_box_len,
     const uint16_t *tally_offer, size_t tally_offer_len,
     const int32_t *tally_count, size_t tally_count_len,
+    const uint16_t *tally_bag, size_t tally_bag_len,
+    const uint16_t *tally_revision, size_t tally_revision_len,
     uint32_t *known, size_t known_len,
     uint32_t *price_transit, size_t price_transit_len,
     int64_t *working, size_t working_len,
@@ -223,6 +242,7 @@ uint16_t settlement_step(
  * Refusals, in the order in which they are looked for:
  *   20  a table, or the report, shorter than needed
  *   21  K, M, N, T or a needed word of a table of the job outside its range
+ *    9  one bag and revision twice for a grocer and offer, the bag not 0
  */
 uint16_t settlement_run(
     uint16_t boxes, uint16_t grocers, uint16_t offers, uint16_t tallies,
@@ -233,6 +253,8 @@ uint16_t settlement_run(
     const uint16_t *tally_box, size_t tally_box_len,
     const uint16_t *tally_offer, size_t tally_offer_len,
     const int32_t *tally_count, size_t tally_count_len,
+    const uint16_t *tally_bag, size_t tally_bag_len,
+    const uint16_t *tally_revision, size_t tally_revision_len,
     uint32_t *known, size_t known_len,
     uint32_t *price_transit, size_t price_transit_len,
     int64_t *working, size_t working_len,
@@ -251,7 +273,7 @@ uint16_t settlement_run(
  * Two structs with the tables of the largest job, and the three calls on them: each table stands in its place once,
  * here, and is lent whole. A host need not use any of this. It is plain C, which nothing proves.
  *
- * A job has about 33,000 bytes and a state 134,000: they belong in static memory or on the heap, not on a small stack.
+ * A job has about 37,000 bytes and a state 134,000: they belong in static memory or on the heap, not on a small stack.
  * SETTLEMENT_READ_INTO and SETTLEMENT_LENT take other structs as well, with more members or, for a step and a run, with
  * smaller tables, as long as these are arrays with the names below, and not pointers.
  */
@@ -268,6 +290,8 @@ struct settlement_job {
     uint8_t tally_code[SETTLEMENT_MAX_TALLY_CODES];
     int32_t tally_count[SETTLEMENT_MAX_TALLIES];
     uint16_t tally_issuer[SETTLEMENT_MAX_TALLIES];
+    uint16_t tally_bag[SETTLEMENT_MAX_TALLIES];
+    uint16_t tally_revision[SETTLEMENT_MAX_TALLIES];
     uint16_t tally_offer[SETTLEMENT_MAX_TALLIES];
 };
 
@@ -289,16 +313,18 @@ struct settlement_state {
     SETTLEMENT_TABLE((j)->price), SETTLEMENT_TABLE((j)->offer_owner), SETTLEMENT_TABLE((j)->offer_code),               \
     SETTLEMENT_TABLE((j)->offer_issuer), SETTLEMENT_TABLE((j)->grocer_owner), SETTLEMENT_TABLE((j)->tally_grocer),     \
     SETTLEMENT_TABLE((j)->tally_box), SETTLEMENT_TABLE((j)->tally_code), SETTLEMENT_TABLE((j)->tally_count),           \
-    SETTLEMENT_TABLE((j)->tally_issuer), SETTLEMENT_TABLE((j)->tally_offer)
+    SETTLEMENT_TABLE((j)->tally_issuer), SETTLEMENT_TABLE((j)->tally_bag), SETTLEMENT_TABLE((j)->tally_revision),      \
+    SETTLEMENT_TABLE((j)->tally_offer)
 
 /* The arguments that settlement_step and settlement_run begin with; j points to a job, s to a state. */
 #define SETTLEMENT_LENT(j, s)                                                                                          \
     (j)->boxes, (j)->grocers, (j)->offers, (j)->tallies,                                                               \
     SETTLEMENT_TABLE((j)->price), SETTLEMENT_TABLE((j)->offer_owner), SETTLEMENT_TABLE((j)->grocer_owner),             \
     SETTLEMENT_TABLE((j)->tally_grocer), SETTLEMENT_TABLE((j)->tally_box), SETTLEMENT_TABLE((j)->tally_offer),         \
-    SETTLEMENT_TABLE((j)->tally_count), SETTLEMENT_TABLE((s)->known), SETTLEMENT_TABLE((s)->price_transit),            \
-    SETTLEMENT_TABLE((s)->working), SETTLEMENT_TABLE((s)->total_transit), SETTLEMENT_TABLE((s)->statement),            \
-    SETTLEMENT_TABLE((s)->done), SETTLEMENT_TABLE((s)->sent)
+    SETTLEMENT_TABLE((j)->tally_count), SETTLEMENT_TABLE((j)->tally_bag), SETTLEMENT_TABLE((j)->tally_revision),       \
+    SETTLEMENT_TABLE((s)->known), SETTLEMENT_TABLE((s)->price_transit), SETTLEMENT_TABLE((s)->working),                \
+    SETTLEMENT_TABLE((s)->total_transit), SETTLEMENT_TABLE((s)->statement), SETTLEMENT_TABLE((s)->done),               \
+    SETTLEMENT_TABLE((s)->sent)
 
 /* settlement_read into a job, its sizes and its cycle too; a refusal leaves the job as it was. */
 static inline uint16_t settlement_read_job(const uint8_t *file, size_t file_len, struct settlement_job *job)

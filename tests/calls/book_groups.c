@@ -93,7 +93,7 @@ static void short_buffers(void)
 static void words_out_of_range(void)
 {
     for (unsigned name = 0; name < JOB_TABLES; name++)
-        for (enum fault fault = ABOVE; fault < (is_signed(name) ? FAULTS : BELOW); fault++) {
+        for (enum fault fault = ABOVE; has_range(name) && fault < (is_signed(name) ? FAULTS : BELOW); fault++) {
             open_sample(SPARE);
             make_fault(&calling, name, fault);
             expect_book(calling.job.sizes, 0, 21);
@@ -148,6 +148,86 @@ static void largest_job(void)
     close_calling(&calling);
 }
 
+/* Cases of bags: each box's book has its standing tallies alone. 9 comes before 23. */
+static void bags(void)
+{
+    for (const struct bagged *c = bagged; c->what; c++)
+        for (unsigned order = 0; order < 6; order++) {
+            int64_t packed = 0, standing = 0;
+            bagged_job(&calling.job, c);
+            if (order > 0) shuffle_tallies(&calling.job);
+            open_calling(&calling, SPARE);
+            for (uint16_t box = 0; box < 4; box++) {
+                at_case("%s, box %u", c->what, box);
+                expect_book(calling.job.sizes, box, !c->standing ? 9 : box < 3 ? 0 : 23);
+                if (c->standing && box < 3) packed += word_of(&calling, NUMBERS, 2);
+            }
+            for (const char *at = c->standing; at && *at; at++) standing += *at == '1';
+            expect(packed == standing, "%lld tallies are in books, %lld stand", (long long)packed, (long long)standing);
+            close_calling(&calling);
+        }
+}
+
+/* A bag that box 1 counted, and box 0 again: offer and grocer are no longer box 1's. */
+static void first_box_loses(void)
+{
+    for (uint16_t tallies = 1; tallies <= 2; tallies++) {
+        bool again = tallies == 2;
+        bagged_job(&calling.job, &bagged[1]);
+        open_calling(&calling, SPARE);
+        calling.job.sizes.tallies = tallies;
+        at_case("box 1, %u tallies", tallies);
+        expect_book(calling.job.sizes, 1, 0);
+        expect_words(&calling, NUMBERS, again ? (const int64_t[]){1, 1, 0} : (const int64_t[]){2, 2, 1}, 3);
+        expect_words(&calling, LOCAL_OFFERS, (const int64_t[]){1, 0}, again ? 1 : 2);
+        expect_words(&calling, LOCAL_GROCERS, (const int64_t[]){1, 0}, again ? 1 : 2);
+        expect_words(&calling, STARTS, (const int64_t[]){0, 0, 1}, again ? 2 : 3);
+        at_case("box 0, %u tallies", tallies);
+        expect_book(calling.job.sizes, 0, 0);
+        expect_words(&calling, NUMBERS, (const int64_t[]){1, 1, again}, 3);
+        expect_words(&calling, STARTS, (const int64_t[]){0, again}, 2);
+        if (again) expect_words(&calling, PACKED_COUNTS, (const int64_t[]){6}, 1);
+        close_calling(&calling);
+    }
+}
+
+/* 1,000 tallies in bags: all that stand are in the boxes' books, each once. */
+static void largest_in_bags(void)
+{
+    for (unsigned long i = 0; i < 2 + job_count / 1000; i++) {
+        const struct tally *tally = calling.job.tally;
+        int64_t packed = 0, standing = 0;
+        spread_job(&calling.job);
+        give_bags(&calling.job);
+        open_calling(&calling, SPARE);
+        for (uint16_t box = 0; box < MOST_BOXES; box++) {
+            at_case("largest job %lu in bags, box %u", i, box);
+            expect_book(LARGEST, box, 0);
+            packed += word_of(&calling, NUMBERS, 2);
+        }
+        for (size_t t = 0; t < MOST_TALLIES; t++) standing += stands(tally, MOST_TALLIES, t);
+        expect(packed == standing, "%lld tallies are in books, %lld stand", (long long)packed, (long long)standing);
+        close_calling(&calling);
+    }
+}
+
+/* E with a bag and revision twice: behind 20 and 21, before 23. */
+static void counted_twice_in_order(void)
+{
+    for (unsigned name = 0; name < JOB_TABLES; name++) {
+        open_sample(SPARE);
+        put_both(&calling.lending, TALLY_BAG, 0, 1);
+        put_both(&calling.lending, TALLY_BAG, 3, 1);
+        at_case("9, and %s at fault", table_text(name));
+        for (uint16_t box = 0; box < 4; box++) expect_book(calling.job.sizes, box, 9);
+        if (has_range(name)) make_fault(&calling, name, ABOVE);
+        for (uint16_t box = 0; box < 4; box += 3) expect_book(calling.job.sizes, box, has_range(name) ? 21 : 9);
+        make_fault(&calling, name, SHORT);
+        for (uint16_t box = 0; box < 4; box += 3) expect_book(calling.job.sizes, box, 20);
+        close_calling(&calling);
+    }
+}
+
 static void random_jobs(void)
 {
     for (unsigned long i = 0; i < job_count / 2 + 4; i++) {
@@ -158,6 +238,8 @@ static void random_jobs(void)
             at_case("random job %lu, box %u", i, box);
             expect_book(sizes, box, box < sizes.boxes ? 0 : 23);
         }
+        near_bags(&calling);
+        ask_book(&calling, sizes, (uint16_t)below(sizes.boxes + 1u));
         sizes.tallies = (uint16_t)below(sizes.tallies + 2u);
         if (one_in(4)) sizes.boxes = wild_number(sizes.boxes);
         ask_book(&calling, sizes, wild_number(sizes.boxes));
@@ -173,5 +255,9 @@ void check_books(void)
     run_group("book: each table of the job with a word beyond its range", words_out_of_range);
     run_group("book: K, M, N and T at and beyond their values", sizes_out_of_range);
     run_group("book: every box of the largest job", largest_job);
+    run_group("book: bags", bags);
+    run_group("book: one bag in two boxes, and what the first loses", first_box_loses);
+    run_group("book: every box of the largest job in bags", largest_in_bags);
+    run_group("book: a bag and revision twice comes between", counted_twice_in_order);
     run_group("book: random jobs beside a plain search", random_jobs);
 }

@@ -47,8 +47,9 @@ int64_t word_of(const struct calling *calling, enum table_name name, size_t plac
 
 void lend_records(struct calling *calling, size_t records)
 {
-    static const enum table_name fields[] = {TALLY_GROCER, TALLY_BOX, TALLY_OFFER, TALLY_COUNT};
-    for (unsigned i = 0; i < 4; i++) calling->lending.lend[fields[i]] = records;
+    static const enum table_name fields[] = {TALLY_GROCER, TALLY_BOX, TALLY_OFFER,
+                                             TALLY_COUNT,  TALLY_BAG, TALLY_REVISION};
+    for (unsigned i = 0; i < 6; i++) calling->lending.lend[fields[i]] = records;
 }
 
 void make_fault(struct calling *calling, enum table_name name, enum fault fault)
@@ -71,6 +72,15 @@ void expect_words(const struct calling *calling, enum table_name name, const int
     for (size_t place = 0; place < length; place++)
         expect(word_of(calling, name, place) == due[place], "%s[%zu] is %lld, the case says %lld", table_text(name),
                place, (long long)word_of(calling, name, place), (long long)due[place]);
+}
+
+void near_bags(struct calling *calling)
+{
+    uint32_t revisions = 1 + below(30);
+    for (size_t t = 0; t < calling->job.sizes.tallies; t++) {
+        put_both(&calling->lending, TALLY_BAG, t, below(3));
+        put_both(&calling->lending, TALLY_REVISION, t, below(revisions));
+    }
 }
 
 void spread_job(struct job *job)
@@ -103,6 +113,7 @@ size_t ask_write(struct calling *calling, struct sizes sizes)
                                   SLICE(const uint16_t, GROCER_OWNER), SLICE(const uint16_t, TALLY_GROCER),
                                   SLICE(const uint16_t, TALLY_BOX), SLICE(const uint8_t, TALLY_CODE),
                                   SLICE(const int32_t, TALLY_COUNT), SLICE(const uint16_t, TALLY_ISSUER),
+                                  SLICE(const uint16_t, TALLY_BAG), SLICE(const uint16_t, TALLY_REVISION),
                                   SLICE(uint8_t, OUT));
     hand_back(&calling->lending, lent, WRITE, answer >= BLOCK ? 0 : (uint16_t)answer);
     compare_call(calling, "writer", answer, refusal ? refusal : length);
@@ -178,6 +189,7 @@ uint16_t ask_desk(struct calling *calling, struct question question)
     hand_over(&calling->lending, lent);
     uint16_t answer = entries_reconcile(SLICE(const uint16_t, TALLY_GROCER), SLICE(const uint16_t, TALLY_BOX),
                                         SLICE(const uint16_t, TALLY_OFFER), SLICE(const int32_t, TALLY_COUNT),
+                                        SLICE(const uint16_t, TALLY_BAG), SLICE(const uint16_t, TALLY_REVISION),
                                         SLICE(const uint32_t, PRICE), question.grocers, question.offers,
                                         question.wanted, SLICE(int64_t, OWED));
     hand_back(&calling->lending, lent, RECONCILE, answer);

@@ -37,6 +37,9 @@ struct question {
 uint16_t ask_desk(struct calling *calling, struct question question);
 void lend_records(struct calling *calling, size_t records);
 
+/* The lent tallies get so few bags and revisions that 9 is often met. */
+void near_bags(struct calling *calling);
+
 /* The largest job, its words by rules: each offer below 250 has four tallies, some of them in one box and some of them
    alike; the others have none. Offer 100 is box 14's, which holds none of its tallies. */
 void spread_job(struct job *job);

@@ -96,10 +96,18 @@ static void put_record(size_t place, struct record record)
 static const struct record sample[] = {{0, 0, 0, 3}, {1, 0, 1, 2}, {0, 1, 1, -1}, {0, 1, 0, 4}};
 static const struct record odd = {60001, 60002, 60003, 2000000004};
 
+/* The records behind a list are also of one bag and revision. */
+static void put_bag(size_t place, uint16_t bag, uint16_t revision)
+{
+    put_both(&calling.lending, TALLY_BAG, place, bag);
+    put_both(&calling.lending, TALLY_REVISION, place, revision);
+}
+
 static void put_records(const struct desk_case *c)
 {
     for (size_t i = 0; i <= ENTRIES_MAX_RECORDS; i++)
         put_record(i, c->which == ALL ? c->other : i < 4 ? sample[i] : odd);
+    for (size_t i = c->records; i <= ENTRIES_MAX_RECORDS; i++) put_bag(i, 7, 1);
     if (c->which == FIRST || c->which == SECOND) put_record(c->which == SECOND, c->other);
     for (size_t i = 0; i < c->prices; i++) put_both(&calling.lending, PRICE, i, i < 3 ? c->price[i] : 500);
     lend_records(&calling, c->records);
@@ -137,8 +145,8 @@ static void desk_cases(void)
 /* Each field a word shorter than the grocers, and no word for the amount. */
 static void short_buffers(void)
 {
-    static const enum table_name fields[] = {TALLY_BOX, TALLY_OFFER, TALLY_COUNT, OWED};
-    for (unsigned i = 0; i < 4; i++) {
+    static const enum table_name fields[] = {TALLY_BOX, TALLY_OFFER, TALLY_COUNT, TALLY_BAG, TALLY_REVISION, OWED};
+    for (unsigned i = 0; i < 6; i++) {
         open_zeros(&calling, (struct sizes){1, 255, 502, ENTRIES_MAX_RECORDS + 1});
         put_records(&cases[0]);
         at_case("%s short", table_text(fields[i]));
@@ -147,6 +155,80 @@ static void short_buffers(void)
         expect(ask_desk(&calling, (struct question){0, 0, 9}) == 20, "the short buffer was taken");
         close_calling(&calling);
     }
+}
+
+/* Bags */
+
+/* A case of bags with its records in some order: which stand is told within the list, for each grocer. */
+static void ask_case(const struct bagged *c)
+{
+    size_t records = calling.job.sizes.tallies;
+    open_calling(&calling, SPARE);
+    for (uint16_t wanted = 0; wanted < 4; wanted++) {
+        lend_records(&calling, records);
+        uint16_t answer = ask_desk(&calling, (struct question){2, 3, wanted});
+        expect(answer == (wanted >= 2 ? 21 : c->standing ? 0 : 9), "grocer %u: the desk answered %u", wanted, answer);
+        if (!answer) expect_owed(wanted, c->owed[wanted], true);
+    }
+    for (size_t t = 0; t < records; t++) {
+        at_case("%s, and a record out of range", c->what);
+        put_both(&calling.lending, TALLY_BOX, t, MOST_BOXES);
+        expect(ask_desk(&calling, (struct question){2, 3, 0}) == 21, "a box of 16 was taken");
+        put_both(&calling.lending, TALLY_BOX, t, 0);
+    }
+    at_case("%s, and few prices", c->what);
+    calling.lending.lend[PRICE] = 2;
+    expect(ask_desk(&calling, (struct question){2, 3, 0}) == 20, "two prices of three were taken");
+    close_calling(&calling);
+}
+
+static void bags(void)
+{
+    for (const struct bagged *c = bagged; c->what; c++)
+        for (unsigned order = 0; order < 6; order++) {
+            at_case("%s", c->what);
+            bagged_job(&calling.job, c);
+            if (order > 0) shuffle_tallies(&calling.job);
+            ask_case(c);
+        }
+}
+
+/* The desk goes by its own list: a count that another one supersedes stands where the other is not in the list. */
+static void parts_of_lists(void)
+{
+    for (size_t records = 0; records <= 3; records++) {
+        at_case("the first %zu of three revisions", records);
+        bagged_job(&calling.job, &bagged[5]);
+        open_calling(&calling, SPARE);
+        lend_records(&calling, records);
+        expect(ask_desk(&calling, (struct question){2, 3, 0}) == 0, "the desk refused");
+        expect_owed(0, records ? 4000 + 1000 * (int64_t)records : 0, true);
+        close_calling(&calling);
+    }
+}
+
+/* 1,000 records of one bag, the highest revision at place 781; one of them a second time. */
+static void one_bag(void)
+{
+    open_zeros(&calling, (struct sizes){1, 255, 502, ENTRIES_MAX_RECORDS + 1});
+    put_records(&cases[9]);
+    for (size_t i = 0; i < 1000; i++) {
+        put_both(&calling.lending, TALLY_COUNT, i, (int64_t)i);
+        put_bag(i, 65535, (uint16_t)(i * 379 % 1000 * 65));
+    }
+    at_case("1,000 records of one bag");
+    expect(ask_desk(&calling, (struct question){2, 2, 0}) == 0, "the desk refused");
+    expect_owed(0, 781 * 500, true);
+    at_case("1,000 records of one bag, the lowest revision twice");
+    put_bag(219, 65535, 0);
+    expect(ask_desk(&calling, (struct question){2, 2, 0}) == 9, "the desk did not refuse with 9");
+    expect(ask_desk(&calling, (struct question){2, 2, 1}) == 9, "the desk did not refuse another grocer with 9");
+    at_case("1,000 records, twice as loose coupons");
+    put_bag(0, 0, 0);
+    put_bag(219, 0, 0);
+    expect(ask_desk(&calling, (struct question){2, 2, 0}) == 0, "the desk refused");
+    expect_owed(0, (781 + 219) * 500, true);
+    close_calling(&calling);
 }
 
 static void random_lists(void)
@@ -163,6 +245,8 @@ static void random_lists(void)
             expect(answer == 0, "the desk refused with %u", answer);
             expect_owed(wanted, plain_sum(&calling.job, wanted), false);
         }
+        near_bags(&calling);
+        ask_desk(&calling, (struct question){sizes.grocers, sizes.offers, (uint16_t)below(sizes.grocers)});
         ask_desk(&calling, (struct question){wild_number(sizes.grocers), wild_number(sizes.offers), wild_number(3)});
         close_calling(&calling);
     }
@@ -172,5 +256,8 @@ void check_desk(void)
 {
     run_group("desk: amounts and refusals of E's records", desk_cases);
     run_group("desk: each buffer short", short_buffers);
+    run_group("desk: bags", bags);
+    run_group("desk: a part of a list goes by itself", parts_of_lists);
+    run_group("desk: 1,000 records of one bag", one_bag);
     run_group("desk: random lists beside the plain sum", random_lists);
 }

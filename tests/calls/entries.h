@@ -15,7 +15,8 @@ enum { ENTRIES_TABLE = 256, ENTRIES_NUMBERS = 3, ENTRIES_MAX_RECORDS = 1024 };
     uint16_t boxes, uint16_t grocers, uint16_t offers, uint16_t tallies, const uint32_t *price, size_t price_len,      \
         const uint16_t *offer_owner, size_t offer_owner_len, const uint16_t *grocer_owner, size_t grocer_owner_len,    \
         const uint16_t *tally_grocer, size_t tally_grocer_len, const uint16_t *tally_box, size_t tally_box_len,        \
-        const uint16_t *tally_offer, size_t tally_offer_len, const int32_t *tally_count, size_t tally_count_len
+        const uint16_t *tally_offer, size_t tally_offer_len, const int32_t *tally_count, size_t tally_count_len,       \
+        const uint16_t *tally_bag, size_t tally_bag_len, const uint16_t *tally_revision, size_t tally_revision_len
 
 /* Writes the job file of this cycle into `out`: the answer is the file's length, or the number of the refusal. */
 #define ENTRIES_WRITE                                                                                                  \
@@ -24,14 +25,17 @@ enum { ENTRIES_TABLE = 256, ENTRIES_NUMBERS = 3, ENTRIES_MAX_RECORDS = 1024 };
         size_t offer_code_len, const uint16_t *offer_issuer, size_t offer_issuer_len, const uint16_t *grocer_owner,    \
         size_t grocer_owner_len, const uint16_t *tally_grocer, size_t tally_grocer_len, const uint16_t *tally_box,     \
         size_t tally_box_len, const uint8_t *tally_code, size_t tally_code_len, const int32_t *tally_count,            \
-        size_t tally_count_len, const uint16_t *tally_issuer, size_t tally_issuer_len, uint8_t *out, size_t out_len
+        size_t tally_count_len, const uint16_t *tally_issuer, size_t tally_issuer_len, const uint16_t *tally_bag,      \
+        size_t tally_bag_len, const uint16_t *tally_revision, size_t tally_revision_len, uint8_t *out, size_t out_len
 size_t entries_write(ENTRIES_WRITE);
 
-/* What the grocer wanted is owed, into owed[0]. The fields of the records are lent apart, one word of each for every
-   word of tally_grocer; 20 also for more than 1,024 records, a field that is shorter, or no word for the amount. */
+/* What the grocer wanted is owed, into owed[0], by the records that stand within their list. The fields of the records
+   are lent apart, one word of each for every word of tally_grocer; 20 also for more than 1,024 records, a field that is
+   shorter, or no word for the amount. */
 #define ENTRIES_RECONCILE                                                                                              \
     const uint16_t *tally_grocer, size_t tally_grocer_len, const uint16_t *tally_box, size_t tally_box_len,            \
         const uint16_t *tally_offer, size_t tally_offer_len, const int32_t *tally_count, size_t tally_count_len,       \
+        const uint16_t *tally_bag, size_t tally_bag_len, const uint16_t *tally_revision, size_t tally_revision_len,    \
         const uint32_t *price, size_t price_len, uint16_t grocers, uint16_t offers, uint16_t wanted, int64_t *owed,    \
         size_t owed_len
 uint16_t entries_reconcile(ENTRIES_RECONCILE);

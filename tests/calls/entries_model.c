@@ -16,6 +16,7 @@ static bool writer_is_short(struct sizes sizes, const struct table tables[])
         if (is_short(tables[writer_words[i]], sizes)) return true;
     return is_short(tables[OFFER_CODE], sizes) || is_short(tables[TALLY_CODE], sizes) ||
            is_short(tables[OFFER_ISSUER], sizes) || is_short(tables[TALLY_ISSUER], sizes) ||
+           is_short(tables[TALLY_BAG], sizes) || is_short(tables[TALLY_REVISION], sizes) ||
            tables[OUT].length < BLOCK * blocks_of(sizes);
 }
 
@@ -43,7 +44,9 @@ static void read_file_words(struct job *job, struct sizes sizes, const struct ta
         job->tally[t] = (struct tally){.grocer = (uint16_t)word_at(tables[TALLY_GROCER], t),
                                        .box = (uint16_t)word_at(tables[TALLY_BOX], t),
                                        .count = (int32_t)word_at(tables[TALLY_COUNT], t),
-                                       .name = name_at(tables[TALLY_ISSUER], tables[TALLY_CODE], t)};
+                                       .name = name_at(tables[TALLY_ISSUER], tables[TALLY_CODE], t),
+                                       .bag = (uint16_t)word_at(tables[TALLY_BAG], t),
+                                       .revision = (uint16_t)word_at(tables[TALLY_REVISION], t)};
 }
 
 /* Where sizes and words are in their ranges, the writer refuses just what the reader would refuse of its file. */
@@ -138,7 +141,7 @@ void make_book(const struct job *job, uint16_t box, struct book *book)
         book->start[i] = (uint16_t)book->tallies;
         for (size_t t = 0; t < job->sizes.tallies; t++) {
             const struct tally *tally = &job->tally[t];
-            if (tally->box != box || tally->place != book->offer[i]) continue;
+            if (tally->place != book->offer[i] || !holds(job, box, t)) continue;
             book->packed_grocer[book->tallies] = place_in(book->grocer, tally->grocer);
             book->packed_count[book->tallies++] = tally->count;
         }
@@ -186,21 +189,35 @@ void order_lists(const struct book *book, uint16_t packed_grocer[], int32_t pack
 
 /* The desk; its records are as many as the grocers lent. */
 
-static const enum table_name fields[] = {TALLY_GROCER, TALLY_BOX, TALLY_OFFER, TALLY_COUNT};
+static const enum table_name fields[] = {TALLY_GROCER, TALLY_BOX, TALLY_OFFER, TALLY_COUNT, TALLY_BAG, TALLY_REVISION};
+enum { FIELDS = sizeof fields / sizeof fields[0] };
+
+/* The whole list as tallies, records of other grocers among them: their number. */
+static size_t read_records(struct tally record[], const struct table tables[])
+{
+    size_t records = tables[TALLY_GROCER].length;
+    for (size_t i = 0; i < records; i++)
+        record[i] = (struct tally){.grocer = (uint16_t)word_at(tables[TALLY_GROCER], i),
+                                   .place = (uint16_t)word_at(tables[TALLY_OFFER], i),
+                                   .bag = (uint16_t)word_at(tables[TALLY_BAG], i),
+                                   .revision = (uint16_t)word_at(tables[TALLY_REVISION], i)};
+    return records;
+}
 
 uint16_t desk_refusal(struct sizes sizes, uint16_t wanted, const struct table tables[ALL_TABLES])
 {
+    static struct tally record[ENTRIES_MAX_RECORDS];
     size_t records = tables[TALLY_GROCER].length;
     if (records > ENTRIES_MAX_RECORDS || tables[OWED].length < 1) return 20;
-    for (unsigned i = 0; i < 4; i++)
+    for (unsigned i = 0; i < FIELDS; i++)
         if (tables[fields[i]].length < records) return 20;
     if (is_short(tables[PRICE], sizes)) return 20;
     sizes.boxes = MOST_BOXES;
     sizes.tallies = (uint16_t)records;
     if (!sizes_in_range(sizes) || wanted >= sizes.grocers || !words_in_range(tables[PRICE], sizes)) return 21;
-    for (unsigned i = 0; i < 4; i++)
+    for (unsigned i = 0; i < FIELDS; i++)
         if (!words_in_range(tables[fields[i]], sizes)) return 21;
-    return 0;
+    return counted_twice(record, read_records(record, tables)) ? 9 : 0;
 }
 
 static int64_t price_of(const struct table tables[], size_t record)
@@ -210,17 +227,32 @@ static int64_t price_of(const struct table tables[], size_t record)
 
 int64_t serial_amount(uint16_t wanted, const struct table tables[ALL_TABLES])
 {
+    static struct tally record[ENTRIES_MAX_RECORDS];
+    size_t records = read_records(record, tables);
     int64_t sum = 0;
-    for (size_t i = 0; i < tables[TALLY_GROCER].length; i++)
-        if (word_at(tables[TALLY_GROCER], i) == wanted) sum += word_at(tables[TALLY_COUNT], i) * price_of(tables, i);
+    for (size_t i = 0; i < records; i++)
+        if (record[i].grocer == wanted && stands(record, records, i))
+            sum += word_at(tables[TALLY_COUNT], i) * price_of(tables, i);
     return sum;
+}
+
+/* Whether another record counts the same bag with a higher revision. */
+static bool is_counted_again(const struct table tables[], size_t record)
+{
+    static const enum table_name same[] = {TALLY_GROCER, TALLY_OFFER, TALLY_BAG};
+    for (size_t i = 0; i < tables[TALLY_GROCER].length; i++) {
+        bool again = word_at(tables[TALLY_BAG], i) != 0;
+        for (unsigned j = 0; j < 3; j++) again &= word_at(tables[same[j]], i) == word_at(tables[same[j]], record);
+        if (again && word_at(tables[TALLY_REVISION], i) > word_at(tables[TALLY_REVISION], record)) return true;
+    }
+    return false;
 }
 
 int64_t amount_by_adding(uint16_t wanted, const struct table tables[ALL_TABLES])
 {
     int64_t credits = 0, corrections = 0;
     for (size_t i = tables[TALLY_GROCER].length; i-- > 0;) {
-        if (word_at(tables[TALLY_GROCER], i) != wanted) continue;
+        if (word_at(tables[TALLY_GROCER], i) != wanted || is_counted_again(tables, i)) continue;
         int64_t count = word_at(tables[TALLY_COUNT], i);
         for (int64_t n = llabs(count); n > 0; n--) *(count < 0 ? &corrections : &credits) += price_of(tables, i);
     }

@@ -12,7 +12,7 @@ uint16_t model_write(struct sizes sizes, uint16_t cycle, const struct table tabl
 uint16_t price_words(const struct job *job, size_t sender, size_t receiver);
 uint16_t total_words(const struct job *job, size_t sender, size_t receiver);
 
-/* 20 or 21 on the lent tables, else 0. */
+/* 20, 21 or 9 on the lent tables, else 0. */
 uint16_t messages_refusal(struct sizes sizes, const struct table tables[ALL_TABLES]);
 void write_messages(const struct job *job, const struct table tables[ALL_TABLES]);
 

@@ -99,7 +99,7 @@ static void short_buffers(void)
 static void words_out_of_range(void)
 {
     for (unsigned name = 0; name < JOB_TABLES; name++)
-        for (enum fault fault = ABOVE; fault < (is_signed(name) ? FAULTS : BELOW); fault++) {
+        for (enum fault fault = ABOVE; has_range(name) && fault < (is_signed(name) ? FAULTS : BELOW); fault++) {
             open_sample(SPARE);
             make_fault(&calling, name, fault);
             expect_messages(calling.job.sizes, 21);
@@ -154,6 +154,64 @@ static void expect_ones(const struct job *job)
     }
 }
 
+/* Cases of bags, their tallies in some order: the words between boxes are those of standing tallies. */
+static void bags(void)
+{
+    for (const struct bagged *c = bagged; c->what; c++)
+        for (unsigned order = 0; order < 6; order++) {
+            int64_t messages = 0;
+            at_case("%s", c->what);
+            bagged_job(&calling.job, c);
+            if (order > 0) shuffle_tallies(&calling.job);
+            open_calling(&calling, SPARE);
+            expect_messages(calling.job.sizes, c->standing ? 0 : 9);
+            for (size_t i = 0; i < MOST_BOXES * MOST_BOXES; i++)
+                messages += (word_of(&calling, PRICE_WORDS, i) > 0) + (word_of(&calling, TOTAL_WORDS, i) > 0);
+            if (c->standing) {
+                expect_words_of_job(c->words);
+                expect(messages == c->messages, "%lld messages are there", (long long)messages);
+            }
+            close_calling(&calling);
+        }
+}
+
+/* 1,000 tallies in bags, in one order and in another. */
+static void largest_in_bags(void)
+{
+    for (unsigned long i = 0; i < 2 + job_count / 1000; i++) {
+        int64_t words = 0;
+        spread_job(&calling.job);
+        give_bags(&calling.job);
+        for (unsigned order = 0; order < 2; order++) {
+            at_case("largest job %lu in bags, order %u", i, order);
+            open_calling(&calling, SPARE);
+            expect_messages(LARGEST, 0);
+            expect_ones(&calling.job);
+            if (order > 0) expect_words_of_job(words);
+            words = word_of(&calling, JOB_WORDS, 0);
+            close_calling(&calling);
+            shuffle_tallies(&calling.job);
+        }
+    }
+}
+
+/* E with a bag and revision twice: behind 20 and 21. */
+static void counted_twice_in_order(void)
+{
+    for (unsigned name = 0; name < JOB_TABLES; name++) {
+        open_sample(SPARE);
+        put_both(&calling.lending, TALLY_BAG, 0, 1);
+        put_both(&calling.lending, TALLY_BAG, 3, 1);
+        at_case("9, and %s at fault", table_text(name));
+        expect_messages(calling.job.sizes, 9);
+        if (has_range(name)) make_fault(&calling, name, ABOVE);
+        expect_messages(calling.job.sizes, has_range(name) ? 21 : 9);
+        make_fault(&calling, name, SHORT);
+        expect_messages(calling.job.sizes, 20);
+        close_calling(&calling);
+    }
+}
+
 static void random_jobs(void)
 {
     for (unsigned long i = 0; i < job_count / 4 + 4; i++) {
@@ -163,6 +221,8 @@ static void random_jobs(void)
         expect_messages(calling.job.sizes, 0);
         expect_ones(&calling.job);
         struct sizes sizes = calling.job.sizes;
+        near_bags(&calling);
+        ask_messages(&calling, sizes);
         sizes.boxes = wild_number(sizes.boxes);
         if (one_in(2)) sizes.grocers = wild_number(sizes.grocers);
         ask_messages(&calling, sizes);
@@ -178,5 +238,8 @@ void check_messages(void)
     run_group("tables of messages: each table of the job with a word beyond its range", words_out_of_range);
     run_group("tables of messages: K, M, N and T at and beyond their values", sizes_out_of_range);
     run_group("tables of messages: the largest job", largest_job);
+    run_group("tables of messages: bags", bags);
+    run_group("tables of messages: the largest job in bags", largest_in_bags);
+    run_group("tables of messages: a bag and revision twice comes after these", counted_twice_in_order);
     run_group("tables of messages: random jobs beside plain counts", random_jobs);
 }

@@ -14,7 +14,9 @@
     [TALLY_GROCER] = {TALLY_GROCER, tally_grocer_len, (void *)tally_grocer},                                           \
     [TALLY_BOX] = {TALLY_BOX, tally_box_len, (void *)tally_box},                                                       \
     [TALLY_OFFER] = {TALLY_OFFER, tally_offer_len, (void *)tally_offer},                                               \
-    [TALLY_COUNT] = {TALLY_COUNT, tally_count_len, (void *)tally_count}
+    [TALLY_COUNT] = {TALLY_COUNT, tally_count_len, (void *)tally_count},                                               \
+    [TALLY_BAG] = {TALLY_BAG, tally_bag_len, (void *)tally_bag},                                                       \
+    [TALLY_REVISION] = {TALLY_REVISION, tally_revision_len, (void *)tally_revision}
 
 static struct job job;
 

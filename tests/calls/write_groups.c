@@ -87,6 +87,29 @@ static const struct write_case cases[] = {
     {.what = "6 before 7", .due = 6, .changes = {{TALLY_COUNT, 3, 100000}}, .offers = {"00412", "0412"}},
     {.what = "7 before 8", .due = 7, .changes = {{TALLY_COUNT, 3, 4}}, .offers = {"00412", "0412"}},
     {.what = "bad count with unknown code", .due = 6, .changes = {{TALLY_COUNT, 0, 100000}}, .tally = "413"},
+    {.what = "bag 1 of 412 and 0412", .due = 9, .changes = {{TALLY_BAG, 0, 1}, {TALLY_BAG, 3, 1}}},
+    {.what = "bag 65535 of 412 and 0412", .due = 9, .changes = {{TALLY_BAG, 0, 65535}, {TALLY_BAG, 3, 65535}}},
+    {.what = "bag 1, revisions 0 and 1",
+     .due = WHOLE,
+     .changes = {{TALLY_BAG, 0, 1}, {TALLY_BAG, 3, 1}, {TALLY_REVISION, 3, 1}}},
+    {.what = "bag 1, revisions 256 and 0",
+     .due = WHOLE,
+     .changes = {{TALLY_BAG, 0, 1}, {TALLY_BAG, 3, 1}, {TALLY_REVISION, 0, 256}}},
+    {.what = "bags 1 and 257", .due = WHOLE, .changes = {{TALLY_BAG, 0, 1}, {TALLY_BAG, 3, 257}}},
+    {.what = "bag 1 of two offers", .due = WHOLE, .changes = {{TALLY_BAG, 0, 1}, {TALLY_BAG, 2, 1}}},
+    {.what = "bag 1 of two grocers", .due = WHOLE, .changes = {{TALLY_BAG, 1, 1}, {TALLY_BAG, 2, 1}}},
+    {.what = "6 before 9", .due = 6, .changes = {{TALLY_BAG, 0, 1}, {TALLY_BAG, 3, 1}, {TALLY_COUNT, 1, 100000}}},
+    {.what = "7 before 9", .due = 7, .changes = {{TALLY_BAG, 0, 1}, {TALLY_BAG, 3, 1}}, .offers = {"00412", "0412"}},
+    {.what = "8 before 9", .due = 8, .changes = {{TALLY_BAG, 0, 1}, {TALLY_BAG, 3, 1}, {TALLY_ISSUER, 1, 1}}},
+    {.what = "8 before 9, of the tally in the bag",
+     .due = 8,
+     .changes = {{TALLY_BAG, 0, 1}, {TALLY_BAG, 3, 1}},
+     .tally = "413"},
+    {.what = "4 before 9", .due = 4, .sizes = {17, 2, 2, 4}, .changes = {{TALLY_BAG, 0, 1}, {TALLY_BAG, 3, 1}}},
+    {.what = "a bag and revision twice, one of them behind T",
+     .due = WHOLE,
+     .sizes = {2, 2, 2, 3},
+     .changes = {{TALLY_BAG, 0, 1}, {TALLY_BAG, 3, 1}}},
 };
 
 /* A code of up to 11 digits: their number, the first ten of them, and 0 behind. */
@@ -123,9 +146,9 @@ static void other_words(void)
 
 /* Short buffers */
 
-static const enum table_name lent_words[] = {PRICE,        OFFER_OWNER,  OFFER_CODE, OFFER_ISSUER,
-                                             GROCER_OWNER, TALLY_GROCER, TALLY_BOX,  TALLY_CODE,
-                                             TALLY_COUNT,  TALLY_ISSUER, OUT};
+static const enum table_name lent_words[] = {PRICE,        OFFER_OWNER,    OFFER_CODE, OFFER_ISSUER, GROCER_OWNER,
+                                             TALLY_GROCER, TALLY_BOX,      TALLY_CODE, TALLY_COUNT,  TALLY_ISSUER,
+                                             TALLY_BAG,    TALLY_REVISION, OUT};
 enum { LENT_WORDS = sizeof lent_words / sizeof lent_words[0] };
 
 static void short_buffers(void)
@@ -187,7 +210,9 @@ static void largest_job(struct job *job)
                                        (uint16_t)(t * 3 % 16),
                                        place,
                                        (int32_t)(t * 200) - MOST_COUNT,
-                                       {0, code_with(number, place % 2 ? 10 : 3 + t / 3 % 8)}};
+                                       {0, code_with(number, place % 2 ? 10 : 3 + t / 3 % 8)},
+                                       0,
+                                       0};
     }
 }
 
@@ -237,6 +262,12 @@ static void longest_file(void)
     at_case("the longest file, its names of four issuers");
     for (uint32_t o = 0; o < MOST_OFFERS; o++) calling.job.offer[o].name = issued_name(o);
     for (size_t t = 0; t < MOST_TALLIES; t++) calling.job.tally[t].name = issued_name(calling.job.tally[t].place);
+    open_calling(&calling, SPARE);
+    expect_write(LARGEST, MOST_FILE);
+    read_and_write_again(MOST_FILE);
+    close_calling(&calling);
+    at_case("the longest file, its tallies in bags");
+    give_bags(&calling.job);
     open_calling(&calling, SPARE);
     expect_write(LARGEST, MOST_FILE);
     read_and_write_again(MOST_FILE);
@@ -315,6 +346,30 @@ static void names_of_issuers(void)
     }
 }
 
+/* Two bytes of the file. */
+static int64_t two_bytes(size_t place)
+{
+    return word_of(&calling, OUT, place) + 256 * word_of(&calling, OUT, place + 1);
+}
+
+/* Bag and revision stand in bytes 20 to 23 of each tally, superseded ones too, and come back. */
+static void bags(void)
+{
+    for (const struct bagged *c = bagged; c->what; c++) {
+        at_case("%s", c->what);
+        bagged_job(&calling.job, c);
+        open_calling(&calling, SPARE);
+        expect_write(calling.job.sizes, c->standing ? WHOLE : 9);
+        for (size_t t = 0; c->standing && t < calling.job.sizes.tallies; t++) {
+            size_t record = 3 * BLOCK + 4 + 24 * t;
+            expect(two_bytes(record + 20) == calling.job.tally[t].bag, "the bag of tally %zu differs", t);
+            expect(two_bytes(record + 22) == calling.job.tally[t].revision, "the revision of tally %zu differs", t);
+        }
+        if (c->standing) read_and_write_again(WHOLE);
+        close_calling(&calling);
+    }
+}
+
 /* Random jobs with some words changed, and other sizes beside them */
 
 static void change_some_word(void)
@@ -325,6 +380,7 @@ static void change_some_word(void)
     struct range range = range_of(name, calling.job.sizes);
     int64_t word = name == OFFER_CODE || name == TALLY_CODE       ? '0' + below(12) - 1
                    : name == OFFER_ISSUER || name == TALLY_ISSUER ? below(3)
+                   : name == TALLY_BAG || name == TALLY_REVISION  ? below(2)
                    : one_in(2)                                    ? range.most + 1
                                                                   : range.most;
     put_both(&calling.lending, name, below((uint32_t)length), one_in(4) ? (int64_t)random_word() : word);
@@ -337,6 +393,7 @@ static void random_jobs(void)
         open_calling(&calling, SPARE);
         struct sizes sizes = calling.job.sizes;
         at_case("random job %lu", i);
+        if (one_in(4)) near_bags(&calling);
         for (uint32_t changes = below(4); changes > 0; changes--) change_some_word();
         if (one_in(8)) sizes.boxes = wild_number(sizes.boxes);
         if (one_in(8)) sizes.tallies = wild_number(sizes.tallies);
@@ -356,5 +413,6 @@ void check_writer(void)
     run_group("writer: any settlement cycle, read and written again", cycles);
     run_group("writer: any issuer, read and written again", any_issuers);
     run_group("writer: names of two issuers, read and written again", names_of_issuers);
+    run_group("writer: bags, read and written again with their superseded tallies", bags);
     run_group("writer: random jobs, words and sizes", random_jobs);
 }

@@ -32,7 +32,8 @@ static void expect_job(const uint32_t *price, size_t price_len, const uint16_t *
                        const uint16_t *grocer_owner, size_t grocer_owner_len, const uint16_t *tally_grocer,
                        size_t tally_grocer_len, const uint16_t *tally_box, size_t tally_box_len,
                        const uint16_t *tally_offer, size_t tally_offer_len, const int32_t *tally_count,
-                       size_t tally_count_len)
+                       size_t tally_count_len, const uint16_t *tally_bag, size_t tally_bag_len,
+                       const uint16_t *tally_revision, size_t tally_revision_len)
 {
     IS_LENT(job, price, 500);
     IS_LENT(job, offer_owner, 500);
@@ -41,6 +42,8 @@ static void expect_job(const uint32_t *price, size_t price_len, const uint16_t *
     IS_LENT(job, tally_box, 1000);
     IS_LENT(job, tally_offer, 1000);
     IS_LENT(job, tally_count, 1000);
+    IS_LENT(job, tally_bag, 1000);
+    IS_LENT(job, tally_revision, 1000);
 }
 
 static void expect_state(uint32_t *known, size_t known_len, uint32_t *price_transit, size_t price_transit_len,
@@ -69,12 +72,15 @@ uint16_t settlement_read(
     uint8_t *tally_code, size_t tally_code_len,
     int32_t *tally_count, size_t tally_count_len,
     uint16_t *tally_issuer, size_t tally_issuer_len,
+    uint16_t *tally_bag, size_t tally_bag_len,
+    uint16_t *tally_revision, size_t tally_revision_len,
     uint16_t *tally_offer, size_t tally_offer_len,
     uint16_t *sizes, size_t sizes_len)
 {
     EXPECT(file_ == file && file_len == 5);
     expect_job(price, price_len, offer_owner, offer_owner_len, grocer_owner, grocer_owner_len, tally_grocer,
-               tally_grocer_len, tally_box, tally_box_len, tally_offer, tally_offer_len, tally_count, tally_count_len);
+               tally_grocer_len, tally_box, tally_box_len, tally_offer, tally_offer_len, tally_count, tally_count_len,
+               tally_bag, tally_bag_len, tally_revision, tally_revision_len);
     IS_LENT(job, offer_code, 11 * 500);
     IS_LENT(job, offer_issuer, 500);
     IS_LENT(job, tally_code, 11 * 1000);
@@ -95,6 +101,8 @@ uint16_t settlement_step(
     const uint16_t *tally_box, size_t tally_box_len,
     const uint16_t *tally_offer, size_t tally_offer_len,
     const int32_t *tally_count, size_t tally_count_len,
+    const uint16_t *tally_bag, size_t tally_bag_len,
+    const uint16_t *tally_revision, size_t tally_revision_len,
     uint32_t *known, size_t known_len,
     uint32_t *price_transit, size_t price_transit_len,
     int64_t *working, size_t working_len,
@@ -106,7 +114,8 @@ uint16_t settlement_step(
 {
     EXPECT(boxes == 11 && grocers == 12 && offers == 13 && tallies == 14);
     expect_job(price, price_len, offer_owner, offer_owner_len, grocer_owner, grocer_owner_len, tally_grocer,
-               tally_grocer_len, tally_box, tally_box_len, tally_offer, tally_offer_len, tally_count, tally_count_len);
+               tally_grocer_len, tally_box, tally_box_len, tally_offer, tally_offer_len, tally_count, tally_count_len,
+               tally_bag, tally_bag_len, tally_revision, tally_revision_len);
     expect_state(known, known_len, price_transit, price_transit_len, working, working_len, total_transit,
                  total_transit_len, statement, statement_len, done, done_len, sent, sent_len);
     EXPECT(kind == 3 && first == 1 && second == 2);
@@ -122,6 +131,8 @@ uint16_t settlement_run(
     const uint16_t *tally_box, size_t tally_box_len,
     const uint16_t *tally_offer, size_t tally_offer_len,
     const int32_t *tally_count, size_t tally_count_len,
+    const uint16_t *tally_bag, size_t tally_bag_len,
+    const uint16_t *tally_revision, size_t tally_revision_len,
     uint32_t *known, size_t known_len,
     uint32_t *price_transit, size_t price_transit_len,
     int64_t *working, size_t working_len,
@@ -134,7 +145,8 @@ uint16_t settlement_run(
 {
     EXPECT(boxes == 11 && grocers == 12 && offers == 13 && tallies == 14);
     expect_job(price, price_len, offer_owner, offer_owner_len, grocer_owner, grocer_owner_len, tally_grocer,
-               tally_grocer_len, tally_box, tally_box_len, tally_offer, tally_offer_len, tally_count, tally_count_len);
+               tally_grocer_len, tally_box, tally_box_len, tally_offer, tally_offer_len, tally_count, tally_count_len,
+               tally_bag, tally_bag_len, tally_revision, tally_revision_len);
     expect_state(known, known_len, price_transit, price_transit_len, working, working_len, total_transit,
                  total_transit_len, statement, statement_len, done, done_len, sent, sent_len);
     EXPECT(choices_ == choices && choices_len == 7 && report_ == report && report_len == 3);

@@ -11,5 +11,6 @@ void check_step_tables(void);
 void check_lists(void);
 void check_run(void);
 void check_cases(void);
+void check_bags(void);
 
 #endif

@@ -14,7 +14,7 @@ static const struct {
     [HEADER] = {10, 10, 1},
     [OFFER_BLOCKS] = {24, 18, 21},
     [GROCER_BLOCKS] = {1, 1, 255},
-    [TALLY_BLOCKS] = {24, 20, 21},
+    [TALLY_BLOCKS] = {24, 24, 21},
 };
 
 /* What a block of the file has to be: its kind, its number of records, the number of its first one. */
@@ -144,6 +144,8 @@ static bool read_tally(const uint8_t *record, struct job *job, size_t place)
     tally->box = record[2];
     tally->count = (int32_t)get_number(record + 14, 4);
     tally->name.issuer = (uint16_t)get_number(record + 18, 2);
+    tally->bag = (uint16_t)get_number(record + 20, 2);
+    tally->revision = (uint16_t)get_number(record + 22, 2);
     return read_code(record + 3, &tally->name.code) && tally->grocer < job->sizes.grocers &&
            tally->box < job->sizes.boxes && tally->count >= -MOST_COUNT && tally->count <= MOST_COUNT;
 }
@@ -221,12 +223,13 @@ static bool find_place(const struct job *job, struct tally *tally)
     return false;
 }
 
+/* 7, 8 or 9, else 0 and every tally's place. */
 static uint16_t find_places(struct job *job)
 {
     if (share_a_number(job)) return 7;
     for (size_t t = 0; t < job->sizes.tallies; t++)
         if (!find_place(job, &job->tally[t])) return 8;
-    return 0;
+    return counted_twice(job->tally, job->sizes.tallies) ? 9 : 0;
 }
 
 uint16_t read_file(const uint8_t *file, size_t length, struct job *job)
@@ -275,6 +278,8 @@ static void write_tally(uint8_t *record, const struct tally *tally)
     write_code_field(record + 3, &tally->name.code);
     set_number(record + 14, 4, (uint32_t)tally->count);
     set_number(record + 18, 2, tally->name.issuer);
+    set_number(record + 20, 2, tally->bag);
+    set_number(record + 22, 2, tally->revision);
 }
 
 static void write_record(uint8_t *record, const struct job *job, unsigned kind, size_t place)

@@ -159,11 +159,70 @@ static void random_issuers(uint16_t issuer[], uint64_t number[], size_t offers)
     }
 }
 
+/* The same number with one zero more in front, where there is room. */
+static struct code with_zero(struct code code)
+{
+    if (code.digits == FIELD) return code;
+    memmove(code.field + 1, code.field, FIELD - 1);
+    code.field[0] = '0';
+    code.digits++;
+    return code;
+}
+
+/* The tally counts what another one counted, and is named with or without a zero more. */
+static void count_again(struct tally *tally, const struct tally *before)
+{
+    tally->grocer = before->grocer;
+    tally->place = before->place;
+    tally->name = before->name;
+    tally->bag = before->bag;
+    if (one_in(2)) tally->name.code = with_zero(tally->name.code);
+}
+
+/* Whether a tally before this one is of its bag, not 0, and its revision. */
+static bool is_counted(const struct job *job, size_t t)
+{
+    const struct tally *tally = &job->tally[t];
+    for (size_t u = 0; u < t; u++) {
+        const struct tally *before = &job->tally[u];
+        if (before->bag == tally->bag && before->revision == tally->revision && before->grocer == tally->grocer &&
+            before->place == tally->place)
+            return tally->bag != 0;
+    }
+    return false;
+}
+
+void give_bags(struct job *job)
+{
+    const uint16_t few[] = {0, 1, 65535, wild_number(2)};
+    bool any = one_in(3);
+    for (size_t t = 0; t < job->sizes.tallies; t++) {
+        struct tally *tally = &job->tally[t];
+        tally->bag = any ? (uint16_t)random_word() : few[below(4)];
+        if (t > 0 && one_in(2)) count_again(tally, &job->tally[below((uint32_t)t)]);
+        uint32_t revisions = one_in(4) ? 65536 : 4;
+        do {
+            tally->revision = (uint16_t)below(revisions);
+            if (revisions < 65536) revisions *= 2;
+        } while (is_counted(job, t));
+    }
+}
+
+void shuffle_tallies(struct job *job)
+{
+    for (size_t left = job->sizes.tallies; left > 1; left--) {
+        struct tally *one = &job->tally[left - 1], *other = &job->tally[below((uint32_t)left)], kept = *one;
+        *one = *other;
+        *other = kept;
+    }
+}
+
 void random_job(struct job *job, struct sizes sizes)
 {
     uint16_t issuer[MOST_OFFERS];
     uint64_t number[MOST_OFFERS];
     random_old_job(job, sizes);
+    if (one_in(2)) give_bags(job);
     if (one_in(2)) return;
     random_issuers(issuer, number, sizes.offers);
     for (size_t o = 0; o < sizes.offers; o++) job->offer[o].name = (struct name){issuer[o], random_code(number[o])};
@@ -180,10 +239,10 @@ void sample_job(struct job *job)
     job->offer[0] = (struct offer){500, 0, {0, code_of("00412")}};
     job->offer[1] = (struct offer){1250, 1, {0, code_of("77")}};
     job->grocer_owner[0] = 1;
-    job->tally[0] = (struct tally){0, 0, 0, 3, {0, code_of("412")}};
-    job->tally[1] = (struct tally){1, 0, 1, 2, {0, code_of("077")}};
-    job->tally[2] = (struct tally){0, 1, 1, -1, {0, code_of("77")}};
-    job->tally[3] = (struct tally){0, 1, 0, 4, {0, code_of("0412")}};
+    job->tally[0] = (struct tally){0, 0, 0, 3, {0, code_of("412")}, 0, 0};
+    job->tally[1] = (struct tally){1, 0, 1, 2, {0, code_of("077")}, 0, 0};
+    job->tally[2] = (struct tally){0, 1, 1, -1, {0, code_of("77")}, 0, 0};
+    job->tally[3] = (struct tally){0, 1, 0, 4, {0, code_of("0412")}, 0, 0};
 }
 
 void one_tally_job(struct job *job, struct sizes sizes, uint32_t price, struct tally tally)
@@ -208,7 +267,7 @@ void ruled_job(struct job *job, struct sizes sizes, struct rules rules)
     for (size_t t = 0; t < sizes.tallies; t++) {
         uint16_t place = by_rule(rules.tally_offer, t);
         job->tally[t] = (struct tally){
-            by_rule(rules.tally_grocer, t), by_rule(rules.tally_box, t), place, 0, {0, code_of_number(place, 0)}};
+            by_rule(rules.tally_grocer, t), by_rule(rules.tally_box, t), place, 0, {0, code_of_number(place, 0)}, 0, 0};
     }
 }
 
@@ -265,6 +324,160 @@ void named_job(struct job *job, const struct named *named)
         struct name offer = {named->offers[i].issuer, code_of(named->offers[i].digits)};
         struct name tally = {named->tallies[i].issuer, code_of(named->tallies[i].digits)};
         job->offer[i] = (struct offer){i ? 399 : 1250, (uint16_t)(1 - i), offer};
-        job->tally[i] = (struct tally){i, i, named->places[i], i ? -7 : 3, tally};
+        job->tally[i] = (struct tally){i, i, named->places[i], i ? -7 : 3, tally, 0, 0};
+    }
+}
+
+/* Grocer, box, offer, digits, count, bag and revision of each tally. */
+const struct bagged bagged[] = {
+    {"a bag counted once", "1", {5000, 0}, 2, 2, {{0, 1, 0, "412", 5, 7, 3}}},
+    {"a bag counted again by another box, which owns offer and grocer: the first has no message left",
+     "01",
+     {6000, 0},
+     0,
+     0,
+     {{0, 1, 0, "412", 5, 7, 1}, {0, 0, 0, "412", 6, 7, 2}}},
+    {"the same, the first count with the higher revision",
+     "10",
+     {5000, 0},
+     2,
+     2,
+     {{0, 1, 0, "412", 5, 7, 2}, {0, 0, 0, "412", 6, 7, 1}}},
+    {"a bag counted again by the same box",
+     "01",
+     {8000, 0},
+     2,
+     2,
+     {{0, 1, 0, "412", 5, 7, 1}, {0, 1, 0, "412", 8, 7, 2}}},
+    {"the first box keeps its need by another tally",
+     "011",
+     {6000, 9000},
+     3,
+     3,
+     {{0, 1, 0, "412", 5, 7, 1}, {0, 2, 0, "412", 6, 7, 2}, {1, 1, 0, "412", 9, 0, 0}}},
+    {"three revisions",
+     "001",
+     {7000, 0},
+     0,
+     0,
+     {{0, 1, 0, "412", 5, 7, 1}, {0, 2, 0, "412", 6, 7, 2}, {0, 0, 0, "412", 7, 7, 3}}},
+    {"three revisions, the last by box 2",
+     "001",
+     {7000, 0},
+     2,
+     2,
+     {{0, 0, 0, "412", 5, 7, 10}, {0, 1, 0, "412", 6, 7, 20}, {0, 2, 0, "412", 7, 7, 30}}},
+    {"one revision twice", NULL, {0}, 0, 0, {{0, 1, 0, "412", 5, 7, 1}, {0, 2, 0, "412", 6, 7, 1}}},
+    {"one revision twice, the same tally", NULL, {0}, 0, 0, {{0, 1, 0, "412", 5, 7, 1}, {0, 1, 0, "412", 5, 7, 1}}},
+    {"one revision twice under a higher one",
+     NULL,
+     {0},
+     0,
+     0,
+     {{0, 1, 0, "412", 5, 7, 1}, {0, 2, 0, "412", 6, 7, 1}, {0, 0, 0, "412", 7, 7, 2}}},
+    {"one revision twice over a lower one",
+     NULL,
+     {0},
+     0,
+     0,
+     {{0, 1, 0, "412", 5, 7, 2}, {0, 2, 0, "412", 6, 7, 1}, {0, 0, 0, "412", 7, 7, 2}}},
+    {"one revision twice between others",
+     NULL,
+     {0},
+     0,
+     0,
+     {{0, 1, 0, "412", 5, 7, 5}, {0, 2, 0, "412", 6, 7, 9}, {0, 0, 0, "412", 7, 7, 1}, {0, 0, 0, "412", 8, 7, 5}}},
+    {"loose coupons twice", "11", {11000, 0}, 4, 4, {{0, 1, 0, "412", 5, 0, 1}, {0, 2, 0, "412", 6, 0, 1}}},
+    {"loose coupons of two revisions", "11", {11000, 0}, 4, 4, {{0, 1, 0, "412", 5, 0, 1}, {0, 2, 0, "412", 6, 0, 2}}},
+    {"loose coupons beside a bag of their grocer and offer",
+     "101",
+     {12000, 0},
+     2,
+     2,
+     {{0, 1, 0, "412", 5, 0, 9}, {0, 2, 0, "412", 6, 7, 1}, {0, 0, 0, "412", 7, 7, 2}}},
+    {"a recount of count 0", "01", {0, 0}, 2, 2, {{0, 1, 0, "412", 5, 7, 1}, {0, 2, 0, "412", 0, 7, 2}}},
+    {"a recount that is negative", "01", {-3000, 0}, 0, 0, {{0, 0, 0, "412", 5, 7, 1}, {0, 0, 0, "412", -3, 7, 2}}},
+    {"412 and 000412 are one offer", "01", {6000, 0}, 2, 2, {{0, 1, 0, "412", 5, 7, 1}, {0, 1, 0, "000412", 6, 7, 2}}},
+    {"one revision twice, as 412 and 0412", NULL, {0}, 0, 0, {{0, 1, 0, "412", 5, 7, 1}, {0, 1, 0, "0412", 6, 7, 1}}},
+    {"one number of two grocers is two bags",
+     "11",
+     {5000, 6000},
+     2,
+     2,
+     {{0, 1, 0, "412", 5, 7, 1}, {1, 1, 0, "412", 6, 7, 1}}},
+    {"one number of two grocers, two revisions",
+     "11",
+     {5000, 6000},
+     2,
+     2,
+     {{0, 1, 0, "412", 5, 7, 1}, {1, 1, 0, "412", 6, 7, 2}}},
+    {"one number of two offers is two bags",
+     "11",
+     {5600, 0},
+     2,
+     2,
+     {{0, 1, 0, "412", 5, 7, 1}, {0, 1, 1, "77", 6, 7, 1}}},
+    {"one number of two issuers' offers is two bags",
+     "11",
+     {506, 0},
+     2,
+     2,
+     {{0, 1, 1, "77", 5, 7, 1}, {0, 1, 2, "77", 6, 7, 2}}},
+    {"grocer and offer exchanged", "11", {500, 6000}, 2, 2, {{0, 0, 1, "77", 5, 7, 1}, {1, 0, 0, "412", 6, 7, 1}}},
+    {"bag and revision exchanged", "11", {11000, 0}, 0, 0, {{0, 0, 0, "412", 5, 7, 8}, {0, 0, 0, "412", 6, 8, 7}}},
+    {"two bags", "11", {11000, 0}, 0, 0, {{0, 0, 0, "412", 5, 7, 1}, {0, 0, 0, "412", 6, 8, 1}}},
+    {"bags with one low byte", "11", {11000, 0}, 0, 0, {{0, 0, 0, "412", 5, 7, 1}, {0, 0, 0, "412", 6, 263, 1}}},
+    {"bags with one high byte", "11", {11000, 0}, 0, 0, {{0, 0, 0, "412", 5, 512, 1}, {0, 0, 0, "412", 6, 513, 1}}},
+    {"bag 256 is not loose", "01", {6000, 0}, 0, 0, {{0, 0, 0, "412", 5, 256, 1}, {0, 0, 0, "412", 6, 256, 2}}},
+    {"two bags, each counted twice",
+     "0110",
+     {9000, 0},
+     2,
+     2,
+     {{0, 1, 0, "412", 5, 7, 1}, {0, 2, 0, "412", 6, 8, 2}, {0, 0, 0, "412", 3, 7, 2}, {0, 0, 0, "412", 4, 8, 1}}},
+    {"revision 1 over 0", "01", {6000, 0}, 0, 0, {{0, 0, 0, "412", 5, 7, 0}, {0, 0, 0, "412", 6, 7, 1}}},
+    {"revision 256 over 255", "01", {6000, 0}, 0, 0, {{0, 0, 0, "412", 5, 7, 255}, {0, 0, 0, "412", 6, 7, 256}}},
+    {"revision 32,768 over 32,767",
+     "01",
+     {6000, 0},
+     0,
+     0,
+     {{0, 0, 0, "412", 5, 7, 32767}, {0, 0, 0, "412", 6, 7, 32768}}},
+    {"revision 65,535 over 0, bag 65,535",
+     "01",
+     {6000, 0},
+     0,
+     0,
+     {{0, 0, 0, "412", 5, 65535, 0}, {0, 0, 0, "412", 6, 65535, 65535}}},
+    {"revision 0 twice", NULL, {0}, 0, 0, {{0, 1, 0, "412", 5, 7, 0}, {0, 2, 0, "412", 6, 7, 0}}},
+    {"bag and revision 65,535 twice",
+     NULL,
+     {0},
+     0,
+     0,
+     {{0, 1, 1, "77", 5, 65535, 65535}, {0, 2, 1, "77", 6, 65535, 65535}}},
+    {"one revision of grocer 1 twice, grocer 0 loose",
+     NULL,
+     {0},
+     0,
+     0,
+     {{0, 1, 0, "412", 5, 0, 0}, {1, 2, 2, "77", 6, 7, 1}, {1, 0, 2, "077", 6, 7, 1}}},
+    {0},
+};
+
+void bagged_job(struct job *job, const struct bagged *bagged)
+{
+    memset(job, 0, sizeof *job);
+    job->sizes = (struct sizes){3, 2, 3, 0};
+    job->offer[0] = (struct offer){1000, 0, {0, code_of("0412")}};
+    job->offer[1] = (struct offer){100, 1, {0, code_of("77")}};
+    job->offer[2] = (struct offer){1, 2, {9, code_of("077")}};
+    job->grocer_owner[1] = 1;
+    for (size_t t = 0; t < MOST_COUNTS && bagged->counts[t].digits; t++) {
+        uint16_t place = bagged->counts[t].place;
+        struct name name = {job->offer[place].name.issuer, code_of(bagged->counts[t].digits)};
+        job->tally[job->sizes.tallies++] =
+            (struct tally){bagged->counts[t].grocer, bagged->counts[t].box,     place, bagged->counts[t].count, name,
+                           bagged->counts[t].bag,    bagged->counts[t].revision};
     }
 }

@@ -22,9 +22,17 @@ struct sizes random_sizes(struct sizes most);
 struct sizes sizes_with_tallies(struct sizes most);
 extern const struct sizes TINY, SMALL, MEDIUM, LARGEST;
 
-/* An accepted job of these sizes, of cycle 0 or any other: of old offers alone; and half of the time of issuers too. */
+/* An accepted job of these sizes, of cycle 0 or any other: of old offers and loose coupons alone; and half of the time
+   of issuers too, and half of the time with bags. */
 void random_old_job(struct job *job, struct sizes sizes);
 void random_job(struct job *job, struct sizes sizes);
+
+/* Bags for the tallies of an accepted job, which stays accepted: about half of them count again, in any box, what a
+   tally before them counted. */
+void give_bags(struct job *job);
+
+/* The tallies in another order. */
+void shuffle_tallies(struct job *job);
 
 /* E of the specification. */
 void sample_job(struct job *job);
@@ -53,5 +61,23 @@ struct named {
 };
 extern const struct named named[];
 void named_job(struct job *job, const struct named *named);
+
+/* Cases of bags, in three boxes: offers 412 of 1,000 in box 0, 77 of 100 in box 1, and 77 of issuer 9, of 1 in box 2;
+   grocers of boxes 0 and 1. For each tally 1 where it stands, else 0, and what the grocers are owed and the settlement
+   sends; or no such text, where 9 is refused. The last case has no text. */
+enum { MOST_COUNTS = 4 };
+struct bagged {
+    const char *what, *standing;
+    int64_t owed[2];
+    uint32_t words, messages;
+    struct {
+        uint16_t grocer, box, place;
+        const char *digits; /* none: no tally */
+        int32_t count;
+        uint16_t bag, revision;
+    } counts[MOST_COUNTS];
+};
+extern const struct bagged bagged[];
+void bagged_job(struct job *job, const struct bagged *bagged);
 
 #endif

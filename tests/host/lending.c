@@ -122,8 +122,8 @@ uint16_t call_read(struct lending *lending)
         settlement_read(SLICE(const uint8_t, FILE_BYTES), SLICE(uint32_t, PRICE), SLICE(uint16_t, OFFER_OWNER),
                         SLICE(uint8_t, OFFER_CODE), SLICE(uint16_t, OFFER_ISSUER), SLICE(uint16_t, GROCER_OWNER),
                         SLICE(uint16_t, TALLY_GROCER), SLICE(uint16_t, TALLY_BOX), SLICE(uint8_t, TALLY_CODE),
-                        SLICE(int32_t, TALLY_COUNT), SLICE(uint16_t, TALLY_ISSUER), SLICE(uint16_t, TALLY_OFFER),
-                        SLICE(uint16_t, SIZES));
+                        SLICE(int32_t, TALLY_COUNT), SLICE(uint16_t, TALLY_ISSUER), SLICE(uint16_t, TALLY_BAG),
+                        SLICE(uint16_t, TALLY_REVISION), SLICE(uint16_t, TALLY_OFFER), SLICE(uint16_t, SIZES));
     return hand_back(lending, lent, READ, answer);
 }
 

@@ -44,7 +44,8 @@ uint16_t hand_back(struct lending *lending, struct table lent[ALL_TABLES], enum 
 #define SIZES_AND_JOB                                                                                                  \
     sizes.boxes, sizes.grocers, sizes.offers, sizes.tallies, SLICE(const uint32_t, PRICE),                             \
         SLICE(const uint16_t, OFFER_OWNER), SLICE(const uint16_t, GROCER_OWNER), SLICE(const uint16_t, TALLY_GROCER),  \
-        SLICE(const uint16_t, TALLY_BOX), SLICE(const uint16_t, TALLY_OFFER), SLICE(const int32_t, TALLY_COUNT)
+        SLICE(const uint16_t, TALLY_BOX), SLICE(const uint16_t, TALLY_OFFER), SLICE(const int32_t, TALLY_COUNT),       \
+        SLICE(const uint16_t, TALLY_BAG), SLICE(const uint16_t, TALLY_REVISION)
 
 /* The library's three entries; the answer is counted. */
 uint16_t call_read(struct lending *lending);

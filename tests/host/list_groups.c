@@ -16,14 +16,16 @@ static bool is_added(const struct tally *tally)
     return is_marked(RECEIVE_PRICES, tally->box, owner);
 }
 
-/* Statements, working totals and totals in transit are the sum over the tallies already added, grocer by grocer. */
+/* Statements, working totals and totals in transit are the sum over the standing tallies already added, grocer by
+ * grocer. */
 static void running_sum(void)
 {
     const struct job *job = &settlement.job;
     int64_t sum[MOST_GROCERS] = {0};
     for (size_t t = 0; t < job->sizes.tallies; t++) {
         const struct tally *tally = &job->tally[t];
-        if (is_added(tally)) sum[tally->grocer] += (int64_t)tally->count * job->offer[tally->place].price;
+        if (stands(job->tally, job->sizes.tallies, t) && is_added(tally))
+            sum[tally->grocer] += (int64_t)tally->count * job->offer[tally->place].price;
     }
     for (size_t g = 0; g < job->sizes.grocers; g++) {
         int64_t have = lent_word(&settlement, STATEMENT, g);
@@ -88,7 +90,7 @@ static void ask_damaged(struct step step)
 {
     enum table_name name = below(STEP_TABLES);
     uint64_t need = needed(name, settlement.job.sizes);
-    if (need == 0) return;
+    if (need == 0 || !has_range(name)) return;
     size_t place = below((uint32_t)need);
     int64_t kept = word_at(settlement.lending.twin[name], place);
     put_both(&settlement.lending, name, place, range_of(name, settlement.job.sizes).most + 1 + below(9));

@@ -3,7 +3,37 @@
 #include <assert.h>
 #include <string.h>
 
+/* Which tallies stand */
+
+static bool same_bag(const struct tally *a, const struct tally *b)
+{
+    return a->bag == b->bag && a->grocer == b->grocer && a->place == b->place;
+}
+
+bool stands(const struct tally tally[], size_t tallies, size_t t)
+{
+    if (tally[t].bag == 0) return true;
+    for (size_t u = 0; u < tallies; u++)
+        if (same_bag(&tally[t], &tally[u]) && tally[t].revision < tally[u].revision) return false;
+    return true;
+}
+
+bool counted_twice(const struct tally tally[], size_t tallies)
+{
+    for (size_t t = 0; t < tallies; t++) {
+        if (tally[t].bag == 0) continue;
+        for (size_t u = 0; u < t; u++)
+            if (same_bag(&tally[t], &tally[u]) && tally[t].revision == tally[u].revision) return true;
+    }
+    return false;
+}
+
 /* Who holds what */
+
+bool holds(const struct job *job, size_t box, size_t t)
+{
+    return job->tally[t].box == box && stands(job->tally, job->sizes.tallies, t);
+}
 
 static bool in_mask(uint16_t mask, unsigned box) { return (mask >> box) & 1; }
 
@@ -14,6 +44,7 @@ static void note_holders(struct machine *machine)
     memset(machine->sharers, 0, sizeof machine->sharers);
     for (size_t t = 0; t < job->sizes.tallies; t++) {
         const struct tally *tally = &job->tally[t];
+        if (!stands(job->tally, job->sizes.tallies, t)) continue;
         machine->needs[tally->place] |= (uint16_t)(1u << tally->box);
         machine->sharers[tally->grocer] |= (uint16_t)(1u << tally->box);
     }
@@ -155,7 +186,7 @@ static void add_tallies(struct machine *machine, uint16_t box, uint16_t owner)
     const struct job *job = machine->job;
     for (size_t t = 0; t < job->sizes.tallies; t++) {
         const struct tally *tally = &job->tally[t];
-        if (tally->box == box && job->offer[tally->place].owner == owner)
+        if (job->offer[tally->place].owner == owner && holds(job, box, t))
             machine->working[box][tally->grocer] += tally->count * (int64_t)machine->known[box][tally->place];
     }
 }
@@ -330,22 +361,30 @@ static bool all_in_range(struct sizes sizes, const struct table tables[], size_t
     return true;
 }
 
+/* 9 on tables that are long enough and in range. */
+static uint16_t bags_refusal(struct sizes sizes, const struct table tables[])
+{
+    static struct job job;
+    read_job_words(&job, sizes, tables);
+    return counted_twice(job.tally, sizes.tallies) ? 9 : 0;
+}
+
 uint16_t job_tables_refusal(struct sizes sizes, const struct table tables[ALL_TABLES])
 {
     if (any_short(sizes, tables, 0, JOB_TABLES)) return 20;
-    return all_in_range(sizes, tables, JOB_TABLES) ? 0 : 21;
+    return all_in_range(sizes, tables, JOB_TABLES) ? bags_refusal(sizes, tables) : 21;
 }
 
 uint16_t step_tables_refusal(struct sizes sizes, const struct table tables[ALL_TABLES])
 {
     if (any_short(sizes, tables, 0, STEP_TABLES)) return 20;
-    return all_in_range(sizes, tables, STEP_TABLES) ? 0 : 21;
+    return all_in_range(sizes, tables, STEP_TABLES) ? bags_refusal(sizes, tables) : 21;
 }
 
 uint16_t run_tables_refusal(struct sizes sizes, const struct table tables[ALL_TABLES])
 {
     if (any_short(sizes, tables, 0, STEP_TABLES) || is_short(tables[REPORT], sizes)) return 20;
-    return all_in_range(sizes, tables, JOB_TABLES) ? 0 : 21;
+    return all_in_range(sizes, tables, JOB_TABLES) ? bags_refusal(sizes, tables) : 21;
 }
 
 void write_job_words(const struct job *job, const struct table tables[ALL_TABLES])
@@ -360,6 +399,8 @@ void write_job_words(const struct job *job, const struct table tables[ALL_TABLES
         put_word(tables[TALLY_BOX], t, job->tally[t].box);
         put_word(tables[TALLY_OFFER], t, job->tally[t].place);
         put_word(tables[TALLY_COUNT], t, job->tally[t].count);
+        put_word(tables[TALLY_BAG], t, job->tally[t].bag);
+        put_word(tables[TALLY_REVISION], t, job->tally[t].revision);
     }
 }
 
@@ -447,6 +488,8 @@ void read_job_words(struct job *job, struct sizes sizes, const struct table tabl
         job->tally[t].box = (uint16_t)word_at(tables[TALLY_BOX], t);
         job->tally[t].place = (uint16_t)word_at(tables[TALLY_OFFER], t);
         job->tally[t].count = (int32_t)word_at(tables[TALLY_COUNT], t);
+        job->tally[t].bag = (uint16_t)word_at(tables[TALLY_BAG], t);
+        job->tally[t].revision = (uint16_t)word_at(tables[TALLY_REVISION], t);
     }
 }
 
@@ -503,21 +546,22 @@ int64_t plain_sum(const struct job *job, uint16_t grocer)
 {
     int64_t sum = 0;
     for (size_t t = 0; t < job->sizes.tallies; t++)
-        if (job->tally[t].grocer == grocer) sum += (int64_t)job->tally[t].count * job->offer[job->tally[t].place].price;
+        if (job->tally[t].grocer == grocer && stands(job->tally, job->sizes.tallies, t))
+            sum += (int64_t)job->tally[t].count * job->offer[job->tally[t].place].price;
     return sum;
 }
 
 bool holds_offer(const struct job *job, size_t box, size_t offer)
 {
     for (size_t t = 0; t < job->sizes.tallies; t++)
-        if (job->tally[t].box == box && job->tally[t].place == offer) return true;
+        if (job->tally[t].place == offer && holds(job, box, t)) return true;
     return false;
 }
 
 bool holds_grocer(const struct job *job, size_t box, size_t grocer)
 {
     for (size_t t = 0; t < job->sizes.tallies; t++)
-        if (job->tally[t].box == box && job->tally[t].grocer == grocer) return true;
+        if (job->tally[t].grocer == grocer && holds(job, box, t)) return true;
     return false;
 }
 

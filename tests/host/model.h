@@ -29,6 +29,7 @@ struct tally {
     uint16_t grocer, box, place;
     int32_t count;
     struct name name;
+    uint16_t bag, revision;
 };
 
 struct job {
@@ -69,6 +70,12 @@ struct report {
     uint32_t words, messages, steps;
 };
 
+/* The recount rule, for a job and for the desk's records alike. Whether a tally stands: its bag is 0, or no tally of
+   its grocer, offer and bag, whichever box holds it, has a higher revision. And 9: one bag, not 0, and revision twice
+   for a grocer and offer, among all tallies. */
+bool stands(const struct tally tally[], size_t tallies, size_t t);
+bool counted_twice(const struct tally tally[], size_t tallies);
+
 /* A fresh state of the job, which must stay where it is. */
 void start_fresh(struct machine *machine, const struct job *job);
 
@@ -82,7 +89,7 @@ size_t ready_steps(const struct machine *machine, struct step ready[MOST_STEPS])
 struct report run_all(struct machine *machine, const struct job *job, struct table choices,
                       struct step picked[MOST_STEPS]);
 
-/* 20 or 21 on the lent tables, else 0. */
+/* 20, 21 or 9 on the lent tables, else 0. */
 uint16_t job_tables_refusal(struct sizes sizes, const struct table tables[ALL_TABLES]);
 uint16_t step_tables_refusal(struct sizes sizes, const struct table tables[ALL_TABLES]);
 uint16_t run_tables_refusal(struct sizes sizes, const struct table tables[ALL_TABLES]);
@@ -94,10 +101,11 @@ void write_state_words(const struct machine *machine, const struct table tables[
 void read_job_words(struct job *job, struct sizes sizes, const struct table tables[ALL_TABLES]);
 void read_state_words(struct machine *machine, const struct job *job, const struct table tables[ALL_TABLES]);
 
-/* The plain sum of count x price of one grocer. */
+/* The plain sum of count x price of one grocer, over the tallies that stand. */
 int64_t plain_sum(const struct job *job, uint16_t grocer);
 
-/* Whether a box holds a tally of an offer, or of a grocer. */
+/* Whether a box holds a tally that stands, and one of an offer, or of a grocer. */
+bool holds(const struct job *job, size_t box, size_t t);
 bool holds_offer(const struct job *job, size_t box, size_t offer);
 bool holds_grocer(const struct job *job, size_t box, size_t grocer);
 

@@ -42,7 +42,8 @@ static size_t write_sample_job(void)
     return write_file(&job, file);
 }
 
-/* Edits of E's file, each with its refusal, in the order in which the reader looks for them */
+/* Edits of E's file, each with its refusal, in the order in which the reader looks for them. The last tally is in bag
+   1, and the first one is of its grocer and offer. */
 
 struct edit {
     const char *what;
@@ -101,8 +102,6 @@ static const struct edit edits[] = {
     {"kind of the tallies", 3, 3, 0, 1, {0}},
     {"record count of the tallies", 3, 3, 1, 1, {21}},
     {"block number of the tallies", 3, 3, 3, 1, {1}},
-    {"first spare byte of a tally", 5, 3, 24, 1, {1}},
-    {"last spare byte of a tally", 5, 3, 27, 1, {1}},
     {"first byte after the tallies", 5, 3, 100, 1, {1}},
     {"grocer of a tally is 2", 6, 3, 4, 1, {2}},
     {"grocer of a tally is 256", 6, 3, 5, 1, {1}},
@@ -118,6 +117,7 @@ static const struct edit edits[] = {
     {"two offers with number 412", 7, 1, 33, 4, {3, '4', '1', '2'}},
     {"a tally with number 4120", 8, 3, 7, 5, {4, '4', '1', '2', '0'}},
     {"a tally of issuer 1", 8, 3, 22, 1, {1}},
+    {"a tally of the last one's bag and revision", 9, 3, 24, 1, {1}},
 };
 enum { EDITS = sizeof edits / sizeof edits[0] };
 
@@ -159,9 +159,16 @@ static const struct edit others[] = {
     {"a tally of issuer 256", 8, 3, 23, 1, {1}},
     {"a tally of issuer 65,535", 8, 3, 22, 2, {255, 255}},
     {"issuer 65,535 and a spare byte of an offer", 5, 1, 20, 3, {255, 255, 1}},
-    {"issuer 65,535 and a spare byte of a tally", 5, 3, 22, 3, {255, 255, 1}},
+    {"issuer 65,535 and the last one's bag and revision", 8, 3, 22, 3, {255, 255, 1}},
     {"second spare byte of an offer", 5, 1, 23, 1, {1}},
-    {"second spare byte of a tally", 5, 3, 25, 1, {1}},
+    {"bag 256 of a tally", 0, 3, 24, 2, {0, 1}},
+    {"bag 257 of a tally", 0, 3, 24, 2, {1, 1}},
+    {"a higher revision of the last one's bag", 0, 3, 24, 4, {1, 0, 1, 0}},
+    {"revision 256 of the last one's bag", 0, 3, 24, 4, {1, 0, 0, 1}},
+    {"bag and revision 65,535 of a tally", 0, 3, 24, 4, {255, 255, 255, 255}},
+    {"the last one's bag and revision for another grocer", 0, 3, 48, 1, {1}},
+    {"the last one's bag and revision for another offer", 0, 3, 72, 1, {1}},
+    {"bag 65,535 of the last tally, and a byte behind it", 5, 3, 96, 5, {255, 255, 0, 0, 1}},
 };
 enum { OTHERS = sizeof others / sizeof others[0] };
 
@@ -175,7 +182,9 @@ static void apply(const struct edit *edit)
 /* E's file with two edits, the earlier one last; the sums are right except where an edit is about them. */
 static size_t edit_sample_job(const struct edit *earlier, const struct edit *later)
 {
-    size_t length = write_sample_job();
+    sample_job(&job);
+    job.tally[3].bag = 1;
+    size_t length = write_file(&job, file);
     if (!breaks_sums(later)) apply(later);
     if (!breaks_sums(earlier)) apply(earlier);
     for (size_t at = 0; at < length; at += BLOCK) write_sums(file + at);
@@ -331,14 +340,14 @@ static void names_of_issuers(void)
     }
 }
 
-/* One or two bytes of issuers in one block, its sums not made right: always 2. */
-static void change_issuer_bytes(size_t length, uint8_t *(*issuer)(size_t), size_t records)
+/* One or two bytes of a field of so many bytes in one block, its sums not made right: always 2. */
+static void change_field_bytes(size_t length, uint8_t *(*field)(size_t), size_t width, size_t records)
 {
-    for (size_t one = 0; one < 2 * records; one++)
+    for (size_t one = 0; one < width * records; one++)
         for (size_t two = 0; two <= one; two++) {
-            uint8_t *first = issuer(one / 2) + one % 2, *second = issuer(two / 2) + two % 2;
+            uint8_t *first = field(one / width) + one % width, *second = field(two / width) + two % width;
             uint8_t kept[2] = {*first, *second};
-            at_case("bytes %zu and %zu of issuers changed", one, two);
+            at_case("bytes %zu and %zu of a field changed", one, two);
             change_byte(first);
             if (second != first) change_byte(second);
             expect_answer(length, 2);
@@ -352,8 +361,66 @@ static void changed_issuers(void)
     static const uint16_t tried[] = {0, 1, 256, 65535};
     for (size_t i = 0; i < sizeof tried / sizeof tried[0]; i++) {
         size_t length = write_issued_job(tried[i]);
-        change_issuer_bytes(length, offer_issuer, job.sizes.offers);
-        change_issuer_bytes(length, tally_issuer, job.sizes.tallies);
+        change_field_bytes(length, offer_issuer, 2, job.sizes.offers);
+        change_field_bytes(length, tally_issuer, 2, job.sizes.tallies);
+        expect_answer(length, 0);
+    }
+}
+
+/* Bags and revisions */
+
+/* Bytes 20 to 23 of a tally's record, in a file of one block of each kind. */
+static uint8_t *tally_bag(size_t tally) { return file + 3 * BLOCK + 4 + 24 * tally + 20; }
+
+/* E with all its tallies of one bag and revision, but the last one of a revision beside it. */
+static size_t write_bagged_job(uint16_t bag, uint16_t revision)
+{
+    sample_job(&job);
+    for (size_t t = 0; t < job.sizes.tallies; t++) {
+        job.tally[t].bag = bag;
+        job.tally[t].revision = t == 3 ? revision ^ 1 : revision;
+    }
+    return write_file(&job, file);
+}
+
+/* The reader answers bag and revision of each record, and neither is refused, but both twice. */
+static void try_bag(uint16_t bag, uint16_t revision)
+{
+    at_case("bag %u, revision %u", bag, revision);
+    size_t length = write_bagged_job(bag, revision);
+    expect(tally_bag(2)[0] + 256 * tally_bag(2)[1] == bag, "bytes 20 and 21 of a tally differ");
+    expect(tally_bag(2)[2] + 256 * tally_bag(2)[3] == revision, "bytes 22 and 23 of a tally differ");
+    put_both(&lending, TALLY_BAG, 4, 12345);
+    put_both(&lending, TALLY_REVISION, 4, 23456);
+    expect_answer(length, 0);
+    expect_words(TALLY_BAG, bag, 4, 12345);
+    expect_words(TALLY_REVISION, revision, 3, revision ^ 1);
+    at_case("bag %u, revision %u twice", bag, revision);
+    for (size_t place = 0; place < 4; place++) {
+        put_both(&lending, TALLY_BAG, place, 54321);
+        put_both(&lending, TALLY_REVISION, place, 54321);
+    }
+    tally_bag(3)[2] ^= 1;
+    write_sums(file + 3 * BLOCK);
+    expect_answer(length, bag ? 9 : 0);
+    if (!bag) return;
+    expect_words(TALLY_BAG, 54321, 4, 12345);
+    expect_words(TALLY_REVISION, 54321, 4, 23456);
+}
+
+static void any_bags(void)
+{
+    static const uint16_t tried[] = {0, 1, 255, 256, 257, 500, 32767, 32768, 65534, 65535};
+    for (size_t i = 0; i < 10; i++)
+        for (size_t j = 0; j < 10; j++) try_bag(tried[i], tried[j]);
+}
+
+static void changed_bags(void)
+{
+    static const uint16_t tried[] = {0, 1, 256, 65535};
+    for (size_t i = 0; i < 4; i++) {
+        size_t length = write_bagged_job(tried[i], tried[3 - i]);
+        change_field_bytes(length, tally_bag, 4, job.sizes.tallies);
         expect_answer(length, 0);
     }
 }
@@ -466,7 +533,7 @@ static void random_bytes(void)
         for (size_t at = 0; at < 4 * BLOCK; at += BLOCK) write_sums(file + at);
         expect_answer(4 * BLOCK, 3);
         length = write_sample_job();
-        fill_randomly(3 * BLOCK + 4, 3 * BLOCK + 24);
+        fill_randomly(3 * BLOCK + 4, 3 * BLOCK + 28);
         write_sums(file + 3 * BLOCK);
         expect_answer(length, 6);
     }
@@ -670,6 +737,8 @@ void check_reader(void)
     group("reader: any issuer", any_issuers);
     group("reader: names of two issuers", names_of_issuers);
     group("reader: one or two bytes of issuers changed", changed_issuers);
+    group("reader: any bag and revision", any_bags);
+    group("reader: one or two bytes of bags and revisions changed", changed_bags);
     group("reader: each buffer short", short_buffers);
     group("reader: random files", random_files);
     group("reader: one or two bytes of a block changed", changed_bytes);

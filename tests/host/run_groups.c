@@ -128,6 +128,7 @@ static void words_out_of_range(void)
         open_run(0);
         scramble_state();
         for (unsigned name = 0; name < JOB_TABLES; name++) {
+            if (!has_range(name)) continue;
             size_t places[] = {0, needed(name, sizes) - 1, below((uint32_t)needed(name, sizes))};
             for (unsigned i = 0; i < 3; i++) {
                 out_of_range(name, places[i], range_of(name, sizes).most + 1);

@@ -125,9 +125,9 @@ uint16_t ask_run(struct settlement *settlement, struct sizes sizes, struct picks
     return answer;
 }
 
-static const enum table_name reader_tables[] = {PRICE,        OFFER_OWNER,  OFFER_CODE,  OFFER_ISSUER,
-                                                GROCER_OWNER, TALLY_GROCER, TALLY_BOX,   TALLY_CODE,
-                                                TALLY_COUNT,  TALLY_ISSUER, TALLY_OFFER, SIZES};
+static const enum table_name reader_tables[] = {PRICE,        OFFER_OWNER,    OFFER_CODE,  OFFER_ISSUER, GROCER_OWNER,
+                                                TALLY_GROCER, TALLY_BOX,      TALLY_CODE,  TALLY_COUNT,  TALLY_ISSUER,
+                                                TALLY_BAG,    TALLY_REVISION, TALLY_OFFER, SIZES};
 enum { READER_TABLES = sizeof reader_tables / sizeof reader_tables[0] };
 
 void open_reading(struct lending *lending, uint32_t spare, size_t length)

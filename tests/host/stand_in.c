@@ -9,17 +9,18 @@
     uint16_t k, uint16_t m, uint16_t n, uint16_t t, const uint32_t *price, size_t l0, const uint16_t *offer_owner,     \
         size_t l1, const uint16_t *grocer_owner, size_t l2, const uint16_t *tally_grocer, size_t l3,                   \
         const uint16_t *tally_box, size_t l4, const uint16_t *tally_offer, size_t l5, const int32_t *tally_count,      \
-        size_t l6, uint32_t *known, size_t l7, uint32_t *price_transit, size_t l8, int64_t *working, size_t l9,        \
-        int64_t *total_transit, size_t l10, int64_t *statement, size_t l11, uint16_t *done, size_t l12,                \
-        uint32_t *sent, size_t l13
+        size_t l6, const uint16_t *tally_bag, size_t l7, const uint16_t *tally_revision, size_t l8, uint32_t *known,   \
+        size_t l9, uint32_t *price_transit, size_t l10, int64_t *working, size_t l11, int64_t *total_transit,          \
+        size_t l12, int64_t *statement, size_t l13, uint16_t *done, size_t l14, uint32_t *sent, size_t l15
 
 #define GATHERED                                                                                                       \
     {                                                                                                                  \
         {PRICE, l0, (void *)price}, {OFFER_OWNER, l1, (void *)offer_owner}, {GROCER_OWNER, l2, (void *)grocer_owner},  \
             {TALLY_GROCER, l3, (void *)tally_grocer}, {TALLY_BOX, l4, (void *)tally_box},                              \
-            {TALLY_OFFER, l5, (void *)tally_offer}, {TALLY_COUNT, l6, (void *)tally_count}, {KNOWN, l7, known},        \
-            {PRICE_TRANSIT, l8, price_transit}, {WORKING, l9, working}, {TOTAL_TRANSIT, l10, total_transit},           \
-            {STATEMENT, l11, statement}, {DONE, l12, done}, {SENT, l13, sent},                                         \
+            {TALLY_OFFER, l5, (void *)tally_offer}, {TALLY_COUNT, l6, (void *)tally_count},                            \
+            {TALLY_BAG, l7, (void *)tally_bag}, {TALLY_REVISION, l8, (void *)tally_revision}, {KNOWN, l9, known},      \
+            {PRICE_TRANSIT, l10, price_transit}, {WORKING, l11, working}, {TOTAL_TRANSIT, l12, total_transit},         \
+            {STATEMENT, l13, statement}, {DONE, l14, done}, {SENT, l15, sent},                                         \
     }
 
 static struct job job;
@@ -41,7 +42,8 @@ ENTRY settlement_read(const uint8_t *file, size_t l0, uint32_t *price, size_t l1
                       uint8_t *offer_code, size_t l3, uint16_t *offer_issuer, size_t l4, uint16_t *grocer_owner,
                       size_t l5, uint16_t *tally_grocer, size_t l6, uint16_t *tally_box, size_t l7, uint8_t *tally_code,
                       size_t l8, int32_t *tally_count, size_t l9, uint16_t *tally_issuer, size_t l10,
-                      uint16_t *tally_offer, size_t l11, uint16_t *sizes, size_t l12)
+                      uint16_t *tally_bag, size_t l11, uint16_t *tally_revision, size_t l12, uint16_t *tally_offer,
+                      size_t l13, uint16_t *sizes, size_t l14)
 {
     const struct table tables[ALL_TABLES] = {
         [FILE_BYTES] = {FILE_BYTES, l0, (void *)file},
@@ -55,8 +57,10 @@ ENTRY settlement_read(const uint8_t *file, size_t l0, uint32_t *price, size_t l1
         [TALLY_CODE] = {TALLY_CODE, l8, tally_code},
         [TALLY_COUNT] = {TALLY_COUNT, l9, tally_count},
         [TALLY_ISSUER] = {TALLY_ISSUER, l10, tally_issuer},
-        [TALLY_OFFER] = {TALLY_OFFER, l11, tally_offer},
-        [SIZES] = {SIZES, l12, sizes},
+        [TALLY_BAG] = {TALLY_BAG, l11, tally_bag},
+        [TALLY_REVISION] = {TALLY_REVISION, l12, tally_revision},
+        [TALLY_OFFER] = {TALLY_OFFER, l13, tally_offer},
+        [SIZES] = {SIZES, l14, sizes},
     };
     return read_into(tables);
 }
@@ -75,16 +79,16 @@ ENTRY settlement_step(SIZES_AND_TABLES, uint16_t kind, uint16_t first, uint16_t 
     return 0;
 }
 
-ENTRY settlement_run(SIZES_AND_TABLES, const uint16_t *choices, size_t l14, uint32_t *report, size_t l15)
+ENTRY settlement_run(SIZES_AND_TABLES, const uint16_t *choices, size_t l16, uint32_t *report, size_t l17)
 {
     struct table tables[ALL_TABLES] = GATHERED;
     const struct sizes sizes = {k, m, n, t};
     struct step picked[MOST_STEPS];
-    tables[REPORT] = (struct table){REPORT, l15, report};
+    tables[REPORT] = (struct table){REPORT, l17, report};
     uint16_t refusal = run_tables_refusal(sizes, tables);
     if (refusal) return refusal;
     read_job_words(&job, sizes, tables);
-    struct report made = run_all(&machine, &job, (struct table){CHOICES, l14, (void *)choices}, picked);
+    struct report made = run_all(&machine, &job, (struct table){CHOICES, l16, (void *)choices}, picked);
     write_state_words(&machine, tables);
     report[0] = made.words;
     report[1] = made.messages;

@@ -143,10 +143,36 @@ static void plights_with_earlier_faults(void)
             open_plight(&plights[i], ", and an earlier fault");
             lending->lend[name] = need - 1;
             expect_step(&settlement, plights[i].step, 20);
-            put_both(lending, name, below((uint32_t)need), range_of(name, settlement.job.sizes).most + 1);
+            if (has_range(name)) {
+                put_both(lending, name, below((uint32_t)need), range_of(name, settlement.job.sizes).most + 1);
+                expect_step(&settlement, plights[i].step, 20);
+                lend_whole(lending);
+                expect_step(&settlement, plights[i].step, 21);
+            }
+            close_settlement(&settlement);
+        }
+}
+
+/* Each plight with a bag and revision twice: 9 comes before 22 to 26 and the late 21, behind 20 and 21. */
+static void plights_counted_twice(void)
+{
+    for (size_t i = 0; i < PLIGHTS; i++)
+        for (unsigned name = 0; name < STEP_TABLES; name++) {
+            struct lending *lending = &settlement.lending;
+            size_t need = needed(name, (struct sizes){2, 2, 2, 4});
+            open_plight(&plights[i], ", and a bag and revision twice");
+            for (size_t t = 0; t < 4; t += 3) {
+                put_both(lending, TALLY_BAG, t, 500);
+                put_both(lending, TALLY_REVISION, t, 8);
+            }
+            expect_step(&settlement, plights[i].step, 9);
+            lending->lend[name] = need - 1;
             expect_step(&settlement, plights[i].step, 20);
             lend_whole(lending);
-            expect_step(&settlement, plights[i].step, 21);
+            if (has_range(name)) {
+                put_both(lending, name, below((uint32_t)need), range_of(name, settlement.job.sizes).most + 1);
+                expect_step(&settlement, plights[i].step, 21);
+            }
             close_settlement(&settlement);
         }
 }
@@ -269,6 +295,7 @@ void check_step(void)
 {
     run_group("step: each refusal on E, and each kind permitted", each_plight);
     run_group("step: a short buffer or a word out of range comes first", plights_with_earlier_faults);
+    run_group("step: a bag and revision twice comes after these and before all else", plights_counted_twice);
     run_group("step: results at and beyond their range", late_refusals);
     run_group("step: only finished words are held to the range", sums_on_the_way);
     run_group("step: words outside its message do not matter", words_outside_messages);

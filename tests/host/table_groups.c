@@ -66,6 +66,7 @@ static void edges_of_word(enum table_name name, size_t place)
     struct range range = range_of(name, settlement.job.sizes), width = width_range(name);
     with_word(name, place, range.most, true);
     with_word(name, place, range.least, true);
+    if (!has_range(name)) return;
     with_word(name, place, range.most + 1, false);
     with_word(name, place, width.most, false);
     if (!is_signed(name)) return;

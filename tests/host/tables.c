@@ -14,6 +14,8 @@ static const struct {
     [TALLY_BOX] = {"tally_box", 2, false},
     [TALLY_OFFER] = {"tally_offer", 2, false},
     [TALLY_COUNT] = {"tally_count", 4, true},
+    [TALLY_BAG] = {"tally_bag", 2, false},
+    [TALLY_REVISION] = {"tally_revision", 2, false},
     [KNOWN] = {"known", 4, false},
     [PRICE_TRANSIT] = {"price_transit", 4, false},
     [WORKING] = {"working", 8, true},
@@ -63,6 +65,8 @@ uint64_t needed(enum table_name name, struct sizes sizes)
     case PACKED_GROCERS:
     case PACKED_COUNTS:
     case TALLY_ISSUER:
+    case TALLY_BAG:
+    case TALLY_REVISION:
     case TALLY_COUNT: return t;
     case STARTS: return n + 1;
     case KNOWN:
@@ -111,6 +115,12 @@ struct range range_of(enum table_name name, struct sizes sizes)
     case SENT: return (struct range){0, MOST_SENT};
     default: return width_range(name);
     }
+}
+
+bool has_range(enum table_name name)
+{
+    struct sizes least = {1, 1, 1, 0};
+    return range_of(name, least).most < width_range(name).most;
 }
 
 bool sizes_in_range(struct sizes sizes)

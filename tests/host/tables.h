@@ -23,6 +23,8 @@ enum table_name {
     TALLY_BOX,
     TALLY_OFFER,
     TALLY_COUNT,
+    TALLY_BAG,
+    TALLY_REVISION,
     JOB_TABLES, /* those before are the job's, those from here to STEP_TABLES the state's */
     KNOWN = JOB_TABLES,
     PRICE_TRANSIT,
@@ -76,8 +78,9 @@ uint64_t needed(enum table_name name, struct sizes sizes);
 /* All that a word of the table's width holds. */
 struct range width_range(enum table_name name);
 
-/* The range of a table's words; for a table that has none, that of its width. */
+/* The range of a table's words; for a table that has none, that of its width: no word of such a table meets 21. */
 struct range range_of(enum table_name name, struct sizes sizes);
+bool has_range(enum table_name name);
 
 bool sizes_in_range(struct sizes sizes);
 int64_t word_at(struct table table, size_t place);

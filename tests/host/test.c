@@ -9,6 +9,7 @@ static void all_groups(void)
     check_lists();
     check_run();
     check_cases();
+    check_bags();
 }
 
 int main(int argc, char **argv) { return run_tests(argc, argv, all_groups); }

@@ -63,7 +63,7 @@ static size_t every_pair(void)
     }
     for (uint16_t t = 0; t < sizes.tallies; t++) {
         uint16_t box = t / boxes, offer = t % boxes;
-        job.tally[t] = (struct tally){offer, box, offer, t - 100, {0, code_of_number(offer, 3)}};
+        job.tally[t] = (struct tally){offer, box, offer, t - 100, {0, code_of_number(offer, 3)}, 0, 0};
     }
     return write_file(&job, file);
 }
@@ -109,12 +109,73 @@ static size_t issuers(void)
     job.offer[1] = (struct offer){399, 1, {2, code_of("5521")}};
     job.offer[2] = (struct offer){80, 1, {0, code_of("05521")}};
     job.grocer_owner[0] = 1;
-    job.tally[0] = (struct tally){0, 0, 0, 3, {1, code_of("5521")}};
-    job.tally[1] = (struct tally){0, 1, 1, 2, {2, code_of("0005521")}};
-    job.tally[2] = (struct tally){0, 1, 2, -1, {0, code_of("5521")}};
-    job.tally[3] = (struct tally){1, 0, 1, 4, {2, code_of("5521")}};
-    job.tally[4] = (struct tally){1, 0, 2, 5, {0, code_of("005521")}};
-    job.tally[5] = (struct tally){1, 1, 0, 1, {1, code_of("05521")}};
+    job.tally[0] = (struct tally){0, 0, 0, 3, {1, code_of("5521")}, 0, 0};
+    job.tally[1] = (struct tally){0, 1, 1, 2, {2, code_of("0005521")}, 0, 0};
+    job.tally[2] = (struct tally){0, 1, 2, -1, {0, code_of("5521")}, 0, 0};
+    job.tally[3] = (struct tally){1, 0, 1, 4, {2, code_of("5521")}, 0, 0};
+    job.tally[4] = (struct tally){1, 0, 2, 5, {0, code_of("005521")}, 0, 0};
+    job.tally[5] = (struct tally){1, 1, 0, 1, {1, code_of("05521")}, 0, 0};
+    return write_file(&job, file);
+}
+
+/* A bag of 412 that box 1 counted as 5 and box 0 counted again as 7: grocer 0 is owed 7 x 500 = 3,500, in cents 350, and
+   as box 0 owns offer and grocer, box 1 needs no price and sends no total. Grocer 1 is owed 2 x 1,250 = 2,500, in cents
+   250, for loose coupons in box 0; box 1 owns offer and grocer, so a price and a total are sent: 2 words, 2 messages,
+   2 x 2 + 2 x 2 = 8 steps. */
+static size_t recount_two_boxes(void)
+{
+    memset(&job, 0, sizeof job);
+    job.sizes = (struct sizes){2, 2, 2, 3};
+    job.offer[0] = (struct offer){500, 0, {0, code_of("00412")}};
+    job.offer[1] = (struct offer){1250, 1, {0, code_of("77")}};
+    job.grocer_owner[1] = 1;
+    job.tally[0] = (struct tally){0, 1, 0, 5, {0, code_of("412")}, 31, 1};
+    job.tally[1] = (struct tally){1, 0, 1, 2, {0, code_of("77")}, 0, 0};
+    job.tally[2] = (struct tally){0, 0, 0, 7, {0, code_of("0412")}, 31, 2};
+    return write_file(&job, file);
+}
+
+/* The same coupons loose: both counts stand, and grocer 0 is owed 12 x 500 = 6,000, in cents 600. Box 1 gets a price and
+   sends a total too: 4 words, 4 messages, 2 x 2 + 2 x 4 = 12 steps. */
+static size_t loose_twice(void)
+{
+    recount_two_boxes();
+    job.tally[0].bag = job.tally[2].bag = 0;
+    job.tally[0].revision = 2;
+    return write_file(&job, file);
+}
+
+/* 90 tallies, most of them in bags that were counted several times; and the same records in another order. */
+static size_t recount(void)
+{
+    random_file(70, (struct sizes){5, 12, 20, 90});
+    give_bags(&job);
+    return write_file(&job, file);
+}
+
+static size_t recount_permuted(void)
+{
+    recount();
+    shuffle_tallies(&job);
+    return write_file(&job, file);
+}
+
+static size_t longest_in_bags(void)
+{
+    random_file(61, LARGEST);
+    give_bags(&job);
+    return write_file(&job, file);
+}
+
+/* 1,000 counts of one bag, by all boxes: tally 781, of revision 999, has 281, at 3 tenths each. */
+static size_t one_bag(void)
+{
+    one_tally_job(&job, (struct sizes){16, 1, 1, MOST_TALLIES}, 3, (struct tally){.bag = 5});
+    for (size_t t = 0; t < MOST_TALLIES; t++) {
+        job.tally[t].box = t % 16;
+        job.tally[t].count = (int32_t)t - 500;
+        job.tally[t].revision = (uint16_t)(t * 379 % 1000);
+    }
     return write_file(&job, file);
 }
 
@@ -198,6 +259,30 @@ static size_t known_number_other_issuer(void)
     return write_file(&job, file);
 }
 
+/* Both counts of the bag of revision 2. */
+static size_t equal_revisions(void)
+{
+    recount_two_boxes();
+    job.tally[0].revision = 2;
+    return write_file(&job, file);
+}
+
+/* Two counts of revision 1, under one of revision 2. */
+static size_t equal_revisions_below(void)
+{
+    recount_two_boxes();
+    job.tally[job.sizes.tallies++] = job.tally[0];
+    return write_file(&job, file);
+}
+
+/* Equal revisions, and a tally of an offer that is not there. */
+static size_t equal_revisions_unknown_code(void)
+{
+    equal_revisions();
+    job.tally[1].name.code = code_of("78");
+    return write_file(&job, file);
+}
+
 static const struct sample {
     const char *name;
     size_t (*make)(void);
@@ -216,6 +301,12 @@ static const struct sample {
     {"halves", halves, 0},
     {"last_cycle", last_cycle, 0},
     {"issuers", issuers, 0},
+    {"recount_two_boxes", recount_two_boxes, 0},
+    {"loose_twice", loose_twice, 0},
+    {"recount", recount, 0},
+    {"recount_permuted", recount_permuted, 0},
+    {"longest_in_bags", longest_in_bags, 0},
+    {"one_bag", one_bag, 0},
     {"empty", empty, 1},
     {"one_byte", one_byte, 1},
     {"byte_short", byte_short, 1},
@@ -239,6 +330,9 @@ static const struct sample {
     {"shared_number_one_issuer", shared_number_one_issuer, 7},
     {"unknown_code", unknown_code, 8},
     {"known_number_other_issuer", known_number_other_issuer, 8},
+    {"equal_revisions_unknown_code", equal_revisions_unknown_code, 8},
+    {"equal_revisions", equal_revisions, 9},
+    {"equal_revisions_below", equal_revisions_below, 9},
 };
 
 /* Output */

@@ -58,6 +58,7 @@ state-words f t h =
 
 -- Sizes, lengths, ranges, masks and boxes.
 pub record Given (f : JobTables) (t : StateTables) (needs sharers : List ℕ) (q : Asked) : Type 0 where
+  pub bare : f .tallyBag ≡ []
   pub tallies-in : TalliesIn (talliesOf f)
   pub job-long : JobLong (f .grocers) (f .offers) (f .tallies) (jobLengths f)
   pub state-long : StateLong (f .boxes) (f .grocers) (f .offers) (stateLengths t)
@@ -83,7 +84,8 @@ given f t needs sharers q h =
     let rest = and-r (ltb (q .first) (f .boxes)) _ fit in
     let long = job-long f (jobLengths f) (h .job-long) in
     record {
-      tallies-in = tallies-given f long (h .job-in);
+      bare = h .job-in .bare;
+      tallies-in = tallies-given f long (h .job-in .inside);
       job-long = long;
       state-long = state-long f (stateLengths t) (h .state-long);
       words-in = state-words f t (h .state-in);

@@ -103,7 +103,7 @@ module _ (f : JobTables) (t : StateTables) (needs sharers : List ℕ) (q : Asked
       by-lists multiplyOwn (ap kindOf e) _ _ _ _ _ _
       (known-stays (jobOf f) (left multiplyOwn) t (g .state-long) refl)
       (price-transit-stays (jobOf f) (left multiplyOwn) t (g .state-long) refl)
-      (multiplied-working f (g .tallies-in) (q .first) (g .first-in) t (q .second))
+      (multiplied-working f (g .bare) (g .tallies-in) (q .first) (g .first-in) t (q .second))
       (total-transit-stays (jobOf f) (left multiplyOwn) t (g .state-long) refl)
       (statement-stays (jobOf f) (left multiplyOwn) t (g .state-long) refl)
       (sent-stays (jobOf f) (left multiplyOwn) t (g .state-long) refl)
@@ -126,7 +126,7 @@ module _ (f : JobTables) (t : StateTables) (needs sharers : List ℕ) (q : Asked
       by-lists receivePrices (ap kindOf e) _ _ _ _ _ _
       (price-laws.received-known f t needs (q .first) (q .second) (g .first-in) (g .second-in) (g .tallies-in .boxes-in) (g .tallies-in .offers-in) (g .needs-are))
       (price-laws.received-transit f t needs (q .first) (q .second) (g .first-in) (g .second-in) (g .tallies-in .boxes-in) (g .tallies-in .offers-in) (g .needs-are))
-      (received-working f (g .tallies-in) (q .first) (g .first-in) t (q .second) (differ receivePrices (ap kindOf e) refl))
+      (received-working f (g .bare) (g .tallies-in) (q .first) (g .first-in) t (q .second) (differ receivePrices (ap kindOf e) refl))
       (total-transit-stays (jobOf f) (left receivePrices) t (g .state-long) refl)
       (statement-stays (jobOf f) (left receivePrices) t (g .state-long) refl)
       (sent-stays (jobOf f) (left receivePrices) t (g .state-long) refl)

@@ -12,7 +12,8 @@ use Rattle.model.specs.Job.{needWord, sharerWord}
 use Rattle.model.specs.Steps.{kindOf}
 use Rattle.model.specs.Tables.{JobTables, jobOf, StateTables, jobLengths, stateLengths, jobShort, stateShort}
 use Rattle.laws.specs.Limits.{maxBoxes, maxGrocers, maxSent}
-use Rattle.model.specs.Ranges.{jobInRange, stateInRange}
+use Rattle.model.specs.Ranges.{stateInRange}
+use Rattle.model.specs.Handed.{Handed}
 use Rattle.model.specs.Step.{Asked, isKind, boxesFit}
 use Rattle.words.specs.Message.{wordIn}
 use Rattle.links.specs.Links.{Linked}
@@ -22,7 +23,7 @@ use Rattle.totals.specs.Credit.{cleared, sentTotals, credited, creditAll}
 
 -- The tables are long enough and in range, the masks are the job's, and the step is one of a kind with boxes that fit it.
 pub record Applies (f : JobTables) (t : StateTables) (needs sharers : List ℕ) (q : Asked) : Type 0 where
-  pub job-in : jobInRange f ≡ true
+  pub job-in : Handed f
   pub job-long : jobShort f (jobLengths f) ≡ false
   pub state-long : stateShort f (stateLengths t) ≡ false
   pub state-in : stateInRange f t ≡ true

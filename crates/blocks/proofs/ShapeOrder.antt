@@ -12,8 +12,9 @@ use Rattle.laws.specs.Checks.{firstMet}
 use Rattle.laws.proofs.Below.{any-none}
 use Rattle.laws.proofs.Checks.{none-of, unmet, one-met, one-off}
 use Rattle.laws.proofs.Bools.{or-off}
+use Rattle.recount.specs.Recount.{countedTwice}
 use Rattle.format.specs.First.{firstOf, firstBelow}
-use Rattle.format.specs.Job.{badSizes, shared, unnamed}
+use Rattle.format.specs.Job.{badSizes, shared, unnamed, countedTallies}
 use Rattle.format.specs.Blocks.{BlockKind, offerBlock, tallyBlock, blocks, offersAt, talliesAt, kindAt, records}
 use Rattle.format.specs.File.{decode}
 use Rattle.format.specs.Refusals.{badLength, badCount, badHeader, badRecord, headerRefusal, blockRefusal, fileRefusal}
@@ -72,13 +73,13 @@ module _ (f : List ℕ) where
       unfolding shapeRefusal
       shape-blocks h = rw (one-off (badLength f) 1 right, next, top, next, one-off (badCount f) 1 h, next) (alone _)
 
--- The reader's refusal is that of the form, and where there is none, 7 or 8.
-pub file-shape : (f : List ℕ) → fileRefusal f ≡ firstOf (shapeRefusal f ∷ firstMet ((shared (decode f), 7) ∷ (unnamed (decode f), 8) ∷ []) ∷ [])
+-- The reader's refusal is that of the form, and where there is none, 7, 8 or 9.
+pub file-shape : (f : List ℕ) → fileRefusal f ≡ firstOf (shapeRefusal f ∷ firstMet ((shared (decode f), 7) ∷ (unnamed (decode f), 8) ∷ (countedTwice (countedTallies (decode f)), 9) ∷ []) ∷ [])
 unfolding fileRefusal shapeRefusal
 file-shape f =
     first-split
     (firstMet ((badLength f, 1) ∷ []) ∷ headerRefusal f ∷ firstMet ((badCount f, 1) ∷ []) ∷ firstBelow (blocks (decode f) - 1) (λ k. blockRefusal f (1 + k)) ∷ [])
-    (firstMet ((shared (decode f), 7) ∷ (unnamed (decode f), 8) ∷ []) ∷ [])
+    (firstMet ((shared (decode f), 7) ∷ (unnamed (decode f), 8) ∷ (countedTwice (countedTallies (decode f)), 9) ∷ []) ∷ [])
 
 -- A file whose form is refused is refused with that number.
 pub shape-refused : (f : List ℕ) → (shapeRefusal f ≡ 0 → ⊥) → fileRefusal f ≡ shapeRefusal f
@@ -100,8 +101,8 @@ module _ (f : List ℕ) (ok : shapeRefusal f ≡ 0) where
   unfolding shapeRefusal
   shape-clean = each _ ok 3
 
-  -- 7 or 8 decides.
-  pub shape-accepted : fileRefusal f ≡ firstMet ((shared (decode f), 7) ∷ (unnamed (decode f), 8) ∷ [])
+  -- 7, 8 or 9 decides.
+  pub shape-accepted : fileRefusal f ≡ firstMet ((shared (decode f), 7) ∷ (unnamed (decode f), 8) ∷ (countedTwice (countedTallies (decode f)), 9) ∷ [])
   shape-accepted = file-shape f ∙ rw (ok, next) (alone _)
 
   -- The file is as long as its header says.

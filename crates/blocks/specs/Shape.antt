@@ -1,4 +1,4 @@
--- The reader's refusals of a file's form: all but 7 and 8, which look at the whole job.
+-- The reader's refusals of a file's form: all but 7, 8 and 9, which look at the whole job.
 use Prim.Native.Nat.{ℕ, _+_, _-_, _/_, _%_}
 use mathlib.Core.Bool.{Bool, not, _&&_, _||_}
 use mathlib.Core.List.{List, [], _∷_}

@@ -62,5 +62,5 @@ pub fn spare_used(f: &[u8], k: usize, kind: usize, count: usize) -> bool
     if kind == 2 {
         return spare_in(f, at, count, 1, 1);
     }
-    spare_in(f, at, count, 24, 20)
+    spare_in(f, at, count, 24, 24)
 }

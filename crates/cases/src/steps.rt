@@ -36,6 +36,8 @@ fn ask(s: State, kind: u16, first: u16, second: u16) -> Outcome {
         &[0, 0, 1, 1],
         &[0, 1, 1, 0],
         &[3i32, 2i32, -1i32, 4i32],
+        &[0, 0, 0, 0],
+        &[0, 0, 0, 0],
         &mut known,
         &mut ptransit,
         &mut working,

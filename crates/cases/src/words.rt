@@ -44,6 +44,8 @@ pub fn sums() {
         &tbox,
         &toffer,
         &tcount,
+        &[0, 0, 0, 0],
+        &[0, 0, 0, 0],
         &mut prices,
         &mut totals,
     );

@@ -1,27 +1,30 @@
--- The numbers of the names, and what they say of 7 and 8. Assumes nothing.
-use mathlib.Core.Path.{_≡_, sym, ap, ap₂, _∙_}
-use mathlib.Core.Bool.{Bool, true, false, not}
+-- The numbers of the names, and what they and the bags say of 7, 8 and 9. Assumes nothing.
+use mathlib.Core.Path.{_≡_, refl, sym, ap, _∙_}
+use mathlib.Core.Bool.{Bool, true, false}
 use mathlib.Core.List.{List, [], _∷_}
 use Prim.Native.Nat.{ℕ, _<_}
-use lib.Dec.{eqb}
+use native.Mathlib.Omega.{arith}
 use lib.ListN.{getD}
-use Rattle.laws.specs.Below.{any}
 use Rattle.laws.specs.Checks.{firstMet}
-use Rattle.laws.proofs.Below.{any-cong}
+use Rattle.laws.proofs.Tables.{word-in}
+use Rattle.recount.specs.Recount.{columns, countedTwice}
 use Rattle.index.specs.Index.{sharesNumber, placeOf as placeIn}
 use Rattle.format.specs.Codes.{Name, nameOf, isCode, nameNumber}
-use Rattle.format.specs.Job.{Head, FileJob, offerName, names, placeOf, shared, unnamed}
-use Rattle.format.specs.Tables.{codeOf, nameIn}
-use Rattle.checks.specs.Rows.{Codes, Indexed, HasNames}
-use Rattle.format.proofs.Range.{unnamed-place}
+use Rattle.format.specs.Job.{Head, FileJob, offerName, placeOf, shared, countedTallies}
+use Rattle.format.specs.Tables.{offerTables, tallyTables, offerOf, tallyOf, codeOf, nameIn}
+use Rattle.blocks.specs.Due.{Most}
+use Rattle.fills.specs.Fills.{Placed}
+use Rattle.checks.specs.Rows.{Codes, Indexed, Finds, HasNames, HasBags}
+use Rattle.format.proofs.Same.{twice-cong}
+use Rattle.fills.proofs.Places.{place-most}
 use Rattle.fills.proofs.Naming as naming
 
 -- The number of a code under an issuer that is read is that of the name.
 pub named : (code issuer : List ℕ) (i : ℕ) {r x : ℕ} → r ≡ nameNumber (nameOf x (codeOf code i)) → x ≡ getD issuer i 0 → r ≡ nameNumber (nameIn code issuer i)
 named code issuer i e q = e ∙ ap (λ (x : ℕ). nameNumber (nameOf x (codeOf code i))) q
 
-module _ (j : FileJob) (code issuer tcode tissuer keys places : List ℕ) (h : Head) (has : HasNames j code issuer tcode tissuer h)
-    (x : Indexed code issuer keys places (h .offers)) (codes : Codes code (h .offers)) where
+module _ (j : FileJob) (code issuer tcode tissuer keys order : List ℕ) (h : Head) (has : HasNames j code issuer tcode tissuer h)
+    (x : Indexed code issuer keys order (h .offers)) (codes : Codes code (h .offers)) where
   size : j .head .offers ≡ h .offers
   size = ap (λ (h : Head). h .offers) (has .head)
 
@@ -42,13 +45,34 @@ module _ (j : FileJob) (code issuer tcode tissuer keys places : List ℕ) (h : H
       ap (λ (a : Name). placeIn (x .numbers) (h .offers) (nameNumber a)) (sym (has .tally i))
       ∙ naming.place-is j (x .numbers) (h .offers) size code-is number-is i (ap (λ (a : Name). isCode (a .code)) (has .tally i) ∙ c)
 
-  -- A number has no place where a tally names no offer.
-  pub unnamed-is : Codes tcode (h .tallies) → any (h .tallies) (λ i. eqb (placeIn (x .numbers) (h .offers) (nameNumber (nameIn tcode tissuer i))) (h .offers)) ≡ unnamed j
-  unfolding unnamed
-  unnamed-is c =
-      any-cong (h .tallies) _ (λ i. not (any (j .head .offers) (names j i)))
-      (λ i l. ap₂ eqb (place-is i (c .code i l)) (sym size) ∙ sym (unnamed-place j i))
-      ∙ ap (λ (h : Head). any (h .tallies) (λ i. not (any (j .head .offers) (names j i)))) (sym (has .head))
+  -- So the index finds the offers of the job's tallies.
+  pub finds : sharesNumber (x .numbers) (h .offers) ≡ false → Finds j keys order tcode tissuer (h .offers)
+  finds d = record { size = size; numbers = x .numbers; index = x .index; apart = d; place = place-is }
+
+-- Places that were found are below 512, as keys of counts ask.
+pub places-below : (h : Head) (code issuer tcode tissuer places : List ℕ) → Most h →
+    ((j : FileJob) → HasNames j code issuer tcode tissuer h → Placed j places (h .tallies)) → (t : ℕ) → t < h .tallies → getD places t 0 < 512
+places-below h code issuer tcode tissuer places m found t l =
+    omega (arith, found job (record { head = refl; offer = λ i. refl; tally = λ i. refl }) .at t l, place-most job t, m .offers)
+  where
+    job : FileJob
+    job = record {
+      head = h;
+      offer = offerOf (offerTables [] [] code issuer);
+      grocerOwner = λ i. 0;
+      tally = tallyOf (tallyTables [] [] tcode [] tissuer [] []);
+    }
+
+-- 9 of tables of tallies with the places of their offers is that of the job.
+pub twice-is : (j : FileJob) (grocer places bag revision : List ℕ) (t : ℕ) → j .head .tallies ≡ t → HasBags j grocer bag revision → Placed j places t →
+    countedTwice (columns t grocer places bag revision) ≡ countedTwice (countedTallies j)
+unfolding countedTallies
+twice-is j grocer places bag revision t e b p =
+    twice-cong (columns t grocer places bag revision) (countedTallies j) (sym e)
+    (λ i l. word-in t grocer 0 i (rw e at l) ∙ sym (b .grocer i))
+    (λ i l. word-in t places 0 i (rw e at l) ∙ p .at i (rw e at l))
+    (λ i l. word-in t bag 0 i (rw e at l) ∙ sym (b .bag i))
+    (λ i l. word-in t revision 0 i (rw e at l) ∙ sym (b .revision i))
 
 -- 7 and 8 in their order.
 pub seven : (a b : Bool) → a ≡ true → firstMet ((a, 7) ∷ (b, 8) ∷ []) ≡ 7

@@ -1,25 +1,29 @@
-// 7 and 8: the numbers of the names.
+// 7, 8 and 9: the numbers of the names, and the tallies' bags.
 ghost use mathlib.Core.Path.{_≡_};
 ghost use mathlib.Core.Bool.{true, false};
-ghost use mathlib.Core.List.{List, [], _∷_};
-ghost use Prim.Native.Nat.{ℕ, _+_, _*_, _≤_, _<_};
-ghost use lib.Dec.{eqb};
+ghost use mathlib.Core.List.{[], _∷_};
+ghost use Prim.Native.Nat.{_+_, _*_, _≤_, _<_};
 ghost use lib.ListN.{length};
-ghost use Rattle.laws.specs.Below.{any};
 ghost use Rattle.laws.specs.Tables.{overwrite};
 ghost use Rattle.laws.specs.Checks.{firstMet};
-ghost use Rattle.index.specs.Index.{IsIndex, sharesNumber, placeOf};
+ghost use Rattle.recount.specs.Recount.{countedTwice};
 ghost use Rattle.format.specs.Codes.{isCode, nameNumber};
-ghost use Rattle.format.specs.Job.{FileJob, shared, unnamed};
+ghost use Rattle.format.specs.Job.{FileJob, placeOf, shared, unnamed, countedTallies};
 ghost use Rattle.format.specs.Tables.{codeOf, nameIn};
-ghost use Rattle.blocks.specs.Due.{asHead, Most};
-ghost use Rattle.checks.specs.Rows.{Codes, Indexed, HasNames};
+ghost use Rattle.blocks.specs.Due.{asHead};
+ghost use Rattle.fills.specs.Fills.{Placed};
+ghost use Rattle.index.specs.Index.{Tops, Widest};
+ghost use Rattle.checks.specs.Rows.{Codes, Indexed, Finds, NamesIn, HasNames, HasBags};
 use crate::sizes::size_of;
+use bags::columns_twice;
 use blocks::codes::CODE_BYTES;
 use blocks::plan::Head;
 use blocks::plan::MAX_OFFERS;
+use blocks::plan::MAX_TALLIES;
 use fills::code::name_at;
+use fills::fill::narrow;
 use index::build::build;
+use index::look::DIGITS;
 use index::look::place;
 
 // Puts the numbers of the first n names into a list.
@@ -36,94 +40,163 @@ fn number_all(code: &[u8], issuer: &[u16], n: usize, numbers: &mut [u64])
 }
 
 // Makes the index of the first n names.
-fn index_names(code: &[u8], issuer: &[u16], n: usize, keys: &mut [u64], places: &mut [u16])
+fn index_names(code: &[u8], issuer: &[u16], n: usize, keys: &mut [u64], order: &mut [u16])
     requires { ⌜ (n ≤ 500) × (n * 11 ≤ length (now code)) × (n ≤ length (now issuer)) × Codes (now code) n ⌝ }
-    requires { ⌜ (n ≤ length (now keys)) × (n ≤ length (now places)) ⌝ }
-    ensures { λ _. ⌜ Indexed (now (code .entry)) (now (issuer .entry)) (now (keys .exit)) (now (places .exit)) n ⌝ }
+    requires { ⌜ (n ≤ length (now keys)) × (n ≤ length (now order)) ⌝ }
+    ensures { λ _. ⌜ Indexed (now (code .entry)) (now (issuer .entry)) (now (keys .exit)) (now (order .exit)) n ⌝ }
 {
     let mut numbers = [0u64; MAX_OFFERS];
     number_all(code, issuer, n, &mut numbers);
     let mut spare = [0u16; MAX_OFFERS];
-    build(&numbers, keys, places, &mut spare, n);
+    build(&numbers, keys, order, &mut spare, n);
 }
 
-// Whether tally i names none of the n offers.
-fn names_none(
+// The place of the offer that tally i names, or n where it names none of the n offers.
+fn find_place(
     keys: &[u64],
-    places: &[u16],
+    order: &[u16],
+    starts: &[u16; DIGITS],
+    shift: usize,
+    widest: usize,
     n: usize,
     tally_code: &[u8],
     tally_issuer: &[u16],
     i: usize,
-) -> bool
-    requires { ⌜ (n ≤ 500) × ((n ≤ length (now keys)) × (n ≤ length (now places))) ⌝ }
+) -> usize
+    requires { ⌜ ((n ≤ 500) × ((n ≤ length (now keys)) × (n ≤ length (now order)))) × (Tops (now keys) (now starts) shift n × Widest
+        (now starts) widest) ⌝ }
     requires { ⌜ (i * 11 + 11 ≤ length (now «tally_code»)) × (i < length (now «tally_issuer»)) × (isCode (codeOf (now «tally_code») i) ≡ true) ⌝ }
-    ensures { λ r. ⌜ ((numbers : List ℕ) → IsIndex (now (keys .entry)) (now (places .entry)) numbers n → sharesNumber numbers n ≡ false → r ≡ eqb
-        (placeOf numbers n (nameNumber (nameIn (now («tally_code» .entry)) (now («tally_issuer» .entry)) i))) n) ⌝ }
+    ensures { λ r. ⌜ ((j : FileJob) → Finds j (now (keys .entry)) (now (order .entry)) (now («tally_code» .entry)) (now («tally_issuer» .entry)) n →
+        r ≡ placeOf j i) ⌝ }
 {
     let number = name_at(tally_code, i * CODE_BYTES, size_of(tally_issuer[i]));
-    let at = place(keys, places, n, number);
-    at == n
+    place(keys, order, starts, shift, widest, n, number)
 }
 
-// Whether one of the first t tallies names none of the n offers.
-fn some_none(
+// Looks each of the first t tallies up, once, and keeps its place; whether one names none of the n offers.
+fn find_places(
     keys: &[u64],
-    places: &[u16],
+    order: &[u16],
+    starts: &[u16; DIGITS],
+    shift: usize,
+    widest: usize,
     n: usize,
     tally_code: &[u8],
     tally_issuer: &[u16],
     t: usize,
+    places: &mut [u16],
 ) -> bool
-    requires { ⌜ (n ≤ 500) × ((n ≤ length (now keys)) × (n ≤ length (now places))) ⌝ }
+    requires { ⌜ ((n ≤ 500) × ((n ≤ length (now keys)) × (n ≤ length (now order)))) × (Tops (now keys) (now starts) shift n × Widest
+        (now starts) widest) ⌝ }
     requires { ⌜ (t * 11 ≤ length (now «tally_code»)) × (t ≤ length (now «tally_issuer»)) × Codes (now «tally_code») t ⌝ }
-    ensures { λ r. ⌜ ((numbers : List ℕ) → IsIndex (now (keys .entry)) (now (places .entry)) numbers n → sharesNumber numbers n ≡ false → r ≡ any t
-        (λ i. eqb (placeOf numbers n (nameNumber (nameIn (now («tally_code» .entry)) (now («tally_issuer» .entry)) i))) n)) ⌝ }
+    requires { ⌜ t ≤ length (now places) ⌝ }
+    ensures { λ r. ⌜ ((j : FileJob) → Finds j (now (keys .entry)) (now (order .entry)) (now («tally_code» .entry)) (now («tally_issuer» .entry)) n →
+        j .head .tallies ≡ t → r ≡ unnamed j) ⌝ }
+    ensures { λ r. ⌜ ((j : FileJob) → Finds j (now (keys .entry)) (now (order .entry)) (now («tally_code» .entry)) (now («tally_issuer» .entry)) n →
+        r ≡ false → Placed j (now (places .exit)) t) ⌝ }
 {
-    let mut bad = false;
     let mut i: usize = 0;
     while i < t {
-        bad = bad | names_none(keys, places, n, tally_code, tally_issuer, i);
+        let p = find_place(
+            keys,
+            order,
+            starts,
+            shift,
+            widest,
+            n,
+            tally_code,
+            tally_issuer,
+            i,
+        );
+        if n <= p {
+            return true;
+        }
+        places[i] = narrow(p);
         i += 1;
     }
-    bad
+    false
 }
 
-// 7, 8 or no refusal, by the names of the offers and of the tallies.
-pub fn names_refusal(
+// 7, 8 or no refusal, by the names of the offers and of the tallies; where it is none, the place of each tally's offer is kept.
+fn names_refusal(
     head: Head,
     offer_code: &[u8],
     offer_issuer: &[u16],
     tally_code: &[u8],
     tally_issuer: &[u16],
+    places: &mut [u16],
 ) -> u16
-    requires { ⌜ Most (asHead head) × (head .offers * 11 ≤ length (now «offer_code»)) × (head .offers ≤ length (now «offer_issuer»)) ⌝ }
-    requires { ⌜ (head .tallies * 11 ≤ length (now «tally_code»)) × (head .tallies ≤ length (now «tally_issuer»)) ⌝ }
-    requires { ⌜ Codes (now «offer_code») (head .offers) × Codes (now «tally_code») (head .tallies) ⌝ }
+    requires { ⌜ NamesIn (asHead head) (now «offer_code») (now «offer_issuer») (now «tally_code») (now «tally_issuer») ⌝ }
+    requires { ⌜ head .tallies ≤ length (now places) ⌝ }
     ensures { λ r. ⌜ ((j : FileJob) → HasNames j (now («offer_code» .entry)) (now («offer_issuer» .entry)) (now («tally_code» .entry))
         (now («tally_issuer» .entry)) (asHead head) → r ≡ firstMet ((shared j, 7) ∷ (unnamed j, 8) ∷ [])) ⌝ }
+    ensures { λ r. ⌜ ((j : FileJob) → HasNames j (now («offer_code» .entry)) (now («offer_issuer» .entry)) (now («tally_code» .entry))
+        (now («tally_issuer» .entry)) (asHead head) → r ≡ 0 → Placed j (now (places .exit)) (head .tallies)) ⌝ }
 {
     let mut keys = [0u64; MAX_OFFERS];
-    let mut places = [0u16; MAX_OFFERS];
-    index_names(
-        offer_code,
-        offer_issuer,
-        head.offers,
-        &mut keys,
-        &mut places,
-    );
+    let mut order = [0u16; MAX_OFFERS];
+    index_names(offer_code, offer_issuer, head.offers, &mut keys, &mut order);
     if index::look::shared(&keys, head.offers) {
         return 7;
     }
-    if some_none(
+    let shift = index::tops::top_shift(&keys, head.offers);
+    let starts = index::tops::tops(&keys, head.offers, shift);
+    let widest = index::tops::widest(&starts);
+    if find_places(
         &keys,
-        &places,
+        &order,
+        &starts,
+        shift,
+        widest,
         head.offers,
         tally_code,
         tally_issuer,
         head.tallies,
+        places,
     ) {
         return 8;
+    }
+    0
+}
+
+// 7, 8, 9 or no refusal, by the names of the offers and by the tallies.
+pub fn last_refusal(
+    head: Head,
+    offer_code: &[u8],
+    offer_issuer: &[u16],
+    tally_grocer: &[u16],
+    tally_code: &[u8],
+    tally_issuer: &[u16],
+    tally_bag: &[u16],
+    tally_revision: &[u16],
+) -> u16
+    requires { ⌜ NamesIn (asHead head) (now «offer_code») (now «offer_issuer») (now «tally_code») (now «tally_issuer») ⌝ }
+    requires { ⌜ (head .tallies ≤ length (now «tally_grocer»)) × (head .tallies ≤ length (now «tally_bag»)) × (head .tallies ≤
+        length (now «tally_revision»)) ⌝ }
+    ensures { λ r. ⌜ ((j : FileJob) → HasNames j (now («offer_code» .entry)) (now («offer_issuer» .entry)) (now («tally_code» .entry))
+        (now («tally_issuer» .entry)) (asHead head) → HasBags j (now («tally_grocer» .entry)) (now («tally_bag» .entry)) (now («tally_revision» .entry)) →
+        r ≡ firstMet ((shared j, 7) ∷ (unnamed j, 8) ∷ (countedTwice (countedTallies j), 9) ∷ [])) ⌝ }
+{
+    let mut places = [0u16; MAX_TALLIES];
+    let r = names_refusal(
+        head,
+        offer_code,
+        offer_issuer,
+        tally_code,
+        tally_issuer,
+        &mut places,
+    );
+    if r != 0 {
+        return r;
+    }
+    if columns_twice(
+        head.tallies,
+        tally_grocer,
+        &places,
+        tally_bag,
+        tally_revision,
+    ) {
+        return 9;
     }
     0
 }

@@ -48,8 +48,8 @@ fn bad_tally(
 ) -> bool
     requires { ⌜ (i < length (now «tally_grocer»)) × (i < length (now «tally_box»)) ⌝ }
     requires { ⌜ (i * 11 + 11 ≤ length (now «tally_code»)) × (i < length (now «tally_count»)) ⌝ }
-    ensures { λ r. ⌜ ((s : List ℕ) → r ≡ badTally (asHead head)
-        (tallyOf (tallyTables (now («tally_grocer» .entry)) (now («tally_box» .entry)) (now («tally_code» .entry)) (now («tally_count» .entry)) s) i)) ⌝ }
+    ensures { λ r. ⌜ ((s b v : List ℕ) → r ≡ badTally (asHead head)
+        (tallyOf (tallyTables (now («tally_grocer» .entry)) (now («tally_box» .entry)) (now («tally_code» .entry)) (now («tally_count» .entry)) s b v) i)) ⌝ }
 {
     let at = i * CODE_BYTES;
     let ranges = (head.grocers <= size_of(tally_grocer[i])) | (head.boxes <= size_of(tally_box[i]));
@@ -98,8 +98,8 @@ fn bad_tallies(
 ) -> bool
     requires { ⌜ (head .tallies ≤ length (now «tally_grocer»)) × (head .tallies ≤ length (now «tally_box»)) ⌝ }
     requires { ⌜ (head .tallies * 11 ≤ length (now «tally_code»)) × (head .tallies ≤ length (now «tally_count»)) ⌝ }
-    ensures { λ r. ⌜ ((s : List ℕ) → r ≡ any (head .tallies) (λ i. badTally (asHead head)
-        (tallyOf (tallyTables (now («tally_grocer» .entry)) (now («tally_box» .entry)) (now («tally_code» .entry)) (now («tally_count» .entry)) s) i))) ⌝ }
+    ensures { λ r. ⌜ ((s b v : List ℕ) → r ≡ any (head .tallies) (λ i. badTally (asHead head)
+        (tallyOf (tallyTables (now («tally_grocer» .entry)) (now («tally_box» .entry)) (now («tally_code» .entry)) (now («tally_count» .entry)) s b v) i))) ⌝ }
 {
     let t = head.tallies;
     let mut bad = false;
@@ -127,9 +127,9 @@ pub fn bad_records(
     requires { ⌜ head .grocers ≤ length (now «grocer_owner») ⌝ }
     requires { ⌜ (head .tallies ≤ length (now «tally_grocer»)) × (head .tallies ≤ length (now «tally_box»)) ⌝ }
     requires { ⌜ (head .tallies * 11 ≤ length (now «tally_code»)) × (head .tallies ≤ length (now «tally_count»)) ⌝ }
-    ensures { λ r. ⌜ ((s s′ : List ℕ) → r ≡ badRecords (fileJobOf (asHead head) (fileTables
+    ensures { λ r. ⌜ ((s s′ b v : List ℕ) → r ≡ badRecords (fileJobOf (asHead head) (fileTables
         (offerTables (now (price .entry)) (now («offer_owner» .entry)) (now («offer_code» .entry)) s) (now («grocer_owner» .entry))
-        (tallyTables (now («tally_grocer» .entry)) (now («tally_box» .entry)) (now («tally_code» .entry)) (now («tally_count» .entry)) s′)))) ⌝ }
+        (tallyTables (now («tally_grocer» .entry)) (now («tally_box» .entry)) (now («tally_code» .entry)) (now («tally_count» .entry)) s′ b v)))) ⌝ }
 {
     bad_offers(head, price, offer_owner, offer_code)
         | bad_owners(head, grocer_owner)

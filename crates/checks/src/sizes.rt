@@ -67,15 +67,19 @@ fn short_tallies(
     tally_code: &[u8],
     tally_count: &[i32],
     tally_issuer: &[u16],
+    tally_bag: &[u16],
+    tally_revision: &[u16],
 ) -> bool
     requires { ⌜ t ≤ 65535 ⌝ }
-    ensures { λ r. ⌜ r ≡ shortTallies t (talliesLent «tally_grocer» «tally_box» «tally_code» «tally_count» «tally_issuer») ⌝ }
+    ensures { λ r. ⌜ r ≡ shortTallies t (talliesLent «tally_grocer» «tally_box» «tally_code» «tally_count» «tally_issuer» «tally_bag» «tally_revision») ⌝ }
 {
     (tally_grocer.len() < t)
         | (tally_box.len() < t)
         | (tally_code.len() < t * CODE_BYTES)
         | (tally_count.len() < t)
         | (tally_issuer.len() < t)
+        | (tally_bag.len() < t)
+        | (tally_revision.len() < t)
 }
 
 // 20: whether a table, or the buffer for the file, is shorter than K, M, N and T as given need.
@@ -91,11 +95,13 @@ pub fn short_writer(
     tally_code: &[u8],
     tally_count: &[i32],
     tally_issuer: &[u16],
+    tally_bag: &[u16],
+    tally_revision: &[u16],
     out: &[u8],
 ) -> bool
     requires { ⌜ Fits (asHead head) ⌝ }
     ensures { λ r. ⌜ r ≡ shortWriter (asHead head) (fileLent price «offer_owner» «offer_code» «offer_issuer» «grocer_owner» «tally_grocer» «tally_box»
-        «tally_code» «tally_count» «tally_issuer») (now (out .entry)) ⌝ }
+        «tally_code» «tally_count» «tally_issuer» «tally_bag» «tally_revision») (now (out .entry)) ⌝ }
 {
     let offers = short_offers(head.offers, price, offer_owner, offer_code, offer_issuer);
     let tallies = short_tallies(
@@ -105,6 +111,8 @@ pub fn short_writer(
         tally_code,
         tally_count,
         tally_issuer,
+        tally_bag,
+        tally_revision,
     );
     offers | (grocer_owner.len() < head.grocers) | tallies | (out.len() < file_length(head))
 }

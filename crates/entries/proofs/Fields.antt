@@ -22,7 +22,7 @@ use Rattle.entries.specs.Entries.{Fields, lentTally, lentRecords, shortF
 
 -- A record of zeros.
 abbrev pub blank : Tally
-blank = record { grocer = 0; «tally_box» = 0; place = 0; count = pos 0 }
+blank = record { grocer = 0; «tally_box» = 0; place = 0; count = pos 0; bag = 0; revision = 0 }
 
 -- The first i records of a list are those of f.
 abbrev pub Filled : (ℕ → Tally) → List Tally → ℕ → Type 0
@@ -42,11 +42,11 @@ records-tabulate zero f = refl
 records-tabulate (suc n) f = ap (λ (l : List TallyRecord). recordOf (f 0) ∷ l) (records-tabulate n (λ i. f (suc i)))
 
 -- A list that is filled holds the records lent.
-pub filled-all : (gs bs ps : List ℕ) (cs : List ℤ) (n : ℕ) (l : List Tally) → n ≤ length l → Filled (lentTally gs bs ps cs) l n → recordsOf (take n l) ≡ lentRecords n gs bs ps cs
+pub filled-all : (gs bs ps : List ℕ) (cs : List ℤ) (ss vs : List ℕ) (n : ℕ) (l : List Tally) → n ≤ length l → Filled (lentTally gs bs ps cs ss vs) l n → recordsOf (take n l) ≡ lentRecords n gs bs ps cs ss vs
 unfolding lentTally lentRecords
-filled-all gs bs ps cs n l h inv =
-    ap recordsOf (is-tabulate (take n l) n (lentTally gs bs ps cs) blank (length-take-le n l h) (λ i q. getD-take n l i blank q ∙ inv i q))
-    ∙ records-tabulate n (lentTally gs bs ps cs)
+filled-all gs bs ps cs ss vs n l h inv =
+    ap recordsOf (is-tabulate (take n l) n (lentTally gs bs ps cs ss vs) blank (length-take-le n l h) (λ i q. getD-take n l i blank q ∙ inv i q))
+    ∙ records-tabulate n (lentTally gs bs ps cs ss vs)
 
 -- One amount put in front of the lent words.
 pub put-one : (l : List ℤ) (z z′ : ℤ) → 1 ≤ length l → z′ ≡ z → set l 0 z′ ≡ overwrite 1 (λ i. z) l
@@ -55,31 +55,33 @@ put-one [] z z′ h e = absurd (omega (arith, h))
 put-one (x ∷ l) z z′ h e = ap (λ (y : ℤ). y ∷ l) e
 
 -- Where a field is short the words stay.
-pub told-short : (m n g : ℕ) (prices gs bs ps : List ℕ) (cs out : List ℤ) → shortFields gs bs ps cs out ≡ true → told 20 out ≡ toldBy m n g prices gs bs ps cs out
+pub told-short : (m n g : ℕ) (prices gs bs ps : List ℕ) (cs : List ℤ) (ss vs : List ℕ) (out : List ℤ) → shortFields gs bs ps cs ss vs out ≡ true → told 20 out ≡ toldBy m n g prices gs bs ps cs ss vs out
 unfolding toldBy
-told-short m n g prices gs bs ps cs out e = rw e
+told-short m n g prices gs bs ps cs ss vs out e = rw e
 
 -- Where none is, the answer is the desk's.
-pub told-whole : (m n g : ℕ) (prices gs bs ps : List ℕ) (cs out out′ : List ℤ) (r : ℕ) (a : DeskAnswer) (l : List TallyRecord) → shortFields gs bs ps cs out ≡ false →
-    told r out′ ≡ toldAs a out → a ≡ reconciled m n g prices l → l ≡ lentRecords (length gs) gs bs ps cs → told r out′ ≡ toldBy m n g prices gs bs ps cs out
+pub told-whole : (m n g : ℕ) (prices gs bs ps : List ℕ) (cs : List ℤ) (ss vs : List ℕ) (out out′ : List ℤ) (r : ℕ) (a : DeskAnswer) (l : List TallyRecord) → shortFields gs bs ps cs ss vs out ≡ false →
+    told r out′ ≡ toldAs a out → a ≡ reconciled m n g prices l → l ≡ lentRecords (length gs) gs bs ps cs ss vs → told r out′ ≡ toldBy m n g prices gs bs ps cs ss vs out
 unfolding toldBy
-told-whole m n g prices gs bs ps cs out out′ r a l e t q k =
+told-whole m n g prices gs bs ps cs ss vs out out′ r a l e t q k =
     t ∙ ap (λ (x : DeskAnswer). toldAs x out) (q ∙ ap (reconciled m n g prices) k) ∙ rw e
 
 -- What 20 leaves.
-pub fields-whole : (gs bs ps : List ℕ) (cs out : List ℤ) → shortFields gs bs ps cs out ≡ false → (length gs ≤ 1_024) × Fields (length gs) gs bs ps cs × (1 ≤ length out)
+pub fields-whole : (gs bs ps : List ℕ) (cs : List ℤ) (ss vs : List ℕ) (out : List ℤ) → shortFields gs bs ps cs ss vs out ≡ false → (length gs ≤ 1_024) × Fields (length gs) gs bs ps cs ss vs × (1 ≤ length out)
 unfolding shortFields
-fields-whole gs bs ps cs out e =
+fields-whole gs bs ps cs ss vs out e =
     let n = length gs in
-    let each = none-of (ltb 1_024 n ∷ ltb (length bs) n ∷ ltb (length ps) n ∷ ltb (length cs) n ∷ ltb (length out) 1 ∷ []) e in (
+    let each = none-of (ltb 1_024 n ∷ ltb (length bs) n ∷ ltb (length ps) n ∷ ltb (length cs) n ∷ ltb (length ss) n ∷ ltb (length vs) n ∷ ltb (length out) 1 ∷ []) e in (
       ltb-false 1_024 n (each .0),
       record {
         grocers = omega arith;
         boxes = ltb-false (length bs) n (each .1 .0);
         places = ltb-false (length ps) n (each .1 .1 .0);
         counts = ltb-false (length cs) n (each .1 .1 .1 .0);
+        bags = ltb-false (length ss) n (each .1 .1 .1 .1 .0);
+        revisions = ltb-false (length vs) n (each .1 .1 .1 .1 .1 .0);
       },
-      ltb-false (length out) 1 (each .1 .1 .1 .1 .0),
+      ltb-false (length out) 1 (each .1 .1 .1 .1 .1 .1 .0),
     )
 
 -- An amount that is told.

@@ -31,25 +31,36 @@ unfoldable pub writtenAs : WriteOutcome → Written
 writtenAs w = written (writeNumber (w .answer)) (w .out)
 
 -- Record i of those whose fields are lent apart.
-unfoldable pub lentTally : (grocer box place : List ℕ) → (count : List ℤ) → ℕ → Tally
-lentTally gs bs ps cs i = record { grocer = getD gs i 0; «tally_box» = getD bs i 0; place = getD ps i 0; count = getD cs i (pos 0) }
+unfoldable pub lentTally : (grocer box place : List ℕ) → (count : List ℤ) → (bag revision : List ℕ) → ℕ → Tally
+lentTally gs bs ps cs ss vs i = record {
+  grocer = getD gs i 0;
+  «tally_box» = getD bs i 0;
+  place = getD ps i 0;
+  count = getD cs i (pos 0);
+  bag = getD ss i 0;
+  revision = getD vs i 0;
+}
 
 -- Each field has n words at least.
-pub record Fields (n : ℕ) (gs bs ps : List ℕ) (cs : List ℤ) : Type 0 where
+pub record Fields (n : ℕ) (gs bs ps : List ℕ) (cs : List ℤ) (ss vs : List ℕ) : Type 0 where
   pub grocers : n ≤ length gs
   pub boxes : n ≤ length bs
   pub places : n ≤ length ps
   pub counts : n ≤ length cs
+  pub bags : n ≤ length ss
+  pub revisions : n ≤ length vs
 
 -- The records whose fields are lent apart, n of them.
-unfoldable pub lentRecords : ℕ → (grocer box place : List ℕ) → (count : List ℤ) → List TallyRecord
-lentRecords n gs bs ps cs = tabulate n (λ i. tallyRecord (getD gs i 0) (getD bs i 0) (getD ps i 0) (getD cs i (pos 0)))
+unfoldable pub lentRecords : ℕ → (grocer box place : List ℕ) → (count : List ℤ) → (bag revision : List ℕ) → List TallyRecord
+lentRecords n gs bs ps cs ss vs =
+    tabulate n (λ i. tallyRecord (getD gs i 0) (getD bs i 0) (getD ps i 0) (getD cs i (pos 0)) (getD ss i 0) (getD vs i 0))
 
 -- 20: more than 1,024 records, a field that one of them lacks, or no room for the amount.
-unfoldable pub shortFields : (grocer box place : List ℕ) → (count owed : List ℤ) → Bool
-shortFields gs bs ps cs out =
+unfoldable pub shortFields : (grocer box place : List ℕ) → (count : List ℤ) → (bag revision : List ℕ) → (owed : List ℤ) → Bool
+shortFields gs bs ps cs ss vs out =
     anyOf (
-    ltb 1_024 (length gs) ∷ ltb (length bs) (length gs) ∷ ltb (length ps) (length gs) ∷ ltb (length cs) (length gs) ∷ ltb (length out) 1 ∷ [])
+    ltb 1_024 (length gs) ∷ ltb (length bs) (length gs) ∷ ltb (length ps) (length gs) ∷ ltb (length cs) (length gs) ∷ ltb (length ss) (length gs)
+    ∷ ltb (length vs) (length gs) ∷ ltb (length out) 1 ∷ [])
 
 -- A number, and the words for the amount as they are afterwards.
 pub record Told : Type 0 where
@@ -66,6 +77,6 @@ toldAs (owed amount) l = told 0 (overwrite 1 (λ i. amount) l)
 toldAs (refused number) l = told number l
 
 -- What the reconciliation gives for fields that are lent apart.
-unfoldable pub toldBy : ℕ → ℕ → ℕ → List ℕ → (grocer box place : List ℕ) → (count owed : List ℤ) → Told
-toldBy m n g prices gs bs ps cs out =
-    cond (shortFields gs bs ps cs out) (told 20 out) (toldAs (reconciled m n g prices (lentRecords (length gs) gs bs ps cs)) out)
+unfoldable pub toldBy : ℕ → ℕ → ℕ → List ℕ → (grocer box place : List ℕ) → (count : List ℤ) → (bag revision : List ℕ) → (owed : List ℤ) → Told
+toldBy m n g prices gs bs ps cs ss vs out =
+    cond (shortFields gs bs ps cs ss vs out) (told 20 out) (toldAs (reconciled m n g prices (lentRecords (length gs) gs bs ps cs ss vs)) out)

@@ -3,7 +3,7 @@ ghost use mathlib.Core.Path.{_≡_};
 ghost use Prim.Native.Nat.{_≤_, _<_};
 ghost use lib.ListN.{take, length};
 ghost use Rattle.laws.specs.Tables.{recell};
-ghost use Rattle.model.specs.Lent.{jobLent};
+ghost use Rattle.model.specs.Lent.{bagLent};
 ghost use Rattle.format.specs.Job.{headOf};
 ghost use Rattle.format.specs.Tables.{writeResult};
 ghost use Rattle.format.specs.Lent.{fileLent};
@@ -46,10 +46,13 @@ pub extern "C" fn entries_write(
     tally_code: &[u8],
     tally_count: &[i32],
     tally_issuer: &[u16],
+    tally_bag: &[u16],
+    tally_revision: &[u16],
     out: &mut [u8],
 ) -> usize
     ensures { λ r. ⌜ written r (now (out .exit)) ≡ writtenAs (writeResult (headOf boxes grocers offers tallies cycle) (fileLent price «offer_owner» «offer_code»
-        «offer_issuer» «grocer_owner» «tally_grocer» «tally_box» «tally_code» «tally_count» «tally_issuer») (now (out .entry))) ⌝ }
+        «offer_issuer» «grocer_owner» «tally_grocer» «tally_box» «tally_code» «tally_count» «tally_issuer» «tally_bag»
+        «tally_revision») (now (out .entry))) ⌝ }
 {
     let a = writer::write(
         boxes,
@@ -67,6 +70,8 @@ pub extern "C" fn entries_write(
         tally_code,
         tally_count,
         tally_issuer,
+        tally_bag,
+        tally_revision,
         out,
     );
     number(a)
@@ -78,18 +83,23 @@ fn tally(
     tally_box: &[u16],
     tally_offer: &[u16],
     tally_count: &[i32],
+    tally_bag: &[u16],
+    tally_revision: &[u16],
     i: usize,
 ) -> Tally
     requires { ⌜ i < length (now «tally_grocer») ⌝ }
-    requires { ⌜ Fields (length (now «tally_grocer»)) (now «tally_grocer») (now «tally_box») (now «tally_offer») (now «tally_count») ⌝ }
+    requires { ⌜ Fields (length (now «tally_grocer»)) (now «tally_grocer») (now «tally_box») (now «tally_offer») (now «tally_count») (now «tally_bag»)
+        (now «tally_revision») ⌝ }
     ensures { λ r. ⌜ r ≡ lentTally (now («tally_grocer» .entry)) (now («tally_box» .entry)) (now («tally_offer» .entry))
-        (now («tally_count» .entry)) i ⌝ }
+        (now («tally_count» .entry)) (now («tally_bag» .entry)) (now («tally_revision» .entry)) i ⌝ }
 {
     Tally {
         grocer: tally_grocer[i],
         tally_box: tally_box[i],
         place: tally_offer[i],
         count: tally_count[i],
+        bag: tally_bag[i],
+        revision: tally_revision[i],
     }
 }
 
@@ -99,11 +109,15 @@ fn records(
     tally_box: &[u16],
     tally_offer: &[u16],
     tally_count: &[i32],
+    tally_bag: &[u16],
+    tally_revision: &[u16],
 ) -> [Tally; 1024]
     requires { ⌜ length (now «tally_grocer») ≤ 1024 ⌝ }
-    requires { ⌜ Fields (length (now «tally_grocer»)) (now «tally_grocer») (now «tally_box») (now «tally_offer») (now «tally_count») ⌝ }
+    requires { ⌜ Fields (length (now «tally_grocer»)) (now «tally_grocer») (now «tally_box») (now «tally_offer») (now «tally_count») (now «tally_bag»)
+        (now «tally_revision») ⌝ }
     ensures { λ r. ⌜ recordsOf (take (length (now («tally_grocer» .entry))) r) ≡ lentRecords (length (now («tally_grocer» .entry)))
-        (now («tally_grocer» .entry)) (now («tally_box» .entry)) (now («tally_offer» .entry)) (now («tally_count» .entry)) ⌝ }
+        (now («tally_grocer» .entry)) (now («tally_box» .entry)) (now («tally_offer» .entry)) (now («tally_count» .entry))
+        (now («tally_bag» .entry)) (now («tally_revision» .entry)) ⌝ }
 {
     let n = tally_grocer.len();
     let none = Tally {
@@ -111,10 +125,20 @@ fn records(
         tally_box: 0,
         place: 0,
         count: 0,
+        bag: 0,
+        revision: 0,
     };
     let mut list = [none; 1024];
     for i in 0..n {
-        let t = tally(tally_grocer, tally_box, tally_offer, tally_count, i);
+        let t = tally(
+            tally_grocer,
+            tally_box,
+            tally_offer,
+            tally_count,
+            tally_bag,
+            tally_revision,
+            i,
+        );
         list[i] = t;
     }
     list
@@ -141,6 +165,8 @@ pub extern "C" fn entries_reconcile(
     tally_box: &[u16],
     tally_offer: &[u16],
     tally_count: &[i32],
+    tally_bag: &[u16],
+    tally_revision: &[u16],
     price: &[u32],
     grocers: u16,
     offers: u16,
@@ -148,17 +174,27 @@ pub extern "C" fn entries_reconcile(
     owed: &mut [i64],
 ) -> u16
     ensures { λ r. ⌜ told r (now (owed .exit)) ≡ toldBy grocers offers wanted (now (price .entry)) (now («tally_grocer» .entry))
-        (now («tally_box» .entry)) (now («tally_offer» .entry)) (now («tally_count» .entry)) (now (owed .entry)) ⌝ }
+        (now («tally_box» .entry)) (now («tally_offer» .entry)) (now («tally_count» .entry)) (now («tally_bag» .entry))
+        (now («tally_revision» .entry)) (now (owed .entry)) ⌝ }
 {
     let n = tally_grocer.len();
     let few = (1024 < n)
         | (tally_box.len() < n)
         | (tally_offer.len() < n)
-        | (tally_count.len() < n);
+        | (tally_count.len() < n)
+        | (tally_bag.len() < n)
+        | (tally_revision.len() < n);
     if few | (owed.len() < 1) {
         return 20;
     }
-    let list = records(tally_grocer, tally_box, tally_offer, tally_count);
+    let list = records(
+        tally_grocer,
+        tally_box,
+        tally_offer,
+        tally_count,
+        tally_bag,
+        tally_revision,
+    );
     let a = reconcile::reconcile_few(list, n, price, grocers, offers, wanted);
     tell(a, owed)
 }
@@ -215,13 +251,16 @@ pub extern "C" fn entries_message_tables(
     tally_box: &[u16],
     tally_offer: &[u16],
     tally_count: &[i32],
+    tally_bag: &[u16],
+    tally_revision: &[u16],
     price_words: &mut [u16],
     total_words: &mut [u16],
     job_words: &mut [u32],
 ) -> u16
     ensures { λ r. ⌜ messagesTold r (now («price_words» .exit)) (now («total_words» .exit)) (now («job_words» .exit))
         ≡ messagesBy
-        (jobLent boxes grocers offers tallies price «offer_owner» «grocer_owner» «tally_grocer» «tally_box» «tally_offer» «tally_count»)
+        (bagLent boxes grocers offers tallies price «offer_owner» «grocer_owner» «tally_grocer» «tally_box» «tally_offer» «tally_count»
+        «tally_bag» «tally_revision»)
         (now («price_words» .entry)) (now («total_words» .entry)) (now («job_words» .entry)) ⌝ }
 {
     if (price_words.len() < 256) | (total_words.len() < 256) | (job_words.len() < 1) {
@@ -242,6 +281,8 @@ pub extern "C" fn entries_message_tables(
         tally_box,
         tally_offer,
         tally_count,
+        tally_bag,
+        tally_revision,
         &mut prices,
         &mut totals,
     );
@@ -282,6 +323,8 @@ pub extern "C" fn entries_book(
     tally_box: &[u16],
     tally_offer: &[u16],
     tally_count: &[i32],
+    tally_bag: &[u16],
+    tally_revision: &[u16],
     book_box: u16,
     local_offers: &mut [u16],
     local_grocers: &mut [u16],
@@ -291,7 +334,8 @@ pub extern "C" fn entries_book(
     numbers: &mut [u16],
 ) -> u16
     ensures { λ r. ⌜ BookedBy
-        (jobLent boxes grocers offers tallies price «offer_owner» «grocer_owner» «tally_grocer» «tally_box» «tally_offer» «tally_count»)
+        (bagLent boxes grocers offers tallies price «offer_owner» «grocer_owner» «tally_grocer» «tally_box» «tally_offer» «tally_count»
+        «tally_bag» «tally_revision»)
         «book_box»
         (bookTables (now («local_offers» .entry)) (now («local_grocers» .entry)) (now (starts .entry)) (now («packed_grocers» .entry))
         (now («packed_counts» .entry)))
@@ -316,6 +360,8 @@ pub extern "C" fn entries_book(
         tally_box,
         tally_offer,
         tally_count,
+        tally_bag,
+        tally_revision,
         book_box,
         local_offers,
         local_grocers,

@@ -92,6 +92,14 @@ module _ (f : List ℕ) {h : Head} (i : ℕ) {at : ℕ} (w : Whole f h) (e : at 
   unfolding decode readTally
   tally-issuer = word-shift f at 18 ∙ ap (λ (p : ℕ). word16 (after (from f p) 18)) (tally-at f i w e)
 
+  pub tally-bag : word16 (from f (at + 20)) ≡ decode f .tally i .bag
+  unfolding decode readTally
+  tally-bag = word-shift f at 20 ∙ ap (λ (p : ℕ). word16 (after (from f p) 20)) (tally-at f i w e)
+
+  pub tally-revision : word16 (from f (at + 22)) ≡ decode f .tally i .revision
+  unfolding decode readTally
+  tally-revision = word-shift f at 22 ∙ ap (λ (p : ℕ). word16 (after (from f p) 22)) (tally-at f i w e)
+
   -- The number of the name that it has for its offer.
   pub tally-name : (s : ℕ) → s ≡ word16 (from f (at + 18)) → nameNumber (nameOf s (readCode (from f (at + 3)))) ≡ nameNumber (tallyName (decode f) i)
   tally-name s q = ap₂ (λ (x : ℕ) (c : Code). nameNumber (nameOf x c)) (q ∙ tally-issuer) tally-code

@@ -1,9 +1,9 @@
--- A file that is as long as its header says, and bytes that are copied.
+-- A file that is as long as its header says, bytes that are copied, and places that are kept.
 use mathlib.Core.Path.{_≡_}
 use mathlib.Core.List.{List}
 use Prim.Native.Nat.{ℕ, _+_, _*_, _<_, _≤_}
 use lib.ListN.{length, getD}
-use Rattle.format.specs.Job.{Head}
+use Rattle.format.specs.Job.{Head, FileJob, placeOf}
 use Rattle.format.specs.Blocks.{blockCount}
 use Rattle.format.specs.File.{decode}
 use Rattle.blocks.specs.Due.{Most}
@@ -19,3 +19,7 @@ pub record Copied (g : ℕ → ℕ) (to n : ℕ) (old new : List ℕ) : Type 0 w
   pub inside : (k : ℕ) → k < n → getD new (to + k) 0 ≡ g k
   pub before : (k : ℕ) → k < to → getD new k 0 ≡ getD old k 0
   pub past : (k : ℕ) → to + n ≤ k → getD new k 0 ≡ getD old k 0
+
+-- The first t words are the places of the offers that the first t tallies name.
+pub record Placed (j : FileJob) (places : List ℕ) (t : ℕ) : Type 0 where
+  pub at : (i : ℕ) → i < t → getD places i 0 ≡ placeOf j i

@@ -146,6 +146,25 @@ pub fn fill_tally_ends(
     }
 }
 
+// The tallies' bags, and the revisions of their counts.
+pub fn fill_bags(f: &[u8], head: Head, tally_bag: &mut [u16], tally_revision: &mut [u16])
+    requires { ⌜ Whole (now f) (asHead head) ⌝ }
+    requires { ⌜ (head .tallies ≤ length (now «tally_bag»)) × (head .tallies ≤ length (now «tally_revision»)) ⌝ }
+    ensures { λ _. ⌜ now («tally_bag» .exit) ≡ overwrite (head .tallies) (λ i. decode (now (f .entry)) .tally i .bag) (now («tally_bag» .entry)) ⌝ }
+    ensures { λ _. ⌜ now («tally_revision» .exit) ≡ overwrite (head .tallies) (λ i. decode (now (f .entry)) .tally i .revision)
+        (now («tally_revision» .entry)) ⌝ }
+{
+    let first = tallies_at(head);
+    let t = head.tallies;
+    let mut i: usize = 0;
+    while i < t {
+        let at = record_at(first, i);
+        tally_bag[i] = narrow(word16(f, at + 20));
+        tally_revision[i] = narrow(word16(f, at + 22));
+        i += 1;
+    }
+}
+
 // A table of 16-bit words: those at byte `at` of the first n records of 24 bytes whose first block is `first`.
 pub fn fill_words(f: &[u8], first: usize, n: usize, at: usize, words: &mut [u16])
     requires { ⌜ (first ≤ 100) × (n ≤ 1000) × (at ≤ 22) × (n ≤ length (now words)) ⌝ }

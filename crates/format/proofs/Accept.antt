@@ -12,14 +12,15 @@ use Rattle.laws.specs.Below.{any}
 use Rattle.laws.proofs.Bools.{no-true, or-off}
 use Rattle.laws.proofs.Below.{any-none}
 use Rattle.laws.proofs.Checks.{none-of, unmet}
+use Rattle.recount.specs.Recount.{countedTwice}
 use Rattle.format.specs.First.{firstBelow}
 use Rattle.format.specs.Bytes.{from, after, word16}
-use Rattle.format.specs.Job.{badSizes, shared, unnamed}
+use Rattle.format.specs.Job.{badSizes, shared, unnamed, countedTallies}
 use Rattle.format.specs.Blocks.{BlockKind, offerBlock, grocerBlock, tallyBlock, blocks, offersAt, grocersAt, talliesAt, kindAt, blockKindNumber, records, spare, firstSum, secondSum}
 use Rattle.format.specs.File.{encode, decode}
 use Rattle.format.specs.Refusals.{badLength, badCount, sumsDiffer, notDue, badHeader, spareUsed, badRecord, headerRefusal, blockRefusal, fileRefusal, jobRefusal}
 use Rattle.format.proofs.Firsts.{each, below-at}
-use Rattle.format.proofs.Order.{shared-refused, unnamed-refused}
+use Rattle.format.proofs.Order.{shared-refused, unnamed-refused, twice-refused}
 use Rattle.format.proofs.Plan.{kind-offers, kind-grocers, kind-tallies}
 use Rattle.format.proofs.Read.{Clean, file-read}
 use Rattle.format.proofs.Range.{Fine, fine-job, InRange, in-range}
@@ -114,6 +115,9 @@ module _ (f : List ℕ) (ok : fileRefusal f ≡ 0) where
   named : unnamed (decode f) ≡ false
   named = no-true _ (λ h. let e = unnamed-refused f right top count others apart h in omega arith)
 
+  once : countedTwice (countedTallies (decode f)) ≡ false
+  once = no-true _ (λ h. let e = twice-refused f right top count others apart named h in omega arith)
+
   fine-read : Fine (decode f)
   unfolding badRecord
   fine-read =
@@ -130,6 +134,7 @@ module _ (f : List ℕ) (ok : fileRefusal f ≡ 0) where
             rw e at (inner (talliesAt n + i / 21) (tallyBlock (i / 21)) (omega arith) (omega arith) (kind-tallies n (i / 21)) (i % 21) (omega arith));
         shared = apart;
         unnamed = named;
+        once = once;
       }
 
   -- The writer takes the job of an accepted file.

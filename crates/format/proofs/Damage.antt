@@ -85,6 +85,8 @@ module _ (f f′ : List ℕ) (k : ℕ) (k₀ : 0 < k) (same : (p : ℕ) → p < 
         code = record { size = at 3 (omega arith); digit = λ d l. at (3 + (1 + d)) (omega arith) };
         count = rw (at 14 (omega arith), at 15 (omega arith), at 16 (omega arith), at 17 (omega arith));
         issuer = rw (at 18 (omega arith), at 19 (omega arith));
+        bag = rw (at 20 (omega arith), at 21 (omega arith));
+        revision = rw (at 22 (omega arith), at 23 (omega arith));
       })
     where
       b : ℕ

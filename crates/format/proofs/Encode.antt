@@ -26,7 +26,7 @@ offer-bytes a b s = rw (s .price, s .owner, s .issuer, code-bytes (a .code) (b .
 
 tally-bytes : (a b : Tally) → TallyWords a b → tallyBytes a ≡ tallyBytes b
 unfolding tallyBytes
-tally-bytes a b s = rw (s .grocer, s .box, s .count, s .issuer, code-bytes (a .code) (b .code) (s .code))
+tally-bytes a b s = rw (s .grocer, s .box, s .count, s .issuer, s .bag, s .revision, code-bytes (a .code) (b .code) (s .code))
 
 module _ (a b : FileJob) (s : SameWords a b) where
   record-bytes : (z : BlockKind) (r : ℕ) → r < records (b .head) z → recordBytes a z r ≡ recordBytes b z r

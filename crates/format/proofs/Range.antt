@@ -12,8 +12,9 @@ use Rattle.laws.specs.Below.{any}
 use Rattle.laws.proofs.Bools.{split, clash, or-off}
 use Rattle.laws.proofs.Below.{any-at, any-none, find-passes, find-none, any-false}
 use Rattle.laws.proofs.Checks.{none-of, unmet, none-met}
+use Rattle.recount.specs.Recount.{countedTwice}
 use Rattle.format.specs.Codes.{isCode, sameOffer}
-use Rattle.format.specs.Job.{Head, FileJob, Offer, Tally, badSizes, badOffer, badOwner, badTally, badRecords, offerName, tallyName, names, placeOf, shared, unnamed}
+use Rattle.format.specs.Job.{Head, FileJob, Offer, Tally, badSizes, badOffer, badOwner, badTally, badRecords, offerName, tallyName, names, placeOf, shared, unnamed, countedTallies}
 use Rattle.format.specs.Refusals.{jobRefusal}
 use Rattle.format.proofs.Codes.{same-trans}
 
@@ -40,7 +41,8 @@ pub record TallyIn (h : Head) (t : Tally) : Type 0 where
   pub code : isCode (t .code) ≡ true
   pub count : natAbs (t .count) ≤ 99999
 
--- What is in range: sizes and fields; no two offers name one; each tally's place is below N and names its offer.
+-- What is in range: sizes and fields; no two offers name one; each tally's place is below N and names its offer;
+-- no bag and revision stands twice.
 pub record InRange (j : FileJob) : Type 0 where
   pub sizes : SizesIn (j .head)
   pub offer : (i : ℕ) → i < j .head .offers → OfferIn (j .head) (j .offer i)
@@ -49,6 +51,7 @@ pub record InRange (j : FileJob) : Type 0 where
   pub apart : (i k : ℕ) → k < i → i < j .head .offers → sameOffer (offerName j k) (offerName j i) ≡ false
   pub place : (t : ℕ) → t < j .head .tallies → placeOf j t < j .head .offers
   pub named : (t : ℕ) → t < j .head .tallies → sameOffer (offerName j (placeOf j t)) (tallyName j t) ≡ true
+  pub once : countedTwice (countedTallies j) ≡ false
 
 -- What 4 says where it is not met.
 pub sizes-in : (h : Head) → badSizes h ≡ false → SizesIn h
@@ -81,7 +84,7 @@ tally-in h t e =
 
 -- ---- what the conditions of a whole job say where none is met
 
--- None of the conditions 4, 6, 7 and 8 is met.
+-- None of the conditions 4 and 6 to 9 is met.
 pub record Fine (j : FileJob) : Type 0 where
   pub sizes : badSizes (j .head) ≡ false
   pub offer : (i : ℕ) → i < j .head .offers → badOffer (j .head) (j .offer i) ≡ false
@@ -89,6 +92,7 @@ pub record Fine (j : FileJob) : Type 0 where
   pub tally : (t : ℕ) → t < j .head .tallies → badTally (j .head) (j .tally t) ≡ false
   pub shared : shared j ≡ false
   pub unnamed : unnamed j ≡ false
+  pub once : countedTwice (countedTallies j) ≡ false
 
 -- A job that is not refused.
 pub fine : (j : FileJob) → jobRefusal j ≡ 0 → Fine j
@@ -107,6 +111,7 @@ fine j e =
       tally = λ i h. any-none (j .head .tallies) (λ i. badTally (j .head) (j .tally i)) i h (b .1);
       shared = r .1 .1 .0;
       unnamed = r .1 .1 .1 .0;
+      once = r .1 .1 .1 .1 .0;
     }
 
 -- And the other way round.
@@ -117,7 +122,7 @@ fine-job j f =
       f .sizes,
       (
         rw (any-false _ (λ i. badOffer (j .head) (j .offer i)) (f .offer), any-false _ (λ i. badOwner (j .head) (j .grocerOwner i)) (f .grocerOwner), any-false _ (λ i. badTally (j .head) (j .tally i)) (f .tally)),
-        (f .shared, (f .unnamed, tt)),
+        (f .shared, (f .unnamed, (f .once, tt))),
       ),
     )
 
@@ -176,4 +181,5 @@ in-range j e =
       apart = apart j (f .shared);
       place = λ t h. named-place j t (n t h) .0;
       named = λ t h. named-place j t (n t h) .1;
+      once = f .once;
     }

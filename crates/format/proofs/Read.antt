@@ -39,15 +39,19 @@ offer-bytes g b =
     ap (λ (l : List ℕ). (g 0 ∷ g 1 ∷ g 2 ∷ g 3 ∷ []) ++ (g 4 ∷ g 5 ∷ tabulate 10 (after g 6)) ++ l) (bytes-word16 (g 16) (g 17) (b 16))
 
 -- A tally's fields.
-pub tally-bytes : (g : ℕ → ℕ) → Bytes g → tallyBytes (readTally g) ≡ tabulate 20 g
+pub tally-bytes : (g : ℕ → ℕ) → Bytes g → tallyBytes (readTally g) ≡ tabulate 24 g
 unfolding tallyBytes readTally codeBytes tabulate
 tally-bytes g b =
     let v = word32 (after g 14) in
     let z : ofZ w32 (toZ w32 v) ≡ v = ofZ-toZ {w = w32} (record { fits = omega (arith, b 14, b 15, b 16, b 17) }) in
+    let name = g 2 ∷ g 3 ∷ tabulate 10 (after g 4) in
+    let last = bytes16 (word16 (after g 22)) in
     rw z
-    (ap (λ (l : List ℕ). l ++ (g 2 ∷ g 3 ∷ tabulate 10 (after g 4)) ++ bytes32 v ++ bytes16 (word16 (after g 18))) (bytes-word16 (g 0) (g 1) (b 0)) ∙
-    ap (λ (l : List ℕ). (g 0 ∷ g 1 ∷ []) ++ (g 2 ∷ g 3 ∷ tabulate 10 (after g 4)) ++ l ++ bytes16 (word16 (after g 18))) (bytes-word32 (g 14) (g 15) (g 16) (g 17) (b 14) (b 15) (b 16)) ∙
-    ap (λ (l : List ℕ). (g 0 ∷ g 1 ∷ []) ++ (g 2 ∷ g 3 ∷ tabulate 10 (after g 4)) ++ (g 14 ∷ g 15 ∷ g 16 ∷ g 17 ∷ []) ++ l) (bytes-word16 (g 18) (g 19) (b 18)))
+    (ap (λ (l : List ℕ). l ++ name ++ bytes32 v ++ bytes16 (word16 (after g 18)) ++ bytes16 (word16 (after g 20)) ++ last) (bytes-word16 (g 0) (g 1) (b 0)) ∙
+    ap (λ (l : List ℕ). (g 0 ∷ g 1 ∷ []) ++ name ++ l ++ bytes16 (word16 (after g 18)) ++ bytes16 (word16 (after g 20)) ++ last) (bytes-word32 (g 14) (g 15) (g 16) (g 17) (b 14) (b 15) (b 16)) ∙
+    ap (λ (l : List ℕ). (g 0 ∷ g 1 ∷ []) ++ name ++ (g 14 ∷ g 15 ∷ g 16 ∷ g 17 ∷ []) ++ l ++ bytes16 (word16 (after g 20)) ++ last) (bytes-word16 (g 18) (g 19) (b 18)) ∙
+    ap (λ (l : List ℕ). (g 0 ∷ g 1 ∷ []) ++ name ++ (g 14 ∷ g 15 ∷ g 16 ∷ g 17 ∷ []) ++ (g 18 ∷ g 19 ∷ []) ++ l ++ last) (bytes-word16 (g 20) (g 21) (b 20)) ∙
+    ap (λ (l : List ℕ). (g 0 ∷ g 1 ∷ []) ++ name ++ (g 14 ∷ g 15 ∷ g 16 ∷ g 17 ∷ []) ++ (g 18 ∷ g 19 ∷ []) ++ (g 20 ∷ g 21 ∷ []) ++ l) (bytes-word16 (g 22) (g 23) (b 22)))
 
 sum-bytes : (g : ℕ → ℕ) → Bytes g → bytes16 (word16 (after g 508)) ++ bytes16 (word16 (after g 510)) ≡ tabulate 4 (after g 508)
 unfolding tabulate
@@ -103,7 +107,7 @@ module _ (f : List ℕ) (bytes : (p : ℕ) → getD f p 0 < 256) (mark : getD f 
   field-at grocerBlock k s (at-grocers e) hs h =
       let z : s % 1 ≡ 0 = omega arith in
       rw z (ap (λ (p : ℕ). getD f p 0) (omega arith))
-  field-at (tallyBlock b) k s (at-tallies _ e) hs h = field-read f _ 20 (recordAt (talliesAt (decode f .head)) (21 * b + s / 24)) (s % 24)
+  field-at (tallyBlock b) k s (at-tallies _ e) hs h = field-read f _ 24 (recordAt (talliesAt (decode f .head)) (21 * b + s / 24)) (s % 24)
       (tally-bytes _ (anywhere (recordAt (talliesAt (decode f .head)) (21 * b + s / 24)))) h _ (omega arith)
 
   record-read : (b : BlockKind) (k s : ℕ) → At (decode f .head) k b → s < 504 → (spare (decode f .head) b s ≡ true → from f (512 * k) (4 + s) ≡ 0) → recordByte (decode f) b s ≡ from f (512 * k) (4 + s)

@@ -1,12 +1,14 @@
 -- Two jobs with the same words are refused alike. Assumes nothing.
-use mathlib.Core.Path.{_≡_, _∙_, ap}
+use mathlib.Core.Path.{_≡_, refl, _∙_, ap}
 use mathlib.Core.Bool.{true, not}
 use Prim.Native.Nat.{ℕ, _<_}
 use native.Mathlib.Omega.{arith}
 use Rattle.laws.specs.Below.{any, find}
 use Rattle.laws.proofs.Below.{any-cong, find-cong}
+use Rattle.recount.specs.Recount.{Counted, countedTwice}
+use Rattle.recount.proofs.Recount.{recount-laws}
 use Rattle.format.specs.Codes.{Code, Name, isCode, codeNumber, sameOffer}
-use Rattle.format.specs.Job.{Head, FileJob, Offer, Tally, badOffer, badTally, offerName, tallyName, names, placeOf, shared, unnamed}
+use Rattle.format.specs.Job.{Head, FileJob, Offer, Tally, badOffer, badTally, offerName, tallyName, names, placeOf, shared, unnamed, countedTallies}
 use Rattle.format.specs.Refusals.{jobRefusal}
 use Rattle.format.proofs.Codes.{code-cong, number-cong}
 use Rattle.format.proofs.Range.{fine, fine-job, offer-in, tally-in}
@@ -30,6 +32,8 @@ pub record TallyWords (a b : Tally) : Type 0 where
   pub code : SameCode (a .code) (b .code)
   pub count : a .count ≡ b .count
   pub issuer : a .issuer ≡ b .issuer
+  pub bag : a .bag ≡ b .bag
+  pub revision : a .revision ≡ b .revision
 
 -- The same head, and the same words in each table as far as it counts: two jobs that are one.
 pub record SameWords (a b : FileJob) : Type 0 where
@@ -59,6 +63,22 @@ offer-same h o p w = rw (w .price, w .owner, same-code (o .code) (p .code) (w .c
 pub tally-same : (h : Head) (o p : Tally) → TallyWords o p → badTally h o ≡ badTally h p
 unfolding badTally
 tally-same h o p w = rw (w .grocer, w .box, w .count, same-code (o .code) (p .code) (w .code))
+
+-- Counts with the same words meet 9 alike.
+pub twice-cong : (a b : Counted) → a .size ≡ b .size → ((t : ℕ) → t < b .size → a .grocer t ≡ b .grocer t) → ((t : ℕ) → t < b .size → a .offer t ≡ b .offer t) →
+    ((t : ℕ) → t < b .size → a .bag t ≡ b .bag t) → ((t : ℕ) → t < b .size → a .revision t ≡ b .revision t) → countedTwice a ≡ countedTwice b
+twice-cong a b e grocer offer bag revision =
+    recount-laws .orderTwice b a (λ t. t) (λ t. t) (record {
+      size = e;
+      inside = λ t h. rw e at h;
+      back = λ t h. rw e h;
+      there = λ t h. refl;
+      here = λ t h. refl;
+      grocer = λ t h. grocer t (rw e at h);
+      offer = λ t h. offer t (rw e at h);
+      bag = λ t h. bag t (rw e at h);
+      revision = λ t h. revision t (rw e at h);
+    })
 
 module _ (a b : FileJob) (s : SameWords a b) (ok : jobRefusal b ≡ 0) where
   offer-number : (i : ℕ) → i < b .head .offers → codeNumber (a .offer i .code) ≡ codeNumber (b .offer i .code)
@@ -93,6 +113,13 @@ module _ (a b : FileJob) (s : SameWords a b) (ok : jobRefusal b ≡ 0) where
       ap (λ (h : Head). any (h .tallies) (λ t. not (any (h .offers) (names a t)))) (s .head)
       ∙ any-cong (b .head .tallies) _ _ (λ t l. ap not (any-cong (b .head .offers) (names a t) (names b t) (names-same t l)))
 
+  -- What the recount rule looks at is the same.
+  twice-same : countedTwice (countedTallies a) ≡ countedTwice (countedTallies b)
+  unfolding countedTallies
+  twice-same =
+      twice-cong (countedTallies a) (countedTallies b) (ap (λ (h : Head). h .tallies) (s .head))
+      (λ t h. s .tally t h .grocer) place-same (λ t h. s .tally t h .bag) (λ t h. s .tally t h .revision)
+
   -- A job with the words of one that is not refused is not refused.
   pub same-fine : jobRefusal a ≡ 0
   same-fine =
@@ -105,4 +132,5 @@ module _ (a b : FileJob) (s : SameWords a b) (ok : jobRefusal b ≡ 0) where
         tally = λ i h. let h′ : i < b .head .tallies = rw e at h in rw e (tally-same (b .head) _ _ (s .tally i h′) ∙ f .tally i h′);
         shared = shared-same ∙ f .shared;
         unnamed = unnamed-same ∙ f .unnamed;
+        once = twice-same ∙ f .once;
       })

@@ -108,9 +108,13 @@ module _ (j : FileJob) (ok : jobRefusal j ≡ 0) (words : Words16 j) where
       let i = words .tallyIssuer (21 * b + r) (omega arith) in
       append
       (append
+      (append
+      (append
       (append (small16 (j .tally (21 * b + r) .grocer) (omega arith)) (cons (omega arith) (small-code _ (t .code))))
       (small32 (ofZ w32 (j .tally (21 * b + r) .count)) (bits-small (j .tally (21 * b + r) .count) (t .count))))
-      (small16 (j .tally (21 * b + r) .issuer) i)
+      (small16 (j .tally (21 * b + r) .issuer) i))
+      (small16 (j .tally (21 * b + r) .bag) (words .tallyBag (21 * b + r) (omega arith))))
+      (small16 (j .tally (21 * b + r) .revision) (words .tallyRevision (21 * b + r) (omega arith)))
 
   record-small : (b : BlockKind) (s : ℕ) → recordByte j b s < 256
   unfolding recordByte
@@ -147,7 +151,7 @@ module _ (j : FileJob) (ok : jobRefusal j ≡ 0) (words : Words16 j) where
       (λ e. rw e (body-small k q h))
       (λ e. rw e (append (small16 (firstSum (bodyByte j k)) (omega arith)) (small16 (secondSum (bodyByte j k)) (omega arith)) .at (q - 508)))
 
-  -- Every byte of a written job's file is below 256, where its cycle and issuers are 16-bit numbers.
+  -- Every byte of a written job's file is below 256, where its cycle, issuers, bags and revisions are 16-bit numbers.
   pub encode-small : (p : ℕ) → getD (encode j) p 0 < 256
   unfolding encode
   encode-small p = small-tabulate (512 * blocks j) _ (λ i l. block-small (i / 512) (i % 512) (omega arith)) .at p

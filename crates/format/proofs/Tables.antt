@@ -120,6 +120,8 @@ module _ (t : ℕ) (l : TallyTables) where
         code = code-stored _ _ _ i h;
         count = getD-overwrite _ _ _ i (pos 0) h;
         issuer = getD-overwrite _ _ _ i 0 h;
+        bag = getD-overwrite _ _ _ i 0 h;
+        revision = getD-overwrite _ _ _ i 0 h;
       }
 
   tallies-same : (p q : ℕ → Tally) → ((i : ℕ) → i < t → TallyWords (p i) (q i)) → storeTallies t p l ≡ storeTallies t q l
@@ -130,7 +132,9 @@ module _ (t : ℕ) (l : TallyTables) where
       let e₂ = codes-same t (λ i. p i .code) (λ i. q i .code) (l .code) (λ i h. w i h .code) in
       let e₃ = overwrite-cong t (λ i. p i .count) (λ i. q i .count) (l .count) (λ i h. w i h .count) in
       let e₄ = overwrite-cong t (λ i. p i .issuer) (λ i. q i .issuer) (l .issuer) (λ i h. w i h .issuer) in
-      λ i. record { grocer = e₀ i; box = e₁ i; code = e₂ i; count = e₃ i; issuer = e₄ i }
+      let e₅ = overwrite-cong t (λ i. p i .bag) (λ i. q i .bag) (l .bag) (λ i h. w i h .bag) in
+      let e₆ = overwrite-cong t (λ i. p i .revision) (λ i. q i .revision) (l .revision) (λ i h. w i h .revision) in
+      λ i. record { grocer = e₀ i; box = e₁ i; code = e₂ i; count = e₃ i; issuer = e₄ i; bag = e₅ i; revision = e₆ i }
 
   tallies-long : (tally : ℕ → Tally) → LongTallies t (storeTallies t tally l)
   unfolding storeTallies storeCodes recell
@@ -141,6 +145,8 @@ module _ (t : ℕ) (l : TallyTables) where
         code = long-overwrite _ _ (l .code);
         count = long-overwrite _ _ (l .count);
         issuer = long-overwrite _ _ (l .issuer);
+        bag = long-overwrite _ _ (l .bag);
+        revision = long-overwrite _ _ (l .revision);
       }
 
   tallies-own : LongTallies t l → storeTallies t (tallyOf l) l ≡ l
@@ -151,24 +157,31 @@ module _ (t : ℕ) (l : TallyTables) where
       let e₂ = codes-own t (l .code) (h .code) in
       let e₃ = overwrite-same t (λ i. getD (l .count) i (pos 0)) (l .count) (pos 0) (h .count) (λ i q. refl) in
       let e₄ = overwrite-same t (λ i. getD (l .issuer) i 0) (l .issuer) 0 (h .issuer) (λ i q. refl) in
-      λ i. record { grocer = e₀ i; box = e₁ i; code = e₂ i; count = e₃ i; issuer = e₄ i }
+      let e₅ = overwrite-same t (λ i. getD (l .bag) i 0) (l .bag) 0 (h .bag) (λ i q. refl) in
+      let e₆ = overwrite-same t (λ i. getD (l .revision) i 0) (l .revision) 0 (h .revision) (λ i q. refl) in
+      λ i. record { grocer = e₀ i; box = e₁ i; code = e₂ i; count = e₃ i; issuer = e₄ i; bag = e₅ i; revision = e₆ i }
 
   long-tallies : shortTallies t l ≡ false → LongTallies t l
   unfolding shortTallies
   long-tallies e =
       let r =
-      none-of (ltb (length (l .grocer)) t ∷ ltb (length (l .box)) t ∷ ltb (length (l .code)) (t * 11) ∷ ltb (length (l .count)) t ∷ ltb (length (l .issuer)) t ∷ []) e in
+      none-of (
+      ltb (length (l .grocer)) t ∷ ltb (length (l .box)) t ∷ ltb (length (l .code)) (t * 11) ∷ ltb (length (l .count)) t ∷ ltb (length (l .issuer)) t ∷
+      ltb (length (l .bag)) t ∷ ltb (length (l .revision)) t ∷ []) e in
       record {
         grocer = ltb-false _ _ (r .0);
         box = ltb-false _ _ (r .1 .0);
         code = ltb-false _ _ (r .1 .1 .0);
         count = ltb-false _ _ (r .1 .1 .1 .0);
         issuer = ltb-false _ _ (r .1 .1 .1 .1 .0);
+        bag = ltb-false _ _ (r .1 .1 .1 .1 .1 .0);
+        revision = ltb-false _ _ (r .1 .1 .1 .1 .1 .1 .0);
       }
 
   pub enough-tallies : LongTallies t l → shortTallies t l ≡ false
   unfolding shortTallies
-  enough-tallies h = rw (le-ltb _ _ (h .grocer), le-ltb _ _ (h .box), le-ltb _ _ (h .code), le-ltb _ _ (h .count), le-ltb _ _ (h .issuer))
+  enough-tallies h =
+      rw (le-ltb _ _ (h .grocer), le-ltb _ _ (h .box), le-ltb _ _ (h .code), le-ltb _ _ (h .count), le-ltb _ _ (h .issuer), le-ltb _ _ (h .bag), le-ltb _ _ (h .revision))
 
 module _ (j : FileJob) (l : FileTables) where
   -- The job that tables hold once a job is stored there is that job, digits as written.

@@ -1,7 +1,7 @@
 -- The file of a job that the writer takes is accepted, and says that job. Assumes nothing.
 use mathlib.Core.Path.{_≡_, refl, sym, _∙_, ap}
 use mathlib.Core.Bool.{false, not, _&&_}
-use mathlib.Core.List.{[], _∷_, _++_}
+use mathlib.Core.List.{List, [], _∷_, _++_}
 use Prim.Native.Nat.{ℕ, _+_, _*_, _-_, _/_, _%_, _≤_, _<_}
 use native.Mathlib.Omega.{arith}
 use lib.Dec.{eqb}
@@ -90,7 +90,7 @@ module _ (j : FileJob) where
       field-at (offersAt + i / 21) (offerBlock (i / 21)) (i % 21) c (omega arith) (kind-offers (j .head) (i / 21) (omega arith)) (omega arith) hc (omega arith) ∙
       ap (λ (n : ℕ). getD (offerBytes (j .offer n)) c 0) e
 
-  tally-at : (i : ℕ) → i < j .head .tallies → (c : ℕ) → c < 20 → from (encode j) (recordAt (talliesAt (j .head)) i) c ≡ getD (tallyBytes (j .tally i)) c 0
+  tally-at : (i : ℕ) → i < j .head .tallies → (c : ℕ) → c < 24 → from (encode j) (recordAt (talliesAt (j .head)) i) c ≡ getD (tallyBytes (j .tally i)) c 0
   unfolding recordBytes
   tally-at i hi c hc =
       let e : 21 * (i / 21) + i % 21 ≡ i = omega arith in
@@ -113,15 +113,25 @@ offer-digit o k l =
     getD-append-add (v % 256 ∷ v / 256 % 256 ∷ v / 65536 % 256 ∷ v / 16777216 ∷ o .owner ∷ o .code .size ∷ []) (d ++ bytes16 (o .issuer)) k 0 ∙
     List·getD-append d (bytes16 (o .issuer)) 0 k (rw length-tabulate l) ∙ getD-tabulate 10 (o .code .digit) k 0 l
 
+-- A place of a list is one of the list with more behind it.
+longer : (l r : List ℕ) (k : ℕ) → k < length l → k < length (l ++ r)
+longer l r k h = rw length-append (omega arith)
+
 tally-digit : (t : Tally) (k : ℕ) → k < 10 → getD (tallyBytes t) (4 + k) 0 ≡ t .code .digit k
 unfolding tallyBytes codeBytes
 tally-digit t k l =
     let v = t .grocer in
     let d = tabulate 10 (t .code .digit) in
-    let b = bytes32 (ofZ w32 (t .count)) in
-    getD-append-add (v % 256 ∷ v / 256 ∷ t .box ∷ t .code .size ∷ []) ((d ++ b) ++ bytes16 (t .issuer)) k 0 ∙
-    List·getD-append (d ++ b) (bytes16 (t .issuer)) 0 k (rw (length-append, length-tabulate) (omega arith)) ∙
-    List·getD-append d b 0 k (rw length-tabulate l) ∙ getD-tabulate 10 (t .code .digit) k 0 l
+    let b = d ++ bytes32 (ofZ w32 (t .count)) in
+    let c = b ++ bytes16 (t .issuer) in
+    let e = c ++ bytes16 (t .bag) in
+    let in-d : k < length d = rw length-tabulate l in
+    let in-b = longer d (bytes32 (ofZ w32 (t .count))) k in-d in
+    let in-c = longer b (bytes16 (t .issuer)) k in-b in
+    let in-e = longer c (bytes16 (t .bag)) k in-c in
+    getD-append-add (v % 256 ∷ v / 256 ∷ t .box ∷ t .code .size ∷ []) (e ++ bytes16 (t .revision)) k 0 ∙
+    List·getD-append e (bytes16 (t .revision)) 0 k in-e ∙ List·getD-append c (bytes16 (t .bag)) 0 k in-c ∙
+    List·getD-append b (bytes16 (t .issuer)) 0 k in-b ∙ List·getD-append d (bytes32 (ofZ w32 (t .count))) 0 k in-d ∙ getD-tabulate 10 (t .code .digit) k 0 l
 
 module _ (j : FileJob) (ok : jobRefusal j ≡ 0) where
   size-grocers : word16 (from (encode j) 6) ≡ j .head .grocers
@@ -165,6 +175,8 @@ module _ (j : FileJob) (ok : jobRefusal j ≡ 0) where
             rw (at 14 (omega arith), at 15 (omega arith), at 16 (omega arith), at 17 (omega arith), word-bytes32 (ofZ w32 (t .count)))
             (read32-abs (t .count) (let b = in-range j ok .tally i h .count in omega arith));
         issuer = rw (at 18 (omega arith), at 19 (omega arith)) (word-bytes16 (t .issuer));
+        bag = rw (at 20 (omega arith), at 21 (omega arith)) (word-bytes16 (t .bag));
+        revision = rw (at 22 (omega arith), at 23 (omega arith)) (word-bytes16 (t .revision));
       }
 
   head-read : readHead (encode j) ≡ j .head
@@ -280,4 +292,4 @@ module _ (j : FileJob) (ok : jobRefusal j ≡ 0) where
 
   -- A written job's file is accepted.
   pub written-accepted : fileRefusal (encode j) ≡ 0
-  written-accepted = file-accepted (encode j) length-fine header-fine count-fine rest-fine (read-fine .shared) (read-fine .unnamed)
+  written-accepted = file-accepted (encode j) length-fine header-fine count-fine rest-fine (read-fine .shared) (read-fine .unnamed) (read-fine .once)

@@ -75,7 +75,7 @@ abbrev pub fieldSize : BlockKind → ℕ
 fieldSize header = 10
 fieldSize (offerBlock b) = 18
 fieldSize grocerBlock = 1
-fieldSize (tallyBlock b) = 20
+fieldSize (tallyBlock b) = 24
 
 -- "byte 4 K, byte 5 always 1, bytes 6–7 M, 8–9 N, 10–11 T"; "Header bytes 12–13 now hold the settlement cycle" (02 §1).
 unfoldable pub headerBytes : Head → List ℕ
@@ -85,9 +85,11 @@ headerBytes h = h .boxes ∷ 1 ∷ bytes16 (h .grocers) ++ bytes16 (h .offers) +
 unfoldable pub offerBytes : Offer → List ℕ
 offerBytes o = bytes32 (o .price) ++ o .owner ∷ codeBytes (o .code) ++ bytes16 (o .issuer)
 
--- "Tally: 0–1 grocer, 2 box, 3 digit count, 4–13 digits, 14–17 count, signed 32-bit two's complement"; 18–19 issuer.
+-- "Tally: 0–1 grocer, 2 box, 3 digit count, 4–13 digits, 14–17 count, signed 32-bit two's complement"; 18–19 issuer;
+-- "Tally bytes 20–21 hold a bag and 22–23 a revision" (02 §3).
 unfoldable pub tallyBytes : Tally → List ℕ
-tallyBytes t = bytes16 (t .grocer) ++ t .box ∷ codeBytes (t .code) ++ bytes32 (ofZ w32 (t .count)) ++ bytes16 (t .issuer)
+tallyBytes t =
+    bytes16 (t .grocer) ++ t .box ∷ codeBytes (t .code) ++ bytes32 (ofZ w32 (t .count)) ++ bytes16 (t .issuer) ++ bytes16 (t .bag) ++ bytes16 (t .revision)
 
 -- The fields of record r of a block; "Grocer: owner."
 unfoldable pub recordBytes : FileJob → BlockKind → ℕ → List ℕ

@@ -44,6 +44,8 @@ readTally g =
       code = readCode (after g 3);
       count = toZ w32 (word32 (after g 14));
       issuer = word16 (after g 18);
+      bag = word16 (after g 20);
+      revision = word16 (after g 22);
     }
 
 -- Where record i stands, of the records of 24 bytes whose first block is block k.

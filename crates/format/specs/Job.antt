@@ -1,4 +1,4 @@
--- A job as its file says it, and conditions 4, 6, 7 and 8 on it: the same for the reader and the writer.
+-- A job as its file says it, and conditions 4 and 6 to 9 on it: the same for the reader and the writer.
 use mathlib.Core.Bool.{Bool, not, _||_}
 use mathlib.Core.List.{[], _∷_}
 use Prim.Native.Nat.{ℕ, _<_}
@@ -7,6 +7,7 @@ use lib.IntN.{ℤ, natAbs}
 use Rattle.laws.specs.Below.{any, find}
 use Rattle.laws.specs.Checks.{anyOf}
 use Rattle.laws.specs.Limits.{maxBoxes, maxGrocers, maxOffers, maxTallies, maxPrice, maxCount}
+use Rattle.recount.specs.Recount.{Counted}
 use Rattle.format.specs.Codes.{Code, Name, nameOf, isCode, sameOffer}
 
 -- An offer: its price in tenths of a cent, the box that owns it, its code, and its issuer, any 16-bit number.
@@ -16,13 +17,16 @@ pub record Offer : Type 0 where
   pub code : Code
   pub issuer : ℕ
 
--- A tally: its grocer, the box that holds it, its offer's code, its count, and its offer's issuer.
+-- A tally: its grocer, the box that holds it, its offer's code, its count, its offer's issuer, its bag and the revision of its count.
+-- Bag and revision are any 16-bit numbers.
 pub record Tally : Type 0 where
   pub grocer : ℕ
   pub box : ℕ
   pub code : Code
   pub count : ℤ
   pub issuer : ℕ
+  pub bag : ℕ
+  pub revision : ℕ
 
 -- The numbers of the header: boxes K, grocers M, offers N and tallies T, and the settlement cycle, any 16-bit number.
 pub record Head : Type 0 where
@@ -98,8 +102,20 @@ shared j = any (j .head .offers) (λ i. any i (λ k. sameOffer (offerName j k) (
 unfoldable pub unnamed : FileJob → Bool
 unnamed j = any (j .head .tallies) (λ t. not (any (j .head .offers) (names j t)))
 
--- The words of a job that may be any 16 bits are 16 bits: the cycle and the issuers.
+-- What the recount rule looks at in a job: of each tally its grocer, the place of its offer, its bag and its revision.
+unfoldable pub countedTallies : FileJob → Counted
+countedTallies j = record {
+  size = j .head .tallies;
+  grocer = λ t. j .tally t .grocer;
+  offer = placeOf j;
+  bag = λ t. j .tally t .bag;
+  revision = λ t. j .tally t .revision;
+}
+
+-- The words of a job that may be any 16 bits are 16 bits: the cycle, the issuers, bags and revisions.
 pub record Words16 (j : FileJob) : Type 0 where
   pub cycle : j .head .cycle < 65536
   pub offerIssuer : (i : ℕ) → i < j .head .offers → j .offer i .issuer < 65536
   pub tallyIssuer : (t : ℕ) → t < j .head .tallies → j .tally t .issuer < 65536
+  pub tallyBag : (t : ℕ) → t < j .head .tallies → j .tally t .bag < 65536
+  pub tallyRevision : (t : ℕ) → t < j .head .tallies → j .tally t .revision < 65536

@@ -6,9 +6,10 @@ use lib.Dec.{ltb, eqb}
 use lib.ListN.{getD, length}
 use Rattle.laws.specs.Below.{any}
 use Rattle.laws.specs.Checks.{anyOf, firstMet}
+use Rattle.recount.specs.Recount.{countedTwice}
 use Rattle.format.specs.First.{firstOf, firstBelow}
 use Rattle.format.specs.Bytes.{from, after, word16}
-use Rattle.format.specs.Job.{Head, FileJob, badSizes, badOffer, badOwner, badTally, badRecords, shared, unnamed}
+use Rattle.format.specs.Job.{Head, FileJob, badSizes, badOffer, badOwner, badTally, badRecords, shared, unnamed, countedTallies}
 use Rattle.format.specs.Blocks.{BlockKind, header, offerBlock, grocerBlock, tallyBlock, blocks}
 use Rattle.format.specs.Blocks.{kindAt, blockKindNumber, records, spare, firstSum, secondSum}
 use Rattle.format.specs.File.{decode}
@@ -62,7 +63,7 @@ blockRefusal f k =
     let b = kindAt h k in
     firstMet ((sumsDiffer g, 2) ∷ (notDue h k g, 3) ∷ (spareUsed h k g, 5) ∷ (any (records h b) (badRecord j b), 6) ∷ [])
 
--- "The reader checks 20 first, then 1, the header, the block count, other blocks ascending, then 7, 8." 20 is in Tables.
+-- "The reader checks 20 first, then 1, the header, the block count, other blocks ascending, then 7, 8"; 9 is "checked after 8" (02 §3). 20 is in Tables.
 unfoldable pub fileRefusal : List ℕ → ℕ
 fileRefusal f =
     let j = decode f in
@@ -71,8 +72,9 @@ fileRefusal f =
     headerRefusal f ∷
     firstMet ((badCount f, 1) ∷ []) ∷
     firstBelow (blocks j - 1) (λ k. blockRefusal f (1 + k)) ∷
-    firstMet ((shared j, 7) ∷ (unnamed j, 8) ∷ []) ∷ [])
+    firstMet ((shared j, 7) ∷ (unnamed j, 8) ∷ (countedTwice (countedTallies j), 9) ∷ []) ∷ [])
 
--- "The writer checks 20, 4, 6, 7, 8." 20 is in Tables.
+-- "The writer checks 20, 4, 6, 7, 8", then 9. 20 is in Tables.
 unfoldable pub jobRefusal : FileJob → ℕ
-jobRefusal j = firstMet ((badSizes (j .head), 4) ∷ (badRecords j, 6) ∷ (shared j, 7) ∷ (unnamed j, 8) ∷ [])
+jobRefusal j =
+    firstMet ((badSizes (j .head), 4) ∷ (badRecords j, 6) ∷ (shared j, 7) ∷ (unnamed j, 8) ∷ (countedTwice (countedTallies j), 9) ∷ [])

@@ -30,6 +30,8 @@ pub record TallyTables : Type 0 where
   pub code : List ℕ
   pub count : List ℤ
   pub issuer : List ℕ
+  pub bag : List ℕ
+  pub revision : List ℕ
 
 -- The job's tables with its codes.
 pub record FileTables : Type 0 where
@@ -47,8 +49,8 @@ abbrev pub offerTables : (price owner code issuer : List ℕ) → OfferTables
 offerTables p o c i = record { price = p; owner = o; code = c; issuer = i }
 
 -- The tallies' lent lists as tables.
-abbrev pub tallyTables : (grocer box code : List ℕ) → (count : List ℤ) → (issuer : List ℕ) → TallyTables
-tallyTables g b c n i = record { grocer = g; box = b; code = c; count = n; issuer = i }
+abbrev pub tallyTables : (grocer box code : List ℕ) → (count : List ℤ) → (issuer bag revision : List ℕ) → TallyTables
+tallyTables g b c n i s r = record { grocer = g; box = b; code = c; count = n; issuer = i; bag = s; revision = r }
 
 -- The lent lists as tables.
 abbrev pub fileTables : OfferTables → (grocerOwner : List ℕ) → TallyTables → FileTables
@@ -69,7 +71,7 @@ unfoldable pub shortTallies : ℕ → TallyTables → Bool
 shortTallies t l =
     anyOf (
     ltb (length (l .grocer)) t ∷ ltb (length (l .box)) t ∷ ltb (length (l .code)) (t * 11) ∷
-    ltb (length (l .count)) t ∷ ltb (length (l .issuer)) t ∷ [])
+    ltb (length (l .count)) t ∷ ltb (length (l .issuer)) t ∷ ltb (length (l .bag)) t ∷ ltb (length (l .revision)) t ∷ [])
 
 -- 20: a table "shorter than K, M, N and T as given need".
 unfoldable pub shortTables : Head → FileTables → Bool
@@ -91,6 +93,8 @@ pub record LongTallies (t : ℕ) (l : TallyTables) : Type 0 where
   pub code : t * 11 ≤ length (l .code)
   pub count : t ≤ length (l .count)
   pub issuer : t ≤ length (l .issuer)
+  pub bag : t ≤ length (l .bag)
+  pub revision : t ≤ length (l .revision)
 
 -- Each table has the words that K, M, N and T need.
 pub record Long (h : Head) (l : FileTables) : Type 0 where
@@ -120,6 +124,8 @@ tallyOf l i =
       code = codeOf (l .code) i;
       count = getD (l .count) i (pos 0);
       issuer = getD (l .issuer) i 0;
+      bag = getD (l .bag) i 0;
+      revision = getD (l .revision) i 0;
     }
 
 -- The job that tables hold, for K, M, N and T as given: digits as written, "and not the place".
@@ -150,6 +156,8 @@ storeTallies t tally l =
       code = storeCodes t (λ i. tally i .code) (l .code);
       count = overwrite t (λ i. tally i .count) (l .count);
       issuer = overwrite t (λ i. tally i .issuer) (l .issuer);
+      bag = overwrite t (λ i. tally i .bag) (l .bag);
+      revision = overwrite t (λ i. tally i .revision) (l .revision);
     }
 
 -- A job written into tables; "Words past the needed length are not touched."

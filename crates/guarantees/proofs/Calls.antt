@@ -3,7 +3,7 @@ use mathlib.Core.Path.{sym, _∙_}
 use Rattle.model.specs.Tables.{jobOf}
 use Rattle.messages.specs.Answers.{messagesAnswer, messageTables}
 use Rattle.guarantees.specs.Calls.{Calls}
-use Rattle.model.proofs.Step.{range}
+use Rattle.model.proofs.Step.{range, in-handed}
 use Rattle.reconcile.proofs.Fold.{amounts-in-range}
 use Rattle.guarantees.proofs.Book.{same-lists}
 use Rattle.guarantees.proofs.Tables.{table-sums}
@@ -15,7 +15,7 @@ calls = record {
   bookAnswer = λ f b before r r′ after after′ w w′. w .answer ∙ sym (w′ .answer);
   bookLists = same-lists;
   messageTables = λ f p t h. rw h;
-  tableSums = λ f ok. table-sums (jobOf f) (range f ok);
+  tableSums = λ f ok. table-sums (jobOf f) (range f (in-handed f ok));
   deskSum = answers;
   deskInRange = amounts-in-range;
 }

@@ -1,31 +1,33 @@
 -- The table of ◆ cases holds. Assumes nothing.
 use mathlib.Core.Path.{_≡_, refl, sym, ap, fun-ext, _∙_}
-use mathlib.Core.Bool.{true, false}
+use mathlib.Core.Bool.{true, false, cond}
 use mathlib.Core.List.{List, [], _∷_}
 use Prim.Native.Nat.{ℕ, zero, suc, _<_, _≤_}
 use native.Mathlib.Omega.{arith}
 use lib.Dec.{ltb}
 use lib.IntN.{ℤ, pos}
+use lib.ListN.{getD}
 use borrow.Author.Tests.{ltb-true, ltb-false}
 use Rattle.laws.proofs.Bools.{split}
-use Rattle.laws.proofs.Tables.{word-past}
+use Rattle.laws.proofs.Tables.{word-in, word-past}
 use Rattle.laws.specs.Below.{naturals, integers, sum, only, any, all, find}
 use Rattle.laws.specs.Checks.{firstMet}
 use Rattle.laws.specs.Tables.{tabulate, word}
 use Rattle.model.specs.Job.{Job, plainSum}
 use Rattle.model.specs.Words.{ownerWords, messageCount, stepCount}
-use Rattle.model.specs.Tables.{JobTables, jobOf}
+use Rattle.recount.specs.Recount.{loose, sameBag, superseded, stands, countedTwice}
+use Rattle.model.specs.Tables.{JobTables, countedOf, nobody, jobOf}
 use Rattle.model.specs.Cases.{jobE}
 use Rattle.format.specs.Codes.{isPlace, isCode, value, codeNumber, written, dropZeros, nameOf, sameOffer}
-use Rattle.format.specs.Job.{Head, FileJob, badSizes, badOffer, badOwner, badTally, badRecords, names, placeOf, shared, unnamed}
+use Rattle.format.specs.Job.{Head, FileJob, badSizes, badOffer, badOwner, badTally, badRecords, names, placeOf, shared, unnamed, countedTallies}
 use Rattle.format.specs.Blocks.{firstSum, secondSum}
 use Rattle.format.specs.File.{encode, decode}
 use Rattle.format.specs.Refusals.{jobRefusal, fileRefusal}
 use Rattle.cents.specs.Cents.{nearest, cents}
 use Rattle.guarantees.specs.Demand3.{owedByFile, Holds}
 use Rattle.printing.specs.Printed.{jobRead, digitsOf, decimal, signedDecimal, line, grocerLines, settledText, blankJob, printed}
-use Rattle.guarantees.specs.Cases.{code, alone, fileE, twoIssuers, textE, Cases}
-use Rattle.model.proofs.Step.{range}
+use Rattle.guarantees.specs.Cases.{code, alone, fileE, twoIssuers, recounted, textE, Cases}
+use Rattle.model.proofs.Step.{range, in-handed}
 use Rattle.model.proofs.Quiet.{no-tallies-words, no-tallies-steps}
 use Rattle.format.proofs.Same.{SameWords, place-same}
 use Rattle.format.proofs.Write.{written-accepted, read-back}
@@ -61,24 +63,42 @@ issuers-agree = refl
 -- ---- 5521 of two issuers
 
 two-written : jobRefusal (twoIssuers 1 2 2) ≡ 0
-unfolding twoIssuers jobRefusal firstMet badSizes badRecords badOffer badOwner badTally isCode isPlace names shared unnamed sameOffer codeNumber value any all
+unfolding twoIssuers jobRefusal firstMet badSizes badRecords badOffer badOwner badTally isCode isPlace names shared unnamed placeOf countedTallies countedTwice loose sameBag sameOffer codeNumber value find any all
 two-written = refl
 
 two-owed-0 : owedByFile (twoIssuers 1 2 2) 0 ≡ pos 300
-unfolding twoIssuers owedByFile placeOf names sameOffer codeNumber value find any sum only integers
+unfolding twoIssuers owedByFile placeOf countedTallies stands superseded loose sameBag names sameOffer codeNumber value find any sum only integers
 two-owed-0 = refl
 
 two-owed-1 : owedByFile (twoIssuers 1 2 2) 1 ≡ pos 700
-unfolding twoIssuers owedByFile placeOf names sameOffer codeNumber value find any sum only integers
+unfolding twoIssuers owedByFile placeOf countedTallies stands superseded loose sameBag names sameOffer codeNumber value find any sum only integers
 two-owed-1 = refl
 
 two-unknown : jobRefusal (twoIssuers 1 2 3) ≡ 8
-unfolding twoIssuers jobRefusal firstMet badSizes badRecords badOffer badOwner badTally isCode isPlace names shared unnamed sameOffer codeNumber value any all
+unfolding twoIssuers jobRefusal firstMet badSizes badRecords badOffer badOwner badTally isCode isPlace names shared unnamed placeOf countedTallies countedTwice loose sameBag sameOffer codeNumber value find any all
 two-unknown = refl
 
 two-shared : jobRefusal (twoIssuers 2 2 2) ≡ 7
-unfolding twoIssuers jobRefusal firstMet badSizes badRecords badOffer badOwner badTally isCode isPlace names shared unnamed sameOffer codeNumber value any all
+unfolding twoIssuers jobRefusal firstMet badSizes badRecords badOffer badOwner badTally isCode isPlace names shared unnamed placeOf countedTallies countedTwice loose sameBag sameOffer codeNumber value find any all
 two-shared = refl
+
+-- ---- a bag counted twice
+
+recount-written : jobRefusal (recounted 0 1) ≡ 0
+unfolding recounted jobRefusal firstMet badSizes badRecords badOffer badOwner badTally isCode isPlace names shared unnamed placeOf countedTallies countedTwice loose sameBag sameOffer codeNumber value find any all
+recount-written = refl
+
+recount-owed : owedByFile (recounted 0 1) 0 ≡ pos 40
+unfolding recounted owedByFile placeOf countedTallies stands superseded loose sameBag names sameOffer codeNumber value find any sum only integers
+recount-owed = refl
+
+recount-owed-first : owedByFile (recounted 9 3) 0 ≡ pos 50
+unfolding recounted owedByFile placeOf countedTallies stands superseded loose sameBag names sameOffer codeNumber value find any sum only integers
+recount-owed-first = refl
+
+recount-twice : jobRefusal (recounted 3 3) ≡ 9
+unfolding recounted jobRefusal firstMet badSizes badRecords badOffer badOwner badTally isCode isPlace names shared unnamed placeOf countedTallies countedTwice loose sameBag sameOffer codeNumber value find any all
+recount-twice = refl
 
 ten-digits : isCode (code (48 ∷ 49 ∷ 50 ∷ 51 ∷ 52 ∷ 53 ∷ 54 ∷ 55 ∷ 56 ∷ 57 ∷ [])) ≡ true
 unfolding isCode isPlace all
@@ -112,18 +132,18 @@ byte-507-second = refl
 
 -- The writer takes E's job, and so its file is accepted.
 pub e-written : jobRefusal fileE ≡ 0
-unfolding fileE jobRefusal firstMet badSizes badRecords badOffer badOwner badTally isCode isPlace names shared unnamed sameOffer codeNumber value any all
+unfolding fileE jobRefusal firstMet badSizes badRecords badOffer badOwner badTally isCode isPlace names shared unnamed placeOf countedTallies countedTwice loose sameBag sameOffer codeNumber value find any all
 e-written = refl
 
 pub e-accepted : fileRefusal (encode fileE) ≡ 0
 e-accepted = written-accepted fileE e-written
 
 e-owed-0 : owedByFile fileE 0 ≡ pos 2250
-unfolding fileE owedByFile placeOf names sameOffer codeNumber value find any sum only integers
+unfolding fileE owedByFile placeOf countedTallies stands superseded loose sameBag names sameOffer codeNumber value find any sum only integers
 e-owed-0 = refl
 
 e-owed-1 : owedByFile fileE 1 ≡ pos 2500
-unfolding fileE owedByFile placeOf names sameOffer codeNumber value find any sum only integers
+unfolding fileE owedByFile placeOf countedTallies stands superseded loose sameBag names sameOffer codeNumber value find any sum only integers
 e-owed-1 = refl
 
 -- Two numbers are below 2, four below 4.
@@ -140,7 +160,7 @@ below-4 P a b c d (suc (suc (suc zero))) l = d
 below-4 P a b c d (suc (suc (suc (suc i)))) l = absurd (omega arith)
 
 e-tables : Holds fileE jobE
-unfolding fileE jobOf word placeOf names sameOffer codeNumber value find any
+unfolding fileE jobOf word placeOf names sameOffer codeNumber value find any tabulate
 e-tables = record {
   boxes = refl;
   grocers = refl;
@@ -150,7 +170,9 @@ e-tables = record {
   offerOwner = below-2 (λ o. jobOf jobE .offerOwner o ≡ fileE .offer o .owner) refl refl;
   grocerOwner = below-2 (λ g. jobOf jobE .grocerOwner g ≡ fileE .grocerOwner g) refl refl;
   tallyGrocer = below-4 (λ t. jobOf jobE .tallyGrocer t ≡ fileE .tally t .grocer) refl refl refl refl;
-  tallyBox = below-4 (λ t. jobOf jobE .tallyBox t ≡ fileE .tally t .box) refl refl refl refl;
+  tallyBox = below-4 (λ t. getD (jobE .tallyBox) t 0 ≡ fileE .tally t .box) refl refl refl refl;
+  tallyBag = below-4 (λ t. getD (jobE .tallyBag) t 0 ≡ fileE .tally t .bag) refl refl refl refl;
+  tallyRevision = below-4 (λ t. getD (jobE .tallyRevision) t 0 ≡ fileE .tally t .revision) refl refl refl refl;
   tallyCount = below-4 (λ t. jobOf jobE .tallyCount t ≡ fileE .tally t .count) refl refl refl refl;
   tallyOffer = below-4 (λ t. jobOf jobE .tallyOffer t ≡ placeOf fileE t) refl refl refl refl;
 }
@@ -170,7 +192,7 @@ module _ (j k : FileJob) (s : SameWords j k) (ok : jobRefusal k ≡ 0) (a b : Jo
   size e f g = e ∙ f ∙ sym g
 
   same-job : jobOf a ≡ jobOf b
-  unfolding jobOf
+  unfolding jobOf countedOf
   same-job =
       let eo = size (p .offers) (ap (λ (h : Head). h .offers) (s .head)) (q .offers) in
       let eg = size (p .grocers) (ap (λ (h : Head). h .grocers) (s .head)) (q .grocers) in
@@ -179,7 +201,9 @@ module _ (j k : FileJob) (s : SameWords j k) (ok : jobRefusal k ≡ 0) (a b : Jo
       let offerOwner = words-same (a .offers) (b .offers) (a .offerOwner) (b .offerOwner) 0 eo (λ i l. p .offerOwner i (first-offer i l) ∙ s .offer i (offer-in i l) .owner ∙ sym (q .offerOwner i (offer-in i l))) in
       let grocerOwner = words-same (a .grocers) (b .grocers) (a .grocerOwner) (b .grocerOwner) 0 eg (λ i l. p .grocerOwner i (first-grocer i l) ∙ s .grocerOwner i (grocer-in i l) ∙ sym (q .grocerOwner i (grocer-in i l))) in
       let tallyGrocer = words-same (a .tallies) (b .tallies) (a .tallyGrocer) (b .tallyGrocer) 0 et (λ i l. p .tallyGrocer i (first-tally i l) ∙ s .tally i (tally-in i l) .grocer ∙ sym (q .tallyGrocer i (tally-in i l))) in
-      let tallyBox = words-same (a .tallies) (b .tallies) (a .tallyBox) (b .tallyBox) 0 et (λ i l. p .tallyBox i (first-tally i l) ∙ s .tally i (tally-in i l) .box ∙ sym (q .tallyBox i (tally-in i l))) in
+      let box = tally-words (a .tallyBox) (b .tallyBox) (λ i l. p .tallyBox i (first-tally i l) ∙ s .tally i (tally-in i l) .box ∙ sym (q .tallyBox i (tally-in i l))) in
+      let bag = tally-words (a .tallyBag) (b .tallyBag) (λ i l. p .tallyBag i (first-tally i l) ∙ s .tally i (tally-in i l) .bag ∙ sym (q .tallyBag i (tally-in i l))) in
+      let revision = tally-words (a .tallyRevision) (b .tallyRevision) (λ i l. p .tallyRevision i (first-tally i l) ∙ s .tally i (tally-in i l) .revision ∙ sym (q .tallyRevision i (tally-in i l))) in
       let tallyOffer = words-same (a .tallies) (b .tallies) (a .tallyOffer) (b .tallyOffer) 0 et (λ i l. p .tallyOffer i (first-tally i l) ∙ place-same j k s ok i (tally-in i l) ∙ sym (q .tallyOffer i (tally-in i l))) in
       let tallyCount = words-same (a .tallies) (b .tallies) (a .tallyCount) (b .tallyCount) (pos 0) et (λ i l. p .tallyCount i (first-tally i l) ∙ s .tally i (tally-in i l) .count ∙ sym (q .tallyCount i (tally-in i l))) in
       λ i. record {
@@ -191,7 +215,7 @@ module _ (j k : FileJob) (s : SameWords j k) (ok : jobRefusal k ≡ 0) (a b : Jo
         offerOwner = offerOwner i;
         grocerOwner = grocerOwner i;
         tallyGrocer = tallyGrocer i;
-        tallyBox = tallyBox i;
+        tallyBox = λ t. cond (stands (record { size = et i; grocer = tallyGrocer i; offer = tallyOffer i; bag = bag i; revision = revision i }) t) (box i t) nobody;
         tallyOffer = tallyOffer i;
         tallyCount = tallyCount i;
       }
@@ -210,6 +234,11 @@ module _ (j k : FileJob) (s : SameWords j k) (ok : jobRefusal k ≡ 0) (a b : Jo
 
       first-tally : (i : ℕ) → i < a .tallies → i < j .head .tallies
       first-tally i l = omega (arith, p .tallies)
+
+      tally-words : (x y : List ℕ) → ((i : ℕ) → i < a .tallies → getD x i 0 ≡ getD y i 0) → word (a .tallies) x 0 ≡ word (b .tallies) y 0
+      tally-words x y h =
+          let et = size (p .tallies) (ap (λ (h : Head). h .tallies) (s .head)) (q .tallies) in
+          words-same (a .tallies) (b .tallies) x y 0 et (λ i l. word-in (a .tallies) x 0 i l ∙ h i l ∙ sym (word-in (b .tallies) y 0 i (omega (arith, l, et))))
 
       tally-in : (i : ℕ) → i < a .tallies → i < k .head .tallies
       tally-in i l = omega (arith, p .tallies, ap (λ (h : Head). h .tallies) (s .head))
@@ -250,6 +279,10 @@ cases = record {
   two-owed-1 = two-owed-1;
   two-unknown = two-unknown;
   two-shared = two-shared;
+  recount-accepted = written-accepted (recounted 0 1) recount-written;
+  recount-owed = recount-owed;
+  recount-owed-first = recount-owed-first;
+  recount-twice = recount-twice;
   ten-digits = ten-digits;
   no-digits = no-digits;
   eleven-digits = eleven-digits;
@@ -259,7 +292,7 @@ cases = record {
   e-tables = e-tables;
   e-printed = e-printed;
   settlement = Settlement.cases;
-  quiet = λ f ok none. (no-tallies-words (jobOf f) (range f ok) none, no-tallies-steps (jobOf f) (range f ok) none);
+  quiet = λ f ok none. (no-tallies-words (jobOf f) (range f (in-handed f ok)) none, no-tallies-steps (jobOf f) (range f (in-handed f ok)) none);
   byte-0-first = byte-0-first;
   byte-0-second = byte-0-second;
   byte-507-first = byte-507-first;

@@ -10,8 +10,7 @@ use borrow.Author.Tests.{ne-eqb}
 use Rattle.laws.specs.Checks.{firstMet}
 use Rattle.laws.proofs.Bools.{split}
 use Rattle.model.specs.Tables.{JobTables, StateTables, jobOf}
-use Rattle.model.specs.Local.{bookRefusals}
-use Rattle.messages.specs.Refusals.{jobRefusals}
+use Rattle.model.specs.Local.{bookRefusals, jobRefusals}
 use Rattle.messages.specs.Answers.{said}
 use Rattle.local.specs.Book.{bookLengths}
 use Rattle.model.specs.Step.{Asked, refused as notDone, outcome, stepped, stepRefusal, stepTables, refusals}

@@ -8,19 +8,21 @@ use lib.Dec.{eqb}
 use borrow.Author.Tests.{eq-eqb}
 use lib.ListN.{take, drop, length, getD, length-append}
 use Rattle.laws.specs.Tables.{overwrite}
-use Rattle.laws.proofs.Below.{any-cong, find-cong}
+use Rattle.laws.proofs.Below.{any-cong, any-false, find-cong}
 use Rattle.laws.proofs.Bools.{no-true}
+use Rattle.recount.specs.Recount.{loose, stands, countedTwice}
+use Rattle.recount.proofs.Recount.{recount-laws, loose-stands}
 use Rattle.model.specs.Steps.{effectOf}
 use Rattle.model.specs.Tables.{JobTables, StateTables, jobOf, view, store}
 use Rattle.model.specs.Step.{Asked, stepOf, accepted, stepAnswer, isAccepted, stepped, stepRefusal, stepTables, moved}
 use Rattle.model.proofs.Refusal.{accepted-zero}
-use Rattle.format.specs.Job.{Head, FileJob, names, placeOf, shared, unnamed, Words16}
+use Rattle.format.specs.Job.{Head, FileJob, names, placeOf, shared, unnamed, countedTallies, Words16}
 use Rattle.format.specs.Codes.{Name, sameOffer}
 use Rattle.format.specs.Blocks.{blockCount}
 use Rattle.format.specs.File.{readHead, readOffer, readTally, decode}
 use Rattle.format.specs.Refusals.{fileRefusal}
 use Rattle.format.specs.Tables.{ReaderTables, FileTables, ReadAnswer, ReadOutcome, WriteAnswer, WriteOutcome, wrote, notWritten, fileJobOf, shortReader, readRefusal, readResult, sizes, refused, writeRefusal, writeResult}
-use Rattle.guarantees.specs.Demand2.{Bytes, sameNumber, namedBefore, NoIssuers, AsBefore, Demand2}
+use Rattle.guarantees.specs.Demand2.{Bytes, sameNumber, namedBefore, NoIssuers, AsBefore, NoBags, Demand2}
 use Rattle.format.proofs.Codes.{same-offer}
 use Rattle.format.proofs.Damage.{damaged}
 use Rattle.format.proofs.Order.{reader-20, reader-file}
@@ -96,6 +98,8 @@ words-read f bytes =
       cycle = word-small _ _ (bytes 12) (bytes 13);
       offerIssuer = λ i h. word-small _ _ (bytes _) (bytes _);
       tallyIssuer = λ t h. word-small _ _ (bytes _) (bytes _);
+      tallyBag = λ t h. word-small _ _ (bytes _) (bytes _);
+      tallyRevision = λ t h. word-small _ _ (bytes _) (bytes _);
     }
 
 -- Names of issuer 0 are one offer where their numbers agree.
@@ -117,6 +121,18 @@ module _ (j : FileJob) (z : NoIssuers j) where
         eight = any-cong (j .head .tallies) _ _ (λ t h. ap not (any-cong (j .head .offers) (names j t) (namedBefore j t) (names-before t h)));
       }
 
+-- Without bags all tallies stand, and none is there twice.
+all-loose : (j : FileJob) → NoBags j → (t : ℕ) → t < j .head .tallies → loose (countedTallies j) t ≡ true
+unfolding loose countedTallies
+all-loose j n t l = eq-eqb (j .tally t .bag) 0 (n .tally t l)
+
+old-tallies : (j : FileJob) → NoBags j → (countedTwice (countedTallies j) ≡ false) × ((t : ℕ) → t < j .head .tallies → stands (countedTallies j) t ≡ true)
+unfolding countedTwice countedTallies
+old-tallies j n = (
+  any-false (j .head .tallies) _ (λ t l. any-false t _ (λ u m. rw (all-loose j n t l))),
+  λ t l. loose-stands (countedTallies j) t (all-loose j n t l),
+)
+
 pub demand2 : Demand2
 unfolding Bytes
 demand2 = record {
@@ -127,6 +143,8 @@ demand2 = record {
   writtenBytes = λ x l out c ok. written-bytes x l out ok c;
   wordsRead = words-read;
   names = same-offer;
+  recount = recount-laws;
+  oldTallies = old-tallies;
   oldNames = as-before;
   damage = λ f f′ l bytes bytes′ ok k i j hk hi hj long same differs. read-two f′ l (reader-whole f l ok) (damaged f f′ bytes bytes′ (read-file f l ok) k i j hk hi hj long same differs);
   step = step-does;

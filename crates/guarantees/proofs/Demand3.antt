@@ -13,10 +13,13 @@ use Rattle.laws.proofs.Bools.{and-true, eqb-same, and-l, and-r}
 use Rattle.laws.proofs.Sums.{sum-cong}
 use Rattle.laws.proofs.Below.{all-of, all-at}
 use Rattle.laws.proofs.Tables.{word-in, long-overwrite, getD-overwrite}
-use Rattle.model.specs.Job.{heldBy, held, amount, plainSum}
-use Rattle.model.specs.Tables.{jobOf, jobLengths, jobShort, JobTables}
+use Rattle.recount.specs.Recount.{stands, countedTwice, Reordered}
+use Rattle.recount.proofs.Recount.{recount-laws}
+use Rattle.model.specs.Job.{plainSum}
+use Rattle.model.specs.Tables.{countedOf, jobOf, jobLengths, jobShort, bagsShort, JobTables}
+use Rattle.model.proofs.Standing.{standing-count}
 use Rattle.model.specs.Ranges.{upTo, under, around, sizesInRange, jobWordsInRange, jobInRange, Settles}
-use Rattle.format.specs.Job.{FileJob, names, placeOf}
+use Rattle.format.specs.Job.{FileJob, names, placeOf, countedTallies}
 use Rattle.format.specs.File.{decode}
 use Rattle.format.specs.Refusals.{fileRefusal}
 use Rattle.model.proofs.Listed.{steps-counted}
@@ -41,32 +44,6 @@ under-all m n l h = all-of n (λ i. ltb (getD l i 0) m) (λ i k. lt-ltb (getD l 
 around-all : (m n : ℕ) (l : List ℤ) → ((i : ℕ) → i < n → natAbs (getD l i (pos 0)) ≤ m) → around m n l ≡ true
 unfolding around
 around-all m n l h = all-of n (λ i. leb (natAbs (getD l i (pos 0))) m) (λ i k. le-leb (natAbs (getD l i (pos 0))) m (h i k))
-
--- In range every tally counts.
-pub all-held : (f : JobTables) → jobInRange f ≡ true → (t : ℕ) → t < f .tallies → held (jobOf f) t ≡ true
-unfolding held heldBy jobOf jobInRange jobWordsInRange under
-all-held f ok t l =
-    rw (word-in (f .tallies) (f .tallyBox) 0 t l)
-    (and-true (eqb-same (getD (f .tallyBox) t 0)) (all-at (f .tallies) (λ i. ltb (getD (f .tallyBox) i 0) (f .boxes)) t l (box-words ok)))
-  where
-    box-words : jobInRange f ≡ true → under (f .boxes) (f .tallies) (f .tallyBox) ≡ true
-    box-words ok = let w = and-r (sizesInRange f) (jobWordsInRange f) ok in search (and-l, and-r) depth 12
-
--- Count × price of tally t.
-abbrev price-of : JobTables → ℕ → ℤ
-price-of f t = jobOf f .tallyCount t *ℤ pos (jobOf f .price (jobOf f .tallyOffer t))
-
-size-of : (f : JobTables) → jobOf f .tallies ≡ f .tallies
-unfolding jobOf
-size-of f = refl
-
-plain-all : (f : JobTables) → jobInRange f ≡ true → (g : ℕ) → plainSum (jobOf f) g
-    ≡ sum integers (f .tallies) (λ t. only integers (eqb (jobOf f .tallyGrocer t) g) (jobOf f .tallyCount t *ℤ pos (jobOf f .price (jobOf f .tallyOffer t))))
-unfolding plainSum amount
-plain-all f ok g =
-    ap (λ (n : ℕ). sum integers n (λ t. only integers (held (jobOf f) t && eqb (jobOf f .tallyGrocer t) g) (price-of f t))) (size-of f)
-    ∙ sum-cong integers (f .tallies) (λ t. only integers (held (jobOf f) t && eqb (jobOf f .tallyGrocer t) g) (price-of f t))
-    (λ t. only integers (eqb (jobOf f .tallyGrocer t) g) (price-of f t)) (λ t l. rw (all-held f ok t l))
 
 -- Tables that hold what a file without a refusal says.
 module _ (file : List ℕ) (ok : fileRefusal file ≡ 0) (f : JobTables) (h : Holds (decode file) f) where
@@ -103,8 +80,7 @@ module _ (file : List ℕ) (ok : fileRefusal file ≡ 0) (f : JobTables) (h : Ho
   grocer-at t l = sym (word-in (f .tallies) (f .tallyGrocer) 0 t l) ∙ h .tallyGrocer t (tally-in t l)
 
   box-at : (t : ℕ) → t < f .tallies → getD (f .tallyBox) t 0 ≡ job .tally t .box
-  unfolding jobOf
-  box-at t l = sym (word-in (f .tallies) (f .tallyBox) 0 t l) ∙ h .tallyBox t (tally-in t l)
+  box-at t l = h .tallyBox t (tally-in t l)
 
   place-at : (t : ℕ) → t < f .tallies → getD (f .tallyOffer) t 0 ≡ placeOf job t
   unfolding jobOf
@@ -140,19 +116,45 @@ module _ (file : List ℕ) (ok : fileRefusal file ≡ 0) (f : JobTables) (h : Ho
   unfolding jobInRange
   range-ok = and-true sizes-ok words-ok
 
-  -- The amount of a tally is count × price of the offer its code names.
-  its-amount : (t : ℕ) → t < f .tallies → price-of f t ≡ job .tally t .count *ℤ pos (job .offer (placeOf job t) .price)
-  its-amount t l =
+  -- The rule looks at the same in the tables and in the file.
+  counted-same : Reordered (countedTallies job) (countedOf f) (λ t. t) (λ t. t)
+  unfolding countedTallies countedOf jobOf
+  counted-same = record {
+    size = h .tallies;
+    inside = λ t l. omega (arith, l, h .tallies);
+    back = λ u l. omega (arith, l, h .tallies);
+    there = λ u l. refl;
+    here = λ t l. refl;
+    grocer = λ t l. h .tallyGrocer t (tally-in t l);
+    offer = λ t l. h .tallyOffer t (tally-in t l);
+    bag = λ t l. word-in (f .tallies) (f .tallyBag) 0 t l ∙ h .tallyBag t (tally-in t l);
+    revision = λ t l. word-in (f .tallies) (f .tallyRevision) 0 t l ∙ h .tallyRevision t (tally-in t l);
+  }
+
+  -- So 9 is not met, and the same tallies stand.
+  pub once-ok : countedTwice (countedOf f) ≡ false
+  once-ok = recount-laws .orderTwice (countedTallies job) (countedOf f) (λ t. t) (λ t. t) counted-same ∙ in-file .once
+
+  pub stands-ok : (t : ℕ) → t < job .head .tallies → stands (countedOf f) t ≡ stands (countedTallies job) t
+  unfolding countedOf
+  stands-ok t l = recount-laws .order (countedTallies job) (countedOf f) (λ t. t) (λ t. t) counted-same t (omega (arith, l, h .tallies))
+
+  -- What tally t adds to what grocer g is owed.
+  abbrev owed-at : ℕ → ℕ → ℤ
+  owed-at g t = only integers (stands (countedTallies job) t && eqb (job .tally t .grocer) g) (job .tally t .count *ℤ pos (job .offer (placeOf job t) .price))
+
+  -- The price of a tally is that of the offer its code names.
+  price-named : (t : ℕ) → t < f .tallies → getD (f .price) (getD (f .tallyOffer) t 0) 0 ≡ job .offer (placeOf job t) .price
+  price-named t l =
       let p : placeOf job t < job .head .offers = in-file .place t (tally-in t l) in
-      ap₂ (λ (x : ℤ) (y : ℕ). x *ℤ pos y) (h .tallyCount t (tally-in t l)) (ap (λ (o : ℕ). jobOf f .price o) (h .tallyOffer t (tally-in t l)) ∙ h .price (placeOf job t) p)
+      ap (λ (o : ℕ). getD (f .price) o 0) (place-at t l) ∙ price-at (placeOf job t) (omega (arith, p, h .offers))
 
   pub sums-ok : (g : ℕ) → plainSum (jobOf f) g ≡ owedByFile job g
-  unfolding plainSum owedByFile
+  unfolding owedByFile
   sums-ok g =
-      plain-all f range-ok g
-      ∙ sum-cong integers (f .tallies) _ (λ t. only integers (eqb (job .tally t .grocer) g) (job .tally t .count *ℤ pos (job .offer (placeOf job t) .price)))
-      (λ t l. ap₂ (λ (x : ℕ) (y : ℤ). only integers (eqb x g) y) (h .tallyGrocer t (tally-in t l)) (its-amount t l))
-      ∙ ap (λ (n : ℕ). sum integers n (λ t. only integers (eqb (job .tally t .grocer) g) (job .tally t .count *ℤ pos (job .offer (placeOf job t) .price)))) (h .tallies)
+      standing-count f range-ok .sums g
+      ∙ sum-cong integers (f .tallies) _ (owed-at g) (λ t l. rw (stands-ok t (tally-in t l), grocer-at t l, count-at t l, price-named t l))
+      ∙ ap (λ (n : ℕ). sum integers n (owed-at g)) (h .tallies)
 
 module _ (f : List ℕ) (l : ReaderTables) (ok : readRefusal f l ≡ 0) where
   -- The tables that the reader leaves, and the job that they hold.
@@ -189,13 +191,29 @@ module _ (f : List ℕ) (l : ReaderTables) (ok : readRefusal f l ≡ 0) where
         le-ltb (length (tables .tallies .count)) (decode f .head .tallies) (long .tallies .count),
       )
 
+  bags-ok : bagsShort (jobRead f l) (jobLengths (jobRead f l)) ≡ false
+  unfolding bagsShort jobLengths jobRead
+  bags-ok =
+      rw (
+        le-ltb (length (tables .tallies .bag)) (decode f .head .tallies) (long .tallies .bag),
+        le-ltb (length (tables .tallies .revision)) (decode f .head .tallies) (long .tallies .revision),
+      )
+
   same : SameWords read-job-of (decode f)
   same = read-job f l ok
 
-  -- Each word is the file's: a tally's box,
-  its-own-box : (t : ℕ) → t < decode f .head .tallies → jobOf (jobRead f l) .tallyBox t ≡ decode f .tally t .box
-  unfolding jobOf jobRead fileJobOf
-  its-own-box t h = word-in (decode f .head .tallies) (tables .tallies .box) 0 t h ∙ same .tally t h .box
+  -- Each word is the file's: a tally's box, bag and revision,
+  its-own-box : (t : ℕ) → t < decode f .head .tallies → getD (jobRead f l .tallyBox) t 0 ≡ decode f .tally t .box
+  unfolding jobRead fileJobOf
+  its-own-box t h = same .tally t h .box
+
+  its-bag : (t : ℕ) → t < decode f .head .tallies → getD (jobRead f l .tallyBag) t 0 ≡ decode f .tally t .bag
+  unfolding jobRead fileJobOf
+  its-bag t h = same .tally t h .bag
+
+  its-revision : (t : ℕ) → t < decode f .head .tallies → getD (jobRead f l .tallyRevision) t 0 ≡ decode f .tally t .revision
+  unfolding jobRead fileJobOf
+  its-revision t h = same .tally t h .revision
 
   its-grocer : (t : ℕ) → t < decode f .head .tallies → jobOf (jobRead f l) .tallyGrocer t ≡ decode f .tally t .grocer
   unfolding jobOf jobRead fileJobOf
@@ -237,6 +255,8 @@ module _ (f : List ℕ) (l : ReaderTables) (ok : readRefusal f l ≡ 0) where
     tallyGrocer = its-grocer;
     tallyBox = its-own-box;
     tallyCount = its-count;
+    tallyBag = its-bag;
+    tallyRevision = its-revision;
     tallyOffer = its-place;
   }
 
@@ -251,7 +271,12 @@ module _ (f : List ℕ) (l : ReaderTables) (ok : readRefusal f l ≡ 0) where
 
 -- Such a file's job settles.
 settles : (f : List ℕ) (l : ReaderTables) → readRefusal f l ≡ 0 → Settles (jobRead f l)
-settles f l ok = record { whole = whole-ok f l ok; inRange = range-ok f (read-file f l ok) (jobRead f l) (holds-ok f l ok) }
+settles f l ok = record {
+  whole = whole-ok f l ok;
+  bags = bags-ok f l ok;
+  inRange = range-ok f (read-file f l ok) (jobRead f l) (holds-ok f l ok);
+  once = once-ok f (read-file f l ok) (jobRead f l) (holds-ok f l ok);
+}
 
 -- Every file that the reader accepts.
 pub accepted : (f : List ℕ) (l : ReaderTables) → readRefusal f l ≡ 0 → Accepted f l
@@ -259,10 +284,12 @@ accepted f l ok = record {
   holds = holds-ok f l ok;
   named = named-ok f l ok;
   noOther = other-ok f l ok;
+  once = accepted-range f (read-file f l ok) .once;
   answer = ap (λ (o : ReadOutcome). o .answer) (read-accepted f l ok);
   settles = settles f l ok;
   steps = demand3 (jobRead f l) (settles f l ok);
   run = demand3-run (jobRead f l) (settles f l ok);
+  standing = stands-ok f (read-file f l ok) (jobRead f l) (holds-ok f l ok);
   sums = sums-ok f (read-file f l ok) (jobRead f l) (holds-ok f l ok);
 }
 
@@ -272,7 +299,9 @@ demand3-holds = record {
   lists = demand3;
   runs = demand3-run;
   anyTables = range-ok;
+  anyOnce = once-ok;
+  anyStanding = stands-ok;
   anySums = sums-ok;
-  plainSums = plain-all;
+  counts = standing-count;
   stepsCounted = steps-counted;
 }

@@ -1,43 +1,28 @@
 -- Handed a job's own tallies, the desk answers the plain sum. Assumes nothing.
-use mathlib.Core.Path.{_≡_, refl, sym, ap, _∙_}
+use mathlib.Core.Path.{_≡_, refl, ap}
 use mathlib.Core.List.{List, [], _∷_}
-use mathlib.Core.Bool.{Bool, true, _&&_}
+use mathlib.Core.Bool.{true, false, _&&_}
 use Prim.Native.Nat.{ℕ, zero, suc, _<_, _≤_}
 use native.Mathlib.Omega.{arith}
-use lib.ListN.{length}
-use lib.Dec.{eqb, ltb, leb}
-use lib.IntN.{ℤ, natAbs, _+ℤ_}
+use lib.ListN.{getD, length}
+use lib.Dec.{ltb, leb}
+use lib.IntN.{pos, natAbs}
 use borrow.Author.Tests.{lt-ltb, le-ltb, le-leb}
-use Rattle.laws.specs.Below.{Adds, sum, only, integers}
 use Rattle.laws.specs.Checks.{firstMet}
 use Rattle.laws.specs.Tables.{tabulate}
-use Rattle.laws.proofs.Bools.{and-true, and-l, and-r}
-use Rattle.laws.proofs.Checks.{Each, each-of, all-each}
-use Rattle.laws.proofs.Sums.{sum-cong}
-use Rattle.laws.proofs.Tables.{length-tabulate, word-in}
-use Rattle.model.specs.Job.{Job, held, amount, plainSum}
-use Rattle.model.specs.Tables.{JobTables, jobOf}
 use Rattle.laws.specs.Limits.{maxBoxes, maxGrocers, maxOffers, maxTallies, maxPrice, maxCount}
-use Rattle.model.specs.Ranges.{upTo, under, around, sizesInRange, jobWordsInRange, jobInRange}
-use Rattle.model.specs.Reconcile.{TallyRecord, owed, recordInRange, recordsInRange, serialAmount, deskRefusals, deskAnswer, reconciled}
-use Rattle.model.proofs.Step.{under-at, range, limits}
+use Rattle.laws.proofs.Bools.{and-true, and-l}
+use Rattle.laws.proofs.Checks.{Each, each-of, all-each}
+use Rattle.laws.proofs.Tables.{length-tabulate, getD-tabulate}
+use Rattle.recount.specs.Recount.{countedTwice}
+use Rattle.model.specs.Job.{plainSum}
+use Rattle.model.specs.Tables.{JobTables, countedOf, jobOf}
+use Rattle.model.specs.Ranges.{upTo, sizesInRange, jobWordsInRange, jobInRange}
+use Rattle.model.specs.Reconcile.{TallyRecord, owed, recordInRange, recordsInRange, recordIn, deskRefusals, deskAnswer, reconciled}
+use Rattle.model.proofs.Step.{JobIn, job-in, in-handed, boxes-under, under-at, around-at}
+use Rattle.model.proofs.Desk.{OwnRecords, own-counted, own-sum}
 use Rattle.reconcile.specs.Records.{tallyRecord}
-use Rattle.reconcile.specs.Serial.{share}
 use Rattle.guarantees.specs.Calls.{jobRecords}
-use Rattle.guarantees.proofs.Demand3.{all-held}
-
--- The first term of a sum apart.
-sum-first : {A : Type 0} (w : Adds A) (n : ℕ) (f : ℕ → A) → sum w (suc n) f ≡ w .plus (f 0) (sum w n (λ i. f (suc i)))
-unfolding sum
-sum-first w zero f = w .comm (w .none) (f 0)
-sum-first {A} w (suc n) f =
-    ap (λ (x : A). w .plus x (f (suc n))) (sum-first w n f) ∙ w .assoc (f 0) (sum w n (λ i. f (suc i))) (f (suc n))
-
--- The serial amount of n records is the sum of their shares.
-serial-sum : (ps : List ℕ) (g n : ℕ) (r : ℕ → TallyRecord) → serialAmount ps g (tabulate n r) ≡ sum integers n (λ t. share ps g (r t))
-unfolding serialAmount tabulate sum integers
-serial-sum ps g zero r = refl
-serial-sum ps g (suc n) r = ap (λ (z : ℤ). share ps g (r 0) +ℤ z) (serial-sum ps g n (λ i. r (suc i))) ∙ sym (sum-first integers n (λ t. share ps g (r t)))
 
 -- Records that are in range one by one.
 each-in-range : (m n k : ℕ) (r : ℕ → TallyRecord) → ((t : ℕ) → t < k → recordInRange m n (r t) ≡ true) → recordsInRange m n (tabulate k r) ≡ true
@@ -46,73 +31,63 @@ each-in-range m n zero r h = refl
 each-in-range m n (suc k) r h = and-true (h 0 (omega arith)) (each-in-range m n k (λ i. r (suc i)) (λ t l. h (suc t) (omega arith)))
 
 module _ (f : JobTables) (ok : jobInRange f ≡ true) where
-  abbrev j : Job
-  j = jobOf f
-
   -- Tally t as a record.
   abbrev tally : ℕ → TallyRecord
-  tally t = tallyRecord (j .tallyGrocer t) (j .tallyBox t) (j .tallyOffer t) (j .tallyCount t)
+  tally t = tallyRecord (getD (f .tallyGrocer) t 0) (getD (f .tallyBox) t 0) (getD (f .tallyOffer) t 0) (getD (f .tallyCount) t (pos 0))
+      (getD (f .tallyBag) t 0) (getD (f .tallyRevision) t 0)
 
-  -- What condition 21 looks at, test by test.
-  abbrev sizeTests : List Bool
-  sizeTests = (leb 1 (f .boxes) && leb (f .boxes) maxBoxes) ∷ (leb 1 (f .grocers) && leb (f .grocers) maxGrocers) ∷ (leb 1 (f .offers) && leb (f .offers) maxOffers) ∷ leb (f .tallies) maxTallies ∷ []
-
-  abbrev wordTests : List Bool
-  wordTests =
-      upTo maxPrice (f .offers) (f .price)
-      ∷ under (f .boxes) (f .offers) (f .offerOwner)
-      ∷ under (f .boxes) (f .grocers) (f .grocerOwner)
-      ∷ under (f .grocers) (f .tallies) (f .tallyGrocer)
-      ∷ under (f .boxes) (f .tallies) (f .tallyBox)
-      ∷ under (f .offers) (f .tallies) (f .tallyOffer)
-      ∷ around maxCount (f .tallies) (f .tallyCount)
-      ∷ []
-
-  sizes : Each true sizeTests
-  unfolding jobInRange sizesInRange
-  sizes = each-of sizeTests (and-l (sizesInRange f) (jobWordsInRange f) ok)
-
-  words : Each true wordTests
-  unfolding jobInRange jobWordsInRange
-  words = each-of wordTests (and-r (sizesInRange f) (jobWordsInRange f) ok)
-
-  box< : (t : ℕ) → t < f .tallies → j .tallyBox t < f .boxes
-  unfolding jobOf
-  box< t l = rw (word-in (f .tallies) (f .tallyBox) 0 t l) (under-at (f .boxes) (f .tallies) (f .tallyBox) t (words .1 .1 .1 .1 .0) l)
+  words : JobIn f
+  words = job-in f (in-handed f ok)
 
   tally-in-range : (t : ℕ) → t < f .tallies → recordInRange (f .grocers) (f .offers) (tally t) ≡ true
-  unfolding recordInRange jobOf
+  unfolding recordInRange
   tally-in-range t l =
-      let r = range f ok in
-      let boxes : f .boxes ≤ maxBoxes = r .boxes≤ in
-      let box : j .tallyBox t < maxBoxes = omega (arith, box< t l) in
-      all-each (ltb (j .tallyGrocer t) (f .grocers) ∷ ltb (j .tallyBox t) maxBoxes ∷ ltb (j .tallyOffer t) (f .offers) ∷ leb (natAbs (j .tallyCount t)) maxCount ∷ [])
-      (lt-ltb _ _ (r .grocer< t l), (lt-ltb _ _ box, (lt-ltb _ _ (r .offer< t l), (le-leb _ _ (limits f ok .count≤ t), tt))))
+      all-each (ltb (getD (f .tallyGrocer) t 0) (f .grocers) ∷ ltb (getD (f .tallyBox) t 0) maxBoxes ∷ ltb (getD (f .tallyOffer) t 0) (f .offers) ∷ leb (natAbs (getD (f .tallyCount) t (pos 0))) maxCount ∷ []) (
+        lt-ltb _ _ (under-at (f .grocers) (f .tallies) (f .tallyGrocer) t (words .tallyGrocer) l),
+        (
+          lt-ltb (getD (f .tallyBox) t 0) maxBoxes (omega (arith, under-at (f .boxes) (f .tallies) (f .tallyBox) t (boxes-under f ok) l, words .boxes≤)),
+          (
+            lt-ltb _ _ (under-at (f .offers) (f .tallies) (f .tallyOffer) t (words .tallyOffer) l),
+            (le-leb _ _ (around-at maxCount (f .tallies) (f .tallyCount) t (words .tallyCount) l), tt),
+          ),
+        ),
+      )
 
-  -- A tally's share is its term of the plain sum.
-  term : (g t : ℕ) → t < f .tallies → share (f .price) g (tally t) ≡ only integers (held j t && eqb (j .tallyGrocer t) g) (amount j (j .price (j .tallyOffer t)) t)
-  unfolding amount jobOf
-  term g t l = rw (all-held f ok t l, word-in (f .offers) (f .price) 0 (j .tallyOffer t) (range f ok .offer< t l))
+  -- The record at each place is the tally.
+  record-is : (t : ℕ) → t < f .tallies → recordIn (jobRecords f) t ≡ tally t
+  unfolding recordIn jobRecords
+  record-is t l = getD-tabulate (f .tallies) tally t _ l
 
-  serial-plain : (g : ℕ) → serialAmount (f .price) g (jobRecords j) ≡ plainSum j g
-  unfolding plainSum jobRecords jobOf
-  serial-plain g =
-      serial-sum (f .price) g (f .tallies) tally
-      ∙ sum-cong integers (f .tallies) (λ t. share (f .price) g (tally t)) (λ t. only integers (held j t && eqb (j .tallyGrocer t) g) (amount j (j .price (j .tallyOffer t)) t)) (term g)
+  own : OwnRecords f (jobRecords f)
+  unfolding jobRecords
+  own = record {
+    size = length-tabulate (f .tallies) tally;
+    grocer = λ t l. ap (λ (r : TallyRecord). r .grocer) (record-is t l);
+    place = λ t l. ap (λ (r : TallyRecord). r .place) (record-is t l);
+    counted = λ t l. ap (λ (r : TallyRecord). r .count) (record-is t l);
+    bag = λ t l. ap (λ (r : TallyRecord). r .bag) (record-is t l);
+    revision = λ t l. ap (λ (r : TallyRecord). r .revision) (record-is t l);
+  }
 
-  module _ (long : f .offers ≤ length (f .price)) (g : ℕ) (l : g < f .grocers) where
+  module _ (once : countedTwice (countedOf f) ≡ false) (long : f .offers ≤ length (f .price)) (g : ℕ) (l : g < f .grocers) where
     in-range : Each true ((leb 1 (f .grocers) && leb (f .grocers) maxGrocers) ∷ (leb 1 (f .offers) && leb (f .offers) maxOffers) ∷ upTo maxPrice (f .offers) (f .price)
-        ∷ leb (length (jobRecords j)) maxTallies ∷ recordsInRange (f .grocers) (f .offers) (jobRecords j) ∷ ltb g (f .grocers) ∷ [])
-    unfolding jobRecords jobOf
+        ∷ leb (length (jobRecords f)) maxTallies ∷ recordsInRange (f .grocers) (f .offers) (jobRecords f) ∷ ltb g (f .grocers) ∷ [])
+    unfolding jobRecords jobInRange sizesInRange
     in-range =
+        let sizes = each-of (
+        (leb 1 (f .boxes) && leb (f .boxes) maxBoxes)
+        ∷ (leb 1 (f .grocers) && leb (f .grocers) maxGrocers)
+        ∷ (leb 1 (f .offers) && leb (f .offers) maxOffers)
+        ∷ leb (f .tallies) maxTallies
+        ∷ []) (and-l (sizesInRange f) (jobWordsInRange f) ok) in
         let few : leb (length (tabulate (f .tallies) tally)) maxTallies ≡ true = rw (length-tabulate (f .tallies) tally) (sizes .1 .1 .1 .0) in
-        (sizes .1 .0, (sizes .1 .1 .0, (words .0, (few, (each-in-range (f .grocers) (f .offers) (f .tallies) tally tally-in-range, (lt-ltb g (f .grocers) l, tt))))))
+        (sizes .1 .0, (sizes .1 .1 .0, (words .price, (few, (each-in-range (f .grocers) (f .offers) (f .tallies) tally tally-in-range, (lt-ltb g (f .grocers) l, tt))))))
 
-    none-met : firstMet (deskRefusals (f .grocers) (f .offers) g (f .price) (jobRecords j)) ≡ 0
+    none-met : firstMet (deskRefusals (f .grocers) (f .offers) g (f .price) (jobRecords f)) ≡ 0
     unfolding firstMet deskRefusals
-    none-met = rw (le-ltb (length (f .price)) (f .offers) long, all-each _ in-range)
+    none-met = rw (le-ltb (length (f .price)) (f .offers) long, all-each _ in-range, own-counted f (jobRecords f) own, once)
 
-    -- Every grocer of a job in range is owed its plain sum.
-    pub answers : reconciled (f .grocers) (f .offers) g (f .price) (jobRecords j) ≡ owed (plainSum j g)
+    -- Every grocer of such a job is owed its plain sum.
+    pub answers : reconciled (f .grocers) (f .offers) g (f .price) (jobRecords f) ≡ owed (plainSum (jobOf f) g)
     unfolding reconciled deskAnswer
-    answers = rw (none-met, serial-plain g)
+    answers = rw (none-met, own-sum f (jobRecords f) own ok g)

@@ -119,7 +119,7 @@ blank-reader =
     reader-enough blankJob
     (record { price = zeros 500; owner = zeros 500; code = zeros 5_500; issuer = zeros 500 })
     (zeros 255)
-    (record { grocer = zeros 1_000; box = zeros 1_000; code = zeros 11_000; count = zeros-signed 1_000; issuer = zeros 1_000 })
+    (record { grocer = zeros 1_000; box = zeros 1_000; code = zeros 11_000; count = zeros-signed 1_000; issuer = zeros 1_000; bag = zeros 1_000; revision = zeros 1_000 })
     (zeros 1_000)
 
 state-enough : (job : JobTables) (t : StateTables) → job .boxes ≤ 16 → job .grocers ≤ 255 → job .offers ≤ 500 →
@@ -172,7 +172,7 @@ module _ (file : List ℕ) (ok : fileRefusal file ≡ 0) where
   unfolding lentShort jobRead
   lent-ok =
       let s = accepted-range file ok .sizes in
-      rw (given .settles .whole, blank-state job (s .boxes-most) (s .grocers-most) (s .offers-most))
+      rw (given .settles .whole, given .settles .bags, blank-state job (s .boxes-most) (s .grocers-most) (s .offers-most))
 
   -- The run is not refused: its answer is the job's words, messages and steps,
   answer-is : ran job blankState [] .answer ≡ finished (ownerWords (jobOf job)) (messageCount (jobOf job)) (stepCount (jobOf job))

@@ -1,27 +1,27 @@
 -- What the other calls give: the local book, the tables of words between boxes, and the reconciliation desk.
 use mathlib.Core.Path.{_≡_}
 use mathlib.Core.Logic.{_⊎_}
-use mathlib.Core.Bool.{true}
+use mathlib.Core.Bool.{true, false}
 use mathlib.Core.List.{List}
 use Prim.Native.Nat.{ℕ, _+_, _<_, _≤_}
 use lib.Count.{ones}
 use lib.Dec.{eqb}
-use lib.IntN.{ℤ, natAbs}
-use lib.ListN.{length}
+use lib.IntN.{ℤ, pos, natAbs}
+use lib.ListN.{getD, length}
 use Rattle.laws.specs.Below.{naturals, sum, only}
 use Rattle.laws.specs.Checks.{firstMet}
 use Rattle.laws.specs.Masks.{without}
 use Rattle.laws.specs.Tables.{tabulate}
 use Rattle.model.specs.Job.{Job, needWord, sharerWord, plainSum}
 use Rattle.model.specs.Words.{ownerWords}
-use Rattle.model.specs.Tables.{JobTables, jobOf}
+use Rattle.recount.specs.Recount.{countedTwice}
+use Rattle.model.specs.Tables.{JobTables, countedOf, jobOf}
 use Rattle.laws.specs.Limits.{maxAmount}
 use Rattle.model.specs.Ranges.{jobInRange}
-use Rattle.model.specs.Local.{priceTable, totalTable}
+use Rattle.model.specs.Local.{priceTable, totalTable, jobRefusals}
 use Rattle.model.specs.Reconcile.{TallyRecord, owed, reconciled}
 use Rattle.tables.specs.Messages.{cellAt}
 use Rattle.messages.specs.Sums.{rowSum, columnSum, tableSum}
-use Rattle.messages.specs.Refusals.{jobRefusals}
 use Rattle.messages.specs.Answers.{made, tablesGiven, messageTables}
 use Rattle.local.specs.Book.{BookTables, Booked, said}
 use Rattle.local.specs.declared.book.Answer.{Answer}
@@ -44,9 +44,11 @@ pub record TableSums (j : Job) : Type 0 where
   -- Both tables together have the words of the job by the owner tables.
   pub whole : tableSum (priceTable j) + tableSum (totalTable j) ≡ ownerWords j
 
--- A job's tallies as a list of records.
-unfoldable pub jobRecords : Job → List TallyRecord
-jobRecords j = tabulate (j .tallies) (λ t. tallyRecord (j .tallyGrocer t) (j .tallyBox t) (j .tallyOffer t) (j .tallyCount t))
+-- A job's tallies as a list of records, superseded ones among them.
+unfoldable pub jobRecords : JobTables → List TallyRecord
+jobRecords f =
+    tabulate (f .tallies) (λ t. tallyRecord (getD (f .tallyGrocer) t 0) (getD (f .tallyBox) t 0) (getD (f .tallyOffer) t 0) (getD (f .tallyCount) t (pos 0))
+    (getD (f .tallyBag) t 0) (getD (f .tallyRevision) t 0))
 
 -- What these calls come to, beside their refusals (`Demand1`).
 pub record Calls : Type 0 where
@@ -63,9 +65,9 @@ pub record Calls : Type 0 where
       messageTables f p t ≡ tablesGiven (made (ownerWords (jobOf f))) (priceTable (jobOf f)) (totalTable (jobOf f))
   -- Of every job in range these have 0 where they should, and sum to the ones in need and sharer words and to the words of the job.
   pub tableSums : (f : JobTables) → jobInRange f ≡ true → TableSums (jobOf f)
-  -- Handed the tallies and prices of a job in range, the desk answers the plain sum of every grocer.
-  pub deskSum : (f : JobTables) → jobInRange f ≡ true → f .offers ≤ length (f .price) → (g : ℕ) → g < f .grocers →
-      reconciled (f .grocers) (f .offers) g (f .price) (jobRecords (jobOf f)) ≡ owed (plainSum (jobOf f) g)
+  -- Handed the tallies and prices of a job in range in which no bag is counted twice as one revision, the desk answers the plain sum of every grocer.
+  pub deskSum : (f : JobTables) → jobInRange f ≡ true → countedTwice (countedOf f) ≡ false → f .offers ≤ length (f .price) → (g : ℕ) → g < f .grocers →
+      reconciled (f .grocers) (f .offers) g (f .price) (jobRecords f) ≡ owed (plainSum (jobOf f) g)
   -- "An entry whose finished result would leave a range refuses with 21, after all its other checks":
   -- the desk's other checks leave no such result.
   pub deskInRange : (m n g : ℕ) (prices : List ℕ) (rs : List TallyRecord) (z : ℤ) → reconciled m n g prices rs ≡ owed z → natAbs z ≤ maxAmount

@@ -36,10 +36,10 @@ offersE =
 -- Its tallies (grocer, box, code, count): (0,0,"412",3) (1,0,"077",2) (0,1,"77",−1) (0,1,"0412",4).
 abbrev pub talliesE : List Tally
 talliesE =
-    record { grocer = 0; box = 0; code = code (52 ∷ 49 ∷ 50 ∷ []); count = pos 3; issuer = 0 } ∷
-    record { grocer = 1; box = 0; code = code (48 ∷ 55 ∷ 55 ∷ []); count = pos 2; issuer = 0 } ∷
-    record { grocer = 0; box = 1; code = code (55 ∷ 55 ∷ []); count = negsuc 0; issuer = 0 } ∷
-    record { grocer = 0; box = 1; code = code (48 ∷ 52 ∷ 49 ∷ 50 ∷ []); count = pos 4; issuer = 0 } ∷ []
+    record { grocer = 0; box = 0; code = code (52 ∷ 49 ∷ 50 ∷ []); count = pos 3; issuer = 0; bag = 0; revision = 0 } ∷
+    record { grocer = 1; box = 0; code = code (48 ∷ 55 ∷ 55 ∷ []); count = pos 2; issuer = 0; bag = 0; revision = 0 } ∷
+    record { grocer = 0; box = 1; code = code (55 ∷ 55 ∷ []); count = negsuc 0; issuer = 0; bag = 0; revision = 0 } ∷
+    record { grocer = 0; box = 1; code = code (48 ∷ 52 ∷ 49 ∷ 50 ∷ []); count = pos 4; issuer = 0; bag = 0; revision = 0 } ∷ []
 
 -- E as its file says it: K 2, grocer owners 1, 0, cycle 0.
 unfoldable pub fileE : FileJob
@@ -48,7 +48,7 @@ fileE =
       head = headOf 2 2 2 4 0;
       offer = λ i. getD offersE i (record { price = 0; owner = 0; code = code []; issuer = 0 });
       grocerOwner = λ i. getD (1 ∷ 0 ∷ []) i 0;
-      tally = λ i. getD talliesE i (record { grocer = 0; box = 0; code = code []; count = pos 0; issuer = 0 });
+      tally = λ i. getD talliesE i (record { grocer = 0; box = 0; code = code []; count = pos 0; issuer = 0; bag = 0; revision = 0 });
     }
 
 -- "A dairy and a soap maker both printed offer 5521": an offer 5521 of this issuer, at this price.
@@ -57,7 +57,7 @@ offer5521 s p = record { price = p; owner = 0; code = code (53 ∷ 53 ∷ 50 ∷
 
 -- This grocer hands in one coupon of offer 5521 of this issuer.
 abbrev pub tally5521 : (grocer issuer : ℕ) → Tally
-tally5521 g s = record { grocer = g; box = 0; code = code (53 ∷ 53 ∷ 50 ∷ 49 ∷ []); count = pos 1; issuer = s }
+tally5521 g s = record { grocer = g; box = 0; code = code (53 ∷ 53 ∷ 50 ∷ 49 ∷ []); count = pos 1; issuer = s; bag = 0; revision = 0 }
 
 -- K 1, two grocers; two offers 5521, of these issuers, at 300 and 700; grocer 0 hands in a coupon of the first, grocer 1 one of the second.
 unfoldable pub twoIssuers : (first second tallied : ℕ) → FileJob
@@ -67,6 +67,19 @@ twoIssuers a b c =
       offer = λ i. getD (offer5521 a 300 ∷ offer5521 b 700 ∷ []) i (offer5521 0 0);
       grocerOwner = λ i. 0;
       tally = λ i. getD (tally5521 0 a ∷ tally5521 1 c ∷ []) i (tally5521 0 0);
+    }
+
+-- Grocer 0's bag 7 of offer "412", whose price is 10, counted by box 0 to 5 coupons and by box 1 to 4, as these revisions. Offer and grocer are box 1's.
+unfoldable pub recounted : (first second : ℕ) → FileJob
+recounted a b =
+    record {
+      head = headOf 2 1 1 2 0;
+      offer = λ i. record { price = 10; owner = 1; code = code (52 ∷ 49 ∷ 50 ∷ []); issuer = 0 };
+      grocerOwner = λ i. 1;
+      tally = λ i. getD (
+          record { grocer = 0; box = 0; code = code (52 ∷ 49 ∷ 50 ∷ []); count = pos 5; issuer = 0; bag = 7; revision = a } ∷
+          record { grocer = 0; box = 1; code = code (48 ∷ 52 ∷ 49 ∷ 50 ∷ []); count = pos 4; issuer = 0; bag = 7; revision = b } ∷ []) i
+          (record { grocer = 0; box = 0; code = code []; count = pos 0; issuer = 0; bag = 0; revision = 0 });
     }
 
 -- What is printed for E, a line each: "0 225", "1 250", "words 3", "messages 3", "steps 10".
@@ -95,6 +108,11 @@ pub record Cases : Type 0 where
   pub two-owed-1 : owedByFile (twoIssuers 1 2 2) 1 ≡ pos 700
   pub two-unknown : jobRefusal (twoIssuers 1 2 3) ≡ 8
   pub two-shared : jobRefusal (twoIssuers 2 2 2) ≡ 7
+  -- 02 §3: of a bag counted twice the higher revision is paid, whichever box and record it is in; one revision twice is 9.
+  pub recount-accepted : fileRefusal (encode (recounted 0 1)) ≡ 0
+  pub recount-owed : owedByFile (recounted 0 1) 0 ≡ pos 40
+  pub recount-owed-first : owedByFile (recounted 9 3) 0 ≡ pos 50
+  pub recount-twice : jobRefusal (recounted 3 3) ≡ 9
   -- Without ◆: 10 digits pass; 0 or 11 do not.
   pub ten-digits : isCode (code (48 ∷ 49 ∷ 50 ∷ 51 ∷ 52 ∷ 53 ∷ 54 ∷ 55 ∷ 56 ∷ 57 ∷ [])) ≡ true
   pub no-digits : isCode (code []) ≡ false

@@ -16,8 +16,7 @@ use Rattle.model.specs.Reconcile.{TallyRecord, refused as notOwed, deskRefusals
 use Rattle.format.specs.First.{firstOf, firstBelow}
 use Rattle.format.specs.Job.{Head}
 use Rattle.format.specs.Tables.{ReaderTables, FileTables, refused as notRead, notWritten, readRefusal, readResult, writeRefusal, writeResult}
-use Rattle.model.specs.Local.{bookRefusals}
-use Rattle.messages.specs.Refusals.{jobRefusals}
+use Rattle.model.specs.Local.{bookRefusals, jobRefusals}
 use Rattle.messages.specs.Answers.{refused as notMade, tablesGiven, messageTables}
 use Rattle.local.specs.Book.{refused as notBooked, said, BookTables, bookLengths, Booked}
 use Rattle.local.specs.declared.book.Answer.{Answer}

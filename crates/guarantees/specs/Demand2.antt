@@ -8,11 +8,12 @@ use lib.Dec.{eqb}
 use lib.ListN.{length, getD, drop, take}
 use Rattle.laws.specs.Below.{any, find}
 use Rattle.laws.specs.Tables.{overwrite}
+use Rattle.recount.specs.Recount.{stands, countedTwice, RecountLaws}
 use Rattle.model.specs.Steps.{effectOf}
 use Rattle.model.specs.Tables.{JobTables, StateTables, jobOf, view, store}
 use Rattle.model.specs.Step.{Asked, stepOf, accepted, stepped}
 use Rattle.format.specs.Codes.{Code, isCode, codeNumber, written, dropZeros, Name, sameOffer}
-use Rattle.format.specs.Job.{Head, FileJob, placeOf, shared, unnamed, Words16}
+use Rattle.format.specs.Job.{Head, FileJob, placeOf, shared, unnamed, countedTallies, Words16}
 use Rattle.format.specs.Blocks.{blocks, blockCount}
 use Rattle.format.specs.File.{decode}
 use Rattle.format.specs.Tables.{FileTables, ReaderTables, fileJobOf, storeRead, shortReader, readRefusal, readResult, sizes, refused}
@@ -41,6 +42,10 @@ pub record AsBefore (j : FileJob) : Type 0 where
   pub seven : shared j ≡ any (j .head .offers) (λ i. any i (λ k. sameNumber (j .offer k .code) (j .offer i .code)))
   pub eight : unnamed j ≡ any (j .head .tallies) (λ t. not (any (j .head .offers) (namedBefore j t)))
 
+-- Every bag of a job is 0: all its coupons are loose.
+pub record NoBags (j : FileJob) : Type 0 where
+  pub tally : (t : ℕ) → t < j .head .tallies → j .tally t .bag ≡ 0
+
 -- Demand 2 whole.
 pub record Demand2 : Type 0 where
   -- Writing what was read gives the file, byte for byte, in front of the rest of the buffer.
@@ -59,7 +64,7 @@ pub record Demand2 : Type 0 where
   pub readOwn : (h : Head) (r : ReaderTables) (out : List ℕ) → writeRefusal h (r .job) out ≡ 0 → shortReader r ≡ false →
       readResult (take (512 * blockCount h) (writeResult h (r .job) out .out)) r
       ≡ record { answer = sizes h; tables = record { job = r .job; tallyOffer = overwrite (h .tallies) (placeOf (fileJobOf h (r .job))) (r .tallyOffer) } }
-  -- What was written are bytes, cycle and issuers being any 16-bit numbers: the file that reading takes back is one that a disk can hold.
+  -- What was written are bytes, cycle, issuers, bags and revisions being any 16-bit numbers: the file that reading takes back is one that a disk can hold.
   pub writtenBytes : (h : Head) (l : FileTables) (out : List ℕ) → Words16 (fileJobOf h l) → writeRefusal h l out ≡ 0 →
       Bytes (take (512 * blockCount h) (writeResult h l out .out))
   -- And those that were read are such numbers, whatever the file's bytes are.
@@ -69,6 +74,11 @@ pub record Demand2 : Type 0 where
       (sameOffer a b ≡ true) ↔ ((a .issuer ≡ b .issuer) × (dropZeros (written (a .code)) ≡ dropZeros (written (b .code))))
   -- Where every issuer is 0, each look-up is that of the numbers alone.
   pub oldNames : (j : FileJob) → NoIssuers j → AsBefore j
+  -- Which counts of a bag stand: in whatever order their records come the same, and where 9 is not met one of each bag, the highest revision.
+  pub recount : RecountLaws
+  -- Where every bag is 0, all tallies stand and 9 is not met: such files settle as before 02 §3.
+  pub oldTallies : (j : FileJob) → NoBags j →
+      (countedTwice (countedTallies j) ≡ false) × ((t : ℕ) → t < j .head .tallies → stands (countedTallies j) t ≡ true)
   -- In an accepted file, changing one or two bytes of one block always gives refusal 2:
   -- f′ differs from f at most at bytes i and j of block k, and somewhere.
   pub damage : (f f′ : List ℕ) (l : ReaderTables) → Bytes f → Bytes f′ → readRefusal f l ≡ 0 →

@@ -3,7 +3,7 @@ ghost use mathlib.Core.Path.{_≡_};
 ghost use Prim.Native.Nat.{_≤_};
 ghost use lib.ListN.{length};
 ghost use Rattle.model.specs.Tables.{StateTables};
-ghost use Rattle.model.specs.Lent.{jobLent, stateBefore, stateAfter};
+ghost use Rattle.model.specs.Lent.{bagLent, stateBefore, stateAfter};
 ghost use Rattle.model.specs.Step.{asked};
 ghost use Rattle.format.specs.Tables.{ReaderTables};
 ghost use Rattle.format.specs.Lent.{readerBefore, readerAfter};
@@ -80,15 +80,17 @@ pub extern "C" fn settlement_read(
     tally_code: &mut [u8],
     tally_count: &mut [i32],
     tally_issuer: &mut [u16],
+    tally_bag: &mut [u16],
+    tally_revision: &mut [u16],
     tally_offer: &mut [u16],
     sizes: &mut [u16],
 ) -> u16
     ensures { λ r. ⌜ hostRead r
         (readerAfter price «offer_owner» «offer_code» «offer_issuer» «grocer_owner» «tally_grocer» «tally_box» «tally_code» «tally_count» «tally_issuer»
-        «tally_offer») (now (sizes .exit))
+        «tally_bag» «tally_revision» «tally_offer») (now (sizes .exit))
         ≡ readByHost (now (file .entry))
         (readerBefore price «offer_owner» «offer_code» «offer_issuer» «grocer_owner» «tally_grocer» «tally_box» «tally_code» «tally_count» «tally_issuer»
-        «tally_offer») (now (sizes .entry)) ⌝ }
+        «tally_bag» «tally_revision» «tally_offer») (now (sizes .entry)) ⌝ }
 {
     if sizes.len() < 5 {
         return 20;
@@ -105,6 +107,8 @@ pub extern "C" fn settlement_read(
         tally_code,
         tally_count,
         tally_issuer,
+        tally_bag,
+        tally_revision,
         tally_offer,
     );
     tell_sizes(a, sizes)
@@ -124,6 +128,8 @@ pub extern "C" fn settlement_step(
     tally_box: &[u16],
     tally_offer: &[u16],
     tally_count: &[i32],
+    tally_bag: &[u16],
+    tally_revision: &[u16],
     known: &mut [u32],
     price_transit: &mut [u32],
     working: &mut [i64],
@@ -138,7 +144,8 @@ pub extern "C" fn settlement_step(
     ensures { λ r. ⌜ hostStep r
         (stateAfter known «price_transit» working «total_transit» statement done sent)
         ≡ steppedByHost
-        (jobLent boxes grocers offers tallies price «offer_owner» «grocer_owner» «tally_grocer» «tally_box» «tally_offer» «tally_count»)
+        (bagLent boxes grocers offers tallies price «offer_owner» «grocer_owner» «tally_grocer» «tally_box» «tally_offer» «tally_count»
+        «tally_bag» «tally_revision»)
         (stateBefore known «price_transit» working «total_transit» statement done sent)
         (asked kind first second) ⌝ }
 {
@@ -154,6 +161,8 @@ pub extern "C" fn settlement_step(
         tally_box,
         tally_offer,
         tally_count,
+        tally_bag,
+        tally_revision,
         known,
         price_transit,
         working,
@@ -182,6 +191,8 @@ pub extern "C" fn settlement_run(
     tally_box: &[u16],
     tally_offer: &[u16],
     tally_count: &[i32],
+    tally_bag: &[u16],
+    tally_revision: &[u16],
     known: &mut [u32],
     price_transit: &mut [u32],
     working: &mut [i64],
@@ -196,7 +207,8 @@ pub extern "C" fn settlement_run(
         (stateAfter known «price_transit» working «total_transit» statement done sent)
         (now (report .exit))
         ≡ ranByHost
-        (jobLent boxes grocers offers tallies price «offer_owner» «grocer_owner» «tally_grocer» «tally_box» «tally_offer» «tally_count»)
+        (bagLent boxes grocers offers tallies price «offer_owner» «grocer_owner» «tally_grocer» «tally_box» «tally_offer» «tally_count»
+        «tally_bag» «tally_revision»)
         (stateBefore known «price_transit» working «total_transit» statement done sent)
         (now (choices .entry))
         (now (report .entry)) ⌝ }
@@ -216,6 +228,8 @@ pub extern "C" fn settlement_run(
         tally_box,
         tally_offer,
         tally_count,
+        tally_bag,
+        tally_revision,
         known,
         price_transit,
         working,

@@ -1,7 +1,7 @@
--- The lists, starts and packed tallies of a box are the model's. Assumes nothing.
+-- The lists, starts and packed tallies of a box, from tables without bags, are the model's. Assumes nothing.
 use mathlib.Core.Path.{_≡_, refl, sym, ap, ap₂, _∙_}
-use mathlib.Core.Bool.{Bool, true, _&&_, not}
-use mathlib.Core.List.{List, _++_}
+use mathlib.Core.Bool.{Bool, _&&_, not}
+use mathlib.Core.List.{List, [], _++_}
 use Prim.Native.Nat.{ℕ, suc, _+_, _-_, _<_, _≤_}
 use native.Mathlib.Omega.{arith}
 use lib.Dec.{eqb}
@@ -17,11 +17,11 @@ use Rattle.laws.proofs.Tables.{overwrite-cong, length-tabulate, getD-tabulate, 
 use Rattle.laws.proofs.Ascending.{ascending-cong}
 use Rattle.model.specs.Job.{heldBy, needs, shares, priceWord, totalWord}
 use Rattle.model.specs.Tables.{JobTables, jobOf}
-use Rattle.model.specs.Ranges.{jobInRange}
 use Rattle.model.specs.Local.{localOffers, localGrocers, localGrocer, ofOffer, start, starts, Packed}
 use Rattle.local.specs.Sort.{at, inFront, begin, keyCount, sorted}
 use Rattle.local.specs.Lists.{localList, heldOf, classOf, numberIn}
 use Rattle.local.specs.Pack.{tallyKey, packedTallies, packedStart, packedNumber, packedCount}
+use Rattle.model.proofs.Handed.{bare-stands}
 use Rattle.local.proofs.Extra.{chained-cong}
 use Rattle.local.proofs.Sorting.{begin-suc, length-sorted, sorted-in, sorted-once, part-once}
 use Rattle.local.proofs.Placing.{begin-le}
@@ -75,11 +75,11 @@ number-is list l x c once h =
     clash (eq-eqb x (at list c) (sym (rw e at (eqb-true (at list (find l (λ i. eqb (at list i) x))) x g)))) q)
     (λ f. let n : find l (λ i. eqb (at list i) x) ≡ l = find-none l (λ i. eqb (at list i) x) f in omega arith))))
 
-module _ (f : JobTables) (ok : jobInRange f ≡ true) (b : ℕ) (hb : b < f .boxes) where
+module _ (f : JobTables) (bare : f .tallyBag ≡ []) (b : ℕ) (hb : b < f .boxes) where
   -- The job's own words.
   held-word : (t : ℕ) → t < f .tallies → heldBy (jobOf f) t b ≡ eqb (at (f .tallyBox) t) b
   unfolding heldBy jobOf
-  held-word t l = rw (word-in (f .tallies) (f .tallyBox) 0 t l, lt-ltb b (f .boxes) hb) (and-one (eqb (at (f .tallyBox) t) b))
+  held-word t l = rw (bare-stands f bare t, word-in (f .tallies) (f .tallyBox) 0 t l, lt-ltb b (f .boxes) hb) (and-one (eqb (at (f .tallyBox) t) b))
 
   needs-held : (o : ℕ) → needs (jobOf f) o b ≡ heldOf (f .tallyOffer) (f .tallyBox) (f .tallies) b o
   unfolding needs heldOf jobOf
@@ -108,7 +108,7 @@ module _ (f : JobTables) (ok : jobInRange f ≡ true) (b : ℕ) (hb : b < f .box
 
 -- ---- The packed tallies, from the lists as they stand in front of their tables.
 
-module _ (f : JobTables) (ok : jobInRange f ≡ true) (b : ℕ) (hb : b < f .boxes) (list rest : List ℕ) (l : ℕ)
+module _ (f : JobTables) (bare : f .tallyBag ≡ []) (b : ℕ) (hb : b < f .boxes) (list rest : List ℕ) (l : ℕ)
     (list-is : list ≡ inFront (localOffers (jobOf f) b) rest) (l-is : l ≡ length (localOffers (jobOf f) b)) where
   abbrev key : ℕ → ℕ
   key = tallyKey (f .tallyBox) (f .tallyOffer) list l b
@@ -119,7 +119,7 @@ module _ (f : JobTables) (ok : jobInRange f ≡ true) (b : ℕ) (hb : b < f .box
   -- No offer stands twice.
   offer-once : (i m : ℕ) → i < l → m < l → at list i ≡ at list m → i ≡ m
   offer-once i m hi hm e =
-      let s = offers-are f ok b hb in
+      let s = offers-are f bare b hb in
       list-once (f .boxes) (f .offers) (at (f .offerOwner)) (heldOf (f .tallyOffer) (f .tallyBox) (f .tallies) b) b i m
       (omega (arith, ap length s)) (omega (arith, ap length s)) (rw s (sym (offer-at i hi) ∙ e ∙ offer-at m hm))
 
@@ -128,9 +128,9 @@ module _ (f : JobTables) (ok : jobInRange f ≡ true) (b : ℕ) (hb : b < f .box
   unfolding tallyKey ofOffer jobOf
   key-of c t hc ht =
       split (eqb (at (f .tallyBox) t) b)
-      (λ q. rw (held-word f ok b hb t ht, q, word-in (f .tallies) (f .tallyOffer) 0 t ht)
+      (λ q. rw (held-word f bare b hb t ht, q, word-in (f .tallies) (f .tallyOffer) 0 t ht)
       (number-is list l (at (f .tallyOffer) t) c offer-once hc ∙ ap (eqb (at (f .tallyOffer) t)) (offer-at c hc)))
-      (λ q. rw (held-word f ok b hb t ht, q) (ne-eqb l c (λ e. omega arith)))
+      (λ q. rw (held-word f bare b hb t ht, q) (ne-eqb l c (λ e. omega arith)))
 
   -- Where the tallies of a local offer begin.
   pub start-model : (i : ℕ) → i ≤ l → packedStart (f .tallyBox) (f .tallyOffer) (f .tallies) list l b i ≡ start (jobOf f) b i

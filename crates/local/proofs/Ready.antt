@@ -8,49 +8,62 @@ use lib.Dec.{ltb}
 use lib.ListN.{length}
 use borrow.Author.Tests.{lt-ltb, le-ltb, ltb-true, ltb-false}
 use Rattle.laws.specs.Checks.{firstMet}
-use Rattle.laws.proofs.Checks.{none-of}
-use Rattle.laws.proofs.Tables.{word-in}
-use Rattle.model.specs.Tables.{JobTables, jobOf, jobLengths, jobShort}
+use Rattle.laws.proofs.Bools.{or-true, or-false, or-off}
+use Rattle.laws.proofs.Checks.{none-of, unmet, none-met}
+use Rattle.recount.specs.Recount.{countedTwice}
+use Rattle.model.specs.Tables.{JobTables, countedOf, jobLengths, jobShort, bagsShort}
 use Rattle.model.specs.Ranges.{jobInRange}
-use Rattle.model.specs.Local.{BookLengths, bookShort, bookRefusals}
+use Rattle.model.specs.Handed.{Standing}
+use Rattle.model.specs.Local.{BookLengths, bookShort, bookRefusals, jobRefusals}
 use Rattle.local.specs.Sort.{at, inFront}
 use Rattle.local.specs.Lists.{localList, heldOf, TalliesIn, OwnersIn, PlacesIn}
-use Rattle.model.proofs.Step.{range, limits}
+use Rattle.model.proofs.Step.{JobIn, job-in, in-handed, under-at}
 use Rattle.tables.proofs.Whole.{JobWhole, job-whole}
+use Rattle.tables.proofs.Standing.{not-off}
 use Rattle.local.proofs.Packing.{at-front}
 use Rattle.local.proofs.Modelled.{list-le, list-in}
 
 -- ---- The first condition that is met
 
-module _ (f : JobTables) (n : BookLengths) (b : ℕ) (s u i : Bool) (es : s ≡ jobShort f (jobLengths f)) (eu : u ≡ bookShort f n) where
-  short-is : (jobShort f (jobLengths f) || bookShort f n) ≡ (s || u)
-  short-is = rw (es, eu)
+-- A test of the job's tables is met: it goes before 23.
+job-first : (s i w : Bool) (x : ℕ) → (cond {A = ℕ} s 20 (cond i 21 (cond w 9 0)) ≡ 0 → ⊥) → cond {A = ℕ} s 20 (cond i 21 (cond w 9 0)) ≡ cond s 20 (cond i 21 (cond w 9 x))
+job-first true i w x h = refl
+job-first false true w x h = refl
+job-first false false true x h = refl
+job-first false false false x h = absurd (h refl)
 
-  pub met-20 : (s || u) ≡ true → 20 ≡ firstMet (bookRefusals f n b)
+-- None is met.
+job-none : (s i w : Bool) (x : ℕ) → cond {A = ℕ} s 20 (cond i 21 (cond w 9 0)) ≡ 0 → x ≡ cond s 20 (cond i 21 (cond w 9 x))
+job-none true i w x h = absurd (omega arith)
+job-none false true w x h = absurd (omega arith)
+job-none false false true x h = absurd (omega arith)
+job-none false false false x h = refl
+
+module _ (f : JobTables) (n : BookLengths) (b : ℕ) where
+  pub met-20 : bookShort f n ≡ true → 20 ≡ firstMet (bookRefusals f n b)
   unfolding firstMet bookRefusals
-  met-20 h = rw (short-is, h)
+  met-20 h = rw (h, or-true (jobShort f (jobLengths f) || bagsShort f (jobLengths f)))
 
-  module _ (h : (s || u) ≡ false) (ei : i ≡ jobInRange f) where
-    pub met-21 : not i ≡ true → 21 ≡ firstMet (bookRefusals f n b)
-    unfolding firstMet bookRefusals
-    met-21 g = rw (short-is, h, ← ei, g)
+  module _ (h : bookShort f n ≡ false) where
+    -- What the job's tables meet,
+    pub met-job : (firstMet (jobRefusals f) ≡ 0 → ⊥) → firstMet (jobRefusals f) ≡ firstMet (bookRefusals f n b)
+    unfolding firstMet bookRefusals jobRefusals
+    met-job e = rw (h, or-false (jobShort f (jobLengths f) || bagsShort f (jobLengths f)))
+        (job-first (jobShort f (jobLengths f) || bagsShort f (jobLengths f)) (not (jobInRange f)) (countedTwice (countedOf f)) (cond (not (ltb b (f .boxes))) 23 0) e)
 
-    pub met-23 : not i ≡ false → f .boxes ≤ b → 23 ≡ firstMet (bookRefusals f n b)
-    unfolding firstMet bookRefusals
-    met-23 g l = rw (short-is, h, ← ei, g, le-ltb b (f .boxes) l)
+    -- or the box.
+    met-box : firstMet (jobRefusals f) ≡ 0 → cond (not (ltb b (f .boxes))) 23 0 ≡ firstMet (bookRefusals f n b)
+    unfolding firstMet bookRefusals jobRefusals
+    met-box e = rw (h, or-false (jobShort f (jobLengths f) || bagsShort f (jobLengths f)))
+        (job-none (jobShort f (jobLengths f) || bagsShort f (jobLengths f)) (not (jobInRange f)) (countedTwice (countedOf f)) (cond (not (ltb b (f .boxes))) 23 0) e)
 
-    pub met-none : not i ≡ false → b < f .boxes → 0 ≡ firstMet (bookRefusals f n b)
-    unfolding firstMet bookRefusals
-    met-none g l = rw (short-is, h, ← ei, g, lt-ltb b (f .boxes) l)
+    pub met-23 : firstMet (jobRefusals f) ≡ 0 → f .boxes ≤ b → 23 ≡ firstMet (bookRefusals f n b)
+    met-23 e l = rw (le-ltb b (f .boxes) l) at (met-box e)
+
+    pub met-none : firstMet (jobRefusals f) ≡ 0 → b < f .boxes → 0 ≡ firstMet (bookRefusals f n b)
+    met-none e l = rw (lt-ltb b (f .boxes) l) at (met-box e)
 
 -- ---- Nothing is refused
-
-three-tests : (a c i l : Bool) → cond {A = ℕ} (a || c) 20 (cond (not i) 21 (cond (not l) 23 0)) ≡ 0 → (a ≡ false) × (c ≡ false) × (i ≡ true) × (l ≡ true)
-three-tests true c i l h = absurd (omega arith)
-three-tests false true i l h = absurd (omega arith)
-three-tests false false false l h = absurd (omega arith)
-three-tests false false true false h = absurd (omega arith)
-three-tests false false true true h = (refl, refl, refl, refl)
 
 -- Each table of the book is as long as M, N and T need.
 pub record BookWhole (f : JobTables) (n : BookLengths) : Type 0 where
@@ -80,10 +93,21 @@ book-whole f n h =
 
 module _ (f : JobTables) (n : BookLengths) (b : ℕ) (h : firstMet (bookRefusals f n b) ≡ 0) where
   tests : (jobShort f (jobLengths f) ≡ false) × (bookShort f n ≡ false) × (jobInRange f ≡ true) × (ltb b (f .boxes) ≡ true)
-  unfolding firstMet bookRefusals
-  tests = three-tests (jobShort f (jobLengths f)) (bookShort f n) (jobInRange f) (ltb b (f .boxes)) h
+  unfolding bookRefusals
+  tests =
+      let u = unmet (bookRefusals f n b) refl h in
+      let e = or-off (jobShort f (jobLengths f) || bagsShort f (jobLengths f)) (bookShort f n) (u .0) in
+      (or-off (jobShort f (jobLengths f)) (bagsShort f (jobLengths f)) (e .0) .0, e .1, not-off (jobInRange f) (u .1 .0), not-off (ltb b (f .boxes)) (u .1 .1 .1 .0))
 
-  pub in-range : jobInRange f ≡ true
+  -- The job's tables meet nothing.
+  pub none-refused : firstMet (jobRefusals f) ≡ 0
+  unfolding bookRefusals jobRefusals
+  none-refused =
+      let u = unmet (bookRefusals f n b) refl h in
+      let e = or-off (jobShort f (jobLengths f) || bagsShort f (jobLengths f)) (bookShort f n) (u .0) in
+      none-met (jobRefusals f) (e .0, (u .1 .0, (u .1 .1 .0, tt)))
+
+  in-range : jobInRange f ≡ true
   in-range = tests .2
 
   pub box-in : b < f .boxes
@@ -95,41 +119,42 @@ module _ (f : JobTables) (n : BookLengths) (b : ℕ) (h : firstMet (bookRefusals
   pub whole : JobWhole f
   whole = job-whole f (tests .0)
 
+  words : JobIn f
+  words = job-in f (in-handed f in-range)
+
   pub offer-owners : OwnersIn (f .boxes) (f .offers) (f .offerOwner)
-  unfolding jobOf
   offer-owners = record {
-    k-in = range f in-range .boxes≤;
-    n-in = limits f in-range .offers≤;
+    k-in = words .boxes≤;
+    n-in = words .offers≤;
     owners-long = whole .offerOwner;
-    owner-in = λ o l. rw (word-in (f .offers) (f .offerOwner) 0 o l) at (range f in-range .owner< o l);
+    owner-in = λ o l. under-at (f .boxes) (f .offers) (f .offerOwner) o (words .offerOwner) l;
   }
 
   pub grocer-owners : OwnersIn (f .boxes) (f .grocers) (f .grocerOwner)
-  unfolding jobOf
   grocer-owners = record {
-    k-in = range f in-range .boxes≤;
-    n-in = omega (arith, limits f in-range .grocers≤);
+    k-in = words .boxes≤;
+    n-in = omega (arith, words .grocers≤);
     owners-long = whole .grocerOwner;
-    owner-in = λ g l. rw (word-in (f .grocers) (f .grocerOwner) 0 g l) at (range f in-range .grocerOwner< g l);
+    owner-in = λ g l. under-at (f .boxes) (f .grocers) (f .grocerOwner) g (words .grocerOwner) l;
   }
 
-  pub offer-tallies : TalliesIn (f .tallyBox) (f .tallyOffer) (f .tallies)
-  unfolding jobOf
-  offer-tallies = record {
-    tallies-in = limits f in-range .tallies≤;
-    boxes-long = whole .tallyBox;
-    items-long = whole .tallyOffer;
-    item-in = λ t l. omega (arith, rw (word-in (f .tallies) (f .tallyOffer) 0 t l) at (range f in-range .offer< t l), limits f in-range .offers≤);
-  }
+  -- With the standing boxes.
+  module _ (boxes : List ℕ) (s : Standing f boxes) where
+    pub offer-tallies : TalliesIn boxes (f .tallyOffer) (f .tallies)
+    offer-tallies = record {
+      tallies-in = words .tallies≤;
+      boxes-long = s .long;
+      items-long = whole .tallyOffer;
+      item-in = λ t l. omega (arith, under-at (f .offers) (f .tallies) (f .tallyOffer) t (words .tallyOffer) l, words .offers≤);
+    }
 
-  pub grocer-tallies : TalliesIn (f .tallyBox) (f .tallyGrocer) (f .tallies)
-  unfolding jobOf
-  grocer-tallies = record {
-    tallies-in = limits f in-range .tallies≤;
-    boxes-long = whole .tallyBox;
-    items-long = whole .tallyGrocer;
-    item-in = λ t l. omega (arith, rw (word-in (f .tallies) (f .tallyGrocer) 0 t l) at (range f in-range .grocer< t l), limits f in-range .grocers≤);
-  }
+    pub grocer-tallies : TalliesIn boxes (f .tallyGrocer) (f .tallies)
+    grocer-tallies = record {
+      tallies-in = words .tallies≤;
+      boxes-long = s .long;
+      items-long = whole .tallyGrocer;
+      item-in = λ t l. omega (arith, under-at (f .grocers) (f .tallies) (f .tallyGrocer) t (words .tallyGrocer) l, words .grocers≤);
+    }
 
 -- A local list as it stands in front of its table is a list of places.
 pub places-in : (k n : ℕ) (owner : ℕ → ℕ) (items boxes : List ℕ) (tallies b : ℕ) (list rest : List ℕ) (l : ℕ) → n ≤ 500 → n ≤ length rest → length list ≡ length rest →

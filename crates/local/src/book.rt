@@ -1,11 +1,13 @@
 // The local book of a box: the public call.
 ghost use mathlib.Core.Path.{_≡_};
 ghost use Rattle.laws.specs.Checks.{firstMet};
-ghost use Rattle.model.specs.Lent.{jobLent};
-ghost use Rattle.model.specs.Local.{BookLengths, bookShort, bookRefusals};
+ghost use Rattle.model.specs.Tables.{JobTables};
+ghost use Rattle.model.specs.Lent.{bagLent};
+ghost use Rattle.model.specs.Local.{BookLengths, bookShort, bookRefusals, jobRefusals};
 ghost use Rattle.local.specs.Book.{bookBefore, bookAfter, lengths, bookSizes, Booked};
 use crate::lists::list;
 use crate::pack::pack;
+use tables::checks::job_refusal;
 
 // How many local offers, local grocers and tallies the box has; or the number of the refusal, and no lent word is changed.
 pub enum Answer {
@@ -41,56 +43,17 @@ fn book_short(
         | (packed_counts < t)
 }
 
-// The number of the first condition that is met, 20, 21 or 23, or 0; `short` says whether a table of the book is short.
-fn refusal(
-    boxes: u16,
-    grocers: u16,
-    offers: u16,
-    tallies: u16,
-    price: &[u32],
-    offer_owner: &[u16],
-    grocer_owner: &[u16],
-    tally_grocer: &[u16],
-    tally_box: &[u16],
-    tally_offer: &[u16],
-    tally_count: &[i32],
-    b: u16,
-    short: bool,
-) -> u16
-    ensures { λ r. ⌜ ((n : BookLengths) →
-        short ≡ bookShort (jobLent boxes grocers offers tallies price «offer_owner» «grocer_owner» «tally_grocer» «tally_box» «tally_offer» «tally_count») n →
-        r ≡ firstMet (bookRefusals
-        (jobLent boxes grocers offers tallies price «offer_owner» «grocer_owner» «tally_grocer» «tally_box» «tally_offer» «tally_count») n b)) ⌝ }
+// The number of the first condition that is met, 20, 21, 9 or 23, or 0: `short` says whether a table of the book is short, `met` is the
+// number that the job's tables meet.
+fn refusal(short: bool, met: u16, b: u16, boxes: u16) -> u16
+    ensures { λ r. ⌜ ((f : JobTables) (n : BookLengths) → short ≡ bookShort f n → met ≡ firstMet (jobRefusals f) → boxes ≡ f .boxes →
+        r ≡ firstMet (bookRefusals f n b)) ⌝ }
 {
-    let lent_short = tables::checks::job_short(
-        grocers,
-        offers,
-        tallies,
-        price,
-        offer_owner,
-        grocer_owner,
-        tally_grocer,
-        tally_box,
-        tally_offer,
-        tally_count,
-    );
-    if lent_short | short {
+    if short {
         return 20;
     }
-    if !tables::checks::job_in_range(
-        boxes,
-        grocers,
-        offers,
-        tallies,
-        price,
-        offer_owner,
-        grocer_owner,
-        tally_grocer,
-        tally_box,
-        tally_offer,
-        tally_count,
-    ) {
-        return 21;
+    if met != 0 {
+        return met;
     }
     if b >= boxes {
         return 23;
@@ -98,8 +61,8 @@ fn refusal(
     0
 }
 
-// The local book of box b, written into the five tables lent. One thing is left open, as 01 leaves it: the order of the
-// tallies inside an offer's packed list.
+// The local book of box b, written into the five tables lent; or 20, 21, 9 or 23. One thing is left open, as 01 leaves it:
+// the order of the tallies inside an offer's packed list.
 pub fn book(
     boxes: u16,
     grocers: u16,
@@ -112,6 +75,8 @@ pub fn book(
     tally_box: &[u16],
     tally_offer: &[u16],
     tally_count: &[i32],
+    tally_bag: &[u16],
+    tally_revision: &[u16],
     b: u16,
     local_offers: &mut [u16],
     local_grocers: &mut [u16],
@@ -119,7 +84,8 @@ pub fn book(
     packed_grocers: &mut [u16],
     packed_counts: &mut [i32],
 ) -> Answer
-    ensures { λ r. ⌜ Booked (jobLent boxes grocers offers tallies price «offer_owner» «grocer_owner» «tally_grocer» «tally_box» «tally_offer» «tally_count») b
+    ensures { λ r. ⌜ Booked (bagLent boxes grocers offers tallies price «offer_owner» «grocer_owner» «tally_grocer» «tally_box» «tally_offer» «tally_count»
+        «tally_bag» «tally_revision») b
         (bookBefore «local_offers» «local_grocers» starts «packed_grocers» «packed_counts») r
         (bookAfter «local_offers» «local_grocers» starts «packed_grocers» «packed_counts») ⌝ }
 {
@@ -133,7 +99,8 @@ pub fn book(
         packed_grocers.len(),
         packed_counts.len(),
     );
-    let r = refusal(
+    let mut standing = [0u16; 1000];
+    let met = job_refusal(
         boxes,
         grocers,
         offers,
@@ -145,18 +112,21 @@ pub fn book(
         tally_box,
         tally_offer,
         tally_count,
-        b,
-        short,
+        tally_bag,
+        tally_revision,
+        &mut standing,
     );
+    let r = refusal(short, met, b, boxes);
     if r != 0 {
         return Answer::Refused(r);
     }
+    let held: &[u16] = &standing;
     let t = tallies as usize;
     let l = list(
         offer_owner,
         offers as usize,
         tally_offer,
-        tally_box,
+        held,
         tallies,
         boxes,
         b,
@@ -166,7 +136,7 @@ pub fn book(
         grocer_owner,
         grocers as usize,
         tally_grocer,
-        tally_box,
+        held,
         tallies,
         boxes,
         b,
@@ -174,7 +144,7 @@ pub fn book(
     );
     let n = pack(
         tally_grocer,
-        tally_box,
+        held,
         tally_offer,
         tally_count,
         t,

@@ -1,23 +1,14 @@
 -- The call that makes the tables of messages, by the first condition that is met. Assumes nothing.
 use mathlib.Core.Path.{_≡_, refl, sym}
-use mathlib.Core.Bool.{Bool, true, false, cond, not}
 use mathlib.Core.List.{List}
 use Prim.Native.Nat.{ℕ, zero, suc}
-use native.Mathlib.Omega.{arith}
 use borrow.Author.Tests.{ne-eqb}
 use Rattle.laws.specs.Checks.{firstMet}
 use Rattle.model.specs.Words.{ownerWords}
-use Rattle.model.specs.Tables.{JobTables, jobOf, jobLengths, jobShort}
-use Rattle.model.specs.Ranges.{jobInRange}
-use Rattle.model.specs.Local.{priceTable, totalTable}
-use Rattle.messages.specs.Refusals.{jobRefusals}
+use Rattle.model.specs.Tables.{JobTables, jobOf}
+use Rattle.model.specs.Local.{priceTable, totalTable, jobRefusals}
 use Rattle.messages.specs.Answers.{refused, said, messagesAnswer, tablesGiven, messageTables}
 use Rattle.messages.specs.declared.Answer.the-variants.{Made, Refused}
-
-two-tests : (a b : Bool) → cond {A = ℕ} a 20 (cond (not b) 21 0) ≡ 0 → (a ≡ false) × (b ≡ true)
-two-tests true b h = absurd (omega arith)
-two-tests false true h = (refl, refl)
-two-tests false false h = absurd (omega arith)
 
 answer-no : (n w : ℕ) → (n ≡ 0 → ⊥) → messagesAnswer n w ≡ refused n
 unfolding messagesAnswer
@@ -25,11 +16,6 @@ answer-no zero w h = absurd (h refl)
 answer-no (suc n) w h = refl
 
 module _ (f : JobTables) where
-  -- No refusal: the tables are whole, and in range.
-  pub accepted : firstMet (jobRefusals f) ≡ 0 → (jobShort f (jobLengths f) ≡ false) × (jobInRange f ≡ true)
-  unfolding firstMet jobRefusals
-  accepted h = two-tests (jobShort f (jobLengths f)) (jobInRange f) h
-
   -- A refusal leaves both tables.
   pub messages-refused : (p t : List (List ℕ)) (n : ℕ) → n ≡ firstMet (jobRefusals f) → (n ≡ 0 → ⊥) → tablesGiven (said (Refused n)) p t ≡ messageTables f p t
   unfolding messageTables said

@@ -12,13 +12,13 @@ use Rattle.laws.specs.Tables.{tabulate}
 use Rattle.laws.proofs.Sums.{sum-cong, sum-next, sum-none}
 use Rattle.laws.proofs.Tables.{getD-tabulate, word-in}
 use Rattle.model.specs.Tables.{JobTables, jobOf}
-use Rattle.model.specs.Ranges.{jobInRange}
+use Rattle.model.specs.Handed.{Handed}
 use Rattle.model.specs.Words.{ownerWords}
 use Rattle.tables.specs.Masks.{holderWord}
 use Rattle.tables.specs.Messages.{cellAt}
+use Rattle.messages.specs.Sums.{rowSum, columnSum, tableSum, othersSum}
 use Rattle.tables.proofs.Holders.{need-word, sharer-word}
 use Rattle.tables.proofs.InJob.{offers-room, grocers-room}
-use Rattle.messages.specs.Sums.{rowSum, columnSum, tableSum, othersSum}
 
 -- The first n counts of a row or a column, summed.
 unfoldable pub lineTo : ℕ → Bool → List (List ℕ) → ℕ → ℕ
@@ -71,7 +71,7 @@ pub others-next : (n : ℕ) (owners masks : List ℕ) → othersSum (n + 1) owne
 unfolding othersSum naturals
 others-next n owners masks = sum-next naturals n (λ i. ones (without (getD owners i 0) (getD masks i 0)))
 
-module _ (f : JobTables) (ok : jobInRange f ≡ true) where
+module _ (f : JobTables) (ok : Handed f) where
   -- What `words::word_total` gives is the words of the job by the owner tables.
   pub word-total :
       othersSum (f .offers) (f .offerOwner) (tabulate 500 (holderWord (f .boxes) (f .tallies) (f .tallyBox) (f .tallyOffer)))
@@ -80,5 +80,5 @@ module _ (f : JobTables) (ok : jobInRange f ≡ true) where
   unfolding othersSum ownerWords jobOf
   word-total =
       ap₂ (λ (x y : ℕ). x + y)
-      (sum-cong naturals (f .offers) _ _ (λ o l. ap₂ (λ (x y : ℕ). ones (without x y)) (sym (word-in (f .offers) (f .offerOwner) 0 o l)) (getD-tabulate 500 _ o 0 (let r = offers-room f ok in omega arith) ∙ need-word f o)))
-      (sum-cong naturals (f .grocers) _ _ (λ g l. ap₂ (λ (x y : ℕ). ones (without x y)) (sym (word-in (f .grocers) (f .grocerOwner) 0 g l)) (getD-tabulate 255 _ g 0 (let r = grocers-room f ok in omega arith) ∙ sharer-word f g)))
+      (sum-cong naturals (f .offers) _ _ (λ o l. ap₂ (λ (x y : ℕ). ones (without x y)) (sym (word-in (f .offers) (f .offerOwner) 0 o l)) (getD-tabulate 500 _ o 0 (let r = offers-room f ok in omega arith) ∙ need-word f (ok .bare) o)))
+      (sum-cong naturals (f .grocers) _ _ (λ g l. ap₂ (λ (x y : ℕ). ones (without x y)) (sym (word-in (f .grocers) (f .grocerOwner) 0 g l)) (getD-tabulate 255 _ g 0 (let r = grocers-room f ok in omega arith) ∙ sharer-word f (ok .bare) g)))

@@ -6,8 +6,7 @@ use lib.Dec.{eqb}
 use Rattle.laws.specs.Checks.{firstMet}
 use Rattle.model.specs.Words.{ownerWords}
 use Rattle.model.specs.Tables.{JobTables, jobOf}
-use Rattle.model.specs.Local.{priceTable, totalTable}
-use Rattle.messages.specs.Refusals.{jobRefusals}
+use Rattle.model.specs.Local.{priceTable, totalTable, jobRefusals}
 use Rattle.messages.specs.declared.Answer.{Answer}
 use Rattle.messages.specs.declared.Answer.the-variants.{Made, Refused}
 

@@ -1,4 +1,3 @@
--- What the call gives, its refusals, and the sums over its tables.
+-- What the call gives, and the sums over its tables.
 pub mod Sums
-pub mod Refusals
 pub mod Answers

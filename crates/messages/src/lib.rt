@@ -1,11 +1,8 @@
 // The public call that makes the tables of messages of a job, and the sums over them.
 ghost use mathlib.Core.Path.{_≡_};
-ghost use Rattle.laws.specs.Checks.{firstMet};
-ghost use Rattle.model.specs.Lent.{jobLent};
-ghost use Rattle.messages.specs.Refusals.{jobRefusals};
+ghost use Rattle.model.specs.Lent.{bagLent};
 ghost use Rattle.messages.specs.Answers.{said, tablesGiven, messageTables};
-use tables::checks::job_in_range;
-use tables::checks::job_short;
+use tables::checks::job_refusal;
 use tables::masks::needs;
 use tables::masks::sharers;
 use tables::messages::price_table;
@@ -20,58 +17,9 @@ pub enum Answer {
     Refused(u16),
 }
 
-// The number of the first condition that the job's tables meet, 20 or 21, or 0.
-fn job_refusal(
-    boxes: u16,
-    grocers: u16,
-    offers: u16,
-    tallies: u16,
-    price: &[u32],
-    offer_owner: &[u16],
-    grocer_owner: &[u16],
-    tally_grocer: &[u16],
-    tally_box: &[u16],
-    tally_offer: &[u16],
-    tally_count: &[i32],
-) -> u16
-    ensures { λ r. ⌜ r ≡ firstMet (jobRefusals
-        (jobLent boxes grocers offers tallies price «offer_owner» «grocer_owner» «tally_grocer» «tally_box» «tally_offer» «tally_count»)) ⌝ }
-{
-    if job_short(
-        grocers,
-        offers,
-        tallies,
-        price,
-        offer_owner,
-        grocer_owner,
-        tally_grocer,
-        tally_box,
-        tally_offer,
-        tally_count,
-    ) {
-        return 20;
-    }
-    if !job_in_range(
-        boxes,
-        grocers,
-        offers,
-        tallies,
-        price,
-        offer_owner,
-        grocer_owner,
-        tally_grocer,
-        tally_box,
-        tally_offer,
-        tally_count,
-    ) {
-        return 21;
-    }
-    0
-}
-
 // The words from each box to each other box: 16 rows of 16 counts, the row is the sender, one such table for prices and
-// one for totals; the words of the job are the ones in its need and sharer words, the owner's bit left out. A refusal
-// leaves both tables as they were.
+// one for totals; the words of the job are the ones in its need and sharer words, the owner's bit left out. A refusal,
+// 20, 21 or 9, leaves both tables as they were.
 pub fn message_tables(
     boxes: u16,
     grocers: u16,
@@ -84,13 +32,16 @@ pub fn message_tables(
     tally_box: &[u16],
     tally_offer: &[u16],
     tally_count: &[i32],
+    tally_bag: &[u16],
+    tally_revision: &[u16],
     prices: &mut [[u16; 16]; 16],
     totals: &mut [[u16; 16]; 16],
 ) -> Answer
     ensures { λ r. ⌜ tablesGiven (said r) (now (prices .exit)) (now (totals .exit))
-        ≡ messageTables (jobLent boxes grocers offers tallies price «offer_owner» «grocer_owner» «tally_grocer» «tally_box» «tally_offer» «tally_count»)
-        (now (prices .entry)) (now (totals .entry)) ⌝ }
+        ≡ messageTables (bagLent boxes grocers offers tallies price «offer_owner» «grocer_owner» «tally_grocer» «tally_box» «tally_offer» «tally_count»
+        «tally_bag» «tally_revision») (now (prices .entry)) (now (totals .entry)) ⌝ }
 {
+    let mut standing = [0u16; 1000];
     let r = job_refusal(
         boxes,
         grocers,
@@ -103,12 +54,16 @@ pub fn message_tables(
         tally_box,
         tally_offer,
         tally_count,
+        tally_bag,
+        tally_revision,
+        &mut standing,
     );
     if r != 0 {
         return Answer::Refused(r);
     }
-    let needing = needs(boxes, tallies, tally_box, tally_offer);
-    let sharing = sharers(boxes, tallies, tally_box, tally_grocer);
+    let held: &[u16] = &standing;
+    let needing = needs(boxes, tallies, held, tally_offer);
+    let sharing = sharers(boxes, tallies, held, tally_grocer);
     let p = price_table(offers, offer_owner, &needing);
     let t = total_table(grocers, grocer_owner, &sharing);
     let words = words::word_total(

@@ -5,10 +5,11 @@ use Rattle.laws.specs.Masks.{maskOf, without}
 use Rattle.laws.specs.Checks.{firstMet}
 use Rattle.laws.specs.Below.{naturals, integers, sum, only, any, all, count, find, ascending}
 use Rattle.laws.specs.Tables.{tabulate, overwrite, word, cell, recell}
+use Rattle.recount.specs.Recount.{loose, sameBag, superseded, stands, countedTwice}
 use Rattle.model.specs.Local.{chained, localOffers, localGrocers, ofOffer, start, starts, priceTable, totalTable}
-use Rattle.model.specs.Reconcile.{recordInRange, recordsInRange, serialAmount, deskRefusals, deskAnswer, reconciled}
+use Rattle.model.specs.Reconcile.{recordInRange, recordsInRange, recordIn, countedRecords, standingRecords, serialAmount, deskRefusals, deskAnswer, reconciled}
 use Rattle.model.specs.Job.{heldBy, held, needs, shares, needWord, sharerWord, priceWord, totalWord, pricesDue, totalsDue, amount, plainSum}
-use Rattle.model.specs.Tables.{jobOf, stepsDone, marksOf, view, store, jobLengths, stateLengths, jobShort, stateShort, lentShort}
+use Rattle.model.specs.Tables.{countedOf, jobOf, stepsDone, marksOf, view, store, jobLengths, stateLengths, jobShort, bagsShort, stateShort, lentShort}
 use Rattle.model.specs.Run.{readySteps, readyCount, pick, picks, afterSteps, run, reported, runRefusals, runState, ran}
 use Rattle.model.specs.Ranges.{upTo, under, around, sizesInRange, jobWordsInRange, jobInRange, stateInRange}
 use Rattle.model.specs.Step.{isKind, boxesFit, stepRules, moved, refusals, stepRefusal, stepTables, freshTables, stepAnswer, stepped}
@@ -18,11 +19,12 @@ use Rattle.model.specs.Steps.{doneBy, added, kindNumber, kindOf, mark, o
 use Rattle.model.specs.Cases.{Cases, Examples}
 
 pub cases : Cases
-unfolding jobOf stepsDone marksOf view store word cell recell overwrite tabulate jobShort stateShort jobLengths stateLengths lentShort jobInRange sizesInRange jobWordsInRange stateInRange upTo under
-    around firstMet refusals stepRules stepRefusal stepTables moved isKind boxesFit oneBox stepAnswer stepped freshTables fresh effect products received kindNumber kindOf mark fits hasStep multiplied
-    ready permitted heldBy held needs shares needWord sharerWord priceWord totalWord pricesDue totalsDue amount plainSum maskOf without sum only naturals integers any all count find ownerWords
-    messageCount stepCount over messagesOf run runState afterSteps picks pick stepAt listOf readySteps readyCount ran runRefusals reported ascending chained localOffers localGrocers ofOffer start
-    starts priceTable totalTable reconciled deskAnswer deskRefusals recordsInRange recordInRange serialAmount ones lib.Count.onesIn
+unfolding loose sameBag superseded stands countedTwice countedOf bagsShort jobOf stepsDone marksOf view store word cell recell overwrite tabulate jobShort stateShort jobLengths stateLengths
+    lentShort jobInRange sizesInRange jobWordsInRange stateInRange upTo under around firstMet refusals stepRules stepRefusal stepTables moved isKind boxesFit oneBox stepAnswer stepped
+    freshTables fresh effect products received kindNumber kindOf mark fits hasStep multiplied ready permitted heldBy held needs shares needWord sharerWord priceWord totalWord pricesDue
+    totalsDue amount plainSum maskOf without sum only naturals integers any all count find ownerWords messageCount stepCount over messagesOf run runState afterSteps picks pick stepAt listOf
+    readySteps readyCount ran runRefusals reported ascending chained localOffers localGrocers ofOffer start starts priceTable totalTable reconciled deskAnswer deskRefusals recordsInRange
+    recordInRange recordIn countedRecords standingRecords serialAmount ones lib.Count.onesIn
 cases = record {
   e-amount-0 = refl;
   e-amount-1 = refl;
@@ -42,12 +44,12 @@ cases = record {
 }
 
 pub examples : Examples
-unfolding doneBy stateByRules knows priceOnWay gone arrived partOf paid sentOf added jobOf stepsDone marksOf view store word cell recell overwrite tabulate jobShort stateShort jobLengths stateLengths
-    lentShort jobInRange sizesInRange jobWordsInRange stateInRange upTo under around firstMet refusals stepRules stepRefusal stepTables moved isKind boxesFit oneBox stepAnswer stepped freshTables
-    fresh effect products received kindNumber kindOf mark fits hasStep multiplied ready permitted heldBy held needs shares needWord sharerWord priceWord totalWord pricesDue totalsDue amount plainSum
-    maskOf without sum only naturals integers any all count find ownerWords messageCount stepCount over messagesOf run runState afterSteps picks pick stepAt listOf readySteps readyCount ran
-    runRefusals reported ascending chained localOffers localGrocers ofOffer start starts priceTable totalTable reconciled deskAnswer deskRefusals recordsInRange recordInRange serialAmount ones
-    lib.Count.onesIn
+unfolding loose sameBag superseded stands countedTwice countedOf bagsShort doneBy stateByRules knows priceOnWay gone arrived partOf paid sentOf added jobOf stepsDone marksOf view store word
+    cell recell overwrite tabulate jobShort stateShort jobLengths stateLengths lentShort jobInRange sizesInRange jobWordsInRange stateInRange upTo under around firstMet refusals stepRules
+    stepRefusal stepTables moved isKind boxesFit oneBox stepAnswer stepped freshTables fresh effect products received kindNumber kindOf mark fits hasStep multiplied ready permitted heldBy
+    held needs shares needWord sharerWord priceWord totalWord pricesDue totalsDue amount plainSum maskOf without sum only naturals integers any all count find ownerWords messageCount
+    stepCount over messagesOf run runState afterSteps picks pick stepAt listOf readySteps readyCount ran runRefusals reported ascending chained localOffers localGrocers ofOffer start starts
+    priceTable totalTable reconciled deskAnswer deskRefusals recordsInRange recordInRange recordIn countedRecords standingRecords serialAmount ones lib.Count.onesIn
 examples = record {
   needs-away = refl;
   words-away = refl;
@@ -95,4 +97,20 @@ examples = record {
   desk = refl;
   desk-21 = refl;
   desk-20 = refl;
+  recount-sum = refl;
+  recount-need = refl;
+  recount-words = refl;
+  recount-steps = refl;
+  recount-answer = refl;
+  recount-leaves = refl;
+  recount-book = refl;
+  recount-none = refl;
+  recount-loose = refl;
+  recount-bags = refl;
+  twice-step = refl;
+  twice-run = refl;
+  twice-short = refl;
+  superseded-21 = refl;
+  desk-recount = refl;
+  desk-9 = refl;
 }

@@ -13,9 +13,10 @@ use Rattle.laws.proofs.Bools.{split}
 use Rattle.laws.specs.Checks.{firstMet}
 use Rattle.model.specs.Job.{plainSum}
 use Rattle.model.specs.Requests.{Request, lendsShort, answerTo, serve, serveAll, acceptedFrom, tablesAfter, acceptedIn, doneIn, answersFrom, answersIn}
-use Rattle.model.specs.Tables.{JobTables, jobOf, StateTables, view, store, jobLengths, jobShort, stateShort, lentShort}
+use Rattle.model.specs.Tables.{JobTables, jobOf, StateTables, view, store, jobShort, bagsShort, stateShort, lentShort}
 use Rattle.model.specs.Run.{run, runState, reported, runRefusals, ran, finished}
-use Rattle.model.specs.Ranges.{jobInRange, Settles}
+use Rattle.model.specs.Ranges.{Settles}
+use Rattle.model.specs.Handed.{handedInRange}
 use Rattle.model.specs.Step.{isKind, stepOf, freshTables, stepAnswer}
 use Rattle.model.specs.Words.{over, wordsOf, ownerWords, messageCount, stepCount, messagesOf}
 use Rattle.model.specs.Steps.{Step, Steps, doneBy, State, hasStep, fresh, effectOf, Kind, kindNumber, sendPrices, multiplyOwn, receivePrices, sendTotals, addOwn, receiveTotals, mark, permitted, kindOf}
@@ -29,7 +30,7 @@ use Rattle.model.proofs.Progress.{progress}
 use Rattle.model.specs.Boxes.{stateByRules, Closed, Sound}
 use Rattle.model.proofs.Run.{run-done, run-reached, run-taken, run-length, run-sends}
 use Rattle.model.proofs.Step.{range, ok-store}
-use Rattle.model.proofs.Served.{allowed, within, view-is, next, one-answer, one-serve, one-sound}
+use Rattle.model.proofs.Served.{allowed, settles-in, within, view-is, next, one-answer, one-serve, one-sound}
 use Rattle.model.proofs.Words.{end-sent}
 use Rattle.model.proofs.EachWord.{each-word, one-price, one-total}
 use Rattle.model.proofs.Refusal.{accepted-zero, rules-zero}
@@ -101,7 +102,7 @@ module _ (f : JobTables) (z : Settles f) (t : StateTables) where
   module _ (rs : List Request) where
     -- The state that the list leaves.
     reach : Sound (jobOf f) (reached (jobOf f) (asks f rs))
-    reach = sound (jobOf f) (range f (z .inRange)) (asks f rs)
+    reach = sound (jobOf f) (range f (settles-in f z)) (asks f rs)
 
     pub left-is : tablesAfter f t rs ≡ store (jobOf f) (reached (jobOf f) (asks f rs)) t
     unfolding tablesAfter freshTables reached
@@ -116,17 +117,17 @@ module _ (f : JobTables) (z : Settles f) (t : StateTables) where
     done-is = ap doneBy accepted-is
 
     marked-is : reached (jobOf f) (asks f rs) .done ≡ doneIn f t rs
-    marked-is = marked (jobOf f) (range f (z .inRange)) (asks f rs) ∙ sym done-is
+    marked-is = marked (jobOf f) (range f (settles-in f z)) (asks f rs) ∙ sym done-is
 
     pub view-left : view (jobOf f) (tablesAfter f t rs) ≡ reached (jobOf f) (asks f rs)
-    view-left = ap (view (jobOf f)) left-is ∙ view-is f (z .inRange) (z .whole) t (reached (jobOf f) (asks f rs)) reach
+    view-left = ap (view (jobOf f)) left-is ∙ view-is f (settles-in f z) t (reached (jobOf f) (asks f rs)) reach
 
     -- The state of the list is the closed form of the steps done.
     state-is : view (jobOf f) (tablesAfter f t rs) ≡ stateByRules (jobOf f) (doneIn f t rs)
-    state-is = view-left ∙ form (jobOf f) (range f (z .inRange)) (asks f rs) ∙ ap (stateByRules (jobOf f)) (sym done-is)
+    state-is = view-left ∙ form (jobOf f) (range f (settles-in f z)) (asks f rs) ∙ ap (stateByRules (jobOf f)) (sym done-is)
 
     closed-is : Closed (jobOf f) (doneIn f t rs)
-    closed-is = rw done-is (closed (jobOf f) (range f (z .inRange)) (asks f rs))
+    closed-is = rw done-is (closed (jobOf f) (range f (settles-in f z)) (asks f rs))
 
     list-is : answersIn f t rs ≡ answersByRules f (λ k a b. false) rs
     unfolding answersIn freshTables fresh
@@ -154,7 +155,7 @@ module _ (f : JobTables) (z : Settles f) (t : StateTables) where
         view (jobOf f) (serve f (tablesAfter f t rs) r) ≡ effectOf (jobOf f) (view (jobOf f) (tablesAfter f t rs)) (stepOf (r .asked))
     does-is r h =
         ap (view (jobOf f)) (served-is r)
-        ∙ view-is f (z .inRange) (z .whole) t (next f z t (reached (jobOf f) (asks f rs)) r) (one-sound f z t (reached (jobOf f) (asks f rs)) reach r)
+        ∙ view-is f (settles-in f z) t (next f z t (reached (jobOf f) (asks f rs)) r) (one-sound f z t (reached (jobOf f) (asks f rs)) reach r)
         ∙ next-yes r h
         ∙ ap (λ (s : State). effectOf (jobOf f) s (stepOf (r .asked))) (sym view-left)
 
@@ -166,7 +167,7 @@ module _ (f : JobTables) (z : Settles f) (t : StateTables) where
     words-is = ap (λ (s : State). s .sent) view-left ∙ trace-sent (jobOf f) (fresh (jobOf f)) (asks f rs) ∙ rw accepted-is (omega arith)
 
     size-is : size (jobOf f) (doneIn f t rs) ≡ length (acceptedIn f t rs)
-    size-is = ap (size (jobOf f)) done-is ∙ taken-size (jobOf f) (range f (z .inRange)) (asks f rs) ∙ ap length (sym accepted-is)
+    size-is = ap (size (jobOf f)) done-is ∙ taken-size (jobOf f) (range f (settles-in f z)) (asks f rs) ∙ ap length (sym accepted-is)
 
     -- All done: the state is that of all steps.
     pub all-is : AllDone (jobOf f) (doneIn f t rs) → view (jobOf f) (tablesAfter f t rs) ≡ stateByRules (jobOf f) (hasStep (jobOf f))
@@ -176,13 +177,13 @@ module _ (f : JobTables) (z : Settles f) (t : StateTables) where
     count-is h = sym size-is ∙ ap (size (jobOf f)) (all-steps (jobOf f) (doneIn f t rs) closed-is h) ∙ steps-number (jobOf f)
 
     sends-is : AllDone (jobOf f) (doneIn f t rs) → over messagesOf (acceptedIn f t rs) ≡ messageCount (jobOf f)
-    sends-is h = ap (over messagesOf) accepted-is ∙ all-sends (jobOf f) (range f (z .inRange)) (asks f rs) (rw done-is at h)
+    sends-is h = ap (over messagesOf) accepted-is ∙ all-sends (jobOf f) (range f (settles-in f z)) (asks f rs) (rw done-is at h)
 
     owner-is : AllDone (jobOf f) (doneIn f t rs) → over (wordsOf (jobOf f)) (acceptedIn f t rs) ≡ ownerWords (jobOf f)
-    owner-is h = sym words-is ∙ ap (λ (s : State). s .sent) (all-is h) ∙ end-sent (jobOf f) (range f (z .inRange))
+    owner-is h = sym words-is ∙ ap (λ (s : State). s .sent) (all-is h) ∙ end-sent (jobOf f) (range f (settles-in f z))
 
 -- A run's state is that of all steps.
-pub run-all : (f : JobTables) → jobInRange f ≡ true → (cs : List ℕ) → runState (jobOf f) cs ≡ stateByRules (jobOf f) (hasStep (jobOf f))
+pub run-all : (f : JobTables) → handedInRange f ≡ true → (cs : List ℕ) → runState (jobOf f) cs ≡ stateByRules (jobOf f) (hasStep (jobOf f))
 run-all f ok cs = run-reached (jobOf f) (range f ok) cs ∙ all-reached (jobOf f) (range f ok) (run (jobOf f) cs) (run-done (jobOf f) (range f ok) cs)
 
 kind-named : (k : Kind) → isKind (kindNumber k) ≡ true
@@ -197,7 +198,7 @@ kind-named receiveTotals = refl
 -- A request for a step that lends of each table what it needs asks for the step.
 module _ (f : JobTables) where
   whole-lends : (x : Step) → lendsShort f (wholeRequest f x) ≡ false
-  unfolding lendsShort wholeRequest jobShort stateShort
+  unfolding lendsShort wholeRequest jobShort bagsShort stateShort
   whole-lends x =
       rw (
         le-ltb (f .offers) (f .offers) (omega arith),
@@ -221,17 +222,17 @@ module _ (f : JobTables) where
   asks-whole [] = refl
   asks-whole (x ∷ xs) = rw (whole-lends x, whole-kind x, whole-step x, asks-whole xs)
 
-module _ (f : JobTables) (ok : jobInRange f ≡ true) (t : StateTables) (cs : List ℕ) where
+module _ (f : JobTables) (z : Settles f) (t : StateTables) (cs : List ℕ) where
   run-sent : runState (jobOf f) cs .sent ≡ ownerWords (jobOf f)
-  run-sent = ap (λ (s : State). s .sent) (run-all f ok cs) ∙ end-sent (jobOf f) (range f ok)
+  run-sent = ap (λ (s : State). s .sent) (run-all f (settles-in f z) cs) ∙ end-sent (jobOf f) (range f (settles-in f z))
 
   run-number : firstMet (runRefusals f t) ≡ cond (lentShort f t) 20 0
   unfolding runRefusals firstMet
-  run-number = rw ok
+  run-number = rw (z .inRange, z .once)
 
   ran-answer : ran f t cs .answer ≡ reported (cond (lentShort f t) 20 0) (finished (ownerWords (jobOf f)) (messageCount (jobOf f)) (stepCount (jobOf f)))
   unfolding ran
-  ran-answer = rw (run-number, run-sent, run-sends (jobOf f) (range f ok) cs, run-length (jobOf f) (range f ok) cs)
+  ran-answer = rw (run-number, run-sent, run-sends (jobOf f) (range f (settles-in f z)) cs, run-length (jobOf f) (range f (settles-in f z)) cs)
 
   ran-tables : lentShort f t ≡ false → ran f t cs .tables ≡ store (jobOf f) (runState (jobOf f) cs) t
   unfolding ran
@@ -245,17 +246,17 @@ module _ (f : JobTables) (ok : jobInRange f ≡ true) (t : StateTables) (cs : Li
 run-view : (f : JobTables) → Settles f → (u : StateTables) (cs : List ℕ) → lentShort f u ≡ false →
     view (jobOf f) (ran f u cs .tables) ≡ stateByRules (jobOf f) (hasStep (jobOf f))
 run-view f z u cs n =
-    ap (view (jobOf f)) (ran-tables f (z .inRange) u cs n ∙ ap (λ (s : State). store (jobOf f) s u) (run-reached (jobOf f) (range f (z .inRange)) cs))
-    ∙ view-is f (z .inRange) (z .whole) u (reached (jobOf f) (run (jobOf f) cs)) (sound (jobOf f) (range f (z .inRange)) (run (jobOf f) cs))
-    ∙ all-reached (jobOf f) (range f (z .inRange)) (run (jobOf f) cs) (run-done (jobOf f) (range f (z .inRange)) cs)
+    ap (view (jobOf f)) (ran-tables f z u cs n ∙ ap (λ (s : State). store (jobOf f) s u) (run-reached (jobOf f) (range f (settles-in f z)) cs))
+    ∙ view-is f (settles-in f z) u (reached (jobOf f) (run (jobOf f) cs)) (sound (jobOf f) (range f (settles-in f z)) (run (jobOf f) cs))
+    ∙ all-reached (jobOf f) (range f (settles-in f z)) (run (jobOf f) cs) (run-done (jobOf f) (range f (settles-in f z)) cs)
 
-run-statement : (f : JobTables) → jobInRange f ≡ true → (t : StateTables) (cs : List ℕ) → lentShort f t ≡ false → (g : ℕ) → g < f .grocers →
+run-statement : (f : JobTables) → Settles f → (t : StateTables) (cs : List ℕ) → lentShort f t ≡ false → (g : ℕ) → g < f .grocers →
     getD (ran f t cs .tables .statement) g (pos 0) ≡ plainSum (jobOf f) g
 unfolding store jobOf
-run-statement f ok t cs n g l =
-    rw (ran-tables f ok t cs n) (getD-overwrite (f .grocers) (runState (jobOf f) cs .statement) (t .statement) g (pos 0) l)
-    ∙ ap (λ (s : State). s .statement g) (run-all f ok cs)
-    ∙ end-statement (jobOf f) (range f ok) g l
+run-statement f z t cs n g l =
+    rw (ran-tables f z t cs n) (getD-overwrite (f .grocers) (runState (jobOf f) cs .statement) (t .statement) g (pos 0) l)
+    ∙ ap (λ (s : State). s .statement g) (run-all f (settles-in f z) cs)
+    ∙ end-statement (jobOf f) (range f (settles-in f z)) g l
 
 pub demand3 : (f : JobTables) → Settles f → (t : StateTables) (rs : List Request) → Demand3 f t rs
 unfolding jobOf reported
@@ -267,41 +268,37 @@ demand3 f z t rs = record {
   keeps = keeps-is f z t rs;
   holds = state-is f z t rs;
   stays = left-is f z t rs ∙ ap (λ (s : State). store (jobOf f) s t) (sym (view-left f z t rs));
-  inRange = rw (left-is f z t rs) (ok-store f (reached (jobOf f) (asks f rs)) t (within f (z .inRange) (z .whole) t (reached (jobOf f) (asks f rs)) (reach f z t rs)));
+  inRange = rw (left-is f z t rs) (ok-store f (reached (jobOf f) (asks f rs)) t (within f (settles-in f z) t (reached (jobOf f) (asks f rs)) (reach f z t rs)));
   marks = λ k a b i. (ap (λ (s : State). s .done) (view-left f z t rs) ∙ marked-is f z t rs) i k a b;
   wordsSent = words-is f z t rs;
-  runningSum = λ g. rw (state-is f z t rs) (running (jobOf f) (range f (z .inRange)) (doneIn f t rs) (closed-is f z t rs) g);
+  runningSum = λ g. rw (state-is f z t rs) (running (jobOf f) (range f (settles-in f z)) (doneIn f t rs) (closed-is f z t rs) g);
   goesOn = progress (jobOf f) (doneIn f t rs);
   atMost = omega (arith, size-is f z t rs, size-le (jobOf f) (doneIn f t rs) (hasStep (jobOf f)) (closed-is f z t rs .steps), steps-number (jobOf f));
   allDone = count-is f z t rs;
   allTaken = λ e. all-of-size (jobOf f) (doneIn f t rs) (closed-is f z t rs) (size-is f z t rs ∙ e ∙ sym (steps-number (jobOf f)));
   finish = λ h. rw (all-is f z t rs h) (record {
-    statements = end-statement (jobOf f) (range f (z .inRange));
-    noWorking = λ b g lb lg. end-working (jobOf f) (range f (z .inRange)) b g lb lg;
+    statements = end-statement (jobOf f) (range f (settles-in f z));
+    noWorking = λ b g lb lg. end-working (jobOf f) (range f (settles-in f z)) b g lb lg;
     noTotals = end-total-transit (jobOf f);
     noPrices = end-price-transit (jobOf f);
-    wordsSent = end-sent (jobOf f) (range f (z .inRange));
+    wordsSent = end-sent (jobOf f) (range f (settles-in f z));
   });
-  onePrice = λ h o b l. rw (accepted-is f z t rs) (one-price (jobOf f) (range f (z .inRange)) (asks f rs) (rw (done-is f z t rs) at h) o b l);
-  oneTotal = λ h g b l. rw (accepted-is f z t rs) (one-total (jobOf f) (range f (z .inRange)) (asks f rs) (rw (done-is f z t rs) at h) g b l);
+  onePrice = λ h o b l. rw (accepted-is f z t rs) (one-price (jobOf f) (range f (settles-in f z)) (asks f rs) (rw (done-is f z t rs) at h) o b l);
+  oneTotal = λ h g b l. rw (accepted-is f z t rs) (one-total (jobOf f) (range f (settles-in f z)) (asks f rs) (rw (done-is f z t rs) at h) g b l);
   eachWord = rw (accepted-is f z t rs) (each-word (jobOf f) (fresh (jobOf f)) (asks f rs));
   sameSteps = λ h u ps e. count-is f z u ps e ∙ sym (count-is f z t rs h);
   sameState = λ h u ps e. all-is f z u ps e ∙ sym (all-is f z t rs h);
   runLeaves = λ h u cs n. run-view f z u cs n ∙ sym (all-is f z t rs h);
-  runReport = λ h u cs n. ran-answer f (z .inRange) u cs ∙ rw (n, owner-is f z t rs h, sends-is f z t rs h, count-is f z t rs h);
+  runReport = λ h u cs n. ran-answer f z u cs ∙ rw (n, owner-is f z t rs h, sends-is f z t rs h, count-is f z t rs h);
 }
 
 -- A run is the list of the steps it picks.
 pub demand3-run : (f : JobTables) → Settles f → (t : StateTables) (cs : List ℕ) → RunIsList f t cs
 demand3-run f z t cs = record {
-  answer = ran-answer f (z .inRange) t cs;
-  accepted = accepted-is f z t (map (wholeRequest f) (run (jobOf f) cs)) ∙ rw (asks-whole f (run (jobOf f) cs)) (run-taken (jobOf f) (range f (z .inRange)) cs);
-  allDone = rw (done-is f z t (map (wholeRequest f) (run (jobOf f) cs)), asks-whole f (run (jobOf f) cs)) (run-done (jobOf f) (range f (z .inRange)) cs);
-  tables = λ h. ran-tables f (z .inRange) t cs h ∙ sym (left-is f z t (map (wholeRequest f) (run (jobOf f) cs)) ∙ rw (asks-whole f (run (jobOf f) cs), ← (run-reached (jobOf f) (range f (z .inRange)) cs)));
-  statements = run-statement f (z .inRange) t cs;
-  keeps = ran-keeps f (z .inRange) t cs;
+  answer = ran-answer f z t cs;
+  accepted = accepted-is f z t (map (wholeRequest f) (run (jobOf f) cs)) ∙ rw (asks-whole f (run (jobOf f) cs)) (run-taken (jobOf f) (range f (settles-in f z)) cs);
+  allDone = rw (done-is f z t (map (wholeRequest f) (run (jobOf f) cs)), asks-whole f (run (jobOf f) cs)) (run-done (jobOf f) (range f (settles-in f z)) cs);
+  tables = λ h. ran-tables f z t cs h ∙ sym (left-is f z t (map (wholeRequest f) (run (jobOf f) cs)) ∙ rw (asks-whole f (run (jobOf f) cs), ← (run-reached (jobOf f) (range f (settles-in f z)) cs)));
+  statements = run-statement f z t cs;
+  keeps = ran-keeps f z t cs;
 }
-
--- The same, where both halves of what is asked of the job are at hand.
-pub run-is-list : (f : JobTables) → jobInRange f ≡ true → jobShort f (jobLengths f) ≡ false → (t : StateTables) (cs : List ℕ) → RunIsList f t cs
-run-is-list f ok long = demand3-run f (record { whole = long; inRange = ok })

@@ -10,12 +10,13 @@ use lib.Dec.{ltb}
 use lib.IntN.{pos}
 use borrow.Author.Tests.{ltb-true, ltb-false}
 use Rattle.laws.specs.Tables.{recell}
-use Rattle.laws.proofs.Bools.{split}
+use Rattle.laws.proofs.Bools.{split, or-off}
+use Rattle.recount.specs.Recount.{stands}
 use Rattle.laws.proofs.Checks.{none-of}
 use Rattle.laws.proofs.Tables.{over-over, word-take, cell-take, overwrite-take, long-take}
 use Rattle.model.specs.Job.{Job}
 use Rattle.model.specs.Requests.{lentJob, lentState, returned}
-use Rattle.model.specs.Tables.{JobTables, jobOf, StateTables, stepsDone, marksOf, view, store, JobLengths, StateLengths, jobLengths, stateLengths, jobShort, stateShort}
+use Rattle.model.specs.Tables.{JobTables, jobOf, StateTables, stepsDone, marksOf, view, store, JobLengths, StateLengths, jobLengths, stateLengths, jobShort, bagsShort, stateShort, countedOf, nobody}
 use Rattle.model.specs.Ranges.{sizesInRange, jobWordsInRange, jobInRange, stateInRange}
 use Rattle.model.specs.Steps.{Kind, kindNumber, stepPlace, atPlace, State}
 use Rattle.model.proofs.Step.{up-take, under-take, around-take}
@@ -104,8 +105,39 @@ lent-job-short f n h =
       long-take (f .tallies) (n .tallyCount) (f .tallyCount) (l .tallyCount),
     )
 
+-- Bags and revisions likewise.
+pub record BagsLong (t : ℕ) (n : JobLengths) : Type 0 where
+  pub tallyBag : t ≤ n .tallyBag
+  pub tallyRevision : t ≤ n .tallyRevision
+
+pub bags-long : (f : JobTables) (n : JobLengths) → bagsShort f n ≡ false → BagsLong (f .tallies) n
+unfolding bagsShort
+bags-long f n h =
+    let e = or-off (ltb (n .tallyBag) (f .tallies)) (ltb (n .tallyRevision) (f .tallies)) h in
+    record { tallyBag = le-of _ _ (e .0); tallyRevision = le-of _ _ (e .1) }
+
+pub lent-bags-short : (f : JobTables) (n : JobLengths) → bagsShort f (jobLengths f) ≡ false → bagsShort f (jobLengths (lentJob f n)) ≡ bagsShort f n
+unfolding bagsShort jobLengths lentJob
+lent-bags-short f n h =
+    let l = bags-long f (jobLengths f) h in
+    rw (
+      long-take (f .tallies) (n .tallyBag) (f .tallyBag) (l .tallyBag),
+      long-take (f .tallies) (n .tallyRevision) (f .tallyRevision) (l .tallyRevision),
+    )
+
 -- The job that lent tables hold, where they are long enough.
-module _ (f : JobTables) (n : JobLengths) (l : JobLong (f .grocers) (f .offers) (f .tallies) n) where
+module _ (f : JobTables) (n : JobLengths) (l : JobLong (f .grocers) (f .offers) (f .tallies) n) (b : BagsLong (f .tallies) n) where
+  -- What the recount rule looks at is the same.
+  pub lent-counted : countedOf (lentJob f n) ≡ countedOf f
+  unfolding countedOf lentJob
+  lent-counted = λ i. record {
+    size = f .tallies;
+    grocer = λ t. word-take (f .tallies) (n .tallyGrocer) (f .tallyGrocer) 0 t (l .tallyGrocer) i;
+    offer = λ t. word-take (f .tallies) (n .tallyOffer) (f .tallyOffer) 0 t (l .tallyOffer) i;
+    bag = λ t. word-take (f .tallies) (n .tallyBag) (f .tallyBag) 0 t (b .tallyBag) i;
+    revision = λ t. word-take (f .tallies) (n .tallyRevision) (f .tallyRevision) 0 t (b .tallyRevision) i;
+  }
+
   pub lent-job : jobOf (lentJob f n) ≡ jobOf f
   unfolding jobOf lentJob
   lent-job = λ i. record {
@@ -117,7 +149,7 @@ module _ (f : JobTables) (n : JobLengths) (l : JobLong (f .grocers) (f .offers) 
     offerOwner = λ o. word-take (f .offers) (n .offerOwner) (f .offerOwner) 0 o (l .offerOwner) i;
     grocerOwner = λ g. word-take (f .grocers) (n .grocerOwner) (f .grocerOwner) 0 g (l .grocerOwner) i;
     tallyGrocer = λ t. word-take (f .tallies) (n .tallyGrocer) (f .tallyGrocer) 0 t (l .tallyGrocer) i;
-    tallyBox = λ t. word-take (f .tallies) (n .tallyBox) (f .tallyBox) 0 t (l .tallyBox) i;
+    tallyBox = λ t. cond (stands (lent-counted i) t) (word-take (f .tallies) (n .tallyBox) (f .tallyBox) 0 t (l .tallyBox) i) nobody;
     tallyOffer = λ t. word-take (f .tallies) (n .tallyOffer) (f .tallyOffer) 0 t (l .tallyOffer) i;
     tallyCount = λ t. word-take (f .tallies) (n .tallyCount) (f .tallyCount) (pos 0) t (l .tallyCount) i;
   }

@@ -23,6 +23,9 @@ pub mod Ranges
 pub mod Refusal
 pub mod Step
 pub mod Lent
+pub mod Standing
+pub mod Handed
+pub mod Desk
 pub mod Served
 pub mod Demand3
 pub mod Quiet

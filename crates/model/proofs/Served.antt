@@ -1,24 +1,26 @@
 -- A request in a list that begins fresh: its answer and the tables it leaves, in terms of the state. Assumes nothing.
 use mathlib.Core.Path.{_≡_, refl, sym, ap, _∙_}
-use mathlib.Core.Bool.{Bool, true, false, cond, _&&_, not}
+use mathlib.Core.Bool.{Bool, true, false, cond, _&&_, _||_, not}
 use mathlib.Core.List.{[], _∷_, _++_}
 use Prim.Native.Nat.{ℕ}
 use lib.Dec.{eqb}
 use borrow.Author.Tests.{eqb-true}
 use Rattle.laws.specs.Checks.{firstMet}
 use Rattle.laws.proofs.Bools.{or-off, split, and-true, and-r}
+use Rattle.recount.specs.Recount.{countedTwice}
 use Rattle.model.specs.Job.{Job}
 use Rattle.model.specs.Requests.{Request, lentJob, lentState, lendsShort, answerTo, serve}
-use Rattle.model.specs.Tables.{JobTables, jobOf, StateTables, view, store, JobLengths, StateLengths, jobLengths, stateLengths, jobShort, stateShort, lentShort}
+use Rattle.model.specs.Tables.{JobTables, countedOf, jobOf, StateTables, view, store, JobLengths, StateLengths, jobLengths, stateLengths, jobShort, bagsShort, stateShort, lentShort}
 use Rattle.model.specs.Ranges.{jobInRange, Settles, stateInRange}
+use Rattle.model.specs.Handed.{handedInRange}
 use Rattle.model.specs.Step.{Asked, isKind, boxesFit, stepRules, moved, refusals, stepRefusal, stepTables, stepAnswer, stepped}
 use Rattle.model.specs.Steps.{kindOf, Steps, State, fits, ready, permitted, effect}
 use Rattle.model.specs.Demand3.{refusalOf}
 use Rattle.model.proofs.Tables.{view-store, held-form}
 use Rattle.model.proofs.Ranges.{Within, form-within}
-use Rattle.model.proofs.Step.{range, limits, ok-store, whole-store}
+use Rattle.model.proofs.Step.{range, limits, in-handed, ok-store, whole-store}
 use Rattle.model.proofs.Core.{permit}
-use Rattle.model.proofs.Lent.{job-long, state-long, lent-job-short, lent-job, lent-job-range, lent-state-short, lent-view, lent-store, lent-state-range, lent-back, store-store}
+use Rattle.model.proofs.Lent.{job-long, bags-long, state-long, lent-job-short, lent-bags-short, lent-counted, lent-job, lent-job-range, lent-state-short, lent-view, lent-store, lent-state-range, lent-back, store-store}
 use Rattle.model.proofs.Refusal.{rules-zero}
 use Rattle.model.specs.Boxes.{Sound}
 use Rattle.model.proofs.Reach.{sound-effect}
@@ -47,7 +49,7 @@ allowed j s q = isKind (q .kind) && permitted j (s .done) (kindOf (q .kind)) (q 
 
 -- A step on tables u that hold the state s of the job j, where nothing is short and all is in range.
 module _ (f : JobTables) (u : StateTables) (j : Job) (s : State) (q : Asked)
-    (job : jobOf f ≡ j) (holds : view j u ≡ s) (short : lentShort f u ≡ false) (inside : (jobInRange f && stateInRange f u) ≡ true)
+    (job : jobOf f ≡ j) (holds : view j u ≡ s) (short : lentShort f u ≡ false) (inside : (jobInRange f && stateInRange f u) ≡ true) (once : countedTwice (countedOf f) ≡ false)
     (late : allowed j s q ≡ true → stateInRange f (store j (effect j s (kindOf (q .kind)) (q .first) (q .second)) u) ≡ true) where
   moved-is : moved f u q ≡ store j (effect j s (kindOf (q .kind)) (q .first) (q .second)) u
   unfolding moved
@@ -60,7 +62,7 @@ module _ (f : JobTables) (u : StateTables) (j : Job) (s : State) (q : Asked)
   pub answer-is : stepRefusal f u q ≡ firstMet (stepRules j (s .done) q)
   unfolding stepRefusal refusals firstMet
   answer-is =
-      rw (short, inside, job, holds, moved-is)
+      rw (short, inside, once, job, holds, moved-is)
       (rules-then j (s .done) q (not (stateInRange f (store j (effect j s (kindOf (q .kind)) (q .first) (q .second)) u)))
       ∙ split (allowed j s q)
       (λ e. rw (zero-is, e, late e) (sym (eqb-true (firstMet (stepRules j (s .done) q)) 0 (zero-is ∙ e))))
@@ -70,7 +72,7 @@ module _ (f : JobTables) (u : StateTables) (j : Job) (s : State) (q : Asked)
   unfolding stepTables
   after-is = rw (answer-is, zero-is, moved-is)
 
-module _ (f : JobTables) (ok : jobInRange f ≡ true) (long : jobShort f (jobLengths f) ≡ false) (t : StateTables) where
+module _ (f : JobTables) (ok : handedInRange f ≡ true) (t : StateTables) where
   pub within : (s : State) → Sound (jobOf f) s → Within s
   within s o = rw (o .form) (form-within (jobOf f) (limits f ok) (range f ok) (s .done))
 
@@ -78,17 +80,25 @@ module _ (f : JobTables) (ok : jobInRange f ≡ true) (long : jobShort f (jobLen
   pub view-is : (s : State) → Sound (jobOf f) s → view (jobOf f) (store (jobOf f) s t) ≡ s
   view-is s o = view-store (jobOf f) s t ∙ held-form (jobOf f) (range f ok) s o
 
--- A job that demand 3 speaks of, and the buffers of its state.
+-- A job that demand 3 speaks of.
+pub settles-in : (f : JobTables) → Settles f → handedInRange f ≡ true
+settles-in f z = in-handed f (z .inRange)
+
+-- The same, and the buffers of its state.
 module _ (f : JobTables) (z : Settles f) (t : StateTables) where
   sound-allowed : (s : State) (q : Asked) → Sound (jobOf f) s → allowed (jobOf f) s q ≡ true → Sound (jobOf f) (effect (jobOf f) s (kindOf (q .kind)) (q .first) (q .second))
   unfolding allowed
   sound-allowed s q o e =
-      sound-effect (jobOf f) (range f (z .inRange)) s (kindOf (q .kind)) (q .first) (q .second) o
+      sound-effect (jobOf f) (range f (settles-in f z)) s (kindOf (q .kind)) (q .first) (q .second) o
       (permit (jobOf f) (s .done) (kindOf (q .kind)) (q .first) (q .second) (and-r (isKind (q .kind)) _ e))
 
   same-sizes : (n m : JobLengths) → jobShort (lentJob f n) m ≡ jobShort f m
   unfolding jobShort lentJob
   same-sizes n m = refl
+
+  same-bags : (n m : JobLengths) → bagsShort (lentJob f n) m ≡ bagsShort f m
+  unfolding bagsShort lentJob
+  same-bags n m = refl
 
   same-sizes′ : (n : JobLengths) (m : StateLengths) → stateShort (lentJob f n) m ≡ stateShort f m
   unfolding stateShort lentJob
@@ -100,8 +110,10 @@ module _ (f : JobTables) (z : Settles f) (t : StateTables) where
   short-is s r =
       rw (
         same-sizes (r .job) (jobLengths (lentJob f (r .job))),
+        same-bags (r .job) (jobLengths (lentJob f (r .job))),
         same-sizes′ (r .job) (stateLengths (lentState (store (jobOf f) s t) (r .state))),
         lent-job-short f (r .job) (z .whole),
+        lent-bags-short f (r .job) (z .bags),
         lent-state-short f (store (jobOf f) s t) (r .state) (whole-store f s t),
       )
 
@@ -122,24 +134,31 @@ module _ (f : JobTables) (z : Settles f) (t : StateTables) where
 
     job-enough : jobShort f (r .job) ≡ false
     unfolding lendsShort
-    job-enough = or-off (jobShort f (r .job)) (stateShort f (r .state)) y .0
+    job-enough = or-off (jobShort f (r .job)) (bagsShort f (r .job)) (or-off (jobShort f (r .job) || bagsShort f (r .job)) (stateShort f (r .state)) y .0) .0
+
+    bags-enough : bagsShort f (r .job) ≡ false
+    unfolding lendsShort
+    bags-enough = or-off (jobShort f (r .job)) (bagsShort f (r .job)) (or-off (jobShort f (r .job) || bagsShort f (r .job)) (stateShort f (r .state)) y .0) .1
 
     state-enough : stateShort f (r .state) ≡ false
     unfolding lendsShort
-    state-enough = or-off (jobShort f (r .job)) (stateShort f (r .state)) y .1
+    state-enough = or-off (jobShort f (r .job) || bagsShort f (r .job)) (stateShort f (r .state)) y .1
 
     job-is : jobOf (lentJob f (r .job)) ≡ jobOf f
-    job-is = lent-job f (r .job) (job-long f (r .job) job-enough)
+    job-is = lent-job f (r .job) (job-long f (r .job) job-enough) (bags-long f (r .job) bags-enough)
+
+    once-is : countedTwice (countedOf (lentJob f (r .job))) ≡ false
+    once-is = ap countedTwice (lent-counted f (r .job) (job-long f (r .job) job-enough) (bags-long f (r .job) bags-enough)) ∙ z .once
 
     range-is : jobInRange (lentJob f (r .job)) ≡ true
-    range-is = lent-job-range f (r .job) (job-long f (r .job) job-enough) ∙ z .inRange
+    range-is = lent-job-range f (r .job) (job-long f (r .job) job-enough) (bags-long f (r .job) bags-enough) ∙ z .inRange
 
     lent-is : view (jobOf f) (lentState (store (jobOf f) s t) (r .state)) ≡ s
     unfolding jobOf
-    lent-is = lent-view (jobOf f) (store (jobOf f) s t) (r .state) (state-long f (r .state) state-enough) ∙ view-is f (z .inRange) (z .whole) t s o
+    lent-is = lent-view (jobOf f) (store (jobOf f) s t) (r .state) (state-long f (r .state) state-enough) ∙ view-is f (settles-in f z) t s o
 
     states-is : stateInRange (lentJob f (r .job)) (lentState (store (jobOf f) s t) (r .state)) ≡ true
-    states-is = lent-state-range f (r .job) (store (jobOf f) s t) (r .state) (state-long f (r .state) state-enough) ∙ ok-store f s t (within f (z .inRange) (z .whole) t s o)
+    states-is = lent-state-range f (r .job) (store (jobOf f) s t) (r .state) (state-long f (r .state) state-enough) ∙ ok-store f s t (within f (settles-in f z) t s o)
 
     same-range : (u : StateTables) → stateInRange (lentJob f (r .job)) u ≡ stateInRange f u
     unfolding stateInRange lentJob
@@ -147,17 +166,17 @@ module _ (f : JobTables) (z : Settles f) (t : StateTables) where
 
     late-is : allowed (jobOf f) s (r .asked) ≡ true →
         stateInRange (lentJob f (r .job)) (store (jobOf f) (effect (jobOf f) s (kindOf (r .asked .kind)) (r .asked .first) (r .asked .second)) (lentState (store (jobOf f) s t) (r .state))) ≡ true
-    late-is e = same-range _ ∙ ok-store f _ _ (within f (z .inRange) (z .whole) t _ (sound-allowed s (r .asked) o e))
+    late-is e = same-range _ ∙ ok-store f _ _ (within f (settles-in f z) t _ (sound-allowed s (r .asked) o e))
 
     whole-answer : stepRefusal (lentJob f (r .job)) (lentState (store (jobOf f) s t) (r .state)) (r .asked) ≡ firstMet (stepRules (jobOf f) (s .done) (r .asked))
     whole-answer =
-        answer-is (lentJob f (r .job)) (lentState (store (jobOf f) s t) (r .state)) (jobOf f) s (r .asked) job-is lent-is no-short (and-true range-is states-is) late-is
+        answer-is (lentJob f (r .job)) (lentState (store (jobOf f) s t) (r .state)) (jobOf f) s (r .asked) job-is lent-is no-short (and-true range-is states-is) once-is late-is
 
     whole-after : stepTables (lentJob f (r .job)) (lentState (store (jobOf f) s t) (r .state)) (r .asked)
         ≡ cond (allowed (jobOf f) s (r .asked)) (store (jobOf f) (effect (jobOf f) s (kindOf (r .asked .kind)) (r .asked .first) (r .asked .second)) (lentState (store (jobOf f) s t) (r .state)))
         (lentState (store (jobOf f) s t) (r .state))
     whole-after =
-        after-is (lentJob f (r .job)) (lentState (store (jobOf f) s t) (r .state)) (jobOf f) s (r .asked) job-is lent-is no-short (and-true range-is states-is) late-is
+        after-is (lentJob f (r .job)) (lentState (store (jobOf f) s t) (r .state)) (jobOf f) s (r .asked) job-is lent-is no-short (and-true range-is states-is) once-is late-is
 
   -- What a request does to the state.
   unfoldable pub next : State → Request → State

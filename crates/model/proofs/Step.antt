@@ -1,6 +1,6 @@
 -- The step on tables as lent, in a list that begins fresh: its answer, and the tables that it leaves. Assumes nothing.
 use mathlib.Core.Path.{_≡_}
-use mathlib.Core.Bool.{true, false, cond}
+use mathlib.Core.Bool.{true, false, cond, _&&_}
 use mathlib.Core.List.{List, [], _∷_}
 use Prim.Native.Nat.{ℕ, _*_, _/_, _%_, _<_, _≤_}
 use native.Mathlib.Omega.{arith}
@@ -10,12 +10,14 @@ use lib.ListN.{getD, take}
 use lib.IntN.{ℤ, pos, natAbs}
 use borrow.Author.Tests.{le-ltb, ltb-true, ltb-false, le-leb, leb-true}
 use Rattle.laws.specs.Tables.{overwrite, recell, word}
-use Rattle.laws.proofs.Checks.{any-each}
+use Rattle.laws.specs.Limits.{maxBoxes, maxGrocers, maxOffers, maxTallies, maxPrice, maxCount}
+use Rattle.laws.proofs.Checks.{any-each, each-of, all-each}
 use Rattle.laws.proofs.Bools.{split, and-true, and-l, and-r, cond-either}
 use Rattle.laws.proofs.Below.{all-at, all-of, all-cong, count-le}
 use Rattle.laws.proofs.Tables.{getD-overwrite, long-overwrite, word-in, word-past}
-use Rattle.model.specs.Tables.{JobTables, jobOf, StateTables, store, marksOf, stateLengths, stateShort}
+use Rattle.model.specs.Tables.{JobTables, nobody, jobOf, StateTables, store, marksOf, stateLengths, stateShort}
 use Rattle.model.specs.Ranges.{upTo, under, around, sizesInRange, jobWordsInRange, jobInRange, stateInRange}
+use Rattle.model.specs.Handed.{handedInRange}
 use Rattle.model.specs.Steps.{places, Steps, atPlace, State}
 use Rattle.model.proofs.Range.{InRange}
 use Rattle.model.proofs.Ranges.{Limits, Within}
@@ -54,41 +56,107 @@ pub around-take : (m n k : ℕ) (l : List ℤ) → n ≤ k → around m n (take 
 unfolding around
 around-take m n k l h = all-cong n (λ i. leb (natAbs (getD (take k l) i (pos 0))) m) (λ i. leb (natAbs (getD l i (pos 0))) m) (λ i q. rw (getD-take k l i (pos 0) (omega arith)))
 
--- A job whose tables are in range is one that the theory takes.
-module _ (f : JobTables) (ok : jobInRange f ≡ true) where
-  sizes : sizesInRange f ≡ true
-  unfolding jobInRange
-  sizes = and-l (sizesInRange f) (jobWordsInRange f) ok
+-- The tests of a table's words, one by one.
+pub record JobIn (f : JobTables) : Type 0 where
+  pub boxes≤ : f .boxes ≤ 16
+  pub grocers≤ : f .grocers ≤ maxGrocers
+  pub offers≤ : f .offers ≤ maxOffers
+  pub tallies≤ : f .tallies ≤ maxTallies
+  pub price : upTo maxPrice (f .offers) (f .price) ≡ true
+  pub offerOwner : under (f .boxes) (f .offers) (f .offerOwner) ≡ true
+  pub grocerOwner : under (f .boxes) (f .grocers) (f .grocerOwner) ≡ true
+  pub tallyGrocer : under (f .grocers) (f .tallies) (f .tallyGrocer) ≡ true
+  pub tallyBox : upTo nobody (f .tallies) (f .tallyBox) ≡ true
+  pub tallyOffer : under (f .offers) (f .tallies) (f .tallyOffer) ≡ true
+  pub tallyCount : around maxCount (f .tallies) (f .tallyCount) ≡ true
 
-  wordsOk : jobWordsInRange f ≡ true
-  unfolding jobInRange
-  wordsOk = and-r (sizesInRange f) (jobWordsInRange f) ok
+-- A job whose tables are in range is one that the theory takes.
+module _ (f : JobTables) (ok : handedInRange f ≡ true) where
+  pub job-in : JobIn f
+  unfolding handedInRange sizesInRange
+  job-in =
+      let s = each-of (
+      (leb 1 (f .boxes) && leb (f .boxes) maxBoxes)
+      ∷ (leb 1 (f .grocers) && leb (f .grocers) maxGrocers)
+      ∷ (leb 1 (f .offers) && leb (f .offers) maxOffers)
+      ∷ leb (f .tallies) maxTallies
+      ∷ []) (and-l (sizesInRange f) _ ok) in
+      let e = each-of (
+      upTo maxPrice (f .offers) (f .price)
+      ∷ under (f .boxes) (f .offers) (f .offerOwner)
+      ∷ under (f .boxes) (f .grocers) (f .grocerOwner)
+      ∷ under (f .grocers) (f .tallies) (f .tallyGrocer)
+      ∷ upTo nobody (f .tallies) (f .tallyBox)
+      ∷ under (f .offers) (f .tallies) (f .tallyOffer)
+      ∷ around maxCount (f .tallies) (f .tallyCount)
+      ∷ []) (and-r (sizesInRange f) _ ok) in
+      record {
+        boxes≤ = leb-true (f .boxes) maxBoxes (and-r (leb 1 (f .boxes)) _ (s .0));
+        grocers≤ = leb-true (f .grocers) maxGrocers (and-r (leb 1 (f .grocers)) _ (s .1 .0));
+        offers≤ = leb-true (f .offers) maxOffers (and-r (leb 1 (f .offers)) _ (s .1 .1 .0));
+        tallies≤ = leb-true (f .tallies) maxTallies (s .1 .1 .1 .0);
+        price = e .0;
+        offerOwner = e .1 .0;
+        grocerOwner = e .1 .1 .0;
+        tallyGrocer = e .1 .1 .1 .0;
+        tallyBox = e .1 .1 .1 .1 .0;
+        tallyOffer = e .1 .1 .1 .1 .1 .0;
+        tallyCount = e .1 .1 .1 .1 .1 .1 .0;
+      }
 
   pub range : InRange (jobOf f)
-  unfolding jobOf sizesInRange jobWordsInRange
+  unfolding jobOf
   range = record {
-    owner< = λ o l. rw (word-in (f .offers) (f .offerOwner) 0 o l) (under-at (f .boxes) (f .offers) (f .offerOwner) o (let w = wordsOk in search (and-l, and-r) depth 12) l);
-    grocerOwner< = λ g l. rw (word-in (f .grocers) (f .grocerOwner) 0 g l) (under-at (f .boxes) (f .grocers) (f .grocerOwner) g (let w = wordsOk in search (and-l, and-r) depth 12) l);
-    grocer< = λ t l. rw (word-in (f .tallies) (f .tallyGrocer) 0 t l) (under-at (f .grocers) (f .tallies) (f .tallyGrocer) t (let w = wordsOk in search (and-l, and-r) depth 12) l);
-    offer< = λ t l. rw (word-in (f .tallies) (f .tallyOffer) 0 t l) (under-at (f .offers) (f .tallies) (f .tallyOffer) t (let w = wordsOk in search (and-l, and-r) depth 12) l);
+    owner< = λ o l. rw (word-in (f .offers) (f .offerOwner) 0 o l) (under-at (f .boxes) (f .offers) (f .offerOwner) o (job-in .offerOwner) l);
+    grocerOwner< = λ g l. rw (word-in (f .grocers) (f .grocerOwner) 0 g l) (under-at (f .boxes) (f .grocers) (f .grocerOwner) g (job-in .grocerOwner) l);
+    grocer< = λ t l. rw (word-in (f .tallies) (f .tallyGrocer) 0 t l) (under-at (f .grocers) (f .tallies) (f .tallyGrocer) t (job-in .tallyGrocer) l);
+    offer< = λ t l. rw (word-in (f .tallies) (f .tallyOffer) 0 t l) (under-at (f .offers) (f .tallies) (f .tallyOffer) t (job-in .tallyOffer) l);
     noPrice = λ o l. word-past (f .offers) (f .price) 0 o l;
-    boxes≤ = leb-true (f .boxes) 16 (let w = sizes in search (and-l, and-r) depth 12);
+    boxes≤ = job-in .boxes≤;
   }
 
   pub limits : Limits (jobOf f)
-  unfolding jobOf sizesInRange jobWordsInRange
+  unfolding jobOf
   limits = record {
-    grocers≤ = leb-true (f .grocers) 255 (let w = sizes in search (and-l, and-r) depth 12);
-    offers≤ = leb-true (f .offers) 500 (let w = sizes in search (and-l, and-r) depth 12);
-    tallies≤ = leb-true (f .tallies) 1000 (let w = sizes in search (and-l, and-r) depth 12);
-    ofGrocer≤ = λ g. omega (arith, count-le (f .tallies) (λ t. eqb (word (f .tallies) (f .tallyGrocer) 0 t) g), leb-true (f .tallies) 1000 (let w = sizes in search (and-l, and-r) depth 12));
+    grocers≤ = job-in .grocers≤;
+    offers≤ = job-in .offers≤;
+    tallies≤ = job-in .tallies≤;
+    ofGrocer≤ = λ g. omega (arith, count-le (f .tallies) (λ t. eqb (word (f .tallies) (f .tallyGrocer) 0 t) g), job-in .tallies≤);
     price≤ = λ o. split (ltb o (f .offers))
-        (λ e. rw (word-in (f .offers) (f .price) 0 o (ltb-true o (f .offers) e)) (up-at 9_999_999 (f .offers) (f .price) o (let w = wordsOk in search (and-l, and-r) depth 12) (ltb-true o (f .offers) e)))
+        (λ e. rw (word-in (f .offers) (f .price) 0 o (ltb-true o (f .offers) e)) (up-at maxPrice (f .offers) (f .price) o (job-in .price) (ltb-true o (f .offers) e)))
         (λ e. rw (word-past (f .offers) (f .price) 0 o (ltb-false o (f .offers) e)) (omega arith));
     count≤ = λ t. split (ltb t (f .tallies))
-        (λ e. rw (word-in (f .tallies) (f .tallyCount) (pos 0) t (ltb-true t (f .tallies) e)) (around-at 99_999 (f .tallies) (f .tallyCount) t (let w = wordsOk in search (and-l, and-r) depth 12) (ltb-true t (f .tallies) e)))
+        (λ e. rw (word-in (f .tallies) (f .tallyCount) (pos 0) t (ltb-true t (f .tallies) e)) (around-at maxCount (f .tallies) (f .tallyCount) t (job-in .tallyCount) (ltb-true t (f .tallies) e)))
         (λ e. rw (word-past (f .tallies) (f .tallyCount) (pos 0) t (ltb-false t (f .tallies) e)) (omega arith));
   }
+
+-- The boxes as lent are below K.
+pub boxes-under : (f : JobTables) → jobInRange f ≡ true → under (f .boxes) (f .tallies) (f .tallyBox) ≡ true
+unfolding jobInRange jobWordsInRange
+boxes-under f ok = let w = and-r (sizesInRange f) (jobWordsInRange f) ok in search (and-l, and-r) depth 12
+
+-- Words below a bound are up to one above it.
+up-under : (m b n : ℕ) (l : List ℕ) → b ≤ m → under b n l ≡ true → upTo m n l ≡ true
+unfolding upTo
+up-under m b n l h k = all-of n (λ i. leb (getD l i 0) m) (λ i q. le-leb (getD l i 0) m (omega (arith, under-at b n l i k q)))
+
+-- Tables in the ranges of 21 are in those of tables handed.
+pub in-handed : (f : JobTables) → jobInRange f ≡ true → handedInRange f ≡ true
+unfolding jobInRange jobWordsInRange handedInRange sizesInRange
+in-handed f ok =
+    let sizes = and-l (sizesInRange f) (jobWordsInRange f) ok in
+    let e = each-of (
+    upTo maxPrice (f .offers) (f .price)
+    ∷ under (f .boxes) (f .offers) (f .offerOwner)
+    ∷ under (f .boxes) (f .grocers) (f .grocerOwner)
+    ∷ under (f .grocers) (f .tallies) (f .tallyGrocer)
+    ∷ under (f .boxes) (f .tallies) (f .tallyBox)
+    ∷ under (f .offers) (f .tallies) (f .tallyOffer)
+    ∷ around maxCount (f .tallies) (f .tallyCount)
+    ∷ []) (and-r (sizesInRange f) (jobWordsInRange f) ok) in
+    let few : f .boxes ≤ nobody = leb-true (f .boxes) maxBoxes (let w = sizes in search (and-l, and-r) depth 12) in
+    and-true sizes (all-each (_ ∷ _ ∷ _ ∷ _ ∷ _ ∷ _ ∷ _ ∷ [])
+    (e .0, (e .1 .0, (e .1 .1 .0, (e .1 .1 .1 .0, (up-under nobody (f .boxes) (f .tallies) (f .tallyBox) few (e .1 .1 .1 .1 .0), e .1 .1 .1 .1 .1))))))
 
 -- Marks are 0 or 1.
 pub marks-bits : (k : ℕ) (d : Steps) (marks : List ℕ) → upTo 1 (6 * k * k) (marksOf k d marks) ≡ true

@@ -11,16 +11,21 @@ use Rattle.model.specs.Job.{needWord, plainSum}
 use Rattle.model.specs.Steps.{Kind, sendPrices, multiplyOwn, Step, Steps, doneBy}
 use Rattle.model.specs.Boxes.{stateByRules}
 use Rattle.model.specs.Words.{ownerWords, messageCount, stepCount}
-use Rattle.model.specs.Tables.{JobTables, StateTables, jobTables, stateTables, jobOf}
+use Rattle.model.specs.Tables.{JobTables, StateTables, bagTables, stateTables, jobOf}
 use Rattle.model.specs.Step.{asked, accepted, refused, stepped, freshTables}
-use Rattle.model.specs.Run.{readySteps, pick, runState, finished, ran}
+use Rattle.model.specs.Run.{readySteps, pick, runState, finished, refused as notRun, ran}
 use Rattle.model.specs.Local.{localOffers, localGrocers, starts, priceTable, totalTable}
 use Rattle.model.specs.Reconcile.{TallyRecord, owed, refused as notOwed, reconciled}
+
+-- Tables in which every coupon is loose: bags and revisions are 0.
+abbrev pub looseTables : ℕ → ℕ → ℕ → ℕ → List ℕ → List ℕ → List ℕ → List ℕ → List ℕ → List ℕ → List ℤ → JobTables
+looseTables k m n t price owner grocers tallyGrocer tallyBox tallyOffer tallyCount =
+    bagTables k m n t price owner grocers tallyGrocer tallyBox tallyOffer tallyCount (tabulate t (λ i. 0)) (tabulate t (λ i. 0))
 
 -- E, "Settling one small evening".
 abbrev pub jobE : JobTables
 jobE =
-    jobTables 2 2 2 4 (500 ∷ 1250 ∷ []) (0 ∷ 1 ∷ []) (1 ∷ 0 ∷ [])
+    looseTables 2 2 2 4 (500 ∷ 1250 ∷ []) (0 ∷ 1 ∷ []) (1 ∷ 0 ∷ [])
     (0 ∷ 1 ∷ 0 ∷ 0 ∷ []) (0 ∷ 0 ∷ 1 ∷ 1 ∷ []) (0 ∷ 1 ∷ 1 ∷ 0 ∷ []) (pos 3 ∷ pos 2 ∷ negsuc 0 ∷ pos 4 ∷ [])
 
 -- Buffers without a word.
@@ -33,7 +38,7 @@ freshE = freshTables jobE empty
 
 -- K 2, an offer of box 0, its tallies in box 1, a grocer of box 1.
 abbrev pub away : ℕ → List ℕ → List ℕ → List ℕ → List ℤ → JobTables
-away t grocers boxes offers counts = jobTables 2 1 1 t (9_999_999 ∷ []) (0 ∷ []) (1 ∷ []) grocers boxes offers counts
+away t grocers boxes offers counts = looseTables 2 1 1 t (9_999_999 ∷ []) (0 ∷ []) (1 ∷ []) grocers boxes offers counts
 
 -- The table of ◆ cases.
 pub record Cases : Type 0 where
@@ -61,11 +66,11 @@ pub record Cases : Type 0 where
 
 -- An offer of box 0, which holds no tally of it; boxes 1 and 2 do. The grocer is box 0's. Box 3 has nothing.
 abbrev pub ownerWithout : JobTables
-ownerWithout = jobTables 4 1 1 2 (10 ∷ []) (0 ∷ []) (0 ∷ []) (0 ∷ 0 ∷ []) (1 ∷ 2 ∷ []) (0 ∷ 0 ∷ []) (pos 5 ∷ pos 0 ∷ [])
+ownerWithout = looseTables 4 1 1 2 (10 ∷ []) (0 ∷ []) (0 ∷ []) (0 ∷ 0 ∷ []) (1 ∷ 2 ∷ []) (0 ∷ 0 ∷ []) (pos 5 ∷ pos 0 ∷ [])
 
 -- One box.
 abbrev pub oneBoxJob : JobTables
-oneBoxJob = jobTables 1 1 1 2 (10 ∷ []) (0 ∷ []) (0 ∷ []) (0 ∷ 0 ∷ []) (0 ∷ 0 ∷ []) (0 ∷ 0 ∷ []) (pos 5 ∷ negsuc 1 ∷ [])
+oneBoxJob = looseTables 1 1 1 2 (10 ∷ []) (0 ∷ []) (0 ∷ []) (0 ∷ 0 ∷ []) (0 ∷ 0 ∷ []) (0 ∷ 0 ∷ []) (pos 5 ∷ negsuc 1 ∷ [])
 
 -- E with working totals at their limit.
 abbrev pub fullE : StateTables
@@ -75,7 +80,7 @@ fullE =
 
 -- Two offers of box 0, both with a tally in box 1, which owns the grocer.
 abbrev pub twoOffers : JobTables
-twoOffers = jobTables 2 1 2 2 (10 ∷ 20 ∷ []) (0 ∷ 0 ∷ []) (1 ∷ []) (0 ∷ 0 ∷ []) (1 ∷ 1 ∷ []) (0 ∷ 1 ∷ []) (pos 1 ∷ pos 1 ∷ [])
+twoOffers = looseTables 2 1 2 2 (10 ∷ 20 ∷ []) (0 ∷ 0 ∷ []) (1 ∷ []) (0 ∷ 0 ∷ []) (1 ∷ 1 ∷ []) (0 ∷ 1 ∷ []) (pos 1 ∷ pos 1 ∷ [])
 
 -- A step by its kind and boxes.
 abbrev pub ofKind : Kind → ℕ → ℕ → Step
@@ -88,9 +93,26 @@ begunE = doneBy (ofKind multiplyOwn 0 0 ∷ ofKind sendPrices 0 1 ∷ [])
 -- Records handed to the desk: two of grocer 0, one of grocer 1 between them.
 abbrev pub handed : List TallyRecord
 handed =
-    record { grocer = 0; tallyBox = 0; place = 0; count = pos 3 }
-    ∷ record { grocer = 1; tallyBox = 0; place = 1; count = pos 2 }
-    ∷ record { grocer = 0; tallyBox = 15; place = 1; count = negsuc 0 } ∷ []
+    record { grocer = 0; tallyBox = 0; place = 0; count = pos 3; bag = 0; revision = 0 }
+    ∷ record { grocer = 1; tallyBox = 0; place = 1; count = pos 2; bag = 0; revision = 0 }
+    ∷ record { grocer = 0; tallyBox = 15; place = 1; count = negsuc 0; bag = 0; revision = 0 } ∷ []
+
+-- Counts of grocer 0's coupons of offer 0, whose price is 10: boxes, counts, bags and revisions. Offer and grocer are box 1's.
+abbrev pub recounted : ℕ → List ℕ → List ℤ → List ℕ → List ℕ → JobTables
+recounted t boxes counts bags revisions =
+    bagTables 2 1 1 t (10 ∷ []) (1 ∷ []) (1 ∷ []) (tabulate t (λ i. 0)) boxes (tabulate t (λ i. 0)) counts bags revisions
+
+-- Bag 7, counted by box 0 and again, as revision 1, by box 1.
+abbrev pub recount : JobTables
+recount = recounted 2 (0 ∷ 1 ∷ []) (pos 5 ∷ pos 4 ∷ []) (7 ∷ 7 ∷ []) (0 ∷ 1 ∷ [])
+
+-- Bag 7 as revision 0 twice, under a higher one.
+abbrev pub lowTwice : JobTables
+lowTwice = recounted 3 (0 ∷ 0 ∷ 1 ∷ []) (pos 5 ∷ pos 5 ∷ pos 4 ∷ []) (7 ∷ 7 ∷ 7 ∷ []) (0 ∷ 0 ∷ 1 ∷ [])
+
+-- A record of grocer g's coupons of offer 0 in box b, of a bag and revision.
+abbrev pub bagRecord : ℕ → ℕ → ℤ → ℕ → ℕ → TallyRecord
+bagRecord g b count bag revision = record { grocer = g; tallyBox = b; place = 0; count = count; bag = bag; revision = revision }
 
 -- Small examples that say what the definitions mean.
 pub record Examples : Type 0 where
@@ -154,3 +176,24 @@ pub record Examples : Type 0 where
   pub desk : reconciled 2 2 0 (500 ∷ 1250 ∷ []) handed ≡ owed (pos 250)
   pub desk-21 : reconciled 2 2 2 (500 ∷ 1250 ∷ []) [] ≡ notOwed 21
   pub desk-20 : reconciled 2 2 2 (500 ∷ []) [] ≡ notOwed 20
+  -- A recount in another box: the count before it has no amount, need, word, message or step.
+  pub recount-sum : plainSum (jobOf recount) 0 ≡ pos 40
+  pub recount-need : needWord (jobOf recount) 0 ≡ 2
+  pub recount-words : ownerWords (jobOf recount) ≡ 0
+  pub recount-steps : stepCount (jobOf recount) ≡ 4
+  pub recount-answer : stepped recount (freshTables recount empty) (asked 1 1 0) .answer ≡ refused 24
+  pub recount-leaves : ran recount (freshTables recount empty) [] .tables .statement ≡ pos 40 ∷ []
+  pub recount-book : localGrocers (jobOf recount) 0 ≡ []
+  -- The count that stands may be 0; loose coupons of one revision all stand, and so do two bags.
+  pub recount-none : plainSum (jobOf (recounted 2 (0 ∷ 1 ∷ []) (pos 5 ∷ pos 0 ∷ []) (7 ∷ 7 ∷ []) (0 ∷ 1 ∷ []))) 0 ≡ pos 0
+  pub recount-loose : plainSum (jobOf (recounted 2 (0 ∷ 1 ∷ []) (pos 5 ∷ pos 4 ∷ []) (0 ∷ 0 ∷ []) (0 ∷ 1 ∷ []))) 0 ≡ pos 90
+  pub recount-bags : plainSum (jobOf (recounted 2 (0 ∷ 1 ∷ []) (pos 5 ∷ pos 4 ∷ []) (7 ∷ 8 ∷ []) (0 ∷ 1 ∷ []))) 0 ≡ pos 90
+  -- One bag and revision twice, though a higher one stands: 9, before 22; revisions lent short are 20, before 9.
+  pub twice-step : stepped lowTwice (freshTables lowTwice empty) (asked 9 99 0) .answer ≡ refused 9
+  pub twice-run : ran lowTwice (freshTables lowTwice empty) [] .answer ≡ notRun 9
+  pub twice-short : ran (recounted 2 (0 ∷ 1 ∷ []) (pos 5 ∷ pos 4 ∷ []) (7 ∷ 7 ∷ []) (0 ∷ [])) (freshTables lowTwice empty) [] .answer ≡ notRun 20
+  -- A superseded tally's words are looked at: its box is not below K.
+  pub superseded-21 : ran (recounted 2 (2 ∷ 1 ∷ []) (pos 5 ∷ pos 4 ∷ []) (7 ∷ 7 ∷ []) (0 ∷ 1 ∷ [])) (freshTables recount empty) [] .answer ≡ notRun 21
+  -- The desk: the higher revision stands; one bag of two grocers is two; the same twice, of a grocer not wanted, is 9.
+  pub desk-recount : reconciled 2 1 0 (10 ∷ []) (bagRecord 0 0 (pos 5) 7 1 ∷ bagRecord 0 15 (pos 4) 7 0 ∷ bagRecord 1 0 (pos 3) 7 2 ∷ []) ≡ owed (pos 50)
+  pub desk-9 : reconciled 2 1 0 (10 ∷ []) (bagRecord 1 0 (pos 5) 7 1 ∷ bagRecord 0 0 (pos 4) 7 1 ∷ bagRecord 1 3 (pos 3) 7 1 ∷ []) ≡ notOwed 9

@@ -45,7 +45,7 @@ module _ (f : JobTables) where
       let q = stepOf (r .asked) in
       not (lendsShort f r) && (isKind (r .asked .kind) && permitted (jobOf f) d (q .kind) (q .first) (q .second))
 
-  -- What refuses a request where the steps of d are done: 20, 22 to 26 in this order, and never 21.
+  -- What refuses a request where the steps of d are done: 20, 22 to 26 in this order, and never 9 or 21.
   unfoldable pub refusalOf : Steps → Request → ℕ
   refusalOf d r = cond (lendsShort f r) 20 (firstMet (stepRules (jobOf f) d (r .asked)))
 
@@ -74,7 +74,7 @@ pub record AfterList (f : JobTables) (t : StateTables) (rs : List Request)
     (job : Job) (accepted : List Step) (done : Steps) (tables : StateTables) (state : State) : Type 0 where
   -- Every request of the list, from the first to the last, is answered as the rules say, from the requests before it alone.
   pub answers : answersIn f t rs ≡ answersByRules f (λ k a b. false) rs
-  -- One more request is answered by the first condition met over the steps done: 20, 22 to 26, and never 21.
+  -- One more request is answered by the first condition met over the steps done: 20, 22 to 26, and never 9 or 21.
   pub nextAnswer : (r : Request) → answerTo f tables r ≡ stepAnswer (refusalOf f done r)
   -- It is accepted just where it is permitted.
   pub accepts : (r : Request) → isAccepted (answerTo f tables r) ≡ permittedRequest f done r
@@ -137,6 +137,8 @@ wholeRequest f x = record {
     tallyBox = f .tallies;
     tallyOffer = f .tallies;
     tallyCount = f .tallies;
+    tallyBag = f .tallies;
+    tallyRevision = f .tallies;
   };
   state = record {
     known = f .boxes * f .offers;

@@ -25,7 +25,7 @@ module _ (j : Job) where
   unfoldable pub heldBy : ℕ → ℕ → Bool
   heldBy t b = eqb (j .tallyBox t) b && ltb b (j .boxes)
 
-  -- Tally t counts: some box of the job, its own, holds it. In a job in range every tally counts.
+  -- Tally t counts: some box of the job, its own, holds it. In tables in range just the standing ones do (`StandingCount`).
   unfoldable pub held : ℕ → Bool
   held t = heldBy t (j .tallyBox t)
 

@@ -2,9 +2,16 @@
 use Prim.Native.Nat.{ℕ}
 use denote.Ref.{now}
 use Rattle.laws.specs.Lent.{Words, SignedWords}
-use Rattle.model.specs.Tables.{JobTables, jobTables, StateTables, stateTables}
+use Rattle.model.specs.Tables.{JobTables, jobTables, bagTables, StateTables, stateTables}
 
--- The job's tables: K, M, N and T, and what the seven slices hold when the call begins. No call writes them.
+-- The job's tables: K, M, N and T, and what the nine slices hold when the call begins. No call writes them.
+abbrev pub bagLent : (k m n t : ℕ) (price offerOwner grocerOwner tallyGrocer tallyBox tallyOffer : Words) (tallyCount : SignedWords)
+    (tallyBag tallyRevision : Words) → JobTables
+bagLent k m n t price offerOwner grocerOwner tallyGrocer tallyBox tallyOffer tallyCount tallyBag tallyRevision =
+    bagTables k m n t (now (price .entry)) (now (offerOwner .entry)) (now (grocerOwner .entry))
+    (now (tallyGrocer .entry)) (now (tallyBox .entry)) (now (tallyOffer .entry)) (now (tallyCount .entry)) (now (tallyBag .entry)) (now (tallyRevision .entry))
+
+-- The same without bags and revisions, as inner calls are handed it.
 abbrev pub jobLent : (k m n t : ℕ) (price offerOwner grocerOwner tallyGrocer tallyBox tallyOffer : Words) (tallyCount : SignedWords) → JobTables
 jobLent k m n t price offerOwner grocerOwner tallyGrocer tallyBox tallyOffer tallyCount =
     jobTables k m n t (now (price .entry)) (now (offerOwner .entry)) (now (grocerOwner .entry))

@@ -5,7 +5,9 @@ pub mod Boxes
 pub mod Words
 pub mod Tables
 pub mod Lent
+pub mod Standing
 pub mod Ranges
+pub mod Handed
 pub mod Step
 pub mod Run
 pub mod Local

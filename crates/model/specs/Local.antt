@@ -9,8 +9,9 @@ use lib.IntN.{ℤ, pos}
 use Rattle.laws.specs.Below.{sum, only, naturals, count, find, ascending}
 use Rattle.laws.specs.Tables.{tabulate}
 use Rattle.laws.specs.Checks.{anyOf}
+use Rattle.recount.specs.Recount.{countedTwice}
 use Rattle.model.specs.Job.{Job, heldBy, priceWord, totalWord}
-use Rattle.model.specs.Tables.{JobTables, jobLengths, jobShort}
+use Rattle.model.specs.Tables.{JobTables, countedOf, jobLengths, jobShort, bagsShort}
 use Rattle.model.specs.Ranges.{jobInRange}
 
 -- The lists f 0, f 1, .. f (n − 1), one behind the other.
@@ -82,7 +83,16 @@ bookShort f n =
 -- The refusals of the local book of box b, in order.
 unfoldable pub bookRefusals : JobTables → BookLengths → ℕ → List (Bool × ℕ)
 bookRefusals f n b =
-    (jobShort f (jobLengths f) || bookShort f n, 20)
+    (jobShort f (jobLengths f) || bagsShort f (jobLengths f) || bookShort f n, 20)
     ∷ (not (jobInRange f), 21)
+    ∷ (countedTwice (countedOf f), 9)
     ∷ (not (ltb b (f .boxes)), 23)
+    ∷ []
+
+-- The refusals of the message tables, which are lent the job's tables and no others.
+unfoldable pub jobRefusals : JobTables → List (Bool × ℕ)
+jobRefusals f =
+    (jobShort f (jobLengths f) || bagsShort f (jobLengths f), 20)
+    ∷ (not (jobInRange f), 21)
+    ∷ (countedTwice (countedOf f), 9)
     ∷ []

@@ -9,7 +9,8 @@ use lib.IntN.{ℤ, pos, natAbs}
 use Rattle.laws.specs.Limits.{maxBoxes, maxGrocers, maxOffers, maxTallies, maxPrice, maxCount, maxAmount, maxSent}
 use Rattle.laws.specs.Below.{all}
 use Rattle.laws.specs.Checks.{allOf}
-use Rattle.model.specs.Tables.{JobTables, jobLengths, jobShort, StateTables}
+use Rattle.recount.specs.Recount.{countedTwice}
+use Rattle.model.specs.Tables.{JobTables, countedOf, jobLengths, jobShort, bagsShort, StateTables}
 
 -- The first n words of a table are at most m.
 unfoldable pub upTo : ℕ → ℕ → List ℕ → Bool
@@ -33,7 +34,7 @@ sizesInRange f =
     ∷ leb (f .tallies) maxTallies
     ∷ [])
 
--- Every word of the job's tables is in range.
+-- Every word of the job's tables is in range, those of superseded tallies too. Bags and revisions have no range.
 unfoldable pub jobWordsInRange : JobTables → Bool
 jobWordsInRange f =
     allOf (
@@ -50,10 +51,12 @@ jobWordsInRange f =
 unfoldable pub jobInRange : JobTables → Bool
 jobInRange f = sizesInRange f && jobWordsInRange f
 
--- What demand 3 asks of a job's tables: they are lent whole, so 20 is not met, and in range, so 21 is not met.
+-- What demand 3 asks of a job's tables: they are lent whole, so 20 is not met, in range, so 21 is not met, and no bag is counted twice as one revision: 9.
 pub record Settles (f : JobTables) : Type 0 where
   pub whole : jobShort f (jobLengths f) ≡ false
+  pub bags : bagsShort f (jobLengths f) ≡ false
   pub inRange : jobInRange f ≡ true
+  pub once : countedTwice (countedOf f) ≡ false
 
 -- Condition 21 is not met by the state's tables: a done mark is 0 or 1.
 unfoldable pub stateInRange : JobTables → StateTables → Bool

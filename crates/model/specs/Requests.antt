@@ -3,10 +3,10 @@ use mathlib.Core.List.{List, [], _∷_, _++_}
 use mathlib.Core.Bool.{Bool, cond, _||_}
 use lib.ListN.{take, drop}
 use Rattle.model.specs.Steps.{Step, Steps, doneBy}
-use Rattle.model.specs.Tables.{JobTables, StateTables, JobLengths, StateLengths, jobShort, stateShort}
+use Rattle.model.specs.Tables.{JobTables, StateTables, JobLengths, StateLengths, jobShort, bagsShort, stateShort}
 use Rattle.model.specs.Step.{Asked, stepOf, StepAnswer, isAccepted, stepped, freshTables}
 
--- A request: what it asks for, and how many words it lends of each of the fourteen tables.
+-- A request: what it asks for, and how many words it lends of each of the sixteen tables.
 pub record Request : Type 0 where
   pub asked : Asked
   pub job : JobLengths
@@ -26,6 +26,8 @@ lentJob f n = record {
   tallyBox = take (n .tallyBox) (f .tallyBox);
   tallyOffer = take (n .tallyOffer) (f .tallyOffer);
   tallyCount = take (n .tallyCount) (f .tallyCount);
+  tallyBag = take (n .tallyBag) (f .tallyBag);
+  tallyRevision = take (n .tallyRevision) (f .tallyRevision);
 }
 
 -- The state's tables likewise.
@@ -54,7 +56,7 @@ returned t n lent = record {
 
 -- A buffer is lent shorter than its table: condition 20.
 unfoldable pub lendsShort : JobTables → Request → Bool
-lendsShort f r = jobShort f (r .job) || stateShort f (r .state)
+lendsShort f r = jobShort f (r .job) || bagsShort f (r .job) || stateShort f (r .state)
 
 module _ (f : JobTables) where
   -- The answer to a request: the step's, on the tables as lent.

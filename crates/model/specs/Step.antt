@@ -4,9 +4,10 @@ use mathlib.Core.Bool.{Bool, true, false, cond, _&&_, not}
 use Prim.Native.Nat.{ℕ, zero, suc}
 use lib.Dec.{eqb, ltb, leb}
 use Rattle.laws.specs.Checks.{firstMet}
+use Rattle.recount.specs.Recount.{countedTwice}
 use Rattle.model.specs.Job.{Job}
 use Rattle.model.specs.Steps.{Kind, kindOf, Steps, Step, oneBox, fits, ready, fresh, effect}
-use Rattle.model.specs.Tables.{JobTables, jobOf, StateTables, view, store, lentShort}
+use Rattle.model.specs.Tables.{JobTables, countedOf, jobOf, StateTables, view, store, lentShort}
 use Rattle.model.specs.Ranges.{jobInRange, stateInRange}
 
 -- What a request asks for, as three numbers: kind, first box, second box.
@@ -53,6 +54,7 @@ module _ (f : JobTables) (t : StateTables) where
   refusals q =
       (lentShort f t, 20)
       ∷ (not (jobInRange f && stateInRange f t), 21)
+      ∷ (countedTwice (countedOf f), 9)
       ∷ stepRules (jobOf f) (view (jobOf f) t .done) q
       ++ (not (stateInRange f (moved q)), 21)
       ∷ []

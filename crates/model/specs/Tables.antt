@@ -7,10 +7,11 @@ use lib.Dec.{eqb, ltb}
 use lib.IntN.{ℤ, pos}
 use Rattle.laws.specs.Tables.{overwrite, word, cell, recell}
 use Rattle.laws.specs.Checks.{anyOf}
+use Rattle.recount.specs.Recount.{Counted, columns, stands}
 use Rattle.model.specs.Job.{Job}
 use Rattle.model.specs.Steps.{kindNumber, stepPlace, places, Steps, atPlace, State}
 
--- The job's tables: K, M, N and T as given, and seven lent slices.
+-- The job's tables: K, M, N and T as given, and nine lent slices.
 pub record JobTables : Type 0 where
   pub boxes : ℕ
   pub grocers : ℕ
@@ -23,10 +24,12 @@ pub record JobTables : Type 0 where
   pub tallyBox : List ℕ  -- T
   pub tallyOffer : List ℕ  -- T
   pub tallyCount : List ℤ  -- T
+  pub tallyBag : List ℕ  -- T
+  pub tallyRevision : List ℕ  -- T
 
--- The job's tables, as a contract names them.
-abbrev pub jobTables : ℕ → ℕ → ℕ → ℕ → List ℕ → List ℕ → List ℕ → List ℕ → List ℕ → List ℕ → List ℤ → JobTables
-jobTables k m n t price owner grocers tallyGrocer tallyBox tallyOffer tallyCount = record {
+-- The job's tables as a contract names them: all nine.
+abbrev pub bagTables : ℕ → ℕ → ℕ → ℕ → List ℕ → List ℕ → List ℕ → List ℕ → List ℕ → List ℕ → List ℤ → List ℕ → List ℕ → JobTables
+bagTables k m n t price owner grocers tallyGrocer tallyBox tallyOffer tallyCount bag revision = record {
   boxes = k;
   grocers = m;
   offers = n;
@@ -38,7 +41,22 @@ jobTables k m n t price owner grocers tallyGrocer tallyBox tallyOffer tallyCount
   tallyBox = tallyBox;
   tallyOffer = tallyOffer;
   tallyCount = tallyCount;
+  tallyBag = bag;
+  tallyRevision = revision;
 }
+
+-- Tables without bags and revisions: every tally is loose. Inner calls are handed the job so, a superseded tally with the box `nobody`.
+abbrev pub jobTables : ℕ → ℕ → ℕ → ℕ → List ℕ → List ℕ → List ℕ → List ℕ → List ℕ → List ℕ → List ℤ → JobTables
+jobTables k m n t price owner grocers tallyGrocer tallyBox tallyOffer tallyCount =
+    bagTables k m n t price owner grocers tallyGrocer tallyBox tallyOffer tallyCount [] []
+
+-- What the recount rule looks at in the tables. Words past the T that are needed are not read.
+unfoldable pub countedOf : JobTables → Counted
+countedOf f = columns (f .tallies) (f .tallyGrocer) (f .tallyOffer) (f .tallyBag) (f .tallyRevision)
+
+-- The box of a superseded tally: none has this number, so it counts for no amount, need, sharer, local book, word, message or step.
+abbrev pub nobody : ℕ
+nobody = 16
 
 -- The job that the tables hold. Words past the needed length are not read.
 unfoldable pub jobOf : JobTables → Job
@@ -51,7 +69,7 @@ jobOf f = record {
   offerOwner = word (f .offers) (f .offerOwner) 0;
   grocerOwner = word (f .grocers) (f .grocerOwner) 0;
   tallyGrocer = word (f .tallies) (f .tallyGrocer) 0;
-  tallyBox = word (f .tallies) (f .tallyBox) 0;
+  tallyBox = λ t. cond (stands (countedOf f) t) (word (f .tallies) (f .tallyBox) 0 t) nobody;
   tallyOffer = word (f .tallies) (f .tallyOffer) 0;
   tallyCount = word (f .tallies) (f .tallyCount) (pos 0);
 }
@@ -120,6 +138,8 @@ pub record JobLengths : Type 0 where
   pub tallyBox : ℕ
   pub tallyOffer : ℕ
   pub tallyCount : ℕ
+  pub tallyBag : ℕ
+  pub tallyRevision : ℕ
 
 -- How many words of each of the state's tables are lent.
 pub record StateLengths : Type 0 where
@@ -141,6 +161,8 @@ jobLengths f = record {
   tallyBox = length (f .tallyBox);
   tallyOffer = length (f .tallyOffer);
   tallyCount = length (f .tallyCount);
+  tallyBag = length (f .tallyBag);
+  tallyRevision = length (f .tallyRevision);
 }
 
 -- The lengths of the state's tables as they are lent.
@@ -155,7 +177,7 @@ stateLengths t = record {
   sent = length (t .sent);
 }
 
--- 20 on the job's tables: a lent buffer shorter than M, N and T as given need.
+-- 20 on the job's tables but bags and revisions: a lent buffer shorter than M, N and T as given need.
 unfoldable pub jobShort : JobTables → JobLengths → Bool
 jobShort f n =
     anyOf (
@@ -167,6 +189,10 @@ jobShort f n =
     ∷ ltb (n .tallyOffer) (f .tallies)
     ∷ ltb (n .tallyCount) (f .tallies)
     ∷ [])
+
+-- 20 on bags and revisions, which inner calls are not handed.
+unfoldable pub bagsShort : JobTables → JobLengths → Bool
+bagsShort f n = ltb (n .tallyBag) (f .tallies) || ltb (n .tallyRevision) (f .tallies)
 
 -- 20 on the state's tables: a lent buffer shorter than K, M and N as given need.
 unfoldable pub stateShort : JobTables → StateLengths → Bool
@@ -181,6 +207,6 @@ stateShort f n =
     ∷ ltb (n .sent) 1
     ∷ [])
 
--- 20 for step and run: one of the fourteen tables is lent short.
+-- 20 for step and run: one of the sixteen tables is lent short.
 unfoldable pub lentShort : JobTables → StateTables → Bool
-lentShort f t = jobShort f (jobLengths f) || stateShort f (stateLengths t)
+lentShort f t = jobShort f (jobLengths f) || bagsShort f (jobLengths f) || stateShort f (stateLengths t)

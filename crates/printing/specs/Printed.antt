@@ -5,22 +5,22 @@ use Prim.Native.Nat.{ℕ, zero, suc, _+_, _/_, _%_}
 use lib.Dec.{ltb}
 use lib.IntN.{ℤ, pos, negsuc}
 use lib.ListN.{getD, replicate}
-use Rattle.model.specs.Tables.{JobTables, jobTables, StateTables, stateTables}
+use Rattle.model.specs.Tables.{JobTables, bagTables, StateTables, stateTables}
 use Rattle.model.specs.Run.{RunAnswer, finished, refused, ran}
 use Rattle.format.specs.File.{decode}
 use Rattle.cents.specs.Cents.{cents}
 use Rattle.format.specs.Tables.{ReadAnswer, sizes, refused as notRead, ReaderTables, offerTables, tallyTables, fileTables, readerTables, readResult}
 
 -- The job's tables after the reader has read a file into the tables l: K, M, N and T as it answers them, the words it stored,
--- and the places it found; no digits and no issuers.
+-- bags and revisions among them, and the places it found; no digits and no issuers.
 unfoldable pub jobRead : List ℕ → ReaderTables → JobTables
 jobRead file l =
     let h = decode file .head in
     let r = readResult file l .tables in
     let o = r .job .offers in
     let t = r .job .tallies in
-    jobTables (h .boxes) (h .grocers) (h .offers) (h .tallies) (o .price) (o .owner) (r .job .grocerOwner)
-    (t .grocer) (t .box) (r .tallyOffer) (t .count)
+    bagTables (h .boxes) (h .grocers) (h .offers) (h .tallies) (o .price) (o .owner) (r .job .grocerOwner)
+    (t .grocer) (t .box) (r .tallyOffer) (t .count) (t .bag) (t .revision)
 
 -- The last k decimal digits of n in ASCII; all of them, without leading zeros, where k are enough.
 unfoldable pub digitsOf : ℕ → ℕ → List ℕ
@@ -77,7 +77,8 @@ blankJob =
     (fileTables
     (offerTables (replicate 500 0) (replicate 500 0) (replicate 5_500 0) (replicate 500 0))
     (replicate 255 0)
-    (tallyTables (replicate 1_000 0) (replicate 1_000 0) (replicate 11_000 0) (replicate 1_000 (pos 0)) (replicate 1_000 0)))
+    (tallyTables (replicate 1_000 0) (replicate 1_000 0) (replicate 11_000 0) (replicate 1_000 (pos 0)) (replicate 1_000 0) (replicate 1_000 0)
+    (replicate 1_000 0)))
     (replicate 1_000 0)
 
 -- and the run.

@@ -1,4 +1,4 @@
 -- The laws of the reader.
-pub mod Places
+pub mod Last
 pub mod Shapes
 pub mod Results

@@ -17,7 +17,7 @@ use Rattle.format.specs.File.{readOffer, recordAt, decode}
 use Rattle.format.specs.Refusals.{fileRefusal}
 use Rattle.format.specs.Tables.{ReaderTables, storeCodes, storeOffers, storeTallies, store, storeRead, ReadAnswer, sizes, refused, largest, shortTables, shortReader, Long, readRefusal, readResult}
 use Rattle.blocks.specs.Due.{Most}
-use Rattle.reader.specs.Sound.{Placed}
+use Rattle.fills.specs.Fills.{Placed}
 use Rattle.format.proofs.Order.{reader-20, reader-file}
 use Rattle.format.proofs.Tables.{read-accepted, read-refused, long-tables}
 
@@ -33,6 +33,8 @@ pub record Filled (f : List ℕ) (h : Head) (l l′ : ReaderTables) : Type 0 whe
   pub tallyCode : l′ .job .tallies .code ≡ storeCodes (h .tallies) (λ i. decode f .tally i .code) (l .job .tallies .code)
   pub tallyCount : l′ .job .tallies .count ≡ overwrite (h .tallies) (λ i. decode f .tally i .count) (l .job .tallies .count)
   pub tallyIssuer : l′ .job .tallies .issuer ≡ overwrite (h .tallies) (λ i. decode f .tally i .issuer) (l .job .tallies .issuer)
+  pub tallyBag : l′ .job .tallies .bag ≡ overwrite (h .tallies) (λ i. decode f .tally i .bag) (l .job .tallies .bag)
+  pub tallyRevision : l′ .job .tallies .revision ≡ overwrite (h .tallies) (λ i. decode f .tally i .revision) (l .job .tallies .revision)
   pub tallyOffer : l′ .tallyOffer ≡ overwrite (h .tallies) (placeOf (decode f)) (l .tallyOffer)
 
 -- They are the tables that the format says.
@@ -43,7 +45,15 @@ filled-stored f l l′ w =
       job = record {
         offers = record { price = w .price i; owner = w .owner i; code = w .code i; issuer = w .issuer i };
         grocerOwner = w .grocerOwner i;
-        tallies = record { grocer = w .tallyGrocer i; box = w .tallyBox i; code = w .tallyCode i; count = w .tallyCount i; issuer = w .tallyIssuer i };
+        tallies = record {
+          grocer = w .tallyGrocer i;
+          box = w .tallyBox i;
+          code = w .tallyCode i;
+          count = w .tallyCount i;
+          issuer = w .tallyIssuer i;
+          bag = w .tallyBag i;
+          revision = w .tallyRevision i;
+        };
       };
       tallyOffer = w .tallyOffer i;
     }
@@ -103,6 +113,8 @@ room h l m s =
           code = omega (arith, m .tallies, r .tallies .code);
           count = omega (arith, m .tallies, r .tallies .count);
           issuer = omega (arith, m .tallies, r .tallies .issuer);
+          bag = omega (arith, m .tallies, r .tallies .bag);
+          revision = omega (arith, m .tallies, r .tallies .revision);
         };
       };
       tallyOffer = omega (arith, m .tallies, ltb-false (length (l .tallyOffer)) 1_000 (o .1));

@@ -1,4 +1,4 @@
--- What is known of a file of which nothing is refused but 7 and 8. Assumes nothing.
+-- What is known of a file of which nothing is refused but 7, 8 and 9. Assumes nothing.
 use mathlib.Core.Path.{_≡_, refl, sym, subst, _∙_}
 use mathlib.Core.List.{List}
 use Prim.Native.Nat.{ℕ, _≤_}
@@ -8,14 +8,15 @@ use Rattle.format.specs.Job.{Head}
 use Rattle.format.specs.File.{decode}
 use Rattle.format.specs.Refusals.{fileRefusal}
 use Rattle.blocks.specs.Shape.{shapeRefusal}
-use Rattle.reader.specs.Sound.{Sound, Placed, Kept, lastRefusal}
+use Rattle.fills.specs.Fills.{Placed}
+use Rattle.reader.specs.Sound.{Sound, Kept, lastRefusal}
 use Rattle.blocks.proofs.ShapeOrder as form
 
--- Something before 7 and 8 is refused.
+-- Something before 7 is refused.
 pub shape-refused : (f : List ℕ) (r : ℕ) → r ≡ shapeRefusal f → (r ≡ 0 → ⊥) → r ≡ fileRefusal f
 shape-refused f r e n = e ∙ sym (form.shape-refused f (λ z. n (e ∙ z)))
 
--- Nothing is, and 7 and 8 decide.
+-- Nothing is, and 7, 8 and 9 decide.
 pub shape-passed : (f : List ℕ) (r : ℕ) → shapeRefusal f ≡ 0 → r ≡ lastRefusal (decode f) → r ≡ fileRefusal f
 unfolding lastRefusal
 shape-passed f r e q = q ∙ sym (form.shape-accepted f e)

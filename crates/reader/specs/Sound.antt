@@ -1,15 +1,16 @@
--- A file of which nothing is refused but 7 and 8, the index of its offers, and the places of its tallies' offers.
+-- A file of which nothing is refused but 7, 8 and 9, the index of its offers, and the places of its tallies' offers.
 use mathlib.Core.Path.{_≡_}
 use mathlib.Core.Bool.{true, false}
 use mathlib.Core.List.{List, [], _∷_}
 use Prim.Native.Nat.{ℕ, _<_, _≤_}
 use lib.ListN.{length, getD}
 use Rattle.laws.specs.Checks.{firstMet}
+use Rattle.recount.specs.Recount.{countedTwice}
 use Rattle.format.specs.Codes.{isCode, nameNumber}
-use Rattle.format.specs.Job.{Head, FileJob, offerName, placeOf, shared, unnamed}
+use Rattle.format.specs.Job.{Head, FileJob, offerName, shared, unnamed, countedTallies}
 use Rattle.format.specs.File.{decode}
-use Rattle.fills.specs.Fills.{Whole}
-use Rattle.index.specs.Index.{IsIndex, sharesNumber}
+use Rattle.fills.specs.Fills.{Whole, Placed}
+use Rattle.index.specs.Index.{IsIndex, Tops, Widest, sharesNumber}
 
 -- The file is as long as its header says, no number of it is above its largest, and its codes are codes.
 pub record Sound (f : List ℕ) (h : Head) : Type 0 where
@@ -23,23 +24,25 @@ pub record Indexed (f keys order : List ℕ) (h : Head) : Type 0 where
   pub index : IsIndex keys order numbers (h .offers)
   pub right : (i : ℕ) → i < h .offers → getD numbers i 0 ≡ nameNumber (offerName (decode f) i)
 
--- The index of a sound file's offers, no two of which share a name.
-pub record Ready (f keys order : List ℕ) (h : Head) : Type 0 where
+-- The index of a sound file's offers, no two of which share a name, and where its top digits begin.
+pub record Ready (f keys order starts : List ℕ) (shift widest : ℕ) (h : Head) : Type 0 where
   pub sound : Sound f h
   pub keys-long : h .offers ≤ length keys
   pub order-long : h .offers ≤ length order
   pub indexed : Indexed f keys order h
   pub apart : sharesNumber (indexed .numbers) (h .offers) ≡ false
-
--- The first t words are the places of the offers that the first t tallies name.
-pub record Placed (j : FileJob) (places : List ℕ) (t : ℕ) : Type 0 where
-  pub at : (i : ℕ) → i < t → getD places i 0 ≡ placeOf j i
+  pub tops : Tops keys starts shift (h .offers)
+  pub wide : Widest starts widest
 
 -- A file that is not refused is sound, and the place of each tally's offer is kept.
 pub record Kept (f places : List ℕ) : Type 0 where
   pub sound : Sound f (decode f .head)
   pub placed : Placed (decode f) places (decode f .head .tallies)
 
--- 7, where it is met, and then 8.
+-- 7, where it is met, and then 8,
+unfoldable pub namesRefusal : FileJob → ℕ
+namesRefusal j = firstMet ((shared j, 7) ∷ (unnamed j, 8) ∷ [])
+
+-- and then 9.
 unfoldable pub lastRefusal : FileJob → ℕ
-lastRefusal j = firstMet ((shared j, 7) ∷ (unnamed j, 8) ∷ [])
+lastRefusal j = firstMet ((shared j, 7) ∷ (unnamed j, 8) ∷ (countedTwice (countedTallies j), 9) ∷ [])

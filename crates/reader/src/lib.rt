@@ -8,7 +8,7 @@ ghost use Rattle.format.specs.Lent.{readerBefore, readerAfter};
 ghost use Rattle.blocks.specs.Due.{asHead, Most};
 ghost use Rattle.reader.specs.Answer.{answerOf, outcome};
 ghost use Rattle.reader.specs.Sound.{Kept};
-use crate::look::job_refusal;
+use crate::twice::job_refusal;
 use blocks::codes::CODE_BYTES;
 use blocks::plan::Head;
 use blocks::plan::MAX_GROCERS;
@@ -16,6 +16,7 @@ use blocks::plan::MAX_OFFERS;
 use blocks::plan::MAX_TALLIES;
 use blocks::plan::read_head;
 use blocks::refusals::shape_refusal;
+use fills::fill::fill_bags;
 use fills::fill::fill_offers;
 use fills::fill::fill_owners;
 use fills::fill::fill_tallies;
@@ -24,6 +25,7 @@ use fills::fill::fill_words;
 use fills::fill::narrow;
 
 mod look;
+mod twice;
 
 // What the reader answers: the numbers of the job that it read, or why it refused the file.
 pub enum Answer {
@@ -77,13 +79,15 @@ pub fn read(
     tally_code: &mut [u8],
     tally_count: &mut [i32],
     tally_issuer: &mut [u16],
+    tally_bag: &mut [u16],
+    tally_revision: &mut [u16],
     tally_offer: &mut [u16],
 ) -> Answer
     ensures { λ r. ⌜
         outcome r (readerAfter price «offer_owner» «offer_code» «offer_issuer» «grocer_owner» «tally_grocer» «tally_box» «tally_code» «tally_count»
-        «tally_issuer» «tally_offer»)
+        «tally_issuer» «tally_bag» «tally_revision» «tally_offer»)
         ≡ readResult (now (file .entry)) (readerBefore price «offer_owner» «offer_code» «offer_issuer» «grocer_owner» «tally_grocer» «tally_box» «tally_code»
-        «tally_count» «tally_issuer» «tally_offer») ⌝ }
+        «tally_count» «tally_issuer» «tally_bag» «tally_revision» «tally_offer») ⌝ }
 {
     let offers = (price.len() < MAX_OFFERS)
         | (offer_owner.len() < MAX_OFFERS)
@@ -93,7 +97,9 @@ pub fn read(
         | (tally_box.len() < MAX_TALLIES)
         | (tally_code.len() < MAX_TALLIES * CODE_BYTES)
         | (tally_count.len() < MAX_TALLIES)
-        | (tally_issuer.len() < MAX_TALLIES);
+        | (tally_issuer.len() < MAX_TALLIES)
+        | (tally_bag.len() < MAX_TALLIES)
+        | (tally_revision.len() < MAX_TALLIES);
     let short = offers | (grocer_owner.len() < MAX_GROCERS) | tallies;
     if short | (tally_offer.len() < MAX_TALLIES) {
         return Answer::Refused(20);
@@ -109,5 +115,6 @@ pub fn read(
     fill_owners(file, head, grocer_owner);
     fill_tallies(file, head, tally_grocer, tally_box, tally_code);
     fill_tally_ends(file, head, &places, tally_count, tally_issuer, tally_offer);
+    fill_bags(file, head, tally_bag, tally_revision);
     job_of(head)
 }

@@ -1,5 +1,5 @@
--- The serial sum is the model's answer, one record more, and what the walks by hand share.
+-- The records taken one by one, the answer from them, and what the walks by hand share.
 pub mod Cut
 pub mod Fold
-pub mod More
+pub mod Settling
 pub mod Walk

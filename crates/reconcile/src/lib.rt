@@ -2,12 +2,15 @@
 ghost use mathlib.Core.Path.{_≡_};
 ghost use Prim.Native.Nat.{_≤_};
 ghost use lib.ListN.{take};
+ghost use Rattle.recount.specs.Recount.{Counted};
+ghost use Rattle.bags.specs.Bags.{KeysOf};
 ghost use Rattle.model.specs.Reconcile.{reconciled};
-ghost use Rattle.reconcile.specs.Records.{tallyRecord, recordsOf, answerOf};
-ghost use Rattle.reconcile.specs.Serial.{opened, Summable, withRecord};
-use records::add_product;
+ghost use Rattle.reconcile.specs.Records.{recordsOf, answerOf};
+ghost use Rattle.reconcile.specs.Serial.{settled, Summable};
+use bags::strike;
 use records::head_refusal;
-use records::record_in_range;
+use records::standing_sum;
+use records::take_record;
 
 // A tally record: the place is that of its offer.
 pub struct Tally {
@@ -15,6 +18,8 @@ pub struct Tally {
     pub tally_box: u16,
     pub place: u16,
     pub count: i32,
+    pub bag: u16,
+    pub revision: u16,
 }
 
 // The amount owed in tenths of a cent, or the number of the refusal.
@@ -23,69 +28,50 @@ pub enum Answer {
     Refused(u16),
 }
 
-// The answer before any record: nothing is owed, or a condition that looks at no record refuses.
-fn open(len: usize, price: &[u32], grocers: u16, offers: u16, wanted: u16) -> Answer
-    ensures { λ r. ⌜ r ≡ opened grocers offers wanted (now (price .entry)) len ⌝ }
+// The answer once all records are taken: a refusal, 9 where one bag and revision is there twice, or the sum of the shares that stand.
+fn settle(number: u16, keys: &[u64; 1000], shares: &[i64; 1000], len: usize) -> Answer
+    requires { ⌜ (number ≡ 0 → Summable len (now keys) (now shares)) ⌝ }
+    ensures { λ r. ⌜ ((c : Counted) → (number ≡ 0 → KeysOf c (now (keys .entry)) len) → r ≡ settled number c (now (shares .entry))) ⌝ }
 {
-    let number = head_refusal(len, price, grocers, offers, wanted);
     if number > 0 {
         return Answer::Refused(number);
     }
-    Answer::Owed(0)
-}
-
-// The serial sum: the answer with one record more; out of range it is refused, of another grocer passed over.
-fn add_record(
-    answer: Answer,
-    grocer: u16,
-    tally_box: u16,
-    place: u16,
-    count: i32,
-    price: &[u32],
-    grocers: u16,
-    offers: u16,
-    wanted: u16,
-) -> Answer
-    requires { ⌜ Summable offers (now price) answer ⌝ }
-    ensures { λ r. ⌜ r ≡ withRecord grocers offers wanted (now (price .entry)) answer (tallyRecord grocer «tally_box» place count) ⌝ }
-{
-    match answer {
-        Answer::Refused(n) => Answer::Refused(n),
-        Answer::Owed(sum) => {
-            if !record_in_range(grocer, tally_box, place, count, grocers, offers) {
-                return Answer::Refused(21);
-            }
-            if grocer != wanted {
-                return Answer::Owed(sum);
-            }
-            let at = place as usize;
-            Answer::Owed(add_product(sum, count, price[at]))
-        }
+    let mut marks = [0u16; 1000];
+    if strike(keys, len, &mut marks) {
+        return Answer::Refused(9);
     }
+    Answer::Owed(standing_sum(shares, &marks, len))
 }
 
 // What the records say that the grocer wanted is owed, or the refusal; sizes, prices and records may be anything.
 pub fn reconcile(records: &[Tally], price: &[u32], grocers: u16, offers: u16, wanted: u16) -> Answer
     ensures { λ r. ⌜ answerOf r ≡ reconciled grocers offers wanted (now (price .entry)) (recordsOf (now (records .entry))) ⌝ }
 {
-    let mut answer = open(records.len(), price, grocers, offers, wanted);
+    let mut number = head_refusal(records.len(), price, grocers, offers, wanted);
+    let mut keys = [0u64; 1000];
+    let mut shares = [0i64; 1000];
     let mut i = 0;
     while i < records.len() {
         let t = records[i];
-        answer = add_record(
-            answer,
+        number = take_record(
+            number,
+            i,
             t.grocer,
             t.tally_box,
             t.place,
             t.count,
+            t.bag,
+            t.revision,
             price,
             grocers,
             offers,
             wanted,
+            &mut keys,
+            &mut shares,
         );
         i += 1;
     }
-    answer
+    settle(number, &keys, &shares, i)
 }
 
 // The same of the first len records of an array, which it lends.

@@ -1,4 +1,4 @@
--- The conditions after 20 and 21, on tables that are whole and in range. Assumes nothing.
+-- The conditions after 20, 21 and 9, on tables that are whole and in range. Assumes nothing.
 use mathlib.Core.Path.{_≡_, refl, sym, ap, _∙_}
 use mathlib.Core.Bool.{Bool, true, false, cond, not}
 use mathlib.Core.List.{List}
@@ -46,7 +46,7 @@ module _ (f : JobTables) (t : StateTables) (h : Held f t) where
 
   pub few-boxes : f .boxes ≤ 16
   unfolding jobOf
-  few-boxes = range f (h .job-in) .boxes≤
+  few-boxes = range f (h .job-in .inside) .boxes≤
 
   module _ (prices totals : List (List ℕ)) (ep : prices ≡ priceTable (jobOf f)) (et : totals ≡ totalTable (jobOf f)) (q : Asked)
       (r : ℕ) (er : r ≡ firstMet (rulesBy (f .boxes) prices totals (stepsDone (f .boxes) (t .done)) q)) where

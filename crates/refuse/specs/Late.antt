@@ -7,34 +7,44 @@ use lib.Dec.{eqb, leb}
 use lib.ListN.{length, getD}
 use lib.IntN.{ℤ, natAbs}
 use Rattle.laws.specs.Below.{all}
-use Rattle.model.specs.Tables.{JobTables, jobOf, jobLengths, jobShort, StateTables, stateLengths, stateShort, lentShort, view}
+use Rattle.laws.specs.Checks.{firstMet}
+use Rattle.recount.specs.Recount.{countedTwice}
+use Rattle.model.specs.Tables.{JobTables, countedOf, jobOf, jobLengths, jobShort, StateTables, stateLengths, stateShort, lentShort, view}
 use Rattle.laws.specs.Limits.{maxBoxes, maxGrocers, maxAmount, maxSent}
 use Rattle.model.specs.Ranges.{around, jobInRange, stateInRange}
+use Rattle.model.specs.Handed.{handedTables, Standing, Handed}
 use Rattle.model.specs.Step.{Asked, stepRules, moved, stepRefusal}
 use Rattle.rules.specs.Rules.{wordsTo}
 use Rattle.totals.specs.Row.{Tallies, TalliesIn, PricesIn, AmountsIn, productRow}
 use Rattle.totals.specs.Credit.{credited, creditWord}
 use Rattle.apply.specs.Apply.{Applies, SentIn}
 
--- Conditions 20 and 21.
+-- Conditions 20, 21 and 9.
 unfoldable pub earlyRules : JobTables → StateTables → List (Bool × ℕ)
-earlyRules f t = (lentShort f t, 20) ∷ (not (jobInRange f && stateInRange f t), 21) ∷ []
+earlyRules f t = (lentShort f t, 20) ∷ (not (jobInRange f && stateInRange f t), 21) ∷ (countedTwice (countedOf f), 9) ∷ []
 
 -- Conditions 22 to 26, and the late 21.
 unfoldable pub laterRules : JobTables → StateTables → Asked → List (Bool × ℕ)
 laterRules f t q = stepRules (jobOf f) (view (jobOf f) t .done) q ++ (not (stateInRange f (moved f t q)), 21) ∷ []
 
--- Neither 20 nor 21 is met: nothing is lent short, and every word is in range.
+-- What they tell: their number, and where it is 0, the boxes of the tallies that stand.
+pub record Early (f : JobTables) (t : StateTables) (standing : List ℕ) (r : ℕ) : Type 0 where
+  pub number-is : r ≡ firstMet (earlyRules f t)
+  pub standing-are : r ≡ 0 → Standing f standing
+
+-- The tables as handed where none of them is met: nothing is lent short, and every word is in range.
 pub record Held (f : JobTables) (t : StateTables) : Type 0 where
   pub job-long : jobShort f (jobLengths f) ≡ false
   pub state-long : stateShort f (stateLengths t) ≡ false
-  pub job-in : jobInRange f ≡ true
+  pub job-in : Handed f
   pub state-in : stateInRange f t ≡ true
 
--- What the refusal of a step tells: the model's number, and where that is 0, with the words that it leaves, that the step may be applied.
-pub record Decided (f : JobTables) (t : StateTables) (q : Asked) (needs sharers : List ℕ) (r : ℕ) : Type 0 where
+-- What the refusal of a step tells: the model's number, and where that is 0, the boxes of the tallies that stand, and that the step may be
+-- applied to the tables with these boxes.
+pub record Decided (f : JobTables) (t : StateTables) (q : Asked) (needs sharers standing : List ℕ) (r : ℕ) : Type 0 where
   pub number-is : r ≡ stepRefusal f t q
-  pub applies : r ≡ 0 → Applies f t needs sharers q
+  pub standing-are : r ≡ 0 → Standing f standing
+  pub applies : r ≡ 0 → Applies (handedTables f standing) t needs sharers q
 
 -- The count of words sent stays in range with the words from box a to box b, by a table of messages.
 abbrev pub sentFits : List (List ℕ) → List ℕ → ℕ → ℕ → Bool

@@ -1,16 +1,16 @@
 // The refusal of a step: its number for every input.
 pub mod finish;
 
-ghost use mathlib.Core.Path.{_≡_};
-ghost use Rattle.laws.specs.Checks.{firstMet};
-ghost use Rattle.model.specs.Tables.{jobTables, stateTables};
+ghost use Rattle.model.specs.Tables.{bagTables, stateTables};
 ghost use Rattle.model.specs.Step.{asked};
-ghost use Rattle.refuse.specs.Late.{earlyRules, Decided};
+ghost use Rattle.refuse.specs.Late.{Early, Decided};
 use crate::finish::price_fits;
 use crate::finish::total_fits;
 use apply::Sizes;
 use apply::Step;
+use bags::standing_boxes;
 use rules::ready::request_refusal;
+use tables::checks::bags_short;
 use tables::checks::job_in_range;
 use tables::checks::job_short;
 use tables::checks::state_in_range;
@@ -18,7 +18,7 @@ use tables::checks::state_short;
 use tables::messages::price_table;
 use tables::messages::total_table;
 
-// The first of the conditions 20 and 21 that is met, or 0.
+// The first of the conditions 20, 21 and 9 that is met, or 0. Where none is, `standing` has the box of each tally that stands, and 16 for the others.
 pub fn early_refusal(
     z: Sizes,
     price: &[u32],
@@ -28,6 +28,8 @@ pub fn early_refusal(
     tally_box: &[u16],
     tally_offer: &[u16],
     tally_count: &[i32],
+    tally_bag: &[u16],
+    tally_revision: &[u16],
     known: &[u32],
     price_transit: &[u32],
     working: &[i64],
@@ -35,12 +37,14 @@ pub fn early_refusal(
     statement: &[i64],
     done: &[u16],
     sent: &[u32],
+    standing: &mut [u16; 1000],
 ) -> u16
-    ensures { λ r. ⌜ r ≡ firstMet (earlyRules
-        (jobTables (z .boxes) (z .grocers) (z .offers) (z .tallies) (now (price .entry)) (now («offer_owner» .entry)) (now («grocer_owner» .entry))
-        (now («tally_grocer» .entry)) (now («tally_box» .entry)) (now («tally_offer» .entry)) (now («tally_count» .entry)))
+    ensures { λ r. ⌜ Early
+        (bagTables (z .boxes) (z .grocers) (z .offers) (z .tallies) (now (price .entry)) (now («offer_owner» .entry)) (now («grocer_owner» .entry))
+        (now («tally_grocer» .entry)) (now («tally_box» .entry)) (now («tally_offer» .entry)) (now («tally_count» .entry))
+        (now («tally_bag» .entry)) (now («tally_revision» .entry)))
         (stateTables (now (known .entry)) (now («price_transit» .entry)) (now (working .entry)) (now («total_transit» .entry))
-        (now (statement .entry)) (now (done .entry)) (now (sent .entry)))) ⌝ }
+        (now (statement .entry)) (now (done .entry)) (now (sent .entry))) (now (standing .exit)) r ⌝ }
 {
     let boxes = z.boxes;
     let grocers = z.grocers;
@@ -58,6 +62,7 @@ pub fn early_refusal(
         tally_offer,
         tally_count,
     )
+        | bags_short(tallies, tally_bag, tally_revision)
         | state_short(
             boxes,
             grocers,
@@ -100,10 +105,22 @@ pub fn early_refusal(
         )) {
         return 21;
     }
+    if standing_boxes(
+        tallies as usize,
+        tally_grocer,
+        tally_box,
+        tally_offer,
+        tally_bag,
+        tally_revision,
+        standing,
+    ) {
+        return 9;
+    }
     0
 }
 
-// The number of the first condition that is met, or 0. Where none is, the job's need and sharer words are left in `needs` and `sharers`.
+// The number of the first condition that is met, or 0. Where none is, the need and sharer words of the tallies that
+// stand are left in `needs` and `sharers`, and their boxes in `standing`, with 16 for the others.
 pub fn refusal(
     z: Sizes,
     price: &[u32],
@@ -113,6 +130,8 @@ pub fn refusal(
     tally_box: &[u16],
     tally_offer: &[u16],
     tally_count: &[i32],
+    tally_bag: &[u16],
+    tally_revision: &[u16],
     known: &[u32],
     price_transit: &[u32],
     working: &[i64],
@@ -122,14 +141,16 @@ pub fn refusal(
     sent: &[u32],
     needs: &mut [u16; 500],
     sharers: &mut [u16; 255],
+    standing: &mut [u16; 1000],
     x: Step,
 ) -> u16
     ensures { λ r. ⌜ Decided
-        (jobTables (z .boxes) (z .grocers) (z .offers) (z .tallies) (now (price .entry)) (now («offer_owner» .entry)) (now («grocer_owner» .entry))
-        (now («tally_grocer» .entry)) (now («tally_box» .entry)) (now («tally_offer» .entry)) (now («tally_count» .entry)))
+        (bagTables (z .boxes) (z .grocers) (z .offers) (z .tallies) (now (price .entry)) (now («offer_owner» .entry)) (now («grocer_owner» .entry))
+        (now («tally_grocer» .entry)) (now («tally_box» .entry)) (now («tally_offer» .entry)) (now («tally_count» .entry))
+        (now («tally_bag» .entry)) (now («tally_revision» .entry)))
         (stateTables (now (known .entry)) (now («price_transit» .entry)) (now (working .entry)) (now («total_transit» .entry))
         (now (statement .entry)) (now (done .entry)) (now (sent .entry)))
-        (asked (x .kind) (x .first) (x .second)) (now (needs .exit)) (now (sharers .exit)) r ⌝ }
+        (asked (x .kind) (x .first) (x .second)) (now (needs .exit)) (now (sharers .exit)) (now (standing .exit)) r ⌝ }
 {
     let early = early_refusal(
         z,
@@ -140,6 +161,8 @@ pub fn refusal(
         tally_box,
         tally_offer,
         tally_count,
+        tally_bag,
+        tally_revision,
         known,
         price_transit,
         working,
@@ -147,12 +170,13 @@ pub fn refusal(
         statement,
         done,
         sent,
+        standing,
     );
     if early != 0 {
         return early;
     }
-    let needing = tables::masks::needs(z.boxes, z.tallies, tally_box, tally_offer);
-    let sharing = tables::masks::sharers(z.boxes, z.tallies, tally_box, tally_grocer);
+    let needing = tables::masks::needs(z.boxes, z.tallies, standing, tally_offer);
+    let sharing = tables::masks::sharers(z.boxes, z.tallies, standing, tally_grocer);
     *needs = needing;
     *sharers = sharing;
     let prices = price_table(z.offers, offer_owner, &needing);
@@ -166,7 +190,7 @@ pub fn refusal(
             z,
             offer_owner,
             tally_grocer,
-            tally_box,
+            standing,
             tally_offer,
             tally_count,
             &prices,

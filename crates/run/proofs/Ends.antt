@@ -1,6 +1,6 @@
 -- What a run begins with, and what it comes to. Assumes nothing.
 use mathlib.Core.Path.{_≡_, refl, sym, ap, _∙_}
-use mathlib.Core.Bool.{Bool, true, false, cond, _||_, not}
+use mathlib.Core.Bool.{Bool, true, false, cond, _||_}
 use mathlib.Core.List.{List, [], _∷_}
 use Prim.Native.Nat.{ℕ, zero, suc, _≤_}
 use native.Mathlib.Omega.{arith}
@@ -11,13 +11,18 @@ use borrow.Author.Tests.{ne-eqb}
 use Rattle.laws.specs.Below.{count}
 use Rattle.laws.specs.Tables.{tabulate}
 use Rattle.laws.specs.Checks.{firstMet}
+use Rattle.laws.proofs.Bools.{or-true, or-false}
 use Rattle.laws.proofs.Sums.{sum-max}
 use Rattle.laws.proofs.Below.{count-le}
 use Rattle.laws.proofs.Tables.{overwrite-one}
 use Rattle.model.specs.Job.{Job, pricesDue, totalsDue, needWord, sharerWord}
 use Rattle.model.specs.Steps.{Steps, Step, State, fresh, effectOf}
-use Rattle.model.specs.Tables.{JobTables, jobOf, StateTables, store, stepsDone, marksOf, StateLengths, jobLengths, stateLengths, jobShort, stateShort, lentShort}
-use Rattle.model.specs.Ranges.{jobInRange}
+use Rattle.model.specs.Tables.{JobTables, jobOf, StateTables, store, stepsDone, marksOf, StateLengths, jobLengths, stateLengths, jobShort, bagsShort, stateShort, lentShort}
+use Rattle.model.specs.Ranges.{Settles}
+use Rattle.model.specs.Local.{jobRefusals}
+use Rattle.model.specs.Handed.{handedTables, Standing}
+use Rattle.model.proofs.Handed.{handed-whole, handed-in, handed-run}
+use Rattle.tables.proofs.Standing.{accepted}
 use Rattle.model.specs.Words.{over, messagesOf, messageCount, stepCount}
 use Rattle.model.specs.Run.{readyCount, pick, picks, run, runState, afterSteps, RunAnswer, finished, refused, reported, runRefusals, ran}
 use Rattle.tables.specs.Masks.{holderWord, Placed, Owned}
@@ -27,7 +32,7 @@ use Rattle.walk.specs.Walk.{WalkIn}
 use Rattle.order.specs.Order.{OfJob, MarksFrom, Ordered, markAll, noSteps}
 use Rattle.run.specs.declared.Answer.the-variants.{Finished, Refused}
 use Rattle.steps.specs.All.{withoutMarks, AllIn, AllOut, afterOrder}
-use Rattle.run.specs.Run.{Begins, answerOf, given, refusalBy}
+use Rattle.run.specs.Run.{Begins, answerOf, given}
 use Rattle.model.proofs.Step.{range}
 use Rattle.model.proofs.Lent.{state-long}
 use Rattle.tables.proofs.Sizes.{short-sizes}
@@ -87,17 +92,17 @@ module _ (f : JobTables) (t : StateTables) (g : Begins f t) where
 
     -- They are the job's, and so are the tables of messages that are made from them.
     pub needs-of : needs ≡ tabulate 500 (needWord (jobOf f))
-    needs-of = en ∙ need-words f
+    needs-of = en ∙ need-words f (g .job-in .bare)
 
     pub sharers-of : sharers ≡ tabulate 255 (sharerWord (jobOf f))
-    sharers-of = es ∙ sharer-words f
+    sharers-of = es ∙ sharer-words f (g .job-in .bare)
 
     module _ (prices totals : List (List ℕ)) (ep : prices ≡ sentTable false (f .offers) (f .offerOwner) needs) (et : totals ≡ sentTable true (f .grocers) (f .grocerOwner) sharers) where
       pub of-job : OfJob (f .boxes) prices totals (jobOf f)
       unfolding jobOf
       of-job = record {
         boxes-are = refl;
-        boxes-in = range f (g .job-in) .boxes≤;
+        boxes-in = range f (g .job-in .inside) .boxes≤;
         some = some-box f (g .job-in);
         prices-are = ep ∙ ap (sentTable false (f .offers) (f .offerOwner)) en ∙ price-sent f (g .job-in);
         totals-are = et ∙ ap (sentTable true (f .grocers) (f .grocerOwner)) es ∙ total-sent f (g .job-in);
@@ -111,7 +116,7 @@ module _ (f : JobTables) (t : StateTables) (g : Begins f t) where
   -- The walk may begin.
   pub begins-walk : WalkIn (f .boxes) (t .done)
   unfolding stateLengths jobOf
-  begins-walk = record { some = some-box f (g .job-in); boxes-in = range f (g .job-in) .boxes≤; done-long = state-long f (stateLengths t) (g .state-long) .done }
+  begins-walk = record { some = some-box f (g .job-in); boxes-in = range f (g .job-in .inside) .boxes≤; done-long = state-long f (stateLengths t) (g .state-long) .done }
 
   -- All steps of the order may be done.
   module _ (needs sharers cs done order : List ℕ) (n : ℕ) (en : needs ≡ tabulate 500 (needWord (jobOf f))) (es : sharers ≡ tabulate 255 (sharerWord (jobOf f))) (w : Ordered (jobOf f) cs done order n) where
@@ -173,10 +178,11 @@ module _ (f : JobTables) (t : StateTables) (g : Begins f t) where
       unfolding jobOf
       steps-is = sym (steps-length (f .boxes) n order (rw (w .picked .long) (w .picked .in-order))) ∙ ap length (w .steps-are)
 
-      -- No refusal: this is the run.
-      pub run-finished : (x : ℕ) → x ≡ firstMet (runRefusals f t) → x ≡ 0 → given (answerOf (Finished words messages n)) t′ ≡ ran f t cs
-      unfolding ran answerOf reported
-      run-finished x e z = rw (sym e ∙ z) (λ i. given (finished (words-is i) (messages-is i) (steps-is i)) (tables-are i))
+      -- What is answered, and the tables.
+      pub run-ended : given (answerOf (Finished words messages n)) t′
+          ≡ given (finished (end .sent) (over messagesOf (run (jobOf f) cs)) (length (run (jobOf f) cs))) (store (jobOf f) end t)
+      unfolding answerOf
+      run-ended = λ i. given (finished (words-is i) (messages-is i) (steps-is i)) (tables-are i)
 
 -- A number that is not 0 is a refusal.
 pub refused-said : (n : ℕ) (a : RunAnswer) → (n ≡ 0 → ⊥) → refused n ≡ reported n a
@@ -184,49 +190,41 @@ unfolding reported
 refused-said zero a h = absurd (h refl)
 refused-said (suc n) a h = refl
 
--- No table of the job is short where neither its nor the state's are.
-pub long-job : (f : JobTables) (a b : Bool) → a ≡ jobShort f (jobLengths f) → (a || b) ≡ false → jobShort f (jobLengths f) ≡ false
-long-job f false b ea h = sym ea
-long-job f true b ea h = sym ea ∙ h
+-- The refusals of a run: 20 on the state's tables, and those of the job's.
+module _ (f : JobTables) (t : StateTables) (c : Bool) (e : c ≡ stateShort (sizes (f .boxes) (f .grocers) (f .offers)) (stateLengths t)) where
+  state-is : c ≡ stateShort f (stateLengths t)
+  state-is = e ∙ short-sizes f (stateLengths t)
 
--- The conditions 20 and 21, told from the lengths n of the state's tables.
-module _ (f : JobTables) (n : StateLengths) where
-  short-both : (a b : Bool) → a ≡ jobShort f (jobLengths f) → b ≡ stateShort (sizes (f .boxes) (f .grocers) (f .offers)) n → (a || b) ≡ (jobShort f (jobLengths f) || stateShort f n)
-  short-both a b ea eb = rw (ea, eb ∙ short-sizes f n)
+  -- A table of the state is short: no word is changed.
+  pub run-short : (cs : List ℕ) → c ≡ true → given (answerOf (Refused 20)) t ≡ ran f t cs
+  unfolding ran answerOf runRefusals firstMet lentShort
+  run-short cs h = rw (sym state-is ∙ h, or-true (jobShort f (jobLengths f) || bagsShort f (jobLengths f))) (ap (λ (a : RunAnswer). given a t) (refused-said 20 _ (λ q. omega arith)))
 
-  pub refused-short : (a b : Bool) → a ≡ jobShort f (jobLengths f) → b ≡ stateShort (sizes (f .boxes) (f .grocers) (f .offers)) n → (a || b) ≡ true → 20 ≡ refusalBy f n
-  unfolding refusalBy
-  refused-short a b ea eb h = rw (sym (short-both a b ea eb) ∙ h)
+  -- None is: the refusals are those of the job's tables.
+  module _ (h : c ≡ false) where
+    refusal-is : firstMet (runRefusals f t) ≡ firstMet (jobRefusals f)
+    unfolding runRefusals jobRefusals firstMet lentShort
+    refusal-is = rw (sym state-is ∙ h, or-false (jobShort f (jobLengths f) || bagsShort f (jobLengths f)))
 
-  module _ (a b c : Bool) (ea : a ≡ jobShort f (jobLengths f)) (eb : b ≡ stateShort (sizes (f .boxes) (f .grocers) (f .offers)) n) (h : (a || b) ≡ false) (ec : c ≡ jobInRange f) where
-    pub refused-range : c ≡ false → 21 ≡ refusalBy f n
-    unfolding refusalBy
-    refused-range z = rw (sym (short-both a b ea eb) ∙ h, sym ec ∙ z)
+    pub run-refused : (cs : List ℕ) (n : ℕ) → n ≡ firstMet (jobRefusals f) → (n ≡ 0 → ⊥) → given (answerOf (Refused n)) t ≡ ran f t cs
+    unfolding ran answerOf
+    run-refused cs n q k = rw (refusal-is, ← q, ne-eqb n 0 k) (ap (λ (a : RunAnswer). given a t) (refused-said n _ k))
 
-    pub refused-none : c ≡ true → 0 ≡ refusalBy f n
-    unfolding refusalBy
-    refused-none z = rw (sym (short-both a b ea eb) ∙ h, sym ec ∙ z)
+    -- No refusal: with the boxes of the tallies that stand the run may begin, and what it comes to is the run of the tables as lent.
+    module _ (z : firstMet (jobRefusals f) ≡ 0) (standing : List ℕ) (s : Standing f standing) where
+      settled : Settles f
+      settled = accepted f z
 
--- They are the refusals of the run.
-pub refusal-is : (f : JobTables) (t : StateTables) → refusalBy f (stateLengths t) ≡ firstMet (runRefusals f t)
-unfolding refusalBy firstMet runRefusals lentShort
-refusal-is f t = refl
+      pub begins : Begins (handedTables f standing) t
+      unfolding stateShort
+      begins = record {
+        job-in = handed-in f standing s (settled .inRange);
+        job-long = handed-whole f standing s (settled .whole);
+        state-long = sym state-is ∙ h;
+      }
 
-module _ (f : JobTables) (t : StateTables) where
-  -- No refusal: the run may begin.
-  pub begins : firstMet (runRefusals f t) ≡ 0 → Begins f t
-  unfolding firstMet runRefusals lentShort
-  begins h =
-      let p = parts (jobShort f (jobLengths f)) (stateShort f (stateLengths t)) (jobInRange f) h in
-      record { job-in = p .1 .1; job-long = p .0; state-long = p .1 .0 }
-    where
-      parts : (a b c : Bool) → cond {A = ℕ} (a || b) 20 (cond (not c) 21 0) ≡ 0 → (a ≡ false) × ((b ≡ false) × (c ≡ true))
-      parts true b c h = absurd (omega arith)
-      parts false true c h = absurd (omega arith)
-      parts false false false h = absurd (omega arith)
-      parts false false true h = (refl, (refl, refl))
-
-  -- A refusal: no word is changed.
-  pub run-refused : (cs : List ℕ) (n : ℕ) → n ≡ firstMet (runRefusals f t) → (n ≡ 0 → ⊥) → given (answerOf (Refused n)) t ≡ ran f t cs
-  unfolding ran answerOf
-  run-refused cs n e h = rw (← e, ne-eqb n 0 h) (ap (λ (a : RunAnswer). given a t) (refused-said n _ h))
+      pub run-finished : (cs : List ℕ) →
+          given (finished (runState (jobOf (handedTables f standing)) cs .sent) (over messagesOf (run (jobOf (handedTables f standing)) cs)) (length (run (jobOf (handedTables f standing)) cs)))
+          (store (jobOf (handedTables f standing)) (runState (jobOf (handedTables f standing)) cs) t) ≡ ran f t cs
+      unfolding lentShort
+      run-finished cs = sym (handed-run f standing s t cs (rw (settled .whole, settled .bags, sym state-is ∙ h)) (settled .inRange) (settled .once))

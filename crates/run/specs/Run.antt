@@ -1,9 +1,9 @@
 -- The answer of a run as its contract cites it, and what a run begins with.
 use mathlib.Core.Path.{_≡_}
-use mathlib.Core.Bool.{true, false, cond, not, _||_}
+use mathlib.Core.Bool.{false}
 use Prim.Native.Nat.{ℕ}
 use Rattle.model.specs.Tables.{JobTables, StateTables, StateLengths, jobLengths, stateLengths, jobShort, stateShort}
-use Rattle.model.specs.Ranges.{jobInRange}
+use Rattle.model.specs.Handed.{Handed}
 use Rattle.model.specs.Run.{RunAnswer, finished, refused, RunOutcome}
 use Rattle.run.specs.declared.Answer.{Answer}
 use Rattle.run.specs.declared.Answer.the-variants.{Finished, Refused}
@@ -17,9 +17,9 @@ answerOf (Refused number) = refused number
 abbrev pub given : RunAnswer → StateTables → RunOutcome
 given a t = record { answer = a; tables = t }
 
--- Nothing is lent short, and the job's tables are in range.
+-- What a run begins with: tables as handed, nothing lent short.
 pub record Begins (f : JobTables) (t : StateTables) : Type 0 where
-  pub job-in : jobInRange f ≡ true
+  pub job-in : Handed f
   pub job-long : jobShort f (jobLengths f) ≡ false
   pub state-long : stateShort f (stateLengths t) ≡ false
 
@@ -27,7 +27,3 @@ pub record Begins (f : JobTables) (t : StateTables) : Type 0 where
 abbrev pub lengthsOf : ℕ → ℕ → ℕ → ℕ → ℕ → ℕ → ℕ → StateLengths
 lengthsOf known transit working totals statement done sent =
     record { known = known; priceTransit = transit; working = working; totalTransit = totals; statement = statement; done = done; sent = sent }
-
--- The number of the refusal, or 0, told from the lengths of the state's tables alone.
-unfoldable pub refusalBy : JobTables → StateLengths → ℕ
-refusalBy f n = cond (jobShort f (jobLengths f) || stateShort f n) 20 (cond (not (jobInRange f)) 21 0)

@@ -1,10 +1,10 @@
 // The run: it starts fresh, picks steps until all are done, and reports the words sent, the messages and the steps.
 ghost use mathlib.Core.Path.{_≡_};
-ghost use Rattle.model.specs.Lent.{jobLent, stateBefore, stateAfter};
+ghost use Rattle.model.specs.Lent.{bagLent, stateBefore, stateAfter};
 ghost use Rattle.model.specs.Run.{ran};
 ghost use Rattle.model.specs.Tables.{stateShort};
 ghost use Rattle.tables.specs.Sizes.{sizes};
-ghost use Rattle.run.specs.Run.{answerOf, given, lengthsOf, refusalBy};
+ghost use Rattle.run.specs.Run.{answerOf, given, lengthsOf};
 use apply::Sizes;
 
 // What a run answers: words sent, messages and steps; or the number of the condition that refuses it.
@@ -45,56 +45,6 @@ fn state_short(z: Sizes, lent: Lengths) -> bool
         | (lent.sent < 1)
 }
 
-// The number of the condition that refuses the run, 20 or 21, or 0. Of the state's tables only the lengths matter.
-fn refusal(
-    z: Sizes,
-    price: &[u32],
-    offer_owner: &[u16],
-    grocer_owner: &[u16],
-    tally_grocer: &[u16],
-    tally_box: &[u16],
-    tally_offer: &[u16],
-    tally_count: &[i32],
-    lent: Lengths,
-) -> u16
-    ensures { λ r. ⌜ r ≡ refusalBy (jobLent (z .boxes) (z .grocers) (z .offers) (z .tallies) price «offer_owner» «grocer_owner» «tally_grocer»
-        «tally_box» «tally_offer» «tally_count») (lengthsOf (lent .known) (lent .«price_transit») (lent .working) (lent .«total_transit»)
-        (lent .statement) (lent .done) (lent .sent)) ⌝ }
-{
-    if tables::checks::job_short(
-        z.grocers,
-        z.offers,
-        z.tallies,
-        price,
-        offer_owner,
-        grocer_owner,
-        tally_grocer,
-        tally_box,
-        tally_offer,
-        tally_count,
-    )
-        | state_short(z, lent)
-    {
-        return 20;
-    }
-    if !tables::checks::job_in_range(
-        z.boxes,
-        z.grocers,
-        z.offers,
-        z.tallies,
-        price,
-        offer_owner,
-        grocer_owner,
-        tally_grocer,
-        tally_box,
-        tally_offer,
-        tally_count,
-    ) {
-        return 21;
-    }
-    0
-}
-
 // The run of a job, from a fresh state: its steps are picked first, by the marks alone, and then done one after the other.
 // The state's old words are not examined.
 pub fn run(
@@ -109,6 +59,8 @@ pub fn run(
     tally_box: &[u16],
     tally_offer: &[u16],
     tally_count: &[i32],
+    tally_bag: &[u16],
+    tally_revision: &[u16],
     known: &mut [u32],
     price_transit: &mut [u32],
     working: &mut [i64],
@@ -119,7 +71,8 @@ pub fn run(
     choices: &[u16],
 ) -> Answer
     ensures { λ r. ⌜ given (answerOf r) (stateAfter known «price_transit» working «total_transit» statement done sent) ≡ ran
-        (jobLent boxes grocers offers tallies price «offer_owner» «grocer_owner» «tally_grocer» «tally_box» «tally_offer» «tally_count»)
+        (bagLent boxes grocers offers tallies price «offer_owner» «grocer_owner» «tally_grocer» «tally_box» «tally_offer» «tally_count»
+        «tally_bag» «tally_revision»)
         (stateBefore known «price_transit» working «total_transit» statement done sent) (now (choices .entry)) ⌝ }
 {
     let z = Sizes {
@@ -137,8 +90,15 @@ pub fn run(
         done: done.len(),
         sent: sent.len(),
     };
-    let r = refusal(
-        z,
+    if state_short(z, lent) {
+        return Answer::Refused(20);
+    }
+    let mut standing = [0u16; 1000];
+    let r = tables::checks::job_refusal(
+        boxes,
+        grocers,
+        offers,
+        tallies,
         price,
         offer_owner,
         grocer_owner,
@@ -146,13 +106,15 @@ pub fn run(
         tally_box,
         tally_offer,
         tally_count,
-        lent,
+        tally_bag,
+        tally_revision,
+        &mut standing,
     );
     if r != 0 {
         return Answer::Refused(r);
     }
-    let needs = tables::masks::needs(boxes, tallies, tally_box, tally_offer);
-    let sharers = tables::masks::sharers(boxes, tallies, tally_box, tally_grocer);
+    let needs = tables::masks::needs(boxes, tallies, &standing, tally_offer);
+    let sharers = tables::masks::sharers(boxes, tallies, &standing, tally_grocer);
     let prices = tables::messages::price_table(offers, offer_owner, &needs);
     let totals = tables::messages::total_table(grocers, grocer_owner, &sharers);
     let mut order = [0u16; 1536];
@@ -163,7 +125,7 @@ pub fn run(
         offer_owner,
         grocer_owner,
         tally_grocer,
-        tally_box,
+        &standing,
         tally_offer,
         tally_count,
         &needs,

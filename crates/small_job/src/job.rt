@@ -39,7 +39,7 @@ pub fn small() -> Job {
     }
 }
 
-// E's file, of cycle 0.
+// E's file, of cycle 0, every issuer, bag and revision 0.
 pub fn small_file() -> [u8; 2048] {
     let j = small();
     let price = j.price;
@@ -66,6 +66,8 @@ pub fn small_file() -> [u8; 2048] {
         &tbox,
         &tcode,
         &tcount,
+        &[0, 0, 0, 0],
+        &[0, 0, 0, 0],
         &[0, 0, 0, 0],
         &mut f,
     );

@@ -3,7 +3,7 @@ use mathlib.Core.Path.{_≡_, sym, ap, _∙_}
 use mathlib.Core.List.{List, []}
 use Prim.Native.Nat.{ℕ, _≤_}
 use native.Mathlib.Omega.{arith}
-use Rattle.model.specs.Tables.{JobTables, jobTables, StateTables}
+use Rattle.model.specs.Tables.{JobTables, bagTables, StateTables}
 use Rattle.model.specs.Run.{RunAnswer, RunOutcome, ran}
 use Rattle.run.specs.Run.{given}
 use Rattle.format.specs.Job.{Head, headOf}
@@ -36,7 +36,8 @@ module _ (file : List ℕ) (l : ReaderTables) (a : Answer) (e : outcome a l ≡ 
     grocers-few = omega (arith, ap (λ (h : Head). h .grocers) (is .1), accepted-range file (read-file file blankJob (is .0)) .sizes .grocers-most)
 
     -- The tables that were read are the job's, and what is printed of it is printed of the file.
-    pub job-text : jobText (jobTables k m n t (l .job .offers .price) (l .job .offers .owner) (l .job .grocerOwner) (l .job .tallies .grocer) (l .job .tallies .box) (l .tallyOffer) (l .job .tallies .count)) ≡ printed file
+    pub job-text : jobText (bagTables k m n t (l .job .offers .price) (l .job .offers .owner) (l .job .grocerOwner) (l .job .tallies .grocer) (l .job .tallies .box) (l .tallyOffer) (l .job .tallies .count)
+        (l .job .tallies .bag) (l .job .tallies .revision)) ≡ printed file
     unfolding printed readText jobRead
     job-text =
         ap (λ (o : ReadOutcome). text (headOf k m n t c) (o .tables)) e
@@ -44,5 +45,5 @@ module _ (file : List ℕ) (l : ReaderTables) (a : Answer) (e : outcome a l ≡ 
         ∙ ap (λ (x : Answer). readText file (answerOf x)) (sym h) ∙ ap (λ (o : ReadOutcome). readText file (o .answer)) e
       where
         text : Head → ReaderTables → List ℕ
-        text h l = jobText (jobTables (h .boxes) (h .grocers) (h .offers) (h .tallies) (l .job .offers .price) (l .job .offers .owner) (l .job .grocerOwner)
-            (l .job .tallies .grocer) (l .job .tallies .box) (l .tallyOffer) (l .job .tallies .count))
+        text h l = jobText (bagTables (h .boxes) (h .grocers) (h .offers) (h .tallies) (l .job .offers .price) (l .job .offers .owner) (l .job .grocerOwner)
+            (l .job .tallies .grocer) (l .job .tallies .box) (l .tallyOffer) (l .job .tallies .count) (l .job .tallies .bag) (l .job .tallies .revision))

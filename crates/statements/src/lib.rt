@@ -3,7 +3,7 @@ ghost use mathlib.Core.Path.{_≡_};
 ghost use Prim.Native.Nat.{_≤_};
 ghost use lib.ListN.{length, take, drop};
 ghost use Rattle.io.specs.Counts.{Counts};
-ghost use Rattle.model.specs.Tables.{jobTables};
+ghost use Rattle.model.specs.Tables.{bagTables};
 ghost use Rattle.text.specs.Puts.{Put};
 ghost use Rattle.printing.specs.Printed.{jobText, printed};
 use answers::put_answer;
@@ -23,11 +23,13 @@ fn put_job(
     tally_box: &[u16],
     tally_offer: &[u16],
     tally_count: &[i32],
+    tally_bag: &[u16],
+    tally_revision: &[u16],
 ) -> usize
     requires { ⌜ (grocers ≤ 255) × (8192 ≤ length (now out)) ⌝ }
-    ensures { λ r. ⌜ Put 0 (jobText (jobTables boxes grocers offers tallies (now (price .entry)) (now («offer_owner» .entry)) (now («grocer_owner» .entry))
-        (now («tally_grocer» .entry)) (now («tally_box» .entry)) (now («tally_offer» .entry)) (now («tally_count» .entry)))) (now (out .entry)) (now (out
-        .exit)) r ⌝ }
+    ensures { λ r. ⌜ Put 0 (jobText (bagTables boxes grocers offers tallies (now (price .entry)) (now («offer_owner» .entry)) (now («grocer_owner» .entry))
+        (now («tally_grocer» .entry)) (now («tally_box» .entry)) (now («tally_offer» .entry)) (now («tally_count» .entry)) (now («tally_bag» .entry))
+        (now («tally_revision» .entry)))) (now (out .entry)) (now (out .exit)) r ⌝ }
 {
     let mut known = [0u32; 8000];
     let mut price_transit = [0u32; 8000];
@@ -48,6 +50,8 @@ fn put_job(
         tally_box,
         tally_offer,
         tally_count,
+        tally_bag,
+        tally_revision,
         &mut known,
         &mut price_transit,
         &mut working,
@@ -76,6 +80,8 @@ pub fn settled(file: &[u8], out: &mut [u8; 8192]) -> usize
     let mut tally_code = [0u8; 11000];
     let mut tally_count = [0i32; 1000];
     let mut tally_issuer = [0u16; 1000];
+    let mut tally_bag = [0u16; 1000];
+    let mut tally_revision = [0u16; 1000];
     let mut tally_offer = [0u16; 1000];
     let a = reader::read(
         file,
@@ -89,6 +95,8 @@ pub fn settled(file: &[u8], out: &mut [u8; 8192]) -> usize
         &mut tally_code,
         &mut tally_count,
         &mut tally_issuer,
+        &mut tally_bag,
+        &mut tally_revision,
         &mut tally_offer,
     );
     match a {
@@ -111,6 +119,8 @@ pub fn settled(file: &[u8], out: &mut [u8; 8192]) -> usize
             &tally_box,
             &tally_offer,
             &tally_count,
+            &tally_bag,
+            &tally_revision,
         ),
         reader::Answer::Refused(n) => put_refused(out, n),
     }

@@ -13,6 +13,8 @@ use Rattle.rules.specs.Marks.{MarksIn, marked}
 use Rattle.apply.specs.Apply.{SentIn, sentMore, PriceStepOut, TotalStepOut}
 use Rattle.refuse.specs.Late.{Decided}
 use Rattle.step.specs.Lent.{PricesLent, TotalsLent}
+use Rattle.model.specs.Handed.{handedTables}
+use Rattle.model.proofs.Handed.{handed-moved}
 use Rattle.prices.proofs.Effect.{tables-eq}
 use Rattle.totals.proofs.Effect.{talliesOf}
 use Rattle.apply.proofs.Keys.{offers-keyed, grocers-keyed, tallies-keyed}
@@ -21,44 +23,48 @@ use Rattle.apply.proofs.Sides.{prices-few, totals-few}
 use Rattle.apply.proofs.Moved.{prices-moved, totals-moved}
 use Rattle.step.proofs.Zero.{accepted-by}
 
-module _ (f : JobTables) (t : StateTables) (q : Asked) {needs sharers : List ℕ} {r : ℕ} (d : Decided f t q needs sharers r) (z : r ≡ 0) where
-  facts : Given f t needs sharers q
-  facts = given f t needs sharers q (d .applies z)
+module _ (f : JobTables) (t : StateTables) (q : Asked) {needs sharers standing : List ℕ} {r : ℕ} (d : Decided f t q needs sharers standing r) (z : r ≡ 0) where
+  -- The tables with the boxes of the tallies that stand.
+  abbrev h : JobTables
+  h = handedTables f standing
+
+  facts : Given h t needs sharers q
+  facts = given h t needs sharers q (d .applies z)
 
   -- Marking, and counting the words sent where these are few.
   pub marking : (MarksIn (f .boxes) (q .kind) (q .first) (q .second) (t .done)) × (upTo 1 (6 * f .boxes * f .boxes) (t .done) ≡ true)
-  marking = (marks-in f t needs sharers q facts, facts .words-in .done)
+  marking = (marks-in h t needs sharers q facts, facts .words-in .done)
 
   pub counting : (more : ℕ) → more ≤ 500 → SentIn (t .sent) × (more ≤ 500)
-  counting more few = (sent-in f t needs sharers q facts, few)
+  counting more few = (sent-in h t needs sharers q facts, few)
 
   -- Kinds 1 to 3.
   module _ (k : q .kind ≤ 3) where
-    pub prices-lent : PricesLent (talliesOf f) (t .known) (t .priceTransit) (t .working) (q .kind) (q .first) (q .second)
+    pub prices-lent : PricesLent (talliesOf h) (t .known) (t .priceTransit) (t .working) (q .kind) (q .first) (q .second)
     prices-lent = record {
-      offers-keyed = offers-keyed f (d .applies z .job-in) (d .applies z .job-long);
-      tallies-keyed = tallies-keyed f (d .applies z .job-in) (d .applies z .job-long);
-      step-in = λ ol tl lo lt. price-step-in f t needs sharers q facts ol tl lo lt k;
+      offers-keyed = offers-keyed h (d .applies z .job-in) (d .applies z .job-long);
+      tallies-keyed = tallies-keyed h (d .applies z .job-in) (d .applies z .job-long);
+      step-in = λ ol tl lo lt. price-step-in h t needs sharers q facts ol tl lo lt k;
     }
 
     module _ {known transit : List ℕ} {working : List ℤ} {more : ℕ}
-        (o : PriceStepOut (talliesOf f) needs (t .known) (t .priceTransit) (t .working) (q .kind) (q .first) (q .second) known transit working more) where
+        (o : PriceStepOut (talliesOf h) needs (t .known) (t .priceTransit) (t .working) (q .kind) (q .first) (q .second) known transit working more) where
       pub few-prices : more ≤ 500
-      few-prices = omega (arith, o .sent-is, prices-few (talliesOf f) needs (q .kind) (q .first) (q .second), facts .tallies-in .offers-in)
+      few-prices = omega (arith, o .sent-is, prices-few (talliesOf h) needs (q .kind) (q .first) (q .second), facts .tallies-in .offers-in)
 
       pub prices-accepted : {done sent : List ℕ} → done ≡ marked (f .boxes) (kindOf (q .kind)) (q .first) (q .second) (t .done) → sent ≡ sentMore (t .sent) more →
           outcome accepted (stateTables known transit working (t .totalTransit) (t .statement) done sent) ≡ stepped f t q
       prices-accepted m s =
           ap (λ (u : StateTables). outcome accepted u)
-          (tables-eq _ _ (o .known-is) (o .transit-is) (o .working-is) refl refl m (s ∙ ap (sentMore (t .sent)) (o .sent-is)) ∙ sym (prices-moved f t needs sharers q facts k))
+          (tables-eq _ _ (o .known-is) (o .transit-is) (o .working-is) refl refl m (s ∙ ap (sentMore (t .sent)) (o .sent-is)) ∙ sym (prices-moved h t needs sharers q facts k) ∙ handed-moved f standing (d .standing-are z) t q)
           ∙ accepted-by f t q r (d .number-is) z
 
   -- Kinds 4 to 6.
   module _ (k : 4 ≤ q .kind) where
     pub totals-lent : TotalsLent (f .boxes) (f .grocers) (f .grocerOwner) (t .working) (t .totalTransit) (t .statement) (q .kind) (q .first) (q .second)
     totals-lent = record {
-      grocers-keyed = grocers-keyed f (d .applies z .job-in) (d .applies z .job-long);
-      step-in = λ links l. total-step-in f t needs sharers q facts links l k;
+      grocers-keyed = grocers-keyed h (d .applies z .job-in) (d .applies z .job-long);
+      step-in = λ links l. total-step-in h t needs sharers q facts links l k;
     }
 
     module _ {working transit statement : List ℤ} {more : ℕ}
@@ -70,5 +76,5 @@ module _ (f : JobTables) (t : StateTables) (q : Asked) {needs sharers : List ℕ
           outcome accepted (stateTables (t .known) (t .priceTransit) working transit statement done sent) ≡ stepped f t q
       totals-accepted m s =
           ap (λ (u : StateTables). outcome accepted u)
-          (tables-eq _ _ refl refl (o .working-is) (o .transit-is) (o .statement-is) m (s ∙ ap (sentMore (t .sent)) (o .sent-is)) ∙ sym (totals-moved f t needs sharers q facts k))
+          (tables-eq _ _ refl refl (o .working-is) (o .transit-is) (o .statement-is) m (s ∙ ap (sentMore (t .sent)) (o .sent-is)) ∙ sym (totals-moved h t needs sharers q facts k) ∙ handed-moved f standing (d .standing-are z) t q)
           ∙ accepted-by f t q r (d .number-is) z

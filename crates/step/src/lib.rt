@@ -1,6 +1,6 @@
 // The step: one request on the lent tables.
 ghost use mathlib.Core.Path.{_≡_};
-ghost use Rattle.model.specs.Lent.{jobLent, stateBefore, stateAfter};
+ghost use Rattle.model.specs.Lent.{bagLent, stateBefore, stateAfter};
 ghost use Rattle.model.specs.Step.{asked, outcome, stepped};
 ghost use Rattle.totals.specs.Row.{tallies};
 ghost use Rattle.apply.specs.Apply.{PriceStepOut, TotalStepOut};
@@ -15,12 +15,13 @@ pub enum Answer {
     Refused(u16),
 }
 
-// A step of kind 1, 2 or 3: offers are linked by owner and tallies by box, and the step is applied. The words sent.
+// A step of kind 1, 2 or 3: offers are linked by owner and tallies by the box that counts them, 16 for superseded ones, and the step is applied.
+// The words sent.
 fn move_prices(
     z: Sizes,
     offer_owner: &[u16],
     tally_grocer: &[u16],
-    tally_box: &[u16],
+    standing: &[u16; 1000],
     tally_offer: &[u16],
     tally_count: &[i32],
     needs: &[u16; 500],
@@ -29,22 +30,22 @@ fn move_prices(
     working: &mut [i64],
     x: Step,
 ) -> u32
-    requires { ⌜ PricesLent (tallies (z .boxes) (z .grocers) (z .offers) (z .tallies) (now «offer_owner») (now «tally_grocer») (now «tally_box»)
+    requires { ⌜ PricesLent (tallies (z .boxes) (z .grocers) (z .offers) (z .tallies) (now «offer_owner») (now «tally_grocer») (now standing)
         (now «tally_offer») (now «tally_count»)) (now known) (now «price_transit») (now working) (x .kind) (x .first) (x .second) ⌝ }
     ensures { λ r. ⌜ PriceStepOut (tallies (z .boxes) (z .grocers) (z .offers) (z .tallies) (now («offer_owner» .entry)) (now («tally_grocer» .entry))
-        (now («tally_box» .entry)) (now («tally_offer» .entry)) (now («tally_count» .entry))) (now (needs .entry)) (now (known .entry))
+        (now (standing .entry)) (now («tally_offer» .entry)) (now («tally_count» .entry))) (now (needs .entry)) (now (known .entry))
         (now («price_transit» .entry)) (now (working .entry)) (x .kind) (x .first) (x .second)
         (now (known .exit)) (now («price_transit» .exit)) (now (working .exit)) r ⌝ }
 {
     let mut offer_links = [0u16; 517];
     let mut tally_links = [0u16; 1017];
     links::link(z.offers as usize, offer_owner, &mut offer_links);
-    links::link(z.tallies as usize, tally_box, &mut tally_links);
+    links::link(z.tallies as usize, standing, &mut tally_links);
     apply::price_step(
         z,
         offer_owner,
         tally_grocer,
-        tally_box,
+        standing,
         tally_offer,
         tally_count,
         needs,
@@ -101,6 +102,8 @@ pub fn step(
     tally_box: &[u16],
     tally_offer: &[u16],
     tally_count: &[i32],
+    tally_bag: &[u16],
+    tally_revision: &[u16],
     known: &mut [u32],
     price_transit: &mut [u32],
     working: &mut [i64],
@@ -113,7 +116,8 @@ pub fn step(
     second: u16,
 ) -> Answer
     ensures { λ r. ⌜ outcome (answerOf r) (stateAfter known «price_transit» working «total_transit» statement done sent) ≡ stepped
-        (jobLent boxes grocers offers tallies price «offer_owner» «grocer_owner» «tally_grocer» «tally_box» «tally_offer» «tally_count»)
+        (bagLent boxes grocers offers tallies price «offer_owner» «grocer_owner» «tally_grocer» «tally_box» «tally_offer» «tally_count»
+        «tally_bag» «tally_revision»)
         (stateBefore known «price_transit» working «total_transit» statement done sent) (asked kind first second) ⌝ }
 {
     let z = Sizes {
@@ -129,6 +133,7 @@ pub fn step(
     };
     let mut needs = [0u16; 500];
     let mut sharers = [0u16; 255];
+    let mut standing = [0u16; 1000];
     let r = refuse::refusal(
         z,
         price,
@@ -138,6 +143,8 @@ pub fn step(
         tally_box,
         tally_offer,
         tally_count,
+        tally_bag,
+        tally_revision,
         known,
         price_transit,
         working,
@@ -147,6 +154,7 @@ pub fn step(
         sent,
         &mut needs,
         &mut sharers,
+        &mut standing,
         x,
     );
     if r != 0 {
@@ -158,7 +166,7 @@ pub fn step(
             z,
             offer_owner,
             tally_grocer,
-            tally_box,
+            &standing,
             tally_offer,
             tally_count,
             &needs,

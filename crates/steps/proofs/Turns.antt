@@ -17,7 +17,7 @@ use Rattle.laws.proofs.Tables.{word-in, getD-overwrite, long-overwrite, length-
 use Rattle.model.specs.Job.{Job, needWord, sharerWord}
 use Rattle.model.specs.Steps.{kindOf, Steps, Step, State, stepAt, permitted, fresh, effect, effectOf}
 use Rattle.model.specs.Tables.{JobTables, jobOf, StateTables, view, store, jobLengths, jobShort}
-use Rattle.model.specs.Ranges.{jobInRange}
+use Rattle.model.specs.Handed.{Handed}
 use Rattle.model.specs.Step.{Asked, asked, isKind, moved, freshTables}
 use Rattle.model.specs.Words.{over, messagesOf}
 use Rattle.model.specs.Run.{afterSteps}
@@ -75,7 +75,7 @@ unfolding store
 sent-there j s t = long-overwrite 1 (λ i. s .sent) (t .sent)
 
 -- A step of the state s, whose tables are written over t.
-module _ (f : JobTables) (ok : jobInRange f ≡ true) (long : jobShort f (jobLengths f) ≡ false) (t : StateTables) (needs sharers : List ℕ)
+module _ (f : JobTables) (ok : Handed f) (long : jobShort f (jobLengths f) ≡ false) (t : StateTables) (needs sharers : List ℕ)
     (en : needs ≡ tabulate 500 (needWord (jobOf f))) (es : sharers ≡ tabulate 255 (sharerWord (jobOf f)))
     (s : State) (o : Sound (jobOf f) s) (kind a b : ℕ) (k : isKind kind ≡ true) (p : permitted (jobOf f) (s .done) (kindOf kind) a b ≡ true) where
   -- The tables that hold it, and what is asked.
@@ -178,11 +178,11 @@ module _ (f : JobTables) (t : StateTables) (needs sharers order : List ℕ) (n :
   prices-fresh =
       let l = job-long f (jobLengths f) (g .job-long) in
       record {
-        boxes≤ = range f (g .job-in) .boxes≤;
-        offers≤ = limits f (g .job-in) .offers≤;
+        boxes≤ = range f (g .job-in .inside) .boxes≤;
+        offers≤ = limits f (g .job-in .inside) .offers≤;
         priceLong = l .price;
         ownerLong = l .offerOwner;
-        owner< = λ o h. rw (word-in (f .offers) (f .offerOwner) 0 o h) at (range f (g .job-in) .owner< o h);
+        owner< = λ o h. rw (word-in (f .offers) (f .offerOwner) 0 o h) at (range f (g .job-in .inside) .owner< o h);
         knownLong = g .known-long;
         transitLong = g .transit-long;
       }
@@ -190,8 +190,8 @@ module _ (f : JobTables) (t : StateTables) (needs sharers order : List ℕ) (n :
   pub totals-fresh : FreshTotals (f .boxes) (f .grocers) (t .working) (t .totalTransit) (t .statement)
   unfolding jobOf
   totals-fresh = record {
-    boxes≤ = range f (g .job-in) .boxes≤;
-    grocers≤ = limits f (g .job-in) .grocers≤;
+    boxes≤ = range f (g .job-in .inside) .boxes≤;
+    grocers≤ = limits f (g .job-in .inside) .grocers≤;
     workingLong = g .working-long;
     transitLong = g .totals-long;
     statementLong = g .statement-long;
@@ -200,7 +200,7 @@ module _ (f : JobTables) (t : StateTables) (needs sharers order : List ℕ) (n :
   -- The word of turn i is a place.
   pub turn-place : (i : ℕ) → i < n → (1 ≤ f .boxes) × (f .boxes ≤ 16) × (getD order i 0 < 6 * f .boxes * f .boxes)
   unfolding jobOf
-  turn-place i l = (some-box f (g .job-in), range f (g .job-in) .boxes≤, under-at (6 * f .boxes * f .boxes) n order i (g .does .places-in) l)
+  turn-place i l = (some-box f (g .job-in), range f (g .job-in .inside) .boxes≤, under-at (6 * f .boxes * f .boxes) n order i (g .does .places-in) l)
 
   module _ (i : ℕ) (l : i < n) (o : Sound job (afterOrder job i order)) (kind a b : ℕ)
       (ek : kind ≡ suc (getD order i 0 / f .boxes / f .boxes)) (ea : a ≡ getD order i 0 / f .boxes % f .boxes) (eb : b ≡ getD order i 0 % f .boxes) where
@@ -248,7 +248,7 @@ module _ (f : JobTables) (t : StateTables) (needs sharers order : List ℕ) (n :
         ∙ ap (effectOf job s) step-is)
 
     pub turn-sound : Sound job (afterOrder job (i + 1) order)
-    turn-sound = rw next-is at (sound-effect job (range f (g .job-in)) s (kindOf kind) a b o (permit job (s .done) (kindOf kind) a b turn-permitted))
+    turn-sound = rw next-is at (sound-effect job (range f (g .job-in .inside)) s (kindOf kind) a b o (permit job (s .done) (kindOf kind) a b turn-permitted))
 
     module _ (t₁ : StateTables) (words messages : ℕ) (r : AllOut job t t₁ order i words messages) where
       pub turn-in : (olinks glinks tlinks : List ℕ) → Linked (f .offers) (f .offerOwner) olinks → Linked (f .grocers) (f .grocerOwner) glinks → Linked (f .tallies) (f .tallyBox) tlinks →
@@ -277,7 +277,7 @@ module _ (f : JobTables) (t : StateTables) (needs sharers order : List ℕ) (n :
 
         -- The counts are small,
         pub words-few : words + more ≤ 1_000_000
-        words-few = omega (arith, words-next, within f (g .job-in) (g .job-long) t (afterOrder job (i + 1) order) turn-sound .sent≤)
+        words-few = omega (arith, words-next, within f (g .job-in .inside) t (afterOrder job (i + 1) order) turn-sound .sent≤)
 
         pub messages-few : messages ≤ 1536
         unfolding jobOf
@@ -322,7 +322,7 @@ module _ (f : JobTables) (t t₁ : StateTables) where
       t₁ .priceTransit ≡ overwrite (f .boxes * f .offers) (λ i. 0) (t .priceTransit) → t₁ .working ≡ overwrite (f .boxes * f .grocers) (λ i. pos 0) (t .working) →
       t₁ .totalTransit ≡ overwrite (f .boxes * f .grocers) (λ i. pos 0) (t .totalTransit) → t₁ .statement ≡ overwrite (f .grocers) (λ i. pos 0) (t .statement) →
       Holds (jobOf f) (fresh (jobOf f)) t t₁
-  unfolding freshTables
+  unfolding freshTables store fresh jobOf
   fresh-holds ek ep ew et es =
       let e = fresh-is (f .boxes) (f .grocers) (f .offers) (f .price) (f .offerOwner) t (f .tallies) (f .grocerOwner) (f .tallyGrocer) (f .tallyBox) (f .tallyOffer) (f .tallyCount) in
       record {

@@ -11,7 +11,8 @@ use Rattle.laws.proofs.Bools.{and-true, and-l, and-r}
 use Rattle.model.specs.Job.{Job, needWord, sharerWord}
 use Rattle.model.specs.Steps.{kindOf, Steps, State, fits, ready, permitted}
 use Rattle.model.specs.Tables.{JobTables, jobOf, StateTables, view, store, jobLengths, jobShort, stateLengths, stateShort}
-use Rattle.model.specs.Ranges.{sizesInRange, jobWordsInRange, jobInRange, stateInRange}
+use Rattle.model.specs.Ranges.{sizesInRange, stateInRange}
+use Rattle.model.specs.Handed.{handedInRange, Handed}
 use Rattle.model.specs.Step.{asked, isKind, boxesFit, stepRules}
 use Rattle.apply.specs.Apply.{Applies}
 use Rattle.model.specs.Boxes.{Sound}
@@ -22,15 +23,15 @@ use Rattle.model.proofs.Served.{within, view-is}
 
 -- The job's tables are whole and in range, and the state's hold a state that a list of steps can leave.
 pub record OnWay (f : JobTables) (t : StateTables) : Type 0 where
-  pub job-in : jobInRange f ≡ true
+  pub job-in : Handed f
   pub job-long : jobShort f (jobLengths f) ≡ false
   pub held : t ≡ store (jobOf f) (view (jobOf f) t) t
   pub sound : Sound (jobOf f) (view (jobOf f) t)
 
 -- A state that a list can leave, written into tables.
-module _ (f : JobTables) (ok : jobInRange f ≡ true) (long : jobShort f (jobLengths f) ≡ false) (t t′ : StateTables) (s : State) (o : Sound (jobOf f) s) (e : t′ ≡ store (jobOf f) s t) where
+module _ (f : JobTables) (ok : Handed f) (long : jobShort f (jobLengths f) ≡ false) (t t′ : StateTables) (s : State) (o : Sound (jobOf f) s) (e : t′ ≡ store (jobOf f) s t) where
   pub stored-view : view (jobOf f) t′ ≡ s
-  stored-view = ap (view (jobOf f)) e ∙ view-is f ok long t s o
+  stored-view = ap (view (jobOf f)) e ∙ view-is f (ok .inside) t s o
 
   pub stored-way : OnWay f t′
   stored-way = record {
@@ -57,7 +58,7 @@ module _ (f : JobTables) (t : StateTables) (o : OnWay f t) where
   way-whole = ap (λ (u : StateTables). stateShort f (stateLengths u)) (o .held) ∙ whole-store f (view (jobOf f) t) t
 
   pub way-range : stateInRange f t ≡ true
-  way-range = ap (stateInRange f) (o .held) ∙ ok-store f (view (jobOf f) t) t (within f (o .job-in) (o .job-long) t (view (jobOf f) t) (o .sound))
+  way-range = ap (stateInRange f) (o .held) ∙ ok-store f (view (jobOf f) t) t (within f (o .job-in .inside) t (view (jobOf f) t) (o .sound))
 
   -- A permitted step, asked for by its number.
   module _ (kind a b : ℕ) (k : isKind kind ≡ true) (p : permitted (jobOf f) (view (jobOf f) t .done) (kindOf kind) a b ≡ true) where
@@ -74,6 +75,6 @@ module _ (f : JobTables) (t : StateTables) (o : OnWay f t) where
     }
 
 -- A job in range has boxes.
-pub some-box : (f : JobTables) → jobInRange f ≡ true → 1 ≤ f .boxes
-unfolding jobInRange sizesInRange
-some-box f ok = leb-true 1 (f .boxes) (let h = and-l (sizesInRange f) (jobWordsInRange f) ok in search (and-l, and-r) depth 12)
+pub some-box : (f : JobTables) → Handed f → 1 ≤ f .boxes
+unfolding handedInRange sizesInRange
+some-box f ok = leb-true 1 (f .boxes) (let h = and-l (sizesInRange f) _ (ok .inside) in search (and-l, and-r) depth 12)

@@ -10,7 +10,8 @@ use Rattle.model.specs.Job.{Job, needWord, sharerWord}
 use Rattle.model.specs.Steps.{State, fresh}
 use Rattle.model.specs.Words.{over, messagesOf}
 use Rattle.model.specs.Tables.{JobTables, jobOf, StateTables, stateTables, store, jobLengths, jobShort}
-use Rattle.model.specs.Ranges.{jobInRange, under}
+use Rattle.model.specs.Ranges.{under}
+use Rattle.model.specs.Handed.{Handed}
 use Rattle.model.specs.Run.{afterSteps}
 use Rattle.totals.specs.Row.{Tallies}
 use Rattle.apply.specs.Apply.{PriceStepIn, PriceStepOut, TotalStepIn, TotalStepOut}
@@ -41,7 +42,7 @@ pub record Does (j : Job) (n : ℕ) (order : List ℕ) : Type 0 where
 
 -- What doing all steps of an order requires: a run may begin, need words and sharer words are the job's, and the order is one of its steps.
 pub record AllIn (f : JobTables) (t : StateTables) (needs sharers order : List ℕ) (n : ℕ) : Type 0 where
-  pub job-in : jobInRange f ≡ true
+  pub job-in : Handed f
   pub job-long : jobShort f (jobLengths f) ≡ false
   pub known-long : f .boxes * f .offers ≤ length (t .known)
   pub transit-long : f .boxes * f .offers ≤ length (t .priceTransit)

@@ -1,7 +1,7 @@
 -- The words that one pass over the tallies makes are the need words and the sharer words. Assumes nothing.
 use mathlib.Core.Path.{_≡_, sym, ap, _∙_}
 use mathlib.Core.Bool.{true, false, _&&_, _||_}
-use mathlib.Core.List.{List}
+use mathlib.Core.List.{List, []}
 use Prim.Native.Nat.{ℕ, _+_, _^_, _<_, _≤_}
 use native.Mathlib.Omega.{arith}
 use lib.ListN.{getD, length}
@@ -17,6 +17,7 @@ use Rattle.laws.proofs.Masks.{mask-cong, mask-none, mask-or}
 use Rattle.laws.proofs.Tables.{word-in, tabulate-cong}
 use Rattle.model.specs.Job.{heldBy, needs, shares, needWord, sharerWord}
 use Rattle.model.specs.Tables.{JobTables, jobOf}
+use Rattle.model.proofs.Handed.{bare-stands}
 use Rattle.tables.specs.Masks.{marked, holds, holderWord}
 
 -- The box of a tally is b, and b is below k.
@@ -70,12 +71,12 @@ module _ (k : ℕ) (boxes places masks : List ℕ) (t : ℕ) (k≤ : k ≤ 16) (
       (λ e. rw e (h p l ∙ stays p (λ i. rw (held-out k b i e))))
 
 -- The words by the tables of a job.
-module _ (f : JobTables) where
+module _ (f : JobTables) (bare : f .tallyBag ≡ []) where
   -- A tally read by the job is read in its tables.
   held-word : (places : List ℕ) (p b t : ℕ) → t < f .tallies →
       ((eqb (getD (f .tallyBox) t 0) b && ltb b (f .boxes)) && eqb (getD places t 0) p) ≡ (heldBy (jobOf f) t b && eqb (word (f .tallies) places 0 t) p)
   unfolding heldBy jobOf
-  held-word places p b t l = rw (word-in (f .tallies) (f .tallyBox) 0 t l, word-in (f .tallies) places 0 t l)
+  held-word places p b t l = rw (bare-stands f bare t, word-in (f .tallies) (f .tallyBox) 0 t l, word-in (f .tallies) places 0 t l)
 
   pub need-holds : (o b : ℕ) → holds (f .boxes) (f .tallies) (f .tallyBox) (f .tallyOffer) o b ≡ needs (jobOf f) o b
   unfolding holds needs jobOf

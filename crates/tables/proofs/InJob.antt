@@ -13,7 +13,7 @@ use Rattle.laws.proofs.Masks.{bit-mask}
 use Rattle.laws.proofs.Tables.{length-tabulate, getD-tabulate, word-in}
 use Rattle.model.specs.Job.{priceWord, totalWord}
 use Rattle.model.specs.Tables.{JobTables, jobOf}
-use Rattle.model.specs.Ranges.{jobInRange}
+use Rattle.model.specs.Handed.{Handed}
 use Rattle.model.specs.Local.{priceTable, totalTable}
 use Rattle.model.proofs.Step.{range, limits}
 use Rattle.tables.specs.Masks.{holds, holderWord, Placed, Owned}
@@ -23,39 +23,39 @@ use Rattle.tables.proofs.Whole.{JobWhole}
 use Rattle.tables.proofs.Holders.{need-holds, share-holds}
 
 -- Tables that are whole and in range are what the functions ask for.
-module _ (f : JobTables) (ok : jobInRange f ≡ true) (w : JobWhole f) where
+module _ (f : JobTables) (ok : Handed f) (w : JobWhole f) where
   pub placed-offers : Placed (f .boxes) (f .tallies) 500 (f .tallyBox) (f .tallyOffer)
   unfolding jobOf
   placed-offers = record {
-    boxes≤ = range f ok .boxes≤;
+    boxes≤ = range f (ok .inside) .boxes≤;
     boxLong = w .tallyBox;
     placeLong = w .tallyOffer;
-    place< = λ t l. omega (arith, rw (word-in (f .tallies) (f .tallyOffer) 0 t l) at (range f ok .offer< t l), limits f ok .offers≤);
+    place< = λ t l. omega (arith, rw (word-in (f .tallies) (f .tallyOffer) 0 t l) at (range f (ok .inside) .offer< t l), limits f (ok .inside) .offers≤);
   }
 
   pub placed-grocers : Placed (f .boxes) (f .tallies) 255 (f .tallyBox) (f .tallyGrocer)
   unfolding jobOf
   placed-grocers = record {
-    boxes≤ = range f ok .boxes≤;
+    boxes≤ = range f (ok .inside) .boxes≤;
     boxLong = w .tallyBox;
     placeLong = w .tallyGrocer;
-    place< = λ t l. omega (arith, rw (word-in (f .tallies) (f .tallyGrocer) 0 t l) at (range f ok .grocer< t l), limits f ok .grocers≤);
+    place< = λ t l. omega (arith, rw (word-in (f .tallies) (f .tallyGrocer) 0 t l) at (range f (ok .inside) .grocer< t l), limits f (ok .inside) .grocers≤);
   }
 
   pub owned-offers : (masks : List ℕ) (g : ℕ → ℕ) → masks ≡ tabulate 500 g → Owned (f .offers) (f .offerOwner) masks
   unfolding jobOf
   owned-offers masks g e = record {
     ownerLong = w .offerOwner;
-    maskLong = rw (e, length-tabulate 500 g) (limits f ok .offers≤);
-    owner< = λ o l. omega (arith, rw (word-in (f .offers) (f .offerOwner) 0 o l) at (range f ok .owner< o l), range f ok .boxes≤);
+    maskLong = rw (e, length-tabulate 500 g) (limits f (ok .inside) .offers≤);
+    owner< = λ o l. omega (arith, rw (word-in (f .offers) (f .offerOwner) 0 o l) at (range f (ok .inside) .owner< o l), range f (ok .inside) .boxes≤);
   }
 
   pub owned-grocers : (masks : List ℕ) (g : ℕ → ℕ) → masks ≡ tabulate 255 g → Owned (f .grocers) (f .grocerOwner) masks
   unfolding jobOf
   owned-grocers masks h e = record {
     ownerLong = w .grocerOwner;
-    maskLong = rw (e, length-tabulate 255 h) (limits f ok .grocers≤);
-    owner< = λ g l. omega (arith, rw (word-in (f .grocers) (f .grocerOwner) 0 g l) at (range f ok .grocerOwner< g l), range f ok .boxes≤);
+    maskLong = rw (e, length-tabulate 255 h) (limits f (ok .inside) .grocers≤);
+    owner< = λ g l. omega (arith, rw (word-in (f .grocers) (f .grocerOwner) 0 g l) at (range f (ok .inside) .grocerOwner< g l), range f (ok .inside) .boxes≤);
   }
 
 -- A table of messages by the owners and the masks of p is that of p.
@@ -68,25 +68,25 @@ module _ (back : Bool) (n size : ℕ) (owners : List ℕ) (p : ℕ → ℕ → B
       ap (λ (t : Bool). eqb (getD owners i 0) (cond back b a) && (not (eqb (getD owners i 0) (cond back a b)) && t))
       (ap (bit (cond back a b)) (getD-tabulate size (λ k. maskOf 16 (p k)) i 0 (omega arith)) ∙ bit-mask 16 (cond back a b) (p i) l)
 
-module _ (f : JobTables) (ok : jobInRange f ≡ true) where
+module _ (f : JobTables) (ok : Handed f) where
   pub offers-room : f .offers ≤ 500
   unfolding jobOf
-  offers-room = limits f ok .offers≤
+  offers-room = limits f (ok .inside) .offers≤
 
   pub grocers-room : f .grocers ≤ 255
   unfolding jobOf
-  grocers-room = limits f ok .grocers≤
+  grocers-room = limits f (ok .inside) .grocers≤
 
   -- The table of prices from the need words is the job's.
   pub price-sent : sentTable false (f .offers) (f .offerOwner) (tabulate 500 (holderWord (f .boxes) (f .tallies) (f .tallyBox) (f .tallyOffer))) ≡ priceTable (jobOf f)
   unfolding sentTable holderWord priceTable priceWord jobOf
   price-sent = rows-cong 16 16 _ _ (λ a b la lb. count-cong (f .offers) _ _ (λ o l.
       sent-cell false (f .offers) 500 (f .offerOwner) (holds (f .boxes) (f .tallies) (f .tallyBox) (f .tallyOffer)) offers-room a b o lb l
-      ∙ ap₂ (λ (x : ℕ) (t : Bool). eqb x a && (not (eqb x b) && t)) (sym (word-in (f .offers) (f .offerOwner) 0 o l)) (need-holds f o b)))
+      ∙ ap₂ (λ (x : ℕ) (t : Bool). eqb x a && (not (eqb x b) && t)) (sym (word-in (f .offers) (f .offerOwner) 0 o l)) (need-holds f (ok .bare) o b)))
 
   -- The table of totals from the sharer words is the job's.
   pub total-sent : sentTable true (f .grocers) (f .grocerOwner) (tabulate 255 (holderWord (f .boxes) (f .tallies) (f .tallyBox) (f .tallyGrocer))) ≡ totalTable (jobOf f)
   unfolding sentTable holderWord totalTable totalWord jobOf
   total-sent = rows-cong 16 16 _ _ (λ a b la lb. count-cong (f .grocers) _ _ (λ g l.
       sent-cell true (f .grocers) 255 (f .grocerOwner) (holds (f .boxes) (f .tallies) (f .tallyBox) (f .tallyGrocer)) grocers-room a b g la l
-      ∙ ap₂ (λ (x : ℕ) (t : Bool). eqb x b && (not (eqb x a) && t)) (sym (word-in (f .grocers) (f .grocerOwner) 0 g l)) (share-holds f g a)))
+      ∙ ap₂ (λ (x : ℕ) (t : Bool). eqb x b && (not (eqb x a) && t)) (sym (word-in (f .grocers) (f .grocerOwner) 0 g l)) (share-holds f (ok .bare) g a)))

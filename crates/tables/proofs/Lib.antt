@@ -7,3 +7,4 @@ pub mod Holders
 pub mod Sending
 pub mod InJob
 pub mod MessageLaws
+pub mod Standing

@@ -1,11 +1,16 @@
-// Conditions 20 and 21 on the tables of a job and of a state.
+// Conditions 20 and 21 on the tables of a job and of a state, and 9 on those of a job.
 ghost use mathlib.Core.Path.{_≡_};
-ghost use mathlib.Core.Bool.{false};
+ghost use mathlib.Core.Bool.{false, _||_};
 ghost use mathlib.Core.List.{[]};
-ghost use Prim.Native.Nat.{ℕ, _*_};
+ghost use Prim.Native.Nat.{ℕ, _*_, _≤_};
+ghost use lib.Dec.{ltb};
+ghost use lib.ListN.{length};
+ghost use Rattle.laws.specs.Checks.{firstMet};
 ghost use Rattle.model.specs.Tables.{jobTables, jobLengths, jobShort, stateTables, stateLengths, stateShort};
-ghost use Rattle.model.specs.Lent.{jobLent, stateBefore};
+ghost use Rattle.model.specs.Lent.{jobLent, bagLent, stateBefore};
 ghost use Rattle.model.specs.Ranges.{sizesInRange, jobInRange, stateInRange};
+ghost use Rattle.model.specs.Handed.{Standing};
+ghost use Rattle.model.specs.Local.{jobRefusals};
 ghost use Rattle.tables.specs.Sizes.{sizes};
 use crate::limits::MAX_BOXES;
 use crate::limits::MAX_GROCERS;
@@ -17,6 +22,7 @@ use crate::ranges::around32;
 use crate::ranges::around64;
 use crate::ranges::under16;
 use crate::ranges::upto32;
+use bags::standing_boxes;
 
 // The words of a table of a rows and b columns.
 pub fn words(a: u16, b: u16) -> usize
@@ -59,6 +65,14 @@ pub fn job_short(
         | (tally_box.len() < t)
         | (tally_offer.len() < t)
         | (tally_count.len() < t)
+}
+
+// 20: whether the bags or the revisions are fewer than T as given.
+pub fn bags_short(tallies: u16, tally_bag: &[u16], tally_revision: &[u16]) -> bool
+    ensures { λ r. ⌜ r ≡ (ltb (length (now («tally_bag» .entry))) tallies || ltb (length (now («tally_revision» .entry))) tallies) ⌝ }
+{
+    let t = tallies as usize;
+    (tally_bag.len() < t) | (tally_revision.len() < t)
 }
 
 // 20: whether a table of the state is shorter than K, M and N as given need.
@@ -163,4 +177,73 @@ pub fn state_in_range(
         & around64(statement, grocers as usize)
         & under16(done, kk, 2)
         & upto32(sent, 1, MAX_SENT)
+}
+
+// The number of the first condition that the job's tables meet, 20, 21 or 9, or 0; where it is 0, `standing` has the box of
+// each tally that stands, and 16 for the others.
+pub fn job_refusal(
+    boxes: u16,
+    grocers: u16,
+    offers: u16,
+    tallies: u16,
+    price: &[u32],
+    offer_owner: &[u16],
+    grocer_owner: &[u16],
+    tally_grocer: &[u16],
+    tally_box: &[u16],
+    tally_offer: &[u16],
+    tally_count: &[i32],
+    tally_bag: &[u16],
+    tally_revision: &[u16],
+    standing: &mut [u16],
+) -> u16
+    requires { ⌜ 1000 ≤ length (now standing) ⌝ }
+    ensures { λ r. ⌜ r ≡ firstMet (jobRefusals (bagLent boxes grocers offers tallies price «offer_owner» «grocer_owner»
+        «tally_grocer» «tally_box» «tally_offer» «tally_count» «tally_bag» «tally_revision»)) ⌝ }
+    ensures { λ r. ⌜ (r ≡ 0 → Standing (bagLent boxes grocers offers tallies price «offer_owner» «grocer_owner»
+        «tally_grocer» «tally_box» «tally_offer» «tally_count» «tally_bag» «tally_revision») (now (standing .exit))) ⌝ }
+{
+    let bags_lent_short = bags_short(tallies, tally_bag, tally_revision);
+    let job_lent_short = job_short(
+        grocers,
+        offers,
+        tallies,
+        price,
+        offer_owner,
+        grocer_owner,
+        tally_grocer,
+        tally_box,
+        tally_offer,
+        tally_count,
+    );
+    if job_lent_short | bags_lent_short {
+        return 20;
+    }
+    if !job_in_range(
+        boxes,
+        grocers,
+        offers,
+        tallies,
+        price,
+        offer_owner,
+        grocer_owner,
+        tally_grocer,
+        tally_box,
+        tally_offer,
+        tally_count,
+    ) {
+        return 21;
+    }
+    if standing_boxes(
+        tallies as usize,
+        tally_grocer,
+        tally_box,
+        tally_offer,
+        tally_bag,
+        tally_revision,
+        standing,
+    ) {
+        return 9;
+    }
+    0
 }

@@ -1,7 +1,7 @@
 -- The lists that the calls leave are the model's: the tables with the effect of steps 2 to 6 written into them. Assumes nothing.
 use mathlib.Core.Path.{_≡_, refl, sym, ap, _∙_}
 use mathlib.Core.Bool.{Bool, true, false, cond, _&&_}
-use mathlib.Core.List.{List}
+use mathlib.Core.List.{List, []}
 use Prim.Native.Nat.{ℕ, _+_, _<_, _≤_}
 use native.Mathlib.Omega.{arith}
 use lib.Dec.{eqb, ltb}
@@ -21,6 +21,7 @@ use Rattle.words.specs.Message.{wordIn}
 use Rattle.totals.specs.Row.{Tallies, tallies, TalliesIn, putRow, product, productSum, productRow}
 use Rattle.totals.specs.Credit.{cleared, sentTotals, credited, creditWord, creditAll}
 use Rattle.model.proofs.Parts.{needs-at}
+use Rattle.model.proofs.Handed.{bare-stands}
 use Rattle.words.proofs.Message.{total-word}
 use Rattle.totals.proofs.Credits.{credited-own, credited-other}
 use Rattle.model.proofs.Step.{under-at}
@@ -37,7 +38,7 @@ only-same false l g p o x y el eo ex = refl
 only-same true l false p o x y el eo ex = rw el
 only-same true l true p o x y el eo ex = rw (el, ← (eo refl)) (split p (λ e. rw e (ex e)) (λ e. rw e))
 
-module _ (f : JobTables) (h : TalliesIn (talliesOf f)) (a : ℕ) (la : a < f .boxes) where
+module _ (f : JobTables) (bare : f .tallyBag ≡ []) (h : TalliesIn (talliesOf f)) (a : ℕ) (la : a < f .boxes) where
   module _ (prices : List ℕ) (from : ℕ) (know : ℕ → ℕ) (p : ℕ → Bool)
       (same : (i : ℕ) → i < f .tallies → heldBy (jobOf f) i a ≡ true → p (getD (f .tallyOffer) i 0) ≡ eqb (getD (f .offerOwner) (getD (f .tallyOffer) i 0) 0) from)
       (known : (o : ℕ) → p o ≡ true → know o ≡ cell (f .boxes) (f .offers) prices 0 a o) where
@@ -47,6 +48,7 @@ module _ (f : JobTables) (h : TalliesIn (talliesOf f)) (a : ℕ) (la : a < f .bo
     products-are g =
         sum-cong integers (f .tallies) _ _ (λ i l.
         rw (
+          bare-stands f bare i,
           word-in (f .tallies) (f .tallyBox) 0 i l,
           word-in (f .tallies) (f .tallyGrocer) 0 i l,
           word-in (f .tallies) (f .tallyOffer) 0 i l,
@@ -54,7 +56,7 @@ module _ (f : JobTables) (h : TalliesIn (talliesOf f)) (a : ℕ) (la : a < f .bo
         )
         (only-same (eqb (getD (f .tallyBox) i 0) a) (ltb a (f .boxes)) (eqb (getD (f .tallyGrocer) i 0) g) (p (getD (f .tallyOffer) i 0)) (eqb (getD (f .offerOwner) (getD (f .tallyOffer) i 0) 0) from) _ _
         (lt-ltb a (f .boxes) la)
-        (λ e. same i l (rw (word-in (f .tallies) (f .tallyBox) 0 i l, e, lt-ltb a (f .boxes) la)))
+        (λ e. same i l (rw (bare-stands f bare i, word-in (f .tallies) (f .tallyBox) 0 i l, e, lt-ltb a (f .boxes) la)))
         (λ e. ap (λ (x : ℕ). getD (f .tallyCount) i (pos 0) *ℤ pos x) (known (getD (f .tallyOffer) i 0) e))))
 
     -- The row of products put in its place is the model's table.

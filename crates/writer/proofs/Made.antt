@@ -10,7 +10,7 @@ use Rattle.format.specs.Job.{headOf}
 use Rattle.format.specs.Blocks.{headerBytes}
 use Rattle.format.specs.File.{blockByte}
 use Rattle.writer.specs.Puts.{put, bytesOf, rowsOf, bodyOf, keepOf, recordBody}
-use Rattle.writer.proofs.Puts.{put-next, store-put, store-next}
+use Rattle.writer.proofs.Puts.{put-cong, put-next, store-put, store-next}
 use Rattle.writer.proofs.Blocks.{block-made, body-head, body-row, body-rest}
 
 -- Two bytes in a list, behind others.
@@ -40,6 +40,15 @@ sizes-put k m n t c d d₂ d₃ d₄ d₅ room e₂ e₃ e₄ e₅ =
     let q₃ : d₃ ≡ put 4 6 f d = e₃ ∙ ap (put 8 2 (bytesOf (bytes16 n))) q₂ ∙ put-next 4 4 f d 2 (bytesOf (bytes16 n)) (omega arith) (two (n % 256) (n / 256) (k ∷ 1 ∷ bytes16 m) (bytes16 t ++ bytes16 c)) in
     let q₄ : d₄ ≡ put 4 8 f d = e₄ ∙ ap (put 10 2 (bytesOf (bytes16 t))) q₃ ∙ put-next 4 6 f d 2 (bytesOf (bytes16 t)) (omega arith) (two (t % 256) (t / 256) (k ∷ 1 ∷ bytes16 m ++ bytes16 n) (bytes16 c)) in
     e₅ ∙ ap (put 12 2 (bytesOf (bytes16 c))) q₄ ∙ put-next 4 8 f d 2 (bytesOf (bytes16 c)) (omega arith) (two (c % 256) (c / 256) (k ∷ 1 ∷ bytes16 m ++ bytes16 n ++ bytes16 t) [])
+
+-- Issuer, bag and revision are a tally's last six bytes.
+pub ends-put : (s a r at : ℕ) (d d₁ d₂ d₃ : List ℕ) → at + 6 ≤ length d → d₁ ≡ put at 2 (bytesOf (bytes16 s)) d → d₂ ≡ put (at + 2) 2 (bytesOf (bytes16 a)) d₁ →
+    d₃ ≡ put (at + 4) 2 (bytesOf (bytes16 r)) d₂ → d₃ ≡ put at 6 (bytesOf (bytes16 s ++ bytes16 a ++ bytes16 r)) d
+ends-put s a r at d d₁ d₂ d₃ room e₁ e₂ e₃ =
+    let f = bytesOf (bytes16 s ++ bytes16 a ++ bytes16 r) in
+    let q₁ : d₁ ≡ put at 2 f d = e₁ ∙ put-cong at 2 (bytesOf (bytes16 s)) f d (λ k h. sym (List·getD-append (bytes16 s) (bytes16 a ++ bytes16 r) 0 k h)) in
+    let q₂ : d₂ ≡ put at 4 f d = e₂ ∙ ap (put (at + 2) 2 (bytesOf (bytes16 a))) q₁ ∙ put-next at 2 f d 2 (bytesOf (bytes16 a)) (omega arith) (two (a % 256) (a / 256) (bytes16 s) (bytes16 r)) in
+    e₃ ∙ ap (put (at + 4) 2 (bytesOf (bytes16 r))) q₂ ∙ put-next at 4 f d 2 (bytesOf (bytes16 r)) (omega arith) (two (r % 256) (r / 256) (bytes16 s ++ bytes16 a) [])
 
 -- The header, of ten bytes x.
 pub header-made : (x : List ℕ) (d d₁ d₂ d₃ : List ℕ) → length x ≡ 10 → 512 ≤ length d → d₁ ≡ put 0 4 (bytesOf (0 ∷ 1 ∷ bytes16 0)) d → d₂ ≡ put 4 10 (bytesOf x) d₁ →

@@ -66,52 +66,48 @@ module _ (p w : ℕ) (g : ℕ → ℕ) (s : ℕ) where
 
 -- ---- a tally
 
-module _ (m b : ℕ) (g : ℕ → ℕ) (z : ℤ) (s : ℕ) where
+module _ (m b : ℕ) (g : ℕ → ℕ) (z : ℤ) (s a r : ℕ) where
   abbrev tally : Tally
-  tally = record { grocer = m; box = b; code = readCode g; count = z; issuer = s }
+  tally = record { grocer = m; box = b; code = readCode g; count = z; issuer = s; bag = a; revision = r }
+
+  -- Issuer, bag and revision.
+  abbrev last : List ℕ
+  last = bytes16 s ++ bytes16 a ++ bytes16 r
 
   grocer-byte : (k : ℕ) → k < 2 → bytesOf (bytes16 m) k ≡ bytesOf (tallyBytes tally) k
   unfolding tallyBytes
-  grocer-byte k h = sym (List·getD-append (bytes16 m) (b ∷ codeBytes (readCode g) ++ bytes32 (ofZ w32 z) ++ bytes16 s) 0 k h)
+  grocer-byte k h = sym (List·getD-append (bytes16 m) (b ∷ codeBytes (readCode g) ++ bytes32 (ofZ w32 z) ++ bytes16 s ++ bytes16 a ++ bytes16 r) 0 k h)
 
   box-byte : b ≡ bytesOf (tallyBytes tally) 2
   unfolding tallyBytes
   box-byte = refl
 
   tally-code : (k : ℕ) → k < 11 → g k ≡ bytesOf (tallyBytes tally) (3 + k)
-  unfolding tallyBytes
+  unfolding tallyBytes codeBytes tabulate
   tally-code k h =
       let c = codeBytes (readCode g) in
-      let n = bytes32 (ofZ w32 z) in
-      sym (getD-append-add (m % 256 ∷ m / 256 ∷ b ∷ []) (c ++ n ++ bytes16 s) k 0
-      ∙ List·getD-append (c ++ n) (bytes16 s) 0 k (unfold codeBytes tabulate in omega arith)
-      ∙ List·getD-append c n 0 k (unfold codeBytes tabulate in h)
-      ∙ code-byte g k h)
+      let n = bytes32 (ofZ w32 z) ++ last in
+      sym (getD-append-add (m % 256 ∷ m / 256 ∷ b ∷ []) (c ++ n) k 0 ∙ List·getD-append c n 0 k h ∙ code-byte g k h)
 
   count-byte : (k : ℕ) → k < 4 → bytesOf (bytes32 (ofZ w32 z)) k ≡ bytesOf (tallyBytes tally) (14 + k)
   unfolding tallyBytes codeBytes tabulate
   count-byte k h =
       let n = bytes32 (ofZ w32 z) in
-      sym (getD-append-add (m % 256 ∷ m / 256 ∷ b ∷ codeBytes (readCode g)) (n ++ bytes16 s) k 0 ∙ List·getD-append n (bytes16 s) 0 k h)
+      sym (getD-append-add (m % 256 ∷ m / 256 ∷ b ∷ codeBytes (readCode g)) (n ++ last) k 0 ∙ List·getD-append n last 0 k h)
 
-  tally-issuer : (k : ℕ) → k < 2 → bytesOf (bytes16 s) k ≡ bytesOf (tallyBytes tally) (18 + k)
+  last-byte : (k : ℕ) → k < 6 → bytesOf last k ≡ bytesOf (tallyBytes tally) (18 + k)
   unfolding tallyBytes codeBytes tabulate
-  tally-issuer k h = sym (getD-append-add (m % 256 ∷ m / 256 ∷ b ∷ codeBytes (readCode g) ++ bytes32 (ofZ w32 z)) (bytes16 s) k 0)
+  last-byte k h = sym (getD-append-add (m % 256 ∷ m / 256 ∷ b ∷ codeBytes (readCode g) ++ bytes32 (ofZ w32 z)) last k 0)
 
-  tally-spare : (k : ℕ) → 0 ≡ bytesOf (tallyBytes tally) (20 + k)
-  unfolding tallyBytes codeBytes tabulate
-  tally-spare k = sym (List·getD-eq-default (tallyBytes tally) 0 {n = 20 + k} (omega arith))
-
-  -- Grocer, box, code, count, issuer and zeros are the tally's 24 bytes.
-  pub tally-put : (at : ℕ) (d d₁ d₃ d₄ d₅ d₆ : List ℕ) → at + 24 ≤ length d → d₁ ≡ put at 2 (bytesOf (bytes16 m)) d → length d₃ ≡ length d →
-      Copied g (at + 3) 11 (set d₁ (at + 2) b) d₃ → d₄ ≡ put (at + 14) 4 (bytesOf (bytes32 (ofZ w32 z))) d₃ → d₅ ≡ put (at + 18) 2 (bytesOf (bytes16 s)) d₄ →
-      d₆ ≡ put (at + 20) 4 (λ _. 0) d₅ → d₆ ≡ put at 24 (bytesOf (tallyBytes tally)) d
-  tally-put at d d₁ d₃ d₄ d₅ d₆ room e₁ l₃ c₃ e₄ e₅ e₆ =
+  -- Grocer, box, code, count, issuer, bag and revision are the tally's 24 bytes.
+  pub tally-put : (at : ℕ) (d d₁ d₃ d₄ d₅ : List ℕ) → at + 24 ≤ length d → d₁ ≡ put at 2 (bytesOf (bytes16 m)) d → length d₃ ≡ length d →
+      Copied g (at + 3) 11 (set d₁ (at + 2) b) d₃ → d₄ ≡ put (at + 14) 4 (bytesOf (bytes32 (ofZ w32 z))) d₃ → d₅ ≡ put (at + 18) 6 (bytesOf last) d₄ →
+      d₅ ≡ put at 24 (bytesOf (tallyBytes tally)) d
+  tally-put at d d₁ d₃ d₄ d₅ room e₁ l₃ c₃ e₄ e₅ =
       let f = bytesOf (tallyBytes tally) in
       let l₁ : length d₁ ≡ length d = ap length e₁ ∙ length-put at 2 (bytesOf (bytes16 m)) d (omega arith) in
       let l₂ : length (set d₁ (at + 2) b) ≡ length d = length-set d₁ (at + 2) b ∙ l₁ in
       let q₂ : set d₁ (at + 2) b ≡ put at 3 f d = rw (e₁, put-cong at 2 (bytesOf (bytes16 m)) f d grocer-byte) (store-next at 2 f d b (omega arith) box-byte) in
       let q₃ : d₃ ≡ put at 14 f d = copied-put g (at + 3) 11 (set d₁ (at + 2) b) d₃ (omega arith) (l₃ ∙ sym l₂) c₃ ∙ ap (put (at + 3) 11 g) q₂ ∙ put-next at 3 f d 11 g (omega arith) tally-code in
       let q₄ : d₄ ≡ put at 18 f d = e₄ ∙ ap (put (at + 14) 4 (bytesOf (bytes32 (ofZ w32 z)))) q₃ ∙ put-next at 14 f d 4 (bytesOf (bytes32 (ofZ w32 z))) (omega arith) count-byte in
-      let q₅ : d₅ ≡ put at 20 f d = e₅ ∙ ap (put (at + 18) 2 (bytesOf (bytes16 s))) q₄ ∙ put-next at 18 f d 2 (bytesOf (bytes16 s)) (omega arith) tally-issuer in
-      e₆ ∙ ap (put (at + 20) 4 (λ _. 0)) q₅ ∙ put-next at 20 f d 4 (λ _. 0) (omega arith) (λ k h. tally-spare k)
+      e₅ ∙ ap (put (at + 18) 6 (bytesOf last)) q₄ ∙ put-next at 18 f d 6 (bytesOf last) (omega arith) last-byte

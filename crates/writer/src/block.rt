@@ -137,12 +137,16 @@ pub fn put_tally_block(
     tally_code: &[u8],
     tally_count: &[i32],
     tally_issuer: &[u16],
+    tally_bag: &[u16],
+    tally_revision: &[u16],
 )
     requires { ⌜ (t ≤ 1000) × ((21 * b < t) × ((k ≤ 100) × (512 * (k + b + 1) ≤ length (now out)))) ⌝ }
-    requires { ⌜ LongTallies t (tallyTables (now «tally_grocer») (now «tally_box») (now «tally_code») (now «tally_count») (now «tally_issuer»)) ⌝ }
+    requires { ⌜ LongTallies t (tallyTables (now «tally_grocer») (now «tally_box») (now «tally_code») (now «tally_count») (now «tally_issuer»)
+        (now «tally_bag») (now «tally_revision»)) ⌝ }
     requires { ⌜ Small (now «tally_box») t ⌝ }
     ensures { λ _. ⌜ now (out .exit) ≡ put (512 * (k + b)) 512 (blockByte
-        (recordBody 3 k t (λ i. tallyBytes (tallyOf (talliesLent «tally_grocer» «tally_box» «tally_code» «tally_count» «tally_issuer») i)) b))
+        (recordBody 3 k t (λ i. tallyBytes (tallyOf (talliesLent «tally_grocer» «tally_box» «tally_code» «tally_count» «tally_issuer»
+        «tally_bag» «tally_revision») i)) b))
         (now (out .entry)) ⌝ }
 {
     let number = k + b;
@@ -160,6 +164,8 @@ pub fn put_tally_block(
         tally_code,
         tally_count,
         tally_issuer,
+        tally_bag,
+        tally_revision,
     );
     close_block(out, at, 4 + count * 24);
 }

@@ -52,12 +52,16 @@ fn put_tally_blocks(
     tally_code: &[u8],
     tally_count: &[i32],
     tally_issuer: &[u16],
+    tally_bag: &[u16],
+    tally_revision: &[u16],
 )
     requires { ⌜ (t ≤ 1000) × ((k ≤ 100) × (512 * (k + blocksFor t) ≤ length (now out))) ⌝ }
-    requires { ⌜ LongTallies t (tallyTables (now «tally_grocer») (now «tally_box») (now «tally_code») (now «tally_count») (now «tally_issuer»)) ⌝ }
+    requires { ⌜ LongTallies t (tallyTables (now «tally_grocer») (now «tally_box») (now «tally_code») (now «tally_count») (now «tally_issuer»)
+        (now «tally_bag») (now «tally_revision»)) ⌝ }
     requires { ⌜ Small (now «tally_box») t ⌝ }
     ensures { λ _. ⌜ now (out .exit) ≡ put (512 * k) (blocksFor t * 512) (blocksOf
-        (recordBody 3 k t (λ i. tallyBytes (tallyOf (talliesLent «tally_grocer» «tally_box» «tally_code» «tally_count» «tally_issuer») i))))
+        (recordBody 3 k t (λ i. tallyBytes (tallyOf (talliesLent «tally_grocer» «tally_box» «tally_code» «tally_count» «tally_issuer»
+        «tally_bag» «tally_revision») i))))
         (now (out .entry)) ⌝ }
 {
     let blocks = blocks_for(t);
@@ -73,6 +77,8 @@ fn put_tally_blocks(
             tally_code,
             tally_count,
             tally_issuer,
+            tally_bag,
+            tally_revision,
         );
         b += 1;
     }
@@ -91,13 +97,16 @@ pub fn put_file(
     tally_code: &[u8],
     tally_count: &[i32],
     tally_issuer: &[u16],
+    tally_bag: &[u16],
+    tally_revision: &[u16],
     out: &mut [u8],
 )
     requires { ⌜ Ready (asHead head) (fileTables
         (offerTables (now price) (now «offer_owner») (now «offer_code») (now «offer_issuer»)) (now «grocer_owner»)
-        (tallyTables (now «tally_grocer») (now «tally_box») (now «tally_code») (now «tally_count») (now «tally_issuer»))) (now out) ⌝ }
+        (tallyTables (now «tally_grocer») (now «tally_box») (now «tally_code») (now «tally_count») (now «tally_issuer»)
+        (now «tally_bag») (now «tally_revision»))) (now out) ⌝ }
     ensures { λ _. ⌜ now (out .exit) ≡ (let file = encode (fileJobOf (asHead head) (fileLent price «offer_owner» «offer_code» «offer_issuer» «grocer_owner»
-        «tally_grocer» «tally_box» «tally_code» «tally_count» «tally_issuer»))
+        «tally_grocer» «tally_box» «tally_code» «tally_count» «tally_issuer» «tally_bag» «tally_revision»))
         in file ++ drop (length file) (now (out .entry))) ⌝ }
 {
     let k = grocers_at(head);
@@ -120,5 +129,7 @@ pub fn put_file(
         tally_code,
         tally_count,
         tally_issuer,
+        tally_bag,
+        tally_revision,
     );
 }

@@ -38,11 +38,13 @@ pub fn write(
     tally_code: &[u8],
     tally_count: &[i32],
     tally_issuer: &[u16],
+    tally_bag: &[u16],
+    tally_revision: &[u16],
     out: &mut [u8],
 ) -> Answer
     ensures { λ r. ⌜ outcomeOf r (now (out .exit)) ≡ writeResult (headOf boxes grocers offers tallies cycle)
         (fileLent price «offer_owner» «offer_code» «offer_issuer» «grocer_owner» «tally_grocer» «tally_box»
-        «tally_code» «tally_count» «tally_issuer») (now (out .entry)) ⌝ }
+        «tally_code» «tally_count» «tally_issuer» «tally_bag» «tally_revision») (now (out .entry)) ⌝ }
 {
     let head = head_of(boxes, grocers, offers, tallies, cycle);
     let refusal = write_refusal(
@@ -57,6 +59,8 @@ pub fn write(
         tally_code,
         tally_count,
         tally_issuer,
+        tally_bag,
+        tally_revision,
         out,
     );
     if refusal != 0 {
@@ -74,6 +78,8 @@ pub fn write(
         tally_code,
         tally_count,
         tally_issuer,
+        tally_bag,
+        tally_revision,
         out,
     );
     Answer::Wrote(file_length(head))

@@ -1,7 +1,9 @@
 // Records put into the buffer for the file.
 ghost use mathlib.Core.Path.{_≡_};
+ghost use mathlib.Core.List.{_++_};
 ghost use Prim.Native.Nat.{_+_, _*_, _≤_, _<_};
 ghost use lib.ListN.{length, getD};
+ghost use Rattle.format.specs.Bytes.{bytes16};
 ghost use Rattle.format.specs.Blocks.{offerBytes, tallyBytes};
 ghost use Rattle.format.specs.Tables.{offerOf, tallyOf};
 ghost use Rattle.format.specs.Lent.{offersLent, talliesLent};
@@ -37,6 +39,25 @@ pub fn put_offer(
     put_zeros(out, at + 18, 6);
 }
 
+// The last six bytes of tally i: its issuer, its bag and its revision.
+fn put_tally_end(
+    out: &mut [u8],
+    at: usize,
+    tally_issuer: &[u16],
+    tally_bag: &[u16],
+    tally_revision: &[u16],
+    i: usize,
+)
+    requires { ⌜ at + 6 ≤ length (now out) ⌝ }
+    requires { ⌜ (i < length (now «tally_issuer»)) × (i < length (now «tally_bag»)) × (i < length (now «tally_revision»)) ⌝ }
+    ensures { λ _. ⌜ now (out .exit) ≡ put at 6 (bytesOf (bytes16 (getD (now («tally_issuer» .entry)) i 0) ++ bytes16 (getD (now («tally_bag» .entry)) i 0) ++
+        bytes16 (getD (now («tally_revision» .entry)) i 0))) (now (out .entry)) ⌝ }
+{
+    put16(out, at, size_of(tally_issuer[i]));
+    put16(out, at + 2, size_of(tally_bag[i]));
+    put16(out, at + 4, size_of(tally_revision[i]));
+}
+
 // Tally i in 24 bytes.
 pub fn put_tally(
     out: &mut [u8],
@@ -46,21 +67,23 @@ pub fn put_tally(
     tally_code: &[u8],
     tally_count: &[i32],
     tally_issuer: &[u16],
+    tally_bag: &[u16],
+    tally_revision: &[u16],
     i: usize,
 )
     requires { ⌜ at + 24 ≤ length (now out) ⌝ }
     requires { ⌜ (i < length (now «tally_grocer»)) × (i < length (now «tally_box»)) × (i * 11 + 11 ≤ length (now «tally_code»)) ⌝ }
-    requires { ⌜ (i < length (now «tally_count»)) × (i < length (now «tally_issuer»)) ⌝ }
+    requires { ⌜ (i < length (now «tally_count»)) × (i < length (now «tally_issuer»)) × (i < length (now «tally_bag»)) × (i < length (now «tally_revision»)) ⌝ }
     requires { ⌜ getD (now «tally_box») i 0 < 256 ⌝ }
     ensures { λ _. ⌜ now (out .exit) ≡ put at 24
-        (bytesOf (tallyBytes (tallyOf (talliesLent «tally_grocer» «tally_box» «tally_code» «tally_count» «tally_issuer») i))) (now (out .entry)) ⌝ }
+        (bytesOf (tallyBytes (tallyOf (talliesLent «tally_grocer» «tally_box» «tally_code» «tally_count» «tally_issuer»
+        «tally_bag» «tally_revision») i))) (now (out .entry)) ⌝ }
 {
     put16(out, at, size_of(tally_grocer[i]));
     out[at + 2] = tally_box[i] as u8;
     copy_code(tally_code, i * CODE_BYTES, out, at + 3);
     put32(out, at + 14, bits(tally_count[i]));
-    put16(out, at + 18, size_of(tally_issuer[i]));
-    put_zeros(out, at + 20, 4);
+    put_tally_end(out, at + 18, tally_issuer, tally_bag, tally_revision, i);
 }
 
 // N offers from `first` on, one after the other.
@@ -107,13 +130,17 @@ pub fn put_tallies(
     tally_code: &[u8],
     tally_count: &[i32],
     tally_issuer: &[u16],
+    tally_bag: &[u16],
+    tally_revision: &[u16],
 )
     requires { ⌜ (n ≤ 21) × (at + n * 24 ≤ length (now out)) ⌝ }
     requires { ⌜ (first + n ≤ length (now «tally_grocer»)) × (first + n ≤ length (now «tally_box»)) × ((first + n) * 11 ≤ length (now «tally_code»)) ⌝ }
     requires { ⌜ (first + n ≤ length (now «tally_count»)) × (first + n ≤ length (now «tally_issuer»)) ⌝ }
+    requires { ⌜ (first + n ≤ length (now «tally_bag»)) × (first + n ≤ length (now «tally_revision»)) ⌝ }
     requires { ⌜ Small (now «tally_box») (first + n) ⌝ }
     ensures { λ _. ⌜ now (out .exit) ≡ put at (n * 24) (rowsOf 24 (λ r. bytesOf
-        (tallyBytes (tallyOf (talliesLent «tally_grocer» «tally_box» «tally_code» «tally_count» «tally_issuer») (first + r))))) (now (out .entry)) ⌝ }
+        (tallyBytes (tallyOf (talliesLent «tally_grocer» «tally_box» «tally_code» «tally_count» «tally_issuer»
+        «tally_bag» «tally_revision») (first + r))))) (now (out .entry)) ⌝ }
 {
     let mut r: usize = 0;
     while r < n {
@@ -125,6 +152,8 @@ pub fn put_tallies(
             tally_code,
             tally_count,
             tally_issuer,
+            tally_bag,
+            tally_revision,
             first + r,
         );
         r += 1;

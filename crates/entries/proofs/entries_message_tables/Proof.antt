@@ -18,7 +18,7 @@ abbrev outset : tie.After-message-tables → tie.Else1
 outset c = c .before .before .before
 
 abbrev entry : tie.Else1 → tie.Start
-entry c = c .before .before .before .before .before .before .before .before .before .before
+entry c = c .before .before .before .before .before .before .before .before .before .before .before .before
 
 returns : tie.Need-returns
 unfolding messagesShort

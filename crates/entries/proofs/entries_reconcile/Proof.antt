@@ -11,30 +11,34 @@ use Rattle.entries.proofs.records.Reads as records-reads
 use Rattle.entries.proofs.tell.Reads as tell-reads
 use Rattle.reconcile.proofs.reconcile_few.Reads as reconcile-few-reads
 
+-- Places, from places after them.
+abbrev entry : tie.Else1 → tie.Start
+entry c = c .before .before .before .before .before .before .before
+
 returns : tie.Need-returns
 unfolding shortFields
-returns c = told-short _ _ _ _ _ _ _ _ _ (c .if1 .taken)
+returns c = told-short _ _ _ _ _ _ _ _ _ _ _ (c .if1 .taken)
 
 records-requires : tie.Need-records-requires
 unfolding shortFields
 records-requires c κs =
-    let x = c .before .before .before .before .before .args in
-    let w = fields-whole (now (x .tally-grocer)) (now (x .tally-box)) (now (x .tally-offer)) (now (x .tally-count)) (now (x .owed)) (c .if1 .left) in
+    let x = entry c .args in
+    let w = fields-whole (now (x .tally-grocer)) (now (x .tally-box)) (now (x .tally-offer)) (now (x .tally-count)) (now (x .tally-bag)) (now (x .tally-revision)) (now (x .owed)) (c .if1 .left) in
     (w .0, w .1)
 
 tell-requires : tie.Need-tell-requires
 unfolding shortFields
 tell-requires c κs =
     let k = c .before .before .before in
-    let x = k .before .before .before .before .before .args in
-    fields-whole (now (x .tally-grocer)) (now (x .tally-box)) (now (x .tally-offer)) (now (x .tally-count)) (now (x .owed)) (k .if1 .left) .2
+    let x = entry k .args in
+    fields-whole (now (x .tally-grocer)) (now (x .tally-box)) (now (x .tally-offer)) (now (x .tally-count)) (now (x .tally-bag)) (now (x .tally-revision)) (now (x .owed)) (k .if1 .left) .2
 
 returns-2 : tie.Need-returns-2
 unfolding shortFields
 returns-2 c =
     let b = c .before in
     let k = b .before .before .before .before in
-    told-whole _ _ _ _ _ _ _ _ _ _ _ _ _ (k .if1 .left) (b .tell .ensures) (b .before .before .«reconcile-few» .ensures) (b .before .before .before .records .ensures)
+    told-whole _ _ _ _ _ _ _ _ _ _ _ _ _ _ _ (k .if1 .left) (b .tell .ensures) (b .before .before .«reconcile-few» .ensures) (b .before .before .before .records .ensures)
 
 pub entries-reconcile-spec : {M : Type 1} → statement M
 entries-reconcile-spec =

@@ -9,12 +9,16 @@ use Rattle.entries.proofs.tally.Lts as lts
 
 returns : tie.Need-returns
 unfolding lentTally
-returns c = rw (read32 _ (c .t17 .given))
+returns c = rw (read32 _ (c .before .before .t19 .given))
 
 pub tally-spec : {M : Type 1} → statement M
 tally-spec =
     tie.close
     (tie.spec
+    (λ c. search needs)
+    (λ c. search needs)
+    (λ c. search needs)
+    (λ c. search needs)
     (λ c. search needs)
     (λ c. search needs)
     (λ c. search needs)

@@ -5,12 +5,15 @@ use Rattle.host.proofs.settlement_read.Statement.{statement}
 use Rattle.host.proofs.settlement_read.Tie as tie
 
 -- The call of `read`, from the last return.
-abbrev was-read : tie.After-slice-known22 → tie.After-read
-was-read c = let m = c .before .before .before .before .before .before .before .before .before .before .before .before .before in m .before .before .before .before .before .before .before .before .before .before .before .before
+abbrev told : tie.After-slice-known26 → tie.After-slice-known20
+told c = c .before .before .before .before .before .before .before .before .before .before .before .before .before .before .before
+
+abbrev was-read : tie.After-slice-known26 → tie.After-read
+was-read c = told c .before .before .before .before .before .before .before .before .before .before .before .before .before .before
 
 -- The test of the length of sizes, from the call of `read`.
 abbrev long : tie.After-read → tie.Else1
-long c = c .before .before .before .before .before .before .before .before .before .before .before .before
+long c = c .before .before .before .before .before .before .before .before .before .before .before .before .before .before
 
 returns : tie.Need-returns
 returns c = read-short _ _ _ (c .if1 .taken)
@@ -36,5 +39,7 @@ settlement-read-spec =
     (λ c. was-read c .read .kept .1 .1 .1 .1 .1 .1 .1 .1 .1 .0)
     (λ c. was-read c .read .kept .1 .1 .1 .1 .1 .1 .1 .1 .1 .1 .0)
     (λ c. was-read c .read .kept .1 .1 .1 .1 .1 .1 .1 .1 .1 .1 .1 .0)
+    (λ c. was-read c .read .kept .1 .1 .1 .1 .1 .1 .1 .1 .1 .1 .1 .1 .0)
+    (λ c. was-read c .read .kept .1 .1 .1 .1 .1 .1 .1 .1 .1 .1 .1 .1 .1 .0)
     (λ c. c .before .before .tell-sizes .kept .1 .0)
     returns-2)

@@ -14,8 +14,8 @@ use Rattle.reader.proofs.read.Statement.{statement}
 use Rattle.reader.proofs.read.Tie as tie
 
 -- The entry, from the first branch, and from the one after the file's refusal.
-abbrev start : tie.After-slice-known10 → tie.Start
-start c = let m = c .before .before .before .before .before in m .before .before .before .before .before .before
+abbrev start : tie.After-slice-known12 → tie.Start
+start c = let m = c .before .before .before .before .before .before in m .before .before .before .before .before .before .before
 
 abbrev refused : tie.Else2 → tie.After-file-refusal
 refused c = c .before .before
@@ -42,8 +42,11 @@ owned c = c .before .before .before .before .before
 abbrev tallied : tie.After-places3 → tie.After-fill-tallies
 tallied c = c .before .before .before .before .before .before .before
 
-abbrev ended : tie.After-slice-known20 → tie.After-fill-tally-ends
-ended c = c .before .before .before .before .before
+abbrev ended : tie.After-fill-bags-arg2 → tie.After-fill-tally-ends
+ended c = c .before .before .before .before .before .before .before
+
+abbrev bagged : tie.After-slice-known24 → tie.After-fill-bags
+bagged c = c .before .before .before .before
 
 -- The call of `read_head`, from each later call.
 abbrev head-issued : tie.After-fill-words → tie.After-read-head
@@ -58,13 +61,17 @@ head-tallied c = head-owned (owned (c .before))
 abbrev head-ended : tie.After-fill-tally-ends → tie.After-read-head
 head-ended c = head-tallied (tallied (c .before .before .before .before))
 
+abbrev head-bagged : tie.After-fill-bags → tie.After-read-head
+head-bagged c = head-ended (ended (c .before))
+
 -- The calls that fill tables, from the end.
-abbrev calls : tie.After-job-of → tie.After-fill-offers × tie.After-fill-words × tie.After-fill-owners × tie.After-fill-tallies
+abbrev calls : tie.After-job-of → tie.After-fill-offers × tie.After-fill-words × tie.After-fill-owners × tie.After-fill-tallies × tie.After-fill-tally-ends
 calls c =
-    let t = tallied (ended (c .before) .before .before .before .before) in
+    let n = ended (bagged (c .before) .before) in
+    let t = tallied (n .before .before .before .before) in
     let g = owned (t .before) in
     let w = issued (g .before) in
-    (offered (w .before), w, g, t)
+    (offered (w .before), w, g, t, n)
 
 -- The tables as they are lent.
 abbrev lent : tie.Start → ReaderTables
@@ -74,7 +81,7 @@ lent s =
     (fileTables
     (offerTables (a .price .now) (a .offer-owner .now) (a .offer-code .now) (a .offer-issuer .now))
     (a .grocer-owner .now)
-    (tallyTables (a .tally-grocer .now) (a .tally-box .now) (a .tally-code .now) (a .tally-count .now) (a .tally-issuer .now)))
+    (tallyTables (a .tally-grocer .now) (a .tally-box .now) (a .tally-code .now) (a .tally-count .now) (a .tally-issuer .now) (a .tally-bag .now) (a .tally-revision .now)))
     (a .tally-offer .now)
 
 -- None of them is short.
@@ -137,16 +144,23 @@ fill-tally-ends-requires c κs =
     let t = free h .tables .tallies in
     ((w, omega (arith, places-long p, w .most .tallies)), (t .count, t .issuer, free h .tallyOffer))
 
+fill-bags-requires : tie.Need-fill-bags-requires
+fill-bags-requires c κs =
+    let h = head-ended (ended c) in
+    let t = free h .tables .tallies in
+    (known h .whole, (t .bag, t .revision))
+
 job-of-requires : tie.Need-job-of-requires
-job-of-requires c κs = known (head-ended (ended c)) .whole .most
+job-of-requires c κs = known (head-bagged (bagged c)) .whole .most
 
 returns-3 : tie.Need-returns-3
 returns-3 c =
-    let n = ended (c .before) in
+    let b = bagged (c .before) in
     let q = calls c in
     let o = q .0 in
     let g = q .2 in
     let t = q .3 in
+    let n = q .4 in
     let h = headed (o .before) in
     let s = entry (h .before) in
     let e = h .read-head .ensures in
@@ -163,6 +177,8 @@ returns-3 c =
       tallyCode = t .fill-tallies .ensures .1 .1;
       tallyCount = n .fill-tally-ends .ensures .0;
       tallyIssuer = n .fill-tally-ends .ensures .1 .0;
+      tallyBag = b .fill-bags .ensures .0;
+      tallyRevision = b .fill-bags .ensures .1;
       tallyOffer = places-stored f _ (s .args .tally-offer .now) _ e (kept (h .before) .placed) (n .fill-tally-ends .ensures .1 .1);
     })
 
@@ -183,6 +199,7 @@ read-spec =
     fill-tallies-requires
     places-long
     fill-tally-ends-requires
+    fill-bags-requires
     job-of-requires
     (λ c. calls c .0 .fill-offers .kept .1 .1 .0)
     (λ c. calls c .0 .fill-offers .kept .1 .1 .1 .0)
@@ -192,7 +209,9 @@ read-spec =
     (λ c. calls c .3 .fill-tallies .kept .1 .1 .0)
     (λ c. calls c .3 .fill-tallies .kept .1 .1 .1 .0)
     (λ c. calls c .3 .fill-tallies .kept .1 .1 .1 .1 .0)
-    (λ c. ended (c .before) .fill-tally-ends .kept .1 .1 .1 .0)
-    (λ c. ended (c .before) .fill-tally-ends .kept .1 .1 .1 .1 .0)
-    (λ c. ended (c .before) .fill-tally-ends .kept .1 .1 .1 .1 .1 .0)
+    (λ c. calls c .4 .fill-tally-ends .kept .1 .1 .1 .0)
+    (λ c. calls c .4 .fill-tally-ends .kept .1 .1 .1 .1 .0)
+    (λ c. bagged (c .before) .fill-bags .kept .1 .1 .0)
+    (λ c. bagged (c .before) .fill-bags .kept .1 .1 .1 .0)
+    (λ c. calls c .4 .fill-tally-ends .kept .1 .1 .1 .1 .1 .0)
     returns-3)

@@ -13,19 +13,19 @@ returns : tie.Need-returns
 unfolding recordInRange
 returns c =
     let x = c .before .args in
-    simp (le-ltb (x .grocer) (x .grocers) (omega arith))
+    λ bag revision. simp (le-ltb (x .grocer) (x .grocers) (omega arith))
 
 returns-2 : tie.Need-returns-2
 unfolding recordInRange
 returns-2 c =
     let x = c .before .before .args in
-    simp (lt-ltb (x .grocer) (x .grocers) (omega arith), le-ltb (x .tally-box) maxBoxes (omega arith))
+    λ bag revision. simp (lt-ltb (x .grocer) (x .grocers) (omega arith), le-ltb (x .tally-box) maxBoxes (omega arith))
 
 returns-3 : tie.Need-returns-3
 unfolding recordInRange
 returns-3 c =
     let x = c .before .before .before .args in
-    simp (
+    λ bag revision. simp (
       lt-ltb (x .grocer) (x .grocers) (omega arith),
       lt-ltb (x .tally-box) maxBoxes (omega arith),
       le-ltb (x .place) (x .offers) (omega arith),
@@ -36,7 +36,7 @@ unfolding recordInRange
 returns-4 c =
     let k = c .before .before .before .before in
     let x = k .args in
-    c .is-count .ensures ∙ simp (
+    λ bag revision. c .is-count .ensures ∙ simp (
       read32 (x .count) (k .fits .count .sfits),
       lt-ltb (x .grocer) (x .grocers) (omega arith),
       lt-ltb (x .tally-box) maxBoxes (omega arith),

@@ -1,37 +1,40 @@
 -- `run::run` meets its contract: refused, or its steps are picked and then done. Assumes nothing.
 use mathlib.Core.Path.{_≡_, refl, sym, _∙_}
+use mathlib.Core.List.{List}
+use Prim.Native.Nat.{ℕ}
 use native.Mathlib.Omega.{arith}
 use borrow.Author.Needs.{needs}
 use denote.Ref.{now}
-use Rattle.model.specs.Tables.{JobTables, jobTables, jobOf, StateTables, stateTables, stateLengths}
 use Rattle.laws.specs.Checks.{firstMet}
-use Rattle.model.specs.Run.{runRefusals}
+use Rattle.model.specs.Tables.{JobTables, bagTables, jobOf, StateTables, stateTables, stateLengths}
+use Rattle.model.specs.Local.{jobRefusals}
+use Rattle.model.specs.Handed.{handedTables, Standing}
 use Rattle.order.specs.Order.{OfJob}
 use Rattle.run.specs.Run.{Begins, answerOf}
-use Rattle.run.proofs.Ends.{begins, refusal-is, begins-needs, begins-sharers, begins-prices, begins-totals}
+use Rattle.run.proofs.Ends.{begins, begins-needs, begins-sharers, begins-prices, begins-totals, run-ended, run-short}
 use Rattle.run.proofs.Ends.{needs-of, sharers-of, of-job, begins-walk, run-few, all-in, run-finished, run-refused, sent-room}
 use Rattle.run.proofs.run.Statement.{statement}
 use Rattle.run.proofs.run.Tie as tie
 
 -- The tables of the job and of the state, as they are lent.
 abbrev job : tie.Start → JobTables
-job s = jobTables (s .args .boxes) (s .args .grocers) (s .args .offers) (s .args .tallies) (now (s .args .price)) (now (s .args .offer-owner)) (now (s .args .grocer-owner))
-    (now (s .args .tally-grocer)) (now (s .args .tally-box)) (now (s .args .tally-offer)) (now (s .args .tally-count))
+job s = bagTables (s .args .boxes) (s .args .grocers) (s .args .offers) (s .args .tallies) (now (s .args .price)) (now (s .args .offer-owner)) (now (s .args .grocer-owner))
+    (now (s .args .tally-grocer)) (now (s .args .tally-box)) (now (s .args .tally-offer)) (now (s .args .tally-count)) (now (s .args .tally-bag)) (now (s .args .tally-revision))
 
 abbrev lent : tie.Start → StateTables
 lent s = stateTables (now (s .args .known)) (now (s .args .price-transit)) (now (s .args .working)) (now (s .args .total-transit)) (now (s .args .statement)) (now (s .args .done)) (now (s .args .sent))
 
--- Places: the start, from the refusal.
-abbrev slices : tie.After-refusal → tie.After-shared-slice-known6
+-- Places: the start, from the test of the state's lengths.
+abbrev slices : tie.After-state-short → tie.After-shared-slice-known8
 slices c = c .before .before .before .before .before .before
 
-abbrev shared : tie.After-shared-slice-known6 → tie.Start
-shared c = c .before .before .before .before .before .before
+abbrev shared : tie.After-shared-slice-known8 → tie.After-shared-slice-known4
+shared c = c .before .before .before .before
 
-abbrev entry : tie.After-refusal → tie.Start
-entry c = shared (slices c)
+abbrev entry : tie.After-state-short → tie.Start
+entry c = shared (slices c) .before .before .before .before
 
--- The tables of messages, the order and the steps done.
+-- The boxes of the tallies that stand, the tables of messages, the order and the steps done.
 abbrev made : tie.After-put-order-arg → tie.After-total-table
 made c = c .before .before .before
 
@@ -41,8 +44,20 @@ priced c = c .before .before
 abbrev shares : tie.After-price-table → tie.After-sharers
 shares c = c .before .before
 
-abbrev reordered : tie.After-all-steps-arg → tie.After-needs3
-reordered c = c .before .before .before
+abbrev needed : tie.After-sharers → tie.After-needs
+needed c = c .before .before
+
+abbrev stood : tie.After-sharers → tie.Else2
+stood c = needed c .before .before
+
+abbrev looked : tie.Else2 → tie.After-job-refusal
+looked e = e .before .before
+
+abbrev whole : tie.After-job-refusal → tie.Else1
+whole c = c .before .before
+
+abbrev reordered : tie.After-all-steps-arg → tie.After-standing5
+reordered c = c .before .before .before .before
 
 abbrev ordered : tie.After-all-steps-arg5 → tie.After-put-order
 ordered c = reordered (c .before .before .before .before) .before .before .before
@@ -53,77 +68,108 @@ written c = c .before .before .before
 abbrev done : tie.After-statement → tie.After-all-steps
 done c = written c .before .before .before .before
 
--- The number is that of the run's refusal.
-number : (c : tie.After-refusal) → c .refusal .result ≡ firstMet (runRefusals (job (entry c)) (lent (entry c)))
-unfolding stateLengths
-number c = c .refusal .ensures ∙ refusal-is (job (entry c)) (lent (entry c))
-
--- Past it the run may begin.
-may : (e : tie.Else1) → Begins (job (entry (e .before))) (lent (entry (e .before)))
-may e = begins (job (entry (e .before))) (lent (entry (e .before))) (sym (number (e .before)) ∙ e .if1 .left)
-
 returns : tie.Need-returns
-unfolding answerOf
-returns c = let s = entry (c .before) in run-refused (job s) (lent s) (now (s .args .choices)) _ (number (c .before)) (c .if1 .taken)
+unfolding answerOf stateLengths
+returns c = let s = entry (c .before) in run-short (job s) (lent s) _ (c .before .state-short .ensures) (now (s .args .choices)) (c .if1 .taken)
+
+returns-2 : tie.Need-returns-2
+unfolding answerOf stateLengths
+returns-2 c =
+    let b = c .before .before in
+    let w = whole b in
+    let s = entry (w .before) in
+    run-refused (job s) (lent s) _ (w .before .state-short .ensures) (w .if1 .left) (now (s .args .choices)) _ (b .job-refusal .ensures .0) (c .if2 .taken)
+
+-- No refusal: the boxes of the tallies that stand, and the tables with them.
+abbrev standing : tie.Else2 → List ℕ
+standing e = looked e .job-refusal .last .1 .1 .1 .1 .1 .1 .1 .1 .1 .1 .1 .1 .1 .0
+
+abbrev start : tie.Else2 → tie.Start
+start e = entry (whole (looked e) .before)
+
+none-met : (e : tie.Else2) → firstMet (jobRefusals (job (start e))) ≡ 0
+none-met e = sym (looked e .job-refusal .ensures .0) ∙ e .if2 .left
+
+stand : (e : tie.Else2) → Standing (job (start e)) (standing e)
+stand e = looked e .job-refusal .ensures .1 (e .if2 .left)
+
+abbrev handed : tie.Else2 → JobTables
+handed e = handedTables (job (start e)) (standing e)
+
+-- With them the run may begin.
+may : (e : tie.Else2) → Begins (handed e) (lent (start e))
+unfolding stateLengths
+may e = begins (job (start e)) (lent (start e)) _ (whole (looked e) .before .state-short .ensures) (whole (looked e) .if1 .left) (none-met e) (standing e) (stand e)
+
+needs-lent : tie.Need-slice-aggregate-needs
+needs-lent c = sym (looked (c .before) .job-refusal .kept .1 .1 .1 .1 .1 .1 .1 .1 .1 .1 .1 .1 .1 .0)
 
 needs-requires : tie.Need-needs-requires
-needs-requires c κs = begins-needs _ _ (may c)
+needs-requires c κs = begins-needs _ _ (may (c .before))
+
+sharers-lent : tie.Need-slice-aggregate-sharers
+sharers-lent c = sym (looked (c .before .before .before) .job-refusal .kept .1 .1 .1 .1 .1 .1 .1 .1 .1 .1 .1 .1 .1 .0)
 
 sharers-requires : tie.Need-sharers-requires
-sharers-requires c κs = begins-sharers _ _ (may (c .before))
+sharers-requires c κs = begins-sharers _ _ (may (c .before .before .before))
 
 price-table-requires : tie.Need-price-table-requires
-price-table-requires c κs = let w = c .before in begins-prices _ _ (may (w .before .before)) _ _ (w .before .needs .ensures) (w .sharers .ensures)
+price-table-requires c κs = let w = c .before in begins-prices _ _ (may (stood w)) _ _ (needed w .needs .ensures) (w .sharers .ensures)
 
 total-table-requires : tie.Need-total-table-requires
-total-table-requires c κs = let w = shares (c .before) in begins-totals _ _ (may (w .before .before)) _ _ (w .before .needs .ensures) (w .sharers .ensures)
+total-table-requires c κs = let w = shares (c .before) in begins-totals _ _ (may (stood w)) _ _ (needed w .needs .ensures) (w .sharers .ensures)
 
 -- The tables of messages are the job's.
-of-it : (c : tie.After-total-table) → let s = entry (shares (priced c) .before .before .before) in OfJob (s .args .boxes) (priced c .price-table .result) (c .total-table .result) (jobOf (job s))
+of-it : (c : tie.After-total-table) → let e = stood (shares (priced c)) in OfJob (start e .args .boxes) (priced c .price-table .result) (c .total-table .result) (jobOf (handed e))
 of-it c =
     let w = shares (priced c) in
-    of-job _ _ (may (w .before .before)) _ _ (w .before .needs .ensures) (w .sharers .ensures) _ _ (priced c .price-table .ensures) (c .total-table .ensures)
+    of-job _ _ (may (stood w)) _ _ (needed w .needs .ensures) (w .sharers .ensures) _ _ (priced c .price-table .ensures) (c .total-table .ensures)
 
 put-order-requires : tie.Need-put-order-requires
 put-order-requires c κs =
     let m = made (c .before) in
-    let e = shares (priced m) .before .before in
-    ((begins-walk _ _ (may e), record { job = _; of-it = of-it m }, refl), λ j p. run-few j (p .boxes-in) _)
+    ((begins-walk _ _ (may (stood (shares (priced m)))), record { job = _; of-it = of-it m }, refl), λ j p. run-few j (p .boxes-in) _)
+
+all-steps-lent : tie.Need-slice-aggregate-all-steps
+all-steps-lent c =
+    let o = c .before .before .before in
+    sym (looked (stood (shares (priced (made (o .before .before))))) .job-refusal .kept .1 .1 .1 .1 .1 .1 .1 .1 .1 .1 .1 .1 .1 .0)
 
 all-steps-requires : tie.Need-all-steps-requires
 all-steps-requires c κs =
     let o = ordered c in
     let m = made (o .before .before) in
     let w = shares (priced m) in
-    let g = may (w .before .before) in
-    let en = w .before .needs .ensures in
+    let g = may (stood w) in
+    let en = needed w .needs .ensures in
     let es = w .sharers .ensures in
     all-in _ _ g _ _ _ _ _ _ (needs-of _ _ g _ _ en es) (sharers-of _ _ g _ _ en es) (o .put-order .ensures .1 _ (of-it m))
 
 write-sent : tie.Need-slice-write-sent
 write-sent c =
     let o = ordered (done c .before) in
-    omega (arith, sent-room _ _ (may (shares (priced (made (o .before .before))) .before .before)))
+    omega (arith, sent-room _ _ (may (stood (shares (priced (made (o .before .before)))))))
 
-cast-steps : tie.Need-cast-t62
+cast-steps : tie.Need-cast-t74
 cast-steps c =
     let o = ordered (done c .before) in
     omega (arith, o .put-order .ensures .1 _ (of-it (made (o .before .before))) .picked .in-order)
 
-returns-2 : tie.Need-returns-2
-unfolding answerOf
-returns-2 c =
+returns-3 : tie.Need-returns-3
+unfolding answerOf stateLengths
+returns-3 c =
     let a = done c in
     let o = ordered (a .before) in
     let m = made (o .before .before) in
     let w = shares (priced m) in
-    let e = w .before .before in
+    let e = stood w in
     let g = may e in
-    let s = entry (e .before) in
-    let en = w .before .needs .ensures in
+    let s = start e in
+    let en = needed w .needs .ensures in
     let es = w .sharers .ensures in
-    run-finished (job s) (lent s) g _ _ (now (s .args .choices)) _ _ _ (needs-of _ _ g _ _ en es) (sharers-of _ _ g _ _ en es) (o .put-order .ensures .1 _ (of-it m)) _ _ _ (a .all-steps .ensures)
-    (o .put-order .ensures .0) refl refl _ (number (e .before)) (e .if1 .left)
+    run-ended (handed e) (lent s) g _ _ (now (s .args .choices)) _ _ _ (needs-of _ _ g _ _ en es) (sharers-of _ _ g _ _ en es) (o .put-order .ensures .1 _ (of-it m)) _ _ _ (a .all-steps .ensures)
+    (o .put-order .ensures .0) refl refl
+    ∙ run-finished (job s) (lent s) _ (whole (looked e) .before .state-short .ensures) (whole (looked e) .if1 .left) (none-met e) (standing e) (stand e) (now (s .args .choices))
 
 pub run-spec : {M : Type 1} → statement M
 run-spec =
@@ -131,11 +177,17 @@ run-spec =
     (tie.spec
     (λ c κs. tt)
     returns
+    (λ c. refl)
+    (λ c κs. search needs)
+    returns-2
+    needs-lent
     needs-requires
+    sharers-lent
     sharers-requires
     price-table-requires
     total-table-requires
     put-order-requires
+    all-steps-lent
     all-steps-requires
     write-sent
     cast-steps
@@ -146,4 +198,4 @@ run-spec =
     (λ c. done c .all-steps .kept .1 .1 .1 .1 .1 .1 .1 .1 .1 .1 .1 .1 .1 .1 .1 .1 .0)
     (λ c. ordered (done c .before) .put-order .kept .1 .1 .1 .1 .0)
     (λ c. search needs)
-    returns-2)
+    returns-3)

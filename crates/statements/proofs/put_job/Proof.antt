@@ -3,7 +3,7 @@ use mathlib.Core.Path.{_≡_, refl, sym}
 use native.Mathlib.Omega.{arith}
 use denote.Ref.{now}
 use lib.ListN.{length}
-use Rattle.model.specs.Tables.{JobTables, jobTables, StateTables, stateTables}
+use Rattle.model.specs.Tables.{JobTables, bagTables, StateTables, stateTables}
 use Rattle.run.specs.Run.{answerOf}
 use Rattle.text.proofs.Puts.{reworded}
 use Rattle.printing.specs.Printed.{blankState}
@@ -12,23 +12,23 @@ use Rattle.statements.proofs.put_job.Statement.{statement}
 use Rattle.statements.proofs.put_job.Tie as tie
 
 abbrev job : tie.Start → JobTables
-job s = jobTables (s .args .boxes) (s .args .grocers) (s .args .offers) (s .args .tallies) (now (s .args .price)) (now (s .args .offer-owner)) (now (s .args .grocer-owner)) (now (s .args .tally-grocer))
-    (now (s .args .tally-box)) (now (s .args .tally-offer)) (now (s .args .tally-count))
+job s = bagTables (s .args .boxes) (s .args .grocers) (s .args .offers) (s .args .tallies) (now (s .args .price)) (now (s .args .offer-owner)) (now (s .args .grocer-owner)) (now (s .args .tally-grocer))
+    (now (s .args .tally-box)) (now (s .args .tally-offer)) (now (s .args .tally-count)) (now (s .args .tally-bag)) (now (s .args .tally-revision))
 
 -- The state that the run leaves.
 abbrev left : tie.After-run → StateTables
-left r = let w = r .run .last .1 .1 .1 .1 .1 .1 .1 .1 .1 .1 .1 in stateTables (w .0) (w .1 .0) (w .1 .1 .0) (w .1 .1 .1 .0) (w .1 .1 .1 .1 .0) (w .1 .1 .1 .1 .1 .0) (w .1 .1 .1 .1 .1 .1 .0)
+left r = let w = r .run .last .1 .1 .1 .1 .1 .1 .1 .1 .1 .1 .1 .1 .1 in stateTables (w .0) (w .1 .0) (w .1 .1 .0) (w .1 .1 .1 .0) (w .1 .1 .1 .1 .0) (w .1 .1 .1 .1 .1 .0) (w .1 .1 .1 .1 .1 .1 .0)
 
 -- The call of `run`, from where the answer is to be put; and the entry, from there.
 abbrev ran-at : tie.After-statement3 → tie.After-run
 ran-at c = c .before .before .before .before .before .before .before .before .before
 
 abbrev entry : tie.After-run → tie.Start
-entry r = r .before .before .before .before .before .before .before .before .before .before .before .before .before .before .before .before
+entry r = r .before .before .before .before .before .before .before .before .before .before .before .before .before .before .before .before .before .before
 
 -- The statements are as long as before.
 statements-kept : (r : tie.After-run) → length (left r .statement) ≡ 255
-statements-kept r = r .run .kept .1 .1 .1 .1 .1 .1 .1 .1 .1 .1 .1 .1 .1 .1 .1 .0
+statements-kept r = r .run .kept .1 .1 .1 .1 .1 .1 .1 .1 .1 .1 .1 .1 .1 .1 .1 .1 .1 .0
 
 put-answer-requires : tie.Need-put-answer-requires
 put-answer-requires c κs =

@@ -13,7 +13,7 @@ use Rattle.statements.proofs.settled.Tie as tie
 
 -- The entry, from the call of `read`.
 abbrev entry : tie.After-read → tie.Start
-entry r = let b = r .before .before .before .before .before .before in b .before .before .before .before .before .before .before
+entry r = let b = r .before .before .before .before .before .before .before in b .before .before .before .before .before .before .before .before
 
 abbrev file : tie.After-read → List ℕ
 file r = now (entry r .args .file)
@@ -26,19 +26,25 @@ tables r =
     (fileTables
     (offerTables (w .0) (w .1 .0) (w .1 .1 .0) (w .1 .1 .1 .0))
     (w .1 .1 .1 .1 .0)
-    (tallyTables (w .1 .1 .1 .1 .1 .0) (w .1 .1 .1 .1 .1 .1 .0) (w .1 .1 .1 .1 .1 .1 .1 .0) (w .1 .1 .1 .1 .1 .1 .1 .1 .0) (w .1 .1 .1 .1 .1 .1 .1 .1 .1 .0)))
-    (w .1 .1 .1 .1 .1 .1 .1 .1 .1 .1 .0)
+    (tallyTables (w .1 .1 .1 .1 .1 .0) (w .1 .1 .1 .1 .1 .1 .0) (w .1 .1 .1 .1 .1 .1 .1 .0) (w .1 .1 .1 .1 .1 .1 .1 .1 .0) (w .1 .1 .1 .1 .1 .1 .1 .1 .1 .0) (w .1 .1 .1 .1 .1 .1 .1 .1 .1 .1 .0) (w .1 .1 .1 .1 .1 .1 .1 .1 .1 .1 .1 .0)))
+    (w .1 .1 .1 .1 .1 .1 .1 .1 .1 .1 .1 .1 .0)
 
 -- The call of `read`, from where all its tables are back; and from where the first is lent again.
 abbrev back : tie.After-tally-offer2 → tie.After-read
-back c = c .before .before .before .before .before .before .before .before .before .before .before
+back c = c .before .before .before .before .before .before .before .before .before .before .before .before .before
 
 abbrev was-read : tie.After-price3 → tie.After-read
 was-read c = back (c .before .before .before .before .before)
 
--- Where the first is lent, from the last.
-abbrev lent : tie.After-tally-count3 → tie.After-price3
-lent c = c .before .before .before .before .before .before
+-- Where the first is lent, from the last three.
+abbrev lent-count : tie.After-tally-count3 → tie.After-price3
+lent-count c = c .before .before .before .before .before .before
+
+abbrev lent-bag : tie.After-tally-bag3 → tie.After-price3
+lent-bag c = lent-count (c .before)
+
+abbrev lent : tie.After-tally-revision3 → tie.After-price3
+lent c = lent-bag (c .before)
 
 slice-aggregate-put-job : tie.Need-slice-aggregate-put-job
 slice-aggregate-put-job c = sym (was-read c .read .kept .1 .0)
@@ -56,10 +62,16 @@ slice-aggregate-put-job-5 : tie.Need-slice-aggregate-put-job-5
 slice-aggregate-put-job-5 c = sym (was-read (c .before .before .before .before) .read .kept .1 .1 .1 .1 .1 .1 .1 .0)
 
 slice-aggregate-put-job-6 : tie.Need-slice-aggregate-put-job-6
-slice-aggregate-put-job-6 c = sym (was-read (c .before .before .before .before .before) .read .kept .1 .1 .1 .1 .1 .1 .1 .1 .1 .1 .1 .0)
+slice-aggregate-put-job-6 c = sym (was-read (c .before .before .before .before .before) .read .kept .1 .1 .1 .1 .1 .1 .1 .1 .1 .1 .1 .1 .1 .0)
 
 slice-aggregate-put-job-7 : tie.Need-slice-aggregate-put-job-7
-slice-aggregate-put-job-7 c = sym (was-read (lent c) .read .kept .1 .1 .1 .1 .1 .1 .1 .1 .1 .0)
+slice-aggregate-put-job-7 c = sym (was-read (lent-count c) .read .kept .1 .1 .1 .1 .1 .1 .1 .1 .1 .0)
+
+slice-aggregate-put-job-8 : tie.Need-slice-aggregate-put-job-8
+slice-aggregate-put-job-8 c = sym (was-read (lent-bag c) .read .kept .1 .1 .1 .1 .1 .1 .1 .1 .1 .1 .1 .0)
+
+slice-aggregate-put-job-9 : tie.Need-slice-aggregate-put-job-9
+slice-aggregate-put-job-9 c = sym (was-read (lent c) .read .kept .1 .1 .1 .1 .1 .1 .1 .1 .1 .1 .1 .1 .0)
 
 put-job-requires : tie.Need-put-job-requires
 unfolding blankJob
@@ -97,6 +109,8 @@ settled-spec =
     (λ c. refl)
     (λ c. refl)
     (λ c. refl)
+    (λ c. refl)
+    (λ c. refl)
     (λ c κs. tt)
     (λ c. c .match .keys1)
     slice-aggregate-put-job
@@ -106,6 +120,8 @@ settled-spec =
     slice-aggregate-put-job-5
     slice-aggregate-put-job-6
     slice-aggregate-put-job-7
+    slice-aggregate-put-job-8
+    slice-aggregate-put-job-9
     put-job-requires
     (λ c. c .match .keys2)
     (λ c κs. le-of-eq (sym (c .put-refused-arg .given .0 .1)))

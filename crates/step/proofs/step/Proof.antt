@@ -2,7 +2,7 @@
 use mathlib.Core.Path.{refl}
 use Prim.Native.Nat.{_≤_}
 use native.Mathlib.Omega.{arith}
-use Rattle.model.specs.Tables.{JobTables, jobTables, StateTables, stateTables}
+use Rattle.model.specs.Tables.{JobTables, bagTables, StateTables, stateTables}
 use Rattle.model.specs.Step.{Asked, asked}
 use Rattle.step.specs.Answer.{answerOf}
 use Rattle.step.proofs.Zero.{refused-by}
@@ -13,8 +13,8 @@ use Rattle.step.proofs.step.Tie as tie
 
 -- The lent tables and what is asked, at the start.
 abbrev job : tie.Start → JobTables
-job s = jobTables (s .args .boxes) (s .args .grocers) (s .args .offers) (s .args .tallies) (now (s .args .price)) (now (s .args .offer-owner)) (now (s .args .grocer-owner)) (now (s .args .tally-grocer))
-    (now (s .args .tally-box)) (now (s .args .tally-offer)) (now (s .args .tally-count))
+job s = bagTables (s .args .boxes) (s .args .grocers) (s .args .offers) (s .args .tallies) (now (s .args .price)) (now (s .args .offer-owner)) (now (s .args .grocer-owner)) (now (s .args .tally-grocer))
+    (now (s .args .tally-box)) (now (s .args .tally-offer)) (now (s .args .tally-count)) (now (s .args .tally-bag)) (now (s .args .tally-revision))
 
 abbrev state : tie.Start → StateTables
 state s = stateTables (now (s .args .known)) (now (s .args .price-transit)) (now (s .args .working)) (now (s .args .total-transit)) (now (s .args .statement)) (now (s .args .done)) (now (s .args .sent))
@@ -26,14 +26,14 @@ ask s = asked (s .args .kind) (s .args .first) (s .args .second)
 abbrev lent : tie.After-shared-slice-known6 → tie.Start
 lent c = c .before .before .before .before .before .before
 
-abbrev known : tie.After-slice-known4 → tie.Start
+abbrev known : tie.After-slice-known2 → tie.Start
 known c = lent (c .before .before .before .before)
 
 abbrev shared : tie.After-refusal-arg7 → tie.After-slice-known4
 shared c = c .before .before .before .before .before .before .before
 
 abbrev start : tie.After-refusal → tie.Start
-start c = known (shared (c .before .before .before))
+start c = known (shared (c .before .before .before .before) .before .before)
 
 abbrev first : tie.Else1 → tie.Start
 first i = start (i .before)
@@ -57,7 +57,7 @@ abbrev prices-left : tie.After-working → tie.After-move-prices
 prices-left c = c .before .before .before .before .before
 
 abbrev prices-asked : tie.After-move-prices-arg3 → tie.Then2
-prices-asked c = c .before .before .before .before
+prices-asked c = c .before .before .before .before .before
 
 abbrev prices-open : tie.Then2 → tie.Else1
 prices-open k = unmarked (marked-at (k .before))

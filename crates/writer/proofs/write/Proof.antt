@@ -11,7 +11,7 @@ use Rattle.writer.proofs.write.Tie as tie
 
 -- The entry, from the call of `head_of`; that call from those after it.
 abbrev entry : tie.After-head-of → tie.Start
-entry c = c .before .before .before .before .before .before .before .before .before .before .before
+entry c = c .before .before .before .before .before .before .before .before .before .before .before .before .before
 
 abbrev headed : tie.After-write-refusal → tie.After-head-of
 headed c = c .before .before
@@ -24,7 +24,7 @@ abbrev tables : tie.Start → FileTables
 tables s =
     let a = s .args in
     fileTables (offerTables (now (a .price)) (now (a .offer-owner)) (now (a .offer-code)) (now (a .offer-issuer))) (now (a .grocer-owner))
-    (tallyTables (now (a .tally-grocer)) (now (a .tally-box)) (now (a .tally-code)) (now (a .tally-count)) (now (a .tally-issuer)))
+    (tallyTables (now (a .tally-grocer)) (now (a .tally-box)) (now (a .tally-code)) (now (a .tally-count)) (now (a .tally-issuer)) (now (a .tally-bag)) (now (a .tally-revision)))
 
 -- Nothing is refused.
 taken : (c : tie.Else1) → let h = headed (c .before) in let s = entry h in writeRefusal (asHead (h .head-of .result)) (tables s) (now (s .args .out)) ≡ 0

@@ -14,4 +14,4 @@ bad-records-spec =
     (λ c κs. entry c .pre .0)
     (λ c κs. entry (c .before) .pre .1 .0)
     (λ c κs. entry (c .before .before) .pre .1 .1)
-    (λ c. λ s s′. record-tests _ _ (c .before .before .bad-offers .ensures s) (c .before .bad-owners .ensures) (c .bad-tallies .ensures s′)))
+    (λ c. λ s s′ b v. record-tests _ _ (c .before .before .bad-offers .ensures s) (c .before .bad-owners .ensures) (c .bad-tallies .ensures s′ b v)))

@@ -13,14 +13,14 @@ use Rattle.checks.proofs.records.bad_tallies.Statement.{statement}
 use Rattle.checks.proofs.records.bad_tallies.Tie as tie
 
 abbrev Inv-loop : tie.InvT-loop
-Inv-loop head grocer box code count n bad₀ i₀ bad i = (i ≤ n) × ((s : List ℕ) → bad ≡ any i (λ i. badTally (asHead head) (tallyOf (tallyTables grocer box code count s) i)))
+Inv-loop head grocer box code count n bad₀ i₀ bad i = (i ≤ n) × ((s b v : List ℕ) → bad ≡ any i (λ i. badTally (asHead head) (tallyOf (tallyTables grocer box code count s b v) i)))
 
 abbrev μ-loop : tie.MeasureT-loop
 μ-loop head grocer box code count n bad₀ i₀ bad i = n - i
 
 loop-holds : tie.Need-loop-holds Inv-loop μ-loop
 unfolding any
-loop-holds c = (omega arith, λ s. refl)
+loop-holds c = (omega arith, λ s b v. refl)
 
 bad-tally-requires : tie.Need-bad-tally-requires Inv-loop μ-loop
 bad-tally-requires c κs =
@@ -30,10 +30,10 @@ bad-tally-requires c κs =
     ((omega (arith, p .0 .0), omega (arith, p .0 .1)), (omega (arith, p .1 .0), omega (arith, p .1 .1)))
 
 loop-again : tie.Need-loop-again Inv-loop μ-loop
-loop-again c = (omega arith, λ s. any-more _ _ _ _ (c .before .before .loop .inv .1 s) (c .bad-tally .ensures s))
+loop-again c = (omega arith, λ s b v. any-more _ _ _ _ (c .before .before .loop .inv .1 s b v) (c .bad-tally .ensures s b v))
 
 returns : tie.Need-returns Inv-loop μ-loop
-returns c = λ s. any-end _ _ _ _ (omega arith) (c .before .loop .inv .1 s)
+returns c = λ s b v. any-end _ _ _ _ (omega arith) (c .before .loop .inv .1 s b v)
 
 pub bad-tallies-spec : {M : Type 1} → statement M
 bad-tallies-spec =

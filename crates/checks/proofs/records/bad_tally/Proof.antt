@@ -23,7 +23,7 @@ returns c =
     let b = k .before .before in
     let s = entry k in
     let z : SFits w32 (getD (now (s .args .tally-count)) (s .args .i) (pos 0)) = record { sfits = c .before .bad-count-arg .given } in
-    λ _. rw (b .before .before .before .size-of .ensures .0, b .size-of2 .ensures .0, k .is-code .ensures, c .bad-count .ensures ∙ ap (λ (z : ℤ). ltb 99_999 (natAbs z)) (toZ-ofZ {w = w32} z))
+    λ _ _ _. rw (b .before .before .before .size-of .ensures .0, b .size-of2 .ensures .0, k .is-code .ensures, c .bad-count .ensures ∙ ap (λ (z : ℤ). ltb 99_999 (natAbs z)) (toZ-ofZ {w = w32} z))
 
 pub bad-tally-spec : {M : Type 1} → statement M
 bad-tally-spec =

@@ -7,7 +7,7 @@ use Rattle.format.specs.Job.{badSizes, badRecords}
 use Rattle.format.specs.Tables.{FileTables, offerTables, tallyTables, fileTables, fileJobOf}
 use Rattle.format.proofs.Order.{job-4, job-6}
 use Rattle.blocks.specs.Due.{asHead}
-use Rattle.checks.proofs.Joining.{job-rest, most, has-names, offer-codes, tally-codes}
+use Rattle.checks.proofs.Joining.{job-rest, has-names, has-bags, names-in}
 use Rattle.checks.proofs.refusal.job_refusal.Statement.{statement}
 use Rattle.checks.proofs.refusal.job_refusal.Tie as tie
 
@@ -16,21 +16,21 @@ abbrev tables : tie.Start → FileTables
 tables s =
     let a = s .args in
     fileTables (offerTables (now (a .price)) (now (a .offer-owner)) (now (a .offer-code)) (now (a .offer-issuer))) (now (a .grocer-owner))
-    (tallyTables (now (a .tally-grocer)) (now (a .tally-box)) (now (a .tally-code)) (now (a .tally-count)) (now (a .tally-issuer)))
+    (tallyTables (now (a .tally-grocer)) (now (a .tally-box)) (now (a .tally-code)) (now (a .tally-count)) (now (a .tally-issuer)) (now (a .tally-bag)) (now (a .tally-revision)))
 
 -- The function's entry, from its first check.
 abbrev first : tie.After-bad-sizes → tie.Start
-first c = c .before .before .before .before .before .before .before .before .before .before
+first c = c .before .before .before .before .before .before .before .before .before .before .before .before
 
 -- 4 is not met.
 sizes-fine : (c : tie.Else1) → badSizes (asHead (first (c .before) .args .head)) ≡ false
 sizes-fine c = sym (c .before .bad-sizes .ensures) ∙ c .if1 .left
 
--- What the records say of 6, whatever their issuers.
+-- What the records say of 6, whatever their issuers, bags and revisions.
 records-at : (c : tie.After-bad-records) → let s = first (c .before .before) in badRecords (fileJobOf (asHead (s .args .head)) (tables s)) ≡ c .bad-records .result
 records-at c =
     let a = first (c .before .before) .args in
-    sym (c .bad-records .ensures (now (a .offer-issuer)) (now (a .tally-issuer)))
+    sym (c .bad-records .ensures (now (a .offer-issuer)) (now (a .tally-issuer)) (now (a .tally-bag)) (now (a .tally-revision)))
 
 -- 6 is not met.
 records-fine : (c : tie.Else2) → let s = first (c .before .before .before) in badRecords (fileJobOf (asHead (s .args .head)) (tables s)) ≡ false
@@ -51,22 +51,20 @@ returns-2 : tie.Need-returns-2
 unfolding fileJobOf
 returns-2 c = sym (job-6 _ (sizes-fine (c .before .before)) (records-at (c .before) ∙ c .if2 .taken))
 
-names-refusal-requires : tie.Need-names-refusal-requires
-names-refusal-requires c κs =
+last-refusal-requires : tie.Need-last-refusal-requires
+last-refusal-requires c κs =
     let e = c .before .before in
     let s = first (e .before) in
-    let h = asHead (s .args .head) in
-    let r = records-fine c in
-    let o = s .pre .offers in
     let t = s .pre .tallies in
-    ((most h (sizes-fine e), o .code, o .issuer), ((t .code, t .issuer), (offer-codes h (tables s) r, tally-codes h (tables s) r)))
+    (names-in (asHead (s .args .head)) (tables s) (s .pre) (sizes-fine e) (records-fine c), (t .grocer, t .bag, t .revision))
 
 returns-3 : tie.Need-returns-3
 unfolding fileJobOf
 returns-3 c =
     let e = c .before in
     let s = first (e .before .before .before) in
-    c .names-refusal .ensures _ (has-names (asHead (s .args .head)) (tables s)) ∙ sym (job-rest _ (sizes-fine (e .before .before)) (records-fine e))
+    let h = asHead (s .args .head) in
+    c .last-refusal .ensures _ (has-names h (tables s)) (has-bags h (tables s)) ∙ sym (job-rest _ (sizes-fine (e .before .before)) (records-fine e))
 
 pub job-refusal-spec : {M : Type 1} → statement M
 job-refusal-spec =
@@ -76,5 +74,5 @@ job-refusal-spec =
     returns
     bad-records-requires
     returns-2
-    names-refusal-requires
+    last-refusal-requires
     returns-3)

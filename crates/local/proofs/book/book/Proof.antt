@@ -1,49 +1,70 @@
 -- `local::book::book` meets its contract. Assumes nothing.
-use mathlib.Core.Path.{_≡_, sym, _∙_}
+use mathlib.Core.Path.{_≡_, refl, sym, _∙_}
 use mathlib.Core.List.{List}
 use Prim.Native.Nat.{ℕ, _≤_}
 use native.Mathlib.Omega.{arith}
+use lib.ListN.{length}
 use borrow.Author.Needs.{needs}
 use Rattle.laws.specs.Checks.{firstMet}
-use Rattle.model.specs.Tables.{JobTables, jobTables}
+use Rattle.model.specs.Tables.{JobTables, bagTables}
+use Rattle.model.specs.Handed.{Standing}
 use Rattle.model.specs.Local.{bookShort, bookRefusals}
 use Rattle.local.specs.Sort.{at}
 use Rattle.local.specs.Lists.{PlacesIn}
 use Rattle.local.specs.Book.{BookTables, bookTables, bookLengths}
 use denote.Ref.{now}
-use Rattle.local.proofs.Ready.{box-in, long, whole, offer-owners, grocer-owners, offer-tallies, grocer-tallies, places-in}
+use Rattle.local.proofs.Ready.{none-refused, box-in, long, whole, offer-owners, grocer-owners, offer-tallies, grocer-tallies, places-in}
 use Rattle.local.proofs.Booking.{booked-refused, booked-written}
 use Rattle.local.proofs.book.book.Statement.{statement}
 use Rattle.local.proofs.book.book.Tie as tie
 
 abbrev job : tie.Start → JobTables
-job s = jobTables (s .args .boxes) (s .args .grocers) (s .args .offers) (s .args .tallies) (now (s .args .price)) (now (s .args .offer-owner)) (now (s .args .grocer-owner)) (now (s .args .tally-grocer))
-    (now (s .args .tally-box)) (now (s .args .tally-offer)) (now (s .args .tally-count))
+job s = bagTables (s .args .boxes) (s .args .grocers) (s .args .offers) (s .args .tallies) (now (s .args .price)) (now (s .args .offer-owner)) (now (s .args .grocer-owner)) (now (s .args .tally-grocer))
+    (now (s .args .tally-box)) (now (s .args .tally-offer)) (now (s .args .tally-count)) (now (s .args .tally-bag)) (now (s .args .tally-revision))
 
 -- The tables as they are lent.
 abbrev lent : tie.Start → BookTables
 lent s = bookTables (now (s .args .local-offers)) (now (s .args .local-grocers)) (now (s .args .starts)) (now (s .args .packed-grocers)) (now (s .args .packed-counts))
 
--- Where the lengths of the book's tables are compared, and where nothing is refused.
+-- Where the lengths of the book's tables are compared, where the job's tables are looked at, and where nothing is refused.
 abbrev start : tie.After-book-short → tie.Start
-start c = c .before .before .before .before .before .before .before .before .before .before .before
+start c = c .before .before .before .before .before .before .before .before .before .before .before .before .before
+
+abbrev looked : tie.After-refusal → tie.After-job-refusal
+looked c = c .before .before
+
+abbrev begin : tie.After-refusal → tie.Start
+begin c = start (looked c .before .before)
 
 abbrev entry : tie.Else1 → tie.Start
-entry c = start (c .before .before)
+entry c = begin (c .before)
 
 short-is : (c : tie.After-book-short) → c .book-short .result ≡ bookShort (job (start c)) (bookLengths (lent (start c)))
 unfolding bookShort
 short-is c = c .book-short .ensures
 
-refusal-is : (c : tie.After-refusal) → c .refusal .result ≡ firstMet (bookRefusals (job (start (c .before))) (bookLengths (lent (start (c .before)))) (start (c .before) .args .b))
-refusal-is c = c .refusal .ensures (bookLengths (lent (start (c .before)))) (short-is (c .before))
+refusal-is : (c : tie.After-refusal) → c .refusal .result ≡ firstMet (bookRefusals (job (begin c)) (bookLengths (lent (begin c))) (begin c .args .b))
+refusal-is c =
+    let s = begin c in
+    c .refusal .ensures (job s) (bookLengths (lent s)) (short-is (looked c .before .before)) (looked c .job-refusal .ensures .0) refl
 
 accepted : (c : tie.Else1) → firstMet (bookRefusals (job (entry c)) (bookLengths (lent (entry c))) (entry c .args .b)) ≡ 0
 accepted c = sym (refusal-is (c .before)) ∙ c .if1 .left
 
+-- The standing boxes.
+abbrev boxes : tie.Else1 → List ℕ
+boxes c = looked (c .before) .job-refusal .last .1 .1 .1 .1 .1 .1 .1 .1 .1 .1 .1 .1 .1 .0
+
+long-boxes : (c : tie.Else1) → length (boxes c) ≡ 1_000
+long-boxes c = looked (c .before) .job-refusal .kept .1 .1 .1 .1 .1 .1 .1 .1 .1 .1 .1 .1 .1 .0
+
+stand : (c : tie.Else1) → Standing (job (entry c)) (boxes c)
+stand c =
+    looked (c .before) .job-refusal .ensures .1 (looked (c .before) .job-refusal .ensures .0 ∙ none-refused (job (entry c)) (bookLengths (lent (entry c))) (entry c .args .b) (accepted c))
+
 -- Where the local offers are written, and where the local grocers are.
 abbrev open-1 : tie.After-list → tie.Else1
-open-1 c = c .before .before
+open-1 c = c .before .before .before
 
 abbrev open-2 : tie.After-list2 → tie.After-list
 open-2 c = c .before .before .before .before
@@ -66,7 +87,7 @@ offer-places c =
     let e = open-1 c in
     let s = entry e in
     let f = job s in
-    places-in (s .args .boxes) (s .args .offers) (at (now (s .args .offer-owner))) (now (s .args .tally-offer)) (now (s .args .tally-box)) (s .args .tallies) (s .args .b) (offers c) (now (s .args .local-offers)) (c .list .result)
+    places-in (s .args .boxes) (s .args .offers) (at (now (s .args .offer-owner))) (now (s .args .tally-offer)) (boxes e) (s .args .tallies) (s .args .b) (offers c) (now (s .args .local-offers)) (c .list .result)
     (offer-owners f (bookLengths (lent s)) (s .args .b) (accepted e) .n-in) (long f (bookLengths (lent s)) (s .args .b) (accepted e) .localOffers) (c .list .kept .1 .1 .1 .1 .1 .1 .1 .0) (c .list .ensures .1) (c .list .ensures .0)
 
 grocer-places : (c : tie.After-list2) → PlacesIn (grocers c) (c .list2 .result) × (c .list2 .result ≤ entry (open-1 (open-2 c)) .args .grocers)
@@ -74,20 +95,20 @@ grocer-places c =
     let e = open-1 (open-2 c) in
     let s = entry e in
     let f = job s in
-    places-in (s .args .boxes) (s .args .grocers) (at (now (s .args .grocer-owner))) (now (s .args .tally-grocer)) (now (s .args .tally-box)) (s .args .tallies) (s .args .b) (grocers c) (now (s .args .local-grocers)) (c .list2 .result)
+    places-in (s .args .boxes) (s .args .grocers) (at (now (s .args .grocer-owner))) (now (s .args .tally-grocer)) (boxes e) (s .args .tallies) (s .args .b) (grocers c) (now (s .args .local-grocers)) (c .list2 .result)
     (grocer-owners f (bookLengths (lent s)) (s .args .b) (accepted e) .n-in) (long f (bookLengths (lent s)) (s .args .b) (accepted e) .localGrocers) (c .list2 .kept .1 .1 .1 .1 .1 .1 .1 .0) (c .list2 .ensures .1) (c .list2 .ensures .0)
 
 returns : tie.Need-returns
 returns c =
-    let s = start (c .before .before) in
+    let s = begin (c .before) in
     booked-refused (job s) (s .args .b) (lent s) (c .before .refusal .result) (refusal-is (c .before)) (c .if1 .taken)
 
 list-requires : tie.Need-list-requires
 list-requires c κs =
-    let e = c .before in
+    let e = c .before .before in
     let s = entry e in
     let f = job s in (
-      (offer-owners f (bookLengths (lent s)) (s .args .b) (accepted e), offer-tallies f (bookLengths (lent s)) (s .args .b) (accepted e)),
+      (offer-owners f (bookLengths (lent s)) (s .args .b) (accepted e), offer-tallies f (bookLengths (lent s)) (s .args .b) (accepted e) (boxes e) (stand e)),
       (box-in f (bookLengths (lent s)) (s .args .b) (accepted e), long f (bookLengths (lent s)) (s .args .b) (accepted e) .localOffers),
     )
 
@@ -96,7 +117,7 @@ list-requires-2 c κs =
     let e = open-1 (c .before .before .before) in
     let s = entry e in
     let f = job s in (
-      (grocer-owners f (bookLengths (lent s)) (s .args .b) (accepted e), grocer-tallies f (bookLengths (lent s)) (s .args .b) (accepted e)),
+      (grocer-owners f (bookLengths (lent s)) (s .args .b) (accepted e), grocer-tallies f (bookLengths (lent s)) (s .args .b) (accepted e) (boxes e) (stand e)),
       (box-in f (bookLengths (lent s)) (s .args .b) (accepted e), long f (bookLengths (lent s)) (s .args .b) (accepted e) .localGrocers),
     )
 
@@ -107,7 +128,7 @@ pack-requires c κs =
     let s = entry e in
     let f = job s in
     let w = long f (bookLengths (lent s)) (s .args .b) (accepted e) in (
-      (offer-tallies f (bookLengths (lent s)) (s .args .b) (accepted e), grocer-tallies f (bookLengths (lent s)) (s .args .b) (accepted e)),
+      (offer-tallies f (bookLengths (lent s)) (s .args .b) (accepted e) (boxes e) (stand e), grocer-tallies f (bookLengths (lent s)) (s .args .b) (accepted e) (boxes e) (stand e)),
       (
         (offer-places (open-2 u) .0, grocer-places u .0),
         (omega (arith, offer-places (open-2 u) .1, w .starts), (whole f (bookLengths (lent s)) (s .args .b) (accepted e) .tallyCount, (w .packedGrocers, w .packedCounts))),
@@ -136,7 +157,7 @@ returns-2 c =
     let a = open-2 u in
     let e = open-1 a in
     let s = entry e in
-    booked-written (job s) (s .args .b) (lent s) (accepted e) (a .list .result) (u .list2 .result) (p .pack .result)
+    booked-written (job s) (s .args .b) (lent s) (accepted e) (boxes e) (stand e) (a .list .result) (u .list2 .result) (p .pack .result)
     (bookTables (offers a) (grocers u) (p .pack .last .1 .1 .1 .1 .1 .1 .1 .1 .1 .1 .0) (p .pack .last .1 .1 .1 .1 .1 .1 .1 .1 .1 .1 .1 .0) (p .pack .last .1 .1 .1 .1 .1 .1 .1 .1 .1 .1 .1 .1 .0))
     (a .list .ensures .0) (a .list .ensures .1) (u .list2 .ensures .0) (u .list2 .ensures .1) (p .pack .ensures .0) (p .pack .ensures .1 .0) (p .pack .ensures .1 .1 .0) (p .pack .ensures .1 .1 .1)
 
@@ -145,8 +166,11 @@ book-spec =
     tie.close
     (tie.spec
     (λ c κs. search needs)
+    (λ c. search needs)
+    (λ c κs. search needs)
     (λ c κs. search needs)
     returns
+    (λ c. sym (long-boxes (c .before)))
     list-requires
     list-requires-2
     pack-requires

@@ -7,16 +7,16 @@ use lib.ListN.{length, length-set}
 use borrow.Author.Needs.{needs}
 use Rattle.format.specs.Job.{Head}
 use Rattle.format.specs.File.{decode}
-use Rattle.reader.specs.Sound.{Placed}
-use Rattle.reader.proofs.Places.{unnamedBelow, none-yet, named-more, unnamed-hit, unnamed-end, placed-none, placed-more, placed-end, place-most}
+use Rattle.fills.specs.Fills.{Placed}
+use Rattle.fills.proofs.Places.{unnamedBelow, none-yet, named-more, unnamed-hit, unnamed-end, placed-none, placed-more, placed-end, place-most}
 use Rattle.reader.proofs.look.find_places.Statement.{statement}
 use Rattle.reader.proofs.look.find_places.Tie as tie
 
 abbrev Inv-loop : tie.InvT-loop
-Inv-loop f head keys order places₀ first n t i₀ places i = (i ≤ t) × (length places ≡ length places₀) × (unnamedBelow (decode f) i ≡ false) × Placed (decode f) places i
+Inv-loop f head keys order starts shift widest places₀ first n t i₀ places i = (i ≤ t) × (length places ≡ length places₀) × (unnamedBelow (decode f) i ≡ false) × Placed (decode f) places i
 
 abbrev μ-loop : tie.MeasureT-loop
-μ-loop f head keys order places₀ first n t i₀ places i = t - i
+μ-loop f head keys order starts shift widest places₀ first n t i₀ places i = t - i
 
 -- The entry, from the call before the loop.
 abbrev entry : tie.After-tallies-at Inv-loop μ-loop → tie.Start Inv-loop μ-loop

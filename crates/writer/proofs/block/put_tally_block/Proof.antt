@@ -11,7 +11,7 @@ use Rattle.writer.proofs.block.put_tally_block.Tie as tie
 
 -- The entry, and the calls, each from the next.
 abbrev entry : tie.After-part-of → tie.Start
-entry c = c .before .before .before .before .before .before
+entry c = c .before .before .before .before .before .before .before .before
 
 abbrev parted : tie.After-put-head → tie.After-part-of
 parted c = c .before .before
@@ -31,7 +31,10 @@ put-tallies-requires c κs =
       (omega (arith, e), omega (arith, e, h .put-head .kept .0, s .pre .0)),
       (
         (omega (arith, e, l .grocer), omega (arith, e, l .box), omega (arith, e, l .code)),
-        ((omega (arith, e, l .count), omega (arith, e, l .issuer)), record { small = λ i h. s .pre .1 .1 .small i (omega (arith, h, e)) }),
+        (
+          (omega (arith, e, l .count), omega (arith, e, l .issuer)),
+          ((omega (arith, e, l .bag), omega (arith, e, l .revision)), record { small = λ i h. s .pre .1 .1 .small i (omega (arith, h, e)) }),
+        ),
       ),
     )
 
@@ -56,7 +59,8 @@ returns c =
     let p = parted h in
     let s = entry p in
     let a = s .args in
-    records-made 3 (a .k) (a .t) (a .b) _ (λ i. tallyBytes (tallyOf (tallyTables (now (a .tally-grocer)) (now (a .tally-box)) (now (a .tally-code)) (now (a .tally-count)) (now (a .tally-issuer))) i)) (now (a .out)) _ _ _
+    records-made 3 (a .k) (a .t) (a .b) _
+    (λ i. tallyBytes (tallyOf (tallyTables (now (a .tally-grocer)) (now (a .tally-box)) (now (a .tally-code)) (now (a .tally-count)) (now (a .tally-issuer)) (now (a .tally-bag)) (now (a .tally-revision))) i)) (now (a .out)) _ _ _
     (p .part-of .ensures) (omega (arith, s .pre .0)) (h .put-head .ensures) (f .put-tallies .ensures) (z .close-block .ensures)
 
 pub put-tally-block-spec : {M : Type 1} → statement M

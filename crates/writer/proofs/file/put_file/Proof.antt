@@ -17,7 +17,7 @@ use Rattle.writer.proofs.file.put_file.Tie as tie
 
 -- The calls, each from the next, and the entry.
 abbrev start : tie.After-slice-known → tie.Start
-start c = c .before .before .before .before .before .before .before .before .before .before
+start c = c .before .before .before .before .before .before .before .before .before .before .before .before
 
 abbrev entry : tie.After-grocers-at → tie.Start
 entry c = start (c .before)
@@ -46,7 +46,7 @@ abbrev tables : tie.Start → FileTables
 tables s =
     let a = s .args in
     fileTables (offerTables (now (a .price)) (now (a .offer-owner)) (now (a .offer-code)) (now (a .offer-issuer))) (now (a .grocer-owner))
-    (tallyTables (now (a .tally-grocer)) (now (a .tally-box)) (now (a .tally-code)) (now (a .tally-count)) (now (a .tally-issuer)))
+    (tallyTables (now (a .tally-grocer)) (now (a .tally-box)) (now (a .tally-code)) (now (a .tally-count)) (now (a .tally-issuer)) (now (a .tally-bag)) (now (a .tally-revision)))
 
 -- The buffer keeps its length.
 long-offered : (c : tie.After-put-offer-blocks) → length (c .put-offer-blocks .last .0) ≡ length (now (entry (plan-offered c) .args .out))

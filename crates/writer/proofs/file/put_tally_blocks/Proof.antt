@@ -16,24 +16,24 @@ use Rattle.writer.proofs.file.put_tally_blocks.Statement.{statement}
 use Rattle.writer.proofs.file.put_tally_blocks.Tie as tie
 
 abbrev Inv-loop : tie.InvT-loop
-Inv-loop out₀ k t tgrocer tbox tcode tcount tissuer blocks b₀ out b =
-    (b ≤ blocks) × (length out ≡ length out₀) × (out ≡ put (512 * k) (b * 512) (blocksOf (recordBody 3 k t (λ i. tallyBytes (tallyOf (tallyTables tgrocer tbox tcode tcount tissuer) i)))) out₀)
+Inv-loop out₀ k t tgrocer tbox tcode tcount tissuer tbag trevision blocks b₀ out b =
+    (b ≤ blocks) × (length out ≡ length out₀) × (out ≡ put (512 * k) (b * 512) (blocksOf (recordBody 3 k t (λ i. tallyBytes (tallyOf (tallyTables tgrocer tbox tcode tcount tissuer tbag trevision) i)))) out₀)
 
 abbrev μ-loop : tie.MeasureT-loop
-μ-loop out₀ k t tgrocer tbox tcode tcount tissuer blocks b₀ out b = blocks - b
+μ-loop out₀ k t tgrocer tbox tcode tcount tissuer tbag trevision blocks b₀ out b = blocks - b
 
 loop-holds : tie.Need-loop-holds Inv-loop μ-loop
 loop-holds c = (omega arith, refl, put-none _ _ _)
 
 -- The entry, from the call before the loop, and the block's body.
 abbrev entry : tie.After-blocks-for Inv-loop μ-loop → tie.Start Inv-loop μ-loop
-entry c = c .before .before .before .before .before .before
+entry c = c .before .before .before .before .before .before .before .before
 
 abbrev body : tie.Start Inv-loop μ-loop → ℕ → ℕ → ℕ
 body s =
     let a = s .args in
     recordBody 3 (a .k) (a .t)
-    (λ i. tallyBytes (tallyOf (tallyTables (now (a .tally-grocer)) (now (a .tally-box)) (now (a .tally-code)) (now (a .tally-count)) (now (a .tally-issuer))) i))
+    (λ i. tallyBytes (tallyOf (tallyTables (now (a .tally-grocer)) (now (a .tally-box)) (now (a .tally-code)) (now (a .tally-count)) (now (a .tally-issuer)) (now (a .tally-bag)) (now (a .tally-revision))) i))
 
 put-tally-block-requires : tie.Need-put-tally-block-requires Inv-loop μ-loop
 put-tally-block-requires c κs =

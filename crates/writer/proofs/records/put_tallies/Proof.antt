@@ -15,30 +15,30 @@ use Rattle.writer.proofs.records.put_tallies.Statement.{statement}
 use Rattle.writer.proofs.records.put_tallies.Tie as tie
 
 abbrev Inv-loop : tie.InvT-loop
-Inv-loop out₀ at first n tgrocer tbox tcode tcount tissuer r₀ out r =
-    (r ≤ n) × (length out ≡ length out₀) × (out ≡ put at (r * 24) (rowsOf 24 (λ r. bytesOf (tallyBytes (tallyOf (tallyTables tgrocer tbox tcode tcount tissuer) (first + r))))) out₀)
+Inv-loop out₀ at first n tgrocer tbox tcode tcount tissuer tbag trevision r₀ out r =
+    (r ≤ n) × (length out ≡ length out₀) × (out ≡ put at (r * 24) (rowsOf 24 (λ r. bytesOf (tallyBytes (tallyOf (tallyTables tgrocer tbox tcode tcount tissuer tbag trevision) (first + r))))) out₀)
 
 abbrev μ-loop : tie.MeasureT-loop
-μ-loop out₀ at first n tgrocer tbox tcode tcount tissuer r₀ out r = n - r
+μ-loop out₀ at first n tgrocer tbox tcode tcount tissuer tbag trevision r₀ out r = n - r
 
 loop-holds : tie.Need-loop-holds Inv-loop μ-loop
 loop-holds c = (omega arith, refl, put-none _ _ _)
 
 -- The entry, and the tables.
 abbrev entry : tie.At-loop Inv-loop μ-loop → tie.Start Inv-loop μ-loop
-entry c = c .before .before .before .before .before .before
+entry c = c .before .before .before .before .before .before .before .before
 
 abbrev tables : tie.Start Inv-loop μ-loop → TallyTables
 tables s =
     let a = s .args in
-    tallyTables (now (a .tally-grocer)) (now (a .tally-box)) (now (a .tally-code)) (now (a .tally-count)) (now (a .tally-issuer))
+    tallyTables (now (a .tally-grocer)) (now (a .tally-box)) (now (a .tally-code)) (now (a .tally-count)) (now (a .tally-issuer)) (now (a .tally-bag)) (now (a .tally-revision))
 
 put-tally-requires : tie.Need-put-tally-requires Inv-loop μ-loop
 put-tally-requires c κs =
     let l = c .before .before in
     let s = entry l in (
       omega arith,
-      ((omega arith, omega arith, omega arith), ((omega arith, omega arith), s .pre .1 .1 .1 .small (s .args .first + l .loop .r) (omega arith))),
+      ((omega arith, omega arith, omega arith), ((omega arith, omega arith, omega arith, omega arith), s .pre .1 .1 .1 .1 .small (s .args .first + l .loop .r) (omega arith))),
     )
 
 loop-again : tie.Need-loop-again Inv-loop μ-loop

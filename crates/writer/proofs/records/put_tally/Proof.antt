@@ -17,7 +17,7 @@ use Rattle.writer.proofs.records.put_tally.Tie as tie
 
 -- The entry, and the calls, each from the next.
 abbrev entry : tie.After-put16 → tie.Start
-entry c = c .before .before .before .before .before .before .before .before .before
+entry c = c .before .before .before .before .before .before .before .before .before .before .before
 
 abbrev wrote : tie.After-copy-code-arg → tie.After-put16
 wrote c = c .before .before .before .before
@@ -25,17 +25,11 @@ wrote c = c .before .before .before .before
 abbrev coded : tie.After-bits → tie.After-copy-code
 coded c = c .before .before .before .before .before
 
-abbrev counted : tie.After-put16-arg2 → tie.After-put32
+abbrev counted : tie.After-put-tally-end-arg → tie.After-put32
 counted c = c .before .before .before
 
-abbrev sized : tie.After-size-of2 → tie.After-put16-arg2
-sized c = c .before .before
-
-abbrev issued : tie.After-put-zeros-arg → tie.After-put162
-issued c = c .before .before .before
-
--- The entry, from the issuer's call.
-abbrev first : tie.After-put16-arg2 → tie.Start
+-- The entry, from the last call.
+abbrev first : tie.After-put-tally-end-arg → tie.Start
 first c = entry (wrote (coded (counted c .before) .before))
 
 -- The buffer has its length once the code is copied.
@@ -51,43 +45,36 @@ copy-code-requires c κs =
 put32-requires : tie.Need-put32-requires
 put32-requires c κs = let k = coded c in omega (arith, long-copied k, entry (wrote (k .before)) .pre .0)
 
-issuer-in : tie.Need-shared-slice-read-size-of-2
-issuer-in c = first (c .before) .pre .1 .1 .0 .1
-
 -- The buffer has its length once the count is put.
-long-counted : (c : tie.After-put16-arg2) → length (counted c .put32 .last .0) ≡ length (now (first c .args .out))
+long-counted : (c : tie.After-put-tally-end-arg) → length (counted c .put32 .last .0) ≡ length (now (first c .args .out))
 long-counted c = counted c .put32 .kept .0 ∙ long-copied (coded (counted c .before))
 
-put16-requires-2 : tie.Need-put16-requires-2
-put16-requires-2 c κs = (omega (arith, long-counted (sized c), first (sized c) .pre .0), omega (arith, c .size-of2 .ensures .1))
-
-put-zeros-requires : tie.Need-put-zeros-requires
-put-zeros-requires c κs = let n = issued c in omega (arith, n .put162 .kept .0, long-counted (sized (n .before)), first (sized (n .before)) .pre .0)
+put-tally-end-requires : tie.Need-put-tally-end-requires
+put-tally-end-requires c κs =
+    let s = first c in
+    let p = s .pre .1 .1 .0 in
+    (omega (arith, long-counted c, s .pre .0), (p .1, p .2, p .3))
 
 same-length : tie.Need-same-length
-same-length c =
-    let z = c .before .before in
-    let n = issued (z .before) in
-    z .put-zeros .kept .0 ∙ n .put162 .kept .0 ∙ long-counted (sized (n .before))
+same-length c = let z = c .before .before in z .put-tally-end .kept .0 ∙ long-counted (z .before)
 
 returns : tie.Need-returns
 returns c =
     let e = c .before .before in
-    let t = issued (e .before) in
-    let n = counted (sized (t .before)) in
+    let n = counted (e .before) in
     let q = coded (n .before) in
     let g = wrote (q .before) in
     let s = entry g in
     let a = s .args in
     let z = getD (now (a .tally-count)) (a .i) (pos 0) in
     let w : n .before .bits .result ≡ ofZ w32 z = n .before .bits .ensures ∙ ap (ofZ w32) (toZ-ofZ {w = w32} {z = z} (record { sfits = n .before .before .bits-arg .given })) in
-    tally-put (getD (now (a .tally-grocer)) (a .i) 0) (getD (now (a .tally-box)) (a .i) 0) (from (now (a .tally-code)) (a .i * 11)) z (getD (now (a .tally-issuer)) (a .i) 0) (a .at) (now (a .out)) _ _ _ _ _
+    tally-put (getD (now (a .tally-grocer)) (a .i) 0) (getD (now (a .tally-box)) (a .i) 0) (from (now (a .tally-code)) (a .i * 11)) z (getD (now (a .tally-issuer)) (a .i) 0)
+    (getD (now (a .tally-bag)) (a .i) 0) (getD (now (a .tally-revision)) (a .i) 0) (a .at) (now (a .out)) _ _ _ _
     (s .pre .0)
     (g .put16 .ensures ∙ ap (λ (v : ℕ). put (a .at) 2 (bytesOf (bytes16 v)) (now (a .out))) (g .before .size-of .ensures .0))
     (long-copied q) (q .copy-code .ensures)
     (n .put32 .ensures ∙ ap (λ (v : ℕ). put (a .at + 14) 4 (bytesOf (bytes32 v)) (q .copy-code .last .1 .1 .0)) w)
-    (t .put162 .ensures ∙ ap (λ (v : ℕ). put (a .at + 18) 2 (bytesOf (bytes16 v)) (n .put32 .last .0)) (t .before .size-of2 .ensures .0))
-    (e .put-zeros .ensures)
+    (e .put-tally-end .ensures)
 
 pub put-tally-spec : {M : Type 1} → statement M
 put-tally-spec =
@@ -111,11 +98,6 @@ put-tally-spec =
     (λ c κs. search needs)
     put32-requires
     (λ c. search needs)
-    (λ c. search needs)
-    issuer-in
-    (λ c κs. search needs)
-    put16-requires-2
-    (λ c. search needs)
-    put-zeros-requires
+    put-tally-end-requires
     same-length
     returns)

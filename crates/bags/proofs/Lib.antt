@@ -1,0 +1,3 @@
+-- Lemmas on counts in the order of their keys.
+pub mod Beside
+pub mod Filling

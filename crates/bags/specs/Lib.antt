@@ -1,0 +1,4 @@
+-- What sorting the counts of bags comes to.
+
+pub mod Bags
+pub mod Order

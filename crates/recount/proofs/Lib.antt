@@ -1,0 +1,3 @@
+-- The laws of the rule.
+pub mod Recount
+pub mod Keys

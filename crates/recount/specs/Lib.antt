@@ -1,0 +1,3 @@
+-- Which of several counts of one bag stands.
+pub mod Recount
+pub mod Keys
