@@ -1,35 +1,42 @@
 -- The call of the local book, by the first refusal that is met. Assumes nothing.
-use mathlib.Core.Path.{_≡_, refl, sym, ap, _∙_}
+use mathlib.Core.Path.{_≡_, refl, sym, ap, _∙_, subst}
 use mathlib.Core.Bool.{Bool, cond}
 use mathlib.Core.List.{List}
-use Prim.Native.Nat.{ℕ, zero, suc, _<_}
+use Prim.Native.Nat.{ℕ, zero, suc, _<_, _≤_}
+use native.Mathlib.Omega.{arith}
 use lib.Dec.{eqb}
 use lib.ListN.{length, getD}
 use lib.IntN.{pos}
 use borrow.Author.Tests.{ne-eqb}
 use Rattle.laws.specs.Checks.{firstMet}
-use Rattle.laws.specs.Tables.{overwrite}
+use Rattle.laws.specs.Tables.{tabulate, overwrite}
+use Rattle.laws.proofs.Tables.{length-tabulate, getD-tabulate}
+use Rattle.recount.specs.Recount.{stands}
 use Rattle.model.specs.Job.{Job}
-use Rattle.model.specs.Tables.{JobTables, jobOf}
+use Rattle.model.specs.Tables.{JobTables, countedOf, nobody, jobOf}
 use Rattle.model.specs.Handed.{handedTables, Standing}
-use Rattle.model.specs.Local.{localOffers, localGrocers, start, starts, packedGrocers, packedCounts, bookRefusals}
+use Rattle.model.specs.Local.{localOffers, localGrocers, start, starts, packed, packedGrocers, packedCounts, BookLengths, bookRefusals}
 use Rattle.local.specs.Sort.{at, inFront}
 use Rattle.local.specs.Lists.{localList, heldOf}
 use Rattle.local.specs.Pack.{PackLent, packWords, packedTallies, packedStart, packedNumber, packedCount}
 use Rattle.local.specs.Book.{book, refused, said, bookAnswer, BookTables, bookTables, bookLengths, written, given, booked}
 use Rattle.local.specs.declared.book.Answer.the-variants.{Book, Refused}
 use Rattle.model.proofs.Handed.{handed-job}
-use Rattle.local.proofs.Modelled.{offers-are, grocers-are, starts-model, total-model, grocers-model, counts-model}
+use Rattle.local.proofs.Modelled.{offers-are, grocers-are, has-place, packed-whole, starts-model, total-model, grocers-model, counts-model}
 use Rattle.local.proofs.Ready.{box-in, grocer-owners, grocer-in}
 
 module _ (f : JobTables) (b : ℕ) (before : BookTables) where
   -- A refusal leaves every table.
-  pub booked-refused : (n : ℕ) → n ≡ firstMet (bookRefusals f (bookLengths before) b) → (n ≡ 0 → ⊥) → given (said (Refused n)) before ≡ booked f b before
-  unfolding said bookAnswer booked
-  booked-refused zero e h = absurd (h refl)
-  booked-refused (suc n) e h =
+  pub booked-none : (n : ℕ) → n ≡ firstMet (bookRefusals f (bookLengths before) b) → (n ≡ 0 → ⊥) → given (refused n) before ≡ booked f b before
+  unfolding bookAnswer booked
+  booked-none zero e h = absurd (h refl)
+  booked-none (suc n) e h =
       sym (ap (λ (t : Bool). given (refused (suc n)) (cond t (written (jobOf f) b before) before)) (ne-eqb (suc n) 0 h))
       ∙ ap (λ (k : ℕ). given (bookAnswer k (jobOf f) b) (cond (eqb k 0) (written (jobOf f) b before) before)) e
+
+  pub booked-refused : (n : ℕ) → n ≡ firstMet (bookRefusals f (bookLengths before) b) → (n ≡ 0 → ⊥) → given (said (Refused n)) before ≡ booked f b before
+  unfolding said
+  booked-refused n e h = booked-none n e h
 
   -- Where nothing is refused the book is written.
   pub booked-accepted : firstMet (bookRefusals f (bookLengths before) b) ≡ 0 → booked f b before ≡ given (bookAnswer 0 (jobOf f) b) (written (jobOf f) b before)
@@ -99,3 +106,22 @@ module _ (f : JobTables) (b : ℕ) (before : BookTables) where
       -- and as handed the job's tables hold the same job.
       pub booked-written : given (said (Book l g n)) after ≡ booked f b before
       booked-written = written-handed ∙ ap (λ (j : Job). given (bookAnswer 0 j b) (written j b before)) same ∙ sym (booked-accepted ok)
+
+-- The boxes that stand, as a list.
+standing : (f : JobTables) → Standing f (tabulate (f .tallies) (λ t. cond (stands (countedOf f) t) (getD (f .tallyBox) t 0) nobody))
+standing f = record {
+  long = le-refl (length-tabulate (f .tallies) (λ t. cond (stands (countedOf f) t) (getD (f .tallyBox) t 0) nobody));
+  each = λ t l. getD-tabulate (f .tallies) (λ t. cond (stands (countedOf f) t) (getD (f .tallyBox) t 0) nobody) t 0 l;
+}
+  where
+    le-refl : {n m : ℕ} → n ≡ m → m ≤ n
+    le-refl e = omega (arith, e)
+
+-- Where nothing is refused each of the box's tallies is packed.
+pub all-packed : (f : JobTables) (n : BookLengths) (b : ℕ) → firstMet (bookRefusals f n b) ≡ 0 → length (packed (jobOf f) b) ≡ start (jobOf f) b (length (localOffers (jobOf f) b))
+unfolding jobOf
+all-packed f n b ok =
+    let boxes = tabulate (f .tallies) (λ t. cond (stands (countedOf f) t) (getD (f .tallyBox) t 0) nobody) in
+    let h = handedTables f boxes in
+    subst (λ (j : Job). length (packed j b) ≡ start j b (length (localOffers j b))) (handed-job f boxes (standing f))
+    (packed-whole (jobOf h) b (has-place h refl b (box-in f n b ok) (grocer-owners f n b ok .owner-in) (grocer-in f n b ok)))

@@ -6,15 +6,15 @@ use lib.Dec.{eqb}
 use lib.ListN.{length, getD}
 use lib.IntN.{ℤ, pos}
 use Rattle.laws.specs.Tables.{overwrite}
-use denote.Ref.{now}
 use Rattle.laws.specs.Checks.{firstMet}
+use Rattle.laws.specs.Lent.{Words, SignedWords}
 use Rattle.model.specs.Job.{Job}
 use Rattle.model.specs.Tables.{JobTables, jobTables, jobOf}
-use Rattle.laws.specs.Lent.{Words, SignedWords}
 use Rattle.model.specs.Local.{localOffers, localGrocers, start, starts, packedGrocers, packedCounts, BookLengths, bookRefusals}
 use Rattle.local.specs.Sort.{inFront}
 use Rattle.local.specs.declared.book.Answer.{Answer}
 use Rattle.local.specs.declared.book.Answer.the-variants.{Book, Refused}
+use denote.Ref.{now}
 
 -- What the call says: how many local offers, local grocers and tallies the box has, or the number of a refusal.
 pub data BookAnswer : Type 0 where

@@ -16,6 +16,10 @@ use Rattle.local.proofs.Twice.{packed-le, packed-in}
 use Rattle.local.proofs.pack.pack.Statement.{statement}
 use Rattle.local.proofs.pack.pack.Tie as tie
 
+-- The start.
+abbrev outset : tie.After-order-twice-arg → tie.Start
+outset c = c .before .before .before .before .before .before .before .before
+
 abbrev entry : tie.After-index-of2 → tie.Start
 entry c = c .before .before .before .before .before .before .before .before .before .before .before .before .before .before .before
 
@@ -74,7 +78,7 @@ in-order c size h =
     (omega (arith, total-in c, s .pre .0 .0 .tallies-in)) (omega (arith, total-in c, s .pre .0 .0 .tallies-in))
 
 order-twice-requires : tie.Need-order-twice-requires
-order-twice-requires c κs = let s = c .before .before .before .before .before .before .before .before in (s .pre .0, (s .pre .1 .0 .0, s .pre .1 .0 .1, s .pre .1 .1 .0))
+order-twice-requires c κs = let s = outset c in (s .pre .0, (s .pre .1 .0 .0, s .pre .1 .0 .1, s .pre .1 .1 .0))
 
 put-tallies-requires : tie.Need-put-tallies-requires
 put-tallies-requires c κs =
