@@ -12,6 +12,7 @@ ghost use Rattle.format.specs.Job.{FileJob, placeOf, shared, unnamed, countedTa
 ghost use Rattle.format.specs.Tables.{codeOf, nameIn};
 ghost use Rattle.blocks.specs.Due.{asHead};
 ghost use Rattle.fills.specs.Fills.{Placed};
+ghost use Rattle.index.specs.Index.{Tops, Widest};
 ghost use Rattle.checks.specs.Rows.{Codes, Indexed, Finds, NamesIn, HasNames, HasBags};
 use crate::sizes::size_of;
 use bags::columns_twice;
@@ -22,6 +23,7 @@ use blocks::plan::MAX_TALLIES;
 use fills::code::name_at;
 use fills::fill::narrow;
 use index::build::build;
+use index::look::DIGITS;
 use index::look::place;
 
 // Puts the numbers of the first n names into a list.
@@ -53,31 +55,39 @@ fn index_names(code: &[u8], issuer: &[u16], n: usize, keys: &mut [u64], order: &
 fn find_place(
     keys: &[u64],
     order: &[u16],
+    starts: &[u16; DIGITS],
+    shift: usize,
+    widest: usize,
     n: usize,
     tally_code: &[u8],
     tally_issuer: &[u16],
     i: usize,
 ) -> usize
-    requires { ⌜ (n ≤ 500) × ((n ≤ length (now keys)) × (n ≤ length (now order))) ⌝ }
+    requires { ⌜ ((n ≤ 500) × ((n ≤ length (now keys)) × (n ≤ length (now order)))) × (Tops (now keys) (now starts) shift n × Widest
+        (now starts) widest) ⌝ }
     requires { ⌜ (i * 11 + 11 ≤ length (now «tally_code»)) × (i < length (now «tally_issuer»)) × (isCode (codeOf (now «tally_code») i) ≡ true) ⌝ }
     ensures { λ r. ⌜ ((j : FileJob) → Finds j (now (keys .entry)) (now (order .entry)) (now («tally_code» .entry)) (now («tally_issuer» .entry)) n →
         r ≡ placeOf j i) ⌝ }
 {
     let number = name_at(tally_code, i * CODE_BYTES, size_of(tally_issuer[i]));
-    place(keys, order, n, number)
+    place(keys, order, starts, shift, widest, n, number)
 }
 
 // Looks each of the first t tallies up, once, and keeps its place; whether one names none of the n offers.
 fn find_places(
     keys: &[u64],
     order: &[u16],
+    starts: &[u16; DIGITS],
+    shift: usize,
+    widest: usize,
     n: usize,
     tally_code: &[u8],
     tally_issuer: &[u16],
     t: usize,
     places: &mut [u16],
 ) -> bool
-    requires { ⌜ (n ≤ 500) × ((n ≤ length (now keys)) × (n ≤ length (now order))) ⌝ }
+    requires { ⌜ ((n ≤ 500) × ((n ≤ length (now keys)) × (n ≤ length (now order)))) × (Tops (now keys) (now starts) shift n × Widest
+        (now starts) widest) ⌝ }
     requires { ⌜ (t * 11 ≤ length (now «tally_code»)) × (t ≤ length (now «tally_issuer»)) × Codes (now «tally_code») t ⌝ }
     requires { ⌜ t ≤ length (now places) ⌝ }
     ensures { λ r. ⌜ ((j : FileJob) → Finds j (now (keys .entry)) (now (order .entry)) (now («tally_code» .entry)) (now («tally_issuer» .entry)) n →
@@ -87,7 +97,17 @@ fn find_places(
 {
     let mut i: usize = 0;
     while i < t {
-        let p = find_place(keys, order, n, tally_code, tally_issuer, i);
+        let p = find_place(
+            keys,
+            order,
+            starts,
+            shift,
+            widest,
+            n,
+            tally_code,
+            tally_issuer,
+            i,
+        );
         if n <= p {
             return true;
         }
@@ -119,9 +139,15 @@ fn names_refusal(
     if index::look::shared(&keys, head.offers) {
         return 7;
     }
+    let shift = index::tops::top_shift(&keys, head.offers);
+    let starts = index::tops::tops(&keys, head.offers, shift);
+    let widest = index::tops::widest(&starts);
     if find_places(
         &keys,
         &order,
+        &starts,
+        shift,
+        widest,
         head.offers,
         tally_code,
         tally_issuer,

@@ -1,3 +1,4 @@
 -- The laws of the sort.
 pub mod Sorting
 pub mod Digits
+pub mod Topping

@@ -1,5 +1,6 @@
-// The index of offers: their places sorted by number. Offers that share a number are neighbours in it, and a number is found by halving.
+// The index of offers: their places sorted by number. Offers that share a number are neighbours, and one is found by its top digit and by halving.
 pub mod build;
 pub mod sort;
+pub mod tops;
 
 pub use lookup::look;

@@ -1,17 +1,19 @@
--- Laws of the index: shared numbers are neighbours, and a number is found by halving. Assumes nothing.
+-- Laws of the index: shared numbers are neighbours, and a number is found by its top digit and by halving. Assumes nothing.
 use mathlib.Core.Path.{_≡_, sym, ap, _∙_, subst}
 use mathlib.Core.List.{List}
 use mathlib.Core.Bool.{Bool, true, false, cond}
-use Prim.Native.Nat.{ℕ, _+_, _-_, _*_, _/_, _^_, _<_, _≤_}
+use Prim.Native.Nat.{ℕ, suc, _+_, _-_, _*_, _/_, _^_, _<_, _≤_}
+use native.Mathlib.Nat.{mod-lt, div-add-mod', mul-le-mul-right}
 use native.Mathlib.Omega.{arith}
 use lib.ListN.{getD}
+use lib.Pow.{pow-pos}
 use lib.Dec.{eqb, ltb, leb}
 use mir.Val.{boolByte}
 use borrow.Author.Tests.{eqb-true, eqb-false, eq-eqb, ltb-true, ltb-false, leb-true, leb-false, lt-ltb, le-ltb}
 use Rattle.laws.specs.Below.{any}
 use Rattle.laws.proofs.Bools.{split, clash, eqb-same, no-true}
 use Rattle.laws.proofs.Below.{any-at, any-find, find-none, find-only, count-some, count-two}
-use Rattle.lookup.specs.Lookup.{times, keyAt, Ascending, IsIndex, sharesNumber, placeOf, Bracket}
+use Rattle.lookup.specs.Lookup.{times, keyAt, Ascending, IsIndex, sharesNumber, placeOf, Tops, Bracket}
 
 module _ {keys places numbers : List ℕ} {n : ℕ} (x : IsIndex keys places numbers n) where
   key-at : (i : ℕ) → i < n → getD keys i 0 ≡ getD numbers (getD places i 0) 0
@@ -111,8 +113,52 @@ neighbours-more keys i p h d k l e = split (eqb (k + 1) i)
 
 -- ---- The halving.
 
-pub bracket-start : (keys : List ℕ) (n number : ℕ) → Bracket keys n number 0 n
-bracket-start keys n number = record { inside = omega arith; behind = λ a i l h. absurd (omega arith); before = λ l. absurd (omega arith) }
+-- A number whose top digit is larger is larger.
+top-less : (a b shift : ℕ) → a / 2 ^ shift < b / 2 ^ shift → a < b
+top-less a b shift l =
+    let u = 2 ^ shift in
+    omega (arith, div-add-mod' a u, div-add-mod' b u, mod-lt a (pow-pos shift), mul-le-mul-right {m = suc (a / u)} {n = b / u} u l)
+
+-- No top digit begins behind the next.
+pub starts-rise : {keys starts : List ℕ} {shift n : ℕ} → Tops keys starts shift n → (t : ℕ) → t < 511 → getD starts t 0 ≤ getD starts (t + 1) 0
+starts-rise {keys} {starts} {shift} {n} x t l = split (ltb (getD starts (t + 1) 0) (getD starts t 0))
+    (λ q. let h : getD starts (t + 1) 0 < getD starts t 0 = ltb-true _ _ q in
+    let m : getD starts (t + 1) 0 < n = omega (arith, x .start-in t (omega arith)) in
+    absurd (omega (arith, x .lesser t (getD starts (t + 1) 0) (omega arith) h, x .others (t + 1) (getD starts (t + 1) 0) (omega arith) (omega arith) m)))
+    (λ q. ltb-false _ _ q)
+
+module _ {keys starts : List ℕ} {shift n : ℕ} (x : Tops keys starts shift n) (number : ℕ) where
+  -- No key has a top digit that is too large.
+  pub top-out : 511 ≤ number / 2 ^ shift → (i : ℕ) → i < n → getD keys i 0 ≡ number → ⊥
+  top-out h i l e = omega (arith, x .topped .top-in i l, ap (λ (k : ℕ). k / 2 ^ shift) e)
+
+  -- Where the number's top digit and the next one begin.
+  module _ (t from to : ℕ) (l : t < 511) (e : t ≡ number / 2 ^ shift) (f : from ≡ getD starts t 0) (g : to ≡ getD starts (t + 1) 0) where
+    -- A key of a lesser top digit is not the number,
+    top-before : (i : ℕ) → i < from → getD keys i 0 ≡ number → ⊥
+    top-before i h q = omega (arith, x .lesser t i (omega arith) (omega arith), e, ap (λ (k : ℕ). k / 2 ^ shift) q)
+
+    -- and one of a larger top digit is larger.
+    top-behind : (i : ℕ) → to ≤ i → i < n → number < getD keys i 0
+    top-behind i h q = top-less number (getD keys i 0) shift (omega (arith, x .others (t + 1) i (omega arith) (omega arith) q, e))
+
+    -- The next one does not begin before.
+    pub top-rises : from ≤ to
+    top-rises = omega (arith, starts-rise x t l)
+
+    -- Where there is no key of the top digit, none is the number.
+    pub top-none : from ≡ to → (i : ℕ) → i < n → getD keys i 0 ≡ number → ⊥
+    top-none same i h q = split (ltb i from)
+        (λ r. top-before i (ltb-true i from r) q)
+        (λ r. let b : from ≤ i = ltb-false i from r in omega (arith, top-behind i (omega arith) h))
+
+    -- The places of the top digit.
+    pub bracket-start : Bracket keys n number from (to - from)
+    bracket-start = record {
+      inside = omega (arith, top-rises, x .start-in (t + 1) (omega arith));
+      behind = λ a i h q. top-behind i (omega (arith, top-rises)) q;
+      before = λ a i h q. absurd (top-before i h q);
+    }
 
 -- The code's flag.
 pub flag-is : (key number : ℕ) → boolByte (ltb number key) ≡ cond (leb key number) 0 1
@@ -138,7 +184,7 @@ half-kept keys n number at len half b l p = split (leb (getD keys (at + half) 0)
     (λ e. rw e (record {
       inside = omega (arith, b .inside);
       behind = λ a i h q. b .behind a i (omega arith) q;
-      before = λ z. leb-true _ _ e;
+      before = λ a i h q. let y = a .ascend i (at + half) (omega arith) (omega (arith, b .inside)) in let z = leb-true (getD keys (at + half) 0) number e in omega arith;
     }))
     (λ e. let z : number < getD keys (at + half) 0 = leb-false _ _ e in rw e (record {
       inside = omega (arith, b .inside);
@@ -147,10 +193,15 @@ half-kept keys n number at len half b l p = split (leb (getD keys (at + half) 0)
     }))
 
 -- The same, as code has it.
-pub bracket-half : {keys : List ℕ} {n number at len : ℕ} (r : ℕ) → Bracket keys n number at len → 1 < len
+pub bracket-half : {keys : List ℕ} {n number at len : ℕ} (r : ℕ) → Bracket keys n number at len → 0 < len
     → r ≡ cond (leb (getD keys (at + len / 2) 0) number) (at + len / 2) at → (0 < len - len / 2) × Bracket keys n number r (len - len / 2)
 bracket-half {keys} {n} {number} {at} {len} r b l e =
     (omega arith, subst (λ (x : ℕ). Bracket keys n number x (len - len / 2)) (sym e) (half-kept keys n number at len (len / 2) b (omega arith) (omega arith)))
+
+-- The farther half ends where the whole does, and the nearer before.
+pub half-in : (keys : List ℕ) (number at len size : ℕ) {r : ℕ} → r ≡ cond (leb (getD keys (at + len / 2) 0) number) (at + len / 2) at → at + len ≤ size
+    → r + (len - len / 2) ≤ size
+half-in keys number at len size e h = split (leb (getD keys (at + len / 2) 0) number) (λ f. omega (arith, rw f at e)) (λ f. omega (arith, rw f at e))
 
 -- One place is left.
 pub bracket-end : {keys : List ℕ} {n number at len : ℕ} → Bracket keys n number at len → 0 < len → len ≤ 1 → Bracket keys n number at 1
@@ -168,6 +219,4 @@ bracket-miss keys n number at b a ne i l e = split (ltb at i)
     split (eqb i at)
     (λ r. ne (ap (λ (j : ℕ). getD keys j 0) (sym (eqb-true i at r)) ∙ e))
     (λ r. let d : i ≡ at → ⊥ = eqb-false i at r in
-    let z = b .before (omega arith) in
-    let y = a .ascend i at q′ (omega (arith, b .inside)) in
-    ne (omega arith)))
+    ne (b .before a i (omega arith) e)))

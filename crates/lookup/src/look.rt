@@ -5,7 +5,12 @@ ghost use mathlib.Core.Bool.{false, cond};
 ghost use Prim.Native.Nat.{ℕ, _+_, _≤_, _<_};
 ghost use lib.Dec.{leb};
 ghost use lib.ListN.{length, getD};
-ghost use Rattle.lookup.specs.Lookup.{IsIndex, sharesNumber, placeOf, Bracket};
+ghost use Rattle.lookup.specs.Lookup.{IsIndex, sharesNumber, placeOf, Tops, Widest, Bracket};
+
+// How many digits of 9 bits there are: the index is sorted by such digits, and looked up by the top one,
+pub const DIGITS: usize = 512;
+// which is less than this, so that where the next one begins is told too.
+pub const TOPS: usize = 511;
 
 // A place as an index.
 pub fn index_of(place: u16) -> usize
@@ -48,31 +53,49 @@ fn nearer(keys: &[u64], at: usize, half: usize, number: u64) -> usize
     at + (half >> shift)
 }
 
-// Where a number stands in the index if it does: every number behind is larger, and the numbers before are not.
-fn halve(keys: &[u64], n: usize, number: u64) -> usize
-    requires { ⌜ (0 < n) × ((n ≤ 1000) × (n ≤ length (now keys))) ⌝ }
-    ensures { λ r. ⌜ Bracket (now (keys .entry)) n number r 1 ⌝ }
+// Where a number stands in the index if it does, of the places from `from` on. They are halved as often as the most places of a top digit
+// are, which is the same for every number and so foreseen: where one place is left, it stays.
+fn halve(keys: &[u64], from: usize, count: usize, widest: usize, number: u64) -> usize
+    requires { ⌜ (0 < count) × ((count ≤ 1000) × ((count ≤ widest) × (from + count ≤ length (now keys)))) ⌝ }
+    ensures { λ r. ⌜ ((n : ℕ) → Bracket (now (keys .entry)) n number from count → Bracket (now (keys .entry)) n number r 1) ⌝ }
 {
-    let mut at: usize = 0;
-    let mut len = n;
-    while len > 1 {
+    let mut at = from;
+    let mut len = count;
+    let mut most = widest;
+    while most > 1 {
         let half = len / 2;
         at = nearer(keys, at, half, number);
         len -= half;
+        most -= most / 2;
     }
     at
 }
 
-// The place of the offer with this number, or n where no offer has it.
-pub fn place(keys: &[u64], places: &[u16], n: usize, number: u64) -> usize
+// The place of the offer with this number, or n where no offer has it: it is looked for among those of its top digit.
+pub fn place(
+    keys: &[u64],
+    places: &[u16],
+    starts: &[u16; DIGITS],
+    shift: usize,
+    widest: usize,
+    n: usize,
+    number: u64,
+) -> usize
     requires { ⌜ (n ≤ 1000) × ((n ≤ length (now keys)) × (n ≤ length (now places))) ⌝ }
+    requires { ⌜ Tops (now keys) (now starts) shift n × Widest (now starts) widest ⌝ }
     ensures { λ r. ⌜ ((numbers : List ℕ) → IsIndex (now (keys .entry)) (now (places .entry)) numbers n → sharesNumber numbers n ≡ false → r ≡ placeOf
         numbers n number) ⌝ }
 {
-    if n == 0 {
-        return 0;
+    let top = (number >> shift) as usize;
+    if top >= TOPS {
+        return n;
     }
-    let at = halve(keys, n, number);
+    let from = index_of(starts[top]);
+    let to = index_of(starts[top + 1]);
+    if from == to {
+        return n;
+    }
+    let at = halve(keys, from, to - from, widest, number);
     if keys[at] == number {
         return index_of(places[at]);
     }

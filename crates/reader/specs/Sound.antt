@@ -10,7 +10,7 @@ use Rattle.format.specs.Codes.{isCode, nameNumber}
 use Rattle.format.specs.Job.{Head, FileJob, offerName, shared, unnamed, countedTallies}
 use Rattle.format.specs.File.{decode}
 use Rattle.fills.specs.Fills.{Whole, Placed}
-use Rattle.index.specs.Index.{IsIndex, sharesNumber}
+use Rattle.index.specs.Index.{IsIndex, Tops, Widest, sharesNumber}
 
 -- The file is as long as its header says, no number of it is above its largest, and its codes are codes.
 pub record Sound (f : List ℕ) (h : Head) : Type 0 where
@@ -24,13 +24,15 @@ pub record Indexed (f keys order : List ℕ) (h : Head) : Type 0 where
   pub index : IsIndex keys order numbers (h .offers)
   pub right : (i : ℕ) → i < h .offers → getD numbers i 0 ≡ nameNumber (offerName (decode f) i)
 
--- The index of a sound file's offers, no two of which share a name.
-pub record Ready (f keys order : List ℕ) (h : Head) : Type 0 where
+-- The index of a sound file's offers, no two of which share a name, and where its top digits begin.
+pub record Ready (f keys order starts : List ℕ) (shift widest : ℕ) (h : Head) : Type 0 where
   pub sound : Sound f h
   pub keys-long : h .offers ≤ length keys
   pub order-long : h .offers ≤ length order
   pub indexed : Indexed f keys order h
   pub apart : sharesNumber (indexed .numbers) (h .offers) ≡ false
+  pub tops : Tops keys starts shift (h .offers)
+  pub wide : Widest starts widest
 
 -- A file that is not refused is sound, and the place of each tally's offer is kept.
 pub record Kept (f places : List ℕ) : Type 0 where

@@ -17,6 +17,7 @@ use fills::code::name_at;
 use fills::fill::fill_names;
 use fills::fill::narrow;
 use fills::place::record_at;
+use index::look::DIGITS;
 
 // Makes the index of the offers.
 fn index_offers(f: &[u8], head: Head, keys: &mut [u64], order: &mut [u16])
@@ -31,19 +32,38 @@ fn index_offers(f: &[u8], head: Head, keys: &mut [u64], order: &mut [u16])
 }
 
 // The place of the offer that tally i names, or N where it names none.
-fn find_place(f: &[u8], head: Head, keys: &[u64], order: &[u16], first: usize, i: usize) -> usize
-    requires { ⌜ Ready (now f) (now keys) (now order) (asHead head) ⌝ }
+fn find_place(
+    f: &[u8],
+    head: Head,
+    keys: &[u64],
+    order: &[u16],
+    starts: &[u16; DIGITS],
+    shift: usize,
+    widest: usize,
+    first: usize,
+    i: usize,
+) -> usize
+    requires { ⌜ Ready (now f) (now keys) (now order) (now starts) shift widest (asHead head) ⌝ }
     requires { ⌜ (first ≡ talliesAt (asHead head)) × (i < head .tallies) ⌝ }
     ensures { λ r. ⌜ r ≡ placeOf (decode (now (f .entry))) i ⌝ }
 {
     let at = record_at(first, i);
     let number = name_at(f, at + 3, word16(f, at + 18));
-    index::look::place(keys, order, head.offers, number)
+    index::look::place(keys, order, starts, shift, widest, head.offers, number)
 }
 
 // Looks each tally up, once, and keeps its place; whether a tally names no offer.
-fn find_places(f: &[u8], head: Head, keys: &[u64], order: &[u16], places: &mut [u16]) -> bool
-    requires { ⌜ Ready (now f) (now keys) (now order) (asHead head) × (head .tallies ≤ length (now places)) ⌝ }
+fn find_places(
+    f: &[u8],
+    head: Head,
+    keys: &[u64],
+    order: &[u16],
+    starts: &[u16; DIGITS],
+    shift: usize,
+    widest: usize,
+    places: &mut [u16],
+) -> bool
+    requires { ⌜ Ready (now f) (now keys) (now order) (now starts) shift widest (asHead head) × (head .tallies ≤ length (now places)) ⌝ }
     ensures { λ r. ⌜ r ≡ unnamed (decode (now (f .entry))) ⌝ }
     ensures { λ r. ⌜ (r ≡ false → Placed (decode (now (f .entry))) (now (places .exit)) (head .tallies)) ⌝ }
 {
@@ -52,7 +72,7 @@ fn find_places(f: &[u8], head: Head, keys: &[u64], order: &[u16], places: &mut [
     let t = head.tallies;
     let mut i: usize = 0;
     while i < t {
-        let p = find_place(f, head, keys, order, first, i);
+        let p = find_place(f, head, keys, order, starts, shift, widest, first, i);
         if p == n {
             return true;
         }
@@ -74,7 +94,10 @@ pub fn names_refusal(f: &[u8], head: Head, places: &mut [u16]) -> u16
     if index::look::shared(&keys, head.offers) {
         return 7;
     }
-    if find_places(f, head, &keys, &order, places) {
+    let shift = index::tops::top_shift(&keys, head.offers);
+    let starts = index::tops::tops(&keys, head.offers, shift);
+    let widest = index::tops::widest(&starts);
+    if find_places(f, head, &keys, &order, &starts, shift, widest, places) {
         return 8;
     }
     0

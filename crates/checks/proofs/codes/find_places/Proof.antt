@@ -13,11 +13,11 @@ use Rattle.checks.proofs.codes.find_places.Statement.{statement}
 use Rattle.checks.proofs.codes.find_places.Tie as tie
 
 abbrev Inv-loop : tie.InvT-loop
-Inv-loop keys order n tcode tissuer t places₀ i₀ places i =
+Inv-loop keys order starts shift widest n tcode tissuer t places₀ i₀ places i =
     (i ≤ t) × (length places ≡ length places₀) × ((j : FileJob) → Finds j keys order tcode tissuer n → (unnamedBelow j i ≡ false) × Placed j places i)
 
 abbrev μ-loop : tie.MeasureT-loop
-μ-loop keys order n tcode tissuer t places₀ i₀ places i = t - i
+μ-loop keys order starts shift widest n tcode tissuer t places₀ i₀ places i = t - i
 
 -- The entry, from the loop.
 abbrev start : tie.After-slice-known Inv-loop μ-loop → tie.Start Inv-loop μ-loop
@@ -83,7 +83,7 @@ find-places-spec =
     find-place-requires
     (λ c. c .before .before .before .loop .inv .1)
     returns
-    (λ c κs. omega (arith, c .if1 .left, entry (c .before .before .before) .pre .0 .0))
+    (λ c κs. omega (arith, c .if1 .left, entry (c .before .before .before) .pre .0 .0 .0))
     (λ c. search needs)
     (λ c. let l = c .before .before .before .before in omega (arith, l .loop .inv .1, entry l .pre .1 .1, c .before .before .before .loop-test .taken))
     (λ c. search needs)

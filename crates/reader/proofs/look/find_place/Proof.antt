@@ -42,7 +42,7 @@ name-at-requires c κs =
     ((omega (arith, room at), c .word16 .ensures .1), ap isCode (tally-code (s .args .f .now) i (z .whole) (stands at)) ∙ z .tally i (s .pre .1 .1))
 
 place-requires : tie.Need-place-requires
-place-requires c κs = let r = entry (c .before .before) .pre .0 in (omega (arith, r .sound .whole .most .offers), (r .keys-long, r .order-long))
+place-requires c κs = let r = entry (c .before .before) .pre .0 in ((omega (arith, r .sound .whole .most .offers), (r .keys-long, r .order-long)), (r .tops, r .wide))
 
 returns : tie.Need-returns
 unfolding placeOf

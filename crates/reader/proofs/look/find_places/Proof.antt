@@ -13,10 +13,10 @@ use Rattle.reader.proofs.look.find_places.Statement.{statement}
 use Rattle.reader.proofs.look.find_places.Tie as tie
 
 abbrev Inv-loop : tie.InvT-loop
-Inv-loop f head keys order places₀ first n t i₀ places i = (i ≤ t) × (length places ≡ length places₀) × (unnamedBelow (decode f) i ≡ false) × Placed (decode f) places i
+Inv-loop f head keys order starts shift widest places₀ first n t i₀ places i = (i ≤ t) × (length places ≡ length places₀) × (unnamedBelow (decode f) i ≡ false) × Placed (decode f) places i
 
 abbrev μ-loop : tie.MeasureT-loop
-μ-loop f head keys order places₀ first n t i₀ places i = t - i
+μ-loop f head keys order starts shift widest places₀ first n t i₀ places i = t - i
 
 -- The entry, from the call before the loop.
 abbrev entry : tie.After-tallies-at Inv-loop μ-loop → tie.Start Inv-loop μ-loop

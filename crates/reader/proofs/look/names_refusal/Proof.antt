@@ -1,10 +1,12 @@
 -- `reader::look::names_refusal` meets its contract. Assumes nothing.
 use mathlib.Core.Path.{_≡_, sym, ap, _∙_}
+use Prim.Native.Nat.{_≤_}
 use native.Mathlib.Omega.{arith}
 use borrow.Author.Needs.{needs}
 use Rattle.format.specs.Job.{Head, shared}
 use Rattle.format.specs.File.{decode}
 use Rattle.index.specs.Index.{sharesNumber}
+use Rattle.index.proofs.Topping.{starts-rise}
 use Rattle.fills.proofs.Naming.{shared-is}
 use Rattle.reader.proofs.Last.{names-7, names-8, names-0}
 use Rattle.reader.proofs.look.names_refusal.Statement.{statement}
@@ -17,12 +19,21 @@ made c = c .before .before .before .before
 abbrev entry : tie.After-index-offers → tie.Start
 entry c = c .before .before .before .before .before
 
--- The look-up of the tallies, and the branch before it.
+-- The look-up of the tallies, the top digits before it, and the branch before these.
 abbrev looked : tie.After-slice-known2 → tie.After-find-places
 looked c = c .before .before
 
+abbrev wide : tie.After-find-places-arg → tie.After-widest
+wide c = c .before .before .before .before
+
+abbrev topped : tie.After-starts → tie.After-tops
+topped c = c .before
+
+abbrev shifted : tie.After-keys5 → tie.Else1
+shifted c = c .before .before .before
+
 abbrev apart : tie.After-find-places-arg → tie.Else1
-apart c = c .before .before .before
+apart c = shifted (topped (wide c .before) .before)
 
 index-offers-requires : tie.Need-index-offers-requires
 index-offers-requires c κs =
@@ -48,6 +59,24 @@ shared-requires c κs =
 returns : tie.Need-returns
 returns c = (names-7 _ (shared-told (c .before) ∙ c .if1 .taken), λ e. absurd (omega arith))
 
+-- There are 500 offers at most.
+offers-most : (c : tie.Else1) → entry (made (c .before)) .args .head .offers ≤ 500
+offers-most c = entry (made (c .before)) .pre .0 .whole .most .offers
+
+top-shift-requires : tie.Need-top-shift-requires
+top-shift-requires c κs =
+    let x = made (c .before .before) .index-offers in
+    (omega (arith, offers-most (c .before), x .kept .1 .1 .0), x .ensures .index .ascending)
+
+tops-requires : tie.Need-tops-requires
+tops-requires c κs =
+    let e = shifted c in
+    let x = made (e .before) .index-offers in
+    (omega (arith, offers-most e), (omega (arith, offers-most e, x .kept .1 .1 .0), (x .ensures .index .ascending, c .before .top-shift .ensures)))
+
+widest-requires : tie.Need-widest-requires
+widest-requires c κs = starts-rise (topped c .tops .ensures)
+
 find-places-requires : tie.Need-find-places-requires
 find-places-requires c κs =
     let e = apart c in
@@ -61,6 +90,8 @@ find-places-requires c κs =
         order-long = omega (arith, m, x .index-offers .kept .1 .1 .1 .0);
         indexed = i;
         apart = sym (e .before .shared .ensures _ _ (i .index)) ∙ e .if1 .left;
+        tops = topped (wide c .before) .tops .ensures;
+        wide = wide c .widest .ensures;
       },
       s .pre .1,
     )
@@ -87,6 +118,11 @@ names-refusal-spec =
     (λ c. search needs)
     shared-requires
     returns
+    (λ c. search needs)
+    top-shift-requires
+    (λ c. search needs)
+    tops-requires
+    widest-requires
     (λ c. search needs)
     (λ c. search needs)
     find-places-requires
