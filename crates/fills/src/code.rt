@@ -40,7 +40,7 @@ pub fn name_at(f: &[u8], at: usize, issuer: usize) -> u64
     ensures { λ r. ⌜ r ≡ nameNumber (nameOf issuer (readCode (from (now (f .entry)) at))) ⌝ }
 {
     let number = number_at(f, at);
-    (issuer as u64) * 10_000_000_000 + number
+    (issuer as u64) * 17_179_869_184 + (number % 512 * 33_554_432 + number / 512)
 }
 
 // Copies the eleven bytes of a code from the file to a table.

@@ -3,7 +3,7 @@ use mathlib.Core.Path.{_≡_, refl, sym, _∙_, ap}
 use mathlib.Core.Logic.{_↔_}
 use mathlib.Core.Bool.{Bool, true, cond, _&&_}
 use mathlib.Core.List.{List, [], _∷_, _++_}
-use Prim.Native.Nat.{ℕ, zero, suc, _+_, _-_, _*_, _^_, _≤_, _<_}
+use Prim.Native.Nat.{ℕ, zero, suc, _+_, _-_, _*_, _^_, _≤_, _<_, _/_, _%_}
 use native.Mathlib.Omega.{arith}
 use native.Mathlib.Nat.{pow-suc, pow-le-pow-right, lt-of-lt-of-le}
 use native.Mathlib.Numerals.{add-one}
@@ -213,6 +213,15 @@ pub number-below : (c : Code) → isCode c ≡ true → codeNumber c < 10_000_00
 unfolding codeNumber
 number-below c h = let i = code-is c h in value-bound (c .digit) (c .size) 10 (i .digits) (i .few)
 
+-- An issuer and a code's number, told from the number of the name.
+told-apart : (i k x y : ℕ) → x < 10_000_000_000 → y < 10_000_000_000 → i * 17_179_869_184 + (x % 512 * 33_554_432 + x / 512) ≡ k * 17_179_869_184 + (y % 512 * 33_554_432 + y / 512)
+    → (i ≡ k) × (x ≡ y)
+told-apart i k x y l h e =
+    let same : i ≡ k = omega arith in
+    let low : x % 512 ≡ y % 512 = omega arith in
+    let high : x / 512 ≡ y / 512 = omega arith in
+    (same, omega arith)
+
 -- Two names are one offer exactly where their numbers are equal.
 pub same-name : (a b : Name) → isCode (a .code) ≡ true → isCode (b .code) ≡ true → sameOffer a b ≡ eqb (nameNumber a) (nameNumber b)
 unfolding nameNumber
@@ -221,7 +230,7 @@ same-name a b ha hb =
     let k = number-below (b .code) hb in
     same-test (sameOffer a b) (eqb (nameNumber a) (nameNumber b))
     (λ e. let p = same-parts a b e in eq-eqb (nameNumber a) (nameNumber b) (omega (arith, p .0, p .1)))
-    (λ e. let z = eqb-true (nameNumber a) (nameNumber b) e in parts-same a b (omega arith) (omega arith))
+    (λ e. let p = told-apart (a .issuer) (b .issuer) (codeNumber (a .code)) (codeNumber (b .code)) n k (eqb-true (nameNumber a) (nameNumber b) e) in parts-same a b (p .0) (p .1))
 
 -- Codes of one size and one field name the same offers.
 pub number-cong : (c d : Code) → isCode d ≡ true → c .size ≡ d .size → ((k : ℕ) → k < 10 → c .digit k ≡ d .digit k) → codeNumber c ≡ codeNumber d

@@ -1,5 +1,5 @@
 -- Offer codes and names: "A code has 1 to 10 ASCII digits", and "the clearing agreement now names offers by issuer and number" (02 §2).
-use Prim.Native.Nat.{ℕ, zero, suc, _+_, _-_, _*_}
+use Prim.Native.Nat.{ℕ, zero, suc, _+_, _-_, _*_, _/_, _%_}
 use mathlib.Core.Bool.{Bool, cond, _&&_}
 use mathlib.Core.List.{List, [], _∷_}
 use lib.Dec.{leb, ltb, eqb}
@@ -52,9 +52,10 @@ nameOf s c = record { issuer = s; code = c }
 unfoldable pub sameOffer : Name → Name → Bool
 sameOffer a b = eqb (a .issuer) (b .issuer) && eqb (codeNumber (a .code)) (codeNumber (b .code))
 
--- The number of a name, by which the index sorts: the issuer in front of ten digits.
+-- The number of a name, by which the index sorts: the issuer in front of 34 bits, in which the lowest 9 bits of the code's number come first, so that
+-- numbers which lie close together begin apart.
 unfoldable pub nameNumber : Name → ℕ
-nameNumber a = a .issuer * 10_000_000_000 + codeNumber (a .code)
+nameNumber a = a .issuer * 17_179_869_184 + (codeNumber (a .code) % 512 * 33_554_432 + codeNumber (a .code) / 512)
 
 -- A code in eleven bytes, in the file as in a table: the digit count, then the field of ten.
 unfoldable pub codeBytes : Code → List ℕ
