@@ -51,6 +51,29 @@ static void books_of_sample(void)
     }
 }
 
+/* Inside an offer's list the box's own grocer 1 goes before grocer 0, another box's; tallies of one grocer by place. */
+static void order_in_lists(void)
+{
+    static const uint16_t grocers[] = {0, 1, 0, 1, 0, 1, 0}, boxes[] = {0, 0, 1, 0, 0, 0, 0};
+    static const uint16_t offers[] = {0, 0, 0, 1, 1, 0, 0};
+    struct job *job = &calling.job;
+    sample_job(job);
+    job->sizes.tallies = 7;
+    job->offer[0].owner = 1;
+    job->offer[1].owner = 0;
+    for (uint16_t t = 0; t < 7; t++)
+        job->tally[t] = (struct tally){grocers[t], boxes[t], offers[t], 10 + t, job->offer[offers[t]].name, 0, 0};
+    open_calling(&calling, SPARE);
+    at_case("box 0");
+    expect_book(job->sizes, 0, 0);
+    expect_words(&calling, LOCAL_OFFERS, (const int64_t[]){1, 0}, 2);
+    expect_words(&calling, LOCAL_GROCERS, (const int64_t[]){1, 0}, 2);
+    expect_words(&calling, STARTS, (const int64_t[]){0, 2, 6}, 3);
+    expect_words(&calling, PACKED_GROCERS, (const int64_t[]){0, 1, 0, 0, 1, 1}, 6);
+    expect_words(&calling, PACKED_COUNTS, (const int64_t[]){13, 14, 11, 15, 10, 16}, 6);
+    close_calling(&calling);
+}
+
 /* Refusals */
 
 static void boxes_and_sizes(void)
@@ -250,6 +273,7 @@ static void random_jobs(void)
 void check_books(void)
 {
     run_group("book: E's boxes, word by word", books_of_sample);
+    run_group("book: the order inside an offer's list", order_in_lists);
     run_group("book: boxes and sizes that E does not have", boxes_and_sizes);
     run_group("book: each buffer short", short_buffers);
     run_group("book: each table of the job with a word beyond its range", words_out_of_range);

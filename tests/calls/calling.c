@@ -138,25 +138,6 @@ uint16_t ask_messages(struct calling *calling, struct sizes sizes)
     return answer;
 }
 
-/* The packed lists as the library left them, where they hold each tally once, are what the twins have from here on. */
-static void take_open_order(struct calling *calling, struct book *book)
-{
-    struct lending *lending = &calling->lending;
-    static uint16_t packed_grocer[MOST_TALLIES];
-    static int32_t packed_count[MOST_TALLIES];
-    memcpy(packed_grocer, lending->table[PACKED_GROCERS].words, book->tallies * sizeof packed_grocer[0]);
-    memcpy(packed_count, lending->table[PACKED_COUNTS].words, book->tallies * sizeof packed_count[0]);
-    order_lists(book, packed_grocer, packed_count);
-    order_lists(book, book->packed_grocer, book->packed_count);
-    bool same = memcmp(packed_grocer, book->packed_grocer, book->tallies * sizeof packed_grocer[0]) == 0 &&
-                memcmp(packed_count, book->packed_count, book->tallies * sizeof packed_count[0]) == 0;
-    if (!expect(same, "the packed lists do not hold each tally once")) return;
-    memcpy(lending->twin[PACKED_GROCERS].words, lending->table[PACKED_GROCERS].words,
-           book->tallies * sizeof packed_grocer[0]);
-    memcpy(lending->twin[PACKED_COUNTS].words, lending->table[PACKED_COUNTS].words,
-           book->tallies * sizeof packed_count[0]);
-}
-
 uint16_t ask_book(struct calling *calling, struct sizes sizes, uint16_t box)
 {
     static struct job job;
@@ -174,7 +155,6 @@ uint16_t ask_book(struct calling *calling, struct sizes sizes, uint16_t box)
                                    SLICE(uint16_t, STARTS), SLICE(uint16_t, PACKED_GROCERS),
                                    SLICE(int32_t, PACKED_COUNTS), SLICE(uint16_t, NUMBERS));
     hand_back(&calling->lending, lent, BOOK, answer);
-    if (!due && !answer) take_open_order(calling, &book);
     compare_call(calling, "book", answer, due);
     return answer;
 }

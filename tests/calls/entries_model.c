@@ -125,11 +125,19 @@ static size_t list_local(uint16_t list[], const struct job *job, uint16_t box, b
     return length;
 }
 
-static uint16_t place_in(const uint16_t list[], uint16_t word)
+/* The box's tallies of one offer: by local grocer, then by place. */
+static void pack_offer(const struct job *job, uint16_t box, uint16_t offer, struct book *book)
 {
-    uint16_t place = 0;
-    while (list[place] != word) place++;
-    return place;
+    size_t list[MOST_TALLIES], length = 0;
+    for (size_t t = 0; t < job->sizes.tallies; t++)
+        if (job->tally[t].place == offer && holds(job, box, t)) list[length++] = t;
+    for (uint16_t g = 0; g < book->grocers && length > 0; g++)
+        for (size_t p = 0; p < length; p++) {
+            const struct tally *tally = &job->tally[list[p]];
+            if (tally->grocer != book->grocer[g]) continue;
+            book->packed_grocer[book->tallies] = g;
+            book->packed_count[book->tallies++] = tally->count;
+        }
 }
 
 void make_book(const struct job *job, uint16_t box, struct book *book)
@@ -139,12 +147,7 @@ void make_book(const struct job *job, uint16_t box, struct book *book)
     book->tallies = 0;
     for (size_t i = 0; i < book->offers; i++) {
         book->start[i] = (uint16_t)book->tallies;
-        for (size_t t = 0; t < job->sizes.tallies; t++) {
-            const struct tally *tally = &job->tally[t];
-            if (tally->place != book->offer[i] || !holds(job, box, t)) continue;
-            book->packed_grocer[book->tallies] = place_in(book->grocer, tally->grocer);
-            book->packed_count[book->tallies++] = tally->count;
-        }
+        pack_offer(job, box, book->offer[i], book);
     }
     book->start[book->offers] = (uint16_t)book->tallies;
 }
@@ -164,27 +167,6 @@ void write_book(const struct book *book, const struct table tables[ALL_TABLES])
     put_words(tables[NUMBERS],
               (const uint16_t[]){(uint16_t)book->offers, (uint16_t)book->grocers, (uint16_t)book->tallies},
               ENTRIES_NUMBERS);
-}
-
-static bool is_before(uint16_t grocer, int32_t count, uint16_t other_grocer, int32_t other_count)
-{
-    return grocer < other_grocer || (grocer == other_grocer && count < other_count);
-}
-
-/* Each list sorted by grocer and count. */
-void order_lists(const struct book *book, uint16_t packed_grocer[], int32_t packed_count[])
-{
-    for (size_t i = 0; i < book->offers; i++)
-        for (size_t p = book->start[i]; p < book->start[i + 1]; p++)
-            for (size_t q = p; q > book->start[i]; q--) {
-                uint16_t grocer = packed_grocer[q];
-                int32_t count = packed_count[q];
-                if (!is_before(grocer, count, packed_grocer[q - 1], packed_count[q - 1])) break;
-                packed_grocer[q] = packed_grocer[q - 1];
-                packed_count[q] = packed_count[q - 1];
-                packed_grocer[q - 1] = grocer;
-                packed_count[q - 1] = count;
-            }
 }
 
 /* The desk; its records are as many as the grocers lent. */

@@ -26,9 +26,6 @@ uint16_t book_refusal(struct sizes sizes, const struct table tables[ALL_TABLES],
 void make_book(const struct job *job, uint16_t box, struct book *book);
 void write_book(const struct book *book, const struct table tables[ALL_TABLES]);
 
-/* The tallies of each offer's list in one order, whatever the order inside the lists was. */
-void order_lists(const struct book *book, uint16_t packed_grocer[], int32_t packed_count[]);
-
 /* The desk: its refusal, or 0 and the amount. */
 uint16_t desk_refusal(struct sizes sizes, uint16_t wanted, const struct table tables[ALL_TABLES]);
 int64_t serial_amount(uint16_t wanted, const struct table tables[ALL_TABLES]);

@@ -2,28 +2,25 @@
 use mathlib.Core.Path.{_≡_, refl, sym, ap, _∙_}
 use mathlib.Core.Bool.{true, false}
 use mathlib.Core.List.{List, [], _∷_}
-use Prim.Native.Nat.{ℕ, zero, suc, _<_, _≤_}
+use Prim.Native.Nat.{ℕ, _<_, _≤_}
 use native.Mathlib.Omega.{arith}
 use lib.Dec.{ltb}
 use lib.ListN.{length, set, replicate}
 use borrow.Author.Tests.{lt-ltb, le-ltb, ltb-false}
-use Rattle.laws.specs.Checks.{firstMet}
 use Rattle.laws.specs.Tables.{tabulate, overwrite, recell}
 use Rattle.laws.proofs.Bools.{cond-yes, cond-no}
 use Rattle.laws.proofs.Checks.{none-of}
-use Rattle.model.specs.Job.{Job}
-use Rattle.model.specs.Tables.{JobTables, jobOf}
-use Rattle.model.specs.Local.{bookRefusals}
+use Rattle.model.specs.Tables.{JobTables}
 use Rattle.tables.specs.Messages.{cellAt}
 use Rattle.messages.specs.Answers.{said as saidMessages, TablesGiven, tablesGiven, messageTables}
 use Rattle.messages.specs.declared.Answer.{Answer as MessagesCall}
 use Rattle.messages.specs.declared.Answer.the-variants.{Made, Refused as NotMade}
 use Rattle.local.specs.Sort.{inFront}
-use Rattle.local.specs.Book.{said as saidBook, bookAnswer, BookTables, bookLengths, Booked}
+use Rattle.local.specs.Book.{said as saidBook, BookTables, BookOutcome, given, booked}
 use Rattle.local.specs.declared.book.Answer.{Answer as BookCall}
 use Rattle.local.specs.declared.book.Answer.the-variants.{Book, Refused as NotBooked}
 use Rattle.entries.specs.EntryTables.{messagesTold, messagesFor, messagesAs, messagesShort, noWords, messagesBy}
-use Rattle.entries.specs.EntryBook.{NumbersTold, numbersTold, numbersAs, numbersBy, BookedBy}
+use Rattle.entries.specs.EntryBook.{NumbersTold, numbersTold, numbersAs, bookTold, bookedAs, bookedBy}
 
 -- One word, and three, written in front of a buffer.
 pub put-one-word : (l : List ℕ) (a : ℕ) → 1 ≤ length l → set l 0 a ≡ inFront (a ∷ []) l
@@ -84,25 +81,17 @@ pub told-not-booked : (a : BookCall) (n : ℕ) (l : List ℕ) → a ≡ NotBooke
 unfolding numbersAs saidBook
 told-not-booked a n l e = rw e
 
--- The number told is 0 just where no refusal is met.
-by-number : (k : ℕ) (j : Job) (b r : ℕ) (l l′ : List ℕ) (W E : Type 0) → numbersTold r l′ ≡ numbersAs (bookAnswer k j b) l → (k ≡ 0 → W) → ((k ≡ 0 → ⊥) → E) →
-    (r ≡ 0 → W) × ((r ≡ 0 → ⊥) → E)
-unfolding numbersAs bookAnswer
-by-number zero j b r l l′ W E e w u = (λ z. w refl, λ z. absurd (z (ap (λ (o : NumbersTold). o .answer) e)))
-by-number (suc k) j b r l l′ W E e w u =
-    let is : r ≡ suc k = ap (λ (o : NumbersTold). o .answer) e in
-    (λ z. absurd (omega (arith, is, z)), λ z. u (λ q. omega (arith, q)))
-
 module _ (f : JobTables) (b : ℕ) (before : BookTables) (l : List ℕ) where
   -- 20: the buffer for the numbers is short.
-  pub booked-short : length l < 3 → BookedBy f b before l 20 before l
-  unfolding numbersBy
-  booked-short h = record { told = sym (cond-yes _ _ _ (lt-ltb _ _ h)); written = λ z. absurd (omega (arith, z)); unchanged = λ z. refl }
+  pub booked-short : length l < 3 → bookTold 20 before l ≡ bookedBy f b before l
+  unfolding bookedBy
+  booked-short h = sym (cond-yes _ _ _ (lt-ltb _ _ h))
 
   -- Else what the book gives, told.
-  pub booked-told : (a : BookCall) (after : BookTables) (r : ℕ) (l′ : List ℕ) → 3 ≤ length l → numbersTold r l′ ≡ numbersAs (saidBook a) l → Booked f b before a after → BookedBy f b before l r after l′
-  unfolding numbersBy
+  pub booked-told : (a : BookCall) (after : BookTables) (r : ℕ) (l′ : List ℕ) → 3 ≤ length l → numbersTold r l′ ≡ numbersAs (saidBook a) l →
+      given (saidBook a) after ≡ booked f b before → bookTold r after l′ ≡ bookedBy f b before l
+  unfolding bookedBy bookedAs
   booked-told a after r l′ h e g =
-      let due : numbersTold r l′ ≡ numbersAs (bookAnswer (firstMet (bookRefusals f (bookLengths before) b)) (jobOf f) b) l = e ∙ ap (λ o. numbersAs o l) (g .answer) in
-      let both = by-number (firstMet (bookRefusals f (bookLengths before) b)) (jobOf f) b r l l′ _ _ due (g .written) (g .unchanged) in
-      record { told = due ∙ sym (cond-no _ _ _ (le-ltb _ _ h)); written = both .0; unchanged = both .1 }
+      ap (λ (o : NumbersTold). bookTold (o .answer) after (o .numbers)) e
+      ∙ ap (λ (o : BookOutcome). bookedAs o l) g
+      ∙ sym (cond-no _ _ _ (le-ltb _ _ h))

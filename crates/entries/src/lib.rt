@@ -9,11 +9,11 @@ ghost use Rattle.format.specs.Tables.{writeResult};
 ghost use Rattle.format.specs.Lent.{fileLent};
 ghost use Rattle.messages.specs.Answers.{said as saidMessages, tablesGiven};
 ghost use Rattle.tables.specs.Messages.{cellAt};
-ghost use Rattle.local.specs.Book.{said as saidBook, bookTables};
+ghost use Rattle.local.specs.Book.{said as saidBook, bookBefore, bookAfter};
 ghost use Rattle.writer.specs.Outcome.{answerOf};
 ghost use Rattle.entries.specs.Entries.{Fields, lentRecords, lentTally, told, toldAs, toldBy, writeNumber, written, writtenAs};
 ghost use Rattle.entries.specs.EntryTables.{messagesTold, messagesAs, messagesBy};
-ghost use Rattle.entries.specs.EntryBook.{numbersTold, numbersAs, BookedBy};
+ghost use Rattle.entries.specs.EntryBook.{numbersTold, numbersAs, bookTold, bookedBy};
 ghost use Rattle.reconcile.specs.Records.{recordsOf, answerOf as deskAnswerOf};
 use reconcile::Tally;
 use writer::Answer;
@@ -333,17 +333,10 @@ pub extern "C" fn entries_book(
     packed_counts: &mut [i32],
     numbers: &mut [u16],
 ) -> u16
-    ensures { λ r. ⌜ BookedBy
+    ensures { λ r. ⌜ bookTold r (bookAfter «local_offers» «local_grocers» starts «packed_grocers» «packed_counts») (now (numbers .exit)) ≡ bookedBy
         (bagLent boxes grocers offers tallies price «offer_owner» «grocer_owner» «tally_grocer» «tally_box» «tally_offer» «tally_count»
         «tally_bag» «tally_revision»)
-        «book_box»
-        (bookTables (now («local_offers» .entry)) (now («local_grocers» .entry)) (now (starts .entry)) (now («packed_grocers» .entry))
-        (now («packed_counts» .entry)))
-        (now (numbers .entry))
-        r
-        (bookTables (now («local_offers» .exit)) (now («local_grocers» .exit)) (now (starts .exit)) (now («packed_grocers» .exit))
-        (now («packed_counts» .exit)))
-        (now (numbers .exit)) ⌝ }
+        «book_box» (bookBefore «local_offers» «local_grocers» starts «packed_grocers» «packed_counts») (now (numbers .entry)) ⌝ }
 {
     if numbers.len() < 3 {
         return 20;

@@ -1,5 +1,5 @@
 -- Demand 1 holds. Assumes nothing.
-use mathlib.Core.Path.{_≡_, refl, sym, _∙_}
+use mathlib.Core.Path.{_≡_, refl, sym}
 use mathlib.Core.List.{List, [], _∷_}
 use mathlib.Core.Logic.{inl, inr}
 use mathlib.Core.Bool.{Bool}
@@ -9,7 +9,7 @@ use lib.IntN.{ℤ}
 use borrow.Author.Tests.{ne-eqb}
 use Rattle.laws.specs.Checks.{firstMet}
 use Rattle.laws.proofs.Bools.{split}
-use Rattle.model.specs.Tables.{JobTables, StateTables, jobOf}
+use Rattle.model.specs.Tables.{JobTables, StateTables}
 use Rattle.model.specs.Local.{bookRefusals, jobRefusals}
 use Rattle.messages.specs.Answers.{said}
 use Rattle.local.specs.Book.{bookLengths}
@@ -22,7 +22,7 @@ use Rattle.model.proofs.Refusal.{refused-number}
 use Rattle.format.proofs.Firsts.{below-hit, below-none}
 use Rattle.format.proofs.Tables.{read-refused, write-refused}
 use Rattle.messages.proofs.Refused.{messages-refused}
-use Rattle.guarantees.proofs.Book.{answer-no}
+use Rattle.local.proofs.Booking.{booked-none}
 use Rattle.guarantees.proofs.Host as H
 
 first-is : (rs : List (Bool × ℕ)) → IsFirst rs (firstMet rs)
@@ -74,7 +74,7 @@ demand1 = record {
   desk = desk-refused;
   reader = read-refused;
   writer = write-refused;
-  book = λ f b before r after w h. (w .answer ∙ answer-no (firstMet (bookRefusals f (bookLengths before) b)) (jobOf f) b h, w .unchanged h);
+  book = λ f b t h. sym (booked-none f b t (firstMet (bookRefusals f (bookLengths t) b)) refl h);
   messageTables = λ f p t h. sym (messages-refused f p t (firstMet (jobRefusals f)) refl h);
   firstRead = H.first-read;
   firstStep = H.first-step;

@@ -12,19 +12,18 @@ use Rattle.laws.specs.Below.{naturals, sum, only}
 use Rattle.laws.specs.Checks.{firstMet}
 use Rattle.laws.specs.Masks.{without}
 use Rattle.laws.specs.Tables.{tabulate}
+use Rattle.laws.specs.Limits.{maxAmount}
 use Rattle.model.specs.Job.{Job, needWord, sharerWord, plainSum}
 use Rattle.model.specs.Words.{ownerWords}
 use Rattle.recount.specs.Recount.{countedTwice}
 use Rattle.model.specs.Tables.{JobTables, countedOf, jobOf}
-use Rattle.laws.specs.Limits.{maxAmount}
 use Rattle.model.specs.Ranges.{jobInRange}
-use Rattle.model.specs.Local.{priceTable, totalTable, jobRefusals}
+use Rattle.model.specs.Local.{localOffers, start, packed, BookLengths, bookRefusals, priceTable, totalTable, jobRefusals}
 use Rattle.model.specs.Reconcile.{TallyRecord, owed, reconciled}
 use Rattle.tables.specs.Messages.{cellAt}
 use Rattle.messages.specs.Sums.{rowSum, columnSum, tableSum}
 use Rattle.messages.specs.Answers.{made, tablesGiven, messageTables}
-use Rattle.local.specs.Book.{BookTables, Booked, said}
-use Rattle.local.specs.declared.book.Answer.{Answer}
+use Rattle.local.specs.Book.{BookTables, bookLengths, booked}
 use Rattle.reconcile.specs.Records.{tallyRecord}
 
 -- Where the two tables of a job have 0, and what they sum to.
@@ -52,14 +51,13 @@ jobRecords f =
 
 -- What these calls come to, beside their refusals (`Demand1`).
 pub record Calls : Type 0 where
-  -- Of the local book nothing is open but the packed lists of a call that is not refused: two calls that are lent the same agree
-  -- in the answer,
-  pub bookAnswer : (f : JobTables) (b : ℕ) (before : BookTables) (r r′ : Answer) (after after′ : BookTables) →
-      Booked f b before r after → Booked f b before r′ after′ → said r ≡ said r′
-  -- the local offers, the local grocers and the starts.
-  pub bookLists : (f : JobTables) (b : ℕ) (before : BookTables) (r r′ : Answer) (after after′ : BookTables) →
-      Booked f b before r after → Booked f b before r′ after′ →
-      (after .localOffers ≡ after′ .localOffers) × (after .localGrocers ≡ after′ .localGrocers) × (after .starts ≡ after′ .starts)
+  -- "Floor staff lay two boxes' books side by side" (02 §4): the book has one form. Calls for equal jobs, whatever tables hold them,
+  -- give equal books, in the answer and in all words of the five tables.
+  pub sameBooks : (f f′ : JobTables) (b : ℕ) (t : BookTables) → jobOf f ≡ jobOf f′ →
+      firstMet (bookRefusals f (bookLengths t) b) ≡ 0 → firstMet (bookRefusals f′ (bookLengths t) b) ≡ 0 → booked f b t ≡ booked f′ b t
+  -- The packed lists have as many words as the last start says.
+  pub packedWhole : (f : JobTables) (n : BookLengths) (b : ℕ) → firstMet (bookRefusals f n b) ≡ 0 →
+      length (packed (jobOf f) b) ≡ start (jobOf f) b (length (localOffers (jobOf f) b))
   -- Where it is not refused, `message_tables` answers the words of the job, and leaves its two tables, whatever they held.
   pub messageTables : (f : JobTables) (p t : List (List ℕ)) → firstMet (jobRefusals f) ≡ 0 →
       messageTables f p t ≡ tablesGiven (made (ownerWords (jobOf f))) (priceTable (jobOf f)) (totalTable (jobOf f))

@@ -18,8 +18,7 @@ use Rattle.format.specs.Job.{Head}
 use Rattle.format.specs.Tables.{ReaderTables, FileTables, refused as notRead, notWritten, readRefusal, readResult, writeRefusal, writeResult}
 use Rattle.model.specs.Local.{bookRefusals, jobRefusals}
 use Rattle.messages.specs.Answers.{refused as notMade, tablesGiven, messageTables}
-use Rattle.local.specs.Book.{refused as notBooked, said, BookTables, bookLengths, Booked}
-use Rattle.local.specs.declared.book.Answer.{Answer}
+use Rattle.local.specs.Book.{refused as notBooked, BookTables, bookLengths, given, booked}
 use Rattle.host.specs.Host.{hostRead, readByHost, hostRun, ranByHost, hostStep, steppedByHost}
 
 -- n is the number of the first condition met, or 0 where none is.
@@ -64,10 +63,9 @@ pub record Demand1 : Type 0 where
   -- and the writer.
   pub writer : (h : Head) (l : FileTables) (out : List ℕ) → (writeRefusal h l out ≡ 0 → ⊥) →
       writeResult h l out ≡ record { answer = notWritten (writeRefusal h l out); out = out }
-  -- The local book, whatever meets its contract, leaves its five tables,
-  pub book : (f : JobTables) (b : ℕ) (before : BookTables) (r : Answer) (after : BookTables) → Booked f b before r after →
-      (firstMet (bookRefusals f (bookLengths before) b) ≡ 0 → ⊥) →
-      (said r ≡ notBooked (firstMet (bookRefusals f (bookLengths before) b))) × (after ≡ before)
+  -- The local book leaves its five tables,
+  pub book : (f : JobTables) (b : ℕ) (t : BookTables) → (firstMet (bookRefusals f (bookLengths t) b) ≡ 0 → ⊥) →
+      booked f b t ≡ given (notBooked (firstMet (bookRefusals f (bookLengths t) b))) t
   -- and the tables of words between boxes stay both as they were.
   pub messageTables : (f : JobTables) (p t : List (List ℕ)) → (firstMet (jobRefusals f) ≡ 0 → ⊥) →
       messageTables f p t ≡ tablesGiven (notMade (firstMet (jobRefusals f))) p t

@@ -4,6 +4,7 @@ pub mod Sorting
 pub mod Placing
 pub mod Listing
 pub mod Packing
+pub mod Twice
 pub mod Modelled
 pub mod Ready
 pub mod Booking

@@ -1,32 +1,33 @@
 -- The lists, starts and packed tallies of a box, from tables without bags, are the model's. Assumes nothing.
-use mathlib.Core.Path.{_≡_, refl, sym, ap, ap₂, _∙_}
-use mathlib.Core.Bool.{Bool, _&&_, not}
+use mathlib.Core.Path.{_≡_, refl, sym, ap, ap₂, _∙_, subst}
+use mathlib.Core.Bool.{Bool, true, false, _&&_, not}
 use mathlib.Core.List.{List, [], _++_}
-use Prim.Native.Nat.{ℕ, suc, _+_, _-_, _<_, _≤_}
+use Prim.Native.Nat.{ℕ, suc, _+_, _<_, _≤_}
 use native.Mathlib.Omega.{arith}
 use lib.Dec.{eqb}
-use lib.ListN.{length, getD}
+use lib.ListN.{length, getD, length-map}
 use lib.IntN.{ℤ, pos}
 use borrow.Author.Tests.{eqb-true, eq-eqb, ne-eqb, lt-ltb}
-use Rattle.laws.specs.Below.{naturals, only, any, count, find, ascending}
-use Rattle.laws.proofs.Bools.{split, clash, and-one}
+use Rattle.laws.specs.Below.{naturals, any, count, find, ascending}
+use Rattle.laws.proofs.Bools.{split, clash, and-one, and-l, and-true, and-comm, eqb-same}
 use Rattle.laws.proofs.Sums.{sum-cong}
-use Rattle.laws.proofs.Below.{count-cong, find-only, find-passes, find-none, any-cong, find-cong}
+use Rattle.laws.proofs.Below.{any-at, find-only, find-passes, find-none, any-cong, find-cong}
 use Rattle.laws.specs.Tables.{overwrite}
-use Rattle.laws.proofs.Tables.{overwrite-cong, length-tabulate, getD-tabulate, getD-overwrite, word-in}
-use Rattle.laws.proofs.Ascending.{ascending-cong}
-use Rattle.model.specs.Job.{heldBy, needs, shares, priceWord, totalWord}
+use Rattle.laws.proofs.Tables.{overwrite-cong, overwrite-as, length-tabulate, getD-tabulate, word-in}
+use Rattle.laws.proofs.Ascending.{ascending-cong, length-ascending}
+use Rattle.model.specs.Job.{Job, heldBy, needs, shares, priceWord, totalWord}
 use Rattle.model.specs.Tables.{JobTables, jobOf}
-use Rattle.model.specs.Local.{localOffers, localGrocers, localGrocer, ofOffer, start, starts, Packed}
-use Rattle.local.specs.Sort.{at, inFront, begin, keyCount, sorted}
+use Rattle.model.specs.Local.{chained, localOffers, localGrocers, localGrocer, ofOffer, start, starts, packed, packedGrocers, packedCounts}
+use Rattle.local.specs.Sort.{at, inFront, begin, sorted, place}
 use Rattle.local.specs.Lists.{localList, heldOf, classOf, numberIn}
-use Rattle.local.specs.Pack.{tallyKey, packedTallies, packedStart, packedNumber, packedCount}
+use Rattle.local.specs.Pack.{tallyKey, PackLent, packWords, packedPart, packedTallies, packedStart, packedNumber, packedCount}
 use Rattle.model.proofs.Handed.{bare-stands}
-use Rattle.local.proofs.Extra.{chained-cong}
-use Rattle.local.proofs.Sorting.{begin-suc, length-sorted, sorted-in, sorted-once, part-once}
+use Rattle.local.proofs.Extra.{chained-cong, length-chained, map-at, count-keys}
+use Rattle.local.proofs.Sorting.{length-sorted, place-in, sorted-at, sorted-in, sorted-once}
 use Rattle.local.proofs.Placing.{begin-le}
 use Rattle.local.proofs.Listing.{sorted-list}
-use Rattle.local.proofs.Packing.{at-front, packed-in}
+use Rattle.local.proofs.Packing.{at-front}
+use Rattle.local.proofs.Twice.{length-packed, packed-in}
 
 -- Owners and marks that agree below n make the same list.
 pub list-cong : (k n b : ℕ) (owner owner′ : ℕ → ℕ) (marked marked′ : ℕ → Bool) → ((x : ℕ) → x < n → owner x ≡ owner′ x) → ((x : ℕ) → x < n → marked x ≡ marked′ x) →
@@ -55,6 +56,16 @@ module _ (k n : ℕ) (owner : ℕ → ℕ) (marked : ℕ → Bool) (b : ℕ) whe
 
   pub list-in : (i : ℕ) → i < length (localList k n owner marked b) → at (localList k n owner marked b) i < n
   list-in i h = rw as-sorted at (sorted-in class n (k + 1) i (omega (arith, length-is)) .0)
+
+  -- What is marked stands in it: its local number is one of the list's places.
+  pub list-has : (x : ℕ) → x < n → owner x < k → marked x ≡ true → numberIn (localList k n owner marked b) (length (localList k n owner marked b)) x < length (localList k n owner marked b)
+  unfolding numberIn classOf
+  list-has x hx ho hm =
+      let small : class x < k + 1 = split (eqb (owner x) b) (λ q. rw q (omega arith)) (λ q. rw (q, hm) (omega arith)) in
+      find-passes (length (localList k n owner marked b)) (λ i. eqb (at (localList k n owner marked b) i) x)
+      (any-at (length (localList k n owner marked b)) (λ i. eqb (at (localList k n owner marked b) i) x) (place class n x)
+      (omega (arith, length-is, place-in class n (k + 1) x hx small))
+      (eq-eqb (at (localList k n owner marked b) (place class n x)) x (ap (λ (s : List ℕ). at s (place class n x)) (sym as-sorted) ∙ sorted-at class n (k + 1) x hx small))) .0
 
   pub list-once : (i m : ℕ) → i < length (localList k n owner marked b) → m < length (localList k n owner marked b) → at (localList k n owner marked b) i ≡ at (localList k n owner marked b) m → i ≡ m
   list-once i m hi hm e = sorted-once class n (k + 1) i m (omega (arith, length-is)) (omega (arith, length-is)) (rw as-sorted e)
@@ -106,6 +117,38 @@ module _ (f : JobTables) (bare : f .tallyBag ≡ []) (b : ℕ) (hb : b < f .boxe
       list-cong (f .boxes) (f .grocers) b (at (f .grocerOwner)) (jobOf f .grocerOwner) (heldOf (f .tallyGrocer) (f .tallyBox) (f .tallies) b) (λ g. shares (jobOf f) g b)
       (λ g l. sym (word-in (f .grocers) (f .grocerOwner) 0 g l)) (λ g l. sym (shares-held g))
 
+  -- In range the grocer of a tally that the box holds is a local one.
+  pub has-place : ((x : ℕ) → x < f .grocers → at (f .grocerOwner) x < f .boxes) → ((t : ℕ) → t < f .tallies → at (f .tallyGrocer) t < f .grocers) →
+      (t : ℕ) → t < f .tallies → heldBy (jobOf f) t b ≡ true → localGrocer (jobOf f) b (jobOf f .tallyGrocer t) < length (localGrocers (jobOf f) b)
+  unfolding localGrocer numberIn heldOf jobOf
+  has-place owners items t ht h =
+      let x = at (f .tallyGrocer) t in
+      rw (word-in (f .tallies) (f .tallyGrocer) 0 t ht)
+      (subst (λ (s : List ℕ). numberIn s (length s) (at (f .tallyGrocer) t) < length s) grocers-are
+      (list-has (f .boxes) (f .grocers) (at (f .grocerOwner)) (heldOf (f .tallyGrocer) (f .tallyBox) (f .tallies) b) b x (items t ht) (owners x (items t ht))
+      (any-at (f .tallies) (λ t. eqb (at (f .tallyBox) t) b && eqb (at (f .tallyGrocer) t) x) t ht (and-true (sym (held-word t ht) ∙ h) (eqb-same x)))))
+
+-- ---- Where each of the box's tallies has a local grocer, the packed list has them all.
+
+module _ (j : Job) (b : ℕ) (has : (t : ℕ) → t < j .tallies → heldBy j t b ≡ true → localGrocer j b (j .tallyGrocer t) < length (localGrocers j b)) where
+  pub part-whole : (c : ℕ) →
+      length (chained (length (localGrocers j b)) (λ d. ascending (j .tallies) (λ t. ofOffer j b c t && eqb (localGrocer j b (j .tallyGrocer t)) d))) ≡ count (j .tallies) (ofOffer j b c)
+  unfolding ofOffer
+  part-whole c =
+      length-chained (length (localGrocers j b)) (λ d. ascending (j .tallies) (λ t. ofOffer j b c t && eqb (localGrocer j b (j .tallyGrocer t)) d))
+      ∙ sum-cong naturals (length (localGrocers j b)) (λ d. length (ascending (j .tallies) (λ t. ofOffer j b c t && eqb (localGrocer j b (j .tallyGrocer t)) d)))
+      (λ d. count (j .tallies) (λ t. ofOffer j b c t && eqb (localGrocer j b (j .tallyGrocer t)) d))
+      (λ d l. length-ascending (j .tallies) (λ t. ofOffer j b c t && eqb (localGrocer j b (j .tallyGrocer t)) d))
+      ∙ count-keys (j .tallies) (length (localGrocers j b)) (ofOffer j b c) (λ t. localGrocer j b (j .tallyGrocer t)) (λ t l e. has t l (and-l _ _ e))
+
+  pub packed-whole : length (packed j b) ≡ start j b (length (localOffers j b))
+  unfolding packed start
+  packed-whole =
+      length-chained (length (localOffers j b)) (λ c. chained (length (localGrocers j b)) (λ d. ascending (j .tallies) (λ t. ofOffer j b c t && eqb (localGrocer j b (j .tallyGrocer t)) d)))
+      ∙ sum-cong naturals (length (localOffers j b))
+      (λ c. length (chained (length (localGrocers j b)) (λ d. ascending (j .tallies) (λ t. ofOffer j b c t && eqb (localGrocer j b (j .tallyGrocer t)) d))))
+      (λ c. count (j .tallies) (ofOffer j b c)) (λ c l. part-whole c)
+
 -- ---- The packed tallies, from the lists as they stand in front of their tables.
 
 module _ (f : JobTables) (bare : f .tallyBag ≡ []) (b : ℕ) (hb : b < f .boxes) (list rest : List ℕ) (l : ℕ)
@@ -132,41 +175,6 @@ module _ (f : JobTables) (bare : f .tallyBag ≡ []) (b : ℕ) (hb : b < f .boxe
       (number-is list l (at (f .tallyOffer) t) c offer-once hc ∙ ap (eqb (at (f .tallyOffer) t)) (offer-at c hc)))
       (λ q. rw (held-word f bare b hb t ht, q) (ne-eqb l c (λ e. omega arith)))
 
-  -- Where the tallies of a local offer begin.
-  pub start-model : (i : ℕ) → i ≤ l → packedStart (f .tallyBox) (f .tallyOffer) (f .tallies) list l b i ≡ start (jobOf f) b i
-  unfolding packedStart begin keyCount start jobOf
-  start-model i h =
-      sum-cong naturals i (λ c. count (f .tallies) (λ t. eqb (key t) c)) (λ c. count (jobOf f .tallies) (ofOffer (jobOf f) b c))
-      (λ c hc. count-cong (f .tallies) (λ t. eqb (key t) c) (ofOffer (jobOf f) b c) (λ t ht. key-of c t (omega arith) ht))
-
-  -- The starts are the model's.
-  pub starts-model : (old : List ℕ) → overwrite (suc l) (packedStart (f .tallyBox) (f .tallyOffer) (f .tallies) list l b) old ≡ inFront (starts (jobOf f) b) old
-  unfolding inFront starts
-  starts-model old =
-      overwrite-cong (suc l) (packedStart (f .tallyBox) (f .tallyOffer) (f .tallies) list l b) (at (starts (jobOf f) b)) old
-      (λ i h. start-model i (omega arith) ∙ sym (getD-tabulate (suc (length (localOffers (jobOf f) b))) (start (jobOf f) b) i 0 (omega arith)))
-      ∙ ap (λ (n : ℕ). overwrite n (at (starts (jobOf f) b)) old) (ap suc l-is ∙ sym (length-tabulate (suc (length (localOffers (jobOf f) b))) (start (jobOf f) b)))
-
-  abbrev tally : ℕ → ℕ
-  tally = at (packedTallies (f .tallyBox) (f .tallyOffer) (f .tallies) list l b)
-
-  -- The number of places is the number of the box's tallies.
-  pub total-model : packedStart (f .tallyBox) (f .tallyOffer) (f .tallies) list l b l ≡ start (jobOf f) b (length (localOffers (jobOf f) b))
-  total-model = start-model l (omega arith) ∙ ap (start (jobOf f) b) l-is
-
-  place-tally : (i : ℕ) → i < start (jobOf f) b (length (localOffers (jobOf f) b)) → tally i < f .tallies
-  place-tally i h = packed-in (f .tallyBox) (f .tallyOffer) (f .tallies) list l b i (omega (arith, total-model))
-
-  -- Each tally of an offer stands once in the offer's list.
-  tally-once : (k t : ℕ) → k < l → t < f .tallies →
-      count (start (jobOf f) b (suc k) - start (jobOf f) b k) (λ i. eqb (tally (start (jobOf f) b k + i)) t) ≡ only naturals (ofOffer (jobOf f) b k t) 1
-  unfolding packedTallies packedStart
-  tally-once k t hk ht =
-      ap (λ (n : ℕ). count n (λ i. eqb (tally (start (jobOf f) b k + i)) t)) (omega (arith, start-model k (omega arith), start-model (suc k) hk, begin-suc key (f .tallies) k))
-      ∙ ap (λ (s : ℕ). count (keyCount key (f .tallies) k) (λ i. eqb (tally (s + i)) t)) (sym (start-model k (omega arith)))
-      ∙ part-once key (f .tallies) l k t hk ht
-      ∙ ap (λ (u : Bool). only naturals u 1) (key-of k t hk ht)
-
   module _ (names more : List ℕ) (g : ℕ) (names-are : names ≡ inFront (localGrocers (jobOf f) b) more) (g-is : g ≡ length (localGrocers (jobOf f) b)) where
     name-at : (i : ℕ) → i < g → at names i ≡ at (localGrocers (jobOf f) b) i
     name-at i h = ap (λ (s : List ℕ). at s i) names-are ∙ at-front (localGrocers (jobOf f) b) more i (omega arith)
@@ -178,20 +186,95 @@ module _ (f : JobTables) (bare : f .tallyBag ≡ []) (b : ℕ) (hb : b < f .boxe
         find-cong g (λ i. eqb (at names i) x) (λ i. eqb (at (localGrocers (jobOf f) b) i) x) (λ i h. ap (λ (v : ℕ). eqb v x) (name-at i h))
         ∙ ap (λ (n : ℕ). find n (λ i. eqb (at (localGrocers (jobOf f) b) i) x)) g-is
 
-    -- The packed lists are the model's.
-    pub packed-model : (n : ℕ) (grocers oldGrocers : List ℕ) (counts oldCounts : List ℤ) → n ≡ packedStart (f .tallyBox) (f .tallyOffer) (f .tallies) list l b l →
-        grocers ≡ overwrite n (packedNumber names g (f .tallyGrocer) (packedTallies (f .tallyBox) (f .tallyOffer) (f .tallies) list l b)) oldGrocers →
-        counts ≡ overwrite n (packedCount (f .tallyCount) (packedTallies (f .tallyBox) (f .tallyOffer) (f .tallies) list l b)) oldCounts →
-        Packed (jobOf f) b grocers counts
-    unfolding packedNumber packedCount jobOf
-    packed-model n grocers oldGrocers counts oldCounts n-is grocers-is counts-is = record {
-      tally = tally;
-      grocer = λ i h. ap (λ (s : List ℕ). at s i) grocers-is
-          ∙ getD-overwrite n (packedNumber names g (f .tallyGrocer) (packedTallies (f .tallyBox) (f .tallyOffer) (f .tallies) list l b)) oldGrocers i 0 (omega (arith, total-model))
-          ∙ number-model (at (f .tallyGrocer) (tally i))
-          ∙ ap (localGrocer (jobOf f) b) (sym (word-in (f .tallies) (f .tallyGrocer) 0 (tally i) (place-tally i h)));
-      counted = λ i h. ap (λ (s : List ℤ). getD s i (pos 0)) counts-is
-          ∙ getD-overwrite n (packedCount (f .tallyCount) (packedTallies (f .tallyBox) (f .tallyOffer) (f .tallies) list l b)) oldCounts i (pos 0) (omega (arith, total-model))
-          ∙ sym (word-in (f .tallies) (f .tallyCount) (pos 0) (tally i) (place-tally i h));
-      once = λ k t hk ht. tally-once k t (omega arith) ht;
-    }
+    -- What packing is lent.
+    abbrev lent : PackLent
+    lent = packWords (f .tallyGrocer) (f .tallyBox) (f .tallyOffer) (f .tallies) b list l names g
+
+    abbrev grocerOf : ℕ → ℕ
+    grocerOf t = localGrocer (jobOf f) b (jobOf f .tallyGrocer t)
+
+    -- The first key of a tally that the box holds is its local grocer.
+    grocer-key : (t : ℕ) → t < f .tallies → eqb (at (f .tallyBox) t) b ≡ true → tallyKey (f .tallyBox) (f .tallyGrocer) names g b t ≡ grocerOf t
+    unfolding tallyKey jobOf
+    grocer-key t ht q = rw q (number-model (at (f .tallyGrocer) t) ∙ ap (localGrocer (jobOf f) b) (sym (word-in (f .tallies) (f .tallyGrocer) 0 t ht)))
+
+    not-held : (c t : ℕ) → t < f .tallies → eqb (at (f .tallyBox) t) b ≡ false → ofOffer (jobOf f) b c t ≡ false
+    unfolding ofOffer
+    not-held c t ht q = rw (held-word f bare b hb t ht, q)
+
+    -- Both keys say what the model asks.
+    both-keys : (c d t : ℕ) → c < l → t < f .tallies →
+        (eqb (tallyKey (f .tallyBox) (f .tallyGrocer) names g b t) d && eqb (key t) c) ≡ (ofOffer (jobOf f) b c t && eqb (grocerOf t) d)
+    both-keys c d t hc ht =
+        and-comm (eqb (tallyKey (f .tallyBox) (f .tallyGrocer) names g b t) d) (eqb (key t) c)
+        ∙ ap (λ (u : Bool). u && eqb (tallyKey (f .tallyBox) (f .tallyGrocer) names g b t) d) (key-of c t hc ht)
+        ∙ split (eqb (at (f .tallyBox) t) b)
+        (λ q. ap (λ (x : ℕ). ofOffer (jobOf f) b c t && eqb x d) (grocer-key t ht q))
+        (λ q. rw (not-held c t ht q))
+
+    abbrev modelPart : ℕ → List ℕ
+    modelPart c = chained (length (localGrocers (jobOf f) b)) (λ d. ascending (f .tallies) (λ t. ofOffer (jobOf f) b c t && eqb (grocerOf t) d))
+
+    part-model : (c : ℕ) → c < l → packedPart lent c ≡ modelPart c
+    unfolding packedPart
+    part-model c hc =
+        chained-cong g (λ d. ascending (f .tallies) (λ t. eqb (tallyKey (f .tallyBox) (f .tallyGrocer) names g b t) d && eqb (key t) c))
+        (λ d. ascending (f .tallies) (λ t. ofOffer (jobOf f) b c t && eqb (grocerOf t) d))
+        (λ d hd. ascending-cong (f .tallies) (λ t. eqb (tallyKey (f .tallyBox) (f .tallyGrocer) names g b t) d && eqb (key t) c) (λ t. ofOffer (jobOf f) b c t && eqb (grocerOf t) d) (λ t ht. both-keys c d t hc ht))
+        ∙ ap (λ (n : ℕ). chained n (λ d. ascending (f .tallies) (λ t. ofOffer (jobOf f) b c t && eqb (grocerOf t) d))) g-is
+
+    -- The packed tallies are the model's,
+    packed-model : packedTallies lent ≡ packed (jobOf f) b
+    unfolding packedTallies packed jobOf
+    packed-model = chained-cong l (packedPart lent) modelPart part-model ∙ ap (λ (n : ℕ). chained n modelPart) l-is
+
+    packed-length : packedStart lent l ≡ length (packed (jobOf f) b)
+    packed-length = sym (length-packed lent) ∙ ap length packed-model
+
+    tally-in : (i : ℕ) → i < length (packed (jobOf f) b) → at (packed (jobOf f) b) i < f .tallies
+    tally-in i h = subst (λ (s : List ℕ). at s i < f .tallies) packed-model (packed-in lent i (omega (arith, packed-length)))
+
+    -- with the local grocers
+    pub grocers-model : (n : ℕ) (old : List ℕ) → n ≡ packedStart lent l →
+        overwrite n (packedNumber names g (f .tallyGrocer) (packedTallies lent)) old ≡ inFront (packedGrocers (jobOf f) b) old
+    unfolding inFront packedGrocers packedNumber jobOf
+    grocers-model n old e =
+        overwrite-as n (length (packedGrocers (jobOf f) b)) (packedNumber names g (f .tallyGrocer) (packedTallies lent)) (at (packedGrocers (jobOf f) b)) old
+        (e ∙ packed-length ∙ sym (length-map (packed (jobOf f) b) grocerOf))
+        (λ i h. let small : i < length (packed (jobOf f) b) = omega (arith, length-map (packed (jobOf f) b) grocerOf) in
+        ap (λ (s : List ℕ). numberIn names g (at (f .tallyGrocer) (at s i))) packed-model
+        ∙ number-model (at (f .tallyGrocer) (at (packed (jobOf f) b) i))
+        ∙ ap (localGrocer (jobOf f) b) (sym (word-in (f .tallies) (f .tallyGrocer) 0 (at (packed (jobOf f) b) i) (tally-in i small)))
+        ∙ sym (map-at grocerOf (packed (jobOf f) b) i 0 small))
+
+    -- and counts of the model.
+    pub counts-model : (n : ℕ) (old : List ℤ) → n ≡ packedStart lent l →
+        overwrite n (packedCount (f .tallyCount) (packedTallies lent)) old ≡ overwrite (length (packedCounts (jobOf f) b)) (λ i. getD (packedCounts (jobOf f) b) i (pos 0)) old
+    unfolding packedCounts packedCount jobOf
+    counts-model n old e =
+        overwrite-as n (length (packedCounts (jobOf f) b)) (packedCount (f .tallyCount) (packedTallies lent)) (λ i. getD (packedCounts (jobOf f) b) i (pos 0)) old
+        (e ∙ packed-length ∙ sym (length-map (packed (jobOf f) b) (jobOf f .tallyCount)))
+        (λ i h. let small : i < length (packed (jobOf f) b) = omega (arith, length-map (packed (jobOf f) b) (jobOf f .tallyCount)) in
+        ap (λ (s : List ℕ). getD (f .tallyCount) (at s i) (pos 0)) packed-model
+        ∙ sym (word-in (f .tallies) (f .tallyCount) (pos 0) (at (packed (jobOf f) b) i) (tally-in i small))
+        ∙ sym (map-at (jobOf f .tallyCount) (packed (jobOf f) b) i (pos 0) small))
+
+    -- In range each of the box's tallies has a local grocer, and so a place.
+    module _ (owners : (x : ℕ) → x < f .grocers → at (f .grocerOwner) x < f .boxes) (items : (t : ℕ) → t < f .tallies → at (f .tallyGrocer) t < f .grocers) where
+      start-model : (i : ℕ) → i ≤ l → packedStart lent i ≡ start (jobOf f) b i
+      unfolding packedStart start jobOf
+      start-model i h =
+          sum-cong naturals i (λ c. length (packedPart lent c)) (λ c. count (f .tallies) (ofOffer (jobOf f) b c))
+          (λ c hc. ap length (part-model c (omega arith)) ∙ part-whole (jobOf f) b (has-place f bare b hb owners items) c)
+
+      -- The starts are the model's.
+      pub starts-model : (old : List ℕ) → overwrite (suc l) (packedStart lent) old ≡ inFront (starts (jobOf f) b) old
+      unfolding inFront starts
+      starts-model old =
+          overwrite-cong (suc l) (packedStart lent) (at (starts (jobOf f) b)) old
+          (λ i h. start-model i (omega arith) ∙ sym (getD-tabulate (suc (length (localOffers (jobOf f) b))) (start (jobOf f) b) i 0 (omega arith)))
+          ∙ ap (λ (n : ℕ). overwrite n (at (starts (jobOf f) b)) old) (ap suc l-is ∙ sym (length-tabulate (suc (length (localOffers (jobOf f) b))) (start (jobOf f) b)))
+
+      -- The number of places is the number of the box's tallies.
+      pub total-model : packedStart lent l ≡ start (jobOf f) b (length (localOffers (jobOf f) b))
+      total-model = start-model l (omega arith) ∙ ap (start (jobOf f) b) l-is

@@ -138,6 +138,9 @@ module _ (f : JobTables) (n : BookLengths) (b : ℕ) (h : firstMet (bookRefusals
     owner-in = λ g l. under-at (f .boxes) (f .grocers) (f .grocerOwner) g (words .grocerOwner) l;
   }
 
+  pub grocer-in : (t : ℕ) → t < f .tallies → at (f .tallyGrocer) t < f .grocers
+  grocer-in t l = under-at (f .grocers) (f .tallies) (f .tallyGrocer) t (words .tallyGrocer) l
+
   -- With the standing boxes.
   module _ (boxes : List ℕ) (s : Standing f boxes) where
     pub offer-tallies : TalliesIn boxes (f .tallyOffer) (f .tallies)

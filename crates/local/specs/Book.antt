@@ -1,18 +1,20 @@
 -- The local book of a box as the call gives it: its answer, and the five lent tables.
-use mathlib.Core.Path.{_≡_}
+use mathlib.Core.Bool.{cond}
 use mathlib.Core.List.{List, []}
 use Prim.Native.Nat.{ℕ, zero, suc}
-use lib.ListN.{length, drop}
-use lib.IntN.{ℤ}
-use denote.Ref.{now}
+use lib.Dec.{eqb}
+use lib.ListN.{length, getD}
+use lib.IntN.{ℤ, pos}
+use Rattle.laws.specs.Tables.{overwrite}
 use Rattle.laws.specs.Checks.{firstMet}
+use Rattle.laws.specs.Lent.{Words, SignedWords}
 use Rattle.model.specs.Job.{Job}
 use Rattle.model.specs.Tables.{JobTables, jobTables, jobOf}
-use Rattle.laws.specs.Lent.{Words, SignedWords}
-use Rattle.model.specs.Local.{localOffers, localGrocers, start, starts, Packed, BookLengths, bookRefusals}
+use Rattle.model.specs.Local.{localOffers, localGrocers, start, starts, packedGrocers, packedCounts, BookLengths, bookRefusals}
 use Rattle.local.specs.Sort.{inFront}
 use Rattle.local.specs.declared.book.Answer.{Answer}
 use Rattle.local.specs.declared.book.Answer.the-variants.{Book, Refused}
+use denote.Ref.{now}
 
 -- What the call says: how many local offers, local grocers and tallies the box has, or the number of a refusal.
 pub data BookAnswer : Type 0 where
@@ -75,23 +77,27 @@ lengths offers grocers starts packedGrocers packedCounts = record {
 abbrev pub bookLengths : BookTables → BookLengths
 bookLengths t = lengths (length (t .localOffers)) (length (t .localGrocers)) (length (t .starts)) (length (t .packedGrocers)) (length (t .packedCounts))
 
--- A list is as long after as before, and from place n on has the same words.
-pub record SamePast {A : Type 0} (n : ℕ) (before after : List A) : Type 0 where
-  pub long : length after ≡ length before
-  pub past : drop n after ≡ drop n before
+-- The local matrix of box b written: each list in front of what stood in its table; words past what the box has stay.
+unfoldable pub written : Job → ℕ → BookTables → BookTables
+written j b t = record {
+  localOffers = inFront (localOffers j b) (t .localOffers);
+  localGrocers = inFront (localGrocers j b) (t .localGrocers);
+  starts = inFront (starts j b) (t .starts);
+  packedGrocers = inFront (packedGrocers j b) (t .packedGrocers);
+  packedCounts = overwrite (length (packedCounts j b)) (λ i. getD (packedCounts j b) i (pos 0)) (t .packedCounts);
+}
 
--- The local matrix of box b is written: each list in front of what stood in its table, and words past what the box has as they were.
-pub record Written (j : Job) (b : ℕ) (before after : BookTables) : Type 0 where
-  pub offers : after .localOffers ≡ inFront (localOffers j b) (before .localOffers)
-  pub grocers : after .localGrocers ≡ inFront (localGrocers j b) (before .localGrocers)
-  pub starts : after .starts ≡ inFront (starts j b) (before .starts)
-  -- The order of tallies inside one offer's list is open: the list has each of the box's tallies of that offer once.
-  pub packed : Packed j b (after .packedGrocers) (after .packedCounts)
-  pub pastGrocers : SamePast (start j b (length (localOffers j b))) (before .packedGrocers) (after .packedGrocers)
-  pub pastCounts : SamePast (start j b (length (localOffers j b))) (before .packedCounts) (after .packedCounts)
+-- The answer of the call, and the five tables.
+pub record BookOutcome : Type 0 where
+  pub answer : BookAnswer
+  pub tables : BookTables
+
+-- The same, as a contract names it.
+abbrev pub given : BookAnswer → BookTables → BookOutcome
+given a t = record { answer = a; tables = t }
 
 -- What the call gives, by the first refusal that is met: THE definition that its contract cites.
-pub record Booked (f : JobTables) (b : ℕ) (before : BookTables) (r : Answer) (after : BookTables) : Type 0 where
-  pub answer : said r ≡ bookAnswer (firstMet (bookRefusals f (bookLengths before) b)) (jobOf f) b
-  pub written : firstMet (bookRefusals f (bookLengths before) b) ≡ 0 → Written (jobOf f) b before after
-  pub unchanged : (firstMet (bookRefusals f (bookLengths before) b) ≡ 0 → ⊥) → after ≡ before
+unfoldable pub booked : JobTables → ℕ → BookTables → BookOutcome
+booked f b t =
+    let n = firstMet (bookRefusals f (bookLengths t) b) in
+    given (bookAnswer n (jobOf f) b) (cond (eqb n 0) (written (jobOf f) b t) t)

@@ -4,7 +4,7 @@ ghost use Rattle.laws.specs.Checks.{firstMet};
 ghost use Rattle.model.specs.Tables.{JobTables};
 ghost use Rattle.model.specs.Lent.{bagLent};
 ghost use Rattle.model.specs.Local.{BookLengths, bookShort, bookRefusals, jobRefusals};
-ghost use Rattle.local.specs.Book.{bookBefore, bookAfter, lengths, bookSizes, Booked};
+ghost use Rattle.local.specs.Book.{bookBefore, bookAfter, lengths, bookSizes, said, given, booked};
 use crate::lists::list;
 use crate::pack::pack;
 use tables::checks::job_refusal;
@@ -61,8 +61,7 @@ fn refusal(short: bool, met: u16, b: u16, boxes: u16) -> u16
     0
 }
 
-// The local book of box b, written into the five tables lent; or 20, 21, 9 or 23. One thing is left open, as 01 leaves it:
-// the order of the tallies inside an offer's packed list.
+// The local book of box b, written into the five tables lent; or 20, 21, 9 or 23, and no lent word is changed.
 pub fn book(
     boxes: u16,
     grocers: u16,
@@ -84,10 +83,10 @@ pub fn book(
     packed_grocers: &mut [u16],
     packed_counts: &mut [i32],
 ) -> Answer
-    ensures { λ r. ⌜ Booked (bagLent boxes grocers offers tallies price «offer_owner» «grocer_owner» «tally_grocer» «tally_box» «tally_offer» «tally_count»
+    ensures { λ r. ⌜ given (said r) (bookAfter «local_offers» «local_grocers» starts «packed_grocers» «packed_counts») ≡ booked
+        (bagLent boxes grocers offers tallies price «offer_owner» «grocer_owner» «tally_grocer» «tally_box» «tally_offer» «tally_count»
         «tally_bag» «tally_revision») b
-        (bookBefore «local_offers» «local_grocers» starts «packed_grocers» «packed_counts») r
-        (bookAfter «local_offers» «local_grocers» starts «packed_grocers» «packed_counts») ⌝ }
+        (bookBefore «local_offers» «local_grocers» starts «packed_grocers» «packed_counts») ⌝ }
 {
     let short = book_short(
         grocers,

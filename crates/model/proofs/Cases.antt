@@ -6,7 +6,7 @@ use Rattle.laws.specs.Checks.{firstMet}
 use Rattle.laws.specs.Below.{naturals, integers, sum, only, any, all, count, find, ascending}
 use Rattle.laws.specs.Tables.{tabulate, overwrite, word, cell, recell}
 use Rattle.recount.specs.Recount.{loose, sameBag, superseded, stands, countedTwice}
-use Rattle.model.specs.Local.{chained, localOffers, localGrocers, ofOffer, start, starts, priceTable, totalTable}
+use Rattle.model.specs.Local.{chained, localOffers, localGrocers, localGrocer, ofOffer, start, starts, packed, packedGrocers, packedCounts, priceTable, totalTable}
 use Rattle.model.specs.Reconcile.{recordInRange, recordsInRange, recordIn, countedRecords, standingRecords, serialAmount, deskRefusals, deskAnswer, reconciled}
 use Rattle.model.specs.Job.{heldBy, held, needs, shares, needWord, sharerWord, priceWord, totalWord, pricesDue, totalsDue, amount, plainSum}
 use Rattle.model.specs.Tables.{countedOf, jobOf, stepsDone, marksOf, view, store, jobLengths, stateLengths, jobShort, bagsShort, stateShort, lentShort}
@@ -49,7 +49,7 @@ unfolding loose sameBag superseded stands countedTwice countedOf bagsShort doneB
     stepRefusal stepTables moved isKind boxesFit oneBox stepAnswer stepped freshTables fresh effect products received kindNumber kindOf mark fits hasStep multiplied ready permitted heldBy
     held needs shares needWord sharerWord priceWord totalWord pricesDue totalsDue amount plainSum maskOf without sum only naturals integers any all count find ownerWords messageCount
     stepCount over messagesOf run runState afterSteps picks pick stepAt listOf readySteps readyCount ran runRefusals reported ascending chained localOffers localGrocers ofOffer start starts
-    priceTable totalTable reconciled deskAnswer deskRefusals recordsInRange recordInRange recordIn countedRecords standingRecords serialAmount ones lib.Count.onesIn
+    localGrocer packed packedGrocers packedCounts priceTable totalTable reconciled deskAnswer deskRefusals recordsInRange recordInRange recordIn countedRecords standingRecords serialAmount ones lib.Count.onesIn
 examples = record {
   needs-away = refl;
   words-away = refl;
@@ -65,6 +65,12 @@ examples = record {
   grocers-1 = refl;
   starts-0 = refl;
   starts-1 = refl;
+  side-offers = refl;
+  side-grocers = refl;
+  side-starts = refl;
+  side-packed = refl;
+  side-numbers = refl;
+  side-counts = refl;
   prices-0-1 = refl;
   prices-1-0 = refl;
   totals-0-1 = refl;

@@ -14,7 +14,7 @@ use Rattle.model.specs.Words.{ownerWords, messageCount, stepCount}
 use Rattle.model.specs.Tables.{JobTables, StateTables, bagTables, stateTables, jobOf}
 use Rattle.model.specs.Step.{asked, accepted, refused, stepped, freshTables}
 use Rattle.model.specs.Run.{readySteps, pick, runState, finished, refused as notRun, ran}
-use Rattle.model.specs.Local.{localOffers, localGrocers, starts, priceTable, totalTable}
+use Rattle.model.specs.Local.{localOffers, localGrocers, starts, packed, packedGrocers, packedCounts, priceTable, totalTable}
 use Rattle.model.specs.Reconcile.{TallyRecord, owed, refused as notOwed, reconciled}
 
 -- Tables in which every coupon is loose: bags and revisions are 0.
@@ -82,6 +82,12 @@ fullE =
 abbrev pub twoOffers : JobTables
 twoOffers = looseTables 2 1 2 2 (10 ∷ 20 ∷ []) (0 ∷ 0 ∷ []) (1 ∷ []) (0 ∷ 0 ∷ []) (1 ∷ 1 ∷ []) (0 ∷ 1 ∷ []) (pos 1 ∷ pos 1 ∷ [])
 
+-- Two grocers and two offers, 1 of each box 0's and 0 box 1's. Box 0 holds every tally but the one of count 12.
+abbrev pub sideBySide : JobTables
+sideBySide =
+    looseTables 2 2 2 7 (10 ∷ 20 ∷ []) (1 ∷ 0 ∷ []) (1 ∷ 0 ∷ []) (0 ∷ 1 ∷ 0 ∷ 1 ∷ 0 ∷ 1 ∷ 0 ∷ []) (0 ∷ 0 ∷ 1 ∷ 0 ∷ 0 ∷ 0 ∷ 0 ∷ [])
+    (0 ∷ 0 ∷ 0 ∷ 1 ∷ 1 ∷ 0 ∷ 0 ∷ []) (pos 10 ∷ pos 11 ∷ pos 12 ∷ pos 13 ∷ pos 14 ∷ pos 15 ∷ pos 16 ∷ [])
+
 -- A step by its kind and boxes.
 abbrev pub ofKind : Kind → ℕ → ℕ → Step
 ofKind k a b = record { kind = k; first = a; second = b }
@@ -128,13 +134,21 @@ pub record Examples : Type 0 where
   pub one-sum : runState (jobOf oneBoxJob) [] .statement 0 ≡ pos 30
   -- A tally of a box not below K is held by nobody.
   pub nobody : plainSum (jobOf (away 2 (0 ∷ 0 ∷ []) (1 ∷ 2 ∷ []) (0 ∷ 0 ∷ []) (pos 1 ∷ pos 1 ∷ []))) 0 ≡ pos 9_999_999
-  -- E's local books, and the words between its boxes.
+  -- E's local books.
   pub offers-0 : localOffers (jobOf jobE) 0 ≡ 0 ∷ 1 ∷ []
   pub offers-1 : localOffers (jobOf jobE) 1 ≡ 1 ∷ 0 ∷ []
   pub grocers-0 : localGrocers (jobOf jobE) 0 ≡ 1 ∷ 0 ∷ []
   pub grocers-1 : localGrocers (jobOf jobE) 1 ≡ 0 ∷ []
   pub starts-0 : starts (jobOf jobE) 0 ≡ 0 ∷ 1 ∷ 2 ∷ []
   pub starts-1 : starts (jobOf jobE) 1 ≡ 0 ∷ 1 ∷ 2 ∷ []
+  -- A packed list: the box's own grocer 1 goes before grocer 0, another box's, though its number is the higher; tallies of one by place.
+  pub side-offers : localOffers (jobOf sideBySide) 0 ≡ 1 ∷ 0 ∷ []
+  pub side-grocers : localGrocers (jobOf sideBySide) 0 ≡ 1 ∷ 0 ∷ []
+  pub side-starts : starts (jobOf sideBySide) 0 ≡ 0 ∷ 2 ∷ 6 ∷ []
+  pub side-packed : packed (jobOf sideBySide) 0 ≡ 3 ∷ 4 ∷ 1 ∷ 5 ∷ 0 ∷ 6 ∷ []
+  pub side-numbers : packedGrocers (jobOf sideBySide) 0 ≡ 0 ∷ 1 ∷ 0 ∷ 0 ∷ 1 ∷ 1 ∷ []
+  pub side-counts : packedCounts (jobOf sideBySide) 0 ≡ pos 13 ∷ pos 14 ∷ pos 11 ∷ pos 15 ∷ pos 10 ∷ pos 16 ∷ []
+  -- The words between E's boxes.
   pub prices-0-1 : getD (getD (priceTable (jobOf jobE)) 0 []) 1 0 ≡ 1
   pub prices-1-0 : getD (getD (priceTable (jobOf jobE)) 1 []) 0 0 ≡ 1
   pub totals-0-1 : getD (getD (totalTable (jobOf jobE)) 0 []) 1 0 ≡ 1

@@ -1,12 +1,11 @@
 -- The local book of a box (its local matrix, packed by offer), and the tables of words between boxes.
-use mathlib.Core.Path.{_≡_}
-use mathlib.Core.List.{List, [], _∷_, _++_}
+use mathlib.Core.List.{List, [], _∷_, _++_, map}
 use mathlib.Core.Bool.{Bool, _&&_, _||_, not}
-use Prim.Native.Nat.{ℕ, zero, suc, _+_, _-_, _<_}
+use Prim.Native.Nat.{ℕ, zero, suc}
 use lib.ListN.{getD, length}
 use lib.Dec.{eqb, ltb}
-use lib.IntN.{ℤ, pos}
-use Rattle.laws.specs.Below.{sum, only, naturals, count, find, ascending}
+use lib.IntN.{ℤ}
+use Rattle.laws.specs.Below.{sum, naturals, count, find, ascending}
 use Rattle.laws.specs.Tables.{tabulate}
 use Rattle.laws.specs.Checks.{anyOf}
 use Rattle.recount.specs.Recount.{countedTwice}
@@ -44,13 +43,21 @@ module _ (j : Job) (b : ℕ) where
   unfoldable pub starts : List ℕ
   starts = tabulate (suc (length localOffers)) start
 
--- Packed by offer: local grocer and count of each tally. The order inside one offer's list is open: the list has each of the box's tallies of that offer once.
-pub record Packed (j : Job) (b : ℕ) (grocers : List ℕ) (counts : List ℤ) : Type 0 where
-  pub tally : ℕ → ℕ  -- the tally at a place of the lists
-  pub grocer : (i : ℕ) → i < start j b (length (localOffers j b)) → getD grocers i 0 ≡ localGrocer j b (j .tallyGrocer (tally i))
-  pub counted : (i : ℕ) → i < start j b (length (localOffers j b)) → getD counts i (pos 0) ≡ j .tallyCount (tally i)
-  pub once : (k t : ℕ) → k < length (localOffers j b) → t < j .tallies →
-      count (start j b (suc k) - start j b k) (λ i. eqb (tally (start j b k + i)) t) ≡ only naturals (ofOffer j b k t) 1
+module _ (j : Job) (b : ℕ) where
+  -- The box's tallies by local offer; "Inside one offer's list, tallies go by local grocer, then by place in the file" (02 §4).
+  unfoldable pub packed : List ℕ
+  packed =
+      chained (length (localOffers j b)) (λ i.
+      chained (length (localGrocers j b)) (λ g.
+      ascending (j .tallies) (λ t. ofOffer j b i t && eqb (localGrocer j b (j .tallyGrocer t)) g)))
+
+  -- The local grocer of each of them,
+  unfoldable pub packedGrocers : List ℕ
+  packedGrocers = map (λ t. localGrocer j b (j .tallyGrocer t)) packed
+
+  -- and its count.
+  unfoldable pub packedCounts : List ℤ
+  packedCounts = map (j .tallyCount) packed
 
 module _ (j : Job) where
   -- The words from each box to each other box form 16 rows of 16 counts; the row is the sender. One such table for prices
