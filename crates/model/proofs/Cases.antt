@@ -15,13 +15,13 @@ use Rattle.model.specs.Ranges.{upTo, under, around, sizesInRange, jobWor
 use Rattle.model.specs.Step.{isKind, boxesFit, stepRules, moved, refusals, stepRefusal, stepTables, freshTables, stepAnswer, stepped}
 use Rattle.model.specs.Words.{over, ownerWords, messageCount, stepCount, messagesOf}
 use Rattle.model.specs.Boxes.{knows, priceOnWay, gone, arrived, partOf, paid, sentOf, stateByRules}
-use Rattle.model.specs.Steps.{doneBy, added, kindNumber, kindOf, mark, oneBox, fits, hasStep, multiplied, ready, permitted, fresh, products, received, effect, stepAt, listOf}
+use Rattle.model.specs.Steps.{doneBy, added, kindNumber, kindOf, mark, oneBox, fits, hasStep, allAdded, ready, permitted, fresh, products, received, effect, stepAt, listOf}
 use Rattle.model.specs.Cases.{Cases, Examples}
 
 pub cases : Cases
 unfolding loose sameBag superseded stands countedTwice countedOf bagsShort jobOf stepsDone marksOf view store word cell recell overwrite tabulate jobShort stateShort jobLengths stateLengths
     lentShort jobInRange sizesInRange jobWordsInRange stateInRange upTo under around firstMet refusals stepRules stepRefusal stepTables moved isKind boxesFit oneBox stepAnswer stepped
-    freshTables fresh effect products received kindNumber kindOf mark fits hasStep multiplied ready permitted heldBy held needs shares needWord sharerWord priceWord totalWord pricesDue
+    freshTables fresh effect products received kindNumber kindOf mark fits hasStep allAdded added ready permitted heldBy held needs shares needWord sharerWord priceWord totalWord pricesDue
     totalsDue amount plainSum maskOf without sum only naturals integers any all count find ownerWords messageCount stepCount over messagesOf run runState afterSteps picks pick stepAt listOf
     readySteps readyCount ran runRefusals reported ascending chained localOffers localGrocers ofOffer start starts priceTable totalTable reconciled deskAnswer deskRefusals recordsInRange
     recordInRange recordIn countedRecords standingRecords serialAmount ones lib.Count.onesIn
@@ -44,9 +44,9 @@ cases = record {
 }
 
 pub examples : Examples
-unfolding loose sameBag superseded stands countedTwice countedOf bagsShort doneBy stateByRules knows priceOnWay gone arrived partOf paid sentOf added jobOf stepsDone marksOf view store word
+unfolding loose sameBag superseded stands countedTwice countedOf bagsShort doneBy stateByRules knows priceOnWay gone arrived partOf paid sentOf jobOf stepsDone marksOf view store word
     cell recell overwrite tabulate jobShort stateShort jobLengths stateLengths lentShort jobInRange sizesInRange jobWordsInRange stateInRange upTo under around firstMet refusals stepRules
-    stepRefusal stepTables moved isKind boxesFit oneBox stepAnswer stepped freshTables fresh effect products received kindNumber kindOf mark fits hasStep multiplied ready permitted heldBy
+    stepRefusal stepTables moved isKind boxesFit oneBox stepAnswer stepped freshTables fresh effect products received kindNumber kindOf mark fits hasStep allAdded added ready permitted heldBy
     held needs shares needWord sharerWord priceWord totalWord pricesDue totalsDue amount plainSum maskOf without sum only naturals integers any all count find ownerWords messageCount
     stepCount over messagesOf run runState afterSteps picks pick stepAt listOf readySteps readyCount ran runRefusals reported ascending chained localOffers localGrocers ofOffer start starts
     localGrocer packed packedGrocers packedCounts priceTable totalTable reconciled deskAnswer deskRefusals recordsInRange recordInRange recordIn countedRecords standingRecords serialAmount ones lib.Count.onesIn
