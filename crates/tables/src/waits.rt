@@ -6,7 +6,7 @@ ghost use Rattle.tables.specs.Waits.{receiverTable, tallyLists, waitTabl
 use crate::masks::set_bit;
 
 // For each box the boxes that need an offer of its, itself among them, from the need words and the owners of the offers.
-pub fn receivers(offers: u16, offer_owner: &[u16], needs: &[u16; 500]) -> [u16; 16]
+pub fn receivers(offers: u16, offer_owner: &[u16], needs: &[u16]) -> [u16; 16]
     requires { ⌜ Owned offers (now «offer_owner») (now needs) ⌝ }
     ensures { λ r. ⌜ r ≡ receiverTable offers (now («offer_owner» .entry)) (now (needs .entry)) ⌝ }
 {
