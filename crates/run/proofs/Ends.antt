@@ -80,6 +80,9 @@ module _ (f : JobTables) (t : StateTables) (g : Begins f t) where
   pub begins-needs : Placed (f .boxes) (f .tallies) 500 (f .tallyBox) (f .tallyOffer)
   begins-needs = placed-offers f (g .job-in) job-parts
 
+  pub begins-waits : WaitsIn (f .boxes) (f .tallies) (tallyLists (f .offerOwner) (f .grocerOwner) (f .tallyGrocer) (f .tallyBox) (f .tallyOffer))
+  begins-waits = waits-in f (g .job-in) job-parts
+
   pub begins-sharers : Placed (f .boxes) (f .tallies) 255 (f .tallyBox) (f .tallyGrocer)
   begins-sharers = placed-grocers f (g .job-in) job-parts
 
@@ -87,25 +90,23 @@ module _ (f : JobTables) (t : StateTables) (g : Begins f t) where
     pub begins-prices : Owned (f .offers) (f .offerOwner) needs
     begins-prices = owned-offers f (g .job-in) job-parts needs _ en
 
-    pub begins-totals : Owned (f .grocers) (f .grocerOwner) sharers
-    begins-totals = owned-grocers f (g .job-in) job-parts sharers _ es
-
-    -- They are the job's, and so are the tables of messages that are made from them.
+    -- They are the job's, and so are the words of receivers and waits.
     pub needs-of : needs ≡ tabulate 500 (needWord (jobOf f))
     needs-of = en ∙ need-words f (g .job-in .bare)
 
     pub sharers-of : sharers ≡ tabulate 255 (sharerWord (jobOf f))
     sharers-of = es ∙ sharer-words f (g .job-in .bare)
 
-    module _ (prices totals : List (List ℕ)) (ep : prices ≡ sentTable false (f .offers) (f .offerOwner) needs) (et : totals ≡ sentTable true (f .grocers) (f .grocerOwner) sharers) where
-      pub of-job : OfJob (f .boxes) prices totals (jobOf f)
+    module _ (receivers : List ℕ) (waits : List (List ℕ)) (er : receivers ≡ receiverTable (f .offers) (f .offerOwner) needs)
+        (ew : waits ≡ waitTable (f .boxes) (tallyLists (f .offerOwner) (f .grocerOwner) (f .tallyGrocer) (f .tallyBox) (f .tallyOffer)) (f .tallies)) where
+      pub of-job : OfJob (f .boxes) receivers waits (jobOf f)
       unfolding jobOf
       of-job = record {
         boxes-are = refl;
         boxes-in = range f (g .job-in .inside) .boxes≤;
         some = some-box f (g .job-in);
-        prices-are = ep ∙ ap (sentTable false (f .offers) (f .offerOwner)) en ∙ price-sent f (g .job-in);
-        totals-are = et ∙ ap (sentTable true (f .grocers) (f .grocerOwner)) es ∙ total-sent f (g .job-in);
+        receivers-are = receivers-of f (g .job-in) needs needs-of receivers er;
+        waits-are = waits-of f (g .job-in) waits ew;
       }
 
   -- There is room for the count of words sent.

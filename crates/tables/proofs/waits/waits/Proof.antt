@@ -63,9 +63,12 @@ loop-again c =
           ∙ rw (e .before .loop .inv .1) (waits-more (s .args .boxes) (tallyLists _ _ _ _ _) t (s .pre .boxes≤) (s .pre .grocerOwner< t (e .loop-test .taken)) (s .pre .offerOwner< t (e .loop-test .taken))),
     )
 
+abbrev ended : tie.After-loop Inv-loop μ-loop → tie.Start Inv-loop μ-loop
+ended c = c .before .before .before .before .before .before .before
+
 returns : tie.Need-returns Inv-loop μ-loop
 returns c =
-    let s = c .before .before .before .before .before .before .before in
+    let s = ended c in
     c .before .loop .inv .1 ∙ ap (waitTable (s .args .boxes) (tallyLists _ _ _ _ _)) (le-antisymm (c .before .loop .inv .0) (c .loop-test .left))
 
 pub waits-spec : {M : Type 1} → statement M
