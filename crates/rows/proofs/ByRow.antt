@@ -2,24 +2,24 @@
 use mathlib.Core.Path.{_≡_, refl, sym, ap, _∙_}
 use mathlib.Core.Bool.{Bool, true, false, _&&_, _||_, not}
 use mathlib.Core.List.{List}
-use Prim.Native.Nat.{ℕ, zero, suc, _+_, _-_, _*_, _/_, _%_, _≤_, _<_}
+use Prim.Native.Nat.{ℕ, zero, suc, _+_, _-_, _*_, _/_, _%_, _≤_, _<_, _^_}
 use native.Mathlib.Omega.{arith}
 use native.Mathlib.Nat.{suc-mul, add-zero, zero-mul, mul-le-mul-right, div-add-mod', div-lt-iff-lt-mul, mod-lt}
 use lib.Arith.{digits-lt}
 use lib.Dec.{eqb, ltb}
 use lib.ListN.{getD, set, length, length-set}
 use lib.Seq.{getD-set-same, getD-set-other}
-use borrow.Author.Tests.{eqb-true, eqb-false, ne-eqb, lt-ltb}
-use Rattle.laws.specs.Below.{naturals, sum, only, count, nth}
+use lib.Count.{ones}
+use borrow.Author.Tests.{eqb-true, eqb-false, lt-ltb}
+use Rattle.laws.specs.Below.{naturals, sum, only, count, nth, all}
 use Rattle.laws.specs.Masks.{bit, maskOf}
-use Rattle.laws.proofs.Bools.{split, eqb-same, and-one, and-false, or-false}
-use Rattle.laws.proofs.Below.{count-start, count-cong, count-le}
+use Rattle.laws.proofs.Bools.{split, eqb-same, and-one, and-false, and-comm}
+use Rattle.laws.proofs.Below.{count-start, count-cong, count-le, any-false, all-cong, count-none, count-with}
 use Rattle.laws.proofs.Ascending.{nth-is}
-use Rattle.laws.proofs.Masks.{mask-cong, mask-none, mask-below, bit-mask}
-use Rattle.model.specs.Steps.{kindOf}
+use Rattle.laws.proofs.Masks.{mask-cong, mask-none, mask-below, bit-mask, mask-bits, ones-mask}
+use Rattle.model.specs.Steps.{kindOf, Steps, sendTotals, addOwn}
 use Rattle.model.specs.Tables.{stepsDone}
-use Rattle.rules.specs.Marks.{MarksIn}
-use Rattle.rules.specs.Rules.{permittedBy}
+use Rattle.rules.specs.Rules.{permittedBy, wordAt, totalsDueBy, fitsBy, hasGot, allGot, readyBy}
 use Rattle.walk.specs.Walk.{PlaceIn, here, listedBy, WalkIn, Found}
 use Rattle.walk.specs.Rows.{rowOf, HasRow, RowIn, IsRows, rowsTotal, FewRows, Renewed}
 use Rattle.walk.proofs.Places.{listed-at}
@@ -176,15 +176,55 @@ module _ (k : ℕ) (f : ℕ → Bool) where
   pub made-all : (rows : List ℕ) (r : ℕ) → r ≡ 6 * k → MadeTo rows r → IsRows k f rows
   made-all rows r e w = record { long = w .long; right = λ q l. w .right q (omega arith) }
 
--- A word with one bit only, where a test holds.
-pub only-bit : (k a r : ℕ) (t : Bool) (f : ℕ → Bool) → k ≤ 16 → a < k → ((b : ℕ) → f b ≡ (eqb a b && t)) → ((g : ℕ → Bool) → 0 ≡ maskOf 16 g → r ≡ maskOf 16 (λ b. g b || (t && eqb a b))) → r ≡ maskOf k f
-only-bit k a r t f lk la e h =
-    h (λ b. false) (sym (mask-none 16))
-    ∙ mask-cong 16 _ (λ b. ltb b k && f b) (λ b l. same b)
-    ∙ mask-below k 16 f lk
-  where
-    same : (b : ℕ) → (t && eqb a b) ≡ (ltb b k && f b)
-    same b =
-        split (eqb a b)
-        (λ q. let i : a ≡ b = eqb-true a b q in rw (e b, ← i, eqb-same a, lt-ltb a k la) (and-one t))
-        (λ q. rw (e b, q, and-false t) (sym (and-false (ltb b k))))
+-- A row that has one place only, where a test holds.
+module _ (k a : ℕ) (t : Bool) (f : ℕ → Bool) (la : a < k) (e : (b : ℕ) → f b ≡ (eqb a b && t)) where
+  pub only-word : (r : ℕ) → k ≤ 16 → ((g : ℕ → Bool) → 0 ≡ maskOf 16 g → r ≡ maskOf 16 (λ b. g b || (t && eqb a b))) → r ≡ maskOf k f
+  only-word r lk h =
+      h (λ b. false) (sym (mask-none 16))
+      ∙ mask-cong 16 _ (λ b. ltb b k && f b) (λ b l. same b)
+      ∙ mask-below k 16 f lk
+    where
+      same : (b : ℕ) → (t && eqb a b) ≡ (ltb b k && f b)
+      same b =
+          split (eqb a b)
+          (λ q. let i : a ≡ b = eqb-true a b q in rw (e b, ← i, eqb-same a, lt-ltb a k la) (and-one t))
+          (λ q. rw (e b, q, and-false t) (sym (and-false (ltb b k))))
+
+  pub only-count : only naturals t 1 ≡ count k f
+  only-count =
+      omega (
+        arith,
+        count-cong k f (λ b. false || (t && eqb a b)) (λ b l. e b ∙ and-comm (eqb a b) t),
+        count-with k a (λ b. false) t la refl,
+        count-none k (λ b. false) (any-false k (λ b. false) (λ b l. refl)),
+      )
+
+-- A 16-bit word has at most 16 bits.
+pub ones-few : (w : ℕ) → w < 2 ^ 16 → ones w ≤ 16
+ones-few w l = omega (arith, ap ones (sym (mask-bits 16 w l)) ∙ ones-mask 16 (λ b. bit b w), count-le 16 (λ b. bit b w))
+
+-- The steps of totals, told from the boxes whose prices box a has.
+module _ (waits : List (List ℕ)) (d : Steps) (a b w g : ℕ) (cov : Bool) (ew : w ≡ wordAt waits a b) (eg : g ≡ maskOf 16 (hasGot d a)) (ec : cov ≡ all 16 (λ o. not (bit o w) || bit o g)) where
+  covers-got : cov ≡ allGot waits d a b
+  unfolding allGot
+  covers-got = ec ∙ all-cong 16 _ _ (λ o l. rw (ew, eg, bit-mask 16 o (hasGot d a) l))
+
+  pub sends-open : (receivers : List ℕ) (marked : Bool) → marked ≡ d sendTotals a b →
+      ((not (eqb a b) && not (eqb w 0)) && (not marked && cov)) ≡ permittedBy receivers waits d sendTotals a b
+  unfolding permittedBy fitsBy totalsDueBy readyBy
+  sends-open receivers marked em = rw (covers-got, em, ew)
+
+-- The same of its own.
+pub own-open : (receivers : List ℕ) (waits : List (List ℕ)) (d : Steps) (a w g : ℕ) (marked cov : Bool) → w ≡ wordAt waits a a → g ≡ maskOf 16 (hasGot d a) →
+    cov ≡ all 16 (λ o. not (bit o w) || bit o g) → marked ≡ d addOwn a a → (b : ℕ) → permittedBy receivers waits d addOwn a b ≡ (eqb a b && (not marked && cov))
+unfolding permittedBy fitsBy readyBy
+own-open receivers waits d a w g marked cov ew eg ec em b =
+    split (eqb a b)
+    (λ q. let i : a ≡ b = eqb-true a b q in rw (← i, em, covers-got waits d a a w g cov ew eg ec))
+    (λ q. rw q)
+
+-- A place of row r by its number.
+pub row-places : (k r : ℕ) (receivers : List ℕ) (waits : List (List ℕ)) (done : List ℕ) → 1 ≤ k → k ≤ 16 → r < 6 * k → (b : ℕ) → b < k →
+    permittedBy receivers waits (stepsDone k done) (kindOf (r / k + 1)) (r % k) b ≡ listedBy k receivers waits done (r * k + b)
+row-places k r receivers waits done some lk l b lb =
+    listed-at k (r / k + 1) (r % k) b receivers waits done (row-place k r b some lk l lb) ∙ ap (listedBy k receivers waits done) (row-here k r b)
