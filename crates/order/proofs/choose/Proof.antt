@@ -25,7 +25,7 @@ put c = c .before .before .before .before
 
 -- The choice picks one of the ready steps.
 below : (s : tie.Start) → getD (now (s .args .choices)) (s .args .i) 0 % s .args .ready
-    < count (6 * s .args .k * s .args .k) (listedBy (s .args .k) (now (s .args .prices)) (now (s .args .totals)) (now (s .args .done)))
+    < count (6 * s .args .k * s .args .k) (listedBy (s .args .k) (now (s .args .receivers)) (now (s .args .waits)) (now (s .args .done)))
 below s = rw (← (s .pre .1 .1 .0 .2)) (mod-lt (getD (now (s .args .choices)) (s .args .i) 0) (s .pre .1 .1 .0 .1))
 
 find-in-requires : tie.Need-find-in-requires
@@ -51,7 +51,7 @@ renew-requires c κs =
     let p = g .place-in in
     let m = put c .put-step .ensures in (
       record { kind-from = p .kind-from; kind-to = p .kind-to; boxes-in = p .boxes-in; a-in = p .a-in; b-in = p .b-in; done-long = marks-long _ _ _ (m .2) },
-      rows-before (s .args .k) _ _ _ (now (s .args .prices)) (now (s .args .totals)) (now (s .args .done)) _ (now (s .args .rows))
+      rows-before (s .args .k) _ _ _ (now (s .args .receivers)) (now (s .args .waits)) (now (s .args .done)) _ (now (s .args .rows))
           (ap (stepsDone (s .args .k)) (m .0) ∙ marked-steps (s .args .k) _ _ _ (now (s .args .done)) (p .a-in) (p .b-in))
           (found-open (s .args .k) _ _ (now (s .args .done)) _ _ _ _ (below s) g) (s .pre .1 .0),
     )
