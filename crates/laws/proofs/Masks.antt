@@ -1,17 +1,17 @@
 -- Shifts and masks, and the bits of a word. Assumes nothing.
 use mathlib.Core.Path.{_≡_, refl, sym, ap, ap₂, _∙_}
 use mathlib.Core.Bool.{Bool, true, false, not, _||_, _&&_, false≢true}
-use Prim.Native.Nat.{ℕ, zero, suc, _+_, _-_, _*_, _/_, _%_, _^_, _<_, zero-le, suc-le-suc, min, max}
+use Prim.Native.Nat.{ℕ, zero, suc, _+_, _-_, _*_, _/_, _%_, _^_, _≤_, _<_, zero-le, suc-le-suc, min, max}
 use native.Mathlib.Nat.{le-of-suc-le-suc, not-suc-le-zero, div-one, div-div-eq-div-mul, div-eq-of-lt, pow-succ', mod-eq-of-lt, one-mul}
 use native.Mathlib.Omega.{arith}
-use lib.Dec.{eqb, eqb·zero-suc, eqb·suc-zero, eqb·suc-suc, lit<}
-use borrow.Author.Tests.{eqb-true, not-true, not-false}
+use lib.Dec.{eqb, ltb, eqb·zero-suc, eqb·suc-zero, eqb·suc-suc, leb·suc-suc, lit<}
 use lib.Bits.{bitAnd, bitOr, and-mask, and-step, or-step, or-zero-r}
 use lib.Count.{ones, ones-step}
 use lib.Pow.{pow-pos, pow-lt}
+use borrow.Author.Tests.{eqb-true, not-true, not-false, lt-ltb, le-ltb}
 use Rattle.laws.specs.Below.{naturals, sum, only, count, all}
 use Rattle.laws.specs.Masks.{bit, maskOf, without}
-use Rattle.laws.proofs.Bools.{split, and-false, and-one, or-false}
+use Rattle.laws.proofs.Bools.{split, and-false, and-one, and-assoc, or-false}
 use Rattle.laws.proofs.Below.{only-le, count-first, all-at, all-cong, all-find}
 
 abbrev one : Bool → ℕ
@@ -167,6 +167,24 @@ mask-clear (suc n) (suc b) f l =
 pub mask-without : (a : ℕ) (f : ℕ → Bool) → a < 16 → without a (maskOf 16 f) ≡ maskOf 16 (λ b. f b && not (eqb a b))
 unfolding without
 mask-without a f l = mask-clear 16 a f l
+
+-- Numbers from n on are left out.
+pub mask-below : (n m : ℕ) (f : ℕ → Bool) → n ≤ m → maskOf m (λ b. ltb b n && f b) ≡ maskOf n f
+unfolding maskOf
+mask-below zero m f l = mask-cong m _ (λ b. false) (λ b q. rw (le-ltb b 0 zero-le)) ∙ mask-none m
+mask-below (suc n) zero f l = absurd (not-suc-le-zero l)
+mask-below (suc n) (suc m) f l =
+    ap₂ (λ (x y : ℕ). x + 2 * y)
+    (ap (λ (t : Bool). one (t && f 0)) (lt-ltb 0 (suc n) (suc-le-suc zero-le)))
+    (mask-cong m _ (λ b. ltb b n && f (suc b)) (λ b q. ap (λ (t : Bool). t && f (suc b)) (leb·suc-suc (suc b) n)) ∙ mask-below n m (λ b. f (suc b)) (le-of-suc-le-suc l))
+
+-- The bits below n of a word without one of them.
+pub below-without : (n a : ℕ) (f : ℕ → Bool) → n ≤ 16 → a < 16 → without a (maskOf n f) ≡ maskOf n (λ b. f b && not (eqb a b))
+below-without n a f l h =
+    ap (without a) (sym (mask-below n 16 f l))
+    ∙ mask-without a (λ b. ltb b n && f b) h
+    ∙ mask-cong 16 _ (λ b. ltb b n && (f b && not (eqb a b))) (λ b q. and-assoc (ltb b n) (f b) (not (eqb a b)))
+    ∙ mask-below n 16 (λ b. f b && not (eqb a b)) l
 
 -- The ones of a 16-bit mask without its bit a.
 pub ones-without : (a : ℕ) (f : ℕ → Bool) → a < 16 → ones (without a (maskOf 16 f)) ≡ count 16 (λ b. f b && not (eqb a b))

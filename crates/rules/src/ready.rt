@@ -15,7 +15,7 @@ use crate::marks::is_done;
 ghost use Rattle.rules.specs.Rules.{wordAt, pricesDueBy, totalsDueBy, fitsBy, boxesFitBy, hasGot, allGot, readyBy, permittedBy, rulesBy, BoxIn};
 
 // The word of boxes a and b.
-fn word_at(waits: &[[u16; 16]; 16], a: u16, b: u16) -> u16
+pub fn word_at(waits: &[[u16; 16]; 16], a: u16, b: u16) -> u16
     requires { ⌜ (a < 16) × (b < 16) ⌝ }
     ensures { λ r. ⌜ r ≡ wordAt (now (waits .entry)) a b ⌝ }
 {
@@ -98,7 +98,7 @@ fn has_got(k: u16, a: u16, o: u16, done: &[u16]) -> bool
 }
 
 // The word with bit b set where the test holds. There is no branch, since none could be foreseen.
-fn with_bit(word: u16, b: u16, test: bool) -> u16
+pub fn with_bit(word: u16, b: u16, test: bool) -> u16
     requires { ⌜ b < 16 ⌝ }
     ensures { λ r. ⌜ ((f : ℕ → Bool) → word ≡ maskOf 16 f → r ≡ maskOf 16 (λ o. f o || (test && eqb b o))) ⌝ }
 {

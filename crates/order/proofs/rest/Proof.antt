@@ -17,12 +17,12 @@ use Rattle.order.proofs.rest.Statement.{statement}
 use Rattle.order.proofs.rest.Tie as tie
 
 abbrev Inv-loop : tie.InvT-loop
-Inv-loop k prices totals n done₀ order₀ places words₀ p₀ i₀ done order words p i =
+Inv-loop k receivers waits n done₀ order₀ places words₀ p₀ i₀ done order words p i =
     (i ≤ places) × ((At k i (p .kind) (p .first) (p .second)) × ((length done ≡ length done₀) × ((MarksFrom k done₀ done)
-    × ((EveryJob k prices totals (λ j. Kept j done₀ order₀ n [] done order words [])) × (EveryJob k prices totals (λ j. NoneBefore j (stepsDone (j .boxes) done) i))))))
+    × ((EveryJob k receivers waits (λ j. Kept j done₀ order₀ n [] done order words [])) × (EveryJob k receivers waits (λ j. NoneBefore j (stepsDone (j .boxes) done) i))))))
 
 abbrev μ-loop : tie.MeasureT-loop
-μ-loop k prices totals n done₀ order₀ places words₀ p₀ i₀ done order words p i = places - i
+μ-loop k receivers waits n done₀ order₀ places words₀ p₀ i₀ done order words p i = places - i
 
 abbrev entry : tie.At-loop Inv-loop μ-loop → tie.Start Inv-loop μ-loop
 entry c = c .before .before .before

@@ -3,50 +3,55 @@ use mathlib.Core.Path.{_≡_}
 use Prim.Native.Nat.{_+_, _*_, _≤_, _<_, _-_}
 use native.Mathlib.Omega.{arith}
 use borrow.Author.Needs.{needs}
-use Rattle.walk.specs.Rows.{rowsTotal}
 use denote.Ref.{now}
+use Rattle.walk.specs.Rows.{rowsTotal}
 use Rattle.walk.proofs.Rows.{rows-none}
-use Rattle.rows.proofs.ByRow.{found-row, found-left, row-passed, rows-end}
+use Rattle.rows.proofs.ByRow.{kind-few, row-some, row-found, row-passed, rows-end}
 use Rattle.rows.proofs.find_in.Statement.{statement}
 use Rattle.rows.proofs.find_in.Tie as tie
 
 abbrev Inv-loop : tie.InvT-loop
-Inv-loop k c rows prices totals done n left₀ r₀ left r = (r ≤ n) × (left + rowsTotal rows r ≡ c)
+Inv-loop k c rows n left₀ r₀ left r = (r ≤ n) × (left + rowsTotal rows r ≡ c)
 
 abbrev μ-loop : tie.MeasureT-loop
-μ-loop k c rows prices totals done n left₀ r₀ left r = n - r
+μ-loop k c rows n left₀ r₀ left r = n - r
 
--- Places, from places after them.
-abbrev outset : tie.After-find-row Inv-loop μ-loop → tie.Start Inv-loop μ-loop
-outset c = c .before .before .before .before .before .before
+-- A turn, from where its row has the place.
+abbrev turn : tie.Then1 Inv-loop μ-loop → tie.In-loop Inv-loop μ-loop
+turn c = c .before .before
+
+abbrev entry : tie.In-loop Inv-loop μ-loop → tie.Start Inv-loop μ-loop
+entry c = c .before .before
+
+-- A row at a turn is one of those of k boxes.
+row-at-turn : (c : tie.In-loop Inv-loop μ-loop) → c .before .loop .r < 6 * entry c .args .k
+row-at-turn c = omega (arith, c .loop-test .taken)
 
 loop-holds : tie.Need-loop-holds Inv-loop μ-loop
-loop-holds c = (search needs, omega (arith, rows-none (now (c .before .args .rows))))
+loop-holds c = (search needs, omega (arith, rows-none (now (c .args .rows))))
 
-find-row-requires : tie.Need-find-row-requires Inv-loop μ-loop
-find-row-requires c κs =
-    let l = c .before .before .before .loop in
-    let s = c .before .before .before .before .before in
-    let lr : l .r < 6 * s .args .k = omega arith in
-    (s .pre .0, (lr, found-left (s .args .k) _ _ _ _ (s .pre .1 .0) (l .r) (l .left) _ (l .inv .1) lr (c .if1 .taken)))
+add-kind : tie.Need-add-t16 Inv-loop μ-loop
+add-kind c = omega (arith, kind-few (entry (turn c) .args .k) (turn c .before .loop .r) (entry (turn c) .pre .0) (row-at-turn (turn c)))
 
 returns : tie.Need-returns Inv-loop μ-loop
-returns c =
-    let l = c .before .before .before .before .loop in
-    let s = outset c in
-    rw (found-row (s .args .k) _ _ _ _ (s .pre .1 .0) (l .r) (l .left) _ (l .inv .1) (omega arith)) at (c .find-row .ensures)
+returns c f h lt =
+    let t = c .before .before in
+    let l = turn t .before .loop in
+    let s = entry (turn t) in
+    let lr = row-at-turn (turn t) in
+    let (lb, on, m) = c .bit-at .ensures (row-some (s .args .k) f (now (s .args .rows)) h (l .r) (l .left) lr (t .if1 .taken)) in
+    row-found (s .args .k) f (now (s .args .rows)) h (l .r) (l .left) (s .args .c) (c .bit-at .result) (s .pre .0) (s .pre .1) (l .inv .1) lr lb on m
 
 loop-again : tie.Need-loop-again Inv-loop μ-loop
 loop-again c =
     let l = c .before .before .before .loop in
-    let s = c .before .before .before .before .before in
-    (search needs, row-passed (s .args .k) _ _ _ _ (s .pre .1 .0) (l .r) (l .left) _ (l .inv .1) (c .if1 .left))
+    (search needs, row-passed _ (l .r) (l .left) _ (l .inv .1) (c .if1 .left))
 
 returns-2 : tie.Need-returns-2 Inv-loop μ-loop
-returns-2 c =
+returns-2 c f h lt =
     let l = c .before .loop in
-    let s = c .before .before .before in
-    absurd (rows-end (s .args .k) _ _ _ _ (s .pre .1 .0) (l .r) (l .left) (s .args .c) (omega arith) (l .inv .1) (s .pre .1 .1))
+    let s = c .before .before in
+    absurd (rows-end (s .args .k) f (now (s .args .rows)) h (l .r) (l .left) (s .args .c) (omega (arith, l .inv .0, c .loop-test .left)) (l .inv .1) lt)
 
 pub find-in-spec : {M : Type 1} → statement M
 find-in-spec =
@@ -59,7 +64,13 @@ find-in-spec =
     (λ c. search needs)
     (λ c. search needs)
     (λ c. search needs)
-    find-row-requires
+    (λ c. search needs)
+    (λ c. search needs)
+    add-kind
+    (λ c. search needs)
+    (λ c. search needs)
+    (λ c. search needs)
+    (λ c κs. search needs)
     returns
     (λ c. search needs)
     (λ c. search needs)
