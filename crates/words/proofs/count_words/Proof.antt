@@ -4,11 +4,11 @@ use mathlib.Core.Bool.{Bool}
 use Prim.Native.Nat.{ℕ, _≤_, _-_}
 use native.Mathlib.Nat.{le-antisymm}
 use native.Mathlib.Omega.{arith}
-use denote.Ref.{now}
 use borrow.Author.Needs.{needs}
 use Rattle.laws.specs.Below.{count}
 use Rattle.laws.proofs.Below.{count-start}
 use Rattle.words.specs.Message.{wordIn}
+use denote.Ref.{now}
 use Rattle.words.proofs.Counting.{counted-fits, counted}
 use Rattle.words.proofs.count_words.Statement.{statement}
 use Rattle.words.proofs.count_words.Tie as tie
