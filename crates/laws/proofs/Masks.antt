@@ -200,6 +200,23 @@ mask-and (suc n) f g =
     (ap₂ min (low-bit n f) (low-bit n g) ∙ one-and (f 0) (g 0))
     ∙ omega arith
 
+-- The bits of two masks together.
+one-or : (b c : Bool) → max (one b) (one c) ≡ one (b || c)
+unfolding only naturals
+one-or true true = refl
+one-or true false = refl
+one-or false c = omega arith
+
+pub mask-join : (n : ℕ) (f g : ℕ → Bool) → bitOr (maskOf n f) (maskOf n g) ≡ maskOf n (λ b. f b || g b)
+unfolding maskOf
+mask-join zero f g = refl
+mask-join (suc n) f g =
+    or-step (maskOf (suc n) f) (maskOf (suc n) g)
+    ∙ ap₂ (λ (x y : ℕ). x * 2 + y)
+    (ap₂ bitOr (high-bits n f) (high-bits n g) ∙ mask-join n (λ b. f (suc b)) (λ b. g (suc b)))
+    (ap₂ max (low-bit n f) (low-bit n g) ∙ one-or (f 0) (g 0))
+    ∙ omega arith
+
 -- A mask is 0 where no bit of it is set.
 bit-none : (b : ℕ) → bit b 0 ≡ false
 unfolding bit

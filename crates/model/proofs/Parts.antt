@@ -1,4 +1,4 @@
--- Part totals of the closed form: what a box that has multiplied holds, and how multiplying adds to them. Assumes nothing.
+-- Part totals of the closed form: what a box holds of the tallies that are added, and how multiplying adds to them. Assumes nothing.
 use mathlib.Core.Path.{_≡_, _∙_, refl}
 use mathlib.Core.Bool.{Bool, true, false, _&&_, _||_, not}
 use Prim.Native.Nat.{ℕ, _<_}
