@@ -1,5 +1,5 @@
 -- Words with one bit for each box: what a box has got. Assumes nothing.
-use mathlib.Core.Path.{_≡_, refl, sym, ap, _∙_}
+use mathlib.Core.Path.{_≡_, sym, ap, _∙_}
 use mathlib.Core.Bool.{Bool, true, false, _&&_, _||_}
 use mathlib.Core.List.{List}
 use Prim.Native.Nat.{ℕ, _+_, _*_, _%_, _^_, _≤_, _<_}
@@ -12,7 +12,6 @@ use borrow.Author.Tests.{ltb-true, ltb-false, lt-ltb, le-ltb, ne-eqb, eqb-true, 
 use Rattle.laws.specs.Masks.{maskOf}
 use Rattle.laws.proofs.Bools.{split, and-false, and-one, or-false, eqb-same}
 use Rattle.laws.proofs.Masks.{mask-cong, mask-none, mask-or, shl-one}
-use Rattle.model.specs.Steps.{Steps, receivePrices}
 use Rattle.model.specs.Tables.{stepsDone}
 use Rattle.rules.specs.Rules.{hasGot}
 

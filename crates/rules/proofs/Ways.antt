@@ -1,15 +1,13 @@
 -- The ways through the tests: each answer is what its definition picks at the tests that led there. Assumes nothing.
-use mathlib.Core.Path.{_≡_, sym, ap, _∙_}
+use mathlib.Core.Path.{_≡_, sym}
 use mathlib.Core.List.{List}
-use mathlib.Core.Bool.{Bool, true, false, _&&_}
+use mathlib.Core.Bool.{Bool, true, false}
 use Prim.Native.Nat.{ℕ, _*_, _≤_, _<_}
 use lib.Dec.{ltb}
 use lib.ListN.{length}
 use borrow.Author.Tests.{ltb-true}
-use Rattle.laws.specs.Below.{all}
-use Rattle.laws.proofs.Bools.{and-l, and-r, and-true, and-false}
-use Rattle.laws.proofs.Below.{all-fails}
-use Rattle.model.specs.Steps.{Kind, multiplyOwn, kindOf, Steps}
+use Rattle.laws.proofs.Bools.{and-l, and-r, and-false}
+use Rattle.model.specs.Steps.{Kind, kindOf, Steps}
 use Rattle.model.specs.Step.{isKind}
 use Rattle.rules.specs.Marks.{MarksIn}
 use Rattle.rules.specs.Rules.{fitsBy, boxesFitBy, readyBy, permittedBy}

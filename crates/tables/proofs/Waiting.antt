@@ -1,17 +1,17 @@
 -- The words that a pass makes are those of receivers and of waits. Assumes nothing.
 use mathlib.Core.Path.{_≡_, refl, sym, ap, _∙_}
-use mathlib.Core.Bool.{Bool, true, false, _&&_, _||_}
+use mathlib.Core.Bool.{true, false, _&&_, _||_}
 use mathlib.Core.List.{List, []}
 use Prim.Native.Nat.{ℕ, _+_, _^_, _<_, _≤_}
 use native.Mathlib.Omega.{arith}
 use lib.ListN.{getD, set, replicate}
 use lib.Dec.{eqb, ltb}
 use lib.Bits.{bitOr}
-use borrow.Author.Tests.{ltb-true, eqb-true, eqb-false, ne-eqb}
+use borrow.Author.Tests.{ltb-true, eqb-true, ne-eqb}
 use Rattle.laws.specs.Below.{any, only, naturals}
 use Rattle.laws.specs.Masks.{bit, maskOf}
 use Rattle.laws.specs.Tables.{tabulate}
-use Rattle.laws.proofs.Bools.{split, eqb-same, and-false, and-one, or-false}
+use Rattle.laws.proofs.Bools.{split, eqb-same, and-false, or-false}
 use Rattle.laws.proofs.Below.{any-next}
 use Rattle.laws.proofs.Masks.{mask-cong, mask-bits, mask-or, mask-join}
 use Rattle.laws.proofs.Tables.{getD-tabulate}

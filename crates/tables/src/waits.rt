@@ -53,7 +53,13 @@ pub fn waits(
     for t in 0..n {
         let g = tally_grocer[t] as usize;
         let o = tally_offer[t] as usize;
-        add_wait(&mut words, boxes, tally_box[t], grocer_owner[g], offer_owner[o]);
+        add_wait(
+            &mut words,
+            boxes,
+            tally_box[t],
+            grocer_owner[g],
+            offer_owner[o],
+        );
     }
     words
 }
