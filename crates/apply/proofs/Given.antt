@@ -63,8 +63,8 @@ pub record Given (f : JobTables) (t : StateTables) (needs sharers : List ℕ) (q
   pub job-long : JobLong (f .grocers) (f .offers) (f .tallies) (jobLengths f)
   pub state-long : StateLong (f .boxes) (f .grocers) (f .offers) (stateLengths t)
   pub words-in : StateWords f t
-  pub needs-are : needs ≡ tabulate 500 (needWord (jobOf f))
-  pub sharers-are : sharers ≡ tabulate 255 (sharerWord (jobOf f))
+  pub needs-are : q .kind ≤ 3 → needs ≡ tabulate 500 (needWord (jobOf f))
+  pub sharers-are : 4 ≤ q .kind → sharers ≡ tabulate 255 (sharerWord (jobOf f))
   pub kind-from : 1 ≤ q .kind
   pub kind-to : q .kind ≤ 6
   pub first-in : q .first < f .boxes
