@@ -17,10 +17,11 @@ pub record LinkedBy (heads n : ℕ) (key : ℕ → ℕ) (links : List ℕ) : Typ
   pub begins : (v : ℕ) → v < heads → SkipsBy n key v 0 (getD links v 0)
   pub goes : (i : ℕ) → i < n → SkipsBy n key (key i) (i + 1) (getD links (heads + i) 0)
 
--- The two where the keys are the words of a table, 0 to 16.
+-- `SkipsBy` with the words of a table for keys.
 abbrev pub Skips : ℕ → List ℕ → ℕ → ℕ → ℕ → Type 0
 Skips n keys v i j = SkipsBy n (λ x. getD keys x 0) v i j
 
+-- `LinkedBy` with the words of a table for keys, 0 to 16.
 abbrev pub Linked : ℕ → List ℕ → List ℕ → Type 0
 Linked n keys links = LinkedBy 17 n (λ x. getD keys x 0) links
 

@@ -40,7 +40,13 @@ fn move_prices(
     let mut offer_links = [0u16; 517];
     let mut tally_links = [0u16; 1272];
     links::link(z.offers as usize, offer_owner, &mut offer_links);
-    links::link_pairs(z.tallies as usize, standing, tally_offer, offer_owner, &mut tally_links);
+    links::link_pairs(
+        z.tallies as usize,
+        standing,
+        tally_offer,
+        offer_owner,
+        &mut tally_links,
+    );
     apply::price_step(
         z,
         offer_owner,

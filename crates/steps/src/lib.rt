@@ -121,7 +121,13 @@ pub fn all_steps(
     let mut tally_links = [0u16; 1272];
     links::link(z.offers as usize, offer_owner, &mut offer_links);
     links::link(z.grocers as usize, grocer_owner, &mut grocer_links);
-    links::link_pairs(z.tallies as usize, tally_box, tally_offer, offer_owner, &mut tally_links);
+    links::link_pairs(
+        z.tallies as usize,
+        tally_box,
+        tally_offer,
+        offer_owner,
+        &mut tally_links,
+    );
     let mut words: u32 = 0;
     let mut messages: u32 = 0;
     for i in 0..n {

@@ -1,12 +1,11 @@
 -- `links::link_pairs` meets its contract. The invariant: the entries from i on are linked. Assumes nothing.
-use mathlib.Core.Path.{_≡_, refl, sym, ap, _∙_, subst}
-use mathlib.Core.List.{List}
+use mathlib.Core.Path.{_≡_, refl, sym, _∙_, subst}
 use Prim.Native.Nat.{ℕ, _<_, _≤_, _+_, _-_}
 use native.Mathlib.Omega.{arith}
-use lib.ListN.{length, getD, set}
+use lib.ListN.{length, getD}
 use borrow.Author.Needs.{needs}
-use denote.Ref.{now}
 use Rattle.links.specs.Links.{pairAt}
+use denote.Ref.{now}
 use Rattle.links.proofs.Walks.{LinkedFrom, linked-none, linked-more, linked-all}
 use Rattle.links.proofs.link_pairs.Statement.{statement}
 use Rattle.links.proofs.link_pairs.Tie as tie

@@ -1,8 +1,8 @@
 -- `links::put_first` meets its contract. Assumes nothing.
-use native.Mathlib.Omega.{arith}
 use mathlib.Core.Path.{refl, _∙_}
 use Prim.Native.Nat.{_+_}
-use lib.ListN.{length, getD, set, length-set}
+use native.Mathlib.Omega.{arith}
+use lib.ListN.{getD, set, length-set}
 use borrow.Author.Needs.{needs}
 use denote.Ref.{now}
 use Rattle.links.proofs.put_first.Statement.{statement}
