@@ -16,7 +16,7 @@ use Rattle.model.specs.Ranges.{stateInRange}
 use Rattle.model.specs.Handed.{Handed}
 use Rattle.model.specs.Step.{Asked, isKind, boxesFit}
 use Rattle.words.specs.Message.{wordIn}
-use Rattle.links.specs.Links.{Linked}
+use Rattle.links.specs.Links.{Linked, LinkedPairs}
 use Rattle.prices.specs.Prices.{sentTransit, receivedKnown, receivedTransit}
 use Rattle.totals.specs.Row.{Tallies, TalliesIn, PricesIn, AmountsIn, productRow, putRow}
 use Rattle.totals.specs.Credit.{cleared, sentTotals, credited, creditAll}
@@ -45,7 +45,7 @@ sentMore sent more = set sent 0 (getD sent 0 0 + more)
 pub record PriceStepIn (e : Tallies) (offerLinks tallyLinks known transit : List ℕ) (working : List ℤ) (kind a b : ℕ) : Type 0 where
   pub tallies-in : TalliesIn e
   pub offers-linked : Linked (e .offers) (e .owner) offerLinks
-  pub tallies-linked : Linked (e .tallies) (e .holder) tallyLinks
+  pub tallies-linked : LinkedPairs (e .tallies) (e .holder) (e .offer) (e .owner) tallyLinks
   pub known-in : PricesIn (e .boxes) (e .offers) known
   pub transit-in : PricesIn (e .boxes) (e .offers) transit
   pub working-in : AmountsIn (e .boxes * e .grocers) working

@@ -39,7 +39,7 @@ fn one_step(
     sharers: &[u16; 255],
     offer_links: &[u16; 517],
     grocer_links: &[u16; 272],
-    tally_links: &[u16; 1017],
+    tally_links: &[u16; 1272],
     known: &mut [u32],
     price_transit: &mut [u32],
     working: &mut [i64],
@@ -118,10 +118,16 @@ pub fn all_steps(
     fresh::fresh_totals(z.boxes, z.grocers, working, total_transit, statement);
     let mut offer_links = [0u16; 517];
     let mut grocer_links = [0u16; 272];
-    let mut tally_links = [0u16; 1017];
+    let mut tally_links = [0u16; 1272];
     links::link(z.offers as usize, offer_owner, &mut offer_links);
     links::link(z.grocers as usize, grocer_owner, &mut grocer_links);
-    links::link(z.tallies as usize, tally_box, &mut tally_links);
+    links::link_pairs(
+        z.tallies as usize,
+        tally_box,
+        tally_offer,
+        offer_owner,
+        &mut tally_links,
+    );
     let mut words: u32 = 0;
     let mut messages: u32 = 0;
     for i in 0..n {
