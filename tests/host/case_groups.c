@@ -37,7 +37,7 @@ static void expect_state(const struct words *words)
 }
 
 /* By kind, first box and second box; box 1 before box 0; box 0 ahead of box 1; totals of box 0 sent and received before
-   it has received a price; own totals of box 0 added before it multiplies. The first line of each is the fresh state. */
+   any price; own totals of box 0 added before it multiplies. The first line of each is the fresh state. */
 static const struct {
     const char *name;
     struct words lines[11];
