@@ -78,7 +78,7 @@
  * - or by counting: as many requests were accepted as settlement_run says in report[2] for the same job, whatever its
  *   choices, on a state of its own.
  * The marks in done do not tell it alone, since they do not say which steps the job has; 24 does. Nor do steps 4 and 5
- * of a box tell that its step 2 is done: they do not wait for one that adds nothing to them, and it is due all the same.
+ * of a box tell that its step 2 is done: they do not wait for one that adds nothing to them, and it is due nonetheless.
  * host/example.c asks for all steps, round after round, until a round has none accepted; then it compares with a run.
  */
 #ifndef SETTLEMENT_H
