@@ -114,9 +114,9 @@ static const struct {
      }},
 };
 
-static void several_orders(void)
+static void in_orders(size_t from, size_t to)
 {
-    for (size_t i = 0; i < sizeof orders / sizeof orders[0]; i++) {
+    for (size_t i = from; i < to; i++) {
         sample_job(&settlement.job);
         open_settlement(&settlement, SPARE, 0);
         at_case("%s", orders[i].name);
@@ -131,6 +131,9 @@ static void several_orders(void)
         close_settlement(&settlement);
     }
 }
+
+static void three_orders(void) { in_orders(0, 3); }
+static void early_orders(void) { in_orders(3, sizeof orders / sizeof orders[0]); }
 
 /* Single requests that the plights do not have. */
 static void other_requests(void)
@@ -316,7 +319,8 @@ static void largest_by_rules(void)
 
 void check_cases(void)
 {
-    run_group("step: E in five orders, word by word", several_orders);
+    run_group("step: E in three orders, word by word", three_orders);
+    run_group("early: E in two orders more, word by word", early_orders);
     run_group("step: other requests on E", other_requests);
     run_group("step: every word at an end of its range", ends_of_ranges);
     run_group("run: E with choices, word by word", runs_of_sample);
