@@ -1,10 +1,9 @@
 -- The step that code finds is the one that the run picks, of every job with these words of receivers and waits. Assumes nothing.
 use mathlib.Core.Path.{_≡_, refl, sym, ap, _∙_, subst}
 use mathlib.Core.Bool.{Bool, true, false, cond, _&&_}
-use mathlib.Core.List.{List, [], _∷_}
-use Prim.Native.Nat.{ℕ, suc, _+_, _-_, _*_, _%_, _≤_, _<_}
+use mathlib.Core.List.{List, []}
+use Prim.Native.Nat.{ℕ, _+_, _-_, _*_, _%_, _≤_, _<_}
 use native.Mathlib.Omega.{arith}
-use native.Mathlib.Nat.{mod-lt}
 use native.Mathlib.Numerals.{add-one}
 use lib.Arith.{digits-lt}
 use lib.Dec.{eqb, ltb}
@@ -13,11 +12,11 @@ use lib.Seq.{drop-cons}
 use borrow.Author.Tests.{lt-ltb, ne-eqb}
 use Rattle.laws.specs.Below.{count, nth}
 use Rattle.laws.specs.Tables.{overwrite}
-use Rattle.laws.proofs.Bools.{split, and-l, and-r, and-true, and-false}
+use Rattle.laws.proofs.Bools.{and-l, and-r, and-true, and-false}
 use Rattle.laws.proofs.Tables.{over-over, long-overwrite}
 use Rattle.laws.proofs.Ascending.{nth-passes}
 use Rattle.model.specs.Job.{Job}
-use Rattle.model.specs.Steps.{Kind, kindOf, Steps, Step, mark, stepAt, atPlace, places}
+use Rattle.model.specs.Steps.{Kind, kindOf, Steps, mark, stepAt, atPlace, places}
 use Rattle.model.specs.Tables.{stepsDone, marksOf}
 use Rattle.model.specs.Ranges.{upTo}
 use Rattle.model.specs.Run.{listed, readyCount, pick}
@@ -27,7 +26,6 @@ use Rattle.walk.specs.Walk.{PlaceIn, here, listedBy, WalkIn, Found}
 use Rattle.order.specs.Order.{OfJob, MarksFrom, Picked, Kept, Ended, NoneBefore, Passed}
 use Rattle.model.proofs.Step.{marks-bits}
 use Rattle.model.proofs.Machine.{kinds}
-use Rattle.model.proofs.Marks as M
 use Rattle.model.proofs.Tables.{marks-back}
 use Rattle.model.proofs.Listed.{pick-is}
 use Rattle.model.proofs.Run.{picked}
@@ -35,6 +33,7 @@ use Rattle.walk.proofs.Places.{listed-at}
 use Rattle.walk.proofs.InModel.{step-here, listed-is, count-is, nth-is-model}
 use Rattle.order.proofs.Left.{and-step, Open, first-picked, some-ready, none-more, none-done}
 use Rattle.order.proofs.Pick.{room, put-kept, kept-none, kept-ends}
+use Rattle.model.proofs.Marks as M
 
 -- The marks with one step more say that it is done.
 module _ (k : ℕ) (q : Kind) (a b : ℕ) (done : List ℕ) (la : a < k) (lb : b < k) where

@@ -72,7 +72,17 @@ fn chosen(
         if ready == 0 {
             return i;
         }
-        choose(k, receivers, waits, choices, i, ready, done, &mut rows, order);
+        choose(
+            k,
+            receivers,
+            waits,
+            choices,
+            i,
+            ready,
+            done,
+            &mut rows,
+            order,
+        );
     }
     n
 }

@@ -124,19 +124,18 @@ fn row_word(
     }
     let mut word: u16 = 0;
     for b in 0..k {
-        let more = with_bit(word, b, rules::ready::permitted(k, kind, a, b, receivers, waits, done));
+        let more = with_bit(
+            word,
+            b,
+            rules::ready::permitted(k, kind, a, b, receivers, waits, done),
+        );
         word = more;
     }
     word
 }
 
 // All rows are made.
-pub fn all_rows(
-    k: u16,
-    receivers: &[u16; 16],
-    waits: &[[u16; 16]; 16],
-    done: &[u16],
-) -> [u16; 192]
+pub fn all_rows(k: u16, receivers: &[u16; 16], waits: &[[u16; 16]; 16], done: &[u16]) -> [u16; 192]
     requires { ⌜ WalkIn k (now done) ⌝ }
     ensures { λ r. ⌜ IsRows k (listedBy k (now (receivers .entry)) (now (waits .entry)) (now (done .entry))) r ⌝ }
 {

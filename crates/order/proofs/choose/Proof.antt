@@ -1,14 +1,13 @@
 -- `order::choose` meets its contract: the step that the choice picks is put into the order. Assumes nothing.
-use mathlib.Core.Path.{_≡_, ap, _∙_}
+use mathlib.Core.Path.{ap, _∙_}
 use Prim.Native.Nat.{_*_, _%_, _<_}
 use native.Mathlib.Nat.{mod-lt}
 use lib.ListN.{getD}
 use borrow.Author.Needs.{needs}
-use denote.Ref.{now}
 use Rattle.laws.specs.Below.{count, nth}
-use Rattle.model.specs.Steps.{kindOf, mark}
 use Rattle.model.specs.Tables.{stepsDone}
 use Rattle.walk.specs.Walk.{listedBy, Found}
+use denote.Ref.{now}
 use Rattle.renew.proofs.Changed.{rows-before}
 use Rattle.order.proofs.Found.{marked-steps, found-open, room-of, kept-of, marks-long}
 use Rattle.order.proofs.choose.Statement.{statement}

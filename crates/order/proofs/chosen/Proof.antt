@@ -6,12 +6,12 @@ use native.Mathlib.Omega.{arith}
 use lib.ListN.{length, drop}
 use borrow.Author.Needs.{needs}
 use borrow.Author.Tests.{eq-eqb}
-use denote.Ref.{now}
 use Rattle.laws.specs.Below.{count}
 use Rattle.walk.specs.Walk.{listedBy}
 use Rattle.walk.specs.Rows.{IsRows}
-use Rattle.rows.proofs.ByRow.{rows-few, rows-ready}
 use Rattle.order.specs.Order.{MarksFrom, Kept, EveryJob}
+use denote.Ref.{now}
+use Rattle.rows.proofs.ByRow.{rows-few, rows-ready}
 use Rattle.order.proofs.Pick.{kept-none, kept-both, kept-over, kept-last}
 use Rattle.order.proofs.Found.{ready-of, walk-on, marks-own, marks-over}
 use Rattle.order.proofs.chosen.Statement.{statement}

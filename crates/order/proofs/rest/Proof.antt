@@ -1,15 +1,14 @@
 -- `order::rest` meets its contract: at place i no step of an earlier place is ready. Assumes nothing.
-use mathlib.Core.Path.{_≡_, refl, ap, _∙_}
+use mathlib.Core.Path.{_≡_, refl, _∙_}
 use mathlib.Core.List.{[]}
-use Prim.Native.Nat.{_-_, _≤_, _<_}
+use Prim.Native.Nat.{_-_, _≤_}
 use native.Mathlib.Omega.{arith}
 use lib.ListN.{length}
 use borrow.Author.Needs.{needs}
-use denote.Ref.{now}
 use Rattle.model.specs.Tables.{stepsDone}
 use Rattle.walk.specs.Walk.{PlaceIn}
-use Rattle.walk.proofs.Walking.{At, at-first, at-next, at-in}
 use Rattle.order.specs.Order.{MarksFrom, Kept, NoneBefore, EveryJob}
+use Rattle.walk.proofs.Walking.{At, at-first, at-next, at-in}
 use Rattle.order.proofs.Left.{none-first}
 use Rattle.order.proofs.Pick.{kept-none, kept-both}
 use Rattle.order.proofs.Found.{walk-on, ended-of, marks-own, marks-over}

@@ -5,8 +5,8 @@ use Prim.Native.Nat.{_<_}
 use native.Mathlib.Omega.{arith}
 use borrow.Author.Needs.{needs}
 use borrow.Author.Tests.{not-true, not-false}
-use denote.Ref.{now}
 use Rattle.walk.specs.Walk.{here, listedBy}
+use denote.Ref.{now}
 use Rattle.walk.proofs.Places.{listed-at}
 use Rattle.order.proofs.Found.{not-of, place-room-of, passed-of}
 use Rattle.order.proofs.turn.Statement.{statement}

@@ -1,6 +1,5 @@
 -- `renew::one_less` meets its contract. Assumes nothing.
 use mathlib.Core.Path.{refl}
-use native.Mathlib.Omega.{arith}
 use borrow.Author.Needs.{needs}
 use denote.Ref.{now}
 use Rattle.rows.proofs.ByRow.{renewed-cong}

@@ -4,9 +4,9 @@ use Prim.Native.Nat.{ℕ, _+_}
 use native.Mathlib.Omega.{arith}
 use lib.ListN.{getD}
 use borrow.Author.Needs.{needs}
-use denote.Ref.{now}
 use Rattle.laws.proofs.Below.{only-le}
 use Rattle.walk.specs.Rows.{rowOf}
+use denote.Ref.{now}
 use Rattle.rows.proofs.ByRow.{renewed-cong}
 use Rattle.renew.proofs.Place.{more-word, more-count}
 use Rattle.renew.proofs.one_more.Statement.{statement}

@@ -46,7 +46,8 @@ returns c =
     renewed-sent (s .args .k) _ (s .args .kind) (s .args .a) (s .args .b) _ _
     (rows-kept (s .args .k) (s .args .kind) (s .args .a) (s .args .b) _ _ (now (s .args .done)) (now (s .args .rows)) (s .pre .0) (s .pre .1))
     (own-renewed (s .args .k) (s .args .kind) (s .args .a) (s .args .b) _ _ (now (s .args .done)) (now (s .args .rows)) (s .pre .0) (s .pre .1) _ (t .before .one-less .ensures)) _ (t .if1 .taken)
-    (receiver-renewed (s .args .k) (s .args .kind) (s .args .a) (s .args .b) _ _ (now (s .args .done)) (now (s .args .rows)) (s .pre .0) (s .pre .1) _ (t .before .one-less .ensures) (t .if1 .taken) _ _ (c .before .before .permitted .ensures) (c .one-more .ensures))
+    (receiver-renewed (s .args .k) (s .args .kind) (s .args .a) (s .args .b) _ _ (now (s .args .done)) (now (s .args .rows)) (s .pre .0) (s .pre .1)
+    _ (t .before .one-less .ensures) (t .if1 .taken) _ _ (c .before .before .permitted .ensures) (c .one-more .ensures))
 
 returns-2 : tie.Need-returns-2
 returns-2 c =

@@ -1,8 +1,8 @@
 -- `rows::can_send` meets its contract: fit, not done, and all got. Assumes nothing.
 use borrow.Author.Needs.{needs}
-use denote.Ref.{now}
 use Rattle.model.specs.Steps.{kindOf}
 use Rattle.model.specs.Tables.{stepsDone}
+use denote.Ref.{now}
 use Rattle.rows.proofs.ByRow.{sends-open}
 use Rattle.rows.proofs.can_send.Statement.{statement}
 use Rattle.rows.proofs.can_send.Tie as tie

@@ -3,8 +3,8 @@ use mathlib.Core.Path.{_≡_}
 use Prim.Native.Nat.{_+_, _*_, _≤_, _<_, _-_}
 use native.Mathlib.Omega.{arith}
 use borrow.Author.Needs.{needs}
-use denote.Ref.{now}
 use Rattle.walk.specs.Rows.{rowsTotal}
+use denote.Ref.{now}
 use Rattle.walk.proofs.Rows.{rows-none}
 use Rattle.rows.proofs.ByRow.{kind-few, row-some, row-found, row-passed, rows-end}
 use Rattle.rows.proofs.find_in.Statement.{statement}

@@ -1,14 +1,14 @@
 -- `rows::renew_own` meets its contract: not done, and all got. Assumes nothing.
 use mathlib.Core.Path.{_≡_, refl, _∙_}
-use mathlib.Core.Bool.{Bool, _&&_, not}
+use mathlib.Core.Bool.{_&&_, not}
 use mathlib.Core.List.{List}
 use Prim.Native.Nat.{ℕ}
 use lib.Dec.{eqb}
 use borrow.Author.Needs.{needs}
-use denote.Ref.{now}
 use Rattle.model.specs.Steps.{kindOf, addOwn}
 use Rattle.model.specs.Tables.{stepsDone}
 use Rattle.rules.specs.Rules.{permittedBy}
+use denote.Ref.{now}
 use Rattle.rows.proofs.ByRow.{renewed-cong, only-word, only-count, own-open}
 use Rattle.rows.proofs.renew_own.Statement.{statement}
 use Rattle.rows.proofs.renew_own.Tie as tie

@@ -4,12 +4,12 @@ use mathlib.Core.List.{List}
 use Prim.Native.Nat.{ℕ, _≤_, _-_}
 use native.Mathlib.Nat.{le-antisymm}
 use borrow.Author.Needs.{needs}
-use denote.Ref.{now}
 use Rattle.laws.specs.Masks.{maskOf}
 use Rattle.laws.proofs.Masks.{mask-below}
 use Rattle.model.specs.Steps.{sendTotals}
 use Rattle.model.specs.Tables.{stepsDone}
 use Rattle.rules.specs.Rules.{permittedBy}
+use denote.Ref.{now}
 use Rattle.rules.proofs.Bits.{before, before-none, before-more}
 use Rattle.rows.proofs.send_word.Statement.{statement}
 use Rattle.rows.proofs.send_word.Tie as tie
