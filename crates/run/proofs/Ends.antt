@@ -26,7 +26,7 @@ use Rattle.tables.proofs.Standing.{accepted}
 use Rattle.model.specs.Words.{over, messagesOf, messageCount, stepCount}
 use Rattle.model.specs.Run.{readyCount, pick, picks, run, runState, afterSteps, RunAnswer, finished, refused, reported, runRefusals, ran}
 use Rattle.tables.specs.Masks.{holderWord, Placed, Owned}
-use Rattle.tables.specs.Messages.{sentTable}
+use Rattle.tables.specs.Waits.{receiverTable, tallyLists, waitTable, WaitsIn}
 use Rattle.tables.specs.Sizes.{sizes}
 use Rattle.walk.specs.Walk.{WalkIn}
 use Rattle.order.specs.Order.{OfJob, MarksFrom, Ordered, markAll, noSteps}
@@ -38,7 +38,8 @@ use Rattle.model.proofs.Lent.{state-long}
 use Rattle.tables.proofs.Sizes.{short-sizes}
 use Rattle.tables.proofs.Whole.{JobWhole, job-whole}
 use Rattle.tables.proofs.Holders.{need-words, sharer-words}
-use Rattle.tables.proofs.InJob.{placed-offers, placed-grocers, owned-offers, owned-grocers, price-sent, total-sent}
+use Rattle.tables.proofs.InJob.{placed-offers, placed-grocers, owned-offers}
+use Rattle.rules.proofs.Told.{receivers-of, waits-of, waits-in}
 use Rattle.prices.proofs.Effect.{tables-eq}
 use Rattle.order.proofs.Pick.{steps-length}
 use Rattle.steps.proofs.Way.{some-box}
