@@ -111,6 +111,9 @@ receivers-for c = c .before .before
 abbrev prices-asked : tie.After-request-refusal → tie.After-receivers
 prices-asked c = c .before .before .before
 
+few : (k : tie.Then2) → ask (entry (priced k)) .kind ≤ 3
+few k = omega (arith, k .if2 .taken)
+
 needs-requires : tie.Need-needs-requires
 needs-requires c κs = let e = priced (c .before .before) in placed-offers (handed e) (in-hand e .job-in) (whole (handed e) (state (entry e)) (in-hand e))
 
@@ -141,7 +144,7 @@ abbrev price-kind : tie.After-request-refusal → tie.Then2
 price-kind c = needs-for (receivers-for (prices-asked c))
 
 no-waits : (k : tie.Then2) (from : List (List ℕ)) → 4 ≤ ask (entry (priced k)) .kind → WaitsOf (jobOf (handed (priced k))) from
-no-waits k from m = absurd (omega (arith, k .if2 .taken, m))
+no-waits k from m = absurd (omega (arith, few k, m))
 
 returns-2 : tie.Need-returns-2
 returns-2 c =
@@ -161,13 +164,13 @@ prices-applied i =
     let r = i .before in
     let k = price-kind r in
     applied (priced k) _ _ (λ _. receivers-are (prices-asked r)) (no-waits k _) _ (r .request-refusal .ensures) (i .if3 .left) _ _
-    (λ _. needs-are (receivers-for (prices-asked r))) (λ m. absurd (omega (arith, k .if2 .taken, m)))
+    (λ _. needs-are (receivers-for (prices-asked r))) (λ m. absurd (omega (arith, few k, m)))
 
 price-fits-requires : tie.Need-price-fits-requires
 price-fits-requires c κs =
     let i = c .before .before .before in
     let e = price-entry i in
-    price-fits-in (handed e) (state (entry e)) _ _ (ask (entry e)) (prices-applied i) (price-kind (i .before) .if2 .taken)
+    price-fits-in (handed e) (state (entry e)) _ _ (ask (entry e)) (prices-applied i) (few (price-kind (i .before)))
 
 abbrev prices-left : tie.After-price-fits → tie.Else3
 prices-left c = c .before .before .before .before
@@ -176,7 +179,7 @@ prices-range : (c : tie.After-price-fits) → let e = price-entry (prices-left c
 prices-range c =
     let i = prices-left c in
     let e = price-entry i in
-    c .price-fits .ensures ∙ prices-fit (handed e) (state (entry e)) _ _ (ask (entry e)) (prices-applied i) (price-kind (i .before) .if2 .taken)
+    c .price-fits .ensures ∙ prices-fit (handed e) (state (entry e)) _ _ (ask (entry e)) (prices-applied i) (few (price-kind (i .before)))
 
 returns-3 : tie.Need-returns-3
 returns-3 c =
