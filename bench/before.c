@@ -58,7 +58,7 @@ static void same_words(const char *what)
     }
 }
 
-/* Calls both builds on the same words: answers and every word must be the same. The answer; both rooms have the words. */
+/* Calls both builds on the same words: answers and words must be the same. The answer; both rooms have the words. */
 static size_t both(const struct work *w, const char *what)
 {
     memcpy(&room[0], &w->start, LENT_BYTES);
@@ -98,10 +98,10 @@ static void fill_at_random(void *words, size_t bytes)
 /* A number of so many digits at most; some have nines alone, or zeros. */
 static uint64_t some_number(unsigned digits)
 {
-    unsigned least = below(16) == 0 ? 9 : 0, most = below(16) == 0 ? 0 : 9;
+    unsigned all = below(16);
     uint64_t n = 0;
     for (unsigned i = 0; i < digits; i++)
-        n = n * 10 + (least < most ? below(10) : least);
+        n = n * 10 + (all == 0 ? 9 : all == 1 ? 0 : below(10));
     return n;
 }
 
@@ -521,7 +521,8 @@ static void table(void)
             works[k].operation = WRITE;
             works[k].file_len = call(&present, &works[k], &works[k].start);
             works[k].operation = items[i].operation;
-            both(&works[k], "a work that is measured");
+            if (both(&works[k], "measured") != (items[i].operation == READ ? 0 : works[k].file_len))
+                stop("measured", "the longest file is refused");
         }
         unsigned n = rounds(sides, 2, room, t);
         double ratio = median_ratio(t[1], t[0], n), a = median(t[0], n) / 1000, b = median(t[1], n) / 1000;

@@ -1,4 +1,4 @@
-/* A build before that is the present one with a planted fault, which bench/before.c must see. PLANTED says which one. */
+/* A build before that is the present one with a planted fault, which bench/before.c must see; PLANTED says which. */
 #include "bench.h"
 #include <stdlib.h>
 
