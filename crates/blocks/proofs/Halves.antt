@@ -35,6 +35,6 @@ pub second-both : (g h : ℕ → ℕ) → ((p : ℕ) → h p ≡ g (254 + p)) �
 second-both g h e =
     let w : ℕ → ℕ = λ p. (508 - p) * g p in
     let c : sum naturals 254 (λ p. (254 - p) * h p) ≡ sum naturals 254 (λ p. w (254 + p)) =
-      sum-cong naturals 254 (λ p. (254 - p) * h p) (λ p. w (254 + p)) (λ p l.
-      ap (λ (x : ℕ). (254 - p) * x) (e p) ∙ ap (λ (x : ℕ). x * g (254 + p)) (omega arith)) in
+    sum-cong naturals 254 (λ p. (254 - p) * h p) (λ p. w (254 + p)) (λ p l.
+    ap (λ (x : ℕ). (254 - p) * x) (e p) ∙ ap (λ (x : ℕ). x * g (254 + p)) (omega arith)) in
     omega (arith, c, both 254 254 w, heavier g 254 (omega arith))

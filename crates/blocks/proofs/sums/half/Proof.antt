@@ -1,16 +1,17 @@
 -- `blocks::sums::half` meets its contract. Assumes nothing.
-use Prim.Native.Nat.{_≤_, _*_, _-_}
 use mathlib.Core.Path.{_≡_, refl}
+use Prim.Native.Nat.{_≤_, _*_, _-_}
 use native.Mathlib.Omega.{arith}
+use borrow.Author.Needs.{needs}
 use Rattle.laws.specs.Below.{naturals, sum}
 use Rattle.laws.proofs.Sums.{sum-next}
 use Rattle.format.specs.Bytes.{from}
-use borrow.Author.Needs.{needs}
 use Rattle.blocks.proofs.sums.half.Statement.{statement}
 use Rattle.blocks.proofs.sums.half.Tie as tie
 
 abbrev Inv-loop : tie.InvT-loop
-Inv-loop f at first₀ second₀ weight₀ i₀ first second weight i = (i ≤ 254) × (weight ≡ 254 - i) × (first ≤ 255 * i) × (second ≤ 64770 * i) × (first ≡ sum naturals i (from f at)) × (second ≡ sum naturals i (λ p. (254 - p) * from f at p))
+Inv-loop f at first₀ second₀ weight₀ i₀ first second weight i =
+    (i ≤ 254) × (weight ≡ 254 - i) × (first ≤ 255 * i) × (second ≤ 64770 * i) × (first ≡ sum naturals i (from f at)) × (second ≡ sum naturals i (λ p. (254 - p) * from f at p))
 
 abbrev μ-loop : tie.MeasureT-loop
 μ-loop f at first₀ second₀ weight₀ i₀ first second weight i = 254 - i

@@ -1,11 +1,11 @@
 -- `blocks::sums::sums` meets its contract. Assumes nothing.
-use mathlib.Core.Path.{_≡_, ap, _∙_}
-use Prim.Native.Nat.{ℕ, _+_, _%_}
+use mathlib.Core.Path.{_≡_, ap}
+use Prim.Native.Nat.{ℕ, _+_}
 use native.Mathlib.Nat.{add-assoc}
 use lib.ListN.{getD}
+use borrow.Author.Needs.{needs}
 use Rattle.format.specs.Bytes.{from}
 use Rattle.format.specs.Blocks.{firstSum, secondSum}
-use borrow.Author.Needs.{needs}
 use Rattle.blocks.proofs.Halves.{first-both, second-both}
 use Rattle.blocks.proofs.sums.sums.Statement.{statement}
 use Rattle.blocks.proofs.sums.sums.Tie as tie
