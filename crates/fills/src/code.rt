@@ -38,6 +38,7 @@ fn nine(f: &[u8], at: usize) -> u64
 }
 
 // 2^30 over 10^(9 - n), rounded up. A product with it, over 2^30, is a division by that power of ten, of a multiple of it below 2^30.
+// There is a word for each of 16 counts, so that the table is read without a test; those of 0 and of 11 to 15 digits are asked of no code.
 fn share(n: usize) -> u64
     requires { ⌜ (1 ≤ n) × (n ≤ 10) ⌝ }
     ensures { λ r. ⌜ (1073741824 ≤ r * 10 ^ (9 - n)) × (r * 10 ^ (9 - n) < 1073741824 + 10 ^ (9 - n)) × (r ≤ 1073741824) ⌝ }
