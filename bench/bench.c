@@ -3,223 +3,13 @@
    bench --agree      that they agree, alone
    bench --ours NAME  ours alone, once, on the work of this name: for callgrind
    bench --names      the names */
-#define _POSIX_C_SOURCE 200809L
-#include "bench.h"
-#include <stdbool.h>
+#include "rounds.h"
 #include <stdio.h>
 #include <stdlib.h>
 #include <string.h>
-#include <time.h>
-
-struct calls {
-    read_call *read;
-    write_call *write;
-    step_call *step;
-    run_call *run;
-    reconcile_call *reconcile;
-};
 
 static const struct calls ours = { settlement_read, entries_write, settlement_step, settlement_run, entries_reconcile };
 static const struct calls plain = { plain_read, plain_write, plain_step, plain_run, plain_reconcile };
-
-/* All that a call is lent, of either side. */
-struct buffers {
-    uint32_t price[OFFERS];
-    uint16_t offer_owner[OFFERS];
-    uint8_t offer_code[OFFERS * CODE];
-    uint16_t offer_issuer[OFFERS];
-    uint16_t grocer_owner[GROCERS];
-    uint16_t tally_grocer[TALLIES], tally_box[TALLIES], tally_offer[TALLIES], tally_issuer[TALLIES];
-    uint8_t tally_code[TALLIES * CODE];
-    int32_t tally_count[TALLIES];
-    uint16_t tally_bag[TALLIES], tally_revision[TALLIES];
-    uint16_t sizes[SETTLEMENT_SIZES];
-    uint8_t file[FILE_BYTES];
-    uint32_t known[BOXES * OFFERS], price_transit[BOXES * OFFERS];
-    int64_t working[BOXES * GROCERS], total_transit[BOXES * GROCERS], statement[GROCERS];
-    uint16_t done[6 * BOXES * BOXES];
-    uint32_t sent[1], report[3];
-    int64_t owed[1];
-};
-
-enum operation { READ, WRITE, STEP, RUN, RECONCILE };
-
-/* What is called, and on what: the buffers are copied from `start` before each call. */
-struct work {
-    enum operation operation;
-    struct buffers start;
-    uint16_t boxes, grocers, offers, tallies, cycle;
-    size_t file_len;
-    uint16_t kind, first, second;
-    uint16_t choices[TALLIES];
-    size_t choices_len;
-    uint16_t wanted;
-};
-
-/* ---- the calls ---- */
-
-#define WORDS(x) (x), sizeof(x) / sizeof *(x)
-#define SIZES w->boxes, w->grocers, w->offers, w->tallies
-#define TABLES                                                                                                        \
-    SIZES, WORDS(b->price), WORDS(b->offer_owner), WORDS(b->grocer_owner), WORDS(b->tally_grocer),                    \
-        WORDS(b->tally_box), WORDS(b->tally_offer), WORDS(b->tally_count), WORDS(b->tally_bag),                       \
-        WORDS(b->tally_revision), WORDS(b->known), WORDS(b->price_transit), WORDS(b->working),                        \
-        WORDS(b->total_transit), WORDS(b->statement), WORDS(b->done), WORDS(b->sent)
-
-static size_t call(const struct calls *c, const struct work *w, struct buffers *b)
-{
-    switch (w->operation) {
-    case READ:
-        return c->read(b->file, w->file_len, WORDS(b->price), WORDS(b->offer_owner), WORDS(b->offer_code),
-                       WORDS(b->offer_issuer), WORDS(b->grocer_owner), WORDS(b->tally_grocer), WORDS(b->tally_box),
-                       WORDS(b->tally_code), WORDS(b->tally_count), WORDS(b->tally_issuer), WORDS(b->tally_bag),
-                       WORDS(b->tally_revision), WORDS(b->tally_offer), WORDS(b->sizes));
-    case WRITE:
-        return c->write(SIZES, w->cycle, WORDS(b->price), WORDS(b->offer_owner), WORDS(b->offer_code),
-                        WORDS(b->offer_issuer), WORDS(b->grocer_owner), WORDS(b->tally_grocer), WORDS(b->tally_box),
-                        WORDS(b->tally_code), WORDS(b->tally_count), WORDS(b->tally_issuer), WORDS(b->tally_bag),
-                        WORDS(b->tally_revision), WORDS(b->file));
-    case STEP:
-        return c->step(TABLES, w->kind, w->first, w->second);
-    case RUN:
-        return c->run(TABLES, w->choices, w->choices_len, WORDS(b->report));
-    case RECONCILE:
-        return c->reconcile(b->tally_grocer, w->tallies, b->tally_box, w->tallies, b->tally_offer, w->tallies,
-                            b->tally_count, w->tallies, b->tally_bag, w->tallies, b->tally_revision, w->tallies,
-                            WORDS(b->price), w->grocers, w->offers, w->wanted, WORDS(b->owed));
-    }
-    return 0;
-}
-
-/* ---- jobs ---- */
-
-static uint64_t seed = 20250102;
-
-static unsigned below(unsigned n)
-{
-    seed ^= seed << 13;
-    seed ^= seed >> 7;
-    seed ^= seed << 17;
-    return (unsigned)((seed >> 11) % n);
-}
-
-/* A number as a code of at least `digits` digits. */
-static void put_code(uint8_t *code, uint64_t number, unsigned digits)
-{
-    char text[24];
-    int n = snprintf(text, sizeof text, "%0*llu", (int)digits, (unsigned long long)number);
-    memset(code, 0, CODE);
-    code[0] = (uint8_t)n;
-    memcpy(code + 1, text, (size_t)n);
-}
-
-static uint64_t code_value(const uint8_t *code)
-{
-    uint64_t v = 0;
-    for (unsigned i = 1; i <= code[0]; i++)
-        v = v * 10 + (code[i] - (unsigned)'0');
-    return v;
-}
-
-static bool code_used(const struct buffers *b, unsigned n, uint64_t number)
-{
-    for (unsigned o = 0; o < n; o++)
-        if (code_value(b->offer_code + o * CODE) == number)
-            return true;
-    return false;
-}
-
-/* A job of these sizes, of some cycle, of issuer 0 and without bags: every other word random within its range. */
-static void make_job(struct work *w, unsigned k, unsigned m, unsigned n, unsigned t)
-{
-    struct buffers *b = &w->start;
-    memset(w, 0, sizeof *w);
-    w->boxes = (uint16_t)k;
-    w->grocers = (uint16_t)m;
-    w->offers = (uint16_t)n;
-    w->tallies = (uint16_t)t;
-    w->cycle = (uint16_t)(257 * (m + n + t));
-    for (unsigned o = 0; o < n; o++) {
-        uint64_t number;
-        do
-            number = (uint64_t)below(1000000) * (1 + 9999 * (uint64_t)below(2)) % 10000000000u + below(10000);
-        while (code_used(b, o, number));
-        b->price[o] = below(10000000);
-        b->offer_owner[o] = (uint16_t)below(k);
-        put_code(b->offer_code + o * CODE, number, 1 + below(10));
-    }
-    for (unsigned g = 0; g < m; g++)
-        b->grocer_owner[g] = (uint16_t)below(k);
-    for (unsigned i = 0; i < t; i++) {
-        unsigned o = below(n);
-        b->tally_grocer[i] = (uint16_t)below(m);
-        b->tally_box[i] = (uint16_t)below(k);
-        b->tally_offer[i] = (uint16_t)o;
-        b->tally_count[i] = (int32_t)below(199999) - 99999;
-        put_code(b->tally_code + i * CODE, code_value(b->offer_code + o * CODE), 1 + below(10));
-    }
-}
-
-static bool name_used(const struct buffers *b, unsigned n, unsigned issuer, uint64_t number)
-{
-    for (unsigned o = 0; o < n; o++)
-        if (b->offer_issuer[o] == issuer && code_value(b->offer_code + o * CODE) == number)
-            return true;
-    return false;
-}
-
-/* One of so many issuers for each offer, and for about half of them the number of an offer before. */
-static void give_issuers(struct work *w, unsigned issuers)
-{
-    struct buffers *b = &w->start;
-    for (unsigned o = 0; o < w->offers; o++) {
-        unsigned issuer;
-        uint64_t number;
-        do {
-            issuer = below(issuers);
-            number = code_value(b->offer_code + (below(2) ? o : below(o + 1)) * CODE);
-        } while (name_used(b, o, issuer, number));
-        b->offer_issuer[o] = (uint16_t)issuer;
-        put_code(b->offer_code + o * CODE, number, 1 + below(10));
-    }
-    for (unsigned i = 0; i < w->tallies; i++) {
-        unsigned o = b->tally_offer[i];
-        b->tally_issuer[i] = b->offer_issuer[o];
-        put_code(b->tally_code + i * CODE, code_value(b->offer_code + o * CODE), 1 + below(10));
-    }
-}
-
-/* Tally i is of the grocer, offer, name and bag of tally `from`. */
-static void count_again(struct buffers *b, unsigned i, unsigned from)
-{
-    b->tally_grocer[i] = b->tally_grocer[from];
-    b->tally_offer[i] = b->tally_offer[from];
-    b->tally_issuer[i] = b->tally_issuer[from];
-    b->tally_bag[i] = b->tally_bag[from];
-    put_code(b->tally_code + i * CODE, code_value(b->tally_code + from * CODE), 1 + below(10));
-}
-
-static bool one_bag(const struct buffers *b, unsigned i, unsigned k)
-{
-    return b->tally_bag[i] == b->tally_bag[k] && b->tally_grocer[i] == b->tally_grocer[k] &&
-           b->tally_offer[i] == b->tally_offer[k];
-}
-
-/* A bag for each tally, of so many numbers from `least` on. About half of them count again what a tally before them
-   counted; the revisions of one bag are different, and in no order. */
-static void give_bags(struct work *w, unsigned least, unsigned bags)
-{
-    struct buffers *b = &w->start;
-    for (unsigned i = 0; i < w->tallies; i++) {
-        unsigned before = 0;
-        b->tally_bag[i] = (uint16_t)(least + below(bags));
-        if (i && below(2))
-            count_again(b, i, below(i));
-        for (unsigned k = 0; k < i; k++)
-            before += one_bag(b, i, k);
-        b->tally_revision[i] = (uint16_t)(before * 40503);
-    }
-}
 
 static bool superseded(const struct buffers *b, unsigned tallies, unsigned i)
 {
@@ -330,15 +120,9 @@ static void damage(struct work *w)
     for (unsigned i = 0; i < 40; i++) {
         size_t block = below((unsigned)(w->file_len / BLOCK)) * BLOCK;
         uint8_t *p = w->start.file + block;
-        unsigned at = damaged_place(p), a = 0, b = 0;
-        p[at] = (uint8_t)below(256);
-        for (unsigned k = 0; k < 508; k++) {
-            a += p[k];
-            b += (508 - k) * p[k];
-        }
-        a = a % 65521 + (below(8) == 0);
-        b %= 65521;
-        p[508] = (uint8_t)a, p[509] = (uint8_t)(a >> 8), p[510] = (uint8_t)b, p[511] = (uint8_t)(b >> 8);
+        p[damaged_place(p)] = (uint8_t)below(256);
+        store_sums(p);
+        p[508] = (uint8_t)(p[508] + (below(8) == 0));
         agree_on(w, READ, "reader of a damaged file");
         memcpy(w->start.file, kept, sizeof kept);
     }
@@ -408,88 +192,19 @@ static void agree_at_random(struct work *w)
 
 /* ---- time ---- */
 
-/* The processor's time for this program, so that other programs on the machine do not count. */
-static double now(void)
-{
-    struct timespec t;
-    clock_gettime(CLOCK_PROCESS_CPUTIME_ID, &t);
-    return (double)t.tv_sec * 1e9 + (double)t.tv_nsec;
-}
-
-static double timed(const struct calls *c, const struct work *w, struct buffers *b)
-{
-    *b = w->start;
-    double start = now();
-    call(c, w, b);
-    return now() - start;
-}
-
-static int ascending(const void *a, const void *b)
-{
-    double x = *(const double *)a, y = *(const double *)b;
-    return (x > y) - (x < y);
-}
-
-/* Rounds go through several jobs, so that the machine cannot learn the branches of one by heart. */
-enum { JOBS = 8, ROUNDS = 2000, LEAST = 48 };
-
-static double median(double *t, unsigned n)
-{
-    qsort(t, n, sizeof *t, ascending);
-    return t[n / 2];
-}
-
-/* The time that looking at the clock takes. */
-static double clock_time(void)
-{
-    double t[101];
-    for (unsigned i = 0; i < 101; i++) {
-        double start = now();
-        t[i] = now() - start;
-    }
-    return median(t, 101);
-}
-
-/* Medians of one work. The ratios are taken round by round, of calls that follow each other, so that a machine that
-   slows down or speeds up counts for both. */
+/* Medians of one work. */
 struct result {
     double ratio, growth, plain_growth;
 };
 
 enum { OURS, PLAIN, OURS_TENTH, PLAIN_TENTH, TIMES };
 
-/* Rounds of four calls: ours and the plain one, on a whole job and on a tenth. Each has either room equally often. */
-static unsigned rounds(const struct work whole[JOBS], const struct work tenth[JOBS], double t[TIMES][ROUNDS])
-{
-    unsigned n = 0;
-    double clock = clock_time();
-    for (double end = now() + 1e9; n < ROUNDS && (n < LEAST || now() < end); n++) {
-        const struct work *w = &whole[n % JOBS], *v = &tenth[n % JOBS];
-        struct buffers *a = &room[n / JOBS % 2], *b = &room[1 - n / JOBS % 2];
-        t[OURS][n] = timed(&ours, w, a) - clock;
-        t[PLAIN][n] = timed(&plain, w, b) - clock;
-        t[OURS_TENTH][n] = timed(&ours, v, a) - clock;
-        t[PLAIN_TENTH][n] = timed(&plain, v, b) - clock;
-    }
-    return n;
-}
-
-static double median_ratio(const double *above, const double *below, unsigned n)
-{
-    static double t[ROUNDS];
-    for (unsigned i = 0; i < n; i++)
-        t[i] = above[i] / below[i];
-    return median(t, n);
-}
-
+/* Rounds of four calls: ours and the plain one, on a whole job and on a tenth. */
 static struct result measure(const struct work whole[JOBS], const struct work tenth[JOBS])
 {
     static double t[TIMES][ROUNDS];
-    for (unsigned warm = 0; warm < JOBS; warm++) {
-        timed(&ours, &whole[warm], &room[warm % 2]);
-        timed(&plain, &whole[warm], &room[1 - warm % 2]);
-    }
-    unsigned n = rounds(whole, tenth, t);
+    const struct side sides[TIMES] = { { &ours, whole }, { &plain, whole }, { &ours, tenth }, { &plain, tenth } };
+    unsigned n = rounds(sides, TIMES, room, t);
     return (struct result){ median_ratio(t[OURS], t[PLAIN], n), median_ratio(t[OURS], t[OURS_TENTH], n),
                             median_ratio(t[PLAIN], t[PLAIN_TENTH], n) };
 }
@@ -550,18 +265,10 @@ static void prepare_step(struct work *w, unsigned kind)
     fail("no step of this kind is permitted");
 }
 
-/* The largest job, or a tenth of its offers, grocers and tallies; the boxes are 16 in both. `number` picks one of them. */
+/* `number` picks one of the jobs. */
 static void prepare(struct work *w, const struct item *item, bool whole, unsigned number)
 {
-    seed = 977 + number;
-    if (whole)
-        make_job(w, BOXES, GROCERS, OFFERS, TALLIES);
-    else
-        make_job(w, BOXES, GROCERS / 10, OFFERS / 10, TALLIES / 10);
-    if (item->issuers > 1)
-        give_issuers(w, item->issuers);
-    if (item->bags)
-        give_bags(w, 1, item->bags);
+    make_measured(w, whole, item->issuers, item->bags, number);
     if (item->operation == READ) {
         w->operation = WRITE;
         w->file_len = call(&plain, w, &w->start);

@@ -5,3 +5,4 @@ pub mod KindNumbers
 pub mod SpareWalk
 pub mod DueBlocks
 pub mod ShapeOrder
+pub mod Halves

@@ -1,40 +1,69 @@
 // The two sums of a block.
 ghost use mathlib.Core.Path.{_≡_};
-ghost use Prim.Native.Nat.{_+_, _*_, _≤_};
+ghost use Prim.Native.Nat.{_+_, _-_, _*_, _≤_};
 ghost use lib.ListN.{length};
+ghost use Rattle.laws.specs.Below.{sum, naturals};
 ghost use Rattle.format.specs.Bytes.{from};
 ghost use Rattle.format.specs.Blocks.{firstSum, secondSum};
 ghost use Rattle.format.specs.Refusals.{sumsDiffer};
-use crate::bytes::wide;
 use crate::bytes::word16;
 
-// The first and the second sum of 508 bytes.
+// The first and the second sum of some bytes.
 pub struct TwoSums {
     pub first: usize,
     pub second: usize,
 }
 
-// Both sums of the 508 bytes at a place.
+// A byte as a word of 16 bits.
+fn word(x: u8) -> u16
+    ensures { λ r. ⌜ (r ≡ x) × (r ≤ 255) ⌝ }
+{
+    x as u16
+}
+
+// A byte times a weight, as 16 bits hold it.
+fn weighed(x: u16, weight: u16) -> u32
+    requires { ⌜ (x ≤ 255) × (weight ≤ 254) ⌝ }
+    ensures { λ r. ⌜ (r ≡ weight * x) × (r ≤ 64770) ⌝ }
+{
+    (weight * x) as u32
+}
+
+// Both sums, as they are before a modulus, of the 254 bytes at a place: half of those of a block. 16 bits hold the first, and each term of the second.
+fn half(f: &[u8], at: usize) -> TwoSums
+    requires { ⌜ at + 254 ≤ length (now f) ⌝ }
+    ensures { λ r. ⌜ (r .first ≡ sum naturals 254 (from (now (f .entry)) at)) × (r .first ≤ 64770) ⌝ }
+    ensures { λ r. ⌜ (r .second ≡ sum naturals 254 (λ p. (254 - p) * from (now (f .entry)) at p)) × (r .second ≤ 16451580) ⌝ }
+{
+    let mut first: u16 = 0;
+    let mut second: u32 = 0;
+    let mut weight: u16 = 254;
+    let mut i: usize = 0;
+    while i < 254 {
+        let b = word(f[at + i]);
+        first += b;
+        second += weighed(b, weight);
+        weight -= 1;
+        i += 1;
+    }
+    TwoSums {
+        first: first as usize,
+        second: second as usize,
+    }
+}
+
+// Both sums of the 508 bytes at a place. A byte of the first half has in the second sum 254 more than its weight in that half.
 pub fn sums(f: &[u8], at: usize) -> TwoSums
     requires { ⌜ at + 508 ≤ length (now f) ⌝ }
     ensures { λ r. ⌜ (r .first ≡ firstSum (from (now (f .entry)) at)) × (r .second ≡ secondSum (from (now (f .entry)) at)) ⌝ }
 {
-    let mut first: u32 = 0;
-    let mut second: u32 = 0;
-    let mut weight: u32 = 508;
-    let mut i: usize = 0;
-    while i < 508 {
-        let b = wide(f[at + i]);
-        first += b;
-        second += weight * b;
-        weight -= 1;
-        i += 1;
-    }
-    let a = (first % 65521) as usize;
-    let b = (second % 65521) as usize;
+    let a = half(f, at);
+    let b = half(f, at + 254);
+    let first = a.first + b.first;
+    let second = a.second + 254 * a.first + b.second;
     TwoSums {
-        first: a,
-        second: b,
+        first: first % 65521,
+        second: second % 65521,
     }
 }
 

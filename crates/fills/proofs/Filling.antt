@@ -1,8 +1,7 @@
 -- A table filled word by word, or code by code. Assumes nothing.
 use mathlib.Core.Path.{_≡_, refl, sym, ap, _∙_, subst}
 use mathlib.Core.List.{List}
-use mathlib.Core.Bool.{true}
-use Prim.Native.Nat.{ℕ, _+_, _-_, _*_, _≤_, _<_}
+use Prim.Native.Nat.{ℕ, _+_, _*_, _≤_, _<_}
 use native.Mathlib.Nat.{le-antisymm}
 use native.Mathlib.Decide.{ℕ-discrete}
 use native.Mathlib.Omega.{arith}
@@ -10,10 +9,9 @@ use lib.ListN.{length, getD, set, length-set}
 use lib.Seq.{getD-set-same, getD-set-other}
 use Rattle.laws.specs.Tables.{tabulate, overwrite, recell}
 use Rattle.laws.proofs.Tables.{is-overwrite, is-recell, getD-overwrite, getD-past, getD-tabulate, length-overwrite, getD-recell}
-use Rattle.format.specs.Codes.{Code, readCode, codeBytes, isCode, value, codeNumber}
+use Rattle.format.specs.Codes.{Code, readCode, codeBytes}
 use Rattle.format.specs.Tables.{storeCodes}
 use Rattle.fills.specs.Fills.{Copied}
-use Rattle.format.proofs.Codes.{code-is, value-bound, value-next}
 
 module _ {A : Type 0} where
   -- Nothing is written yet.
@@ -86,25 +84,3 @@ codes-more c i l m l′ g e h long w q =
 -- All n codes are stored.
 pub codes-end : (c : ℕ → Code) (i n : ℕ) (l l′ : List ℕ) → l′ ≡ storeCodes i c l → i ≤ n → n ≤ i → l′ ≡ storeCodes n c l
 codes-end c i n l l′ e a b = e ∙ ap (λ (k : ℕ). storeCodes k c l) (le-antisymm a b)
-
--- ---- the number of a code, digit by digit
-
--- The first digits of a code write a number of at most ten digits.
-pub part-below : (c : Code) → isCode c ≡ true → (i : ℕ) → i ≤ c .size → value i (c .digit) < 10_000_000_000
-part-below c h i l =
-    let w = code-is c h in
-    value-bound (c .digit) i 10 (λ k m. w .digits k (omega arith)) (omega (arith, w .few))
-
--- One digit more.
-pub part-more : (c : Code) (i v d : ℕ) → v ≡ value i (c .digit) → d ≡ c .digit i - 48 → v * 10 + d ≡ value (i + 1) (c .digit)
-part-more c i v d e q = rw (value-next i (c .digit), e, q)
-
--- No digit is read yet.
-pub part-none : (d : ℕ → ℕ) → 0 ≡ value 0 d
-unfolding value
-part-none d = refl
-
--- All digits are read.
-pub part-all : (c : Code) (i v : ℕ) → v ≡ value i (c .digit) → i ≡ c .size → v ≡ codeNumber c
-unfolding codeNumber
-part-all c i v e q = rw q at e

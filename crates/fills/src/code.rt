@@ -1,20 +1,76 @@
 // Codes and names in the file: their numbers, and their bytes.
 ghost use mathlib.Core.Path.{_≡_};
-ghost use mathlib.Core.Bool.{true};
-ghost use Prim.Native.Nat.{_+_, _-_, _≤_};
-ghost use lib.ListN.{length};
+ghost use mathlib.Core.Bool.{true, cond};
+ghost use Prim.Native.Nat.{_+_, _-_, _*_, _%_, _^_, _≤_, _<_};
+ghost use lib.Dec.{ltb};
+ghost use lib.ListN.{length, getD};
 ghost use Rattle.format.specs.Bytes.{from};
-ghost use Rattle.format.specs.Codes.{readCode, isCode, codeNumber, nameOf, nameNumber};
+ghost use Rattle.format.specs.Codes.{readCode, isCode, codeNumber, value, nameOf, nameNumber};
 ghost use Rattle.fills.specs.Fills.{Copied};
 use blocks::bytes::size;
 use blocks::codes::CODE_BYTES;
 
-// The digit that a byte writes.
-fn digit(x: u8) -> u64
-    requires { ⌜ (48 ≤ x) × (x ≤ 57) ⌝ }
-    ensures { λ r. ⌜ (r ≡ x - 48) × (r ≤ 9) ⌝ }
+// The low four bits of a byte: the digit that it writes, and 0 of a byte that is 0.
+fn low(x: u8) -> u64
+    ensures { λ r. ⌜ (r ≡ x % 16) × (r ≤ 15) ⌝ }
 {
-    (x - 48) as u64
+    (x % 16) as u64
+}
+
+// The number of two bytes, by the low four bits of each.
+fn two(f: &[u8], at: usize) -> u64
+    requires { ⌜ at + 2 ≤ length (now f) ⌝ }
+    ensures { λ r. ⌜ (r ≡ getD (now (f .entry)) at 0 % 16 * 10 + getD (now (f .entry)) (at + 1) 0 % 16) × (r ≤ 165) ⌝ }
+{
+    let a = low(f[at]);
+    let b = low(f[at + 1]);
+    a * 10 + b
+}
+
+// The number of nine bytes likewise: the same work for every code, with no branch by its digit count.
+fn nine(f: &[u8], at: usize) -> u64
+    requires { ⌜ at + 9 ≤ length (now f) ⌝ }
+    ensures { λ r. ⌜ (r ≡ value 9 (λ k. 48 + from (now (f .entry)) at k % 16)) × (r ≤ 1666666665) ⌝ }
+{
+    let a = two(f, at) * 100 + two(f, at + 2);
+    let b = two(f, at + 4) * 100 + two(f, at + 6);
+    (a * 10000 + b) * 10 + low(f[at + 8])
+}
+
+// 2^30 over 10^(9 - n), rounded up. A product with it, over 2^30, is a division by that power of ten, of a multiple of it below 2^30.
+// There is a word for each of 16 counts, so that the table is read without a test; those of 0 and of 11 to 15 digits are asked of no code.
+fn share(n: usize) -> u64
+    requires { ⌜ (1 ≤ n) × (n ≤ 10) ⌝ }
+    ensures { λ r. ⌜ (1073741824 ≤ r * 10 ^ (9 - n)) × (r * 10 ^ (9 - n) < 1073741824 + 10 ^ (9 - n)) × (r ≤ 1073741824) ⌝ }
+{
+    match n % 16 {
+        0 => 1,
+        1 => 11,
+        2 => 108,
+        3 => 1_074,
+        4 => 10_738,
+        5 => 107_375,
+        6 => 1_073_742,
+        7 => 10_737_419,
+        8 => 107_374_183,
+        9 => 1_073_741_824,
+        10 => 1_073_741_824,
+        11 => 1_073_741_824,
+        12 => 1_073_741_824,
+        13 => 1_073_741_824,
+        14 => 1_073_741_824,
+        _ => 1_073_741_824,
+    }
+}
+
+// What the first nine digits of a code count for before its last byte: 10 where that is a digit, and 1 where it is 0.
+fn scale(n: usize) -> u64
+    ensures { λ r. ⌜ (r ≡ cond (ltb n 10) 1 10) × (r ≤ 10) ⌝ }
+{
+    if n < 10 {
+        return 1;
+    }
+    10
 }
 
 // The number of the code whose eleven bytes stand at `at`: its digit count, then its digits.
@@ -24,13 +80,8 @@ pub fn number_at(f: &[u8], at: usize) -> u64
     ensures { λ r. ⌜ r ≡ codeNumber (readCode (from (now (f .entry)) at)) ⌝ }
 {
     let n = size(f[at]);
-    let mut value: u64 = 0;
-    let mut i: usize = 0;
-    while i < n {
-        value = value * 10 + digit(f[at + 1 + i]);
-        i += 1;
-    }
-    value
+    let first = nine(f, at + 1) * share(n) / 1_073_741_824;
+    first * scale(n) + low(f[at + 10])
 }
 
 // The number of the name of this issuer and of the code whose eleven bytes stand at `at`.

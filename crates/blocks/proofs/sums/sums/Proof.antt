@@ -1,80 +1,38 @@
 -- `blocks::sums::sums` meets its contract. Assumes nothing.
-use Prim.Native.Nat.{_≤_, _*_, _-_}
-use mathlib.Core.Path.{_≡_, refl}
-use native.Mathlib.Omega.{arith}
-use native.Mathlib.Nat.{mul-le-mul}
-use Rattle.laws.specs.Below.{naturals, sum}
-use Rattle.laws.proofs.Sums.{sum-next}
+use mathlib.Core.Path.{_≡_, ap}
+use Prim.Native.Nat.{ℕ, _+_}
+use native.Mathlib.Nat.{add-assoc}
+use lib.ListN.{getD}
+use borrow.Author.Needs.{needs}
 use Rattle.format.specs.Bytes.{from}
 use Rattle.format.specs.Blocks.{firstSum, secondSum}
-use borrow.Author.Needs.{needs}
+use Rattle.blocks.proofs.Halves.{first-both, second-both}
 use Rattle.blocks.proofs.sums.sums.Statement.{statement}
 use Rattle.blocks.proofs.sums.sums.Tie as tie
 
-abbrev Inv-loop : tie.InvT-loop
-Inv-loop f at first₀ second₀ weight₀ i₀ first second weight i = (i ≤ 508) × (weight ≡ 508 - i) × (first ≤ 255 * i) × (second ≤ 129540 * i) × (first ≡ sum naturals i (from f at)) × (second ≡ sum naturals i (λ p. (508 - p) * from f at p))
-
-abbrev μ-loop : tie.MeasureT-loop
-μ-loop f at first₀ second₀ weight₀ i₀ first second weight i = 508 - i
-
--- A byte is at most 255.
-byte : (c : tie.After-wide Inv-loop μ-loop) → c .wide .result ≤ 255
-byte c = c .wide .ensures .1
-
--- A byte with its weight is at most 508 × 255.
-prod : (c : tie.After-wide Inv-loop μ-loop) → c .before .before .before .loop .weight * c .wide .result ≤ 129540
-prod c = mul-le-mul {n₂ = 508} {m₂ = 255} (omega arith) (byte c)
-
-loop-holds : tie.Need-loop-holds Inv-loop μ-loop
-unfolding sum naturals
-loop-holds c = (omega arith, omega arith, omega arith, omega arith, refl, refl)
-
-add-first : tie.Need-add-first Inv-loop μ-loop
-add-first c = omega (arith, byte c)
-
-mul-second : tie.Need-mul-second Inv-loop μ-loop
-mul-second c = omega (arith, prod c)
-
-add-second : tie.Need-add-second Inv-loop μ-loop
-add-second c = omega (arith, prod c)
-
-loop-again : tie.Need-loop-again Inv-loop μ-loop
-unfolding naturals
-loop-again c =
-    let b = byte c in
-    let p = prod c in
-    let l = c .before .before .before .loop in (
-      omega arith,
-      omega arith,
-      omega arith,
-      omega arith,
-      rw (sum-next, l .inv .4, c .wide .ensures .0),
-      rw (sum-next, l .inv .5, c .wide .ensures .0, l .inv .1),
-    )
-
-returns : tie.Need-returns Inv-loop μ-loop
+returns : tie.Need-returns
 unfolding firstSum secondSum
 returns c =
-    let e : c .before .loop .i ≡ 508 = omega arith in
-    (rw (c .before .loop .inv .4, e), rw (c .before .loop .inv .5, e))
+    let l = c .before .before .before .before .before in
+    let s = l .before .before .before in
+    let a = l .before .half .ensures in
+    let b = l .half2 .ensures in
+    let g = from (s .args .f .now) (s .args .at) in
+    let h = from (s .args .f .now) (s .args .at + 254) in
+    let e : (p : ℕ) → h p ≡ g (254 + p) = λ p. ap (λ (x : ℕ). getD (s .args .f .now) x 0) (add-assoc (s .args .at) 254 p) in (
+      rw (a .0 .0, b .0 .0, first-both g h e),
+      rw (a .0 .0, a .1 .0, b .1 .0, second-both g h e),
+    )
 
 pub sums-spec : {M : Type 1} → statement M
 sums-spec =
     tie.close
     (tie.spec
-    Inv-loop
-    μ-loop
-    loop-holds
-    (λ c. omega arith)
-    (λ c. omega arith)
     (λ c κs. search needs)
-    add-first
-    mul-second
-    add-second
-    (λ c. omega arith)
-    (λ c. omega arith)
-    (λ c. omega arith)
-    loop-again
-    (λ c. omega arith)
-    (λ c. omega arith)
+    (λ c. search needs)
+    (λ c κs. search needs)
+    (λ c. search needs)
+    (λ c. search needs)
+    (λ c. search needs)
+    (λ c. search needs)
     returns)

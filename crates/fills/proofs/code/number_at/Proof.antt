@@ -1,70 +1,80 @@
--- `fills::code::number_at` meets its contract. The invariant: the value is that of the first i digits. Assumes nothing.
+-- `fills::code::number_at` meets its contract. Assumes nothing.
 use mathlib.Core.Path.{_≡_, ap, _∙_}
-use Prim.Native.Nat.{ℕ, _≤_, _-_, _+_, _<_}
+use Prim.Native.Nat.{ℕ, _+_, _*_, _/_, _%_, _≤_}
+use native.Mathlib.Nat.{mul-le-mul}
 use native.Mathlib.Omega.{arith}
 use lib.ListN.{getD}
 use borrow.Author.Needs.{needs}
-use Rattle.format.specs.Bytes.{from, after}
-use Rattle.format.specs.Codes.{readCode, value as worth}
-use Rattle.format.proofs.Codes.{code-is}
-use Rattle.fills.proofs.Filling.{part-none, part-more, part-below, part-all}
+use Rattle.format.specs.Bytes.{from}
+use Rattle.format.specs.Codes.{readCode}
+use Rattle.format.proofs.Codes.{IsCode, code-is, value-cong}
+use Rattle.fills.proofs.Digits.{lows, number-is}
 use Rattle.fills.proofs.code.number_at.Statement.{statement}
 use Rattle.fills.proofs.code.number_at.Tie as tie
 
-abbrev Inv-loop : tie.InvT-loop
-Inv-loop f at n value₀ i₀ value i =
-    (i ≤ n) × (n ≤ 10) × (n ≡ from f at 0) × (value ≡ worth i (after (from f at) 1)) × (value < 10_000_000_000)
+-- The code that stands there, and that its bytes are one.
+code : (s : tie.Start) → IsCode (readCode (from (s .args .f .now) (s .args .at)))
+code s = code-is (readCode (from (s .args .f .now) (s .args .at))) (s .pre .1)
 
-abbrev μ-loop : tie.MeasureT-loop
-μ-loop f at n value₀ i₀ value i = n - i
+-- The digit count is the code's.
+count-is : (c : tie.After-size) → c .size .result ≡ from (c .before .before .before .args .f .now) (c .before .before .before .args .at) 0
+count-is c = c .size .ensures .0 ∙ ap (λ (p : ℕ). getD (c .before .before .before .args .f .now) p 0) (omega arith)
 
-loop-holds : tie.Need-loop-holds Inv-loop μ-loop
-loop-holds c =
-    let s = c .before .before .before in
-    let g = from (s .args .f .now) (s .args .at) in
-    let e : c .size .result ≡ g 0 = c .size .ensures .0 ∙ ap (λ (p : ℕ). getD (s .args .f .now) p 0) (omega arith) in
-    (omega arith, omega (arith, code-is (readCode g) (s .pre .1) .few), e, part-none _, omega arith)
+share-requires : tie.Need-share-requires
+share-requires c κs =
+    let i = code (c .before .before .before .before) in
+    (omega (arith, count-is (c .before), i .some), omega (arith, count-is (c .before), i .few))
 
-digit-requires : tie.Need-digit-requires Inv-loop μ-loop
-digit-requires c κs =
-    let l = c .before .before in
-    let s = l .before .before .before .before in
-    let g = from (s .args .f .now) (s .args .at) in
-    let e : s .args .at + (1 + l .loop .i) ≡ s .args .at + 1 + l .loop .i = omega arith in
-    rw e at (code-is (readCode g) (s .pre .1) .digits (l .loop .i) (omega arith))
+-- The product of nine bytes' number and its share.
+prod : (c : tie.After-share) → c .before .nine .result * c .share .result ≤ 1789569705000000000
+prod c =
+    let m : c .before .nine .result * c .share .result ≤ 1666666665 * 1073741824 = mul-le-mul {n₂ = 1666666665} {m₂ = 1073741824} (c .before .nine .ensures .1) (c .share .ensures .2) in
+    omega (arith, m)
 
-loop-again : tie.Need-loop-again Inv-loop μ-loop
-loop-again c =
-    let l = c .before .before .before in
-    let s = l .before .before .before .before in
-    let g = from (s .args .f .now) (s .args .at) in
-    let e : s .args .at + 1 + l .loop .i ≡ s .args .at + (1 + l .loop .i) = omega arith in
-    let d : c .digit .result ≡ g (1 + l .loop .i) - 48 = c .digit .ensures .0 ∙ ap (λ (p : ℕ). getD (s .args .f .now) p 0 - 48) e in
-    let v = part-more (readCode g) (l .loop .i) (l .loop .value) (c .digit .result) (l .loop .inv .3) d in
-    (omega arith, l .loop .inv .1, l .loop .inv .2, v, omega (arith, v, part-below (readCode g) (s .pre .1) (l .loop .i + 1) (omega arith)))
+mul-first : tie.Need-mul-first
+mul-first c = omega (arith, prod c)
 
-returns : tie.Need-returns Inv-loop μ-loop
+-- What the first digits count for.
+grown : (c : tie.After-scale) → c .before .before .nine .result * c .before .share .result / 1073741824 * c .scale .result ≤ 16666666670
+grown c =
+    let m : c .before .before .nine .result * c .before .share .result / 1073741824 * c .scale .result ≤ 1666666667 * 10 =
+    mul-le-mul {n₂ = 1666666667} {m₂ = 10} (omega (arith, prod (c .before))) (c .scale .ensures .1) in
+    omega (arith, m)
+
+mul-result : tie.Need-mul-result
+mul-result c = omega (arith, grown c)
+
+add-result : tie.Need-add-result
+add-result c = omega (arith, grown (c .before .before), c .low .ensures .1)
+
+returns : tie.Need-returns
 returns c =
-    let l = c .before in
-    let s = l .before .before .before .before in
-    part-all (readCode (from (s .args .f .now) (s .args .at))) (l .loop .i) (l .loop .value) (l .loop .inv .3) (omega arith)
+    let h = c .before .before in
+    let z = h .before .before .before in
+    let s = z .before .before .before in
+    let f = s .args .f .now in
+    let at = s .args .at in
+    let g = from f at in
+    let n = count-is z in
+    let p = h .before .share .ensures in
+    let e = h .before .before .nine .ensures .0 ∙ value-cong 9 (lows (from f (at + 1))) (lows (readCode g .digit)) (λ k l. ap (λ (x : ℕ). 48 + getD f x 0 % 16) (omega arith)) in
+    let r = number-is (readCode g) (code s) _ (h .before .share .result) e (rw n at (p .0)) (rw n at (p .1)) in
+    rw (h .scale .ensures .0, c .low .ensures .0, n) r
 
 pub number-at-spec : {M : Type 1} → statement M
 number-at-spec =
     tie.close
     (tie.spec
-    Inv-loop
-    μ-loop
     (λ c. search needs)
     (λ c κs. search needs)
-    loop-holds
+    (λ c. search needs)
+    (λ c κs. search needs)
+    share-requires
+    mul-first
+    (λ c κs. search needs)
+    mul-result
     (λ c. search needs)
     (λ c. search needs)
-    (λ c. search needs)
-    (λ c. search needs)
-    digit-requires
-    (λ c. search needs)
-    (λ c. search needs)
-    (λ c. search needs)
-    loop-again
+    (λ c κs. search needs)
+    add-result
     returns)
