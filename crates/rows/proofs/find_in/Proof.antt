@@ -1,11 +1,11 @@
 -- `rows::find_in` meets its contract: at kind q, what is left to pass and the rows before it make c. Assumes nothing.
 use mathlib.Core.Path.{_≡_, ap}
-use Prim.Native.Nat.{ℕ, _+_, _*_, _≤_, _<_, _-_}
+use Prim.Native.Nat.{ℕ, _+_, _*_, _≤_, _-_}
 use native.Mathlib.Omega.{arith}
 use native.Mathlib.Nat.{zero-mul}
 use borrow.Author.Needs.{needs}
-use denote.Ref.{now}
 use Rattle.walk.specs.Rows.{rowsTotal}
+use denote.Ref.{now}
 use Rattle.walk.proofs.Rows.{rows-none}
 use Rattle.rows.proofs.ByRow.{kind-rows, next-kind, rows-end}
 use Rattle.rows.proofs.find_in.Statement.{statement}

@@ -5,8 +5,8 @@ use native.Mathlib.Omega.{arith}
 use native.Mathlib.Nat.{add-zero}
 use lib.ListN.{getD}
 use borrow.Author.Needs.{needs}
-use denote.Ref.{now}
 use Rattle.walk.specs.Rows.{rowsTotal}
+use denote.Ref.{now}
 use Rattle.rows.proofs.ByRow.{kind-few, row-some, row-found, row-passed}
 use Rattle.rows.proofs.find_row.Statement.{statement}
 use Rattle.rows.proofs.find_row.Tie as tie

@@ -1,11 +1,11 @@
 -- `rows::places_in` meets its contract: at row i the counts of the rows before it are added. Assumes nothing.
 use mathlib.Core.Path.{_≡_, ap}
-use Prim.Native.Nat.{ℕ, _+_, _*_, _≤_, _-_}
+use Prim.Native.Nat.{ℕ, _+_, _≤_, _-_}
 use native.Mathlib.Omega.{arith}
 use native.Mathlib.Nat.{add-zero}
 use borrow.Author.Needs.{needs}
-use denote.Ref.{now}
 use Rattle.walk.specs.Rows.{rowsTotal}
+use denote.Ref.{now}
 use Rattle.walk.proofs.Rows.{rows-more, rows-little}
 use Rattle.rows.proofs.places_in.Statement.{statement}
 use Rattle.rows.proofs.places_in.Tie as tie
