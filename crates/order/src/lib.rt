@@ -156,7 +156,8 @@ pub fn put_order(
     requires { ⌜ WalkIn k (now done) × SomeJob k (now receivers) (now waits) × (length (now order) ≡ 1536) ⌝ }
     requires { ⌜ EveryJob k (now receivers) (now waits) (λ j. length (run j (now choices)) ≤ 1536) ⌝ }
     ensures { λ r. ⌜ MarksFrom k (now (done .entry)) (now (done .exit)) ⌝ }
-    ensures { λ r. ⌜ EveryJob k (now (receivers .entry)) (now (waits .entry)) (λ j. Ordered j (now (choices .entry)) (now (done .exit)) (now (order .exit)) r) ⌝ }
+    ensures { λ r. ⌜ EveryJob k (now (receivers .entry)) (now (waits .entry)) (λ j. Ordered j (now (choices .entry)) (now (done .exit))
+        (now (order .exit)) r) ⌝ }
 {
     fresh::zero16(done, tables::checks::marks(k));
     let n = chosen(k, receivers, waits, choices, done, order);

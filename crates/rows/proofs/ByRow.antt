@@ -5,6 +5,7 @@ use mathlib.Core.List.{List}
 use Prim.Native.Nat.{ℕ, zero, suc, _+_, _-_, _*_, _/_, _%_, _≤_, _<_, _^_}
 use native.Mathlib.Omega.{arith}
 use native.Mathlib.Nat.{suc-mul, add-zero, zero-mul, mul-le-mul-right, div-add-mod', div-lt-iff-lt-mul, mod-lt}
+use native.Mathlib.Numerals.{add-one}
 use lib.Arith.{digits-lt}
 use lib.Dec.{eqb, ltb}
 use lib.ListN.{getD, set, length, length-set}
@@ -145,6 +146,13 @@ module _ (k : ℕ) (f : ℕ → Bool) (rows : List ℕ) (h : IsRows k f rows) wh
   -- Past the last row there were not so many.
   pub rows-end : (r left c : ℕ) → r ≡ 6 * k → left + rowsTotal rows r ≡ c → c < count (6 * k * k) f → ⊥
   rows-end r left c e s l = let t : left + rowsTotal rows (6 * k) ≡ c = rw e at s in omega (arith, rows-ready)
+
+-- The rows of one kind, and the first of the next.
+pub kind-rows : (q k : ℕ) → q < 6 → q * k + k ≤ 6 * k
+kind-rows q k l = omega (arith, suc-mul q k, mul-le-mul-right {m = suc q} {n = 6} k (omega arith))
+
+pub next-kind : (q k : ℕ) → (q + 1) * k ≡ q * k + k
+next-kind q k = ap (λ (x : ℕ). x * k) (add-one q) ∙ suc-mul q k
 
 -- A row is passed.
 pub row-passed : (rows : List ℕ) (r left c : ℕ) → left + rowsTotal rows r ≡ c → getD rows (96 + r) 0 ≤ left → left - getD rows (96 + r) 0 + rowsTotal rows (r + 1) ≡ c

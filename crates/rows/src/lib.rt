@@ -1,7 +1,7 @@
 // The ready steps by rows. Row (kind - 1) * k + a has the places of one kind and of first box a: a word with one bit for each second box, and their number.
 ghost use mathlib.Core.Path.{_≡_};
 ghost use mathlib.Core.Bool.{Bool, true};
-ghost use Prim.Native.Nat.{ℕ, _*_, _≤_, _<_};
+ghost use Prim.Native.Nat.{ℕ, _+_, _*_, _≤_, _<_};
 ghost use mathlib.Core.List.{List};
 ghost use lib.ListN.{length};
 ghost use Rattle.laws.specs.Below.{count, nth};
@@ -10,7 +10,7 @@ ghost use Rattle.model.specs.Steps.{kindOf, sendTotals, addOwn};
 ghost use Rattle.model.specs.Tables.{stepsDone};
 ghost use Rattle.rules.specs.Rules.{hasGot, permittedBy, BoxIn};
 ghost use Rattle.walk.specs.Walk.{listedBy, WalkIn, Found};
-ghost use Rattle.walk.specs.Rows.{rowOf, RowIn, IsRows, Renewed};
+ghost use Rattle.walk.specs.Rows.{rowOf, RowIn, IsRows, rowsTotal, FewRows, Renewed};
 use rules::marks::is_done;
 use rules::ready::covers;
 use rules::ready::with_bit;
@@ -183,23 +183,58 @@ fn bit_at(k: u16, c: u16, word: u16) -> u16
     0
 }
 
-// The place that has c places before it, of those that the rows have: rows are passed, and then bits of one row's word.
-pub fn find_in(k: u16, c: u16, rows: &[u16; 192]) -> Place
-    requires { ⌜ (1 ≤ k) × (k ≤ 16) ⌝ }
-    ensures { λ p. ⌜ ((f : ℕ → Bool) → IsRows k f (now (rows .entry)) → c < count (6 * k * k) f →
-        Found k (nth (6 * k * k) f c) (p .kind) (p .first) (p .second)) ⌝ }
+// The number of places of k rows, from row `first` on.
+fn places_in(k: u16, first: u16, rows: &[u16; 192]) -> u16
+    requires { ⌜ FewRows k (now rows) × (first + k ≤ 6 * k) ⌝ }
+    ensures { λ r. ⌜ r + rowsTotal (now (rows .entry)) first ≡ rowsTotal (now (rows .entry)) (first + k) ⌝ }
 {
-    let n = 6 * k;
+    let n = k as usize;
+    let from = first as usize;
+    let mut found: u16 = 0;
+    for i in 0..n {
+        found += rows[96 + (from + i)];
+    }
+    found
+}
+
+// The place that has c places before it, of k rows from row `first` on, where they have more than c.
+fn find_row(k: u16, first: u16, c: u16, rows: &[u16; 192]) -> Place
+    requires { ⌜ (1 ≤ k) × (k ≤ 16) × (first + k ≤ 6 * k) ⌝ }
+    ensures { λ p. ⌜ ((f : ℕ → Bool) → IsRows k f (now (rows .entry)) → c + rowsTotal (now (rows .entry)) first < rowsTotal (now (rows .entry)) (first + k) →
+        Found k (nth (6 * k * k) f (c + rowsTotal (now (rows .entry)) first)) (p .kind) (p .first) (p .second)) ⌝ }
+{
     let mut left = c;
-    for r in 0..n {
-        let i = r as usize;
-        let found = rows[96 + i];
+    for i in 0..k {
+        let r = first + i;
+        let at = r as usize;
+        let found = rows[96 + at];
         if left < found {
             return Place {
                 kind: r / k + 1,
                 first: r % k,
-                second: bit_at(k, left, rows[i]),
+                second: bit_at(k, left, rows[at]),
             };
+        }
+        left -= found;
+    }
+    Place {
+        kind: 1,
+        first: 0,
+        second: 0,
+    }
+}
+
+// The place that has c places before it, of those that the rows have: kinds are passed, then rows, and then bits of one row's word.
+pub fn find_in(k: u16, c: u16, rows: &[u16; 192]) -> Place
+    requires { ⌜ (1 ≤ k) × FewRows k (now rows) ⌝ }
+    ensures { λ p. ⌜ ((f : ℕ → Bool) → IsRows k f (now (rows .entry)) → c < count (6 * k * k) f →
+        Found k (nth (6 * k * k) f c) (p .kind) (p .first) (p .second)) ⌝ }
+{
+    let mut left = c;
+    for q in 0u16..6 {
+        let found = places_in(k, q * k, rows);
+        if left < found {
+            return find_row(k, q * k, left, rows);
         }
         left -= found;
     }

@@ -8,6 +8,7 @@ use Rattle.laws.specs.Below.{count, nth}
 use Rattle.model.specs.Tables.{stepsDone}
 use Rattle.walk.specs.Walk.{listedBy, Found}
 use denote.Ref.{now}
+use Rattle.rows.proofs.ByRow.{rows-few}
 use Rattle.renew.proofs.Changed.{rows-before}
 use Rattle.order.proofs.Found.{marked-steps, found-open, room-of, kept-of, marks-long}
 use Rattle.order.proofs.choose.Statement.{statement}
@@ -34,7 +35,7 @@ picked : (c : tie.After-find-in) → let s = entry (c .before) in
 picked c = let s = entry (c .before) in c .find-in .ensures _ (s .pre .1 .0) (below s)
 
 find-in-requires : tie.Need-find-in-requires
-find-in-requires c κs = let w = entry c .pre .0 .0 in (w .some, w .boxes-in)
+find-in-requires c κs = let s = entry c in (s .pre .0 .0 .some, rows-few _ _ _ (s .pre .1 .0) (s .pre .0 .0 .boxes-in))
 
 put-step-requires : tie.Need-put-step-requires
 put-step-requires c κs =
