@@ -18,11 +18,12 @@ fn step_at(k: u16, place: u16) -> Step
     requires { ⌜ (1 ≤ k) × (k ≤ 16) × (place < 6 * k * k) ⌝ }
     ensures { λ r. ⌜ (r .kind ≡ suc (place / k / k)) × (r .first ≡ place / k % k) × (r .second ≡ place % k) ⌝ }
 {
-    let row = place / k;
+    let row = walk::by_boxes(place, k);
+    let rows = walk::by_boxes(row, k);
     Step {
-        kind: row / k + 1,
-        first: row % k,
-        second: place % k,
+        kind: rows + 1,
+        first: row - rows * k,
+        second: place - row * k,
     }
 }
 

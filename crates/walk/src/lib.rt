@@ -1,6 +1,6 @@
 // The list of ready steps, walked by kind, first box and second box: places, and how many of their steps are ready.
 ghost use mathlib.Core.Path.{_≡_};
-ghost use Prim.Native.Nat.{ℕ, _*_, _≤_};
+ghost use Prim.Native.Nat.{ℕ, _*_, _/_, _≤_};
 ghost use Rattle.laws.specs.Below.{naturals, only};
 ghost use Rattle.model.specs.Steps.{kindOf};
 ghost use Rattle.model.specs.Words.{messagesOf};
@@ -39,6 +39,32 @@ pub fn next(k: u16, p: Place) -> Place
         kind: p.kind + 1,
         first: 0,
         second: 0,
+    }
+}
+
+// x over the number of boxes: a division by a number that the compiler knows is made a product, and a run asks for two in each step.
+pub fn by_boxes(x: u16, k: u16) -> u16
+    requires { ⌜ 1 ≤ k ⌝ }
+    ensures { λ r. ⌜ r ≡ x / k ⌝ }
+{
+    match k {
+        1 => x,
+        2 => x / 2,
+        3 => x / 3,
+        4 => x / 4,
+        5 => x / 5,
+        6 => x / 6,
+        7 => x / 7,
+        8 => x / 8,
+        9 => x / 9,
+        10 => x / 10,
+        11 => x / 11,
+        12 => x / 12,
+        13 => x / 13,
+        14 => x / 14,
+        15 => x / 15,
+        16 => x / 16,
+        _ => x / k,
     }
 }
 
