@@ -36,7 +36,8 @@ static uint16_t try_kind(const struct settlement_job *j, struct settlement_state
     return SETTLEMENT_ACCEPTED;
 }
 
-/* Rounds over all requests, those that receive last. A round that has none accepted shows that all steps are done. */
+/* Rounds over all requests, those that receive last: totals that wait for no price leave before any is received. A
+ * round that has none accepted shows that all steps are done. */
 static uint16_t settle_by_steps(const struct settlement_job *j, struct settlement_state *s, uint32_t *report)
 {
     static const uint16_t kinds[] = {SETTLEMENT_SEND_PRICES,    SETTLEMENT_MULTIPLY_OWN,   SETTLEMENT_SEND_TOTALS,

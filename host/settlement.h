@@ -77,7 +77,8 @@
  *   was accepted. Each was then answered 23, 24 or 25, and none 26.
  * - or by counting: as many requests were accepted as settlement_run says in report[2] for the same job, whatever its
  *   choices, on a state of its own.
- * The marks in done do not tell it alone, since they do not say which steps the job has; 24 does.
+ * The marks in done do not tell it alone, since they do not say which steps the job has; 24 does. Nor do steps 4 and 5
+ * of a box tell that its step 2 is done: they do not wait for one that adds nothing to them, and it is due nonetheless.
  * host/example.c asks for all steps, round after round, until a round has none accepted; then it compares with a run.
  */
 #ifndef SETTLEMENT_H
@@ -188,11 +189,15 @@ uint16_t settlement_read(
  *                         into its working totals
  *   3  receive prices     receives them from second, and adds the tallies of    once second has sent (1)
  *                         those offers
- *   4  send totals        sends its working totals of second's grocers of       once its 2 and every due 3 are done
- *                         which it holds a tally; they become 0
- *   5  add own totals     adds its working totals of its own grocers to their   as 4
- *                         statements; they become 0
+ *   4  send totals        sends its working totals of second's grocers of       once each tally that it holds of
+ *                         which it holds a tally; they become 0                 second's grocers is added
+ *   5  add own totals     adds its working totals of its own grocers to their   once each tally that it holds of its
+ *                         statements; they become 0                             own grocers is added
  *   6  receive totals     receives them from second into its statements         once second has sent (4)
+ *
+ * A tally is added once step 2 of its box, where the box owns the offer, or else the box's step 3 from the offer's
+ * owner is done. 4 and 5 wait for no other step: totals for one box leave while prices for other grocers are still due,
+ * 4 or 5 may come before 2, and 5 is ready from the start where the box holds no tally of its own grocers.
  *
  * An accepted step writes what its line says, and no other word: its word of done becomes 1; 1 puts the prices into
  * price_transit, 4 the totals into total_transit, and both raise sent by the number of words in the message; 3 puts the

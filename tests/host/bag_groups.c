@@ -167,8 +167,9 @@ static void step_case(const struct bagged *c)
 
 static void cases_by_steps(void) { in_every_order(open_tables, step_case); }
 
-/* One bag in two boxes: before the recount the first box needs the price and has a part total; after it the price is
-   not sent, the total not due, and no step about them is there. */
+/* One bag in two boxes: before the recount the first box needs the price and has a part total, and the owner of offer
+   and grocer has no tally to wait for; after it the price is not sent, the total not due, no step about them is there,
+   and the owner's totals wait for its own tally. */
 static void first_box_loses(void)
 {
     static const struct step messages[] = {{6, 0, 1}, {4, 1, 0}, {3, 1, 0}, {1, 0, 1}};
@@ -179,7 +180,8 @@ static void first_box_loses(void)
         open_settlement(&settlement, SPARE, 0);
         for (size_t i = 0; i < 4; i++) expect_step(&settlement, messages[i], recounts ? 24 : i == 3 ? 0 : 26);
         expect_step(&settlement, (struct step){2, 1, 1}, 0);
-        expect_step(&settlement, (struct step){5, 1, 1}, recounts ? 0 : 26);
+        expect_step(&settlement, (struct step){5, 0, 0}, recounts ? 26 : 0);
+        expect_step(&settlement, (struct step){5, 1, 1}, 0);
         expect_word(KNOWN, 3, 0);
         expect_word(PRICE_TRANSIT, 3, recounts ? 0 : 1000);
         expect_word(SENT, 0, recounts ? 0 : 1);
@@ -341,29 +343,19 @@ static void near_bags(void)
     }
 }
 
-static void keep_state(uint8_t *kept[ALL_TABLES])
-{
-    for (unsigned name = JOB_TABLES; name < STEP_TABLES; name++)
-        memcpy(kept[name], settlement.lending.table[name].words,
-               needed(name, settlement.job.sizes) * width_of((enum table_name)name));
-}
-
 /* The run's words sent, messages and steps, and every word of its state. */
 struct ending {
     int64_t report[3];
-    uint8_t state[STEP_TABLES - JOB_TABLES][MOST_BOXES * MOST_OFFERS * 4];
+    struct state_words state;
 };
 
 static void end_of_run(struct ending *ending, uint16_t choice)
 {
-    uint8_t *kept[ALL_TABLES];
-    memset(ending, 0, sizeof *ending);
     open_settlement(&settlement, SPARE, 50);
     for (size_t i = 0; i < 50; i++) put_both(&settlement.lending, CHOICES, i, (int64_t)(choice * i % 65536));
     expect_run(0);
     for (size_t i = 0; i < 3; i++) ending->report[i] = lent_word(&settlement, REPORT, i);
-    for (unsigned name = JOB_TABLES; name < STEP_TABLES; name++) kept[name] = ending->state[name - JOB_TABLES];
-    keep_state(kept);
+    keep_state(&settlement, &ending->state);
     close_settlement(&settlement);
 }
 

@@ -1,4 +1,4 @@
-/* E word by word: its steps in three orders, its run, and other cases with results that are known without the model. */
+/* E word by word: its steps in five orders, its run, and other cases with results that are known without the model. */
 #include <string.h>
 
 #include "groups.h"
@@ -36,8 +36,8 @@ static void expect_state(const struct words *words)
     expect_table(SENT, &words->sent, 1);
 }
 
-/* By kind, first box and second box; box 1 before box 0, and totals as early as allowed; all of box 0 that is ready
-   before anything of box 1 is multiplied. The first line of each is the fresh state. */
+/* By kind, first box and second box; box 1 before box 0; box 0 ahead of box 1; totals of box 0 sent and received before
+   any price; own totals of box 0 added before it multiplies. The first line of each is the fresh state. */
 static const struct {
     const char *name;
     struct words lines[11];
@@ -84,11 +84,39 @@ static const struct {
          {{2, 1, 1}, {500, 1250, 500, 1250}, {0}, {0, 0, 750}, {0}, {1500, 2500}, "01101001011001001000001", 3},
          {{5, 1, 1}, {500, 1250, 500, 1250}, {0}, {0}, {0}, {2250, 2500}, "01101001011001001001001", 3},
      }},
+    {"totals of box 0 before any price",
+     {
+         {{0, 0, 0}, {500, 0, 0, 1250}, {0}, {0}, {0}, {0}, "", 0},
+         {{2, 0, 0}, {500, 0, 0, 1250}, {0}, {1500}, {0}, {0}, "00001", 0},
+         {{4, 0, 1}, {500, 0, 0, 1250}, {0}, {0}, {1500}, {0}, "00001000000001", 1},
+         {{6, 1, 0}, {500, 0, 0, 1250}, {0}, {0}, {0}, {1500}, "00001000000001000000001", 1},
+         {{1, 1, 0}, {500, 0, 0, 1250}, {0, 1250}, {0}, {0}, {1500}, "00101000000001000000001", 2},
+         {{3, 0, 1}, {500, 1250, 0, 1250}, {0}, {0, 2500}, {0}, {1500}, "00101000010001000000001", 2},
+         {{5, 0, 0}, {500, 1250, 0, 1250}, {0}, {0}, {0}, {1500, 2500}, "00101000010001001000001", 2},
+         {{1, 0, 1}, {500, 1250, 0, 1250}, {0, 0, 500}, {0}, {0}, {1500, 2500}, "01101000010001001000001", 3},
+         {{3, 1, 0}, {500, 1250, 500, 1250}, {0}, {0, 0, 2000}, {0}, {1500, 2500}, "01101000011001001000001", 3},
+         {{2, 1, 1}, {500, 1250, 500, 1250}, {0}, {0, 0, 750}, {0}, {1500, 2500}, "01101001011001001000001", 3},
+         {{5, 1, 1}, {500, 1250, 500, 1250}, {0}, {0}, {0}, {2250, 2500}, "01101001011001001001001", 3},
+     }},
+    {"own totals of box 0 before it multiplies",
+     {
+         {{0, 0, 0}, {500, 0, 0, 1250}, {0}, {0}, {0}, {0}, "", 0},
+         {{1, 1, 0}, {500, 0, 0, 1250}, {0, 1250}, {0}, {0}, {0}, "001", 1},
+         {{3, 0, 1}, {500, 1250, 0, 1250}, {0}, {0, 2500}, {0}, {0}, "0010000001", 1},
+         {{5, 0, 0}, {500, 1250, 0, 1250}, {0}, {0}, {0}, {0, 2500}, "00100000010000001", 1},
+         {{1, 0, 1}, {500, 1250, 0, 1250}, {0, 0, 500}, {0}, {0}, {0, 2500}, "01100000010000001", 2},
+         {{3, 1, 0}, {500, 1250, 500, 1250}, {0}, {0, 0, 2000}, {0}, {0, 2500}, "01100000011000001", 2},
+         {{2, 1, 1}, {500, 1250, 500, 1250}, {0}, {0, 0, 750}, {0}, {0, 2500}, "01100001011000001", 2},
+         {{5, 1, 1}, {500, 1250, 500, 1250}, {0}, {0}, {0}, {750, 2500}, "01100001011000001001", 2},
+         {{2, 0, 0}, {500, 1250, 500, 1250}, {0}, {1500}, {0}, {750, 2500}, "01101001011000001001", 2},
+         {{4, 0, 1}, {500, 1250, 500, 1250}, {0}, {0}, {1500}, {750, 2500}, "01101001011001001001", 3},
+         {{6, 1, 0}, {500, 1250, 500, 1250}, {0}, {0}, {0}, {2250, 2500}, "01101001011001001001001", 3},
+     }},
 };
 
-static void three_orders(void)
+static void in_orders(size_t from, size_t to)
 {
-    for (size_t i = 0; i < 3; i++) {
+    for (size_t i = from; i < to; i++) {
         sample_job(&settlement.job);
         open_settlement(&settlement, SPARE, 0);
         at_case("%s", orders[i].name);
@@ -103,6 +131,9 @@ static void three_orders(void)
         close_settlement(&settlement);
     }
 }
+
+static void three_orders(void) { in_orders(0, 3); }
+static void early_orders(void) { in_orders(3, sizeof orders / sizeof orders[0]); }
 
 /* Single requests that the plights do not have. */
 static void other_requests(void)
@@ -121,10 +152,12 @@ static void other_requests(void)
     open_settlement(&settlement, SPARE, 0);
     at_case("own tallies of box 65535");
     expect_step(&settlement, (struct step){2, 65535, 65535}, 23);
-    at_case("totals before the due receipt, which was sent");
+    at_case("own totals before the due receipt, which was sent");
     set_mark(&settlement, (struct step){2, 0, 0});
     set_mark(&settlement, (struct step){1, 1, 0});
-    expect_step(&settlement, (struct step){4, 0, 1}, 26);
+    expect_step(&settlement, (struct step){5, 0, 0}, 26);
+    at_case("totals that do not wait for it");
+    expect_step(&settlement, (struct step){4, 0, 1}, 0);
     at_case("words sent at 1,000,000, no message");
     put_both(&settlement.lending, SENT, 0, MOST_SENT);
     expect_step(&settlement, (struct step){2, 1, 1}, 0);
@@ -287,6 +320,7 @@ static void largest_by_rules(void)
 void check_cases(void)
 {
     run_group("step: E in three orders, word by word", three_orders);
+    run_group("early: E in two orders more, word by word", early_orders);
     run_group("step: other requests on E", other_requests);
     run_group("step: every word at an end of its range", ends_of_ranges);
     run_group("run: E with choices, word by word", runs_of_sample);

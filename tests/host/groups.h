@@ -12,5 +12,6 @@ void check_lists(void);
 void check_run(void);
 void check_cases(void);
 void check_bags(void);
+void check_early(void);
 
 #endif

@@ -4,39 +4,6 @@
 
 static struct settlement settlement;
 
-static bool is_marked(uint16_t kind, uint16_t first, uint16_t second)
-{
-    return lent_word(&settlement, DONE, mark_place(&settlement, (struct step){kind, first, second})) == 1;
-}
-
-static bool is_added(const struct tally *tally)
-{
-    uint16_t owner = settlement.job.offer[tally->place].owner;
-    if (owner == tally->box) return is_marked(MULTIPLY_OWN, owner, owner);
-    return is_marked(RECEIVE_PRICES, tally->box, owner);
-}
-
-/* Statements, working totals and totals in transit are the sum over the standing tallies already added, grocer by
- * grocer. */
-static void running_sum(void)
-{
-    const struct job *job = &settlement.job;
-    int64_t sum[MOST_GROCERS] = {0};
-    for (size_t t = 0; t < job->sizes.tallies; t++) {
-        const struct tally *tally = &job->tally[t];
-        if (stands(job->tally, job->sizes.tallies, t) && is_added(tally))
-            sum[tally->grocer] += (int64_t)tally->count * job->offer[tally->place].price;
-    }
-    for (size_t g = 0; g < job->sizes.grocers; g++) {
-        int64_t have = lent_word(&settlement, STATEMENT, g);
-        for (size_t b = 0; b < job->sizes.boxes; b++)
-            have += lent_word(&settlement, WORKING, b * job->sizes.grocers + g) +
-                    lent_word(&settlement, TOTAL_TRANSIT, b * job->sizes.grocers + g);
-        expect(have == sum[g], "running sum of grocer %zu is %lld, should be %lld", g, (long long)have,
-               (long long)sum[g]);
-    }
-}
-
 static struct step random_step(void)
 {
     uint16_t boxes = settlement.job.sizes.boxes;
@@ -107,17 +74,19 @@ static void next_request(void)
         ask_short(step);
     else if (draw == 1)
         ask_damaged(step);
-    else if (ask(&settlement, step) == 0)
-        running_sum();
+    else
+        ask(&settlement, step);
+    expect_running_sum(&settlement);
 }
 
 static void finish(void)
 {
     struct step ready[MOST_STEPS];
     size_t length;
-    while ((length = ready_steps(&settlement.machine, ready)) > 0)
+    while ((length = ready_steps(&settlement.machine, ready)) > 0) {
         if (ask(&settlement, ready[below((uint32_t)length)]) != 0) break;
-    running_sum();
+        expect_running_sum(&settlement);
+    }
     expect_plain_sums(&settlement);
     expect(lent_word(&settlement, SENT, 0) == words_of_job(&settlement.job), "words sent %lld, should be %u",
            (long long)lent_word(&settlement, SENT, 0), words_of_job(&settlement.job));

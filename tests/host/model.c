@@ -109,11 +109,23 @@ static void note_steps(struct machine *machine)
                 machine->has[kind][a][b] = job_has(machine, (struct step){kind, a, b});
 }
 
-static bool all_tallies_added(const struct machine *machine, uint16_t box)
+/* A tally is added once step 2 of its box, for an own offer, or else its step 3 from the offer's owner, is done. */
+static bool is_added(const struct machine *machine, const struct tally *tally)
 {
-    if (!machine->done[MULTIPLY_OWN][box][box]) return false;
-    for (uint16_t from = 0; from < machine->job->sizes.boxes; from++)
-        if (machine->has[RECEIVE_PRICES][box][from] && !machine->done[RECEIVE_PRICES][box][from]) return false;
+    uint16_t owner = machine->job->offer[tally->place].owner;
+    if (owner == tally->box) return machine->done[MULTIPLY_OWN][owner][owner];
+    return machine->done[RECEIVE_PRICES][tally->box][owner];
+}
+
+/* Every standing tally that a box holds of the owner's grocers is added. */
+static bool all_added(const struct machine *machine, uint16_t box, uint16_t owner)
+{
+    const struct job *job = machine->job;
+    for (size_t t = 0; t < job->sizes.tallies; t++) {
+        const struct tally *tally = &job->tally[t];
+        if (tally->box != box || job->grocer_owner[tally->grocer] != owner) continue;
+        if (!is_added(machine, tally) && stands(job->tally, job->sizes.tallies, t)) return false;
+    }
     return true;
 }
 
@@ -122,8 +134,8 @@ static bool is_ready(const struct machine *machine, struct step step)
     switch (step.kind) {
     case RECEIVE_PRICES: return machine->done[SEND_PRICES][step.second][step.first];
     case RECEIVE_TOTALS: return machine->done[SEND_TOTALS][step.second][step.first];
-    case SEND_TOTALS:
-    case ADD_OWN: return all_tallies_added(machine, step.first);
+    case SEND_TOTALS: return all_added(machine, step.first, step.second);
+    case ADD_OWN: return all_added(machine, step.first, step.first);
     default: return true;
     }
 }

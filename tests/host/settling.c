@@ -15,6 +15,8 @@ void open_settlement(struct settlement *settlement, uint32_t spare, size_t choic
     write_job_words(&settlement->job, settlement->lending.twin);
     start_fresh(&settlement->machine, &settlement->job);
     lend_state(settlement);
+    for (size_t t = 0; t < settlement->job.sizes.tallies; t++)
+        settlement->stands[t] = stands(settlement->job.tally, settlement->job.sizes.tallies, t);
 }
 
 void close_settlement(struct settlement *settlement) { close_lending(&settlement->lending); }
@@ -36,6 +38,45 @@ void expect_plain_sums(const struct settlement *settlement)
         int64_t statement = lent_word(settlement, STATEMENT, g), sum = plain_sum(&settlement->job, g);
         expect(statement == sum, "statement %u is %lld, the plain sum %lld", g, (long long)statement, (long long)sum);
     }
+}
+
+static bool is_marked(const struct settlement *settlement, uint16_t kind, uint16_t first, uint16_t second)
+{
+    return lent_word(settlement, DONE, mark_place(settlement, (struct step){kind, first, second})) == 1;
+}
+
+static bool is_added(const struct settlement *settlement, const struct tally *tally)
+{
+    uint16_t owner = settlement->job.offer[tally->place].owner;
+    if (owner == tally->box) return is_marked(settlement, MULTIPLY_OWN, owner, owner);
+    return is_marked(settlement, RECEIVE_PRICES, tally->box, owner);
+}
+
+void expect_running_sum(const struct settlement *settlement)
+{
+    const struct job *job = &settlement->job;
+    int64_t sum[MOST_GROCERS] = {0};
+    for (size_t t = 0; t < job->sizes.tallies; t++) {
+        const struct tally *tally = &job->tally[t];
+        if (settlement->stands[t] && is_added(settlement, tally))
+            sum[tally->grocer] += (int64_t)tally->count * job->offer[tally->place].price;
+    }
+    for (size_t g = 0; g < job->sizes.grocers; g++) {
+        int64_t have = lent_word(settlement, STATEMENT, g);
+        for (size_t b = 0; b < job->sizes.boxes; b++)
+            have += lent_word(settlement, WORKING, b * job->sizes.grocers + g) +
+                    lent_word(settlement, TOTAL_TRANSIT, b * job->sizes.grocers + g);
+        expect(have == sum[g], "running sum of grocer %zu is %lld, should be %lld", g, (long long)have,
+               (long long)sum[g]);
+    }
+}
+
+void keep_state(const struct settlement *settlement, struct state_words *kept)
+{
+    memset(kept, 0, sizeof *kept);
+    for (unsigned name = JOB_TABLES; name < STEP_TABLES; name++)
+        memcpy(kept->table[name - JOB_TABLES], settlement->lending.table[name].words,
+               needed(name, settlement->job.sizes) * width_of(name));
 }
 
 static uint16_t compare_step(struct settlement *settlement, struct sizes sizes, struct step step, uint16_t due)

@@ -9,6 +9,7 @@ struct settlement {
     struct job job;         /* set it, then open */
     struct machine machine; /* the model's state, which requests carry on */
     struct lending lending;
+    bool stands[MOST_TALLIES]; /* whether a tally of the job stood when it was opened */
 };
 
 /* Spare words that buffers have at the most. */
@@ -26,6 +27,16 @@ int64_t lent_word(const struct settlement *settlement, enum table_name name, siz
 
 /* Checks that every statement is the plain sum of its grocer. */
 void expect_plain_sums(const struct settlement *settlement);
+
+/* Checks that statements, working totals and totals in transit are together the sum over the standing tallies already
+   added, grocer by grocer. */
+void expect_running_sum(const struct settlement *settlement);
+
+/* Every word of a state as the library left it, 0 behind those of each table. */
+struct state_words {
+    uint8_t table[STEP_TABLES - JOB_TABLES][MOST_BOXES * MOST_GROCERS * 8];
+};
+void keep_state(const struct settlement *settlement, struct state_words *kept);
 
 /* One request of the list: the answer, which is also the model's unless a difference was found. */
 uint16_t ask(struct settlement *settlement, struct step step);

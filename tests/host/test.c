@@ -10,6 +10,7 @@ static void all_groups(void)
     check_run();
     check_cases();
     check_bags();
+    check_early();
 }
 
 int main(int argc, char **argv) { return run_tests(argc, argv, all_groups); }

@@ -16,7 +16,7 @@ use Rattle.laws.specs.Limits.{maxPrice, maxAmount, maxSent}
 use Rattle.model.specs.Ranges.{upTo, around, stateInRange}
 use Rattle.model.specs.Step.{Asked, isKind, boxesFit}
 use Rattle.rules.specs.Marks.{MarksIn}
-use Rattle.links.specs.Links.{Linked}
+use Rattle.links.specs.Links.{Linked, LinkedPairs}
 use Rattle.totals.specs.Row.{TalliesIn, PricesIn, AmountsIn}
 use Rattle.apply.specs.Apply.{Applies, SentIn, PriceStepIn, TotalStepIn}
 use Rattle.model.proofs.Lent.{JobLong, job-long, StateLong, state-long}
@@ -63,8 +63,8 @@ pub record Given (f : JobTables) (t : StateTables) (needs sharers : List ℕ) (q
   pub job-long : JobLong (f .grocers) (f .offers) (f .tallies) (jobLengths f)
   pub state-long : StateLong (f .boxes) (f .grocers) (f .offers) (stateLengths t)
   pub words-in : StateWords f t
-  pub needs-are : needs ≡ tabulate 500 (needWord (jobOf f))
-  pub sharers-are : sharers ≡ tabulate 255 (sharerWord (jobOf f))
+  pub needs-are : q .kind ≤ 3 → needs ≡ tabulate 500 (needWord (jobOf f))
+  pub sharers-are : 4 ≤ q .kind → sharers ≡ tabulate 255 (sharerWord (jobOf f))
   pub kind-from : 1 ≤ q .kind
   pub kind-to : q .kind ≤ 6
   pub first-in : q .first < f .boxes
@@ -135,8 +135,8 @@ module _ (f : JobTables) (t : StateTables) (needs sharers : List ℕ) (q : Asked
   unfolding stateLengths
   price-transit-in = record { long = g .state-long .priceTransit; words-in = g .words-in .priceTransit }
 
-  -- A step of kind 1, 2 or 3, with offers linked by owner and tallies by box.
-  pub price-step-in : (offerLinks tallyLinks : List ℕ) → Linked (f .offers) (f .offerOwner) offerLinks → Linked (f .tallies) (f .tallyBox) tallyLinks → q .kind ≤ 3 →
+  -- A step of kind 1, 2 or 3, with offers linked by owner, and tallies by box and owner of their offer.
+  pub price-step-in : (offerLinks tallyLinks : List ℕ) → Linked (f .offers) (f .offerOwner) offerLinks → LinkedPairs (f .tallies) (f .tallyBox) (f .tallyOffer) (f .offerOwner) tallyLinks → q .kind ≤ 3 →
       PriceStepIn (talliesOf f) offerLinks tallyLinks (t .known) (t .priceTransit) (t .working) (q .kind) (q .first) (q .second)
   price-step-in offerLinks tallyLinks lo lt few = record {
     tallies-in = g .tallies-in;

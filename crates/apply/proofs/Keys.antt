@@ -3,9 +3,10 @@ use mathlib.Core.Path.{_≡_}
 use mathlib.Core.Bool.{false}
 use mathlib.Core.List.{List}
 use Prim.Native.Nat.{ℕ, _+_, _<_, _≤_}
+use native.Mathlib.Nat.{le-trans}
 use native.Mathlib.Omega.{arith}
 use lib.ListN.{getD, length}
-use Rattle.links.specs.Links.{Keyed}
+use Rattle.links.specs.Links.{Keyed, PairsKeyed}
 use Rattle.model.specs.Tables.{JobTables, nobody, jobLengths, jobShort}
 use Rattle.model.specs.Handed.{Handed}
 use Rattle.model.proofs.Lent.{job-long}
@@ -39,9 +40,20 @@ module _ (f : JobTables) (ok : Handed f) (whole : jobShort f (jobLengths f) ≡ 
       boxes-keyed (f .grocers) 255 (f .grocerOwner) links (words .grocers≤) (omega arith) e (job-long f (jobLengths f) whole .grocerOwner)
       (λ i l. omega (arith, words .boxes≤, under-at (f .boxes) (f .grocers) (f .grocerOwner) i (words .grocerOwner) l))
 
-  -- Tallies by box, superseded ones by 16.
-  pub tallies-keyed : length links ≡ 1_017 → Keyed (f .tallies) (f .tallyBox) links
+  -- Tallies by box, which is 16 for superseded ones, and the owner of their offer.
+  pub tallies-keyed : length links ≡ 1_272 → PairsKeyed (f .tallies) (f .tallyBox) (f .tallyOffer) (f .offerOwner) links
   unfolding jobLengths
   tallies-keyed e =
-      boxes-keyed (f .tallies) 1_000 (f .tallyBox) links (words .tallies≤) (omega arith) e (job-long f (jobLengths f) whole .tallyBox)
-      (λ i l. up-at nobody (f .tallies) (f .tallyBox) i (words .tallyBox) l)
+      let long = job-long f (jobLengths f) whole in
+      record {
+        few = words .tallies≤;
+        boxes-long = long .tallyBox;
+        places-long = long .tallyOffer;
+        links-long = omega (arith, words .tallies≤);
+        box-in = λ i l. up-at nobody (f .tallies) (f .tallyBox) i (words .tallyBox) l;
+        place-in = λ i l. le-trans (offer-in i l) (long .offerOwner);
+        owner-in = λ i l. le-trans (under-at (f .boxes) (f .offers) (f .offerOwner) (getD (f .tallyOffer) i 0) (words .offerOwner) (offer-in i l)) (words .boxes≤);
+      }
+    where
+      offer-in : (i : ℕ) → i < f .tallies → getD (f .tallyOffer) i 0 < f .offers
+      offer-in i l = under-at (f .offers) (f .tallies) (f .tallyOffer) i (words .tallyOffer) l

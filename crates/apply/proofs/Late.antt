@@ -10,9 +10,8 @@ use lib.IntN.{ℤ, natAbs}
 use Rattle.laws.specs.Below.{all, count}
 use Rattle.laws.specs.Tables.{cell}
 use Rattle.laws.proofs.Checks.{one-left}
-use Rattle.model.specs.Job.{priceWord, totalWord}
 use Rattle.model.specs.Steps.{kindOf}
-use Rattle.model.specs.Tables.{JobTables, jobOf, StateTables, stateTables, stateLengths}
+use Rattle.model.specs.Tables.{JobTables, StateTables, stateTables, stateLengths}
 use Rattle.laws.specs.Limits.{maxPrice, maxAmount, maxSent}
 use Rattle.model.specs.Ranges.{upTo, around, stateInRange}
 use Rattle.model.specs.Step.{Asked, moved}
@@ -29,8 +28,6 @@ use Rattle.totals.proofs.Effect.{talliesOf}
 use Rattle.apply.proofs.Given.{Given, given}
 use Rattle.apply.proofs.Moved.{prices-sent, own-multiplied, prices-received, totals-sent, own-added, totals-received}
 use Rattle.apply.proofs.Ranges.{cell-up, recell-up, set-up}
-use Rattle.prices.proofs.Effect as price-laws
-use Rattle.totals.proofs.Effect as total-laws
 
 -- Prices sent or received stay in range.
 module _ (k n a b : ℕ) (owner needs known transit : List ℕ) (hk : upTo maxPrice (k * n) known ≡ true) (ht : upTo maxPrice (k * n) transit ≡ true) where
@@ -73,7 +70,7 @@ module _ (f : JobTables) (t : StateTables) (needs sharers : List ℕ) (q : Asked
   marks = marked-bits (f .boxes) (kindOf (q .kind)) (q .first) (q .second) (t .done)
 
   -- 1: the count of words sent.
-  pub late-prices-sent : q .kind ≡ 1 → stateInRange f (moved f t q) ≡ leb (getD (t .sent) 0 0 + count (f .offers) (priceWord (jobOf f) (q .first) (q .second))) maxSent
+  pub late-prices-sent : q .kind ≡ 1 → stateInRange f (moved f t q) ≡ leb (getD (t .sent) 0 0 + count (f .offers) (wordIn (f .offerOwner) needs (q .first) (q .second))) maxSent
   unfolding stateLengths
   late-prices-sent e =
       let g = facts in
@@ -83,8 +80,6 @@ module _ (f : JobTables) (t : StateTables) (needs sharers : List ℕ) (q : Asked
       (sent-up (f .boxes) (f .offers) (q .first) (q .second) (f .offerOwner) needs (t .known) (t .priceTransit) (w .known) (w .priceTransit))
       (w .totalTransit) marks (w .working) (w .statement)
       ∙ set-up maxSent (t .sent) _ (g .state-long .sent)
-      ∙ ap (λ (n : ℕ). leb (getD (t .sent) 0 0 + n) maxSent)
-      (price-laws.words-sent f t needs (q .first) (q .second) (g .first-in) (g .second-in) (g .tallies-in .boxes-in) (g .tallies-in .offers-in) (g .needs-are))
 
   -- 2: the row of the box, at the prices it knows.
   pub late-own-multiplied : q .kind ≡ 2 → stateInRange f (moved f t q) ≡ around maxAmount (f .grocers) (productRow (talliesOf f) (t .known) (q .first) (q .first) (t .working))
@@ -108,7 +103,7 @@ module _ (f : JobTables) (t : StateTables) (needs sharers : List ℕ) (q : Asked
       ∙ put-range maxAmount (f .boxes) (f .grocers) (q .first) _ (t .working) (g .first-in) (w .working)
 
   -- 4: the count of words sent.
-  pub late-totals-sent : q .kind ≡ 4 → stateInRange f (moved f t q) ≡ leb (getD (t .sent) 0 0 + count (f .grocers) (totalWord (jobOf f) (q .first) (q .second))) maxSent
+  pub late-totals-sent : q .kind ≡ 4 → stateInRange f (moved f t q) ≡ leb (getD (t .sent) 0 0 + count (f .grocers) (wordIn (f .grocerOwner) sharers (q .second) (q .first))) maxSent
   unfolding stateLengths
   late-totals-sent e =
       let g = facts in
@@ -121,8 +116,6 @@ module _ (f : JobTables) (t : StateTables) (needs sharers : List ℕ) (q : Asked
       (cleared-range maxAmount (f .boxes) (f .grocers) (q .first) p (t .working) (w .working))
       (w .statement)
       ∙ set-up maxSent (t .sent) _ (g .state-long .sent)
-      ∙ ap (λ (n : ℕ). leb (getD (t .sent) 0 0 + n) maxSent)
-      (total-laws.totals-sent-count f t sharers (q .first) (q .second) (g .first-in) (g .second-in) (g .tallies-in .boxes-in) (g .tallies-in .grocers-in) (g .sharers-are))
 
   -- 5: each statement with the box's own working total.
   pub late-own-added : q .kind ≡ 5 → stateInRange f (moved f t q)

@@ -82,11 +82,11 @@ module _ (f : JobTables) (t : StateTables) (needs sharers : List ℕ) (q : Asked
   prices-sent e =
       by-lists sendPrices (ap kindOf e) _ _ _ _ _ _
       (known-stays (jobOf f) (left sendPrices) t (g .state-long) refl)
-      (price-laws.sent-transit f t needs (q .first) (q .second) (g .first-in) (g .second-in) (g .tallies-in .boxes-in) (g .tallies-in .offers-in) (g .needs-are))
+      (price-laws.sent-transit f t needs (q .first) (q .second) (g .first-in) (g .second-in) (g .tallies-in .boxes-in) (g .tallies-in .offers-in) (g .needs-are (omega arith)))
       (working-stays (jobOf f) (left sendPrices) t (g .state-long) refl)
       (total-transit-stays (jobOf f) (left sendPrices) t (g .state-long) refl)
       (statement-stays (jobOf f) (left sendPrices) t (g .state-long) refl)
-      (price-laws.sent-more f t needs (q .first) (q .second) (g .first-in) (g .second-in) (g .tallies-in .boxes-in) (g .tallies-in .offers-in) (g .needs-are)
+      (price-laws.sent-more f t needs (q .first) (q .second) (g .first-in) (g .second-in) (g .tallies-in .boxes-in) (g .tallies-in .offers-in) (g .needs-are (omega arith))
       ∙ overwrite-one _ (t .sent) (g .state-long .sent))
 
   -- 2 Multiply own.
@@ -124,8 +124,8 @@ module _ (f : JobTables) (t : StateTables) (needs sharers : List ℕ) (q : Asked
   unfolding effect kindOf stateLengths jobOf oneBox
   prices-received e =
       by-lists receivePrices (ap kindOf e) _ _ _ _ _ _
-      (price-laws.received-known f t needs (q .first) (q .second) (g .first-in) (g .second-in) (g .tallies-in .boxes-in) (g .tallies-in .offers-in) (g .needs-are))
-      (price-laws.received-transit f t needs (q .first) (q .second) (g .first-in) (g .second-in) (g .tallies-in .boxes-in) (g .tallies-in .offers-in) (g .needs-are))
+      (price-laws.received-known f t needs (q .first) (q .second) (g .first-in) (g .second-in) (g .tallies-in .boxes-in) (g .tallies-in .offers-in) (g .needs-are (omega arith)))
+      (price-laws.received-transit f t needs (q .first) (q .second) (g .first-in) (g .second-in) (g .tallies-in .boxes-in) (g .tallies-in .offers-in) (g .needs-are (omega arith)))
       (received-working f (g .bare) (g .tallies-in) (q .first) (g .first-in) t (q .second) (differ receivePrices (ap kindOf e) refl))
       (total-transit-stays (jobOf f) (left receivePrices) t (g .state-long) refl)
       (statement-stays (jobOf f) (left receivePrices) t (g .state-long) refl)
@@ -145,10 +145,10 @@ module _ (f : JobTables) (t : StateTables) (needs sharers : List ℕ) (q : Asked
       by-lists sendTotals (ap kindOf e) _ _ _ _ _ _
       (known-stays (jobOf f) (left sendTotals) t (g .state-long) refl)
       (price-transit-stays (jobOf f) (left sendTotals) t (g .state-long) refl)
-      (total-laws.totals-sent-working f t sharers (q .first) (q .second) (g .first-in) (g .second-in) (g .tallies-in .boxes-in) (g .tallies-in .grocers-in) (g .sharers-are))
-      (total-laws.totals-sent-transit f t sharers (q .first) (q .second) (g .first-in) (g .second-in) (g .tallies-in .boxes-in) (g .tallies-in .grocers-in) (g .sharers-are))
+      (total-laws.totals-sent-working f t sharers (q .first) (q .second) (g .first-in) (g .second-in) (g .tallies-in .boxes-in) (g .tallies-in .grocers-in) (g .sharers-are (omega arith)))
+      (total-laws.totals-sent-transit f t sharers (q .first) (q .second) (g .first-in) (g .second-in) (g .tallies-in .boxes-in) (g .tallies-in .grocers-in) (g .sharers-are (omega arith)))
       (statement-stays (jobOf f) (left sendTotals) t (g .state-long) refl)
-      (total-laws.totals-sent-more f t sharers (q .first) (q .second) (g .first-in) (g .second-in) (g .tallies-in .boxes-in) (g .tallies-in .grocers-in) (g .sharers-are)
+      (total-laws.totals-sent-more f t sharers (q .first) (q .second) (g .first-in) (g .second-in) (g .tallies-in .boxes-in) (g .tallies-in .grocers-in) (g .sharers-are (omega arith))
       ∙ overwrite-one _ (t .sent) (g .state-long .sent))
 
   -- 5 Add own working totals to its own statements.
@@ -165,9 +165,9 @@ module _ (f : JobTables) (t : StateTables) (needs sharers : List ℕ) (q : Asked
       by-lists addOwn (ap kindOf e) _ _ _ _ _ _
       (known-stays (jobOf f) (left addOwn) t (g .state-long) refl)
       (price-transit-stays (jobOf f) (left addOwn) t (g .state-long) refl)
-      (added-working f t sharers (q .first) (q .second) (g .first-in) (g .second-in) (g .tallies-in .boxes-in) (g .tallies-in .grocers-in) (g .sharers-are))
+      (added-working f t sharers (q .first) (q .second) (g .first-in) (g .second-in) (g .tallies-in .boxes-in) (g .tallies-in .grocers-in) (g .sharers-are (omega arith)))
       (total-transit-stays (jobOf f) (left addOwn) t (g .state-long) refl)
-      (added-statement f t sharers (q .first) (q .second) (g .first-in) (g .second-in) (g .tallies-in .boxes-in) (g .tallies-in .grocers-in) (g .sharers-are))
+      (added-statement f t sharers (q .first) (q .second) (g .first-in) (g .second-in) (g .tallies-in .boxes-in) (g .tallies-in .grocers-in) (g .sharers-are (omega arith)))
       (sent-stays (jobOf f) (left addOwn) t (g .state-long) refl)
 
   -- 6 Receive totals.
@@ -186,8 +186,8 @@ module _ (f : JobTables) (t : StateTables) (needs sharers : List ℕ) (q : Asked
       (known-stays (jobOf f) (left receiveTotals) t (g .state-long) refl)
       (price-transit-stays (jobOf f) (left receiveTotals) t (g .state-long) refl)
       (working-stays (jobOf f) (left receiveTotals) t (g .state-long) refl)
-      (total-laws.totals-received-transit f t sharers (q .first) (q .second) (g .first-in) (g .second-in) (g .tallies-in .boxes-in) (g .tallies-in .grocers-in) (g .sharers-are) ne)
-      (totals-received-statement f t sharers (q .first) (q .second) (g .first-in) (g .second-in) (g .tallies-in .boxes-in) (g .tallies-in .grocers-in) (g .sharers-are) ne)
+      (total-laws.totals-received-transit f t sharers (q .first) (q .second) (g .first-in) (g .second-in) (g .tallies-in .boxes-in) (g .tallies-in .grocers-in) (g .sharers-are (omega arith)) ne)
+      (totals-received-statement f t sharers (q .first) (q .second) (g .first-in) (g .second-in) (g .tallies-in .boxes-in) (g .tallies-in .grocers-in) (g .sharers-are (omega arith)) ne)
       (sent-stays (jobOf f) (left receiveTotals) t (g .state-long) refl)
 
   -- Kinds 1 to 3: what the model says is left on the side of prices.

@@ -16,19 +16,19 @@ use Rattle.model.specs.Ranges.{stateInRange}
 use Rattle.model.specs.Handed.{Handed}
 use Rattle.model.specs.Step.{Asked, isKind, boxesFit}
 use Rattle.words.specs.Message.{wordIn}
-use Rattle.links.specs.Links.{Linked}
+use Rattle.links.specs.Links.{Linked, LinkedPairs}
 use Rattle.prices.specs.Prices.{sentTransit, receivedKnown, receivedTransit}
 use Rattle.totals.specs.Row.{Tallies, TalliesIn, PricesIn, AmountsIn, productRow, putRow}
 use Rattle.totals.specs.Credit.{cleared, sentTotals, credited, creditAll}
 
--- The tables are long enough and in range, the masks are the job's, and the step is one of a kind with boxes that fit it.
+-- The tables are long enough and in range, the masks of the step's side are the job's, and the step is one of a kind with boxes that fit it.
 pub record Applies (f : JobTables) (t : StateTables) (needs sharers : List ℕ) (q : Asked) : Type 0 where
   pub job-in : Handed f
   pub job-long : jobShort f (jobLengths f) ≡ false
   pub state-long : stateShort f (stateLengths t) ≡ false
   pub state-in : stateInRange f t ≡ true
-  pub needs-are : needs ≡ tabulate 500 (needWord (jobOf f))
-  pub sharers-are : sharers ≡ tabulate 255 (sharerWord (jobOf f))
+  pub needs-are : q .kind ≤ 3 → needs ≡ tabulate 500 (needWord (jobOf f))
+  pub sharers-are : 4 ≤ q .kind → sharers ≡ tabulate 255 (sharerWord (jobOf f))
   pub kind-in : isKind (q .kind) ≡ true
   pub boxes-fit : boxesFit (jobOf f) (kindOf (q .kind)) (q .first) (q .second) ≡ true
 
@@ -45,7 +45,7 @@ sentMore sent more = set sent 0 (getD sent 0 0 + more)
 pub record PriceStepIn (e : Tallies) (offerLinks tallyLinks known transit : List ℕ) (working : List ℤ) (kind a b : ℕ) : Type 0 where
   pub tallies-in : TalliesIn e
   pub offers-linked : Linked (e .offers) (e .owner) offerLinks
-  pub tallies-linked : Linked (e .tallies) (e .holder) tallyLinks
+  pub tallies-linked : LinkedPairs (e .tallies) (e .holder) (e .offer) (e .owner) tallyLinks
   pub known-in : PricesIn (e .boxes) (e .offers) known
   pub transit-in : PricesIn (e .boxes) (e .offers) transit
   pub working-in : AmountsIn (e .boxes * e .grocers) working

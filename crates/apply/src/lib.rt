@@ -39,7 +39,7 @@ pub fn price_step(
     tally_count: &[i32],
     needs: &[u16; 500],
     offer_links: &[u16; 517],
-    tally_links: &[u16; 1017],
+    tally_links: &[u16; 1272],
     known: &mut [u32],
     price_transit: &mut [u32],
     working: &mut [i64],

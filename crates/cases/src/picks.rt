@@ -19,29 +19,31 @@ fn step_line(choice: u16, ready: u16, p: Place) {
 }
 
 // The step that a choice picks, modulo the number of ready steps.
-fn pick(choice: u16, prices: &[[u16; 16]; 16], totals: &[[u16; 16]; 16], done: &[u16; 24]) {
-    let rows = all_rows(2, prices, totals, done);
+fn pick(choice: u16, receivers: &[u16; 16], waits: &[[u16; 16]; 16], done: &[u16; 24]) {
+    let rows = all_rows(2, receivers, waits, done);
     let ready = ready_steps(2, &rows);
     if ready == 0 {
         return;
     }
-    let p = find_in(2, choice % ready, &rows, prices, totals, done);
+    let p = find_in(2, choice % ready, &rows);
     step_line(choice, ready, p);
 }
 
 // The choices of a fresh state, whose list has steps 1 and 2 of both boxes, and of one where box 0 has sent its price.
 pub fn choices() {
     let row = [0u16; 16];
-    let mut prices = [row; 16];
-    prices[0][1] = 1;
-    prices[1][0] = 1;
-    let mut totals = [row; 16];
-    totals[0][1] = 1;
+    let mut receivers = row;
+    receivers[0] = 2;
+    receivers[1] = 1;
+    let mut waits = [row; 16];
+    waits[0][0] = 2;
+    waits[0][1] = 1;
+    waits[1][1] = 3;
     let mut done = [0u16; 24];
-    pick(0, &prices, &totals, &done);
-    pick(3, &prices, &totals, &done);
-    pick(4, &prices, &totals, &done);
-    pick(65_535, &prices, &totals, &done);
+    pick(0, &receivers, &waits, &done);
+    pick(3, &receivers, &waits, &done);
+    pick(4, &receivers, &waits, &done);
+    pick(65_535, &receivers, &waits, &done);
     done[1] = 1;
-    pick(65_535, &prices, &totals, &done);
+    pick(65_535, &receivers, &waits, &done);
 }

@@ -18,6 +18,7 @@ use Rattle.recount.proofs.Recount.{recount-laws}
 use Rattle.model.specs.Job.{plainSum}
 use Rattle.model.specs.Tables.{countedOf, jobOf, jobLengths, jobShort, bagsShort, JobTables}
 use Rattle.model.proofs.Standing.{standing-count}
+use Rattle.model.proofs.Early.{early-totals}
 use Rattle.model.specs.Ranges.{upTo, under, around, sizesInRange, jobWordsInRange, jobInRange, Settles}
 use Rattle.format.specs.Job.{FileJob, names, placeOf, countedTallies}
 use Rattle.format.specs.File.{decode}
@@ -304,4 +305,5 @@ demand3-holds = record {
   anySums = sums-ok;
   counts = standing-count;
   stepsCounted = steps-counted;
+  early = early-totals;
 }

@@ -8,10 +8,12 @@ use lib.IntN.{ℤ, pos, _*ℤ_}
 use lib.ListN.{getD}
 use Rattle.laws.specs.Below.{sum, only, integers}
 use Rattle.model.specs.Job.{Job, plainSum}
+use Rattle.model.specs.Steps.{Steps}
 use Rattle.model.specs.Words.{StepsCounted}
 use Rattle.model.specs.Tables.{JobTables, StateTables, countedOf, jobOf}
 use Rattle.model.specs.Standing.{StandingCount}
 use Rattle.model.specs.Ranges.{jobInRange, Settles}
+use Rattle.model.specs.Early.{EarlyTotals}
 use Rattle.model.specs.Requests.{Request}
 use Rattle.model.specs.Demand3.{Demand3, RunIsList}
 use Rattle.recount.specs.Recount.{stands, countedTwice}
@@ -88,3 +90,5 @@ pub record Demand3Holds : Type 0 where
   pub counts : (f : JobTables) → jobInRange f ≡ true → StandingCount f
   -- The steps a job has, counted one by one, are 2 × K + 2 × (messages).
   pub stepsCounted : (j : Job) → StepsCounted j
+  -- Totals leave as soon as the standing tallies of the grocers concerned are added: steps 4 and 5 and condition 26, whatever steps are done.
+  pub early : (f : JobTables) → jobInRange f ≡ true → (d : Steps) → EarlyTotals f d

@@ -1,13 +1,13 @@
 -- Laws of any, all and count over the numbers below a bound. Assumes nothing.
 use mathlib.Core.Path.{_≡_, refl, sym, ap, ap₂, _∙_}
-use mathlib.Core.Bool.{Bool, true, false, cond, _&&_, _||_, false≢true}
+use mathlib.Core.Bool.{Bool, true, false, cond, _&&_, _||_, false≢true, not}
 use Prim.Native.Nat.{ℕ, zero, suc, _+_, _<_, _≤_}
 use native.Mathlib.Omega.{arith}
 use native.Mathlib.Numerals.{add-one}
 use lib.Dec.{eqb, ltb}
 use borrow.Author.Tests.{eqb-true, eqb-false, ne-eqb, ltb-true, ltb-false}
 use Rattle.laws.specs.Below.{naturals, sum, only, any, all, count, find}
-use Rattle.laws.proofs.Bools.{split, clash, no-true, and-true, and-l, and-r, and-one, or-true, or-false, eqb-same}
+use Rattle.laws.proofs.Bools.{split, clash, no-true, and-true, and-l, and-r, and-one, or-true, or-false, eqb-same, and-false}
 use Rattle.laws.proofs.Sums.{sum-cong, sum-none, sum-one, sum-max, sum-next}
 
 -- One place more, as code counts.
@@ -209,6 +209,19 @@ count-one-more n k p q l off h =
     sum-one naturals n k (λ i. only naturals (p i) 1) (λ i. only naturals (q i) 1) (only naturals (q k) 1) l
     (omega (arith, counts-none off))
     (λ i m ne. ap (λ (t : Bool). only naturals t 1) (h i m ne))
+
+-- One number more passes where t holds.
+pub count-with : (n k : ℕ) (p : ℕ → Bool) (t : Bool) → k < n → p k ≡ false → count n (λ i. p i || (t && eqb k i)) ≡ count n p + only naturals t 1
+count-with n k p t l off =
+    count-one-more n k p (λ i. p i || (t && eqb k i)) l off
+    (λ i m ne. rw (ne-eqb k i (λ e. ne (sym e)), and-false t) (or-false (p i)))
+    ∙ ap (λ (s : Bool). count n p + only naturals s 1) (rw (off, eqb-same k) (and-one t))
+
+-- One that passes is left out.
+pub count-but : (n k : ℕ) (p : ℕ → Bool) → k < n → p k ≡ true → count n p ≡ count n (λ i. p i && not (eqb k i)) + 1
+count-but n k p l on =
+    count-one-more n k (λ i. p i && not (eqb k i)) p l (rw (eqb-same k) (and-false (p k))) (λ i m ne. rw (ne-eqb k i (λ e. ne (sym e))) (sym (and-one (p i))))
+    ∙ ap (λ (x : ℕ). count n (λ i. p i && not (eqb k i)) + x) (counts-one on)
 
 -- Where a number does not pass, not all are counted.
 pub count-less : (n k : ℕ) (p : ℕ → Bool) → k < n → p k ≡ false → count n p < n

@@ -1,17 +1,18 @@
 -- Shifts and masks, and the bits of a word. Assumes nothing.
 use mathlib.Core.Path.{_≡_, refl, sym, ap, ap₂, _∙_}
-use mathlib.Core.Bool.{Bool, true, false, not, _||_, _&&_}
-use Prim.Native.Nat.{ℕ, zero, suc, _+_, _-_, _*_, _/_, _%_, _^_, _<_, zero-le, suc-le-suc, min, max}
-use native.Mathlib.Nat.{le-of-suc-le-suc, not-suc-le-zero, div-one, div-div-eq-div-mul, pow-succ', mod-eq-of-lt, one-mul}
+use mathlib.Core.Bool.{Bool, true, false, not, _||_, _&&_, false≢true}
+use Prim.Native.Nat.{ℕ, zero, suc, _+_, _-_, _*_, _/_, _%_, _^_, _≤_, _<_, zero-le, suc-le-suc, min, max}
+use native.Mathlib.Nat.{le-of-suc-le-suc, not-suc-le-zero, div-one, div-div-eq-div-mul, div-eq-of-lt, pow-succ', mod-eq-of-lt, one-mul}
 use native.Mathlib.Omega.{arith}
-use lib.Dec.{eqb, eqb·zero-suc, eqb·suc-zero, eqb·suc-suc, lit<}
+use lib.Dec.{eqb, ltb, eqb·zero-suc, eqb·suc-zero, eqb·suc-suc, leb·suc-suc, lit<}
 use lib.Bits.{bitAnd, bitOr, and-mask, and-step, or-step, or-zero-r}
 use lib.Count.{ones, ones-step}
 use lib.Pow.{pow-pos, pow-lt}
-use Rattle.laws.specs.Below.{naturals, sum, only, count}
+use borrow.Author.Tests.{eqb-true, not-true, not-false, lt-ltb, le-ltb}
+use Rattle.laws.specs.Below.{naturals, sum, only, count, all}
 use Rattle.laws.specs.Masks.{bit, maskOf, without}
-use Rattle.laws.proofs.Bools.{and-false, and-one, or-false}
-use Rattle.laws.proofs.Below.{only-le, count-first}
+use Rattle.laws.proofs.Bools.{split, and-false, and-one, and-assoc, or-false}
+use Rattle.laws.proofs.Below.{only-le, count-first, all-at, all-cong, all-find}
 
 abbrev one : Bool → ℕ
 one b = only naturals b 1
@@ -167,6 +168,98 @@ pub mask-without : (a : ℕ) (f : ℕ → Bool) → a < 16 → without a (maskOf
 unfolding without
 mask-without a f l = mask-clear 16 a f l
 
+-- Numbers from n on are left out.
+pub mask-below : (n m : ℕ) (f : ℕ → Bool) → n ≤ m → maskOf m (λ b. ltb b n && f b) ≡ maskOf n f
+unfolding maskOf
+mask-below zero m f l = mask-cong m _ (λ b. false) (λ b q. rw (le-ltb b 0 zero-le)) ∙ mask-none m
+mask-below (suc n) zero f l = absurd (not-suc-le-zero l)
+mask-below (suc n) (suc m) f l =
+    ap₂ (λ (x y : ℕ). x + 2 * y)
+    (ap (λ (t : Bool). one (t && f 0)) (lt-ltb 0 (suc n) (suc-le-suc zero-le)))
+    (mask-cong m _ (λ b. ltb b n && f (suc b)) (λ b q. ap (λ (t : Bool). t && f (suc b)) (leb·suc-suc (suc b) n)) ∙ mask-below n m (λ b. f (suc b)) (le-of-suc-le-suc l))
+
+-- The bits below n of a word without one of them.
+pub below-without : (n a : ℕ) (f : ℕ → Bool) → n ≤ 16 → a < 16 → without a (maskOf n f) ≡ maskOf n (λ b. f b && not (eqb a b))
+below-without n a f l h =
+    ap (without a) (sym (mask-below n 16 f l))
+    ∙ mask-without a (λ b. ltb b n && f b) h
+    ∙ mask-cong 16 _ (λ b. ltb b n && (f b && not (eqb a b))) (λ b q. and-assoc (ltb b n) (f b) (not (eqb a b)))
+    ∙ mask-below n 16 (λ b. f b && not (eqb a b)) l
+
 -- The ones of a 16-bit mask without its bit a.
 pub ones-without : (a : ℕ) (f : ℕ → Bool) → a < 16 → ones (without a (maskOf 16 f)) ≡ count 16 (λ b. f b && not (eqb a b))
 ones-without a f l = ap ones (mask-without a f l) ∙ ones-mask 16 (λ b. f b && not (eqb a b))
+
+-- The bits that a mask lacks: !w in n bits.
+one-not : (b : Bool) → one (not b) + one b ≡ 1
+unfolding only naturals
+one-not true = refl
+one-not false = refl
+
+pub mask-not : (n : ℕ) (f : ℕ → Bool) → (2 ^ n - 1) - maskOf n f ≡ maskOf n (λ b. not (f b))
+unfolding maskOf
+mask-not zero f = omega arith
+mask-not (suc n) f = omega (arith, pow-succ' 2 n, pow-pos n, mask-lt n (λ b. f (suc b)), mask-not n (λ b. f (suc b)), one-not (f 0))
+
+-- The bits that two masks have in common.
+one-and : (b c : Bool) → min (one b) (one c) ≡ one (b && c)
+unfolding only naturals
+one-and true true = refl
+one-and true false = refl
+one-and false c = omega arith
+
+pub mask-and : (n : ℕ) (f g : ℕ → Bool) → bitAnd (maskOf n f) (maskOf n g) ≡ maskOf n (λ b. f b && g b)
+unfolding maskOf
+mask-and zero f g = refl
+mask-and (suc n) f g =
+    and-step (maskOf (suc n) f) (maskOf (suc n) g)
+    ∙ ap₂ (λ (x y : ℕ). x * 2 + y)
+    (ap₂ bitAnd (high-bits n f) (high-bits n g) ∙ mask-and n (λ b. f (suc b)) (λ b. g (suc b)))
+    (ap₂ min (low-bit n f) (low-bit n g) ∙ one-and (f 0) (g 0))
+    ∙ omega arith
+
+-- The bits of two masks together.
+one-or : (b c : Bool) → max (one b) (one c) ≡ one (b || c)
+unfolding only naturals
+one-or true true = refl
+one-or true false = refl
+one-or false c = omega arith
+
+pub mask-join : (n : ℕ) (f g : ℕ → Bool) → bitOr (maskOf n f) (maskOf n g) ≡ maskOf n (λ b. f b || g b)
+unfolding maskOf
+mask-join zero f g = refl
+mask-join (suc n) f g =
+    or-step (maskOf (suc n) f) (maskOf (suc n) g)
+    ∙ ap₂ (λ (x y : ℕ). x * 2 + y)
+    (ap₂ bitOr (high-bits n f) (high-bits n g) ∙ mask-join n (λ b. f (suc b)) (λ b. g (suc b)))
+    (ap₂ max (low-bit n f) (low-bit n g) ∙ one-or (f 0) (g 0))
+    ∙ omega arith
+
+-- A mask is 0 where no bit of it is set.
+bit-none : (b : ℕ) → bit b 0 ≡ false
+unfolding bit
+bit-none b = ap (λ (x : ℕ). eqb (x % 2) 1) (div-eq-of-lt (pow-pos b))
+
+pub mask-empty : (n : ℕ) (f : ℕ → Bool) → eqb (maskOf n f) 0 ≡ all n (λ b. not (f b))
+mask-empty n f =
+    split (all n (λ b. not (f b)))
+    (λ e. rw e (ap (λ (x : ℕ). eqb x 0) (mask-cong n f (λ b. false) (λ b l. not-true (f b) (all-at n (λ b. not (f b)) b l e)) ∙ mask-none n)))
+    (λ e.
+    let (b, l, h) = all-find n (λ b. not (f b)) e in
+    rw e (split (eqb (maskOf n f) 0)
+    (λ z. absurd (false≢true (sym (bit-none b) ∙ ap (bit b) (sym (eqb-true (maskOf n f) 0 z)) ∙ bit-mask n b f l ∙ not-false (f b) h)))
+    (λ z. z)))
+
+not-and : (a b : Bool) → not (a && not b) ≡ (not a || b)
+not-and true true = refl
+not-and true false = refl
+not-and false b = refl
+
+-- Every bit of w is set in g: w & !g is 0.
+pub mask-covers : (n w g : ℕ) → w < 2 ^ n → g < 2 ^ n → eqb (bitAnd w ((2 ^ n - 1) - g)) 0 ≡ all n (λ b. not (bit b w) || bit b g)
+mask-covers n w g lw lg =
+    ap₂ (λ (x y : ℕ). eqb (bitAnd x ((2 ^ n - 1) - y)) 0) (sym (mask-bits n w lw)) (sym (mask-bits n g lg))
+    ∙ ap (λ (y : ℕ). eqb (bitAnd (maskOf n (λ b. bit b w)) y) 0) (mask-not n (λ b. bit b g))
+    ∙ ap (λ (x : ℕ). eqb x 0) (mask-and n (λ b. bit b w) (λ b. not (bit b g)))
+    ∙ mask-empty n (λ b. bit b w && not (bit b g))
+    ∙ all-cong n _ _ (λ b l. not-and (bit b w) (bit b g))

@@ -1,20 +1,41 @@
--- Entries linked by key, so that a walk over the entries of one key passes over the others: an offer by its owner, a grocer by its owner, a tally by its box.
+-- Entries linked by key, so that a walk over the entries of one key passes over the others: an offer by its owner, a grocer by its owner,
+-- a tally by its box and the owner of its offer.
 use mathlib.Core.Path.{_≡_}
 use mathlib.Core.List.{List}
-use Prim.Native.Nat.{ℕ, _+_, _≤_, _<_}
+use Prim.Native.Nat.{ℕ, _+_, _*_, _≤_, _<_}
 use lib.ListN.{length, getD}
 
 -- From place i on, place j below n is the first whose key is v; j is n where there is none.
-pub record Skips (n : ℕ) (keys : List ℕ) (v i j : ℕ) : Type 0 where
+pub record SkipsBy (n : ℕ) (key : ℕ → ℕ) (v i j : ℕ) : Type 0 where
   pub from : i ≤ j
   pub to : j ≤ n
-  pub none : (x : ℕ) → i ≤ x → x < j → getD keys x 0 ≡ v → ⊥
-  pub hits : j < n → getD keys j 0 ≡ v
+  pub none : (x : ℕ) → i ≤ x → x < j → key x ≡ v → ⊥
+  pub hits : j < n → key j ≡ v
 
--- In front stands the first place of each key from 0 to 16, and behind these 17 words for each place the next of the same key. Key 16 is nobody's.
-pub record Linked (n : ℕ) (keys links : List ℕ) : Type 0 where
-  pub begins : (v : ℕ) → v ≤ 16 → Skips n keys v 0 (getD links v 0)
-  pub goes : (i : ℕ) → i < n → Skips n keys (getD keys i 0) (i + 1) (getD links (17 + i) 0)
+-- In front stands the first place of each key below `heads`, and behind these words for each place the next of the same key.
+pub record LinkedBy (heads n : ℕ) (key : ℕ → ℕ) (links : List ℕ) : Type 0 where
+  pub begins : (v : ℕ) → v < heads → SkipsBy n key v 0 (getD links v 0)
+  pub goes : (i : ℕ) → i < n → SkipsBy n key (key i) (i + 1) (getD links (heads + i) 0)
+
+-- `SkipsBy` with the words of a table for keys.
+abbrev pub Skips : ℕ → List ℕ → ℕ → ℕ → ℕ → Type 0
+Skips n keys v i j = SkipsBy n (λ x. getD keys x 0) v i j
+
+-- `LinkedBy` with the words of a table for keys, 0 to 16.
+abbrev pub Linked : ℕ → List ℕ → List ℕ → Type 0
+Linked n keys links = LinkedBy 17 n (λ x. getD keys x 0) links
+
+-- The key of a pair of boxes, 0 to 16 and 0 to 15. A pair has it alone; from 256 on the first of the two is nobody.
+abbrev pub pairKey : ℕ → ℕ → ℕ
+pairKey a b = a * 16 + b
+
+-- The key of an entry that has a box, and a place in a table of owners: the pair of its box and the owner there.
+abbrev pub pairAt : List ℕ → List ℕ → List ℕ → ℕ → ℕ
+pairAt boxes places owners i = pairKey (getD boxes i 0) (getD owners (getD places i 0) 0)
+
+-- Entries linked by these keys, 0 to 271.
+abbrev pub LinkedPairs : ℕ → List ℕ → List ℕ → List ℕ → List ℕ → Type 0
+LinkedPairs n boxes places owners links = LinkedBy 272 n (pairAt boxes places owners) links
 
 -- What linking requires: at most 1,000 places, tables as long as they need, and keys up to 16.
 pub record Keyed (n : ℕ) (keys links : List ℕ) : Type 0 where
@@ -22,3 +43,13 @@ pub record Keyed (n : ℕ) (keys links : List ℕ) : Type 0 where
   pub keys-long : n ≤ length keys
   pub links-long : 17 + n ≤ length links
   pub key-in : (i : ℕ) → i < n → getD keys i 0 ≤ 16
+
+-- What linking by pairs requires, likewise: boxes up to 16, places inside the table of owners, and owners below 16.
+pub record PairsKeyed (n : ℕ) (boxes places owners links : List ℕ) : Type 0 where
+  pub few : n ≤ 1_000
+  pub boxes-long : n ≤ length boxes
+  pub places-long : n ≤ length places
+  pub links-long : 272 + n ≤ length links
+  pub box-in : (i : ℕ) → i < n → getD boxes i 0 ≤ 16
+  pub place-in : (i : ℕ) → i < n → getD places i 0 < length owners
+  pub owner-in : (i : ℕ) → i < n → getD owners (getD places i 0) 0 < 16

@@ -1,20 +1,33 @@
 // Entries linked by key.
 ghost use mathlib.Core.Path.{_≡_};
-ghost use Prim.Native.Nat.{ℕ, _≤_, _<_};
-ghost use lib.ListN.{length, getD};
-ghost use Rattle.links.specs.Links.{Keyed, Linked};
+ghost use Prim.Native.Nat.{ℕ, _+_, _≤_, _<_};
+ghost use lib.ListN.{length, getD, set};
+ghost use Rattle.links.specs.Links.{pairKey, Keyed, Linked, PairsKeyed, LinkedPairs};
 
 // Keys are 0 to 16, and their first places stand in front of the links.
 pub const HEADS: usize = 17;
 
+// Keys of pairs are 0 to 271, likewise.
+pub const PAIR_HEADS: usize = 272;
+
 // No key has a place yet: each first place is the end.
-fn no_places(end: u16, links: &mut [u16])
-    requires { ⌜ 17 ≤ length (now links) ⌝ }
-    ensures { λ _. ⌜ ((v : ℕ) → v < 17 → getD (now (links .exit)) v 0 ≡ end) ⌝ }
+fn no_places(heads: usize, end: u16, links: &mut [u16])
+    requires { ⌜ heads ≤ length (now links) ⌝ }
+    ensures { λ _. ⌜ ((v : ℕ) → v < heads → getD (now (links .exit)) v 0 ≡ end) ⌝ }
 {
-    for v in 0..HEADS {
+    for v in 0..heads {
         links[v] = end;
     }
+}
+
+// Entry i goes in front of those of its key v.
+fn put_first(heads: usize, v: usize, i: usize, links: &mut [u16])
+    requires { ⌜ (v < heads) × (heads ≤ 272) × (i < 1_000) × (heads + i < length (now links)) ⌝ }
+    ensures { λ _. ⌜ now (links .exit) ≡ set (set (now (links .entry)) (heads + i) (getD (now (links .entry)) v 0)) v i ⌝ }
+{
+    let j = links[v];
+    links[heads + i] = j;
+    links[v] = i as u16;
 }
 
 // Links n entries, the last one first: each goes in front of those of its key.
@@ -22,13 +35,32 @@ pub fn link(n: usize, keys: &[u16], links: &mut [u16])
     requires { ⌜ Keyed n (now keys) (now links) ⌝ }
     ensures { λ _. ⌜ Linked n (now (keys .entry)) (now (links .exit)) ⌝ }
 {
-    no_places(n as u16, links);
+    no_places(HEADS, n as u16, links);
     let mut i = n;
     while i > 0 {
         i -= 1;
-        let v = keys[i] as usize;
-        let j = links[v];
-        links[HEADS + i] = j;
-        links[v] = i as u16;
+        put_first(HEADS, keys[i] as usize, i, links);
+    }
+}
+
+// The key of a pair of boxes.
+pub fn pair(a: u16, b: u16) -> usize
+    requires { ⌜ (a ≤ 16) × (b < 16) ⌝ }
+    ensures { λ r. ⌜ r ≡ pairKey a b ⌝ }
+{
+    a as usize * 16 + b as usize
+}
+
+// Links n entries by pairs, likewise: by the box of each, and the owner at its place.
+pub fn link_pairs(n: usize, boxes: &[u16], places: &[u16], owners: &[u16], links: &mut [u16])
+    requires { ⌜ PairsKeyed n (now boxes) (now places) (now owners) (now links) ⌝ }
+    ensures { λ _. ⌜ LinkedPairs n (now (boxes .entry)) (now (places .entry)) (now (owners .entry)) (now (links .exit)) ⌝ }
+{
+    no_places(PAIR_HEADS, n as u16, links);
+    let mut i = n;
+    while i > 0 {
+        i -= 1;
+        let o = places[i] as usize;
+        put_first(PAIR_HEADS, pair(boxes[i], owners[o]), i, links);
     }
 }

@@ -12,16 +12,18 @@ use Rattle.model.specs.Job.{heldBy, held, needs, shares, needWord, share
 use Rattle.model.specs.Tables.{countedOf, jobOf, stepsDone, marksOf, view, store, jobLengths, stateLengths, jobShort, bagsShort, stateShort, lentShort}
 use Rattle.model.specs.Run.{readySteps, readyCount, pick, picks, afterSteps, run, reported, runRefusals, runState, ran}
 use Rattle.model.specs.Ranges.{upTo, under, around, sizesInRange, jobWordsInRange, jobInRange, stateInRange}
-use Rattle.model.specs.Step.{isKind, boxesFit, stepRules, moved, refusals, stepRefusal, stepTables, freshTables, stepAnswer, stepped}
+use Rattle.model.specs.Step.{isKind, stepOf, boxesFit, stepRules, moved, refusals, stepRefusal, stepTables, freshTables, stepAnswer, stepped}
+use Rattle.model.specs.Requests.{lentJob, lentState, returned, answerTo, serve, serveAll, answersFrom, tablesAfter, answersIn}
+use Rattle.model.specs.Demand3.{wholeRequest}
 use Rattle.model.specs.Words.{over, ownerWords, messageCount, stepCount, messagesOf}
 use Rattle.model.specs.Boxes.{knows, priceOnWay, gone, arrived, partOf, paid, sentOf, stateByRules}
-use Rattle.model.specs.Steps.{doneBy, added, kindNumber, kindOf, mark, oneBox, fits, hasStep, multiplied, ready, permitted, fresh, products, received, effect, stepAt, listOf}
+use Rattle.model.specs.Steps.{doneBy, added, kindNumber, kindOf, mark, oneBox, fits, hasStep, allAdded, ready, permitted, fresh, products, received, effect, stepAt, listOf}
 use Rattle.model.specs.Cases.{Cases, Examples}
 
 pub cases : Cases
 unfolding loose sameBag superseded stands countedTwice countedOf bagsShort jobOf stepsDone marksOf view store word cell recell overwrite tabulate jobShort stateShort jobLengths stateLengths
     lentShort jobInRange sizesInRange jobWordsInRange stateInRange upTo under around firstMet refusals stepRules stepRefusal stepTables moved isKind boxesFit oneBox stepAnswer stepped
-    freshTables fresh effect products received kindNumber kindOf mark fits hasStep multiplied ready permitted heldBy held needs shares needWord sharerWord priceWord totalWord pricesDue
+    freshTables fresh effect products received kindNumber kindOf mark fits hasStep allAdded added ready permitted heldBy held needs shares needWord sharerWord priceWord totalWord pricesDue
     totalsDue amount plainSum maskOf without sum only naturals integers any all count find ownerWords messageCount stepCount over messagesOf run runState afterSteps picks pick stepAt listOf
     readySteps readyCount ran runRefusals reported ascending chained localOffers localGrocers ofOffer start starts priceTable totalTable reconciled deskAnswer deskRefusals recordsInRange
     recordInRange recordIn countedRecords standingRecords serialAmount ones lib.Count.onesIn
@@ -44,9 +46,10 @@ cases = record {
 }
 
 pub examples : Examples
-unfolding loose sameBag superseded stands countedTwice countedOf bagsShort doneBy stateByRules knows priceOnWay gone arrived partOf paid sentOf added jobOf stepsDone marksOf view store word
+unfolding wholeRequest stepOf tablesAfter answersIn serveAll answersFrom answerTo serve returned lentJob lentState
+    loose sameBag superseded stands countedTwice countedOf bagsShort doneBy stateByRules knows priceOnWay gone arrived partOf paid sentOf jobOf stepsDone marksOf view store word
     cell recell overwrite tabulate jobShort stateShort jobLengths stateLengths lentShort jobInRange sizesInRange jobWordsInRange stateInRange upTo under around firstMet refusals stepRules
-    stepRefusal stepTables moved isKind boxesFit oneBox stepAnswer stepped freshTables fresh effect products received kindNumber kindOf mark fits hasStep multiplied ready permitted heldBy
+    stepRefusal stepTables moved isKind boxesFit oneBox stepAnswer stepped freshTables fresh effect products received kindNumber kindOf mark fits hasStep allAdded added ready permitted heldBy
     held needs shares needWord sharerWord priceWord totalWord pricesDue totalsDue amount plainSum maskOf without sum only naturals integers any all count find ownerWords messageCount
     stepCount over messagesOf run runState afterSteps picks pick stepAt listOf readySteps readyCount ran runRefusals reported ascending chained localOffers localGrocers ofOffer start starts
     localGrocer packed packedGrocers packedCounts priceTable totalTable reconciled deskAnswer deskRefusals recordsInRange recordInRange recordIn countedRecords standingRecords serialAmount ones lib.Count.onesIn
@@ -119,4 +122,22 @@ examples = record {
   superseded-21 = refl;
   desk-recount = refl;
   desk-9 = refl;
+  early-waits = refl;
+  early-sent = refl;
+  early-answers = refl;
+  early-leaves = refl;
+  own-waits = refl;
+  own-added = refl;
+  own-answers = refl;
+  own-leaves = refl;
+  both-wait = refl;
+  from-start = refl;
+  then-none = refl;
+  own-offer = refl;
+  not-for-others = refl;
+  not-for-own = refl;
+  superseded-passed = refl;
+  standing-waits = refl;
+  superseded-own = refl;
+  standing-own = refl;
 }

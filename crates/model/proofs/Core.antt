@@ -105,7 +105,7 @@ module _ (j : Job) (r : InRange j) (d : Steps) (c : Closed j d) where
       state-eq (effect j (stateByRules j d) sendTotals a b) (stateByRules j (mark d sendTotals a b))
       (λ x o. refl) (λ x o. refl)
       (W.send-working j r d c a b (p .fresh-one))
-      (λ x g. W.send-transit j r d c a b (p .fresh-one) x g (λ _. leaves j r d a g (p .is-ready)) (not-yet sendTotals a b receiveTotals b a (p .fresh-one) (λ q. q)))
+      (λ x g. W.send-transit j r d c a b (p .fresh-one) x g (λ o. leaves j d a b g o (p .is-ready)) (not-yet sendTotals a b receiveTotals b a (p .fresh-one) (λ q. q)))
       (λ g. refl) refl
       (S.sent-totals j d a b (first< j sendTotals a b (p .has)) (second< j sendTotals a b (p .has)) (p .fresh-one))
   step-form addOwn a b p =
@@ -114,7 +114,7 @@ module _ (j : Job) (r : InRange j) (d : Steps) (c : Closed j d) where
       (λ x o. refl) (λ x o. refl)
       (λ x g. W.add-working j r d a h g x)
       (λ x g. W.add-transit j r d a h g x)
-      (λ g. W.add-statement j r d a h g (λ _. leaves j r d a g (p .is-ready)) (first< j addOwn a b (p .has)))
+      (λ g. W.add-statement j r d a h g (λ o. leaves j d a a g o (p .is-ready)) (first< j addOwn a b (p .has)))
       refl refl)
       (p .fresh-one)
   step-form receiveTotals a b p =

@@ -8,7 +8,7 @@ use Rattle.laws.proofs.Bools.{and-false}
 use Rattle.laws.proofs.Tables.{pos-right}
 use Rattle.model.specs.Job.{Job}
 use Rattle.model.specs.Run.{listed}
-use Rattle.model.specs.Steps.{Kind, kindNumber, kindOf, Steps, mark, hasStep, multiplied, ready, permitted, sendPrices, multiplyOwn, receivePrices, sendTotals, addOwn, receiveTotals, stepAt, places}
+use Rattle.model.specs.Steps.{Kind, kindNumber, kindOf, Steps, mark, hasStep, added, allAdded, ready, permitted, sendPrices, multiplyOwn, receivePrices, sendTotals, addOwn, receiveTotals, stepAt, places}
 pub use Rattle.model.proofs.Machine.{number-place}
 use Rattle.model.proofs.Reach.{mark-more, mark-it}
 
@@ -19,7 +19,7 @@ number-kind (suc n) h l = number-place n (omega arith)
 
 -- A mark of a kind makes no step of the same or an earlier kind ready.
 pub ready-earlier : (j : Job) (d : Steps) (k : Kind) (a b : ℕ) (k′ : Kind) (a′ b′ : ℕ) → kindNumber k′ ≤ kindNumber k → ready j (mark d k a b) k′ a′ b′ ≡ ready j d k′ a′ b′
-unfolding ready multiplied mark kindNumber
+unfolding ready allAdded added mark kindNumber
 ready-earlier j d k a b sendPrices a′ b′ h = refl
 ready-earlier j d k a b multiplyOwn a′ b′ h = refl
 ready-earlier j d sendPrices a b receivePrices a′ b′ h = absurd (omega arith)

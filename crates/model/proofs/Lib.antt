@@ -24,6 +24,7 @@ pub mod Refusal
 pub mod Step
 pub mod Lent
 pub mod Standing
+pub mod Early
 pub mod Handed
 pub mod Desk
 pub mod Served

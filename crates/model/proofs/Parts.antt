@@ -1,17 +1,16 @@
--- Part totals of the closed form: what a box that has multiplied holds, and how multiplying adds to them. Assumes nothing.
-use mathlib.Core.Path.{_≡_, _∙_}
+-- Part totals of the closed form: what a box holds of the tallies that are added, and how multiplying adds to them. Assumes nothing.
+use mathlib.Core.Path.{_≡_, _∙_, refl}
 use mathlib.Core.Bool.{Bool, true, false, _&&_, _||_, not}
 use Prim.Native.Nat.{ℕ, _<_}
 use lib.Dec.{eqb}
 use lib.IntN.{pos, _+ℤ_}
-use borrow.Author.Tests.{eqb-true, lt-ltb}
+use borrow.Author.Tests.{eqb-true}
 use Rattle.laws.specs.Below.{integers, only}
 use Rattle.laws.proofs.Bools.{split, and-true, and-l, and-r, and-false, eqb-same}
 use Rattle.laws.proofs.Below.{any-at, all-at, any-none}
 use Rattle.laws.proofs.Sums.{sum-cong, sum-none, sum-plus}
-use Rattle.model.specs.Job.{heldBy, Job, needs, shares, priceWord, pricesDue, amount}
-use Rattle.model.specs.Steps.{multiplyOwn, receivePrices, sendTotals, addOwn, Steps, fits, hasStep, added, multiplied, ready, products}
-use Rattle.model.proofs.Range.{InRange, held-box, held-lt}
+use Rattle.model.specs.Job.{heldBy, Job, needs, shares, priceWord, amount}
+use Rattle.model.specs.Steps.{sendTotals, addOwn, Steps, added, allAdded, ready, products}
 use Rattle.model.specs.Boxes.{gone, partOf, Closed}
 
 module _ (j : Job) where
@@ -84,38 +83,16 @@ module _ (j : Job) where
   unfolding AllAdded
   part-full d b g f = part-same (added j d) (λ t. true) b g f
 
-  module _ (r : InRange j) (d : Steps) where
-    -- A box that has multiplied has added each of its tallies.
-    pub multiplied-added : (t : ℕ) → t < j .tallies → heldBy j t (j .tallyBox t) ≡ true → multiplied j d (j .tallyBox t) ≡ true → added j d t ≡ true
-    unfolding multiplied added hasStep fits pricesDue
-    multiplied-added t l y h =
-        split (eqb (j .offerOwner (j .tallyOffer t)) (j .tallyBox t))
-        (λ e. rw e (and-l (d multiplyOwn (j .tallyBox t) (j .tallyBox t)) _ h))
-        (λ e. rw e (rw (due e) at
-        (all-at (j .boxes) (λ c. not (hasStep j receivePrices (j .tallyBox t) c) || d receivePrices (j .tallyBox t) c) from here
-        (and-r (d multiplyOwn (j .tallyBox t) (j .tallyBox t)) _ h))))
-      where
-        from : ℕ
-        from = j .offerOwner (j .tallyOffer t)
-
-        here : from < j .boxes
-        here = r .owner< (j .tallyOffer t) (r .offer< t l)
-
-        due : eqb from (j .tallyBox t) ≡ false → hasStep j receivePrices (j .tallyBox t) from ≡ true
-        due e =
-            and-true (lt-ltb (j .tallyBox t) (j .boxes) (held-lt j t (j .tallyBox t) y))
-            (and-true (lt-ltb from (j .boxes) here)
-            (any-at (j .offers) (priceWord j from (j .tallyBox t)) (j .tallyOffer t) (r .offer< t l) (word-at t (j .tallyBox t) l y e)))
-
-    -- The rule of steps 4 and 5: what it lets go is added. The only place that reads the rule.
-    pub leaves : (b g : ℕ) → multiplied j d b ≡ true → AllAdded d b g
-    unfolding AllAdded
-    leaves b g h t l e _ = multiplied-added t l (rw (held-box j t b e) e) (rw (held-box j t b e) h)
+  -- The rule of steps 4 and 5: what it lets go is added. The only place that reads the rule.
+  pub leaves : (d : Steps) (a b g : ℕ) → j .grocerOwner g ≡ b → allAdded j d a b ≡ true → AllAdded d a g
+  unfolding AllAdded allAdded
+  leaves d a b g o h t l e q =
+      rw (e, q, o, eqb-same b) at (all-at (j .tallies) (λ t. not (heldBy j t a && eqb (j .grocerOwner (j .tallyGrocer t)) b) || added j d t) t l h)
 
   -- What is gone was added.
-  pub gone-added : InRange j → (d : Steps) → Closed j d → (b g : ℕ) → gone j d b g ≡ true → AllAdded d b g
+  pub gone-added : (d : Steps) → Closed j d → (b g : ℕ) → gone j d b g ≡ true → AllAdded d b g
   unfolding gone ready
-  gone-added r d c b g =
+  gone-added d c b g =
       split (eqb (j .grocerOwner g) b)
-      (λ e h. leaves r d b g (c .inOrder addOwn b b (rw e at h)))
-      (λ e h. leaves r d b g (c .inOrder sendTotals b (j .grocerOwner g) (rw e at h)))
+      (λ e h. leaves d b b g (eqb-true (j .grocerOwner g) b e) (c .inOrder addOwn b b (rw e at h)))
+      (λ e h. leaves d b (j .grocerOwner g) g refl (c .inOrder sendTotals b (j .grocerOwner g) (rw e at h)))

@@ -1,15 +1,18 @@
 -- Until all steps are done, some step is permitted. Assumes nothing.
-use mathlib.Core.Path.{_≡_, refl, sym, _∙_}
-use mathlib.Core.Bool.{true, false, _||_, not, false≢true}
-use Prim.Native.Nat.{ℕ}
-use lib.Dec.{ltb}
-use Rattle.laws.proofs.Bools.{split, and-l, and-swap, eqb-same}
-use Rattle.laws.proofs.Below.{all-find}
-use Rattle.model.specs.Job.{Job, pricesDue, totalsDue}
-use Rattle.model.specs.Steps.{Kind, sendPrices, multiplyOwn, receivePrices, sendTotals, addOwn, receiveTotals, Steps, fits, hasStep, multiplied, ready, permitted}
+use mathlib.Core.Path.{_≡_, refl, _∙_}
+use mathlib.Core.Bool.{true, false, _&&_, _||_, not}
+use Prim.Native.Nat.{ℕ, _<_}
+use lib.Dec.{eqb, ltb}
+use borrow.Author.Tests.{lt-ltb, not-false}
+use Rattle.laws.proofs.Bools.{split, and-l, and-swap, eqb-same, and-true, or-off}
+use Rattle.laws.proofs.Below.{all-find, any-at}
+use Rattle.model.specs.Job.{Job, pricesDue, totalsDue, heldBy, priceWord}
+use Rattle.model.specs.Steps.{Kind, sendPrices, multiplyOwn, receivePrices, sendTotals, addOwn, receiveTotals, Steps, fits, hasStep, ready, permitted, added, allAdded}
 use Rattle.model.specs.Demand3.{SomeStep}
+use Rattle.model.proofs.Parts.{word-at}
+use Rattle.model.proofs.Range.{InRange, held-box, held-lt}
 
-module _ (j : Job) (d : Steps) where
+module _ (j : Job) (r : InRange j) (d : Steps) where
   -- Step found: it is permitted.
   permits : (k : Kind) (a b : ℕ) → hasStep j k a b ≡ true → d k a b ≡ false → ready j d k a b ≡ true → SomeStep (permitted j d)
   unfolding permitted
@@ -31,33 +34,41 @@ module _ (j : Job) (d : Steps) where
       (λ e. permits receivePrices a b h n e)
       (λ e. permits sendPrices b a (receive-turn a b h) e refl)
 
-  -- A box that has not multiplied has a step to do first.
-  unmultiplied : (a : ℕ) → ltb a (j .boxes) ≡ true → multiplied j d a ≡ false → SomeStep (permitted j d)
-  unfolding multiplied ready hasStep fits
-  unmultiplied a l h =
-      split (d multiplyOwn a a)
-      (λ e.
-      let (b, m, f) = all-find (j .boxes) (λ c. not (hasStep j receivePrices a c) || d receivePrices a c) (rw e at h) in
-      split (hasStep j receivePrices a b)
-      (λ y. receipt a b y (rw y at f))
-      (λ y. absurd (false≢true (sym (rw y at f)))))
-      (λ e. permits multiplyOwn a a (simp (l, eqb-same)) e refl)
+  -- A tally of box a that is not added: the step that adds it, or the one before that, is permitted.
+  unadded : (a t : ℕ) → t < j .tallies → heldBy j t a ≡ true → added j d t ≡ false → SomeStep (permitted j d)
+  unfolding added ready hasStep fits pricesDue
+  unadded a t l y =
+      let box : j .tallyBox t ≡ a = held-box j t a y in
+      let la : ltb a (j .boxes) ≡ true = lt-ltb a (j .boxes) (held-lt j t a y) in
+      rw box (split (eqb (j .offerOwner (j .tallyOffer t)) a)
+      (λ e n. permits multiplyOwn a a (simp (la, eqb-same)) (rw e at n) refl)
+      (λ e n. receipt a (j .offerOwner (j .tallyOffer t)) (due la e) (rw e at n)))
+    where
+      due : ltb a (j .boxes) ≡ true → eqb (j .offerOwner (j .tallyOffer t)) a ≡ false → hasStep j receivePrices a (j .offerOwner (j .tallyOffer t)) ≡ true
+      due la e =
+          and-true la
+          (and-true (lt-ltb (j .offerOwner (j .tallyOffer t)) (j .boxes) (r .owner< (j .tallyOffer t) (r .offer< t l)))
+          (any-at (j .offers) (priceWord j (j .offerOwner (j .tallyOffer t)) a) (j .tallyOffer t) (r .offer< t l) (word-at j t a l y e)))
 
-  after-multiply : (k : Kind) (a b : ℕ) → hasStep j k a b ≡ true → d k a b ≡ false → (ready j d k a b ≡ multiplied j d a) → SomeStep (permitted j d)
-  unfolding hasStep
-  after-multiply k a b h n y =
-      split (multiplied j d a)
+  -- A step that waits for the tallies of box c's grocers: it, or the step that adds one of them, or the one before that, is permitted.
+  after-added : (k : Kind) (a b c : ℕ) → hasStep j k a b ≡ true → d k a b ≡ false → (ready j d k a b ≡ allAdded j d a c) → SomeStep (permitted j d)
+  unfolding allAdded
+  after-added k a b c h n y =
+      split (allAdded j d a c)
       (λ e. permits k a b h n (y ∙ e))
-      (λ e. unmultiplied a (and-l (ltb a (j .boxes)) _ h) e)
+      (λ e.
+      let (t, l, f) = all-find (j .tallies) (λ t. not (heldBy j t a && eqb (j .grocerOwner (j .tallyGrocer t)) c) || added j d t) e in
+      let (u, v) = or-off (not (heldBy j t a && eqb (j .grocerOwner (j .tallyGrocer t)) c)) (added j d t) f in
+      unadded a t l (and-l (heldBy j t a) _ (not-false (heldBy j t a && eqb (j .grocerOwner (j .tallyGrocer t)) c) u)) v)
 
   pub progress : (k : Kind) (a b : ℕ) → hasStep j k a b ≡ true → d k a b ≡ false → SomeStep (permitted j d)
   unfolding ready
   progress sendPrices a b h n = permits sendPrices a b h n refl
   progress multiplyOwn a b h n = permits multiplyOwn a b h n refl
   progress receivePrices a b h n = receipt a b h n
-  progress sendTotals a b h n = after-multiply sendTotals a b h n refl
-  progress addOwn a b h n = after-multiply addOwn a b h n refl
+  progress sendTotals a b h n = after-added sendTotals a b b h n refl
+  progress addOwn a b h n = after-added addOwn a b a h n refl
   progress receiveTotals a b h n =
       split (d sendTotals b a)
       (λ e. permits receiveTotals a b h n e)
-      (λ e. after-multiply sendTotals b a (totals-turn a b h) e refl)
+      (λ e. after-added sendTotals b a a (totals-turn a b h) e refl)

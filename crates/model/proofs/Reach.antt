@@ -1,12 +1,13 @@
 -- Every state that a list of requests leaves has the closed form. Assumes nothing.
 use mathlib.Core.Path.{_≡_, refl}
-use mathlib.Core.Bool.{true, false, _||_, not}
+use mathlib.Core.Bool.{true, false, _&&_, _||_, not}
 use mathlib.Core.List.{List, [], _∷_}
 use Prim.Native.Nat.{ℕ}
-use Rattle.laws.proofs.Bools.{split, and-true, and-l, and-r, or-more}
+use lib.Dec.{eqb}
+use Rattle.laws.proofs.Bools.{split, or-more}
 use Rattle.laws.proofs.Below.{all-at, all-of}
-use Rattle.model.specs.Job.{Job}
-use Rattle.model.specs.Steps.{Kind, sendPrices, multiplyOwn, receivePrices, sendTotals, addOwn, receiveTotals, Steps, mark, State, hasStep, multiplied, ready, fresh, effect, Step}
+use Rattle.model.specs.Job.{Job, heldBy}
+use Rattle.model.specs.Steps.{Kind, sendPrices, multiplyOwn, receivePrices, sendTotals, addOwn, receiveTotals, Steps, mark, State, hasStep, added, allAdded, ready, fresh, effect, Step}
 use Rattle.model.proofs.Range.{InRange}
 use Rattle.model.specs.Boxes.{stateByRules, Closed, Sound}
 use Rattle.model.proofs.Marks as M
@@ -22,23 +23,32 @@ module _ (d : Steps) (k : Kind) (a b : ℕ) where
   unfolding mark
   mark-it = M.mark-it kinds d k a b
 
--- More done makes no step unready.
+-- With more steps done
 module _ (j : Job) (d e : Steps) (more : (k : Kind) (a b : ℕ) → d k a b ≡ true → e k a b ≡ true) where
-  multiplied-more : (a : ℕ) → multiplied j d a ≡ true → multiplied j e a ≡ true
-  unfolding multiplied
-  multiplied-more a h =
-      and-true (more multiplyOwn a a (and-l (d multiplyOwn a a) _ h))
-      (all-of (j .boxes) (λ c. not (hasStep j receivePrices a c) || e receivePrices a c) (λ c l.
-      or-more (not (hasStep j receivePrices a c)) (d receivePrices a c) (e receivePrices a c) (more receivePrices a c)
-      (all-at (j .boxes) (λ c. not (hasStep j receivePrices a c) || d receivePrices a c) c l (and-r (d multiplyOwn a a) _ h))))
+  -- a tally stays added,
+  pub added-more : (t : ℕ) → added j d t ≡ true → added j e t ≡ true
+  unfolding added
+  added-more t =
+      split (eqb (j .offerOwner (j .tallyOffer t)) (j .tallyBox t))
+      (λ q. rw q (more multiplyOwn (j .tallyBox t) (j .tallyBox t)))
+      (λ q. rw q (more receivePrices (j .tallyBox t) (j .offerOwner (j .tallyOffer t))))
 
+  -- all tallies that box a holds of box b's grocers stay added,
+  pub allAdded-more : (a b : ℕ) → allAdded j d a b ≡ true → allAdded j e a b ≡ true
+  unfolding allAdded
+  allAdded-more a b h =
+      all-of (j .tallies) (λ t. not (heldBy j t a && eqb (j .grocerOwner (j .tallyGrocer t)) b) || added j e t) (λ t l.
+      or-more (not (heldBy j t a && eqb (j .grocerOwner (j .tallyGrocer t)) b)) (added j d t) (added j e t) (added-more t)
+      (all-at (j .tallies) (λ t. not (heldBy j t a && eqb (j .grocerOwner (j .tallyGrocer t)) b) || added j d t) t l h))
+
+  -- and no step becomes unready.
   pub ready-more : (k : Kind) (a b : ℕ) → ready j d k a b ≡ true → ready j e k a b ≡ true
   unfolding ready
   ready-more sendPrices a b h = refl
   ready-more multiplyOwn a b h = refl
   ready-more receivePrices a b h = more sendPrices b a h
-  ready-more sendTotals a b h = multiplied-more a h
-  ready-more addOwn a b h = multiplied-more a h
+  ready-more sendTotals a b h = allAdded-more a b h
+  ready-more addOwn a b h = allAdded-more a a h
   ready-more receiveTotals a b h = more sendTotals b a h
 
 -- The settlement's steps as a machine.

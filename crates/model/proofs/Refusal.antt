@@ -5,7 +5,7 @@ use Prim.Native.Nat.{ℕ, zero, suc}
 use native.Mathlib.Omega.{arith}
 use lib.Dec.{eqb, ltb}
 use borrow.Author.Tests.{eqb-true, ne-eqb}
-use Rattle.laws.proofs.Bools.{split, no-true, clash, eqb-same}
+use Rattle.laws.proofs.Bools.{split, and-l, and-r, no-true, clash, eqb-same}
 use Rattle.laws.proofs.Below.{any-find}
 use Rattle.laws.specs.Checks.{firstMet}
 use Rattle.model.specs.Job.{Job, priceWord, totalWord, pricesDue, totalsDue}
@@ -90,3 +90,16 @@ module _ (j : Job) where
       (fits j (kindOf (q .kind)) (q .first) (q .second)) (d (kindOf (q .kind)) (q .first) (q .second)) (ready j d (kindOf (q .kind)) (q .first) (q .second))
       ∙ ap (λ (t : Bool). isKind (q .kind) && (ltb (q .first) (j .boxes) && (ltb (q .second) (j .boxes) && t) &&
       (not (d (kindOf (q .kind)) (q .first) (q .second)) && ready j d (kindOf (q .kind)) (q .first) (q .second)))) (fits-boxes (kindOf (q .kind)) (q .first) (q .second))
+
+  -- A step that the job has and that is not done: 26 refuses it where it is not ready, and no other number.
+  pub rules-wait : (d : Steps) (q : Asked) → isKind (q .kind) ≡ true → hasStep j (kindOf (q .kind)) (q .first) (q .second) ≡ true → d (kindOf (q .kind)) (q .first) (q .second) ≡ false →
+      firstMet (stepRules j d q) ≡ cond (ready j d (kindOf (q .kind)) (q .first) (q .second)) 0 26
+  unfolding stepRules firstMet boxesFit hasStep
+  rules-wait d q i h n =
+      let k = kindOf (q .kind) in
+      let first = and-l (ltb (q .first) (j .boxes)) _ h in
+      let rest = and-r (ltb (q .first) (j .boxes)) _ h in
+      let second = and-l (ltb (q .second) (j .boxes)) _ rest in
+      let due = and-r (ltb (q .second) (j .boxes)) _ rest in
+      let boxes = and-l (cond (oneBox k) (eqb (q .first) (q .second)) (not (eqb (q .first) (q .second)))) _ (fits-boxes k (q .first) (q .second) ∙ due) in
+      rw (i, first, second, boxes, due, n) (split (ready j d k (q .first) (q .second)) (λ e. rw e) (λ e. rw e))

@@ -48,12 +48,12 @@ module _ (j : Job) (d : Steps) where
       row = omega (arith, la, mul-le-mul-right (j .boxes) (kind-six k))
 
   -- No step is ready: all are done.
-  none-ready : readyCount j d ≡ 0 → AllDone j d
+  none-ready : InRange j → readyCount j d ≡ 0 → AllDone j d
   unfolding AllDone
-  none-ready z k a b h =
+  none-ready r z k a b h =
       split (d k a b)
       (λ e. e)
-      (λ e. let x : SomeStep (permitted j d) = progress j d k a b h e in
+      (λ e. let x : SomeStep (permitted j d) = progress j r d k a b h e in
       let (i, l, f) = place (x .kind) (x .first) (x .second) (x .holds) in
       absurd (clash f (count-zero (places (j .boxes)) (listed j d) i l (sym (ready-count j d) ∙ z))))
 
@@ -114,7 +114,7 @@ module _ (j : Job) (r : InRange j) where
   picks-all zero s cs o h = all-of-size j (s .done) (o .closed) (omega (arith, size-le j (s .done) (hasStep j) (o .closed .steps)))
   picks-all (suc n) s cs o h =
       split (eqb (readyCount j (s .done)) 0)
-      (λ e. rw e (none-ready j (s .done) (eqb-true (readyCount j (s .done)) 0 e)))
+      (λ e. rw e (none-ready j (s .done) r (eqb-true (readyCount j (s .done)) 0 e)))
       (λ e. rw e (subst (λ (u : State). AllDone j (attemptAll j u (picks j n (effectOf j s (pick j (s .done) (getD cs 0 0))) (drop 1 cs)) .done)) (sym (pick-does j s (getD cs 0 0) e))
       (picks-all n (effectOf j s (pick j (s .done) (getD cs 0 0))) (drop 1 cs)
       (sound-does s (pick j (s .done) (getD cs 0 0)) o (pick-permitted j s (getD cs 0 0) e))

@@ -63,7 +63,7 @@ module _ (j : Job) (r : InRange j) (d : Steps) (c : Closed j d) where
   unfolding stateByRules paid only integers
   box-running b g =
       split (gone j d b g)
-      (λ e. simp (e, part-full j d b g (gone-added j r d c b g e)) (one-place (arrived j d b g) (partOf j (λ t. true) b g)))
+      (λ e. simp (e, part-full j d b g (gone-added j d c b g e)) (one-place (arrived j d b g) (partOf j (λ t. true) b g)))
       (λ e. simp (e, no-true (arrived j d b g) (λ q. clash (arrived-gone b g q) e), +ℤ-idr))
 
   pub running : (g : ℕ) → together j (stateByRules j d) g ≡ addedSum j d g

@@ -35,7 +35,7 @@ module _ (j : Job) (r : InRange j) (d : Steps) (c : Closed j d) (a : ℕ) (h : d
   unfolding AllAdded added
   multiply-none y =
       products-none j (stateByRules j d .known a) (λ o. eqb (j .offerOwner o) a) a g
-      (λ t l e f. no-true (eqb (j .offerOwner (j .tallyOffer t)) a) (λ q. clash (simp (held-box j t a e, q) at (gone-added j r d c a g y t l e f)) h))
+      (λ t l e f. no-true (eqb (j .offerOwner (j .tallyOffer t)) a) (λ q. clash (simp (held-box j t a e, q) at (gone-added j d c a g y t l e f)) h))
 
   multiply-kept : eqb x a ≡ false → partOf j (added j (mark d multiplyOwn a a)) x g ≡ partOf j (added j d) x g
   unfolding added mark
@@ -68,7 +68,7 @@ module _ (j : Job) (r : InRange j) (d : Steps) (c : Closed j d) (a b : ℕ) (sen
       (λ t l e f. no-true (priceWord j b a (j .tallyOffer t)) (λ q.
       let from : j .offerOwner (j .tallyOffer t) ≡ b = eqb-true (j .offerOwner (j .tallyOffer t)) b (and-l (eqb (j .offerOwner (j .tallyOffer t)) b) _ q) in
       let away : eqb (j .offerOwner (j .tallyOffer t)) a ≡ false = not-true (eqb (j .offerOwner (j .tallyOffer t)) a) (and-l (not (eqb (j .offerOwner (j .tallyOffer t)) a)) _ (and-r (eqb (j .offerOwner (j .tallyOffer t)) b) _ q)) in
-      clash (rw (held-box j t a e, away, from) at (gone-added j r d c a g y t l e f)) h))
+      clash (rw (held-box j t a e, away, from) at (gone-added j d c a g y t l e f)) h))
 
   receive-kept : eqb x a ≡ false → partOf j (added j (mark d receivePrices a b)) x g ≡ partOf j (added j d) x g
   unfolding added mark

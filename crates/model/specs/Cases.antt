@@ -1,6 +1,6 @@
 -- The ◆ cases of 01 that concern the settlement, in 01's order, and other small examples that say what the definitions mean.
 use mathlib.Core.Path.{_≡_}
-use mathlib.Core.List.{List, [], _∷_}
+use mathlib.Core.List.{List, [], _∷_, map}
 use mathlib.Core.Bool.{cond}
 use Prim.Native.Nat.{ℕ}
 use lib.Dec.{eqb}
@@ -8,11 +8,13 @@ use lib.IntN.{ℤ, pos, negsuc}
 use lib.ListN.{getD}
 use Rattle.laws.specs.Tables.{tabulate}
 use Rattle.model.specs.Job.{needWord, plainSum}
-use Rattle.model.specs.Steps.{Kind, sendPrices, multiplyOwn, Step, Steps, doneBy}
+use Rattle.model.specs.Steps.{Kind, sendPrices, multiplyOwn, addOwn, Step, Steps, doneBy}
 use Rattle.model.specs.Boxes.{stateByRules}
 use Rattle.model.specs.Words.{ownerWords, messageCount, stepCount}
 use Rattle.model.specs.Tables.{JobTables, StateTables, bagTables, stateTables, jobOf}
-use Rattle.model.specs.Step.{asked, accepted, refused, stepped, freshTables}
+use Rattle.model.specs.Step.{Asked, asked, stepOf, StepAnswer, accepted, refused, stepped, freshTables}
+use Rattle.model.specs.Requests.{Request, tablesAfter, answersIn}
+use Rattle.model.specs.Demand3.{wholeRequest}
 use Rattle.model.specs.Run.{readySteps, pick, runState, finished, refused as notRun, ran}
 use Rattle.model.specs.Local.{localOffers, localGrocers, starts, packed, packedGrocers, packedCounts, priceTable, totalTable}
 use Rattle.model.specs.Reconcile.{TallyRecord, owed, refused as notOwed, reconciled}
@@ -120,6 +122,44 @@ lowTwice = recounted 3 (0 ∷ 0 ∷ 1 ∷ []) (pos 5 ∷ pos 5 ∷ pos 4 ∷ [])
 abbrev pub bagRecord : ℕ → ℕ → ℤ → ℕ → ℕ → TallyRecord
 bagRecord g b count bag revision = record { grocer = g; tallyBox = b; place = 0; count = count; bag = bag; revision = revision }
 
+-- Requests for steps, one after the other, that lend of each table what it needs.
+abbrev pub inTurn : JobTables → List Asked → List Request
+inTurn f qs = map (λ q. wholeRequest f (stepOf q)) qs
+
+-- The answers to them, from a fresh state on.
+abbrev pub answersInTurn : JobTables → List Asked → List StepAnswer
+answersInTurn f qs = answersIn f empty (inTurn f qs)
+
+-- The state's tables that they leave.
+abbrev pub tablesInTurn : JobTables → List Asked → StateTables
+tablesInTurn f qs = tablesAfter f empty (inTurn f qs)
+
+-- All steps of E, in an order in which box 0 sends its totals before it knows a price of box 1's.
+abbrev pub earlyTotals : List Asked
+earlyTotals =
+    asked 2 0 0 ∷ asked 4 0 1 ∷ asked 6 1 0 ∷ asked 1 1 0 ∷ asked 3 0 1
+    ∷ asked 5 0 0 ∷ asked 1 0 1 ∷ asked 2 1 1 ∷ asked 3 1 0 ∷ asked 5 1 1 ∷ []
+
+-- All steps of E, in an order in which box 0 adds its own totals before it has multiplied its own.
+abbrev pub earlyOwn : List Asked
+earlyOwn =
+    asked 1 1 0 ∷ asked 3 0 1 ∷ asked 5 0 0 ∷ asked 2 0 0 ∷ asked 4 0 1
+    ∷ asked 1 0 1 ∷ asked 2 1 1 ∷ asked 3 1 0 ∷ asked 5 1 1 ∷ asked 6 1 0 ∷ []
+
+-- K 1, and no tally.
+abbrev pub noTallies : JobTables
+noTallies = looseTables 1 1 1 0 (10 ∷ []) (0 ∷ []) (0 ∷ []) [] [] [] []
+
+-- Box 0 holds a tally of box 1's grocer and its own offer, and one of box 2's grocer and offer.
+abbrev pub twoWays : JobTables
+twoWays = looseTables 3 2 2 2 (10 ∷ 20 ∷ []) (0 ∷ 2 ∷ []) (1 ∷ 2 ∷ []) (0 ∷ 1 ∷ []) (0 ∷ 0 ∷ []) (0 ∷ 1 ∷ []) (pos 3 ∷ pos 4 ∷ [])
+
+-- Box 0 holds two counts of box 1's grocer: of its own offer, and in a bag of box 1's offer. Box 1 counts a bag of this offer as revision 1.
+abbrev pub bagMoved : (first second : ℕ) → JobTables
+bagMoved x y =
+    bagTables 2 1 2 3 (10 ∷ 20 ∷ []) (0 ∷ 1 ∷ []) (1 ∷ []) (0 ∷ 0 ∷ 0 ∷ []) (0 ∷ 0 ∷ 1 ∷ []) (0 ∷ 1 ∷ 1 ∷ [])
+    (pos 3 ∷ pos 5 ∷ pos 4 ∷ []) (0 ∷ x ∷ y ∷ []) (0 ∷ 0 ∷ 1 ∷ [])
+
 -- Small examples that say what the definitions mean.
 pub record Examples : Type 0 where
   -- The owner is not among the needs: bits 1 and 2, two price words; two totals; a tally of count 0 is one like any other.
@@ -211,3 +251,32 @@ pub record Examples : Type 0 where
   -- The desk: the higher revision stands; one bag of two grocers is two; the same twice, of a grocer not wanted, is 9.
   pub desk-recount : reconciled 2 1 0 (10 ∷ []) (bagRecord 0 0 (pos 5) 7 1 ∷ bagRecord 0 15 (pos 4) 7 0 ∷ bagRecord 1 0 (pos 3) 7 2 ∷ []) ≡ owed (pos 50)
   pub desk-9 : reconciled 2 1 0 (10 ∷ []) (bagRecord 1 0 (pos 5) 7 1 ∷ bagRecord 0 0 (pos 4) 7 1 ∷ bagRecord 1 3 (pos 3) 7 1 ∷ []) ≡ notOwed 9
+  -- Totals that leave early. E: box 0 may send totals to box 1 once it has multiplied its own, and not before;
+  pub early-waits : answersInTurn jobE (asked 4 0 1 ∷ asked 2 0 0 ∷ asked 4 0 1 ∷ []) ≡ refused 26 ∷ accepted ∷ accepted ∷ []
+  -- 3 × 500 is then on its way. A list that does so does all steps and ends with the same statements.
+  pub early-sent : tablesInTurn jobE (asked 2 0 0 ∷ asked 4 0 1 ∷ []) .totalTransit ≡ pos 1500 ∷ pos 0 ∷ pos 0 ∷ pos 0 ∷ []
+  pub early-answers : answersInTurn jobE earlyTotals ≡ map (λ q. accepted) earlyTotals
+  pub early-leaves : tablesInTurn jobE earlyTotals .statement ≡ pos 2250 ∷ pos 2500 ∷ []
+  -- Box 0 may add its own totals once the price of box 1's offer is in, before it multiplies its own: the statement is whole. 2 alone is not enough.
+  pub own-waits : answersInTurn jobE (asked 2 0 0 ∷ asked 5 0 0 ∷ []) ≡ accepted ∷ refused 26 ∷ []
+  pub own-added : tablesInTurn jobE (asked 1 1 0 ∷ asked 3 0 1 ∷ asked 5 0 0 ∷ []) .statement ≡ pos 0 ∷ pos 2500 ∷ []
+  pub own-answers : answersInTurn jobE earlyOwn ≡ map (λ q. accepted) earlyOwn
+  pub own-leaves : tablesInTurn jobE earlyOwn .statement ≡ pos 2250 ∷ pos 2500 ∷ []
+  -- Box 1, with tallies of its own grocer and both offers, waits for both.
+  pub both-wait : answersInTurn jobE (asked 2 1 1 ∷ asked 5 1 1 ∷ asked 1 0 1 ∷ asked 5 1 1 ∷ asked 3 1 0 ∷ asked 5 1 1 ∷ []) ≡
+      accepted ∷ refused 26 ∷ accepted ∷ refused 26 ∷ accepted ∷ accepted ∷ []
+  -- Without a tally of its own grocers a box adds its own from the start; with one of its own offer it multiplies first.
+  pub from-start : answersInTurn noTallies (asked 5 0 0 ∷ asked 2 0 0 ∷ []) ≡ accepted ∷ accepted ∷ []
+  pub then-none : readySteps (jobOf noTallies) (doneBy (ofKind multiplyOwn 0 0 ∷ ofKind addOwn 0 0 ∷ [])) ≡ []
+  pub own-offer : answersInTurn oneBoxJob (asked 5 0 0 ∷ asked 2 0 0 ∷ asked 5 0 0 ∷ []) ≡ refused 26 ∷ accepted ∷ accepted ∷ []
+  -- Totals wait for the tallies of the second box's grocers alone: after step 2 they leave to box 1, and to box 2 once its price is in;
+  pub not-for-others : answersInTurn twoWays (asked 2 0 0 ∷ asked 4 0 1 ∷ asked 4 0 2 ∷ asked 1 2 0 ∷ asked 3 0 2 ∷ asked 4 0 2 ∷ []) ≡
+      accepted ∷ accepted ∷ refused 26 ∷ accepted ∷ accepted ∷ accepted ∷ []
+  -- with that price alone, to box 2 and not to box 1.
+  pub not-for-own : answersInTurn twoWays (asked 1 2 0 ∷ asked 3 0 2 ∷ asked 4 0 2 ∷ asked 4 0 1 ∷ []) ≡ accepted ∷ accepted ∷ accepted ∷ refused 26 ∷ []
+  -- A superseded tally is not waited for: box 0's count of bag 7; in another bag it stands, and is.
+  pub superseded-passed : answersInTurn (bagMoved 7 7) (asked 2 0 0 ∷ asked 4 0 1 ∷ []) ≡ accepted ∷ accepted ∷ []
+  pub standing-waits : answersInTurn (bagMoved 8 7) (asked 2 0 0 ∷ asked 4 0 1 ∷ []) ≡ accepted ∷ refused 26 ∷ []
+  -- Likewise of its own grocers: box 1's count of bag 7 is superseded by box 0's.
+  pub superseded-own : answersInTurn (recounted 2 (1 ∷ 0 ∷ []) (pos 5 ∷ pos 4 ∷ []) (7 ∷ 7 ∷ []) (0 ∷ 1 ∷ [])) (asked 5 1 1 ∷ []) ≡ accepted ∷ []
+  pub standing-own : answersInTurn (recounted 2 (1 ∷ 0 ∷ []) (pos 5 ∷ pos 4 ∷ []) (7 ∷ 7 ∷ []) (1 ∷ 0 ∷ [])) (asked 5 1 1 ∷ []) ≡ refused 26 ∷ []

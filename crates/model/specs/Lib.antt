@@ -9,6 +9,7 @@ pub mod Standing
 pub mod Ranges
 pub mod Handed
 pub mod Step
+pub mod Early
 pub mod Run
 pub mod Local
 pub mod Reconcile

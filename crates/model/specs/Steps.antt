@@ -103,29 +103,30 @@ module _ (j : Job) where
   unfoldable pub hasStep : Steps
   hasStep k a b = ltb a (j .boxes) && (ltb b (j .boxes) && fits k a b)
 
-  -- Step 2 and every due step 3 of box a are done.
-  unfoldable pub multiplied : Steps → ℕ → Bool
-  multiplied d a = d multiplyOwn a a && all (j .boxes) (λ c. not (hasStep receivePrices a c) || d receivePrices a c)
-
-  -- The steps done make this one ready: 1 and 2 from the start, 3 and 6 once sent, 4 and 5 once all is multiplied.
-  unfoldable pub ready : Steps → Steps
-  ready d sendPrices a b = true
-  ready d multiplyOwn a b = true
-  ready d receivePrices a b = d sendPrices b a
-  ready d sendTotals a b = multiplied d a
-  ready d addOwn a b = multiplied d a
-  ready d receiveTotals a b = d sendTotals b a
-
-  -- A step is permitted when the job has it, it is not done and the steps done make it ready.
-  unfoldable pub permitted : Steps → Steps
-  permitted d k a b = hasStep k a b && (not (d k a b) && ready d k a b)
-
   -- A tally is added once step 2 of its box, for an own offer, or else its step 3 from the offer's owner, is done.
   unfoldable pub added : Steps → ℕ → Bool
   added d t =
       cond (eqb (j .offerOwner (j .tallyOffer t)) (j .tallyBox t))
       (d multiplyOwn (j .tallyBox t) (j .tallyBox t))
       (d receivePrices (j .tallyBox t) (j .offerOwner (j .tallyOffer t)))
+
+  -- Every tally that box a holds of box b's grocers has been added.
+  unfoldable pub allAdded : Steps → ℕ → ℕ → Bool
+  allAdded d a b = all (j .tallies) (λ t. not (heldBy j t a && eqb (j .grocerOwner (j .tallyGrocer t)) b) || added d t)
+
+  -- The steps done make this one ready: 1 and 2 from the start, 3 and 6 once sent, 4 once every tally of the second box's grocers is added,
+  -- 5 once this is so of its own grocers.
+  unfoldable pub ready : Steps → Steps
+  ready d sendPrices a b = true
+  ready d multiplyOwn a b = true
+  ready d receivePrices a b = d sendPrices b a
+  ready d sendTotals a b = allAdded d a b
+  ready d addOwn a b = allAdded d a a
+  ready d receiveTotals a b = d sendTotals b a
+
+  -- A step is permitted when the job has it, it is not done and the steps done make it ready.
+  unfoldable pub permitted : Steps → Steps
+  permitted d k a b = hasStep k a b && (not (d k a b) && ready d k a b)
 
   -- A fresh state has own prices known, all else 0.
   unfoldable pub fresh : State

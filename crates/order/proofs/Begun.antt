@@ -1,8 +1,8 @@
 -- Where an order begins: no step is marked, and the whole order is the run. Assumes nothing.
 use mathlib.Core.Path.{_≡_, refl, sym, ap, _∙_, subst}
-use mathlib.Core.Bool.{Bool, true, _&&_}
+use mathlib.Core.Bool.{Bool, _&&_}
 use mathlib.Core.List.{List}
-use Prim.Native.Nat.{ℕ, _*_, _≤_, _<_}
+use Prim.Native.Nat.{ℕ, _*_, _≤_}
 use native.Mathlib.Omega.{arith}
 use lib.Dec.{ltb}
 use lib.ListN.{length}
@@ -34,8 +34,8 @@ module _ (k : ℕ) (done done′ : List ℕ) (e : done′ ≡ overwrite (6 * k *
   zero-from = e ∙ ap (λ (d : Steps). marksOf k d done) (sym zero-steps)
 
   -- Of a job of k boxes too.
-  pub zero-steps-of : (prices totals : List (List ℕ)) (j : Job) → OfJob k prices totals j → stepsDone (j .boxes) done′ ≡ noSteps
-  zero-steps-of prices totals j o = subst (λ (n : ℕ). stepsDone n done′ ≡ noSteps) (sym (o .boxes-are)) zero-steps
+  pub zero-steps-of : (receivers : List ℕ) (waits : List (List ℕ)) (j : Job) → OfJob k receivers waits j → stepsDone (j .boxes) done′ ≡ noSteps
+  zero-steps-of receivers waits j o = subst (λ (n : ℕ). stepsDone n done′ ≡ noSteps) (sym (o .boxes-are)) zero-steps
 
 module _ (j : Job) (done order cs : List ℕ) (e : stepsDone (j .boxes) done ≡ noSteps) where
   pub whole-run : wholeOrder j done order 0 cs ≡ run j cs

@@ -1,10 +1,9 @@
--- The step that code finds is the one that the run picks, of every job with these tables of messages. Assumes nothing.
+-- The step that code finds is the one that the run picks, of every job with these words of receivers and waits. Assumes nothing.
 use mathlib.Core.Path.{_≡_, refl, sym, ap, _∙_, subst}
 use mathlib.Core.Bool.{Bool, true, false, cond, _&&_}
-use mathlib.Core.List.{List, [], _∷_}
-use Prim.Native.Nat.{ℕ, suc, _+_, _-_, _*_, _%_, _≤_, _<_}
+use mathlib.Core.List.{List, []}
+use Prim.Native.Nat.{ℕ, _+_, _-_, _*_, _%_, _≤_, _<_}
 use native.Mathlib.Omega.{arith}
-use native.Mathlib.Nat.{mod-lt}
 use native.Mathlib.Numerals.{add-one}
 use lib.Arith.{digits-lt}
 use lib.Dec.{eqb, ltb}
@@ -13,22 +12,20 @@ use lib.Seq.{drop-cons}
 use borrow.Author.Tests.{lt-ltb, ne-eqb}
 use Rattle.laws.specs.Below.{count, nth}
 use Rattle.laws.specs.Tables.{overwrite}
-use Rattle.laws.proofs.Bools.{split, and-l, and-r, and-true, and-false}
+use Rattle.laws.proofs.Bools.{and-l, and-r, and-true, and-false}
 use Rattle.laws.proofs.Tables.{over-over, long-overwrite}
 use Rattle.laws.proofs.Ascending.{nth-passes}
 use Rattle.model.specs.Job.{Job}
-use Rattle.model.specs.Steps.{Kind, kindOf, Steps, Step, mark, stepAt, atPlace, places}
+use Rattle.model.specs.Steps.{Kind, kindOf, Steps, mark, stepAt, atPlace, places}
 use Rattle.model.specs.Tables.{stepsDone, marksOf}
 use Rattle.model.specs.Ranges.{upTo}
-use Rattle.model.specs.Local.{priceTable, totalTable}
 use Rattle.model.specs.Run.{listed, readyCount, pick}
 use Rattle.rules.specs.Marks.{marked}
-use Rattle.rules.specs.Rules.{permittedBy}
+use Rattle.rules.specs.Rules.{permittedBy, ReceiversOf, WaitsOf}
 use Rattle.walk.specs.Walk.{PlaceIn, here, listedBy, WalkIn, Found}
 use Rattle.order.specs.Order.{OfJob, MarksFrom, Picked, Kept, Ended, NoneBefore, Passed}
 use Rattle.model.proofs.Step.{marks-bits}
 use Rattle.model.proofs.Machine.{kinds}
-use Rattle.model.proofs.Marks as M
 use Rattle.model.proofs.Tables.{marks-back}
 use Rattle.model.proofs.Listed.{pick-is}
 use Rattle.model.proofs.Run.{picked}
@@ -36,6 +33,7 @@ use Rattle.walk.proofs.Places.{listed-at}
 use Rattle.walk.proofs.InModel.{step-here, listed-is, count-is, nth-is-model}
 use Rattle.order.proofs.Left.{and-step, Open, first-picked, some-ready, none-more, none-done}
 use Rattle.order.proofs.Pick.{room, put-kept, kept-none, kept-ends}
+use Rattle.model.proofs.Marks as M
 
 -- The marks with one step more say that it is done.
 module _ (k : ℕ) (q : Kind) (a b : ℕ) (done : List ℕ) (la : a < k) (lb : b < k) where
@@ -65,24 +63,24 @@ pub place-below : (k kind a b : ℕ) → PlaceIn k kind a b → here k kind a b 
 place-below k kind a b p = digits-lt {q = (kind - 1) * k + a} {m = 6 * k} (digits-lt {q = kind - 1} {m = 6} (omega arith) (p .a-in)) (p .b-in)
 
 -- The step that is found is ready.
-pub found-open : (k : ℕ) (prices totals : List (List ℕ)) (done : List ℕ) (c kind a b : ℕ) → c < count (6 * k * k) (listedBy k prices totals done) →
-    Found k (nth (6 * k * k) (listedBy k prices totals done) c) kind a b → permittedBy k prices totals (stepsDone k done) (kindOf kind) a b ≡ true
-found-open k prices totals done c kind a b l g =
-    listed-at k kind a b prices totals done (g .place-in)
-    ∙ ap (listedBy k prices totals done) (g .place-is)
-    ∙ nth-passes (6 * k * k) (listedBy k prices totals done) c l .1
+pub found-open : (k : ℕ) (receivers : List ℕ) (waits : List (List ℕ)) (done : List ℕ) (c kind a b : ℕ) → c < count (6 * k * k) (listedBy k receivers waits done) →
+    Found k (nth (6 * k * k) (listedBy k receivers waits done) c) kind a b → permittedBy receivers waits (stepsDone k done) (kindOf kind) a b ≡ true
+found-open k receivers waits done c kind a b l g =
+    listed-at k kind a b receivers waits done (g .place-in)
+    ∙ ap (listedBy k receivers waits done) (g .place-is)
+    ∙ nth-passes (6 * k * k) (listedBy k receivers waits done) c l .1
 
-module _ (j : Job) (prices totals : List (List ℕ)) (ep : prices ≡ priceTable j) (et : totals ≡ totalTable j) (lk : j .boxes ≤ 16) (one : 1 ≤ j .boxes) (done : List ℕ) where
+module _ (j : Job) (receivers : List ℕ) (waits : List (List ℕ)) (hr : ReceiversOf j receivers) (hw : WaitsOf j waits) (one : 1 ≤ j .boxes) (done : List ℕ) where
   -- The steps done.
   abbrev d : Steps
   d = stepsDone (j .boxes) done
 
   -- How many steps are ready.
   abbrev readyBy : ℕ
-  readyBy = count (6 * j .boxes * j .boxes) (listedBy (j .boxes) prices totals done)
+  readyBy = count (6 * j .boxes * j .boxes) (listedBy (j .boxes) receivers waits done)
 
   ready-is : readyBy ≡ readyCount j d
-  ready-is = count-is j prices totals ep et lk one done
+  ready-is = count-is j receivers waits hr hw one done
 
   -- A step of a place, put into the order and marked.
   module _ (kind a b : ℕ) (pl : PlaceIn (j .boxes) kind a b) where
@@ -101,7 +99,7 @@ module _ (j : Job) (prices totals : List (List ℕ)) (ep : prices ≡ priceTable
 
   -- The step of a choice.
   module _ (cs : List ℕ) (i : ℕ) (l : i < length cs) (ready : ℕ) (more : 1 ≤ ready) (er : ready ≡ readyBy) (order : List ℕ) (p : Picked j done order i (drop i cs)) (kind a b : ℕ)
-      (g : Found (j .boxes) (nth (6 * j .boxes * j .boxes) (listedBy (j .boxes) prices totals done) (getD cs i 0 % ready)) kind a b) where
+      (g : Found (j .boxes) (nth (6 * j .boxes * j .boxes) (listedBy (j .boxes) receivers waits done) (getD cs i 0 % ready)) kind a b) where
     choice-some : eqb (readyCount j d) 0 ≡ false
     choice-some = ne-eqb (readyCount j d) 0 (λ z. let q : ready ≡ 0 = er ∙ ready-is ∙ z in omega arith)
 
@@ -113,7 +111,7 @@ module _ (j : Job) (prices totals : List (List ℕ)) (ep : prices ≡ priceTable
         ap (pick j d) first-choice
         ∙ pick-is j d (getD cs i 0)
         ∙ ap (λ (r : ℕ). stepAt (j .boxes) (nth (places (j .boxes)) (listed j d) (getD cs i 0 % r))) (sym (er ∙ ready-is))
-        ∙ ap (stepAt (j .boxes)) (sym (nth-is-model j prices totals ep et lk one done (getD cs i 0 % ready)) ∙ sym (g .place-is))
+        ∙ ap (stepAt (j .boxes)) (sym (nth-is-model j receivers waits hr hw one done (getD cs i 0 % ready)) ∙ sym (g .place-is))
 
     choice-room : i < 1536
     choice-room = room j done order i (drop i cs) p choice-some (here (j .boxes) kind a b) choice-picks
@@ -128,16 +126,16 @@ module _ (j : Job) (prices totals : List (List ℕ)) (ep : prices ≡ priceTable
   -- The step of a place, where none before it is ready and choices are ended.
   module _ (kind a b : ℕ) (pl : PlaceIn (j .boxes) kind a b) (order : List ℕ) (n : ℕ) (p : Picked j done order n []) (none : NoneBefore j d (here (j .boxes) kind a b)) where
     -- It is not ready.
-    place-not : listedBy (j .boxes) prices totals done (here (j .boxes) kind a b) ≡ false → Passed j done order n (here (j .boxes) kind a b) done order n
+    place-not : listedBy (j .boxes) receivers waits done (here (j .boxes) kind a b) ≡ false → Passed j done order n (here (j .boxes) kind a b) done order n
     place-not h = record {
       kept = kept-none j done order n [] p;
-      none = none-more j d (here (j .boxes) kind a b) none (sym (listed-is j prices totals ep et lk one done (here (j .boxes) kind a b)) ∙ h);
+      none = none-more j d (here (j .boxes) kind a b) none (sym (listed-is j receivers waits hr hw one done (here (j .boxes) kind a b)) ∙ h);
     }
 
     -- It is ready.
-    module _ (h : listedBy (j .boxes) prices totals done (here (j .boxes) kind a b) ≡ true) where
+    module _ (h : listedBy (j .boxes) receivers waits done (here (j .boxes) kind a b) ≡ true) where
       is-listed : listed j d (here (j .boxes) kind a b) ≡ true
-      is-listed = sym (listed-is j prices totals ep et lk one done (here (j .boxes) kind a b)) ∙ h
+      is-listed = sym (listed-is j receivers waits hr hw one done (here (j .boxes) kind a b)) ∙ h
 
       place-some : eqb (readyCount j d) 0 ≡ false
       place-some = some-ready j d (here (j .boxes) kind a b) (place-below (j .boxes) kind a b pl) is-listed
@@ -156,20 +154,20 @@ module _ (j : Job) (prices totals : List (List ℕ)) (ep : prices ≡ priceTable
       }
 
 -- The same, for k boxes.
-module _ (k : ℕ) (prices totals : List (List ℕ)) (j : Job) (o : OfJob k prices totals j) (done : List ℕ) where
+module _ (k : ℕ) (receivers : List ℕ) (waits : List (List ℕ)) (j : Job) (o : OfJob k receivers waits j) (done : List ℕ) where
   -- How many steps are ready, and that none is.
-  pub ready-of : count (6 * k * k) (listedBy k prices totals done) ≡ readyCount j (stepsDone (j .boxes) done)
-  ready-of = rw (← (o .boxes-are)) (ready-is j prices totals (o .prices-are) (o .totals-are) (o .boxes-in) (o .some) done)
+  pub ready-of : count (6 * k * k) (listedBy k receivers waits done) ≡ readyCount j (stepsDone (j .boxes) done)
+  ready-of = rw (← (o .boxes-are)) (ready-is j receivers waits (o .receivers-are) (o .waits-are) (o .some) done)
 
-  module _ (cs : List ℕ) (i : ℕ) (l : i < length cs) (ready : ℕ) (more : 1 ≤ ready) (er : ready ≡ count (6 * k * k) (listedBy k prices totals done)) (order : List ℕ) (p : Picked j done order i (drop i cs))
-      (kind a b : ℕ) (g : Found k (nth (6 * k * k) (listedBy k prices totals done) (getD cs i 0 % ready)) kind a b) where
+  module _ (cs : List ℕ) (i : ℕ) (l : i < length cs) (ready : ℕ) (more : 1 ≤ ready) (er : ready ≡ count (6 * k * k) (listedBy k receivers waits done)) (order : List ℕ) (p : Picked j done order i (drop i cs))
+      (kind a b : ℕ) (g : Found k (nth (6 * k * k) (listedBy k receivers waits done) (getD cs i 0 % ready)) kind a b) where
     pub room-of : i < 1536
-    room-of = choice-room j prices totals (o .prices-are) (o .totals-are) (o .boxes-in) (o .some) done cs i l ready more (rw (o .boxes-are) er) order p kind a b (rw (o .boxes-are) g)
+    room-of = choice-room j receivers waits (o .receivers-are) (o .waits-are) (o .some) done cs i l ready more (rw (o .boxes-are) er) order p kind a b (rw (o .boxes-are) g)
 
     pub kept-of : (done′ order′ : List ℕ) → done′ ≡ marked k (kindOf kind) a b done → order′ ≡ set order i (here k kind a b) →
         Kept j done order i (drop i cs) done′ order′ (i + 1) (drop (i + 1) cs)
     kept-of done′ order′ ed eo =
-        choice-kept j prices totals (o .prices-are) (o .totals-are) (o .boxes-in) (o .some) done cs i l ready more (rw (o .boxes-are) er) order p kind a b (rw (o .boxes-are) g)
+        choice-kept j receivers waits (o .receivers-are) (o .waits-are) (o .some) done cs i l ready more (rw (o .boxes-are) er) order p kind a b (rw (o .boxes-are) g)
         done′ order′ (rw (o .boxes-are) ed) (rw (o .boxes-are) eo)
 
   module _ (kind a b : ℕ) (pl : PlaceIn k kind a b) (order : List ℕ) (n : ℕ) (p : Picked j done order n []) (none : NoneBefore j (stepsDone (j .boxes) done) (here k kind a b)) where
@@ -177,20 +175,20 @@ module _ (k : ℕ) (prices totals : List (List ℕ)) (j : Job) (o : OfJob k pric
     none-j : NoneBefore j (stepsDone (j .boxes) done) (here (j .boxes) kind a b)
     none-j = subst (λ (n : ℕ). NoneBefore j (stepsDone (j .boxes) done) (here n kind a b)) (sym (o .boxes-are)) none
 
-    pub not-of : listedBy k prices totals done (here k kind a b) ≡ false → Passed j done order n (here k kind a b) done order n
+    pub not-of : listedBy k receivers waits done (here k kind a b) ≡ false → Passed j done order n (here k kind a b) done order n
     not-of h =
         rw (← (o .boxes-are))
-        (place-not j prices totals (o .prices-are) (o .totals-are) (o .boxes-in) (o .some) done kind a b (rw (o .boxes-are) pl) order n p none-j (rw (o .boxes-are) h))
+        (place-not j receivers waits (o .receivers-are) (o .waits-are) (o .some) done kind a b (rw (o .boxes-are) pl) order n p none-j (rw (o .boxes-are) h))
 
-    pub place-room-of : listedBy k prices totals done (here k kind a b) ≡ true → n < 1536
+    pub place-room-of : listedBy k receivers waits done (here k kind a b) ≡ true → n < 1536
     place-room-of h =
-        place-room j prices totals (o .prices-are) (o .totals-are) (o .boxes-in) (o .some) done kind a b (rw (o .boxes-are) pl) order n p none-j (rw (o .boxes-are) h)
+        place-room j receivers waits (o .receivers-are) (o .waits-are) (o .some) done kind a b (rw (o .boxes-are) pl) order n p none-j (rw (o .boxes-are) h)
 
-    pub passed-of : listedBy k prices totals done (here k kind a b) ≡ true → (done′ order′ : List ℕ) → done′ ≡ marked k (kindOf kind) a b done → order′ ≡ set order n (here k kind a b) →
+    pub passed-of : listedBy k receivers waits done (here k kind a b) ≡ true → (done′ order′ : List ℕ) → done′ ≡ marked k (kindOf kind) a b done → order′ ≡ set order n (here k kind a b) →
         Passed j done order n (here k kind a b) done′ order′ (n + 1)
     passed-of h done′ order′ ed eo =
         rw (← (o .boxes-are))
-        (place-passed j prices totals (o .prices-are) (o .totals-are) (o .boxes-in) (o .some) done kind a b (rw (o .boxes-are) pl) order n p none-j (rw (o .boxes-are) h)
+        (place-passed j receivers waits (o .receivers-are) (o .waits-are) (o .some) done kind a b (rw (o .boxes-are) pl) order n p none-j (rw (o .boxes-are) h)
         done′ order′ (rw (o .boxes-are) ed) (rw (o .boxes-are) eo))
 
 -- Marks that are those of their own steps: as long as k boxes need, and each 0 or 1.
@@ -220,8 +218,8 @@ module _ (k : ℕ) (done done′ : List ℕ) (m : MarksFrom k done done′) wher
   walk-on w = record { some = w .some; boxes-in = w .boxes-in; done-long = marks-long }
 
 -- All places are passed, of a job with these tables of messages: the picking ends.
-pub ended-of : (k : ℕ) (prices totals : List (List ℕ)) (j : Job) → OfJob k prices totals j → (done order : List ℕ) (n : ℕ) (done′ order′ : List ℕ) (n′ i : ℕ) → i ≡ 6 * k * k →
+pub ended-of : (k : ℕ) (receivers : List ℕ) (waits : List (List ℕ)) (j : Job) → OfJob k receivers waits j → (done order : List ℕ) (n : ℕ) (done′ order′ : List ℕ) (n′ i : ℕ) → i ≡ 6 * k * k →
     Kept j done order n [] done′ order′ n′ [] → NoneBefore j (stepsDone (j .boxes) done′) i → Ended j done order n [] done′ order′ n′
-ended-of k prices totals j o done order n done′ order′ n′ i e kept none =
+ended-of k receivers waits j o done order n done′ order′ n′ i e kept none =
     kept-ends j done order n [] done′ order′ n′ kept
     (subst (λ (x : ℕ). NoneBefore j (stepsDone (j .boxes) done′) x) (e ∙ ap (λ (x : ℕ). 6 * x * x) (sym (o .boxes-are))) none)

@@ -9,10 +9,10 @@ use Rattle.model.specs.Job.{Job}
 use Rattle.model.specs.Steps.{Steps, Step, stepAt, mark, permitted}
 use Rattle.model.specs.Tables.{stepsDone, marksOf}
 use Rattle.model.specs.Ranges.{under}
-use Rattle.model.specs.Local.{priceTable, totalTable}
 use Rattle.model.specs.Words.{stepCount}
 use Rattle.model.specs.Run.{readyCount, pick, listed, run}
 use Rattle.model.specs.Boxes.{Closed}
+use Rattle.rules.specs.Rules.{ReceiversOf, WaitsOf}
 
 -- The steps of the first n words of an order: each word is the place of a step, of k boxes.
 unfoldable pub stepsIn : ℕ → ℕ → List ℕ → List Step
@@ -38,18 +38,18 @@ picksFrom j (suc n) d cs =
 unfoldable pub stepsLeft : Job → Steps → List ℕ → List Step
 stepsLeft j d cs = picksFrom j (stepCount j) d cs
 
--- A job of k boxes, at most 16, with these tables of messages.
-pub record OfJob (k : ℕ) (prices totals : List (List ℕ)) (j : Job) : Type 0 where
+-- A job of k boxes, at most 16, with these words of receivers and waits.
+pub record OfJob (k : ℕ) (receivers : List ℕ) (waits : List (List ℕ)) (j : Job) : Type 0 where
   pub boxes-are : j .boxes ≡ k
   pub boxes-in : j .boxes ≤ 16
   pub some : 1 ≤ j .boxes
-  pub prices-are : prices ≡ priceTable j
-  pub totals-are : totals ≡ totalTable j
+  pub receivers-are : ReceiversOf j receivers
+  pub waits-are : WaitsOf j waits
 
 -- There is one.
-pub record SomeJob (k : ℕ) (prices totals : List (List ℕ)) : Type 0 where
+pub record SomeJob (k : ℕ) (receivers : List ℕ) (waits : List (List ℕ)) : Type 0 where
   pub job : Job
-  pub of-it : OfJob k prices totals job
+  pub of-it : OfJob k receivers waits job
 
 -- The marks done′ are those of the steps that they say are done, written over done.
 unfoldable pub MarksFrom : ℕ → List ℕ → List ℕ → Type 0
@@ -93,9 +93,9 @@ pub record Passed (j : Job) (done order : List ℕ) (n i : ℕ) (done′ order�
   pub kept : Kept j done order n [] done′ order′ n′ []
   pub none : NoneBefore j (stepsDone (j .boxes) done′) (i + 1)
 
--- What holds of every job with these tables of messages.
-abbrev pub EveryJob : ℕ → List (List ℕ) → List (List ℕ) → (Job → Type 0) → Type 0
-EveryJob k prices totals P = (j : Job) → OfJob k prices totals j → P j
+-- What holds of every job with these words of receivers and waits.
+abbrev pub EveryJob : ℕ → List ℕ → List (List ℕ) → (Job → Type 0) → Type 0
+EveryJob k receivers waits P = (j : Job) → OfJob k receivers waits j → P j
 
 -- The whole order of the run with the choices cs: its first n words are the run's steps, each permitted in its turn, and these are the ones marked.
 pub record Ordered (j : Job) (cs done order : List ℕ) (n : ℕ) : Type 0 where

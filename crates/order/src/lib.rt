@@ -23,56 +23,66 @@ fn put_step(k: u16, p: walk::Place, n: usize, done: &mut [u16], order: &mut [u16
     rules::marks::mark(k, p.kind, p.first, p.second, done);
 }
 
-// Choice i picks a step, one of `ready` steps: it is word i of the order, and the rows that it can change are counted anew.
+// Choice i picks a step, one of `ready` steps: it is word i of the order, and the rows that it can change are made anew.
 fn choose(
     k: u16,
-    prices: &[[u16; 16]; 16],
-    totals: &[[u16; 16]; 16],
+    receivers: &[u16; 16],
+    waits: &[[u16; 16]; 16],
     choices: &[u16],
     i: usize,
     ready: u16,
     done: &mut [u16],
-    rows: &mut [u16; 96],
+    rows: &mut [u16; 192],
     order: &mut [u16; 1536],
 )
-    requires { ⌜ WalkIn k (now done) × MarksFrom k (now done) (now done) × SomeJob k (now prices) (now totals) ⌝ }
-    requires { ⌜ IsRows k (now prices) (now totals) (now done) (now rows) ⌝ }
-    requires { ⌜ (i < length (now choices)) × (1 ≤ ready) × (ready ≡ count (6 * k * k) (listedBy k (now prices) (now totals) (now done))) ⌝ }
-    requires { ⌜ EveryJob k (now prices) (now totals) (λ j. Picked j (now done) (now order) i (drop i (now choices))) ⌝ }
-    ensures { λ _. ⌜ MarksFrom k (now (done .entry)) (now (done .exit)) × IsRows k (now (prices .entry)) (now (totals .entry)) (now (done .exit))
-        (now (rows .exit)) ⌝ }
-    ensures { λ _. ⌜ EveryJob k (now (prices .entry)) (now (totals .entry)) (λ j. Kept j (now (done .entry)) (now (order .entry)) i
+    requires { ⌜ WalkIn k (now done) × MarksFrom k (now done) (now done) × SomeJob k (now receivers) (now waits) ⌝ }
+    requires { ⌜ IsRows k (listedBy k (now receivers) (now waits) (now done)) (now rows) ⌝ }
+    requires { ⌜ (i < length (now choices)) × (1 ≤ ready) × (ready ≡ count (6 * k * k) (listedBy k (now receivers) (now waits) (now done))) ⌝ }
+    requires { ⌜ EveryJob k (now receivers) (now waits) (λ j. Picked j (now done) (now order) i (drop i (now choices))) ⌝ }
+    ensures { λ _. ⌜ MarksFrom k (now (done .entry)) (now (done .exit)) × IsRows k (listedBy k (now (receivers .entry)) (now (waits .entry))
+        (now (done .exit))) (now (rows .exit)) ⌝ }
+    ensures { λ _. ⌜ EveryJob k (now (receivers .entry)) (now (waits .entry)) (λ j. Kept j (now (done .entry)) (now (order .entry)) i
         (drop i (now (choices .entry))) (now (done .exit)) (now (order .exit)) (i + 1) (drop (i + 1) (now (choices .entry)))) ⌝ }
 {
     let c = choices[i] % ready;
-    let p = rows::find_in(k, c, rows, prices, totals, done);
+    let p = rows::find_in(k, c, rows);
     put_step(k, p, i, done, order);
-    renew::renew(k, p.kind, p.first, p.second, prices, totals, done, rows);
+    renew::renew(k, p.kind, p.first, p.second, receivers, waits, done, rows);
 }
 
 // While choices are left and some step is ready, each choice picks a step. How many are picked.
 fn chosen(
     k: u16,
-    prices: &[[u16; 16]; 16],
-    totals: &[[u16; 16]; 16],
+    receivers: &[u16; 16],
+    waits: &[[u16; 16]; 16],
     choices: &[u16],
     done: &mut [u16],
     order: &mut [u16; 1536],
 ) -> usize
-    requires { ⌜ WalkIn k (now done) × MarksFrom k (now done) (now done) × SomeJob k (now prices) (now totals) ⌝ }
-    requires { ⌜ EveryJob k (now prices) (now totals) (λ j. Picked j (now done) (now order) 0 (now choices)) ⌝ }
+    requires { ⌜ WalkIn k (now done) × MarksFrom k (now done) (now done) × SomeJob k (now receivers) (now waits) ⌝ }
+    requires { ⌜ EveryJob k (now receivers) (now waits) (λ j. Picked j (now done) (now order) 0 (now choices)) ⌝ }
     ensures { λ r. ⌜ MarksFrom k (now (done .entry)) (now (done .exit)) ⌝ }
-    ensures { λ r. ⌜ EveryJob k (now (prices .entry)) (now (totals .entry)) (λ j. Kept j (now (done .entry)) (now (order .entry)) 0
+    ensures { λ r. ⌜ EveryJob k (now (receivers .entry)) (now (waits .entry)) (λ j. Kept j (now (done .entry)) (now (order .entry)) 0
         (now (choices .entry)) (now (done .exit)) (now (order .exit)) r []) ⌝ }
 {
     let n = choices.len();
-    let mut rows = rows::rows_for(n, k, prices, totals, done);
+    let mut rows = rows::rows_for(n, k, receivers, waits, done);
     for i in 0..n {
         let ready = walk::ready_steps(k, &rows);
         if ready == 0 {
             return i;
         }
-        choose(k, prices, totals, choices, i, ready, done, &mut rows, order);
+        choose(
+            k,
+            receivers,
+            waits,
+            choices,
+            i,
+            ready,
+            done,
+            &mut rows,
+            order,
+        );
     }
     n
 }
@@ -81,21 +91,21 @@ fn chosen(
 fn turn(
     k: u16,
     p: walk::Place,
-    prices: &[[u16; 16]; 16],
-    totals: &[[u16; 16]; 16],
+    receivers: &[u16; 16],
+    waits: &[[u16; 16]; 16],
     n: usize,
     done: &mut [u16],
     order: &mut [u16; 1536],
 ) -> usize
     requires { ⌜ PlaceIn k (p .kind) (p .first) (p .second) ⌝ }
-    requires { ⌜ WalkIn k (now done) × MarksFrom k (now done) (now done) × SomeJob k (now prices) (now totals) ⌝ }
-    requires { ⌜ EveryJob k (now prices) (now totals) (λ j. Picked j (now done) (now order) n []) ⌝ }
-    requires { ⌜ EveryJob k (now prices) (now totals) (λ j. NoneBefore j (stepsDone (j .boxes) (now done)) (here k (p .kind) (p .first) (p .second))) ⌝ }
+    requires { ⌜ WalkIn k (now done) × MarksFrom k (now done) (now done) × SomeJob k (now receivers) (now waits) ⌝ }
+    requires { ⌜ EveryJob k (now receivers) (now waits) (λ j. Picked j (now done) (now order) n []) ⌝ }
+    requires { ⌜ EveryJob k (now receivers) (now waits) (λ j. NoneBefore j (stepsDone (j .boxes) (now done)) (here k (p .kind) (p .first) (p .second))) ⌝ }
     ensures { λ r. ⌜ MarksFrom k (now (done .entry)) (now (done .exit)) ⌝ }
-    ensures { λ r. ⌜ EveryJob k (now (prices .entry)) (now (totals .entry)) (λ j. Passed j (now (done .entry)) (now (order .entry)) n
+    ensures { λ r. ⌜ EveryJob k (now (receivers .entry)) (now (waits .entry)) (λ j. Passed j (now (done .entry)) (now (order .entry)) n
         (here k (p .kind) (p .first) (p .second)) (now (done .exit)) (now (order .exit)) r) ⌝ }
 {
-    if !rules::ready::permitted(k, p.kind, p.first, p.second, prices, totals, done) {
+    if !rules::ready::permitted(k, p.kind, p.first, p.second, receivers, waits, done) {
         return n;
     }
     put_step(k, p, n, done, order);
@@ -106,16 +116,16 @@ fn turn(
 // The order has n words before; how many it has in all.
 fn rest(
     k: u16,
-    prices: &[[u16; 16]; 16],
-    totals: &[[u16; 16]; 16],
+    receivers: &[u16; 16],
+    waits: &[[u16; 16]; 16],
     n: usize,
     done: &mut [u16],
     order: &mut [u16; 1536],
 ) -> usize
-    requires { ⌜ WalkIn k (now done) × MarksFrom k (now done) (now done) × SomeJob k (now prices) (now totals) ⌝ }
-    requires { ⌜ EveryJob k (now prices) (now totals) (λ j. Picked j (now done) (now order) n []) ⌝ }
+    requires { ⌜ WalkIn k (now done) × MarksFrom k (now done) (now done) × SomeJob k (now receivers) (now waits) ⌝ }
+    requires { ⌜ EveryJob k (now receivers) (now waits) (λ j. Picked j (now done) (now order) n []) ⌝ }
     ensures { λ r. ⌜ MarksFrom k (now (done .entry)) (now (done .exit)) ⌝ }
-    ensures { λ r. ⌜ EveryJob k (now (prices .entry)) (now (totals .entry)) (λ j. Ended j (now (done .entry)) (now (order .entry)) n [] (now (done .exit))
+    ensures { λ r. ⌜ EveryJob k (now (receivers .entry)) (now (waits .entry)) (λ j. Ended j (now (done .entry)) (now (order .entry)) n [] (now (done .exit))
         (now (order .exit)) r) ⌝ }
 {
     let places = tables::checks::marks(k);
@@ -126,7 +136,7 @@ fn rest(
         second: 0,
     };
     for i in 0..places {
-        let more = turn(k, p, prices, totals, words, done, order);
+        let more = turn(k, p, receivers, waits, words, done, order);
         words = more;
         let q = walk::next(k, p);
         p = q;
@@ -137,18 +147,19 @@ fn rest(
 // The order of the run with these choices: its steps, the first words of `order`, and all of them marked, whatever was marked before. How many.
 pub fn put_order(
     k: u16,
-    prices: &[[u16; 16]; 16],
-    totals: &[[u16; 16]; 16],
+    receivers: &[u16; 16],
+    waits: &[[u16; 16]; 16],
     choices: &[u16],
     done: &mut [u16],
     order: &mut [u16; 1536],
 ) -> usize
-    requires { ⌜ WalkIn k (now done) × SomeJob k (now prices) (now totals) × (length (now order) ≡ 1536) ⌝ }
-    requires { ⌜ EveryJob k (now prices) (now totals) (λ j. length (run j (now choices)) ≤ 1536) ⌝ }
+    requires { ⌜ WalkIn k (now done) × SomeJob k (now receivers) (now waits) × (length (now order) ≡ 1536) ⌝ }
+    requires { ⌜ EveryJob k (now receivers) (now waits) (λ j. length (run j (now choices)) ≤ 1536) ⌝ }
     ensures { λ r. ⌜ MarksFrom k (now (done .entry)) (now (done .exit)) ⌝ }
-    ensures { λ r. ⌜ EveryJob k (now (prices .entry)) (now (totals .entry)) (λ j. Ordered j (now (choices .entry)) (now (done .exit)) (now (order .exit)) r) ⌝ }
+    ensures { λ r. ⌜ EveryJob k (now (receivers .entry)) (now (waits .entry)) (λ j. Ordered j (now (choices .entry)) (now (done .exit))
+        (now (order .exit)) r) ⌝ }
 {
     fresh::zero16(done, tables::checks::marks(k));
-    let n = chosen(k, prices, totals, choices, done, order);
-    rest(k, prices, totals, n, done, order)
+    let n = chosen(k, receivers, waits, choices, done, order);
+    rest(k, receivers, waits, n, done, order)
 }

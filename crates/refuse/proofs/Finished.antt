@@ -1,33 +1,28 @@
 -- The late 21: the tests by kind tell whether the model's step leaves its tables in range. Assumes nothing.
-use mathlib.Core.Path.{_≡_, sym, ap, _∙_}
+use mathlib.Core.Path.{_≡_, sym, _∙_}
 use mathlib.Core.Bool.{Bool}
 use mathlib.Core.List.{List}
-use Prim.Native.Nat.{ℕ, _+_, _≤_, _<_}
+use Prim.Native.Nat.{ℕ, _≤_}
 use native.Mathlib.Decide.{ℕ-discrete}
 use native.Mathlib.Omega.{arith}
-use lib.Dec.{leb}
-use lib.ListN.{getD}
 use lib.IntN.{ℤ}
-use Rattle.model.specs.Tables.{JobTables, jobOf, StateTables, jobLengths}
-use Rattle.model.specs.Local.{priceTable, totalTable}
-use Rattle.laws.specs.Limits.{maxAmount, maxSent}
+use Rattle.model.specs.Tables.{JobTables, StateTables, jobLengths}
+use Rattle.laws.specs.Limits.{maxAmount}
 use Rattle.model.specs.Ranges.{around, stateInRange}
 use Rattle.model.specs.Step.{Asked, moved}
-use Rattle.rules.specs.Rules.{wordsTo}
 use Rattle.totals.specs.Row.{Tallies, productRow}
 use Rattle.apply.specs.Apply.{Applies}
 use Rattle.refuse.specs.Late.{sentFits, priceFits, creditsFit, totalFits, PriceFitsIn, TotalFitsIn}
-use Rattle.tables.proofs.MessageLaws.{price-cell, total-cell}
 use Rattle.totals.proofs.Effect.{talliesOf}
 use Rattle.apply.proofs.Given.{Given, given, sent-in, known-in, price-transit-in, working-in, transit-in, statement-in}
 use Rattle.apply.proofs.Late.{late-prices-sent, late-own-multiplied, late-prices-received, late-totals-sent, late-own-added, late-totals-received}
 
 -- The test of each kind.
-module _ (e : Tallies) (table : List (List ℕ)) (known transit : List ℕ) (working : List ℤ) (sent : List ℕ) (kind a b : ℕ) where
+module _ (e : Tallies) (needs known transit : List ℕ) (working : List ℤ) (sent : List ℕ) (kind a b : ℕ) where
   abbrev prices : Bool
-  prices = priceFits e table known transit working sent kind a b
+  prices = priceFits e needs known transit working sent kind a b
 
-  pub fits-1 : kind ≡ 1 → prices ≡ sentFits table sent a b
+  pub fits-1 : kind ≡ 1 → prices ≡ sentFits (e .offers) (e .owner) needs sent a b
   unfolding priceFits
   fits-1 q = rw q
 
@@ -39,11 +34,11 @@ module _ (e : Tallies) (table : List (List ℕ)) (known transit : List ℕ) (wor
   unfolding priceFits
   fits-3 q = rw q
 
-module _ (k m : ℕ) (owner sharers : List ℕ) (table : List (List ℕ)) (working transit statement : List ℤ) (sent : List ℕ) (kind a b : ℕ) where
+module _ (k m : ℕ) (owner sharers : List ℕ) (working transit statement : List ℤ) (sent : List ℕ) (kind a b : ℕ) where
   abbrev totals : Bool
-  totals = totalFits k m owner sharers table working transit statement sent kind a b
+  totals = totalFits k m owner sharers working transit statement sent kind a b
 
-  pub fits-4 : kind ≡ 4 → totals ≡ sentFits table sent a b
+  pub fits-4 : kind ≡ 4 → totals ≡ sentFits m owner sharers sent b a
   unfolding totalFits
   fits-4 q = rw q
 
@@ -93,51 +88,31 @@ module _ (f : JobTables) (t : StateTables) (needs sharers : List ℕ) (q : Asked
         b-in = g .second-in;
       }
 
-  small : (b : ℕ) → b < f .boxes → b < 16
-  small b l = omega (arith, l, facts .tallies-in .boxes-in)
-
-  -- 1 and 4: the words of the message by the tables of messages.
-  prices-counted : (table : List (List ℕ)) → table ≡ priceTable (jobOf f) → q .kind ≡ 1 → sentFits table (t .sent) (q .first) (q .second) ≡ stateInRange f (moved f t q)
-  unfolding jobOf
-  prices-counted table is e =
-      ap (λ (n : ℕ). leb (getD (t .sent) 0 0 + n) maxSent)
-      (ap (λ (p : List (List ℕ)). wordsTo p (q .first) (q .second)) is ∙ price-cell (jobOf f) (q .first) (q .second) (small (q .first) (facts .first-in)) (small (q .second) (facts .second-in)))
-      ∙ sym (late-prices-sent f t needs sharers q h e)
-
-  totals-counted : (table : List (List ℕ)) → table ≡ totalTable (jobOf f) → q .kind ≡ 4 → sentFits table (t .sent) (q .first) (q .second) ≡ stateInRange f (moved f t q)
-  unfolding jobOf
-  totals-counted table is e =
-      ap (λ (n : ℕ). leb (getD (t .sent) 0 0 + n) maxSent)
-      (ap (λ (p : List (List ℕ)). wordsTo p (q .first) (q .second)) is ∙ total-cell (jobOf f) (q .first) (q .second) (small (q .first) (facts .first-in)) (small (q .second) (facts .second-in)))
-      ∙ sym (late-totals-sent f t needs sharers q h e)
-
   -- Kinds 1 to 3.
-  pub prices-fit : (table : List (List ℕ)) → table ≡ priceTable (jobOf f) → q .kind ≤ 3 →
-      priceFits (talliesOf f) table (t .known) (t .priceTransit) (t .working) (t .sent) (q .kind) (q .first) (q .second) ≡ stateInRange f (moved f t q)
-  prices-fit table is few = go (ℕ-discrete (q .kind) 1) (ℕ-discrete (q .kind) 2)
+  pub prices-fit : q .kind ≤ 3 → priceFits (talliesOf f) needs (t .known) (t .priceTransit) (t .working) (t .sent) (q .kind) (q .first) (q .second) ≡ stateInRange f (moved f t q)
+  prices-fit few = go (ℕ-discrete (q .kind) 1) (ℕ-discrete (q .kind) 2)
     where
-      go : Dec (q .kind ≡ 1) → Dec (q .kind ≡ 2) →
-          priceFits (talliesOf f) table (t .known) (t .priceTransit) (t .working) (t .sent) (q .kind) (q .first) (q .second) ≡ stateInRange f (moved f t q)
-      go (yes e) _ = fits-1 (talliesOf f) table (t .known) (t .priceTransit) (t .working) (t .sent) (q .kind) (q .first) (q .second) e ∙ prices-counted table is e
-      go (no n) (yes e) = fits-2 (talliesOf f) table (t .known) (t .priceTransit) (t .working) (t .sent) (q .kind) (q .first) (q .second) e ∙ sym (late-own-multiplied f t needs sharers q h e)
+      go : Dec (q .kind ≡ 1) → Dec (q .kind ≡ 2) → priceFits (talliesOf f) needs (t .known) (t .priceTransit) (t .working) (t .sent) (q .kind) (q .first) (q .second) ≡ stateInRange f (moved f t q)
+      go (yes e) _ = fits-1 (talliesOf f) needs (t .known) (t .priceTransit) (t .working) (t .sent) (q .kind) (q .first) (q .second) e ∙ sym (late-prices-sent f t needs sharers q h e)
+      go (no n) (yes e) = fits-2 (talliesOf f) needs (t .known) (t .priceTransit) (t .working) (t .sent) (q .kind) (q .first) (q .second) e ∙ sym (late-own-multiplied f t needs sharers q h e)
       go (no n) (no m) =
           let e : q .kind ≡ 3 = omega (arith, facts .kind-from) in
-          fits-3 (talliesOf f) table (t .known) (t .priceTransit) (t .working) (t .sent) (q .kind) (q .first) (q .second) e ∙ sym (late-prices-received f t needs sharers q h e)
+          fits-3 (talliesOf f) needs (t .known) (t .priceTransit) (t .working) (t .sent) (q .kind) (q .first) (q .second) e ∙ sym (late-prices-received f t needs sharers q h e)
 
   -- Kinds 4 to 6.
-  pub totals-fit : (table : List (List ℕ)) → table ≡ totalTable (jobOf f) → 4 ≤ q .kind →
-      totalFits (f .boxes) (f .grocers) (f .grocerOwner) sharers table (t .working) (t .totalTransit) (t .statement) (t .sent) (q .kind) (q .first) (q .second) ≡ stateInRange f (moved f t q)
-  totals-fit table is many = go (ℕ-discrete (q .kind) 4) (ℕ-discrete (q .kind) 5)
+  pub totals-fit : 4 ≤ q .kind →
+      totalFits (f .boxes) (f .grocers) (f .grocerOwner) sharers (t .working) (t .totalTransit) (t .statement) (t .sent) (q .kind) (q .first) (q .second) ≡ stateInRange f (moved f t q)
+  totals-fit many = go (ℕ-discrete (q .kind) 4) (ℕ-discrete (q .kind) 5)
     where
       go : Dec (q .kind ≡ 4) → Dec (q .kind ≡ 5) →
-          totalFits (f .boxes) (f .grocers) (f .grocerOwner) sharers table (t .working) (t .totalTransit) (t .statement) (t .sent) (q .kind) (q .first) (q .second) ≡ stateInRange f (moved f t q)
+          totalFits (f .boxes) (f .grocers) (f .grocerOwner) sharers (t .working) (t .totalTransit) (t .statement) (t .sent) (q .kind) (q .first) (q .second) ≡ stateInRange f (moved f t q)
       go (yes e) _ =
-          fits-4 (f .boxes) (f .grocers) (f .grocerOwner) sharers table (t .working) (t .totalTransit) (t .statement) (t .sent) (q .kind) (q .first) (q .second) e
-          ∙ totals-counted table is e
+          fits-4 (f .boxes) (f .grocers) (f .grocerOwner) sharers (t .working) (t .totalTransit) (t .statement) (t .sent) (q .kind) (q .first) (q .second) e
+          ∙ sym (late-totals-sent f t needs sharers q h e)
       go (no n) (yes e) =
-          fits-5 (f .boxes) (f .grocers) (f .grocerOwner) sharers table (t .working) (t .totalTransit) (t .statement) (t .sent) (q .kind) (q .first) (q .second) e
+          fits-5 (f .boxes) (f .grocers) (f .grocerOwner) sharers (t .working) (t .totalTransit) (t .statement) (t .sent) (q .kind) (q .first) (q .second) e
           ∙ sym (late-own-added f t needs sharers q h e)
       go (no n) (no m) =
           let e : q .kind ≡ 6 = omega (arith, facts .kind-to) in
-          fits-6 (f .boxes) (f .grocers) (f .grocerOwner) sharers table (t .working) (t .totalTransit) (t .statement) (t .sent) (q .kind) (q .first) (q .second) e
+          fits-6 (f .boxes) (f .grocers) (f .grocerOwner) sharers (t .working) (t .totalTransit) (t .statement) (t .sent) (q .kind) (q .first) (q .second) e
           ∙ sym (late-totals-received f t needs sharers q h e)

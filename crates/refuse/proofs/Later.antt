@@ -11,8 +11,7 @@ use Rattle.model.specs.Steps.{kindOf, Steps, fits, ready}
 use Rattle.model.specs.Tables.{JobTables, jobOf, StateTables, view, stepsDone}
 use Rattle.model.specs.Ranges.{stateInRange}
 use Rattle.model.specs.Step.{Asked, isKind, boxesFit, stepRules, moved}
-use Rattle.model.specs.Local.{priceTable, totalTable}
-use Rattle.rules.specs.Rules.{rulesBy}
+use Rattle.rules.specs.Rules.{rulesBy, ReceiversOf, WaitsOf}
 use Rattle.apply.specs.Apply.{Applies}
 use Rattle.refuse.specs.Late.{laterRules, Held}
 use Rattle.model.proofs.Step.{range}
@@ -48,8 +47,9 @@ module _ (f : JobTables) (t : StateTables) (h : Held f t) where
   unfolding jobOf
   few-boxes = range f (h .job-in .inside) .boxes≤
 
-  module _ (prices totals : List (List ℕ)) (ep : prices ≡ priceTable (jobOf f)) (et : totals ≡ totalTable (jobOf f)) (q : Asked)
-      (r : ℕ) (er : r ≡ firstMet (rulesBy (f .boxes) prices totals (stepsDone (f .boxes) (t .done)) q)) where
+  -- With the words of receivers or of waits, as the kind's side asks.
+  module _ (receivers : List ℕ) (waits : List (List ℕ)) (q : Asked) (hr : q .kind ≤ 3 → ReceiversOf (jobOf f) receivers) (hw : 4 ≤ q .kind → WaitsOf (jobOf f) waits)
+      (r : ℕ) (er : r ≡ firstMet (rulesBy (f .boxes) receivers waits (stepsDone (f .boxes) (t .done)) q)) where
     abbrev steps : Steps
     steps = view (jobOf f) t .done
 
@@ -57,8 +57,8 @@ module _ (f : JobTables) (t : StateTables) (h : Held f t) where
     rules-model : r ≡ firstMet (stepRules (jobOf f) steps q)
     unfolding jobOf
     rules-model =
-        er ∙ ap (λ (d : Steps). firstMet (rulesBy (f .boxes) prices totals d q)) (sym (steps-done (jobOf f) t))
-        ∙ rules-are (jobOf f) prices totals ep et few-boxes (view (jobOf f) t .done) q
+        er ∙ ap (λ (d : Steps). firstMet (rulesBy (f .boxes) receivers waits d q)) (sym (steps-done (jobOf f) t))
+        ∙ rules-are (jobOf f) receivers waits (view (jobOf f) t .done) q hr hw
 
     -- A condition of 22 to 26 is met.
     pub later-met : (r ≡ 0 → ⊥) → r ≡ firstMet (laterRules f t q)
@@ -74,7 +74,7 @@ module _ (f : JobTables) (t : StateTables) (h : Held f t) where
           (steps (kindOf (q .kind)) (q .first) (q .second)) (ready (jobOf f) steps (kindOf (q .kind)) (q .first) (q .second)) (sym rules-model ∙ z)
 
       -- What is asked of the step that is applied.
-      pub applies : (needs sharers : List ℕ) → needs ≡ tabulate 500 (needWord (jobOf f)) → sharers ≡ tabulate 255 (sharerWord (jobOf f)) → Applies f t needs sharers q
+      pub applies : (needs sharers : List ℕ) → (q .kind ≤ 3 → needs ≡ tabulate 500 (needWord (jobOf f))) → (4 ≤ q .kind → sharers ≡ tabulate 255 (sharerWord (jobOf f))) → Applies f t needs sharers q
       applies needs sharers en es = record {
         job-in = h .job-in;
         job-long = h .job-long;

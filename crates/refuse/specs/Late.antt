@@ -6,7 +6,7 @@ use Prim.Native.Nat.{ℕ, _+_, _*_, _≤_, _<_}
 use lib.Dec.{eqb, leb}
 use lib.ListN.{length, getD}
 use lib.IntN.{ℤ, natAbs}
-use Rattle.laws.specs.Below.{all}
+use Rattle.laws.specs.Below.{all, count}
 use Rattle.laws.specs.Checks.{firstMet}
 use Rattle.recount.specs.Recount.{countedTwice}
 use Rattle.model.specs.Tables.{JobTables, countedOf, jobOf, jobLengths, jobShort, StateTables, stateLengths, stateShort, lentShort, view}
@@ -14,7 +14,7 @@ use Rattle.laws.specs.Limits.{maxBoxes, maxGrocers, maxAmount, maxSent}
 use Rattle.model.specs.Ranges.{around, jobInRange, stateInRange}
 use Rattle.model.specs.Handed.{handedTables, Standing, Handed}
 use Rattle.model.specs.Step.{Asked, stepRules, moved, stepRefusal}
-use Rattle.rules.specs.Rules.{wordsTo}
+use Rattle.words.specs.Message.{wordIn}
 use Rattle.totals.specs.Row.{Tallies, TalliesIn, PricesIn, AmountsIn, productRow}
 use Rattle.totals.specs.Credit.{credited, creditWord}
 use Rattle.apply.specs.Apply.{Applies, SentIn}
@@ -46,14 +46,14 @@ pub record Decided (f : JobTables) (t : StateTables) (q : Asked) (needs sharers 
   pub standing-are : r ≡ 0 → Standing f standing
   pub applies : r ≡ 0 → Applies (handedTables f standing) t needs sharers q
 
--- The count of words sent stays in range with the words from box a to box b, by a table of messages.
-abbrev pub sentFits : List (List ℕ) → List ℕ → ℕ → ℕ → Bool
-sentFits table sent a b = leb (getD sent 0 0 + wordsTo table a b) maxSent
+-- The count of words sent stays in range with those of the first n words that box a, their owner, exchanges with box b.
+abbrev pub sentFits : ℕ → List ℕ → List ℕ → List ℕ → ℕ → ℕ → Bool
+sentFits n owners masks sent a b = leb (getD sent 0 0 + count n (wordIn owners masks a b)) maxSent
 
 -- Kinds 1 to 3: what the step leaves is in range. 1 raises the count of words sent; 2 and 3 add to the working totals of box a.
-unfoldable pub priceFits : Tallies → List (List ℕ) → List ℕ → List ℕ → List ℤ → List ℕ → ℕ → ℕ → ℕ → Bool
-priceFits e table known transit working sent kind a b =
-    cond (eqb kind 1) (sentFits table sent a b)
+unfoldable pub priceFits : Tallies → List ℕ → List ℕ → List ℕ → List ℤ → List ℕ → ℕ → ℕ → ℕ → Bool
+priceFits e needs known transit working sent kind a b =
+    cond (eqb kind 1) (sentFits (e .offers) (e .owner) needs sent a b)
     (cond (eqb kind 2) (around maxAmount (e .grocers) (productRow e known a a working))
     (around maxAmount (e .grocers) (productRow e transit a b working)))
 
@@ -63,9 +63,9 @@ creditsFit k m owner sharers a from totals statement =
     all m (λ g. leb (natAbs (creditWord k m from (credited owner sharers a from) totals statement g)) maxAmount)
 
 -- Kinds 4 to 6, likewise: 4 raises the count of words sent; 5 and 6 add to the statements of box a.
-unfoldable pub totalFits : ℕ → ℕ → List ℕ → List ℕ → List (List ℕ) → List ℤ → List ℤ → List ℤ → List ℕ → ℕ → ℕ → ℕ → Bool
-totalFits k m owner sharers table working transit statement sent kind a b =
-    cond (eqb kind 4) (sentFits table sent a b)
+unfoldable pub totalFits : ℕ → ℕ → List ℕ → List ℕ → List ℤ → List ℤ → List ℤ → List ℕ → ℕ → ℕ → ℕ → Bool
+totalFits k m owner sharers working transit statement sent kind a b =
+    cond (eqb kind 4) (sentFits m owner sharers sent b a)
     (cond (eqb kind 5) (creditsFit k m owner sharers a a working statement) (creditsFit k m owner sharers a b transit statement))
 
 -- What these tests require: tables that are long enough and in range, a kind of their side, and boxes below K.

@@ -1,6 +1,7 @@
-// The late 21: whether what a step leaves is in range. One table decides, by kind.
+// The late 21: whether what a step leaves is in range. One table or one count decides, by kind.
 ghost use mathlib.Core.Path.{_≡_};
-ghost use Prim.Native.Nat.{_*_, _<_};
+ghost use Prim.Native.Nat.{_*_, _≤_, _<_};
+ghost use lib.ListN.{length};
 ghost use Rattle.laws.specs.Limits.{maxAmount};
 ghost use Rattle.model.specs.Ranges.{around};
 ghost use Rattle.totals.specs.Row.{tallies, TalliesIn, PricesIn, AmountsIn, productRow};
@@ -8,19 +9,19 @@ ghost use Rattle.apply.specs.Apply.{SentIn};
 ghost use Rattle.refuse.specs.Late.{sentFits, priceFits, totalFits, PriceFitsIn, TotalFitsIn};
 use apply::Sizes;
 use apply::Step;
-use rules::ready::words_to;
 use totals::credit::credit_fits;
+use words::count_words;
 
 // The most words that can have been sent.
 const MAX_SENT: u32 = 1_000_000;
 
-// Steps 1 and 4: whether the count of words sent stays in range.
-fn sent_fits(table: &[[u16; 16]; 16], sent: &[u32], a: u16, b: u16) -> bool
-    requires { ⌜ (a < 16) × (b < 16) ⌝ }
+// Steps 1 and 4: whether the count of words sent stays in range with the words between box a, their owner, and box b.
+fn sent_fits(n: u16, owners: &[u16], masks: &[u16], sent: &[u32], a: u16, b: u16) -> bool
+    requires { ⌜ (b < 16) × ((n ≤ length (now owners)) × (n ≤ length (now masks))) ⌝ }
     requires { ⌜ SentIn (now sent) ⌝ }
-    ensures { λ r. ⌜ r ≡ sentFits (now (table .entry)) (now (sent .entry)) a b ⌝ }
+    ensures { λ r. ⌜ r ≡ sentFits n (now (owners .entry)) (now (masks .entry)) (now (sent .entry)) a b ⌝ }
 {
-    let more = words_to(table, a, b) as u32;
+    let more = count_words(n as usize, owners, masks, a, b) as u32;
     sent[0] + more <= MAX_SENT
 }
 
@@ -62,7 +63,7 @@ fn products_fit(
     tables::ranges::around64(&row, m)
 }
 
-// Kinds 1 to 3: whether what the step leaves is in range, with the table of messages of prices.
+// Kinds 1 to 3: whether what the step leaves is in range, with the need words.
 pub fn price_fits(
     z: Sizes,
     offer_owner: &[u16],
@@ -70,7 +71,7 @@ pub fn price_fits(
     tally_box: &[u16],
     tally_offer: &[u16],
     tally_count: &[i32],
-    table: &[[u16; 16]; 16],
+    needs: &[u16; 500],
     known: &[u32],
     price_transit: &[u32],
     working: &[i64],
@@ -80,13 +81,13 @@ pub fn price_fits(
     requires { ⌜ PriceFitsIn (tallies (z .boxes) (z .grocers) (z .offers) (z .tallies) (now «offer_owner») (now «tally_grocer») (now «tally_box»)
         (now «tally_offer») (now «tally_count»)) (now known) (now «price_transit») (now working) (now sent) (x .kind) (x .first) (x .second) ⌝ }
     ensures { λ r. ⌜ r ≡ priceFits (tallies (z .boxes) (z .grocers) (z .offers) (z .tallies) (now («offer_owner» .entry)) (now («tally_grocer» .entry))
-        (now («tally_box» .entry)) (now («tally_offer» .entry)) (now («tally_count» .entry))) (now (table .entry)) (now (known .entry))
+        (now («tally_box» .entry)) (now («tally_offer» .entry)) (now («tally_count» .entry))) (now (needs .entry)) (now (known .entry))
         (now («price_transit» .entry)) (now (working .entry)) (now (sent .entry)) (x .kind) (x .first) (x .second) ⌝ }
 {
     let a = x.first;
     let b = x.second;
     if x.kind == 1 {
-        return sent_fits(table, sent, a, b);
+        return sent_fits(z.offers, offer_owner, needs, sent, a, b);
     }
     if x.kind == 2 {
         return products_fit(
@@ -116,12 +117,11 @@ pub fn price_fits(
     )
 }
 
-// Kinds 4 to 6: whether what the step leaves is in range, with the table of messages of totals.
+// Kinds 4 to 6: whether what the step leaves is in range, with the sharer words.
 pub fn total_fits(
     z: Sizes,
     grocer_owner: &[u16],
     sharers: &[u16; 255],
-    table: &[[u16; 16]; 16],
     working: &[i64],
     total_transit: &[i64],
     statement: &[i64],
@@ -130,14 +130,14 @@ pub fn total_fits(
 ) -> bool
     requires { ⌜ TotalFitsIn (z .boxes) (z .grocers) (now «grocer_owner») (now working) (now «total_transit») (now statement) (now sent)
         (x .kind) (x .first) (x .second) ⌝ }
-    ensures { λ r. ⌜ r ≡ totalFits (z .boxes) (z .grocers) (now («grocer_owner» .entry)) (now (sharers .entry)) (now (table .entry))
+    ensures { λ r. ⌜ r ≡ totalFits (z .boxes) (z .grocers) (now («grocer_owner» .entry)) (now (sharers .entry))
         (now (working .entry)) (now («total_transit» .entry)) (now (statement .entry)) (now (sent .entry)) (x .kind) (x .first) (x .second) ⌝ }
 {
     let m = z.grocers as usize;
     let a = x.first;
     let b = x.second;
     if x.kind == 4 {
-        return sent_fits(table, sent, a, b);
+        return sent_fits(z.grocers, grocer_owner, sharers, sent, b, a);
     }
     if x.kind == 5 {
         return credit_fits(m, a, a, grocer_owner, sharers, working, statement);

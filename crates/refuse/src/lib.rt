@@ -15,8 +15,8 @@ use tables::checks::job_in_range;
 use tables::checks::job_short;
 use tables::checks::state_in_range;
 use tables::checks::state_short;
-use tables::messages::price_table;
-use tables::messages::total_table;
+use tables::waits::receivers;
+use tables::waits::waits;
 
 // The first of the conditions 20, 21 and 9 that is met, or 0. Where none is, `standing` has the box of each tally that stands, and 16 for the others.
 pub fn early_refusal(
@@ -119,8 +119,8 @@ pub fn early_refusal(
     0
 }
 
-// The number of the first condition that is met, or 0. Where none is, the need and sharer words of the tallies that
-// stand are left in `needs` and `sharers`, and their boxes in `standing`, with 16 for the others.
+// The number of the first condition that is met, or 0. Where none is, the words of the tallies that stand are left, need words in `needs` for
+// kinds 1 to 3 and sharer words in `sharers` for 4 to 6, and their boxes in `standing`, with 16 for the others. A kind makes the words of its side alone.
 pub fn refusal(
     z: Sizes,
     price: &[u32],
@@ -175,17 +175,16 @@ pub fn refusal(
     if early != 0 {
         return early;
     }
-    let needing = tables::masks::needs(z.boxes, z.tallies, standing, tally_offer);
-    let sharing = tables::masks::sharers(z.boxes, z.tallies, standing, tally_grocer);
-    *needs = needing;
-    *sharers = sharing;
-    let prices = price_table(z.offers, offer_owner, &needing);
-    let totals = total_table(z.grocers, grocer_owner, &sharing);
-    let r = request_refusal(z.boxes, x.kind, x.first, x.second, &prices, &totals, done);
-    if r != 0 {
-        return r;
-    }
+    let row = [0u16; 16];
     if x.kind <= 3 {
+        let needing = tables::masks::needs(z.boxes, z.tallies, standing, tally_offer);
+        *needs = needing;
+        let to = receivers(z.offers, offer_owner, &needing);
+        let none = [row; 16];
+        let r = request_refusal(z.boxes, x.kind, x.first, x.second, &to, &none, done);
+        if r != 0 {
+            return r;
+        }
         if price_fits(
             z,
             offer_owner,
@@ -193,7 +192,7 @@ pub fn refusal(
             standing,
             tally_offer,
             tally_count,
-            &prices,
+            &needing,
             known,
             price_transit,
             working,
@@ -204,11 +203,25 @@ pub fn refusal(
         }
         return 21;
     }
+    let sharing = tables::masks::sharers(z.boxes, z.tallies, standing, tally_grocer);
+    *sharers = sharing;
+    let from = waits(
+        z.boxes,
+        z.tallies,
+        offer_owner,
+        grocer_owner,
+        tally_grocer,
+        standing,
+        tally_offer,
+    );
+    let r = request_refusal(z.boxes, x.kind, x.first, x.second, &row, &from, done);
+    if r != 0 {
+        return r;
+    }
     if total_fits(
         z,
         grocer_owner,
         &sharing,
-        &totals,
         working,
         total_transit,
         statement,

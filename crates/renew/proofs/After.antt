@@ -1,14 +1,13 @@
--- The rows that a step can change, and these counted anew. Assumes nothing.
+-- The rows that a step can change, and these made anew. Assumes nothing.
 use mathlib.Core.Path.{_≡_, refl, sym}
 use mathlib.Core.Bool.{Bool, true, false, cond, _&&_, _||_, not, false≢true}
 use mathlib.Core.List.{List}
 use Prim.Native.Nat.{ℕ, _+_, _*_, _≤_, _<_}
 use native.Mathlib.Omega.{arith}
 use lib.Dec.{eqb}
-use lib.ListN.{getD, length}
 use borrow.Author.Tests.{eqb-true}
 use Rattle.laws.proofs.Bools.{split}
-use Rattle.walk.specs.Rows.{rowOf, rowCount, IsRows, Renewed}
+use Rattle.walk.specs.Rows.{rowOf, IsRows, Renewed, HasRow}
 use Rattle.rows.proofs.ByRow.{renewed-at}
 
 -- The rows that a step can change: its own; after a message is sent, the receiver's; after prices are multiplied, kinds 4 and 5 of the box.
@@ -18,27 +17,34 @@ changes k kind a b r =
     || cond (eqb kind 1 || eqb kind 4) (eqb r (rowOf k (kind + 2) b))
     (cond (eqb kind 2 || eqb kind 3) (eqb r (rowOf k 4 a) || eqb r (rowOf k 5 a)) false)
 
--- Each row that a step cannot change has its count.
-pub record IsRowsBut (k kind a b : ℕ) (prices totals : List (List ℕ)) (done rows : List ℕ) : Type 0 where
-  pub long : length rows ≡ 96
-  pub right : (r : ℕ) → r < 6 * k → changes k kind a b r ≡ false → getD rows r 0 ≡ rowCount k prices totals done r
+-- Each row that a step cannot change has the places that f tells.
+pub record IsRowsBut (k kind a b : ℕ) (f : ℕ → Bool) (rows : List ℕ) : Type 0 where
+  pub boxes-in : k ≤ 16
+  pub right : (r : ℕ) → r < 6 * k → changes k kind a b r ≡ false → HasRow k (λ b. f (r * k + b)) r rows
 
-module _ (k : ℕ) (prices totals : List (List ℕ)) (done : List ℕ) where
-  -- After a step: its own row, and those that it can open, are counted anew.
-  module _ (kind a b : ℕ) (rows rows₁ : List ℕ) (h : IsRowsBut k kind a b prices totals done rows) (n₁ : Renewed k prices totals done (rowOf k kind a) rows rows₁) where
-    pub renewed-sent : (rows₂ : List ℕ) → (eqb kind 1 || eqb kind 4) ≡ true → Renewed k prices totals done (rowOf k (kind + 2) b) rows₁ rows₂ → IsRows k prices totals done rows₂
+module _ (k : ℕ) (f : ℕ → Bool) where
+  -- Row i has the places that f tells now, and the others have what they had.
+  abbrev pub RenewedIn : ℕ → List ℕ → List ℕ → Type 0
+  RenewedIn i rows rows′ = Renewed k (λ b. f (i * k + b)) i rows rows′
+
+  -- After a step: its own row, and those that it can open, are made anew.
+  module _ (kind a b : ℕ) (rows rows₁ : List ℕ) (h : IsRowsBut k kind a b f rows) (n₁ : RenewedIn (rowOf k kind a) rows rows₁) where
+    few : (r : ℕ) → r < 6 * k → r < 96
+    few r l = omega (arith, h .boxes-in)
+
+    pub renewed-sent : (rows₂ : List ℕ) → (eqb kind 1 || eqb kind 4) ≡ true → RenewedIn (rowOf k (kind + 2) b) rows₁ rows₂ → IsRows k f rows₂
     unfolding changes
     renewed-sent rows₂ t n₂ = record {
       long = n₂ .long;
-      right = λ r l. renewed-at k prices totals done (rowOf k (kind + 2) b) r rows₁ rows₂ n₂ (λ e₂. renewed-at k prices totals done (rowOf k kind a) r rows rows₁ n₁ (λ e₁. h .right r l (rw (e₁, t, e₂))));
+      right = λ r l. renewed-at k f (rowOf k (kind + 2) b) r rows₁ rows₂ (few r l) n₂ (λ e₂. renewed-at k f (rowOf k kind a) r rows rows₁ (few r l) n₁ (λ e₁. h .right r l (rw (e₁, t, e₂))));
     }
 
     module _ (t : (eqb kind 1 || eqb kind 4) ≡ false) where
-      pub renewed-own : (not (eqb kind 2) && not (eqb kind 3)) ≡ true → IsRows k prices totals done rows₁
+      pub renewed-own : (not (eqb kind 2) && not (eqb kind 3)) ≡ true → IsRows k f rows₁
       unfolding changes
       renewed-own u = record {
         long = n₁ .long;
-        right = λ r l. renewed-at k prices totals done (rowOf k kind a) r rows rows₁ n₁ (λ e₁. h .right r l (rw (e₁, t, neither (eqb kind 2) (eqb kind 3) u)));
+        right = λ r l. renewed-at k f (rowOf k kind a) r rows rows₁ (few r l) n₁ (λ e₁. h .right r l (rw (e₁, t, neither (eqb kind 2) (eqb kind 3) u)));
       }
         where
           neither : (x y : Bool) → (not x && not y) ≡ true → (x || y) ≡ false
@@ -47,12 +53,12 @@ module _ (k : ℕ) (prices totals : List (List ℕ)) (done : List ℕ) where
           neither false false u = refl
 
       pub renewed-multiplied : (rows₂ rows₃ : List ℕ) → (not (eqb kind 2) && not (eqb kind 3)) ≡ false →
-          Renewed k prices totals done (rowOf k 4 a) rows₁ rows₂ → Renewed k prices totals done (rowOf k 5 a) rows₂ rows₃ → IsRows k prices totals done rows₃
+          RenewedIn (rowOf k 4 a) rows₁ rows₂ → RenewedIn (rowOf k 5 a) rows₂ rows₃ → IsRows k f rows₃
       unfolding changes
       renewed-multiplied rows₂ rows₃ u n₂ n₃ = record {
         long = n₃ .long;
-        right = λ r l. renewed-at k prices totals done (rowOf k 5 a) r rows₂ rows₃ n₃ (λ e₃. renewed-at k prices totals done (rowOf k 4 a) r rows₁ rows₂ n₂
-            (λ e₂. renewed-at k prices totals done (rowOf k kind a) r rows rows₁ n₁ (λ e₁. h .right r l (rw (e₁, t, one-of (eqb kind 2) (eqb kind 3) u, e₂, e₃)))));
+        right = λ r l. renewed-at k f (rowOf k 5 a) r rows₂ rows₃ (few r l) n₃ (λ e₃. renewed-at k f (rowOf k 4 a) r rows₁ rows₂ (few r l) n₂
+            (λ e₂. renewed-at k f (rowOf k kind a) r rows rows₁ (few r l) n₁ (λ e₁. h .right r l (rw (e₁, t, one-of (eqb kind 2) (eqb kind 3) u, e₂, e₃)))));
       }
         where
           one-of : (x y : Bool) → (not x && not y) ≡ false → (x || y) ≡ true
@@ -63,7 +69,3 @@ module _ (k : ℕ) (prices totals : List (List ℕ)) (done : List ℕ) where
 -- Kinds 1 and 4 are at most 4.
 pub sent-kind : (n : ℕ) → (eqb n 1 || eqb n 4) ≡ true → n ≤ 4
 sent-kind n h = split (eqb n 1) (λ e. omega (arith, eqb-true n 1 e)) (λ e. omega (arith, eqb-true n 4 (rw e at h)))
-
--- A kind that is 2 or 3 is at most 3.
-pub multiply-kind : (n : ℕ) → (not (eqb n 2) && not (eqb n 3)) ≡ false → n ≤ 3
-multiply-kind n h = split (eqb n 2) (λ e. omega (arith, eqb-true n 2 e)) (λ e. split (eqb n 3) (λ f. omega (arith, eqb-true n 3 f)) (λ f. absurd (false≢true (sym (rw (e, f) at h)))))

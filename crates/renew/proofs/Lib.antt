@@ -2,3 +2,4 @@
 
 pub mod After
 pub mod Changed
+pub mod Place

@@ -1,74 +1,65 @@
-// The counts of rows after a step is marked: those that it can change are right again.
+// The rows after a step is marked: those that it can change are right again.
 ghost use mathlib.Core.Path.{_≡_};
-ghost use Prim.Native.Nat.{_+_, _-_, _≤_};
-ghost use lib.ListN.{length, getD, set};
-ghost use Rattle.laws.specs.Below.{naturals, only};
-ghost use Rattle.model.specs.Steps.{kindOf};
-ghost use Rattle.model.specs.Tables.{stepsDone};
+ghost use mathlib.Core.Bool.{Bool, true, false, _&&_, _||_, not};
+ghost use Prim.Native.Nat.{ℕ};
+ghost use lib.Dec.{eqb};
 ghost use Rattle.rules.specs.Marks.{MarksIn};
-ghost use Rattle.rules.specs.Rules.{permittedBy};
-ghost use Rattle.walk.specs.Rows.{rowOf, IsRows, OneReady, RowsBefore};
-use rows::renew_row;
+ghost use Rattle.walk.specs.Walk.{listedBy};
+ghost use Rattle.walk.specs.Rows.{rowOf, HasRow, IsRows, Renewed, PlaceOf, RowsBefore};
+use rows::put_row;
+use rows::row_at;
 use walk::one;
 
-// A row has one ready step less: its own is done.
-fn one_less(k: u16, kind: u16, a: u16, rows: &mut [u16; 96])
-    requires { ⌜ OneReady k kind a (now rows) ⌝ }
-    ensures { λ _. ⌜ now (rows .exit) ≡ set (now (rows .entry)) (rowOf k kind a) (getD (now (rows .entry)) (rowOf k kind a) 0 - 1) ⌝ }
+// A row loses a place that it has.
+fn one_less(k: u16, kind: u16, a: u16, b: u16, rows: &mut [u16; 192])
+    requires { ⌜ PlaceOf k kind a b 1 (now rows) ⌝ }
+    ensures { λ _. ⌜ ((f : ℕ → Bool) → HasRow k f (rowOf k kind a) (now (rows .entry)) → f b ≡ true →
+        Renewed k (λ i. f i && not (eqb b i)) (rowOf k kind a) (now (rows .entry)) (now (rows .exit))) ⌝ }
 {
-    let r = ((kind - 1) * k + a) as usize;
-    rows[r] -= 1;
+    let r = row_at(k, kind, a);
+    let word = tables::masks::clear_bit(rows[r], b);
+    let number = rows[96 + r] - 1;
+    put_row(r, word, number, rows);
 }
 
-// A row has one ready step more where this one of it is ready.
-fn one_more(
-    k: u16,
-    kind: u16,
-    a: u16,
-    b: u16,
-    prices: &[[u16; 16]; 16],
-    totals: &[[u16; 16]; 16],
-    done: &[u16],
-    rows: &mut [u16; 96],
-)
-    requires { ⌜ MarksIn k kind a b (now done) ⌝ }
-    requires { ⌜ (length (now rows) ≡ 96) × (getD (now rows) (rowOf k kind a) 0 ≤ 16) ⌝ }
-    ensures { λ _. ⌜ now (rows .exit) ≡ set (now (rows .entry)) (rowOf k kind a)
-        (getD (now (rows .entry)) (rowOf k kind a) 0 + only naturals (permittedBy k (now (prices .entry)) (now (totals .entry))
-        (stepsDone k (now (done .entry))) (kindOf kind) a b) 1) ⌝ }
+// A row gets a place that it lacks, where the test holds.
+fn one_more(k: u16, kind: u16, a: u16, b: u16, test: bool, rows: &mut [u16; 192])
+    requires { ⌜ PlaceOf k kind a b 0 (now rows) ⌝ }
+    ensures { λ _. ⌜ ((f : ℕ → Bool) → HasRow k f (rowOf k kind a) (now (rows .entry)) → f b ≡ false →
+        Renewed k (λ i. f i || (test && eqb b i)) (rowOf k kind a) (now (rows .entry)) (now (rows .exit))) ⌝ }
 {
-    let more = one(rules::ready::permitted(k, kind, a, b, prices, totals, done));
-    let r = ((kind - 1) * k + a) as usize;
-    rows[r] += more;
+    let r = row_at(k, kind, a);
+    let word = rules::ready::with_bit(rows[r], b, test);
+    let number = rows[96 + r] + one(test);
+    put_row(r, word, number, rows);
 }
 
-// After a step is marked: its own row has one ready step less, a receiver's one more, and where it was the last that
-// its box had to multiply, the rows that this opens are counted anew.
+// After a step is marked: its own row has one ready step less; where it sent a message, the receiver's has one more;
+// and where it multiplied prices, the rows of its box's totals are made anew.
 pub fn renew(
     k: u16,
     kind: u16,
     a: u16,
     b: u16,
-    prices: &[[u16; 16]; 16],
-    totals: &[[u16; 16]; 16],
+    receivers: &[u16; 16],
+    waits: &[[u16; 16]; 16],
     done: &[u16],
-    rows: &mut [u16; 96],
+    rows: &mut [u16; 192],
 )
     requires { ⌜ MarksIn k kind a b (now done) ⌝ }
-    requires { ⌜ RowsBefore k kind a b (now prices) (now totals) (now done) (now rows) ⌝ }
-    ensures { λ _. ⌜ IsRows k (now (prices .entry)) (now (totals .entry)) (now (done .entry)) (now (rows .exit)) ⌝ }
+    requires { ⌜ RowsBefore k kind a b (now receivers) (now waits) (now done) (now rows) ⌝ }
+    ensures { λ _. ⌜ IsRows k (listedBy k (now (receivers .entry)) (now (waits .entry)) (now (done .entry))) (now (rows .exit)) ⌝ }
 {
-    one_less(k, kind, a, rows);
+    one_less(k, kind, a, b, rows);
     if (kind == 1) | (kind == 4) {
-        one_more(k, kind + 2, b, a, prices, totals, done, rows);
+        let ready = rules::ready::permitted(k, kind + 2, b, a, receivers, waits, done);
+        one_more(k, kind + 2, b, a, ready, rows);
         return;
     }
     if (kind != 2) & (kind != 3) {
         return;
     }
-    if !rules::ready::multiplied(k, a, prices, done) {
-        return;
-    }
-    renew_row(k, 4, a, prices, totals, done, rows);
-    renew_row(k, 5, a, prices, totals, done, rows);
+    let got = rules::ready::got(k, a, done);
+    rows::renew_sends(k, a, got, waits, done, rows);
+    rows::renew_own(k, a, got, waits, done, rows);
 }

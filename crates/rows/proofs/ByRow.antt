@@ -1,25 +1,30 @@
--- Ready steps counted by rows. Assumes nothing.
-use mathlib.Core.Path.{_≡_, sym, ap, _∙_}
-use mathlib.Core.Bool.{Bool, true, false, _||_, not}
+-- Ready steps by rows. Assumes nothing.
+use mathlib.Core.Path.{_≡_, refl, sym, ap, _∙_}
+use mathlib.Core.Bool.{Bool, true, false, _&&_, _||_, not}
 use mathlib.Core.List.{List}
-use Prim.Native.Nat.{ℕ, zero, suc, _+_, _-_, _*_, _/_, _%_, _≤_, _<_}
+use Prim.Native.Nat.{ℕ, zero, suc, _+_, _-_, _*_, _/_, _%_, _≤_, _<_, _^_}
 use native.Mathlib.Omega.{arith}
 use native.Mathlib.Nat.{suc-mul, add-zero, zero-mul, mul-le-mul-right, div-add-mod', div-lt-iff-lt-mul, mod-lt}
-use lib.Dec.{eqb}
+use native.Mathlib.Numerals.{add-one}
+use lib.Arith.{digits-lt}
+use lib.Dec.{eqb, ltb}
 use lib.ListN.{getD, set, length, length-set}
 use lib.Seq.{getD-set-same, getD-set-other}
-use borrow.Author.Tests.{eqb-true, eqb-false}
-use Rattle.laws.specs.Below.{naturals, sum, only, count}
-use Rattle.laws.proofs.Bools.{split, and-false}
-use Rattle.laws.proofs.Below.{count-start, any-false, count-none, count-le}
-use Rattle.model.specs.Steps.{Kind, Steps, kindOf}
+use lib.Count.{ones}
+use borrow.Author.Tests.{eqb-true, eqb-false, lt-ltb}
+use Rattle.laws.specs.Below.{naturals, sum, only, count, nth, all}
+use Rattle.laws.specs.Masks.{bit, maskOf}
+use Rattle.laws.proofs.Bools.{split, eqb-same, and-one, and-false, and-comm}
+use Rattle.laws.proofs.Below.{count-start, count-cong, count-le, any-false, all-cong, count-none, count-with}
+use Rattle.laws.proofs.Ascending.{nth-is}
+use Rattle.laws.proofs.Masks.{mask-cong, mask-none, mask-below, bit-mask, mask-bits, ones-mask}
+use Rattle.model.specs.Steps.{kindOf, Steps, sendTotals, addOwn}
 use Rattle.model.specs.Tables.{stepsDone}
-use Rattle.rules.specs.Marks.{MarksIn}
-use Rattle.rules.specs.Rules.{fitsBy, readyBy, permittedBy}
-use Rattle.walk.specs.Walk.{PlaceIn, here, listedBy, WalkIn}
-use Rattle.walk.specs.Rows.{rowOf, rowCount, RowIn, IsRows, rowsTotal, FewRows, Renewed}
+use Rattle.rules.specs.Rules.{permittedBy, wordAt, totalsDueBy, fitsBy, hasGot, allGot, readyBy}
+use Rattle.walk.specs.Walk.{PlaceIn, here, listedBy, WalkIn, Found}
+use Rattle.walk.specs.Rows.{rowOf, HasRow, RowIn, IsRows, rowsTotal, FewRows, Renewed}
 use Rattle.walk.proofs.Places.{listed-at}
-use Rattle.walk.proofs.Rows.{rows-more, ready-row}
+use Rattle.walk.proofs.Rows.{rows-more, has-cong}
 
 -- Numbers below m, and n more.
 count-both : (n m : ℕ) (p : ℕ → Bool) → count (m + n) p ≡ count m p + count n (λ b. p (m + b))
@@ -53,20 +58,14 @@ row-in k r done w l = record {
   done-long = w .done-long;
 }
 
-pub row-place : (k r b : ℕ) (done : List ℕ) → WalkIn k done → r < 6 * k → b < k → PlaceIn k (r / k + 1) (r % k) b
-row-place k r b done w l lb = record {
-  boxes-in = w .boxes-in;
+pub row-place : (k r b : ℕ) → 1 ≤ k → k ≤ 16 → r < 6 * k → b < k → PlaceIn k (r / k + 1) (r % k) b
+row-place k r b some lk l lb = record {
+  boxes-in = lk;
   kind-from = omega arith;
-  kind-to = omega (arith, kind-few k r (w .some) l);
-  a-in = mod-lt r (w .some);
+  kind-to = omega (arith, kind-few k r some l);
+  a-in = mod-lt r some;
   b-in = lb;
 }
-
--- The marks that its test looks at.
-pub marks-at : (k r b : ℕ) (done : List ℕ) → WalkIn k done → r < 6 * k → b < k → MarksIn k (r / k + 1) (r % k) b done
-marks-at k r b done w l lb =
-    let p = row-place k r b done w l lb in
-    record { kind-from = p .kind-from; kind-to = p .kind-to; boxes-in = p .boxes-in; a-in = p .a-in; b-in = p .b-in; done-long = w .done-long }
 
 pub row-here : (k r b : ℕ) → here k (r / k + 1) (r % k) b ≡ r * k + b
 row-here k r b = ap (λ (x : ℕ). x * k + b) (row-digits k r)
@@ -75,109 +74,165 @@ row-here k r b = ap (λ (x : ℕ). x * k + b) (row-digits k r)
 pub row-below : (k kind a : ℕ) → k ≤ 16 → kind ≤ 6 → 1 ≤ kind → a < k → rowOf k kind a < 96
 row-below k kind a lk to from la = omega (arith, mul-le-mul-right {m = kind - 1} {n = 5} k (omega arith))
 
--- A step that is not made ready is not permitted.
-pub not-ready : (k : ℕ) (prices totals : List (List ℕ)) (d : Steps) (q : Kind) (a b : ℕ) → readyBy k prices d q a b ≡ false → permittedBy k prices totals d q a b ≡ false
-unfolding permittedBy
-not-ready k prices totals d q a b e = rw (e, and-false (not (d q a b))) (and-false (fitsBy prices totals q a b))
+-- A row by its places, of the first k boxes.
+pub row-listed : (k kind a : ℕ) (receivers : List ℕ) (waits : List (List ℕ)) (done : List ℕ) → k ≤ 16 → 1 ≤ kind → kind ≤ 6 → a < k → (b : ℕ) → b < k →
+    permittedBy receivers waits (stepsDone k done) (kindOf kind) a b ≡ listedBy k receivers waits done (rowOf k kind a * k + b)
+row-listed k kind a receivers waits done lk from to la b l =
+    listed-at k kind a b receivers waits done (record { boxes-in = lk; kind-from = from; kind-to = to; a-in = la; b-in = l })
 
-module _ (k : ℕ) (prices totals : List (List ℕ)) (done : List ℕ) where
-  -- Each row has at most k ready steps.
-  pub row-le : (r : ℕ) → rowCount k prices totals done r ≤ k
-  unfolding rowCount
-  row-le r = count-le k (λ b. listedBy k prices totals done (r * k + b))
+-- One row written: its word, and its number.
+module _ (k : ℕ) (f : ℕ → Bool) (i word number : ℕ) (rows : List ℕ) (l : i < 96) (n : length rows ≡ 192) where
+  long-1 : length (set rows i word) ≡ 192
+  long-1 = length-set rows i word ∙ n
 
-  module _ (rows : List ℕ) (h : IsRows k prices totals done rows) where
-    pub rows-few : k ≤ 16 → FewRows k rows
-    rows-few lk = record { boxes-in = lk; few = λ r l. rw (h .right r l) (omega (arith, row-le r)) }
+  pub written : word ≡ maskOf k f → number ≡ count k f → Renewed k f i rows (set (set rows i word) (96 + i) number)
+  written ew en = record {
+    long = length-set (set rows i word) (96 + i) number ∙ long-1;
+    here = record {
+      word-is = getD-set-other (set rows i word) (96 + i) i number 0 (λ e. omega arith) ∙ getD-set-same rows i word 0 (omega arith) ∙ ew;
+      count-is = getD-set-same (set rows i word) (96 + i) number 0 (omega (arith, long-1)) ∙ en;
+    };
+    others = λ r g lr ne h. record {
+      word-is = getD-set-other (set rows i word) (96 + i) r number 0 (λ e. omega arith) ∙ getD-set-other rows i r word 0 ne ∙ h .word-is;
+      count-is = getD-set-other (set rows i word) (96 + i) (96 + r) number 0 (λ e. ne (omega arith)) ∙ getD-set-other rows i (96 + r) word 0 (λ e. omega arith) ∙ h .count-is;
+    };
+  }
 
-    -- The counts of rows together are the count of their places.
-    pub rows-sum : (n : ℕ) → n ≤ 6 * k → rowsTotal rows n ≡ count (n * k) (listedBy k prices totals done)
-    unfolding rowsTotal rowCount sum naturals
-    rows-sum zero l = sym (ap (λ (x : ℕ). count x (listedBy k prices totals done)) (zero-mul k) ∙ count-start (listedBy k prices totals done))
-    rows-sum (suc n) l = rw (rows-sum n (omega arith), h .right n (omega arith)) (sym (row-more n k (listedBy k prices totals done)))
+-- The same row by other tests that agree, or by another name.
+pub renewed-cong : (k : ℕ) (f g : ℕ → Bool) (i j : ℕ) (rows rows′ : List ℕ) → i ≡ j → ((b : ℕ) → b < k → f b ≡ g b) → Renewed k f i rows rows′ → Renewed k g j rows rows′
+renewed-cong k f g i j rows rows′ e h n = record {
+  long = n .long;
+  here = rw (← e) (has-cong k f g i rows′ h (n .here));
+  others = λ r s l ne. n .others r s l (λ q. ne (q ∙ e));
+}
 
-    pub rows-ready : rowsTotal rows (6 * k) ≡ count (6 * k * k) (listedBy k prices totals done)
-    rows-ready = rows-sum (6 * k) (omega arith)
+module _ (k : ℕ) (f : ℕ → Bool) (rows : List ℕ) (h : IsRows k f rows) where
+  pub rows-few : k ≤ 16 → FewRows k rows
+  rows-few lk = record { boxes-in = lk; few = λ r l. rw (h .right r l .count-is) (omega (arith, count-le k (λ b. f (r * k + b)))) }
 
-    -- Searching among rows: how many are left to pass.
-    module _ (r left c : ℕ) (e : left + rowsTotal rows r ≡ c) where
-      -- It is in row r,
-      pub found-row : r < 6 * k → left + count (r * k) (listedBy k prices totals done) ≡ c
-      found-row l = rw (← (rows-sum r (omega arith))) e
+  -- The counts of rows together are the count of their places.
+  pub rows-sum : (n : ℕ) → n ≤ 6 * k → rowsTotal rows n ≡ count (n * k) f
+  unfolding rowsTotal sum naturals
+  rows-sum zero l = sym (ap (λ (x : ℕ). count x f) (zero-mul k) ∙ count-start f)
+  rows-sum (suc n) l = rw (rows-sum n (omega arith), h .right n (omega arith) .count-is) (sym (row-more n k f))
 
-      pub found-left : r < 6 * k → left < getD rows r 0 → left < rowCount k prices totals done r
-      found-left l lt = rw (h .right r l) at lt
+  pub rows-ready : rowsTotal rows (6 * k) ≡ count (6 * k * k) f
+  rows-ready = rows-sum (6 * k) (omega arith)
 
-      -- or it is not,
-      pub row-passed : getD rows r 0 ≤ left → left - getD rows r 0 + rowsTotal rows (r + 1) ≡ c
-      row-passed h = rw (rows-more rows r) (omega arith)
+  -- The bits of the word of a row.
+  row-bit : (r : ℕ) → r < 6 * k → (b : ℕ) → b < k → bit b (getD rows r 0) ≡ f (r * k + b)
+  row-bit r l b lb = ap (bit b) (h .right r l .word-is) ∙ bit-mask k b (λ b. f (r * k + b)) lb
 
-    -- and past the last row there were not so many.
-    pub rows-end : (r left c : ℕ) → r ≡ 6 * k → left + rowsTotal rows r ≡ c → c < count (6 * k * k) (listedBy k prices totals done) → ⊥
-    rows-end r left c e s l = let t : left + rowsTotal rows (6 * k) ≡ c = rw e at s in omega (arith, rows-ready)
+  -- Row r has the place that is meant: more bits than are left to pass,
+  pub row-some : (r left : ℕ) → r < 6 * k → left < getD rows (96 + r) 0 → left < count k (λ b. bit b (getD rows r 0))
+  row-some r left l lt =
+      let c : count k (λ b. bit b (getD rows r 0)) ≡ count k (λ b. f (r * k + b)) = count-cong k _ _ (row-bit r l) in
+      omega (arith, c, h .right r l .count-is)
 
-  -- A step of the row, tested and counted.
-  pub opened : (kind a b : ℕ) (t : Bool) (more : ℕ) → PlaceIn k kind a b → t ≡ permittedBy k prices totals (stepsDone k done) (kindOf kind) a b → more ≡ only naturals t 1 →
-      more ≡ only naturals (listedBy k prices totals done (here k kind a b)) 1
-  opened kind a b t more i e m = m ∙ ap (λ (s : Bool). only naturals s 1) (e ∙ listed-at k kind a b prices totals done i)
+  -- and the bit that has so many before it.
+  pub row-found : (r left c b : ℕ) → 1 ≤ k → k ≤ 16 → left + rowsTotal rows r ≡ c → r < 6 * k → b < k → bit b (getD rows r 0) ≡ true → count b (λ i. bit i (getD rows r 0)) ≡ left →
+      Found k (nth (6 * k * k) f c) (r / k + 1) (r % k) b
+  row-found r left c b some lk e l lb on m = record {
+    place-in = row-place k r b some lk l lb;
+    place-is = row-here k r b ∙ sym (nth-is (6 * k * k) f c (r * k + b) (digits-lt {q = r} {m = 6 * k} l lb) (sym (row-bit r l b lb) ∙ on) counted);
+  }
+    where
+      below : count b (λ i. bit i (getD rows r 0)) ≡ count b (λ i. f (r * k + i))
+      below = count-cong b _ _ (λ i li. row-bit r l i (omega arith))
 
-  -- A row whose first step is not made ready has none, where its kind does not ask for the second box.
-  pub closed-row : (kind a : ℕ) → RowIn k kind a done → (eqb kind 3 || eqb kind 6) ≡ false → readyBy k prices (stepsDone k done) (kindOf kind) a 0 ≡ false → 0 ≡ rowCount k prices totals done (rowOf k kind a)
-  unfolding rowCount
-  closed-row kind a w asks e = sym (count-none k _ (any-false k _ (λ b l.
-      sym (listed-at k kind a b prices totals done (record { boxes-in = w .boxes-in; kind-from = w .kind-from; kind-to = w .kind-to; a-in = w .a-in; b-in = l }))
-      ∙ not-ready k prices totals (stepsDone k done) (kindOf kind) a b (sym (ready-row k prices (stepsDone k done) a b kind (w .kind-to) asks) ∙ e))))
+      counted : count (r * k + b) f ≡ c
+      counted = omega (arith, count-both b (r * k) f, below, rows-sum r (omega arith))
 
-  -- So the first step of a row that has one is made ready.
-  pub open-row : (kind a : ℕ) → RowIn k kind a done → 1 ≤ rowCount k prices totals done (rowOf k kind a) → (eqb kind 3 || eqb kind 6) ≡ false → true ≡ readyBy k prices (stepsDone k done) (kindOf kind) a 0
-  open-row kind a w some asks = split (readyBy k prices (stepsDone k done) (kindOf kind) a 0) sym (λ e. absurd (omega (arith, closed-row kind a w asks e)))
+  -- Past the last row there were not so many.
+  pub rows-end : (r left c : ℕ) → r ≡ 6 * k → left + rowsTotal rows r ≡ c → c < count (6 * k * k) f → ⊥
+  rows-end r left c e s l = let t : left + rowsTotal rows (6 * k) ≡ c = rw e at s in omega (arith, rows-ready)
 
-  -- Searching in row r: it begins with the places before the row,
-  module _ (r c : ℕ) where
-    pub search-first : c + count (r * k + 0) (listedBy k prices totals done) ≡ c + count (r * k) (listedBy k prices totals done)
-    search-first = ap (λ (x : ℕ). c + count x (listedBy k prices totals done)) (add-zero (r * k))
+-- The rows of one kind, and the first of the next.
+pub kind-rows : (q k : ℕ) → q < 6 → q * k + k ≤ 6 * k
+kind-rows q k l = omega (arith, suc-mul q k, mul-le-mul-right {m = suc q} {n = 6} k (omega arith))
 
-    pub search-next : (x b : ℕ) → x + count (r * k + b + 1) (listedBy k prices totals done) ≡ c → x + count (r * k + (b + 1)) (listedBy k prices totals done) ≡ c
-    search-next x b h = ap (λ (y : ℕ). x + count y (listedBy k prices totals done)) (regroup (r * k) b) ∙ h
-      where
-        regroup : (y b : ℕ) → y + (b + 1) ≡ y + b + 1
-        regroup y b = omega arith
+pub next-kind : (q k : ℕ) → (q + 1) * k ≡ q * k + k
+next-kind q k = ap (λ (x : ℕ). x * k) (add-one q) ∙ suc-mul q k
 
-    -- and ends in it.
-    pub search-end : (left b : ℕ) → b ≡ k → left + count (r * k + b) (listedBy k prices totals done) ≡ c + count (r * k) (listedBy k prices totals done) → c < rowCount k prices totals done r → ⊥
-    unfolding rowCount
-    search-end left b e h l =
-        let t : left + count (r * k + k) (listedBy k prices totals done) ≡ c + count (r * k) (listedBy k prices totals done) = rw e at h in
-        omega (arith, count-both k (r * k) (listedBy k prices totals done))
+-- A row is passed.
+pub row-passed : (rows : List ℕ) (r left c : ℕ) → left + rowsTotal rows r ≡ c → getD rows (96 + r) 0 ≤ left → left - getD rows (96 + r) 0 + rowsTotal rows (r + 1) ≡ c
+row-passed rows r left c e h = rw (rows-more rows r) (omega arith)
 
-  -- Rows counted one after the other: those below r.
-  pub record CountedTo (rows : List ℕ) (r : ℕ) : Type 0 where
-    pub long : length rows ≡ 96
-    pub right : (q : ℕ) → q < r → getD rows q 0 ≡ rowCount k prices totals done q
+module _ (k : ℕ) (f : ℕ → Bool) where
+  -- Rows made one after the other: those below r.
+  pub record MadeTo (rows : List ℕ) (r : ℕ) : Type 0 where
+    pub long : length rows ≡ 192
+    pub right : (q : ℕ) → q < r → HasRow k (λ b. f (q * k + b)) q rows
 
-  pub counted-first : (rows : List ℕ) → length rows ≡ 96 → CountedTo rows 0
-  counted-first rows e = record { long = e; right = λ q l. absurd (omega arith) }
+  pub made-first : (rows : List ℕ) → length rows ≡ 192 → MadeTo rows 0
+  made-first rows e = record { long = e; right = λ q l. absurd (omega arith) }
 
-  -- A row that is counted anew has its count, and the others keep theirs.
-  pub renewed-at : (i r : ℕ) (rows rows′ : List ℕ) → Renewed k prices totals done i rows rows′ → (eqb r i ≡ false → getD rows r 0 ≡ rowCount k prices totals done r) → getD rows′ r 0 ≡ rowCount k prices totals done r
-  renewed-at i r rows rows′ n f =
+  -- A row that is made anew has what it is to have, and the others keep theirs.
+  pub renewed-at : (i r : ℕ) (rows rows′ : List ℕ) → r < 96 → Renewed k (λ b. f (i * k + b)) i rows rows′ → (eqb r i ≡ false → HasRow k (λ b. f (r * k + b)) r rows) →
+      HasRow k (λ b. f (r * k + b)) r rows′
+  renewed-at i r rows rows′ l n h =
       split (eqb r i)
       (λ e. rw (eqb-true r i e) (n .here))
-      (λ e. n .others r (eqb-false r i e) ∙ f e)
+      (λ e. n .others r _ l (eqb-false r i e) (h e))
 
-  pub counted-next : (r i : ℕ) (rows rows′ : List ℕ) → i ≡ r → CountedTo rows r → Renewed k prices totals done i rows rows′ → CountedTo rows′ (r + 1)
-  counted-next r i rows rows′ e w n = record {
+  pub made-next : (r : ℕ) (rows rows′ : List ℕ) → r < 96 → MadeTo rows r → Renewed k (λ b. f (r * k + b)) r rows rows′ → MadeTo rows′ (r + 1)
+  made-next r rows rows′ lr w n = record {
     long = n .long;
-    right = λ q l. renewed-at i q rows rows′ n (λ f. w .right q (let ne : q ≡ i → ⊥ = eqb-false q i f in omega arith));
+    right = λ q l. renewed-at r q rows rows′ (omega arith) n (λ e. w .right q (let ne : q ≡ r → ⊥ = eqb-false q r e in omega arith));
   }
 
-  pub counted-all : (rows : List ℕ) (r : ℕ) → r ≡ 6 * k → CountedTo rows r → IsRows k prices totals done rows
-  counted-all rows r e w = record { long = w .long; right = λ q l. w .right q (omega arith) }
+  pub made-all : (rows : List ℕ) (r : ℕ) → r ≡ 6 * k → MadeTo rows r → IsRows k f rows
+  made-all rows r e w = record { long = w .long; right = λ q l. w .right q (omega arith) }
 
-  -- One row written.
-  pub written : (i found : ℕ) (rows : List ℕ) → i < 96 → length rows ≡ 96 → found ≡ rowCount k prices totals done i → Renewed k prices totals done i rows (set rows i found)
-  written i found rows l n e = record {
-    long = length-set rows i found ∙ n;
-    here = getD-set-same rows i found 0 (omega arith) ∙ e;
-    others = λ r ne. getD-set-other rows i r found 0 ne;
-  }
+-- A row that has one place only, where a test holds.
+module _ (k a : ℕ) (t : Bool) (f : ℕ → Bool) (la : a < k) (e : (b : ℕ) → f b ≡ (eqb a b && t)) where
+  pub only-word : (r : ℕ) → k ≤ 16 → ((g : ℕ → Bool) → 0 ≡ maskOf 16 g → r ≡ maskOf 16 (λ b. g b || (t && eqb a b))) → r ≡ maskOf k f
+  only-word r lk h =
+      h (λ b. false) (sym (mask-none 16))
+      ∙ mask-cong 16 _ (λ b. ltb b k && f b) (λ b l. same b)
+      ∙ mask-below k 16 f lk
+    where
+      same : (b : ℕ) → (t && eqb a b) ≡ (ltb b k && f b)
+      same b =
+          split (eqb a b)
+          (λ q. let i : a ≡ b = eqb-true a b q in rw (e b, ← i, eqb-same a, lt-ltb a k la) (and-one t))
+          (λ q. rw (e b, q, and-false t) (sym (and-false (ltb b k))))
+
+  pub only-count : only naturals t 1 ≡ count k f
+  only-count =
+      omega (
+        arith,
+        count-cong k f (λ b. false || (t && eqb a b)) (λ b l. e b ∙ and-comm (eqb a b) t),
+        count-with k a (λ b. false) t la refl,
+        count-none k (λ b. false) (any-false k (λ b. false) (λ b l. refl)),
+      )
+
+-- A 16-bit word has at most 16 bits.
+pub ones-few : (w : ℕ) → w < 2 ^ 16 → ones w ≤ 16
+ones-few w l = omega (arith, ap ones (sym (mask-bits 16 w l)) ∙ ones-mask 16 (λ b. bit b w), count-le 16 (λ b. bit b w))
+
+-- The steps of totals, told from the boxes whose prices box a has.
+module _ (waits : List (List ℕ)) (d : Steps) (a b w g : ℕ) (cov : Bool) (ew : w ≡ wordAt waits a b) (eg : g ≡ maskOf 16 (hasGot d a)) (ec : cov ≡ all 16 (λ o. not (bit o w) || bit o g)) where
+  covers-got : cov ≡ allGot waits d a b
+  unfolding allGot
+  covers-got = ec ∙ all-cong 16 _ _ (λ o l. rw (ew, eg, bit-mask 16 o (hasGot d a) l))
+
+  pub sends-open : (receivers : List ℕ) (marked : Bool) → marked ≡ d sendTotals a b →
+      ((not (eqb a b) && not (eqb w 0)) && (not marked && cov)) ≡ permittedBy receivers waits d sendTotals a b
+  unfolding permittedBy fitsBy totalsDueBy readyBy
+  sends-open receivers marked em = rw (covers-got, em, ew)
+
+-- The same of its own.
+pub own-open : (receivers : List ℕ) (waits : List (List ℕ)) (d : Steps) (a w g : ℕ) (marked cov : Bool) → w ≡ wordAt waits a a → g ≡ maskOf 16 (hasGot d a) →
+    cov ≡ all 16 (λ o. not (bit o w) || bit o g) → marked ≡ d addOwn a a → (b : ℕ) → permittedBy receivers waits d addOwn a b ≡ (eqb a b && (not marked && cov))
+unfolding permittedBy fitsBy readyBy
+own-open receivers waits d a w g marked cov ew eg ec em b =
+    split (eqb a b)
+    (λ q. let i : a ≡ b = eqb-true a b q in rw (← i, em, covers-got waits d a a w g cov ew eg ec))
+    (λ q. rw q)
+
+-- A place of row r by its number.
+pub row-places : (k r : ℕ) (receivers : List ℕ) (waits : List (List ℕ)) (done : List ℕ) → 1 ≤ k → k ≤ 16 → r < 6 * k → (b : ℕ) → b < k →
+    permittedBy receivers waits (stepsDone k done) (kindOf (r / k + 1)) (r % k) b ≡ listedBy k receivers waits done (r * k + b)
+row-places k r receivers waits done some lk l b lb =
+    listed-at k (r / k + 1) (r % k) b receivers waits done (row-place k r b some lk l lb) ∙ ap (listedBy k receivers waits done) (row-here k r b)

@@ -2,14 +2,14 @@
 use mathlib.Core.Path.{_≡_, refl}
 use mathlib.Core.List.{List}
 use mathlib.Core.Bool.{Bool, true, false, cond, _&&_, _||_, not}
-use Prim.Native.Nat.{ℕ, zero, suc, _≤_, _<_}
+use Prim.Native.Nat.{ℕ, zero, suc, _≤_}
 use native.Mathlib.Omega.{arith}
 use lib.Dec.{eqb, leb}
 use borrow.Author.Tests.{leb-true}
 use Rattle.laws.proofs.Bools.{and-l, and-r}
-use Rattle.model.specs.Steps.{kindOf, oneBox, Steps}
+use Rattle.model.specs.Steps.{kindNumber, kindOf, oneBox, Steps}
 use Rattle.model.specs.Step.{isKind}
-use Rattle.rules.specs.Rules.{fitsBy, multipliedBy, readyBy}
+use Rattle.rules.specs.Rules.{fitsBy, readyBy}
 
 -- A kind is 1 to 6.
 pub kind-from : (n : ℕ) → isKind n ≡ true → 1 ≤ n
@@ -37,9 +37,9 @@ as-asked true true = refl
 as-asked true false = refl
 as-asked false s = refl
 
-module _ (prices totals : List (List ℕ)) (a b : ℕ) where
+module _ (receivers : List ℕ) (waits : List (List ℕ)) (a b : ℕ) where
   -- The kinds with one box fit where their boxes are equal.
-  pub fits-one : (n : ℕ) → 1 ≤ n → n ≤ 6 → (n ≡ 1 → ⊥) → (n ≡ 3 → ⊥) → (n ≡ 4 → ⊥) → (n ≡ 6 → ⊥) → eqb a b ≡ fitsBy prices totals (kindOf n) a b
+  pub fits-one : (n : ℕ) → 1 ≤ n → n ≤ 6 → (n ≡ 1 → ⊥) → (n ≡ 3 → ⊥) → (n ≡ 4 → ⊥) → (n ≡ 6 → ⊥) → eqb a b ≡ fitsBy receivers waits (kindOf n) a b
   unfolding fitsBy kindOf
   fits-one zero h l x y z w = absurd (omega arith)
   fits-one (suc zero) h l x y z w = absurd (x refl)
@@ -50,24 +50,34 @@ module _ (prices totals : List (List ℕ)) (a b : ℕ) where
   fits-one (suc (suc (suc (suc (suc (suc zero)))))) h l x y z w = absurd (w refl)
   fits-one (suc (suc (suc (suc (suc (suc (suc n))))))) h l x y z w = absurd (omega arith)
 
-module _ (k : ℕ) (prices : List (List ℕ)) (d : Steps) (a b : ℕ) where
-  -- Kinds 4 and 5 are ready once all is multiplied.
-  pub ready-last : (n : ℕ) → 4 ≤ n → n ≤ 6 → (n ≡ 6 → ⊥) → multipliedBy k prices d a ≡ readyBy k prices d (kindOf n) a b
-  unfolding readyBy kindOf
-  ready-last zero h l w = absurd (omega arith)
-  ready-last (suc zero) h l w = absurd (omega arith)
-  ready-last (suc (suc zero)) h l w = absurd (omega arith)
-  ready-last (suc (suc (suc zero))) h l w = absurd (omega arith)
-  ready-last (suc (suc (suc (suc zero)))) h l w = refl
-  ready-last (suc (suc (suc (suc (suc zero))))) h l w = refl
-  ready-last (suc (suc (suc (suc (suc (suc zero)))))) h l w = absurd (w refl)
-  ready-last (suc (suc (suc (suc (suc (suc (suc n))))))) h l w = absurd (omega arith)
-
+module _ (waits : List (List ℕ)) (d : Steps) (a b : ℕ) where
   -- Kinds 1 and 2 are ready from the start.
-  pub ready-first : (n : ℕ) → 1 ≤ n → n < 4 → (n ≡ 3 → ⊥) → true ≡ readyBy k prices d (kindOf n) a b
+  pub ready-first : (n : ℕ) → 1 ≤ n → n ≤ 6 → (n ≡ 3 → ⊥) → (n ≡ 4 → ⊥) → (n ≡ 5 → ⊥) → (n ≡ 6 → ⊥) → true ≡ readyBy waits d (kindOf n) a b
   unfolding readyBy kindOf
-  ready-first zero h l w = absurd (omega arith)
-  ready-first (suc zero) h l w = refl
-  ready-first (suc (suc zero)) h l w = refl
-  ready-first (suc (suc (suc zero))) h l w = absurd (w refl)
-  ready-first (suc (suc (suc (suc n)))) h l w = absurd (omega arith)
+  ready-first zero h l x y z w = absurd (omega arith)
+  ready-first (suc zero) h l x y z w = refl
+  ready-first (suc (suc zero)) h l x y z w = refl
+  ready-first (suc (suc (suc zero))) h l x y z w = absurd (x refl)
+  ready-first (suc (suc (suc (suc zero)))) h l x y z w = absurd (y refl)
+  ready-first (suc (suc (suc (suc (suc zero))))) h l x y z w = absurd (z refl)
+  ready-first (suc (suc (suc (suc (suc (suc zero)))))) h l x y z w = absurd (w refl)
+  ready-first (suc (suc (suc (suc (suc (suc (suc n))))))) h l x y z w = absurd (omega arith)
+
+-- Kinds up to 3 are those of prices, the others those of totals.
+pub price-side : (n : ℕ) → n ≤ 3 → kindNumber (kindOf n) ≤ 3
+unfolding kindNumber kindOf
+price-side zero h = omega arith
+price-side (suc zero) h = omega arith
+price-side (suc (suc zero)) h = omega arith
+price-side (suc (suc (suc zero))) h = omega arith
+price-side (suc (suc (suc (suc n)))) h = absurd (omega arith)
+
+pub total-side : (n : ℕ) → 4 ≤ n → 4 ≤ kindNumber (kindOf n)
+unfolding kindNumber kindOf
+total-side zero h = absurd (omega arith)
+total-side (suc zero) h = absurd (omega arith)
+total-side (suc (suc zero)) h = absurd (omega arith)
+total-side (suc (suc (suc zero))) h = absurd (omega arith)
+total-side (suc (suc (suc (suc zero)))) h = omega arith
+total-side (suc (suc (suc (suc (suc zero))))) h = omega arith
+total-side (suc (suc (suc (suc (suc (suc n)))))) h = omega arith

@@ -22,7 +22,7 @@ use Rattle.model.specs.Tables.{stepsDone, marksOf}
 use Rattle.rules.specs.Marks.{marked}
 use Rattle.model.proofs.Step.{marks-bits}
 use Rattle.model.proofs.Tables.{kind-place, kind-six, place-in}
-use Rattle.model.proofs.Cursor.{number-place}
+use Rattle.model.proofs.Machine.{number-place}
 
 -- The place of a step is below 6 × K × K, and that is small.
 pub row-in : (k kind a : ℕ) → kind - 1 < 6 → a < k → (kind - 1) * k + a < 6 * k

@@ -1,43 +1,28 @@
 -- The ways through the tests: each answer is what its definition picks at the tests that led there. Assumes nothing.
-use mathlib.Core.Path.{_≡_, sym, ap, _∙_}
+use mathlib.Core.Path.{_≡_, sym}
 use mathlib.Core.List.{List}
-use mathlib.Core.Bool.{Bool, true, false, _&&_}
+use mathlib.Core.Bool.{Bool, true, false}
 use Prim.Native.Nat.{ℕ, _*_, _≤_, _<_}
 use lib.Dec.{ltb}
 use lib.ListN.{length}
 use borrow.Author.Tests.{ltb-true}
-use Rattle.laws.specs.Below.{all}
-use Rattle.laws.proofs.Bools.{and-l, and-r, and-true, and-false}
-use Rattle.laws.proofs.Below.{all-fails}
-use Rattle.model.specs.Steps.{Kind, multiplyOwn, kindOf, Steps}
+use Rattle.laws.proofs.Bools.{and-l, and-r, and-false}
+use Rattle.model.specs.Steps.{Kind, kindOf, Steps}
 use Rattle.model.specs.Step.{isKind}
 use Rattle.rules.specs.Marks.{MarksIn}
-use Rattle.rules.specs.Rules.{fitsBy, boxesFitBy, receivedFrom, multipliedBy, readyBy, permittedBy}
+use Rattle.rules.specs.Rules.{fitsBy, boxesFitBy, readyBy, permittedBy}
 use Rattle.rules.proofs.ByKind.{kind-from, kind-to}
 
-module _ (k : ℕ) (prices : List (List ℕ)) (d : Steps) (a : ℕ) where
-  pub multiplied-not : d multiplyOwn a a ≡ false → false ≡ multipliedBy k prices d a
-  unfolding multipliedBy
-  multiplied-not e = rw e
-
-  pub multiplied-fails : (c : ℕ) → c < k → receivedFrom prices d a c ≡ false → false ≡ multipliedBy k prices d a
-  unfolding multipliedBy
-  multiplied-fails c l e = sym (ap (λ (t : Bool). d multiplyOwn a a && t) (all-fails k (receivedFrom prices d a) c l e) ∙ and-false (d multiplyOwn a a))
-
-  pub multiplied-all : d multiplyOwn a a ≡ true → true ≡ all k (receivedFrom prices d a) → true ≡ multipliedBy k prices d a
-  unfolding multipliedBy
-  multiplied-all e h = sym (and-true e (sym h))
-
-module _ (k : ℕ) (prices totals : List (List ℕ)) (d : Steps) (q : Kind) (a b : ℕ) where
-  pub permitted-unfit : fitsBy prices totals q a b ≡ false → false ≡ permittedBy k prices totals d q a b
+module _ (receivers : List ℕ) (waits : List (List ℕ)) (d : Steps) (q : Kind) (a b : ℕ) where
+  pub permitted-unfit : fitsBy receivers waits q a b ≡ false → false ≡ permittedBy receivers waits d q a b
   unfolding permittedBy
   permitted-unfit e = rw e
 
-  pub permitted-done : d q a b ≡ true → false ≡ permittedBy k prices totals d q a b
+  pub permitted-done : d q a b ≡ true → false ≡ permittedBy receivers waits d q a b
   unfolding permittedBy
-  permitted-done e = rw e (sym (and-false (fitsBy prices totals q a b)))
+  permitted-done e = rw e (sym (and-false (fitsBy receivers waits q a b)))
 
-  pub permitted-ready : (r : Bool) → fitsBy prices totals q a b ≡ true → d q a b ≡ false → r ≡ readyBy k prices d q a b → r ≡ permittedBy k prices totals d q a b
+  pub permitted-ready : (r : Bool) → fitsBy receivers waits q a b ≡ true → d q a b ≡ false → r ≡ readyBy waits d q a b → r ≡ permittedBy receivers waits d q a b
   unfolding permittedBy
   permitted-ready r e h w = rw (e, h) w
 

@@ -1,65 +1,84 @@
--- The conditions 22 to 26 of a step, told from the two tables of messages and the set of steps done.
+-- The conditions 22 to 26 of a step, told from words of receivers and waits and the set of steps done.
+use mathlib.Core.Path.{_≡_}
 use mathlib.Core.List.{List, [], _∷_}
 use mathlib.Core.Bool.{Bool, true, cond, _&&_, _||_, not}
 use Prim.Native.Nat.{ℕ, _*_, _≤_, _<_}
 use lib.ListN.{length, getD}
 use lib.Dec.{eqb, ltb}
 use Rattle.laws.specs.Below.{all}
-use Rattle.model.specs.Steps.{kindOf, sendPrices, multiplyOwn, receivePrices, sendTotals, addOwn, receiveTotals, Steps, oneBox}
+use Rattle.laws.specs.Masks.{bit}
+use Rattle.model.specs.Job.{Job, pricesDue, totalsDue}
+use Rattle.model.specs.Steps.{kindOf, sendPrices, multiplyOwn, receivePrices, sendTotals, addOwn, receiveTotals, Steps, oneBox, allAdded}
 use Rattle.model.specs.Step.{Asked, isKind}
 
--- How many words go from box a to box b, by a table of messages.
-abbrev pub wordsTo : List (List ℕ) → ℕ → ℕ → ℕ
-wordsTo table a b = getD (getD table a []) b 0
+-- What is told of a job beforehand, in words of one bit for each box: `receivers` has for each box those that it is to send prices to, and
+-- `waits` for boxes a and b the owners whose prices a waits for before it has added all its tallies of b's grocers.
 
--- There is a message from box a to box b: it has words.
-unfoldable pub due : List (List ℕ) → ℕ → ℕ → Bool
-due table a b = not (eqb (wordsTo table a b) 0)
+-- The word of boxes a and b in a table of such words.
+abbrev pub wordAt : List (List ℕ) → ℕ → ℕ → ℕ
+wordAt waits a b = getD (getD waits a []) b 0
+
+-- Prices go from box a to box b, another box.
+unfoldable pub pricesDueBy : List ℕ → ℕ → ℕ → Bool
+pricesDueBy receivers a b = not (eqb a b) && bit b (getD receivers a 0)
+
+-- Totals go from box a to box b, another box: a has a tally of b's grocers, and so waits for its price.
+unfoldable pub totalsDueBy : List (List ℕ) → ℕ → ℕ → Bool
+totalsDueBy waits a b = not (eqb a b) && not (eqb (wordAt waits a b) 0)
 
 -- Message steps exist only for nonempty lists; steps 2 and 5 exist for every box.
-unfoldable pub fitsBy : List (List ℕ) → List (List ℕ) → Steps
-fitsBy prices totals sendPrices a b = due prices a b
-fitsBy prices totals multiplyOwn a b = eqb a b
-fitsBy prices totals receivePrices a b = due prices b a
-fitsBy prices totals sendTotals a b = due totals a b
-fitsBy prices totals addOwn a b = eqb a b
-fitsBy prices totals receiveTotals a b = due totals b a
+unfoldable pub fitsBy : List ℕ → List (List ℕ) → Steps
+fitsBy receivers waits sendPrices a b = pricesDueBy receivers a b
+fitsBy receivers waits multiplyOwn a b = eqb a b
+fitsBy receivers waits receivePrices a b = pricesDueBy receivers b a
+fitsBy receivers waits sendTotals a b = totalsDueBy waits a b
+fitsBy receivers waits addOwn a b = eqb a b
+fitsBy receivers waits receiveTotals a b = totalsDueBy waits b a
 
 -- Both boxes are below k, and they are equal or differ as the kind asks.
 unfoldable pub boxesFitBy : ℕ → Steps
 boxesFitBy k q a b = ltb a k && (ltb b k && cond (oneBox q) (eqb a b) (not (eqb a b)))
 
--- Box a has received from box c what c is to send it.
-unfoldable pub receivedFrom : List (List ℕ) → Steps → ℕ → ℕ → Bool
-receivedFrom prices d a c = not (due prices c a) || d receivePrices a c
+-- Box a has the prices of box o and has added its tallies of them: its own by step 2, those of others by step 3.
+unfoldable pub hasGot : Steps → ℕ → ℕ → Bool
+hasGot d a o = cond (eqb o a) (d multiplyOwn a a) (d receivePrices a o)
 
--- Step 2 and every due step 3 of box a are done.
-unfoldable pub multipliedBy : ℕ → List (List ℕ) → Steps → ℕ → Bool
-multipliedBy k prices d a = d multiplyOwn a a && all k (receivedFrom prices d a)
+-- Box a has got all that its totals of box b's grocers wait for.
+unfoldable pub allGot : List (List ℕ) → Steps → ℕ → ℕ → Bool
+allGot waits d a b = all 16 (λ o. not (bit o (wordAt waits a b)) || hasGot d a o)
 
--- The steps done make this one ready: 1 and 2 from the start, 3 and 6 once sent, 4 and 5 once all is multiplied.
-unfoldable pub readyBy : ℕ → List (List ℕ) → Steps → Steps
-readyBy k prices d sendPrices a b = true
-readyBy k prices d multiplyOwn a b = true
-readyBy k prices d receivePrices a b = d sendPrices b a
-readyBy k prices d sendTotals a b = multipliedBy k prices d a
-readyBy k prices d addOwn a b = multipliedBy k prices d a
-readyBy k prices d receiveTotals a b = d sendTotals b a
+-- The steps done make this one ready: 1 and 2 from the start, 3 and 6 once sent, 4 once all that it waits for is got, and so 5 for its own grocers.
+unfoldable pub readyBy : List (List ℕ) → Steps → Steps
+readyBy waits d sendPrices a b = true
+readyBy waits d multiplyOwn a b = true
+readyBy waits d receivePrices a b = d sendPrices b a
+readyBy waits d sendTotals a b = allGot waits d a b
+readyBy waits d addOwn a b = allGot waits d a a
+readyBy waits d receiveTotals a b = d sendTotals b a
 
--- A step of two boxes below k is permitted when the job has it, it is not done and the steps done make it ready.
-unfoldable pub permittedBy : ℕ → List (List ℕ) → List (List ℕ) → Steps → Steps
-permittedBy k prices totals d q a b = fitsBy prices totals q a b && (not (d q a b) && readyBy k prices d q a b)
+-- A step of two boxes below K is permitted when the job has it, it is not done and the steps done make it ready.
+unfoldable pub permittedBy : List ℕ → List (List ℕ) → Steps → Steps
+permittedBy receivers waits d q a b = fitsBy receivers waits q a b && (not (d q a b) && readyBy waits d q a b)
 
 -- Conditions 22 to 26, where the steps of d are done.
-unfoldable pub rulesBy : ℕ → List (List ℕ) → List (List ℕ) → Steps → Asked → List (Bool × ℕ)
-rulesBy k prices totals d q =
+unfoldable pub rulesBy : ℕ → List ℕ → List (List ℕ) → Steps → Asked → List (Bool × ℕ)
+rulesBy k receivers waits d q =
     let n = kindOf (q .kind) in
     (not (isKind (q .kind)), 22)
     ∷ (not (boxesFitBy k n (q .first) (q .second)), 23)
-    ∷ (not (fitsBy prices totals n (q .first) (q .second)), 24)
+    ∷ (not (fitsBy receivers waits n (q .first) (q .second)), 24)
     ∷ (d n (q .first) (q .second), 25)
-    ∷ (not (readyBy k prices d n (q .first) (q .second)), 26)
+    ∷ (not (readyBy waits d n (q .first) (q .second)), 26)
     ∷ []
+
+-- The words of receivers are those of job j.
+pub record ReceiversOf (j : Job) (receivers : List ℕ) : Type 0 where
+  pub due-is : (a b : ℕ) → a < j .boxes → b < j .boxes → pricesDueBy receivers a b ≡ pricesDue j a b
+
+-- The words of waits are those of job j: they tell its messages of totals, and when a box has added all its tallies of a box's grocers.
+pub record WaitsOf (j : Job) (waits : List (List ℕ)) : Type 0 where
+  pub due-is : (a b : ℕ) → a < j .boxes → b < j .boxes → totalsDueBy waits a b ≡ totalsDue j a b
+  pub added-is : (d : Steps) (a b : ℕ) → a < j .boxes → b < j .boxes → allGot waits d a b ≡ allAdded j d a b
 
 -- What the tests of one box require: at most 16 boxes, box a one of them, and marks as many as they need.
 pub record BoxIn (k a : ℕ) (done : List ℕ) : Type 0 where

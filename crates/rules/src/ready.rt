@@ -1,31 +1,44 @@
-// The conditions 22 to 26 of a step, from the two tables of messages and the marks of steps done.
+// The conditions 22 to 26 of a step, from the words of receivers and waits and the marks of steps done.
 ghost use mathlib.Core.Path.{_≡_};
-ghost use Prim.Native.Nat.{_*_, _≤_, _<_};
+ghost use mathlib.Core.Bool.{Bool, _&&_, _||_, not};
+ghost use Prim.Native.Nat.{ℕ, _*_, _≤_, _<_};
+ghost use lib.Dec.{eqb};
 ghost use lib.ListN.{length};
+ghost use Rattle.laws.specs.Below.{all};
 ghost use Rattle.laws.specs.Checks.{firstMet};
+ghost use Rattle.laws.specs.Masks.{bit, maskOf};
 ghost use Rattle.model.specs.Steps.{kindOf, oneBox};
 ghost use Rattle.model.specs.Step.{asked, isKind};
 ghost use Rattle.model.specs.Tables.{stepsDone};
 ghost use Rattle.rules.specs.Marks.{MarksIn};
 use crate::marks::is_done;
-ghost use Rattle.rules.specs.Rules.{wordsTo, due, fitsBy, boxesFitBy, receivedFrom, multipliedBy, readyBy, permittedBy, rulesBy, BoxIn};
+ghost use Rattle.rules.specs.Rules.{wordAt, pricesDueBy, totalsDueBy, fitsBy, boxesFitBy, hasGot, allGot, readyBy, permittedBy, rulesBy, BoxIn};
 
-// How many words a table of messages has from box a to box b.
-pub fn words_to(table: &[[u16; 16]; 16], a: u16, b: u16) -> u16
+// The word of boxes a and b.
+pub fn word_at(waits: &[[u16; 16]; 16], a: u16, b: u16) -> u16
     requires { ⌜ (a < 16) × (b < 16) ⌝ }
-    ensures { λ r. ⌜ r ≡ wordsTo (now (table .entry)) a b ⌝ }
+    ensures { λ r. ⌜ r ≡ wordAt (now (waits .entry)) a b ⌝ }
 {
     let i = a as usize;
     let j = b as usize;
-    table[i][j]
+    waits[i][j]
 }
 
-// Whether there is a message from box a to box b.
-fn is_due(table: &[[u16; 16]; 16], a: u16, b: u16) -> bool
+// Whether prices go from box a to box b.
+fn prices_due(receivers: &[u16; 16], a: u16, b: u16) -> bool
     requires { ⌜ (a < 16) × (b < 16) ⌝ }
-    ensures { λ r. ⌜ r ≡ due (now (table .entry)) a b ⌝ }
+    ensures { λ r. ⌜ r ≡ pricesDueBy (now (receivers .entry)) a b ⌝ }
 {
-    words_to(table, a, b) != 0
+    let i = a as usize;
+    (a != b) & words::has_bit(receivers[i], b)
+}
+
+// Whether totals go from box a to box b.
+fn totals_due(waits: &[[u16; 16]; 16], a: u16, b: u16) -> bool
+    requires { ⌜ (a < 16) × (b < 16) ⌝ }
+    ensures { λ r. ⌜ r ≡ totalsDueBy (now (waits .entry)) a b ⌝ }
+{
+    (a != b) & (word_at(waits, a, b) != 0)
 }
 
 // Whether the kind is 1 to 6.
@@ -53,63 +66,90 @@ fn boxes_fit(k: u16, kind: u16, a: u16, b: u16) -> bool
 }
 
 // Whether the job has the step: for a message, that it has words.
-pub fn fits(kind: u16, a: u16, b: u16, prices: &[[u16; 16]; 16], totals: &[[u16; 16]; 16]) -> bool
+pub fn fits(kind: u16, a: u16, b: u16, receivers: &[u16; 16], waits: &[[u16; 16]; 16]) -> bool
     requires { ⌜ (1 ≤ kind) × (kind ≤ 6) × (a < 16) × (b < 16) ⌝ }
-    ensures { λ r. ⌜ r ≡ fitsBy (now (prices .entry)) (now (totals .entry)) (kindOf kind) a b ⌝ }
+    ensures { λ r. ⌜ r ≡ fitsBy (now (receivers .entry)) (now (waits .entry)) (kindOf kind) a b ⌝ }
 {
     if kind == 1 {
-        return is_due(prices, a, b);
+        return prices_due(receivers, a, b);
     }
     if kind == 3 {
-        return is_due(prices, b, a);
+        return prices_due(receivers, b, a);
     }
     if kind == 4 {
-        return is_due(totals, a, b);
+        return totals_due(waits, a, b);
     }
     if kind == 6 {
-        return is_due(totals, b, a);
+        return totals_due(waits, b, a);
     }
     a == b
 }
 
-// Whether box a has received from box c what c is to send it.
-fn has_received(k: u16, a: u16, c: u16, prices: &[[u16; 16]; 16], done: &[u16]) -> bool
+// Whether box a has the prices of box o and has added its tallies of them.
+fn has_got(k: u16, a: u16, o: u16, done: &[u16]) -> bool
     requires { ⌜ BoxIn k a (now done) ⌝ }
-    requires { ⌜ c < k ⌝ }
-    ensures { λ r. ⌜ r ≡ receivedFrom (now (prices .entry)) (stepsDone k (now (done .entry))) a c ⌝ }
+    requires { ⌜ o < k ⌝ }
+    ensures { λ r. ⌜ r ≡ hasGot (stepsDone k (now (done .entry))) a o ⌝ }
 {
-    !is_due(prices, c, a) | is_done(k, 3, a, c, done)
+    if o == a {
+        return is_done(k, 2, a, a, done);
+    }
+    is_done(k, 3, a, o, done)
 }
 
-// Whether step 2 and every due step 3 of box a are done.
-pub fn multiplied(k: u16, a: u16, prices: &[[u16; 16]; 16], done: &[u16]) -> bool
-    requires { ⌜ BoxIn k a (now done) ⌝ }
-    ensures { λ r. ⌜ r ≡ multipliedBy k (now (prices .entry)) (stepsDone k (now (done .entry))) a ⌝ }
+// The word with bit b set where the test holds. There is no branch, since none could be foreseen.
+pub fn with_bit(word: u16, b: u16, test: bool) -> u16
+    requires { ⌜ b < 16 ⌝ }
+    ensures { λ r. ⌜ ((f : ℕ → Bool) → word ≡ maskOf 16 f → r ≡ maskOf 16 (λ o. f o || (test && eqb b o))) ⌝ }
 {
-    if !is_done(k, 2, a, a, done) {
-        return false;
+    word | ((test as u16) << b)
+}
+
+// The boxes whose prices box a has, one bit each.
+pub fn got(k: u16, a: u16, done: &[u16]) -> u16
+    requires { ⌜ BoxIn k a (now done) ⌝ }
+    ensures { λ r. ⌜ r ≡ maskOf 16 (hasGot (stepsDone k (now (done .entry))) a) ⌝ }
+{
+    let mut word: u16 = 0;
+    for o in 0..k {
+        let more = with_bit(word, o, has_got(k, a, o, done));
+        word = more;
     }
-    for c in 0..k {
-        if !has_received(k, a, c, prices, done) {
-            return false;
-        }
-    }
-    true
+    word
+}
+
+// Whether every bit of the word is set in `got` too.
+pub fn covers(got: u16, word: u16) -> bool
+    ensures { λ r. ⌜ r ≡ all 16 (λ o. not (bit o word) || bit o got) ⌝ }
+{
+    word & !got == 0
+}
+
+// Whether box a has got all that its totals of box b's grocers wait for.
+fn has_all(k: u16, a: u16, b: u16, waits: &[[u16; 16]; 16], done: &[u16]) -> bool
+    requires { ⌜ BoxIn k a (now done) ⌝ }
+    requires { ⌜ b < 16 ⌝ }
+    ensures { λ r. ⌜ r ≡ allGot (now (waits .entry)) (stepsDone k (now (done .entry))) a b ⌝ }
+{
+    covers(got(k, a, done), word_at(waits, a, b))
 }
 
 // Whether the steps done make a step ready.
-pub fn is_ready(k: u16, kind: u16, a: u16, b: u16, prices: &[[u16; 16]; 16], done: &[u16]) -> bool
+pub fn is_ready(k: u16, kind: u16, a: u16, b: u16, waits: &[[u16; 16]; 16], done: &[u16]) -> bool
     requires { ⌜ MarksIn k kind a b (now done) ⌝ }
-    ensures { λ r. ⌜ r ≡ readyBy k (now (prices .entry)) (stepsDone k (now (done .entry))) (kindOf kind) a b ⌝ }
+    ensures { λ r. ⌜ r ≡ readyBy (now (waits .entry)) (stepsDone k (now (done .entry))) (kindOf kind) a b ⌝ }
 {
     if kind == 3 {
         return is_done(k, 1, b, a, done);
     }
+    if kind == 4 {
+        return has_all(k, a, b, waits, done);
+    }
+    if kind == 5 {
+        return has_all(k, a, a, waits, done);
+    }
     if kind == 6 {
         return is_done(k, 4, b, a, done);
-    }
-    if kind >= 4 {
-        return multiplied(k, a, prices, done);
     }
     true
 }
@@ -120,20 +160,20 @@ pub fn permitted(
     kind: u16,
     a: u16,
     b: u16,
-    prices: &[[u16; 16]; 16],
-    totals: &[[u16; 16]; 16],
+    receivers: &[u16; 16],
+    waits: &[[u16; 16]; 16],
     done: &[u16],
 ) -> bool
     requires { ⌜ MarksIn k kind a b (now done) ⌝ }
-    ensures { λ r. ⌜ r ≡ permittedBy k (now (prices .entry)) (now (totals .entry)) (stepsDone k (now (done .entry))) (kindOf kind) a b ⌝ }
+    ensures { λ r. ⌜ r ≡ permittedBy (now (receivers .entry)) (now (waits .entry)) (stepsDone k (now (done .entry))) (kindOf kind) a b ⌝ }
 {
-    if !fits(kind, a, b, prices, totals) {
+    if !fits(kind, a, b, receivers, waits) {
         return false;
     }
     if is_done(k, kind, a, b, done) {
         return false;
     }
-    is_ready(k, kind, a, b, prices, done)
+    is_ready(k, kind, a, b, waits, done)
 }
 
 // The first of the conditions 22 to 26 that is met, or 0. Tables and marks are looked at only where both boxes are below k.
@@ -142,12 +182,12 @@ pub fn request_refusal(
     kind: u16,
     a: u16,
     b: u16,
-    prices: &[[u16; 16]; 16],
-    totals: &[[u16; 16]; 16],
+    receivers: &[u16; 16],
+    waits: &[[u16; 16]; 16],
     done: &[u16],
 ) -> u16
     requires { ⌜ (k ≤ 16) × (6 * k * k ≤ length (now done)) ⌝ }
-    ensures { λ r. ⌜ r ≡ firstMet (rulesBy k (now (prices .entry)) (now (totals .entry)) (stepsDone k (now (done .entry))) (asked kind a b)) ⌝ }
+    ensures { λ r. ⌜ r ≡ firstMet (rulesBy k (now (receivers .entry)) (now (waits .entry)) (stepsDone k (now (done .entry))) (asked kind a b)) ⌝ }
 {
     if !is_kind(kind) {
         return 22;
@@ -155,13 +195,13 @@ pub fn request_refusal(
     if !boxes_fit(k, kind, a, b) {
         return 23;
     }
-    if !fits(kind, a, b, prices, totals) {
+    if !fits(kind, a, b, receivers, waits) {
         return 24;
     }
     if is_done(k, kind, a, b, done) {
         return 25;
     }
-    if !is_ready(k, kind, a, b, prices, done) {
+    if !is_ready(k, kind, a, b, waits, done) {
         return 26;
     }
     0

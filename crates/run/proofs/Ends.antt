@@ -26,7 +26,7 @@ use Rattle.tables.proofs.Standing.{accepted}
 use Rattle.model.specs.Words.{over, messagesOf, messageCount, stepCount}
 use Rattle.model.specs.Run.{readyCount, pick, picks, run, runState, afterSteps, RunAnswer, finished, refused, reported, runRefusals, ran}
 use Rattle.tables.specs.Masks.{holderWord, Placed, Owned}
-use Rattle.tables.specs.Messages.{sentTable}
+use Rattle.tables.specs.Waits.{receiverTable, tallyLists, waitTable, WaitsIn}
 use Rattle.tables.specs.Sizes.{sizes}
 use Rattle.walk.specs.Walk.{WalkIn}
 use Rattle.order.specs.Order.{OfJob, MarksFrom, Ordered, markAll, noSteps}
@@ -38,7 +38,8 @@ use Rattle.model.proofs.Lent.{state-long}
 use Rattle.tables.proofs.Sizes.{short-sizes}
 use Rattle.tables.proofs.Whole.{JobWhole, job-whole}
 use Rattle.tables.proofs.Holders.{need-words, sharer-words}
-use Rattle.tables.proofs.InJob.{placed-offers, placed-grocers, owned-offers, owned-grocers, price-sent, total-sent}
+use Rattle.tables.proofs.InJob.{placed-offers, placed-grocers, owned-offers}
+use Rattle.rules.proofs.Told.{receivers-of, waits-of, waits-in}
 use Rattle.prices.proofs.Effect.{tables-eq}
 use Rattle.order.proofs.Pick.{steps-length}
 use Rattle.steps.proofs.Way.{some-box}
@@ -80,6 +81,9 @@ module _ (f : JobTables) (t : StateTables) (g : Begins f t) where
   pub begins-needs : Placed (f .boxes) (f .tallies) 500 (f .tallyBox) (f .tallyOffer)
   begins-needs = placed-offers f (g .job-in) job-parts
 
+  pub begins-waits : WaitsIn (f .boxes) (f .tallies) (tallyLists (f .offerOwner) (f .grocerOwner) (f .tallyGrocer) (f .tallyBox) (f .tallyOffer))
+  begins-waits = waits-in f (g .job-in) job-parts
+
   pub begins-sharers : Placed (f .boxes) (f .tallies) 255 (f .tallyBox) (f .tallyGrocer)
   begins-sharers = placed-grocers f (g .job-in) job-parts
 
@@ -87,25 +91,23 @@ module _ (f : JobTables) (t : StateTables) (g : Begins f t) where
     pub begins-prices : Owned (f .offers) (f .offerOwner) needs
     begins-prices = owned-offers f (g .job-in) job-parts needs _ en
 
-    pub begins-totals : Owned (f .grocers) (f .grocerOwner) sharers
-    begins-totals = owned-grocers f (g .job-in) job-parts sharers _ es
-
-    -- They are the job's, and so are the tables of messages that are made from them.
+    -- They are the job's, and so are the words of receivers and waits.
     pub needs-of : needs ≡ tabulate 500 (needWord (jobOf f))
     needs-of = en ∙ need-words f (g .job-in .bare)
 
     pub sharers-of : sharers ≡ tabulate 255 (sharerWord (jobOf f))
     sharers-of = es ∙ sharer-words f (g .job-in .bare)
 
-    module _ (prices totals : List (List ℕ)) (ep : prices ≡ sentTable false (f .offers) (f .offerOwner) needs) (et : totals ≡ sentTable true (f .grocers) (f .grocerOwner) sharers) where
-      pub of-job : OfJob (f .boxes) prices totals (jobOf f)
+    module _ (receivers : List ℕ) (waits : List (List ℕ)) (er : receivers ≡ receiverTable (f .offers) (f .offerOwner) needs)
+        (ew : waits ≡ waitTable (f .boxes) (tallyLists (f .offerOwner) (f .grocerOwner) (f .tallyGrocer) (f .tallyBox) (f .tallyOffer)) (f .tallies)) where
+      pub of-job : OfJob (f .boxes) receivers waits (jobOf f)
       unfolding jobOf
       of-job = record {
         boxes-are = refl;
         boxes-in = range f (g .job-in .inside) .boxes≤;
         some = some-box f (g .job-in);
-        prices-are = ep ∙ ap (sentTable false (f .offers) (f .offerOwner)) en ∙ price-sent f (g .job-in);
-        totals-are = et ∙ ap (sentTable true (f .grocers) (f .grocerOwner)) es ∙ total-sent f (g .job-in);
+        receivers-are = receivers-of f (g .job-in) needs needs-of receivers er;
+        waits-are = waits-of f (g .job-in) waits ew;
       }
 
   -- There is room for the count of words sent.

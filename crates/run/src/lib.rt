@@ -115,10 +115,18 @@ pub fn run(
     }
     let needs = tables::masks::needs(boxes, tallies, &standing, tally_offer);
     let sharers = tables::masks::sharers(boxes, tallies, &standing, tally_grocer);
-    let prices = tables::messages::price_table(offers, offer_owner, &needs);
-    let totals = tables::messages::total_table(grocers, grocer_owner, &sharers);
+    let receivers = tables::waits::receivers(offers, offer_owner, &needs);
+    let waits = tables::waits::waits(
+        boxes,
+        tallies,
+        offer_owner,
+        grocer_owner,
+        tally_grocer,
+        &standing,
+        tally_offer,
+    );
     let mut order = [0u16; 1536];
-    let n = order::put_order(boxes, &prices, &totals, choices, done, &mut order);
+    let n = order::put_order(boxes, &receivers, &waits, choices, done, &mut order);
     let all = steps::all_steps(
         z,
         price,

@@ -4,16 +4,16 @@ use mathlib.Core.List.{List}
 use Prim.Native.Nat.{ℕ}
 use lib.ListN.{length}
 use lib.IntN.{ℤ}
-use Rattle.links.specs.Links.{Keyed, Linked}
+use Rattle.links.specs.Links.{Keyed, Linked, PairsKeyed, LinkedPairs}
 use Rattle.totals.specs.Row.{Tallies}
 use Rattle.apply.specs.Apply.{PriceStepIn, TotalStepIn}
 
--- Kinds 1 to 3: offers can be linked by owner and tallies by box, and with these links the step can be applied.
+-- Kinds 1 to 3: offers can be linked by owner and tallies by box and owner, and with these links the step can be applied.
 pub record PricesLent (e : Tallies) (known transit : List ℕ) (working : List ℤ) (kind a b : ℕ) : Type 0 where
   pub offers-keyed : (links : List ℕ) → length links ≡ 517 → Keyed (e .offers) (e .owner) links
-  pub tallies-keyed : (links : List ℕ) → length links ≡ 1_017 → Keyed (e .tallies) (e .holder) links
-  pub step-in : (offerLinks tallyLinks : List ℕ) → Linked (e .offers) (e .owner) offerLinks → Linked (e .tallies) (e .holder) tallyLinks →
-      PriceStepIn e offerLinks tallyLinks known transit working kind a b
+  pub tallies-keyed : (links : List ℕ) → length links ≡ 1_272 → PairsKeyed (e .tallies) (e .holder) (e .offer) (e .owner) links
+  pub step-in : (offerLinks tallyLinks : List ℕ) → Linked (e .offers) (e .owner) offerLinks →
+      LinkedPairs (e .tallies) (e .holder) (e .offer) (e .owner) tallyLinks → PriceStepIn e offerLinks tallyLinks known transit working kind a b
 
 -- Kinds 4 to 6: grocers can be linked by owner, and with these links the step can be applied.
 pub record TotalsLent (k m : ℕ) (owner : List ℕ) (working transit statement : List ℤ) (kind a b : ℕ) : Type 0 where

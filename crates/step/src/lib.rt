@@ -15,8 +15,8 @@ pub enum Answer {
     Refused(u16),
 }
 
-// A step of kind 1, 2 or 3: offers are linked by owner and tallies by the box that counts them, 16 for superseded ones, and the step is applied.
-// The words sent.
+// A step of kind 1, 2 or 3: offers are linked by owner, and tallies by the box that counts them, 16 for superseded ones, and the owner of their
+// offer; and the step is applied. The words sent.
 fn move_prices(
     z: Sizes,
     offer_owner: &[u16],
@@ -38,9 +38,15 @@ fn move_prices(
         (now (known .exit)) (now («price_transit» .exit)) (now (working .exit)) r ⌝ }
 {
     let mut offer_links = [0u16; 517];
-    let mut tally_links = [0u16; 1017];
+    let mut tally_links = [0u16; 1272];
     links::link(z.offers as usize, offer_owner, &mut offer_links);
-    links::link(z.tallies as usize, standing, &mut tally_links);
+    links::link_pairs(
+        z.tallies as usize,
+        standing,
+        tally_offer,
+        offer_owner,
+        &mut tally_links,
+    );
     apply::price_step(
         z,
         offer_owner,

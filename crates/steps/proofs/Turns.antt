@@ -22,7 +22,7 @@ use Rattle.model.specs.Step.{Asked, asked, isKind, moved, freshTables}
 use Rattle.model.specs.Words.{over, messagesOf}
 use Rattle.model.specs.Run.{afterSteps}
 use Rattle.model.specs.Boxes.{Sound}
-use Rattle.links.specs.Links.{Linked}
+use Rattle.links.specs.Links.{Linked, LinkedPairs}
 use Rattle.apply.specs.Apply.{sentMore}
 use Rattle.fresh.specs.Fresh.{ownPrices, FreshPrices, FreshTotals}
 use Rattle.order.specs.Order.{stepsIn, markAll, noSteps}
@@ -104,7 +104,7 @@ module _ (f : JobTables) (ok : Handed f) (long : jobShort f (jobLengths f) ≡ f
 
   -- The tables as they are, which hold it.
   module _ (t₁ : StateTables) (h : Holds (jobOf f) s t t₁) where
-    step-in : (olinks glinks tlinks : List ℕ) → Linked (f .offers) (f .offerOwner) olinks → Linked (f .grocers) (f .grocerOwner) glinks → Linked (f .tallies) (f .tallyBox) tlinks →
+    step-in : (olinks glinks tlinks : List ℕ) → Linked (f .offers) (f .offerOwner) olinks → Linked (f .grocers) (f .grocerOwner) glinks → LinkedPairs (f .tallies) (f .tallyBox) (f .tallyOffer) (f .offerOwner) tlinks →
         StepIn (talliesOf f) (f .grocerOwner) olinks glinks tlinks (t₁ .known) (t₁ .priceTransit) (t₁ .working) (t₁ .totalTransit) (t₁ .statement) kind a b
     step-in olinks glinks tlinks lo lg lt = record {
       price-side = λ small. rw (h .known, h .priceTransit, h .working) (price-step-in f held needs sharers ask facts olinks tlinks lo lt small);
@@ -251,7 +251,7 @@ module _ (f : JobTables) (t : StateTables) (needs sharers order : List ℕ) (n :
     turn-sound = rw next-is at (sound-effect job (range f (g .job-in .inside)) s (kindOf kind) a b o (permit job (s .done) (kindOf kind) a b turn-permitted))
 
     module _ (t₁ : StateTables) (words messages : ℕ) (r : AllOut job t t₁ order i words messages) where
-      pub turn-in : (olinks glinks tlinks : List ℕ) → Linked (f .offers) (f .offerOwner) olinks → Linked (f .grocers) (f .grocerOwner) glinks → Linked (f .tallies) (f .tallyBox) tlinks →
+      pub turn-in : (olinks glinks tlinks : List ℕ) → Linked (f .offers) (f .offerOwner) olinks → Linked (f .grocers) (f .grocerOwner) glinks → LinkedPairs (f .tallies) (f .tallyBox) (f .tallyOffer) (f .offerOwner) tlinks →
           StepIn (talliesOf f) (f .grocerOwner) olinks glinks tlinks (t₁ .known) (t₁ .priceTransit) (t₁ .working) (t₁ .totalTransit) (t₁ .statement) kind a b
       turn-in = step-in f (g .job-in) (g .job-long) t needs sharers (g .needs-are) (g .sharers-are) s o kind a b turn-kind turn-permitted t₁ (r .holds)
 
@@ -370,7 +370,7 @@ pub record Turning (f : JobTables) (t₀ t₁ : StateTables) (needs sharers orde
 pub record Chained (f : JobTables) (offerLinks grocerLinks tallyLinks : List ℕ) : Type 0 where
   pub offers-linked : Linked (f .offers) (f .offerOwner) offerLinks
   pub grocers-linked : Linked (f .grocers) (f .grocerOwner) grocerLinks
-  pub tallies-linked : Linked (f .tallies) (f .tallyBox) tallyLinks
+  pub tallies-linked : LinkedPairs (f .tallies) (f .tallyBox) (f .tallyOffer) (f .offerOwner) tallyLinks
 
 -- The first turn, on tables that are made fresh.
 pub turning-first : (f : JobTables) (t t₁ : StateTables) (needs sharers order : List ℕ) (n : ℕ) → AllIn f t needs sharers order n → Holds (jobOf f) (fresh (jobOf f)) t t₁ →

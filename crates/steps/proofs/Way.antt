@@ -68,8 +68,8 @@ module _ (f : JobTables) (t : StateTables) (o : OnWay f t) where
       job-long = o .job-long;
       state-long = way-whole;
       state-in = way-range;
-      needs-are = en;
-      sharers-are = es;
+      needs-are = λ _. en;
+      sharers-are = λ _. es;
       kind-in = k;
       boxes-fit = permitted-fits (jobOf f) (view (jobOf f) t .done) kind a b k p;
     }

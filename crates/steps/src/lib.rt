@@ -18,11 +18,12 @@ fn step_at(k: u16, place: u16) -> Step
     requires { ⌜ (1 ≤ k) × (k ≤ 16) × (place < 6 * k * k) ⌝ }
     ensures { λ r. ⌜ (r .kind ≡ suc (place / k / k)) × (r .first ≡ place / k % k) × (r .second ≡ place % k) ⌝ }
 {
-    let row = place / k;
+    let row = walk::by_boxes(place, k);
+    let rows = walk::by_boxes(row, k);
     Step {
-        kind: row / k + 1,
-        first: row % k,
-        second: place % k,
+        kind: rows + 1,
+        first: row - rows * k,
+        second: place - row * k,
     }
 }
 
@@ -39,7 +40,7 @@ fn one_step(
     sharers: &[u16; 255],
     offer_links: &[u16; 517],
     grocer_links: &[u16; 272],
-    tally_links: &[u16; 1017],
+    tally_links: &[u16; 1272],
     known: &mut [u32],
     price_transit: &mut [u32],
     working: &mut [i64],
@@ -118,10 +119,16 @@ pub fn all_steps(
     fresh::fresh_totals(z.boxes, z.grocers, working, total_transit, statement);
     let mut offer_links = [0u16; 517];
     let mut grocer_links = [0u16; 272];
-    let mut tally_links = [0u16; 1017];
+    let mut tally_links = [0u16; 1272];
     links::link(z.offers as usize, offer_owner, &mut offer_links);
     links::link(z.grocers as usize, grocer_owner, &mut grocer_links);
-    links::link(z.tallies as usize, tally_box, &mut tally_links);
+    links::link_pairs(
+        z.tallies as usize,
+        tally_box,
+        tally_offer,
+        offer_owner,
+        &mut tally_links,
+    );
     let mut words: u32 = 0;
     let mut messages: u32 = 0;
     for i in 0..n {

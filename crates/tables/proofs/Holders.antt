@@ -21,10 +21,10 @@ use Rattle.model.proofs.Handed.{bare-stands}
 use Rattle.tables.specs.Masks.{marked, holds, holderWord}
 
 -- The box of a tally is b, and b is below k.
-held-in : (k b i : ℕ) → ltb b k ≡ true → (eqb b i && ltb i k) ≡ eqb b i
+pub held-in : (k b i : ℕ) → ltb b k ≡ true → (eqb b i && ltb i k) ≡ eqb b i
 held-in k b i h = split (eqb b i) (λ e. rw (sym (eqb-true b i e), h) (and-one (eqb b b))) (λ e. rw e)
 
-held-out : (k b i : ℕ) → ltb b k ≡ false → (eqb b i && ltb i k) ≡ false
+pub held-out : (k b i : ℕ) → ltb b k ≡ false → (eqb b i && ltb i k) ≡ false
 held-out k b i h = split (eqb b i) (λ e. rw (sym (eqb-true b i e), h) (and-false (eqb b b))) (λ e. rw e)
 
 module _ (k : ℕ) (boxes places : List ℕ) where

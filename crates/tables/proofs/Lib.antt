@@ -5,6 +5,7 @@ pub mod Sizes
 pub mod Whole
 pub mod Holders
 pub mod Sending
+pub mod Waiting
 pub mod InJob
 pub mod MessageLaws
 pub mod Standing

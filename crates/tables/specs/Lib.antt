@@ -2,3 +2,4 @@
 pub mod Sizes
 pub mod Masks
 pub mod Messages
+pub mod Waits

@@ -4,3 +4,4 @@ pub mod limits;
 pub mod masks;
 pub mod messages;
 pub mod ranges;
+pub mod waits;

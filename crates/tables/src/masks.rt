@@ -8,7 +8,7 @@ ghost use Rattle.laws.specs.Tables.{tabulate};
 ghost use Rattle.tables.specs.Masks.{marked, holderWord, Placed};
 
 // The word with bit b set.
-fn set_bit(word: u16, b: u16) -> u16
+pub fn set_bit(word: u16, b: u16) -> u16
     requires { ⌜ b < 16 ⌝ }
     ensures { λ r. ⌜ r ≡ bitOr word (2 ^ b) ⌝ }
 {

@@ -11,30 +11,28 @@ use crate::limits::MAX_COUNT;
 use crate::limits::MIN_AMOUNT;
 use crate::limits::MIN_COUNT;
 
-// Whether the first n words of s are below m.
+// Whether the first n words of s are below m. There is no branch in the loop, so that several words are tested at once.
 pub fn under16(s: &[u16], n: usize, m: u16) -> bool
     requires { ⌜ n ≤ length (now s) ⌝ }
     ensures { λ r. ⌜ r ≡ under m n (now (s .entry)) ⌝ }
 {
+    let mut all = true;
     for i in 0..n {
-        if s[i] >= m {
-            return false;
-        }
+        all = all & (s[i] < m);
     }
-    true
+    all
 }
 
-// Whether the first n words of s are at most m.
+// Whether the first n words of s are at most m, likewise.
 pub fn upto32(s: &[u32], n: usize, m: u32) -> bool
     requires { ⌜ n ≤ length (now s) ⌝ }
     ensures { λ r. ⌜ r ≡ upTo m n (now (s .entry)) ⌝ }
 {
+    let mut all = true;
     for i in 0..n {
-        if s[i] > m {
-            return false;
-        }
+        all = all & (s[i] <= m);
     }
-    true
+    all
 }
 
 // Whether a count is within ±99,999.

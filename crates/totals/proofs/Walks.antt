@@ -1,5 +1,5 @@
 -- Walks over the entries of one key: those that are passed over bring nothing and change nothing. Assumes nothing.
-use mathlib.Core.Path.{_≡_, refl, sym, ap, _∙_, subst}
+use mathlib.Core.Path.{_≡_, refl, sym, ap, ap₂, _∙_, subst}
 use mathlib.Core.Bool.{Bool, true, false, _&&_}
 use mathlib.Core.List.{List}
 use Prim.Native.Nat.{ℕ, _+_, _<_}
@@ -8,14 +8,14 @@ use native.Mathlib.Omega.{arith}
 use lib.Dec.{eqb, ltb}
 use lib.ListN.{getD}
 use lib.IntN.{ℤ, pos}
-use borrow.Author.Tests.{eqb-true, ne-eqb, lt-ltb, le-ltb}
+use borrow.Author.Tests.{eqb-true, lt-ltb, le-ltb}
 use Rattle.laws.specs.Below.{integers, only}
-use Rattle.laws.proofs.Bools.{and-l, and-false}
+use Rattle.laws.proofs.Bools.{and-l, and-r, and-false, no-true}
 use Rattle.laws.proofs.Loops.{share}
-use Rattle.links.specs.Links.{Skips, Linked}
+use Rattle.links.specs.Links.{SkipsBy, LinkedBy, Skips, pairKey, pairAt}
 use Rattle.totals.specs.Credit.{credited}
-use Rattle.totals.specs.Row.{brings}
-use Rattle.links.proofs.Walks.{test-passed, goes-on}
+use Rattle.totals.specs.Row.{isTaken, brings}
+use Rattle.links.proofs.Walks.{test-passed, goes-by}
 
 -- What a loop from the front has stored goes on unchanged, where a test holds of entries of key v alone.
 pub front-over : (n : ℕ) (keys : List ℕ) (v i j : ℕ) (s : Skips n keys v i j) (test : ℕ → Bool) (keyed : (x : ℕ) → test x ≡ true → getD keys x 0 ≡ v) (x : ℕ) → (ltb x j && test x) ≡ (ltb x i && test x)
@@ -27,20 +27,26 @@ front-over n keys v i j s test keyed x = which (decLt x i) (decLt x j)
     which (no a) (no b) = ap (λ (t : Bool). t && test x) (le-ltb x j (omega arith) ∙ sym (le-ltb x i (omega arith)))
 
 -- A step of a walk, where the place that it goes to is named.
-pub goes-to : (n : ℕ) (keys links : List ℕ) (v i j : ℕ) → Linked n keys links → i < n → getD keys i 0 ≡ v → j ≡ getD links (17 + i) 0 → Skips n keys v (i + 1) j
-goes-to n keys links v i j h l e to = subst (λ (x : ℕ). Skips n keys v (i + 1) x) (sym to) (goes-on n keys links v i h l e)
+pub goes-to : (heads n : ℕ) (key : ℕ → ℕ) (links : List ℕ) (v i j : ℕ) → LinkedBy heads n key links → i < n → key i ≡ v → j ≡ getD links (heads + i) 0 → SkipsBy n key v (i + 1) j
+goes-to heads n key links v i j h l e to = subst (λ (x : ℕ). SkipsBy n key v (i + 1) x) (sym to) (goes-by heads n key links v i h l e)
 
 -- A grocer that box a credits is of box a.
 pub credit-owner : (owners sharers : List ℕ) (a from g : ℕ) → credited owners sharers a from g ≡ true → getD owners g 0 ≡ a
 unfolding credited
 credit-owner owners sharers a from g t = eqb-true (getD owners g 0) a (and-l (eqb (getD owners g 0) a) _ t)
 
--- A tally of another box brings nothing to box a, at any grocer.
-pub other-share : (owner holder offer : List ℕ) (counts : List ℤ) (prices : List ℕ) (place : ℕ → ℕ) (a from at g i : ℕ) → (getD holder i 0 ≡ a → ⊥) →
+-- A tally of another pair of boxes brings nothing to the row of box a, at any grocer.
+pub other-share : (owner holder offer : List ℕ) (counts : List ℤ) (prices : List ℕ) (place : ℕ → ℕ) (a from at g i : ℕ) → (pairAt holder offer owner i ≡ pairKey a from → ⊥) →
     share place (brings owner holder offer counts prices a from at) g i ≡ pos 0
 unfolding only integers
-other-share owner holder offer counts prices place a from at g i n = rw (ne-eqb (getD holder i 0) a n) (nothing (eqb (place i) g))
+other-share owner holder offer counts prices place a from at g i n = rw (no-true (isTaken owner holder offer a from i) other) (nothing (eqb (place i) g))
   where
+    other : isTaken owner holder offer a from i ≡ true → ⊥
+    other t =
+        let mine = eqb (getD holder i 0) a in
+        let theirs = eqb (getD owner (getD offer i 0) 0) from in
+        n (ap₂ pairKey (eqb-true (getD holder i 0) a (and-l mine theirs t)) (eqb-true (getD owner (getD offer i 0) 0) from (and-r mine theirs t)))
+
     nothing : (t : Bool) → only integers t (pos 0) ≡ pos 0
     nothing true = refl
     nothing false = refl

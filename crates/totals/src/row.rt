@@ -3,13 +3,14 @@ ghost use mathlib.Core.Path.{_≡_};
 ghost use Prim.Native.Nat.{ℕ, _+_, _*_, _≤_, _<_};
 ghost use lib.ListN.{length, getD};
 ghost use lib.IntN.{pos, natAbs};
-ghost use Rattle.links.specs.Links.{Linked};
+ghost use Rattle.links.specs.Links.{LinkedPairs};
 ghost use Rattle.totals.specs.Row.{tallies, RowIn, TallyIn, RowTallies, isTaken, raised, brings, productRow, rowOf, putRow};
 use crate::num::amount;
 use crate::num::index;
 use crate::num::plus;
 use crate::num::row_start;
-use links::HEADS;
+use links::PAIR_HEADS;
+use links::pair;
 
 // Row a of a table of amounts.
 fn row_at(m: usize, a: u16, working: &[i64]) -> [i64; 255]
@@ -118,14 +119,14 @@ pub fn product_row(
     row
 }
 
-// Multiplies the tallies of box a whose offers box `from` owns into row a of the working totals, in place, by a walk over the tallies of box a alone.
+// Multiplies the tallies of box a whose offers box `from` owns into row a of the working totals, in place, by a walk over these alone.
 pub fn add_products(
     m: usize,
     n: usize,
     t: usize,
     a: u16,
     from: u16,
-    tally_links: &[u16; 1017],
+    tally_links: &[u16; 1272],
     offer_owner: &[u16],
     tally_grocer: &[u16],
     tally_box: &[u16],
@@ -136,7 +137,7 @@ pub fn add_products(
 )
     requires { ⌜ RowTallies m n t a (now «offer_owner») (now «tally_grocer») (now «tally_box») (now «tally_offer») (now «tally_count») (now prices) ⌝ }
     requires { ⌜ RowIn m a (now working) ⌝ }
-    requires { ⌜ Linked t (now «tally_box») (now «tally_links») ⌝ }
+    requires { ⌜ (from < 16) × LinkedPairs t (now «tally_box») (now «tally_offer») (now «offer_owner») (now «tally_links») ⌝ }
     ensures { λ _. ⌜ ((k : ℕ) → a < k → k * m ≤ length (now (working .entry)) →
         now (working .exit) ≡ putRow k m a (productRow (tallies k m n t (now («offer_owner» .entry)) (now («tally_grocer» .entry))
         (now («tally_box» .entry)) (now («tally_offer» .entry)) (now («tally_count» .entry))) (now (prices .entry))
@@ -144,8 +145,8 @@ pub fn add_products(
 {
     let at = row_start(n, a);
     let base = row_start(m, a);
-    let b = index(a);
-    let mut i = index(tally_links[b]);
+    let v = pair(a, from);
+    let mut i = index(tally_links[v]);
     while i < t {
         add_tally(
             at,
@@ -161,6 +162,6 @@ pub fn add_products(
             prices,
             working,
         );
-        i = index(tally_links[HEADS + i]);
+        i = index(tally_links[PAIR_HEADS + i]);
     }
 }

@@ -1,4 +1,4 @@
--- Over the tables of messages of a job the list of ready steps is the model's. Assumes nothing.
+-- With the words of receivers and waits of a job the list of ready steps is the model's. Assumes nothing.
 use mathlib.Core.Path.{_≡_, sym, _∙_}
 use mathlib.Core.List.{List}
 use Prim.Native.Nat.{ℕ, suc, _-_, _*_, _/_, _%_, _≤_}
@@ -10,9 +10,9 @@ use Rattle.laws.proofs.Ascending.{nth-cong}
 use Rattle.model.specs.Job.{Job}
 use Rattle.model.specs.Steps.{Steps, kindOf, stepAt, places}
 use Rattle.model.specs.Tables.{stepsDone}
-use Rattle.model.specs.Local.{priceTable, totalTable}
 use Rattle.model.specs.Run.{listed, readyCount}
 use Rattle.walk.specs.Walk.{PlaceIn, here, listedBy}
+use Rattle.rules.specs.Rules.{ReceiversOf, WaitsOf}
 use Rattle.model.proofs.Listed.{ready-count}
 use Rattle.rules.proofs.InModel.{permitted-is}
 use Rattle.walk.proofs.Places.{kind-of, first-of, second-of}
@@ -26,18 +26,18 @@ step-here j kind a b p =
     up : (n : ℕ) → 1 ≤ n → n ≡ suc (n - 1)
     up n h = omega arith
 
-module _ (j : Job) (prices totals : List (List ℕ)) (ep : prices ≡ priceTable j) (et : totals ≡ totalTable j) (lk : j .boxes ≤ 16) (some : 1 ≤ j .boxes) (done : List ℕ) where
+module _ (j : Job) (receivers : List ℕ) (waits : List (List ℕ)) (hr : ReceiversOf j receivers) (hw : WaitsOf j waits) (some : 1 ≤ j .boxes) (done : List ℕ) where
   -- The steps that the marks say are done.
   abbrev marked : Steps
   marked = stepsDone (j .boxes) done
 
-  pub listed-is : (i : ℕ) → listedBy (j .boxes) prices totals done i ≡ listed j marked i
+  pub listed-is : (i : ℕ) → listedBy (j .boxes) receivers waits done i ≡ listed j marked i
   unfolding listedBy listed stepAt
   listed-is i =
-      permitted-is j prices totals ep et lk marked (kindOf (suc (i / j .boxes / j .boxes))) (i / j .boxes % j .boxes) (i % j .boxes) (mod-lt (i / j .boxes) some) (mod-lt i some)
+      permitted-is j receivers waits hr hw (kindOf (suc (i / j .boxes / j .boxes))) marked (i / j .boxes % j .boxes) (i % j .boxes) (mod-lt (i / j .boxes) some) (mod-lt i some)
 
-  pub count-is : count (6 * j .boxes * j .boxes) (listedBy (j .boxes) prices totals done) ≡ readyCount j marked
+  pub count-is : count (6 * j .boxes * j .boxes) (listedBy (j .boxes) receivers waits done) ≡ readyCount j marked
   count-is = count-cong (6 * j .boxes * j .boxes) _ _ (λ i l. listed-is i) ∙ sym (ready-count j marked)
 
-  pub nth-is-model : (c : ℕ) → nth (6 * j .boxes * j .boxes) (listedBy (j .boxes) prices totals done) c ≡ nth (places (j .boxes)) (listed j marked) c
+  pub nth-is-model : (c : ℕ) → nth (6 * j .boxes * j .boxes) (listedBy (j .boxes) receivers waits done) c ≡ nth (places (j .boxes)) (listed j marked) c
   nth-is-model c = nth-cong (6 * j .boxes * j .boxes) _ _ c (λ i l. listed-is i)

@@ -73,12 +73,12 @@ module _ (k kind a b : ℕ) (la : a < k) (lb : b < k) where
       low = rw kind-of at (div-lt-iff-lt-mul {k = k} (omega arith) .1 (div-lt-iff-lt-mul {k = k} (omega arith) .1 h))
 
 -- The test of a step is the test of its place.
-pub listed-at : (k kind a b : ℕ) (prices totals : List (List ℕ)) (done : List ℕ) → PlaceIn k kind a b →
-    permittedBy k prices totals (stepsDone k done) (kindOf kind) a b ≡ listedBy k prices totals done (here k kind a b)
+pub listed-at : (k kind a b : ℕ) (receivers : List ℕ) (waits : List (List ℕ)) (done : List ℕ) → PlaceIn k kind a b →
+    permittedBy receivers waits (stepsDone k done) (kindOf kind) a b ≡ listedBy k receivers waits done (here k kind a b)
 unfolding listedBy
-listed-at k kind a b prices totals done p =
+listed-at k kind a b receivers waits done p =
     rw (kind-of k kind a b (p .a-in) (p .b-in), first-of k kind a b (p .a-in) (p .b-in), second-of k kind a b (p .a-in) (p .b-in))
-    (ap (λ (n : ℕ). permittedBy k prices totals (stepsDone k done) (kindOf n) a b) (up kind (p .kind-from)))
+    (ap (λ (n : ℕ). permittedBy receivers waits (stepsDone k done) (kindOf n) a b) (up kind (p .kind-from)))
   where
     up : (n : ℕ) → 1 ≤ n → n ≡ suc (n - 1)
     up n h = omega arith

@@ -1,16 +1,15 @@
--- A walk over the places: where it is, and what it has counted. Assumes nothing.
-use mathlib.Core.Path.{_≡_, sym, ap, _∙_}
-use mathlib.Core.Bool.{Bool, true, false, _&&_}
+-- A walk over the places: where it is, and what it has passed. Assumes nothing.
+use mathlib.Core.Path.{_≡_, ap, _∙_}
+use mathlib.Core.Bool.{Bool, false, _&&_}
 use Prim.Native.Nat.{ℕ, _+_, _-_, _*_, _≤_, _<_}
 use native.Mathlib.Omega.{arith}
 use native.Mathlib.Nat.{zero-mul, add-zero}
 use lib.Dec.{eqb}
-use borrow.Author.Tests.{eqb-true, eqb-false}
-use Rattle.laws.specs.Below.{naturals, only, count, nth}
-use Rattle.laws.proofs.Bools.{split, and-l, and-r}
-use Rattle.laws.proofs.Below.{count-next, count-le, only-le}
+use borrow.Author.Tests.{eqb-false}
+use Rattle.laws.specs.Below.{naturals, only, count}
+use Rattle.laws.proofs.Bools.{split}
+use Rattle.laws.proofs.Below.{count-next}
 use Rattle.walk.specs.Walk.{PlaceIn, Next, here}
-use Rattle.laws.proofs.Ascending.{nth-is}
 use Rattle.walk.proofs.Places.{place-in}
 
 -- The walk is at place i.
@@ -37,23 +36,8 @@ at-next k i kind a b kind′ a′ b′ w n = record {
 pub at-in : (k i kind a b : ℕ) → k ≤ 16 → At k i kind a b → i < 6 * k * k → PlaceIn k kind a b
 at-in k i kind a b lk w l = place-in k kind a b (w .a-in) (w .b-in) lk (w .kind-from) (rw (w .place-is) l)
 
--- Counting: what was found so far.
-module _ (p : ℕ → Bool) (i found more : ℕ) (e : found ≡ count i p) (m : more ≡ only naturals (p i) 1) where
-  pub counted-fits : i < 1536 → found + more < 65536
-  counted-fits h = omega (arith, count-le i p, only-le (p i) 1)
-
-  pub counted : found + more ≡ count (i + 1) p
-  counted = rw (e, m) (sym (count-next i p))
-
--- Searching for the place with c before it: how many are left to pass.
+-- Searching for the place with c before it: how many are left to pass where it is not here.
 module _ (p : ℕ → Bool) (i left c : ℕ) (e : left + count i p ≡ c) where
-  -- It is here.
-  pub found-here : (n : ℕ) (ready : Bool) → ready ≡ p i → i < n → (ready && eqb left 0) ≡ true → nth n p c ≡ i
-  found-here n ready r l h =
-      nth-is n p c i l (sym r ∙ and-l ready (eqb left 0) h)
-      (let z : left ≡ 0 = eqb-true left 0 (and-r ready (eqb left 0) h) in omega arith)
-
-  -- It is not here.
   module _ (ready : Bool) (less : ℕ) (r : ready ≡ p i) (s : less ≡ only naturals ready 1) (h : (ready && eqb left 0) ≡ false) where
     pub less-fits : less ≤ left
     unfolding only naturals

@@ -1,4 +1,4 @@
--- Places among the steps, and the list of ready steps told from the two tables of messages and the marks of steps done.
+-- Places among the steps, and the list of ready steps told from the words of receivers and waits and the marks of steps done.
 use mathlib.Core.Path.{_≡_}
 use mathlib.Core.Bool.{Bool}
 use mathlib.Core.List.{List}
@@ -28,8 +28,8 @@ pub record Next (k kind a b kind′ a′ b′ : ℕ) : Type 0 where
   pub next-is : here k kind′ a′ b′ ≡ here k kind a b + 1
 
 -- The step of place i is in the list of ready steps, those done left out.
-unfoldable pub listedBy : ℕ → List (List ℕ) → List (List ℕ) → List ℕ → ℕ → Bool
-listedBy k prices totals done i = permittedBy k prices totals (stepsDone k done) (kindOf (suc (i / k / k))) (i / k % k) (i % k)
+unfoldable pub listedBy : ℕ → List ℕ → List (List ℕ) → List ℕ → ℕ → Bool
+listedBy k receivers waits done i = permittedBy receivers waits (stepsDone k done) (kindOf (suc (i / k / k))) (i / k % k) (i % k)
 
 -- What the walk requires: 1 to 16 boxes, and marks as many as they need.
 pub record WalkIn (k : ℕ) (done : List ℕ) : Type 0 where

@@ -1,14 +1,9 @@
-// The list of ready steps, walked by kind, first box and second box: places, whether the step of one is ready, and how many are.
+// The list of ready steps, walked by kind, first box and second box: places, and how many of their steps are ready.
 ghost use mathlib.Core.Path.{_≡_};
-ghost use mathlib.Core.Bool.{false, _||_};
-ghost use Prim.Native.Nat.{ℕ, _*_, _≤_};
-ghost use lib.Dec.{eqb};
+ghost use Prim.Native.Nat.{ℕ, _*_, _/_, _≤_};
 ghost use Rattle.laws.specs.Below.{naturals, only};
 ghost use Rattle.model.specs.Steps.{kindOf};
-ghost use Rattle.model.specs.Tables.{stepsDone};
 ghost use Rattle.model.specs.Words.{messagesOf};
-ghost use Rattle.rules.specs.Marks.{MarksIn};
-ghost use Rattle.rules.specs.Rules.{readyBy, permittedBy};
 ghost use Rattle.walk.specs.Walk.{PlaceIn, Next};
 ghost use Rattle.walk.specs.Rows.{rowsTotal, FewRows};
 
@@ -47,6 +42,32 @@ pub fn next(k: u16, p: Place) -> Place
     }
 }
 
+// x over the number of boxes: a division by a number that the compiler knows is made a product, and a run asks for two in each step.
+pub fn by_boxes(x: u16, k: u16) -> u16
+    requires { ⌜ 1 ≤ k ⌝ }
+    ensures { λ r. ⌜ r ≡ x / k ⌝ }
+{
+    match k {
+        1 => x,
+        2 => x / 2,
+        3 => x / 3,
+        4 => x / 4,
+        5 => x / 5,
+        6 => x / 6,
+        7 => x / 7,
+        8 => x / 8,
+        9 => x / 9,
+        10 => x / 10,
+        11 => x / 11,
+        12 => x / 12,
+        13 => x / 13,
+        14 => x / 14,
+        15 => x / 15,
+        16 => x / 16,
+        _ => x / k,
+    }
+}
+
 // The messages that a step of this kind sends.
 pub fn sent_by(kind: u16) -> u32
     requires { ⌜ (1 ≤ kind) × (kind ≤ 6) ⌝ }
@@ -68,56 +89,15 @@ pub fn one(test: bool) -> u16
     0
 }
 
-// Whether the steps done make a step ready. Only kinds 3 and 6 ask for the second box; of the others `first` is whether the row's first step is made ready.
-fn ready_in_row(
-    k: u16,
-    kind: u16,
-    a: u16,
-    b: u16,
-    first: bool,
-    prices: &[[u16; 16]; 16],
-    done: &[u16],
-) -> bool
-    requires { ⌜ MarksIn k kind a b (now done) ⌝ }
-    requires { ⌜ ((eqb kind 3 || eqb kind 6) ≡ false → first ≡ readyBy k (now prices) (stepsDone k (now done)) (kindOf kind) a 0) ⌝ }
-    ensures { λ r. ⌜ r ≡ readyBy k (now (prices .entry)) (stepsDone k (now (done .entry))) (kindOf kind) a b ⌝ }
-{
-    if (kind == 3) | (kind == 6) {
-        return rules::ready::is_ready(k, kind, a, b, prices, done);
-    }
-    first
-}
-
-// Whether a step is permitted. No branch depends on the tables, since none could be foreseen.
-pub fn is_open(
-    k: u16,
-    kind: u16,
-    a: u16,
-    b: u16,
-    first: bool,
-    prices: &[[u16; 16]; 16],
-    totals: &[[u16; 16]; 16],
-    done: &[u16],
-) -> bool
-    requires { ⌜ MarksIn k kind a b (now done) ⌝ }
-    requires { ⌜ ((eqb kind 3 || eqb kind 6) ≡ false → first ≡ readyBy k (now prices) (stepsDone k (now done)) (kindOf kind) a 0) ⌝ }
-    ensures { λ r. ⌜ r ≡ permittedBy k (now (prices .entry)) (now (totals .entry)) (stepsDone k (now (done .entry))) (kindOf kind) a b ⌝ }
-{
-    let fit = rules::ready::fits(kind, a, b, prices, totals);
-    let marked = rules::marks::is_done(k, kind, a, b, done);
-    let ready = ready_in_row(k, kind, a, b, first, prices, done);
-    fit & (!marked & ready)
-}
-
 // The number of ready steps: the rows together.
-pub fn ready_steps(k: u16, rows: &[u16; 96]) -> u16
+pub fn ready_steps(k: u16, rows: &[u16; 192]) -> u16
     requires { ⌜ FewRows k (now rows) ⌝ }
     ensures { λ r. ⌜ r ≡ rowsTotal (now (rows .entry)) (6 * k) ⌝ }
 {
     let n = 6 * (k as usize);
     let mut ready: u16 = 0;
     for r in 0..n {
-        ready += rows[r];
+        ready += rows[96 + r];
     }
     ready
 }

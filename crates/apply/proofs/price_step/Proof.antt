@@ -74,7 +74,7 @@ returns c =
 add-products-requires : tie.Need-add-products-requires
 add-products-requires c κs =
     let s = entry (c .before .before .before .before .before) in
-    (rows-in s (now (s .args .known)) (s .pre .known-in), (working-row s, s .pre .tallies-linked))
+    (rows-in s (now (s .args .known)) (s .pre .known-in), (working-row s, (le-trans (s .pre .a-in) (s .pre .tallies-in .boxes-in), s .pre .tallies-linked)))
 
 returns-2 : tie.Need-returns-2
 returns-2 c =
@@ -87,7 +87,7 @@ returns-2 c =
 add-products-requires-2 : tie.Need-add-products-requires-2
 add-products-requires-2 c κs =
     let s = entry (c .before .before .before .before .before) in
-    (rows-in s (now (s .args .price-transit)) (s .pre .transit-in), (working-row s, s .pre .tallies-linked))
+    (rows-in s (now (s .args .price-transit)) (s .pre .transit-in), (working-row s, (le-trans (s .pre .b-in) (s .pre .tallies-in .boxes-in), s .pre .tallies-linked)))
 
 -- The products added, from the prices received.
 abbrev added : tie.After-receive-prices → tie.After-add-products2

@@ -11,10 +11,10 @@ use Rattle.links.proofs.no_places.Statement.{statement}
 use Rattle.links.proofs.no_places.Tie as tie
 
 abbrev Inv-loop : tie.InvT-loop
-Inv-loop end links₀ v₀ links v = (v ≤ 17) × (length links ≡ length links₀) × ((x : ℕ) → x < v → getD links x 0 ≡ end)
+Inv-loop heads end links₀ v₀ links v = (v ≤ heads) × (length links ≡ length links₀) × ((x : ℕ) → x < v → getD links x 0 ≡ end)
 
 abbrev μ-loop : tie.MeasureT-loop
-μ-loop end links₀ v₀ links v = 17 - v
+μ-loop heads end links₀ v₀ links v = heads - v
 
 loop-holds : tie.Need-loop-holds Inv-loop μ-loop
 loop-holds c = (omega arith, refl, λ x l. absurd (omega arith))

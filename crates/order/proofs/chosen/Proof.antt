@@ -6,24 +6,24 @@ use native.Mathlib.Omega.{arith}
 use lib.ListN.{length, drop}
 use borrow.Author.Needs.{needs}
 use borrow.Author.Tests.{eq-eqb}
-use denote.Ref.{now}
 use Rattle.laws.specs.Below.{count}
 use Rattle.walk.specs.Walk.{listedBy}
 use Rattle.walk.specs.Rows.{IsRows}
-use Rattle.rows.proofs.ByRow.{rows-few, rows-ready}
 use Rattle.order.specs.Order.{MarksFrom, Kept, EveryJob}
+use denote.Ref.{now}
+use Rattle.rows.proofs.ByRow.{rows-few, rows-ready}
 use Rattle.order.proofs.Pick.{kept-none, kept-both, kept-over, kept-last}
 use Rattle.order.proofs.Found.{ready-of, walk-on, marks-own, marks-over}
 use Rattle.order.proofs.chosen.Statement.{statement}
 use Rattle.order.proofs.chosen.Tie as tie
 
 abbrev Inv-loop : tie.InvT-loop
-Inv-loop k prices totals choices done₀ order₀ n rows₀ i₀ done order rows i =
+Inv-loop k receivers waits choices done₀ order₀ n rows₀ i₀ done order rows i =
     (i ≤ n) × ((n ≡ length choices) × ((length done ≡ length done₀) × ((MarksFrom k done₀ done)
-    × ((EveryJob k prices totals (λ j. Kept j done₀ order₀ 0 choices done order i (drop i choices))) × (1 ≤ n → IsRows k prices totals done rows)))))
+    × ((EveryJob k receivers waits (λ j. Kept j done₀ order₀ 0 choices done order i (drop i choices))) × (1 ≤ n → IsRows k (listedBy k receivers waits done) rows)))))
 
 abbrev μ-loop : tie.MeasureT-loop
-μ-loop k prices totals choices done₀ order₀ n rows₀ i₀ done order rows i = n - i
+μ-loop k receivers waits choices done₀ order₀ n rows₀ i₀ done order rows i = n - i
 
 abbrev entry : tie.At-loop Inv-loop μ-loop → tie.Start Inv-loop μ-loop
 entry c = c .before .before .before .before .before
@@ -38,13 +38,13 @@ abbrev readied : tie.After-choose-arg2 Inv-loop μ-loop → tie.Else1 Inv-loop �
 readied c = c .before .before .before
 
 -- The rows at a turn are counted.
-rows-at : (c : tie.In-loop Inv-loop μ-loop) → let s = entry (c .before) in IsRows (s .args .k) (now (s .args .prices)) (now (s .args .totals)) (c .before .loop .done) (c .before .loop .rows)
+rows-at : (c : tie.In-loop Inv-loop μ-loop) → let s = entry (c .before) in IsRows (s .args .k) (listedBy (s .args .k) (now (s .args .receivers)) (now (s .args .waits)) (c .before .loop .done)) (c .before .loop .rows)
 rows-at c = c .before .loop .inv .1 .1 .1 .1 .1 (omega (arith, c .loop-test .taken))
 
 -- The ready steps of a turn.
 ready-at : (c : tie.After-ready-steps Inv-loop μ-loop) → let s = entry (turn c .before) in
-    c .ready-steps .result ≡ count (6 * s .args .k * s .args .k) (listedBy (s .args .k) (now (s .args .prices)) (now (s .args .totals)) (turn c .before .loop .done))
-ready-at c = c .ready-steps .ensures ∙ rows-ready _ _ _ _ _ (rows-at (turn c))
+    c .ready-steps .result ≡ count (6 * s .args .k * s .args .k) (listedBy (s .args .k) (now (s .args .receivers)) (now (s .args .waits)) (turn c .before .loop .done))
+ready-at c = c .ready-steps .ensures ∙ rows-ready _ _ _ (rows-at (turn c))
 
 loop-holds : tie.Need-loop-holds Inv-loop μ-loop
 loop-holds c =
@@ -52,7 +52,7 @@ loop-holds c =
     (search needs, (refl, (refl, (s .pre .0 .1, (λ j o. kept-none j _ _ 0 _ (s .pre .1 j o), c .rows-for .ensures)))))
 
 ready-steps-requires : tie.Need-ready-steps-requires Inv-loop μ-loop
-ready-steps-requires c κs = rows-few _ _ _ _ _ (rows-at (c .before)) (entry (c .before .before) .pre .0 .0 .boxes-in)
+ready-steps-requires c κs = rows-few _ _ _ (rows-at (c .before)) (entry (c .before .before) .pre .0 .0 .boxes-in)
 
 returns : tie.Need-returns Inv-loop μ-loop
 returns c =

@@ -1,15 +1,14 @@
 -- `order::rest` meets its contract: at place i no step of an earlier place is ready. Assumes nothing.
-use mathlib.Core.Path.{_≡_, refl, ap, _∙_}
+use mathlib.Core.Path.{_≡_, refl, _∙_}
 use mathlib.Core.List.{[]}
-use Prim.Native.Nat.{_-_, _≤_, _<_}
+use Prim.Native.Nat.{_-_, _≤_}
 use native.Mathlib.Omega.{arith}
 use lib.ListN.{length}
 use borrow.Author.Needs.{needs}
-use denote.Ref.{now}
 use Rattle.model.specs.Tables.{stepsDone}
 use Rattle.walk.specs.Walk.{PlaceIn}
-use Rattle.walk.proofs.Walking.{At, at-first, at-next, at-in}
 use Rattle.order.specs.Order.{MarksFrom, Kept, NoneBefore, EveryJob}
+use Rattle.walk.proofs.Walking.{At, at-first, at-next, at-in}
 use Rattle.order.proofs.Left.{none-first}
 use Rattle.order.proofs.Pick.{kept-none, kept-both}
 use Rattle.order.proofs.Found.{walk-on, ended-of, marks-own, marks-over}
@@ -17,12 +16,12 @@ use Rattle.order.proofs.rest.Statement.{statement}
 use Rattle.order.proofs.rest.Tie as tie
 
 abbrev Inv-loop : tie.InvT-loop
-Inv-loop k prices totals n done₀ order₀ places words₀ p₀ i₀ done order words p i =
+Inv-loop k receivers waits n done₀ order₀ places words₀ p₀ i₀ done order words p i =
     (i ≤ places) × ((At k i (p .kind) (p .first) (p .second)) × ((length done ≡ length done₀) × ((MarksFrom k done₀ done)
-    × ((EveryJob k prices totals (λ j. Kept j done₀ order₀ n [] done order words [])) × (EveryJob k prices totals (λ j. NoneBefore j (stepsDone (j .boxes) done) i))))))
+    × ((EveryJob k receivers waits (λ j. Kept j done₀ order₀ n [] done order words [])) × (EveryJob k receivers waits (λ j. NoneBefore j (stepsDone (j .boxes) done) i))))))
 
 abbrev μ-loop : tie.MeasureT-loop
-μ-loop k prices totals n done₀ order₀ places words₀ p₀ i₀ done order words p i = places - i
+μ-loop k receivers waits n done₀ order₀ places words₀ p₀ i₀ done order words p i = places - i
 
 abbrev entry : tie.At-loop Inv-loop μ-loop → tie.Start Inv-loop μ-loop
 entry c = c .before .before .before

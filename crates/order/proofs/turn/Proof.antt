@@ -5,8 +5,8 @@ use Prim.Native.Nat.{_<_}
 use native.Mathlib.Omega.{arith}
 use borrow.Author.Needs.{needs}
 use borrow.Author.Tests.{not-true, not-false}
-use denote.Ref.{now}
 use Rattle.walk.specs.Walk.{here, listedBy}
+use denote.Ref.{now}
 use Rattle.walk.proofs.Places.{listed-at}
 use Rattle.order.proofs.Found.{not-of, place-room-of, passed-of}
 use Rattle.order.proofs.turn.Statement.{statement}
@@ -23,12 +23,12 @@ tested c = c .before .before
 
 -- The test of the step is the test of its place.
 tested-at : (c : tie.After-permitted) → let s = entry c in
-    c .permitted .result ≡ listedBy (s .args .k) (now (s .args .prices)) (now (s .args .totals)) (now (s .args .done)) (here (s .args .k) (s .args .p .kind) (s .args .p .first) (s .args .p .second))
+    c .permitted .result ≡ listedBy (s .args .k) (now (s .args .receivers)) (now (s .args .waits)) (now (s .args .done)) (here (s .args .k) (s .args .p .kind) (s .args .p .first) (s .args .p .second))
 tested-at c = let s = entry c in c .permitted .ensures ∙ listed-at (s .args .k) (s .args .p .kind) (s .args .p .first) (s .args .p .second) _ _ _ (s .pre .0)
 
 -- The step is ready,
 listed : (e : tie.Else1) → let s = entry (e .before) in
-    listedBy (s .args .k) (now (s .args .prices)) (now (s .args .totals)) (now (s .args .done)) (here (s .args .k) (s .args .p .kind) (s .args .p .first) (s .args .p .second)) ≡ true
+    listedBy (s .args .k) (now (s .args .receivers)) (now (s .args .waits)) (now (s .args .done)) (here (s .args .k) (s .args .p .kind) (s .args .p .first) (s .args .p .second)) ≡ true
 listed e = sym (tested-at (e .before)) ∙ not-false _ (e .if1 .left)
 
 -- and there is room for it.

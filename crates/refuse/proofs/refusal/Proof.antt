@@ -4,19 +4,21 @@ use mathlib.Core.Bool.{Bool, true, false, not}
 use mathlib.Core.List.{List}
 use Prim.Native.Nat.{ℕ, _≤_}
 use native.Mathlib.Omega.{arith}
+use lib.ListN.{length}
 use Rattle.laws.specs.Checks.{firstMet}
 use Rattle.laws.specs.Tables.{tabulate}
+use Rattle.laws.proofs.Tables.{length-tabulate}
 use Rattle.model.specs.Job.{needWord, sharerWord}
-use Rattle.model.specs.Tables.{JobTables, bagTables, jobOf, StateTables, stateTables}
-use Rattle.model.specs.Local.{priceTable, totalTable}
+use Rattle.model.specs.Tables.{JobTables, bagTables, jobOf, StateTables, stateTables, stepsDone}
 use Rattle.model.specs.Ranges.{stateInRange}
 use Rattle.model.specs.Step.{Asked, asked, moved, stepRefusal}
 use Rattle.model.specs.Handed.{handedTables, Standing}
-use Rattle.tables.specs.Messages.{sentTable}
+use Rattle.rules.specs.Rules.{rulesBy, ReceiversOf, WaitsOf}
+use Rattle.rules.proofs.Told.{receivers-of, waits-of, waits-in}
 use Rattle.apply.specs.Apply.{Applies}
-use Rattle.refuse.specs.Late.{earlyRules, Held}
+use Rattle.refuse.specs.Late.{earlyRules, laterRules, Held}
 use Rattle.tables.proofs.Holders.{need-words, sharer-words}
-use Rattle.tables.proofs.InJob.{placed-offers, placed-grocers, owned-offers, owned-grocers, price-sent, total-sent}
+use Rattle.tables.proofs.InJob.{placed-offers, placed-grocers, owned-offers}
 use Rattle.refuse.proofs.Refused.{answer-early, held, answer-later}
 use Rattle.refuse.proofs.Finished.{price-fits-in, total-fits-in, prices-fit, totals-fit}
 use Rattle.refuse.proofs.Later.{whole, whole-state, few-boxes, later-met, applies, later-late, later-none}
@@ -48,19 +50,6 @@ start c = known (c .before .before .before .before)
 abbrev entry : tie.Else1 → tie.Start
 entry e = start (e .before)
 
--- Where the words and the tables of messages are made, from the second test.
-abbrev words-at : tie.After-total-table → tie.After-sharers
-words-at c = c .before .before .before .before
-
-abbrev needs-at : tie.After-sharers → tie.After-needs
-needs-at c = c .before .before .before
-
-abbrev held-at : tie.After-sharers → tie.Else1
-held-at c = needs-at c .before .before .before
-
-abbrev made : tie.After-request-refusal → tie.After-total-table
-made c = c .before .before .before
-
 returns : tie.Need-returns
 returns c = let s = start (c .before) in record {
   number-is = answer-early (job s) (state s) (ask s) _ (c .before .early-refusal .ensures .number-is) (c .if1 .taken);
@@ -84,130 +73,233 @@ handed e = handedTables (job (entry e)) (standing e)
 in-hand : (e : tie.Else1) → Held (handed e) (state (entry e))
 in-hand e = held (job (entry e)) (state (entry e)) (none-early e) (standing e) (stand e)
 
+-- With words of receivers and waits: what the conditions 22 to 26 say.
+module _ (e : tie.Else1) (to : List ℕ) (from : List (List ℕ)) (hr : ask (entry e) .kind ≤ 3 → ReceiversOf (jobOf (handed e)) to) (hw : 4 ≤ ask (entry e) .kind → WaitsOf (jobOf (handed e)) from)
+    (r : ℕ) (er : r ≡ firstMet (rulesBy (entry e .args .z .boxes) to from (stepsDone (entry e .args .z .boxes) (now (entry e .args .done))) (ask (entry e)))) where
+  abbrev answer : ℕ → Type 0
+  answer n = n ≡ stepRefusal (job (entry e)) (state (entry e)) (ask (entry e))
+
+  by-later : (n : ℕ) → n ≡ firstMet (laterRules (handed e) (state (entry e)) (ask (entry e))) → answer n
+  by-later n l = answer-later (job (entry e)) (state (entry e)) (none-early e) (standing e) (stand e) (ask (entry e)) n l
+
+  met : (r ≡ 0 → ⊥) → answer r
+  met ne = by-later r (later-met (handed e) (state (entry e)) (in-hand e) to from (ask (entry e)) hr hw r er ne)
+
+  -- None is met: the step may be applied where the late 21 is not met.
+  module _ (z : r ≡ 0) where
+    applied : (needs sharers : List ℕ) → (ask (entry e) .kind ≤ 3 → needs ≡ tabulate 500 (needWord (jobOf (handed e)))) → (4 ≤ ask (entry e) .kind → sharers ≡ tabulate 255 (sharerWord (jobOf (handed e)))) →
+        Applies (handed e) (state (entry e)) needs sharers (ask (entry e))
+    applied = applies (handed e) (state (entry e)) (in-hand e) to from (ask (entry e)) hr hw r er z
+
+    module _ (v : Bool) (ev : v ≡ stateInRange (handed e) (moved (handed e) (state (entry e)) (ask (entry e)))) where
+      late : v ≡ false → answer 21
+      late n = by-later 21 (later-late (handed e) (state (entry e)) (in-hand e) to from (ask (entry e)) hr hw r er z v ev (ap not n))
+
+      none : v ≡ true → answer 0
+      none y = by-later 0 (later-none (handed e) (state (entry e)) (in-hand e) to from (ask (entry e)) hr hw r er z v ev (ap not y))
+
+-- Kinds 1 to 3: the need words that are made are the job's, and so are the words of receivers.
+abbrev priced : tie.Then2 → tie.Else1
+priced k = k .before .before
+
+abbrev needs-for : tie.After-needs → tie.Then2
+needs-for c = c .before .before .before
+
+abbrev receivers-for : tie.After-receivers → tie.After-needs
+receivers-for c = c .before .before
+
+abbrev prices-asked : tie.After-request-refusal → tie.After-receivers
+prices-asked c = c .before .before .before
+
+few : (k : tie.Then2) → ask (entry (priced k)) .kind ≤ 3
+few k = omega (arith, k .if2 .taken)
+
 needs-requires : tie.Need-needs-requires
-needs-requires c κs = let e = c .before .before in placed-offers (handed e) (in-hand e .job-in) (whole (handed e) (state (entry e)) (in-hand e))
+needs-requires c κs = let e = priced (c .before .before) in placed-offers (handed e) (in-hand e .job-in) (whole (handed e) (state (entry e)) (in-hand e))
 
-sharers-requires : tie.Need-sharers-requires
-sharers-requires c κs = let e = c .before .before .before .before .before in placed-grocers (handed e) (in-hand e .job-in) (whole (handed e) (state (entry e)) (in-hand e))
+needs-are : (c : tie.After-needs) → c .needs .result ≡ tabulate 500 (needWord (jobOf (handed (priced (needs-for c)))))
+needs-are c = c .needs .ensures ∙ need-words (handed (priced (needs-for c))) refl
 
--- The need words and sharer words that are made, and both tables of messages, are the job's.
-needs-are : (c : tie.After-sharers) → needs-at c .needs .result ≡ tabulate 500 (needWord (jobOf (handed (held-at c))))
-needs-are c = needs-at c .needs .ensures ∙ need-words (handed (held-at c)) refl
+needs-lent : tie.Need-slice-aggregate-receivers
+needs-lent c = sym (ap length (needs-are (c .before)) ∙ length-tabulate 500 _)
 
-sharers-are : (c : tie.After-sharers) → c .sharers .result ≡ tabulate 255 (sharerWord (jobOf (handed (held-at c))))
-sharers-are c = c .sharers .ensures ∙ sharer-words (handed (held-at c)) refl
-
-price-table-requires : tie.Need-price-table-requires
-price-table-requires c κs =
-    let e = held-at (c .before) in
+receivers-requires : tie.Need-receivers-requires
+receivers-requires c κs =
+    let e = priced (needs-for (c .before)) in
     owned-offers (handed e) (in-hand e .job-in) (whole (handed e) (state (entry e)) (in-hand e)) _ _ (needs-are (c .before))
 
-total-table-requires : tie.Need-total-table-requires
-total-table-requires c κs =
-    let w = c .before .before .before in
-    let e = held-at w in
-    owned-grocers (handed e) (in-hand e .job-in) (whole (handed e) (state (entry e)) (in-hand e)) _ _ (sharers-are w)
-
-prices-are : (c : tie.After-total-table) → c .before .before .price-table .result ≡ priceTable (jobOf (handed (held-at (words-at c))))
-prices-are c =
-    let e = held-at (words-at c) in
-    let s = entry e in
-    c .before .before .price-table .ensures ∙ ap (sentTable false (s .args .z .offers) (now (s .args .offer-owner))) (needs-at (words-at c) .needs .ensures) ∙ price-sent (handed e) (in-hand e .job-in)
-
-totals-are : (c : tie.After-total-table) → c .total-table .result ≡ totalTable (jobOf (handed (held-at (words-at c))))
-totals-are c =
-    let e = held-at (words-at c) in
-    let s = entry e in
-    c .total-table .ensures ∙ ap (sentTable true (s .args .z .grocers) (now (s .args .grocer-owner))) (words-at c .sharers .ensures) ∙ total-sent (handed e) (in-hand e .job-in)
+receivers-are : (c : tie.After-receivers) → ReceiversOf (jobOf (handed (priced (needs-for (receivers-for c))))) (c .receivers .result)
+receivers-are c =
+    let w = receivers-for c in
+    let e = priced (needs-for w) in
+    receivers-of (handed e) (in-hand e .job-in) (w .needs .result) (needs-are w) (c .receivers .result) (c .receivers .ensures)
 
 request-refusal-requires : tie.Need-request-refusal-requires
 request-refusal-requires c κs =
-    let e = held-at (words-at (c .before .before)) in
+    let e = priced (needs-for (receivers-for (c .before .before))) in
     (few-boxes (handed e) (state (entry e)) (in-hand e), whole-state (handed e) (state (entry e)) (in-hand e) .done)
+
+-- What this side is given for the conditions 22 to 26.
+abbrev price-kind : tie.After-request-refusal → tie.Then2
+price-kind c = needs-for (receivers-for (prices-asked c))
+
+no-waits : (k : tie.Then2) (from : List (List ℕ)) → 4 ≤ ask (entry (priced k)) .kind → WaitsOf (jobOf (handed (priced k))) from
+no-waits k from m = absurd (omega (arith, few k, m))
 
 returns-2 : tie.Need-returns-2
 returns-2 c =
     let r = c .before in
-    let m = made r in
-    let e = held-at (words-at m) in
-    let s = entry e in
+    let k = price-kind r in
     record {
-      number-is = answer-later (job s) (state s) (none-early e) (standing e) (stand e) (ask s) _ (later-met (handed e) (state s) (in-hand e) _ _ (prices-are m) (totals-are m) (ask s) _ (r .request-refusal .ensures) (c .if2 .taken));
-      standing-are = λ z. absurd (c .if2 .taken z);
-      applies = λ z. absurd (c .if2 .taken z);
+      number-is = met (priced k) _ _ (λ _. receivers-are (prices-asked r)) (no-waits k _) _ (r .request-refusal .ensures) (c .if3 .taken);
+      standing-are = λ z. absurd (c .if3 .taken z);
+      applies = λ z. absurd (c .if3 .taken z);
     }
 
--- No condition of 22 to 26 is met: the step may be applied where the late 21 is not met.
-abbrev held-in : tie.Else2 → tie.Else1
-held-in i = held-at (words-at (made (i .before)))
+abbrev price-entry : tie.Else3 → tie.Else1
+price-entry i = priced (price-kind (i .before))
 
-abbrev first : tie.Else2 → tie.Start
-first i = entry (held-in i)
+prices-applied : (i : tie.Else3) → Applies (handed (price-entry i)) (state (entry (price-entry i))) (receivers-for (prices-asked (i .before)) .needs .result) (now (entry (price-entry i) .args .sharers)) (ask (entry (price-entry i)))
+prices-applied i =
+    let r = i .before in
+    let k = price-kind r in
+    applied (priced k) _ _ (λ _. receivers-are (prices-asked r)) (no-waits k _) _ (r .request-refusal .ensures) (i .if3 .left) _ _
+    (λ _. needs-are (receivers-for (prices-asked r))) (λ m. absurd (omega (arith, few k, m)))
 
-abbrev given : tie.Else2 → JobTables
-given i = handed (held-in i)
-
-applied : (i : tie.Else2) → Applies (given i) (state (first i)) (needs-at (words-at (made (i .before))) .needs .result) (words-at (made (i .before)) .sharers .result) (ask (first i))
-applied i =
-    let s = first i in
-    let m = made (i .before) in
-    applies (given i) (state s) (in-hand (held-in i)) _ _ (prices-are m) (totals-are m) (ask s) _ (i .before .request-refusal .ensures) (i .if2 .left) _ _ (needs-are (words-at m)) (sharers-are (words-at m))
-
-module _ (i : tie.Else2) (v : Bool) (ev : v ≡ stateInRange (given i) (moved (given i) (state (first i)) (ask (first i)))) where
-  late : v ≡ false → 21 ≡ stepRefusal (job (first i)) (state (first i)) (ask (first i))
-  late n =
-      let s = first i in
-      let m = made (i .before) in
-      answer-later (job s) (state s) (none-early (held-in i)) (standing (held-in i)) (stand (held-in i)) (ask s) _
-      (later-late (given i) (state s) (in-hand (held-in i)) _ _ (prices-are m) (totals-are m) (ask s) _ (i .before .request-refusal .ensures) (i .if2 .left) v ev (ap not n))
-
-  none : v ≡ true → 0 ≡ stepRefusal (job (first i)) (state (first i)) (ask (first i))
-  none y =
-      let s = first i in
-      let m = made (i .before) in
-      answer-later (job s) (state s) (none-early (held-in i)) (standing (held-in i)) (stand (held-in i)) (ask s) _
-      (later-none (given i) (state s) (in-hand (held-in i)) _ _ (prices-are m) (totals-are m) (ask s) _ (i .before .request-refusal .ensures) (i .if2 .left) v ev (ap not y))
-
--- Kinds 1 to 3.
 price-fits-requires : tie.Need-price-fits-requires
-price-fits-requires c κs = let k = c .before .before .before in let i = k .before .before in price-fits-in (given i) (state (first i)) _ _ (ask (first i)) (applied i) (k .if3 .taken)
+price-fits-requires c κs =
+    let i = c .before .before .before in
+    let e = price-entry i in
+    price-fits-in (handed e) (state (entry e)) _ _ (ask (entry e)) (prices-applied i) (few (price-kind (i .before)))
 
-abbrev prices-asked : tie.After-price-fits → tie.Then3
-prices-asked c = c .before .before .before .before
+abbrev prices-left : tie.After-price-fits → tie.Else3
+prices-left c = c .before .before .before .before
 
-prices-range : (c : tie.After-price-fits) → let i = prices-asked c .before .before in c .price-fits .result ≡ stateInRange (given i) (moved (given i) (state (first i)) (ask (first i)))
+prices-range : (c : tie.After-price-fits) → let e = price-entry (prices-left c) in c .price-fits .result ≡ stateInRange (handed e) (moved (handed e) (state (entry e)) (ask (entry e)))
 prices-range c =
-    let k = prices-asked c in
-    let i = k .before .before in
-    c .price-fits .ensures ∙ prices-fit (given i) (state (first i)) _ _ (ask (first i)) (applied i) _ (prices-are (made (i .before))) (k .if3 .taken)
+    let i = prices-left c in
+    let e = price-entry i in
+    c .price-fits .ensures ∙ prices-fit (handed e) (state (entry e)) _ _ (ask (entry e)) (prices-applied i) (few (price-kind (i .before)))
 
 returns-3 : tie.Need-returns-3
-returns-3 c = let i = prices-asked (c .before) .before .before in record { number-is = none i _ (prices-range (c .before)) (c .if4 .taken); standing-are = λ _. stand (held-in i); applies = λ _. applied i }
+returns-3 c =
+    let i = prices-left (c .before) in
+    let r = i .before in
+    let k = price-kind r in
+    record {
+      number-is = none (priced k) _ _ (λ _. receivers-are (prices-asked r)) (no-waits k _) _ (r .request-refusal .ensures) (i .if3 .left) _ (prices-range (c .before)) (c .if4 .taken);
+      standing-are = λ _. stand (priced k);
+      applies = λ _. prices-applied i;
+    }
 
 returns-4 : tie.Need-returns-4
-returns-4 c = let i = prices-asked (c .before) .before .before in record { number-is = late i _ (prices-range (c .before)) (c .if4 .left); standing-are = λ z. absurd (omega arith); applies = λ z. absurd (omega arith) }
+returns-4 c =
+    let i = prices-left (c .before) in
+    let r = i .before in
+    let k = price-kind r in
+    record {
+      number-is = late (priced k) _ _ (λ _. receivers-are (prices-asked r)) (no-waits k _) _ (r .request-refusal .ensures) (i .if3 .left) _ (prices-range (c .before)) (c .if4 .left);
+      standing-are = λ z. absurd (omega arith);
+      applies = λ z. absurd (omega arith);
+    }
 
--- Kinds 4 to 6.
-many : (k : tie.Else3) → 4 ≤ first (k .before .before) .args .x .kind
-many k = omega (arith, k .if3 .left)
+-- Kinds 4 to 6: the sharer words are the job's, and so are the words of waits.
+abbrev totalled : tie.Else2 → tie.Else1
+totalled k = k .before .before
 
-total-fits-requires : tie.Need-total-fits-requires
-total-fits-requires c κs = let k = c .before .before in let i = k .before .before in total-fits-in (given i) (state (first i)) _ _ (ask (first i)) (applied i) (many k)
+abbrev sharers-for : tie.After-sharers → tie.Else2
+sharers-for c = c .before .before .before
 
-abbrev totals-asked : tie.After-total-fits → tie.Else3
+abbrev waits-for : tie.After-waits → tie.After-sharers
+waits-for c = c .before .before .before
+
+abbrev totals-asked : tie.After-request-refusal2 → tie.After-waits
 totals-asked c = c .before .before .before
 
-totals-range : (c : tie.After-total-fits) → let i = totals-asked c .before .before in c .total-fits .result ≡ stateInRange (given i) (moved (given i) (state (first i)) (ask (first i)))
-totals-range c =
-    let k = totals-asked c in
-    let i = k .before .before in
-    c .total-fits .ensures ∙ totals-fit (given i) (state (first i)) _ _ (ask (first i)) (applied i) _ (totals-are (made (i .before))) (many k)
+many : (k : tie.Else2) → 4 ≤ ask (entry (totalled k)) .kind
+many k = omega (arith, k .if2 .left)
+
+sharers-requires : tie.Need-sharers-requires
+sharers-requires c κs = let e = totalled (c .before .before) in placed-grocers (handed e) (in-hand e .job-in) (whole (handed e) (state (entry e)) (in-hand e))
+
+sharers-are : (c : tie.After-sharers) → c .sharers .result ≡ tabulate 255 (sharerWord (jobOf (handed (totalled (sharers-for c)))))
+sharers-are c = c .sharers .ensures ∙ sharer-words (handed (totalled (sharers-for c))) refl
+
+waits-requires : tie.Need-waits-requires
+waits-requires c κs = let e = totalled (sharers-for (c .before .before)) in waits-in (handed e) (in-hand e .job-in) (whole (handed e) (state (entry e)) (in-hand e))
+
+waits-are : (c : tie.After-waits) → WaitsOf (jobOf (handed (totalled (sharers-for (waits-for c))))) (c .waits .result)
+waits-are c =
+    let e = totalled (sharers-for (waits-for c)) in
+    waits-of (handed e) (in-hand e .job-in) (c .waits .result) (c .waits .ensures)
+
+request-refusal-requires-2 : tie.Need-request-refusal-requires-2
+request-refusal-requires-2 c κs =
+    let e = totalled (sharers-for (waits-for (c .before .before))) in
+    (few-boxes (handed e) (state (entry e)) (in-hand e), whole-state (handed e) (state (entry e)) (in-hand e) .done)
+
+abbrev total-kind : tie.After-request-refusal2 → tie.Else2
+total-kind c = sharers-for (waits-for (totals-asked c))
+
+no-receivers : (k : tie.Else2) (to : List ℕ) → ask (entry (totalled k)) .kind ≤ 3 → ReceiversOf (jobOf (handed (totalled k))) to
+no-receivers k to m = absurd (omega (arith, many k, m))
 
 returns-5 : tie.Need-returns-5
-returns-5 c = let i = totals-asked (c .before) .before .before in record { number-is = none i _ (totals-range (c .before)) (c .if5 .taken); standing-are = λ _. stand (held-in i); applies = λ _. applied i }
+returns-5 c =
+    let r = c .before in
+    let k = total-kind r in
+    record {
+      number-is = met (totalled k) _ _ (no-receivers k _) (λ _. waits-are (totals-asked r)) _ (r .request-refusal2 .ensures) (c .if5 .taken);
+      standing-are = λ z. absurd (c .if5 .taken z);
+      applies = λ z. absurd (c .if5 .taken z);
+    }
+
+abbrev total-entry : tie.Else5 → tie.Else1
+total-entry i = totalled (total-kind (i .before))
+
+totals-applied : (i : tie.Else5) → Applies (handed (total-entry i)) (state (entry (total-entry i))) (now (entry (total-entry i) .args .needs)) (waits-for (totals-asked (i .before)) .sharers .result) (ask (entry (total-entry i)))
+totals-applied i =
+    let r = i .before in
+    let k = total-kind r in
+    applied (totalled k) _ _ (no-receivers k _) (λ _. waits-are (totals-asked r)) _ (r .request-refusal2 .ensures) (i .if5 .left) _ _
+    (λ m. absurd (omega (arith, many k, m))) (λ _. sharers-are (waits-for (totals-asked r)))
+
+total-fits-requires : tie.Need-total-fits-requires
+total-fits-requires c κs =
+    let i = c .before in
+    let e = total-entry i in
+    total-fits-in (handed e) (state (entry e)) _ _ (ask (entry e)) (totals-applied i) (many (total-kind (i .before)))
+
+abbrev totals-left : tie.After-total-fits → tie.Else5
+totals-left c = c .before .before
+
+totals-range : (c : tie.After-total-fits) → let e = total-entry (totals-left c) in c .total-fits .result ≡ stateInRange (handed e) (moved (handed e) (state (entry e)) (ask (entry e)))
+totals-range c =
+    let i = totals-left c in
+    let e = total-entry i in
+    c .total-fits .ensures ∙ totals-fit (handed e) (state (entry e)) _ _ (ask (entry e)) (totals-applied i) (many (total-kind (i .before)))
 
 returns-6 : tie.Need-returns-6
-returns-6 c = let i = totals-asked (c .before) .before .before in record { number-is = late i _ (totals-range (c .before)) (c .if5 .left); standing-are = λ z. absurd (omega arith); applies = λ z. absurd (omega arith) }
+returns-6 c =
+    let i = totals-left (c .before) in
+    let r = i .before in
+    let k = total-kind r in
+    record {
+      number-is = none (totalled k) _ _ (no-receivers k _) (λ _. waits-are (totals-asked r)) _ (r .request-refusal2 .ensures) (i .if5 .left) _ (totals-range (c .before)) (c .if6 .taken);
+      standing-are = λ _. stand (totalled k);
+      applies = λ _. totals-applied i;
+    }
+
+returns-7 : tie.Need-returns-7
+returns-7 c =
+    let i = totals-left (c .before) in
+    let r = i .before in
+    let k = total-kind r in
+    record {
+      number-is = late (totalled k) _ _ (no-receivers k _) (λ _. waits-are (totals-asked r)) _ (r .request-refusal2 .ensures) (i .if5 .left) _ (totals-range (c .before)) (c .if6 .left);
+      standing-are = λ z. absurd (omega arith);
+      applies = λ z. absurd (omega arith);
+    }
 
 pub refusal-spec : {M : Type 1} → statement M
 refusal-spec =
@@ -216,14 +308,17 @@ refusal-spec =
     (λ c κs. tt)
     returns
     needs-requires
-    sharers-requires
-    price-table-requires
-    total-table-requires
+    needs-lent
+    receivers-requires
     request-refusal-requires
     returns-2
     price-fits-requires
     returns-3
     returns-4
-    total-fits-requires
+    sharers-requires
+    waits-requires
+    request-refusal-requires-2
     returns-5
-    returns-6)
+    total-fits-requires
+    returns-6
+    returns-7)

@@ -1,38 +1,46 @@
 -- `renew::one_less` meets its contract. Assumes nothing.
-use native.Mathlib.Omega.{arith}
+use mathlib.Core.Path.{refl}
 use borrow.Author.Needs.{needs}
-use Rattle.rows.proofs.ByRow.{row-below}
+use denote.Ref.{now}
+use Rattle.rows.proofs.ByRow.{renewed-cong}
+use Rattle.renew.proofs.Place.{less-word, less-count}
 use Rattle.renew.proofs.one_less.Statement.{statement}
 use Rattle.renew.proofs.one_less.Tie as tie
 
-mul-r : tie.Need-mul-r
-mul-r c = omega (arith, row-below (c .args .k) (c .args .kind) (c .args .a) (c .pre .boxes-in) (c .pre .kind-to) (c .pre .kind-from) (c .pre .a-in))
+-- Places, from places after them.
+abbrev cleared : tie.After-put-row → tie.After-clear-bit
+cleared c = c .before .before .before
 
-add-r : tie.Need-add-r
-add-r c = omega (arith, row-below (c .args .k) (c .args .kind) (c .args .a) (c .pre .boxes-in) (c .pre .kind-to) (c .pre .kind-from) (c .pre .a-in))
+abbrev entry : tie.After-clear-bit → tie.Start
+entry c = c .before .before .before
 
-cast-r : tie.Need-cast-r
-cast-r c = omega (arith, row-below (c .args .k) (c .args .kind) (c .args .a) (c .pre .boxes-in) (c .pre .kind-to) (c .pre .kind-from) (c .pre .a-in))
+sub-number : tie.Need-sub-number
+sub-number c = let r = c .before .before .before in rw (r .row-at .ensures .0) (r .before .pre .some)
 
-mul-rows : tie.Need-mul-rows
-mul-rows c = omega (arith, row-below (c .args .k) (c .args .kind) (c .args .a) (c .pre .boxes-in) (c .pre .kind-to) (c .pre .kind-from) (c .pre .a-in))
+put-row-requires : tie.Need-put-row-requires
+put-row-requires c κs = let r = c .before .before .before .before in (r .row-at .ensures .1, r .before .pre .long)
 
-element-copy-out-rows : tie.Need-element-copy-out-rows
-element-copy-out-rows c = omega (arith, row-below (c .args .k) (c .args .kind) (c .args .a) (c .pre .boxes-in) (c .pre .kind-to) (c .pre .kind-from) (c .pre .a-in))
-
-element-write-rows : tie.Need-element-write-rows
-element-write-rows c = let s = c .before in omega (arith, row-below (s .args .k) (s .args .kind) (s .args .a) (s .pre .boxes-in) (s .pre .kind-to) (s .pre .kind-from) (s .pre .a-in))
+returns : tie.Need-returns
+returns c f h on =
+    let w = cleared c in
+    let s = entry w in
+    let e = w .before .before .row-at .ensures .0 in
+    renewed-cong (s .args .k) _ _ _ _ _ _ e (λ x l. refl)
+    (c .put-row .ensures (s .args .k) _
+    (less-word (s .args .k) (s .args .b) f _ _ (now (s .args .rows)) (s .pre .boxes-in) (s .pre .b-in) e h _ (w .clear-bit .ensures))
+    (less-count (s .args .k) (s .args .b) f _ _ (now (s .args .rows)) (s .pre .boxes-in) (s .pre .b-in) e h on))
 
 pub one-less-spec : {M : Type 1} → statement M
 one-less-spec =
     tie.close
     (tie.spec
+    (λ c κs. search needs)
     (λ c. search needs)
-    mul-r
-    add-r
-    cast-r
-    mul-rows
-    element-copy-out-rows
     (λ c. search needs)
-    element-write-rows
-    (λ c. search needs))
+    (λ c κs. search needs)
+    (λ c. search needs)
+    (λ c. search needs)
+    (λ c. search needs)
+    sub-number
+    put-row-requires
+    returns)

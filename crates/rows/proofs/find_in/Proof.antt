@@ -1,52 +1,57 @@
--- `rows::find_in` meets its contract: at row r, what is left to pass and the rows before it make c. Assumes nothing.
-use mathlib.Core.Path.{_≡_}
-use Prim.Native.Nat.{_+_, _*_, _≤_, _<_, _-_}
+-- `rows::find_in` meets its contract: at kind q, what is left to pass and the rows before it make c. Assumes nothing.
+use mathlib.Core.Path.{_≡_, ap}
+use Prim.Native.Nat.{ℕ, _+_, _*_, _≤_, _-_}
 use native.Mathlib.Omega.{arith}
+use native.Mathlib.Nat.{zero-mul}
 use borrow.Author.Needs.{needs}
 use Rattle.walk.specs.Rows.{rowsTotal}
 use denote.Ref.{now}
 use Rattle.walk.proofs.Rows.{rows-none}
-use Rattle.rows.proofs.ByRow.{found-row, found-left, row-passed, rows-end}
+use Rattle.rows.proofs.ByRow.{kind-rows, next-kind, rows-end}
 use Rattle.rows.proofs.find_in.Statement.{statement}
 use Rattle.rows.proofs.find_in.Tie as tie
 
 abbrev Inv-loop : tie.InvT-loop
-Inv-loop k c rows prices totals done n left₀ r₀ left r = (r ≤ n) × (left + rowsTotal rows r ≡ c)
+Inv-loop k c rows left₀ q₀ left q = (q ≤ 6) × (left + rowsTotal rows (q * k) ≡ c)
 
 abbrev μ-loop : tie.MeasureT-loop
-μ-loop k c rows prices totals done n left₀ r₀ left r = n - r
+μ-loop k c rows left₀ q₀ left q = 6 - q
 
--- Places, from places after them.
-abbrev outset : tie.After-find-row Inv-loop μ-loop → tie.Start Inv-loop μ-loop
-outset c = c .before .before .before .before .before .before
+abbrev entry : tie.In-loop Inv-loop μ-loop → tie.Start Inv-loop μ-loop
+entry c = c .before .before
+
+-- The rows of a kind at a turn are among those of k boxes.
+rows-at-turn : (c : tie.In-loop Inv-loop μ-loop) → c .before .loop .q * entry c .args .k + entry c .args .k ≤ 6 * entry c .args .k
+rows-at-turn c = kind-rows (c .before .loop .q) (entry c .args .k) (c .loop-test .taken)
 
 loop-holds : tie.Need-loop-holds Inv-loop μ-loop
-loop-holds c = (search needs, omega (arith, rows-none (now (c .before .args .rows))))
+loop-holds c =
+    (search needs, omega (arith, ap (rowsTotal (now (c .args .rows))) (zero-mul (c .args .k)), rows-none (now (c .args .rows))))
+
+places-in-requires : tie.Need-places-in-requires Inv-loop μ-loop
+places-in-requires c κs = (entry c .pre .1, rows-at-turn c)
 
 find-row-requires : tie.Need-find-row-requires Inv-loop μ-loop
-find-row-requires c κs =
-    let l = c .before .before .before .loop in
-    let s = c .before .before .before .before .before in
-    let lr : l .r < 6 * s .args .k = omega arith in
-    (s .pre .0, (lr, found-left (s .args .k) _ _ _ _ (s .pre .1 .0) (l .r) (l .left) _ (l .inv .1) lr (c .if1 .taken)))
+find-row-requires c κs = let i = c .before .before in (entry i .pre .0, entry i .pre .1 .boxes-in, rows-at-turn i)
 
 returns : tie.Need-returns Inv-loop μ-loop
-returns c =
-    let l = c .before .before .before .before .loop in
-    let s = outset c in
-    rw (found-row (s .args .k) _ _ _ _ (s .pre .1 .0) (l .r) (l .left) _ (l .inv .1) (omega arith)) at (c .find-row .ensures)
+returns c f h lt =
+    let t = c .before in
+    let l = t .before .before .before .loop in
+    rw (l .inv .1) at (c .find-row .ensures f h (omega (arith, t .before .places-in .ensures, t .if1 .taken)))
 
 loop-again : tie.Need-loop-again Inv-loop μ-loop
 loop-again c =
     let l = c .before .before .before .loop in
-    let s = c .before .before .before .before .before in
-    (search needs, row-passed (s .args .k) _ _ _ _ (s .pre .1 .0) (l .r) (l .left) _ (l .inv .1) (c .if1 .left))
+    let s = entry (c .before .before) in
+    (search needs, omega (arith, l .inv .1, c .if1 .left, c .before .places-in .ensures, ap (rowsTotal (now (s .args .rows))) (next-kind (l .q) (s .args .k))))
 
 returns-2 : tie.Need-returns-2 Inv-loop μ-loop
-returns-2 c =
+returns-2 c f h lt =
     let l = c .before .loop in
-    let s = c .before .before .before in
-    absurd (rows-end (s .args .k) _ _ _ _ (s .pre .1 .0) (l .r) (l .left) (s .args .c) (omega arith) (l .inv .1) (s .pre .1 .1))
+    let s = c .before .before in
+    let end : l .q ≡ 6 = omega (arith, l .inv .0, c .loop-test .left) in
+    absurd (rows-end (s .args .k) f (now (s .args .rows)) h (l .q * s .args .k) (l .left) (s .args .c) (ap (λ (x : ℕ). x * s .args .k) end) (l .inv .1) lt)
 
 pub find-in-spec : {M : Type 1} → statement M
 find-in-spec =
@@ -54,11 +59,10 @@ find-in-spec =
     (tie.spec
     Inv-loop
     μ-loop
-    (λ c. search needs)
     loop-holds
-    (λ c. search needs)
-    (λ c. search needs)
-    (λ c. search needs)
+    (λ c. omega (arith, rows-at-turn c, entry c .pre .1 .boxes-in))
+    places-in-requires
+    (λ c. let i = c .before .before in omega (arith, rows-at-turn i, entry i .pre .1 .boxes-in))
     find-row-requires
     returns
     (λ c. search needs)

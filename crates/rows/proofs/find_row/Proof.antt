@@ -1,96 +1,68 @@
--- `rows::find_row` meets its contract: at box b, what is left to pass and the ready steps before it make the place that is meant. Assumes nothing.
-use mathlib.Core.Path.{_≡_, sym, ap, _∙_}
-use mathlib.Core.Bool.{Bool}
-use Prim.Native.Nat.{ℕ, _+_, _*_, _/_, _%_, _≤_, _<_, _-_}
+-- `rows::find_row` meets its contract: at row i, what is left to pass and the rows before it make the place that is meant. Assumes nothing.
+use mathlib.Core.Path.{_≡_, ap, _∙_}
+use Prim.Native.Nat.{ℕ, _+_, _*_, _≤_, _<_, _-_}
 use native.Mathlib.Omega.{arith}
-use lib.Arith.{digits-lt}
+use native.Mathlib.Nat.{add-zero}
+use lib.ListN.{getD}
 use borrow.Author.Needs.{needs}
-use Rattle.laws.specs.Below.{count}
-use Rattle.model.specs.Steps.{kindOf}
-use Rattle.model.specs.Tables.{stepsDone}
-use Rattle.rules.specs.Rules.{permittedBy}
-use Rattle.walk.specs.Walk.{listedBy}
-use Rattle.walk.specs.Rows.{rowOf, rowCount}
+use Rattle.walk.specs.Rows.{rowsTotal}
 use denote.Ref.{now}
-use Rattle.walk.proofs.Walking.{found-here, less-fits, passed}
-use Rattle.walk.proofs.Places.{listed-at}
-use Rattle.rows.proofs.ByRow.{row-digits, kind-few, row-in, row-place, marks-at, row-here, open-row, search-first, search-next, search-end}
+use Rattle.rows.proofs.ByRow.{kind-few, row-some, row-found, row-passed}
 use Rattle.rows.proofs.find_row.Statement.{statement}
 use Rattle.rows.proofs.find_row.Tie as tie
 
 abbrev Inv-loop : tie.InvT-loop
-Inv-loop k r c prices totals done kind a left₀ b₀ left b = (b ≤ k) × (left + count (r * k + b) (listedBy k prices totals done) ≡ c + count (r * k) (listedBy k prices totals done))
+Inv-loop k first c rows left₀ i₀ left i = (i ≤ k) × (left + rowsTotal rows (first + i) ≡ c + rowsTotal rows first)
 
 abbrev μ-loop : tie.MeasureT-loop
-μ-loop k r c prices totals done kind a left₀ b₀ left b = k - b
+μ-loop k first c rows left₀ i₀ left i = k - i
 
-abbrev Start : Type 0
-Start = tie.Start Inv-loop μ-loop
+-- A turn, from where its row has the place.
+abbrev turn : tie.Then1 Inv-loop μ-loop → tie.In-loop Inv-loop μ-loop
+turn c = c .before .before
 
--- A step of the row is tested as its place.
-open-at : (s : Start) (b : ℕ) → b < s .args .k → (t : Bool) →
-    t ≡ permittedBy (s .args .k) (now (s .args .prices)) (now (s .args .totals)) (stepsDone (s .args .k) (now (s .args .done))) (kindOf (s .args .r / s .args .k + 1)) (s .args .r % s .args .k) b →
-    t ≡ listedBy (s .args .k) (now (s .args .prices)) (now (s .args .totals)) (now (s .args .done)) (s .args .r * s .args .k + b)
-open-at s b l t e =
-    e ∙ listed-at (s .args .k) (s .args .r / s .args .k + 1) (s .args .r % s .args .k) b _ _ _ (row-place (s .args .k) (s .args .r) b _ (s .pre .0) (s .pre .1 .0) l)
-    ∙ ap (listedBy _ _ _ _) (row-here (s .args .k) (s .args .r) b)
+abbrev entry : tie.In-loop Inv-loop μ-loop → tie.Start Inv-loop μ-loop
+entry c = c .before .before
 
--- The row has a ready step.
-some-ready : (s : Start) → 1 ≤ rowCount (s .args .k) (now (s .args .prices)) (now (s .args .totals)) (now (s .args .done)) (rowOf (s .args .k) (s .args .r / s .args .k + 1) (s .args .r % s .args .k))
-some-ready s = rw (row-digits (s .args .k) (s .args .r)) (omega (arith, s .pre .1 .1))
-
--- Places, from places after them.
-abbrev outset : tie.After-one Inv-loop μ-loop → tie.Start Inv-loop μ-loop
-outset c = c .before .before .before .before .before .before
-
-add-kind : tie.Need-add-kind Inv-loop μ-loop
-add-kind c =
-    let s = c .before in
-    omega (arith, kind-few (s .args .k) (s .args .r) (s .pre .0 .some) (s .pre .1 .0))
+-- A row at a turn is one of those of k boxes.
+row-at-turn : (c : tie.In-loop Inv-loop μ-loop) → entry c .args .first + c .before .loop .i < 6 * entry c .args .k
+row-at-turn c = omega (arith, c .loop-test .taken, entry c .pre .2)
 
 loop-holds : tie.Need-loop-holds Inv-loop μ-loop
-loop-holds c = let s = c .before in (search needs, search-first (s .args .k) _ _ _ (s .args .r) (s .args .c))
+loop-holds c = (search needs, ap (λ (x : ℕ). c .args .c + rowsTotal (now (c .args .rows)) x) (add-zero (c .args .first)))
 
-is-open-requires : tie.Need-is-open-requires Inv-loop μ-loop
-is-open-requires c κs =
-    let s = c .before .before .before in (
-      marks-at (s .args .k) (s .args .r) (c .before .loop .b) _ (s .pre .0) (s .pre .1 .0) (c .loop-test .taken),
-      open-row (s .args .k) _ _ _ (s .args .r / s .args .k + 1) (s .args .r % s .args .k) (row-in (s .args .k) (s .args .r) _ (s .pre .0) (s .pre .1 .0)) (some-ready s),
-    )
+add-kind : tie.Need-add-t17 Inv-loop μ-loop
+add-kind c = omega (arith, kind-few (entry (turn c) .args .k) _ (entry (turn c) .pre .0) (row-at-turn (turn c)))
 
 returns : tie.Need-returns Inv-loop μ-loop
-returns c =
-    let l = c .before .before .before .loop in
-    let s = c .before .before .before .before .before in
-    let lb = c .before .before .loop-test .taken in
-    record {
-      place-in = row-place (s .args .k) (s .args .r) (l .b) _ (s .pre .0) (s .pre .1 .0) lb;
-      place-is = row-here (s .args .k) (s .args .r) (l .b)
-          ∙ sym (found-here (listedBy _ _ _ _) (s .args .r * s .args .k + l .b) (l .left) _ (l .inv .1) _ _ (open-at s (l .b) lb _ (c .before .is-open .ensures))
-          (digits-lt {q = s .args .r} {m = 6 * s .args .k} (s .pre .1 .0) lb) (c .if1 .taken));
-    }
-
-sub-left : tie.Need-sub-left Inv-loop μ-loop
-sub-left c =
-    let l = c .before .before .before .before .loop in
-    let s = outset c in
-    less-fits (listedBy _ _ _ _) (s .args .r * s .args .k + l .b) (l .left) _ (l .inv .1) _ _ (open-at s (l .b) (c .before .before .before .loop-test .taken) _ (c .before .before .is-open .ensures)) (c .one .ensures) (c .before .if1 .left)
+returns c f h lt =
+    let t = c .before .before in
+    let l = turn t .before .loop in
+    let s = entry (turn t) in
+    let lr = row-at-turn (turn t) in
+    let r = s .args .first + l .i in
+    let (lb, on, m) = c .bit-at .ensures (row-some (s .args .k) f (now (s .args .rows)) h r (l .left) lr (t .if1 .taken)) in
+    row-found (s .args .k) f (now (s .args .rows)) h r (l .left) _ (c .bit-at .result) (s .pre .0) (s .pre .1) (l .inv .1) lr lb on m
 
 loop-again : tie.Need-loop-again Inv-loop μ-loop
 loop-again c =
-    let l = c .before .before .before .before .loop in
-    let s = outset c in (
+    let l = c .before .before .before .loop in
+    let s = entry (c .before .before) in (
       search needs,
-      search-next (s .args .k) _ _ _ (s .args .r) _ _ (l .b)
-          (passed (listedBy _ _ _ _) (s .args .r * s .args .k + l .b) (l .left) _ (l .inv .1) _ _ (open-at s (l .b) (c .before .before .before .loop-test .taken) _
-          (c .before .before .is-open .ensures)) (c .one .ensures) (c .before .if1 .left)),
+      ap (λ (x : ℕ). l .left - getD (now (s .args .rows)) (96 + (s .args .first + l .i)) 0 + rowsTotal (now (s .args .rows)) x) (regroup (s .args .first) (l .i))
+          ∙ row-passed (now (s .args .rows)) (s .args .first + l .i) (l .left) _ (l .inv .1) (c .if1 .left),
     )
+  where
+    regroup : (x y : ℕ) → x + (y + 1) ≡ x + y + 1
+    regroup x y = omega arith
 
 returns-2 : tie.Need-returns-2 Inv-loop μ-loop
-returns-2 c =
+returns-2 c f h lt =
     let l = c .before .loop in
-    let s = c .before .before .before in
-    absurd (search-end (s .args .k) _ _ _ (s .args .r) (s .args .c) (l .left) (l .b) (omega arith) (l .inv .1) (s .pre .1 .1))
+    let s = c .before .before in
+    let end : l .i ≡ s .args .k = omega (arith, l .inv .0, c .loop-test .left) in
+    let all : l .left + rowsTotal (now (s .args .rows)) (s .args .first + s .args .k) ≡ s .args .c + rowsTotal (now (s .args .rows)) (s .args .first) = rw end at (l .inv .1) in
+    absurd (omega (arith, lt))
 
 pub find-row-spec : {M : Type 1} → statement M
 find-row-spec =
@@ -98,14 +70,19 @@ find-row-spec =
     (tie.spec
     Inv-loop
     μ-loop
+    loop-holds
+    (λ c. search needs)
+    (λ c. search needs)
+    (λ c. search needs)
+    (λ c. search needs)
+    (λ c. search needs)
     (λ c. search needs)
     add-kind
     (λ c. search needs)
-    loop-holds
-    is-open-requires
-    returns
+    (λ c. search needs)
+    (λ c. search needs)
     (λ c κs. search needs)
-    sub-left
+    returns
     (λ c. search needs)
     (λ c. search needs)
     loop-again

@@ -1,17 +1,19 @@
 -- `run::run` meets its contract: refused, or its steps are picked and then done. Assumes nothing.
-use mathlib.Core.Path.{_≡_, refl, sym, _∙_}
+use mathlib.Core.Path.{_≡_, refl, sym, ap, _∙_}
 use mathlib.Core.List.{List}
 use Prim.Native.Nat.{ℕ}
 use native.Mathlib.Omega.{arith}
+use lib.ListN.{length}
 use borrow.Author.Needs.{needs}
 use denote.Ref.{now}
 use Rattle.laws.specs.Checks.{firstMet}
+use Rattle.laws.proofs.Tables.{length-tabulate}
 use Rattle.model.specs.Tables.{JobTables, bagTables, jobOf, StateTables, stateTables, stateLengths}
 use Rattle.model.specs.Local.{jobRefusals}
 use Rattle.model.specs.Handed.{handedTables, Standing}
 use Rattle.order.specs.Order.{OfJob}
 use Rattle.run.specs.Run.{Begins, answerOf}
-use Rattle.run.proofs.Ends.{begins, begins-needs, begins-sharers, begins-prices, begins-totals, run-ended, run-short}
+use Rattle.run.proofs.Ends.{begins, begins-needs, begins-sharers, begins-prices, begins-waits, run-ended, run-short}
 use Rattle.run.proofs.Ends.{needs-of, sharers-of, of-job, begins-walk, run-few, all-in, run-finished, run-refused, sent-room}
 use Rattle.run.proofs.run.Statement.{statement}
 use Rattle.run.proofs.run.Tie as tie
@@ -34,14 +36,14 @@ shared c = c .before .before .before .before
 abbrev entry : tie.After-state-short → tie.Start
 entry c = shared (slices c) .before .before .before .before
 
--- The boxes of the tallies that stand, the tables of messages, the order and the steps done.
-abbrev made : tie.After-put-order-arg → tie.After-total-table
+-- The boxes of the tallies that stand, the words of receivers and waits, the order and the steps done.
+abbrev made : tie.After-put-order-arg → tie.After-waits
 made c = c .before .before .before
 
-abbrev priced : tie.After-total-table → tie.After-price-table
+abbrev priced : tie.After-waits → tie.After-receivers
 priced c = c .before .before
 
-abbrev shares : tie.After-price-table → tie.After-sharers
+abbrev shares : tie.After-receivers → tie.After-sharers
 shares c = c .before .before
 
 abbrev needed : tie.After-sharers → tie.After-needs
@@ -56,7 +58,7 @@ looked e = e .before .before
 abbrev whole : tie.After-job-refusal → tie.Else1
 whole c = c .before .before
 
-abbrev reordered : tie.After-all-steps-arg → tie.After-standing5
+abbrev reordered : tie.After-all-steps-arg → tie.After-standing6
 reordered c = c .before .before .before .before
 
 abbrev ordered : tie.After-all-steps-arg5 → tie.After-put-order
@@ -113,17 +115,23 @@ sharers-lent c = sym (looked (c .before .before .before) .job-refusal .kept .1 .
 sharers-requires : tie.Need-sharers-requires
 sharers-requires c κs = begins-sharers _ _ (may (c .before .before .before))
 
-price-table-requires : tie.Need-price-table-requires
-price-table-requires c κs = let w = c .before in begins-prices _ _ (may (stood w)) _ _ (needed w .needs .ensures) (w .sharers .ensures)
+receivers-lent : tie.Need-slice-aggregate-receivers
+receivers-lent c = sym (ap length (needed (c .before) .needs .ensures) ∙ length-tabulate 500 _)
 
-total-table-requires : tie.Need-total-table-requires
-total-table-requires c κs = let w = shares (c .before) in begins-totals _ _ (may (stood w)) _ _ (needed w .needs .ensures) (w .sharers .ensures)
+receivers-requires : tie.Need-receivers-requires
+receivers-requires c κs = let w = c .before in begins-prices _ _ (may (stood w)) _ _ (needed w .needs .ensures) (w .sharers .ensures)
 
--- The tables of messages are the job's.
-of-it : (c : tie.After-total-table) → let e = stood (shares (priced c)) in OfJob (start e .args .boxes) (priced c .price-table .result) (c .total-table .result) (jobOf (handed e))
+waits-lent : tie.Need-slice-aggregate-waits
+waits-lent c = sym (looked (stood (shares (c .before))) .job-refusal .kept .1 .1 .1 .1 .1 .1 .1 .1 .1 .1 .1 .1 .1 .0)
+
+waits-requires : tie.Need-waits-requires
+waits-requires c κs = let w = shares (c .before) in begins-waits _ _ (may (stood w))
+
+-- The words of receivers and waits are the job's.
+of-it : (c : tie.After-waits) → let e = stood (shares (priced c)) in OfJob (start e .args .boxes) (priced c .receivers .result) (c .waits .result) (jobOf (handed e))
 of-it c =
     let w = shares (priced c) in
-    of-job _ _ (may (stood w)) _ _ (needed w .needs .ensures) (w .sharers .ensures) _ _ (priced c .price-table .ensures) (c .total-table .ensures)
+    of-job _ _ (may (stood w)) _ _ (needed w .needs .ensures) (w .sharers .ensures) _ _ (priced c .receivers .ensures) (c .waits .ensures)
 
 put-order-requires : tie.Need-put-order-requires
 put-order-requires c κs =
@@ -150,7 +158,7 @@ write-sent c =
     let o = ordered (done c .before) in
     omega (arith, sent-room _ _ (may (stood (shares (priced (made (o .before .before)))))))
 
-cast-steps : tie.Need-cast-t74
+cast-steps : tie.Need-cast-t77
 cast-steps c =
     let o = ordered (done c .before) in
     omega (arith, o .put-order .ensures .1 _ (of-it (made (o .before .before))) .picked .in-order)
@@ -184,8 +192,10 @@ run-spec =
     needs-requires
     sharers-lent
     sharers-requires
-    price-table-requires
-    total-table-requires
+    receivers-lent
+    receivers-requires
+    waits-lent
+    waits-requires
     put-order-requires
     all-steps-lent
     all-steps-requires

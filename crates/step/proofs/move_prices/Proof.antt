@@ -15,7 +15,7 @@ entry c = lent (c .before .before)
 abbrev offers-at : tie.After-tally-links → tie.After-link
 offers-at c = c .before .before .before .before
 
-abbrev tallies-at : tie.After-tally-links3 → tie.After-link2
+abbrev tallies-at : tie.After-tally-links3 → tie.After-link-pairs
 tallies-at c = c .before .before .before .before
 
 abbrev step-at : tie.After-working → tie.After-price-step
@@ -24,14 +24,14 @@ step-at c = c .before .before .before .before .before
 link-requires : tie.Need-link-requires
 link-requires c κs = entry c .pre .offers-keyed (replicate 517 0) refl
 
-link-requires-2 : tie.Need-link-requires-2
-link-requires-2 c κs = entry (offers-at c .before) .pre .tallies-keyed (replicate 1_017 0) refl
+link-pairs-requires : tie.Need-link-pairs-requires
+link-pairs-requires c κs = entry (offers-at c .before) .pre .tallies-keyed (replicate 1_272 0) refl
 
 price-step-requires : tie.Need-price-step-requires
 price-step-requires c κs =
     let l = tallies-at (c .before .before .before) in
     let o = offers-at (l .before) in
-    entry (o .before) .pre .step-in _ _ (o .link .ensures) (l .link2 .ensures)
+    entry (o .before) .pre .step-in _ _ (o .link .ensures) (l .link-pairs .ensures)
 
 pub move-prices-spec : {M : Type 1} → statement M
 move-prices-spec =
@@ -42,7 +42,7 @@ move-prices-spec =
     link-requires
     (λ c. search needs)
     (λ c. refl)
-    link-requires-2
+    link-pairs-requires
     price-step-requires
     (λ c. step-at c .price-step .kept .1 .1 .1 .1 .1 .1 .1 .1 .1 .0)
     (λ c. step-at c .price-step .kept .1 .1 .1 .1 .1 .1 .1 .1 .1 .1 .0)

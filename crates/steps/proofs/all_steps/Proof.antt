@@ -105,8 +105,8 @@ link-requires c κs = let s = start c in offers-keyed (job s) (s .pre .job-in) (
 link-requires-2 : tie.Need-link-requires-2 Inv-loop μ-loop
 link-requires-2 c κs = let s = start-2 c in grocers-keyed (job s) (s .pre .job-in) (s .pre .job-long) (replicate 272 0) refl
 
-link-requires-3 : tie.Need-link-requires-3 Inv-loop μ-loop
-link-requires-3 c κs = let s = start-3 c in tallies-keyed (job s) (s .pre .job-in) (s .pre .job-long) (replicate 1_017 0) refl
+link-pairs-requires : tie.Need-link-pairs-requires Inv-loop μ-loop
+link-pairs-requires c κs = let s = start-3 c in tallies-keyed (job s) (s .pre .job-in) (s .pre .job-long) (replicate 1_272 0) refl
 
 loop-holds : tie.Need-loop-holds Inv-loop μ-loop
 loop-holds c =
@@ -117,7 +117,7 @@ loop-holds c =
       search needs,
       turning-first (job s) (lent s) _ _ _ _ _ (s .pre)
           (fresh-holds (job s) (lent s) _ (p .fresh-prices .ensures .0) (p .fresh-prices .ensures .1) (f .fresh-totals .ensures .0) (f .fresh-totals .ensures .1) (f .fresh-totals .ensures .2)),
-      record { offers-linked = offers (grocers l .before) .link .ensures; grocers-linked = grocers l .link2 .ensures; tallies-linked = c .before .link3 .ensures },
+      record { offers-linked = offers (grocers l .before) .link .ensures; grocers-linked = grocers l .link2 .ensures; tallies-linked = c .before .link-pairs .ensures },
     )
 
 -- A turn is one of the steps.
@@ -203,7 +203,7 @@ all-steps-spec =
     link-requires-2
     (λ c. search needs)
     (λ c. refl)
-    link-requires-3
+    link-pairs-requires
     loop-holds
     (λ c. omega (arith, below c))
     (λ c. omega (arith, below c))

@@ -19,8 +19,8 @@ abbrev μ-loop : tie.MeasureT-loop
 loop-holds : tie.Need-loop-holds Inv-loop μ-loop
 loop-holds c = (search needs, sym (rows-none _))
 
-add-ready : tie.Need-add-ready Inv-loop μ-loop
-add-ready c =
+add-ready-2 : tie.Need-add-ready-2 Inv-loop μ-loop
+add-ready-2 c =
     let l = c .before .before .loop in
     let s = c .before .before .before in
     omega (arith, l .inv .1, rows-little (s .args .k) (now (s .args .rows)) (l .r) (s .pre) (omega arith), s .pre .few (l .r) (omega arith))
@@ -29,7 +29,7 @@ loop-again : tie.Need-loop-again Inv-loop μ-loop
 loop-again c =
     let l = c .before .before .loop in
     let s = c .before .before .before in
-    (search needs, ap (λ (x : ℕ). x + getD (now (s .args .rows)) (l .r) 0) (l .inv .1) ∙ sym (rows-more (now (s .args .rows)) (l .r)))
+    (search needs, ap (λ (x : ℕ). x + getD (now (s .args .rows)) (96 + l .r) 0) (l .inv .1) ∙ sym (rows-more (now (s .args .rows)) (l .r)))
 
 returns : tie.Need-returns Inv-loop μ-loop
 returns c =
@@ -48,7 +48,8 @@ ready-steps-spec =
     loop-holds
     (λ c. search needs)
     (λ c. search needs)
-    add-ready
+    (λ c. search needs)
+    add-ready-2
     (λ c. search needs)
     (λ c. search needs)
     loop-again

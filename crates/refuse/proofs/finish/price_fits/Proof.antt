@@ -25,14 +25,17 @@ below16 : (s : tie.Start) (b : ℕ) → b < s .args .z .boxes → b < 16
 below16 s b h = omega (arith, h, s .pre .tallies-in .boxes-in)
 
 sent-fits-requires : tie.Need-sent-fits-requires
-sent-fits-requires c κs = let s = entry (c .before) in ((below16 s (s .args .x .first) (s .pre .a-in), below16 s (s .args .x .second) (s .pre .b-in)), s .pre .sent-in)
+sent-fits-requires c κs =
+    let s = entry (c .before .before) in
+    let long = c .sent-fits-arg .given .0 in
+    ((below16 s (s .args .x .second) (s .pre .b-in), (s .pre .tallies-in .owner-long, omega (arith, long, s .pre .tallies-in .offers-in))), s .pre .sent-in)
 
 returns : tie.Need-returns
 returns c =
-    let i = c .before in
+    let i = c .before .before in
     let s = entry (i .before) in
     c .sent-fits .ensures
-    ∙ sym (fits-1 (tables s) (now (s .args .table)) (now (s .args .known)) (now (s .args .price-transit)) (now (s .args .working)) (now (s .args .sent)) (s .args .x .kind) (s .args .x .first) (s .args .x .second) (i .if1 .taken))
+    ∙ sym (fits-1 (tables s) (now (s .args .needs)) (now (s .args .known)) (now (s .args .price-transit)) (now (s .args .working)) (now (s .args .sent)) (s .args .x .kind) (s .args .x .first) (s .args .x .second) (i .if1 .taken))
 
 products-fit-requires : tie.Need-products-fit-requires
 products-fit-requires c κs = let s = entry (c .before .before .before) in (s .pre .tallies-in, (s .pre .known-in, s .pre .working-in, s .pre .a-in))
@@ -42,7 +45,7 @@ returns-2 c =
     let i = c .before in
     let s = entry (i .before .before .before) in
     c .products-fit .ensures
-    ∙ sym (fits-2 (tables s) (now (s .args .table)) (now (s .args .known)) (now (s .args .price-transit)) (now (s .args .working)) (now (s .args .sent)) (s .args .x .kind) (s .args .x .first) (s .args .x .second) (i .if2 .taken))
+    ∙ sym (fits-2 (tables s) (now (s .args .needs)) (now (s .args .known)) (now (s .args .price-transit)) (now (s .args .working)) (now (s .args .sent)) (s .args .x .kind) (s .args .x .first) (s .args .x .second) (i .if2 .taken))
 
 products-fit-requires-2 : tie.Need-products-fit-requires-2
 products-fit-requires-2 c κs = let s = entry (c .before .before .before) in (s .pre .tallies-in, (s .pre .transit-in, s .pre .working-in, s .pre .a-in))
@@ -53,7 +56,7 @@ returns-3 c =
     let s = entry (i .before .before .before) in
     let third : s .args .x .kind ≡ 3 = omega (arith, s .pre .kind-from, s .pre .kind-to, i .if2 .left, i .before .before .if1 .left) in
     c .products-fit2 .ensures
-    ∙ sym (fits-3 (tables s) (now (s .args .table)) (now (s .args .known)) (now (s .args .price-transit)) (now (s .args .working)) (now (s .args .sent)) (s .args .x .kind) (s .args .x .first) (s .args .x .second) third)
+    ∙ sym (fits-3 (tables s) (now (s .args .needs)) (now (s .args .known)) (now (s .args .price-transit)) (now (s .args .working)) (now (s .args .sent)) (s .args .x .kind) (s .args .x .first) (s .args .x .second) third)
 
 pub price-fits-spec : {M : Type 1} → statement M
 price-fits-spec =

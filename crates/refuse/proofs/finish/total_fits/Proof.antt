@@ -18,14 +18,17 @@ below16 : (s : tie.Start) (b : ℕ) → b < s .args .z .boxes → b < 16
 below16 s b h = omega (arith, h, s .pre .boxes-in)
 
 sent-fits-requires : tie.Need-sent-fits-requires
-sent-fits-requires c κs = let s = entry (c .before) in ((below16 s (s .args .x .first) (s .pre .a-in), below16 s (s .args .x .second) (s .pre .b-in)), s .pre .sent-in)
+sent-fits-requires c κs =
+    let s = entry (c .before .before) in
+    let long = c .sent-fits-arg .given .0 in
+    ((below16 s (s .args .x .first) (s .pre .a-in), (s .pre .owner-long, omega (arith, long, s .pre .grocers-in))), s .pre .sent-in)
 
 returns : tie.Need-returns
 returns c =
-    let i = c .before in
+    let i = c .before .before in
     let s = entry (i .before) in
     c .sent-fits .ensures
-    ∙ sym (fits-4 (s .args .z .boxes) (s .args .z .grocers) (now (s .args .grocer-owner)) (now (s .args .sharers)) (now (s .args .table)) (now (s .args .working)) (now (s .args .total-transit))
+    ∙ sym (fits-4 (s .args .z .boxes) (s .args .z .grocers) (now (s .args .grocer-owner)) (now (s .args .sharers)) (now (s .args .working)) (now (s .args .total-transit))
     (now (s .args .statement)) (now (s .args .sent)) (s .args .x .kind) (s .args .x .first) (s .args .x .second) (i .if1 .taken))
 
 credit-fits-requires : tie.Need-credit-fits-requires
@@ -41,7 +44,7 @@ returns-2 c =
     let i = c .before in
     let s = entry (i .before .before .before) in
     c .credit-fits .ensures (s .args .z .boxes) (s .pre .a-in)
-    ∙ sym (fits-5 (s .args .z .boxes) (s .args .z .grocers) (now (s .args .grocer-owner)) (now (s .args .sharers)) (now (s .args .table)) (now (s .args .working)) (now (s .args .total-transit))
+    ∙ sym (fits-5 (s .args .z .boxes) (s .args .z .grocers) (now (s .args .grocer-owner)) (now (s .args .sharers)) (now (s .args .working)) (now (s .args .total-transit))
     (now (s .args .statement)) (now (s .args .sent)) (s .args .x .kind) (s .args .x .first) (s .args .x .second) (i .if2 .taken))
 
 credit-fits-requires-2 : tie.Need-credit-fits-requires-2
@@ -58,7 +61,7 @@ returns-3 c =
     let s = entry (i .before .before .before) in
     let sixth : s .args .x .kind ≡ 6 = omega (arith, s .pre .kind-from, s .pre .kind-to, i .if2 .left, i .before .before .if1 .left) in
     c .credit-fits2 .ensures (s .args .z .boxes) (s .pre .b-in)
-    ∙ sym (fits-6 (s .args .z .boxes) (s .args .z .grocers) (now (s .args .grocer-owner)) (now (s .args .sharers)) (now (s .args .table)) (now (s .args .working)) (now (s .args .total-transit))
+    ∙ sym (fits-6 (s .args .z .boxes) (s .args .z .grocers) (now (s .args .grocer-owner)) (now (s .args .sharers)) (now (s .args .working)) (now (s .args .total-transit))
     (now (s .args .statement)) (now (s .args .sent)) (s .args .x .kind) (s .args .x .first) (s .args .x .second) sixth)
 
 pub total-fits-spec : {M : Type 1} → statement M

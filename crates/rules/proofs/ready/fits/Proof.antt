@@ -9,19 +9,19 @@ use Rattle.rules.proofs.ready.fits.Tie as tie
 
 returns : tie.Need-returns
 unfolding fitsBy kindOf
-returns c = rw (c .before .if1 .taken) (c .is-due .ensures)
+returns c = rw (c .before .if1 .taken) (c .prices-due .ensures)
 
 returns-2 : tie.Need-returns-2
 unfolding fitsBy kindOf
-returns-2 c = rw (c .before .if2 .taken) (c .is-due2 .ensures)
+returns-2 c = rw (c .before .if2 .taken) (c .prices-due2 .ensures)
 
 returns-3 : tie.Need-returns-3
 unfolding fitsBy kindOf
-returns-3 c = rw (c .before .if3 .taken) (c .is-due3 .ensures)
+returns-3 c = rw (c .before .if3 .taken) (c .totals-due .ensures)
 
 returns-4 : tie.Need-returns-4
 unfolding fitsBy kindOf
-returns-4 c = rw (c .before .if4 .taken) (c .is-due4 .ensures)
+returns-4 c = rw (c .before .if4 .taken) (c .totals-due2 .ensures)
 
 returns-5 : tie.Need-returns-5
 returns-5 c =

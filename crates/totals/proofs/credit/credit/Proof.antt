@@ -133,7 +133,7 @@ link : (c : tie.After-index Inv-loop μ-loop) →
 link c =
     let e = turn (called c) in
     let s = entry e in
-    goes-to (s .args .m) (now (s .args .owner)) (now (s .args .links)) (s .args .a) (e .before .loop .g) (c .index .result) (s .pre .1 .1 .1) (e .loop-test .taken)
+    goes-to 17 (s .args .m) (λ x. getD (now (s .args .owner)) x 0) (now (s .args .links)) (s .args .a) (e .before .loop .g) (c .index .result) (s .pre .1 .1 .1) (e .loop-test .taken)
     (e .before .loop .inv .5 (e .loop-test .taken)) (c .index .ensures)
 
 loop-less : tie.Need-loop-less Inv-loop μ-loop

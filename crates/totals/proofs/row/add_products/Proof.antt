@@ -1,4 +1,4 @@
--- `totals::row::add_products` meets its contract. The invariant: each word is the word at entry with the tallies passed added; the next tally is box a's. A tally passed over is not box a's, and brings nothing.
+-- `totals::row::add_products` meets its contract. The invariant: each word is the word at entry with the tallies passed added; the next tally is of the pair. A tally passed over is of another, and brings nothing.
 -- Assumes nothing.
 use mathlib.Core.Path.{_≡_, refl, sym, ap, _∙_, subst}
 use mathlib.Core.List.{List}
@@ -11,7 +11,7 @@ use borrow.Author.Needs.{needs}
 use Rattle.laws.specs.Below.{integers, sum}
 use Rattle.laws.proofs.Loops.{share, pile-more}
 use Rattle.laws.proofs.Sums.{sum-start, sum-over}
-use Rattle.links.specs.Links.{Skips}
+use Rattle.links.specs.Links.{SkipsBy, pairKey, pairAt}
 use Rattle.totals.specs.Row.{brings}
 use denote.Ref.{now}
 use Rattle.totals.proofs.Rows.{tally-at, small-still, row-piled}
@@ -20,14 +20,14 @@ use Rattle.totals.proofs.row.add_products.Statement.{statement}
 use Rattle.totals.proofs.row.add_products.Tie as tie
 
 abbrev Inv-loop : tie.InvT-loop
-Inv-loop m n t a from links owner grocer holder offer counts prices working₀ at base b i₀ working i =
+Inv-loop m n t a from links owner grocer holder offer counts prices working₀ at base v i₀ working i =
     (i ≤ t)
     × (length working ≡ length working₀)
     × ((p : ℕ) → getD working p (pos 0) ≡ getD working₀ p (pos 0) +ℤ sum integers i (share (λ j. base + getD grocer j 0) (brings owner holder offer counts prices a from at) p))
-    × (i < t → getD holder i 0 ≡ a)
+    × (i < t → pairAt holder offer owner i ≡ pairKey a from)
 
 abbrev μ-loop : tie.MeasureT-loop
-μ-loop m n t a from links owner grocer holder offer counts prices working₀ at base b i₀ working i = t - i
+μ-loop m n t a from links owner grocer holder offer counts prices working₀ at base v i₀ working i = t - i
 
 abbrev Start : Type 0
 Start = tie.Start Inv-loop μ-loop
@@ -38,8 +38,15 @@ brought s at = brings (now (s .args .offer-owner)) (now (s .args .tally-box)) (n
 abbrev place : Start → ℕ → ℕ → ℕ
 place s base i = base + getD (now (s .args .tally-grocer)) i 0
 
+-- The keys of the tallies, and the key that is walked over.
+abbrev key : Start → ℕ → ℕ
+key s = pairAt (now (s .args .tally-box)) (now (s .args .tally-offer)) (now (s .args .offer-owner))
+
+abbrev walked : Start → ℕ
+walked s = pairKey (s .args .a) (s .args .from)
+
 -- The rows' starts, the entry, and the two starts' numbers.
-abbrev rows : tie.After-index2 Inv-loop μ-loop → tie.After-row-start2 Inv-loop μ-loop
+abbrev rows : tie.After-index Inv-loop μ-loop → tie.After-row-start2 Inv-loop μ-loop
 rows c = c .before .before .before
 
 abbrev lent : tie.After-shared-slice-known5 Inv-loop μ-loop → Start
@@ -54,8 +61,8 @@ at-of c = c .before .row-start .result
 abbrev base-of : tie.After-row-start2 Inv-loop μ-loop → ℕ
 base-of c = c .row-start2 .result
 
--- A tally of another box adds nothing to any word.
-none : (s : Start) (at base p i j : ℕ) → Skips (s .args .t) (now (s .args .tally-box)) (s .args .a) i j → (x : ℕ) → i ≤ x → x < j → share (place s base) (brought s at) p x ≡ integers .none
+-- A tally of another pair adds nothing to any word.
+none : (s : Start) (at base p i j : ℕ) → SkipsBy (s .args .t) (key s) (walked s) i j → (x : ℕ) → i ≤ x → x < j → share (place s base) (brought s at) p x ≡ integers .none
 unfolding integers
 none s at base p i j k x l q =
     other-share (now (s .args .offer-owner)) (now (s .args .tally-box)) (now (s .args .tally-offer)) (now (s .args .tally-count)) (now (s .args .prices)) (place s base) (s .args .a) (s .args .from) at p x (k .none x l q)
@@ -85,24 +92,24 @@ row-start-requires-2 : tie.Need-row-start-requires-2 Inv-loop μ-loop
 row-start-requires-2 c κs = let s = lent (c .before) in (omega (arith, s .pre .0 .grocers-in), s .pre .0 .box-in)
 
 mul-index : tie.Need-mul-index Inv-loop μ-loop
-mul-index c = let s = entry (c .before) in omega (arith, c .index .ensures, s .pre .0 .box-in)
+mul-index c = let s = entry (c .before) in omega (arith, c .pair .ensures, s .pre .0 .box-in, s .pre .1 .1 .0)
 
 element-copy-out-index : tie.Need-element-copy-out-index Inv-loop μ-loop
-element-copy-out-index c = let s = entry (c .before) in omega (arith, c .index .ensures, s .pre .0 .box-in)
+element-copy-out-index c = let s = entry (c .before) in omega (arith, c .pair .ensures, s .pre .0 .box-in, s .pre .1 .1 .0)
 
--- The walk begins at the first tally of box a.
-first-of : (c : tie.After-index2 Inv-loop μ-loop) → let s = entry (rows c) in Skips (s .args .t) (now (s .args .tally-box)) (s .args .a) 0 (c .index2 .result)
+-- The walk begins at the first tally of the pair.
+first-of : (c : tie.After-index Inv-loop μ-loop) → let s = entry (rows c) in SkipsBy (s .args .t) (key s) (walked s) 0 (c .index .result)
 first-of c =
     let s = entry (rows c) in
-    subst (λ (x : ℕ). Skips (s .args .t) (now (s .args .tally-box)) (s .args .a) 0 x) (sym (c .index2 .ensures ∙ ap (λ (b : ℕ). getD (now (s .args .tally-links)) b 0) (c .before .before .index .ensures)))
-    (s .pre .1 .1 .begins (s .args .a) (omega (arith, s .pre .0 .box-in)))
+    subst (λ (x : ℕ). SkipsBy (s .args .t) (key s) (walked s) 0 x) (sym (c .index .ensures ∙ ap (λ (v : ℕ). getD (now (s .args .tally-links)) v 0) (c .before .before .pair .ensures)))
+    (s .pre .1 .1 .1 .begins (walked s) (omega (arith, s .pre .0 .box-in, s .pre .1 .1 .0)))
 
 loop-holds : tie.Need-loop-holds Inv-loop μ-loop
 unfolding integers
 loop-holds c =
     let r = rows c in
     let s = entry r in
-    let i = c .index2 .result in
+    let i = c .index .result in
     let k = first-of c in
     let piled : ℕ → ℕ → ℤ = share (place s (base-of r)) (brought s (at-of r)) in (
       k .to,
@@ -131,16 +138,16 @@ mul-index-2 c = let e = c .before .before .before in omega (arith, e .loop-test 
 element-copy-out-index-2 : tie.Need-element-copy-out-index-2 Inv-loop μ-loop
 element-copy-out-index-2 c = let e = c .before .before .before in omega (arith, e .loop-test .taken, entry (rows (e .before .before)) .pre .0 .tallies-in)
 
--- The link goes to the next tally of box a.
-link : (c : tie.After-index3 Inv-loop μ-loop) →
+-- The link goes to the next tally of the pair.
+link : (c : tie.After-index2 Inv-loop μ-loop) →
     let e = c .before .before .before .before .before in
     let s = entry (rows (e .before .before)) in
-    Skips (s .args .t) (now (s .args .tally-box)) (s .args .a) (e .before .loop .i + 1) (c .index3 .result)
+    SkipsBy (s .args .t) (key s) (walked s) (e .before .loop .i + 1) (c .index2 .result)
 link c =
     let e = c .before .before .before .before .before in
     let s = entry (rows (e .before .before)) in
-    goes-to (s .args .t) (now (s .args .tally-box)) (now (s .args .tally-links)) (s .args .a) (e .before .loop .i) (c .index3 .result) (s .pre .1 .1) (e .loop-test .taken)
-    (e .before .loop .inv .3 (e .loop-test .taken)) (c .index3 .ensures)
+    goes-to 272 (s .args .t) (key s) (now (s .args .tally-links)) (walked s) (e .before .loop .i) (c .index2 .result) (s .pre .1 .1 .1) (e .loop-test .taken)
+    (e .before .loop .inv .3 (e .loop-test .taken)) (c .index2 .ensures)
 
 loop-less : tie.Need-loop-less Inv-loop μ-loop
 loop-less c = omega (arith, link c .from, link c .to, c .before .before .before .before .before .loop-test .taken)
@@ -153,7 +160,7 @@ loop-again c =
     let at = at-of r in
     let base = base-of r in
     let i = e .before .loop .i in
-    let h = c .index3 .result in
+    let h = c .index2 .result in
     let w = e .before .loop .working in
     let inv = e .before .loop .inv in
     let k = link c in
