@@ -5,6 +5,7 @@
 #   includes   the options for its headers
 #   model      the files of the model, which the stand-in is made of together with stand_in.c
 flags="-std=c11 -Wall -Wextra -Werror $includes"
+plain_options='-O2 -g -flto'
 sanitizers='-O1 -g -fsanitize=address,undefined -fno-sanitize-recover=all'
 stand_in_options='-O1 -fPIC -fvisibility=hidden'
 rm -rf "$out"
@@ -27,8 +28,8 @@ compile() { # compile FOLDER OPTIONS NAME..: objects of the named files
 }
 
 build_test() { # build_test LIBRARY..: the test, plainly and with sanitizers around the library, of the files in $model and $harness
-    check "the test compiles" compile plain '-O2 -g' $model $harness
-    check "the test links with the library" gcc $out/plain/*.o "$@" -o $out/test
+    check "the test compiles" compile plain "$plain_options" $model $harness
+    check "the test links with the library" gcc $plain_options $out/plain/*.o "$@" -o $out/test
     check "the test compiles with sanitizers" compile sanitized "$sanitizers" $model $harness
     check "the test links with sanitizers" gcc $sanitizers $out/sanitized/*.o "$@" -o $out/sanitized/test
 }
@@ -54,7 +55,7 @@ build_stand_in() { # build_stand_in LIBRARY..: the stand-in, and the test linked
     echo '== the stand-in and its faults'
     check "the stand-in compiles" compile stand_in "$stand_in_options" $model stand_in
     check "the stand-in links" link_stand_in $out/stand_in
-    check "the test links with the stand-in" gcc $out/plain/*.o -L$out -lstand_in "$@" -o $out/stand_in_test
+    check "the test links with the stand-in" gcc $plain_options $out/plain/*.o -L$out -lstand_in "$@" -o $out/stand_in_test
     check "the test passes with the stand-in" with_stand_in $out/stand_in_test --count 20
 }
 make_faulty() { # make_faulty FILE EXPRESSION: the stand-in with one file edited

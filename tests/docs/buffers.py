@@ -8,7 +8,9 @@ sys.dont_write_bytecode = True
 sys.path.insert(0, os.path.join(os.path.dirname(os.path.abspath(__file__)), "../../tools"))
 from contracts import functions, plain_code, present  # it goes to the root of the tree
 
-CRATES = ("blocks", "fills", "checks", "reader", "writer", "index", "lookup", "bags")
+CRATES = (
+    "slices", "bytes", "sums", "digits", "blocks", "fills", "names", "checks", "reader", "puts", "writer", "lookup", "index", "keys", "bags", "columns",
+)
 BUFFER = re.compile(r"let mut (\w+)(?:: \[(\w+); \w+\])? = \[[\d_]+(\w*); \w+\];")
 
 

@@ -137,14 +137,25 @@ static unsigned char *place_of(struct table table, size_t place)
 /* Words are little-endian, as on every machine that the library is made for. */
 int64_t word_at(struct table table, size_t place)
 {
+    const unsigned char *at = place_of(table, place);
     int64_t word = 0;
-    memcpy(&word, place_of(table, place), width_of(table.name));
-    return is_signed(table.name) && width_of(table.name) == 4 ? (int32_t)word : word;
+    switch (width_of(table.name)) {
+    case 1: return *at;
+    case 2: memcpy(&word, at, 2); return word;
+    case 4: memcpy(&word, at, 4); return is_signed(table.name) ? (int32_t)word : word;
+    default: memcpy(&word, at, 8); return word;
+    }
 }
 
 void put_word(struct table table, size_t place, int64_t word)
 {
-    memcpy(place_of(table, place), &word, width_of(table.name));
+    unsigned char *at = place_of(table, place);
+    switch (width_of(table.name)) {
+    case 1: *at = (unsigned char)word; break;
+    case 2: memcpy(at, &word, 2); break;
+    case 4: memcpy(at, &word, 4); break;
+    default: memcpy(at, &word, 8); break;
+    }
 }
 
 bool is_short(struct table table, struct sizes sizes) { return table.length < needed(table.name, sizes); }
@@ -152,7 +163,8 @@ bool is_short(struct table table, struct sizes sizes) { return table.length < ne
 bool words_in_range(struct table table, struct sizes sizes)
 {
     struct range range = range_of(table.name, sizes);
-    for (size_t place = 0; place < needed(table.name, sizes); place++) {
+    size_t words = needed(table.name, sizes);
+    for (size_t place = 0; place < words; place++) {
         int64_t word = word_at(table, place);
         if (word < range.least || word > range.most) return false;
     }

@@ -1,8 +1,6 @@
 // One step applied to the lent tables: kinds 1 to 3 to prices and working totals, kinds 4 to 6 to totals and statements.
-ghost use mathlib.Core.Path.{_≡_};
-ghost use Prim.Native.Nat.{_≤_};
 ghost use Rattle.totals.specs.Row.{tallies};
-ghost use Rattle.apply.specs.Apply.{SentIn, sentMore, PriceStepIn, PriceStepOut, TotalStepIn, TotalStepOut};
+ghost use Rattle.apply.specs.Apply.{PriceStepIn, PriceStepOut, TotalStepIn, TotalStepOut};
 
 // How many boxes, grocers, offers and tallies a job has: K, M, N and T.
 pub struct Sizes {
@@ -17,16 +15,6 @@ pub struct Step {
     pub kind: u16,
     pub first: u16,
     pub second: u16,
-}
-
-// Raises the count of words sent by the words of a message.
-pub fn raise(sent: &mut [u32], more: u32)
-    requires { ⌜ SentIn (now sent) ⌝ }
-    requires { ⌜ more ≤ 500 ⌝ }
-    ensures { λ _. ⌜ now (sent .exit) ≡ sentMore (now (sent .entry)) more ⌝ }
-{
-    let v = sent[0] + more;
-    sent[0] = v;
 }
 
 // A step of kind 1, 2 or 3: prices sent, own tallies multiplied, or prices received and their tallies multiplied. The words sent.
@@ -56,13 +44,11 @@ pub fn price_step(
     let m = z.grocers as usize;
     let n = z.offers as usize;
     let t = z.tallies as usize;
-    let a = x.first;
-    let b = x.second;
     if x.kind == 1 {
         return prices::send::send_prices(
             n,
-            a,
-            b,
+            x.first,
+            x.second,
             offer_owner,
             needs,
             offer_links,
@@ -75,8 +61,8 @@ pub fn price_step(
             m,
             n,
             t,
-            a,
-            a,
+            x.first,
+            x.first,
             tally_links,
             offer_owner,
             tally_grocer,
@@ -92,8 +78,8 @@ pub fn price_step(
         m,
         n,
         t,
-        a,
-        b,
+        x.first,
+        x.second,
         tally_links,
         offer_owner,
         tally_grocer,
@@ -105,8 +91,8 @@ pub fn price_step(
     );
     prices::receive::receive_prices(
         n,
-        a,
-        b,
+        x.first,
+        x.second,
         offer_owner,
         needs,
         offer_links,
@@ -134,13 +120,11 @@ pub fn total_step(
         (now (working .exit)) (now («total_transit» .exit)) (now (statement .exit)) r ⌝ }
 {
     let m = z.grocers as usize;
-    let a = x.first;
-    let b = x.second;
     if x.kind == 4 {
         return totals::send::send_totals(
             m,
-            a,
-            b,
+            x.first,
+            x.second,
             grocer_owner,
             sharers,
             grocer_links,
@@ -151,8 +135,8 @@ pub fn total_step(
     if x.kind == 5 {
         totals::credit::credit(
             m,
-            a,
-            a,
+            x.first,
+            x.first,
             grocer_owner,
             sharers,
             grocer_links,
@@ -163,8 +147,8 @@ pub fn total_step(
     }
     totals::credit::credit(
         m,
-        a,
-        b,
+        x.first,
+        x.second,
         grocer_owner,
         sharers,
         grocer_links,

@@ -1,8 +1,6 @@
 -- Laws that the checks of a file are proved with.
-pub mod Signs
 pub mod Places
 pub mod KindNumbers
 pub mod SpareWalk
 pub mod DueBlocks
 pub mod ShapeOrder
-pub mod Halves

@@ -1,21 +1,16 @@
--- Bytes, words and records of a file by place. Assumes nothing.
+-- Records of a file by place. Assumes nothing.
 use Prim.Native.Nat.{ℕ, _+_, _*_, _-_, _≤_, _<_}
-use mathlib.Core.Path.{_≡_, ap, ap₂, fun-ext}
+use mathlib.Core.Path.{_≡_, ap₂}
 use mathlib.Core.List.{List}
 use native.Mathlib.Omega.{arith}
-use native.Mathlib.Nat.{add-assoc}
 use lib.ListN.{getD}
-use Rattle.format.specs.Bytes.{from, after}
+use Rattle.format.specs.Bytes.{from}
 use Rattle.laws.specs.Below.{any}
 use Rattle.laws.proofs.Below.{any-cong}
 use Rattle.format.specs.Job.{Head, badOffer, badOwner, badTally}
 use Rattle.format.specs.Blocks.{offerBlock, grocerBlock, tallyBlock, grocersAt, talliesAt}
 use Rattle.format.specs.Refusals.{badRecord}
 use Rattle.format.specs.File.{readOffer, readTally, recordAt, decode}
-
--- The bytes from a later place on.
-pub from-after : (f : List ℕ) (at p : ℕ) → from f (at + p) ≡ after (from f at) p
-from-after f at p = fun-ext (λ k. ap (λ (q : ℕ). getD f q 0) (add-assoc at p k))
 
 -- Record i of block k, where the first block of its kind is block a.
 record-at : (a k i : ℕ) → a ≤ k → i < 21 → 512 * k + 4 + 24 * i ≡ recordAt a (21 * (k - a) + i)

@@ -18,7 +18,7 @@ use Rattle.format.specs.Blocks.{BlockKind, kindAt, records, recordSize, fieldSi
 use Rattle.format.specs.Refusals.{spareUsed}
 use Rattle.blocks.specs.Due.{Due}
 use Rattle.blocks.specs.Shape.{used, spareIn}
-use Rattle.blocks.proofs.Places.{from-after}
+use Rattle.bytes.proofs.After.{from-after}
 
 module _ (n z w : ℕ) (g : ℕ → ℕ) (room : n * z ≤ 504) (within : w ≤ z) (some : 0 < z) where
   -- Byte s is spare and used.

@@ -8,8 +8,8 @@ ghost use Rattle.format.specs.Blocks.{blocksFor, grocersAt, talliesAt, blockCou
 ghost use Rattle.format.specs.File.{decode};
 ghost use Rattle.format.specs.Refusals.{notDue};
 ghost use Rattle.blocks.specs.Due.{asHead, Most, Due};
-use crate::bytes::size;
-use crate::bytes::word16;
+use bytes::word16;
+use slices::byte_at;
 
 // The largest numbers of a job.
 pub const MAX_BOXES: usize = 16;
@@ -34,7 +34,7 @@ pub fn read_head(f: &[u8]) -> Head
     requires { ⌜ 14 ≤ length (now f) ⌝ }
     ensures { λ r. ⌜ asHead r ≡ decode (now (f .entry)) .head ⌝ }
 {
-    let boxes = size(f[4]);
+    let boxes = byte_at(f, 4);
     let grocers = word16(f, 6);
     let offers = word16(f, 8);
     let tallies = word16(f, 10);
@@ -145,6 +145,5 @@ pub fn not_due(f: &[u8], k: usize, kind: usize, count: usize) -> bool
     ensures { λ r. ⌜ r ≡ notDue (decode (now (f .entry)) .head) k (from (now (f .entry)) (512 * k)) ⌝ }
 {
     let at = 512 * k;
-    let other = (size(f[at]) != kind) | (word16(f, at + 2) != k);
-    other | (size(f[at + 1]) != count)
+    (byte_at(f, at) != kind) | (word16(f, at + 2) != k) | (byte_at(f, at + 1) != count)
 }

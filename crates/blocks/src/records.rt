@@ -13,11 +13,11 @@ ghost use Rattle.format.specs.Blocks.{kindAt};
 ghost use Rattle.format.specs.File.{readOffer, readTally, decode};
 ghost use Rattle.format.specs.Refusals.{badRecord};
 ghost use Rattle.blocks.specs.Due.{asHead, Due};
-use crate::bytes::size;
-use crate::bytes::word16;
-use crate::bytes::word32;
 use crate::codes::is_code;
 use crate::plan::Head;
+use bytes::word16;
+use bytes::word32;
+use slices::byte_at;
 
 // The largest price, in tenths of a cent.
 pub const MAX_PRICE: u32 = 9_999_999;
@@ -39,8 +39,7 @@ pub fn bad_offer(f: &[u8], at: usize, head: Head) -> bool
     requires { ⌜ at + 24 ≤ length (now f) ⌝ }
     ensures { λ r. ⌜ r ≡ badOffer (asHead head) (readOffer (from (now (f .entry)) at)) ⌝ }
 {
-    let ranges = (MAX_PRICE < word32(f, at)) | (head.boxes <= size(f[at + 4]));
-    ranges | !is_code(f, at + 5)
+    (MAX_PRICE < word32(f, at)) | (head.boxes <= byte_at(f, at + 4)) | !is_code(f, at + 5)
 }
 
 // Whether a field of the tally at a place is outside its range.
@@ -48,9 +47,8 @@ pub fn bad_tally(f: &[u8], at: usize, head: Head) -> bool
     requires { ⌜ at + 24 ≤ length (now f) ⌝ }
     ensures { λ r. ⌜ r ≡ badTally (asHead head) (readTally (from (now (f .entry)) at)) ⌝ }
 {
-    let ranges = (head.grocers <= word16(f, at)) | (head.boxes <= size(f[at + 2]));
-    let codes = ranges | !is_code(f, at + 3);
-    codes | bad_count(word32(f, at + 14))
+    let ranges = (head.grocers <= word16(f, at)) | (head.boxes <= byte_at(f, at + 2));
+    ranges | !is_code(f, at + 3) | bad_count(word32(f, at + 14))
 }
 
 // Whether one of the offers at a place is bad.
@@ -75,7 +73,7 @@ fn bad_owners(f: &[u8], at: usize, count: usize, head: Head) -> bool
     let mut found = false;
     let mut i: usize = 0;
     while i < count {
-        found = found | (head.boxes <= size(f[at + i]));
+        found = found | (head.boxes <= byte_at(f, at + i));
         i += 1;
     }
     found

@@ -1,5 +1,6 @@
 // The refusals of a file's form, in order.
 ghost use mathlib.Core.Path.{_≡_};
+ghost use mathlib.Core.Bool.{cond};
 ghost use Prim.Native.Nat.{_+_, _*_, _-_, _≤_};
 ghost use lib.ListN.{length};
 ghost use Rattle.format.specs.First.{firstBelow};
@@ -8,7 +9,6 @@ ghost use Rattle.format.specs.File.{decode};
 ghost use Rattle.format.specs.Refusals.{badLength, badHeader, headerRefusal, blockRefusal};
 ghost use Rattle.blocks.specs.Due.{asHead, Most};
 ghost use Rattle.blocks.specs.Shape.{shapeRefusal};
-use crate::bytes::size;
 use crate::plan::Head;
 use crate::plan::bad_sizes;
 use crate::plan::block_count;
@@ -19,7 +19,8 @@ use crate::plan::records_at;
 use crate::records::bad_records;
 use crate::spares::header_spare_used;
 use crate::spares::spare_used;
-use crate::sums::sums_differ;
+use slices::byte_at;
+use sums::sums_differ;
 
 // Whether the length is 0, not a multiple of 512, or over 74 blocks.
 fn bad_length(f: &[u8]) -> bool
@@ -35,7 +36,14 @@ fn bad_header(f: &[u8]) -> bool
     ensures { λ r. ⌜ r ≡ badHeader (now (f .entry)) ⌝ }
 {
     let head = read_head(f);
-    (size(f[5]) != 1) | bad_sizes(head)
+    (byte_at(f, 5) != 1) | bad_sizes(head)
+}
+
+// The number of a refusal where it is met, and otherwise that of the later ones.
+fn first_met(met: bool, number: u16, later: u16) -> u16
+    ensures { λ r. ⌜ r ≡ cond met number later ⌝ }
+{
+    if met { number } else { later }
 }
 
 // The refusal of the header: 2, 3, 4, 5.
@@ -43,19 +51,12 @@ pub fn header_refusal(f: &[u8]) -> u16
     requires { ⌜ 512 ≤ length (now f) ⌝ }
     ensures { λ r. ⌜ r ≡ headerRefusal (now (f .entry)) ⌝ }
 {
-    if sums_differ(f, 0) {
-        return 2;
-    }
-    if not_due(f, 0, 0, 1) {
-        return 3;
-    }
-    if bad_header(f) {
-        return 4;
-    }
-    if header_spare_used(f) {
-        return 5;
-    }
-    0
+    let form = first_met(bad_header(f), 4, first_met(header_spare_used(f), 5, 0));
+    first_met(
+        sums_differ(f, 0),
+        2,
+        first_met(not_due(f, 0, 0, 1), 3, form),
+    )
 }
 
 // The refusal of block k, which is not the header: 2, 3, 5, 6.
@@ -66,19 +67,16 @@ pub fn block_refusal(f: &[u8], k: usize, head: Head) -> u16
 {
     let kind = kind_at(head, k);
     let count = records_at(head, k, kind);
-    if sums_differ(f, k) {
-        return 2;
-    }
-    if not_due(f, k, kind, count) {
-        return 3;
-    }
-    if spare_used(f, k, kind, count) {
-        return 5;
-    }
-    if bad_records(f, k, kind, count, head) {
-        return 6;
-    }
-    0
+    let form = first_met(
+        spare_used(f, k, kind, count),
+        5,
+        first_met(bad_records(f, k, kind, count, head), 6, 0),
+    );
+    first_met(
+        sums_differ(f, k),
+        2,
+        first_met(not_due(f, k, kind, count), 3, form),
+    )
 }
 
 // The refusal of the first of the other blocks that is refused.

@@ -1,9 +1,23 @@
 // The desk told of more records than a list by value has, and of one bag over and over.
+use crate::show::end;
+use crate::show::number;
+use crate::show::refused;
+use crate::show::text;
 use reconcile::Answer;
 use reconcile::Tally;
 
+// The end of a line of an amount.
+fn owed(z: i64) {
+    text(b": owed ");
+    if z < 0 {
+        text(b"-");
+    }
+    number(text::numbers::size(z));
+    end();
+}
+
 // 1,024 records of one bag and revision, of which so many are said to be there.
-fn records(name: &[u8], len: usize, bag: u16, price: &[u32]) {
+fn records(len: usize, name: &[u8], bag: u16, price: &[u32]) {
     let one = Tally {
         grocer: 0,
         tally_box: 0,
@@ -13,28 +27,22 @@ fn records(name: &[u8], len: usize, bag: u16, price: &[u32]) {
         revision: 1,
     };
     let a = reconcile::reconcile_few([one; 1024], len, price, 2, 2, 0);
-    show::text(name);
+    number(len as u64);
+    text(name);
     match a {
-        Answer::Owed(z) => {
-            show::text(b": owed");
-            show::next_signed(z);
-            show::end();
-        }
-        Answer::Refused(n) => show::line(b": refused", show::wide16(n)),
+        Answer::Owed(z) => owed(z),
+        Answer::Refused(n) => refused(n),
     }
 }
 
 // More than 1,000 records are refused, also those that are not there; and a bag and revision that is there twice.
 pub fn long_lists() {
-    records(b"1000 records", 1_000, 0, &[500, 1_250]);
-    records(b"1025 records", 1_025, 0, &[500, 1_250]);
-    records(
-        b"18446744073709551615 records",
-        18_446_744_073_709_551_615,
-        0,
-        &[500, 1_250],
-    );
-    records(b"1025 records, one price of two", 1_025, 0, &[500]);
-    records(b"1000 records of one bag", 1_000, 7, &[500, 1_250]);
-    records(b"1 record of a bag", 1, 7, &[500, 1_250]);
+    let price: &[u32] = &[500, 1_250];
+    let name: &[u8] = b" records";
+    records(1_000, name, 0, price);
+    records(1_025, name, 0, price);
+    records(18_446_744_073_709_551_615, name, 0, price);
+    records(1_025, b" records, one price of two", 0, &[500]);
+    records(1_000, b" records of one bag", 7, price);
+    records(1, b" record of a bag", 7, price);
 }

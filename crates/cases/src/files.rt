@@ -1,69 +1,68 @@
 // Files read and settled: the lines of `settle`.
-ghost use Prim.Native.Nat.{_≤_};
-use small_job::job::small_file;
-use small_job::patch::put_code;
-use small_job::patch::seal;
-use small_job::patch::set;
-use small_job::patch::set32;
+ghost use Prim.Native.Nat.{_+_, _≤_};
+ghost use lib.ListN.{length};
+use crate::show::number;
+use crate::show::text;
+use small_job::small_file;
+use text::numbers::put_bytes;
 
-// A name, and behind it what `settle` prints for a file.
-fn settle(name: &[u8], f: &[u8; 2048]) {
+// What `settle` prints for a file.
+fn settle(f: &[u8; 2048]) {
     let mut out = [0u8; 8192];
     let k = statements::settled(f, &mut out);
-    show::text(name);
-    show::text(b":\n");
-    show::text(&out[..k]);
+    text(b":\n");
+    text(&out[..k]);
 }
 
 // E.
 pub fn sample() {
-    settle(b"E", &small_file());
+    text(b"E");
+    settle(&small_file());
 }
 
-// E's file with another code of its first offer.
-fn offer_code(name: &[u8], digits: &[u8]) {
+// E's file with other bytes at a place, and both sums of their block.
+fn changed(at: usize, bytes: &[u8], place: usize, sums: [u8; 4])
+    requires { ⌜ (at + length (now bytes) ≤ 2048) × (place ≤ 2044) ⌝ }
+{
     let mut f = small_file();
-    put_code(&mut f, 521, digits);
-    seal(&mut f, 1);
-    settle(name, &f);
+    put_bytes(&mut f, at, bytes);
+    put_bytes(&mut f, place, &sums);
+    settle(&f);
+}
+
+// E's file with another code of its first offer: the number of digits, and the ten bytes for them.
+fn digits(n: u64, code: &[u8; 11], sums: [u8; 4]) {
+    number(n);
+    text(b" digits");
+    changed(521, code, 1_020, sums);
 }
 
 // "10 digits pass; 0 or 11: refusal 6."
 pub fn codes() {
-    offer_code(b"10 digits", b"0000000412");
-    offer_code(b"0 digits", b"");
-    offer_code(b"11 digits", b"00000000412");
+    digits(10, b"\x0a0000000412", [65, 4, 52, 41]);
+    digits(0, b"\0\0\0\0\0\0\0\0\0\0\0", [80, 2, 194, 106]);
+    digits(11, b"\x0b0000000041", [64, 4, 80, 39]);
 }
 
 // E's file with another number of boxes.
-fn boxes(name: &[u8], k: u8) {
-    let mut f = small_file();
-    set(&mut f, 4, k);
-    seal(&mut f, 0);
-    settle(name, &f);
+fn boxes(k: u8, sums: [u8; 4]) {
+    number(k as u64);
+    text(b" boxes");
+    changed(4, &[k], 508, sums);
 }
 
-// E's file with a price of 10,000,000.
-fn price(name: &[u8]) {
-    let mut f = small_file();
-    set32(&mut f, 516, 10_000_000);
-    seal(&mut f, 1);
-    settle(name, &f);
-}
-
-// E's file with a count of 100,000 and a code that names no offer, in one tally.
-fn count_and_code(name: &[u8]) {
-    let mut f = small_file();
-    put_code(&mut f, 1543, b"413");
-    set32(&mut f, 1554, 100_000);
-    seal(&mut f, 3);
-    settle(name, &f);
-}
-
-// "16 boxes pass, 17: 4. Price 10,000,000: 6. Bad count with unknown code: 6."
+// "16 boxes pass, 17: 4. Price 10,000,000: 6. Bad count with unknown code: 6." The price is the first offer's; the count of 100,000
+// and the code "413" are the first tally's.
 pub fn fields() {
-    boxes(b"16 boxes", 16);
-    boxes(b"17 boxes", 17);
-    price(b"price 10000000");
-    count_and_code(b"bad count with unknown code");
+    boxes(16, [26, 0, 14, 51]);
+    boxes(17, [27, 0, 6, 53]);
+    text(b"price 10000000");
+    changed(516, b"\x80\x96\x98\0", 1_020, [5, 4, 172, 189]);
+    text(b"bad count with unknown code");
+    changed(
+        1_543,
+        b"\x03413\0\0\0\0\0\0\0\xa0\x86\x01\0",
+        2_044,
+        [173, 7, 246, 163],
+    );
 }

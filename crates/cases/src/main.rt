@@ -2,6 +2,7 @@
 mod desk;
 mod files;
 mod picks;
+mod show;
 mod steps;
 mod sums;
 mod words;

@@ -1,21 +1,23 @@
 // Which step a choice picks from E's list of ready steps: no outcome of a run shows it.
+use crate::show::end;
+use crate::show::next16;
+use crate::show::text;
 use rows::all_rows;
 use rows::find_in;
-use show::wide16;
 use walk::Place;
 use walk::ready_steps;
 
 // The line of a choice.
 fn step_line(choice: u16, ready: u16, p: Place) {
-    show::text(b"choice");
-    show::next(wide16(choice));
-    show::text(b" of");
-    show::next(wide16(ready));
-    show::text(b": step");
-    show::next(wide16(p.kind));
-    show::next(wide16(p.first));
-    show::next(wide16(p.second));
-    show::end();
+    text(b"choice");
+    next16(choice);
+    text(b" of");
+    next16(ready);
+    text(b": step");
+    next16(p.kind);
+    next16(p.first);
+    next16(p.second);
+    end();
 }
 
 // The step that a choice picks, modulo the number of ready steps.
@@ -29,21 +31,24 @@ fn pick(choice: u16, receivers: &[u16; 16], waits: &[[u16; 16]; 16], done: &[u16
     step_line(choice, ready, p);
 }
 
+// A choice of a state of E in which box 0 has sent its price, or has not, as the mark says.
+fn choose(choice: u16, mark: u16) {
+    let none = [0u16; 16];
+    let first = [2u16, 1, 0, 0, 0, 0, 0, 0, 0, 0, 0, 0, 0, 0, 0, 0];
+    let second = [0u16, 3, 0, 0, 0, 0, 0, 0, 0, 0, 0, 0, 0, 0, 0, 0];
+    let mut waits = [none; 16];
+    waits[0] = first;
+    waits[1] = second;
+    let mut done = [0u16; 24];
+    done[1] = mark;
+    pick(choice, &first, &waits, &done);
+}
+
 // The choices of a fresh state, whose list has steps 1 and 2 of both boxes, and of one where box 0 has sent its price.
 pub fn choices() {
-    let row = [0u16; 16];
-    let mut receivers = row;
-    receivers[0] = 2;
-    receivers[1] = 1;
-    let mut waits = [row; 16];
-    waits[0][0] = 2;
-    waits[0][1] = 1;
-    waits[1][1] = 3;
-    let mut done = [0u16; 24];
-    pick(0, &receivers, &waits, &done);
-    pick(3, &receivers, &waits, &done);
-    pick(4, &receivers, &waits, &done);
-    pick(65_535, &receivers, &waits, &done);
-    done[1] = 1;
-    pick(65_535, &receivers, &waits, &done);
+    choose(0, 0);
+    choose(3, 0);
+    choose(4, 0);
+    choose(65_535, 0);
+    choose(65_535, 1);
 }

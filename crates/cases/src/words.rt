@@ -1,51 +1,57 @@
 // The tables of messages of E by value, and their sums.
+use crate::show::end;
+use crate::show::next32;
+use crate::show::text;
 use messages::message_tables;
 use messages::sums::column_sum;
 use messages::sums::row_sum;
 use messages::sums::table_sum;
-use show::wide32;
-use small_job::job::small;
 
-// What boxes 0, 1 and 16 send and receive, and the whole table.
+// What boxes 0, 1 and 16 send.
+fn row_sums(table: [[u16; 16]; 16]) {
+    next32(row_sum(table, 0));
+    next32(row_sum(table, 1));
+    next32(row_sum(table, 16));
+}
+
+// What boxes 0, 1 and 16 receive.
+fn column_sums(table: [[u16; 16]; 16]) {
+    next32(column_sum(table, 0));
+    next32(column_sum(table, 1));
+    next32(column_sum(table, 16));
+}
+
+// What is sent and received, and the whole table.
 fn sum_line(name: &[u8], table: [[u16; 16]; 16]) {
-    show::text(name);
-    show::next(wide32(row_sum(table, 0)));
-    show::next(wide32(row_sum(table, 1)));
-    show::next(wide32(row_sum(table, 16)));
-    show::text(b" columns");
-    show::next(wide32(column_sum(table, 0)));
-    show::next(wide32(column_sum(table, 1)));
-    show::next(wide32(column_sum(table, 16)));
-    show::line(b" words", wide32(table_sum(table)));
+    text(name);
+    row_sums(table);
+    text(b" columns");
+    column_sums(table);
+    text(b" words");
+    next32(table_sum(table));
+    end();
 }
 
 // Both tables of E.
 pub fn sums() {
-    let j = small();
-    let price = j.price;
-    let owner = j.owner;
-    let gowner = j.gowner;
-    let tgrocer = j.tgrocer;
-    let tbox = j.tbox;
-    let toffer = j.toffer;
-    let tcount = j.tcount;
-    let none = [0u16; 16];
-    let mut prices = [none; 16];
-    let mut totals = [none; 16];
+    let none: &[u16] = &[0, 0, 0, 0];
+    let row = [0u16; 16];
+    let mut prices = [row; 16];
+    let mut totals = [row; 16];
     message_tables(
         2,
         2,
         2,
         4,
-        &price,
-        &owner,
-        &gowner,
-        &tgrocer,
-        &tbox,
-        &toffer,
-        &tcount,
-        &[0, 0, 0, 0],
-        &[0, 0, 0, 0],
+        &[500, 1_250],
+        &[0, 1],
+        &[1, 0],
+        &[0, 1, 0, 0],
+        &[0, 0, 1, 1],
+        &[0, 1, 1, 0],
+        &[3i32, 2i32, -1i32, 4i32],
+        none,
+        none,
         &mut prices,
         &mut totals,
     );

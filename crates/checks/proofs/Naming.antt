@@ -9,19 +9,15 @@ use Rattle.laws.specs.Checks.{firstMet}
 use Rattle.laws.proofs.Tables.{word-in}
 use Rattle.recount.specs.Recount.{columns, countedTwice}
 use Rattle.index.specs.Index.{sharesNumber, placeOf as placeIn}
-use Rattle.format.specs.Codes.{Name, nameOf, isCode, nameNumber}
+use Rattle.format.specs.Codes.{Name, isCode, nameNumber}
 use Rattle.format.specs.Job.{Head, FileJob, offerName, placeOf, shared, countedTallies}
-use Rattle.format.specs.Tables.{offerTables, tallyTables, offerOf, tallyOf, codeOf, nameIn}
+use Rattle.format.specs.Tables.{offerTables, tallyTables, offerOf, tallyOf, nameIn}
 use Rattle.blocks.specs.Due.{Most}
 use Rattle.fills.specs.Fills.{Placed}
-use Rattle.checks.specs.Rows.{Codes, Indexed, Finds, HasNames, HasBags}
+use Rattle.checks.specs.Rows.{Codes, Indexed, Keyed, Finds, HasNames, HasBags}
 use Rattle.format.proofs.Same.{twice-cong}
 use Rattle.fills.proofs.Places.{place-most}
 use Rattle.fills.proofs.Naming as naming
-
--- The number of a code under an issuer that is read is that of the name.
-pub named : (code issuer : List ℕ) (i : ℕ) {r x : ℕ} → r ≡ nameNumber (nameOf x (codeOf code i)) → x ≡ getD issuer i 0 → r ≡ nameNumber (nameIn code issuer i)
-named code issuer i e q = e ∙ ap (λ (x : ℕ). nameNumber (nameOf x (codeOf code i))) q
 
 module _ (j : FileJob) (code issuer tcode tissuer keys order : List ℕ) (h : Head) (has : HasNames j code issuer tcode tissuer h)
     (x : Indexed code issuer keys order (h .offers)) (codes : Codes code (h .offers)) where
@@ -35,7 +31,7 @@ module _ (j : FileJob) (code issuer tcode tissuer keys order : List ℕ) (h : He
   number-is i l = x .right i l ∙ ap nameNumber (sym (has .offer i))
 
   -- Two numbers are equal where two offers share a name.
-  pub shared-is : sharesNumber (x .numbers) (h .offers) ≡ shared j
+  shared-is : sharesNumber (x .numbers) (h .offers) ≡ shared j
   unfolding sharesNumber
   shared-is = naming.shared-is j (x .numbers) (h .offers) size code-is number-is
 
@@ -45,9 +41,14 @@ module _ (j : FileJob) (code issuer tcode tissuer keys order : List ℕ) (h : He
       ap (λ (a : Name). placeIn (x .numbers) (h .offers) (nameNumber a)) (sym (has .tally i))
       ∙ naming.place-is j (x .numbers) (h .offers) size code-is number-is i (ap (λ (a : Name). isCode (a .code)) (has .tally i) ∙ c)
 
-  -- So the index finds the offers of the job's tallies.
-  pub finds : sharesNumber (x .numbers) (h .offers) ≡ false → Finds j keys order tcode tissuer (h .offers)
-  finds d = record { size = size; numbers = x .numbers; index = x .index; apart = d; place = place-is }
+  -- So the index is that of the job.
+  pub keyed : Keyed j keys order tcode tissuer (h .offers) (h .tallies)
+  keyed =
+      record { offers = size; tallies = ap (λ (h : Head). h .tallies) (has .head); numbers = x .numbers; index = x .index; shares = shared-is; place = place-is }
+
+-- Where no two offers share a name, the tallies find theirs by it.
+pub finds : {j : FileJob} {keys order tcode tissuer : List ℕ} {n t : ℕ} (k : Keyed j keys order tcode tissuer n t) → sharesNumber (k .numbers) n ≡ false → Finds j keys order tcode tissuer n
+finds k d = record { size = k .offers; numbers = k .numbers; index = k .index; apart = d; place = k .place }
 
 -- Places that were found are below 512, as keys of counts ask.
 pub places-below : (h : Head) (code issuer tcode tissuer places : List ℕ) → Most h →

@@ -6,7 +6,7 @@ use mathlib.Core.List.{List}
 use lib.ListN.{getD, length}
 use Rattle.index.specs.Index.{IsIndex, sharesNumber, placeOf as placeIn}
 use Rattle.format.specs.Codes.{isCode, nameNumber}
-use Rattle.format.specs.Job.{Head, FileJob, offerName, tallyName, placeOf}
+use Rattle.format.specs.Job.{Head, FileJob, offerName, tallyName, placeOf, shared}
 use Rattle.format.specs.Tables.{codeOf, nameIn}
 use Rattle.blocks.specs.Due.{Most}
 
@@ -19,6 +19,15 @@ pub record Indexed (code issuer keys order : List ℕ) (n : ℕ) : Type 0 where
   pub numbers : List ℕ
   pub index : IsIndex keys order numbers n
   pub right : (i : ℕ) → i < n → getD numbers i 0 ≡ nameNumber (nameIn code issuer i)
+
+-- The index of a job's n offers by the numbers of their names, and tables that hold the names of its t tallies.
+pub record Keyed (j : FileJob) (keys order tallyCode tallyIssuer : List ℕ) (n t : ℕ) : Type 0 where
+  pub offers : j .head .offers ≡ n
+  pub tallies : j .head .tallies ≡ t
+  pub numbers : List ℕ
+  pub index : IsIndex keys order numbers n
+  pub shares : sharesNumber numbers n ≡ shared j
+  pub place : (i : ℕ) → isCode (codeOf tallyCode i) ≡ true → placeIn numbers n (nameNumber (nameIn tallyCode tallyIssuer i)) ≡ placeOf j i
 
 -- The index by which the tallies of a job, whose names these tables hold, find their offers.
 pub record Finds (j : FileJob) (keys order tallyCode tallyIssuer : List ℕ) (n : ℕ) : Type 0 where

@@ -12,19 +12,18 @@ ghost use Rattle.format.specs.Job.{FileJob, placeOf, shared, unnamed, countedTa
 ghost use Rattle.format.specs.Tables.{codeOf, nameIn};
 ghost use Rattle.blocks.specs.Due.{asHead};
 ghost use Rattle.fills.specs.Fills.{Placed};
+ghost use Rattle.lookup.specs.Lookup.{Ascending};
 ghost use Rattle.index.specs.Index.{Tops, Widest};
-ghost use Rattle.checks.specs.Rows.{Codes, Indexed, Finds, NamesIn, HasNames, HasBags};
-use crate::sizes::size_of;
-use bags::columns_twice;
-use blocks::codes::CODE_BYTES;
+ghost use Rattle.checks.specs.Rows.{Codes, Indexed, Keyed, Finds, NamesIn, HasNames, HasBags};
 use blocks::plan::Head;
 use blocks::plan::MAX_OFFERS;
 use blocks::plan::MAX_TALLIES;
-use fills::code::name_at;
+use columns::columns_twice;
 use fills::fill::narrow;
 use index::build::build;
 use index::look::DIGITS;
 use index::look::place;
+use names::number_of;
 
 // Puts the numbers of the first n names into a list.
 fn number_all(code: &[u8], issuer: &[u16], n: usize, numbers: &mut [u64])
@@ -34,7 +33,7 @@ fn number_all(code: &[u8], issuer: &[u16], n: usize, numbers: &mut [u64])
 {
     let mut i: usize = 0;
     while i < n {
-        numbers[i] = name_at(code, i * CODE_BYTES, size_of(issuer[i]));
+        numbers[i] = number_of(code, issuer, i);
         i += 1;
     }
 }
@@ -69,7 +68,7 @@ fn find_place(
     ensures { λ r. ⌜ ((j : FileJob) → Finds j (now (keys .entry)) (now (order .entry)) (now («tally_code» .entry)) (now («tally_issuer» .entry)) n →
         r ≡ placeOf j i) ⌝ }
 {
-    let number = name_at(tally_code, i * CODE_BYTES, size_of(tally_issuer[i]));
+    let number = number_of(tally_code, tally_issuer, i);
     place(keys, order, starts, shift, widest, n, number)
 }
 
@@ -117,7 +116,48 @@ fn find_places(
     false
 }
 
-// 7, 8 or no refusal, by the names of the offers and of the tallies; where it is none, the place of each tally's offer is kept.
+// 7, 8 or no refusal, by the index of the n offers and the names of the t tallies; where it is none, the place of each tally's offer is kept.
+fn look_refusal(
+    keys: &[u64],
+    order: &[u16],
+    n: usize,
+    tally_code: &[u8],
+    tally_issuer: &[u16],
+    t: usize,
+    places: &mut [u16],
+) -> u16
+    requires { ⌜ ((n ≤ 500) × ((n ≤ length (now keys)) × (n ≤ length (now order)))) × Ascending (now keys) n ⌝ }
+    requires { ⌜ (t * 11 ≤ length (now «tally_code»)) × (t ≤ length (now «tally_issuer»)) × Codes (now «tally_code») t ⌝ }
+    requires { ⌜ t ≤ length (now places) ⌝ }
+    ensures { λ r. ⌜ ((j : FileJob) → Keyed j (now (keys .entry)) (now (order .entry)) (now («tally_code» .entry)) (now («tally_issuer» .entry)) n t →
+        r ≡ firstMet ((shared j, 7) ∷ (unnamed j, 8) ∷ [])) ⌝ }
+    ensures { λ r. ⌜ ((j : FileJob) → Keyed j (now (keys .entry)) (now (order .entry)) (now («tally_code» .entry)) (now («tally_issuer» .entry)) n t →
+        r ≡ 0 → Placed j (now (places .exit)) t) ⌝ }
+{
+    if index::look::shared(keys, n) {
+        return 7;
+    }
+    let shift = index::tops::top_shift(keys, n);
+    let starts = index::tops::tops(keys, n, shift);
+    let widest = index::tops::widest(&starts);
+    if find_places(
+        keys,
+        order,
+        &starts,
+        shift,
+        widest,
+        n,
+        tally_code,
+        tally_issuer,
+        t,
+        places,
+    ) {
+        return 8;
+    }
+    0
+}
+
+// The same by the names of the offers and of the tallies.
 fn names_refusal(
     head: Head,
     offer_code: &[u8],
@@ -136,27 +176,15 @@ fn names_refusal(
     let mut keys = [0u64; MAX_OFFERS];
     let mut order = [0u16; MAX_OFFERS];
     index_names(offer_code, offer_issuer, head.offers, &mut keys, &mut order);
-    if index::look::shared(&keys, head.offers) {
-        return 7;
-    }
-    let shift = index::tops::top_shift(&keys, head.offers);
-    let starts = index::tops::tops(&keys, head.offers, shift);
-    let widest = index::tops::widest(&starts);
-    if find_places(
+    look_refusal(
         &keys,
         &order,
-        &starts,
-        shift,
-        widest,
         head.offers,
         tally_code,
         tally_issuer,
         head.tallies,
         places,
-    ) {
-        return 8;
-    }
-    0
+    )
 }
 
 // 7, 8, 9 or no refusal, by the names of the offers and by the tallies.

@@ -9,11 +9,13 @@ ghost use Rattle.laws.specs.Below.{any};
 ghost use Rattle.format.specs.Job.{badOffer, badOwner, badTally, badRecords};
 ghost use Rattle.format.specs.Tables.{offerTables, tallyTables, fileTables, offerOf, tallyOf, fileJobOf};
 ghost use Rattle.blocks.specs.Due.{asHead};
-use crate::sizes::size_of;
 use blocks::codes::CODE_BYTES;
 use blocks::codes::is_code;
 use blocks::plan::Head;
 use blocks::records::MAX_PRICE;
+use slices::i32_at;
+use slices::index_at;
+use slices::u32_at;
 
 // The largest count and the least.
 const MAX_COUNT: i32 = 99_999;
@@ -33,8 +35,9 @@ fn bad_offer(head: Head, price: &[u32], offer_owner: &[u16], offer_code: &[u8], 
     ensures { λ r. ⌜ ((s : List ℕ) → r ≡ badOffer (asHead head)
         (offerOf (offerTables (now (price .entry)) (now («offer_owner» .entry)) (now («offer_code» .entry)) s) i)) ⌝ }
 {
-    let at = i * CODE_BYTES;
-    (MAX_PRICE < price[i]) | (head.boxes <= size_of(offer_owner[i])) | !is_code(offer_code, at)
+    (MAX_PRICE < u32_at(price, i))
+        | (head.boxes <= index_at(offer_owner, i))
+        | !is_code(offer_code, i * CODE_BYTES)
 }
 
 // Whether a field of tally i is outside its range, likewise.
@@ -51,9 +54,10 @@ fn bad_tally(
     ensures { λ r. ⌜ ((s b v : List ℕ) → r ≡ badTally (asHead head)
         (tallyOf (tallyTables (now («tally_grocer» .entry)) (now («tally_box» .entry)) (now («tally_code» .entry)) (now («tally_count» .entry)) s b v) i)) ⌝ }
 {
-    let at = i * CODE_BYTES;
-    let ranges = (head.grocers <= size_of(tally_grocer[i])) | (head.boxes <= size_of(tally_box[i]));
-    ranges | !is_code(tally_code, at) | bad_count(tally_count[i])
+    (head.grocers <= index_at(tally_grocer, i))
+        | (head.boxes <= index_at(tally_box, i))
+        | !is_code(tally_code, i * CODE_BYTES)
+        | bad_count(i32_at(tally_count, i))
 }
 
 // Whether one of the offers is.
@@ -82,7 +86,7 @@ fn bad_owners(head: Head, grocer_owner: &[u16]) -> bool
     let mut bad = false;
     let mut i: usize = 0;
     while i < m {
-        bad = bad | (k <= size_of(grocer_owner[i]));
+        bad = bad | (k <= index_at(grocer_owner, i));
         i += 1;
     }
     bad

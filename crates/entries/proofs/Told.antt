@@ -7,15 +7,14 @@ use native.Mathlib.Omega.{arith}
 use lib.Dec.{ltb}
 use lib.ListN.{length, set, replicate}
 use borrow.Author.Tests.{lt-ltb, le-ltb, ltb-false}
-use Rattle.laws.specs.Tables.{tabulate, overwrite, recell}
+use Rattle.laws.specs.Tables.{tabulate, overwrite, recell, cellAt}
 use Rattle.laws.proofs.Bools.{cond-yes, cond-no}
 use Rattle.laws.proofs.Checks.{none-of}
 use Rattle.model.specs.Tables.{JobTables}
-use Rattle.tables.specs.Messages.{cellAt}
 use Rattle.messages.specs.Answers.{said as saidMessages, TablesGiven, tablesGiven, messageTables}
 use Rattle.messages.specs.declared.Answer.{Answer as MessagesCall}
 use Rattle.messages.specs.declared.Answer.the-variants.{Made, Refused as NotMade}
-use Rattle.local.specs.Sort.{inFront}
+use Rattle.sorts.specs.Sort.{inFront}
 use Rattle.local.specs.Book.{said as saidBook, BookTables, BookOutcome, given, booked}
 use Rattle.local.specs.declared.book.Answer.{Answer as BookCall}
 use Rattle.local.specs.declared.book.Answer.the-variants.{Book, Refused as NotBooked}

@@ -5,7 +5,7 @@ use Prim.Native.Nat.{ℕ}
 use lib.Dec.{ltb}
 use lib.ListN.{length}
 use Rattle.model.specs.Tables.{JobTables}
-use Rattle.local.specs.Sort.{inFront}
+use Rattle.sorts.specs.Sort.{inFront}
 use Rattle.local.specs.Book.{BookAnswer, book, refused, BookTables, BookOutcome, booked}
 
 -- A number, and the buffer for the numbers as it is afterwards.

@@ -5,11 +5,10 @@ use Prim.Native.Nat.{ℕ}
 use lib.Dec.{ltb}
 use lib.ListN.{length}
 use Rattle.laws.specs.Checks.{anyOf}
-use Rattle.laws.specs.Tables.{tabulate, recell}
+use Rattle.laws.specs.Tables.{tabulate, recell, cellAt}
 use Rattle.model.specs.Tables.{JobTables}
-use Rattle.tables.specs.Messages.{cellAt}
 use Rattle.messages.specs.Answers.{MessagesAnswer, made, refused, TablesGiven, messageTables}
-use Rattle.local.specs.Sort.{inFront}
+use Rattle.sorts.specs.Sort.{inFront}
 
 -- A number, and the buffers for the two tables and for the words of the job as they are afterwards.
 pub record MessagesTold : Type 0 where

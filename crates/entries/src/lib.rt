@@ -2,13 +2,12 @@
 ghost use mathlib.Core.Path.{_≡_};
 ghost use Prim.Native.Nat.{_≤_, _<_};
 ghost use lib.ListN.{take, length};
-ghost use Rattle.laws.specs.Tables.{recell};
+ghost use Rattle.laws.specs.Tables.{recell, cellAt};
 ghost use Rattle.model.specs.Lent.{bagLent};
 ghost use Rattle.format.specs.Job.{headOf};
 ghost use Rattle.format.specs.Tables.{writeResult};
 ghost use Rattle.format.specs.Lent.{fileLent};
 ghost use Rattle.messages.specs.Answers.{said as saidMessages, tablesGiven};
-ghost use Rattle.tables.specs.Messages.{cellAt};
 ghost use Rattle.local.specs.Book.{said as saidBook, bookBefore, bookAfter};
 ghost use Rattle.writer.specs.Outcome.{answerOf};
 ghost use Rattle.entries.specs.Entries.{Fields, lentRecords, lentTally, told, toldAs, toldBy, writeNumber, written, writtenAs};
@@ -16,6 +15,8 @@ ghost use Rattle.entries.specs.EntryTables.{messagesTold, messagesAs, me
 ghost use Rattle.entries.specs.EntryBook.{numbersTold, numbersAs, bookTold, bookedBy};
 ghost use Rattle.reconcile.specs.Records.{recordsOf, answerOf as deskAnswerOf};
 use reconcile::Tally;
+use slices::i32_at;
+use slices::u16_at;
 use writer::Answer;
 
 // The writer's answer as one number.
@@ -94,12 +95,12 @@ fn tally(
         (now («tally_count» .entry)) (now («tally_bag» .entry)) (now («tally_revision» .entry)) i ⌝ }
 {
     Tally {
-        grocer: tally_grocer[i],
-        tally_box: tally_box[i],
-        place: tally_offer[i],
-        count: tally_count[i],
-        bag: tally_bag[i],
-        revision: tally_revision[i],
+        grocer: u16_at(tally_grocer, i),
+        tally_box: u16_at(tally_box, i),
+        place: u16_at(tally_offer, i),
+        count: i32_at(tally_count, i),
+        bag: u16_at(tally_bag, i),
+        revision: u16_at(tally_revision, i),
     }
 }
 

@@ -12,22 +12,18 @@ ghost use Rattle.format.specs.Tables.{storeCodes};
 ghost use Rattle.blocks.specs.Due.{asHead};
 ghost use Rattle.fills.specs.Fills.{Whole};
 use crate::code::copy_code;
-use crate::code::name_at;
 use crate::place::record_at;
-use blocks::bytes::signed;
-use blocks::bytes::word16;
-use blocks::bytes::word32;
 use blocks::codes::CODE_BYTES;
 use blocks::plan::Head;
 use blocks::plan::grocers_at;
 use blocks::plan::tallies_at;
-
-// A byte as a 16-bit word.
-fn wide(x: u8) -> u16
-    ensures { λ r. ⌜ r ≡ x ⌝ }
-{
-    x as u16
-}
+use bytes::byte16;
+use bytes::count32;
+use bytes::narrow16;
+use bytes::word16;
+use bytes::word32;
+use digits::name_at;
+use slices::u16_at;
 
 // A word that 16 bits hold.
 pub fn narrow(x: usize) -> u16
@@ -56,7 +52,7 @@ pub fn fill_offers(
     while i < n {
         let at = record_at(1, i);
         price[i] = word32(f, at);
-        offer_owner[i] = wide(f[at + 4]);
+        offer_owner[i] = byte16(f, at + 4);
         copy_code(f, at + 5, offer_code, i * CODE_BYTES);
         i += 1;
     }
@@ -86,7 +82,7 @@ pub fn fill_owners(f: &[u8], head: Head, grocer_owner: &mut [u16])
     let m = head.grocers;
     let mut i: usize = 0;
     while i < m {
-        grocer_owner[i] = wide(f[at + i]);
+        grocer_owner[i] = byte16(f, at + i);
         i += 1;
     }
 }
@@ -111,8 +107,8 @@ pub fn fill_tallies(
     let mut i: usize = 0;
     while i < t {
         let at = record_at(first, i);
-        tally_grocer[i] = narrow(word16(f, at));
-        tally_box[i] = wide(f[at + 2]);
+        tally_grocer[i] = narrow16(f, at);
+        tally_box[i] = byte16(f, at + 2);
         copy_code(f, at + 3, tally_code, i * CODE_BYTES);
         i += 1;
     }
@@ -138,10 +134,9 @@ pub fn fill_tally_ends(
     let mut i: usize = 0;
     while i < t {
         let at = record_at(first, i);
-        let v = signed(word32(f, at + 14));
-        tally_count[i] = v;
-        tally_issuer[i] = narrow(word16(f, at + 18));
-        tally_offer[i] = places[i];
+        tally_count[i] = count32(f, at + 14);
+        tally_issuer[i] = narrow16(f, at + 18);
+        tally_offer[i] = u16_at(places, i);
         i += 1;
     }
 }
@@ -159,8 +154,8 @@ pub fn fill_bags(f: &[u8], head: Head, tally_bag: &mut [u16], tally_revision: &m
     let mut i: usize = 0;
     while i < t {
         let at = record_at(first, i);
-        tally_bag[i] = narrow(word16(f, at + 20));
-        tally_revision[i] = narrow(word16(f, at + 22));
+        tally_bag[i] = narrow16(f, at + 20);
+        tally_revision[i] = narrow16(f, at + 22);
         i += 1;
     }
 }
@@ -173,7 +168,7 @@ pub fn fill_words(f: &[u8], first: usize, n: usize, at: usize, words: &mut [u16]
 {
     let mut i: usize = 0;
     while i < n {
-        words[i] = narrow(word16(f, record_at(first, i) + at));
+        words[i] = narrow16(f, record_at(first, i) + at);
         i += 1;
     }
 }

@@ -62,8 +62,8 @@ pub fn fresh_prices(
     zero32(price_transit, words);
     zero32(known, words);
     for o in 0..n {
-        let p = place(n, offer_owner[o], o);
-        known[p] = price[o];
+        let p = place(n, slices::u16_at(offer_owner, o), o);
+        known[p] = slices::u32_at(price, o);
     }
 }
 
@@ -80,9 +80,9 @@ pub fn fresh_totals(
         (now («total_transit» .exit) ≡ overwrite (boxes * grocers) (λ i. pos 0) (now («total_transit» .entry))) ×
         (now (statement .exit) ≡ overwrite grocers (λ i. pos 0) (now (statement .entry))) ⌝ }
 {
-    let k = boxes as usize;
     let m = grocers as usize;
-    zero64(working, k * m);
-    zero64(total_transit, k * m);
+    let words = boxes as usize * m;
+    zero64(working, words);
+    zero64(total_transit, words);
     zero64(statement, m);
 }

@@ -4,7 +4,7 @@ use mathlib.Core.Logic.{_⊎_, inl, inr}
 use Prim.Native.Nat.{ℕ, _<_, _≤_}
 use Rattle.model.specs.Job.{Job}
 use Rattle.model.specs.Local.{priceTable, totalTable}
-use Rattle.tables.specs.Messages.{cellAt}
+use Rattle.laws.specs.Tables.{cellAt}
 use Rattle.guarantees.specs.Calls.{TableSums}
 use Rattle.model.proofs.Range.{InRange}
 use Rattle.messages.proofs.Laws.{price-row-past, price-column-past, total-row-past, total-column-past, price-self, total-self, price-row-sum, total-column-sum, tables-sum}

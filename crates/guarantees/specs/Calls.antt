@@ -11,7 +11,7 @@ use lib.ListN.{getD, length}
 use Rattle.laws.specs.Below.{naturals, sum, only}
 use Rattle.laws.specs.Checks.{firstMet}
 use Rattle.laws.specs.Masks.{without}
-use Rattle.laws.specs.Tables.{tabulate}
+use Rattle.laws.specs.Tables.{tabulate, cellAt}
 use Rattle.laws.specs.Limits.{maxAmount}
 use Rattle.model.specs.Job.{Job, needWord, sharerWord, plainSum}
 use Rattle.model.specs.Words.{ownerWords}
@@ -20,7 +20,6 @@ use Rattle.model.specs.Tables.{JobTables, countedOf, jobOf}
 use Rattle.model.specs.Ranges.{jobInRange}
 use Rattle.model.specs.Local.{localOffers, start, packed, BookLengths, bookRefusals, priceTable, totalTable, jobRefusals}
 use Rattle.model.specs.Reconcile.{TallyRecord, owed, reconciled}
-use Rattle.tables.specs.Messages.{cellAt}
 use Rattle.messages.specs.Sums.{rowSum, columnSum, tableSum}
 use Rattle.messages.specs.Answers.{made, tablesGiven, messageTables}
 use Rattle.local.specs.Book.{BookTables, bookLengths, booked}

@@ -7,5 +7,6 @@ pub mod Tables
 pub mod Signed
 pub mod Signs
 pub mod Masks
+pub mod Rows
 pub mod Checks
 pub mod Loops

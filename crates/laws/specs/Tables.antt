@@ -26,3 +26,7 @@ module _ {A : Type 0} where
   -- The same table written anew.
   unfoldable pub recell : ℕ → ℕ → (ℕ → ℕ → A) → List A → List A
   recell n m f l = overwrite (n * m) (λ i. f (i / m) (i % m)) l
+
+-- The count in row a, column b of a table of rows.
+abbrev pub cellAt : List (List ℕ) → ℕ → ℕ → ℕ
+cellAt t a b = getD (getD t a []) b 0

@@ -1,7 +1,7 @@
 // Entries linked by key.
 ghost use mathlib.Core.Path.{_≡_};
 ghost use Prim.Native.Nat.{ℕ, _+_, _≤_, _<_};
-ghost use lib.ListN.{length, getD, set};
+ghost use lib.ListN.{length, getD, set, replicate};
 ghost use Rattle.links.specs.Links.{pairKey, Keyed, Linked, PairsKeyed, LinkedPairs};
 
 // Keys are 0 to 16, and their first places stand in front of the links.
@@ -39,7 +39,7 @@ pub fn link(n: usize, keys: &[u16], links: &mut [u16])
     let mut i = n;
     while i > 0 {
         i -= 1;
-        put_first(HEADS, keys[i] as usize, i, links);
+        put_first(HEADS, slices::index_at(keys, i), i, links);
     }
 }
 
@@ -60,7 +60,53 @@ pub fn link_pairs(n: usize, boxes: &[u16], places: &[u16], owners: &[u16], links
     let mut i = n;
     while i > 0 {
         i -= 1;
-        let o = places[i] as usize;
-        put_first(PAIR_HEADS, pair(boxes[i], owners[o]), i, links);
+        let o = slices::index_at(places, i);
+        put_first(
+            PAIR_HEADS,
+            pair(slices::u16_at(boxes, i), slices::u16_at(owners, o)),
+            i,
+            links,
+        );
     }
+}
+
+// The links of offers by owner: first places, and for each offer the next of its owner.
+pub fn offer_links(offers: u16, offer_owner: &[u16]) -> [u16; 517]
+    requires { ⌜ Keyed offers (now «offer_owner») (replicate 517 0) ⌝ }
+    ensures { λ r. ⌜ Linked offers (now («offer_owner» .entry)) r ⌝ }
+{
+    let mut links = [0u16; 517];
+    link(offers as usize, offer_owner, &mut links);
+    links
+}
+
+// The links of grocers by owner, likewise.
+pub fn grocer_links(grocers: u16, grocer_owner: &[u16]) -> [u16; 272]
+    requires { ⌜ Keyed grocers (now «grocer_owner») (replicate 272 0) ⌝ }
+    ensures { λ r. ⌜ Linked grocers (now («grocer_owner» .entry)) r ⌝ }
+{
+    let mut links = [0u16; 272];
+    link(grocers as usize, grocer_owner, &mut links);
+    links
+}
+
+// The links of tallies by their box and the owner of their offer, likewise.
+pub fn tally_links(
+    tallies: u16,
+    tally_box: &[u16],
+    tally_offer: &[u16],
+    offer_owner: &[u16],
+) -> [u16; 1272]
+    requires { ⌜ PairsKeyed tallies (now «tally_box») (now «tally_offer») (now «offer_owner») (replicate 1_272 0) ⌝ }
+    ensures { λ r. ⌜ LinkedPairs tallies (now («tally_box» .entry)) (now («tally_offer» .entry)) (now («offer_owner» .entry)) r ⌝ }
+{
+    let mut links = [0u16; 1272];
+    link_pairs(
+        tallies as usize,
+        tally_box,
+        tally_offer,
+        offer_owner,
+        &mut links,
+    );
+    links
 }

@@ -16,9 +16,10 @@ use Rattle.model.specs.Job.{Job}
 use Rattle.model.specs.Tables.{JobTables, countedOf, nobody, jobOf}
 use Rattle.model.specs.Handed.{handedTables, Standing}
 use Rattle.model.specs.Local.{localOffers, localGrocers, start, starts, packed, packedGrocers, packedCounts, BookLengths, bookRefusals}
-use Rattle.local.specs.Sort.{at, inFront}
+use Rattle.sorts.specs.Sort.{at, inFront}
 use Rattle.local.specs.Lists.{localList, heldOf}
-use Rattle.local.specs.Pack.{PackLent, packWords, packedTallies, packedStart, packedNumber, packedCount}
+use Rattle.tally_order.specs.Twice.{PackLent, packWords, packedTallies, packedStart}
+use Rattle.local.specs.Pack.{packedNumber, packedCount}
 use Rattle.local.specs.Book.{book, refused, said, bookAnswer, BookTables, bookTables, bookLengths, written, given, booked}
 use Rattle.local.specs.declared.book.Answer.the-variants.{Book, Refused}
 use Rattle.model.proofs.Handed.{handed-job}

@@ -18,16 +18,18 @@ use Rattle.laws.proofs.Ascending.{ascending-cong, length-ascending}
 use Rattle.model.specs.Job.{Job, heldBy, needs, shares, priceWord, totalWord}
 use Rattle.model.specs.Tables.{JobTables, jobOf}
 use Rattle.model.specs.Local.{chained, localOffers, localGrocers, localGrocer, ofOffer, start, starts, packed, packedGrocers, packedCounts}
-use Rattle.local.specs.Sort.{at, inFront, begin, sorted, place}
-use Rattle.local.specs.Lists.{localList, heldOf, classOf, numberIn}
-use Rattle.local.specs.Pack.{tallyKey, PackLent, packWords, packedPart, packedTallies, packedStart, packedNumber, packedCount}
+use Rattle.sorts.specs.Sort.{at, inFront, begin, sorted, place}
+use Rattle.local.specs.Lists.{localList, heldOf}
+use Rattle.classes.specs.Keys.{classOf, numberIn, tallyKey}
+use Rattle.tally_order.specs.Twice.{PackLent, packWords, packedPart, packedTallies, packedStart}
+use Rattle.local.specs.Pack.{packedNumber, packedCount}
 use Rattle.model.proofs.Handed.{bare-stands}
-use Rattle.local.proofs.Extra.{chained-cong, length-chained, map-at, count-keys}
-use Rattle.local.proofs.Sorting.{length-sorted, place-in, sorted-at, sorted-in, sorted-once}
-use Rattle.local.proofs.Placing.{begin-le}
+use Rattle.sorts.proofs.Extra.{chained-cong, length-chained, map-at, count-keys}
+use Rattle.sorts.proofs.Sorting.{length-sorted, sorted-at, sorted-in, sorted-once, place-in}
+use Rattle.sorts.proofs.Placing.{begin-le}
 use Rattle.local.proofs.Listing.{sorted-list}
-use Rattle.local.proofs.Packing.{at-front}
-use Rattle.local.proofs.Twice.{length-packed, packed-in}
+use Rattle.tally_order.proofs.Packing.{at-front}
+use Rattle.tally_order.proofs.Twice.{length-packed, packed-in}
 
 -- Owners and marks that agree below n make the same list.
 pub list-cong : (k n b : ℕ) (owner owner′ : ℕ → ℕ) (marked marked′ : ℕ → Bool) → ((x : ℕ) → x < n → owner x ≡ owner′ x) → ((x : ℕ) → x < n → marked x ≡ marked′ x) →

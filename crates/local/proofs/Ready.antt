@@ -15,12 +15,13 @@ use Rattle.model.specs.Tables.{JobTables, countedOf, jobLengths, jobShort, bags
 use Rattle.model.specs.Ranges.{jobInRange}
 use Rattle.model.specs.Handed.{Standing}
 use Rattle.model.specs.Local.{BookLengths, bookShort, bookRefusals, jobRefusals}
-use Rattle.local.specs.Sort.{at, inFront}
-use Rattle.local.specs.Lists.{localList, heldOf, TalliesIn, OwnersIn, PlacesIn}
+use Rattle.sorts.specs.Sort.{at, inFront}
+use Rattle.local.specs.Lists.{localList, heldOf}
+use Rattle.classes.specs.Keys.{TalliesIn, OwnersIn, PlacesIn}
 use Rattle.model.proofs.Step.{JobIn, job-in, in-handed, under-at}
-use Rattle.tables.proofs.Whole.{JobWhole, job-whole}
-use Rattle.tables.proofs.Standing.{not-off}
-use Rattle.local.proofs.Packing.{at-front}
+use Rattle.model.proofs.Whole.{JobWhole, job-whole}
+use Rattle.admit.proofs.Standing.{not-off}
+use Rattle.tally_order.proofs.Packing.{at-front}
 use Rattle.local.proofs.Modelled.{list-le, list-in}
 
 -- ---- The first condition that is met

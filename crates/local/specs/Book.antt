@@ -11,7 +11,7 @@ use Rattle.laws.specs.Lent.{Words, SignedWords}
 use Rattle.model.specs.Job.{Job}
 use Rattle.model.specs.Tables.{JobTables, jobTables, jobOf}
 use Rattle.model.specs.Local.{localOffers, localGrocers, start, starts, packedGrocers, packedCounts, BookLengths, bookRefusals}
-use Rattle.local.specs.Sort.{inFront}
+use Rattle.sorts.specs.Sort.{inFront}
 use Rattle.local.specs.declared.book.Answer.{Answer}
 use Rattle.local.specs.declared.book.Answer.the-variants.{Book, Refused}
 use denote.Ref.{now}

@@ -1,5 +1,4 @@
 -- Definitions of the local matrix of a box.
-pub mod Sort
 pub mod Lists
 pub mod Pack
 pub mod Book

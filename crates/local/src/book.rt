@@ -7,7 +7,7 @@ ghost use Rattle.model.specs.Local.{BookLengths, bookShort, bookRefusals, jobRe
 ghost use Rattle.local.specs.Book.{bookBefore, bookAfter, lengths, bookSizes, said, given, booked};
 use crate::lists::list;
 use crate::pack::pack;
-use tables::checks::job_refusal;
+use admit::checks::job_refusal;
 
 // How many local offers, local grocers and tallies the box has; or the number of the refusal, and no lent word is changed.
 pub enum Answer {

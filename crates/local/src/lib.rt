@@ -2,4 +2,3 @@
 pub mod book;
 mod lists;
 mod pack;
-mod sort;

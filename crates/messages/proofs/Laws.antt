@@ -15,11 +15,11 @@ use Rattle.laws.proofs.Sums.{sum-cong, sum-none, sum-swap, sum-only, sum-pick}
 use Rattle.model.specs.Job.{Job, needs, shares, needWord, sharerWord, priceWord, totalWord}
 use Rattle.model.specs.Words.{ownerWords}
 use Rattle.model.specs.Local.{priceTable, totalTable}
-use Rattle.tables.specs.Messages.{cellAt}
+use Rattle.laws.specs.Tables.{cellAt}
 use Rattle.messages.specs.Sums.{rowSum, columnSum, tableSum}
 use Rattle.model.proofs.Range.{InRange}
 use Rattle.model.proofs.Words.{needs-past, shares-past, ones-others}
-use Rattle.tables.proofs.MessageLaws.{price-cell, total-cell}
+use Rattle.shares.proofs.MessageLaws.{price-cell, total-cell}
 
 -- None is counted where none passes.
 count-zeros : (n : ℕ) (p : ℕ → Bool) → ((i : ℕ) → i < n → p i ≡ false) → count n p ≡ 0

@@ -8,14 +8,13 @@ use lib.ListN.{length, getD, List·getD-eq-default}
 use lib.Count.{ones}
 use Rattle.laws.specs.Below.{naturals, sum}
 use Rattle.laws.specs.Masks.{without}
-use Rattle.laws.specs.Tables.{tabulate}
+use Rattle.laws.specs.Tables.{tabulate, cellAt}
 use Rattle.laws.proofs.Sums.{sum-cong, sum-next, sum-none}
 use Rattle.laws.proofs.Tables.{getD-tabulate, word-in}
 use Rattle.model.specs.Tables.{JobTables, jobOf}
 use Rattle.model.specs.Handed.{Handed}
 use Rattle.model.specs.Words.{ownerWords}
 use Rattle.tables.specs.Masks.{holderWord}
-use Rattle.tables.specs.Messages.{cellAt}
 use Rattle.messages.specs.Sums.{rowSum, columnSum, tableSum, othersSum}
 use Rattle.tables.proofs.Holders.{need-word, sharer-word}
 use Rattle.tables.proofs.InJob.{offers-room, grocers-room}

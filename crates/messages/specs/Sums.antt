@@ -5,7 +5,7 @@ use lib.ListN.{getD}
 use lib.Count.{ones}
 use Rattle.laws.specs.Below.{sum, naturals}
 use Rattle.laws.specs.Masks.{without}
-use Rattle.tables.specs.Messages.{cellAt}
+use Rattle.laws.specs.Tables.{cellAt}
 
 -- What box a sends in all: the sum of its row.
 unfoldable pub rowSum : List (List ℕ) → ℕ → ℕ

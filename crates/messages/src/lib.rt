@@ -2,11 +2,11 @@
 ghost use mathlib.Core.Path.{_≡_};
 ghost use Rattle.model.specs.Lent.{bagLent};
 ghost use Rattle.messages.specs.Answers.{said, tablesGiven, messageTables};
-use tables::checks::job_refusal;
+use admit::checks::job_refusal;
+use shares::price_table;
+use shares::total_table;
 use tables::masks::needs;
 use tables::masks::sharers;
-use tables::messages::price_table;
-use tables::messages::total_table;
 
 pub mod sums;
 pub mod words;

@@ -3,7 +3,7 @@ ghost use mathlib.Core.Path.{_≡_};
 ghost use mathlib.Core.Bool.{cond};
 ghost use Prim.Native.Nat.{_≤_, _<_};
 ghost use Rattle.messages.specs.Sums.{rowSum, columnSum, tableSum};
-use tables::messages::pick;
+use shares::pick;
 
 // The word as a 32-bit number.
 fn wide(x: u16) -> u32

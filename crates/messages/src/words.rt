@@ -5,7 +5,8 @@ ghost use lib.Count.{ones};
 ghost use Rattle.laws.specs.Masks.{without};
 ghost use Rattle.tables.specs.Masks.{Owned};
 ghost use Rattle.messages.specs.Sums.{othersSum};
-use tables::masks::clear_bit;
+use bits::clear_bit;
+use slices::u16_at;
 
 // How many boxes the word means, its owner left out.
 pub fn others(word: u16, owner: u16) -> u32
@@ -23,7 +24,7 @@ fn others_sum(n: u16, owners: &[u16], masks: &[u16]) -> u32
     let m = n as usize;
     let mut sum: u32 = 0;
     for i in 0..m {
-        sum += others(masks[i], owners[i]);
+        sum += others(u16_at(masks, i), u16_at(owners, i));
     }
     sum
 }

@@ -23,6 +23,7 @@ pub mod Ranges
 pub mod Refusal
 pub mod Step
 pub mod Lent
+pub mod Whole
 pub mod Standing
 pub mod Early
 pub mod Handed

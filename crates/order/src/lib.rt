@@ -128,7 +128,7 @@ fn rest(
     ensures { λ r. ⌜ EveryJob k (now (receivers .entry)) (now (waits .entry)) (λ j. Ended j (now (done .entry)) (now (order .entry)) n [] (now (done .exit))
         (now (order .exit)) r) ⌝ }
 {
-    let places = tables::checks::marks(k);
+    let places = bits::marks(k);
     let mut words = n;
     let mut p = walk::Place {
         kind: 1,
@@ -159,7 +159,7 @@ pub fn put_order(
     ensures { λ r. ⌜ EveryJob k (now (receivers .entry)) (now (waits .entry)) (λ j. Ordered j (now (choices .entry)) (now (done .exit))
         (now (order .exit)) r) ⌝ }
 {
-    fresh::zero16(done, tables::checks::marks(k));
+    fresh::zero16(done, bits::marks(k));
     let n = chosen(k, receivers, waits, choices, done, order);
     rest(k, receivers, waits, n, done, order)
 }

@@ -6,7 +6,10 @@ ghost use lib.ListN.{length, getD, set};
 ghost use Rattle.words.specs.Message.{wordIn};
 ghost use Rattle.links.specs.Links.{Linked};
 ghost use Rattle.prices.specs.Prices.{PriceRows, PricesIn, receivedKnown, receivedTransit};
-use links::HEADS;
+use crate::offers::after;
+use crate::offers::due;
+use crate::offers::first;
+use crate::offers::row;
 
 // Takes the price of offer o out of transit, in the row of box a, if a is to have it from box b.
 fn receive_one(
@@ -25,10 +28,11 @@ fn receive_one(
         (now (transit .exit) ≡ cond (wordIn (now (owner .entry)) (now (needs .entry)) b a o) (set (now (transit .entry)) (row + o) 0)
         (now (transit .entry))) ⌝ }
 {
-    if words::in_message(owner[o], needs[o], b, a) {
-        let price = transit[row + o];
-        known[row + o] = price;
-        transit[row + o] = 0;
+    if due(owner, needs, b, a, o) {
+        let p = row + o;
+        let price = transit[p];
+        known[p] = price;
+        transit[p] = 0;
     }
 }
 
@@ -49,10 +53,10 @@ pub fn receive_prices(
         (now (known .exit) ≡ receivedKnown k n a b (now (owner .entry)) (now (needs .entry)) (now (known .entry)) (now (transit .entry)))
         × (now (transit .exit) ≡ receivedTransit k n a b (now (owner .entry)) (now (needs .entry)) (now (known .entry)) (now (transit .entry)))) ⌝ }
 {
-    let row = a as usize * n;
-    let mut o = links[b as usize] as usize;
+    let row = row(n, a);
+    let mut o = first(b, links);
     while o < n {
         receive_one(known, transit, owner, needs, row, a, b, o);
-        o = links[HEADS + o] as usize;
+        o = after(o, links);
     }
 }

@@ -7,7 +7,10 @@ ghost use Rattle.laws.specs.Below.{naturals, only, count};
 ghost use Rattle.words.specs.Message.{wordIn};
 ghost use Rattle.links.specs.Links.{Linked};
 ghost use Rattle.prices.specs.Prices.{PriceRows, PricesIn, sentTransit};
-use links::HEADS;
+use crate::offers::after;
+use crate::offers::due;
+use crate::offers::first;
+use crate::offers::row;
 
 // Sends the price of offer o, from row `from` to row `to`, if box b is to have it from box a: 1 where it is, else 0.
 fn send_one(
@@ -26,8 +29,8 @@ fn send_one(
         (now (transit .exit) ≡ cond (wordIn (now (owner .entry)) (now (needs .entry)) a b o)
         (set (now (transit .entry)) (to + o) (getD (now (known .entry)) (from + o) 0)) (now (transit .entry))) ⌝ }
 {
-    if words::in_message(owner[o], needs[o], a, b) {
-        transit[to + o] = known[from + o];
+    if due(owner, needs, a, b, o) {
+        transit[to + o] = slices::u32_at(known, from + o);
         return 1;
     }
     0
@@ -50,13 +53,13 @@ pub fn send_prices(
         now (transit .exit) ≡ sentTransit k n a b (now (owner .entry)) (now (needs .entry)) (now (known .entry)) (now (transit .entry)))
         × (r ≡ count n (wordIn (now (owner .entry)) (now (needs .entry)) a b)) ⌝ }
 {
-    let from = a as usize * n;
-    let to = b as usize * n;
+    let from = row(n, a);
+    let to = row(n, b);
     let mut sent: u32 = 0;
-    let mut o = links[a as usize] as usize;
+    let mut o = first(a, links);
     while o < n {
         sent += send_one(transit, known, owner, needs, from, to, a, b, o);
-        o = links[HEADS + o] as usize;
+        o = after(o, links);
     }
     sent
 }

@@ -14,11 +14,9 @@ use Rattle.format.specs.Job.{Head, placeOf}
 use Rattle.format.specs.Bytes.{from, after, word16}
 use Rattle.format.specs.Blocks.{offersAt}
 use Rattle.format.specs.File.{readOffer, recordAt, decode}
-use Rattle.format.specs.Refusals.{fileRefusal}
 use Rattle.format.specs.Tables.{ReaderTables, storeCodes, storeOffers, storeTallies, store, storeRead, ReadAnswer, sizes, refused, largest, shortTables, shortReader, Long, readRefusal, readResult}
 use Rattle.blocks.specs.Due.{Most}
 use Rattle.fills.specs.Fills.{Placed}
-use Rattle.format.proofs.Order.{reader-20, reader-file}
 use Rattle.format.proofs.Tables.{read-accepted, read-refused, long-tables}
 
 -- The tables where each is filled from the file, for the numbers that its header says.
@@ -70,22 +68,16 @@ pub places-stored : (f places old : List ℕ) {new : List ℕ} (h : Head) → h 
 places-stored f places old h e p w = w ∙ overwrite-cong (h .tallies) _ _ old (λ i l. p .at i (rw e at l))
 
 module _ (f : List ℕ) (l : ReaderTables) where
-  -- 20.
-  pub read-20 : shortReader l ≡ true → record { answer = refused 20; tables = l } ≡ readResult f l
-  read-20 h = let e = reader-20 f l h in rw e at (sym (read-refused f l (λ z. omega arith)))
-
-  -- A refusal of the file.
-  pub read-file : (r : ℕ) → shortReader l ≡ false → r ≡ fileRefusal f → (r ≡ 0 → ⊥) → record { answer = refused r; tables = l } ≡ readResult f l
-  read-file r h e n =
-      let q : readRefusal f l ≡ r = reader-file f l h ∙ sym e in
-      rw q at (sym (read-refused f l (λ z. n (sym q ∙ z))))
+  -- A refusal.
+  pub read-refusal : (r : ℕ) → r ≡ readRefusal f l → (r ≡ 0 → ⊥) → record { answer = refused r; tables = l } ≡ readResult f l
+  read-refusal r e n = rw (sym e) at (sym (read-refused f l (λ z. n (e ∙ z))))
 
   -- A job.
-  pub read-job : {a : ReadAnswer} {l′ : ReaderTables} (h : Head) → a ≡ sizes h → shortReader l ≡ false → fileRefusal f ≡ 0 → h ≡ decode f .head → Filled f h l l′ → record { answer = a; tables = l′ } ≡ readResult f l
-  read-job {a} {l′} h ea short ok e w =
+  pub read-job : {a : ReadAnswer} {l′ : ReaderTables} (h : Head) → a ≡ sizes h → readRefusal f l ≡ 0 → h ≡ decode f .head → Filled f h l l′ → record { answer = a; tables = l′ } ≡ readResult f l
+  read-job {a} {l′} h ea ok e w =
       let z = filled-stored f l l′ (subst (λ (x : Head). Filled f x l l′) e w) in
       ap (λ (x : ReadAnswer). record { answer = x; tables = l′ }) ea
-      ∙ (λ i. record { answer = sizes (e i); tables = z i }) ∙ sym (read-accepted f l (reader-file f l short ∙ ok))
+      ∙ (λ i. record { answer = sizes (e i); tables = z i }) ∙ sym (read-accepted f l ok)
 
 -- Each table is long enough for the largest job, so for every job whose numbers are at most the largest.
 pub record Room (h : Head) (l : ReaderTables) : Type 0 where

@@ -1,9 +1,14 @@
 -- What is known of a file of which nothing is refused but 7, 8 and 9. Assumes nothing.
 use mathlib.Core.Path.{_≡_, refl, sym, subst, _∙_}
-use mathlib.Core.List.{List}
+use mathlib.Core.Bool.{Bool, true, false}
+use mathlib.Core.List.{List, [], _∷_}
 use Prim.Native.Nat.{ℕ, _≤_}
 use native.Mathlib.Omega.{arith}
 use lib.ListN.{length}
+use Rattle.laws.specs.Checks.{firstMet}
+use Rattle.laws.proofs.Checks.{one-met, one-off}
+use Rattle.format.specs.First.{firstOf}
+use Rattle.format.proofs.Firsts.{hit, next, alone}
 use Rattle.format.specs.Job.{Head}
 use Rattle.format.specs.File.{decode}
 use Rattle.format.specs.Refusals.{fileRefusal}
@@ -11,6 +16,14 @@ use Rattle.blocks.specs.Shape.{shapeRefusal}
 use Rattle.fills.specs.Fills.{Placed}
 use Rattle.reader.specs.Sound.{Sound, Kept, lastRefusal}
 use Rattle.blocks.proofs.ShapeOrder as form
+
+-- 20 comes first.
+pub short-refused : (short : Bool) (n : ℕ) → short ≡ true → 20 ≡ firstOf (firstMet ((short, 20) ∷ []) ∷ n ∷ [])
+short-refused short n h = sym (rw (one-met short 20 h) (hit 20 _ (omega arith)))
+
+-- Then the file decides.
+pub file-decides : (short : Bool) (r n : ℕ) → short ≡ false → r ≡ n → r ≡ firstOf (firstMet ((short, 20) ∷ []) ∷ n ∷ [])
+file-decides short r n h e = e ∙ sym (rw (one-off short 20 h, next) (alone n))
 
 -- Something before 7 is refused.
 pub shape-refused : (f : List ℕ) (r : ℕ) → r ≡ shapeRefusal f → (r ≡ 0 → ⊥) → r ≡ fileRefusal f

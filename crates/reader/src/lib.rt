@@ -1,7 +1,12 @@
 // The reader of job files.
 ghost use mathlib.Core.Path.{_≡_};
+ghost use mathlib.Core.Bool.{false, _||_};
+ghost use mathlib.Core.List.{[], _∷_};
 ghost use Prim.Native.Nat.{_≤_};
+ghost use lib.Dec.{ltb};
 ghost use lib.ListN.{length};
+ghost use Rattle.laws.specs.Checks.{anyOf, firstMet};
+ghost use Rattle.format.specs.First.{firstOf};
 ghost use Rattle.format.specs.Refusals.{fileRefusal};
 ghost use Rattle.format.specs.Tables.{sizes, readResult};
 ghost use Rattle.format.specs.Lent.{readerBefore, readerAfter};
@@ -9,7 +14,6 @@ ghost use Rattle.blocks.specs.Due.{asHead, Most};
 ghost use Rattle.reader.specs.Answer.{answerOf, outcome};
 ghost use Rattle.reader.specs.Sound.{Kept};
 use crate::twice::job_refusal;
-use blocks::codes::CODE_BYTES;
 use blocks::plan::Head;
 use blocks::plan::MAX_GROCERS;
 use blocks::plan::MAX_OFFERS;
@@ -39,12 +43,57 @@ pub enum Answer {
     Refused(u16),
 }
 
-// The refusal of a file; where it is 0, the file is sound, and the place of each tally's offer is kept.
-fn file_refusal(f: &[u8], places: &mut [u16]) -> u16
-    requires { ⌜ 1000 ≤ length (now places) ⌝ }
-    ensures { λ r. ⌜ r ≡ fileRefusal (now (f .entry)) ⌝ }
-    ensures { λ r. ⌜ (r ≡ 0 → Kept (now (f .entry)) (now (places .exit))) ⌝ }
+// The bytes of the codes of the most offers and of the most tallies.
+const OFFER_CODES: usize = 5500;
+
+const TALLY_CODES: usize = 11000;
+
+// Whether one of the offers' tables is shorter than the most offers need, by their lengths.
+fn short_offers(price: usize, offer_owner: usize, offer_code: usize, offer_issuer: usize) -> bool
+    ensures { λ r. ⌜ r ≡ anyOf (ltb price 500 ∷ ltb «offer_owner» 500 ∷ ltb «offer_code» 5500 ∷ ltb «offer_issuer» 500 ∷ []) ⌝ }
 {
+    (price < MAX_OFFERS)
+        | (offer_owner < MAX_OFFERS)
+        | (offer_code < OFFER_CODES)
+        | (offer_issuer < MAX_OFFERS)
+}
+
+// Whether a table is shorter than the largest job needs: one of the offers', or one of the others by their lengths.
+fn short_tables(
+    offers: bool,
+    grocer_owner: usize,
+    tally_grocer: usize,
+    tally_box: usize,
+    tally_code: usize,
+    tally_count: usize,
+    tally_issuer: usize,
+    tally_bag: usize,
+    tally_revision: usize,
+    tally_offer: usize,
+) -> bool
+    ensures { λ r. ⌜ r ≡ anyOf (offers ∷ ltb «grocer_owner» 255 ∷ anyOf (ltb «tally_grocer» 1000 ∷ ltb «tally_box» 1000 ∷ ltb «tally_code» 11000 ∷
+        ltb «tally_count» 1000 ∷ ltb «tally_issuer» 1000 ∷ ltb «tally_bag» 1000 ∷ ltb «tally_revision» 1000 ∷ []) ∷ []) || ltb «tally_offer» 1000 ⌝ }
+{
+    let front = (tally_grocer < MAX_TALLIES)
+        | (tally_box < MAX_TALLIES)
+        | (tally_code < TALLY_CODES)
+        | (tally_count < MAX_TALLIES);
+    let tallies = front
+        | (tally_issuer < MAX_TALLIES)
+        | (tally_bag < MAX_TALLIES)
+        | (tally_revision < MAX_TALLIES);
+    offers | (grocer_owner < MAX_GROCERS) | tallies | (tally_offer < MAX_TALLIES)
+}
+
+// 20 where a table is short, and otherwise the refusal of the file; where it is 0, the file is sound, and each tally's place is kept.
+fn refusal(f: &[u8], short: bool, places: &mut [u16]) -> u16
+    requires { ⌜ 1000 ≤ length (now places) ⌝ }
+    ensures { λ r. ⌜ r ≡ firstOf (firstMet ((short, 20) ∷ []) ∷ fileRefusal (now (f .entry)) ∷ []) ⌝ }
+    ensures { λ r. ⌜ (r ≡ 0 → (short ≡ false) × Kept (now (f .entry)) (now (places .exit))) ⌝ }
+{
+    if short {
+        return 20;
+    }
     let r = shape_refusal(f);
     if r != 0 {
         return r;
@@ -89,23 +138,26 @@ pub fn read(
         ≡ readResult (now (file .entry)) (readerBefore price «offer_owner» «offer_code» «offer_issuer» «grocer_owner» «tally_grocer» «tally_box» «tally_code»
         «tally_count» «tally_issuer» «tally_bag» «tally_revision» «tally_offer») ⌝ }
 {
-    let offers = (price.len() < MAX_OFFERS)
-        | (offer_owner.len() < MAX_OFFERS)
-        | (offer_code.len() < MAX_OFFERS * CODE_BYTES)
-        | (offer_issuer.len() < MAX_OFFERS);
-    let tallies = (tally_grocer.len() < MAX_TALLIES)
-        | (tally_box.len() < MAX_TALLIES)
-        | (tally_code.len() < MAX_TALLIES * CODE_BYTES)
-        | (tally_count.len() < MAX_TALLIES)
-        | (tally_issuer.len() < MAX_TALLIES)
-        | (tally_bag.len() < MAX_TALLIES)
-        | (tally_revision.len() < MAX_TALLIES);
-    let short = offers | (grocer_owner.len() < MAX_GROCERS) | tallies;
-    if short | (tally_offer.len() < MAX_TALLIES) {
-        return Answer::Refused(20);
-    }
+    let offers = short_offers(
+        price.len(),
+        offer_owner.len(),
+        offer_code.len(),
+        offer_issuer.len(),
+    );
+    let short = short_tables(
+        offers,
+        grocer_owner.len(),
+        tally_grocer.len(),
+        tally_box.len(),
+        tally_code.len(),
+        tally_count.len(),
+        tally_issuer.len(),
+        tally_bag.len(),
+        tally_revision.len(),
+        tally_offer.len(),
+    );
     let mut places = [0u16; MAX_TALLIES];
-    let r = file_refusal(file, &mut places);
+    let r = refusal(file, short, &mut places);
     if r != 0 {
         return Answer::Refused(r);
     }

@@ -9,11 +9,11 @@ ghost use Rattle.format.specs.File.{decode};
 ghost use Rattle.blocks.specs.Due.{asHead};
 ghost use Rattle.fills.specs.Fills.{Placed};
 ghost use Rattle.reader.specs.Sound.{Sound, Indexed, Ready, namesRefusal};
-use blocks::bytes::word16;
 use blocks::plan::Head;
 use blocks::plan::MAX_OFFERS;
 use blocks::plan::tallies_at;
-use fills::code::name_at;
+use bytes::word16;
+use digits::name_at;
 use fills::fill::fill_names;
 use fills::fill::narrow;
 use fills::place::record_at;
@@ -82,6 +82,25 @@ fn find_places(
     false
 }
 
+// 7 or 8 by the index of the offers, and, where neither is met, the place of each tally's offer.
+fn indexed_refusal(f: &[u8], head: Head, keys: &[u64], order: &[u16], places: &mut [u16]) -> u16
+    requires { ⌜ Sound (now f) (asHead head) × (head .tallies ≤ length (now places)) ⌝ }
+    requires { ⌜ (head .offers ≤ length (now keys)) × (head .offers ≤ length (now order)) × Indexed (now f) (now keys) (now order) (asHead head) ⌝ }
+    ensures { λ r. ⌜ r ≡ namesRefusal (decode (now (f .entry))) ⌝ }
+    ensures { λ r. ⌜ (r ≡ 0 → Placed (decode (now (f .entry))) (now (places .exit)) (head .tallies)) ⌝ }
+{
+    if index::look::shared(keys, head.offers) {
+        return 7;
+    }
+    let shift = index::tops::top_shift(keys, head.offers);
+    let starts = index::tops::tops(keys, head.offers, shift);
+    let widest = index::tops::widest(&starts);
+    if find_places(f, head, keys, order, &starts, shift, widest, places) {
+        return 8;
+    }
+    0
+}
+
 // 7 or 8 of a file of which nothing before them is refused, and, where neither is met, the place of each tally's offer.
 pub fn names_refusal(f: &[u8], head: Head, places: &mut [u16]) -> u16
     requires { ⌜ Sound (now f) (asHead head) × (head .tallies ≤ length (now places)) ⌝ }
@@ -91,14 +110,5 @@ pub fn names_refusal(f: &[u8], head: Head, places: &mut [u16]) -> u16
     let mut keys = [0u64; MAX_OFFERS];
     let mut order = [0u16; MAX_OFFERS];
     index_offers(f, head, &mut keys, &mut order);
-    if index::look::shared(&keys, head.offers) {
-        return 7;
-    }
-    let shift = index::tops::top_shift(&keys, head.offers);
-    let starts = index::tops::tops(&keys, head.offers, shift);
-    let widest = index::tops::widest(&starts);
-    if find_places(f, head, &keys, &order, &starts, shift, widest, places) {
-        return 8;
-    }
-    0
+    indexed_refusal(f, head, &keys, &order, places)
 }

@@ -14,12 +14,13 @@ ghost use Rattle.blocks.specs.Due.{asHead};
 ghost use Rattle.fills.specs.Fills.{Whole, Placed};
 ghost use Rattle.reader.specs.Sound.{Sound, lastRefusal};
 use crate::look::names_refusal;
-use blocks::bytes::word16;
 use blocks::plan::Head;
 use blocks::plan::MAX_TALLIES;
 use blocks::plan::tallies_at;
-use fills::fill::narrow;
+use bytes::narrow16;
+use bytes::word16;
 use fills::place::record_at;
+use slices::u16_at;
 
 // Whether one of the tallies has a bag other than 0.
 fn any_bag(f: &[u8], head: Head) -> bool
@@ -43,10 +44,12 @@ fn tally_key(f: &[u8], at: usize, offer: u16) -> u64
     ensures { λ r. ⌜ r ≡ ((word16 (from (now (f .entry)) at) * 512 + offer) * 65536 + word16 (from (now (f .entry)) (at + 20))) * 65536 +
         word16 (from (now (f .entry)) (at + 22)) ⌝ }
 {
-    let grocer = narrow(word16(f, at));
-    let bag = narrow(word16(f, at + 20));
-    let revision = narrow(word16(f, at + 22));
-    bags::count_key(grocer, offer, bag, revision)
+    keys::count_key(
+        narrow16(f, at),
+        offer,
+        narrow16(f, at + 20),
+        narrow16(f, at + 22),
+    )
 }
 
 // The keys of the tallies.
@@ -59,7 +62,7 @@ fn fill_keys(f: &[u8], head: Head, places: &[u16], keys: &mut [u64])
     let t = head.tallies;
     let mut i: usize = 0;
     while i < t {
-        keys[i] = tally_key(f, record_at(first, i), places[i]);
+        keys[i] = tally_key(f, record_at(first, i), u16_at(places, i));
         i += 1;
     }
 }

@@ -9,9 +9,9 @@ ghost use Rattle.laws.specs.Limits.{maxPrice, maxCount, maxAmount};
 ghost use Rattle.model.specs.Reconcile.{recordInRange};
 ghost use Rattle.records.specs.Head.{headRefusal};
 ghost use Rattle.records.specs.Rows.{tallyRecord, share, Takes, Took, unmarked};
-use bags::count_key;
-use tables::ranges::is_count;
-use tables::ranges::upto32;
+use keys::count_key;
+use ranges::is_count;
+use ranges::upto32;
 
 // Whether a record is in range, by its fields.
 fn record_in_range(
@@ -24,16 +24,7 @@ fn record_in_range(
 ) -> bool
     ensures { λ r. ⌜ ((bag revision : ℕ) → r ≡ recordInRange grocers offers (tallyRecord grocer «tally_box» place count bag revision)) ⌝ }
 {
-    if grocer >= grocers {
-        return false;
-    }
-    if tally_box >= 16 {
-        return false;
-    }
-    if place >= offers {
-        return false;
-    }
-    is_count(count)
+    (grocer < grocers) & (tally_box < 16) & (place < offers) & is_count(count)
 }
 
 // A sum with count × price added.
@@ -95,12 +86,12 @@ pub fn take_record(
     if number > 0 {
         return number;
     }
-    if !record_in_range(grocer, tally_box, place, count, grocers, offers) {
-        return 21;
+    if record_in_range(grocer, tally_box, place, count, grocers, offers) {
+        keys[i] = count_key(grocer, place, bag, revision);
+        shares[i] = share_of(grocer, place, count, price, wanted);
+        return 0;
     }
-    keys[i] = count_key(grocer, place, bag, revision);
-    shares[i] = share_of(grocer, place, count, price, wanted);
-    0
+    21
 }
 
 // A sum with a share added, unless it is marked.

@@ -11,14 +11,15 @@ use Rattle.model.specs.Steps.{kindOf, Steps, fits, ready}
 use Rattle.model.specs.Tables.{JobTables, jobOf, StateTables, view, stepsDone}
 use Rattle.model.specs.Ranges.{stateInRange}
 use Rattle.model.specs.Step.{Asked, isKind, boxesFit, stepRules, moved}
-use Rattle.rules.specs.Rules.{rulesBy, ReceiversOf, WaitsOf}
+use Rattle.rules.specs.Rules.{ReceiversOf, WaitsOf}
+use Rattle.fits.specs.Request.{rulesBy}
 use Rattle.apply.specs.Apply.{Applies}
 use Rattle.refuse.specs.Late.{laterRules, Held}
 use Rattle.model.proofs.Step.{range}
-use Rattle.tables.proofs.Whole.{JobWhole, job-whole, StateWhole, state-whole}
+use Rattle.model.proofs.Whole.{JobWhole, job-whole, StateWhole, state-whole}
 use Rattle.prices.proofs.Effect.{steps-done}
 use Rattle.refuse.proofs.Extra.{met-first}
-use Rattle.rules.proofs.InModel.{rules-are}
+use Rattle.fits.proofs.Asked.{rules-are}
 
 -- No condition of 22 to 26 is met: the late one decides.
 last-decides : (i x f d r c : Bool) → cond {A = ℕ} (not i) 22 (cond (not x) 23 (cond (not f) 24 (cond d 25 (cond (not r) 26 0)))) ≡ 0 →

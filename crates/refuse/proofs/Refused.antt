@@ -12,9 +12,9 @@ use Rattle.model.specs.Ranges.{jobInRange, stateInRange}
 use Rattle.model.specs.Step.{Asked, refusals, stepRefusal}
 use Rattle.model.specs.Handed.{handedTables, Standing}
 use Rattle.model.proofs.Handed.{handed-whole, handed-in, handed-refusal}
-use Rattle.tables.specs.Sizes.{sizes}
+use Rattle.admit.specs.Sizes.{sizes}
 use Rattle.refuse.specs.Late.{earlyRules, laterRules, Held}
-use Rattle.tables.proofs.Sizes.{short-sizes, range-sizes}
+use Rattle.admit.proofs.Sizes.{short-sizes, range-sizes}
 use Rattle.refuse.proofs.Extra.{met-first}
 
 -- What the tests of lengths say: job, bags and state.

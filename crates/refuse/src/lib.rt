@@ -1,22 +1,28 @@
 // The refusal of a step: its number for every input.
-pub mod finish;
-
-ghost use Rattle.model.specs.Tables.{bagTables, stateTables};
+ghost use mathlib.Core.Path.{_≡_};
+ghost use mathlib.Core.Bool.{cond};
+ghost use Prim.Native.Nat.{_*_, _≤_};
+ghost use lib.ListN.{length, replicate};
+ghost use Rattle.laws.specs.Checks.{firstMet};
+ghost use Rattle.model.specs.Tables.{bagTables, stateTables, stepsDone};
 ghost use Rattle.model.specs.Step.{asked};
+ghost use Rattle.tables.specs.Masks.{Owned};
+ghost use Rattle.waits.specs.Waits.{receiverTable, tallyLists, WaitsIn, waitTable};
+ghost use Rattle.fits.specs.Request.{rulesBy};
 ghost use Rattle.refuse.specs.Late.{Early, Decided};
-use crate::finish::price_fits;
-use crate::finish::total_fits;
+use admit::checks::bags_short;
+use admit::checks::job_in_range;
+use admit::checks::job_short;
 use apply::Sizes;
 use apply::Step;
 use bags::standing_boxes;
-use rules::ready::request_refusal;
-use tables::checks::bags_short;
-use tables::checks::job_in_range;
-use tables::checks::job_short;
-use tables::checks::state_in_range;
-use tables::checks::state_short;
-use tables::waits::receivers;
-use tables::waits::waits;
+use fits::finish::price_fits;
+use fits::finish::total_fits;
+use fits::request::request_refusal;
+use fits::state::state_in_range;
+use fits::state::state_short;
+use waits::receivers;
+use waits::waits;
 
 // The first of the conditions 20, 21 and 9 that is met, or 0. Where none is, `standing` has the box of each tally that stands, and 16 for the others.
 pub fn early_refusal(
@@ -46,14 +52,10 @@ pub fn early_refusal(
         (stateTables (now (known .entry)) (now («price_transit» .entry)) (now (working .entry)) (now («total_transit» .entry))
         (now (statement .entry)) (now (done .entry)) (now (sent .entry))) (now (standing .exit)) r ⌝ }
 {
-    let boxes = z.boxes;
-    let grocers = z.grocers;
-    let offers = z.offers;
-    let tallies = z.tallies;
     if job_short(
-        grocers,
-        offers,
-        tallies,
+        z.grocers,
+        z.offers,
+        z.tallies,
         price,
         offer_owner,
         grocer_owner,
@@ -62,11 +64,11 @@ pub fn early_refusal(
         tally_offer,
         tally_count,
     )
-        | bags_short(tallies, tally_bag, tally_revision)
+        | bags_short(z.tallies, tally_bag, tally_revision)
         | state_short(
-            boxes,
-            grocers,
-            offers,
+            z.boxes,
+            z.grocers,
+            z.offers,
             known,
             price_transit,
             working,
@@ -79,10 +81,10 @@ pub fn early_refusal(
         return 20;
     }
     if !(job_in_range(
-        boxes,
-        grocers,
-        offers,
-        tallies,
+        z.boxes,
+        z.grocers,
+        z.offers,
+        z.tallies,
         price,
         offer_owner,
         grocer_owner,
@@ -92,9 +94,9 @@ pub fn early_refusal(
         tally_count,
     )
         & state_in_range(
-            boxes,
-            grocers,
-            offers,
+            z.boxes,
+            z.grocers,
+            z.offers,
             known,
             price_transit,
             working,
@@ -106,7 +108,7 @@ pub fn early_refusal(
         return 21;
     }
     if standing_boxes(
-        tallies as usize,
+        z.tallies as usize,
         tally_grocer,
         tally_box,
         tally_offer,
@@ -117,6 +119,60 @@ pub fn early_refusal(
         return 9;
     }
     0
+}
+
+// Kinds 1 to 3: the first of the conditions 22 to 26 that is met, or 0, with the need words.
+fn prices_asked(z: Sizes, offer_owner: &[u16], needs: &[u16; 500], done: &[u16], x: Step) -> u16
+    requires { ⌜ Owned (z .offers) (now «offer_owner») (now needs) ⌝ }
+    requires { ⌜ (z .boxes ≤ 16) × (6 * z .boxes * z .boxes ≤ length (now done)) ⌝ }
+    ensures { λ r. ⌜ r ≡ firstMet (rulesBy (z .boxes) (receiverTable (z .offers) (now («offer_owner» .entry)) (now (needs .entry)))
+        (replicate 16 (replicate 16 0)) (stepsDone (z .boxes) (now (done .entry))) (asked (x .kind) (x .first) (x .second))) ⌝ }
+{
+    let to = receivers(z.offers, offer_owner, needs);
+    let row = [0u16; 16];
+    let none = [row; 16];
+    request_refusal(z.boxes, x.kind, x.first, x.second, &to, &none, done)
+}
+
+// Kinds 4 to 6, likewise, with the words of waits.
+fn totals_asked(
+    z: Sizes,
+    offer_owner: &[u16],
+    grocer_owner: &[u16],
+    tally_grocer: &[u16],
+    tally_box: &[u16],
+    tally_offer: &[u16],
+    done: &[u16],
+    x: Step,
+) -> u16
+    requires { ⌜ WaitsIn (z .boxes) (z .tallies) (tallyLists (now «offer_owner») (now «grocer_owner») (now «tally_grocer») (now «tally_box»)
+        (now «tally_offer»)) ⌝ }
+    requires { ⌜ (z .boxes ≤ 16) × (6 * z .boxes * z .boxes ≤ length (now done)) ⌝ }
+    ensures { λ r. ⌜ r ≡ firstMet (rulesBy (z .boxes) (replicate 16 0) (waitTable (z .boxes) (tallyLists (now («offer_owner» .entry))
+        (now («grocer_owner» .entry)) (now («tally_grocer» .entry)) (now («tally_box» .entry)) (now («tally_offer» .entry))) (z .tallies))
+        (stepsDone (z .boxes) (now (done .entry))) (asked (x .kind) (x .first) (x .second))) ⌝ }
+{
+    let from = waits(
+        z.boxes,
+        z.tallies,
+        offer_owner,
+        grocer_owner,
+        tally_grocer,
+        tally_box,
+        tally_offer,
+    );
+    let none = [0u16; 16];
+    request_refusal(z.boxes, x.kind, x.first, x.second, &none, &from, done)
+}
+
+// 0 where what the step leaves is in range, else 21.
+fn late(fits: bool) -> u16
+    ensures { λ r. ⌜ r ≡ cond fits 0 21 ⌝ }
+{
+    if fits {
+        return 0;
+    }
+    21
 }
 
 // The number of the first condition that is met, or 0. Where none is, the words of the tallies that stand are left, need words in `needs` for
@@ -175,17 +231,14 @@ pub fn refusal(
     if early != 0 {
         return early;
     }
-    let row = [0u16; 16];
     if x.kind <= 3 {
         let needing = tables::masks::needs(z.boxes, z.tallies, standing, tally_offer);
         *needs = needing;
-        let to = receivers(z.offers, offer_owner, &needing);
-        let none = [row; 16];
-        let r = request_refusal(z.boxes, x.kind, x.first, x.second, &to, &none, done);
+        let r = prices_asked(z, offer_owner, &needing, done, x);
         if r != 0 {
             return r;
         }
-        if price_fits(
+        return late(price_fits(
             z,
             offer_owner,
             tally_grocer,
@@ -198,27 +251,24 @@ pub fn refusal(
             working,
             sent,
             x,
-        ) {
-            return 0;
-        }
-        return 21;
+        ));
     }
     let sharing = tables::masks::sharers(z.boxes, z.tallies, standing, tally_grocer);
     *sharers = sharing;
-    let from = waits(
-        z.boxes,
-        z.tallies,
+    let r = totals_asked(
+        z,
         offer_owner,
         grocer_owner,
         tally_grocer,
         standing,
         tally_offer,
+        done,
+        x,
     );
-    let r = request_refusal(z.boxes, x.kind, x.first, x.second, &row, &from, done);
     if r != 0 {
         return r;
     }
-    if total_fits(
+    late(total_fits(
         z,
         grocer_owner,
         &sharing,
@@ -227,8 +277,5 @@ pub fn refusal(
         statement,
         sent,
         x,
-    ) {
-        return 0;
-    }
-    21
+    ))
 }

@@ -17,7 +17,7 @@ fn one_less(k: u16, kind: u16, a: u16, b: u16, rows: &mut [u16; 192])
         Renewed k (λ i. f i && not (eqb b i)) (rowOf k kind a) (now (rows .entry)) (now (rows .exit))) ⌝ }
 {
     let r = row_at(k, kind, a);
-    let word = tables::masks::clear_bit(rows[r], b);
+    let word = bits::clear_bit(rows[r], b);
     let number = rows[96 + r] - 1;
     put_row(r, word, number, rows);
 }

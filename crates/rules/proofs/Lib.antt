@@ -5,4 +5,3 @@ pub mod Bits
 pub mod ByKind
 pub mod Ways
 pub mod InModel
-pub mod Told

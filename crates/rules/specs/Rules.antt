@@ -1,15 +1,14 @@
--- The conditions 22 to 26 of a step, told from words of receivers and waits and the set of steps done.
+-- Which steps a box may take, told from words of receivers and waits and the set of steps done.
 use mathlib.Core.Path.{_≡_}
-use mathlib.Core.List.{List, [], _∷_}
+use mathlib.Core.List.{List, []}
 use mathlib.Core.Bool.{Bool, true, cond, _&&_, _||_, not}
 use Prim.Native.Nat.{ℕ, _*_, _≤_, _<_}
 use lib.ListN.{length, getD}
-use lib.Dec.{eqb, ltb}
+use lib.Dec.{eqb}
 use Rattle.laws.specs.Below.{all}
 use Rattle.laws.specs.Masks.{bit}
 use Rattle.model.specs.Job.{Job, pricesDue, totalsDue}
-use Rattle.model.specs.Steps.{kindOf, sendPrices, multiplyOwn, receivePrices, sendTotals, addOwn, receiveTotals, Steps, oneBox, allAdded}
-use Rattle.model.specs.Step.{Asked, isKind}
+use Rattle.model.specs.Steps.{sendPrices, multiplyOwn, receivePrices, sendTotals, addOwn, receiveTotals, Steps, allAdded}
 
 -- What is told of a job beforehand, in words of one bit for each box: `receivers` has for each box those that it is to send prices to, and
 -- `waits` for boxes a and b the owners whose prices a waits for before it has added all its tallies of b's grocers.
@@ -35,10 +34,6 @@ fitsBy receivers waits sendTotals a b = totalsDueBy waits a b
 fitsBy receivers waits addOwn a b = eqb a b
 fitsBy receivers waits receiveTotals a b = totalsDueBy waits b a
 
--- Both boxes are below k, and they are equal or differ as the kind asks.
-unfoldable pub boxesFitBy : ℕ → Steps
-boxesFitBy k q a b = ltb a k && (ltb b k && cond (oneBox q) (eqb a b) (not (eqb a b)))
-
 -- Box a has the prices of box o and has added its tallies of them: its own by step 2, those of others by step 3.
 unfoldable pub hasGot : Steps → ℕ → ℕ → Bool
 hasGot d a o = cond (eqb o a) (d multiplyOwn a a) (d receivePrices a o)
@@ -59,17 +54,6 @@ readyBy waits d receiveTotals a b = d sendTotals b a
 -- A step of two boxes below K is permitted when the job has it, it is not done and the steps done make it ready.
 unfoldable pub permittedBy : List ℕ → List (List ℕ) → Steps → Steps
 permittedBy receivers waits d q a b = fitsBy receivers waits q a b && (not (d q a b) && readyBy waits d q a b)
-
--- Conditions 22 to 26, where the steps of d are done.
-unfoldable pub rulesBy : ℕ → List ℕ → List (List ℕ) → Steps → Asked → List (Bool × ℕ)
-rulesBy k receivers waits d q =
-    let n = kindOf (q .kind) in
-    (not (isKind (q .kind)), 22)
-    ∷ (not (boxesFitBy k n (q .first) (q .second)), 23)
-    ∷ (not (fitsBy receivers waits n (q .first) (q .second)), 24)
-    ∷ (d n (q .first) (q .second), 25)
-    ∷ (not (readyBy waits d n (q .first) (q .second)), 26)
-    ∷ []
 
 -- The words of receivers are those of job j.
 pub record ReceiversOf (j : Job) (receivers : List ℕ) : Type 0 where

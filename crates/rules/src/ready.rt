@@ -12,7 +12,7 @@ ghost use Rattle.model.specs.Step.{asked, isKind};
 ghost use Rattle.model.specs.Tables.{stepsDone};
 ghost use Rattle.rules.specs.Marks.{MarksIn};
 use crate::marks::is_done;
-ghost use Rattle.rules.specs.Rules.{wordAt, pricesDueBy, totalsDueBy, fitsBy, boxesFitBy, hasGot, allGot, readyBy, permittedBy, rulesBy, BoxIn};
+ghost use Rattle.rules.specs.Rules.{wordAt, pricesDueBy, totalsDueBy, fitsBy, hasGot, allGot, readyBy, permittedBy, BoxIn};
 
 // The word of boxes a and b.
 pub fn word_at(waits: &[[u16; 16]; 16], a: u16, b: u16) -> u16
@@ -39,30 +39,6 @@ fn totals_due(waits: &[[u16; 16]; 16], a: u16, b: u16) -> bool
     ensures { λ r. ⌜ r ≡ totalsDueBy (now (waits .entry)) a b ⌝ }
 {
     (a != b) & (word_at(waits, a, b) != 0)
-}
-
-// Whether the kind is 1 to 6.
-fn is_kind(kind: u16) -> bool
-    ensures { λ r. ⌜ r ≡ isKind kind ⌝ }
-{
-    (1 <= kind) & (kind <= 6)
-}
-
-// Whether the kind, 1 to 6, is one whose second box equals its first.
-fn one_box(kind: u16) -> bool
-    requires { ⌜ (1 ≤ kind) × (kind ≤ 6) ⌝ }
-    ensures { λ r. ⌜ r ≡ oneBox (kindOf kind) ⌝ }
-{
-    (kind == 2) | (kind == 5)
-}
-
-// Whether both boxes are below k, and equal or not as the kind asks.
-fn boxes_fit(k: u16, kind: u16, a: u16, b: u16) -> bool
-    requires { ⌜ (1 ≤ kind) × (kind ≤ 6) ⌝ }
-    ensures { λ r. ⌜ r ≡ boxesFitBy k (kindOf kind) a b ⌝ }
-{
-    let one = one_box(kind);
-    (a < k) & ((b < k) & ((one & (a == b)) | (!one & (a != b))))
 }
 
 // Whether the job has the step: for a message, that it has words.
@@ -174,35 +150,4 @@ pub fn permitted(
         return false;
     }
     is_ready(k, kind, a, b, waits, done)
-}
-
-// The first of the conditions 22 to 26 that is met, or 0. Tables and marks are looked at only where both boxes are below k.
-pub fn request_refusal(
-    k: u16,
-    kind: u16,
-    a: u16,
-    b: u16,
-    receivers: &[u16; 16],
-    waits: &[[u16; 16]; 16],
-    done: &[u16],
-) -> u16
-    requires { ⌜ (k ≤ 16) × (6 * k * k ≤ length (now done)) ⌝ }
-    ensures { λ r. ⌜ r ≡ firstMet (rulesBy k (now (receivers .entry)) (now (waits .entry)) (stepsDone k (now (done .entry))) (asked kind a b)) ⌝ }
-{
-    if !is_kind(kind) {
-        return 22;
-    }
-    if !boxes_fit(k, kind, a, b) {
-        return 23;
-    }
-    if !fits(kind, a, b, receivers, waits) {
-        return 24;
-    }
-    if is_done(k, kind, a, b, done) {
-        return 25;
-    }
-    if !is_ready(k, kind, a, b, waits, done) {
-        return 26;
-    }
-    0
 }

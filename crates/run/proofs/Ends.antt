@@ -22,24 +22,24 @@ use Rattle.model.specs.Ranges.{Settles}
 use Rattle.model.specs.Local.{jobRefusals}
 use Rattle.model.specs.Handed.{handedTables, Standing}
 use Rattle.model.proofs.Handed.{handed-whole, handed-in, handed-run}
-use Rattle.tables.proofs.Standing.{accepted}
+use Rattle.admit.proofs.Standing.{accepted}
 use Rattle.model.specs.Words.{over, messagesOf, messageCount, stepCount}
 use Rattle.model.specs.Run.{readyCount, pick, picks, run, runState, afterSteps, RunAnswer, finished, refused, reported, runRefusals, ran}
 use Rattle.tables.specs.Masks.{holderWord, Placed, Owned}
-use Rattle.tables.specs.Waits.{receiverTable, tallyLists, waitTable, WaitsIn}
-use Rattle.tables.specs.Sizes.{sizes}
+use Rattle.waits.specs.Waits.{TallyLists, receiverTable, tallyLists, waitTable, WaitsIn}
+use Rattle.admit.specs.Sizes.{sizes}
 use Rattle.walk.specs.Walk.{WalkIn}
-use Rattle.order.specs.Order.{OfJob, MarksFrom, Ordered, markAll, noSteps}
+use Rattle.order.specs.Order.{OfJob, SomeJob, EveryJob, MarksFrom, Ordered, markAll, noSteps}
 use Rattle.run.specs.declared.Answer.the-variants.{Finished, Refused}
 use Rattle.steps.specs.All.{withoutMarks, AllIn, AllOut, afterOrder}
-use Rattle.run.specs.Run.{Begins, answerOf, given}
+use Rattle.run.specs.Run.{Begins, answerOf, given, OrderIn}
 use Rattle.model.proofs.Step.{range}
 use Rattle.model.proofs.Lent.{state-long}
-use Rattle.tables.proofs.Sizes.{short-sizes}
-use Rattle.tables.proofs.Whole.{JobWhole, job-whole}
+use Rattle.admit.proofs.Sizes.{short-sizes}
+use Rattle.model.proofs.Whole.{JobWhole, job-whole}
 use Rattle.tables.proofs.Holders.{need-words, sharer-words}
 use Rattle.tables.proofs.InJob.{placed-offers, placed-grocers, owned-offers}
-use Rattle.rules.proofs.Told.{receivers-of, waits-of, waits-in}
+use Rattle.waits.proofs.Told.{receivers-of, waits-of, waits-in}
 use Rattle.prices.proofs.Effect.{tables-eq}
 use Rattle.order.proofs.Pick.{steps-length}
 use Rattle.steps.proofs.Way.{some-box}
@@ -73,6 +73,14 @@ pub run-few : (j : Job) → j .boxes ≤ 16 → (cs : List ℕ) → length (run 
 unfolding run stepCount
 run-few j l cs = omega (arith, picks-few j (stepCount j) (fresh j) cs, messages-few j l)
 
+-- A job with words of receivers and waits, and what holds of every one, where these words are others by name.
+module _ (boxes : ℕ) (receivers receivers′ : List ℕ) (waits waits′ : List (List ℕ)) (er : receivers ≡ receivers′) (ew : waits ≡ waits′) where
+  pub some-same : SomeJob boxes receivers′ waits′ → SomeJob boxes receivers waits
+  some-same s = rw (er, ew) s
+
+  pub every-same : (P : Job → Type 0) → EveryJob boxes receivers waits P → EveryJob boxes receivers′ waits′ P
+  every-same P h = λ j p. h j (rw (er, ew) p)
+
 module _ (f : JobTables) (t : StateTables) (g : Begins f t) where
   job-parts : JobWhole f
   job-parts = job-whole f (g .job-long)
@@ -81,14 +89,22 @@ module _ (f : JobTables) (t : StateTables) (g : Begins f t) where
   pub begins-needs : Placed (f .boxes) (f .tallies) 500 (f .tallyBox) (f .tallyOffer)
   begins-needs = placed-offers f (g .job-in) job-parts
 
-  pub begins-waits : WaitsIn (f .boxes) (f .tallies) (tallyLists (f .offerOwner) (f .grocerOwner) (f .tallyGrocer) (f .tallyBox) (f .tallyOffer))
+  abbrev lists : TallyLists
+  lists = tallyLists (f .offerOwner) (f .grocerOwner) (f .tallyGrocer) (f .tallyBox) (f .tallyOffer)
+
+  begins-waits : WaitsIn (f .boxes) (f .tallies) lists
   begins-waits = waits-in f (g .job-in) job-parts
 
   pub begins-sharers : Placed (f .boxes) (f .tallies) 255 (f .tallyBox) (f .tallyGrocer)
   begins-sharers = placed-grocers f (g .job-in) job-parts
 
+  -- The walk may begin.
+  begins-walk : WalkIn (f .boxes) (t .done)
+  unfolding stateLengths jobOf
+  begins-walk = record { some = some-box f (g .job-in); boxes-in = range f (g .job-in .inside) .boxes≤; done-long = state-long f (stateLengths t) (g .state-long) .done }
+
   module _ (needs sharers : List ℕ) (en : needs ≡ tabulate 500 (holderWord (f .boxes) (f .tallies) (f .tallyBox) (f .tallyOffer))) (es : sharers ≡ tabulate 255 (holderWord (f .boxes) (f .tallies) (f .tallyBox) (f .tallyGrocer))) where
-    pub begins-prices : Owned (f .offers) (f .offerOwner) needs
+    begins-prices : Owned (f .offers) (f .offerOwner) needs
     begins-prices = owned-offers f (g .job-in) job-parts needs _ en
 
     -- They are the job's, and so are the words of receivers and waits.
@@ -98,27 +114,24 @@ module _ (f : JobTables) (t : StateTables) (g : Begins f t) where
     pub sharers-of : sharers ≡ tabulate 255 (sharerWord (jobOf f))
     sharers-of = es ∙ sharer-words f (g .job-in .bare)
 
-    module _ (receivers : List ℕ) (waits : List (List ℕ)) (er : receivers ≡ receiverTable (f .offers) (f .offerOwner) needs)
-        (ew : waits ≡ waitTable (f .boxes) (tallyLists (f .offerOwner) (f .grocerOwner) (f .tallyGrocer) (f .tallyBox) (f .tallyOffer)) (f .tallies)) where
-      pub of-job : OfJob (f .boxes) receivers waits (jobOf f)
-      unfolding jobOf
-      of-job = record {
-        boxes-are = refl;
-        boxes-in = range f (g .job-in .inside) .boxes≤;
-        some = some-box f (g .job-in);
-        receivers-are = receivers-of f (g .job-in) needs needs-of receivers er;
-        waits-are = waits-of f (g .job-in) waits ew;
-      }
+    pub of-job : OfJob (f .boxes) (receiverTable (f .offers) (f .offerOwner) needs) (waitTable (f .boxes) lists (f .tallies)) (jobOf f)
+    unfolding jobOf
+    of-job = record {
+      boxes-are = refl;
+      boxes-in = range f (g .job-in .inside) .boxes≤;
+      some = some-box f (g .job-in);
+      receivers-are = receivers-of f (g .job-in) needs needs-of _ refl;
+      waits-are = waits-of f (g .job-in) _ refl;
+    }
+
+    -- Its order may be picked.
+    pub order-in : OrderIn (f .boxes) (f .offers) (f .tallies) lists needs (t .done)
+    order-in = record { needs-in = begins-prices; lists-in = begins-waits; done-in = begins-walk; some-job = record { job = _; of-it = of-job } }
 
   -- There is room for the count of words sent.
   pub sent-room : 1 ≤ length (t .sent)
   unfolding stateLengths
   sent-room = state-long f (stateLengths t) (g .state-long) .sent
-
-  -- The walk may begin.
-  pub begins-walk : WalkIn (f .boxes) (t .done)
-  unfolding stateLengths jobOf
-  begins-walk = record { some = some-box f (g .job-in); boxes-in = range f (g .job-in .inside) .boxes≤; done-long = state-long f (stateLengths t) (g .state-long) .done }
 
   -- All steps of the order may be done.
   module _ (needs sharers cs done order : List ℕ) (n : ℕ) (en : needs ≡ tabulate 500 (needWord (jobOf f))) (es : sharers ≡ tabulate 255 (sharerWord (jobOf f))) (w : Ordered (jobOf f) cs done order n) where

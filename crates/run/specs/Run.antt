@@ -1,7 +1,12 @@
 -- The answer of a run as its contract cites it, and what a run begins with.
 use mathlib.Core.Path.{_≡_}
 use mathlib.Core.Bool.{false}
+use mathlib.Core.List.{List}
 use Prim.Native.Nat.{ℕ}
+use Rattle.tables.specs.Masks.{Owned}
+use Rattle.waits.specs.Waits.{TallyLists, receiverTable, waitTable, WaitsIn}
+use Rattle.walk.specs.Walk.{WalkIn}
+use Rattle.order.specs.Order.{SomeJob}
 use Rattle.model.specs.Tables.{JobTables, StateTables, StateLengths, jobLengths, stateLengths, jobShort, stateShort}
 use Rattle.model.specs.Handed.{Handed}
 use Rattle.model.specs.Run.{RunAnswer, finished, refused, RunOutcome}
@@ -27,3 +32,10 @@ pub record Begins (f : JobTables) (t : StateTables) : Type 0 where
 abbrev pub lengthsOf : ℕ → ℕ → ℕ → ℕ → ℕ → ℕ → ℕ → StateLengths
 lengthsOf known transit working totals statement done sent =
     record { known = known; priceTransit = transit; working = working; totalTransit = totals; statement = statement; done = done; sent = sent }
+
+-- What picking an order requires: need words and lists of tallies in range, room for the marks, and a job with their words of receivers and waits.
+pub record OrderIn (boxes offers tallies : ℕ) (lists : TallyLists) (needs done : List ℕ) : Type 0 where
+  pub needs-in : Owned offers (lists .offerOwner) needs
+  pub lists-in : WaitsIn boxes tallies lists
+  pub done-in : WalkIn boxes done
+  pub some-job : SomeJob boxes (receiverTable offers (lists .offerOwner) needs) (waitTable boxes lists tallies)

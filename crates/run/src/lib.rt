@@ -1,10 +1,13 @@
 // The run: it starts fresh, picks steps until all are done, and reports the words sent, the messages and the steps.
 ghost use mathlib.Core.Path.{_≡_};
+ghost use lib.ListN.{length};
 ghost use Rattle.model.specs.Lent.{bagLent, stateBefore, stateAfter};
 ghost use Rattle.model.specs.Run.{ran};
 ghost use Rattle.model.specs.Tables.{stateShort};
-ghost use Rattle.tables.specs.Sizes.{sizes};
-ghost use Rattle.run.specs.Run.{answerOf, given, lengthsOf};
+ghost use Rattle.admit.specs.Sizes.{sizes};
+ghost use Rattle.waits.specs.Waits.{receiverTable, tallyLists, waitTable};
+ghost use Rattle.order.specs.Order.{MarksFrom, EveryJob, Ordered};
+ghost use Rattle.run.specs.Run.{answerOf, given, lengthsOf, OrderIn};
 use apply::Sizes;
 
 // What a run answers: words sent, messages and steps; or the number of the condition that refuses it.
@@ -17,8 +20,9 @@ pub enum Answer {
     Refused(u16),
 }
 
-// How many words of each table of the state are lent.
-struct Lengths {
+// 20: whether a table of the state, by the words that are lent of each, is shorter than K, M and N as given need.
+fn state_short(
+    z: Sizes,
     known: usize,
     price_transit: usize,
     working: usize,
@@ -26,23 +30,53 @@ struct Lengths {
     statement: usize,
     done: usize,
     sent: usize,
+) -> bool
+    ensures { λ r. ⌜ r ≡ stateShort (sizes (z .boxes) (z .grocers) (z .offers)) (lengthsOf known «price_transit» working «total_transit» statement
+        done sent) ⌝ }
+{
+    let kn = bits::words(z.boxes, z.offers);
+    let km = bits::words(z.boxes, z.grocers);
+    let kk = bits::marks(z.boxes);
+    (known < kn)
+        | (price_transit < kn)
+        | (working < km)
+        | (total_transit < km)
+        | (statement < z.grocers as usize)
+        | (done < kk)
+        | (sent < 1)
 }
 
-// 20: whether a table of the state is shorter than K, M and N as given need.
-fn state_short(z: Sizes, lent: Lengths) -> bool
-    ensures { λ r. ⌜ r ≡ stateShort (sizes (z .boxes) (z .grocers) (z .offers)) (lengthsOf (lent .known) (lent .«price_transit») (lent .working)
-        (lent .«total_transit») (lent .statement) (lent .done) (lent .sent)) ⌝ }
+// The order of a run by its choices, picked by the marks alone: its steps are told by their places, and marked. How many they are.
+fn pick_order(
+    z: Sizes,
+    offer_owner: &[u16],
+    grocer_owner: &[u16],
+    tally_grocer: &[u16],
+    standing: &[u16],
+    tally_offer: &[u16],
+    needs: &[u16; 500],
+    choices: &[u16],
+    done: &mut [u16],
+    order: &mut [u16; 1536],
+) -> usize
+    requires { ⌜ OrderIn (z .boxes) (z .offers) (z .tallies) (tallyLists (now «offer_owner») (now «grocer_owner») (now «tally_grocer») (now standing)
+        (now «tally_offer»)) (now needs) (now done) × (length (now order) ≡ 1536) ⌝ }
+    ensures { λ r. ⌜ MarksFrom (z .boxes) (now (done .entry)) (now (done .exit)) ⌝ }
+    ensures { λ r. ⌜ EveryJob (z .boxes) (receiverTable (z .offers) (now («offer_owner» .entry)) (now (needs .entry))) (waitTable (z .boxes)
+        (tallyLists (now («offer_owner» .entry)) (now («grocer_owner» .entry)) (now («tally_grocer» .entry)) (now (standing .entry))
+        (now («tally_offer» .entry))) (z .tallies)) (λ j. Ordered j (now (choices .entry)) (now (done .exit)) (now (order .exit)) r) ⌝ }
 {
-    let kn = tables::checks::words(z.boxes, z.offers);
-    let km = tables::checks::words(z.boxes, z.grocers);
-    let kk = tables::checks::marks(z.boxes);
-    (lent.known < kn)
-        | (lent.price_transit < kn)
-        | (lent.working < km)
-        | (lent.total_transit < km)
-        | (lent.statement < z.grocers as usize)
-        | (lent.done < kk)
-        | (lent.sent < 1)
+    let receivers = waits::receivers(z.offers, offer_owner, needs);
+    let waits = waits::waits(
+        z.boxes,
+        z.tallies,
+        offer_owner,
+        grocer_owner,
+        tally_grocer,
+        standing,
+        tally_offer,
+    );
+    order::put_order(z.boxes, &receivers, &waits, choices, done, order)
 }
 
 // The run of a job, from a fresh state: its steps are picked first, by the marks alone, and then done one after the other.
@@ -81,20 +115,20 @@ pub fn run(
         offers: offers,
         tallies: tallies,
     };
-    let lent = Lengths {
-        known: known.len(),
-        price_transit: price_transit.len(),
-        working: working.len(),
-        total_transit: total_transit.len(),
-        statement: statement.len(),
-        done: done.len(),
-        sent: sent.len(),
-    };
-    if state_short(z, lent) {
+    if state_short(
+        z,
+        known.len(),
+        price_transit.len(),
+        working.len(),
+        total_transit.len(),
+        statement.len(),
+        done.len(),
+        sent.len(),
+    ) {
         return Answer::Refused(20);
     }
     let mut standing = [0u16; 1000];
-    let r = tables::checks::job_refusal(
+    let r = admit::checks::job_refusal(
         boxes,
         grocers,
         offers,
@@ -113,27 +147,29 @@ pub fn run(
     if r != 0 {
         return Answer::Refused(r);
     }
-    let needs = tables::masks::needs(boxes, tallies, &standing, tally_offer);
-    let sharers = tables::masks::sharers(boxes, tallies, &standing, tally_grocer);
-    let receivers = tables::waits::receivers(offers, offer_owner, &needs);
-    let waits = tables::waits::waits(
-        boxes,
-        tallies,
+    let boxes_standing: &[u16] = &standing;
+    let needs = tables::masks::needs(boxes, tallies, boxes_standing, tally_offer);
+    let sharers = tables::masks::sharers(boxes, tallies, boxes_standing, tally_grocer);
+    let mut order = [0u16; 1536];
+    let n = pick_order(
+        z,
         offer_owner,
         grocer_owner,
         tally_grocer,
-        &standing,
+        boxes_standing,
         tally_offer,
+        &needs,
+        choices,
+        done,
+        &mut order,
     );
-    let mut order = [0u16; 1536];
-    let n = order::put_order(boxes, &receivers, &waits, choices, done, &mut order);
     let all = steps::all_steps(
         z,
         price,
         offer_owner,
         grocer_owner,
         tally_grocer,
-        &standing,
+        boxes_standing,
         tally_offer,
         tally_count,
         &needs,

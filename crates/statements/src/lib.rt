@@ -1,7 +1,7 @@
 // From the bytes of a job file to the lines that settle prints.
 ghost use mathlib.Core.Path.{_≡_};
 ghost use Prim.Native.Nat.{_≤_};
-ghost use lib.ListN.{length, take, drop};
+ghost use lib.ListN.{take, drop};
 ghost use Rattle.io.specs.Counts.{Counts};
 ghost use Rattle.model.specs.Tables.{bagTables};
 ghost use Rattle.text.specs.Puts.{Put};
@@ -10,23 +10,23 @@ use answers::put_answer;
 use answers::put_refused;
 
 // The lines of a job: it is run with no choices.
-fn put_job(
-    out: &mut [u8],
+fn put_job<'a>(
+    out: &mut [u8; 8192],
     boxes: u16,
     grocers: u16,
     offers: u16,
     tallies: u16,
-    price: &[u32],
-    offer_owner: &[u16],
-    grocer_owner: &[u16],
-    tally_grocer: &[u16],
-    tally_box: &[u16],
-    tally_offer: &[u16],
-    tally_count: &[i32],
-    tally_bag: &[u16],
-    tally_revision: &[u16],
+    price: &'a [u32],
+    offer_owner: &'a [u16],
+    grocer_owner: &'a [u16],
+    tally_grocer: &'a [u16],
+    tally_box: &'a [u16],
+    tally_offer: &'a [u16],
+    tally_count: &'a [i32],
+    tally_bag: &'a [u16],
+    tally_revision: &'a [u16],
 ) -> usize
-    requires { ⌜ (grocers ≤ 255) × (8192 ≤ length (now out)) ⌝ }
+    requires { ⌜ grocers ≤ 255 ⌝ }
     ensures { λ r. ⌜ Put 0 (jobText (bagTables boxes grocers offers tallies (now (price .entry)) (now («offer_owner» .entry)) (now («grocer_owner» .entry))
         (now («tally_grocer» .entry)) (now («tally_box» .entry)) (now («tally_offer» .entry)) (now («tally_count» .entry)) (now («tally_bag» .entry))
         (now («tally_revision» .entry)))) (now (out .entry)) (now (out .exit)) r ⌝ }

@@ -4,13 +4,15 @@ use mathlib.Core.Bool.{true}
 use mathlib.Core.List.{List}
 use Prim.Native.Nat.{ℕ, _*_, _≤_}
 use native.Mathlib.Omega.{arith}
+use lib.ListN.{length, getD}
 use lib.IntN.{ℤ}
+use Rattle.laws.specs.Limits.{maxSent}
 use Rattle.model.specs.Steps.{kindOf}
 use Rattle.model.specs.Tables.{JobTables, StateTables, stateTables}
 use Rattle.model.specs.Ranges.{upTo}
 use Rattle.model.specs.Step.{Asked, outcome, accepted, stepped}
 use Rattle.rules.specs.Marks.{MarksIn, marked}
-use Rattle.apply.specs.Apply.{SentIn, sentMore, PriceStepOut, TotalStepOut}
+use Rattle.apply.specs.Apply.{sentMore, PriceStepOut, TotalStepOut}
 use Rattle.refuse.specs.Late.{Decided}
 use Rattle.step.specs.Lent.{PricesLent, TotalsLent}
 use Rattle.model.specs.Handed.{handedTables}
@@ -35,8 +37,8 @@ module _ (f : JobTables) (t : StateTables) (q : Asked) {needs sharers standing :
   pub marking : (MarksIn (f .boxes) (q .kind) (q .first) (q .second) (t .done)) × (upTo 1 (6 * f .boxes * f .boxes) (t .done) ≡ true)
   marking = (marks-in h t needs sharers q facts, facts .words-in .done)
 
-  pub counting : (more : ℕ) → more ≤ 500 → SentIn (t .sent) × (more ≤ 500)
-  counting more few = (sent-in h t needs sharers q facts, few)
+  pub counting : (more : ℕ) → more ≤ 500 → ((1 ≤ length (t .sent)) × (getD (t .sent) 0 0 ≤ maxSent)) × (more ≤ 500)
+  counting more few = let s = sent-in h t needs sharers q facts in ((s .long, s .word-in), few)
 
   -- Kinds 1 to 3.
   module _ (k : q .kind ≤ 3) where

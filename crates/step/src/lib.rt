@@ -1,5 +1,6 @@
 // The step: one request on the lent tables.
 ghost use mathlib.Core.Path.{_≡_};
+ghost use Prim.Native.Nat.{_≤_};
 ghost use Rattle.model.specs.Lent.{bagLent, stateBefore, stateAfter};
 ghost use Rattle.model.specs.Step.{asked, outcome, stepped};
 ghost use Rattle.totals.specs.Row.{tallies};
@@ -8,6 +9,7 @@ ghost use Rattle.step.specs.Answer.{answerOf};
 ghost use Rattle.step.specs.Lent.{PricesLent, TotalsLent};
 use apply::Sizes;
 use apply::Step;
+use sending::raise;
 
 // A request is accepted, or refused under the number of the first condition met.
 pub enum Answer {
@@ -181,7 +183,7 @@ pub fn step(
             working,
             x,
         );
-        apply::raise(sent, more);
+        raise(sent, more);
         return Answer::Accepted;
     }
     let more = move_totals(
@@ -193,6 +195,6 @@ pub fn step(
         statement,
         x,
     );
-    apply::raise(sent, more);
+    raise(sent, more);
     Answer::Accepted
 }

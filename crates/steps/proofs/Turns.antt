@@ -37,7 +37,7 @@ use Rattle.apply.proofs.Given.{Given, given, price-step-in, total-step-in}
 use Rattle.apply.proofs.Moved.{pricesLeft, totalsLeft, prices-moved, totals-moved}
 use Rattle.fresh.proofs.Made.{fresh-is}
 use Rattle.order.proofs.Pick.{steps-length}
-use Rattle.walk.proofs.Sends.{one-each, sends-few}
+use Rattle.walk.proofs.Sends.{sends-few}
 use Rattle.steps.proofs.Way.{stored-view, stored-way, way-applies, some-box}
 
 -- The state after steps, and one more; and the steps that it marks.
@@ -198,9 +198,9 @@ module _ (f : JobTables) (t : StateTables) (needs sharers order : List ℕ) (n :
   }
 
   -- The word of turn i is a place.
-  pub turn-place : (i : ℕ) → i < n → (1 ≤ f .boxes) × (f .boxes ≤ 16) × (getD order i 0 < 6 * f .boxes * f .boxes)
+  pub turn-place : (i : ℕ) → i < n → (i < 1536) × (1 ≤ f .boxes) × (f .boxes ≤ 16) × (getD order i 0 < 6 * f .boxes * f .boxes)
   unfolding jobOf
-  turn-place i l = (some-box f (g .job-in), range f (g .job-in .inside) .boxes≤, under-at (6 * f .boxes * f .boxes) n order i (g .does .places-in) l)
+  turn-place i l = (omega (arith, g .does .few), some-box f (g .job-in), range f (g .job-in .inside) .boxes≤, under-at (6 * f .boxes * f .boxes) n order i (g .does .places-in) l)
 
   module _ (i : ℕ) (l : i < n) (o : Sound job (afterOrder job i order)) (kind a b : ℕ)
       (ek : kind ≡ suc (getD order i 0 / f .boxes / f .boxes)) (ea : a ≡ getD order i 0 / f .boxes % f .boxes) (eb : b ≡ getD order i 0 % f .boxes) where
@@ -215,7 +215,7 @@ module _ (f : JobTables) (t : StateTables) (needs sharers order : List ℕ) (n :
     one-box = some-box f (g .job-in)
 
     place< : place < 6 * f .boxes * f .boxes
-    place< = turn-place i l .2
+    place< = turn-place i l .3
 
     kind< : place / f .boxes / f .boxes < 6
     kind< = div-lt-iff-lt-mul one-box .1 (div-lt-iff-lt-mul one-box .1 place<)
@@ -284,12 +284,13 @@ module _ (f : JobTables) (t : StateTables) (needs sharers order : List ℕ) (n :
         messages-few = omega (arith, r .messages-are, sends-few (stepsIn (f .boxes) i order), steps-length (f .boxes) i order (omega (arith, g .does .long)), g .does .few)
 
         -- and the turn leaves what it should.
-        pub turn-out : (sent : ℕ) → sent ≡ messagesOf (kindOf kind) a b → AllOut job t t₂ order (i + 1) (words + more) (messages + sent)
+        pub turn-out : (words′ messages′ : ℕ) → words′ ≡ words + more → messages′ ≡ messages + messagesOf (kindOf kind) a b → AllOut job t t₂ order (i + 1) words′ messages′
         unfolding jobOf
-        turn-out sent e = record {
+        turn-out words′ messages′ ew em = record {
           holds = rw next-is at turn-holds;
-          words-are = words-next;
-          messages-are = ap₂ _+_ (r .messages-are) (e ∙ ap (λ (x : Step). messagesOf (x .kind) (x .first) (x .second)) (sym step-is))
+          words-are = ew ∙ words-next;
+          messages-are = em
+              ∙ ap₂ _+_ (r .messages-are) (ap (λ (x : Step). messagesOf (x .kind) (x .first) (x .second)) (sym step-is))
               ∙ sym (over-snoc (stepsIn (f .boxes) i order) (stepAt (f .boxes) place))
               ∙ ap (over messagesOf) (sym (steps-next (f .boxes) i order (omega (arith, g .does .long))));
         }
@@ -406,7 +407,7 @@ up i n l = omega arith
 module _ (f : JobTables) (t₀ t₁ : StateTables) (needs sharers order : List ℕ) (n i words messages : ℕ) (w : Turning f t₀ t₁ needs sharers order n i words messages) (l : i < n) (kind a b : ℕ)
     (e : (kind ≡ suc (getD order i 0 / f .boxes / f .boxes)) × (a ≡ getD order i 0 / f .boxes % f .boxes) × (b ≡ getD order i 0 % f .boxes)) where
   -- Its kind is one of six, and it may be done.
-  pub kind-between : (1 ≤ kind) × (kind ≤ 6)
+  kind-between : (1 ≤ kind) × (kind ≤ 6)
   kind-between = turn-between f t₀ needs sharers order n (w .all) i l (w .sound) kind a b (e .0) (e .1) (e .2)
 
   pub may-step : (olinks glinks tlinks : List ℕ) → Chained f olinks glinks tlinks →
@@ -416,23 +417,19 @@ module _ (f : JobTables) (t₀ t₁ : StateTables) (needs sharers order : List �
 
   -- Where it is done,
   module _ (t₂ : StateTables) (more : ℕ) (out : StepOut (talliesOf f) (f .grocerOwner) needs sharers t₁ t₂ kind a b more) where
-    -- the words sent fit their number,
-    pub words-fit : words + more < 4_294_967_296
-    words-fit = omega (arith, words-few f t₀ needs sharers order n (w .all) i l (w .sound) kind a b (e .0) (e .1) (e .2) t₁ words messages (w .out) t₂ more out)
+    -- the counts fit their numbers,
+    pub counts-fit : (1 ≤ kind) × (kind ≤ 6) × (words + more < 4_294_967_296) × (messages < 4_294_967_295)
+    counts-fit = (
+      kind-between .0,
+      kind-between .1,
+      omega (arith, words-few f t₀ needs sharers order n (w .all) i l (w .sound) kind a b (e .0) (e .1) (e .2) t₁ words messages (w .out) t₂ more out),
+      omega (arith, messages-few f t₀ needs sharers order n (w .all) i l (w .sound) kind a b (e .0) (e .1) (e .2) t₁ words messages (w .out) t₂ more out),
+    )
 
-    -- and so do the messages; and the next turn begins.
-    module _ (sent : ℕ) (s : (a b : ℕ) → sent ≡ messagesOf (kindOf kind) a b) where
-      pub messages-fit : messages + sent < 4_294_967_296
-      messages-fit = omega (
-        arith,
-        messages-few f t₀ needs sharers order n (w .all) i l (w .sound) kind a b (e .0) (e .1) (e .2) t₁ words messages (w .out) t₂ more out,
-        s 0 0,
-        one-each (kindOf kind) 0 0,
-      )
-
-      pub turning-next : Turning f t₀ t₂ needs sharers order n (i + 1) (words + more) (messages + sent)
-      turning-next = record {
-        all = w .all;
-        sound = turn-sound f t₀ needs sharers order n (w .all) i l (w .sound) kind a b (e .0) (e .1) (e .2);
-        out = turn-out f t₀ needs sharers order n (w .all) i l (w .sound) kind a b (e .0) (e .1) (e .2) t₁ words messages (w .out) t₂ more out sent (s a b);
-      }
+    -- and the next turn begins.
+    pub turning-next : (words′ messages′ : ℕ) → words′ ≡ words + more → ((a b : ℕ) → messages′ ≡ messages + messagesOf (kindOf kind) a b) → Turning f t₀ t₂ needs sharers order n (i + 1) words′ messages′
+    turning-next words′ messages′ ew em = record {
+      all = w .all;
+      sound = turn-sound f t₀ needs sharers order n (w .all) i l (w .sound) kind a b (e .0) (e .1) (e .2);
+      out = turn-out f t₀ needs sharers order n (w .all) i l (w .sound) kind a b (e .0) (e .1) (e .2) t₁ words messages (w .out) t₂ more out words′ messages′ ew (em a b);
+    }

@@ -1,6 +1,9 @@
 // The steps of an order, done one after the other on the tables of prices and totals.
 ghost use mathlib.Core.Path.{_≡_};
-ghost use Prim.Native.Nat.{suc, _*_, _/_, _%_, _≤_, _<_};
+ghost use Prim.Native.Nat.{ℕ, suc, _+_, _*_, _/_, _%_, _≤_, _<_};
+ghost use lib.ListN.{getD};
+ghost use Rattle.model.specs.Steps.{kindOf};
+ghost use Rattle.model.specs.Words.{messagesOf};
 ghost use Rattle.model.specs.Tables.{jobTables, jobOf};
 ghost use Rattle.totals.specs.Row.{tallies};
 ghost use Rattle.steps.specs.All.{withoutMarks, StepIn, StepOut, AllIn, AllOut};
@@ -14,7 +17,7 @@ pub struct Sent {
 }
 
 // The step of a place, of k boxes.
-fn step_at(k: u16, place: u16) -> Step
+fn step_of(k: u16, place: u16) -> Step
     requires { ⌜ (1 ≤ k) × (k ≤ 16) × (place < 6 * k * k) ⌝ }
     ensures { λ r. ⌜ (r .kind ≡ suc (place / k / k)) × (r .first ≡ place / k % k) × (r .second ≡ place % k) ⌝ }
 {
@@ -24,6 +27,26 @@ fn step_at(k: u16, place: u16) -> Step
         kind: rows + 1,
         first: row - rows * k,
         second: place - row * k,
+    }
+}
+
+// The step of turn i of an order, of k boxes.
+fn step_at(k: u16, order: &[u16; 1536], i: usize) -> Step
+    requires { ⌜ (i < 1536) × (1 ≤ k) × (k ≤ 16) × (getD (now order) i 0 < 6 * k * k) ⌝ }
+    ensures { λ r. ⌜ (r .kind ≡ suc (getD (now (order .entry)) i 0 / k / k)) × (r .first ≡ getD (now (order .entry)) i 0 / k % k)
+        × (r .second ≡ getD (now (order .entry)) i 0 % k) ⌝ }
+{
+    step_of(k, order[i])
+}
+
+// What is sent so far, and the words of a step of this kind and its message.
+fn sent_more(sent: Sent, kind: u16, more: u32) -> Sent
+    requires { ⌜ (1 ≤ kind) × (kind ≤ 6) × (sent .words + more < 4_294_967_296) × (sent .messages < 4_294_967_295) ⌝ }
+    ensures { λ r. ⌜ (r .words ≡ sent .words + more) × ((a b : ℕ) → r .messages ≡ sent .messages + messagesOf (kindOf kind) a b) ⌝ }
+{
+    Sent {
+        words: sent.words + more,
+        messages: sent.messages + walk::sent_by(kind),
     }
 }
 
@@ -117,22 +140,15 @@ pub fn all_steps(
 {
     fresh::fresh_prices(z.boxes, z.offers, price, offer_owner, known, price_transit);
     fresh::fresh_totals(z.boxes, z.grocers, working, total_transit, statement);
-    let mut offer_links = [0u16; 517];
-    let mut grocer_links = [0u16; 272];
-    let mut tally_links = [0u16; 1272];
-    links::link(z.offers as usize, offer_owner, &mut offer_links);
-    links::link(z.grocers as usize, grocer_owner, &mut grocer_links);
-    links::link_pairs(
-        z.tallies as usize,
-        tally_box,
-        tally_offer,
-        offer_owner,
-        &mut tally_links,
-    );
-    let mut words: u32 = 0;
-    let mut messages: u32 = 0;
+    let offer_links = links::offer_links(z.offers, offer_owner);
+    let grocer_links = links::grocer_links(z.grocers, grocer_owner);
+    let tally_links = links::tally_links(z.tallies, tally_box, tally_offer, offer_owner);
+    let mut sent = Sent {
+        words: 0,
+        messages: 0,
+    };
     for i in 0..n {
-        let x = step_at(z.boxes, order[i]);
+        let x = step_at(z.boxes, order, i);
         let more = one_step(
             z,
             offer_owner,
@@ -153,11 +169,7 @@ pub fn all_steps(
             statement,
             x,
         );
-        words += more;
-        messages += walk::sent_by(x.kind);
+        sent = sent_more(sent, x.kind, more);
     }
-    Sent {
-        words: words,
-        messages: messages,
-    }
+    sent
 }

@@ -1,26 +1,16 @@
--- What a job in range gives the functions of this crate, and what they give of it. Assumes nothing.
-use mathlib.Core.Path.{_≡_, sym, ap, ap₂, _∙_}
-use mathlib.Core.Bool.{Bool, true, false, cond, _&&_, not}
+-- What a job in range gives the functions that make words of its tables. Assumes nothing.
+use mathlib.Core.Path.{_≡_}
 use mathlib.Core.List.{List}
 use Prim.Native.Nat.{ℕ, _<_, _≤_}
 use native.Mathlib.Omega.{arith}
 use lib.ListN.{getD}
-use lib.Dec.{eqb}
-use Rattle.laws.specs.Masks.{bit, maskOf}
 use Rattle.laws.specs.Tables.{tabulate}
-use Rattle.laws.proofs.Below.{count-cong}
-use Rattle.laws.proofs.Masks.{bit-mask}
-use Rattle.laws.proofs.Tables.{length-tabulate, getD-tabulate, word-in}
-use Rattle.model.specs.Job.{priceWord, totalWord}
+use Rattle.laws.proofs.Tables.{length-tabulate, word-in}
 use Rattle.model.specs.Tables.{JobTables, jobOf}
 use Rattle.model.specs.Handed.{Handed}
-use Rattle.model.specs.Local.{priceTable, totalTable}
 use Rattle.model.proofs.Step.{range, limits}
-use Rattle.tables.specs.Masks.{holds, holderWord, Placed, Owned}
-use Rattle.tables.specs.Messages.{between, sends, sentTable}
-use Rattle.tables.proofs.Extra.{rows-cong}
-use Rattle.tables.proofs.Whole.{JobWhole}
-use Rattle.tables.proofs.Holders.{need-holds, share-holds}
+use Rattle.tables.specs.Masks.{Placed, Owned}
+use Rattle.model.proofs.Whole.{JobWhole}
 
 -- Tables that are whole and in range are what the functions ask for.
 module _ (f : JobTables) (ok : Handed f) (w : JobWhole f) where
@@ -58,16 +48,7 @@ module _ (f : JobTables) (ok : Handed f) (w : JobWhole f) where
     owner< = λ g l. omega (arith, rw (word-in (f .grocers) (f .grocerOwner) 0 g l) at (range f (ok .inside) .grocerOwner< g l), range f (ok .inside) .boxes≤);
   }
 
--- A table of messages by the owners and the masks of p is that of p.
-module _ (back : Bool) (n size : ℕ) (owners : List ℕ) (p : ℕ → ℕ → Bool) (room : n ≤ size) where
-  sent-cell : (a b i : ℕ) → cond back a b < 16 → i < n →
-      sends back (getD owners i 0) (getD (tabulate size (λ k. maskOf 16 (p k))) i 0) a b
-      ≡ (eqb (getD owners i 0) (cond back b a) && (not (eqb (getD owners i 0) (cond back a b)) && p i (cond back a b)))
-  unfolding sends between
-  sent-cell a b i l m =
-      ap (λ (t : Bool). eqb (getD owners i 0) (cond back b a) && (not (eqb (getD owners i 0) (cond back a b)) && t))
-      (ap (bit (cond back a b)) (getD-tabulate size (λ k. maskOf 16 (p k)) i 0 (omega arith)) ∙ bit-mask 16 (cond back a b) (p i) l)
-
+-- As many offers and grocers as there is room for.
 module _ (f : JobTables) (ok : Handed f) where
   pub offers-room : f .offers ≤ 500
   unfolding jobOf
@@ -76,17 +57,3 @@ module _ (f : JobTables) (ok : Handed f) where
   pub grocers-room : f .grocers ≤ 255
   unfolding jobOf
   grocers-room = limits f (ok .inside) .grocers≤
-
-  -- The table of prices from the need words is the job's.
-  pub price-sent : sentTable false (f .offers) (f .offerOwner) (tabulate 500 (holderWord (f .boxes) (f .tallies) (f .tallyBox) (f .tallyOffer))) ≡ priceTable (jobOf f)
-  unfolding sentTable holderWord priceTable priceWord jobOf
-  price-sent = rows-cong 16 16 _ _ (λ a b la lb. count-cong (f .offers) _ _ (λ o l.
-      sent-cell false (f .offers) 500 (f .offerOwner) (holds (f .boxes) (f .tallies) (f .tallyBox) (f .tallyOffer)) offers-room a b o lb l
-      ∙ ap₂ (λ (x : ℕ) (t : Bool). eqb x a && (not (eqb x b) && t)) (sym (word-in (f .offers) (f .offerOwner) 0 o l)) (need-holds f (ok .bare) o b)))
-
-  -- The table of totals from the sharer words is the job's.
-  pub total-sent : sentTable true (f .grocers) (f .grocerOwner) (tabulate 255 (holderWord (f .boxes) (f .tallies) (f .tallyBox) (f .tallyGrocer))) ≡ totalTable (jobOf f)
-  unfolding sentTable holderWord totalTable totalWord jobOf
-  total-sent = rows-cong 16 16 _ _ (λ a b la lb. count-cong (f .grocers) _ _ (λ g l.
-      sent-cell true (f .grocers) 255 (f .grocerOwner) (holds (f .boxes) (f .tallies) (f .tallyBox) (f .tallyGrocer)) grocers-room a b g la l
-      ∙ ap₂ (λ (x : ℕ) (t : Bool). eqb x b && (not (eqb x a) && t)) (sym (word-in (f .grocers) (f .grocerOwner) 0 g l)) (share-holds f (ok .bare) g a)))

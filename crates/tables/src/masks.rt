@@ -1,27 +1,11 @@
 // Need words and sharer words, one bit for each box.
 ghost use mathlib.Core.Path.{_≡_};
-ghost use Prim.Native.Nat.{ℕ, _^_, _≤_, _<_};
+ghost use Prim.Native.Nat.{ℕ, _≤_, _<_};
 ghost use lib.ListN.{length, getD};
-ghost use lib.Bits.{bitOr};
-ghost use Rattle.laws.specs.Masks.{without};
 ghost use Rattle.laws.specs.Tables.{tabulate};
 ghost use Rattle.tables.specs.Masks.{marked, holderWord, Placed};
-
-// The word with bit b set.
-pub fn set_bit(word: u16, b: u16) -> u16
-    requires { ⌜ b < 16 ⌝ }
-    ensures { λ r. ⌜ r ≡ bitOr word (2 ^ b) ⌝ }
-{
-    word | (1 << b)
-}
-
-// The word without its bit b.
-pub fn clear_bit(word: u16, b: u16) -> u16
-    requires { ⌜ b < 16 ⌝ }
-    ensures { λ r. ⌜ r ≡ without b word ⌝ }
-{
-    word & !(1 << b)
-}
+use bits::set_bit;
+use slices::u16_at;
 
 // One tally: bit b of the word at its place, where box b is below k.
 fn mark(masks: &mut [u16], k: u16, b: u16, place: u16)
@@ -43,7 +27,7 @@ fn holders(boxes: u16, tallies: u16, tally_box: &[u16], places: &[u16], masks: &
 {
     let n = tallies as usize;
     for t in 0..n {
-        mark(masks, boxes, tally_box[t], places[t]);
+        mark(masks, boxes, u16_at(tally_box, t), u16_at(places, t));
     }
 }
 

@@ -23,6 +23,7 @@ tallies-given f l ok =
       holder-long = l .tallyBox;
       offer-long = l .tallyOffer;
       count-long = l .tallyCount;
+      owner-in = w .offerOwner;
       grocer-in = w .tallyGrocer;
       offer-in = w .tallyOffer;
       count-in = w .tallyCount;

@@ -1,4 +1,5 @@
 -- The laws of totals that belong to no one function.
+
 pub mod Rows
 pub mod Credits
 pub mod Walks

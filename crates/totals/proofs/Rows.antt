@@ -8,10 +8,9 @@ use native.Mathlib.Decide.{decLt}
 use native.Mathlib.Omega.{arith}
 use lib.Dec.{eqb, ltb, leb}
 use lib.Arith.{digits-div, digits-mod}
-use lib.ListN.{length, getD, set}
-use lib.Seq.{set-getD}
+use lib.ListN.{length, getD}
 use lib.IntN.{ℤ, pos, natAbs, _+ℤ_, _*ℤ_, +ℤ-idr}
-use borrow.Author.Tests.{eqb-true, eqb-false, ne-eqb, lt-ltb, ltb-true, le-leb}
+use borrow.Author.Tests.{eqb-true, eqb-false, ne-eqb, ltb-true, le-leb}
 use Rattle.laws.specs.Below.{integers, sum, only, all}
 use Rattle.laws.specs.Tables.{tabulate, overwrite, cell, recell}
 use Rattle.laws.proofs.Bools.{split, eqb-same, and-l, and-r}
@@ -19,18 +18,14 @@ use Rattle.laws.proofs.Below.{all-at, all-of, all-find, all-fails}
 use Rattle.laws.proofs.Loops.{share, pile-size, eqb-shift}
 use Rattle.laws.proofs.Signed.{abs-times-le, only-abs}
 use Rattle.laws.proofs.Sums.{sum-cong, sum-none, only-no}
-use Rattle.laws.proofs.Tables.{pos-right, cell-in, is-recell, getD-tabulate, getD-overwrite, row-in, cell-at, cell-in-row}
+use Rattle.laws.proofs.Tables.{pos-right, cell-in, is-recell, getD-tabulate, getD-overwrite, row-in, cell-at}
 use Rattle.laws.specs.Limits.{maxAmount}
 use Rattle.model.specs.Ranges.{around}
-use Rattle.totals.specs.Row.{Tallies, tallies, TalliesIn, PricesIn, RowIn, AmountsIn, TallyIn, RowTallies, raised, isTaken, productAt, brings, rowOf, putRow, product, productSum, productRow}
+use Rattle.totals.specs.Row.{Tallies, tallies, TalliesIn, PricesIn, RowIn, AmountsIn, TallyIn, RowTallies, raised, isTaken, productAt, brings, putRow, product, productSum, productRow}
 use Rattle.model.proofs.Step.{under-at, up-at, around-at}
 
--- Where nothing is added the row stays, and elsewhere the word grows.
-pub raised-not : (l : List ℤ) (g : ℕ) (t : Bool) (z : ℤ) → t ≡ false → l ≡ raised l g (only integers t z)
-unfolding only integers
-raised-not l g t z e = rw e (sym (ap (λ (x : ℤ). set l g x) (+ℤ-idr (getD l g (pos 0))) ∙ set-getD l g (pos 0)))
-
-pub raised-by : (l : List ℤ) (g : ℕ) (t : Bool) (z : ℤ) → t ≡ true → set l g (getD l g (pos 0) +ℤ z) ≡ raised l g (only integers t z)
+-- What is brought where the test holds.
+pub raised-by : (l : List ℤ) (g : ℕ) (t : Bool) (z : ℤ) → t ≡ true → raised l g z ≡ raised l g (only integers t z)
 unfolding only integers
 raised-by l g t z e = rw e
 
@@ -59,12 +54,13 @@ tally-rows e prices a h p la = record {
   box-in = le-trans la (h .boxes-in);
   grocer-in = λ i l. under-at (e .grocers) (e .tallies) (e .grocer) i (h .grocer-in) l;
   offer-in = offer-in;
+  holder-long = λ i l. le-trans l (h .holder-long);
+  owner-long = λ i l. le-trans (offer-in i l) (h .owner-long);
+  owner-in = λ i l. le-trans (under-at (e .boxes) (e .offers) (e .owner) (getD (e .offer) i 0) (h .owner-in) (offer-in i l)) (h .boxes-in);
   tally-in = λ i l. record {
     grocer-long = le-trans l (h .grocer-long);
-    holder-long = le-trans l (h .holder-long);
     offer-long = le-trans l (h .offer-long);
     count-long = le-trans l (h .count-long);
-    owner-long = le-trans (offer-in i l) (h .owner-long);
     price-long = le-trans (place-in i l) (p .long);
     count-in = around-at 99_999 (e .tallies) (e .counts) i (h .count-in) l;
     price-in = up-at 9_999_999 (e .boxes * e .offers) prices (a * e .offers + getD (e .offer) i 0) (p .words-in) (place-in i l);
@@ -87,8 +83,8 @@ module _ (m n t a : ℕ) (owner grocer holder offer : List ℕ) (counts : List �
   place i = getD grocer i 0
 
   -- A tally, with the prices from the place where row a begins.
-  pub tally-at : (i : ℕ) → i < t → TallyIn owner grocer holder offer counts prices at i
-  tally-at i l = subst (λ (x : ℕ). TallyIn owner grocer holder offer counts prices x i) (sym here) (h .tally-in i l)
+  pub tally-at : (i : ℕ) → i < t → TallyIn grocer offer counts prices at i
+  tally-at i l = subst (λ (x : ℕ). TallyIn grocer offer counts prices x i) (sym here) (h .tally-in i l)
 
   -- The size of what a tally brings.
   pub brought-abs : (i : ℕ) → i < t → natAbs (brought i) ≤ 999_989_900_001
@@ -168,15 +164,6 @@ cell-abs b k m l c o h =
     split (ltb c k && ltb o m)
     (λ e. rw e (around-at b (k * m) l (c * m + o) h (cell-in c k m o (ltb-true c k (and-l (ltb c k) _ e)) (ltb-true o m (and-r (ltb c k) _ e)))))
     (λ e. rw e (omega arith))
-
--- A word of a row of 255, as a cell of the table, and its size.
-pub row-word : (k m a : ℕ) (l : List ℤ) (g : ℕ) → a < k → g < 255 → getD (rowOf m a l) g (pos 0) ≡ cell k m l (pos 0) a g
-unfolding rowOf
-row-word k m a l g la q = getD-tabulate 255 (λ g. cond (ltb g m) (getD l (a * m + g) (pos 0)) (pos 0)) g (pos 0) q ∙ sym (cell-in-row k m l (pos 0) a g la)
-
-pub row-size : (m a : ℕ) (l : List ℤ) (g : ℕ) → RowIn m a l → g < m → m ≤ 255 → natAbs (getD (rowOf m a l) g (pos 0)) ≤ maxAmount
-unfolding rowOf
-row-size m a l g h q few = rw (getD-tabulate 255 (λ g. cond (ltb g m) (getD l (a * m + g) (pos 0)) (pos 0)) g (pos 0) (le-trans q few), lt-ltb g m q) (h .words-in g q)
 
 -- The range of a table with a row written anew is that of the row, where the table was in range.
 pub put-range : (n k m a : ℕ) (row l : List ℤ) → a < k → around n (k * m) l ≡ true → around n (k * m) (putRow k m a row l) ≡ around n m row

@@ -8,12 +8,13 @@ use native.Mathlib.Omega.{arith}
 use lib.Dec.{eqb, ltb}
 use lib.ListN.{getD}
 use lib.IntN.{ℤ, pos}
-use borrow.Author.Tests.{eqb-true, lt-ltb, le-ltb}
+use borrow.Author.Tests.{eqb-true, eq-eqb, lt-ltb, le-ltb}
 use Rattle.laws.specs.Below.{integers, only}
-use Rattle.laws.proofs.Bools.{and-l, and-r, and-false, no-true}
+use Rattle.laws.proofs.Bools.{eqb-same, and-l, and-r, and-true, and-false, no-true}
 use Rattle.laws.proofs.Loops.{share}
 use Rattle.links.specs.Links.{SkipsBy, LinkedBy, Skips, pairKey, pairAt}
-use Rattle.totals.specs.Credit.{credited}
+use Rattle.words.specs.Message.{inMessage, wordIn}
+use Rattle.totals.specs.Credit.{sendsPart, takesTotal, credited}
 use Rattle.totals.specs.Row.{isTaken, brings}
 use Rattle.links.proofs.Walks.{test-passed, goes-by}
 
@@ -34,6 +35,24 @@ goes-to heads n key links v i j h l e to = subst (λ (x : ℕ). SkipsBy n key v 
 pub credit-owner : (owners sharers : List ℕ) (a from g : ℕ) → credited owners sharers a from g ≡ true → getD owners g 0 ≡ a
 unfolding credited
 credit-owner owners sharers a from g t = eqb-true (getD owners g 0) a (and-l (eqb (getD owners g 0) a) _ t)
+
+-- Of box a's grocers those are credited whose total it takes.
+pub credit-taken : (owners sharers : List ℕ) (a from g : ℕ) → getD owners g 0 ≡ a → takesTotal sharers a from g ≡ credited owners sharers a from g
+unfolding credited
+credit-taken owners sharers a from g e = rw (e, eqb-same a)
+
+-- And of box b's those stand in the message whose part total box a sends.
+pub word-part : (owners sharers : List ℕ) (a b g : ℕ) → getD owners g 0 ≡ b → sendsPart sharers a b g ≡ wordIn owners sharers b a g
+unfolding wordIn inMessage
+word-part owners sharers a b g e = rw (e, eqb-same b)
+
+-- A tally of the pair that is walked over is taken.
+pub pair-taken : (owner holder offer : List ℕ) (a from i : ℕ) → from < 16 → getD owner (getD offer i 0) 0 < 16 → pairAt holder offer owner i ≡ pairKey a from →
+    isTaken owner holder offer a from i ≡ true
+pair-taken owner holder offer a from i lf lo e =
+    let mine : getD holder i 0 ≡ a = omega arith in
+    let theirs : getD owner (getD offer i 0) 0 ≡ from = omega arith in
+    and-true (eq-eqb (getD holder i 0) a mine) (eq-eqb (getD owner (getD offer i 0) 0) from theirs)
 
 -- A tally of another pair of boxes brings nothing to the row of box a, at any grocer.
 pub other-share : (owner holder offer : List ℕ) (counts : List ℤ) (prices : List ℕ) (place : ℕ → ℕ) (a from at g i : ℕ) → (pairAt holder offer owner i ≡ pairKey a from → ⊥) →

@@ -1,5 +1,5 @@
 -- Totals that are sent, and totals that are added to statements.
-use mathlib.Core.Bool.{Bool, cond, _&&_, _||_}
+use mathlib.Core.Bool.{Bool, cond, _&&_, _||_, not}
 use mathlib.Core.List.{List}
 use Prim.Native.Nat.{ℕ, _≤_, _<_}
 use lib.ListN.{length, getD}
@@ -18,9 +18,17 @@ unfoldable pub sentTotals : ℕ → ℕ → ℕ → (ℕ → Bool) → List ℤ 
 sentTotals k m a p working transit =
     recell k m (λ c g. cond (eqb c a && p g) (cell k m working (pos 0) a g) (cell k m transit (pos 0) c g)) transit
 
--- Box a, which owns grocer g, adds a total of box `from` to its statement: its own, or one of which `from` has a part total.
+-- Box a has a part total of grocer g to send to box b, the owner, another box.
+abbrev pub sendsPart : List ℕ → ℕ → ℕ → ℕ → Bool
+sendsPart sharers a b g = not (eqb b a) && bit a (getD sharers g 0)
+
+-- The owner a of grocer g adds a total of box `from` to its statement: its own, or one of which `from` has a part total.
+abbrev pub takesTotal : List ℕ → ℕ → ℕ → ℕ → Bool
+takesTotal sharers a from g = eqb from a || bit from (getD sharers g 0)
+
+-- Box a owns grocer g and adds a total of box `from` to its statement.
 unfoldable pub credited : List ℕ → List ℕ → ℕ → ℕ → ℕ → Bool
-credited owners sharers a from g = eqb (getD owners g 0) a && (eqb from a || bit from (getD sharers g 0))
+credited owners sharers a from g = eqb (getD owners g 0) a && takesTotal sharers a from g
 
 -- The statement of grocer g with row `from` of the totals added, where g passes p.
 unfoldable pub creditWord : ℕ → ℕ → ℕ → (ℕ → Bool) → List ℤ → List ℤ → ℕ → ℤ
@@ -32,10 +40,9 @@ unfoldable pub creditAll : ℕ → ℕ → ℕ → (ℕ → Bool) → List ℤ �
 creditAll k m from p totals statement = overwrite m (creditWord k m from p totals statement) statement
 
 -- The total of grocer g, at a place, and its statement are in range.
-pub record CreditIn (owners : List ℕ) (totals statement : List ℤ) (from g at : ℕ) : Type 0 where
+pub record CreditIn (totals statement : List ℤ) (from g at : ℕ) : Type 0 where
   pub from-in : from < maxBoxes
   pub grocer-in : g < maxGrocers
-  pub owner-long : g < length owners
   pub total-long : at < length totals
   pub statement-long : g < length statement
   pub total-in : natAbs (getD totals at (pos 0)) ≤ maxAmount

@@ -1,3 +1,4 @@
 -- Definitions that the contracts of the steps on totals cite.
+
 pub mod Row
 pub mod Credit

@@ -4,7 +4,7 @@ use mathlib.Core.Bool.{Bool, true, cond, _&&_}
 use mathlib.Core.List.{List}
 use Prim.Native.Nat.{ℕ, _+_, _*_, _≤_, _<_}
 use lib.ListN.{length, getD, set}
-use lib.Dec.{eqb, ltb}
+use lib.Dec.{eqb}
 use lib.IntN.{ℤ, pos, natAbs, _+ℤ_, _*ℤ_}
 use Rattle.laws.specs.Below.{integers, sum, only}
 use Rattle.laws.specs.Tables.{tabulate, cell, recell}
@@ -48,6 +48,7 @@ pub record TalliesIn (e : Tallies) : Type 0 where
   pub holder-long : e .tallies ≤ length (e .holder)
   pub offer-long : e .tallies ≤ length (e .offer)
   pub count-long : e .tallies ≤ length (e .counts)
+  pub owner-in : under (e .boxes) (e .offers) (e .owner) ≡ true
   pub grocer-in : under (e .grocers) (e .tallies) (e .grocer) ≡ true
   pub offer-in : under (e .offers) (e .tallies) (e .offer) ≡ true
   pub count-in : around maxCount (e .tallies) (e .counts) ≡ true
@@ -66,10 +67,6 @@ pub record RowIn (m a : ℕ) (l : List ℤ) : Type 0 where
 pub record AmountsIn (n : ℕ) (l : List ℤ) : Type 0 where
   pub long : n ≤ length l
   pub words-in : around maxAmount n l ≡ true
-
--- Row a of a table of amounts, m words, in a row of 255 words: the others are 0.
-unfoldable pub rowOf : ℕ → ℕ → List ℤ → List ℤ
-rowOf m a l = tabulate maxGrocers (λ g. cond (ltb g m) (getD l (a * m + g) (pos 0)) (pos 0))
 
 -- A table of amounts with row a written anew.
 unfoldable pub putRow : ℕ → ℕ → ℕ → List ℤ → List ℤ → List ℤ
@@ -92,12 +89,10 @@ abbrev pub brings : List ℕ → List ℕ → List ℕ → List ℤ → List ℕ
 brings owner holder offer counts prices a from at i = only integers (isTaken owner holder offer a from i) (productAt offer counts prices at i)
 
 -- Tally i of these tables, with prices from a place on.
-pub record TallyIn (owner grocer holder offer : List ℕ) (counts : List ℤ) (prices : List ℕ) (at i : ℕ) : Type 0 where
+pub record TallyIn (grocer offer : List ℕ) (counts : List ℤ) (prices : List ℕ) (at i : ℕ) : Type 0 where
   pub grocer-long : i < length grocer
-  pub holder-long : i < length holder
   pub offer-long : i < length offer
   pub count-long : i < length counts
-  pub owner-long : getD offer i 0 < length owner
   pub price-long : at + getD offer i 0 < length prices
   pub count-in : natAbs (getD counts i (pos 0)) ≤ maxCount
   pub price-in : getD prices (at + getD offer i 0) 0 ≤ maxPrice
@@ -110,7 +105,10 @@ pub record RowTallies (m n t a : ℕ) (owner grocer holder offer : List ℕ) (co
   pub box-in : a < maxBoxes
   pub grocer-in : (i : ℕ) → i < t → getD grocer i 0 < m
   pub offer-in : (i : ℕ) → i < t → getD offer i 0 < n
-  pub tally-in : (i : ℕ) → i < t → TallyIn owner grocer holder offer counts prices (a * n) i
+  pub holder-long : (i : ℕ) → i < t → i < length holder
+  pub owner-long : (i : ℕ) → i < t → getD offer i 0 < length owner
+  pub owner-in : (i : ℕ) → i < t → getD owner (getD offer i 0) 0 < maxBoxes
+  pub tally-in : (i : ℕ) → i < t → TallyIn grocer offer counts prices (a * n) i
 
 module _ (e : Tallies) (prices : List ℕ) (a from : ℕ) where
   -- Count × price of tally i, at the prices of row a.

@@ -4,119 +4,37 @@ ghost use Prim.Native.Nat.{ℕ, _+_, _*_, _≤_, _<_};
 ghost use lib.ListN.{length, getD};
 ghost use lib.IntN.{pos, natAbs};
 ghost use Rattle.links.specs.Links.{LinkedPairs};
-ghost use Rattle.totals.specs.Row.{tallies, RowIn, TallyIn, RowTallies, isTaken, raised, brings, productRow, rowOf, putRow};
-use crate::num::amount;
-use crate::num::index;
-use crate::num::plus;
-use crate::num::row_start;
-use links::PAIR_HEADS;
-use links::pair;
+ghost use Rattle.totals.specs.Row.{tallies, RowIn, TallyIn, RowTallies, raised, productAt, productRow, putRow};
+use crate::walk::begin_pair;
+use crate::walk::next_pair;
+use amounts::amount;
+use amounts::raise_at;
+use amounts::row_start;
+use slices::i32_at;
+use slices::index_at;
+use slices::u32_at;
 
-// Row a of a table of amounts.
-fn row_at(m: usize, a: u16, working: &[i64]) -> [i64; 255]
-    requires { ⌜ (m ≤ 255) × (a < 16) × (a * m + m ≤ length (now working)) ⌝ }
-    ensures { λ r. ⌜ r ≡ rowOf m a (now (working .entry)) ⌝ }
-{
-    let mut row = [0i64; 255];
-    let at = row_start(m, a);
-    for g in 0..m {
-        let i = at + g;
-        let v = working[i];
-        row[g] = v;
-    }
-    row
-}
-
-// Whether box a holds tally i, and box `from` owns its offer.
-fn is_taken(
-    a: u16,
-    from: u16,
-    i: usize,
-    offer_owner: &[u16],
-    tally_box: &[u16],
-    tally_offer: &[u16],
-) -> bool
-    requires { ⌜ (i < length (now «tally_box»)) × (i < length (now «tally_offer»)) × (getD (now «tally_offer») i 0 < length (now «offer_owner»)) ⌝ }
-    ensures { λ r. ⌜ r ≡ isTaken (now («offer_owner» .entry)) (now («tally_box» .entry)) (now («tally_offer» .entry)) a from i ⌝ }
-{
-    if tally_box[i] != a {
-        return false;
-    }
-    let o = index(tally_offer[i]);
-    offer_owner[o] == from
-}
-
-// Adds what tally i brings to the row of box a, which begins at a place, at its grocer: count × price where the tally is taken, else nothing.
-fn add_tally(
+// Adds count × price of tally i to a row that begins at a place, at its grocer.
+pub fn add_tally(
     at: usize,
     base: usize,
-    a: u16,
-    from: u16,
     i: usize,
-    offer_owner: &[u16],
     tally_grocer: &[u16],
-    tally_box: &[u16],
     tally_offer: &[u16],
     tally_count: &[i32],
     prices: &[u32],
     row: &mut [i64],
 )
-    requires { ⌜ TallyIn (now «offer_owner») (now «tally_grocer») (now «tally_box») (now «tally_offer») (now «tally_count») (now prices) at i ⌝ }
+    requires { ⌜ TallyIn (now «tally_grocer») (now «tally_offer») (now «tally_count») (now prices) at i ⌝ }
     requires { ⌜ (base + getD (now «tally_grocer») i 0 < length (now row)) × (natAbs (getD (now row) (base + getD (now «tally_grocer») i 0) (pos 0)) ≤
         2_000_000_000_000_000) ⌝ }
     ensures { λ _. ⌜ now (row .exit) ≡ raised (now (row .entry)) (base + getD (now («tally_grocer» .entry)) i 0)
-        (brings (now («offer_owner» .entry)) (now («tally_box» .entry)) (now («tally_offer» .entry)) (now («tally_count» .entry))
-        (now (prices .entry)) a from at i) ⌝ }
+        (productAt (now («tally_offer» .entry)) (now («tally_count» .entry)) (now (prices .entry)) at i) ⌝ }
 {
-    if !is_taken(a, from, i, offer_owner, tally_box, tally_offer) {
-        return;
-    }
-    let p = at + index(tally_offer[i]);
-    let x = amount(tally_count[i], prices[p]);
-    let g = base + index(tally_grocer[i]);
-    let v = plus(row[g], x);
-    row[g] = v;
-}
-
-// Row a of the working totals after multiplying the tallies of box a whose offers box `from` owns, at the prices of row a.
-pub fn product_row(
-    m: usize,
-    n: usize,
-    t: usize,
-    a: u16,
-    from: u16,
-    offer_owner: &[u16],
-    tally_grocer: &[u16],
-    tally_box: &[u16],
-    tally_offer: &[u16],
-    tally_count: &[i32],
-    prices: &[u32],
-    working: &[i64],
-) -> [i64; 255]
-    requires { ⌜ RowTallies m n t a (now «offer_owner») (now «tally_grocer») (now «tally_box») (now «tally_offer») (now «tally_count») (now prices) ⌝ }
-    requires { ⌜ RowIn m a (now working) ⌝ }
-    ensures { λ r. ⌜ ((k : ℕ) → a < k → r ≡ productRow (tallies k m n t (now («offer_owner» .entry)) (now («tally_grocer» .entry))
-        (now («tally_box» .entry)) (now («tally_offer» .entry)) (now («tally_count» .entry))) (now (prices .entry)) a from (now (working .entry))) ⌝ }
-{
-    let mut row = row_at(m, a, working);
-    let at = row_start(n, a);
-    for i in 0..t {
-        add_tally(
-            at,
-            0,
-            a,
-            from,
-            i,
-            offer_owner,
-            tally_grocer,
-            tally_box,
-            tally_offer,
-            tally_count,
-            prices,
-            &mut row,
-        );
-    }
-    row
+    let p = at + index_at(tally_offer, i);
+    let x = amount(i32_at(tally_count, i), u32_at(prices, p));
+    let g = base + index_at(tally_grocer, i);
+    raise_at(row, g, x);
 }
 
 // Multiplies the tallies of box a whose offers box `from` owns into row a of the working totals, in place, by a walk over these alone.
@@ -145,23 +63,18 @@ pub fn add_products(
 {
     let at = row_start(n, a);
     let base = row_start(m, a);
-    let v = pair(a, from);
-    let mut i = index(tally_links[v]);
+    let mut i = begin_pair(a, from, tally_links);
     while i < t {
         add_tally(
             at,
             base,
-            a,
-            from,
             i,
-            offer_owner,
             tally_grocer,
-            tally_box,
             tally_offer,
             tally_count,
             prices,
             working,
         );
-        i = index(tally_links[PAIR_HEADS + i]);
+        i = next_pair(i, tally_links);
     }
 }

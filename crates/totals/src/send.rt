@@ -7,30 +7,36 @@ ghost use lib.IntN.{pos};
 ghost use Rattle.laws.specs.Below.{naturals, only, count};
 ghost use Rattle.links.specs.Links.{Linked};
 ghost use Rattle.words.specs.Message.{wordIn};
-ghost use Rattle.totals.specs.Credit.{cleared, sentTotals};
-use crate::num::index;
-use crate::num::row_start;
+ghost use Rattle.totals.specs.Credit.{cleared, sentTotals, sendsPart};
 use crate::walk::begin;
-use links::HEADS;
+use crate::walk::next;
+use amounts::row_start;
 
-// Sends the total of grocer g, which is at a place, if it stands in the message from box a to box b: 1 if it does, else 0.
+// Whether box a sends its part total of grocer g to box b, the owner: it has one, and is another box.
+fn sends_part(g: usize, sharers: &[u16; 255], a: u16, b: u16) -> bool
+    requires { ⌜ (g < 255) × (a < 16) ⌝ }
+    ensures { λ r. ⌜ r ≡ sendsPart (now (sharers .entry)) a b g ⌝ }
+{
+    (b != a) & words::has_bit(sharers[g], a)
+}
+
+// Sends the total of grocer g of box b, which is at a place, if box a has a part total of it: 1 if it does, else 0.
 fn send_one(
     at: usize,
     a: u16,
     b: u16,
     g: usize,
-    owner: &[u16],
     sharers: &[u16; 255],
     working: &mut [i64],
     transit: &mut [i64],
 ) -> u32
-    requires { ⌜ (a < 16) × (g < 255) × (g < length (now owner)) × (at < length (now working)) × (at < length (now transit)) ⌝ }
-    ensures { λ r. ⌜ (r ≡ only naturals (wordIn (now (owner .entry)) (now (sharers .entry)) b a g) 1) ×
-        (now (working .exit) ≡ cond (wordIn (now (owner .entry)) (now (sharers .entry)) b a g) (set (now (working .entry)) at (pos 0))
-        (now (working .entry))) × (now (transit .exit) ≡ cond (wordIn (now (owner .entry)) (now (sharers .entry)) b a g)
-        (set (now (transit .entry)) at (getD (now (working .entry)) at (pos 0))) (now (transit .entry))) ⌝ }
+    requires { ⌜ (a < 16) × (g < 255) × (at < length (now working)) × (at < length (now transit)) ⌝ }
+    ensures { λ r. ⌜ (r ≡ only naturals (sendsPart (now (sharers .entry)) a b g) 1) ×
+        (now (working .exit) ≡ cond (sendsPart (now (sharers .entry)) a b g) (set (now (working .entry)) at (pos 0)) (now (working .entry))) ×
+        (now (transit .exit) ≡ cond (sendsPart (now (sharers .entry)) a b g) (set (now (transit .entry)) at (getD (now (working .entry)) at (pos 0)))
+        (now (transit .entry))) ⌝ }
 {
-    if !words::in_message(owner[g], sharers[g], b, a) {
+    if !sends_part(g, sharers, a, b) {
         return 0;
     }
     let v = working[at];
@@ -63,8 +69,8 @@ pub fn send_totals(
     let mut sent: u32 = 0;
     let mut g = begin(b, links);
     while g < m {
-        sent += send_one(at + g, a, b, g, owner, sharers, working, transit);
-        g = index(links[HEADS + g]);
+        sent += send_one(at + g, a, b, g, sharers, working, transit);
+        g = next(g, links);
     }
     sent
 }

@@ -1,3 +1,2 @@
--- Words of messages as the model has them, and their count.
-pub mod Counting
+-- Words of messages as the model has them.
 pub mod Message

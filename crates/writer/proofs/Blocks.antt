@@ -1,8 +1,8 @@
 -- Laws of blocks that are put into a buffer: head, records, zeros and sums. Assumes nothing.
-use Prim.Native.Nat.{ℕ, zero, suc, _+_, _-_, _*_, _/_, _%_, _≤_, _<_}
 use mathlib.Core.Path.{_≡_, refl, sym, ap, _∙_}
 use mathlib.Core.Bool.{cond}
 use mathlib.Core.List.{List, _∷_}
+use Prim.Native.Nat.{ℕ, zero, suc, _+_, _-_, _*_, _/_, _%_, _≤_, _<_}
 use native.Mathlib.Omega.{arith}
 use native.Mathlib.Nat.{div-lt-iff-lt-mul}
 use native.Mathlib.Decide.{decLt}
@@ -15,10 +15,11 @@ use Rattle.format.specs.Bytes.{from, bytes16}
 use Rattle.format.specs.Job.{FileJob}
 use Rattle.format.specs.Blocks.{BlockKind, header, offerBlock, grocerBlock, tallyBlock, kindAt, blockKindNumber, records, recordSize, fieldSize, recordBytes, spare, firstSum, secondSum}
 use Rattle.format.specs.File.{recordByte, bodyByte, blockByte}
+use Rattle.puts.specs.Puts.{put, bytesOf}
+use Rattle.writer.specs.Bodies.{rowsOf, bodyOf, keepOf, blocksOf}
 use Rattle.format.proofs.Plan.{fields-length}
 use Rattle.format.proofs.Words.{first-cong, second-cong}
-use Rattle.writer.specs.Puts.{put, bytesOf, rowsOf, bodyOf, keepOf, blocksOf}
-use Rattle.writer.proofs.Puts.{put-in, put-cong, put-next, put-keep, put-over}
+use Rattle.puts.proofs.Puts.{put-in, put-cong, put-next, put-keep, put-over}
 
 -- ---- what a block of a job's file holds
 

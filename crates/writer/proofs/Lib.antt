@@ -1,5 +1,4 @@
 -- Laws that the proofs of the writer cite.
-pub mod Puts
 pub mod Blocks
 pub mod Rows
 pub mod Made

@@ -1,7 +1,7 @@
 -- The fields of an offer and of a tally, put one after the other. Assumes nothing.
-use Prim.Native.Nat.{ℕ, _+_, _/_, _%_, _≤_, _<_}
 use mathlib.Core.Path.{_≡_, refl, sym, ap, _∙_}
 use mathlib.Core.List.{List, [], _∷_, _++_}
+use Prim.Native.Nat.{ℕ, _+_, _/_, _%_, _≤_, _<_}
 use native.Mathlib.Omega.{arith}
 use lib.IntN.{ℤ}
 use lib.ListN.{length, set, length-set, List·getD-append, List·getD-eq-default}
@@ -14,9 +14,9 @@ use Rattle.format.specs.Codes.{codeBytes, readCode}
 use Rattle.format.specs.Job.{Offer, Tally}
 use Rattle.format.specs.Blocks.{offerBytes, tallyBytes}
 use Rattle.fills.specs.Fills.{Copied}
+use Rattle.puts.specs.Puts.{put, bytesOf}
 use Rattle.fills.proofs.Filling.{code-byte}
-use Rattle.writer.specs.Puts.{put, bytesOf}
-use Rattle.writer.proofs.Puts.{length-put, is-put, put-cong, put-next, store-next}
+use Rattle.puts.proofs.Puts.{length-put, is-put, put-cong, put-next, store-next}
 
 -- Bytes that are copied are put.
 pub copied-put : (g : ℕ → ℕ) (at n : ℕ) (d d′ : List ℕ) → at + n ≤ length d → length d′ ≡ length d → Copied g at n d d′ → d′ ≡ put at n g d
@@ -52,19 +52,24 @@ module _ (p w : ℕ) (g : ℕ → ℕ) (s : ℕ) where
   offer-spare k = sym (List·getD-eq-default (offerBytes offer) 0 {n = 18 + k} (omega arith))
 
   -- Price, owner, code, issuer and zeros are the offer's 24 bytes.
-  pub offer-put : (at : ℕ) (d d₁ d₃ d₄ d₅ : List ℕ) → at + 24 ≤ length d → d₁ ≡ put at 4 (bytesOf (bytes32 p)) d → length d₃ ≡ length d →
-      Copied g (at + 5) 11 (set d₁ (at + 4) w) d₃ → d₄ ≡ put (at + 16) 2 (bytesOf (bytes16 s)) d₃ → d₅ ≡ put (at + 18) 6 (λ _. 0) d₄ →
+  pub offer-put : (at : ℕ) (d d₁ d₂ d₃ d₄ d₅ : List ℕ) → at + 24 ≤ length d → d₁ ≡ put at 4 (bytesOf (bytes32 p)) d → d₂ ≡ set d₁ (at + 4) w → length d₃ ≡ length d →
+      Copied g (at + 5) 11 d₂ d₃ → d₄ ≡ put (at + 16) 2 (bytesOf (bytes16 s)) d₃ → d₅ ≡ put (at + 18) 6 (λ _. 0) d₄ →
       d₅ ≡ put at 24 (bytesOf (offerBytes offer)) d
-  offer-put at d d₁ d₃ d₄ d₅ room e₁ l₃ c₃ e₄ e₅ =
+  offer-put at d d₁ d₂ d₃ d₄ d₅ room e₁ e₂ l₃ c₃ e₄ e₅ =
       let f = bytesOf (offerBytes offer) in
       let l₁ : length d₁ ≡ length d = ap length e₁ ∙ length-put at 4 (bytesOf (bytes32 p)) d (omega arith) in
-      let l₂ : length (set d₁ (at + 4) w) ≡ length d = length-set d₁ (at + 4) w ∙ l₁ in
-      let q₂ : set d₁ (at + 4) w ≡ put at 5 f d = rw (e₁, put-cong at 4 (bytesOf (bytes32 p)) f d price-byte) (store-next at 4 f d w (omega arith) owner-byte) in
-      let q₃ : d₃ ≡ put at 16 f d = copied-put g (at + 5) 11 (set d₁ (at + 4) w) d₃ (omega arith) (l₃ ∙ sym l₂) c₃ ∙ ap (put (at + 5) 11 g) q₂ ∙ put-next at 5 f d 11 g (omega arith) offer-code in
+      let l₂ : length d₂ ≡ length d = ap length e₂ ∙ length-set d₁ (at + 4) w ∙ l₁ in
+      let q₂ : d₂ ≡ put at 5 f d = e₂ ∙ rw (e₁, put-cong at 4 (bytesOf (bytes32 p)) f d price-byte) (store-next at 4 f d w (omega arith) owner-byte) in
+      let q₃ : d₃ ≡ put at 16 f d = copied-put g (at + 5) 11 d₂ d₃ (omega arith) (l₃ ∙ sym l₂) c₃ ∙ ap (put (at + 5) 11 g) q₂ ∙ put-next at 5 f d 11 g (omega arith) offer-code in
       let q₄ : d₄ ≡ put at 18 f d = e₄ ∙ ap (put (at + 16) 2 (bytesOf (bytes16 s))) q₃ ∙ put-next at 16 f d 2 (bytesOf (bytes16 s)) (omega arith) offer-issuer in
       e₅ ∙ ap (put (at + 18) 6 (λ _. 0)) q₄ ∙ put-next at 18 f d 6 (λ _. 0) (omega arith) (λ k h. offer-spare k)
 
 -- ---- a tally
+
+-- Three words that are the same make the same bytes.
+pub words-same : (at : ℕ) (d : List ℕ) {s s′ a a′ r r′ : ℕ} → s ≡ s′ → a ≡ a′ → r ≡ r′ →
+    put at 6 (bytesOf (bytes16 s ++ bytes16 a ++ bytes16 r)) d ≡ put at 6 (bytesOf (bytes16 s′ ++ bytes16 a′ ++ bytes16 r′)) d
+words-same at d p q e = rw (p, q, e)
 
 module _ (m b : ℕ) (g : ℕ → ℕ) (z : ℤ) (s a r : ℕ) where
   abbrev tally : Tally
@@ -100,14 +105,14 @@ module _ (m b : ℕ) (g : ℕ → ℕ) (z : ℤ) (s a r : ℕ) where
   last-byte k h = sym (getD-append-add (m % 256 ∷ m / 256 ∷ b ∷ codeBytes (readCode g) ++ bytes32 (ofZ w32 z)) last k 0)
 
   -- Grocer, box, code, count, issuer, bag and revision are the tally's 24 bytes.
-  pub tally-put : (at : ℕ) (d d₁ d₃ d₄ d₅ : List ℕ) → at + 24 ≤ length d → d₁ ≡ put at 2 (bytesOf (bytes16 m)) d → length d₃ ≡ length d →
-      Copied g (at + 3) 11 (set d₁ (at + 2) b) d₃ → d₄ ≡ put (at + 14) 4 (bytesOf (bytes32 (ofZ w32 z))) d₃ → d₅ ≡ put (at + 18) 6 (bytesOf last) d₄ →
+  pub tally-put : (at : ℕ) (d d₁ d₂ d₃ d₄ d₅ : List ℕ) → at + 24 ≤ length d → d₁ ≡ put at 2 (bytesOf (bytes16 m)) d → d₂ ≡ set d₁ (at + 2) b → length d₃ ≡ length d →
+      Copied g (at + 3) 11 d₂ d₃ → d₄ ≡ put (at + 14) 4 (bytesOf (bytes32 (ofZ w32 z))) d₃ → d₅ ≡ put (at + 18) 6 (bytesOf last) d₄ →
       d₅ ≡ put at 24 (bytesOf (tallyBytes tally)) d
-  tally-put at d d₁ d₃ d₄ d₅ room e₁ l₃ c₃ e₄ e₅ =
+  tally-put at d d₁ d₂ d₃ d₄ d₅ room e₁ e₂ l₃ c₃ e₄ e₅ =
       let f = bytesOf (tallyBytes tally) in
       let l₁ : length d₁ ≡ length d = ap length e₁ ∙ length-put at 2 (bytesOf (bytes16 m)) d (omega arith) in
-      let l₂ : length (set d₁ (at + 2) b) ≡ length d = length-set d₁ (at + 2) b ∙ l₁ in
-      let q₂ : set d₁ (at + 2) b ≡ put at 3 f d = rw (e₁, put-cong at 2 (bytesOf (bytes16 m)) f d grocer-byte) (store-next at 2 f d b (omega arith) box-byte) in
-      let q₃ : d₃ ≡ put at 14 f d = copied-put g (at + 3) 11 (set d₁ (at + 2) b) d₃ (omega arith) (l₃ ∙ sym l₂) c₃ ∙ ap (put (at + 3) 11 g) q₂ ∙ put-next at 3 f d 11 g (omega arith) tally-code in
+      let l₂ : length d₂ ≡ length d = ap length e₂ ∙ length-set d₁ (at + 2) b ∙ l₁ in
+      let q₂ : d₂ ≡ put at 3 f d = e₂ ∙ rw (e₁, put-cong at 2 (bytesOf (bytes16 m)) f d grocer-byte) (store-next at 2 f d b (omega arith) box-byte) in
+      let q₃ : d₃ ≡ put at 14 f d = copied-put g (at + 3) 11 d₂ d₃ (omega arith) (l₃ ∙ sym l₂) c₃ ∙ ap (put (at + 3) 11 g) q₂ ∙ put-next at 3 f d 11 g (omega arith) tally-code in
       let q₄ : d₄ ≡ put at 18 f d = e₄ ∙ ap (put (at + 14) 4 (bytesOf (bytes32 (ofZ w32 z)))) q₃ ∙ put-next at 14 f d 4 (bytesOf (bytes32 (ofZ w32 z))) (omega arith) count-byte in
       e₅ ∙ ap (put (at + 18) 6 (bytesOf last)) q₄ ∙ put-next at 18 f d 6 (bytesOf last) (omega arith) last-byte

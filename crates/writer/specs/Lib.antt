@@ -1,4 +1,4 @@
--- The writer of the job file: bytes that are put into the buffer, blocks made of records, and the answer.
-pub mod Puts
+-- The writer of the job file: blocks made of records, and the answer.
+pub mod Bodies
 pub mod Ready
 pub mod Outcome

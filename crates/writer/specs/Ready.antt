@@ -6,7 +6,7 @@ use Rattle.format.specs.Job.{Head}
 use Rattle.format.specs.Blocks.{blockCount}
 use Rattle.format.specs.Tables.{FileTables, Long}
 use Rattle.blocks.specs.Due.{Most}
-use Rattle.writer.specs.Puts.{Small}
+use Rattle.writer.specs.Bodies.{Small}
 
 -- K, M, N and T are in range, each table and the buffer are long enough, and each word that takes one byte fits it.
 pub record Ready (h : Head) (l : FileTables) (out : List ℕ) : Type 0 where

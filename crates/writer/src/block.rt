@@ -9,26 +9,18 @@ ghost use Rattle.format.specs.File.{blockByte};
 ghost use Rattle.format.specs.Tables.{offerTables, tallyTables, LongOffers, LongTallies, offerOf, tallyOf};
 ghost use Rattle.format.specs.Lent.{offersLent, talliesLent};
 ghost use Rattle.blocks.specs.Due.{asHead, Most};
-ghost use Rattle.writer.specs.Puts.{put, bytesOf, bodyOf, keepOf, recordBody, Small};
-use crate::bytes::byte;
-use crate::bytes::put_zeros;
-use crate::bytes::put16;
+ghost use Rattle.puts.specs.Puts.{put, bytesOf};
+ghost use Rattle.writer.specs.Bodies.{bodyOf, keepOf, recordBody, Small};
 use crate::records::put_offers;
 use crate::records::put_owners;
 use crate::records::put_tallies;
 use blocks::plan::Head;
-use blocks::sums::sums;
 use checks::sizes::size_of;
-
-// The first four bytes of a block.
-fn put_head(out: &mut [u8], at: usize, kind: u8, records: usize, number: usize)
-    requires { ⌜ (at + 4 ≤ length (now out)) × ((records < 256) × (number < 65536)) ⌝ }
-    ensures { λ _. ⌜ now (out .exit) ≡ put at 4 (bytesOf (kind ∷ records ∷ bytes16 number)) (now (out .entry)) ⌝ }
-{
-    out[at] = kind;
-    out[at + 1] = byte(records);
-    put16(out, at + 2, number);
-}
+use puts::put_four;
+use puts::put_words;
+use puts::put_zeros;
+use puts::put16;
+use sums::sums;
 
 // Zeros behind the first bytes of a block, and both sums.
 fn close_block(out: &mut [u8], at: usize, used: usize)
@@ -37,10 +29,8 @@ fn close_block(out: &mut [u8], at: usize, used: usize)
 {
     put_zeros(out, at + used, 508 - used);
     let s = sums(out, at);
-    let first = s.first;
-    let second = s.second;
-    put16(out, at + 508, first as usize);
-    put16(out, at + 510, second as usize);
+    put16(out, at + 508, s.first as usize);
+    put16(out, at + 510, s.second as usize);
 }
 
 // How many of n records the block has whose first record is `first`.
@@ -60,12 +50,8 @@ fn put_sizes(out: &mut [u8], head: Head)
     requires { ⌜ (14 ≤ length (now out)) × Most (asHead head) ⌝ }
     ensures { λ _. ⌜ now (out .exit) ≡ put 4 10 (bytesOf (headerBytes (asHead head))) (now (out .entry)) ⌝ }
 {
-    out[4] = byte(head.boxes);
-    out[5] = 1;
-    put16(out, 6, head.grocers);
-    put16(out, 8, head.offers);
-    put16(out, 10, head.tallies);
-    put16(out, 12, size_of(head.cycle));
+    put_four(out, 4, head.boxes, 1, head.grocers);
+    put_words(out, 8, head.offers, head.tallies, size_of(head.cycle));
 }
 
 // The header block.
@@ -74,7 +60,7 @@ pub fn put_header(out: &mut [u8], head: Head)
     ensures { λ _. ⌜ now (out .exit) ≡ put 0 512 (blockByte (bodyOf (0 ∷ 1 ∷ bytes16 0) 504 1 (λ _. bytesOf (headerBytes (asHead head)))))
         (now (out .entry)) ⌝ }
 {
-    put_head(out, 0, 0, 1, 0);
+    put_four(out, 0, 0, 1, 0);
     put_sizes(out, head);
     close_block(out, 0, 14);
 }
@@ -99,7 +85,7 @@ pub fn put_offer_block(
     let at = 512 * number;
     let first = 21 * b;
     let count = part_of(n, first);
-    put_head(out, at, 1, count, number);
+    put_four(out, at, 1, count, number);
     put_offers(
         out,
         at + 4,
@@ -121,7 +107,7 @@ pub fn put_grocer_block(out: &mut [u8], k: usize, m: usize, grocer_owner: &[u16]
         (λ r. bytesOf (getD (now («grocer_owner» .entry)) r 0 ∷ [])))) (now (out .entry)) ⌝ }
 {
     let at = 512 * k;
-    put_head(out, at, 2, m, k);
+    put_four(out, at, 2, m, k);
     put_owners(out, at + 4, m, grocer_owner);
     close_block(out, at, 4 + m);
 }
@@ -153,7 +139,7 @@ pub fn put_tally_block(
     let at = 512 * number;
     let first = 21 * b;
     let count = part_of(t, first);
-    put_head(out, at, 3, count, number);
+    put_four(out, at, 3, count, number);
     put_tallies(
         out,
         at + 4,

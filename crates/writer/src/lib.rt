@@ -6,7 +6,6 @@ ghost use Rattle.format.specs.Lent.{fileLent};
 ghost use Rattle.writer.specs.Outcome.{outcomeOf};
 
 mod block;
-mod bytes;
 mod file;
 mod records;
 

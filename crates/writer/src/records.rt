@@ -1,20 +1,23 @@
 // Records put into the buffer for the file.
 ghost use mathlib.Core.Path.{_≡_};
-ghost use mathlib.Core.List.{_++_};
 ghost use Prim.Native.Nat.{_+_, _*_, _≤_, _<_};
 ghost use lib.ListN.{length, getD};
-ghost use Rattle.format.specs.Bytes.{bytes16};
 ghost use Rattle.format.specs.Blocks.{offerBytes, tallyBytes};
 ghost use Rattle.format.specs.Tables.{offerOf, tallyOf};
 ghost use Rattle.format.specs.Lent.{offersLent, talliesLent};
-ghost use Rattle.writer.specs.Puts.{put, bytesOf, rowsOf, Small};
-use crate::bytes::put_zeros;
-use crate::bytes::put16;
-use crate::bytes::put32;
-use blocks::bytes::bits;
+ghost use Rattle.puts.specs.Puts.{put, bytesOf};
+ghost use Rattle.writer.specs.Bodies.{rowsOf, Small};
 use blocks::codes::CODE_BYTES;
-use checks::sizes::size_of;
+use bytes::bits;
 use fills::code::copy_code;
+use puts::put_byte;
+use puts::put_words;
+use puts::put_zeros;
+use puts::put16;
+use puts::put32;
+use slices::i32_at;
+use slices::index_at;
+use slices::u32_at;
 
 // Offer i in 24 bytes.
 pub fn put_offer(
@@ -32,30 +35,11 @@ pub fn put_offer(
     ensures { λ _. ⌜ now (out .exit) ≡ put at 24 (bytesOf (offerBytes (offerOf (offersLent price «offer_owner» «offer_code» «offer_issuer») i)))
         (now (out .entry)) ⌝ }
 {
-    put32(out, at, price[i]);
-    out[at + 4] = offer_owner[i] as u8;
+    put32(out, at, u32_at(price, i));
+    put_byte(out, at + 4, index_at(offer_owner, i));
     copy_code(offer_code, i * CODE_BYTES, out, at + 5);
-    put16(out, at + 16, size_of(offer_issuer[i]));
+    put16(out, at + 16, index_at(offer_issuer, i));
     put_zeros(out, at + 18, 6);
-}
-
-// The last six bytes of tally i: its issuer, its bag and its revision.
-fn put_tally_end(
-    out: &mut [u8],
-    at: usize,
-    tally_issuer: &[u16],
-    tally_bag: &[u16],
-    tally_revision: &[u16],
-    i: usize,
-)
-    requires { ⌜ at + 6 ≤ length (now out) ⌝ }
-    requires { ⌜ (i < length (now «tally_issuer»)) × (i < length (now «tally_bag»)) × (i < length (now «tally_revision»)) ⌝ }
-    ensures { λ _. ⌜ now (out .exit) ≡ put at 6 (bytesOf (bytes16 (getD (now («tally_issuer» .entry)) i 0) ++ bytes16 (getD (now («tally_bag» .entry)) i 0) ++
-        bytes16 (getD (now («tally_revision» .entry)) i 0))) (now (out .entry)) ⌝ }
-{
-    put16(out, at, size_of(tally_issuer[i]));
-    put16(out, at + 2, size_of(tally_bag[i]));
-    put16(out, at + 4, size_of(tally_revision[i]));
 }
 
 // Tally i in 24 bytes.
@@ -79,11 +63,17 @@ pub fn put_tally(
         (bytesOf (tallyBytes (tallyOf (talliesLent «tally_grocer» «tally_box» «tally_code» «tally_count» «tally_issuer»
         «tally_bag» «tally_revision») i))) (now (out .entry)) ⌝ }
 {
-    put16(out, at, size_of(tally_grocer[i]));
-    out[at + 2] = tally_box[i] as u8;
+    put16(out, at, index_at(tally_grocer, i));
+    put_byte(out, at + 2, index_at(tally_box, i));
     copy_code(tally_code, i * CODE_BYTES, out, at + 3);
-    put32(out, at + 14, bits(tally_count[i]));
-    put_tally_end(out, at + 18, tally_issuer, tally_bag, tally_revision, i);
+    put32(out, at + 14, bits(i32_at(tally_count, i)));
+    put_words(
+        out,
+        at + 18,
+        index_at(tally_issuer, i),
+        index_at(tally_bag, i),
+        index_at(tally_revision, i),
+    );
 }
 
 // N offers from `first` on, one after the other.

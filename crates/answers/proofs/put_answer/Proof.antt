@@ -8,35 +8,27 @@ use Rattle.printing.specs.Printed.{runText}
 use Rattle.answers.proofs.put_answer.Statement.{statement}
 use Rattle.answers.proofs.put_answer.Tie as tie
 
-same-length : tie.Need-same-length
-same-length c = c .before .before .put-settled .kept .0
-
 returns : tie.Need-returns
 unfolding answerOf runText
 returns c =
-    let m = c .before .before .before .before .before in
-    let s = m .before .before .before in
-    reworded (sym (ap (λ (x : Answer). runText (s .args .grocers) (answerOf x) (now (s .args .statement))) (m .a .given .1))) (c .before .before .put-settled .ensures)
-
-same-length-2 : tie.Need-same-length-2
-same-length-2 c = c .before .before .put-refused .kept .0
+    let m = c .before .before .before in
+    let s = m .before .before in
+    reworded (sym (ap (λ (x : Answer). runText (s .args .grocers) (answerOf x) (now (s .args .statement))) (m .a .given .1))) (c .put-settled .ensures)
 
 returns-2 : tie.Need-returns-2
 unfolding answerOf runText
 returns-2 c =
-    let m = c .before .before .before .before .before in
-    let s = m .before .before .before in
-    reworded (sym (ap (λ (x : Answer). runText (s .args .grocers) (answerOf x) (now (s .args .statement))) (m .a2 .given .1))) (c .before .before .put-refused .ensures)
+    let m = c .before .before .before in
+    let s = m .before .before in
+    reworded (sym (ap (λ (x : Answer). runText (s .args .grocers) (answerOf x) (now (s .args .statement))) (m .a2 .given .1))) (c .put-refused .ensures)
 
 pub put-answer-spec : {M : Type 1} → statement M
 put-answer-spec =
     tie.close
     (tie.spec
     (λ c. c .match .keys1)
-    (λ c κs. c .before .before .before .before .before .pre)
+    (λ c κs. c .before .before .before .before .pre)
     (λ c. c .match .keys2)
-    (λ c κs. c .before .before .before .before .before .pre .2)
-    same-length
+    (λ c κs. tt)
     returns
-    same-length-2
     returns-2)

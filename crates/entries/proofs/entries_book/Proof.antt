@@ -1,5 +1,4 @@
 -- `entries::entries_book` meets its contract. Assumes nothing.
-use borrow.Author.Needs.{needs}
 use Rattle.entries.proofs.Told.{booked-short, booked-told}
 use Rattle.entries.proofs.entries_book.Statement.{statement}
 use Rattle.entries.proofs.entries_book.Tie as tie
@@ -52,7 +51,7 @@ entries-book-spec =
     tie.close
     (tie.spec
     returns
-    (λ c κs. search needs)
+    (λ c κs. tt)
     tell-numbers-requires
     same-length
     same-length-2

@@ -1,5 +1,4 @@
 -- `entries::entries_message_tables` meets its contract. Assumes nothing.
-use borrow.Author.Needs.{needs}
 use denote.Ref.{now}
 use Rattle.laws.specs.Tables.{tabulate}
 use Rattle.entries.specs.EntryTables.{messagesShort, noWords}
@@ -50,7 +49,7 @@ entries-message-tables-spec =
     tie.close
     (tie.spec
     returns
-    (λ c κs. search needs)
+    (λ c κs. tt)
     tell-messages-requires
     same-length
     same-length-2

@@ -2,7 +2,6 @@
 use denote.Ref.{now}
 use Rattle.entries.specs.Entries.{shortFields}
 use Rattle.entries.proofs.Fields.{fields-whole, told-short, told-whole}
-use borrow.Author.Needs.{needs}
 use Rattle.entries.proofs.entries_reconcile.Statement.{statement}
 use Rattle.entries.proofs.entries_reconcile.Tie as tie
 use Rattle.entries.proofs.entries_reconcile.Reads as reads
@@ -43,4 +42,4 @@ returns-2 c =
 pub entries-reconcile-spec : {M : Type 1} → statement M
 entries-reconcile-spec =
     tie.close
-    (tie.spec returns records-requires (λ c κs. search needs) tell-requires (λ c. search needs) returns-2)
+    (tie.spec returns records-requires (λ c κs. tt) tell-requires (λ c. c .before .tell .kept .1 .0) returns-2)

@@ -1,5 +1,4 @@
 -- `entries_write` gives what the writer gives.
-use borrow.Author.Needs.{needs}
 use mathlib.Core.Path.{sym}
 use Rattle.entries.specs.Entries.{writtenAs}
 use Rattle.entries.proofs.entries_write.Statement.{statement}
@@ -14,4 +13,4 @@ unfolding writtenAs
 returns c = rw (sym (c .before .before .before .write .ensures), c .number .ensures)
 
 pub entries-write-spec : {M : Type 1} → statement M
-entries-write-spec = tie.close (tie.spec (λ c κs. search needs) (λ c κs. search needs) (λ c. search needs) returns)
+entries-write-spec = tie.close (tie.spec (λ c κs. tt) (λ c κs. tt) (λ c. c .before .before .before .write .kept .1 .1 .1 .1 .1 .1 .1 .1 .1 .1 .1 .1 .1 .1 .1 .1 .1 .0) returns)

@@ -7,9 +7,8 @@ use native.Mathlib.Omega.{arith}
 use borrow.Author.Needs.{needs}
 use denote.Ref.{now}
 use lib.ListN.{length, set}
-use Rattle.laws.specs.Tables.{overwrite, recell}
+use Rattle.laws.specs.Tables.{overwrite, recell, cellAt}
 use Rattle.laws.proofs.Tables.{length-overwrite, overwrite-none, overwrite-next}
-use Rattle.tables.specs.Messages.{cellAt}
 use Rattle.entries.proofs.lay.Statement.{statement}
 use Rattle.entries.proofs.lay.Tie as tie
 

@@ -1,5 +1,4 @@
 -- `entries::tell_messages` meets its contract. Assumes nothing.
-use borrow.Author.Needs.{needs}
 use lib.ListN.{length-set}
 use Rattle.entries.proofs.Told.{told-made, told-not-made}
 use Rattle.entries.proofs.tell_messages.Statement.{statement}
@@ -49,11 +48,11 @@ pub tell-messages-spec : {M : Type 1} → statement M
 tell-messages-spec =
     tie.close
     (tie.spec
-    (λ c. search needs)
+    (λ c. c .match .keys1)
     lay-requires
     lay-requires-2
     slice-write-job-words
-    (λ c. search needs)
+    (λ c. c .match .keys2)
     same-length
     same-length-2
     same-length-3

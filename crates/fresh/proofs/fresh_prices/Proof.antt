@@ -1,5 +1,5 @@
 -- `fresh::fresh_prices` meets its contract. The invariant: of the first o offers each owner knows the price, and all else of the table is 0. Assumes nothing.
-use mathlib.Core.Path.{_≡_, refl, sym, ap, _∙_}
+use mathlib.Core.Path.{_≡_, refl, sym, ap, ap₂, _∙_}
 use mathlib.Core.Bool.{cond, _&&_}
 use mathlib.Core.List.{List}
 use Prim.Native.Nat.{ℕ, _+_, _-_, _*_, _≤_, _<_}
@@ -39,7 +39,7 @@ start c = c .before .before .before .before .before .before
 abbrev entry : tie.After-slice-known4 Inv-loop μ-loop → Start
 entry c = start (zeroed c .before .before .before .before)
 
-abbrev turn : tie.After-shared-slice-known4 Inv-loop μ-loop → tie.In-loop Inv-loop μ-loop
+abbrev turn : tie.After-u32-at Inv-loop μ-loop → tie.In-loop Inv-loop μ-loop
 turn c = c .before .before .before
 
 -- The table of zeros.
@@ -58,6 +58,15 @@ inside : (c : tie.In-loop Inv-loop μ-loop) →
     let s = entry (c .before .before) in
     getD (now (s .args .offer-owner)) (c .before .loop .o) 0 * s .args .offers + c .before .loop .o < s .args .boxes * s .args .offers
 inside c = let s = entry (c .before .before) in cell-in (getD (now (s .args .offer-owner)) (c .before .loop .o) 0) (s .args .boxes) (s .args .offers) (c .before .loop .o) (owner-in c) (c .loop-test .taken)
+
+-- That place, as it is computed, and the price that is written there.
+place-is : (c : tie.After-u32-at Inv-loop μ-loop) →
+    let s = entry (turn c .before .before) in
+    let o = turn c .before .loop .o in
+    c .before .place .result ≡ getD (now (s .args .offer-owner)) o 0 * s .args .offers + o
+place-is c =
+    let n = entry (turn c .before .before) .args .offers in
+    c .before .place .ensures ∙ ap (λ (w : ℕ). w * n + turn c .before .loop .o) (c .before .before .u16-at .ensures)
 
 mul-words : tie.Need-mul-words Inv-loop μ-loop
 mul-words c = let s = c .before .before .before .before in omega (arith, mul-le-mul (s .pre .boxes≤) (s .pre .offers≤))
@@ -85,19 +94,19 @@ place-requires : tie.Need-place-requires Inv-loop μ-loop
 place-requires c κs =
     let e = c .before in
     let s = entry (e .before .before) in
-    (s .pre .offers≤, (omega (arith, owner-in e, s .pre .boxes≤), omega (arith, e .loop-test .taken)))
+    (s .pre .offers≤, (omega (arith, c .u16-at .ensures, owner-in e, s .pre .boxes≤), omega (arith, e .loop-test .taken)))
 
-mul-known-2 : tie.Need-mul-known-2 Inv-loop μ-loop
-mul-known-2 c =
+mul-known : tie.Need-mul-known Inv-loop μ-loop
+mul-known c =
     let e = turn c in
     let s = entry (e .before .before) in
-    omega (arith, c .before .place .ensures, inside e, mul-le-mul (s .pre .boxes≤) (s .pre .offers≤))
+    omega (arith, place-is c, inside e, mul-le-mul (s .pre .boxes≤) (s .pre .offers≤))
 
 slice-write-known : tie.Need-slice-write-known Inv-loop μ-loop
 slice-write-known c =
     let e = turn c in
     let s = entry (e .before .before) in
-    omega (arith, c .before .place .ensures, inside e, e .before .loop .inv .1, long (e .before .before), s .pre .knownLong)
+    omega (arith, place-is c, inside e, e .before .loop .inv .1, long (e .before .before), s .pre .knownLong)
 
 loop-again : tie.Need-loop-again Inv-loop μ-loop
 loop-again c =
@@ -112,9 +121,9 @@ loop-again c =
     let enough : k * n ≤ length (l .known) = omega (arith, l .inv .1, long (e .before .before), s .pre .knownLong) in (
       omega (arith, e .loop-test .taken),
       length-set (l .known) _ _ ∙ l .inv .1,
-      (λ x p lx lp. ap (λ (i : ℕ). getD (set (l .known) i (getD price (l .o) 0)) (x * n + p) 0) (c .before .place .ensures)
+      (λ x p lx lp. ap₂ (λ (i v : ℕ). getD (set (l .known) i v) (x * n + p) 0) (place-is c) (c .u32-at .ensures)
           ∙ own-more k n price owner zero (l .known) (l .o) (e .loop-test .taken) (owner-in e) enough (l .inv .2) x p lx lp),
-      λ i h. ap (λ (q : ℕ). getD (set (l .known) q (getD price (l .o) 0)) i 0) (c .before .place .ensures)
+      λ i h. ap₂ (λ (q v : ℕ). getD (set (l .known) q v) i 0) (place-is c) (c .u32-at .ensures)
           ∙ own-past k n price owner zero (l .known) (l .o) (e .loop-test .taken) (owner-in e) enough (l .inv .2) i h (l .inv .3 i h),
     )
 
@@ -147,14 +156,12 @@ fresh-prices-spec =
     zero32-requires
     zero32-requires-2
     loop-holds
-    (λ c. search needs)
-    (λ c. search needs)
+    (λ c κs. omega (arith, c .loop-test .taken, entry (c .before .before) .pre .ownerLong))
     place-requires
-    (λ c. search needs)
-    (λ c. search needs)
-    mul-known-2
+    (λ c κs. let e = c .before .before in omega (arith, e .loop-test .taken, entry (e .before .before) .pre .priceLong))
+    mul-known
     slice-write-known
-    (λ c. search needs)
+    (λ c. let e = turn c in omega (arith, e .loop-test .taken, entry (e .before .before) .pre .offers≤))
     (λ c. search needs)
     loop-again
     same-length

@@ -1,19 +1,24 @@
 -- `host::settlement_read` meets its contract. Assumes nothing.
-use borrow.Author.Needs.{needs}
 use Rattle.host.proofs.Gives.{read-short, read-told}
 use Rattle.host.proofs.settlement_read.Statement.{statement}
 use Rattle.host.proofs.settlement_read.Tie as tie
 
--- The call of `read`, from the last return.
-abbrev told : tie.After-slice-known26 → tie.After-slice-known20
-told c = c .before .before .before .before .before .before .before .before .before .before .before .before .before .before .before
+-- The call of `read`, from where sizes are lent, and from the last return.
+abbrev lent-sizes : tie.After-tell-sizes-arg → tie.After-slice-known20
+lent-sizes c = c .before .before .before .before .before .before .before .before .before .before .before .before
+
+abbrev read-at : tie.After-slice-known20 → tie.After-read
+read-at c = c .before .before .before .before .before .before .before .before .before .before .before .before .before .before
 
 abbrev was-read : tie.After-slice-known26 → tie.After-read
-was-read c = told c .before .before .before .before .before .before .before .before .before .before .before .before .before .before
+was-read c = read-at (lent-sizes (c .before .before .before))
 
 -- The test of the length of sizes, from the call of `read`.
 abbrev long : tie.After-read → tie.Else1
 long c = c .before .before .before .before .before .before .before .before .before .before .before .before .before .before
+
+tell-sizes-requires : tie.Need-tell-sizes-requires
+tell-sizes-requires c κs = long (read-at (lent-sizes c)) .if1 .left
 
 returns : tie.Need-returns
 returns c = read-short _ _ _ (c .if1 .taken)
@@ -27,7 +32,7 @@ settlement-read-spec =
     (tie.spec
     returns
     (λ c κs. tt)
-    (λ c κs. search needs)
+    tell-sizes-requires
     (λ c. was-read c .read .kept .1 .0)
     (λ c. was-read c .read .kept .1 .1 .0)
     (λ c. was-read c .read .kept .1 .1 .1 .0)

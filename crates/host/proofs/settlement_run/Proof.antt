@@ -1,16 +1,21 @@
 -- `host::settlement_run` meets its contract. Assumes nothing.
-use borrow.Author.Needs.{needs}
 use Rattle.host.proofs.Gives.{run-short, run-told}
 use Rattle.host.proofs.settlement_run.Statement.{statement}
 use Rattle.host.proofs.settlement_run.Tie as tie
 
--- The call of `run`, from the last return.
+-- The call of `run`, from where the report is lent, and from the last return.
+abbrev lent-report : tie.After-tell-report-arg → tie.After-run
+lent-report c = c .before .before .before .before .before .before .before .before .before .before .before .before
+
 abbrev ran : tie.After-slice-known10 → tie.After-run
-ran c = c .before .before .before .before .before .before .before .before .before .before .before .before .before .before .before
+ran c = lent-report (c .before .before .before)
 
 -- The test of the report's length, from the call of `run`.
 abbrev long : tie.After-run → tie.Else1
 long c = c .before .before .before .before .before .before .before .before
+
+tell-report-requires : tie.Need-tell-report-requires
+tell-report-requires c κs = long (lent-report c) .if1 .left
 
 returns : tie.Need-returns
 returns c = run-short _ _ _ _ (c .if1 .taken)
@@ -48,7 +53,7 @@ settlement-run-spec =
     (tie.spec
     returns
     (λ c κs. tt)
-    (λ c κs. search needs)
+    tell-report-requires
     same-length
     same-length-2
     same-length-3

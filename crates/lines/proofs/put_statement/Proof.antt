@@ -5,7 +5,7 @@ use mir.Syntax.{w64}
 use mir.Facts.{toZ-ofZ}
 use Rattle.printing.specs.Printed.{signedDecimal}
 use Rattle.text.specs.Puts.{Put}
-use Rattle.text.proofs.Puts.{same-long, reworded}
+use Rattle.text.proofs.Puts.{reworded}
 use Rattle.text.proofs.Decimals.{decimal-few, signed-few, abs-64, lined}
 use borrow.Author.Needs.{needs}
 use Rattle.lines.proofs.put_statement.Statement.{statement}
@@ -13,13 +13,13 @@ use Rattle.lines.proofs.put_statement.Tie as tie
 
 -- From the amount back to the space, from there to the grocer's number, and from there to the entry.
 abbrev spaced : tie.After-put-amount → tie.After-put-byte
-spaced c = c .before .before .before .before
+spaced c = c .before .before
 
 abbrev named : tie.After-put-byte → tie.After-put-decimal
-named c = c .before .before .before .before
+named c = c .before .before
 
 abbrev entry : tie.After-put-decimal → tie.Start
-entry c = c .before .before .before
+entry c = c .before .before
 
 -- The amount was put.
 amounts : (v : tie.After-put-amount) → Put (spaced v .put-byte .result) (signedDecimal (entry (named (spaced v)) .args .z)) (spaced v .put-byte .last .0) (v .put-amount .last .0) (v .put-amount .result)
@@ -27,42 +27,34 @@ amounts v = reworded (ap signedDecimal (toZ-ofZ {w = w64} (entry (named (spaced 
 
 put-byte-requires : tie.Need-put-byte-requires
 put-byte-requires c κs =
-    let t = c .before .before .before in
+    let t = c .before in
     let a = t .put-decimal .ensures in
-    omega (arith, a .next, same-long a, decimal-few 19 (entry t .args .g) (omega arith))
+    omega (arith, a .next, decimal-few 19 (entry t .args .g) (omega arith))
 
 put-amount-requires : tie.Need-put-amount-requires
 put-amount-requires c κs =
-    let u = c .before .before .before in
+    let u = c .before in
     let t = named u in
     let a = t .put-decimal .ensures in
     let b = u .put-byte .ensures in
-    omega (arith, a .next, b .next, same-long a, same-long b, decimal-few 19 (entry t .args .g) (omega arith))
+    omega (arith, a .next, b .next, decimal-few 19 (entry t .args .g) (omega arith))
 
 put-byte-requires-2 : tie.Need-put-byte-requires-2
 put-byte-requires-2 c κs =
-    let v = c .before .before .before in
+    let v = c .before in
     let u = spaced v in
     let t = named u in
     let s = entry t in
     let a = t .put-decimal .ensures in
     let b = u .put-byte .ensures in
     let d = amounts v in
-    omega (arith, a .next, b .next, d .next, same-long a, same-long b, same-long d, decimal-few 19 (s .args .g) (omega arith), signed-few 18 (s .args .z) (abs-64 (s .args .z) (s .fits .z)))
-
-same-length : tie.Need-same-length
-same-length c =
-    let w = c .before .before in
-    let v = w .before .before .before .before in
-    let u = spaced v in
-    w .put-byte2 .kept .0 ∙ v .put-amount .kept .0 ∙ u .put-byte .kept .0 ∙ named u .put-decimal .kept .0
+    omega (arith, a .next, b .next, d .next, decimal-few 19 (s .args .g) (omega arith), signed-few 18 (s .args .z) (abs-64 (s .args .z) (s .fits .z)))
 
 returns : tie.Need-returns
 returns c =
-    let w = c .before .before in
-    let v = w .before .before .before .before in
+    let v = c .before .before in
     let u = spaced v in
-    lined (named u .put-decimal .ensures) (u .put-byte .ensures) (amounts v) (w .put-byte2 .ensures)
+    lined (named u .put-decimal .ensures) (u .put-byte .ensures) (amounts v) (c .put-byte2 .ensures)
 
 pub put-statement-spec : {M : Type 1} → statement M
 put-statement-spec =
@@ -72,5 +64,4 @@ put-statement-spec =
     put-byte-requires
     put-amount-requires
     put-byte-requires-2
-    same-length
     returns)

@@ -9,7 +9,7 @@ use Rattle.laws.proofs.Signed.{read64}
 use Rattle.cents.specs.Cents.{cents}
 use Rattle.printing.specs.Printed.{decimal, signedDecimal, line, grocerLines}
 use Rattle.text.specs.Puts.{Put}
-use Rattle.text.proofs.Puts.{same-long, reworded}
+use Rattle.text.proofs.Puts.{reworded}
 use Rattle.text.proofs.Decimals.{abs-64}
 use Rattle.lines.proofs.Grocers.{grocer-none, grocer-more, grocer-short}
 use Rattle.lines.proofs.put_statements.Statement.{statement}
@@ -25,30 +25,26 @@ loop-holds : tie.Need-loop-holds Inv-loop μ-loop
 loop-holds c = (grocer-none _ _, omega arith, omega arith)
 
 put-statement-requires : tie.Need-put-statement-requires Inv-loop μ-loop
-put-statement-requires c κs = let i = c .before .before .before .before .loop .inv in omega (arith, same-long (i .0))
+put-statement-requires c κs = let i = c .before .before .before .before .loop .inv in omega (arith, i .1)
 
 loop-again : tie.Need-loop-again Inv-loop μ-loop
 loop-again c =
-    let p = c .before .before in
-    let k = p .before .before in
+    let k = c .before .before in
     let l = k .before .before .before .loop in
-    let w = now (k .before .before .before .before .before .args .statement) in
+    let w = now (k .before .before .before .before .args .statement) in
     let z = getD w (l .g) (pos 0) in
     let y = k .cents .result in
     let e : y ≡ cents z = k .cents .ensures ∙ ap cents (read64 z (k .before .amount .given)) in
-    let q = reworded (ap (λ (x : ℤ). line (decimal (l .g)) (signedDecimal x)) (read64 y (k .cents .ok) ∙ e)) (p .put-statement .ensures) in (
+    let q = reworded (ap (λ (x : ℤ). line (decimal (l .g)) (signedDecimal x)) (read64 y (k .cents .ok) ∙ e)) (c .put-statement .ensures) in (
       grocer-more (l .g) (λ i. getD w i (pos 0)) (l .inv .0) q,
       omega (arith, q .next, l .inv .1, grocer-short (l .g) (cents z) (omega arith) (rw e at (abs-64 y (record { sfits = k .cents .ok })))),
       omega arith,
     )
 
-same-length : tie.Need-same-length Inv-loop μ-loop
-same-length c = same-long (c .before .loop .inv .0)
-
 returns : tie.Need-returns Inv-loop μ-loop
 returns c =
     let l = c .before .loop in
-    let e : l .g ≡ c .before .before .before .args .grocers = omega arith in
+    let e : l .g ≡ c .before .before .args .grocers = omega arith in
     (rw e at (l .inv .0), omega arith)
 
 pub put-statements-spec : {M : Type 1} → statement M
@@ -65,5 +61,4 @@ put-statements-spec =
     (λ c. omega arith)
     (λ c. omega arith)
     loop-again
-    same-length
     returns)

@@ -36,31 +36,29 @@ no-places-requires c κs = let s = c .before .before .before in omega (arith, s 
 loop-holds : tie.Need-loop-holds Inv-loop μ-loop
 loop-holds c = let b = c .before .before in (search needs, refl, linked-none 17 (entry b .args .n) _ _ (b .no-places .ensures))
 
-cast-put-first : tie.Need-cast-put-first Inv-loop μ-loop
-cast-put-first c = omega (arith, key-below (c .before))
-
 put-first-requires : tie.Need-put-first-requires Inv-loop μ-loop
 put-first-requires c κs =
-    let e = c .before .before in
+    let r = c .before in
+    let e = r .before in
     let s = entry (begun (e .before)) in
-    omega (arith, key-below e, s .pre .few, s .pre .links-long, long (e .before), e .before .loop .inv .0, e .loop-test .taken)
+    omega (arith, r .index-at .ensures .0, key-below e, s .pre .few, s .pre .links-long, long (e .before), e .before .loop .inv .0, e .loop-test .taken)
 
 loop-again : tie.Need-loop-again Inv-loop μ-loop
 loop-again c =
     let call = c .before .before in
-    let e = call .before .before .before in
+    let r = call .before .before in
+    let e = r .before in
     let l = e .before .loop in
     let s = entry (begun (e .before)) in
     let n = s .args .n in
     let keys = now (s .args .keys) in
     let i = l .i - 1 in
-    let w = getD keys i 0 in
     let after : i + 1 ≡ l .i = omega (arith, e .loop-test .taken) in (
       omega (arith, l .inv .0),
       call .put-first .kept .1 .1 .1 .0 ∙ l .inv .1,
       subst (LinkedFrom 17 n (λ x. getD keys x 0) i) (sym (call .put-first .ensures))
-          (linked-more 17 n (λ x. getD keys x 0) (l .links) i w (omega (arith, l .inv .0, after)) refl (omega (arith, key-below e)) (omega (arith, s .pre .links-long, long (e .before)))
-          (subst (λ (y : ℕ). LinkedFrom 17 n (λ x. getD keys x 0) y (l .links)) (sym after) (l .inv .2))),
+          (linked-more 17 n (λ x. getD keys x 0) (l .links) i (r .index-at .result) (omega (arith, l .inv .0, after)) (sym (r .index-at .ensures .0)) (omega (arith, r .index-at .ensures .0, key-below e))
+          (omega (arith, s .pre .links-long, long (e .before))) (subst (λ (y : ℕ). LinkedFrom 17 n (λ x. getD keys x 0) y (l .links)) (sym after) (l .inv .2))),
     )
 
 pub link-spec : {M : Type 1} → statement M
@@ -72,12 +70,10 @@ link-spec =
     (λ c. search needs)
     no-places-requires
     loop-holds
-    (λ c. search needs)
-    (λ c. search needs)
-    (λ c. search needs)
-    cast-put-first
+    (λ c. c .loop-test .taken)
+    (λ c κs. let s = entry (begun (c .before)) in omega (arith, s .pre .keys-long, c .before .loop .inv .0, c .loop-test .taken))
     put-first-requires
-    (λ c. search needs)
+    (λ c. let e = c .before .before .before .before .before in omega (arith, e .loop-test .taken))
     loop-again
     (λ c. long (c .before))
     (λ c. linked-all 17 (entry (begun (c .before)) .args .n) _ _ (c .before .loop .i) (omega (arith, c .loop-test .left)) (c .before .loop .inv .2)))

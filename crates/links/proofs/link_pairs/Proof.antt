@@ -1,5 +1,5 @@
 -- `links::link_pairs` meets its contract. The invariant: the entries from i on are linked. Assumes nothing.
-use mathlib.Core.Path.{_≡_, refl, sym, _∙_, subst}
+use mathlib.Core.Path.{_≡_, refl, sym, ap, _∙_, subst}
 use Prim.Native.Nat.{ℕ, _<_, _≤_, _+_, _-_}
 use native.Mathlib.Omega.{arith}
 use lib.ListN.{length, getD}
@@ -53,24 +53,35 @@ loop-holds c = let b = c .before .before in (search needs, refl, linked-none 272
 place-in : (e : tie.In-loop Inv-loop μ-loop) → getD (now (entry (e .before) .args .places)) (next e) 0 < length (now (entry (e .before) .args .owners))
 place-in e = entry (e .before) .pre .place-in (next e) (next-in e)
 
+-- A turn, from the key that is read.
+abbrev turn : tie.After-u16-at2 Inv-loop μ-loop → tie.In-loop Inv-loop μ-loop
+turn c = c .before .before .before
+
 pair-requires : tie.Need-pair-requires Inv-loop μ-loop
 pair-requires c κs =
-    let e = c .before .before .before in
+    let e = turn c in
     let p = entry (e .before) .pre in
-    (p .box-in (next e) (next-in e), p .owner-in (next e) (next-in e))
+    (rw (c .before .u16-at .ensures) (p .box-in (next e) (next-in e)), rw (c .u16-at2 .ensures, c .before .before .index-at .ensures .0) (p .owner-in (next e) (next-in e)))
+
+-- The key that is read.
+key-is : (c : tie.After-pair Inv-loop μ-loop) → c .pair .result ≡ key (entry (turn (c .before) .before)) (next (turn (c .before)))
+key-is c =
+    let r = c .before in
+    let owners = now (entry (turn r .before) .args .owners) in
+    omega (arith, c .pair .ensures, r .before .u16-at .ensures, r .u16-at2 .ensures ∙ ap (λ (o : ℕ). getD owners o 0) (r .before .before .index-at .ensures .0))
 
 put-first-requires : tie.Need-put-first-requires Inv-loop μ-loop
 put-first-requires c κs =
     let v = c .before in
-    let e = v .before .before .before .before in
+    let e = turn (v .before) in
     let s = entry (e .before) in
-    omega (arith, v .pair .ensures, key-below e, s .pre .few, s .pre .links-long, long (e .before), next-in e)
+    omega (arith, key-is v, key-below e, s .pre .few, s .pre .links-long, long (e .before), next-in e)
 
 loop-again : tie.Need-loop-again Inv-loop μ-loop
 loop-again c =
     let call = c .before .before in
     let v = call .before .before in
-    let e = v .before .before .before .before in
+    let e = turn (v .before) in
     let l = e .before .loop in
     let s = entry (e .before) in
     let n = s .args .n in
@@ -78,7 +89,7 @@ loop-again c =
       omega (arith, l .inv .0),
       call .put-first .kept .1 .1 .1 .0 ∙ l .inv .1,
       subst (LinkedFrom 272 n (key s) (next e)) (sym (call .put-first .ensures))
-          (linked-more 272 n (key s) (l .links) (next e) (v .pair .result) (next-in e) (sym (v .pair .ensures)) (omega (arith, v .pair .ensures, key-below e)) (omega (arith, s .pre .links-long, long (e .before)))
+          (linked-more 272 n (key s) (l .links) (next e) (v .pair .result) (next-in e) (sym (key-is v)) (omega (arith, key-is v, key-below e)) (omega (arith, s .pre .links-long, long (e .before)))
           (subst (λ (y : ℕ). LinkedFrom 272 n (key s) y (l .links)) (sym after) (l .inv .2))),
     )
 
@@ -91,17 +102,13 @@ link-pairs-spec =
     (λ c. search needs)
     no-places-requires
     loop-holds
-    (λ c. search needs)
-    (λ c. search needs)
-    (λ c. search needs)
-    (λ c. omega (arith, c .shared-slice-known4 .given (next (c .before))))
-    (λ c. search needs)
-    (λ c. search needs)
-    (λ c. omega (arith, c .before .shared-slice-known4 .given (next (c .before .before))))
-    (λ c. place-in (c .before .before .before))
+    (λ c. c .loop-test .taken)
+    (λ c κs. let p = entry (c .before) .pre in omega (arith, p .places-long, next-in c))
+    (λ c κs. let p = entry (c .before .before) .pre in omega (arith, p .boxes-long, next-in (c .before)))
+    (λ c κs. rw (c .before .index-at .ensures .0) (place-in (c .before .before)))
     pair-requires
     put-first-requires
-    (λ c. search needs)
+    (λ c. let e = turn (c .before .before .before .before .before) in omega (arith, e .loop-test .taken))
     loop-again
     (λ c. long (c .before))
     (λ c. linked-all 272 (entry (c .before) .args .n) _ _ (c .before .loop .i) (omega (arith, c .loop-test .left)) (c .before .loop .inv .2)))

@@ -12,12 +12,13 @@ use Rattle.model.specs.Words.{ownerWords}
 use Rattle.model.specs.Local.{priceTable, totalTable}
 use Rattle.messages.specs.Sums.{othersSum}
 use Rattle.tables.specs.Masks.{Owned}
-use Rattle.tables.specs.Messages.{sentTable}
+use Rattle.shares.specs.Messages.{sentTable}
 use denote.Ref.{now}
 use Rattle.model.proofs.Handed.{handed-job, handed-whole, handed-in}
-use Rattle.tables.proofs.Whole.{JobWhole, job-whole}
-use Rattle.tables.proofs.Standing.{accepted}
-use Rattle.tables.proofs.InJob.{placed-offers, placed-grocers, owned-offers, owned-grocers, price-sent, total-sent}
+use Rattle.model.proofs.Whole.{JobWhole, job-whole}
+use Rattle.admit.proofs.Standing.{accepted}
+use Rattle.tables.proofs.InJob.{placed-offers, placed-grocers, owned-offers, owned-grocers}
+use Rattle.shares.proofs.OfJob.{price-sent, total-sent}
 use Rattle.messages.proofs.Summing.{word-total}
 use Rattle.messages.proofs.Refused.{messages-refused, messages-made}
 use Rattle.messages.proofs.message_tables.Statement.{statement}

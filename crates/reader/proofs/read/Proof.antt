@@ -1,30 +1,29 @@
 -- `reader::read` meets its contract. Assumes nothing.
-use mathlib.Core.Path.{_≡_, sym, _∙_}
+use mathlib.Core.Path.{_≡_, refl, sym, _∙_}
 use mathlib.Core.Bool.{false}
 use native.Mathlib.Omega.{arith}
 use lib.ListN.{length}
-use borrow.Author.Needs.{needs}
-use Rattle.format.specs.Tables.{ReaderTables, offerTables, tallyTables, fileTables, readerTables, shortOffers, shortTallies, shortTables, shortReader}
+use Rattle.format.specs.Tables.{ReaderTables, offerTables, tallyTables, fileTables, readerTables, shortOffers, shortTallies, shortTables, shortReader, readRefusal}
 use Rattle.blocks.specs.Due.{asHead}
 use Rattle.fills.proofs.Records.{offer-room}
 use Rattle.reader.specs.Sound.{Kept, Sound}
 use Rattle.reader.proofs.Shapes.{has-header, sound-read}
-use Rattle.reader.proofs.Results.{Room, room, read-20, read-file, read-job, offer-issuers, places-stored}
+use Rattle.reader.proofs.Results.{Room, room, read-refusal, read-job, offer-issuers, places-stored}
 use Rattle.reader.proofs.read.Statement.{statement}
 use Rattle.reader.proofs.read.Tie as tie
 
--- The entry, from the first branch, and from the one after the file's refusal.
-abbrev start : tie.After-slice-known12 → tie.Start
-start c = let m = c .before .before .before .before .before .before in m .before .before .before .before .before .before .before
+-- The entry, from the first call, and from the branch after the refusal.
+abbrev start : tie.After-short-offers → tie.Start
+start c = let m = c .before .before .before .before .before .before .before in m .before .before .before .before .before .before .before
 
-abbrev refused : tie.Else2 → tie.After-file-refusal
+abbrev refused : tie.Else1 → tie.After-refusal
 refused c = c .before .before
 
-abbrev whole : tie.After-file-refusal → tie.Else1
-whole c = c .before .before
+abbrev measured : tie.After-refusal → tie.After-short-tables
+measured c = c .before .before
 
-abbrev entry : tie.Else2 → tie.Start
-entry c = start (whole (refused c) .before)
+abbrev entry : tie.Else1 → tie.Start
+entry c = start (measured (refused c) .before)
 
 -- Each call, from the one after it.
 abbrev headed : tie.After-fill-offers-arg3 → tie.After-read-head
@@ -84,14 +83,23 @@ lent s =
     (tallyTables (a .tally-grocer .now) (a .tally-box .now) (a .tally-code .now) (a .tally-count .now) (a .tally-issuer .now) (a .tally-bag .now) (a .tally-revision .now)))
     (a .tally-offer .now)
 
--- None of them is short.
-long : (e : tie.Else1) → shortReader (lent (start (e .before))) ≡ false
+-- Whether one of them is short.
+short : (c : tie.After-short-tables) → c .short-tables .result ≡ shortReader (lent (start (c .before)))
 unfolding shortReader shortTables shortOffers shortTallies
-long e = e .if1 .left
+short c = rw (c .before .short-offers .ensures) at (c .short-tables .ensures)
+
+-- The refusal is the one due.
+due : (c : tie.After-refusal) → c .refusal .result ≡ readRefusal (start (measured c .before) .args .file .now) (lent (start (measured c .before)))
+unfolding readRefusal
+due c = rw (short (measured c)) at (c .refusal .ensures .0)
+
+-- No table is short.
+long : (e : tie.Else1) → shortReader (lent (entry e)) ≡ false
+long e = sym (short (measured (refused e))) ∙ refused e .refusal .ensures .1 (e .if1 .left) .0
 
 -- The file is sound, and the places are kept.
-kept : (e : tie.Else2) → Kept (entry e .args .file .now) (refused e .file-refusal .last .1 .0)
-kept e = refused e .file-refusal .ensures .1 (e .if2 .left)
+kept : (e : tie.Else1) → Kept (entry e .args .file .now) (refused e .refusal .last .1 .1 .0)
+kept e = refused e .refusal .ensures .1 (e .if1 .left) .1
 
 -- So it is by the numbers that were read,
 known : (c : tie.After-read-head) → Sound (entry (c .before) .args .file .now) (asHead (c .read-head .result))
@@ -99,14 +107,10 @@ known c = sound-read (c .read-head .ensures) (kept (c .before) .sound)
 
 -- and each table has room for them.
 free : (c : tie.After-read-head) → Room (asHead (c .read-head .result)) (lent (entry (c .before)))
-free c = room _ _ (known c .whole .most) (long (whole (refused (c .before))))
+free c = room _ _ (known c .whole .most) (long (c .before))
 
 returns : tie.Need-returns
-unfolding shortReader shortTables shortOffers shortTallies
-returns c = read-20 _ _ (c .if1 .taken)
-
-returns-2 : tie.Need-returns-2
-returns-2 c = let r = c .before .before in read-file _ _ _ (long (whole r)) (r .file-refusal .ensures .0) (c .if2 .taken)
+returns c = let r = c .before .before in read-refusal _ _ _ (due r) (c .if1 .taken)
 
 read-head-requires : tie.Need-read-head-requires
 read-head-requires c κs = has-header (kept c .sound)
@@ -133,8 +137,8 @@ fill-tallies-requires c κs =
     (known h .whole, (t .grocer, (t .box, t .code)))
 
 -- There is a word for the place of each tally.
-places-long : (c : tie.After-places3) → 1_000 ≡ length (refused (head-tallied (tallied c) .before) .file-refusal .last .1 .0)
-places-long c = sym (refused (head-tallied (tallied c) .before) .file-refusal .kept .1 .0)
+places-long : (c : tie.After-places3) → 1_000 ≡ length (refused (head-tallied (tallied c) .before) .refusal .last .1 .1 .0)
+places-long c = sym (refused (head-tallied (tallied c) .before) .refusal .kept .1 .1 .0)
 
 fill-tally-ends-requires : tie.Need-fill-tally-ends-requires
 fill-tally-ends-requires c κs =
@@ -153,8 +157,8 @@ fill-bags-requires c κs =
 job-of-requires : tie.Need-job-of-requires
 job-of-requires c κs = known (head-bagged (bagged c)) .whole .most
 
-returns-3 : tie.Need-returns-3
-returns-3 c =
+returns-2 : tie.Need-returns-2
+returns-2 c =
     let b = bagged (c .before) in
     let q = calls c in
     let o = q .0 in
@@ -165,7 +169,7 @@ returns-3 c =
     let s = entry (h .before) in
     let e = h .read-head .ensures in
     let f = s .args .file .now in
-    read-job _ _ (asHead (h .read-head .result)) (c .job-of .ensures) (long (whole (refused (h .before)))) (sym (refused (h .before) .file-refusal .ensures .0) ∙ h .before .if2 .left) e
+    read-job _ _ (asHead (h .read-head .result)) (c .job-of .ensures) (sym (due (refused (h .before))) ∙ h .before .if1 .left) e
     (record {
       price = o .fill-offers .ensures .0;
       owner = o .fill-offers .ensures .1 .0;
@@ -186,12 +190,11 @@ pub read-spec : {M : Type 1} → statement M
 read-spec =
     tie.close
     (tie.spec
-    (λ c. omega arith)
-    (λ c. omega arith)
+    (λ c κs. tt)
+    (λ c κs. tt)
+    (λ c. refl)
+    (λ c κs. omega arith)
     returns
-    (λ c. search needs)
-    (λ c κs. search needs)
-    returns-2
     read-head-requires
     fill-offers-requires
     fill-words-requires
@@ -214,4 +217,4 @@ read-spec =
     (λ c. bagged (c .before) .fill-bags .kept .1 .1 .0)
     (λ c. bagged (c .before) .fill-bags .kept .1 .1 .1 .0)
     (λ c. calls c .4 .fill-tally-ends .kept .1 .1 .1 .1 .1 .0)
-    returns-3)
+    returns-2)

@@ -5,7 +5,6 @@ use Prim.Native.Nat.{ℕ, _+_, _*_}
 use native.Mathlib.Omega.{arith}
 use lib.ListN.{set}
 use borrow.Author.Needs.{needs}
-use borrow.Author.Tests.{not-true, not-false}
 use Rattle.laws.proofs.Signed.{read32}
 use Rattle.model.specs.Reconcile.{TallyRecord, recordInRange}
 use Rattle.records.specs.Rows.{tallyRecord, recordKey, Takes}
@@ -32,20 +31,11 @@ returns c =
       kept = λ e. absurd (omega (arith, c .if1 .taken));
     }
 
-returns-2 : tie.Need-returns-2
-returns-2 c =
-    let t = c .before in
-    let s = t .before .before .before in
-    record {
-      number = number-out (s .args .grocers) (s .args .offers) (s .args .number) (passes s) (t .before .if1 .left) (sym (tested t) ∙ not-true (t .record-in-range .result) (c .if2 .taken));
-      kept = λ e. absurd (omega arith);
-    }
-
 takes : (c : tie.Else1) → Takes (c .before .before .args .offers) (now (c .before .before .args .price)) (c .before .before .args .i)
 takes c = c .before .before .pre (omega (arith, c .if1 .left))
 
-in-range : (c : tie.Else2) → recordInRange (c .before .before .before .before .args .grocers) (c .before .before .before .before .args .offers) (passes (c .before .before .before .before)) ≡ true
-in-range c = sym (tested (c .before)) ∙ not-false (c .before .record-in-range .result) (c .if2 .left)
+in-range : (c : tie.Then2) → recordInRange (c .before .before .before .before .args .grocers) (c .before .before .before .before .args .offers) (passes (c .before .before .before .before)) ≡ true
+in-range c = sym (tested (c .before)) ∙ c .if2 .taken
 
 -- The key, in the definition's words.
 key-is : (s : tie.Start) (k : ℕ) → k ≡ ((s .args .grocer * 512 + s .args .place) * 65_536 + s .args .bag) * 65_536 + s .args .revision → k ≡ recordKey (passes s)
@@ -71,8 +61,8 @@ mul-t18 c = record { fits = omega (arith, takes (c .before .before .before .befo
 element-set-from-shares : tie.Need-element-set-from-shares
 element-set-from-shares c = takes (c .before .before .before .before) .few
 
-returns-3 : tie.Need-returns-3
-returns-3 c =
+returns-2 : tie.Need-returns-2
+returns-2 c =
     let e = c .before .before in
     let s = e .before .before .before .before in
     let x = s .args in
@@ -89,17 +79,26 @@ returns-3 c =
       };
     }
 
+returns-3 : tie.Need-returns-3
+returns-3 c =
+    let t = c .before in
+    let s = t .before .before .before in
+    record {
+      number = number-out (s .args .grocers) (s .args .offers) (s .args .number) (passes s) (t .before .if1 .left) (sym (tested t) ∙ c .if2 .left);
+      kept = λ e. absurd (omega arith);
+    }
+
 pub take-record-spec : {M : Type 1} → statement M
 take-record-spec =
     tie.close
     (tie.spec
     returns
     (λ c κs. search needs)
-    returns-2
     (λ c κs. search needs)
     mul-keys
     element-write-keys
     share-of-requires
     mul-t18
     element-set-from-shares
+    returns-2
     returns-3)

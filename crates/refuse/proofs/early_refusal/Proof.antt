@@ -3,14 +3,13 @@ use mathlib.Core.Path.{_≡_, _∙_}
 use mathlib.Core.Bool.{true, false}
 use Prim.Native.Nat.{_≤_}
 use native.Mathlib.Omega.{arith}
-use borrow.Author.Needs.{needs}
 use Rattle.model.specs.Tables.{JobTables, bagTables, StateTables, stateTables, countedOf, jobLengths, jobShort, bagsShort}
 use Rattle.model.specs.Ranges.{jobInRange}
 use Rattle.recount.specs.Recount.{countedTwice}
 use Rattle.model.proofs.Lent.{job-long as long-tables}
 use Rattle.model.proofs.Handed.{bare-range}
 use Rattle.model.proofs.Step.{job-in, in-handed}
-use Rattle.tables.proofs.Standing.{columns-in, standing-boxes}
+use Rattle.admit.proofs.Standing.{columns-in, standing-boxes}
 use denote.Ref.{now}
 use Rattle.refuse.proofs.Refused.{met-short, job-long, bags-long, state-long, met-range, job-inside, met-twice, met-none}
 use Rattle.refuse.proofs.early_refusal.Statement.{statement}
@@ -99,25 +98,25 @@ few : (c : tie.Else2) → entry (whole-at c) .args .z .tallies ≤ 1_000
 few c = let f = job (entry (whole-at c)) in job-in f (in-handed f (inside c)) .tallies≤
 
 cast-tallies : tie.Need-cast-standing-boxes
-cast-tallies c = record { fits = omega (arith, few c) }
+cast-tallies c = record { fits = omega (arith, few (c .before)) }
 
 standing-boxes-requires : tie.Need-standing-boxes-requires
 unfolding jobLengths
 standing-boxes-requires c κs =
-    let e = whole-at (c .before) in
+    let e = whole-at (c .before .before) in
     let f = job (entry e) in (
-      columns-in f (whole e) (bags-long f (state (entry e)) _ _ _ (job-told (e .before)) (bags-told (e .before)) (e .before .state-short .ensures) (e .if1 .left)) (inside (c .before)),
-      (long-tables f (jobLengths f) (whole e) .tallyBox, omega (arith, few (c .before), c .standing-boxes-arg .given .0 .1)),
+      columns-in f (whole e) (bags-long f (state (entry e)) _ _ _ (job-told (e .before)) (bags-told (e .before)) (e .before .state-short .ensures) (e .if1 .left)) (inside (c .before .before)),
+      (long-tables f (jobLengths f) (whole e) .tallyBox, omega (arith, few (c .before .before), c .standing-boxes-arg .given .0 .1)),
     )
 
-twice-told : (c : tie.After-standing-boxes) → c .standing-boxes .result ≡ countedTwice (countedOf (job (entry (whole-at (c .before .before)))))
+twice-told : (c : tie.After-standing-boxes) → c .standing-boxes .result ≡ countedTwice (countedOf (job (entry (whole-at (c .before .before .before)))))
 unfolding countedOf
 twice-told c = c .standing-boxes .ensures .0
 
 returns-3 : tie.Need-returns-3
 returns-3 c =
     let t = c .before in
-    let o = t .before .before in
+    let o = t .before .before .before in
     let e = whole-at o in
     record {
       number-is = met-twice (job (entry e)) (state (entry e)) _ _ _ (job-told (e .before)) (bags-told (e .before)) (e .before .state-short .ensures) (e .if1 .left) _ _
@@ -129,7 +128,7 @@ returns-4 : tie.Need-returns-4
 unfolding countedOf
 returns-4 c =
     let t = c .before in
-    let o = t .before .before in
+    let o = t .before .before .before in
     let e = whole-at o in
     record {
       number-is = met-none (job (entry e)) (state (entry e)) _ _ _ (job-told (e .before)) (bags-told (e .before)) (e .before .state-short .ensures) (e .if1 .left) _ _
@@ -141,9 +140,9 @@ pub early-refusal-spec : {M : Type 1} → statement M
 early-refusal-spec =
     tie.close
     (tie.spec
-    (λ c κs. search needs)
     (λ c κs. tt)
-    (λ c κs. search needs)
+    (λ c κs. tt)
+    (λ c κs. tt)
     returns
     job-in-range-requires
     state-in-range-requires

@@ -1,26 +1,27 @@
 -- `refuse::refusal` meets its contract: its number is that of the first condition met. Assumes nothing.
 use mathlib.Core.Path.{_≡_, refl, sym, ap, _∙_}
-use mathlib.Core.Bool.{Bool, true, false, not}
+use mathlib.Core.Bool.{Bool, true, false, cond, not}
 use mathlib.Core.List.{List}
 use Prim.Native.Nat.{ℕ, _≤_}
 use native.Mathlib.Omega.{arith}
-use lib.ListN.{length}
 use Rattle.laws.specs.Checks.{firstMet}
 use Rattle.laws.specs.Tables.{tabulate}
-use Rattle.laws.proofs.Tables.{length-tabulate}
+use Rattle.laws.proofs.Bools.{split}
 use Rattle.model.specs.Job.{needWord, sharerWord}
 use Rattle.model.specs.Tables.{JobTables, bagTables, jobOf, StateTables, stateTables, stepsDone}
 use Rattle.model.specs.Ranges.{stateInRange}
 use Rattle.model.specs.Step.{Asked, asked, moved, stepRefusal}
 use Rattle.model.specs.Handed.{handedTables, Standing}
-use Rattle.rules.specs.Rules.{rulesBy, ReceiversOf, WaitsOf}
-use Rattle.rules.proofs.Told.{receivers-of, waits-of, waits-in}
+use Rattle.rules.specs.Rules.{ReceiversOf, WaitsOf}
+use Rattle.fits.specs.Request.{rulesBy}
+use Rattle.waits.proofs.Told.{receivers-of, waits-of, waits-in}
 use Rattle.apply.specs.Apply.{Applies}
 use Rattle.refuse.specs.Late.{earlyRules, laterRules, Held}
+use Rattle.waits.specs.Waits.{receiverTable, tallyLists, waitTable}
 use Rattle.tables.proofs.Holders.{need-words, sharer-words}
 use Rattle.tables.proofs.InJob.{placed-offers, placed-grocers, owned-offers}
 use Rattle.refuse.proofs.Refused.{answer-early, held, answer-later}
-use Rattle.refuse.proofs.Finished.{price-fits-in, total-fits-in, prices-fit, totals-fit}
+use Rattle.fits.proofs.Finished.{price-fits-in, total-fits-in, prices-fit, totals-fit}
 use Rattle.refuse.proofs.Later.{whole, whole-state, few-boxes, later-met, applies, later-late, later-none}
 use denote.Ref.{now}
 use Rattle.refuse.proofs.refusal.Statement.{statement}
@@ -98,6 +99,9 @@ module _ (e : tie.Else1) (to : List ℕ) (from : List (List ℕ)) (hr : ask (ent
       none : v ≡ true → answer 0
       none y = by-later 0 (later-none (handed e) (state (entry e)) (in-hand e) to from (ask (entry e)) hr hw r er z v ev (ap not y))
 
+      verdict : answer (cond v 0 21)
+      verdict = split v (λ y. rw y (none y)) (λ n. rw n (late n))
+
 -- Kinds 1 to 3: the need words that are made are the job's, and so are the words of receivers.
 abbrev priced : tie.Then2 → tie.Else1
 priced k = k .before .before
@@ -105,11 +109,8 @@ priced k = k .before .before
 abbrev needs-for : tie.After-needs → tie.Then2
 needs-for c = c .before .before .before
 
-abbrev receivers-for : tie.After-receivers → tie.After-needs
-receivers-for c = c .before .before
-
-abbrev prices-asked : tie.After-request-refusal → tie.After-receivers
-prices-asked c = c .before .before .before
+abbrev needs-asked : tie.After-prices-asked → tie.After-needs
+needs-asked c = c .before .before
 
 few : (k : tie.Then2) → ask (entry (priced k)) .kind ≤ 3
 few k = omega (arith, k .if2 .taken)
@@ -120,28 +121,23 @@ needs-requires c κs = let e = priced (c .before .before) in placed-offers (hand
 needs-are : (c : tie.After-needs) → c .needs .result ≡ tabulate 500 (needWord (jobOf (handed (priced (needs-for c)))))
 needs-are c = c .needs .ensures ∙ need-words (handed (priced (needs-for c))) refl
 
-needs-lent : tie.Need-slice-aggregate-receivers
-needs-lent c = sym (ap length (needs-are (c .before)) ∙ length-tabulate 500 _)
-
-receivers-requires : tie.Need-receivers-requires
-receivers-requires c κs =
-    let e = priced (needs-for (c .before)) in
-    owned-offers (handed e) (in-hand e .job-in) (whole (handed e) (state (entry e)) (in-hand e)) _ _ (needs-are (c .before))
-
-receivers-are : (c : tie.After-receivers) → ReceiversOf (jobOf (handed (priced (needs-for (receivers-for c))))) (c .receivers .result)
+receivers-are : (c : tie.After-needs) →
+    let e = priced (needs-for c) in
+    ReceiversOf (jobOf (handed e)) (receiverTable (entry e .args .z .offers) (now (entry e .args .offer-owner)) (c .needs .result))
 receivers-are c =
-    let w = receivers-for c in
-    let e = priced (needs-for w) in
-    receivers-of (handed e) (in-hand e .job-in) (w .needs .result) (needs-are w) (c .receivers .result) (c .receivers .ensures)
+    let e = priced (needs-for c) in
+    receivers-of (handed e) (in-hand e .job-in) (c .needs .result) (needs-are c) _ refl
 
-request-refusal-requires : tie.Need-request-refusal-requires
-request-refusal-requires c κs =
-    let e = priced (needs-for (receivers-for (c .before .before))) in
-    (few-boxes (handed e) (state (entry e)) (in-hand e), whole-state (handed e) (state (entry e)) (in-hand e) .done)
+prices-asked-requires : tie.Need-prices-asked-requires
+prices-asked-requires c κs =
+    let e = priced (needs-for (c .before)) in (
+      owned-offers (handed e) (in-hand e .job-in) (whole (handed e) (state (entry e)) (in-hand e)) _ _ (needs-are (c .before)),
+      (few-boxes (handed e) (state (entry e)) (in-hand e), whole-state (handed e) (state (entry e)) (in-hand e) .done),
+    )
 
 -- What this side is given for the conditions 22 to 26.
-abbrev price-kind : tie.After-request-refusal → tie.Then2
-price-kind c = needs-for (receivers-for (prices-asked c))
+abbrev price-kind : tie.After-prices-asked → tie.Then2
+price-kind c = needs-for (needs-asked c)
 
 no-waits : (k : tie.Then2) (from : List (List ℕ)) → 4 ≤ ask (entry (priced k)) .kind → WaitsOf (jobOf (handed (priced k))) from
 no-waits k from m = absurd (omega (arith, few k, m))
@@ -151,7 +147,7 @@ returns-2 c =
     let r = c .before in
     let k = price-kind r in
     record {
-      number-is = met (priced k) _ _ (λ _. receivers-are (prices-asked r)) (no-waits k _) _ (r .request-refusal .ensures) (c .if3 .taken);
+      number-is = met (priced k) _ _ (λ _. receivers-are (needs-asked r)) (no-waits k _) _ (r .prices-asked .ensures) (c .if3 .taken);
       standing-are = λ z. absurd (c .if3 .taken z);
       applies = λ z. absurd (c .if3 .taken z);
     }
@@ -159,12 +155,12 @@ returns-2 c =
 abbrev price-entry : tie.Else3 → tie.Else1
 price-entry i = priced (price-kind (i .before))
 
-prices-applied : (i : tie.Else3) → Applies (handed (price-entry i)) (state (entry (price-entry i))) (receivers-for (prices-asked (i .before)) .needs .result) (now (entry (price-entry i) .args .sharers)) (ask (entry (price-entry i)))
+prices-applied : (i : tie.Else3) → Applies (handed (price-entry i)) (state (entry (price-entry i))) (needs-asked (i .before) .needs .result) (now (entry (price-entry i) .args .sharers)) (ask (entry (price-entry i)))
 prices-applied i =
     let r = i .before in
     let k = price-kind r in
-    applied (priced k) _ _ (λ _. receivers-are (prices-asked r)) (no-waits k _) _ (r .request-refusal .ensures) (i .if3 .left) _ _
-    (λ _. needs-are (receivers-for (prices-asked r))) (λ m. absurd (omega (arith, few k, m)))
+    applied (priced k) _ _ (λ _. receivers-are (needs-asked r)) (no-waits k _) _ (r .prices-asked .ensures) (i .if3 .left) _ _
+    (λ _. needs-are (needs-asked r)) (λ m. absurd (omega (arith, few k, m)))
 
 price-fits-requires : tie.Need-price-fits-requires
 price-fits-requires c κs =
@@ -187,20 +183,9 @@ returns-3 c =
     let r = i .before in
     let k = price-kind r in
     record {
-      number-is = none (priced k) _ _ (λ _. receivers-are (prices-asked r)) (no-waits k _) _ (r .request-refusal .ensures) (i .if3 .left) _ (prices-range (c .before)) (c .if4 .taken);
+      number-is = c .late .ensures ∙ verdict (priced k) _ _ (λ _. receivers-are (needs-asked r)) (no-waits k _) _ (r .prices-asked .ensures) (i .if3 .left) _ (prices-range (c .before));
       standing-are = λ _. stand (priced k);
       applies = λ _. prices-applied i;
-    }
-
-returns-4 : tie.Need-returns-4
-returns-4 c =
-    let i = prices-left (c .before) in
-    let r = i .before in
-    let k = price-kind r in
-    record {
-      number-is = late (priced k) _ _ (λ _. receivers-are (prices-asked r)) (no-waits k _) _ (r .request-refusal .ensures) (i .if3 .left) _ (prices-range (c .before)) (c .if4 .left);
-      standing-are = λ z. absurd (omega arith);
-      applies = λ z. absurd (omega arith);
     }
 
 -- Kinds 4 to 6: the sharer words are the job's, and so are the words of waits.
@@ -210,11 +195,8 @@ totalled k = k .before .before
 abbrev sharers-for : tie.After-sharers → tie.Else2
 sharers-for c = c .before .before .before
 
-abbrev waits-for : tie.After-waits → tie.After-sharers
-waits-for c = c .before .before .before
-
-abbrev totals-asked : tie.After-request-refusal2 → tie.After-waits
-totals-asked c = c .before .before .before
+abbrev sharers-asked : tie.After-totals-asked → tie.After-sharers
+sharers-asked c = c .before .before .before
 
 many : (k : tie.Else2) → 4 ≤ ask (entry (totalled k)) .kind
 many k = omega (arith, k .if2 .left)
@@ -225,44 +207,44 @@ sharers-requires c κs = let e = totalled (c .before .before) in placed-grocers 
 sharers-are : (c : tie.After-sharers) → c .sharers .result ≡ tabulate 255 (sharerWord (jobOf (handed (totalled (sharers-for c)))))
 sharers-are c = c .sharers .ensures ∙ sharer-words (handed (totalled (sharers-for c))) refl
 
-waits-requires : tie.Need-waits-requires
-waits-requires c κs = let e = totalled (sharers-for (c .before .before)) in waits-in (handed e) (in-hand e .job-in) (whole (handed e) (state (entry e)) (in-hand e))
+waits-are : (k : tie.Else2) →
+    let e = totalled k in
+    WaitsOf (jobOf (handed e)) (waitTable (entry e .args .z .boxes)
+    (tallyLists (now (entry e .args .offer-owner)) (now (entry e .args .grocer-owner)) (now (entry e .args .tally-grocer)) (standing e) (now (entry e .args .tally-offer))) (entry e .args .z .tallies))
+waits-are k = let e = totalled k in waits-of (handed e) (in-hand e .job-in) _ refl
 
-waits-are : (c : tie.After-waits) → WaitsOf (jobOf (handed (totalled (sharers-for (waits-for c))))) (c .waits .result)
-waits-are c =
-    let e = totalled (sharers-for (waits-for c)) in
-    waits-of (handed e) (in-hand e .job-in) (c .waits .result) (c .waits .ensures)
+totals-asked-requires : tie.Need-totals-asked-requires
+totals-asked-requires c κs =
+    let e = totalled (sharers-for (c .before .before)) in (
+      waits-in (handed e) (in-hand e .job-in) (whole (handed e) (state (entry e)) (in-hand e)),
+      (few-boxes (handed e) (state (entry e)) (in-hand e), whole-state (handed e) (state (entry e)) (in-hand e) .done),
+    )
 
-request-refusal-requires-2 : tie.Need-request-refusal-requires-2
-request-refusal-requires-2 c κs =
-    let e = totalled (sharers-for (waits-for (c .before .before))) in
-    (few-boxes (handed e) (state (entry e)) (in-hand e), whole-state (handed e) (state (entry e)) (in-hand e) .done)
-
-abbrev total-kind : tie.After-request-refusal2 → tie.Else2
-total-kind c = sharers-for (waits-for (totals-asked c))
+abbrev total-kind : tie.After-totals-asked → tie.Else2
+total-kind c = sharers-for (sharers-asked c)
 
 no-receivers : (k : tie.Else2) (to : List ℕ) → ask (entry (totalled k)) .kind ≤ 3 → ReceiversOf (jobOf (handed (totalled k))) to
 no-receivers k to m = absurd (omega (arith, many k, m))
 
-returns-5 : tie.Need-returns-5
-returns-5 c =
+returns-4 : tie.Need-returns-4
+returns-4 c =
     let r = c .before in
     let k = total-kind r in
     record {
-      number-is = met (totalled k) _ _ (no-receivers k _) (λ _. waits-are (totals-asked r)) _ (r .request-refusal2 .ensures) (c .if5 .taken);
-      standing-are = λ z. absurd (c .if5 .taken z);
-      applies = λ z. absurd (c .if5 .taken z);
+      number-is = met (totalled k) _ _ (no-receivers k _) (λ _. waits-are k) _ (r .totals-asked .ensures) (c .if4 .taken);
+      standing-are = λ z. absurd (c .if4 .taken z);
+      applies = λ z. absurd (c .if4 .taken z);
     }
 
-abbrev total-entry : tie.Else5 → tie.Else1
+abbrev total-entry : tie.Else4 → tie.Else1
 total-entry i = totalled (total-kind (i .before))
 
-totals-applied : (i : tie.Else5) → Applies (handed (total-entry i)) (state (entry (total-entry i))) (now (entry (total-entry i) .args .needs)) (waits-for (totals-asked (i .before)) .sharers .result) (ask (entry (total-entry i)))
+totals-applied : (i : tie.Else4) → Applies (handed (total-entry i)) (state (entry (total-entry i))) (now (entry (total-entry i) .args .needs)) (sharers-asked (i .before) .sharers .result) (ask (entry (total-entry i)))
 totals-applied i =
     let r = i .before in
     let k = total-kind r in
-    applied (totalled k) _ _ (no-receivers k _) (λ _. waits-are (totals-asked r)) _ (r .request-refusal2 .ensures) (i .if5 .left) _ _
-    (λ m. absurd (omega (arith, many k, m))) (λ _. sharers-are (waits-for (totals-asked r)))
+    applied (totalled k) _ _ (no-receivers k _) (λ _. waits-are k) _ (r .totals-asked .ensures) (i .if4 .left) _ _
+    (λ m. absurd (omega (arith, many k, m))) (λ _. sharers-are (sharers-asked r))
 
 total-fits-requires : tie.Need-total-fits-requires
 total-fits-requires c κs =
@@ -270,7 +252,7 @@ total-fits-requires c κs =
     let e = total-entry i in
     total-fits-in (handed e) (state (entry e)) _ _ (ask (entry e)) (totals-applied i) (many (total-kind (i .before)))
 
-abbrev totals-left : tie.After-total-fits → tie.Else5
+abbrev totals-left : tie.After-total-fits → tie.Else4
 totals-left c = c .before .before
 
 totals-range : (c : tie.After-total-fits) → let e = total-entry (totals-left c) in c .total-fits .result ≡ stateInRange (handed e) (moved (handed e) (state (entry e)) (ask (entry e)))
@@ -279,26 +261,15 @@ totals-range c =
     let e = total-entry i in
     c .total-fits .ensures ∙ totals-fit (handed e) (state (entry e)) _ _ (ask (entry e)) (totals-applied i) (many (total-kind (i .before)))
 
-returns-6 : tie.Need-returns-6
-returns-6 c =
+returns-5 : tie.Need-returns-5
+returns-5 c =
     let i = totals-left (c .before) in
     let r = i .before in
     let k = total-kind r in
     record {
-      number-is = none (totalled k) _ _ (no-receivers k _) (λ _. waits-are (totals-asked r)) _ (r .request-refusal2 .ensures) (i .if5 .left) _ (totals-range (c .before)) (c .if6 .taken);
+      number-is = c .late2 .ensures ∙ verdict (totalled k) _ _ (no-receivers k _) (λ _. waits-are k) _ (r .totals-asked .ensures) (i .if4 .left) _ (totals-range (c .before));
       standing-are = λ _. stand (totalled k);
       applies = λ _. totals-applied i;
-    }
-
-returns-7 : tie.Need-returns-7
-returns-7 c =
-    let i = totals-left (c .before) in
-    let r = i .before in
-    let k = total-kind r in
-    record {
-      number-is = late (totalled k) _ _ (no-receivers k _) (λ _. waits-are (totals-asked r)) _ (r .request-refusal2 .ensures) (i .if5 .left) _ (totals-range (c .before)) (c .if6 .left);
-      standing-are = λ z. absurd (omega arith);
-      applies = λ z. absurd (omega arith);
     }
 
 pub refusal-spec : {M : Type 1} → statement M
@@ -308,17 +279,14 @@ refusal-spec =
     (λ c κs. tt)
     returns
     needs-requires
-    needs-lent
-    receivers-requires
-    request-refusal-requires
+    prices-asked-requires
     returns-2
     price-fits-requires
+    (λ c κs. tt)
     returns-3
-    returns-4
     sharers-requires
-    waits-requires
-    request-refusal-requires-2
-    returns-5
+    totals-asked-requires
+    returns-4
     total-fits-requires
-    returns-6
-    returns-7)
+    (λ c κs. tt)
+    returns-5)

@@ -1,20 +1,17 @@
 -- `run::run` meets its contract: refused, or its steps are picked and then done. Assumes nothing.
-use mathlib.Core.Path.{_≡_, refl, sym, ap, _∙_}
+use mathlib.Core.Path.{_≡_, refl, sym, _∙_}
 use mathlib.Core.List.{List}
 use Prim.Native.Nat.{ℕ}
 use native.Mathlib.Omega.{arith}
-use lib.ListN.{length}
 use borrow.Author.Needs.{needs}
 use denote.Ref.{now}
 use Rattle.laws.specs.Checks.{firstMet}
-use Rattle.laws.proofs.Tables.{length-tabulate}
 use Rattle.model.specs.Tables.{JobTables, bagTables, jobOf, StateTables, stateTables, stateLengths}
 use Rattle.model.specs.Local.{jobRefusals}
 use Rattle.model.specs.Handed.{handedTables, Standing}
-use Rattle.order.specs.Order.{OfJob}
 use Rattle.run.specs.Run.{Begins, answerOf}
-use Rattle.run.proofs.Ends.{begins, begins-needs, begins-sharers, begins-prices, begins-waits, run-ended, run-short}
-use Rattle.run.proofs.Ends.{needs-of, sharers-of, of-job, begins-walk, run-few, all-in, run-finished, run-refused, sent-room}
+use Rattle.run.proofs.Ends.{begins, begins-needs, begins-sharers, order-in, run-ended, run-short}
+use Rattle.run.proofs.Ends.{needs-of, sharers-of, of-job, all-in, run-finished, run-refused, sent-room}
 use Rattle.run.proofs.run.Statement.{statement}
 use Rattle.run.proofs.run.Tie as tie
 
@@ -36,39 +33,30 @@ shared c = c .before .before .before .before
 abbrev entry : tie.After-state-short → tie.Start
 entry c = shared (slices c) .before .before .before .before
 
--- The boxes of the tallies that stand, the words of receivers and waits, the order and the steps done.
-abbrev made : tie.After-put-order-arg → tie.After-waits
-made c = c .before .before .before
-
-abbrev priced : tie.After-waits → tie.After-receivers
-priced c = c .before .before
-
-abbrev shares : tie.After-receivers → tie.After-sharers
-shares c = c .before .before
-
-abbrev needed : tie.After-sharers → tie.After-needs
-needed c = c .before .before
-
-abbrev stood : tie.After-sharers → tie.Else2
-stood c = needed c .before .before
-
+-- The boxes of the tallies that stand, need words and sharer words, the order and the steps done.
 abbrev looked : tie.Else2 → tie.After-job-refusal
 looked e = e .before .before
+
+abbrev stood : tie.After-sharers → tie.Else2
+stood c = c .before .before .before
 
 abbrev whole : tie.After-job-refusal → tie.Else1
 whole c = c .before .before
 
-abbrev reordered : tie.After-all-steps-arg → tie.After-standing6
-reordered c = c .before .before .before .before
+abbrev worded : tie.After-pick-order → tie.After-sharers
+worded c = c .before .before .before .before
 
-abbrev ordered : tie.After-all-steps-arg5 → tie.After-put-order
-ordered c = reordered (c .before .before .before .before) .before .before .before
+abbrev ordered : tie.After-all-steps-arg → tie.After-pick-order
+ordered c = c .before .before .before .before .before .before
 
-abbrev written : tie.After-statement → tie.After-slice-known7
-written c = c .before .before .before
+abbrev picked : tie.After-all-steps-arg5 → tie.After-pick-order
+picked c = ordered (c .before .before .before .before)
+
+abbrev written : tie.After-statement → tie.After-price-transit
+written c = c .before .before .before .before
 
 abbrev done : tie.After-statement → tie.After-all-steps
-done c = written c .before .before .before .before
+done c = written c .before .before .before
 
 returns : tie.Need-returns
 unfolding answerOf stateLengths
@@ -103,80 +91,49 @@ may : (e : tie.Else2) → Begins (handed e) (lent (start e))
 unfolding stateLengths
 may e = begins (job (start e)) (lent (start e)) _ (whole (looked e) .before .state-short .ensures) (whole (looked e) .if1 .left) (none-met e) (standing e) (stand e)
 
-needs-lent : tie.Need-slice-aggregate-needs
-needs-lent c = sym (looked (c .before) .job-refusal .kept .1 .1 .1 .1 .1 .1 .1 .1 .1 .1 .1 .1 .1 .0)
+standing-lent : tie.Need-slice-aggregate-boxes-standing
+standing-lent c = sym (looked (c .before) .job-refusal .kept .1 .1 .1 .1 .1 .1 .1 .1 .1 .1 .1 .1 .1 .0)
 
 needs-requires : tie.Need-needs-requires
 needs-requires c κs = begins-needs _ _ (may (c .before))
 
-sharers-lent : tie.Need-slice-aggregate-sharers
-sharers-lent c = sym (looked (c .before .before .before) .job-refusal .kept .1 .1 .1 .1 .1 .1 .1 .1 .1 .1 .1 .1 .1 .0)
-
 sharers-requires : tie.Need-sharers-requires
-sharers-requires c κs = begins-sharers _ _ (may (c .before .before .before))
+sharers-requires c κs = begins-sharers _ _ (may (c .before .before))
 
-receivers-lent : tie.Need-slice-aggregate-receivers
-receivers-lent c = sym (ap length (needed (c .before) .needs .ensures) ∙ length-tabulate 500 _)
-
-receivers-requires : tie.Need-receivers-requires
-receivers-requires c κs = let w = c .before in begins-prices _ _ (may (stood w)) _ _ (needed w .needs .ensures) (w .sharers .ensures)
-
-waits-lent : tie.Need-slice-aggregate-waits
-waits-lent c = sym (looked (stood (shares (c .before))) .job-refusal .kept .1 .1 .1 .1 .1 .1 .1 .1 .1 .1 .1 .1 .1 .0)
-
-waits-requires : tie.Need-waits-requires
-waits-requires c κs = let w = shares (c .before) in begins-waits _ _ (may (stood w))
-
--- The words of receivers and waits are the job's.
-of-it : (c : tie.After-waits) → let e = stood (shares (priced c)) in OfJob (start e .args .boxes) (priced c .receivers .result) (c .waits .result) (jobOf (handed e))
-of-it c =
-    let w = shares (priced c) in
-    of-job _ _ (may (stood w)) _ _ (needed w .needs .ensures) (w .sharers .ensures) _ _ (priced c .receivers .ensures) (c .waits .ensures)
-
-put-order-requires : tie.Need-put-order-requires
-put-order-requires c κs =
-    let m = made (c .before) in
-    ((begins-walk _ _ (may (stood (shares (priced m)))), record { job = _; of-it = of-it m }, refl), λ j p. run-few j (p .boxes-in) _)
-
-all-steps-lent : tie.Need-slice-aggregate-all-steps
-all-steps-lent c =
-    let o = c .before .before .before in
-    sym (looked (stood (shares (priced (made (o .before .before))))) .job-refusal .kept .1 .1 .1 .1 .1 .1 .1 .1 .1 .1 .1 .1 .1 .0)
+pick-order-requires : tie.Need-pick-order-requires
+pick-order-requires c κs = let w = c .before .before .before in (order-in _ _ (may (stood w)) _ _ (w .before .needs .ensures) (w .sharers .ensures), refl)
 
 all-steps-requires : tie.Need-all-steps-requires
 all-steps-requires c κs =
-    let o = ordered c in
-    let m = made (o .before .before) in
-    let w = shares (priced m) in
+    let o = picked c in
+    let w = worded o in
     let g = may (stood w) in
-    let en = needed w .needs .ensures in
+    let en = w .before .needs .ensures in
     let es = w .sharers .ensures in
-    all-in _ _ g _ _ _ _ _ _ (needs-of _ _ g _ _ en es) (sharers-of _ _ g _ _ en es) (o .put-order .ensures .1 _ (of-it m))
+    all-in _ _ g _ _ _ _ _ _ (needs-of _ _ g _ _ en es) (sharers-of _ _ g _ _ en es) (o .pick-order .ensures .1 _ (of-job _ _ g _ _ en es))
 
 write-sent : tie.Need-slice-write-sent
-write-sent c =
-    let o = ordered (done c .before) in
-    omega (arith, sent-room _ _ (may (stood (shares (priced (made (o .before .before)))))))
+write-sent c = omega (arith, sent-room _ _ (may (stood (worded (picked (done c .before))))))
 
-cast-steps : tie.Need-cast-t77
+cast-steps : tie.Need-cast-t63
 cast-steps c =
-    let o = ordered (done c .before) in
-    omega (arith, o .put-order .ensures .1 _ (of-it (made (o .before .before))) .picked .in-order)
+    let o = picked (done c .before) in
+    let w = worded o in
+    omega (arith, o .pick-order .ensures .1 _ (of-job _ _ (may (stood w)) _ _ (w .before .needs .ensures) (w .sharers .ensures)) .picked .in-order)
 
 returns-3 : tie.Need-returns-3
 unfolding answerOf stateLengths
 returns-3 c =
     let a = done c in
-    let o = ordered (a .before) in
-    let m = made (o .before .before) in
-    let w = shares (priced m) in
+    let o = picked (a .before) in
+    let w = worded o in
     let e = stood w in
     let g = may e in
     let s = start e in
-    let en = needed w .needs .ensures in
+    let en = w .before .needs .ensures in
     let es = w .sharers .ensures in
-    run-ended (handed e) (lent s) g _ _ (now (s .args .choices)) _ _ _ (needs-of _ _ g _ _ en es) (sharers-of _ _ g _ _ en es) (o .put-order .ensures .1 _ (of-it m)) _ _ _ (a .all-steps .ensures)
-    (o .put-order .ensures .0) refl refl
+    run-ended (handed e) (lent s) g _ _ (now (s .args .choices)) _ _ _ (needs-of _ _ g _ _ en es) (sharers-of _ _ g _ _ en es) (o .pick-order .ensures .1 _ (of-job _ _ g _ _ en es)) _ _ _ (a .all-steps .ensures)
+    (o .pick-order .ensures .0) refl refl
     ∙ run-finished (job s) (lent s) _ (whole (looked e) .before .state-short .ensures) (whole (looked e) .if1 .left) (none-met e) (standing e) (stand e) (now (s .args .choices))
 
 pub run-spec : {M : Type 1} → statement M
@@ -188,16 +145,10 @@ run-spec =
     (λ c. refl)
     (λ c κs. search needs)
     returns-2
-    needs-lent
+    standing-lent
     needs-requires
-    sharers-lent
     sharers-requires
-    receivers-lent
-    receivers-requires
-    waits-lent
-    waits-requires
-    put-order-requires
-    all-steps-lent
+    pick-order-requires
     all-steps-requires
     write-sent
     cast-steps
@@ -206,6 +157,6 @@ run-spec =
     (λ c. done c .all-steps .kept .1 .1 .1 .1 .1 .1 .1 .1 .1 .1 .1 .1 .1 .1 .0)
     (λ c. done c .all-steps .kept .1 .1 .1 .1 .1 .1 .1 .1 .1 .1 .1 .1 .1 .1 .1 .0)
     (λ c. done c .all-steps .kept .1 .1 .1 .1 .1 .1 .1 .1 .1 .1 .1 .1 .1 .1 .1 .1 .0)
-    (λ c. ordered (done c .before) .put-order .kept .1 .1 .1 .1 .0)
+    (λ c. picked (done c .before) .pick-order .kept .1 .1 .1 .1 .1 .1 .1 .1 .0)
     (λ c. search needs)
     returns-3)

@@ -9,4 +9,4 @@ unfolding stateShort
 returns c = cc
 
 pub state-short-spec : {M : Type 1} → statement M
-state-short-spec = tie.close (tie.spec (λ c κs. search needs) (λ c κs. search needs) (λ c κs. search needs) (λ c. search needs) returns)
+state-short-spec = tie.close (tie.spec (λ c κs. tt) (λ c κs. tt) (λ c κs. tt) (λ c. search needs) returns)

@@ -1,8 +1,6 @@
 -- `statements::put_job` meets its contract. Assumes nothing.
-use mathlib.Core.Path.{_≡_, refl, sym}
-use native.Mathlib.Omega.{arith}
+use mathlib.Core.Path.{refl}
 use denote.Ref.{now}
-use lib.ListN.{length}
 use Rattle.model.specs.Tables.{JobTables, bagTables, StateTables, stateTables}
 use Rattle.run.specs.Run.{answerOf}
 use Rattle.text.proofs.Puts.{reworded}
@@ -24,26 +22,13 @@ abbrev ran-at : tie.After-statement3 → tie.After-run
 ran-at c = c .before .before .before .before .before .before .before .before .before
 
 abbrev entry : tie.After-run → tie.Start
-entry r = r .before .before .before .before .before .before .before .before .before .before .before .before .before .before .before .before .before .before
-
--- The statements are as long as before.
-statements-kept : (r : tie.After-run) → length (left r .statement) ≡ 255
-statements-kept r = r .run .kept .1 .1 .1 .1 .1 .1 .1 .1 .1 .1 .1 .1 .1 .1 .1 .1 .1 .0
-
-put-answer-requires : tie.Need-put-answer-requires
-put-answer-requires c κs =
-    let r = ran-at c in
-    let s = entry r in
-    (s .pre .0, omega (arith, statements-kept r, s .pre .0), s .pre .1)
-
-same-length : tie.Need-same-length
-same-length c = c .before .before .put-answer .kept .0
+entry r = r .before .before .before .before .before .before .before .before .before .before .before .before .before .before .before .before .before
 
 returns : tie.Need-returns
 unfolding blankState
 returns c =
-    let r = ran-at (c .before .before .before) in
-    reworded (run-text (job (entry r)) (answerOf (r .run .result)) (left r) (r .run .ensures)) (c .before .before .put-answer .ensures)
+    let r = ran-at (c .before) in
+    reworded (run-text (job (entry r)) (answerOf (r .run .result)) (left r) (r .run .ensures)) (c .put-answer .ensures)
 
 pub put-job-spec : {M : Type 1} → statement M
 put-job-spec =
@@ -58,7 +43,5 @@ put-job-spec =
     (λ c. refl)
     (λ c. refl)
     (λ c κs. tt)
-    (λ c. sym (statements-kept (ran-at c)))
-    put-answer-requires
-    same-length
+    (λ c κs. entry (ran-at c) .pre)
     returns)

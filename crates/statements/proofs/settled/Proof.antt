@@ -2,7 +2,6 @@
 use mathlib.Core.Path.{refl, sym}
 use mathlib.Core.List.{List}
 use Prim.Native.Nat.{ℕ}
-use native.Mathlib.Nat.{le-of-eq}
 use denote.Ref.{now}
 use Rattle.format.specs.Tables.{ReaderTables, offerTables, tallyTables, fileTables, readerTables}
 use Rattle.text.proofs.Puts.{reworded, shown}
@@ -78,7 +77,7 @@ unfolding blankJob
 put-job-requires c κs =
     let m = lent c .before .before .before in
     let r = back (m .before .before) in
-    (grocers-few (file r) (tables r) (r .read .result) (r .read .ensures) _ _ _ _ _ (m .a .given .1), le-of-eq (sym (lent c .before .put-job-arg .given .0 .1)))
+    grocers-few (file r) (tables r) (r .read .result) (r .read .ensures) _ _ _ _ _ (m .a .given .1)
 
 returns : tie.Need-returns
 unfolding blankJob
@@ -124,6 +123,6 @@ settled-spec =
     slice-aggregate-put-job-9
     put-job-requires
     (λ c. c .match .keys2)
-    (λ c κs. le-of-eq (sym (c .put-refused-arg .given .0 .1)))
+    (λ c κs. tt)
     returns
     returns-2)

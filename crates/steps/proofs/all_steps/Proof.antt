@@ -1,30 +1,29 @@
 -- `steps::all_steps` meets its contract: at turn i the tables hold the state after i steps. Assumes nothing.
 use mathlib.Core.Path.{refl}
 use lib.ListN.{replicate}
-use Prim.Native.Nat.{_-_, _≤_, _<_}
+use Prim.Native.Nat.{_-_, _≤_, zero-le}
 use native.Mathlib.Omega.{arith}
 use borrow.Author.Count.{falls}
-use borrow.Author.Needs.{needs}
 use denote.Ref.{now}
 use Rattle.model.specs.Tables.{JobTables, jobTables, StateTables}
 use Rattle.apply.proofs.Keys.{offers-keyed, grocers-keyed, tallies-keyed}
 use Rattle.steps.specs.All.{withoutMarks}
 use Rattle.steps.proofs.Turns.{Turning, Chained, turning-first, turning-last, prices-fresh, totals-fresh, fresh-holds, turn-place}
-use Rattle.steps.proofs.Turns.{up, kind-between, may-step, words-fit, messages-fit, turning-next}
+use Rattle.steps.proofs.Turns.{up, may-step, counts-fit, turning-next}
 use Rattle.steps.proofs.Turns.{known-length, transit-length, working-length, totals-length, statement-length}
 use Rattle.steps.proofs.all_steps.Statement.{statement}
 use Rattle.steps.proofs.all_steps.Tie as tie
 
 abbrev Inv-loop : tie.InvT-loop
 Inv-loop z price offer-owner grocer-owner tally-grocer tally-box tally-offer tally-count needs sharers order n known₀ price-transit₀ working₀ total-transit₀ statement₀ offer-links grocer-links tally-links
-    words₀ messages₀ i₀ known price-transit working total-transit statement words messages i =
+    sent₀ i₀ known price-transit working total-transit statement sent i =
     (i ≤ n) × (Turning (jobTables (z .boxes) (z .grocers) (z .offers) (z .tallies) price offer-owner grocer-owner tally-grocer tally-box tally-offer tally-count)
-    (withoutMarks known₀ price-transit₀ working₀ total-transit₀ statement₀) (withoutMarks known price-transit working total-transit statement) needs sharers order n i words messages)
+    (withoutMarks known₀ price-transit₀ working₀ total-transit₀ statement₀) (withoutMarks known price-transit working total-transit statement) needs sharers order n i (sent .words) (sent .messages))
     × (Chained (jobTables (z .boxes) (z .grocers) (z .offers) (z .tallies) price offer-owner grocer-owner tally-grocer tally-box tally-offer tally-count) offer-links grocer-links tally-links)
 
 abbrev μ-loop : tie.MeasureT-loop
 μ-loop z price offer-owner grocer-owner tally-grocer tally-box tally-offer tally-count needs sharers order n known₀ price-transit₀ working₀ total-transit₀ statement₀ offer-links grocer-links tally-links
-    words₀ messages₀ i₀ known price-transit working total-transit statement words messages i = n - i
+    sent₀ i₀ known price-transit working total-transit statement sent i = n - i
 
 -- The tables of the job and of the state, as they are lent.
 abbrev job : tie.Start Inv-loop μ-loop → JobTables
@@ -44,24 +43,15 @@ entry c = c .before .before .before .before .before
 abbrev priced : tie.After-fresh-totals-arg Inv-loop μ-loop → tie.After-fresh-prices Inv-loop μ-loop
 priced c = c .before .before .before .before .before
 
-abbrev totalled : tie.After-offer-links Inv-loop μ-loop → tie.After-fresh-totals Inv-loop μ-loop
-totalled c = c .before .before .before .before .before
-
-abbrev offers : tie.After-grocer-links Inv-loop μ-loop → tie.After-link Inv-loop μ-loop
-offers c = c .before .before .before
-
-abbrev grocers : tie.After-tally-links Inv-loop μ-loop → tie.After-link2 Inv-loop μ-loop
-grocers c = c .before .before .before
+abbrev totalled : tie.After-statement Inv-loop μ-loop → tie.After-fresh-totals Inv-loop μ-loop
+totalled c = c .before .before .before
 
 -- The start, from the calls that link.
-abbrev start : tie.After-offer-links Inv-loop μ-loop → tie.Start Inv-loop μ-loop
+abbrev start : tie.After-statement Inv-loop μ-loop → tie.Start Inv-loop μ-loop
 start c = entry (begun (priced (totalled c .before .before .before) .before))
 
-abbrev start-2 : tie.After-grocer-links Inv-loop μ-loop → tie.Start Inv-loop μ-loop
-start-2 c = start (offers c .before)
-
-abbrev start-3 : tie.After-tally-links Inv-loop μ-loop → tie.Start Inv-loop μ-loop
-start-3 c = start-2 (grocers c .before)
+abbrev linked : tie.At-loop Inv-loop μ-loop → tie.After-statement Inv-loop μ-loop
+linked c = c .before .before .before .before
 
 abbrev found : tie.After-one-step-arg5 Inv-loop μ-loop → tie.After-one-step-arg Inv-loop μ-loop
 found c = c .before .before .before .before
@@ -73,15 +63,15 @@ abbrev stepped : tie.After-working2 Inv-loop μ-loop → tie.After-one-step Inv-
 stepped c = c .before .before .before .before .before
 
 abbrev turn : tie.After-step-at Inv-loop μ-loop → tie.At-loop Inv-loop μ-loop
-turn c = c .before .before .before
+turn c = c .before .before
 
 abbrev at-start : tie.At-loop Inv-loop μ-loop → tie.Start Inv-loop μ-loop
-at-start c = start-3 (c .before .before .before)
+at-start c = start (linked c)
 
 -- The tables at the first turn, made fresh, and at a turn.
 abbrev fresh-at : tie.At-loop Inv-loop μ-loop → StateTables
 fresh-at c =
-    let f = totalled (offers (grocers (c .before .before .before) .before) .before) in
+    let f = totalled (linked c) in
     let p = priced (f .before .before .before) in
     withoutMarks (p .fresh-prices .last .1 .1 .1 .1 .0) (p .fresh-prices .last .1 .1 .1 .1 .1 .0) (f .fresh-totals .last .1 .1 .0) (f .fresh-totals .last .1 .1 .1 .0) (f .fresh-totals .last .1 .1 .1 .1 .0)
 
@@ -90,7 +80,7 @@ held c = let l = c .loop in withoutMarks (l .known) (l .price-transit) (l .worki
 
 -- What holds at a turn.
 turning : (c : tie.At-loop Inv-loop μ-loop) → let s = at-start c in
-    Turning (job s) (fresh-at c) (held c) (now (s .args .needs)) (now (s .args .sharers)) (now (s .args .order)) (s .args .n) (c .loop .i) (c .loop .words) (c .loop .messages)
+    Turning (job s) (fresh-at c) (held c) (now (s .args .needs)) (now (s .args .sharers)) (now (s .args .order)) (s .args .n) (c .loop .i) (c .loop .sent .words) (c .loop .sent .messages)
 turning c = c .loop .inv .1
 
 fresh-prices-requires : tie.Need-fresh-prices-requires Inv-loop μ-loop
@@ -99,66 +89,61 @@ fresh-prices-requires c κs = let s = entry (begun c) in prices-fresh (job s) (l
 fresh-totals-requires : tie.Need-fresh-totals-requires Inv-loop μ-loop
 fresh-totals-requires c κs = let s = entry (begun (priced (c .before .before) .before)) in totals-fresh (job s) (lent s) _ _ _ _ (s .pre)
 
-link-requires : tie.Need-link-requires Inv-loop μ-loop
-link-requires c κs = let s = start c in offers-keyed (job s) (s .pre .job-in) (s .pre .job-long) (replicate 517 0) refl
+offers-require : tie.Need-offer-links-requires Inv-loop μ-loop
+offers-require c κs = let s = start c in offers-keyed (job s) (s .pre .job-in) (s .pre .job-long) (replicate 517 0) refl
 
-link-requires-2 : tie.Need-link-requires-2 Inv-loop μ-loop
-link-requires-2 c κs = let s = start-2 c in grocers-keyed (job s) (s .pre .job-in) (s .pre .job-long) (replicate 272 0) refl
+grocers-require : tie.Need-grocer-links-requires Inv-loop μ-loop
+grocers-require c κs = let s = start (c .before) in grocers-keyed (job s) (s .pre .job-in) (s .pre .job-long) (replicate 272 0) refl
 
-link-pairs-requires : tie.Need-link-pairs-requires Inv-loop μ-loop
-link-pairs-requires c κs = let s = start-3 c in tallies-keyed (job s) (s .pre .job-in) (s .pre .job-long) (replicate 1_272 0) refl
+tallies-require : tie.Need-tally-links-requires Inv-loop μ-loop
+tallies-require c κs = let s = start (c .before .before) in tallies-keyed (job s) (s .pre .job-in) (s .pre .job-long) (replicate 1_272 0) refl
 
 loop-holds : tie.Need-loop-holds Inv-loop μ-loop
 loop-holds c =
-    let l = c .before .before in
-    let f = totalled (offers (grocers l .before) .before) in
+    let l = c .before .before .before in
+    let f = totalled l in
     let p = priced (f .before .before .before) in
-    let s = start-3 l in (
-      search needs,
+    let s = start l in (
+      zero-le,
       turning-first (job s) (lent s) _ _ _ _ _ (s .pre)
           (fresh-holds (job s) (lent s) _ (p .fresh-prices .ensures .0) (p .fresh-prices .ensures .1) (f .fresh-totals .ensures .0) (f .fresh-totals .ensures .1) (f .fresh-totals .ensures .2)),
-      record { offers-linked = offers (grocers l .before) .link .ensures; grocers-linked = grocers l .link2 .ensures; tallies-linked = c .before .link-pairs .ensures },
+      record { offers-linked = c .before .before .offer-links .ensures; grocers-linked = c .before .grocer-links .ensures; tallies-linked = c .tally-links .ensures },
     )
 
--- A turn is one of the steps.
-below : (c : tie.In-loop Inv-loop μ-loop) → c .before .loop .i < 1536
-below c = omega (arith, c .loop-test .taken, c .before .loop .inv .1 .all .does .few)
-
 step-at-requires : tie.Need-step-at-requires Inv-loop μ-loop
-step-at-requires c κs = let l = c .before .before .loop in turn-place _ _ _ _ _ _ (l .inv .1 .all) (l .i) (c .before .loop-test .taken)
+step-at-requires c κs = let l = c .before .loop in turn-place _ _ _ _ _ _ (l .inv .1 .all) (l .i) (c .loop-test .taken)
 
 one-step-requires : tie.Need-one-step-requires Inv-loop μ-loop
 one-step-requires c κs =
     let x = told (found c) in
-    may-step _ _ _ _ _ _ _ _ _ _ (turning (turn x)) (x .before .before .loop-test .taken) _ _ _ (x .step-at .ensures) _ _ _ (turn x .loop .inv .2)
+    may-step _ _ _ _ _ _ _ _ _ _ (turning (turn x)) (x .before .loop-test .taken) _ _ _ (x .step-at .ensures) _ _ _ (turn x .loop .inv .2)
 
-add-words : tie.Need-add-words Inv-loop μ-loop
-add-words c =
+sent-more-requires : tie.Need-sent-more-requires Inv-loop μ-loop
+sent-more-requires c κs =
     let y = stepped (c .before .before) in
     let x = told (found (y .before)) in
-    record { fits = words-fit _ _ _ _ _ _ _ _ _ _ (turning (turn x)) (x .before .before .loop-test .taken) _ _ _ (x .step-at .ensures) _ _ (y .one-step .ensures) }
+    counts-fit _ _ _ _ _ _ _ _ _ _ (turning (turn x)) (x .before .loop-test .taken) _ _ _ (x .step-at .ensures) _ _ (y .one-step .ensures)
 
-sent-by-requires : tie.Need-sent-by-requires Inv-loop μ-loop
-sent-by-requires c κs =
-    let x = told (found (stepped (c .before .before) .before)) in
-    kind-between _ _ _ _ _ _ _ _ _ _ (turning (turn x)) (x .before .before .loop-test .taken) _ _ _ (x .step-at .ensures)
+-- The turn, from its end.
+abbrev turned : tie.After-sent-more Inv-loop μ-loop → tie.After-one-step Inv-loop μ-loop
+turned c = stepped (c .before .before .before)
 
-add-messages : tie.Need-add-messages Inv-loop μ-loop
-add-messages c =
-    let y = stepped (c .before .before .before) in
-    let x = told (found (y .before)) in
-    record { fits = messages-fit _ _ _ _ _ _ _ _ _ _ (turning (turn x)) (x .before .before .loop-test .taken) _ _ _ (x .step-at .ensures) _ _ (y .one-step .ensures) _ (c .sent-by .ensures) }
+abbrev step-of : tie.After-sent-more Inv-loop μ-loop → tie.After-step-at Inv-loop μ-loop
+step-of c = told (found (turned c .before))
+
+add-i : tie.Need-add-i Inv-loop μ-loop
+add-i c = let x = step-of c in omega (arith, x .before .loop-test .taken, turn x .loop .inv .1 .all .does .few)
 
 loop-less : tie.Need-loop-less Inv-loop μ-loop
-loop-less c = let x = told (found (stepped (c .before .before .before) .before)) in falls _ (turn x .loop .i) (x .before .before .loop-test .taken)
+loop-less c = let x = step-of c in falls _ (turn x .loop .i) (x .before .loop-test .taken)
 
 loop-again : tie.Need-loop-again Inv-loop μ-loop
 loop-again c =
-    let y = stepped (c .before .before .before) in
-    let x = told (found (y .before)) in
-    let t = x .before .before .loop-test .taken in (
+    let y = turned c in
+    let x = step-of c in
+    let t = x .before .loop-test .taken in (
       up (turn x .loop .i) _ t,
-      turning-next _ _ _ _ _ _ _ _ _ _ (turning (turn x)) t _ _ _ (x .step-at .ensures) _ _ (y .one-step .ensures) _ (c .sent-by .ensures),
+      turning-next _ _ _ _ _ _ _ _ _ _ (turning (turn x)) t _ _ _ (x .step-at .ensures) _ _ (y .one-step .ensures) _ _ (c .sent-more .ensures .0) (c .sent-more .ensures .1),
       turn x .loop .inv .2,
     )
 
@@ -166,26 +151,26 @@ returns : tie.Need-returns Inv-loop μ-loop
 returns c =
     let l = c .before .loop in
     let s = at-start (c .before) in
-    let f = totalled (offers (grocers (c .before .before .before .before) .before) .before) in
+    let f = totalled (linked (c .before)) in
     let p = priced (f .before .before .before) in
     turning-last (job s) (lent s) _ _ _ _ _ _ (l .i) _ _
     (fresh-holds (job s) (lent s) _ (p .fresh-prices .ensures .0) (p .fresh-prices .ensures .1) (f .fresh-totals .ensures .0) (f .fresh-totals .ensures .1) (f .fresh-totals .ensures .2))
     (l .inv .1) (omega (arith, c .loop-test .left, l .inv .0))
 
 same-length : tie.Need-same-length Inv-loop μ-loop
-same-length c = let a = at-start (c .before) in let w = returns c in known-length (job a) (lent a) _ _ _ _ (a .pre) _ _ (w .holds)
+same-length c = let a = at-start (c .before) in let w = returns c in known-length (job a) (lent a) _ _ _ _ (a .pre) _ (held (c .before)) (w .holds)
 
 same-length-2 : tie.Need-same-length-2 Inv-loop μ-loop
-same-length-2 c = let a = at-start (c .before) in let w = returns c in transit-length (job a) (lent a) _ _ _ _ (a .pre) _ _ (w .holds)
+same-length-2 c = let a = at-start (c .before) in let w = returns c in transit-length (job a) (lent a) _ _ _ _ (a .pre) _ (held (c .before)) (w .holds)
 
 same-length-3 : tie.Need-same-length-3 Inv-loop μ-loop
-same-length-3 c = let a = at-start (c .before) in let w = returns c in working-length (job a) (lent a) _ _ _ _ (a .pre) _ _ (w .holds)
+same-length-3 c = let a = at-start (c .before) in let w = returns c in working-length (job a) (lent a) _ _ _ _ (a .pre) _ (held (c .before)) (w .holds)
 
 same-length-4 : tie.Need-same-length-4 Inv-loop μ-loop
-same-length-4 c = let a = at-start (c .before) in let w = returns c in totals-length (job a) (lent a) _ _ _ _ (a .pre) _ _ (w .holds)
+same-length-4 c = let a = at-start (c .before) in let w = returns c in totals-length (job a) (lent a) _ _ _ _ (a .pre) _ (held (c .before)) (w .holds)
 
 same-length-5 : tie.Need-same-length-5 Inv-loop μ-loop
-same-length-5 c = let a = at-start (c .before) in let w = returns c in statement-length (job a) (lent a) _ _ _ _ (a .pre) _ _ (w .holds)
+same-length-5 c = let a = at-start (c .before) in let w = returns c in statement-length (job a) (lent a) _ _ _ _ (a .pre) _ (held (c .before)) (w .holds)
 
 pub all-steps-spec : {M : Type 1} → statement M
 all-steps-spec =
@@ -195,24 +180,14 @@ all-steps-spec =
     μ-loop
     fresh-prices-requires
     fresh-totals-requires
-    (λ c. search needs)
-    (λ c. refl)
-    link-requires
-    (λ c. search needs)
-    (λ c. refl)
-    link-requires-2
-    (λ c. search needs)
-    (λ c. refl)
-    link-pairs-requires
+    offers-require
+    grocers-require
+    tallies-require
     loop-holds
-    (λ c. omega (arith, below c))
-    (λ c. omega (arith, below c))
     step-at-requires
     one-step-requires
-    add-words
-    sent-by-requires
-    add-messages
-    (λ c. omega (arith, below (told (found (stepped (c .before .before .before) .before)) .before .before)))
+    sent-more-requires
+    add-i
     loop-less
     loop-again
     same-length

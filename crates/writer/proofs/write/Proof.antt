@@ -1,10 +1,10 @@
 -- `writer::write` meets its contract. Assumes nothing.
 use mathlib.Core.Path.{_≡_, sym, ap, _∙_}
-use denote.Ref.{now}
 use borrow.Author.Needs.{needs}
 use Rattle.format.specs.Job.{Head}
 use Rattle.format.specs.Tables.{FileTables, offerTables, tallyTables, fileTables, writeRefusal, writeResult}
 use Rattle.blocks.specs.Due.{asHead}
+use denote.Ref.{now}
 use Rattle.writer.proofs.Written.{ready, refused-is, written-is}
 use Rattle.writer.proofs.write.Statement.{statement}
 use Rattle.writer.proofs.write.Tie as tie

@@ -7,7 +7,6 @@ use native.Mathlib.Nat.{add-zero, add-assoc}
 use native.Mathlib.Omega.{arith}
 use lib.Dec.{leb, ltb, eqb}
 use lib.ListN.{getD}
-use borrow.Author.Needs.{needs}
 use Rattle.laws.specs.Below.{all}
 use Rattle.laws.proofs.Below.{all-more}
 use Rattle.format.specs.Bytes.{from}
@@ -38,18 +37,22 @@ loop-holds c = (omega arith, refl)
 loop-again : tie.Need-loop-again Inv-loop μ-loop
 loop-again c =
     let l = c .before .before .before in
-    let s = l .before .before .before .before in (
+    let b = l .before in
+    let s = b .before .before in
+    let x = c .before .byte-at2 .ensures .0 in (
       omega arith,
-      all-more (l .loop .i) _ _ _ (l .loop .inv .1) (c .is-place .ensures ∙ place-is (s .args .f .now) (s .args .at) (l .loop .i) _ (l .before .size .ensures .0)),
+      all-more (l .loop .i) _ _ _ (l .loop .inv .1)
+          (rw x at (c .is-place .ensures) ∙ place-is (s .args .f .now) (s .args .at) (l .loop .i) _ (b .byte-at .ensures .0)),
     )
 
 returns : tie.Need-returns Inv-loop μ-loop
 unfolding isCode
 returns c =
     let l = c .before in
-    let s = l .before .before .before .before in
+    let b = l .before in
+    let s = b .before .before in
     let e : l .loop .i ≡ 10 = omega arith in
-    rw (l .loop .inv .1, e, ← (count-is (s .args .f .now) (s .args .at) _ (l .before .size .ensures .0)))
+    rw (l .loop .inv .1, e, ← (count-is (s .args .f .now) (s .args .at) _ (b .byte-at .ensures .0)))
 
 pub is-code-spec : {M : Type 1} → statement M
 is-code-spec =
@@ -57,14 +60,13 @@ is-code-spec =
     (tie.spec
     Inv-loop
     μ-loop
-    (λ c. search needs)
-    (λ c κs. search needs)
-    (λ c. search needs)
+    (λ c κs. omega arith)
+    (λ c. omega arith)
     loop-holds
-    (λ c. search needs)
-    (λ c. search needs)
-    (λ c κs. search needs)
-    (λ c. search needs)
-    (λ c. search needs)
+    (λ c. omega arith)
+    (λ c κs. omega arith)
+    (λ c κs. tt)
+    (λ c. omega arith)
+    (λ c. omega arith)
     loop-again
     returns)

@@ -1,6 +1,6 @@
 -- `blocks::records::bad_count` meets its contract. Assumes nothing.
 use native.Mathlib.Omega.{arith}
-use Rattle.blocks.proofs.Signs.{count-out}
+use Rattle.bytes.proofs.Signs.{count-out}
 use Rattle.blocks.proofs.records.bad_count.Statement.{statement}
 use Rattle.blocks.proofs.records.bad_count.Tie as tie
 

@@ -4,8 +4,8 @@ use mathlib.Core.Path.{ap, _∙_}
 use Rattle.format.specs.Codes.{readCode, isCode}
 use Rattle.format.specs.Job.{badOffer}
 use Rattle.format.specs.File.{readOffer}
-use Rattle.blocks.proofs.Places.{from-after}
-use borrow.Author.Needs.{needs}
+use Rattle.bytes.proofs.After.{from-after}
+use native.Mathlib.Omega.{arith}
 use Rattle.blocks.proofs.records.bad_offer.Statement.{statement}
 use Rattle.blocks.proofs.records.bad_offer.Tie as tie
 
@@ -13,19 +13,18 @@ returns : tie.Need-returns
 unfolding badOffer readOffer
 returns c =
     let z = c .before .before in
-    let p = z .before .before in
+    let p = z .before in
     let s = p .before .before in
     let e = c .is-code .ensures ∙ ap (λ (g : ℕ → ℕ). isCode (readCode g)) (from-after (s .args .f .now) (s .args .at) 5) in
-    rw (p .word32 .ensures, z .size .ensures .0, e)
+    rw (p .word32 .ensures, z .byte-at .ensures .0, e)
 
 pub bad-offer-spec : {M : Type 1} → statement M
 bad-offer-spec =
     tie.close
     (tie.spec
-    (λ c κs. search needs)
-    (λ c. search needs)
-    (λ c. search needs)
-    (λ c κs. search needs)
-    (λ c. search needs)
-    (λ c κs. search needs)
+    (λ c κs. omega arith)
+    (λ c. omega arith)
+    (λ c κs. omega arith)
+    (λ c. omega arith)
+    (λ c κs. omega arith)
     returns)

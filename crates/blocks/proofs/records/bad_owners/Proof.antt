@@ -4,7 +4,6 @@ use Prim.Native.Nat.{_+_, _-_, _≤_}
 use native.Mathlib.Omega.{arith}
 use lib.Dec.{leb}
 use lib.ListN.{getD}
-use borrow.Author.Needs.{needs}
 use Rattle.laws.specs.Below.{any}
 use Rattle.laws.proofs.Below.{any-end, any-more}
 use Rattle.format.specs.Job.{badOwner}
@@ -25,8 +24,8 @@ loop-holds c = (omega arith, refl)
 loop-again : tie.Need-loop-again Inv-loop μ-loop
 unfolding badOwner
 loop-again c =
-    let l = c .before .before .before .before in
-    (omega arith, any-more (l .loop .i) _ _ _ (l .loop .inv .1) (ap (leb (l .before .before .args .head .boxes)) (c .before .size .ensures .0)))
+    let l = c .before .before .before in
+    (omega arith, any-more (l .loop .i) _ _ _ (l .loop .inv .1) (ap (leb (l .before .before .args .head .boxes)) (c .before .byte-at .ensures .0)))
 
 returns : tie.Need-returns Inv-loop μ-loop
 returns c = any-end _ _ _ _ (omega arith) (c .before .loop .inv .1)
@@ -38,10 +37,9 @@ bad-owners-spec =
     Inv-loop
     μ-loop
     loop-holds
-    (λ c. search needs)
-    (λ c. search needs)
-    (λ c κs. search needs)
-    (λ c. search needs)
-    (λ c. search needs)
+    (λ c. omega arith)
+    (λ c κs. omega arith)
+    (λ c. omega arith)
+    (λ c. omega arith)
     loop-again
     returns)

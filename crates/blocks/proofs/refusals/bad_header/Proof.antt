@@ -5,7 +5,7 @@ use mathlib.Core.Bool.{not, _||_}
 use lib.Dec.{eqb}
 use Rattle.format.specs.Job.{badSizes}
 use Rattle.format.specs.Refusals.{badHeader}
-use borrow.Author.Needs.{needs}
+use native.Mathlib.Omega.{arith}
 use Rattle.blocks.proofs.refusals.bad_header.Statement.{statement}
 use Rattle.blocks.proofs.refusals.bad_header.Tie as tie
 
@@ -13,10 +13,10 @@ returns : tie.Need-returns
 unfolding badHeader
 returns c =
     let z = c .before in
-    let r = z .before .before in
-    ap₂ _||_ (ap (λ (x : ℕ). not (eqb x 1)) (z .size .ensures .0)) (c .bad-sizes .ensures ∙ ap badSizes (r .read-head .ensures))
+    let r = z .before in
+    ap₂ _||_ (ap (λ (x : ℕ). not (eqb x 1)) (z .byte-at .ensures .0)) (c .bad-sizes .ensures ∙ ap badSizes (r .read-head .ensures))
 
 pub bad-header-spec : {M : Type 1} → statement M
 bad-header-spec =
     tie.close
-    (tie.spec (λ c κs. search needs) (λ c. search needs) (λ c κs. search needs) (λ c κs. search needs) returns)
+    (tie.spec (λ c κs. omega arith) (λ c κs. omega arith) (λ c κs. tt) returns)

@@ -7,7 +7,6 @@ use Rattle.format.specs.Blocks.{blocks}
 use Rattle.format.specs.File.{decode}
 use Rattle.format.specs.Refusals.{blockRefusal}
 use Rattle.format.proofs.Firsts.{below-more, below-hit}
-use borrow.Author.Needs.{needs}
 use Rattle.blocks.proofs.refusals.blocks_refusal.Statement.{statement}
 use Rattle.blocks.proofs.refusals.blocks_refusal.Tie as tie
 
@@ -54,12 +53,12 @@ blocks-refusal-spec =
     (tie.spec
     Inv-loop
     μ-loop
-    (λ c. search needs)
+    (λ c. omega arith)
     loop-holds
-    (λ c. search needs)
+    (λ c. omega arith)
     block-refusal-requires
     returns
-    (λ c. search needs)
-    (λ c. search needs)
+    (λ c. omega arith)
+    (λ c. omega arith)
     loop-again
     returns-2)

@@ -3,13 +3,12 @@ use mathlib.Core.Path.{_≡_, refl, sym, ap, ap₂, _∙_}
 use mathlib.Core.Bool.{_||_}
 use Prim.Native.Nat.{ℕ, _+_, _*_, _-_, _≤_}
 use native.Mathlib.Omega.{arith}
-use borrow.Author.Needs.{needs}
 use Rattle.laws.specs.Below.{any}
 use Rattle.laws.proofs.Below.{any-more}
 use Rattle.laws.proofs.Tables.{row-next, row-in}
 use Rattle.format.specs.Bytes.{from, after}
 use Rattle.blocks.specs.Shape.{used}
-use Rattle.blocks.proofs.Places.{from-after}
+use Rattle.bytes.proofs.After.{from-after}
 use Rattle.blocks.proofs.SpareWalk.{spare-walk}
 use Rattle.blocks.proofs.spares.spare_in.Statement.{statement}
 use Rattle.blocks.proofs.spares.spare_in.Tie as tie
@@ -92,14 +91,14 @@ spare-in-spec =
     (tie.spec
     Inv-loop
     μ-loop
-    (λ c. search needs)
+    (λ c. omega arith)
     loop-holds
     add-any-used
     add-any-used-2
     any-used-requires
     add-p
-    (λ c. search needs)
-    (λ c. search needs)
+    (λ c. omega arith)
+    (λ c. omega arith)
     loop-again
     add-any-used-3
     sub-any-used

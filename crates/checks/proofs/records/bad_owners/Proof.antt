@@ -23,8 +23,8 @@ loop-holds c = (omega arith, refl)
 
 loop-again : tie.Need-loop-again Inv-loop μ-loop
 loop-again c =
-    let l = c .before .before .before in
-    (omega arith, any-more _ _ _ _ (l .loop .inv .1) (ap (leb (l .before .before .args .head .boxes)) (c .size-of .ensures .0)))
+    let l = c .before .before in
+    (omega arith, any-more _ _ _ _ (l .loop .inv .1) (ap (leb (l .before .before .args .head .boxes)) (c .index-at .ensures .0)))
 
 returns : tie.Need-returns Inv-loop μ-loop
 unfolding badOwner
@@ -37,8 +37,6 @@ bad-owners-spec =
     Inv-loop
     μ-loop
     loop-holds
-    (λ c. search needs)
-    (λ c. search needs)
     (λ c κs. search needs)
     (λ c. search needs)
     (λ c. search needs)

@@ -3,7 +3,6 @@ use mathlib.Core.Path.{_≡_, refl, ap, _∙_}
 use Prim.Native.Nat.{ℕ, _+_, _≤_, _-_}
 use native.Mathlib.Omega.{arith}
 use lib.ListN.{length, length-set}
-use borrow.Author.Needs.{needs}
 use Rattle.laws.specs.Tables.{overwrite}
 use Rattle.format.specs.Blocks.{talliesAt}
 use Rattle.format.specs.File.{recordAt, decode}
@@ -45,17 +44,17 @@ stands c = c .record-at .ensures ∙ ap (λ (k : ℕ). recordAt k (c .before .be
 room : (c : tie.After-record-at Inv-loop μ-loop) → c .record-at .result + 24 ≤ length (entry (c .before .before) .args .f .now)
 room c = omega (arith, stands c, tally-room (entry (c .before .before) .pre .0) (c .before .before .loop .i) (c .before .loop-test .taken))
 
--- The loop, from where the bag is written, and from where the revision is.
-abbrev turn : tie.After-narrow Inv-loop μ-loop → tie.At-loop Inv-loop μ-loop
-turn c = c .before .before .before .before
+-- The loop, from where a bag is written, and from where a revision is.
+abbrev turn : tie.After-narrow16 Inv-loop μ-loop → tie.At-loop Inv-loop μ-loop
+turn c = c .before .before .before
 
-abbrev turn2 : tie.After-narrow2 Inv-loop μ-loop → tie.At-loop Inv-loop μ-loop
-turn2 c = turn (c .before .before)
+abbrev turn2 : tie.After-narrow162 Inv-loop μ-loop → tie.At-loop Inv-loop μ-loop
+turn2 c = turn (c .before)
 
 loop-again : tie.Need-loop-again Inv-loop μ-loop
 loop-again c =
-    let n = c .before .before in
-    let at = n .before .before in
+    let n = c .before in
+    let at = n .before in
     let l = turn n in
     let s = entry l in
     let f = s .args .f .now in
@@ -64,9 +63,9 @@ loop-again c =
     let w = s .pre .0 in (
       omega arith,
       simp length-set (v .1),
-      fill-more _ i _ _ _ (v .2) (omega (arith, s .pre .1 .0)) (n .narrow .ensures ∙ n .before .word16 .ensures .0 ∙ tally-bag f i w (stands at)),
+      fill-more _ i _ _ _ (v .2) (omega (arith, s .pre .1 .0)) (n .narrow16 .ensures ∙ tally-bag f i w (stands at)),
       simp length-set (v .3),
-      fill-more _ i _ _ _ (v .4) (omega (arith, s .pre .1 .1)) (c .narrow2 .ensures ∙ c .before .word162 .ensures .0 ∙ tally-revision f i w (stands at)),
+      fill-more _ i _ _ _ (v .4) (omega (arith, s .pre .1 .1)) (c .narrow162 .ensures ∙ tally-revision f i w (stands at)),
     )
 
 returns : tie.Need-returns Inv-loop μ-loop
@@ -87,16 +86,14 @@ fill-bags-spec =
     record-at-requires
     (λ c. omega (arith, room c))
     (λ c κs. omega (arith, room c))
-    (λ c κs. c .word16 .ensures .1)
-    (λ c. search needs)
+    (λ c. omega (arith, entry (turn c) .pre .0 .most .tallies))
     (λ c. let l = turn c in omega (arith, entry l .pre .1 .0, l .loop .inv .1))
-    (λ c. omega (arith, room (c .before .before)))
-    (λ c κs. omega (arith, room (c .before .before)))
-    (λ c κs. c .word162 .ensures .1)
-    (λ c. search needs)
+    (λ c. omega (arith, room (c .before)))
+    (λ c κs. omega (arith, room (c .before)))
+    (λ c. omega (arith, entry (turn2 c) .pre .0 .most .tallies))
     (λ c. let l = turn2 c in omega (arith, entry l .pre .1 .1, l .loop .inv .3))
-    (λ c. search needs)
-    (λ c. search needs)
+    (λ c. omega arith)
+    (λ c. omega arith)
     loop-again
     (λ c. c .before .loop .inv .1)
     (λ c. c .before .loop .inv .3)

@@ -19,6 +19,10 @@ Inv-loop f numbers₀ n i₀ numbers i = (i ≤ n) × (length numbers ≡ length
 abbrev μ-loop : tie.MeasureT-loop
 μ-loop f numbers₀ n i₀ numbers i = n - i
 
+-- The entry, from the loop.
+abbrev entry : tie.At-loop Inv-loop μ-loop → tie.Start Inv-loop μ-loop
+entry l = l .before .before .before
+
 loop-holds : tie.Need-loop-holds Inv-loop μ-loop
 loop-holds c = (omega arith, refl, fill-none _ _)
 
@@ -65,10 +69,10 @@ fill-names-spec =
     (λ c. omega (arith, room c))
     (λ c κs. omega (arith, room c))
     name-at-requires
+    (λ c. omega (arith, entry (c .before .before .before .before) .pre .0 .0 .most .offers))
     (λ c. search needs)
-    (λ c. search needs)
-    (λ c. search needs)
-    (λ c. search needs)
+    (λ c. omega arith)
+    (λ c. omega arith)
     loop-again
     (λ c. c .before .loop .inv .1)
     returns)

@@ -3,7 +3,6 @@ use mathlib.Core.Path.{_≡_, refl, _∙_}
 use Prim.Native.Nat.{_+_, _≤_, _-_}
 use native.Mathlib.Omega.{arith}
 use lib.ListN.{length, length-set}
-use borrow.Author.Needs.{needs}
 use Rattle.laws.specs.Tables.{overwrite}
 use Rattle.format.specs.File.{decode}
 use Rattle.format.specs.Tables.{storeCodes}
@@ -39,34 +38,26 @@ room c = omega (arith, c .record-at .ensures, offer-room (entry (c .before .befo
 word32-requires : tie.Need-word32-requires Inv-loop μ-loop
 word32-requires c κs = omega (arith, room c)
 
-slice-write-price : tie.Need-slice-write-price Inv-loop μ-loop
-slice-write-price c = let l = c .before .before .before in omega (arith, entry l .pre .1 .0, l .loop .inv .1)
+-- The loop, from where a price is written, and from where an owner is.
+abbrev turn : tie.After-word32 Inv-loop μ-loop → tie.At-loop Inv-loop μ-loop
+turn c = c .before .before .before
 
-add-wide : tie.Need-add-wide Inv-loop μ-loop
-add-wide c = omega (arith, room (c .before))
-
-read-wide : tie.Need-shared-slice-read-wide Inv-loop μ-loop
-read-wide c = omega (arith, room (c .before .before))
-
-slice-write-offer-owner : tie.Need-slice-write-offer-owner Inv-loop μ-loop
-slice-write-offer-owner c = let l = c .before .before .before .before .before in omega (arith, entry l .pre .1 .1, l .loop .inv .3)
-
-add-copy-code : tie.Need-add-copy-code Inv-loop μ-loop
-add-copy-code c = omega (arith, room (c .before .before .before))
+abbrev turn2 : tie.After-byte16 Inv-loop μ-loop → tie.At-loop Inv-loop μ-loop
+turn2 c = turn (c .before)
 
 copy-code-requires : tie.Need-copy-code-requires Inv-loop μ-loop
 copy-code-requires c κs =
-    let at = c .before .before .before .before in
-    let l = at .before .before in
-    (omega (arith, room at), omega (arith, entry l .pre .1 .2, l .loop .inv .5))
+    let o = c .before in
+    let l = turn2 o in
+    (omega (arith, room (o .before .before)), omega (arith, entry l .pre .1 .2, l .loop .inv .5))
 
 loop-again : tie.Need-loop-again Inv-loop μ-loop
 loop-again c =
     let k = c .before .before in
     let o = k .before .before in
-    let p = o .before .before in
+    let p = o .before in
     let at = p .before in
-    let l = at .before .before in
+    let l = turn p in
     let s = entry l in
     let f = s .args .f .now in
     let i = l .loop .i in
@@ -77,7 +68,7 @@ loop-again c =
       simp length-set (v .1),
       fill-more _ i _ _ _ (v .2) (omega (arith, s .pre .1 .0)) (p .word32 .ensures ∙ offer-price f i e),
       simp length-set (v .3),
-      fill-more _ i _ _ _ (v .4) (omega (arith, s .pre .1 .1)) (o .wide .ensures ∙ offer-owner f i e),
+      fill-more _ i _ _ _ (v .4) (omega (arith, s .pre .1 .1)) (o .byte16 .ensures ∙ offer-owner f i e),
       long,
       codes-more _ i _ _ _ _ (v .6) (omega (arith, s .pre .1 .2)) long (k .copy-code .ensures) (offer-code f i e),
     )
@@ -98,18 +89,17 @@ fill-offers-spec =
     loop-holds
     record-at-requires
     word32-requires
-    (λ c. search needs)
-    slice-write-price
-    add-wide
-    read-wide
-    (λ c κs. search needs)
-    (λ c. search needs)
-    slice-write-offer-owner
-    add-copy-code
-    (λ c. search needs)
+    (λ c. omega (arith, entry (turn c) .pre .0 .most .offers))
+    (λ c. let l = turn c in omega (arith, entry l .pre .1 .0, l .loop .inv .1))
+    (λ c. omega (arith, room (c .before)))
+    (λ c κs. omega (arith, room (c .before)))
+    (λ c. omega (arith, entry (turn2 c) .pre .0 .most .offers))
+    (λ c. let l = turn2 c in omega (arith, entry l .pre .1 .1, l .loop .inv .3))
+    (λ c. omega (arith, room (c .before .before)))
+    (λ c. omega (arith, entry (turn2 (c .before)) .pre .0 .most .offers))
     copy-code-requires
-    (λ c. search needs)
-    (λ c. search needs)
+    (λ c. omega arith)
+    (λ c. omega arith)
     loop-again
     (λ c. c .before .loop .inv .1)
     (λ c. c .before .loop .inv .3)

@@ -3,7 +3,6 @@ use mathlib.Core.Path.{_≡_, refl, ap, _∙_}
 use Prim.Native.Nat.{ℕ, _+_, _*_, _≤_, _-_}
 use native.Mathlib.Omega.{arith}
 use lib.ListN.{length, length-set}
-use borrow.Author.Needs.{needs}
 use Rattle.laws.specs.Tables.{overwrite}
 use Rattle.format.specs.File.{decode}
 use Rattle.fills.proofs.Filling.{fill-none, fill-more, fill-end}
@@ -36,18 +35,12 @@ room c =
     let h = a .before .before .before .args .head .grocers in
     omega (arith, a .grocers-at .ensures, owner-room (a .before .before .before .pre .0), c .loop-test .taken)
 
-add-wide : tie.Need-add-wide Inv-loop μ-loop
-add-wide c = omega (arith, room c)
-
-read-wide : tie.Need-shared-slice-read-wide Inv-loop μ-loop
-read-wide c = omega (arith, room (c .before))
-
 loop-again : tie.Need-loop-again Inv-loop μ-loop
 loop-again c =
-    let l = c .before .before .before in
+    let l = c .before .before in
     let s = l .before .before .before .before in
     let at = ap (λ (k : ℕ). 512 * k + 4) (l .before .grocers-at .ensures) in
-    (omega arith, simp length-set (l .loop .inv .1), fill-more _ (l .loop .i) _ _ _ (l .loop .inv .2) (omega arith) (c .wide .ensures ∙ grocer-owner (s .args .f .now) (l .loop .i) (s .pre .0) at))
+    (omega arith, simp length-set (l .loop .inv .1), fill-more _ (l .loop .i) _ _ _ (l .loop .inv .2) (omega arith) (c .byte16 .ensures ∙ grocer-owner (s .args .f .now) (l .loop .i) (s .pre .0) at))
 
 returns : tie.Need-returns Inv-loop μ-loop
 returns c = fill-end _ (c .before .loop .i) _ _ _ (c .before .loop .inv .2) (c .before .loop .inv .0) (c .loop-test .left)
@@ -62,13 +55,12 @@ fill-owners-spec =
     mul-at
     add-at
     loop-holds
-    add-wide
-    read-wide
-    (λ c κs. search needs)
-    (λ c. search needs)
-    (λ c. search needs)
-    (λ c. search needs)
-    (λ c. search needs)
+    (λ c. omega (arith, room c))
+    (λ c κs. omega (arith, room c))
+    (λ c. let l = c .before .before in omega (arith, l .before .before .before .before .pre .0 .most .grocers))
+    (λ c. let l = c .before .before in omega (arith, l .before .before .before .before .pre .1, l .loop .inv .1))
+    (λ c. omega arith)
+    (λ c. omega arith)
     loop-again
     (λ c. c .before .loop .inv .1)
     returns)

@@ -3,7 +3,6 @@ use mathlib.Core.Path.{_≡_, refl, ap, _∙_}
 use Prim.Native.Nat.{ℕ, _+_, _≤_, _-_}
 use native.Mathlib.Omega.{arith}
 use lib.ListN.{length, length-set}
-use borrow.Author.Needs.{needs}
 use Rattle.laws.specs.Tables.{overwrite}
 use Rattle.format.specs.Blocks.{talliesAt}
 use Rattle.format.specs.File.{recordAt, decode}
@@ -50,42 +49,29 @@ stands c = c .record-at .ensures ∙ ap (λ (k : ℕ). recordAt k (c .before .be
 room : (c : tie.After-record-at Inv-loop μ-loop) → c .record-at .result + 24 ≤ length (entry (c .before .before) .args .f .now)
 room c = omega (arith, stands c, tally-room (entry (c .before .before) .pre .0) (c .before .before .loop .i) (c .before .loop-test .taken))
 
-word16-requires : tie.Need-word16-requires Inv-loop μ-loop
-word16-requires c κs = omega (arith, room c)
+narrow16-requires : tie.Need-narrow16-requires Inv-loop μ-loop
+narrow16-requires c κs = omega (arith, room c)
 
-narrow-requires : tie.Need-narrow-requires Inv-loop μ-loop
-narrow-requires c κs = c .word16 .ensures .1
+-- The loop, from where a grocer is written, and from where a box is.
+abbrev turn : tie.After-narrow16 Inv-loop μ-loop → tie.At-loop Inv-loop μ-loop
+turn c = c .before .before .before
 
-write-grocer : tie.Need-slice-write-tally-grocer Inv-loop μ-loop
-write-grocer c = let l = c .before .before .before .before in omega (arith, entry l .pre .1 .0, l .loop .inv .1)
-
-add-wide : tie.Need-add-wide Inv-loop μ-loop
-add-wide c = omega (arith, room (c .before .before))
-
-read-wide : tie.Need-shared-slice-read-wide Inv-loop μ-loop
-read-wide c = omega (arith, room (c .before .before .before))
-
-write-box : tie.Need-slice-write-tally-box Inv-loop μ-loop
-write-box c =
-    let l = c .before .before .before .before in
-    omega (arith, entry (l .before .before) .pre .1 .1 .0, l .before .before .loop .inv .3)
-
-add-copy-code : tie.Need-add-copy-code Inv-loop μ-loop
-add-copy-code c = omega (arith, room (c .before .before .before .before))
+abbrev turn2 : tie.After-byte16 Inv-loop μ-loop → tie.At-loop Inv-loop μ-loop
+turn2 c = turn (c .before)
 
 copy-code-requires : tie.Need-copy-code-requires Inv-loop μ-loop
 copy-code-requires c κs =
-    let at = c .before .before .before .before .before in
-    let l = at .before .before in
-    (omega (arith, room at), omega (arith, entry l .pre .1 .1 .1, l .loop .inv .5))
+    let b = c .before in
+    let l = turn2 b in
+    (omega (arith, room (b .before .before)), omega (arith, entry l .pre .1 .1 .1, l .loop .inv .5))
 
 loop-again : tie.Need-loop-again Inv-loop μ-loop
 loop-again c =
     let k = c .before .before in
     let b = k .before .before in
-    let g = b .before .before in
-    let at = g .before .before in
-    let l = at .before .before in
+    let g = b .before in
+    let at = g .before in
+    let l = turn g in
     let s = entry l in
     let f = s .args .f .now in
     let i = l .loop .i in
@@ -95,9 +81,9 @@ loop-again c =
     let long = k .copy-code .kept .1 .1 .0 ∙ v .5 in (
       omega arith,
       simp length-set (v .1),
-      fill-more _ i _ _ _ (v .2) (omega (arith, s .pre .1 .0)) (g .narrow .ensures ∙ g .before .word16 .ensures .0 ∙ tally-grocer f i w e),
+      fill-more _ i _ _ _ (v .2) (omega (arith, s .pre .1 .0)) (g .narrow16 .ensures ∙ tally-grocer f i w e),
       simp length-set (v .3),
-      fill-more _ i _ _ _ (v .4) (omega (arith, s .pre .1 .1 .0)) (b .wide .ensures ∙ tally-box f i w e),
+      fill-more _ i _ _ _ (v .4) (omega (arith, s .pre .1 .1 .0)) (b .byte16 .ensures ∙ tally-box f i w e),
       long,
       codes-more _ i _ _ _ _ (v .6) (omega (arith, s .pre .1 .1 .1)) long (k .copy-code .ensures) (tally-code f i w e),
     )
@@ -118,20 +104,18 @@ fill-tallies-spec =
     tallies-at-requires
     loop-holds
     record-at-requires
-    word16-requires
-    narrow-requires
-    (λ c. search needs)
-    write-grocer
-    add-wide
-    read-wide
-    (λ c κs. search needs)
-    (λ c. search needs)
-    write-box
-    add-copy-code
-    (λ c. search needs)
+    narrow16-requires
+    (λ c. omega (arith, entry (turn c) .pre .0 .most .tallies))
+    (λ c. let l = turn c in omega (arith, entry l .pre .1 .0, l .loop .inv .1))
+    (λ c. omega (arith, room (c .before)))
+    (λ c κs. omega (arith, room (c .before)))
+    (λ c. omega (arith, entry (turn2 c) .pre .0 .most .tallies))
+    (λ c. let l = turn2 c in omega (arith, entry l .pre .1 .1 .0, l .loop .inv .3))
+    (λ c. omega (arith, room (c .before .before)))
+    (λ c. omega (arith, entry (turn2 (c .before)) .pre .0 .most .tallies))
     copy-code-requires
-    (λ c. search needs)
-    (λ c. search needs)
+    (λ c. omega arith)
+    (λ c. omega arith)
     loop-again
     (λ c. c .before .loop .inv .1)
     (λ c. c .before .loop .inv .3)

@@ -2,12 +2,10 @@
 use mathlib.Core.Path.{_≡_, refl, ap, _∙_}
 use Prim.Native.Nat.{ℕ, _+_, _≤_, _-_}
 use native.Mathlib.Omega.{arith}
-use lib.IntN.{ℤ}
 use lib.ListN.{length, getD, length-set}
 use mir.Syntax.{w32}
-use mir.Val.{Fits, toZ, ofZ}
-use mir.Facts.{toZ-ofZ, sfits-toZ}
-use borrow.Author.Needs.{needs}
+use mir.Val.{toZ, ofZ}
+use mir.Facts.{toZ-ofZ}
 use Rattle.laws.specs.Tables.{overwrite}
 use Rattle.format.specs.Blocks.{talliesAt}
 use Rattle.format.specs.File.{recordAt, decode}
@@ -50,47 +48,32 @@ stands c = c .record-at .ensures ∙ ap (λ (k : ℕ). recordAt k (c .before .be
 room : (c : tie.After-record-at Inv-loop μ-loop) → c .record-at .result + 24 ≤ length (entry (c .before .before) .args .f .now)
 room c = omega (arith, stands c, tally-room (entry (c .before .before) .pre .0 .0) (c .before .before .loop .i) (c .before .loop-test .taken))
 
-add-word32 : tie.Need-add-word32 Inv-loop μ-loop
-add-word32 c = omega (arith, room c)
+-- The loop, from where a count is written, and from where an issuer is.
+abbrev turn : tie.After-count32 Inv-loop μ-loop → tie.At-loop Inv-loop μ-loop
+turn c = c .before .before .before
 
-word32-requires : tie.Need-word32-requires Inv-loop μ-loop
-word32-requires c κs = omega (arith, room c)
-
-write-count : tie.Need-slice-set-from-v Inv-loop μ-loop
-write-count c = let l = c .before .before .before .before in omega (arith, entry l .pre .1 .0, l .loop .inv .1)
-
--- The loop, from where the issuer is written, and from where the place is read.
-abbrev issued : tie.After-narrow Inv-loop μ-loop → tie.At-loop Inv-loop μ-loop
-issued c = c .before .before .before .before .before .before
-
-abbrev turn : tie.After-shared-slice-known3 Inv-loop μ-loop → tie.At-loop Inv-loop μ-loop
-turn c = issued (c .before)
-
-write-issuer : tie.Need-slice-write-tally-issuer Inv-loop μ-loop
-write-issuer c = let l = issued c in omega (arith, entry l .pre .1 .1, l .loop .inv .3)
+abbrev turn2 : tie.After-narrow16 Inv-loop μ-loop → tie.At-loop Inv-loop μ-loop
+turn2 c = turn (c .before)
 
 loop-again : tie.Need-loop-again Inv-loop μ-loop
 loop-again c =
     let n = c .before in
-    let w = n .before in
-    let g = w .before in
-    let at = g .before .before in
-    let l = turn c in
+    let g = n .before in
+    let at = g .before in
+    let l = turn g in
     let s = entry l in
     let f = s .args .f .now in
     let i = l .loop .i in
     let v = l .loop .inv in
-    let fits : Fits w32 (g .before .word32 .result) = record { fits = g .before .word32 .ok } in
-    let e : toZ w32 (ofZ w32 (g .signed .result)) ≡ decode f .tally i .count =
-    ap (λ (z : ℤ). toZ w32 (ofZ w32 z)) (g .signed .ensures)
-    ∙ toZ-ofZ (sfits-toZ fits) ∙ ap (toZ w32) (g .before .word32 .ensures) ∙ tally-count f i (s .pre .0 .0) (stands at) in (
+    let w = s .pre .0 .0 in
+    let e : toZ w32 (ofZ w32 (g .count32 .result)) ≡ decode f .tally i .count = toZ-ofZ {w = w32} (record { sfits = g .count32 .ok }) ∙ g .count32 .ensures ∙ tally-count f i w (stands at) in (
       omega arith,
       simp length-set (v .1),
       fill-more _ i _ _ _ (v .2) (omega (arith, s .pre .1 .0)) e,
       simp length-set (v .3),
-      fill-more _ i _ _ _ (v .4) (omega (arith, s .pre .1 .1)) (n .narrow .ensures ∙ w .word16 .ensures .0 ∙ tally-issuer f i (s .pre .0 .0) (stands at)),
+      fill-more _ i _ _ _ (v .4) (omega (arith, s .pre .1 .1)) (n .narrow16 .ensures ∙ tally-issuer f i w (stands at)),
       simp length-set (v .5),
-      fill-more _ i _ _ _ (v .6) (omega (arith, s .pre .1 .2)) refl,
+      fill-more _ i _ _ _ (v .6) (omega (arith, s .pre .1 .2)) (c .u16-at .ensures),
     )
 
 returns : tie.Need-returns Inv-loop μ-loop
@@ -110,22 +93,19 @@ fill-tally-ends-spec =
     tallies-at-requires
     loop-holds
     record-at-requires
-    add-word32
-    word32-requires
-    (λ c κs. search needs)
-    (λ c. search needs)
-    write-count
-    (λ c. omega (arith, room (c .before .before)))
-    (λ c κs. omega (arith, room (c .before .before)))
-    (λ c κs. c .word16 .ensures .1)
-    (λ c. search needs)
-    write-issuer
-    (λ c. search needs)
-    (λ c. omega (arith, entry (turn c) .pre .0 .1))
-    (λ c. search needs)
-    (λ c. omega (arith, entry (turn c) .pre .1 .2, turn c .loop .inv .5))
-    (λ c. search needs)
-    (λ c. search needs)
+    (λ c. omega (arith, room c))
+    (λ c κs. omega (arith, room c))
+    (λ c. omega (arith, entry (turn c) .pre .0 .0 .most .tallies))
+    (λ c. let l = turn c in omega (arith, entry l .pre .1 .0, l .loop .inv .1))
+    (λ c. omega (arith, room (c .before)))
+    (λ c κs. omega (arith, room (c .before)))
+    (λ c. omega (arith, entry (turn2 c) .pre .0 .0 .most .tallies))
+    (λ c. let l = turn2 c in omega (arith, entry l .pre .1 .1, l .loop .inv .3))
+    (λ c κs. omega (arith, entry (turn2 c) .pre .0 .1))
+    (λ c. omega (arith, entry (turn2 (c .before)) .pre .0 .0 .most .tallies))
+    (λ c. let l = turn2 (c .before) in omega (arith, entry l .pre .1 .2, l .loop .inv .5))
+    (λ c. omega arith)
+    (λ c. omega arith)
     loop-again
     (λ c. c .before .loop .inv .1)
     (λ c. c .before .loop .inv .3)

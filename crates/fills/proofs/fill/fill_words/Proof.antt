@@ -3,7 +3,6 @@ use mathlib.Core.Path.{_≡_, refl, ap, _∙_}
 use Prim.Native.Nat.{ℕ, _+_, _≤_, _-_}
 use native.Mathlib.Omega.{arith}
 use lib.ListN.{length, length-set}
-use borrow.Author.Needs.{needs}
 use Rattle.laws.specs.Tables.{overwrite}
 use Rattle.format.specs.Bytes.{from, after, word16}
 use Rattle.format.specs.File.{recordAt}
@@ -32,8 +31,7 @@ room c = omega (arith, c .record-at .ensures, entry (c .before .before) .pre .1 
 
 loop-again : tie.Need-loop-again Inv-loop μ-loop
 loop-again c =
-    let w = c .before in
-    let at = w .before in
+    let at = c .before in
     let l = at .before .before in
     let s = entry l in
     let f = s .args .f .now in
@@ -41,7 +39,7 @@ loop-again c =
     let e = ap (λ (p : ℕ). word16 (from f (p + s .args .at))) (at .record-at .ensures) in (
       omega arith,
       simp length-set (l .loop .inv .1),
-      fill-more _ i _ _ _ (l .loop .inv .2) (omega (arith, s .pre .0 .3)) (c .narrow .ensures ∙ w .word16 .ensures .0 ∙ e ∙ word-shift f (recordAt (s .args .first) i) (s .args .at)),
+      fill-more _ i _ _ _ (l .loop .inv .2) (omega (arith, s .pre .0 .3)) (c .narrow16 .ensures ∙ e ∙ word-shift f (recordAt (s .args .first) i) (s .args .at)),
     )
 
 returns : tie.Need-returns Inv-loop μ-loop
@@ -57,11 +55,10 @@ fill-words-spec =
     (λ c κs. (entry (c .before) .pre .0 .0, omega (arith, entry (c .before) .pre .0 .1)))
     (λ c. omega (arith, room c, entry (c .before .before) .pre .0 .2))
     (λ c κs. omega (arith, room c, entry (c .before .before) .pre .0 .2))
-    (λ c κs. c .word16 .ensures .1)
-    (λ c. search needs)
-    (λ c. let l = c .before .before .before .before in omega (arith, entry l .pre .0 .3, l .loop .inv .1))
-    (λ c. search needs)
-    (λ c. search needs)
+    (λ c. omega (arith, entry (c .before .before .before) .pre .0 .1))
+    (λ c. let l = c .before .before .before in omega (arith, entry l .pre .0 .3, l .loop .inv .1))
+    (λ c. omega arith)
+    (λ c. omega arith)
     loop-again
     (λ c. c .before .loop .inv .1)
     returns)

@@ -9,8 +9,8 @@ use Rattle.laws.specs.Checks.{firstMet}
 use Rattle.model.specs.Tables.{JobTables, bagTables}
 use Rattle.model.specs.Handed.{Standing}
 use Rattle.model.specs.Local.{bookShort, bookRefusals}
-use Rattle.local.specs.Sort.{at}
-use Rattle.local.specs.Lists.{PlacesIn}
+use Rattle.sorts.specs.Sort.{at}
+use Rattle.classes.specs.Keys.{PlacesIn}
 use Rattle.local.specs.Book.{BookTables, bookTables, bookLengths}
 use denote.Ref.{now}
 use Rattle.local.proofs.Ready.{none-refused, box-in, long, whole, offer-owners, grocer-owners, offer-tallies, grocer-tallies, places-in}

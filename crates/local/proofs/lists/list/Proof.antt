@@ -6,7 +6,7 @@ use native.Mathlib.Omega.{arith}
 use lib.ListN.{replicate}
 use borrow.Author.Needs.{needs}
 use Rattle.laws.proofs.Tables.{getD-overwrite}
-use Rattle.local.specs.Sort.{at, begin, inFront}
+use Rattle.sorts.specs.Sort.{at, begin, inFront}
 use denote.Ref.{now}
 use Rattle.local.proofs.Listing.{keys-ready, list-is, list-length}
 use Rattle.local.proofs.lists.list.Statement.{statement}

@@ -7,12 +7,14 @@ use lib.ListN.{length}
 use borrow.Author.Needs.{needs}
 use Rattle.laws.specs.Tables.{overwrite}
 use Rattle.laws.proofs.Tables.{overwrite-cong, getD-overwrite, getD-tabulate, length-tabulate}
-use Rattle.local.specs.Sort.{at, below}
-use Rattle.local.specs.Pack.{PackLent, packWords, packedTallies, packedStart, packedGrocer, packedNumber, packedCount, OrderIn}
+use Rattle.sorts.specs.Sort.{at, below}
+use Rattle.tally_order.specs.Twice.{PackLent, packWords, packedTallies, packedStart, OrderIn}
+use Rattle.local.specs.Pack.{packedGrocer, packedNumber, packedCount}
 use denote.Ref.{now}
-use Rattle.local.proofs.Extra.{below-in}
-use Rattle.local.proofs.Packing.{order-in, item-put, grocer-put, count-put}
-use Rattle.local.proofs.Twice.{packed-le, packed-in}
+use Rattle.sorts.proofs.Extra.{below-in}
+use Rattle.tally_order.proofs.Packing.{order-in}
+use Rattle.local.proofs.Packing.{item-put, grocer-put, count-put}
+use Rattle.tally_order.proofs.Twice.{packed-le, packed-in}
 use Rattle.local.proofs.pack.pack.Statement.{statement}
 use Rattle.local.proofs.pack.pack.Tie as tie
 

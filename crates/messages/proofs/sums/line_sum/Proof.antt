@@ -8,11 +8,11 @@ use lib.ListN.{length, getD}
 use mir.Syntax.{w16}
 use mir.Val.{Val}
 use borrow.Author.Needs.{needs}
-use Rattle.tables.specs.Messages.{cellAt}
+use Rattle.laws.specs.Tables.{cellAt}
 use denote.Shadow.{shadow}
 use denote.Array.{Array, each}
 use denote.Plain.{UInt}
-use Rattle.tables.proofs.Sending.{side}
+use Rattle.shares.proofs.Sending.{side}
 use Rattle.messages.proofs.Summing.{lineTo, line-past, line-none, line-next, line-whole}
 use Rattle.messages.proofs.sums.line_sum.Statement.{statement}
 use Rattle.messages.proofs.sums.line_sum.Tie as tie

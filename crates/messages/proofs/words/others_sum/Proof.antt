@@ -9,7 +9,7 @@ use denote.Ref.{now}
 use lib.Count.{ones}
 use Rattle.laws.specs.Masks.{without}
 use Rattle.messages.specs.Sums.{othersSum}
-use Rattle.tables.proofs.Extra.{ones-max}
+use Rattle.laws.proofs.Rows.{ones-max}
 use Rattle.messages.proofs.Summing.{others-none, others-next}
 use Rattle.messages.proofs.words.others_sum.Statement.{statement}
 use Rattle.messages.proofs.words.others_sum.Tie as tie
@@ -34,17 +34,22 @@ loop-holds : tie.Need-loop-holds Inv-loop μ-loop
 loop-holds c = (search needs, sym (others-none _ _), search needs)
 
 others-requires : tie.Need-others-requires Inv-loop μ-loop
-others-requires c κs = owner-in (c .before .before)
+others-requires c κs = rw (c .u16-at2 .ensures) (owner-in (c .before .before))
+
+-- What is counted, in the definition's words.
+others-is : (c : tie.After-others Inv-loop μ-loop) → let e = c .before .before .before in
+    c .others .result ≡ ones (without (getD (now (entry e .args .owners)) (e .before .loop .i) 0) (getD (now (entry e .args .masks)) (e .before .loop .i) 0))
+others-is c = c .others .ensures ∙ ap₂ (λ (x y : ℕ). ones (without x y)) (c .before .u16-at2 .ensures) (c .before .before .u16-at .ensures)
 
 add-sum : tie.Need-add-sum Inv-loop μ-loop
-add-sum c = let e = c .before .before .before in omega (arith, c .others .ensures, most e, entry e .fits .n .fits)
+add-sum c = let e = c .before .before .before in omega (arith, others-is c, most e, entry e .fits .n .fits)
 
 loop-again : tie.Need-loop-again Inv-loop μ-loop
 loop-again c =
     let e = c .before .before .before in (
       search needs,
-      ap₂ (λ (x y : ℕ). x + y) (e .before .loop .inv .1) (c .others .ensures) ∙ sym (others-next (e .before .loop .i) _ _),
-      omega (arith, c .others .ensures, most e),
+      ap₂ (λ (x y : ℕ). x + y) (e .before .loop .inv .1) (others-is c) ∙ sym (others-next (e .before .loop .i) _ _),
+      omega (arith, others-is c, most e),
     )
 
 returns : tie.Need-returns Inv-loop μ-loop
@@ -60,10 +65,8 @@ others-sum-spec =
     Inv-loop
     μ-loop
     loop-holds
-    (λ c. search needs)
-    (λ c. search needs)
-    (λ c. search needs)
-    (λ c. search needs)
+    (λ c κs. search needs)
+    (λ c κs. search needs)
     others-requires
     add-sum
     (λ c. search needs)

@@ -1,12 +1,11 @@
 -- `prices::send::send_prices` meets its contract. The invariant: of the offers below the one walked to, the prices that are due are in transit, and counted. Assumes nothing.
-use mathlib.Core.Path.{_≡_, refl, sym, ap, ap₂, _∙_}
+use mathlib.Core.Path.{_≡_, refl, sym, ap, ap₂, _∙_, subst}
 use mathlib.Core.Bool.{Bool, true, cond}
 use mathlib.Core.List.{List}
 use Prim.Native.Nat.{ℕ, _<_, _≤_, _+_, _-_, _*_}
 use native.Mathlib.Omega.{arith}
-use native.Mathlib.Nat.{le-antisymm, mul-le-mul}
+use native.Mathlib.Nat.{le-antisymm}
 use lib.ListN.{length, getD}
-use borrow.Author.Needs.{needs}
 use Rattle.laws.specs.Below.{count}
 use Rattle.laws.specs.Tables.{cell}
 use Rattle.laws.proofs.Below.{count-next, count-le, only-le, count-start}
@@ -40,66 +39,64 @@ Start = tie.Start Inv-loop μ-loop
 abbrev due : Start → ℕ → Bool
 due s = wordIn (now (s .args .owner)) (now (s .args .needs)) (s .args .a) (s .args .b)
 
--- Where the rows of the two boxes begin.
-abbrev from : Start → ℕ
-from s = s .args .a * s .args .n
+-- The entry of the call, from the rows of the two boxes; and the rows, from a turn of the loop.
+abbrev begun : tie.After-row2 Inv-loop μ-loop → Start
+begun c = c .before .before .before .before .before
 
-abbrev to : Start → ℕ
-to s = s .args .b * s .args .n
+abbrev rows : tie.In-loop Inv-loop μ-loop → tie.After-row2 Inv-loop μ-loop
+rows e = e .before .before .before
+
+abbrev entry : tie.In-loop Inv-loop μ-loop → Start
+entry e = begun (rows e)
+
+-- Where these rows begin.
+abbrev from : tie.After-row2 Inv-loop μ-loop → ℕ
+from c = c .before .row .result
+
+abbrev to : tie.After-row2 Inv-loop μ-loop → ℕ
+to c = c .row2 .result
 
 -- The new word at place i, and the old one.
-abbrev new : Start → ℕ → ℕ
-new s i = getD (now (s .args .known)) (from s + (i - to s)) 0
+abbrev new : tie.After-row2 Inv-loop μ-loop → ℕ → ℕ
+new c i = getD (now (begun c .args .known)) (from c + (i - to c)) 0
 
 abbrev old : Start → ℕ → ℕ
 old s i = getD (now (s .args .transit)) i 0
-
--- The entry of the call, from a turn of the loop.
-abbrev begun : tie.After-o Inv-loop μ-loop → Start
-begun c = c .before .before .before .before
-
-abbrev entry : tie.In-loop Inv-loop μ-loop → Start
-entry e = begun (e .before .before)
 
 -- Offers in the message are of box a.
 due-own : (s : Start) (x : ℕ) → due s x ≡ true → getD (now (s .args .owner)) x 0 ≡ s .args .a
 due-own s x = word-owner (now (s .args .owner)) (now (s .args .needs)) (s .args .a) (s .args .b) x
 
 -- The first offer of box a, and the next after one of them.
-starts : (s : Start) → Skips (s .args .n) (now (s .args .owner)) (s .args .a) 0 (getD (now (s .args .links)) (s .args .a) 0)
-starts s = s .pre .1 .begins (s .args .a) (omega (arith, s .pre .0 .a-in))
+starts : (c : tie.After-first Inv-loop μ-loop) → let s = begun (c .before) in Skips (s .args .n) (now (s .args .owner)) (s .args .a) 0 (c .first .result)
+starts c =
+    let s = begun (c .before) in
+    subst (λ (j : ℕ). Skips (s .args .n) (now (s .args .owner)) (s .args .a) 0 j) (sym (c .first .ensures)) (s .pre .1 .begins (s .args .a) (omega (arith, s .pre .0 .a-in)))
 
-walks : (e : tie.In-loop Inv-loop μ-loop) → Skips (entry e .args .n) (now (entry e .args .owner)) (entry e .args .a) (e .before .loop .o + 1) (getD (now (entry e .args .links)) (17 + e .before .loop .o) 0)
-walks e =
+-- The turn, from its end.
+abbrev turn : tie.After-after Inv-loop μ-loop → tie.In-loop Inv-loop μ-loop
+turn c = c .before .before .before .before .before
+
+walks : (c : tie.After-after Inv-loop μ-loop) → let s = entry (turn c) in Skips (s .args .n) (now (s .args .owner)) (s .args .a) (turn c .before .loop .o + 1) (c .after .result)
+walks c =
+    let e = turn c in
     let s = entry e in
+    let o = e .before .loop .o in
     let l = e .loop-test .taken in
-    goes-on (s .args .n) (now (s .args .owner)) (now (s .args .links)) (s .args .a) (e .before .loop .o) (s .pre .1) l (e .before .loop .inv .4 l)
-
-mul-from : tie.Need-mul-from Inv-loop μ-loop
-mul-from c = let s = c .before .before .before in omega (arith, mul-le-mul (s .pre .0 .a-in) (s .pre .0 .offers-in))
-
-mul-to : tie.Need-mul-to Inv-loop μ-loop
-mul-to c = let s = c .before .before .before in omega (arith, mul-le-mul (s .pre .0 .b-in) (s .pre .0 .offers-in))
-
-mul-o : tie.Need-mul-o Inv-loop μ-loop
-mul-o c = let s = c .before .before .before in omega (arith, s .pre .0 .a-in)
-
-element-copy-out-o : tie.Need-element-copy-out-o Inv-loop μ-loop
-element-copy-out-o c = let s = c .before .before .before in omega (arith, s .pre .0 .a-in)
-
-cast-o : tie.Need-cast-o Inv-loop μ-loop
-cast-o c = let s = c .before .before .before .before in omega (arith, starts s .to, s .pre .0 .offers-in)
+    subst (λ (j : ℕ). Skips (s .args .n) (now (s .args .owner)) (s .args .a) (o + 1) j) (sym (c .after .ensures))
+    (goes-on (s .args .n) (now (s .args .owner)) (now (s .args .links)) (s .args .a) o (s .pre .1) l (e .before .loop .inv .4 l))
 
 loop-holds : tie.Need-loop-holds Inv-loop μ-loop
 loop-holds c =
-    let s = c .before .before .before .before in
-    let j = getD (now (s .args .links)) (s .args .a) 0 in
+    let r = c .before in
+    let s = begun r in
+    let j = c .first .result in
     let own = now (s .args .owner) in (
-      starts s .to,
-      sym (count-passed (s .args .n) own (s .args .a) 0 j (starts s) (due s) (due-own s) ∙ count-start (due s)),
+      starts c .to,
+      sym (count-passed (s .args .n) own (s .args .a) 0 j (starts c) (due s) (due-own s) ∙ count-start (due s)),
       refl,
-      λ i. sym (cond-no _ (new s i) (old s i) (guarded-passed (s .args .n) own (s .args .a) 0 j (starts s) (due s) (due-own s) (to s) i ∙ guarded-none (to s) (due s) i)),
-      starts s .hits,
+      λ i. sym (cond-no _ (new r i) (old s i) (guarded-passed (s .args .n) own (s .args .a) 0 j (starts c) (due s) (due-own s) (to r) i ∙ guarded-none (to r) (due s) i)),
+      starts c .hits,
     )
 
 send-one-requires : tie.Need-send-one-requires Inv-loop μ-loop
@@ -113,7 +110,7 @@ send-one-requires c κs =
         omega (arith, l, s .pre .0 .offers-in),
         (
           omega (arith, l, s .pre .0 .owner-long),
-          (omega (arith, l, s .pre .0 .known-long), omega (arith, l, s .pre .0 .transit-long, e .before .loop .inv .2)),
+          (omega (arith, l, s .pre .0 .known-long, rows e .before .row .ensures), omega (arith, l, s .pre .0 .transit-long, e .before .loop .inv .2, rows e .row2 .ensures)),
         ),
       ),
     )
@@ -125,58 +122,50 @@ add-sent c =
     let o = e .before .loop .o in
     omega (arith, count-le o (due s), e .before .loop .inv .1, only-le (due s o) 1, c .before .before .send-one .ensures .0, s .pre .0 .offers-in, e .loop-test .taken)
 
-add-o : tie.Need-add-o Inv-loop μ-loop
-add-o c = let e = c .before .before .before .before in omega (arith, e .loop-test .taken, entry e .pre .0 .offers-in)
-
-mul-o-2 : tie.Need-mul-o-2 Inv-loop μ-loop
-mul-o-2 c = let e = c .before .before .before .before in omega (arith, e .loop-test .taken, entry e .pre .0 .offers-in)
-
-element-copy-out-o-2 : tie.Need-element-copy-out-o-2 Inv-loop μ-loop
-element-copy-out-o-2 c = let e = c .before .before .before .before in omega (arith, e .loop-test .taken, entry e .pre .0 .offers-in)
-
-cast-o-2 : tie.Need-cast-o-2 Inv-loop μ-loop
-cast-o-2 c = let e = c .before .before .before .before .before in omega (arith, walks e .to, entry e .pre .0 .offers-in)
-
 loop-less : tie.Need-loop-less Inv-loop μ-loop
-loop-less c = let e = c .before .before .before .before .before in omega (arith, walks e .from, e .loop-test .taken)
+loop-less c = omega (arith, walks c .from, turn c .loop-test .taken)
 
 loop-again : tie.Need-loop-again Inv-loop μ-loop
 loop-again c =
-    let e = c .before .before .before .before .before in
+    let e = turn c in
+    let r = rows e in
     let s = entry e in
     let o = e .before .loop .o in
-    let j = getD (now (s .args .links)) (17 + o) 0 in
+    let j = c .after .result in
     let own = now (s .args .owner) in
     let l = e .loop-test .taken in
     let inv = e .before .loop .inv in
     let call = c .before .before .before .send-one in (
-      walks e .to,
-      ap₂ _+_ (inv .1) (call .ensures .0) ∙ sym (count-next o (due s)) ∙ sym (count-passed (s .args .n) own (s .args .a) (o + 1) j (walks e) (due s) (due-own s)),
+      walks c .to,
+      ap₂ _+_ (inv .1) (call .ensures .0) ∙ sym (count-next o (due s)) ∙ sym (count-passed (s .args .n) own (s .args .a) (o + 1) j (walks c) (due s) (due-own s)),
       call .kept .0 ∙ inv .2,
       λ i. ap (λ (t : List ℕ). getD t i 0) (call .ensures .1)
-          ∙ guarded-more (e .before .loop .transit) 0 (new s) (old s) (to s) o (due s) (omega (arith, l, s .pre .0 .transit-long, inv .2)) (inv .3) _
-          (ap (λ (x : ℕ). getD (now (s .args .known)) (from s + x) 0) (omega arith)) i
-          ∙ ap (λ (t : Bool). cond t (new s i) (old s i)) (sym (guarded-passed (s .args .n) own (s .args .a) (o + 1) j (walks e) (due s) (due-own s) (to s) i)),
-      walks e .hits,
+          ∙ guarded-more (e .before .loop .transit) 0 (new r) (old s) (to r) o (due s) (omega (arith, l, s .pre .0 .transit-long, inv .2, r .row2 .ensures)) (inv .3) _
+          (ap (λ (x : ℕ). getD (now (s .args .known)) (from r + x) 0) (omega arith)) i
+          ∙ ap (λ (t : Bool). cond t (new r i) (old s i)) (sym (guarded-passed (s .args .n) own (s .args .a) (o + 1) j (walks c) (due s) (due-own s) (to r) i)),
+      walks c .hits,
     )
 
 same-length : tie.Need-same-length Inv-loop μ-loop
 same-length c = c .before .loop .inv .2
 
 -- The new word of column o is the sender's.
-row-word : (s : Start) (k : ℕ) → s .args .a < k → (o : ℕ) → o < s .args .n → new s (to s + o) ≡ cell k (s .args .n) (now (s .args .known)) 0 (s .args .a) o
-row-word s k la o l =
-    ap (λ (x : ℕ). getD (now (s .args .known)) (from s + x) 0) (omega arith)
+row-word : (r : tie.After-row2 Inv-loop μ-loop) (k : ℕ) → let s = begun r in s .args .a < k → (o : ℕ) → o < s .args .n →
+    new r (s .args .b * s .args .n + o) ≡ cell k (s .args .n) (now (s .args .known)) 0 (s .args .a) o
+row-word r k la o l =
+    let s = begun r in
+    ap (λ (x : ℕ). getD (now (s .args .known)) x 0) (omega (arith, r .before .row .ensures, r .row2 .ensures))
     ∙ sym (cell-at k (s .args .n) (now (s .args .known)) 0 (s .args .a) o la l)
 
 returns : tie.Need-returns Inv-loop μ-loop
 unfolding sentTransit
 returns c =
-    let s = begun (c .before .before) in
+    let r = c .before .before .before in
+    let s = begun r in
     let inv = c .before .loop .inv in
     let end : c .before .loop .o ≡ s .args .n = le-antisymm (inv .0) (c .loop-test .left) in (
-      (λ k h. row-stored k (s .args .n) (s .args .b) (to s) (c .before .loop .o) (now (s .args .transit)) (c .before .loop .transit) 0
-          (due s) (new s) (cell k (s .args .n) (now (s .args .known)) 0 (s .args .a)) (h .b-in) (h .transit-long) refl end (inv .2) (inv .3) (row-word s k (h .a-in))),
+      (λ k h. row-stored k (s .args .n) (s .args .b) (to r) (c .before .loop .o) (now (s .args .transit)) (c .before .loop .transit) 0
+          (due s) (new r) (cell k (s .args .n) (now (s .args .known)) 0 (s .args .a)) (h .b-in) (h .transit-long) (r .row2 .ensures) end (inv .2) (inv .3) (row-word r k (h .a-in))),
       inv .1 ∙ ap (λ (m : ℕ). count m (due s)) end,
     )
 
@@ -186,18 +175,13 @@ send-prices-spec =
     (tie.spec
     Inv-loop
     μ-loop
-    mul-from
-    mul-to
-    mul-o
-    element-copy-out-o
-    cast-o
+    (λ c κs. let p = c .before .before .before .pre .0 in (p .offers-in, p .a-in))
+    (λ c κs. let p = c .before .before .before .before .pre .0 in (p .offers-in, p .b-in))
+    (λ c κs. begun c .pre .0 .a-in)
     loop-holds
     send-one-requires
     add-sent
-    add-o
-    mul-o-2
-    element-copy-out-o-2
-    cast-o-2
+    (λ c κs. let e = c .before .before .before .before in omega (arith, e .loop-test .taken, entry e .pre .0 .offers-in))
     loop-less
     loop-again
     same-length

@@ -3,7 +3,6 @@ use mathlib.Core.Path.{_≡_, refl, ap, _∙_}
 use Prim.Native.Nat.{ℕ, _+_, _≤_, _-_}
 use native.Mathlib.Omega.{arith}
 use lib.ListN.{length, length-set}
-use borrow.Author.Needs.{needs}
 use Rattle.laws.specs.Tables.{overwrite}
 use Rattle.recount.specs.Keys.{countKey}
 use Rattle.format.specs.Job.{countedTallies}
@@ -58,7 +57,7 @@ loop-again c =
     let h = at .before .loop-test .taken in (
       omega arith,
       simp length-set (l .loop .inv .1),
-      fill-more _ i _ _ _ (l .loop .inv .2) (omega (arith, s .pre .1 .1)) (c .tally-key .ensures ∙ key-at (s .args .f .now) i (s .pre .0 .0) (stands at) (s .pre .0 .1 .at i h)),
+      fill-more _ i _ _ _ (l .loop .inv .2) (omega (arith, s .pre .1 .1)) (c .tally-key .ensures ∙ key-at (s .args .f .now) i (s .pre .0 .0) (stands at) (c .before .u16-at .ensures ∙ s .pre .0 .1 .at i h)),
     )
 
 returns : tie.Need-returns Inv-loop μ-loop
@@ -76,13 +75,12 @@ fill-keys-spec =
     (λ c κs. omega (arith, c .before .before .before .pre .0 .0 .most .offers))
     loop-holds
     record-at-requires
-    (λ c. search needs)
-    (λ c. omega (arith, entry (c .before .before .before) .pre .1 .0, c .before .before .loop-test .taken))
+    (λ c κs. omega (arith, entry (c .before .before) .pre .1 .0, c .before .loop-test .taken))
     (λ c κs. room (c .before))
-    (λ c. search needs)
+    (λ c. omega (arith, entry (turn c) .pre .0 .0 .most .tallies, c .before .before .before .loop-test .taken))
     (λ c. let l = turn c in omega (arith, entry l .pre .1 .1, l .loop .inv .1, c .before .before .before .loop-test .taken))
-    (λ c. search needs)
-    (λ c. search needs)
+    (λ c. omega arith)
+    (λ c. omega arith)
     loop-again
     (λ c. c .before .loop .inv .1)
     returns)

@@ -34,7 +34,7 @@ mark-requires : tie.Need-mark-requires Inv-loop μ-loop
 mark-requires c κs =
     let e = c .before .before .before in
     let s = entry e in
-    (s .pre .0 .boxes≤, rw (e .before .loop .inv .1) (s .pre .0 .place< (e .before .loop .t) (e .loop-test .taken)))
+    (s .pre .0 .boxes≤, rw (e .before .loop .inv .1, c .u16-at2 .ensures) (s .pre .0 .place< (e .before .loop .t) (e .loop-test .taken)))
 
 loop-again : tie.Need-loop-again Inv-loop μ-loop
 loop-again c =
@@ -46,7 +46,8 @@ loop-again c =
       search needs,
       c .before .before .mark .kept .0 ∙ long,
       λ p l. ap (λ (x : List ℕ). getD x p 0) (c .before .before .mark .ensures)
-          ∙ holder-more (s .args .boxes) (now (s .args .tally-box)) (now (s .args .places)) old t (s .pre .0 .boxes≤) (rw long (s .pre .0 .place< t (e .loop-test .taken))) (λ q m. e .before .loop .inv .2 q (rw long at m)) p (rw long l),
+          ∙ rw (c .before .before .before .before .u16-at .ensures, c .before .before .before .u16-at2 .ensures)
+          (holder-more (s .args .boxes) (now (s .args .tally-box)) (now (s .args .places)) old t (s .pre .0 .boxes≤) (rw long (s .pre .0 .place< t (e .loop-test .taken))) (λ q m. e .before .loop .inv .2 q (rw long at m)) p (rw long l)),
     )
 
 returns : tie.Need-returns Inv-loop μ-loop
@@ -62,10 +63,8 @@ holders-spec =
     Inv-loop
     μ-loop
     loop-holds
-    (λ c. search needs)
-    (λ c. search needs)
-    (λ c. search needs)
-    (λ c. search needs)
+    (λ c κs. search needs)
+    (λ c κs. search needs)
     mark-requires
     (λ c. search needs)
     (λ c. search needs)

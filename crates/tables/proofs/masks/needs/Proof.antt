@@ -1,6 +1,6 @@
 -- `tables::masks::needs` meets its contract. Assumes nothing.
 use borrow.Author.Needs.{needs}
-use Rattle.tables.proofs.Extra.{getD-same}
+use Rattle.laws.proofs.Rows.{getD-same}
 use Rattle.tables.proofs.masks.needs.Statement.{statement}
 use Rattle.tables.proofs.masks.needs.Tie as tie
 

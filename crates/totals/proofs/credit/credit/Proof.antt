@@ -6,17 +6,16 @@ use Prim.Native.Nat.{ℕ, _≤_, _<_, _+_, _-_}
 use native.Mathlib.Nat.{le-antisymm}
 use native.Mathlib.Omega.{arith}
 use lib.Dec.{ltb}
-use lib.ListN.{length, getD}
+use lib.ListN.{length, getD, set}
 use lib.IntN.{ℤ, pos, natAbs, _+ℤ_}
-use borrow.Author.Needs.{needs}
 use Rattle.laws.proofs.Loops.{guarded, guarded-more, guarded-next, guarded-none, front-more, front-next, front-none, row-stored}
 use Rattle.laws.proofs.Bools.{cond-no}
 use Rattle.links.specs.Links.{Skips}
-use Rattle.totals.specs.Credit.{credited, cleared}
+use Rattle.totals.specs.Credit.{takesTotal, credited, cleared}
 use Rattle.links.proofs.Walks.{guarded-passed}
 use denote.Ref.{now}
 use Rattle.totals.proofs.Credits.{credit-stored}
-use Rattle.totals.proofs.Walks.{front-over, goes-to, credit-owner}
+use Rattle.totals.proofs.Walks.{front-over, goes-to, credit-owner, credit-taken}
 use Rattle.totals.proofs.credit.credit.Statement.{statement}
 use Rattle.model.proofs.Step.{around-at}
 use Rattle.totals.proofs.credit.credit.Tie as tie
@@ -52,8 +51,8 @@ entry c = c .before .before .before .before .before
 abbrev turn : tie.After-credit-one Inv-loop μ-loop → tie.In-loop Inv-loop μ-loop
 turn c = c .before .before .before
 
-abbrev called : tie.After-index Inv-loop μ-loop → tie.After-credit-one Inv-loop μ-loop
-called c = c .before .before .before .before
+abbrev called : tie.After-next Inv-loop μ-loop → tie.After-credit-one Inv-loop μ-loop
+called c = c .before .before .before
 
 abbrev start : tie.In-loop Inv-loop μ-loop → ℕ
 start c = c .before .before .before .row-start .result
@@ -116,25 +115,24 @@ credit-one-requires c κs =
     record {
       from-in = s .pre .0 .1;
       grocer-in = omega (arith, s .pre .0 .0, e .loop-test .taken);
-      owner-long = omega (arith, s .pre .0 .2, e .loop-test .taken);
       total-long = omega (arith, place e, inv .1);
       statement-long = omega (arith, s .pre .1 .0 .1 .long, e .loop-test .taken, inv .2);
       total-in = subst (λ (z : ℤ). natAbs z ≤ 1_000_000_000_000_000) (sym (total-is e)) (was-in e);
       statement-in = subst (λ (z : ℤ). natAbs z ≤ 1_000_000_000_000_000) (sym (old-is e)) (around-at 1_000_000_000_000_000 (s .args .m) (now (s .args .statement)) g (s .pre .1 .0 .1 .words-in) (e .loop-test .taken));
     }
 
-element-copy-out-index : tie.Need-element-copy-out-index Inv-loop μ-loop
-element-copy-out-index c = let e = c .before .before .before .before .before in omega (arith, e .loop-test .taken, entry e .pre .0 .0)
+next-requires : tie.Need-next-requires Inv-loop μ-loop
+next-requires c κs = let e = turn (c .before .before) in omega (arith, e .loop-test .taken, entry e .pre .0 .0)
 
 -- The link goes to the next grocer of box a.
-link : (c : tie.After-index Inv-loop μ-loop) →
+link : (c : tie.After-next Inv-loop μ-loop) →
     let e = turn (called c) in
-    Skips (entry e .args .m) (now (entry e .args .owner)) (entry e .args .a) (e .before .loop .g + 1) (c .index .result)
+    Skips (entry e .args .m) (now (entry e .args .owner)) (entry e .args .a) (e .before .loop .g + 1) (c .next .result)
 link c =
     let e = turn (called c) in
     let s = entry e in
-    goes-to 17 (s .args .m) (λ x. getD (now (s .args .owner)) x 0) (now (s .args .links)) (s .args .a) (e .before .loop .g) (c .index .result) (s .pre .1 .1 .1) (e .loop-test .taken)
-    (e .before .loop .inv .5 (e .loop-test .taken)) (c .index .ensures)
+    goes-to 17 (s .args .m) (λ x. getD (now (s .args .owner)) x 0) (now (s .args .links)) (s .args .a) (e .before .loop .g) (c .next .result) (s .pre .1 .1 .1) (e .loop-test .taken)
+    (e .before .loop .inv .5 (e .loop-test .taken)) (c .next .ensures)
 
 loop-less : tie.Need-loop-less Inv-loop μ-loop
 loop-less c = omega (arith, link c .from, link c .to, turn (called c) .loop-test .taken)
@@ -145,17 +143,19 @@ loop-again c =
     let s = entry e in
     let at = start e in
     let g = e .before .loop .g in
-    let h = c .index .result in
+    let h = c .next .result in
     let k = link c in
     let inv = e .before .loop .inv in
-    let call = called c .credit-one in (
+    let call = called c .credit-one in
+    let same : takesTotal (now (s .args .sharers)) (s .args .a) (s .args .from) g ≡ test s g = credit-taken (now (s .args .owner)) (now (s .args .sharers)) (s .args .a) (s .args .from) g (inv .5 (e .loop-test .taken)) in (
       k .to,
-      call .kept .1 .1 .1 .1 .1 .1 .0 ∙ inv .1,
-      call .kept .1 .1 .1 .1 .1 .1 .1 .0 ∙ inv .2,
-      λ i. ap (λ (l : List ℤ). getD l i (pos 0)) (call .ensures .0)
+      call .kept .1 .1 .1 .1 .1 .0 ∙ inv .1,
+      call .kept .1 .1 .1 .1 .1 .1 .0 ∙ inv .2,
+      λ i. ap (λ (l : List ℤ). getD l i (pos 0)) (call .ensures .0 ∙ ap (λ (t : Bool). cond t (set (e .before .loop .source) (at + g) (pos 0)) (e .before .loop .source)) same)
           ∙ guarded-more (e .before .loop .source) (pos 0) (λ i. pos 0) (was s) at g (test s) (omega (arith, place e, inv .1)) (inv .3) (pos 0) refl i
           ∙ ap (λ (t : Bool). cond t (pos 0) (was s i)) (sym (guarded-passed (s .args .m) (now (s .args .owner)) (s .args .a) (g + 1) h k (test s) (keyed s) at i)),
-      λ i. ap (λ (l : List ℤ). getD l i (pos 0)) (call .ensures .1)
+      λ i. ap (λ (l : List ℤ). getD l i (pos 0)) (call .ensures .1
+          ∙ ap (λ (t : Bool). cond t (set (e .before .loop .statement) g (getD (e .before .loop .statement) g (pos 0) +ℤ getD (e .before .loop .source) (at + g) (pos 0))) (e .before .loop .statement)) same)
           ∙ front-more (e .before .loop .statement) (pos 0) (λ i. old s i +ℤ was s (at + i)) (old s) g (test s) (omega (arith, s .pre .1 .0 .1 .long, e .loop-test .taken, inv .2)) (inv .4) _ (ap₂ _+ℤ_ (old-is e) (total-is e)) i
           ∙ ap (λ (t : Bool). cond t (old s i +ℤ was s (at + i)) (old s i)) (sym (front-over (s .args .m) (now (s .args .owner)) (s .args .a) (g + 1) h k (test s) (keyed s) i)),
       k .hits,
@@ -190,10 +190,7 @@ credit-spec =
     loop-holds
     add-credit-one
     credit-one-requires
-    (λ c. search needs)
-    (λ c. search needs)
-    element-copy-out-index
-    (λ c κs. search needs)
+    next-requires
     loop-less
     loop-again
     same-length

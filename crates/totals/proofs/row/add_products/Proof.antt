@@ -1,33 +1,33 @@
 -- `totals::row::add_products` meets its contract. The invariant: each word is the word at entry with the tallies passed added; the next tally is of the pair. A tally passed over is of another, and brings nothing.
 -- Assumes nothing.
 use mathlib.Core.Path.{_≡_, refl, sym, ap, _∙_, subst}
+use mathlib.Core.Bool.{true}
 use mathlib.Core.List.{List}
 use Prim.Native.Nat.{ℕ, _≤_, _<_, _+_, _-_}
 use native.Mathlib.Nat.{le-antisymm}
 use native.Mathlib.Omega.{arith}
 use lib.ListN.{length, getD, length-set}
 use lib.IntN.{ℤ, pos, natAbs, _+ℤ_, +ℤ-idr}
-use borrow.Author.Needs.{needs}
 use Rattle.laws.specs.Below.{integers, sum}
 use Rattle.laws.proofs.Loops.{share, pile-more}
 use Rattle.laws.proofs.Sums.{sum-start, sum-over}
 use Rattle.links.specs.Links.{SkipsBy, pairKey, pairAt}
-use Rattle.totals.specs.Row.{brings}
+use Rattle.totals.specs.Row.{isTaken, brings}
 use denote.Ref.{now}
-use Rattle.totals.proofs.Rows.{tally-at, small-still, row-piled}
-use Rattle.totals.proofs.Walks.{goes-to, other-share}
+use Rattle.totals.proofs.Rows.{raised-by, tally-at, small-still, row-piled}
+use Rattle.totals.proofs.Walks.{goes-to, pair-taken, other-share}
 use Rattle.totals.proofs.row.add_products.Statement.{statement}
 use Rattle.totals.proofs.row.add_products.Tie as tie
 
 abbrev Inv-loop : tie.InvT-loop
-Inv-loop m n t a from links owner grocer holder offer counts prices working₀ at base v i₀ working i =
+Inv-loop m n t a from links owner grocer holder offer counts prices working₀ at base i₀ working i =
     (i ≤ t)
     × (length working ≡ length working₀)
     × ((p : ℕ) → getD working p (pos 0) ≡ getD working₀ p (pos 0) +ℤ sum integers i (share (λ j. base + getD grocer j 0) (brings owner holder offer counts prices a from at) p))
     × (i < t → pairAt holder offer owner i ≡ pairKey a from)
 
 abbrev μ-loop : tie.MeasureT-loop
-μ-loop m n t a from links owner grocer holder offer counts prices working₀ at base v i₀ working i = t - i
+μ-loop m n t a from links owner grocer holder offer counts prices working₀ at base i₀ working i = t - i
 
 abbrev Start : Type 0
 Start = tie.Start Inv-loop μ-loop
@@ -46,8 +46,8 @@ abbrev walked : Start → ℕ
 walked s = pairKey (s .args .a) (s .args .from)
 
 -- The rows' starts, the entry, and the two starts' numbers.
-abbrev rows : tie.After-index Inv-loop μ-loop → tie.After-row-start2 Inv-loop μ-loop
-rows c = c .before .before .before
+abbrev rows : tie.After-begin-pair Inv-loop μ-loop → tie.After-row-start2 Inv-loop μ-loop
+rows c = c .before
 
 abbrev lent : tie.After-shared-slice-known5 Inv-loop μ-loop → Start
 lent c = c .before .before .before .before .before
@@ -66,6 +66,11 @@ none : (s : Start) (at base p i j : ℕ) → SkipsBy (s .args .t) (key s) (walke
 unfolding integers
 none s at base p i j k x l q =
     other-share (now (s .args .offer-owner)) (now (s .args .tally-box)) (now (s .args .tally-offer)) (now (s .args .tally-count)) (now (s .args .prices)) (place s base) (s .args .a) (s .args .from) at p x (k .none x l q)
+
+-- A tally of the pair is taken.
+taken : (s : Start) (i : ℕ) → i < s .args .t → key s i ≡ walked s →
+    isTaken (now (s .args .offer-owner)) (now (s .args .tally-box)) (now (s .args .tally-offer)) (s .args .a) (s .args .from) i ≡ true
+taken s i l e = pair-taken (now (s .args .offer-owner)) (now (s .args .tally-box)) (now (s .args .tally-offer)) (s .args .a) (s .args .from) i (s .pre .1 .1 .0) (s .pre .0 .owner-in i l) e
 
 -- The word of a tally's grocer in row a is within the table, and small enough to add to.
 inside : (c : tie.In-loop Inv-loop μ-loop) → let r = rows (c .before .before) in place (entry r) (base-of r) (c .before .loop .i) < length (now (entry r .args .working))
@@ -91,17 +96,14 @@ row-start-requires c κs = let s = lent c in (s .pre .0 .offers-in, s .pre .0 .b
 row-start-requires-2 : tie.Need-row-start-requires-2 Inv-loop μ-loop
 row-start-requires-2 c κs = let s = lent (c .before) in (omega (arith, s .pre .0 .grocers-in), s .pre .0 .box-in)
 
-mul-index : tie.Need-mul-index Inv-loop μ-loop
-mul-index c = let s = entry (c .before) in omega (arith, c .pair .ensures, s .pre .0 .box-in, s .pre .1 .1 .0)
-
-element-copy-out-index : tie.Need-element-copy-out-index Inv-loop μ-loop
-element-copy-out-index c = let s = entry (c .before) in omega (arith, c .pair .ensures, s .pre .0 .box-in, s .pre .1 .1 .0)
+begin-pair-requires : tie.Need-begin-pair-requires Inv-loop μ-loop
+begin-pair-requires c κs = let s = entry c in (omega (arith, s .pre .0 .box-in, s .pre .1 .1 .0), omega (arith, s .pre .0 .box-in, s .pre .1 .1 .0))
 
 -- The walk begins at the first tally of the pair.
-first-of : (c : tie.After-index Inv-loop μ-loop) → let s = entry (rows c) in SkipsBy (s .args .t) (key s) (walked s) 0 (c .index .result)
+first-of : (c : tie.After-begin-pair Inv-loop μ-loop) → let s = entry (rows c) in SkipsBy (s .args .t) (key s) (walked s) 0 (c .begin-pair .result)
 first-of c =
     let s = entry (rows c) in
-    subst (λ (x : ℕ). SkipsBy (s .args .t) (key s) (walked s) 0 x) (sym (c .index .ensures ∙ ap (λ (v : ℕ). getD (now (s .args .tally-links)) v 0) (c .before .before .pair .ensures)))
+    subst (λ (x : ℕ). SkipsBy (s .args .t) (key s) (walked s) 0 x) (sym (c .begin-pair .ensures))
     (s .pre .1 .1 .1 .begins (walked s) (omega (arith, s .pre .0 .box-in, s .pre .1 .1 .0)))
 
 loop-holds : tie.Need-loop-holds Inv-loop μ-loop
@@ -109,7 +111,7 @@ unfolding integers
 loop-holds c =
     let r = rows c in
     let s = entry r in
-    let i = c .index .result in
+    let i = c .begin-pair .result in
     let k = first-of c in
     let piled : ℕ → ℕ → ℤ = share (place s (base-of r)) (brought s (at-of r)) in (
       k .to,
@@ -129,45 +131,44 @@ add-tally-requires c κs =
       (omega (arith, inside e, e .before .loop .inv .1), small e),
     )
 
-add-index : tie.Need-add-index Inv-loop μ-loop
-add-index c = let e = c .before .before .before in omega (arith, e .loop-test .taken, entry (rows (e .before .before)) .pre .0 .tallies-in)
+-- The turn, from the next link.
+abbrev turn : tie.After-next-pair Inv-loop μ-loop → tie.In-loop Inv-loop μ-loop
+turn c = c .before .before .before .before
 
-mul-index-2 : tie.Need-mul-index-2 Inv-loop μ-loop
-mul-index-2 c = let e = c .before .before .before in omega (arith, e .loop-test .taken, entry (rows (e .before .before)) .pre .0 .tallies-in)
-
-element-copy-out-index-2 : tie.Need-element-copy-out-index-2 Inv-loop μ-loop
-element-copy-out-index-2 c = let e = c .before .before .before in omega (arith, e .loop-test .taken, entry (rows (e .before .before)) .pre .0 .tallies-in)
+next-pair-requires : tie.Need-next-pair-requires Inv-loop μ-loop
+next-pair-requires c κs = let e = c .before .before .before in omega (arith, e .loop-test .taken, entry (rows (e .before .before)) .pre .0 .tallies-in)
 
 -- The link goes to the next tally of the pair.
-link : (c : tie.After-index2 Inv-loop μ-loop) →
-    let e = c .before .before .before .before .before in
+link : (c : tie.After-next-pair Inv-loop μ-loop) →
+    let e = turn c in
     let s = entry (rows (e .before .before)) in
-    SkipsBy (s .args .t) (key s) (walked s) (e .before .loop .i + 1) (c .index2 .result)
+    SkipsBy (s .args .t) (key s) (walked s) (e .before .loop .i + 1) (c .next-pair .result)
 link c =
-    let e = c .before .before .before .before .before in
+    let e = turn c in
     let s = entry (rows (e .before .before)) in
-    goes-to 272 (s .args .t) (key s) (now (s .args .tally-links)) (walked s) (e .before .loop .i) (c .index2 .result) (s .pre .1 .1 .1) (e .loop-test .taken)
-    (e .before .loop .inv .3 (e .loop-test .taken)) (c .index2 .ensures)
+    goes-to 272 (s .args .t) (key s) (now (s .args .tally-links)) (walked s) (e .before .loop .i) (c .next-pair .result) (s .pre .1 .1 .1) (e .loop-test .taken)
+    (e .before .loop .inv .3 (e .loop-test .taken)) (c .next-pair .ensures)
 
 loop-less : tie.Need-loop-less Inv-loop μ-loop
-loop-less c = omega (arith, link c .from, link c .to, c .before .before .before .before .before .loop-test .taken)
+loop-less c = omega (arith, link c .from, link c .to, turn c .loop-test .taken)
 
 loop-again : tie.Need-loop-again Inv-loop μ-loop
 loop-again c =
-    let e = c .before .before .before .before .before in
+    let e = turn c in
     let r = rows (e .before .before) in
     let s = entry r in
     let at = at-of r in
     let base = base-of r in
     let i = e .before .loop .i in
-    let h = c .index2 .result in
+    let h = c .next-pair .result in
     let w = e .before .loop .working in
     let inv = e .before .loop .inv in
     let k = link c in
-    let call = c .before .before .before .add-tally in (
+    let call = c .before .before .add-tally in
+    let stored = call .ensures ∙ raised-by w (place s base i) _ _ (taken s i (e .loop-test .taken) (inv .3 (e .loop-test .taken))) in (
       k .to,
-      ap length (call .ensures) ∙ length-set w (place s base i) _ ∙ inv .1,
-      λ p. ap (λ (l : List ℤ). getD l p (pos 0)) (call .ensures)
+      ap length stored ∙ length-set w (place s base i) _ ∙ inv .1,
+      λ p. ap (λ (l : List ℤ). getD l p (pos 0)) stored
           ∙ pile-more (now (s .args .working)) w (place s base) (brought s at) i (inv .2) (omega (arith, inside e, inv .1)) p
           ∙ ap (λ (z : ℤ). getD (now (s .args .working)) p (pos 0) +ℤ z) (sym (sum-over integers (i + 1) h (share (place s base) (brought s at) p) (k .from) (none s at base p (i + 1) h k))),
       k .hits,
@@ -193,16 +194,10 @@ add-products-spec =
     μ-loop
     row-start-requires
     row-start-requires-2
-    (λ c κs. search needs)
-    mul-index
-    element-copy-out-index
-    (λ c κs. search needs)
+    begin-pair-requires
     loop-holds
     add-tally-requires
-    add-index
-    mul-index-2
-    element-copy-out-index-2
-    (λ c κs. search needs)
+    next-pair-requires
     loop-less
     loop-again
     same-length

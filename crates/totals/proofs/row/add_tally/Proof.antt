@@ -1,6 +1,5 @@
 -- `totals::row::add_tally` meets its contract. Assumes nothing.
-use mathlib.Core.Path.{_≡_, sym, ap, ap₂, _∙_}
-use mathlib.Core.Bool.{Bool}
+use mathlib.Core.Path.{_≡_, ap, ap₂, _∙_}
 use Prim.Native.Nat.{ℕ, _+_}
 use native.Mathlib.Nat.{le-trans}
 use native.Mathlib.Omega.{arith}
@@ -9,17 +8,11 @@ use lib.ListN.{getD, set}
 use lib.IntN.{ℤ, pos, _+ℤ_, _*ℤ_}
 use mir.Syntax.{w32, w64}
 use mir.Val.{toZ, ofZ}
-use borrow.Author.Tests.{not-true, not-false}
-use borrow.Author.Needs.{needs}
-use Rattle.laws.proofs.Signed.{read64, read32-abs, read-sum, fits64-as, abs-plus, abs-times-le}
-use Rattle.totals.specs.Row.{isTaken, productAt}
+use Rattle.laws.proofs.Signed.{read64, read32-abs, fits64-as, abs-plus, abs-times-le}
+use Rattle.totals.specs.Row.{productAt}
 use denote.Ref.{now}
-use Rattle.totals.proofs.Rows.{raised-not, raised-by}
 use Rattle.totals.proofs.row.add_tally.Statement.{statement}
 use Rattle.totals.proofs.row.add_tally.Tie as tie
-
-abbrev taken : tie.Start → Bool
-taken s = isTaken (now (s .args .offer-owner)) (now (s .args .tally-box)) (now (s .args .tally-offer)) (s .args .a) (s .args .from) (s .args .i)
 
 abbrev product : tie.Start → ℤ
 product s = productAt (now (s .args .tally-offer)) (now (s .args .tally-count)) (now (s .args .prices)) (s .args .at) (s .args .i)
@@ -27,92 +20,91 @@ product s = productAt (now (s .args .tally-offer)) (now (s .args .tally-count)) 
 abbrev place : tie.Start → ℕ
 place s = s .args .base + getD (now (s .args .tally-grocer)) (s .args .i) 0
 
-count-is : (s : tie.Start) → toZ w32 (ofZ w32 (getD (now (s .args .tally-count)) (s .args .i) (pos 0))) ≡ getD (now (s .args .tally-count)) (s .args .i) (pos 0)
-count-is s = read32-abs (getD (now (s .args .tally-count)) (s .args .i) (pos 0)) (le-trans (s .pre .0 .count-in) (lit≤ tt))
+-- The start, from the first word read; and the words read, from what follows them.
+abbrev entry : tie.After-index-at → tie.Start
+entry c = c .before .before .before .before
 
--- The start, from the test; and the parts of the sum, from its last.
-abbrev lent : tie.After-shared-slice-known5 → tie.Start
-lent c = c .before .before .before .before .before
+abbrev offer-at : tie.After-u32-at → tie.After-index-at
+offer-at c = c .before .before
 
-abbrev tested : tie.After-index → tie.Else1
-tested c = c .before .before
+abbrev begun : tie.After-raise-at-arg → tie.Start
+begun c = entry (offer-at (c .before .before .before))
 
-abbrev entry : tie.After-index → tie.Start
-entry c = lent (tested c .before .before)
+-- The count that is read.
+count-is : (c : tie.After-i32-at) → toZ w32 (ofZ w32 (c .i32-at .result)) ≡ getD (now (entry (c .before) .args .tally-count)) (entry (c .before) .args .i) (pos 0)
+count-is c =
+    let s = entry (c .before) in
+    let z = getD (now (s .args .tally-count)) (s .args .i) (pos 0) in
+    ap (λ (x : ℤ). toZ w32 (ofZ w32 x)) (c .i32-at .ensures) ∙ read32-abs z (le-trans (s .pre .0 .count-in) (lit≤ tt))
 
-abbrev offer-at : tie.After-amount → tie.After-index
-offer-at c = c .before .before .before
-
-abbrev amount-at : tie.After-plus-arg → tie.After-amount
-amount-at c = c .before .before .before
-
-abbrev begun : tie.After-plus-arg → tie.Start
-begun c = entry (offer-at (amount-at c))
-
--- What is added, and what it is added to.
-amount-is : (c : tie.After-amount) → c .amount .result ≡ product (entry (offer-at c))
-amount-is c =
+-- The price that is read.
+price-is : (c : tie.After-u32-at) → c .u32-at .result ≡ getD (now (entry (offer-at c) .args .prices)) (entry (offer-at c) .args .at + getD (now (entry (offer-at c) .args .tally-offer)) (entry (offer-at c) .args .i) 0) 0
+price-is c =
     let s = entry (offer-at c) in
-    c .amount .ensures ∙ ap₂ (λ (z : ℤ) (o : ℕ). z *ℤ pos (getD (now (s .args .prices)) (s .args .at + o) 0)) (count-is s) (offer-at c .index .ensures)
+    c .u32-at .ensures ∙ ap (λ (o : ℕ). getD (now (s .args .prices)) (s .args .at + o) 0) (offer-at c .index-at .ensures .0)
 
-sum-is : (c : tie.After-plus-arg) →
-    toZ w64 (ofZ w64 (getD (now (begun c .args .row)) (begun c .args .base + c .before .index2 .result) (pos 0))) +ℤ toZ w64 (ofZ w64 (amount-at c .amount .result))
-    ≡ getD (now (begun c .args .row)) (place (begun c)) (pos 0) +ℤ product (begun c)
-sum-is c =
-    let s = begun c in
-    read-sum (c .plus-arg .given) (amount-at c .amount .ok) (ap (λ (g : ℕ). getD (now (s .args .row)) (s .args .base + g) (pos 0)) (c .before .index2 .ensures)) (amount-is (amount-at c))
+-- What is added, and where.
+amount-is : (c : tie.After-amount) → toZ w64 (ofZ w64 (c .amount .result)) ≡ product (entry (offer-at (c .before)))
+amount-is c = read64 (c .amount .result) (c .amount .ok) ∙ c .amount .ensures ∙ ap₂ (λ (z : ℤ) (p : ℕ). z *ℤ pos p) (count-is (c .before .before)) (price-is (c .before))
 
-returns : tie.Need-returns
-returns c =
-    let s = lent (c .before .before) in
-    raised-not (now (s .args .row)) (place s) (taken s) (product s) (sym (c .before .is-taken .ensures) ∙ not-true (c .before .is-taken .result) (c .if1 .taken))
+place-is : (c : tie.After-raise-at-arg) → begun c .args .base + c .before .index-at2 .result ≡ place (begun c)
+place-is c = ap (λ (g : ℕ). begun c .args .base + g) (c .before .index-at2 .ensures .0)
+
+index-at-requires : tie.Need-index-at-requires
+index-at-requires c κs = c .before .before .before .pre .0 .offer-long
+
+add-p : tie.Need-add-p
+add-p c = omega (arith, c .index-at .ensures .0, entry c .pre .0 .price-long)
+
+i32-at-requires : tie.Need-i32-at-requires
+i32-at-requires c κs = entry c .pre .0 .count-long
+
+u32-at-requires : tie.Need-u32-at-requires
+u32-at-requires c κs =
+    let s = entry (c .before) in
+    rw (c .before .index-at .ensures .0) (s .pre .0 .price-long)
 
 amount-requires : tie.Need-amount-requires
 amount-requires c κs =
-    let o = c .before .before in
-    let s = entry o in
-    (rw (count-is s) (s .pre .0 .count-in), rw (o .index .ensures) (s .pre .0 .price-in))
+    let s = entry (offer-at c) in
+    (rw (count-is (c .before)) (s .pre .0 .count-in), rw (price-is c) (s .pre .0 .price-in))
 
-plus-requires : tie.Need-plus-requires
-plus-requires c κs =
-    let s = begun c in
-    fits64-as (sum-is c) (omega (
-      arith,
-      abs-plus (getD (now (s .args .row)) (place s) (pos 0)) (product s),
-      s .pre .1 .1,
-      abs-times-le (getD (now (s .args .tally-count)) (s .args .i) (pos 0)) (pos (getD (now (s .args .prices)) (s .args .at + getD (now (s .args .tally-offer)) (s .args .i) 0) 0)) (s .pre .0 .count-in) (s .pre .0 .price-in),
-    ))
+index-at-requires-2 : tie.Need-index-at-requires-2
+index-at-requires-2 c κs = entry (offer-at (c .before)) .pre .0 .grocer-long
 
-returns-2 : tie.Need-returns-2
-returns-2 c =
-    let s = begun (c .before) in
-    let t = tested (offer-at (amount-at (c .before))) in
-    ap₂ (set (now (s .args .row))) (ap (λ (g : ℕ). s .args .base + g) (c .before .before .index2 .ensures)) (read64 (c .plus .result) (c .plus .ok) ∙ c .plus .ensures ∙ sum-is (c .before))
-    ∙ raised-by (now (s .args .row)) (place s) (taken s) (product s) (sym (t .before .is-taken .ensures) ∙ not-false (t .before .is-taken .result) (t .if1 .left))
+add-g : tie.Need-add-g
+add-g c = omega (arith, c .index-at2 .ensures .0, entry (offer-at (c .before .before)) .pre .1 .0)
+
+raise-at-requires : tie.Need-raise-at-requires
+raise-at-requires c κs =
+    let s = begun c in (
+      rw (c .before .index-at2 .ensures .0) (s .pre .1 .0),
+      fits64-as (ap₂ (λ (g : ℕ) (z : ℤ). getD (now (s .args .row)) g (pos 0) +ℤ z) (place-is c) (amount-is (c .before .before))) (omega (
+        arith,
+        abs-plus (getD (now (s .args .row)) (place s) (pos 0)) (product s),
+        s .pre .1 .1,
+        abs-times-le (getD (now (s .args .tally-count)) (s .args .i) (pos 0)) (pos (getD (now (s .args .prices)) (s .args .at + getD (now (s .args .tally-offer)) (s .args .i) 0) 0)) (s .pre .0 .count-in) (s .pre .0 .price-in),
+      )),
+    )
+
+returns : tie.Need-returns
+returns c =
+    let l = c .before .before in
+    let s = begun l in
+    c .before .raise-at .ensures
+    ∙ ap₂ (λ (g : ℕ) (z : ℤ). set (now (s .args .row)) g (getD (now (s .args .row)) g (pos 0) +ℤ z)) (place-is l) (amount-is (l .before .before))
 
 pub add-tally-spec : {M : Type 1} → statement M
 add-tally-spec =
     tie.close
     (tie.spec
-    (λ c κs. search needs)
-    returns
-    (λ c. search needs)
-    (λ c. search needs)
-    (λ c κs. search needs)
-    (λ c. search needs)
-    (λ c. search needs)
-    (λ c. search needs)
-    (λ c. search needs)
-    (λ c. search needs)
+    index-at-requires
+    add-p
+    i32-at-requires
+    u32-at-requires
     amount-requires
-    (λ c. search needs)
-    (λ c. search needs)
-    (λ c κs. search needs)
-    (λ c. search needs)
-    (λ c. search needs)
-    (λ c. search needs)
-    plus-requires
-    (λ c. search needs)
-    (λ c. search needs)
-    (λ c. search needs)
-    returns-2)
+    index-at-requires-2
+    add-g
+    raise-at-requires
+    (λ c. c .before .raise-at .kept .0)
+    returns)

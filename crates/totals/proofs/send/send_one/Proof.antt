@@ -8,27 +8,18 @@ use borrow.Author.Needs.{needs}
 use Rattle.laws.proofs.Signed.{read64}
 use Rattle.laws.proofs.Bools.{cond-yes, cond-no}
 use Rattle.laws.proofs.Below.{counts-one, counts-none}
-use Rattle.words.specs.Message.{wordIn}
+use Rattle.totals.specs.Credit.{sendsPart}
 use denote.Ref.{now}
 use Rattle.totals.proofs.send.send_one.Statement.{statement}
 use Rattle.totals.proofs.send.send_one.Tie as tie
 
 abbrev test : tie.Start → Bool
-test s = wordIn (now (s .args .owner)) (now (s .args .sharers)) (s .args .b) (s .args .a) (s .args .g)
-
--- The start, from the test.
-abbrev entry : tie.After-in-message → tie.Start
-entry c = c .before .before .before .before
-
--- What the call says of the word.
-told : (c : tie.After-in-message) → c .in-message .result ≡ test (entry c)
-unfolding wordIn
-told c = c .in-message .ensures
+test s = sendsPart (now (s .args .sharers)) (s .args .a) (s .args .b) (s .args .g)
 
 returns : tie.Need-returns
 returns c =
-    let s = entry (c .before) in
-    let is : test s ≡ false = sym (told (c .before)) ∙ not-true (c .before .in-message .result) (c .if1 .taken) in (
+    let s = c .before .before in
+    let is : test s ≡ false = sym (c .before .sends-part .ensures) ∙ not-true (c .before .sends-part .result) (c .if1 .taken) in (
       sym (counts-none is),
       sym (cond-no (test s) (set (now (s .args .working)) (s .args .at) (pos 0)) (now (s .args .working)) is),
       sym (cond-no (test s) (set (now (s .args .transit)) (s .args .at) (getD (now (s .args .working)) (s .args .at) (pos 0))) (now (s .args .transit)) is),
@@ -36,9 +27,9 @@ returns c =
 
 returns-2 : tie.Need-returns-2
 returns-2 c =
-    let s = entry (c .before .before) in
+    let s = c .before .before .before in
     let w = now (s .args .working) in
-    let is : test s ≡ true = sym (told (c .before .before)) ∙ not-false (c .before .before .in-message .result) (c .before .if1 .left) in (
+    let is : test s ≡ true = sym (c .before .before .sends-part .ensures) ∙ not-false (c .before .before .sends-part .result) (c .before .if1 .left) in (
       sym (counts-one is),
       sym (cond-yes (test s) (set w (s .args .at) (pos 0)) w is),
       ap (λ (z : ℤ). set (now (s .args .transit)) (s .args .at) z) (read64 (getD w (s .args .at) (pos 0)) (c .v .given))
@@ -49,11 +40,7 @@ pub send-one-spec : {M : Type 1} → statement M
 send-one-spec =
     tie.close
     (tie.spec
-    (λ c. search needs)
-    (λ c. search needs)
-    (λ c. search needs)
-    (λ c. search needs)
-    (λ c κs. search needs)
+    (λ c κs. (c .pre .1, c .pre .0))
     returns
     (λ c. search needs)
     (λ c. search needs)

@@ -7,10 +7,9 @@ use mathlib.Core.List.{List}
 use Prim.Native.Nat.{ℕ, _≤_, _<_, _+_, _-_}
 use native.Mathlib.Nat.{le-antisymm}
 use native.Mathlib.Omega.{arith}
-use lib.ListN.{length, getD}
+use lib.ListN.{length, getD, set}
 use lib.IntN.{ℤ, pos}
-use borrow.Author.Needs.{needs}
-use Rattle.laws.specs.Below.{count}
+use Rattle.laws.specs.Below.{naturals, only, count}
 use Rattle.laws.specs.Tables.{cell}
 use Rattle.laws.proofs.Below.{count-next, count-le, only-le, count-start}
 use Rattle.laws.proofs.Loops.{guarded, guarded-more, guarded-next, guarded-none, row-stored}
@@ -18,11 +17,11 @@ use Rattle.laws.proofs.Bools.{cond-no}
 use Rattle.laws.proofs.Tables.{cell-at}
 use Rattle.links.specs.Links.{Skips}
 use Rattle.words.specs.Message.{wordIn}
-use Rattle.totals.specs.Credit.{cleared, sentTotals}
+use Rattle.totals.specs.Credit.{cleared, sentTotals, sendsPart}
 use Rattle.links.proofs.Walks.{count-passed, guarded-passed}
 use Rattle.words.proofs.Message.{word-owner}
 use denote.Ref.{now}
-use Rattle.totals.proofs.Walks.{goes-to}
+use Rattle.totals.proofs.Walks.{goes-to, word-part}
 use Rattle.totals.proofs.send.send_totals.Statement.{statement}
 use Rattle.totals.proofs.send.send_totals.Tie as tie
 
@@ -58,8 +57,8 @@ entry c = c .before .before .before .before .before
 abbrev turn : tie.After-send-one Inv-loop μ-loop → tie.In-loop Inv-loop μ-loop
 turn c = c .before .before .before
 
-abbrev called : tie.After-index Inv-loop μ-loop → tie.After-send-one Inv-loop μ-loop
-called c = c .before .before .before .before
+abbrev called : tie.After-next Inv-loop μ-loop → tie.After-send-one Inv-loop μ-loop
+called c = c .before .before .before
 
 abbrev start : tie.In-loop Inv-loop μ-loop → ℕ
 start c = c .before .before .before .row-start .result
@@ -73,6 +72,12 @@ place c =
 
 row-start-requires : tie.Need-row-start-requires Inv-loop μ-loop
 row-start-requires c κs = (omega (arith, c .before .pre .0 .0), c .before .pre .0 .1)
+
+-- A grocer of box b stands in the message where box a sends its part total.
+part : (e : tie.In-loop Inv-loop μ-loop) → sendsPart (now (entry e .args .sharers)) (entry e .args .a) (entry e .args .b) (e .before .loop .g) ≡ test (entry e) (e .before .loop .g)
+part e =
+    let s = entry e in
+    word-part (now (s .args .owner)) (now (s .args .sharers)) (s .args .a) (s .args .b) (e .before .loop .g) (e .before .loop .inv .6 (e .loop-test .taken))
 
 -- The totals in the message are of box b's grocers.
 keyed : (s : Start) (x : ℕ) → test s x ≡ true → getD (now (s .args .owner)) x 0 ≡ s .args .b
@@ -107,30 +112,29 @@ send-one-requires c κs =
     let inv = e .before .loop .inv in (
       s .pre .0 .1,
       omega (arith, s .pre .0 .0, e .loop-test .taken),
-      omega (arith, s .pre .0 .2, e .loop-test .taken),
       omega (arith, place e .0, inv .2),
       omega (arith, place e .1, inv .3),
     )
 
 add-sent : tie.Need-add-sent Inv-loop μ-loop
 add-sent c =
-    let e = c .before .before .before .before .before in
+    let e = turn (c .before .before) in
     let s = entry e in
     let g = e .before .loop .g in
-    omega (arith, count-le g (test s), only-le (test s g) 1, c .before .before .send-one .ensures .0, e .before .loop .inv .1, e .loop-test .taken, s .pre .0 .0)
+    omega (arith, count-le g (test s), only-le (sendsPart (now (s .args .sharers)) (s .args .a) (s .args .b) g) 1, c .before .before .send-one .ensures .0, e .before .loop .inv .1, e .loop-test .taken, s .pre .0 .0)
 
-element-copy-out-index : tie.Need-element-copy-out-index Inv-loop μ-loop
-element-copy-out-index c = let e = c .before .before .before .before .before in omega (arith, e .loop-test .taken, entry e .pre .0 .0)
+next-requires : tie.Need-next-requires Inv-loop μ-loop
+next-requires c κs = let e = turn (c .before .before) in omega (arith, e .loop-test .taken, entry e .pre .0 .0)
 
 -- The link goes to the next grocer of box b.
-link : (c : tie.After-index Inv-loop μ-loop) →
+link : (c : tie.After-next Inv-loop μ-loop) →
     let e = turn (called c) in
-    Skips (entry e .args .m) (now (entry e .args .owner)) (entry e .args .b) (e .before .loop .g + 1) (c .index .result)
+    Skips (entry e .args .m) (now (entry e .args .owner)) (entry e .args .b) (e .before .loop .g + 1) (c .next .result)
 link c =
     let e = turn (called c) in
     let s = entry e in
-    goes-to 17 (s .args .m) (λ x. getD (now (s .args .owner)) x 0) (now (s .args .links)) (s .args .b) (e .before .loop .g) (c .index .result) (s .pre .1 .1) (e .loop-test .taken)
-    (e .before .loop .inv .6 (e .loop-test .taken)) (c .index .ensures)
+    goes-to 17 (s .args .m) (λ x. getD (now (s .args .owner)) x 0) (now (s .args .links)) (s .args .b) (e .before .loop .g) (c .next .result) (s .pre .1 .1) (e .loop-test .taken)
+    (e .before .loop .inv .6 (e .loop-test .taken)) (c .next .ensures)
 
 loop-less : tie.Need-loop-less Inv-loop μ-loop
 loop-less c = omega (arith, link c .from, link c .to, turn (called c) .loop-test .taken)
@@ -141,19 +145,20 @@ loop-again c =
     let s = entry e in
     let at = start e in
     let g = e .before .loop .g in
-    let h = c .index .result in
+    let h = c .next .result in
     let k = link c in
     let inv = e .before .loop .inv in
     let call = called c .send-one in
     let over : (i : ℕ) → guarded at (g + 1) (test s) i ≡ guarded at h (test s) i = λ i. sym (guarded-passed (s .args .m) (now (s .args .owner)) (s .args .b) (g + 1) h k (test s) (keyed s) at i) in (
       k .to,
-      ap₂ _+_ (inv .1) (call .ensures .0) ∙ sym (count-next g (test s)) ∙ sym (count-passed (s .args .m) (now (s .args .owner)) (s .args .b) (g + 1) h k (test s) (keyed s)),
-      call .kept .1 .1 .1 .1 .1 .1 .0 ∙ inv .2,
-      call .kept .1 .1 .1 .1 .1 .1 .1 .0 ∙ inv .3,
-      λ i. ap (λ (l : List ℤ). getD l i (pos 0)) (call .ensures .1)
+      ap₂ _+_ (inv .1) (call .ensures .0 ∙ ap (λ (t : Bool). only naturals t 1) (part e)) ∙ sym (count-next g (test s)) ∙ sym (count-passed (s .args .m) (now (s .args .owner)) (s .args .b) (g + 1) h k (test s) (keyed s)),
+      call .kept .1 .1 .1 .1 .1 .0 ∙ inv .2,
+      call .kept .1 .1 .1 .1 .1 .1 .0 ∙ inv .3,
+      λ i. ap (λ (l : List ℤ). getD l i (pos 0)) (call .ensures .1 ∙ ap (λ (t : Bool). cond t (set (e .before .loop .working) (at + g) (pos 0)) (e .before .loop .working)) (part e))
           ∙ guarded-more (e .before .loop .working) (pos 0) (λ i. pos 0) (was s) at g (test s) (omega (arith, place e .0, inv .2)) (inv .4) (pos 0) refl i
           ∙ ap (λ (t : Bool). cond t (pos 0) (was s i)) (over i),
-      λ i. ap (λ (l : List ℤ). getD l i (pos 0)) (call .ensures .2)
+      λ i. ap (λ (l : List ℤ). getD l i (pos 0)) (call .ensures .2
+          ∙ ap (λ (t : Bool). cond t (set (e .before .loop .transit) (at + g) (getD (e .before .loop .working) (at + g) (pos 0))) (e .before .loop .transit)) (part e))
           ∙ guarded-more (e .before .loop .transit) (pos 0) (was s) (way s) at g (test s) (omega (arith, place e .1, inv .3)) (inv .5) _ (inv .4 (at + g) ∙ cond-no _ (pos 0) (was s (at + g)) (guarded-next at g (test s))) i
           ∙ ap (λ (t : Bool). cond t (was s i) (way s i)) (over i),
       k .hits,
@@ -194,10 +199,7 @@ send-totals-spec =
     add-send-one
     send-one-requires
     add-sent
-    (λ c. search needs)
-    (λ c. search needs)
-    element-copy-out-index
-    (λ c κs. search needs)
+    next-requires
     loop-less
     loop-again
     same-length

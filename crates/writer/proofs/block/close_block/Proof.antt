@@ -1,12 +1,12 @@
 -- `writer::block::close_block` meets its contract. Assumes nothing.
-use Prim.Native.Nat.{_+_}
 use mathlib.Core.Path.{_∙_, ap}
+use Prim.Native.Nat.{_+_}
 use native.Mathlib.Omega.{arith}
-use denote.Ref.{now}
 use borrow.Author.Needs.{needs}
 use Rattle.format.specs.Bytes.{bytes16}
 use Rattle.format.specs.Blocks.{firstSum, secondSum}
-use Rattle.writer.specs.Puts.{put, bytesOf}
+use Rattle.puts.specs.Puts.{put, bytesOf}
+use denote.Ref.{now}
 use Rattle.writer.proofs.Blocks.{closed}
 use Rattle.writer.proofs.block.close_block.Statement.{statement}
 use Rattle.writer.proofs.block.close_block.Tie as tie

@@ -1,11 +1,12 @@
 -- `writer::block::put_offer_block` meets its contract. Assumes nothing.
 use mathlib.Core.Path.{_∙_}
 use native.Mathlib.Omega.{arith}
-use denote.Ref.{now}
+use native.Mathlib.Nat.{le-trans, lt-of-lt-of-le}
 use borrow.Author.Needs.{needs}
 use Rattle.format.specs.Blocks.{offerBytes}
 use Rattle.format.specs.Tables.{offerTables, offerOf}
-use Rattle.writer.proofs.Made.{records-made}
+use denote.Ref.{now}
+use Rattle.writer.proofs.Made.{part-in, records-made}
 use Rattle.writer.proofs.block.put_offer_block.Statement.{statement}
 use Rattle.writer.proofs.block.put_offer_block.Tie as tie
 
@@ -13,10 +14,10 @@ use Rattle.writer.proofs.block.put_offer_block.Tie as tie
 abbrev entry : tie.After-part-of → tie.Start
 entry c = c .before .before .before .before .before .before
 
-abbrev parted : tie.After-put-head → tie.After-part-of
+abbrev parted : tie.After-put-four → tie.After-part-of
 parted c = c .before .before
 
-abbrev headed : tie.After-put-offers-arg → tie.After-put-head
+abbrev headed : tie.After-put-offers-arg → tie.After-put-four
 headed c = c .before .before .before
 
 abbrev filled : tie.After-close-block-arg → tie.After-put-offers
@@ -27,11 +28,11 @@ put-offers-requires c κs =
     let h = headed c in
     let s = entry (parted h) in
     let l = s .pre .1 .0 in
-    let e = parted h .part-of .ensures in (
-      (omega (arith, e), omega (arith, e, h .put-head .kept .0, s .pre .0)),
+    let m = part-in (s .args .n) (s .args .b) _ (s .pre .0 .1 .0) (parted h .part-of .ensures) in (
+      (omega (arith, parted h .part-of .ensures), omega (arith, parted h .part-of .ensures, h .put-four .kept .0, s .pre .0)),
       (
-        (omega (arith, e, l .price), omega (arith, e, l .owner)),
-        ((omega (arith, e, l .code), omega (arith, e, l .issuer)), record { small = λ i h. s .pre .1 .1 .small i (omega (arith, h, e)) }),
+        (le-trans m (l .price), le-trans m (l .owner)),
+        ((omega (arith, m, l .code), le-trans m (l .issuer)), record { small = λ i h. s .pre .1 .1 .small i (lt-of-lt-of-le h m) }),
       ),
     )
 
@@ -40,13 +41,13 @@ close-block-requires c κs =
     let f = filled c in
     let h = headed (f .before) in
     let s = entry (parted h) in
-    (omega (arith, f .put-offers .kept .0, h .put-head .kept .0, s .pre .0), omega (arith, parted h .part-of .ensures))
+    (omega (arith, f .put-offers .kept .0, h .put-four .kept .0, s .pre .0), omega (arith, parted h .part-of .ensures))
 
 same-length : tie.Need-same-length
 same-length c =
     let z = c .before .before in
     let f = filled (z .before) in
-    z .close-block .kept .0 ∙ f .put-offers .kept .0 ∙ headed (f .before) .put-head .kept .0
+    z .close-block .kept .0 ∙ f .put-offers .kept .0 ∙ headed (f .before) .put-four .kept .0
 
 returns : tie.Need-returns
 returns c =
@@ -57,7 +58,7 @@ returns c =
     let s = entry p in
     let a = s .args in
     records-made 1 1 (a .n) (a .b) _ (λ i. offerBytes (offerOf (offerTables (now (a .price)) (now (a .offer-owner)) (now (a .offer-code)) (now (a .offer-issuer))) i)) (now (a .out)) _ _ _
-    (p .part-of .ensures) (omega (arith, s .pre .0)) (h .put-head .ensures) (f .put-offers .ensures) (z .close-block .ensures)
+    (p .part-of .ensures) (omega (arith, s .pre .0)) (h .put-four .ensures) (f .put-offers .ensures) (z .close-block .ensures)
 
 pub put-offer-block-spec : {M : Type 1} → statement M
 put-offer-block-spec =

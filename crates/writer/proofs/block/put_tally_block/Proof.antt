@@ -1,11 +1,12 @@
 -- `writer::block::put_tally_block` meets its contract. Assumes nothing.
 use mathlib.Core.Path.{_∙_}
 use native.Mathlib.Omega.{arith}
-use denote.Ref.{now}
+use native.Mathlib.Nat.{le-trans, lt-of-lt-of-le}
 use borrow.Author.Needs.{needs}
 use Rattle.format.specs.Blocks.{tallyBytes}
 use Rattle.format.specs.Tables.{tallyTables, tallyOf}
-use Rattle.writer.proofs.Made.{records-made}
+use denote.Ref.{now}
+use Rattle.writer.proofs.Made.{part-in, records-made}
 use Rattle.writer.proofs.block.put_tally_block.Statement.{statement}
 use Rattle.writer.proofs.block.put_tally_block.Tie as tie
 
@@ -13,10 +14,10 @@ use Rattle.writer.proofs.block.put_tally_block.Tie as tie
 abbrev entry : tie.After-part-of → tie.Start
 entry c = c .before .before .before .before .before .before .before .before
 
-abbrev parted : tie.After-put-head → tie.After-part-of
+abbrev parted : tie.After-put-four → tie.After-part-of
 parted c = c .before .before
 
-abbrev headed : tie.After-put-tallies-arg → tie.After-put-head
+abbrev headed : tie.After-put-tallies-arg → tie.After-put-four
 headed c = c .before .before .before
 
 abbrev filled : tie.After-close-block-arg → tie.After-put-tallies
@@ -27,13 +28,13 @@ put-tallies-requires c κs =
     let h = headed c in
     let s = entry (parted h) in
     let l = s .pre .1 .0 in
-    let e = parted h .part-of .ensures in (
-      (omega (arith, e), omega (arith, e, h .put-head .kept .0, s .pre .0)),
+    let m = part-in (s .args .t) (s .args .b) _ (s .pre .0 .1 .0) (parted h .part-of .ensures) in (
+      (omega (arith, parted h .part-of .ensures), omega (arith, parted h .part-of .ensures, h .put-four .kept .0, s .pre .0)),
       (
-        (omega (arith, e, l .grocer), omega (arith, e, l .box), omega (arith, e, l .code)),
+        (le-trans m (l .grocer), le-trans m (l .box), omega (arith, m, l .code)),
         (
-          (omega (arith, e, l .count), omega (arith, e, l .issuer)),
-          ((omega (arith, e, l .bag), omega (arith, e, l .revision)), record { small = λ i h. s .pre .1 .1 .small i (omega (arith, h, e)) }),
+          (le-trans m (l .count), le-trans m (l .issuer)),
+          ((le-trans m (l .bag), le-trans m (l .revision)), record { small = λ i h. s .pre .1 .1 .small i (lt-of-lt-of-le h m) }),
         ),
       ),
     )
@@ -43,13 +44,13 @@ close-block-requires c κs =
     let f = filled c in
     let h = headed (f .before) in
     let s = entry (parted h) in
-    (omega (arith, f .put-tallies .kept .0, h .put-head .kept .0, s .pre .0), omega (arith, parted h .part-of .ensures))
+    (omega (arith, f .put-tallies .kept .0, h .put-four .kept .0, s .pre .0), omega (arith, parted h .part-of .ensures))
 
 same-length : tie.Need-same-length
 same-length c =
     let z = c .before .before in
     let f = filled (z .before) in
-    z .close-block .kept .0 ∙ f .put-tallies .kept .0 ∙ headed (f .before) .put-head .kept .0
+    z .close-block .kept .0 ∙ f .put-tallies .kept .0 ∙ headed (f .before) .put-four .kept .0
 
 returns : tie.Need-returns
 returns c =
@@ -61,7 +62,7 @@ returns c =
     let a = s .args in
     records-made 3 (a .k) (a .t) (a .b) _
     (λ i. tallyBytes (tallyOf (tallyTables (now (a .tally-grocer)) (now (a .tally-box)) (now (a .tally-code)) (now (a .tally-count)) (now (a .tally-issuer)) (now (a .tally-bag)) (now (a .tally-revision))) i)) (now (a .out)) _ _ _
-    (p .part-of .ensures) (omega (arith, s .pre .0)) (h .put-head .ensures) (f .put-tallies .ensures) (z .close-block .ensures)
+    (p .part-of .ensures) (omega (arith, s .pre .0)) (h .put-four .ensures) (f .put-tallies .ensures) (z .close-block .ensures)
 
 pub put-tally-block-spec : {M : Type 1} → statement M
 put-tally-block-spec =

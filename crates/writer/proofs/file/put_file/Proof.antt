@@ -1,16 +1,17 @@
 -- `writer::file::put_file` meets its contract. Assumes nothing.
-use Prim.Native.Nat.{ℕ, _+_, _*_}
 use mathlib.Core.Path.{_≡_, ap, _∙_}
 use mathlib.Core.List.{[], _∷_}
+use Prim.Native.Nat.{ℕ, _+_, _*_}
 use native.Mathlib.Omega.{arith}
 use lib.ListN.{length, getD}
-use denote.Ref.{now}
 use Rattle.format.specs.Bytes.{bytes16}
 use Rattle.format.specs.Blocks.{blocksFor, tallyBytes}
 use Rattle.format.specs.File.{blockByte}
 use Rattle.format.specs.Tables.{FileTables, offerTables, tallyTables, fileTables, tallyOf}
 use Rattle.blocks.specs.Due.{asHead}
-use Rattle.writer.specs.Puts.{put, bytesOf, bodyOf, recordBody, blocksOf}
+use Rattle.puts.specs.Puts.{put, bytesOf}
+use Rattle.writer.specs.Bodies.{bodyOf, recordBody, blocksOf}
+use denote.Ref.{now}
 use Rattle.writer.proofs.Written.{file-put}
 use Rattle.writer.proofs.file.put_file.Statement.{statement}
 use Rattle.writer.proofs.file.put_file.Tie as tie

@@ -1,16 +1,17 @@
 -- `writer::file::put_offer_blocks` meets its contract. The invariant: the first b blocks are put. Assumes nothing.
-use Prim.Native.Nat.{ℕ, _≤_, _-_, _+_, _*_}
 use mathlib.Core.Path.{_≡_, refl, ap, _∙_}
+use Prim.Native.Nat.{ℕ, _≤_, _-_, _+_, _*_}
 use native.Mathlib.Omega.{arith}
 use native.Mathlib.Nat.{le-antisymm}
 use lib.ListN.{length}
-use denote.Ref.{now}
 use borrow.Author.Needs.{needs}
 use Rattle.format.specs.Blocks.{offerBytes}
 use Rattle.format.specs.File.{blockByte}
 use Rattle.format.specs.Tables.{offerTables, offerOf}
-use Rattle.writer.specs.Puts.{put, recordBody, blocksOf}
-use Rattle.writer.proofs.Puts.{put-none}
+use Rattle.puts.specs.Puts.{put}
+use Rattle.writer.specs.Bodies.{recordBody, blocksOf}
+use denote.Ref.{now}
+use Rattle.puts.proofs.Puts.{put-none}
 use Rattle.writer.proofs.Blocks.{block-next}
 use Rattle.writer.proofs.file.put_offer_blocks.Statement.{statement}
 use Rattle.writer.proofs.file.put_offer_blocks.Tie as tie

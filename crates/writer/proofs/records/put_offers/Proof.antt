@@ -1,15 +1,16 @@
 -- `writer::records::put_offers` meets its contract. The invariant: the first r records are put. Assumes nothing.
-use Prim.Native.Nat.{ℕ, _≤_, _-_, _+_, _*_}
 use mathlib.Core.Path.{_≡_, refl, ap, _∙_}
+use Prim.Native.Nat.{ℕ, _≤_, _-_, _+_, _*_}
 use native.Mathlib.Omega.{arith}
 use native.Mathlib.Nat.{le-antisymm}
 use lib.ListN.{length}
-use denote.Ref.{now}
 use borrow.Author.Needs.{needs}
 use Rattle.format.specs.Blocks.{offerBytes}
 use Rattle.format.specs.Tables.{OfferTables, offerTables, offerOf}
-use Rattle.writer.specs.Puts.{put, bytesOf, rowsOf}
-use Rattle.writer.proofs.Puts.{put-none}
+use Rattle.puts.specs.Puts.{put, bytesOf}
+use Rattle.writer.specs.Bodies.{rowsOf}
+use denote.Ref.{now}
+use Rattle.puts.proofs.Puts.{put-none}
 use Rattle.writer.proofs.Blocks.{row-next}
 use Rattle.writer.proofs.records.put_offers.Statement.{statement}
 use Rattle.writer.proofs.records.put_offers.Tie as tie

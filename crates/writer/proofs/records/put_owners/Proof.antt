@@ -1,13 +1,13 @@
 -- `writer::records::put_owners` meets its contract. The invariant: the first i owners are put. Assumes nothing.
-use Prim.Native.Nat.{ℕ, _≤_, _-_}
 use mathlib.Core.Path.{_≡_, refl, ap, _∙_}
+use Prim.Native.Nat.{ℕ, _≤_, _-_}
 use native.Mathlib.Omega.{arith}
 use native.Mathlib.Nat.{le-antisymm}
 use lib.ListN.{length, length-set}
-use denote.Ref.{now}
 use borrow.Author.Needs.{needs}
-use Rattle.writer.specs.Puts.{put, bytesOf}
-use Rattle.writer.proofs.Puts.{put-none, store-next}
+use Rattle.puts.specs.Puts.{put, bytesOf}
+use denote.Ref.{now}
+use Rattle.puts.proofs.Puts.{put-none, store-next}
 use Rattle.writer.proofs.records.put_owners.Statement.{statement}
 use Rattle.writer.proofs.records.put_owners.Tie as tie
 

@@ -1,0 +1,39 @@
+// Lines of text: what is written is compared with what should be.
+
+// Bytes as they are.
+pub fn text(s: &[u8]) {
+    io::write_all(1, s);
+}
+
+// A number in decimal.
+pub fn number(n: u64) {
+    io::print_decimal(1, n);
+}
+
+// A space and a number.
+pub fn next(n: u64) {
+    text(b" ");
+    number(n);
+}
+
+// A space and a 16-bit word.
+pub fn next16(n: u16) {
+    next(n as u64);
+}
+
+// A space and a 32-bit word.
+pub fn next32(n: u32) {
+    next(n as u64);
+}
+
+// The end of a line.
+pub fn end() {
+    text(b"\n");
+}
+
+// The end of a line that was refused.
+pub fn refused(n: u16) {
+    text(b": refused");
+    next16(n);
+    end();
+}

@@ -1,0 +1,2 @@
+-- Laws of the numbers of codes.
+pub mod Digits

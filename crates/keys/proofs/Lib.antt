@@ -1,0 +1,2 @@
+-- What the proofs of other crates use.
+pub mod Keyed

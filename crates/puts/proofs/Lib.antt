@@ -1,0 +1,2 @@
+-- Laws of bytes that are put into a buffer.
+pub mod Puts

@@ -1,0 +1,2 @@
+-- Bytes that are put into a buffer.
+pub mod Puts

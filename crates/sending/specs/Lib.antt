@@ -1,0 +1,2 @@
+-- The definition that the contracts of this crate cite.
+pub mod Sent

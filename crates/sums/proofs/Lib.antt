@@ -1,0 +1,2 @@
+-- Laws of the two sums.
+pub mod Halves

@@ -1,0 +1,2 @@
+-- Definitions of a box's tallies in order.
+pub mod Twice
