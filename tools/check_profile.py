@@ -21,7 +21,9 @@ import sys
 import tempfile
 import time
 
-ROOT = os.path.dirname(os.path.dirname(os.path.abspath(__file__)))
+sys.dont_write_bytecode = True
+from crates import read_crates  # it goes to the root of the tree
+
 PARTS = {"Lts": "walk", "Tie": "walk", "Proof": "proof", "Named": "proof", "Layout": "proof", "Met": "proof"}
 CONTRACT = {"Key", "Code", "Mir", "Symbol", "Kinds", "Statement", "Reads"}
 PAUSE = 0.03
@@ -29,16 +31,6 @@ PAUSE = 0.03
 
 def stop(text):
     sys.exit("check_profile.py: " + text)
-
-
-def read_crates():
-    """What each crate of crates.txt stands on."""
-    needs = {}
-    for line in open("crates.txt", encoding="utf-8"):
-        name, colon, rest = line.split("#")[0].partition(":")
-        if colon:
-            needs[name.strip()] = rest.split()
-    return needs
 
 
 def kit_folder():
@@ -143,7 +135,6 @@ def main():
     usage.add_argument("crates", metavar="CRATE", nargs="*")
     usage.add_argument("--rows", metavar="N", type=int, default=12)
     asked = usage.parse_args()
-    os.chdir(ROOT)
     needs = read_crates()
     for name in asked.crates:
         if name not in needs:

@@ -13,22 +13,14 @@ import re
 import subprocess
 import sys
 
-ROOT = os.path.dirname(os.path.dirname(os.path.abspath(__file__)))
+sys.dont_write_bytecode = True
+from crates import read_crates  # it goes to the root of the tree
+
 WALK = re.compile(r"·proofs\.proofs\.(.*)\.Lts\.oantt$")
 
 
 def stop(text):
     sys.exit("walk_sizes.py: " + text)
-
-
-def read_crates():
-    """What each crate of crates.txt stands on."""
-    needs = {}
-    for line in open("crates.txt", encoding="utf-8"):
-        name, colon, rest = line.split("#")[0].partition(":")
-        if colon:
-            needs[name.strip()] = rest.split()
-    return needs
 
 
 def below(name, needs):
@@ -80,7 +72,6 @@ def main():
     usage.add_argument("--rows", metavar="N", type=int, default=0)
     usage.add_argument("--reach", metavar="PROGRAM")
     asked = usage.parse_args()
-    os.chdir(ROOT)
     needs = read_crates()
     for name in asked.crates + [asked.reach or "laws"]:
         if name not in needs:

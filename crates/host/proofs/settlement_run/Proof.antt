@@ -4,15 +4,24 @@ use Rattle.host.proofs.settlement_run.Statement.{statement}
 use Rattle.host.proofs.settlement_run.Tie as tie
 
 -- The call of `run`, from where the report is lent, and from the last return.
+abbrev prices-back : tie.After-slice-known7 → tie.After-run
+prices-back c = c .before .before .before .before
+
+abbrev totals-back : tie.After-done → tie.After-run
+totals-back c = prices-back (c .before .before .before .before)
+
 abbrev lent-report : tie.After-tell-report-arg → tie.After-run
-lent-report c = c .before .before .before .before .before .before .before .before .before .before .before .before
+lent-report c = totals-back (c .before .before .before .before)
 
 abbrev ran : tie.After-slice-known10 → tie.After-run
 ran c = lent-report (c .before .before .before)
 
 -- The test of the report's length, from the call of `run`.
+abbrev totals-given : tie.After-run-arg4 → tie.Else1
+totals-given c = c .before .before .before .before
+
 abbrev long : tie.After-run → tie.Else1
-long c = c .before .before .before .before .before .before .before .before
+long c = totals-given (c .before .before .before .before)
 
 tell-report-requires : tie.Need-tell-report-requires
 tell-report-requires c κs = long (lent-report c) .if1 .left

@@ -13,8 +13,14 @@ use Rattle.reader.proofs.read.Statement.{statement}
 use Rattle.reader.proofs.read.Tie as tie
 
 -- The entry, from the first call, and from the branch after the refusal.
+abbrev offers-lent : tie.After-slice-known4 → tie.Start
+offers-lent c = c .before .before .before .before .before
+
+abbrev tallies-lent : tie.After-slice-known8 → tie.Start
+tallies-lent c = offers-lent (c .before .before .before .before)
+
 abbrev start : tie.After-short-offers → tie.Start
-start c = let m = c .before .before .before .before .before .before .before in m .before .before .before .before .before .before .before
+start c = tallies-lent (c .before .before .before .before .before)
 
 abbrev refused : tie.Else1 → tie.After-refusal
 refused c = c .before .before
@@ -29,8 +35,11 @@ entry c = start (measured (refused c) .before)
 abbrev headed : tie.After-fill-offers-arg3 → tie.After-read-head
 headed c = c .before .before .before
 
+abbrev owners-back : tie.After-slice-known14 → tie.After-fill-offers
+owners-back c = c .before .before .before .before
+
 abbrev offered : tie.After-fill-words-arg → tie.After-fill-offers
-offered c = c .before .before .before .before .before .before .before
+offered c = owners-back (c .before .before .before)
 
 abbrev issued : tie.After-fill-owners-arg → tie.After-fill-words
 issued c = c .before .before .before
@@ -38,11 +47,17 @@ issued c = c .before .before .before
 abbrev owned : tie.After-fill-tallies-arg3 → tie.After-fill-owners
 owned c = c .before .before .before .before .before
 
+abbrev boxes-back : tie.After-slice-known19 → tie.After-fill-tallies
+boxes-back c = c .before .before .before .before
+
 abbrev tallied : tie.After-places3 → tie.After-fill-tallies
-tallied c = c .before .before .before .before .before .before .before
+tallied c = boxes-back (c .before .before .before)
+
+abbrev issuers-back : tie.After-slice-known21 → tie.After-fill-tally-ends
+issuers-back c = c .before .before .before
 
 abbrev ended : tie.After-fill-bags-arg2 → tie.After-fill-tally-ends
-ended c = c .before .before .before .before .before .before .before
+ended c = issuers-back (c .before .before .before .before)
 
 abbrev bagged : tie.After-slice-known24 → tie.After-fill-bags
 bagged c = c .before .before .before .before

@@ -24,8 +24,11 @@ abbrev lent : tie.Start → StateTables
 lent s = stateTables (now (s .args .known)) (now (s .args .price-transit)) (now (s .args .working)) (now (s .args .total-transit)) (now (s .args .statement)) (now (s .args .done)) (now (s .args .sent))
 
 -- Places: the start, from the test of the state's lengths.
+abbrev state-lent : tie.After-slice-known4 → tie.After-shared-slice-known8
+state-lent c = c .before .before .before .before
+
 abbrev slices : tie.After-state-short → tie.After-shared-slice-known8
-slices c = c .before .before .before .before .before .before
+slices c = state-lent (c .before .before)
 
 abbrev shared : tie.After-shared-slice-known8 → tie.After-shared-slice-known4
 shared c = c .before .before .before .before
@@ -46,8 +49,11 @@ whole c = c .before .before
 abbrev worded : tie.After-pick-order → tie.After-sharers
 worded c = c .before .before .before .before
 
+abbrev marks-back : tie.After-slice-known5 → tie.After-pick-order
+marks-back c = c .before .before
+
 abbrev ordered : tie.After-all-steps-arg → tie.After-pick-order
-ordered c = c .before .before .before .before .before .before
+ordered c = marks-back (c .before .before .before .before)
 
 abbrev picked : tie.After-all-steps-arg5 → tie.After-pick-order
 picked c = ordered (c .before .before .before .before)

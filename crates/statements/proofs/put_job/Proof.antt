@@ -18,11 +18,23 @@ abbrev left : tie.After-run → StateTables
 left r = let w = r .run .last .1 .1 .1 .1 .1 .1 .1 .1 .1 .1 .1 .1 .1 in stateTables (w .0) (w .1 .0) (w .1 .1 .0) (w .1 .1 .1 .0) (w .1 .1 .1 .1 .0) (w .1 .1 .1 .1 .1 .0) (w .1 .1 .1 .1 .1 .1 .0)
 
 -- The call of `run`, from where the answer is to be put; and the entry, from there.
+abbrev totals-back : tie.After-total-transit2 → tie.After-run
+totals-back c = c .before .before .before .before
+
 abbrev ran-at : tie.After-statement3 → tie.After-run
-ran-at c = c .before .before .before .before .before .before .before .before .before
+ran-at c = totals-back (c .before .before .before .before .before)
+
+abbrev offers-lent : tie.After-shared-slice-known4 → tie.Start
+offers-lent c = c .before .before .before .before
+
+abbrev job-lent : tie.After-shared-slice-known8 → tie.Start
+job-lent c = offers-lent (c .before .before .before .before)
+
+abbrev state-made : tie.After-statement → tie.After-shared-slice-known8
+state-made c = c .before .before .before .before .before
 
 abbrev entry : tie.After-run → tie.Start
-entry r = r .before .before .before .before .before .before .before .before .before .before .before .before .before .before .before .before .before
+entry r = job-lent (state-made (r .before .before .before .before))
 
 returns : tie.Need-returns
 unfolding blankState

@@ -21,11 +21,17 @@ loop-holds : tie.Need-loop-holds Inv-loop μ-loop
 loop-holds c = (search needs, waits-none _ _)
 
 -- The turn of a tally, and where the call begins.
+abbrev lent : tie.After-shared-slice-known5 Inv-loop μ-loop → tie.Start Inv-loop μ-loop
+lent c = c .before .before .before .before .before
+
 abbrev outset : tie.In-loop Inv-loop μ-loop → tie.Start Inv-loop μ-loop
-outset c = c .before .before .before .before .before .before .before
+outset c = lent (c .before .before)
+
+abbrev numbered : tie.After-words Inv-loop μ-loop → tie.In-loop Inv-loop μ-loop
+numbered c = c .before .before .before
 
 abbrev turn : tie.After-u16-at3 Inv-loop μ-loop → tie.In-loop Inv-loop μ-loop
-turn c = c .before .before .before .before .before .before
+turn c = numbered (c .before .before .before)
 
 -- The grocer and the offer of the tally are in their tables.
 grocer-in : tie.Need-u16-at-requires-2 Inv-loop μ-loop
@@ -73,7 +79,7 @@ loop-again c =
     )
 
 abbrev ended : tie.After-loop Inv-loop μ-loop → tie.Start Inv-loop μ-loop
-ended c = c .before .before .before .before .before .before .before
+ended c = lent (c .before .before)
 
 returns : tie.Need-returns Inv-loop μ-loop
 returns c =

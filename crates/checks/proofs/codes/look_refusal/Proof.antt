@@ -13,8 +13,11 @@ use Rattle.checks.proofs.codes.look_refusal.Statement.{statement}
 use Rattle.checks.proofs.codes.look_refusal.Tie as tie
 
 -- The entry, from the first question; the branch behind it, from the look-up of the tallies; and that look-up.
+abbrev lent : tie.After-shared-slice-known4 → tie.Start
+lent c = c .before .before .before .before
+
 abbrev entry : tie.After-shared → tie.Start
-entry c = c .before .before .before .before .before .before
+entry c = lent (c .before .before)
 
 abbrev begun : tie.Else1 → tie.Start
 begun c = entry (c .before)

@@ -12,8 +12,11 @@ use Rattle.writer.proofs.records.put_offer.Statement.{statement}
 use Rattle.writer.proofs.records.put_offer.Tie as tie
 
 -- The entry, and the calls, each from the next.
+abbrev tables-lent : tie.After-shared-slice-known4 → tie.Start
+tables-lent c = c .before .before .before .before .before
+
 abbrev entry : tie.After-put32-arg → tie.Start
-entry c = c .before .before .before .before .before .before
+entry c = tables-lent (c .before)
 
 abbrev priced : tie.After-put-byte-arg → tie.After-put32
 priced c = c .before .before .before

@@ -16,8 +16,11 @@ use Rattle.writer.proofs.records.put_tally.Statement.{statement}
 use Rattle.writer.proofs.records.put_tally.Tie as tie
 
 -- The entry, and the calls, each from the next.
+abbrev tables-lent : tie.After-shared-slice-known4 → tie.Start
+tables-lent c = c .before .before .before .before .before
+
 abbrev entry : tie.After-put16-arg → tie.Start
-entry c = c .before .before .before .before .before .before .before .before
+entry c = tables-lent (c .before .before .before)
 
 abbrev wrote : tie.After-put-byte-arg → tie.After-put16
 wrote c = c .before .before .before
