@@ -2,7 +2,7 @@
 """believed.py: how many lines of definitions a reader must believe, by crate, and in all.
 
 Counted are the lines of specs/ that docs/READING.md lists under its first six headings (the words, the settlement, the job
-file, what is printed, the calls' answers, the calls for C) and the statements of crates/guarantees/specs; not counted are empty lines, comments and `use` lines."""
+file, what is printed, the calls' answers, the calls for C) and, as statements, under "The demands, in one place"; not counted are empty lines, comments and `use` lines."""
 import os
 import re
 import sys
@@ -24,19 +24,23 @@ names = {
     "What is printed",
     "The answers of the calls",
     "The calls for C",
-    "The demands, in one place",
 }
+demands = "The demands, in one place"
 files = []
+statements = 0
 for part in parts:
-    if part.split("\n", 1)[0] in names:
-        files += [p for p in re.findall(r"^\| (crates/[\w/]+\.antt) \|", part, flags=re.M) if p not in files]
+    heading = part.split("\n", 1)[0]
+    if heading in names or heading == demands:
+        new = [p for p in re.findall(r"^\| (crates/[\w/]+\.antt) \|", part, flags=re.M) if p not in files]
+        files += new
+        if heading == demands:
+            statements += sum(map(lines, new))
 by_crate = {}
 for path in files:
     crate = path.split("/")[1]
     by_crate[crate] = by_crate.get(crate, 0) + lines(path)
 for crate, n in by_crate.items():
     print(f"{crate} {n}")
-statements = by_crate.get("guarantees", 0)
 print(f"definitions {sum(by_crate.values()) - statements}")
 print(f"statements {statements}")
 if not files:

@@ -9,7 +9,7 @@ sys.path.insert(0, os.path.join(os.path.dirname(os.path.abspath(__file__)), "../
 from contracts import functions, plain_code, present  # it goes to the root of the tree
 
 CRATES = (
-    "slices", "bytes", "sums", "digits", "blocks", "fills", "names", "checks", "reader", "puts", "writer", "lookup", "index", "keys", "bags", "columns",
+    "slices", "bytes", "sums", "digits", "blocks", "codes", "names", "checks", "reader", "puts", "writer", "lookup", "index", "keys", "columns",
 )
 BUFFER = re.compile(r"let mut (\w+)(?:: \[(\w+); \w+\])? = \[[\d_]+(\w*); \w+\];")
 

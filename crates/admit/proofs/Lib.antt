@@ -2,3 +2,4 @@
 pub mod Tested
 pub mod Sizes
 pub mod Standing
+pub mod Refusals

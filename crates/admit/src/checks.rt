@@ -11,7 +11,7 @@ ghost use Rattle.model.specs.Lent.{jobLent, bagLent};
 ghost use Rattle.model.specs.Ranges.{sizesInRange, jobInRange};
 ghost use Rattle.model.specs.Handed.{Standing};
 ghost use Rattle.model.specs.Local.{jobRefusals};
-use bags::standing_boxes;
+use columns::standing_boxes;
 use ranges::around32;
 use ranges::limits::MAX_BOXES;
 use ranges::limits::MAX_GROCERS;

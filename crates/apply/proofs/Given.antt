@@ -15,7 +15,7 @@ use Rattle.model.specs.Tables.{JobTables, jobOf, StateTables, jobLengths, state
 use Rattle.laws.specs.Limits.{maxPrice, maxAmount, maxSent}
 use Rattle.model.specs.Ranges.{upTo, around, stateInRange}
 use Rattle.model.specs.Step.{Asked, isKind, boxesFit}
-use Rattle.rules.specs.Marks.{MarksIn}
+use Rattle.places.specs.Marks.{MarksIn}
 use Rattle.links.specs.Links.{Linked, LinkedPairs}
 use Rattle.totals.specs.Row.{TalliesIn, PricesIn, AmountsIn}
 use Rattle.apply.specs.Apply.{Applies, SentIn, PriceStepIn, TotalStepIn}
@@ -158,7 +158,6 @@ module _ (f : JobTables) (t : StateTables) (needs sharers : List ℕ) (q : Asked
   total-step-in links l many = record {
     boxes-in = g .tallies-in .boxes-in;
     grocers-in = g .tallies-in .grocers-in;
-    owner-long = g .job-long .grocerOwner;
     grocers-linked = l;
     working-in = working-in;
     transit-in = transit-in;

@@ -4,4 +4,3 @@ pub mod Keys
 pub mod Given
 pub mod Sides
 pub mod Moved
-pub mod Late

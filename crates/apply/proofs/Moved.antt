@@ -11,9 +11,9 @@ use Rattle.laws.proofs.Tables.{overwrite-one}
 use Rattle.model.specs.Steps.{Kind, State, effect, oneBox, kindOf, sendPrices, multiplyOwn, receivePrices, sendTotals, addOwn, receiveTotals}
 use Rattle.model.specs.Tables.{JobTables, jobOf, StateTables, stateTables, stateLengths, view, store}
 use Rattle.model.specs.Step.{Asked, moved}
-use Rattle.words.specs.Message.{wordIn}
+use Rattle.places.specs.Message.{wordIn}
 use Rattle.prices.specs.Prices.{sentTransit, receivedKnown, receivedTransit}
-use Rattle.rules.specs.Marks.{marked}
+use Rattle.places.specs.Marks.{marked}
 use Rattle.totals.specs.Row.{putRow, productRow}
 use Rattle.totals.specs.Credit.{cleared, sentTotals, credited, creditAll}
 use Rattle.prices.proofs.Effect.{tables-eq, known-stays, price-transit-stays, working-stays, total-transit-stays, statement-stays, sent-stays, step-marked}

@@ -9,7 +9,7 @@ use lib.ListN.{length}
 use lib.IntN.{ℤ}
 use Rattle.laws.specs.Below.{naturals, only, count}
 use Rattle.laws.proofs.Below.{count-le, only-le}
-use Rattle.words.specs.Message.{wordIn}
+use Rattle.places.specs.Message.{wordIn}
 use Rattle.prices.specs.Prices.{sentTransit, receivedKnown, receivedTransit}
 use Rattle.totals.specs.Row.{Tallies, productRow, putRow}
 use Rattle.totals.specs.Credit.{cleared, sentTotals, credited, creditAll}

@@ -15,7 +15,7 @@ use Rattle.laws.specs.Limits.{maxBoxes, maxGrocers, maxSent}
 use Rattle.model.specs.Ranges.{stateInRange}
 use Rattle.model.specs.Handed.{Handed}
 use Rattle.model.specs.Step.{Asked, isKind, boxesFit}
-use Rattle.words.specs.Message.{wordIn}
+use Rattle.places.specs.Message.{wordIn}
 use Rattle.links.specs.Links.{Linked, LinkedPairs}
 use Rattle.prices.specs.Prices.{sentTransit, receivedKnown, receivedTransit}
 use Rattle.totals.specs.Row.{Tallies, TalliesIn, PricesIn, AmountsIn, productRow, putRow}
@@ -58,7 +58,6 @@ pub record PriceStepIn (e : Tallies) (offerLinks tallyLinks known transit : List
 pub record TotalStepIn (k m : ℕ) (owner links : List ℕ) (working transit statement : List ℤ) (kind a b : ℕ) : Type 0 where
   pub boxes-in : k ≤ maxBoxes
   pub grocers-in : m ≤ maxGrocers
-  pub owner-long : m ≤ length owner
   pub grocers-linked : Linked m owner links
   pub working-in : AmountsIn (k * m) working
   pub transit-in : AmountsIn (k * m) transit

@@ -1,4 +1,7 @@
 // One step applied to the lent tables: kinds 1 to 3 to prices and working totals, kinds 4 to 6 to totals and statements.
+ghost use mathlib.Core.List.{List};
+ghost use Prim.Native.Nat.{ℕ};
+ghost use Rattle.links.specs.Links.{Linked, LinkedPairs, Some};
 ghost use Rattle.totals.specs.Row.{tallies};
 ghost use Rattle.apply.specs.Apply.{PriceStepIn, PriceStepOut, TotalStepIn, TotalStepOut};
 
@@ -22,7 +25,6 @@ pub fn price_step(
     z: Sizes,
     offer_owner: &[u16],
     tally_grocer: &[u16],
-    tally_box: &[u16],
     tally_offer: &[u16],
     tally_count: &[i32],
     needs: &[u16; 500],
@@ -33,13 +35,14 @@ pub fn price_step(
     working: &mut [i64],
     x: Step,
 ) -> u32
-    requires { ⌜ PriceStepIn (tallies (z .boxes) (z .grocers) (z .offers) (z .tallies) (now «offer_owner») (now «tally_grocer») (now «tally_box»)
+    requires { ⌜ Some (λ holder. PriceStepIn (tallies (z .boxes) (z .grocers) (z .offers) (z .tallies) (now «offer_owner») (now «tally_grocer») holder
         (now «tally_offer») (now «tally_count»)) (now «offer_links») (now «tally_links») (now known) (now «price_transit») (now working)
-        (x .kind) (x .first) (x .second) ⌝ }
-    ensures { λ r. ⌜ PriceStepOut (tallies (z .boxes) (z .grocers) (z .offers) (z .tallies) (now («offer_owner» .entry)) (now («tally_grocer» .entry))
-        (now («tally_box» .entry)) (now («tally_offer» .entry)) (now («tally_count» .entry))) (now (needs .entry)) (now (known .entry))
+        (x .kind) (x .first) (x .second)) ⌝ }
+    ensures { λ r. ⌜ ((holder : List ℕ) → LinkedPairs (z .tallies) holder (now («tally_offer» .entry)) (now («offer_owner» .entry))
+        (now («tally_links» .entry)) → PriceStepOut (tallies (z .boxes) (z .grocers) (z .offers) (z .tallies) (now («offer_owner» .entry))
+        (now («tally_grocer» .entry)) holder (now («tally_offer» .entry)) (now («tally_count» .entry))) (now (needs .entry)) (now (known .entry))
         (now («price_transit» .entry)) (now (working .entry)) (x .kind) (x .first) (x .second)
-        (now (known .exit)) (now («price_transit» .exit)) (now (working .exit)) r ⌝ }
+        (now (known .exit)) (now («price_transit» .exit)) (now (working .exit)) r) ⌝ }
 {
     let m = z.grocers as usize;
     let n = z.offers as usize;
@@ -64,9 +67,7 @@ pub fn price_step(
             x.first,
             x.first,
             tally_links,
-            offer_owner,
             tally_grocer,
-            tally_box,
             tally_offer,
             tally_count,
             known,
@@ -81,9 +82,7 @@ pub fn price_step(
         x.first,
         x.second,
         tally_links,
-        offer_owner,
         tally_grocer,
-        tally_box,
         tally_offer,
         tally_count,
         price_transit,
@@ -105,7 +104,6 @@ pub fn price_step(
 // A step of kind 4, 5 or 6: totals sent, or own totals or totals received added to statements. The words sent.
 pub fn total_step(
     z: Sizes,
-    grocer_owner: &[u16],
     sharers: &[u16; 255],
     grocer_links: &[u16; 272],
     working: &mut [i64],
@@ -113,11 +111,12 @@ pub fn total_step(
     statement: &mut [i64],
     x: Step,
 ) -> u32
-    requires { ⌜ TotalStepIn (z .boxes) (z .grocers) (now «grocer_owner») (now «grocer_links») (now working) (now «total_transit») (now statement)
-        (x .kind) (x .first) (x .second) ⌝ }
-    ensures { λ r. ⌜ TotalStepOut (z .boxes) (z .grocers) (now («grocer_owner» .entry)) (now (sharers .entry)) (now (working .entry))
+    requires { ⌜ Some (λ owner. TotalStepIn (z .boxes) (z .grocers) owner (now «grocer_links») (now working) (now «total_transit») (now statement)
+        (x .kind) (x .first) (x .second)) ⌝ }
+    ensures { λ r. ⌜ ((owner : List ℕ) → Linked (z .grocers) owner (now («grocer_links» .entry)) →
+        TotalStepOut (z .boxes) (z .grocers) owner (now (sharers .entry)) (now (working .entry))
         (now («total_transit» .entry)) (now (statement .entry)) (x .kind) (x .first) (x .second)
-        (now (working .exit)) (now («total_transit» .exit)) (now (statement .exit)) r ⌝ }
+        (now (working .exit)) (now («total_transit» .exit)) (now (statement .exit)) r) ⌝ }
 {
     let m = z.grocers as usize;
     if x.kind == 4 {
@@ -125,7 +124,6 @@ pub fn total_step(
             m,
             x.first,
             x.second,
-            grocer_owner,
             sharers,
             grocer_links,
             working,
@@ -137,7 +135,6 @@ pub fn total_step(
             m,
             x.first,
             x.first,
-            grocer_owner,
             sharers,
             grocer_links,
             working,
@@ -149,7 +146,6 @@ pub fn total_step(
         m,
         x.first,
         x.second,
-        grocer_owner,
         sharers,
         grocer_links,
         total_transit,

@@ -1,9 +1,9 @@
-// Little-endian words of a file, and the 32 bits of a count.
+// Little-endian words of a file, and the count of 32 bits.
 ghost use mathlib.Core.Path.{_≡_};
 ghost use Prim.Native.Nat.{_+_, _≤_, _<_};
 ghost use lib.ListN.{length, getD};
 ghost use mir.Syntax.{w32};
-ghost use mir.Val.{toZ, ofZ};
+ghost use mir.Val.{toZ};
 ghost use Rattle.format.specs.Bytes.{from, word16, word32};
 use slices::byte_at;
 
@@ -57,16 +57,4 @@ pub fn count32(f: &[u8], at: usize) -> i32
     ensures { λ r. ⌜ r ≡ toZ w32 (word32 (from (now (f .entry)) at)) ⌝ }
 {
     signed(word32(f, at))
-}
-
-// The 32 bits of a count.
-pub fn bits(z: i32) -> u32
-    ensures { λ r. ⌜ r ≡ ofZ w32 z ⌝ }
-{
-    if z < 0 {
-        let m = (-1 - z) as u32;
-        4294967295 - m
-    } else {
-        z as u32
-    }
 }

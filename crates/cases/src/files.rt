@@ -1,24 +1,12 @@
-// Files read and settled: the lines of `settle`.
+// Files judged: accepted, or refused with a number.
 ghost use Prim.Native.Nat.{_+_, _≤_};
 ghost use lib.ListN.{length};
+use crate::show::judged;
 use crate::show::number;
 use crate::show::text;
+use blocks::file::file_refusal;
 use small_job::small_file;
 use text::numbers::put_bytes;
-
-// What `settle` prints for a file.
-fn settle(f: &[u8; 2048]) {
-    let mut out = [0u8; 8192];
-    let k = statements::settled(f, &mut out);
-    text(b":\n");
-    text(&out[..k]);
-}
-
-// E.
-pub fn sample() {
-    text(b"E");
-    settle(&small_file());
-}
 
 // E's file with other bytes at a place, and both sums of their block.
 fn changed(at: usize, bytes: &[u8], place: usize, sums: [u8; 4])
@@ -27,7 +15,8 @@ fn changed(at: usize, bytes: &[u8], place: usize, sums: [u8; 4])
     let mut f = small_file();
     put_bytes(&mut f, at, bytes);
     put_bytes(&mut f, place, &sums);
-    settle(&f);
+    let mut places = [0u16; 1000];
+    judged(file_refusal(&f, &mut places));
 }
 
 // E's file with another code of its first offer: the number of digits, and the ten bytes for them.

@@ -1,5 +1,6 @@
 // Cases of 01 that no theorem has, and what only a caller in Rattle sees: each line is a case and what it gave.
 mod desk;
+mod evening;
 mod files;
 mod picks;
 mod show;
@@ -8,7 +9,7 @@ mod sums;
 mod words;
 
 fn main() {
-    files::sample();
+    evening::sample();
     sums::plain_sums();
     files::codes();
     files::fields();

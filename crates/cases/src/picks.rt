@@ -2,9 +2,9 @@
 use crate::show::end;
 use crate::show::next16;
 use crate::show::text;
+use places::Place;
 use rows::all_rows;
 use rows::find_in;
-use walk::Place;
 use walk::ready_steps;
 
 // The line of a choice.

@@ -37,3 +37,19 @@ pub fn refused(n: u16) {
     next16(n);
     end();
 }
+
+// The end of a line that was accepted, or refused.
+pub fn judged(n: u16) {
+    if n != 0 {
+        refused(n);
+    } else {
+        text(b": accepted\n");
+    }
+}
+
+// The line of a name and a number.
+pub fn count_line(name: &[u8], n: u32) {
+    text(name);
+    next32(n);
+    end();
+}

@@ -13,11 +13,11 @@ use Rattle.format.specs.Codes.{Name, isCode, nameNumber}
 use Rattle.format.specs.Job.{Head, FileJob, offerName, placeOf, shared, countedTallies}
 use Rattle.format.specs.Tables.{offerTables, tallyTables, offerOf, tallyOf, nameIn}
 use Rattle.blocks.specs.Due.{Most}
-use Rattle.fills.specs.Fills.{Placed}
+use Rattle.blocks.specs.Fills.{Placed}
 use Rattle.checks.specs.Rows.{Codes, Indexed, Keyed, Finds, HasNames, HasBags}
 use Rattle.format.proofs.Same.{twice-cong}
-use Rattle.fills.proofs.Places.{place-most}
-use Rattle.fills.proofs.Naming as naming
+use Rattle.blocks.proofs.Looked.{place-most}
+use Rattle.blocks.proofs.Naming as naming
 
 module _ (j : FileJob) (code issuer tcode tissuer keys order : List ℕ) (h : Head) (has : HasNames j code issuer tcode tissuer h)
     (x : Indexed code issuer keys order (h .offers)) (codes : Codes code (h .offers)) where

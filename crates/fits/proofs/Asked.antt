@@ -13,7 +13,7 @@ use Rattle.laws.proofs.Bools.{split, and-l, and-r}
 use Rattle.model.specs.Job.{Job}
 use Rattle.model.specs.Step.{Asked, isKind, boxesFit, stepRules}
 use Rattle.model.specs.Steps.{Kind, kindNumber, kindOf, Steps, oneBox}
-use Rattle.rules.specs.Marks.{MarksIn}
+use Rattle.places.specs.Marks.{MarksIn}
 use Rattle.rules.specs.Rules.{ReceiversOf, WaitsOf}
 use Rattle.fits.specs.Request.{boxesFitBy, rulesBy}
 use Rattle.rules.proofs.InModel.{fits-is, ready-is}

@@ -16,7 +16,7 @@ use Rattle.sending.specs.Sent.{sentFits}
 use Rattle.fits.specs.Fits.{priceFits, creditsFit, totalFits, PriceFitsIn, TotalFitsIn}
 use Rattle.totals.proofs.Effect.{talliesOf}
 use Rattle.apply.proofs.Given.{Given, given, sent-in, known-in, price-transit-in, working-in, transit-in, statement-in}
-use Rattle.apply.proofs.Late.{late-prices-sent, late-own-multiplied, late-prices-received, late-totals-sent, late-own-added, late-totals-received}
+use Rattle.fits.proofs.Late.{late-prices-sent, late-own-multiplied, late-prices-received, late-totals-sent, late-own-added, late-totals-received}
 
 -- The test of each kind.
 module _ (e : Tallies) (needs known transit : List ℕ) (working : List ℤ) (sent : List ℕ) (kind a b : ℕ) where

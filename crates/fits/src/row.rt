@@ -5,7 +5,7 @@ ghost use lib.ListN.{length, getD};
 ghost use lib.IntN.{pos, natAbs};
 ghost use Rattle.totals.specs.Row.{tallies, RowIn, TallyIn, RowTallies, isTaken, raised, brings, productRow};
 ghost use Rattle.fits.specs.Fits.{rowOf};
-use amounts::row_start;
+use slices::amounts::row_start;
 use slices::index_at;
 use slices::u16_at;
 use totals::row::add_tally;
@@ -93,8 +93,9 @@ pub fn product_row(
     prices: &[u32],
     working: &[i64],
 ) -> [i64; 255]
-    requires { ⌜ RowTallies m n t a (now «offer_owner») (now «tally_grocer») (now «tally_box») (now «tally_offer») (now «tally_count») (now prices) ⌝ }
+    requires { ⌜ RowTallies m n t a (now «tally_grocer») (now «tally_offer») (now «tally_count») (now prices) ⌝ }
     requires { ⌜ RowIn m a (now working) ⌝ }
+    requires { ⌜ (n ≤ length (now «offer_owner»)) × (t ≤ length (now «tally_box»)) ⌝ }
     ensures { λ r. ⌜ ((k : ℕ) → a < k → r ≡ productRow (tallies k m n t (now («offer_owner» .entry)) (now («tally_grocer» .entry))
         (now («tally_box» .entry)) (now («tally_offer» .entry)) (now («tally_count» .entry))) (now (prices .entry)) a from (now (working .entry))) ⌝ }
 {

@@ -6,12 +6,12 @@ ghost use Rattle.model.specs.Lent.{stateBefore};
 ghost use Rattle.model.specs.Ranges.{stateInRange};
 ghost use Rattle.admit.specs.Sizes.{sizes};
 use crate::in_range::around64;
-use bits::marks;
-use bits::words;
 use ranges::limits::MAX_PRICE;
 use ranges::limits::MAX_SENT;
 use ranges::under16;
 use ranges::upto32;
+use slices::bits::marks;
+use slices::bits::words;
 
 // 20: whether a table of the state is shorter than K, M and N as given need.
 pub fn state_short(

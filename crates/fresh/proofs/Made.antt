@@ -1,7 +1,7 @@
 -- Laws of the tables of a fresh state. Assumes nothing.
 use mathlib.Core.Path.{_≡_, sym, ap, _∙_}
 use mathlib.Core.List.{List}
-use mathlib.Core.Bool.{Bool, false, cond, _&&_}
+use mathlib.Core.Bool.{cond, _&&_}
 use Prim.Native.Nat.{ℕ, _+_, _*_, _/_, _%_, _≤_, _<_}
 use native.Mathlib.Omega.{arith}
 use lib.Arith.{digits-div, digits-mod}
@@ -12,35 +12,11 @@ use lib.IntN.{ℤ, pos}
 use borrow.Author.Tests.{eqb-true, eqb-false, ne-eqb, lt-ltb, le-ltb, ltb-true, ltb-false}
 use Rattle.laws.specs.Tables.{overwrite, recell, word}
 use Rattle.laws.proofs.Bools.{split, and-false, eqb-same}
-use Rattle.laws.proofs.Tables.{is-overwrite, over-over, recell-cong, word-in, cell-in}
+use Rattle.laws.proofs.Tables.{over-over, recell-cong, word-in, cell-in}
 use Rattle.model.specs.Steps.{fresh}
 use Rattle.model.specs.Tables.{jobTables, jobOf, StateTables, stateTables, store, marksOf}
 use Rattle.model.specs.Step.{freshTables}
 use Rattle.fresh.specs.Fresh.{ownPrices}
-
--- A loop that makes words z, one a turn: the first i are z, the others as they were.
-module _ {A : Type 0} (l₀ l : List A) (z d : A) (i : ℕ) (same : length l ≡ length l₀) (h : (p : ℕ) → getD l p d ≡ cond (ltb p i) z (getD l₀ p d)) where
-  pub zeroed-more : i < length l → (p : ℕ) → getD (set l i z) p d ≡ cond (ltb p (i + 1)) z (getD l₀ p d)
-  zeroed-more inside p =
-      split (eqb p i)
-      (λ e. rw (eqb-true p i e, lt-ltb i (i + 1) (omega arith)) (getD-set-same l i z d inside))
-      (λ e. let ne : p ≡ i → ⊥ = eqb-false p i e in
-      getD-set-other l i p z d ne ∙ h p ∙ ap (λ (b : Bool). cond b z (getD l₀ p d)) (next p ne))
-    where
-      next : (p : ℕ) → (p ≡ i → ⊥) → ltb p i ≡ ltb p (i + 1)
-      next p ne = split (ltb p i) (λ e. let k : p < i = ltb-true p i e in e ∙ sym (lt-ltb p (i + 1) (omega arith))) (λ e. e ∙ sym (le-ltb p (i + 1) (past p ne e)))
-        where
-          past : (p : ℕ) → (p ≡ i → ⊥) → ltb p i ≡ false → i + 1 ≤ p
-          past p ne e = let k : i ≤ p = ltb-false p i e in omega arith
-
-  pub zeroed : i ≤ length l₀ → l ≡ overwrite i (λ k. z) l₀
-  zeroed long =
-      is-overwrite i (λ k. z) l₀ l d long same
-      (λ p k. h p ∙ rw (lt-ltb p i k))
-      (λ p k. h p ∙ rw (le-ltb p i k))
-
-pub zeroed-none : {A : Type 0} (l : List A) (z d : A) (p : ℕ) → getD l p d ≡ cond (ltb p 0) z (getD l p d)
-zeroed-none l z d p = rw (le-ltb p 0 (omega arith))
 
 -- Own prices, one offer a turn: row b, column o of the table of known prices.
 module _ (k n : ℕ) (price owner known₀ known : List ℕ) (o : ℕ) (lo : o < n) (own : getD owner o 0 < k) (long : k * n ≤ length known)

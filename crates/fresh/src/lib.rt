@@ -6,17 +6,7 @@ ghost use lib.ListN.{length};
 ghost use Rattle.laws.specs.Tables.{overwrite};
 ghost use Rattle.fresh.specs.Fresh.{ownPrices, FreshPrices, FreshTotals};
 
-// The first n words become 0.
-pub fn zero16(s: &mut [u16], n: usize)
-    requires { ⌜ n ≤ length (now s) ⌝ }
-    ensures { λ _. ⌜ now (s .exit) ≡ overwrite n (λ i. 0) (now (s .entry)) ⌝ }
-{
-    for i in 0..n {
-        s[i] = 0;
-    }
-}
-
-// Likewise words of 32 bits,
+// The first n words of 32 bits become 0,
 fn zero32(s: &mut [u32], n: usize)
     requires { ⌜ n ≤ length (now s) ⌝ }
     ensures { λ _. ⌜ now (s .exit) ≡ overwrite n (λ i. 0) (now (s .entry)) ⌝ }

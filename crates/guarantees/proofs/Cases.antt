@@ -23,8 +23,8 @@ use Rattle.format.specs.Job.{Head, FileJob, badSizes, badOffer, badOwner, badTa
 use Rattle.format.specs.Blocks.{firstSum, secondSum}
 use Rattle.format.specs.File.{encode, decode}
 use Rattle.format.specs.Refusals.{jobRefusal, fileRefusal}
-use Rattle.cents.specs.Cents.{nearest, cents}
-use Rattle.guarantees.specs.Demand3.{owedByFile, Holds}
+use Rattle.printing.specs.Cents.{nearest, cents}
+use Rattle.printing.specs.Accepted.{owedByFile, Holds}
 use Rattle.printing.specs.Printed.{jobRead, digitsOf, decimal, signedDecimal, line, grocerLines, settledText, blankJob, printed}
 use Rattle.guarantees.specs.Cases.{code, alone, fileE, twoIssuers, recounted, textE, Cases}
 use Rattle.model.proofs.Step.{range, in-handed}

@@ -4,30 +4,29 @@ use mathlib.Core.Bool.{false}
 use mathlib.Core.List.{List, [], _∷_, _++_}
 use Prim.Native.Nat.{ℕ, zero, suc, _+_, _-_, _*_, _/_, _%_, _^_, _<_, _≤_}
 use native.Mathlib.Omega.{arith}
-use native.Mathlib.Nat.{pow-suc, mul-le-mul, le-refl}
+use native.Mathlib.Nat.{pow-suc}
 use lib.Dec.{ltb}
 use lib.IntN.{ℤ, pos, negsuc, negℤ, natAbs}
-use lib.ListN.{getD, length, take, drop, replicate, length-replicate}
+use lib.ListN.{getD, length, take, drop}
 use lib.Seq.{getD-take, length-take-le}
-use borrow.Author.Tests.{lt-ltb, le-ltb, ne-eqb, ltb-true, ltb-false}
+use borrow.Author.Tests.{lt-ltb, ne-eqb, ltb-true, ltb-false}
 use Rattle.laws.proofs.Bools.{split}
 use Rattle.model.specs.Words.{ownerWords, messageCount, stepCount}
-use Rattle.model.specs.Tables.{JobTables, StateTables, jobOf, stateLengths, stateShort, lentShort}
+use Rattle.model.specs.Tables.{JobTables, jobOf, lentShort}
 use Rattle.model.specs.Run.{RunAnswer, finished, reported, ran}
 use Rattle.format.specs.File.{readHead, decode}
 use Rattle.format.specs.Refusals.{fileRefusal}
-use Rattle.format.specs.Tables.{ReaderTables, ReadOutcome, LongOffers, LongTallies, largest, shortReader, readRefusal}
-use Rattle.guarantees.specs.Demand3.{owedByFile, Accepted}
-use Rattle.cents.specs.Cents.{cents}
-use Rattle.printing.specs.Printed.{jobRead, digitsOf, decimal, signedDecimal, line, grocerLines, settledText, refusedText, blankJob, blankState, runText, jobText, readText, printed}
+use Rattle.format.specs.Tables.{readRefusal}
+use Rattle.printing.specs.Accepted.{owedByFile, Accepted}
+use Rattle.printing.specs.Cents.{cents}
+use Rattle.printing.specs.Printed.{jobRead, digitsOf, decimal, signedDecimal, line, grocerLines, settledText, blankJob, blankState, runText, jobText, printed}
 use Rattle.guarantees.specs.Settle.{valueOf, amountOf, Settle}
-use Rattle.cents.proofs.Rounding.{none-below, rounding}
+use Rattle.printing.proofs.Blank.{blank-state, read-by-file, printed-refusal, printed-job}
+use Rattle.printing.proofs.Rounding.{none-below, rounding}
 use Rattle.printing.proofs.Digits.{below-power}
-use Rattle.format.proofs.Order.{reader-file}
 use Rattle.format.proofs.Accept.{long, accepted-range}
-use Rattle.format.proofs.Tables.{read-accepted, read-refused, tables-long}
 use Rattle.model.proofs.Demand3.{demand3-run}
-use Rattle.guarantees.proofs.Demand3.{accepted}
+use Rattle.printing.proofs.Accepted.{accepted}
 
 -- ---- a printed number is the number
 
@@ -100,51 +99,6 @@ no-cent : (z : ℤ) → natAbs z < 5 → signedDecimal (cents z) ≡ 48 ∷ []
 unfolding signedDecimal decimal digitsOf
 no-cent z h = rw (none-below z h)
 
--- ---- the blank buffers are long enough
-
-zeros : (n : ℕ) → n ≤ length (replicate {A = ℕ} n 0)
-zeros n = rw (length-replicate {A = ℕ} n 0) (le-refl n)
-
-zeros-signed : (n : ℕ) → n ≤ length (replicate n (pos 0))
-zeros-signed n = rw (length-replicate n (pos 0)) (le-refl n)
-
-reader-enough : (l : ReaderTables) → LongOffers 500 (l .job .offers) → 255 ≤ length (l .job .grocerOwner) → LongTallies 1_000 (l .job .tallies) → 1_000 ≤ length (l .tallyOffer) → shortReader l ≡ false
-unfolding shortReader
-reader-enough l o g t p =
-    rw (tables-long largest (l .job) (record { offers = o; grocerOwner = g; tallies = t }), le-ltb (length (l .tallyOffer)) 1_000 p)
-
-blank-reader : shortReader blankJob ≡ false
-unfolding blankJob
-blank-reader =
-    reader-enough blankJob
-    (record { price = zeros 500; owner = zeros 500; code = zeros 5_500; issuer = zeros 500 })
-    (zeros 255)
-    (record { grocer = zeros 1_000; box = zeros 1_000; code = zeros 11_000; count = zeros-signed 1_000; issuer = zeros 1_000; bag = zeros 1_000; revision = zeros 1_000 })
-    (zeros 1_000)
-
-state-enough : (job : JobTables) (t : StateTables) → job .boxes ≤ 16 → job .grocers ≤ 255 → job .offers ≤ 500 →
-    8_000 ≤ length (t .known) → 8_000 ≤ length (t .priceTransit) → 4_080 ≤ length (t .working) → 4_080 ≤ length (t .totalTransit) → 255 ≤ length (t .statement) → 1_536 ≤ length (t .done) → 1 ≤ length (t .sent) →
-    stateShort job (stateLengths t) ≡ false
-unfolding stateShort stateLengths
-state-enough job t k m n a b c d e f g =
-    let prices : job .boxes * job .offers ≤ 8_000 = mul-le-mul k n in
-    let totals : job .boxes * job .grocers ≤ 4_080 = mul-le-mul k m in
-    let marks : 6 * job .boxes * job .boxes ≤ 1_536 = mul-le-mul {n₂ = 96} (omega arith) k in
-    rw (
-      le-ltb (length (t .known)) (job .boxes * job .offers) (omega arith),
-      le-ltb (length (t .priceTransit)) (job .boxes * job .offers) (omega arith),
-      le-ltb (length (t .working)) (job .boxes * job .grocers) (omega arith),
-      le-ltb (length (t .totalTransit)) (job .boxes * job .grocers) (omega arith),
-      le-ltb (length (t .statement)) (job .grocers) (omega arith),
-      le-ltb (length (t .done)) (6 * job .boxes * job .boxes) (omega arith),
-      le-ltb (length (t .sent)) 1 g,
-    )
-
-blank-state : (job : JobTables) → job .boxes ≤ 16 → job .grocers ≤ 255 → job .offers ≤ 500 → stateShort job (stateLengths blankState) ≡ false
-unfolding blankState
-blank-state job k m n =
-    state-enough job blankState k m n (zeros 8_000) (zeros 8_000) (zeros-signed 4_080) (zeros-signed 4_080) (zeros-signed 255) (zeros 1_536) (zeros 1)
-
 -- ---- the lines
 
 -- The first m amounts alone count.
@@ -160,7 +114,7 @@ text-cong m a b w c n h = rw (lines-cong m a b h)
 
 module _ (file : List ℕ) (ok : fileRefusal file ≡ 0) where
   read-ok : readRefusal file blankJob ≡ 0
-  read-ok = reader-file file blankJob blank-reader ∙ ok
+  read-ok = read-by-file file ∙ ok
 
   pub given : Accepted file blankJob
   given = accepted file blankJob read-ok
@@ -185,17 +139,11 @@ module _ (file : List ℕ) (ok : fileRefusal file ≡ 0) where
   amount-is g h = demand3-run job (given .settles) blankState [] .statements lent-ok g h ∙ given .sums g
 
   settled-is : printed file ≡ settledText (decode file .head .grocers) (owedByFile (decode file)) (ownerWords (jobOf job)) (messageCount (jobOf job)) (stepCount (jobOf job))
-  unfolding printed readText jobText runText jobRead
+  unfolding jobText runText jobRead
   settled-is =
-      ap (λ (o : ReadOutcome). readText file (o .answer)) (read-accepted file blankJob read-ok)
+      printed-job file ok
       ∙ ap (λ (a : RunAnswer). runText (decode file .head .grocers) a (ran job blankState [] .tables .statement)) answer-is
       ∙ text-cong (decode file .head .grocers) (λ g. getD (ran job blankState [] .tables .statement) g (pos 0)) (owedByFile (decode file)) (ownerWords (jobOf job)) (messageCount (jobOf job)) (stepCount (jobOf job)) amount-is
-
-refused-is : (file : List ℕ) → (fileRefusal file ≡ 0 → ⊥) → printed file ≡ refusedText (fileRefusal file)
-unfolding printed readText
-refused-is file met =
-    let e = reader-file file blankJob blank-reader in
-    ap (λ (o : ReadOutcome). readText file (o .answer)) (read-refused file blankJob (λ z. met (sym e ∙ z))) ∙ ap refusedText e
 
 -- The first n bytes of a file say the file's length, if they are a file.
 cut-is : (file : List ℕ) (n : ℕ) → fileRefusal file ≡ 0 → n < length file → fileRefusal (take n file) ≡ 0 → ⊥
@@ -210,7 +158,7 @@ cut-is file n ok h cut =
 pub settle : Settle
 settle = record {
   accepted = settled-is;
-  refused = refused-is;
+  refused = printed-refusal;
   cut = cut-is;
   reads = number-reads;
   readsAmount = λ z. amount-reads (cents z);

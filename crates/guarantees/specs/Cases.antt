@@ -15,7 +15,7 @@ use Rattle.format.specs.Refusals.{jobRefusal, fileRefusal}
 use Rattle.format.specs.Blocks.{blockCount, firstSum, secondSum}
 use Rattle.format.specs.File.{encode}
 use Rattle.format.specs.Tables.{largest}
-use Rattle.guarantees.specs.Demand3.{owedByFile, Holds}
+use Rattle.printing.specs.Accepted.{owedByFile, Holds}
 use Rattle.printing.specs.Printed.{printed}
 use Rattle.model.specs.Cases as Settlement
 

@@ -10,9 +10,9 @@ use Rattle.model.specs.Words.{ownerWords, messageCount, stepCount}
 use Rattle.model.specs.Tables.{jobOf}
 use Rattle.format.specs.File.{decode}
 use Rattle.format.specs.Refusals.{fileRefusal}
-use Rattle.cents.specs.Cents.{cents, Cents}
+use Rattle.printing.specs.Cents.{cents, Cents}
 use Rattle.printing.specs.Printed.{jobRead, decimal, signedDecimal, settledText, refusedText, blankJob, printed}
-use Rattle.guarantees.specs.Demand3.{owedByFile}
+use Rattle.printing.specs.Accepted.{owedByFile}
 
 -- The number that digits say.
 unfoldable pub valueOf : List ℕ → ℕ → ℕ

@@ -2,3 +2,5 @@
 pub mod Sorting
 pub mod Digits
 pub mod Topping
+pub mod Beside
+pub mod Loose

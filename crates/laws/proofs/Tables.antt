@@ -3,7 +3,7 @@ use mathlib.Core.Path.{_≡_, refl, sym, ap, ap₂, _∙_, subst}
 use mathlib.Core.List.{List, [], _∷_, _++_, append-assoc}
 use mathlib.Core.Bool.{cond, _&&_}
 use Prim.Native.Nat.{ℕ, zero, suc, _+_, _-_, _*_, _/_, _%_, _<_, _≤_}
-use native.Mathlib.Nat.{div-add-mod', mod-lt, div-lt-iff-lt-mul, mul-le-mul-right, add-mul, one-mul}
+use native.Mathlib.Nat.{le-antisymm, div-add-mod', mod-lt, div-lt-iff-lt-mul, mul-le-mul-right, add-mul, one-mul}
 use native.Mathlib.Omega.{arith}
 use lib.ListN.{length, getD, set, take, drop, length-append, length-drop, length-take, length-set, List·getD-append}
 use lib.Seq.{ext-getD, getD-append-add, getD-set-same, getD-set-other, getD-take, getD-drop, drop-at, drop-set-lt}
@@ -240,3 +240,23 @@ module _ {A : Type 0} (z : A) where
   pub overwrite-set : (n : ℕ) (f : ℕ → A) (l : List A) (i : ℕ) (v : A) → i < n → overwrite n f (set l i v) ≡ overwrite n f l
   unfolding overwrite
   overwrite-set n f l i v h = ap (λ (r : List A). tabulate n f ++ r) (drop-set-lt n l i v h)
+
+  -- A list whose first n words are written has those words.
+  pub filled-right : (f : ℕ → A) (l l′ : List A) (n : ℕ) → l′ ≡ overwrite n f l → (i : ℕ) → i < n → getD l′ i z ≡ f i
+  filled-right f l l′ n e i h = ap (λ (x : List A). getD x i z) e ∙ getD-overwrite n f l i z h
+
+-- ---- A loop that fills the list l: l′ is what it is after i turns
+
+module _ {A : Type 0} where
+  -- Nothing is written yet.
+  pub fill-none : (f : ℕ → A) (l : List A) → l ≡ overwrite 0 f l
+  unfolding overwrite tabulate
+  fill-none f l = refl
+
+  -- One word more.
+  pub fill-more : (f : ℕ → A) (i : ℕ) (l l′ : List A) (v : A) → l′ ≡ overwrite i f l → i < length l → v ≡ f i → set l′ i v ≡ overwrite (i + 1) f l
+  fill-more f i l l′ v e h q = ap₂ (λ (x : List A) (y : A). set x i y) e q ∙ overwrite-next v i f l h
+
+  -- All n words are written.
+  pub fill-end : (f : ℕ → A) (i n : ℕ) (l l′ : List A) → l′ ≡ overwrite i f l → i ≤ n → n ≤ i → l′ ≡ overwrite n f l
+  fill-end f i n l l′ e a b = e ∙ ap (λ (k : ℕ). overwrite k f l) (le-antisymm a b)

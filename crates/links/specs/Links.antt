@@ -37,6 +37,11 @@ pairAt boxes places owners i = pairKey (getD boxes i 0) (getD owners (getD place
 abbrev pub LinkedPairs : ℕ → List ℕ → List ℕ → List ℕ → List ℕ → Type 0
 LinkedPairs n boxes places owners links = LinkedBy 272 n (pairAt boxes places owners) links
 
+-- Some list passes p: the list that a contract speaks of, where the code is not lent it.
+pub record Some (p : List ℕ → Type 0) : Type 0 where
+  pub list : List ℕ
+  pub passes : p list
+
 -- What linking requires: at most 1,000 places, tables as long as they need, and keys up to 16.
 pub record Keyed (n : ℕ) (keys links : List ℕ) : Type 0 where
   pub few : n ≤ 1_000

@@ -20,7 +20,7 @@ use Rattle.local.specs.Lists.{localList, heldOf}
 use Rattle.classes.specs.Keys.{TalliesIn, OwnersIn, PlacesIn}
 use Rattle.model.proofs.Step.{JobIn, job-in, in-handed, under-at}
 use Rattle.model.proofs.Whole.{JobWhole, job-whole}
-use Rattle.admit.proofs.Standing.{not-off}
+use Rattle.admit.proofs.Refusals.{not-off}
 use Rattle.tally_order.proofs.Packing.{at-front}
 use Rattle.local.proofs.Modelled.{list-le, list-in}
 

@@ -5,7 +5,7 @@ ghost use lib.Count.{ones};
 ghost use Rattle.laws.specs.Masks.{without};
 ghost use Rattle.tables.specs.Masks.{Owned};
 ghost use Rattle.messages.specs.Sums.{othersSum};
-use bits::clear_bit;
+use slices::bits::clear_bit;
 use slices::u16_at;
 
 // How many boxes the word means, its owner left out.

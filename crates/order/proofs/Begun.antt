@@ -15,10 +15,11 @@ use Rattle.model.specs.Tables.{stepsDone, marksOf}
 use Rattle.model.specs.Ranges.{under}
 use Rattle.model.specs.Words.{stepCount}
 use Rattle.model.specs.Run.{run}
-use Rattle.order.specs.Order.{stepsIn, markAll, noSteps, picksFrom, stepsLeft, wholeOrder, OfJob, MarksFrom, Picked}
+use Rattle.places.specs.Order.{stepsIn, markAll, noSteps, picksFrom, stepsLeft}
+use Rattle.order.specs.Order.{wholeOrder, OfJob, MarksFrom, Picked}
 use Rattle.model.proofs.Tables.{marks-back}
 use Rattle.model.proofs.Reach.{closed-none}
-use Rattle.order.proofs.Left.{picks-from}
+use Rattle.places.proofs.Left.{picks-from}
 
 -- Marks that are all 0 say that no step is done.
 module _ (k : ℕ) (done done′ : List ℕ) (e : done′ ≡ overwrite (6 * k * k) (λ i. 0) done) where

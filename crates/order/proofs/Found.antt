@@ -20,18 +20,21 @@ use Rattle.model.specs.Steps.{Kind, kindOf, Steps, mark, stepAt, atPlace, place
 use Rattle.model.specs.Tables.{stepsDone, marksOf}
 use Rattle.model.specs.Ranges.{upTo}
 use Rattle.model.specs.Run.{listed, readyCount, pick}
-use Rattle.rules.specs.Marks.{marked}
+use Rattle.places.specs.Marks.{marked}
 use Rattle.rules.specs.Rules.{permittedBy, ReceiversOf, WaitsOf}
-use Rattle.walk.specs.Walk.{PlaceIn, here, listedBy, WalkIn, Found}
-use Rattle.order.specs.Order.{OfJob, MarksFrom, Picked, Kept, Ended, NoneBefore, Passed}
+use Rattle.places.specs.Places.{PlaceIn, here, Found}
+use Rattle.walk.specs.Walk.{listedBy, WalkIn}
+use Rattle.places.specs.Order.{NoneBefore}
+use Rattle.order.specs.Order.{OfJob, MarksFrom, Picked, Kept, Ended, Passed}
 use Rattle.model.proofs.Step.{marks-bits}
 use Rattle.model.proofs.Machine.{kinds}
 use Rattle.model.proofs.Tables.{marks-back}
 use Rattle.model.proofs.Listed.{pick-is}
 use Rattle.model.proofs.Run.{picked}
-use Rattle.walk.proofs.Places.{listed-at}
-use Rattle.walk.proofs.InModel.{step-here, listed-is, count-is, nth-is-model}
-use Rattle.order.proofs.Left.{and-step, Open, first-picked, some-ready, none-more, none-done}
+use Rattle.walk.proofs.InModel.{listed-at}
+use Rattle.places.proofs.Places.{step-here}
+use Rattle.walk.proofs.InModel.{listed-is, count-is, nth-is-model}
+use Rattle.places.proofs.Left.{and-step, Open, first-picked, some-ready, none-more, none-done}
 use Rattle.order.proofs.Pick.{room, put-kept, kept-none, kept-ends}
 use Rattle.model.proofs.Marks as M
 

@@ -1,5 +1,4 @@
 -- The laws that the proofs of this crate cite.
-pub mod Left
 pub mod Pick
 pub mod Found
 pub mod Begun

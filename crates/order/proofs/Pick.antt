@@ -4,7 +4,6 @@ use mathlib.Core.Bool.{true, false}
 use mathlib.Core.List.{List, [], _∷_, _++_, map, append-nil, append-assoc}
 use Prim.Native.Nat.{ℕ, suc, _+_, _*_, _≤_, _<_}
 use native.Mathlib.Omega.{arith}
-use native.Mathlib.Numerals.{add-one}
 use lib.Dec.{eqb, ltb}
 use lib.ListN.{length, getD, set, take, drop, length-append, length-map, length-set}
 use lib.Seq.{take-suc, take-set-le, getD-set-same, getD-set-other, length-take-le, drop-length}
@@ -16,36 +15,10 @@ use Rattle.model.specs.Steps.{Steps, Step, stepAt, places}
 use Rattle.model.specs.Tables.{stepsDone}
 use Rattle.model.specs.Ranges.{under}
 use Rattle.model.specs.Run.{readyCount, pick}
-use Rattle.order.specs.Order.{stepsIn, markAll, noSteps, stepsLeft, wholeOrder, permittedAt, Picked, Kept, Ended, NoneBefore}
-use Rattle.order.proofs.Left.{and-step, Open, with-closed, left-next, left-none, none-at-all}
-
--- Steps in front, and one more.
-map-snoc : {A B : Type 0} (f : A → B) (xs : List A) (x : A) → map f (xs ++ (x ∷ [])) ≡ map f xs ++ (f x ∷ [])
-map-snoc f [] x = refl
-map-snoc f (y ∷ ys) x = ap (λ (l : List _). f y ∷ l) (map-snoc f ys x)
-
-mark-snoc : (d : Steps) (xs : List Step) (x : Step) → markAll d (xs ++ (x ∷ [])) ≡ and-step (markAll d xs) x
-unfolding markAll
-mark-snoc d [] x = refl
-mark-snoc d (y ∷ ys) x = mark-snoc (and-step d y) ys x
-
--- As many steps as words.
-pub steps-length : (k n : ℕ) (order : List ℕ) → n ≤ length order → length (stepsIn k n order) ≡ n
-unfolding stepsIn
-steps-length k n order l = length-map (take n order) (stepAt k) ∙ length-take-le n order l
-
--- One word more, which is the place of a step.
-steps-next : (k n i : ℕ) (order : List ℕ) → n < length order → stepsIn k (n + 1) (set order n i) ≡ stepsIn k n order ++ (stepAt k i ∷ [])
-unfolding stepsIn
-steps-next k n i order l =
-    ap (λ (m : ℕ). map (stepAt k) (take m (set order n i))) (add-one n)
-    ∙ ap (map (stepAt k)) (take-suc (set order n i) n 0 (rw (length-set order n i) l) ∙ ap₂ (λ (xs : List ℕ) (y : ℕ). xs ++ (y ∷ [])) (take-set-le n order n i (omega arith)) (getD-set-same order n i 0 l))
-    ∙ map-snoc (stepAt k) (take n order) i
-
--- The words before it are as they were.
-steps-before : (k y n i : ℕ) (order : List ℕ) → y ≤ n → stepsIn k y (set order n i) ≡ stepsIn k y order
-unfolding stepsIn
-steps-before k y n i order l = ap (map (stepAt k)) (take-set-le y order n i l)
+use Rattle.places.specs.Order.{stepsIn, markAll, noSteps, stepsLeft, permittedAt, NoneBefore}
+use Rattle.order.specs.Order.{wholeOrder, Picked, Kept, Ended}
+use Rattle.places.proofs.Orders.{mark-snoc, steps-length, steps-before, steps-put}
+use Rattle.places.proofs.Left.{and-step, Open, with-closed, left-next, left-none, none-at-all}
 
 under-next : (m n i : ℕ) (order : List ℕ) → n < length order → i < m → under m n order ≡ true → under m (n + 1) (set order n i) ≡ true
 unfolding under
@@ -89,7 +62,7 @@ module _ (j : Job) (done order : List ℕ) (n : ℕ) (cs : List ℕ) (p : Picked
 
     module _ (li : i < 6 * j .boxes * j .boxes) (h : Open j d x) (done′ : List ℕ) (ed : stepsDone (j .boxes) done′ ≡ and-step d x) (order′ : List ℕ) (eo : order′ ≡ set order n i) where
       steps-are : stepsIn (j .boxes) (n + 1) order′ ≡ xs ++ (x ∷ [])
-      steps-are = rw eo (steps-next (j .boxes) n i order fits)
+      steps-are = rw eo (steps-put (j .boxes) n i order fits)
 
       same-whole : wholeOrder j done′ order′ (n + 1) (drop 1 cs) ≡ wholeOrder j done order n cs
       unfolding wholeOrder

@@ -1,42 +1,17 @@
 -- The order of a run: the steps that it picks, one after the other, told from the steps done alone.
 use mathlib.Core.Path.{_≡_}
-use mathlib.Core.Bool.{Bool, true, false, cond}
-use mathlib.Core.List.{List, [], _∷_, _++_, map}
-use Prim.Native.Nat.{ℕ, zero, suc, _+_, _*_, _≤_, _<_}
-use lib.Dec.{eqb}
-use lib.ListN.{length, getD, take, drop}
+use mathlib.Core.Bool.{true}
+use mathlib.Core.List.{List, [], _++_}
+use Prim.Native.Nat.{ℕ, _+_, _*_, _≤_, _<_}
+use lib.ListN.{length, getD}
 use Rattle.model.specs.Job.{Job}
-use Rattle.model.specs.Steps.{Steps, Step, stepAt, mark, permitted}
+use Rattle.model.specs.Steps.{Step}
 use Rattle.model.specs.Tables.{stepsDone, marksOf}
 use Rattle.model.specs.Ranges.{under}
-use Rattle.model.specs.Words.{stepCount}
-use Rattle.model.specs.Run.{readyCount, pick, listed, run}
+use Rattle.model.specs.Run.{run}
 use Rattle.model.specs.Boxes.{Closed}
+use Rattle.places.specs.Order.{stepsIn, markAll, noSteps, permittedAt, stepsLeft, NoneBefore}
 use Rattle.rules.specs.Rules.{ReceiversOf, WaitsOf}
-
--- The steps of the first n words of an order: each word is the place of a step, of k boxes.
-unfoldable pub stepsIn : ℕ → ℕ → List ℕ → List Step
-stepsIn k n order = map (stepAt k) (take n order)
-
--- The steps of d, and those of a list marked one after the other.
-unfoldable pub markAll : Steps → List Step → Steps
-markAll d [] = d
-markAll d (x ∷ xs) = markAll (mark d (x .kind) (x .first) (x .second)) xs
-
--- No step.
-abbrev pub noSteps : Steps
-noSteps k a b = false
-
--- The steps that a run picks from where the steps of d are done, at most n: what model `picks` says of a state, told from its marks.
-unfoldable pub picksFrom : Job → ℕ → Steps → List ℕ → List Step
-picksFrom j zero d cs = []
-picksFrom j (suc n) d cs =
-    let x = pick j d (getD cs 0 0) in
-    cond (eqb (readyCount j d) 0) [] (x ∷ picksFrom j n (mark d (x .kind) (x .first) (x .second)) (drop 1 cs))
-
--- The steps that are left of it: at most as many as the job has.
-unfoldable pub stepsLeft : Job → Steps → List ℕ → List Step
-stepsLeft j d cs = picksFrom j (stepCount j) d cs
 
 -- A job of k boxes, at most 16, with these words of receivers and waits.
 pub record OfJob (k : ℕ) (receivers : List ℕ) (waits : List (List ℕ)) (j : Job) : Type 0 where
@@ -59,10 +34,6 @@ MarksFrom k done done′ = done′ ≡ marksOf k (stepsDone k done′) done
 unfoldable pub wholeOrder : Job → List ℕ → List ℕ → ℕ → List ℕ → List Step
 wholeOrder j done order n cs = stepsIn (j .boxes) n order ++ stepsLeft j (stepsDone (j .boxes) done) cs
 
--- The step of a place is permitted where the steps of d are done.
-abbrev pub permittedAt : Job → Steps → ℕ → Bool
-permittedAt j d i = permitted j d (stepAt (j .boxes) i .kind) (stepAt (j .boxes) i .first) (stepAt (j .boxes) i .second)
-
 -- The first n words of an order are places of steps, each permitted where those before it are done; these are the ones marked.
 -- There is room for the whole order.
 pub record Picked (j : Job) (done order : List ℕ) (n : ℕ) (cs : List ℕ) : Type 0 where
@@ -83,10 +54,6 @@ pub record Kept (j : Job) (done order : List ℕ) (n : ℕ) (cs done′ order′
 pub record Ended (j : Job) (done order : List ℕ) (n : ℕ) (cs done′ order′ : List ℕ) (n′ : ℕ) : Type 0 where
   pub picked : Picked j done′ order′ n′ []
   pub ends : stepsIn (j .boxes) n′ order′ ≡ wholeOrder j done order n cs
-
--- No step of a place before i is ready.
-unfoldable pub NoneBefore : Job → Steps → ℕ → Type 0
-NoneBefore j d i = (x : ℕ) → x < i → listed j d x ≡ false
 
 -- The place i is passed: no step up to it is ready any more.
 pub record Passed (j : Job) (done order : List ℕ) (n i : ℕ) (done′ order′ : List ℕ) (n′ : ℕ) : Type 0 where

@@ -4,16 +4,29 @@ ghost use mathlib.Core.List.{[]};
 ghost use Prim.Native.Nat.{_+_, _*_, _≤_, _<_};
 ghost use lib.ListN.{length, drop, set};
 ghost use Rattle.laws.specs.Below.{count};
+ghost use Rattle.laws.specs.Tables.{overwrite};
 ghost use Rattle.model.specs.Steps.{kindOf};
 ghost use Rattle.model.specs.Tables.{stepsDone};
 ghost use Rattle.model.specs.Run.{run};
-ghost use Rattle.rules.specs.Marks.{marked};
-ghost use Rattle.walk.specs.Walk.{PlaceIn, here, listedBy, WalkIn};
+ghost use Rattle.places.specs.Marks.{marked};
+ghost use Rattle.places.specs.Places.{PlaceIn, here};
+ghost use Rattle.walk.specs.Walk.{listedBy, WalkIn};
 ghost use Rattle.walk.specs.Rows.{IsRows};
-ghost use Rattle.order.specs.Order.{SomeJob, MarksFrom, Picked, Kept, Ended, NoneBefore, Passed, EveryJob, Ordered};
+ghost use Rattle.places.specs.Order.{NoneBefore};
+ghost use Rattle.order.specs.Order.{SomeJob, MarksFrom, Picked, Kept, Ended, Passed, EveryJob, Ordered};
+
+// The first n words become 0.
+fn zero16(s: &mut [u16], n: usize)
+    requires { ⌜ n ≤ length (now s) ⌝ }
+    ensures { λ _. ⌜ now (s .exit) ≡ overwrite n (λ i. 0) (now (s .entry)) ⌝ }
+{
+    for i in 0..n {
+        s[i] = 0;
+    }
+}
 
 // The step of a place is word n of the order, and it is marked as done.
-fn put_step(k: u16, p: walk::Place, n: usize, done: &mut [u16], order: &mut [u16; 1536])
+fn put_step(k: u16, p: places::Place, n: usize, done: &mut [u16], order: &mut [u16; 1536])
     requires { ⌜ PlaceIn k (p .kind) (p .first) (p .second) × MarksFrom k (now done) (now done) × (n < 1536) ⌝ }
     ensures { λ _. ⌜ (now (done .exit) ≡ marked k (kindOf (p .kind)) (p .first) (p .second) (now (done .entry))) ×
         (now (order .exit) ≡ set (now (order .entry)) n (here k (p .kind) (p .first) (p .second))) × MarksFrom k (now (done .entry)) (now (done .exit)) ⌝ }
@@ -90,7 +103,7 @@ fn chosen(
 // The step of a place is word n of the order where it is ready. How many words the order has then.
 fn turn(
     k: u16,
-    p: walk::Place,
+    p: places::Place,
     receivers: &[u16; 16],
     waits: &[[u16; 16]; 16],
     n: usize,
@@ -128,9 +141,9 @@ fn rest(
     ensures { λ r. ⌜ EveryJob k (now (receivers .entry)) (now (waits .entry)) (λ j. Ended j (now (done .entry)) (now (order .entry)) n [] (now (done .exit))
         (now (order .exit)) r) ⌝ }
 {
-    let places = bits::marks(k);
+    let places = slices::bits::marks(k);
     let mut words = n;
-    let mut p = walk::Place {
+    let mut p = places::Place {
         kind: 1,
         first: 0,
         second: 0,
@@ -138,7 +151,7 @@ fn rest(
     for i in 0..places {
         let more = turn(k, p, receivers, waits, words, done, order);
         words = more;
-        let q = walk::next(k, p);
+        let q = places::next(k, p);
         p = q;
     }
     words
@@ -159,7 +172,7 @@ pub fn put_order(
     ensures { λ r. ⌜ EveryJob k (now (receivers .entry)) (now (waits .entry)) (λ j. Ordered j (now (choices .entry)) (now (done .exit))
         (now (order .exit)) r) ⌝ }
 {
-    fresh::zero16(done, bits::marks(k));
+    zero16(done, slices::bits::marks(k));
     let n = chosen(k, receivers, waits, choices, done, order);
     rest(k, receivers, waits, n, done, order)
 }

@@ -12,11 +12,11 @@ use Rattle.laws.proofs.Tables.{recell-cong, word-in, recell-cell, overwrite-sam
 use Rattle.model.specs.Job.{Job, needWord, priceWord}
 use Rattle.model.specs.Steps.{Kind, State, effect, received, sendPrices, multiplyOwn, receivePrices, sendTotals, addOwn, receiveTotals}
 use Rattle.model.specs.Tables.{JobTables, jobOf, StateTables, stateTables, stateLengths, view, store, stepsDone}
-use Rattle.words.specs.Message.{wordIn}
+use Rattle.places.specs.Message.{wordIn}
 use Rattle.prices.specs.Prices.{sentTransit, receivedKnown, receivedTransit}
-use Rattle.rules.specs.Marks.{marked}
+use Rattle.places.specs.Marks.{marked}
 use Rattle.model.proofs.Lent.{StateLong}
-use Rattle.words.proofs.Message.{price-word}
+use Rattle.places.proofs.Message.{price-word}
 
 -- Tables are equal where each of them is.
 pub tables-eq : (t u : StateTables) → t .known ≡ u .known → t .priceTransit ≡ u .priceTransit → t .working ≡ u .working → t .totalTransit ≡ u .totalTransit

@@ -5,7 +5,7 @@ use Prim.Native.Nat.{ℕ, _+_, _*_, _≤_, _<_}
 use lib.ListN.{length}
 use lib.Dec.{eqb}
 use Rattle.laws.specs.Tables.{cell, recell}
-use Rattle.words.specs.Message.{wordIn}
+use Rattle.places.specs.Message.{wordIn}
 
 -- What the calls on price tables require: n offers and boxes a and b in range, row a of the prices known, and row c of those in transit.
 pub record PriceRows (n a b c : ℕ) (owner known transit : List ℕ) : Type 0 where

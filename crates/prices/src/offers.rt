@@ -1,17 +1,9 @@
-// The offers of one box: its row in a price table, the walk over them by their links, and which stand in a message.
+// The offers of one box: the walk over them by their links, and which stand in a message.
 ghost use mathlib.Core.Path.{_≡_};
-ghost use Prim.Native.Nat.{_+_, _*_, _≤_, _<_};
+ghost use Prim.Native.Nat.{_+_, _<_};
 ghost use lib.ListN.{length, getD};
-ghost use Rattle.words.specs.Message.{wordIn};
+ghost use Rattle.places.specs.Message.{wordIn};
 use links::HEADS;
-
-// Where the row of box a begins in a table of n columns.
-pub fn row(n: usize, a: u16) -> usize
-    requires { ⌜ (n ≤ 500) × (a < 16) ⌝ }
-    ensures { λ r. ⌜ r ≡ a * n ⌝ }
-{
-    a as usize * n
-}
 
 // The first offer of box a, by the links.
 pub fn first(a: u16, links: &[u16; 517]) -> usize
@@ -34,5 +26,5 @@ pub fn due(owner: &[u16], needs: &[u16; 500], a: u16, b: u16, o: usize) -> bool
     requires { ⌜ (b < 16) × (o < 500) × (o < length (now owner)) ⌝ }
     ensures { λ r. ⌜ r ≡ wordIn (now (owner .entry)) (now (needs .entry)) a b o ⌝ }
 {
-    words::in_message(slices::u16_at(owner, o), needs[o], a, b)
+    places::words::in_message(slices::u16_at(owner, o), needs[o], a, b)
 }

@@ -3,13 +3,13 @@ ghost use mathlib.Core.Path.{_≡_};
 ghost use mathlib.Core.Bool.{cond};
 ghost use Prim.Native.Nat.{ℕ, _+_, _<_};
 ghost use lib.ListN.{length, getD, set};
-ghost use Rattle.words.specs.Message.{wordIn};
+ghost use Rattle.places.specs.Message.{wordIn};
 ghost use Rattle.links.specs.Links.{Linked};
 ghost use Rattle.prices.specs.Prices.{PriceRows, PricesIn, receivedKnown, receivedTransit};
 use crate::offers::after;
 use crate::offers::due;
 use crate::offers::first;
-use crate::offers::row;
+use slices::amounts::row_start;
 
 // Takes the price of offer o out of transit, in the row of box a, if a is to have it from box b.
 fn receive_one(
@@ -53,7 +53,7 @@ pub fn receive_prices(
         (now (known .exit) ≡ receivedKnown k n a b (now (owner .entry)) (now (needs .entry)) (now (known .entry)) (now (transit .entry)))
         × (now (transit .exit) ≡ receivedTransit k n a b (now (owner .entry)) (now (needs .entry)) (now (known .entry)) (now (transit .entry)))) ⌝ }
 {
-    let row = row(n, a);
+    let row = row_start(n, a);
     let mut o = first(b, links);
     while o < n {
         receive_one(known, transit, owner, needs, row, a, b, o);

@@ -4,13 +4,13 @@ ghost use mathlib.Core.Bool.{cond};
 ghost use Prim.Native.Nat.{ℕ, _+_, _<_};
 ghost use lib.ListN.{length, getD, set};
 ghost use Rattle.laws.specs.Below.{naturals, only, count};
-ghost use Rattle.words.specs.Message.{wordIn};
+ghost use Rattle.places.specs.Message.{wordIn};
 ghost use Rattle.links.specs.Links.{Linked};
 ghost use Rattle.prices.specs.Prices.{PriceRows, PricesIn, sentTransit};
 use crate::offers::after;
 use crate::offers::due;
 use crate::offers::first;
-use crate::offers::row;
+use slices::amounts::row_start;
 
 // Sends the price of offer o, from row `from` to row `to`, if box b is to have it from box a: 1 where it is, else 0.
 fn send_one(
@@ -53,8 +53,8 @@ pub fn send_prices(
         now (transit .exit) ≡ sentTransit k n a b (now (owner .entry)) (now (needs .entry)) (now (known .entry)) (now (transit .entry)))
         × (r ≡ count n (wordIn (now (owner .entry)) (now (needs .entry)) a b)) ⌝ }
 {
-    let from = row(n, a);
-    let to = row(n, b);
+    let from = row_start(n, a);
+    let to = row_start(n, b);
     let mut sent: u32 = 0;
     let mut o = first(a, links);
     while o < n {

@@ -1,2 +1,5 @@
--- Laws of what is printed.
+-- Laws of what is printed, and of an accepted file.
 pub mod Digits
+pub mod Accepted
+pub mod Blank
+pub mod Rounding

@@ -1,2 +1,4 @@
--- What `settle` prints.
+-- What `settle` prints, whole cents, and what an accepted file gives.
 pub mod Printed
+pub mod Accepted
+pub mod Cents

@@ -8,7 +8,7 @@ use lib.ListN.{getD, replicate}
 use Rattle.model.specs.Tables.{JobTables, bagTables, StateTables, stateTables}
 use Rattle.model.specs.Run.{RunAnswer, finished, refused, ran}
 use Rattle.format.specs.File.{decode}
-use Rattle.cents.specs.Cents.{cents}
+use Rattle.printing.specs.Cents.{cents}
 use Rattle.format.specs.Tables.{ReadAnswer, sizes, refused as notRead, ReaderTables, offerTables, tallyTables, fileTables, readerTables, readResult}
 
 -- The job's tables after the reader has read a file into the tables l: K, M, N and T as it answers them, the words it stored,

@@ -1,1 +1,2 @@
-// What `settle` prints for a job file: definitions; this crate has no code.
+// What `settle` prints for a job file, and what an accepted file gives: definitions and laws; of code whole cents alone.
+pub mod cents;

@@ -1,8 +1,10 @@
-// Bytes put into a buffer: single bytes, words with the low byte first, and zeros.
+// Bytes put into a buffer: single bytes, words with the low byte first, and zeros; and the 32 bits of a count.
 ghost use mathlib.Core.Path.{_≡_};
 ghost use mathlib.Core.List.{_∷_, _++_};
 ghost use Prim.Native.Nat.{_+_, _≤_, _<_};
 ghost use lib.ListN.{length, set};
+ghost use mir.Syntax.{w32};
+ghost use mir.Val.{ofZ};
 ghost use Rattle.format.specs.Bytes.{bytes16, bytes32};
 ghost use Rattle.puts.specs.Puts.{put, bytesOf};
 
@@ -71,5 +73,17 @@ pub fn put_zeros(out: &mut [u8], at: usize, n: usize)
     while i < n {
         out[at + i] = 0;
         i += 1;
+    }
+}
+
+// The 32 bits of a count.
+pub fn bits(z: i32) -> u32
+    ensures { λ r. ⌜ r ≡ ofZ w32 z ⌝ }
+{
+    if z < 0 {
+        let m = (-1 - z) as u32;
+        4294967295 - m
+    } else {
+        z as u32
     }
 }

@@ -1,4 +1,2 @@
 -- The laws of the reader.
-pub mod Last
-pub mod Shapes
 pub mod Results

@@ -1,23 +1,31 @@
 -- What the reader gives: a refusal, or the sizes with every table filled. Assumes nothing.
 use mathlib.Core.Path.{_≡_, sym, ap, _∙_, subst}
-use mathlib.Core.Bool.{true, false}
-use mathlib.Core.List.{List}
+use mathlib.Core.Bool.{Bool, true, false}
+use mathlib.Core.List.{List, [], _∷_}
 use Prim.Native.Nat.{ℕ, _≤_}
 use native.Mathlib.Omega.{arith}
 use lib.Dec.{ltb}
-use lib.ListN.{length, getD}
+use lib.ListN.{length}
 use borrow.Author.Tests.{ltb-false}
+use Rattle.laws.specs.Checks.{firstMet}
 use Rattle.laws.specs.Tables.{overwrite}
-use Rattle.laws.proofs.Tables.{overwrite-cong}
 use Rattle.laws.proofs.Bools.{or-off}
+use Rattle.laws.proofs.Checks.{one-met, one-off}
+use Rattle.format.specs.First.{firstOf}
 use Rattle.format.specs.Job.{Head, placeOf}
-use Rattle.format.specs.Bytes.{from, after, word16}
-use Rattle.format.specs.Blocks.{offersAt}
-use Rattle.format.specs.File.{readOffer, recordAt, decode}
+use Rattle.format.specs.File.{decode}
 use Rattle.format.specs.Tables.{ReaderTables, storeCodes, storeOffers, storeTallies, store, storeRead, ReadAnswer, sizes, refused, largest, shortTables, shortReader, Long, readRefusal, readResult}
 use Rattle.blocks.specs.Due.{Most}
-use Rattle.fills.specs.Fills.{Placed}
+use Rattle.format.proofs.Firsts.{hit, next, alone}
 use Rattle.format.proofs.Tables.{read-accepted, read-refused, long-tables}
+
+-- 20 comes first.
+pub short-refused : (short : Bool) (n : ℕ) → short ≡ true → 20 ≡ firstOf (firstMet ((short, 20) ∷ []) ∷ n ∷ [])
+short-refused short n h = sym (rw (one-met short 20 h) (hit 20 _ (omega arith)))
+
+-- Then the file decides.
+pub file-decides : (short : Bool) (r n : ℕ) → short ≡ false → r ≡ n → r ≡ firstOf (firstMet ((short, 20) ∷ []) ∷ n ∷ [])
+file-decides short r n h e = e ∙ sym (rw (one-off short 20 h, next) (alone n))
 
 -- The tables where each is filled from the file, for the numbers that its header says.
 pub record Filled (f : List ℕ) (h : Head) (l l′ : ReaderTables) : Type 0 where
@@ -55,17 +63,6 @@ filled-stored f l l′ w =
       };
       tallyOffer = w .tallyOffer i;
     }
-
--- The words at bytes 16 and 17 of the offers are their issuers.
-pub offer-issuers : (f old : List ℕ) {new : List ℕ} (n : ℕ) → new ≡ overwrite n (λ i. word16 (after (from f (recordAt offersAt i)) 16)) old →
-    new ≡ overwrite n (λ i. decode f .offer i .issuer) old
-unfolding decode readOffer
-offer-issuers f old n w = w
-
--- The places that were kept are the places that are stored.
-pub places-stored : (f places old : List ℕ) {new : List ℕ} (h : Head) → h ≡ decode f .head → Placed (decode f) places (decode f .head .tallies) → new ≡ overwrite (h .tallies) (λ i. getD places i 0) old →
-    new ≡ overwrite (h .tallies) (placeOf (decode f)) old
-places-stored f places old h e p w = w ∙ overwrite-cong (h .tallies) _ _ old (λ i l. p .at i (rw e at l))
 
 module _ (f : List ℕ) (l : ReaderTables) where
   -- A refusal.

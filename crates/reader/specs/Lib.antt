@@ -1,3 +1,2 @@
 -- Definitions of the reader.
-pub mod Sound
 pub mod Answer

@@ -12,24 +12,22 @@ ghost use Rattle.format.specs.Tables.{sizes, readResult};
 ghost use Rattle.format.specs.Lent.{readerBefore, readerAfter};
 ghost use Rattle.blocks.specs.Due.{asHead, Most};
 ghost use Rattle.reader.specs.Answer.{answerOf, outcome};
-ghost use Rattle.reader.specs.Sound.{Kept};
-use crate::twice::job_refusal;
+ghost use Rattle.blocks.specs.Sound.{Kept};
+use blocks::file::file_refusal;
+use blocks::fill::fill_bytes;
+use blocks::fill::fill_counts;
+use blocks::fill::fill_owners;
+use blocks::fill::fill_prices;
+use blocks::fill::fill_words;
+use blocks::fill::narrow;
 use blocks::plan::Head;
 use blocks::plan::MAX_GROCERS;
 use blocks::plan::MAX_OFFERS;
 use blocks::plan::MAX_TALLIES;
 use blocks::plan::read_head;
-use blocks::refusals::shape_refusal;
-use fills::fill::fill_bags;
-use fills::fill::fill_offers;
-use fills::fill::fill_owners;
-use fills::fill::fill_tallies;
-use fills::fill::fill_tally_ends;
-use fills::fill::fill_words;
-use fills::fill::narrow;
-
-mod look;
-mod twice;
+use blocks::plan::tallies_at;
+use codes::fill_codes;
+use index::sort::copy;
 
 // What the reader answers: the numbers of the job that it read, or why it refused the file.
 pub enum Answer {
@@ -94,11 +92,7 @@ fn refusal(f: &[u8], short: bool, places: &mut [u16]) -> u16
     if short {
         return 20;
     }
-    let r = shape_refusal(f);
-    if r != 0 {
-        return r;
-    }
-    job_refusal(f, read_head(f), places)
+    file_refusal(f, places)
 }
 
 // The answer that says a job's numbers.
@@ -162,11 +156,21 @@ pub fn read(
         return Answer::Refused(r);
     }
     let head = read_head(file);
-    fill_offers(file, head, price, offer_owner, offer_code);
-    fill_words(file, 1, head.offers, 16, offer_issuer);
+    let n = head.offers;
+    fill_prices(file, n, price);
+    fill_bytes(file, 1, n, 4, offer_owner);
+    fill_codes(file, 1, n, 5, offer_code);
+    fill_words(file, 1, n, 16, offer_issuer);
     fill_owners(file, head, grocer_owner);
-    fill_tallies(file, head, tally_grocer, tally_box, tally_code);
-    fill_tally_ends(file, head, &places, tally_count, tally_issuer, tally_offer);
-    fill_bags(file, head, tally_bag, tally_revision);
+    let first = tallies_at(head);
+    let t = head.tallies;
+    fill_words(file, first, t, 0, tally_grocer);
+    fill_bytes(file, first, t, 2, tally_box);
+    fill_codes(file, first, t, 3, tally_code);
+    fill_counts(file, first, t, tally_count);
+    fill_words(file, first, t, 18, tally_issuer);
+    fill_words(file, first, t, 20, tally_bag);
+    fill_words(file, first, t, 22, tally_revision);
+    copy(&places, tally_offer, t);
     job_of(head)
 }

@@ -22,7 +22,7 @@ use Rattle.laws.proofs.Sums.{sum-cong}
 use Rattle.laws.proofs.Signed.{sum-abs, only-abs}
 use Rattle.recount.specs.Recount.{Counted, stands, countedTwice}
 use Rattle.recount.specs.Keys.{bagKey, countKey}
-use Rattle.bags.specs.Bags.{KeysOf}
+use Rattle.index.specs.Bags.{KeysOf}
 use Rattle.model.specs.Ranges.{upTo}
 use Rattle.model.specs.Reconcile.{TallyRecord, recordInRange, recordsInRange, recordIn, countedRecords, standingRecords, serialAmount, DeskAnswer, owed, refused, deskRefusals, deskAnswer, reconciled}
 use Rattle.model.proofs.Step.{up-at}

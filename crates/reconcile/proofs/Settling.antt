@@ -11,7 +11,7 @@ use Rattle.laws.specs.Below.{sum, only, integers}
 use Rattle.laws.proofs.Loops.{getD-zeros}
 use Rattle.laws.proofs.Sums.{sum-cong}
 use Rattle.recount.specs.Recount.{Counted, stands, countedTwice}
-use Rattle.bags.specs.Bags.{Struck}
+use Rattle.index.specs.Bags.{Struck}
 use Rattle.records.specs.Rows.{unmarked}
 use Rattle.reconcile.specs.declared.Answer.the-variants.{Owed, Refused}
 use Rattle.reconcile.specs.Serial.{settled}

@@ -6,8 +6,8 @@ ghost use lib.ListN.{length, replicate};
 ghost use Rattle.laws.specs.Checks.{firstMet};
 ghost use Rattle.model.specs.Tables.{bagTables, stateTables, stepsDone};
 ghost use Rattle.model.specs.Step.{asked};
-ghost use Rattle.tables.specs.Masks.{Owned};
-ghost use Rattle.waits.specs.Waits.{receiverTable, tallyLists, WaitsIn, waitTable};
+ghost use Rattle.tables.specs.Masks.{Owned, byOwner};
+ghost use Rattle.waits.specs.Waits.{tallyLists, WaitsIn, waitTable};
 ghost use Rattle.fits.specs.Request.{rulesBy};
 ghost use Rattle.refuse.specs.Late.{Early, Decided};
 use admit::checks::bags_short;
@@ -15,13 +15,13 @@ use admit::checks::job_in_range;
 use admit::checks::job_short;
 use apply::Sizes;
 use apply::Step;
-use bags::standing_boxes;
+use columns::standing_boxes;
 use fits::finish::price_fits;
 use fits::finish::total_fits;
 use fits::request::request_refusal;
 use fits::state::state_in_range;
 use fits::state::state_short;
-use waits::receivers;
+use tables::masks::by_owner;
 use waits::waits;
 
 // The first of the conditions 20, 21 and 9 that is met, or 0. Where none is, `standing` has the box of each tally that stands, and 16 for the others.
@@ -125,10 +125,10 @@ pub fn early_refusal(
 fn prices_asked(z: Sizes, offer_owner: &[u16], needs: &[u16; 500], done: &[u16], x: Step) -> u16
     requires { ⌜ Owned (z .offers) (now «offer_owner») (now needs) ⌝ }
     requires { ⌜ (z .boxes ≤ 16) × (6 * z .boxes * z .boxes ≤ length (now done)) ⌝ }
-    ensures { λ r. ⌜ r ≡ firstMet (rulesBy (z .boxes) (receiverTable (z .offers) (now («offer_owner» .entry)) (now (needs .entry)))
+    ensures { λ r. ⌜ r ≡ firstMet (rulesBy (z .boxes) (byOwner (z .offers) (now («offer_owner» .entry)) (now (needs .entry)))
         (replicate 16 (replicate 16 0)) (stepsDone (z .boxes) (now (done .entry))) (asked (x .kind) (x .first) (x .second))) ⌝ }
 {
-    let to = receivers(z.offers, offer_owner, needs);
+    let to = by_owner(z.offers, offer_owner, needs);
     let row = [0u16; 16];
     let none = [row; 16];
     request_refusal(z.boxes, x.kind, x.first, x.second, &to, &none, done)

@@ -12,7 +12,7 @@ use Rattle.laws.proofs.Bools.{split, no-true, and-l, and-r, and-false, or-off, 
 use Rattle.laws.proofs.Below.{all-cong, count-le, count-at}
 use Rattle.model.specs.Steps.{Kind, sendPrices, multiplyOwn, receivePrices, sendTotals, addOwn, receiveTotals, Steps, kindNumber, kindOf, mark}
 use Rattle.model.specs.Tables.{stepsDone}
-use Rattle.rules.specs.Marks.{MarksIn}
+use Rattle.places.specs.Marks.{MarksIn}
 use Rattle.rules.specs.Rules.{fitsBy, readyBy, permittedBy, hasGot, allGot}
 use Rattle.walk.specs.Walk.{listedBy}
 use Rattle.walk.specs.Rows.{rowOf, IsRows, RowsBefore, Renewed, HasRow, PlaceOf}

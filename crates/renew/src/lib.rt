@@ -3,7 +3,7 @@ ghost use mathlib.Core.Path.{_≡_};
 ghost use mathlib.Core.Bool.{Bool, true, false, _&&_, _||_, not};
 ghost use Prim.Native.Nat.{ℕ};
 ghost use lib.Dec.{eqb};
-ghost use Rattle.rules.specs.Marks.{MarksIn};
+ghost use Rattle.places.specs.Marks.{MarksIn};
 ghost use Rattle.walk.specs.Walk.{listedBy};
 ghost use Rattle.walk.specs.Rows.{rowOf, HasRow, IsRows, Renewed, PlaceOf, RowsBefore};
 use rows::put_row;
@@ -17,7 +17,7 @@ fn one_less(k: u16, kind: u16, a: u16, b: u16, rows: &mut [u16; 192])
         Renewed k (λ i. f i && not (eqb b i)) (rowOf k kind a) (now (rows .entry)) (now (rows .exit))) ⌝ }
 {
     let r = row_at(k, kind, a);
-    let word = bits::clear_bit(rows[r], b);
+    let word = slices::bits::clear_bit(rows[r], b);
     let number = rows[96 + r] - 1;
     put_row(r, word, number, rows);
 }

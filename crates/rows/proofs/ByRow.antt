@@ -21,9 +21,10 @@ use Rattle.laws.proofs.Masks.{mask-cong, mask-none, mask-below, bit-mask, mask-
 use Rattle.model.specs.Steps.{kindOf, Steps, sendTotals, addOwn}
 use Rattle.model.specs.Tables.{stepsDone}
 use Rattle.rules.specs.Rules.{permittedBy, wordAt, totalsDueBy, fitsBy, hasGot, allGot, readyBy}
-use Rattle.walk.specs.Walk.{PlaceIn, here, listedBy, WalkIn, Found}
+use Rattle.places.specs.Places.{PlaceIn, here, Found}
+use Rattle.walk.specs.Walk.{listedBy, WalkIn}
 use Rattle.walk.specs.Rows.{rowOf, HasRow, RowIn, IsRows, rowsTotal, FewRows, Renewed}
-use Rattle.walk.proofs.Places.{listed-at}
+use Rattle.walk.proofs.InModel.{listed-at}
 use Rattle.walk.proofs.Rows.{rows-more, has-cong}
 
 -- Numbers below m, and n more.

@@ -9,13 +9,14 @@ ghost use Rattle.laws.specs.Masks.{bit, maskOf};
 ghost use Rattle.model.specs.Steps.{kindOf, sendTotals, addOwn};
 ghost use Rattle.model.specs.Tables.{stepsDone};
 ghost use Rattle.rules.specs.Rules.{hasGot, permittedBy, BoxIn};
-ghost use Rattle.walk.specs.Walk.{listedBy, WalkIn, Found};
+ghost use Rattle.places.specs.Places.{Found};
+ghost use Rattle.walk.specs.Walk.{listedBy, WalkIn};
 ghost use Rattle.walk.specs.Rows.{rowOf, RowIn, IsRows, rowsTotal, FewRows, Renewed};
+use places::Place;
 use rules::marks::is_done;
 use rules::ready::covers;
 use rules::ready::with_bit;
 use rules::ready::word_at;
-use walk::Place;
 use walk::one;
 
 // The row of a kind and a first box.
@@ -173,7 +174,7 @@ fn bit_at(k: u16, c: u16, word: u16) -> u16
 {
     let mut left = c;
     for b in 0..k {
-        let set = words::has_bit(word, b);
+        let set = places::words::has_bit(word, b);
         if set & (left == 0) {
             return b;
         }

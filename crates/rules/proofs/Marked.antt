@@ -19,7 +19,7 @@ use Rattle.laws.proofs.Tables.{cell-in, is-recell}
 use Rattle.model.specs.Steps.{Kind, kindNumber, kindOf, mark, stepPlace, stepAt}
 use Rattle.model.specs.Ranges.{upTo}
 use Rattle.model.specs.Tables.{stepsDone, marksOf}
-use Rattle.rules.specs.Marks.{marked}
+use Rattle.places.specs.Marks.{marked}
 use Rattle.model.proofs.Step.{marks-bits}
 use Rattle.model.proofs.Tables.{kind-place, kind-six, place-in}
 use Rattle.model.proofs.Machine.{number-place}

@@ -1,3 +1,2 @@
--- The marks of steps done, and conditions 22 to 26 told from them.
-pub mod Marks
+-- Conditions 22 to 26, told from words of one bit for each box and the steps done.
 pub mod Rules

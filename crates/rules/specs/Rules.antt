@@ -8,6 +8,7 @@ use lib.Dec.{eqb}
 use Rattle.laws.specs.Below.{all}
 use Rattle.laws.specs.Masks.{bit}
 use Rattle.model.specs.Job.{Job, pricesDue, totalsDue}
+use Rattle.places.specs.Message.{reaches}
 use Rattle.model.specs.Steps.{sendPrices, multiplyOwn, receivePrices, sendTotals, addOwn, receiveTotals, Steps, allAdded}
 
 -- What is told of a job beforehand, in words of one bit for each box: `receivers` has for each box those that it is to send prices to, and
@@ -17,19 +18,15 @@ use Rattle.model.specs.Steps.{sendPrices, multiplyOwn, receivePrices, sendTotal
 abbrev pub wordAt : List (List ℕ) → ℕ → ℕ → ℕ
 wordAt waits a b = getD (getD waits a []) b 0
 
--- Prices go from box a to box b, another box.
-unfoldable pub pricesDueBy : List ℕ → ℕ → ℕ → Bool
-pricesDueBy receivers a b = not (eqb a b) && bit b (getD receivers a 0)
-
 -- Totals go from box a to box b, another box: a has a tally of b's grocers, and so waits for its price.
 unfoldable pub totalsDueBy : List (List ℕ) → ℕ → ℕ → Bool
 totalsDueBy waits a b = not (eqb a b) && not (eqb (wordAt waits a b) 0)
 
 -- Message steps exist only for nonempty lists; steps 2 and 5 exist for every box.
 unfoldable pub fitsBy : List ℕ → List (List ℕ) → Steps
-fitsBy receivers waits sendPrices a b = pricesDueBy receivers a b
+fitsBy receivers waits sendPrices a b = reaches receivers a b
 fitsBy receivers waits multiplyOwn a b = eqb a b
-fitsBy receivers waits receivePrices a b = pricesDueBy receivers b a
+fitsBy receivers waits receivePrices a b = reaches receivers b a
 fitsBy receivers waits sendTotals a b = totalsDueBy waits a b
 fitsBy receivers waits addOwn a b = eqb a b
 fitsBy receivers waits receiveTotals a b = totalsDueBy waits b a
@@ -57,7 +54,7 @@ permittedBy receivers waits d q a b = fitsBy receivers waits q a b && (not (d q 
 
 -- The words of receivers are those of job j.
 pub record ReceiversOf (j : Job) (receivers : List ℕ) : Type 0 where
-  pub due-is : (a b : ℕ) → a < j .boxes → b < j .boxes → pricesDueBy receivers a b ≡ pricesDue j a b
+  pub due-is : (a b : ℕ) → a < j .boxes → b < j .boxes → reaches receivers a b ≡ pricesDue j a b
 
 -- The words of waits are those of job j: they tell its messages of totals, and when a box has added all its tallies of a box's grocers.
 pub record WaitsOf (j : Job) (waits : List (List ℕ)) : Type 0 where

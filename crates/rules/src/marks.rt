@@ -6,7 +6,7 @@ ghost use lib.ListN.{set};
 ghost use Rattle.model.specs.Steps.{kindOf, stepPlace};
 ghost use Rattle.model.specs.Ranges.{upTo};
 ghost use Rattle.model.specs.Tables.{stepsDone};
-ghost use Rattle.rules.specs.Marks.{MarksIn, marked};
+ghost use Rattle.places.specs.Marks.{MarksIn, marked};
 
 // The place of a step among the marks of k boxes.
 pub fn place(k: u16, kind: u16, a: u16, b: u16) -> usize

@@ -10,9 +10,9 @@ ghost use Rattle.laws.specs.Masks.{bit, maskOf};
 ghost use Rattle.model.specs.Steps.{kindOf, oneBox};
 ghost use Rattle.model.specs.Step.{asked, isKind};
 ghost use Rattle.model.specs.Tables.{stepsDone};
-ghost use Rattle.rules.specs.Marks.{MarksIn};
+ghost use Rattle.places.specs.Marks.{MarksIn};
 use crate::marks::is_done;
-ghost use Rattle.rules.specs.Rules.{wordAt, pricesDueBy, totalsDueBy, fitsBy, hasGot, allGot, readyBy, permittedBy, BoxIn};
+ghost use Rattle.rules.specs.Rules.{wordAt, totalsDueBy, fitsBy, hasGot, allGot, readyBy, permittedBy, BoxIn};
 
 // The word of boxes a and b.
 pub fn word_at(waits: &[[u16; 16]; 16], a: u16, b: u16) -> u16
@@ -22,15 +22,6 @@ pub fn word_at(waits: &[[u16; 16]; 16], a: u16, b: u16) -> u16
     let i = a as usize;
     let j = b as usize;
     waits[i][j]
-}
-
-// Whether prices go from box a to box b.
-fn prices_due(receivers: &[u16; 16], a: u16, b: u16) -> bool
-    requires { ⌜ (a < 16) × (b < 16) ⌝ }
-    ensures { λ r. ⌜ r ≡ pricesDueBy (now (receivers .entry)) a b ⌝ }
-{
-    let i = a as usize;
-    (a != b) & words::has_bit(receivers[i], b)
 }
 
 // Whether totals go from box a to box b.
@@ -47,10 +38,10 @@ pub fn fits(kind: u16, a: u16, b: u16, receivers: &[u16; 16], waits: &[[u16; 16]
     ensures { λ r. ⌜ r ≡ fitsBy (now (receivers .entry)) (now (waits .entry)) (kindOf kind) a b ⌝ }
 {
     if kind == 1 {
-        return prices_due(receivers, a, b);
+        return places::words::reaches(receivers, a, b);
     }
     if kind == 3 {
-        return prices_due(receivers, b, a);
+        return places::words::reaches(receivers, b, a);
     }
     if kind == 4 {
         return totals_due(waits, a, b);

@@ -22,14 +22,15 @@ use Rattle.model.specs.Ranges.{Settles}
 use Rattle.model.specs.Local.{jobRefusals}
 use Rattle.model.specs.Handed.{handedTables, Standing}
 use Rattle.model.proofs.Handed.{handed-whole, handed-in, handed-run}
-use Rattle.admit.proofs.Standing.{accepted}
+use Rattle.admit.proofs.Refusals.{accepted}
 use Rattle.model.specs.Words.{over, messagesOf, messageCount, stepCount}
 use Rattle.model.specs.Run.{readyCount, pick, picks, run, runState, afterSteps, RunAnswer, finished, refused, reported, runRefusals, ran}
-use Rattle.tables.specs.Masks.{holderWord, Placed, Owned}
-use Rattle.waits.specs.Waits.{TallyLists, receiverTable, tallyLists, waitTable, WaitsIn}
+use Rattle.tables.specs.Masks.{holderWord, Placed, Owned, byOwner}
+use Rattle.waits.specs.Waits.{TallyLists, tallyLists, waitTable, WaitsIn}
 use Rattle.admit.specs.Sizes.{sizes}
 use Rattle.walk.specs.Walk.{WalkIn}
-use Rattle.order.specs.Order.{OfJob, SomeJob, EveryJob, MarksFrom, Ordered, markAll, noSteps}
+use Rattle.places.specs.Order.{markAll, noSteps}
+use Rattle.order.specs.Order.{OfJob, SomeJob, EveryJob, MarksFrom, Ordered}
 use Rattle.run.specs.declared.Answer.the-variants.{Finished, Refused}
 use Rattle.steps.specs.All.{withoutMarks, AllIn, AllOut, afterOrder}
 use Rattle.run.specs.Run.{Begins, answerOf, given, OrderIn}
@@ -41,7 +42,7 @@ use Rattle.tables.proofs.Holders.{need-words, sharer-words}
 use Rattle.tables.proofs.InJob.{placed-offers, placed-grocers, owned-offers}
 use Rattle.waits.proofs.Told.{receivers-of, waits-of, waits-in}
 use Rattle.prices.proofs.Effect.{tables-eq}
-use Rattle.order.proofs.Pick.{steps-length}
+use Rattle.places.proofs.Orders.{steps-length}
 use Rattle.steps.proofs.Way.{some-box}
 use Rattle.steps.proofs.Turns.{after-marks}
 
@@ -114,7 +115,7 @@ module _ (f : JobTables) (t : StateTables) (g : Begins f t) where
     pub sharers-of : sharers ≡ tabulate 255 (sharerWord (jobOf f))
     sharers-of = es ∙ sharer-words f (g .job-in .bare)
 
-    pub of-job : OfJob (f .boxes) (receiverTable (f .offers) (f .offerOwner) needs) (waitTable (f .boxes) lists (f .tallies)) (jobOf f)
+    pub of-job : OfJob (f .boxes) (byOwner (f .offers) (f .offerOwner) needs) (waitTable (f .boxes) lists (f .tallies)) (jobOf f)
     unfolding jobOf
     of-job = record {
       boxes-are = refl;

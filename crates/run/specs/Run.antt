@@ -3,8 +3,8 @@ use mathlib.Core.Path.{_≡_}
 use mathlib.Core.Bool.{false}
 use mathlib.Core.List.{List}
 use Prim.Native.Nat.{ℕ}
-use Rattle.tables.specs.Masks.{Owned}
-use Rattle.waits.specs.Waits.{TallyLists, receiverTable, waitTable, WaitsIn}
+use Rattle.tables.specs.Masks.{Owned, byOwner}
+use Rattle.waits.specs.Waits.{TallyLists, waitTable, WaitsIn}
 use Rattle.walk.specs.Walk.{WalkIn}
 use Rattle.order.specs.Order.{SomeJob}
 use Rattle.model.specs.Tables.{JobTables, StateTables, StateLengths, jobLengths, stateLengths, jobShort, stateShort}
@@ -38,4 +38,4 @@ pub record OrderIn (boxes offers tallies : ℕ) (lists : TallyLists) (needs done
   pub needs-in : Owned offers (lists .offerOwner) needs
   pub lists-in : WaitsIn boxes tallies lists
   pub done-in : WalkIn boxes done
-  pub some-job : SomeJob boxes (receiverTable offers (lists .offerOwner) needs) (waitTable boxes lists tallies)
+  pub some-job : SomeJob boxes (byOwner offers (lists .offerOwner) needs) (waitTable boxes lists tallies)

@@ -5,7 +5,8 @@ ghost use Rattle.model.specs.Lent.{bagLent, stateBefore, stateAfter};
 ghost use Rattle.model.specs.Run.{ran};
 ghost use Rattle.model.specs.Tables.{stateShort};
 ghost use Rattle.admit.specs.Sizes.{sizes};
-ghost use Rattle.waits.specs.Waits.{receiverTable, tallyLists, waitTable};
+ghost use Rattle.tables.specs.Masks.{byOwner};
+ghost use Rattle.waits.specs.Waits.{tallyLists, waitTable};
 ghost use Rattle.order.specs.Order.{MarksFrom, EveryJob, Ordered};
 ghost use Rattle.run.specs.Run.{answerOf, given, lengthsOf, OrderIn};
 use apply::Sizes;
@@ -34,9 +35,9 @@ fn state_short(
     ensures { λ r. ⌜ r ≡ stateShort (sizes (z .boxes) (z .grocers) (z .offers)) (lengthsOf known «price_transit» working «total_transit» statement
         done sent) ⌝ }
 {
-    let kn = bits::words(z.boxes, z.offers);
-    let km = bits::words(z.boxes, z.grocers);
-    let kk = bits::marks(z.boxes);
+    let kn = slices::bits::words(z.boxes, z.offers);
+    let km = slices::bits::words(z.boxes, z.grocers);
+    let kk = slices::bits::marks(z.boxes);
     (known < kn)
         | (price_transit < kn)
         | (working < km)
@@ -62,11 +63,11 @@ fn pick_order(
     requires { ⌜ OrderIn (z .boxes) (z .offers) (z .tallies) (tallyLists (now «offer_owner») (now «grocer_owner») (now «tally_grocer») (now standing)
         (now «tally_offer»)) (now needs) (now done) × (length (now order) ≡ 1536) ⌝ }
     ensures { λ r. ⌜ MarksFrom (z .boxes) (now (done .entry)) (now (done .exit)) ⌝ }
-    ensures { λ r. ⌜ EveryJob (z .boxes) (receiverTable (z .offers) (now («offer_owner» .entry)) (now (needs .entry))) (waitTable (z .boxes)
+    ensures { λ r. ⌜ EveryJob (z .boxes) (byOwner (z .offers) (now («offer_owner» .entry)) (now (needs .entry))) (waitTable (z .boxes)
         (tallyLists (now («offer_owner» .entry)) (now («grocer_owner» .entry)) (now («tally_grocer» .entry)) (now (standing .entry))
         (now («tally_offer» .entry))) (z .tallies)) (λ j. Ordered j (now (choices .entry)) (now (done .exit)) (now (order .exit)) r) ⌝ }
 {
-    let receivers = waits::receivers(z.offers, offer_owner, needs);
+    let receivers = tables::masks::by_owner(z.offers, offer_owner, needs);
     let waits = waits::waits(
         z.boxes,
         z.tallies,

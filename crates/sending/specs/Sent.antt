@@ -6,7 +6,7 @@ use lib.Dec.{leb}
 use lib.ListN.{getD}
 use Rattle.laws.specs.Below.{count}
 use Rattle.laws.specs.Limits.{maxSent}
-use Rattle.words.specs.Message.{wordIn}
+use Rattle.places.specs.Message.{wordIn}
 
 -- The count of words sent stays in range with those of the first n words that box a, their owner, exchanges with box b.
 abbrev pub sentFits : ℕ → List ℕ → List ℕ → List ℕ → ℕ → ℕ → Bool

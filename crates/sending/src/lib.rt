@@ -4,10 +4,10 @@ ghost use Prim.Native.Nat.{_+_, _≤_, _<_};
 ghost use lib.ListN.{length, getD, set};
 ghost use Rattle.laws.specs.Below.{count};
 ghost use Rattle.laws.specs.Limits.{maxSent};
-ghost use Rattle.words.specs.Message.{wordIn};
+ghost use Rattle.places.specs.Message.{wordIn};
 ghost use Rattle.sending.specs.Sent.{sentFits};
+use places::words::in_message;
 use slices::u16_at;
-use words::in_message;
 
 // The most words that can have been sent.
 const MAX_SENT: u32 = 1_000_000;

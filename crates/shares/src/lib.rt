@@ -6,7 +6,7 @@ ghost use Rattle.laws.specs.Below.{naturals, only};
 ghost use Rattle.laws.specs.Masks.{bit};
 ghost use Rattle.tables.specs.Masks.{Owned};
 ghost use Rattle.shares.specs.Messages.{sentTable};
-use bits::clear_bit;
+use slices::bits::clear_bit;
 use slices::u16_at;
 
 // 1 where bit b of the word is set, else 0.

@@ -1,8 +1,11 @@
-// A word of a slice, read by a call: a caller's own proof then has one step for it, and not the steps of its address.
+// A word of a slice, read by a call: a caller's own proof then has one step for it, and not the steps of its address. Beside it bits of words, and sums.
 ghost use mathlib.Core.Path.{_≡_};
 ghost use Prim.Native.Nat.{_≤_, _<_};
 ghost use lib.ListN.{length, getD};
 ghost use lib.IntN.{pos};
+
+pub mod amounts;
+pub mod bits;
 
 // A byte as a size.
 fn size(x: u8) -> usize
@@ -44,14 +47,6 @@ pub fn u16_at(s: &[u16], i: usize) -> u16
 
 // The 32-bit word at a place.
 pub fn u32_at(s: &[u32], i: usize) -> u32
-    requires { ⌜ i < length (now s) ⌝ }
-    ensures { λ r. ⌜ r ≡ getD (now (s .entry)) i 0 ⌝ }
-{
-    s[i]
-}
-
-// The 64-bit word at a place.
-pub fn u64_at(s: &[u64], i: usize) -> u64
     requires { ⌜ i < length (now s) ⌝ }
     ensures { λ r. ⌜ r ≡ getD (now (s .entry)) i 0 ⌝ }
 {

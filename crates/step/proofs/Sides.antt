@@ -11,7 +11,7 @@ use Rattle.model.specs.Steps.{kindOf}
 use Rattle.model.specs.Tables.{JobTables, StateTables, stateTables}
 use Rattle.model.specs.Ranges.{upTo}
 use Rattle.model.specs.Step.{Asked, outcome, accepted, stepped}
-use Rattle.rules.specs.Marks.{MarksIn, marked}
+use Rattle.places.specs.Marks.{MarksIn, marked}
 use Rattle.apply.specs.Apply.{sentMore, PriceStepOut, TotalStepOut}
 use Rattle.refuse.specs.Late.{Decided}
 use Rattle.step.specs.Lent.{PricesLent, TotalsLent}

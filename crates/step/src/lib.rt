@@ -53,7 +53,6 @@ fn move_prices(
         z,
         offer_owner,
         tally_grocer,
-        standing,
         tally_offer,
         tally_count,
         needs,
@@ -86,7 +85,6 @@ fn move_totals(
     links::link(z.grocers as usize, grocer_owner, &mut grocer_links);
     apply::total_step(
         z,
-        grocer_owner,
         sharers,
         &grocer_links,
         working,

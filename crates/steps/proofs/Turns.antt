@@ -25,7 +25,7 @@ use Rattle.model.specs.Boxes.{Sound}
 use Rattle.links.specs.Links.{Linked, LinkedPairs}
 use Rattle.apply.specs.Apply.{sentMore}
 use Rattle.fresh.specs.Fresh.{ownPrices, FreshPrices, FreshTotals}
-use Rattle.order.specs.Order.{stepsIn, markAll, noSteps}
+use Rattle.places.specs.Order.{stepsIn, markAll, noSteps}
 use Rattle.steps.specs.All.{StepIn, StepOut, AllIn, afterOrder, Holds, AllOut}
 use Rattle.model.proofs.Core.{permit}
 use Rattle.model.proofs.Reach.{effect-done, sound-fresh, sound-effect}
@@ -36,8 +36,8 @@ use Rattle.totals.proofs.Effect.{talliesOf}
 use Rattle.apply.proofs.Given.{Given, given, price-step-in, total-step-in}
 use Rattle.apply.proofs.Moved.{pricesLeft, totalsLeft, prices-moved, totals-moved}
 use Rattle.fresh.proofs.Made.{fresh-is}
-use Rattle.order.proofs.Pick.{steps-length}
-use Rattle.walk.proofs.Sends.{sends-few}
+use Rattle.places.proofs.Orders.{steps-length, steps-next}
+use Rattle.places.proofs.Sends.{sends-few}
 use Rattle.steps.proofs.Way.{stored-view, stored-way, way-applies, some-box}
 
 -- The state after steps, and one more; and the steps that it marks.
@@ -55,15 +55,6 @@ over-snoc : (xs : List Step) (x : Step) → over messagesOf (xs ++ (x ∷ [])) �
 unfolding over
 over-snoc [] x = omega arith
 over-snoc (y ∷ ys) x = omega (arith, over-snoc ys x)
-
-map-snoc : (k : ℕ) (xs : List ℕ) (x : ℕ) → map (stepAt k) (xs ++ (x ∷ [])) ≡ map (stepAt k) xs ++ (stepAt k x ∷ [])
-map-snoc k [] x = refl
-map-snoc k (y ∷ ys) x = ap (λ (l : List Step). stepAt k y ∷ l) (map-snoc k ys x)
-
-steps-next : (k i : ℕ) (order : List ℕ) → i < length order → stepsIn k (i + 1) order ≡ stepsIn k i order ++ (stepAt k (getD order i 0) ∷ [])
-unfolding stepsIn
-steps-next k i order l =
-    ap (λ (n : ℕ). map (stepAt k) (take n order)) (add-one i) ∙ ap (map (stepAt k)) (take-suc order i 0 l) ∙ map-snoc k (take i order) (getD order i 0)
 
 -- The count of words sent, as it is written.
 pub store-sent : (j : Job) (s : State) (t : StateTables) → getD (store j s t .sent) 0 0 ≡ s .sent

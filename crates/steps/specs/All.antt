@@ -15,7 +15,7 @@ use Rattle.model.specs.Handed.{Handed}
 use Rattle.model.specs.Run.{afterSteps}
 use Rattle.totals.specs.Row.{Tallies}
 use Rattle.apply.specs.Apply.{PriceStepIn, PriceStepOut, TotalStepIn, TotalStepOut}
-use Rattle.order.specs.Order.{stepsIn, markAll, noSteps, permittedAt}
+use Rattle.places.specs.Order.{stepsIn, markAll, noSteps, permittedAt}
 
 -- The tables of prices and totals alone.
 abbrev pub withoutMarks : List ℕ → List ℕ → List ℤ → List ℤ → List ℤ → StateTables

@@ -1,10 +1,12 @@
 // The steps of an order, done one after the other on the tables of prices and totals.
 ghost use mathlib.Core.Path.{_≡_};
+ghost use mathlib.Core.List.{List};
 ghost use Prim.Native.Nat.{ℕ, suc, _+_, _*_, _/_, _%_, _≤_, _<_};
 ghost use lib.ListN.{getD};
 ghost use Rattle.model.specs.Steps.{kindOf};
 ghost use Rattle.model.specs.Words.{messagesOf};
 ghost use Rattle.model.specs.Tables.{jobTables, jobOf};
+ghost use Rattle.links.specs.Links.{Linked, LinkedPairs, Some};
 ghost use Rattle.totals.specs.Row.{tallies};
 ghost use Rattle.steps.specs.All.{withoutMarks, StepIn, StepOut, AllIn, AllOut};
 use apply::Sizes;
@@ -21,8 +23,8 @@ fn step_of(k: u16, place: u16) -> Step
     requires { ⌜ (1 ≤ k) × (k ≤ 16) × (place < 6 * k * k) ⌝ }
     ensures { λ r. ⌜ (r .kind ≡ suc (place / k / k)) × (r .first ≡ place / k % k) × (r .second ≡ place % k) ⌝ }
 {
-    let row = walk::by_boxes(place, k);
-    let rows = walk::by_boxes(row, k);
+    let row = places::by_boxes(place, k);
+    let rows = places::by_boxes(row, k);
     Step {
         kind: rows + 1,
         first: row - rows * k,
@@ -46,7 +48,7 @@ fn sent_more(sent: Sent, kind: u16, more: u32) -> Sent
 {
     Sent {
         words: sent.words + more,
-        messages: sent.messages + walk::sent_by(kind),
+        messages: sent.messages + places::sent_by(kind),
     }
 }
 
@@ -54,9 +56,7 @@ fn sent_more(sent: Sent, kind: u16, more: u32) -> Sent
 fn one_step(
     z: Sizes,
     offer_owner: &[u16],
-    grocer_owner: &[u16],
     tally_grocer: &[u16],
-    tally_box: &[u16],
     tally_offer: &[u16],
     tally_count: &[i32],
     needs: &[u16; 500],
@@ -71,21 +71,22 @@ fn one_step(
     statement: &mut [i64],
     x: Step,
 ) -> u32
-    requires { ⌜ StepIn (tallies (z .boxes) (z .grocers) (z .offers) (z .tallies) (now «offer_owner») (now «tally_grocer») (now «tally_box»)
-        (now «tally_offer») (now «tally_count»)) (now «grocer_owner») (now «offer_links») (now «grocer_links») (now «tally_links») (now known)
-        (now «price_transit») (now working) (now «total_transit») (now statement) (x .kind) (x .first) (x .second) ⌝ }
-    ensures { λ r. ⌜ StepOut (tallies (z .boxes) (z .grocers) (z .offers) (z .tallies) (now («offer_owner» .entry)) (now («tally_grocer» .entry))
-        (now («tally_box» .entry)) (now («tally_offer» .entry)) (now («tally_count» .entry))) (now («grocer_owner» .entry)) (now (needs .entry))
-        (now (sharers .entry)) (withoutMarks (now (known .entry)) (now («price_transit» .entry)) (now (working .entry)) (now («total_transit» .entry))
-        (now (statement .entry))) (withoutMarks (now (known .exit)) (now («price_transit» .exit)) (now (working .exit)) (now («total_transit» .exit))
-        (now (statement .exit))) (x .kind) (x .first) (x .second) r ⌝ }
+    requires { ⌜ Some (λ holder. Some (λ owner. StepIn (tallies (z .boxes) (z .grocers) (z .offers) (z .tallies) (now «offer_owner»)
+        (now «tally_grocer») holder (now «tally_offer») (now «tally_count»)) owner (now «offer_links») (now «grocer_links») (now «tally_links»)
+        (now known) (now «price_transit») (now working) (now «total_transit») (now statement) (x .kind) (x .first) (x .second))) ⌝ }
+    ensures { λ r. ⌜ ((holder owner : List ℕ) → (x .kind ≤ 3 → LinkedPairs (z .tallies) holder (now («tally_offer» .entry))
+        (now («offer_owner» .entry)) (now («tally_links» .entry))) → (3 < x .kind → Linked (z .grocers) owner (now («grocer_links» .entry))) →
+        StepOut (tallies (z .boxes) (z .grocers) (z .offers) (z .tallies) (now («offer_owner» .entry)) (now («tally_grocer» .entry)) holder
+        (now («tally_offer» .entry)) (now («tally_count» .entry))) owner (now (needs .entry)) (now (sharers .entry))
+        (withoutMarks (now (known .entry)) (now («price_transit» .entry)) (now (working .entry)) (now («total_transit» .entry)) (now (statement .entry)))
+        (withoutMarks (now (known .exit)) (now («price_transit» .exit)) (now (working .exit)) (now («total_transit» .exit)) (now (statement .exit)))
+        (x .kind) (x .first) (x .second) r) ⌝ }
 {
     if x.kind <= 3 {
         return apply::price_step(
             z,
             offer_owner,
             tally_grocer,
-            tally_box,
             tally_offer,
             tally_count,
             needs,
@@ -99,7 +100,6 @@ fn one_step(
     }
     apply::total_step(
         z,
-        grocer_owner,
         sharers,
         grocer_links,
         working,
@@ -152,9 +152,7 @@ pub fn all_steps(
         let more = one_step(
             z,
             offer_owner,
-            grocer_owner,
             tally_grocer,
-            tally_box,
             tally_offer,
             tally_count,
             needs,

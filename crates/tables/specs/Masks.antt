@@ -1,4 +1,4 @@
--- Need words and sharer words by the tables of the tallies.
+-- Need words and sharer words by the tables of the tallies, and these together for each owner.
 use mathlib.Core.Bool.{Bool, cond, _&&_}
 use mathlib.Core.List.{List}
 use Prim.Native.Nat.{ℕ, _^_, _<_, _≤_}
@@ -6,7 +6,8 @@ use lib.ListN.{getD, set, length}
 use lib.Dec.{eqb, ltb}
 use lib.Bits.{bitOr}
 use Rattle.laws.specs.Below.{any}
-use Rattle.laws.specs.Masks.{maskOf}
+use Rattle.laws.specs.Masks.{bit, maskOf}
+use Rattle.laws.specs.Tables.{tabulate}
 
 -- The words after one tally of box b and place p: bit b of the word at p is set, where b is below k.
 unfoldable pub marked : ℕ → ℕ → ℕ → List ℕ → List ℕ
@@ -32,3 +33,11 @@ pub record Owned (n : ℕ) (owners masks : List ℕ) : Type 0 where
   pub ownerLong : n ≤ length owners
   pub maskLong : n ≤ length masks
   pub owner< : (i : ℕ) → i < n → getD owners i 0 < 16
+
+-- Of the first n places some one that box a owns has box b in its word.
+unfoldable pub ownsFor : ℕ → List ℕ → List ℕ → ℕ → ℕ → Bool
+ownsFor n owners masks a b = any n (λ i. eqb (getD owners i 0) a && bit b (getD masks i 0))
+
+-- For each box the words of all that it owns together.
+unfoldable pub byOwner : ℕ → List ℕ → List ℕ → List ℕ
+byOwner n owners masks = tabulate 16 (λ a. maskOf 16 (ownsFor n owners masks a))

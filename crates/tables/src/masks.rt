@@ -1,10 +1,11 @@
-// Need words and sharer words, one bit for each box.
+// Need words and sharer words, one bit for each box, and these together for each owner.
 ghost use mathlib.Core.Path.{_≡_};
 ghost use Prim.Native.Nat.{ℕ, _≤_, _<_};
 ghost use lib.ListN.{length, getD};
 ghost use Rattle.laws.specs.Tables.{tabulate};
-ghost use Rattle.tables.specs.Masks.{marked, holderWord, Placed};
-use bits::set_bit;
+ghost use Rattle.tables.specs.Masks.{marked, holderWord, Placed, Owned, byOwner};
+use slices::bits::set_bit;
+use slices::index_at;
 use slices::u16_at;
 
 // One tally: bit b of the word at its place, where box b is below k.
@@ -49,4 +50,19 @@ pub fn sharers(boxes: u16, tallies: u16, tally_box: &[u16], tally_grocer: &[u16]
     let mut masks = [0u16; 255];
     holders(boxes, tallies, tally_box, tally_grocer, &mut masks);
     masks
+}
+
+// For each box the words of all that it owns together, of n offers or grocers: the boxes that need one of them, or hold a tally of one.
+pub fn by_owner(n: u16, owners: &[u16], masks: &[u16]) -> [u16; 16]
+    requires { ⌜ Owned n (now owners) (now masks) ⌝ }
+    ensures { λ r. ⌜ r ≡ byOwner n (now (owners .entry)) (now (masks .entry)) ⌝ }
+{
+    let mut words = [0u16; 16];
+    let size = n as usize;
+    for i in 0..size {
+        let a = index_at(owners, i);
+        let more = words[a] | u16_at(masks, i);
+        words[a] = more;
+    }
+    words
 }

@@ -1,2 +1,3 @@
-// Bytes and numbers put into a buffer.
+// Bytes and numbers put into a buffer, and the lines that settle prints.
+pub mod lines;
 pub mod numbers;

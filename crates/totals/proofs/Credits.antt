@@ -14,7 +14,7 @@ use Rattle.laws.proofs.Bools.{split, eqb-same, and-one, cond-either}
 use Rattle.laws.proofs.Below.{all-cong}
 use Rattle.laws.proofs.Tables.{getD-overwrite, is-overwrite, word-in, cell-at}
 use Rattle.model.specs.Ranges.{around}
-use Rattle.words.specs.Message.{inMessage, wordIn}
+use Rattle.places.specs.Message.{inMessage, wordIn}
 use Rattle.totals.specs.Credit.{cleared, sentTotals, credited, creditWord, creditAll}
 use Rattle.model.proofs.Step.{around-over}
 use Rattle.totals.proofs.Rows.{cell-abs}

@@ -17,12 +17,12 @@ use Rattle.laws.proofs.Tables.{recell-cong, overwrite-cong, getD-tabulate, word
 use Rattle.model.specs.Job.{heldBy, needs, amount, sharerWord, priceWord, totalWord}
 use Rattle.model.specs.Steps.{products, received, effect, multiplyOwn, receivePrices, sendTotals, addOwn, receiveTotals}
 use Rattle.model.specs.Tables.{JobTables, jobOf, StateTables, view, store}
-use Rattle.words.specs.Message.{wordIn}
+use Rattle.places.specs.Message.{wordIn}
 use Rattle.totals.specs.Row.{Tallies, tallies, TalliesIn, putRow, product, productSum, productRow}
 use Rattle.totals.specs.Credit.{cleared, sentTotals, credited, creditWord, creditAll}
 use Rattle.model.proofs.Parts.{needs-at}
 use Rattle.model.proofs.Handed.{bare-stands}
-use Rattle.words.proofs.Message.{total-word}
+use Rattle.places.proofs.Message.{total-word}
 use Rattle.totals.proofs.Credits.{credited-own, credited-other}
 use Rattle.model.proofs.Step.{under-at}
 

@@ -21,7 +21,8 @@ use Rattle.laws.proofs.Sums.{sum-cong, sum-none, only-no}
 use Rattle.laws.proofs.Tables.{pos-right, cell-in, is-recell, getD-tabulate, getD-overwrite, row-in, cell-at}
 use Rattle.laws.specs.Limits.{maxAmount}
 use Rattle.model.specs.Ranges.{around}
-use Rattle.totals.specs.Row.{Tallies, tallies, TalliesIn, PricesIn, RowIn, AmountsIn, TallyIn, RowTallies, raised, isTaken, productAt, brings, putRow, product, productSum, productRow}
+use Rattle.links.specs.Links.{LinkedPairs}
+use Rattle.totals.specs.Row.{Tallies, tallies, TalliesIn, PricesIn, RowIn, AmountsIn, TallyIn, RowTallies, TalliesLinked, raised, isTaken, productAt, brings, putRow, product, productSum, productRow}
 use Rattle.model.proofs.Step.{under-at, up-at, around-at}
 
 -- What is brought where the test holds.
@@ -46,7 +47,7 @@ amount-row k m a l h la = record {
 
 -- So is each tally, with the prices of row a.
 pub tally-rows : (e : Tallies) (prices : List ℕ) (a : ℕ) → TalliesIn e → PricesIn (e .boxes) (e .offers) prices → a < e .boxes →
-    RowTallies (e .grocers) (e .offers) (e .tallies) a (e .owner) (e .grocer) (e .holder) (e .offer) (e .counts) prices
+    RowTallies (e .grocers) (e .offers) (e .tallies) a (e .grocer) (e .offer) (e .counts) prices
 tally-rows e prices a h p la = record {
   grocers-in = h .grocers-in;
   offers-in = h .offers-in;
@@ -54,9 +55,6 @@ tally-rows e prices a h p la = record {
   box-in = le-trans la (h .boxes-in);
   grocer-in = λ i l. under-at (e .grocers) (e .tallies) (e .grocer) i (h .grocer-in) l;
   offer-in = offer-in;
-  holder-long = λ i l. le-trans l (h .holder-long);
-  owner-long = λ i l. le-trans (offer-in i l) (h .owner-long);
-  owner-in = λ i l. le-trans (under-at (e .boxes) (e .offers) (e .owner) (getD (e .offer) i 0) (h .owner-in) (offer-in i l)) (h .boxes-in);
   tally-in = λ i l. record {
     grocer-long = le-trans l (h .grocer-long);
     offer-long = le-trans l (h .offer-long);
@@ -73,8 +71,15 @@ tally-rows e prices a h p la = record {
     place-in : (i : ℕ) → i < e .tallies → a * e .offers + getD (e .offer) i 0 < e .boxes * e .offers
     place-in i l = cell-in a (e .boxes) (e .offers) (getD (e .offer) i 0) la (offer-in i l)
 
+-- The owner of a tally's offer is a box, and so links by pairs are those of the tallies.
+pub pairs-linked : (e : Tallies) (holder links : List ℕ) → TalliesIn e → LinkedPairs (e .tallies) holder (e .offer) (e .owner) links → TalliesLinked (e .tallies) (e .owner) holder (e .offer) links
+pairs-linked e holder links h l = record {
+  owner-in = λ i q. le-trans (under-at (e .boxes) (e .offers) (e .owner) (getD (e .offer) i 0) (h .owner-in) (under-at (e .offers) (e .tallies) (e .offer) i (h .offer-in) q)) (h .boxes-in);
+  linked = l;
+}
+
 module _ (m n t a : ℕ) (owner grocer holder offer : List ℕ) (counts : List ℤ) (prices : List ℕ) (from at : ℕ)
-    (h : RowTallies m n t a owner grocer holder offer counts prices) (here : at ≡ a * n) where
+    (h : RowTallies m n t a grocer offer counts prices) (here : at ≡ a * n) where
   -- What each tally brings, and where.
   abbrev brought : ℕ → ℤ
   brought = brings owner holder offer counts prices a from at

@@ -13,7 +13,7 @@ use Rattle.laws.specs.Below.{integers, only}
 use Rattle.laws.proofs.Bools.{eqb-same, and-l, and-r, and-true, and-false, no-true}
 use Rattle.laws.proofs.Loops.{share}
 use Rattle.links.specs.Links.{SkipsBy, LinkedBy, Skips, pairKey, pairAt}
-use Rattle.words.specs.Message.{inMessage, wordIn}
+use Rattle.places.specs.Message.{inMessage, wordIn}
 use Rattle.totals.specs.Credit.{sendsPart, takesTotal, credited}
 use Rattle.totals.specs.Row.{isTaken, brings}
 use Rattle.links.proofs.Walks.{test-passed, goes-by}

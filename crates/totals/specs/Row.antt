@@ -10,6 +10,7 @@ use Rattle.laws.specs.Below.{integers, sum, only}
 use Rattle.laws.specs.Tables.{tabulate, cell, recell}
 use Rattle.laws.specs.Limits.{maxBoxes, maxGrocers, maxOffers, maxTallies, maxPrice, maxCount, maxAmount}
 use Rattle.model.specs.Ranges.{upTo, under, around}
+use Rattle.links.specs.Links.{LinkedPairs}
 
 -- The tables of tallies and the owners of their offers, with K, M, N and T.
 pub record Tallies : Type 0 where
@@ -98,17 +99,19 @@ pub record TallyIn (grocer offer : List ℕ) (counts : List ℤ) (prices : List 
   pub price-in : getD prices (at + getD offer i 0) 0 ≤ maxPrice
 
 -- What multiplying for box a requires: m grocers, n offers, t tallies and box a in range, and so each tally, with row a of the prices.
-pub record RowTallies (m n t a : ℕ) (owner grocer holder offer : List ℕ) (counts : List ℤ) (prices : List ℕ) : Type 0 where
+pub record RowTallies (m n t a : ℕ) (grocer offer : List ℕ) (counts : List ℤ) (prices : List ℕ) : Type 0 where
   pub grocers-in : m ≤ maxGrocers
   pub offers-in : n ≤ maxOffers
   pub tallies-in : t ≤ maxTallies
   pub box-in : a < maxBoxes
   pub grocer-in : (i : ℕ) → i < t → getD grocer i 0 < m
   pub offer-in : (i : ℕ) → i < t → getD offer i 0 < n
-  pub holder-long : (i : ℕ) → i < t → i < length holder
-  pub owner-long : (i : ℕ) → i < t → getD offer i 0 < length owner
-  pub owner-in : (i : ℕ) → i < t → getD owner (getD offer i 0) 0 < maxBoxes
   pub tally-in : (i : ℕ) → i < t → TallyIn grocer offer counts prices (a * n) i
+
+-- The links are those of t tallies with these boxes, whose offers have these owners, each a box.
+pub record TalliesLinked (t : ℕ) (owner holder offer links : List ℕ) : Type 0 where
+  pub owner-in : (i : ℕ) → i < t → getD owner (getD offer i 0) 0 < maxBoxes
+  pub linked : LinkedPairs t holder offer owner links
 
 module _ (e : Tallies) (prices : List ℕ) (a from : ℕ) where
   -- Count × price of tally i, at the prices of row a.

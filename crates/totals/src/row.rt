@@ -1,15 +1,16 @@
 // The row of a box, multiplied.
 ghost use mathlib.Core.Path.{_≡_};
+ghost use mathlib.Core.List.{List};
 ghost use Prim.Native.Nat.{ℕ, _+_, _*_, _≤_, _<_};
 ghost use lib.ListN.{length, getD};
 ghost use lib.IntN.{pos, natAbs};
-ghost use Rattle.links.specs.Links.{LinkedPairs};
-ghost use Rattle.totals.specs.Row.{tallies, RowIn, TallyIn, RowTallies, raised, productAt, productRow, putRow};
+ghost use Rattle.links.specs.Links.{Some};
+ghost use Rattle.totals.specs.Row.{tallies, RowIn, TallyIn, RowTallies, TalliesLinked, raised, productAt, productRow, putRow};
 use crate::walk::begin_pair;
 use crate::walk::next_pair;
-use amounts::amount;
-use amounts::raise_at;
-use amounts::row_start;
+use slices::amounts::amount;
+use slices::amounts::raise_at;
+use slices::amounts::row_start;
 use slices::i32_at;
 use slices::index_at;
 use slices::u32_at;
@@ -45,21 +46,19 @@ pub fn add_products(
     a: u16,
     from: u16,
     tally_links: &[u16; 1272],
-    offer_owner: &[u16],
     tally_grocer: &[u16],
-    tally_box: &[u16],
     tally_offer: &[u16],
     tally_count: &[i32],
     prices: &[u32],
     working: &mut [i64],
 )
-    requires { ⌜ RowTallies m n t a (now «offer_owner») (now «tally_grocer») (now «tally_box») (now «tally_offer») (now «tally_count») (now prices) ⌝ }
+    requires { ⌜ RowTallies m n t a (now «tally_grocer») (now «tally_offer») (now «tally_count») (now prices) ⌝ }
     requires { ⌜ RowIn m a (now working) ⌝ }
-    requires { ⌜ (from < 16) × LinkedPairs t (now «tally_box») (now «tally_offer») (now «offer_owner») (now «tally_links») ⌝ }
-    ensures { λ _. ⌜ ((k : ℕ) → a < k → k * m ≤ length (now (working .entry)) →
-        now (working .exit) ≡ putRow k m a (productRow (tallies k m n t (now («offer_owner» .entry)) (now («tally_grocer» .entry))
-        (now («tally_box» .entry)) (now («tally_offer» .entry)) (now («tally_count» .entry))) (now (prices .entry))
-        a from (now (working .entry))) (now (working .entry))) ⌝ }
+    requires { ⌜ (from < 16) × Some (λ owner. Some (λ holder. TalliesLinked t owner holder (now «tally_offer») (now «tally_links»))) ⌝ }
+    ensures { λ _. ⌜ ((owner holder : List ℕ) → TalliesLinked t owner holder (now («tally_offer» .entry)) (now («tally_links» .entry)) →
+        (k : ℕ) → a < k → k * m ≤ length (now (working .entry)) →
+        now (working .exit) ≡ putRow k m a (productRow (tallies k m n t owner (now («tally_grocer» .entry)) holder
+        (now («tally_offer» .entry)) (now («tally_count» .entry))) (now (prices .entry)) a from (now (working .entry))) (now (working .entry))) ⌝ }
 {
     let at = row_start(n, a);
     let base = row_start(m, a);

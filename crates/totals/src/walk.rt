@@ -4,10 +4,10 @@ ghost use mathlib.Core.List.{List};
 ghost use Prim.Native.Nat.{ℕ, _+_, _<_};
 ghost use lib.ListN.{getD};
 ghost use Rattle.links.specs.Links.{Skips, Linked, pairKey};
-use amounts::index;
 use links::HEADS;
 use links::PAIR_HEADS;
 use links::pair;
+use slices::amounts::index;
 
 // The first of the places whose key is v, by the links: of n places n where there is none.
 pub fn begin(v: u16, links: &[u16; 272]) -> usize

@@ -18,27 +18,16 @@ use Rattle.model.specs.Job.{Job, heldBy, needs, shares, needWord, priceWord, to
 use Rattle.model.specs.Steps.{Steps, added, allAdded}
 use Rattle.model.specs.Tables.{JobTables, jobOf}
 use Rattle.model.specs.Handed.{Handed}
-use Rattle.waits.specs.Waits.{receives, receiverTable, TallyLists, tallyLists, grocerBox, offerBox, waitsOn, waitTable, WaitsIn}
-use Rattle.rules.specs.Rules.{wordAt, pricesDueBy, totalsDueBy, hasGot, allGot, ReceiversOf, WaitsOf}
+use Rattle.waits.specs.Waits.{TallyLists, tallyLists, grocerBox, offerBox, waitsOn, waitTable, WaitsIn}
+use Rattle.rules.specs.Rules.{wordAt, totalsDueBy, hasGot, allGot, ReceiversOf, WaitsOf}
 use Rattle.model.proofs.Range.{InRange, held-box}
 use Rattle.model.proofs.Step.{range, limits}
 use Rattle.model.proofs.Handed.{bare-stands}
 use Rattle.laws.proofs.Rows.{rows-at}
 use Rattle.model.proofs.Whole.{JobWhole}
-
--- Another box than b among owners: the test of each, or one test before.
-module _ (n : ℕ) (owner : ℕ → ℕ) (p : ℕ → Bool) (a b : ℕ) where
-  pub apart-any : (not (eqb a b) && any n (λ o. eqb (owner o) a && p o)) ≡ any n (λ o. eqb (owner o) a && (not (eqb (owner o) b) && p o))
-  apart-any =
-      split (eqb a b)
-      (λ e. rw e (sym (any-false n _ (λ o l. none o e))))
-      (λ e. rw e (any-cong n _ _ (λ o l. one o e)))
-    where
-      none : (o : ℕ) → eqb a b ≡ true → (eqb (owner o) a && (not (eqb (owner o) b) && p o)) ≡ false
-      none o e = split (eqb (owner o) a) (λ q. rw (eqb-true (owner o) a q, eqb-same a, e)) (λ q. rw q)
-
-      one : (o : ℕ) → eqb a b ≡ false → (eqb (owner o) a && p o) ≡ (eqb (owner o) a && (not (eqb (owner o) b) && p o))
-      one o e = split (eqb (owner o) a) (λ q. rw (eqb-true (owner o) a q, eqb-same a, e)) (λ q. rw q)
+use Rattle.places.specs.Message.{reaches}
+use Rattle.tables.specs.Masks.{byOwner}
+use Rattle.tables.proofs.Owned.{prices-reach}
 
 module _ (f : JobTables) (ok : Handed f) where
   abbrev j : Job
@@ -53,26 +42,9 @@ module _ (f : JobTables) (ok : Handed f) where
 
   -- The words of receivers.
   module _ (needed : List ℕ) (en : needed ≡ tabulate 500 (needWord j)) where
-    need-bit : (o b : ℕ) → o < f .offers → b < 16 → bit b (getD needed o 0) ≡ needs j o b
-    unfolding needWord jobOf
-    need-bit o b lo lb =
-        ap (λ (l : List ℕ). bit b (getD l o 0)) en
-        ∙ ap (bit b) (getD-tabulate 500 (needWord j) o 0 (omega (arith, limits f (ok .inside) .offers≤)))
-        ∙ bit-mask 16 b (needs j o) lb
-
-    receives-is : (a b : ℕ) → b < 16 → receives (f .offers) (f .offerOwner) needed a b ≡ any (f .offers) (λ o. eqb (j .offerOwner o) a && needs j o b)
-    unfolding receives jobOf
-    receives-is a b lb = any-cong (f .offers) _ _ (λ o l. rw (word-in (f .offers) (f .offerOwner) 0 o l, need-bit o b l lb))
-
-    pub receivers-of : (words : List ℕ) → words ≡ receiverTable (f .offers) (f .offerOwner) needed → ReceiversOf j words
-    unfolding pricesDueBy pricesDue priceWord receiverTable jobOf
-    receivers-of words ew = record {
-      due-is = λ a b la lb.
-          ap (λ (l : List ℕ). not (eqb a b) && bit b (getD l a 0)) ew
-          ∙ ap (λ (x : ℕ). not (eqb a b) && bit b x) (getD-tabulate 16 (λ a. maskOf 16 (receives (f .offers) (f .offerOwner) needed a)) a 0 (small a la))
-          ∙ ap (λ (t : Bool). not (eqb a b) && t) (bit-mask 16 b (receives (f .offers) (f .offerOwner) needed a) (small b lb) ∙ receives-is a b (small b lb))
-          ∙ apart-any (f .offers) (j .offerOwner) (λ o. needs j o b) a b;
-    }
+    pub receivers-of : (words : List ℕ) → words ≡ byOwner (f .offers) (f .offerOwner) needed → ReceiversOf j words
+    unfolding jobOf
+    receivers-of words ew = record { due-is = λ a b la lb. ap (λ (l : List ℕ). reaches l a b) ew ∙ prices-reach f ok needed en a b la lb }
 
   -- The words of waits.
   abbrev lists : TallyLists

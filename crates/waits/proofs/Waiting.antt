@@ -1,4 +1,4 @@
--- The words that a pass makes are those of receivers and of waits. Assumes nothing.
+-- The words that a pass makes are those of waits. Assumes nothing.
 use mathlib.Core.Path.{_≡_, refl, sym, ap, _∙_}
 use mathlib.Core.Bool.{true, false, _&&_, _||_}
 use mathlib.Core.List.{List, []}
@@ -15,47 +15,9 @@ use Rattle.laws.proofs.Bools.{split, eqb-same, and-false, or-false}
 use Rattle.laws.proofs.Below.{any-next}
 use Rattle.laws.proofs.Masks.{mask-cong, mask-bits, mask-or, mask-join}
 use Rattle.laws.proofs.Tables.{getD-tabulate}
-use Rattle.waits.specs.Waits.{receives, receiverTable, TallyLists, grocerBox, offerBox, waitsOn, waitTable, waited}
+use Rattle.waits.specs.Waits.{TallyLists, grocerBox, offerBox, waitsOn, waitTable, waited}
 use Rattle.laws.proofs.Rows.{set-tabulate, rows-cong, rows-at, rows-set}
 use Rattle.tables.proofs.Holders.{held-in, held-out}
-
--- No offer yet.
-pub receivers-none : (owners needs : List ℕ) → replicate 16 0 ≡ receiverTable 0 owners needs
-unfolding receiverTable receives any tabulate maskOf only naturals
-receivers-none owners needs = refl
-
--- One offer more, of box a and need word w.
-module _ (n : ℕ) (owners needs : List ℕ) (la : getD owners n 0 < 16) (lw : getD needs n 0 < 2 ^ 16) where
-  abbrev a : ℕ
-  a = getD owners n 0
-
-  abbrev w : ℕ
-  w = getD needs n 0
-
-  receives-next : (x b : ℕ) → receives (n + 1) owners needs x b ≡ (receives n owners needs x b || (eqb a x && bit b w))
-  unfolding receives
-  receives-next x b = any-next n (λ o. eqb (getD owners o 0) x && bit b (getD needs o 0))
-
-  abbrev wordOf : ℕ → ℕ → ℕ
-  wordOf m x = maskOf 16 (receives m owners needs x)
-
-  raised : bitOr (getD (tabulate 16 (wordOf n)) a 0) w ≡ wordOf (n + 1) a
-  raised =
-      ap (λ (x : ℕ). bitOr x w) (getD-tabulate 16 (wordOf n) a 0 la)
-      ∙ ap (bitOr (wordOf n a)) (sym (mask-bits 16 w lw))
-      ∙ mask-join 16 (receives n owners needs a) (λ b. bit b w)
-      ∙ mask-cong 16 _ (receives (n + 1) owners needs a) (λ b l. sym (receives-next a b ∙ rw (eqb-same a)))
-
-  pub receivers-more : set (receiverTable n owners needs) a (bitOr (getD (receiverTable n owners needs) a 0) w) ≡ receiverTable (n + 1) owners needs
-  unfolding receiverTable
-  receivers-more =
-      ap (set (tabulate 16 (wordOf n)) a) raised
-      ∙ set-tabulate 16 (wordOf n) (wordOf (n + 1)) a 0 la
-      (λ x l ne. mask-cong 16 _ (receives n owners needs x) (λ b m. receives-next x b ∙ rw (ne-eqb a x (λ q. ne (sym q))) (or-false (receives n owners needs x b))))
-
-  -- The same, by words that are told to be these.
-  pub receivers-told : (words : List ℕ) (x y : ℕ) → words ≡ receiverTable n owners needs → x ≡ a → y ≡ w → set words x (bitOr (getD words x 0) y) ≡ receiverTable (n + 1) owners needs
-  receivers-told words x y ew ex ey = rw (ew, ex, ey) receivers-more
 
 -- No tally yet.
 pub waits-none : (k : ℕ) (l : TallyLists) → replicate 16 (replicate 16 0) ≡ waitTable k l 0

@@ -1,4 +1,4 @@
--- Words of receivers and waits, of one bit for each box, by the tables of a job.
+-- Words of waits, of one bit for each box, by the tables of a job.
 use mathlib.Core.Bool.{Bool, cond, _&&_}
 use mathlib.Core.List.{List, []}
 use Prim.Native.Nat.{ℕ, _^_, _<_, _≤_}
@@ -6,16 +6,8 @@ use lib.ListN.{getD, set, length}
 use lib.Dec.{eqb, ltb}
 use lib.Bits.{bitOr}
 use Rattle.laws.specs.Below.{any}
-use Rattle.laws.specs.Masks.{bit, maskOf}
+use Rattle.laws.specs.Masks.{maskOf}
 use Rattle.laws.specs.Tables.{tabulate, cellAt}
-
--- Box b is among those that the need words of box a's offers mean, of the first n offers.
-unfoldable pub receives : ℕ → List ℕ → List ℕ → ℕ → ℕ → Bool
-receives n owners needs a b = any n (λ o. eqb (getD owners o 0) a && bit b (getD needs o 0))
-
--- For each box the boxes that need an offer of its, itself among them.
-unfoldable pub receiverTable : ℕ → List ℕ → List ℕ → List ℕ
-receiverTable n owners needs = tabulate 16 (λ a. maskOf 16 (receives n owners needs a))
 
 -- The lists of a job's tallies, and of the owners of grocers and offers.
 pub record TallyLists : Type 0 where

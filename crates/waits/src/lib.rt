@@ -1,26 +1,10 @@
-// Words of one bit for each box: whom a box sends prices to, and whose prices its totals for another box wait for.
+// Words of one bit for each box: whose prices a box's totals for another box wait for.
 ghost use mathlib.Core.Path.{_≡_};
 ghost use Prim.Native.Nat.{_<_, _≤_};
-ghost use Rattle.tables.specs.Masks.{Owned};
-ghost use Rattle.waits.specs.Waits.{receiverTable, tallyLists, waitTable, WaitsIn, waited};
-use bits::set_bit;
+ghost use Rattle.waits.specs.Waits.{tallyLists, waitTable, WaitsIn, waited};
+use slices::bits::set_bit;
 use slices::index_at;
 use slices::u16_at;
-
-// For each box the boxes that need an offer of its, itself among them, from the need words and the owners of the offers.
-pub fn receivers(offers: u16, offer_owner: &[u16], needs: &[u16]) -> [u16; 16]
-    requires { ⌜ Owned offers (now «offer_owner») (now needs) ⌝ }
-    ensures { λ r. ⌜ r ≡ receiverTable offers (now («offer_owner» .entry)) (now (needs .entry)) ⌝ }
-{
-    let mut words = [0u16; 16];
-    let n = offers as usize;
-    for o in 0..n {
-        let a = index_at(offer_owner, o);
-        let more = words[a] | u16_at(needs, o);
-        words[a] = more;
-    }
-    words
-}
 
 // One tally of box a, of a grocer of box b and an offer of box o: bit o of the word of a and b, where a is below k.
 fn add_wait(words: &mut [[u16; 16]; 16], k: u16, a: u16, b: u16, o: u16)

@@ -1,5 +1,5 @@
 -- With the words of receivers and waits of a job the list of ready steps is the model's. Assumes nothing.
-use mathlib.Core.Path.{_≡_, sym, _∙_}
+use mathlib.Core.Path.{_≡_, sym, ap, _∙_}
 use mathlib.Core.List.{List}
 use Prim.Native.Nat.{ℕ, suc, _-_, _*_, _/_, _%_, _≤_}
 use native.Mathlib.Omega.{arith}
@@ -11,17 +11,20 @@ use Rattle.model.specs.Job.{Job}
 use Rattle.model.specs.Steps.{Steps, kindOf, stepAt, places}
 use Rattle.model.specs.Tables.{stepsDone}
 use Rattle.model.specs.Run.{listed, readyCount}
-use Rattle.walk.specs.Walk.{PlaceIn, here, listedBy}
-use Rattle.rules.specs.Rules.{ReceiversOf, WaitsOf}
+use Rattle.places.specs.Places.{PlaceIn, here}
+use Rattle.walk.specs.Walk.{listedBy}
+use Rattle.rules.specs.Rules.{permittedBy, ReceiversOf, WaitsOf}
 use Rattle.model.proofs.Listed.{ready-count}
 use Rattle.rules.proofs.InModel.{permitted-is}
-use Rattle.walk.proofs.Places.{kind-of, first-of, second-of}
+use Rattle.places.proofs.Places.{kind-of, first-of, second-of}
 
--- A step of a place has its kind and its boxes.
-pub step-here : (j : Job) (kind a b : ℕ) → PlaceIn (j .boxes) kind a b → stepAt (j .boxes) (here (j .boxes) kind a b) ≡ record { kind = kindOf kind; first = a; second = b }
-unfolding stepAt
-step-here j kind a b p =
-    rw (kind-of (j .boxes) kind a b (p .a-in) (p .b-in), first-of (j .boxes) kind a b (p .a-in) (p .b-in), second-of (j .boxes) kind a b (p .a-in) (p .b-in), ← (up kind (p .kind-from)))
+-- The test of a step is the test of its place.
+pub listed-at : (k kind a b : ℕ) (receivers : List ℕ) (waits : List (List ℕ)) (done : List ℕ) → PlaceIn k kind a b →
+    permittedBy receivers waits (stepsDone k done) (kindOf kind) a b ≡ listedBy k receivers waits done (here k kind a b)
+unfolding listedBy
+listed-at k kind a b receivers waits done p =
+    rw (kind-of k kind a b (p .a-in) (p .b-in), first-of k kind a b (p .a-in) (p .b-in), second-of k kind a b (p .a-in) (p .b-in))
+    (ap (λ (n : ℕ). permittedBy receivers waits (stepsDone k done) (kindOf n) a b) (up kind (p .kind-from)))
   where
     up : (n : ℕ) → 1 ≤ n → n ≡ suc (n - 1)
     up n h = omega arith

@@ -1,7 +1,5 @@
 -- The laws that the proofs of this crate cite.
 
-pub mod Places
-pub mod Sends
 pub mod Walking
 pub mod InModel
 pub mod Rows

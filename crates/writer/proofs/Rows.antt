@@ -13,9 +13,9 @@ use Rattle.format.specs.Bytes.{bytes16, bytes32}
 use Rattle.format.specs.Codes.{codeBytes, readCode}
 use Rattle.format.specs.Job.{Offer, Tally}
 use Rattle.format.specs.Blocks.{offerBytes, tallyBytes}
-use Rattle.fills.specs.Fills.{Copied}
+use Rattle.codes.specs.Copied.{Copied}
 use Rattle.puts.specs.Puts.{put, bytesOf}
-use Rattle.fills.proofs.Filling.{code-byte}
+use Rattle.codes.proofs.Codes.{code-byte}
 use Rattle.puts.proofs.Puts.{length-put, is-put, put-cong, put-next, store-next}
 
 -- Bytes that are copied are put.

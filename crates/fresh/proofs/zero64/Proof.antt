@@ -1,45 +1,34 @@
 -- `fresh::zero64` meets its contract. The invariant: the first i words are 0, and the others are as they were. Assumes nothing.
-use mathlib.Core.Path.{_≡_, refl, ap, _∙_}
-use mathlib.Core.Bool.{cond}
-use Prim.Native.Nat.{ℕ, _-_, _≤_}
+use mathlib.Core.Path.{_≡_, refl, _∙_}
+use Prim.Native.Nat.{_-_, _≤_}
 use native.Mathlib.Omega.{arith}
-use lib.Dec.{ltb}
 use lib.IntN.{pos}
-use lib.ListN.{length, getD, length-set}
+use lib.ListN.{length, length-set}
 use borrow.Author.Needs.{needs}
 use Rattle.laws.specs.Tables.{overwrite}
-use Rattle.fresh.proofs.Made.{zeroed-more, zeroed, zeroed-none}
+use Rattle.laws.proofs.Tables.{fill-none, fill-more, fill-end}
 use Rattle.fresh.proofs.zero64.Statement.{statement}
 use Rattle.fresh.proofs.zero64.Tie as tie
-use Rattle.fresh.proofs.zero64.Reads as reads
-use Rattle.fresh.proofs.zero64.Lts as lts
 
 abbrev Inv-loop : tie.InvT-loop
-Inv-loop s₀ n i₀ s i = (i ≤ n) × (length s ≡ length s₀) × ((p : ℕ) → getD s p (pos 0) ≡ cond (ltb p i) (pos 0) (getD s₀ p (pos 0)))
+Inv-loop s₀ n i₀ s i = (i ≤ n) × (length s ≡ length s₀) × (s ≡ overwrite i (λ k. pos 0) s₀)
 
 abbrev μ-loop : tie.MeasureT-loop
 μ-loop s₀ n i₀ s i = n - i
 
 loop-holds : tie.Need-loop-holds Inv-loop μ-loop
-loop-holds c = (search needs, refl, zeroed-none (c .args .s .now) (pos 0) (pos 0))
+loop-holds c = (search needs, refl, fill-none _ _)
 
 loop-again : tie.Need-loop-again Inv-loop μ-loop
 loop-again c =
     let b = c .before in (
       omega arith,
       length-set (b .loop .s) (b .loop .i) (pos 0) ∙ b .loop .inv .1,
-      zeroed-more (b .before .args .s .now) (b .loop .s) (pos 0) (pos 0) (b .loop .i) (b .loop .inv .1) (b .loop .inv .2) (omega (arith, b .loop .inv .1)),
+      fill-more (λ k. pos 0) (b .loop .i) _ _ _ (b .loop .inv .2) (omega (arith, b .loop .inv .1)) refl,
     )
 
-same-length : tie.Need-same-length Inv-loop μ-loop
-same-length c = c .before .loop .inv .1
-
 returns : tie.Need-returns Inv-loop μ-loop
-returns c =
-    let b = c .before in
-    let e : b .loop .i ≡ b .before .args .n = omega arith in
-    zeroed (b .before .args .s .now) (b .loop .s) (pos 0) (pos 0) (b .loop .i) (b .loop .inv .1) (b .loop .inv .2) (omega arith)
-    ∙ ap (λ (k : ℕ). overwrite k (λ i. (pos 0)) (b .before .args .s .now)) e
+returns c = let b = c .before in fill-end _ (b .loop .i) _ _ _ (b .loop .inv .2) (b .loop .inv .0) (omega arith)
 
 pub zero64-spec : {M : Type 1} → statement M
 zero64-spec =
@@ -53,5 +42,5 @@ zero64-spec =
     (λ c. search needs)
     (λ c. search needs)
     loop-again
-    same-length
+    (λ c. c .before .loop .inv .1)
     returns)

@@ -16,7 +16,7 @@ use Rattle.shares.specs.Messages.{sentTable}
 use denote.Ref.{now}
 use Rattle.model.proofs.Handed.{handed-job, handed-whole, handed-in}
 use Rattle.model.proofs.Whole.{JobWhole, job-whole}
-use Rattle.admit.proofs.Standing.{accepted}
+use Rattle.admit.proofs.Refusals.{accepted}
 use Rattle.tables.proofs.InJob.{placed-offers, placed-grocers, owned-offers, owned-grocers}
 use Rattle.shares.proofs.OfJob.{price-sent, total-sent}
 use Rattle.messages.proofs.Summing.{word-total}

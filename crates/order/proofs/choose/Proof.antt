@@ -6,7 +6,8 @@ use lib.ListN.{getD}
 use borrow.Author.Needs.{needs}
 use Rattle.laws.specs.Below.{count, nth}
 use Rattle.model.specs.Tables.{stepsDone}
-use Rattle.walk.specs.Walk.{listedBy, Found}
+use Rattle.places.specs.Places.{Found}
+use Rattle.walk.specs.Walk.{listedBy}
 use denote.Ref.{now}
 use Rattle.rows.proofs.ByRow.{rows-few}
 use Rattle.renew.proofs.Changed.{rows-before}

@@ -6,10 +6,11 @@ use native.Mathlib.Omega.{arith}
 use lib.ListN.{length}
 use borrow.Author.Needs.{needs}
 use Rattle.model.specs.Tables.{stepsDone}
-use Rattle.walk.specs.Walk.{PlaceIn}
-use Rattle.order.specs.Order.{MarksFrom, Kept, NoneBefore, EveryJob}
-use Rattle.walk.proofs.Walking.{At, at-first, at-next, at-in}
-use Rattle.order.proofs.Left.{none-first}
+use Rattle.places.specs.Places.{PlaceIn}
+use Rattle.places.specs.Order.{NoneBefore}
+use Rattle.order.specs.Order.{MarksFrom, Kept, EveryJob}
+use Rattle.places.proofs.Walking.{At, at-first, at-next, at-in}
+use Rattle.places.proofs.Left.{none-first}
 use Rattle.order.proofs.Pick.{kept-none, kept-both}
 use Rattle.order.proofs.Found.{walk-on, ended-of, marks-own, marks-over}
 use Rattle.order.proofs.rest.Statement.{statement}

@@ -5,9 +5,10 @@ use Prim.Native.Nat.{_<_}
 use native.Mathlib.Omega.{arith}
 use borrow.Author.Needs.{needs}
 use borrow.Author.Tests.{not-true, not-false}
-use Rattle.walk.specs.Walk.{here, listedBy}
+use Rattle.places.specs.Places.{here}
+use Rattle.walk.specs.Walk.{listedBy}
 use denote.Ref.{now}
-use Rattle.walk.proofs.Places.{listed-at}
+use Rattle.walk.proofs.InModel.{listed-at}
 use Rattle.order.proofs.Found.{not-of, place-room-of, passed-of}
 use Rattle.order.proofs.turn.Statement.{statement}
 use Rattle.order.proofs.turn.Tie as tie

@@ -1,14 +1,19 @@
 -- `reader::read` meets its contract. Assumes nothing.
-use mathlib.Core.Path.{_≡_, refl, sym, _∙_}
+use mathlib.Core.Path.{_≡_, refl, sym, ap, _∙_}
 use mathlib.Core.Bool.{false}
+use Prim.Native.Nat.{ℕ, _+_, _≤_, _<_}
 use native.Mathlib.Omega.{arith}
 use lib.ListN.{length}
+use Rattle.format.specs.Blocks.{talliesAt}
+use Rattle.format.specs.File.{recordAt, decode}
 use Rattle.format.specs.Tables.{ReaderTables, offerTables, tallyTables, fileTables, readerTables, shortOffers, shortTallies, shortTables, shortReader, readRefusal}
 use Rattle.blocks.specs.Due.{asHead}
-use Rattle.fills.proofs.Records.{offer-room}
-use Rattle.reader.specs.Sound.{Kept, Sound}
-use Rattle.reader.proofs.Shapes.{has-header, sound-read}
-use Rattle.reader.proofs.Results.{Room, room, read-refusal, read-job, offer-issuers, places-stored}
+use Rattle.blocks.specs.Sound.{Kept, Sound}
+use Rattle.blocks.proofs.RecordWords.{offer-room, tally-room}
+use Rattle.blocks.proofs.Looked.{places-stored}
+use Rattle.blocks.proofs.Fields.{offer-owners, offer-codes, offer-issuers, tally-grocers, tally-boxes, tally-codes, tally-counts, tally-issuers, tally-bags, tally-revisions}
+use Rattle.blocks.proofs.Shapes.{has-header, sound-read}
+use Rattle.reader.proofs.Results.{Room, room, read-refusal, read-job}
 use Rattle.reader.proofs.read.Statement.{statement}
 use Rattle.reader.proofs.read.Tie as tie
 
@@ -31,61 +36,126 @@ measured c = c .before .before
 abbrev entry : tie.Else1 → tie.Start
 entry c = start (measured (refused c) .before)
 
--- Each call, from the one after it.
-abbrev headed : tie.After-fill-offers-arg3 → tie.After-read-head
-headed c = c .before .before .before
+-- Each call that fills a table, from the next one: the offers',
+abbrev priced : tie.After-fill-bytes → tie.After-fill-prices
+priced c = c .before .before .before .before
 
-abbrev owners-back : tie.After-slice-known14 → tie.After-fill-offers
-owners-back c = c .before .before .before .before
+abbrev owned : tie.After-fill-codes → tie.After-fill-bytes
+owned c = c .before .before .before .before
 
-abbrev offered : tie.After-fill-words-arg → tie.After-fill-offers
-offered c = owners-back (c .before .before .before)
+abbrev coded : tie.After-fill-words → tie.After-fill-codes
+coded c = c .before .before .before .before
 
-abbrev issued : tie.After-fill-owners-arg → tie.After-fill-words
-issued c = c .before .before .before
+abbrev issued : tie.After-fill-owners → tie.After-fill-words
+issued c = c .before .before .before .before
 
-abbrev owned : tie.After-fill-tallies-arg3 → tie.After-fill-owners
-owned c = c .before .before .before .before .before
+-- the grocers',
+abbrev grocers-owned : tie.After-tallies-at → tie.After-fill-owners
+grocers-owned c = c .before .before .before
 
-abbrev boxes-back : tie.After-slice-known19 → tie.After-fill-tallies
-boxes-back c = c .before .before .before .before
+-- and the tallies'.
+abbrev tally-grocered : tie.After-fill-bytes2 → tie.After-fill-words2
+tally-grocered c = c .before .before .before .before
 
-abbrev tallied : tie.After-places3 → tie.After-fill-tallies
-tallied c = boxes-back (c .before .before .before)
+abbrev tally-boxed : tie.After-fill-codes2 → tie.After-fill-bytes2
+tally-boxed c = c .before .before .before .before
 
-abbrev issuers-back : tie.After-slice-known21 → tie.After-fill-tally-ends
-issuers-back c = c .before .before .before
+abbrev tally-coded : tie.After-fill-counts → tie.After-fill-codes2
+tally-coded c = c .before .before .before .before
 
-abbrev ended : tie.After-fill-bags-arg2 → tie.After-fill-tally-ends
-ended c = issuers-back (c .before .before .before .before)
+abbrev tally-counted : tie.After-fill-words3 → tie.After-fill-counts
+tally-counted c = c .before .before .before
 
-abbrev bagged : tie.After-slice-known24 → tie.After-fill-bags
-bagged c = c .before .before .before .before
+abbrev tally-issued : tie.After-fill-words4 → tie.After-fill-words3
+tally-issued c = c .before .before .before .before
 
--- The call of `read_head`, from each later call.
+abbrev tally-bagged : tie.After-fill-words5 → tie.After-fill-words4
+tally-bagged c = c .before .before .before .before
+
+abbrev tally-revised : tie.After-places3 → tie.After-fill-words5
+tally-revised c = c .before .before .before
+
+-- The call of `read_head`, from the calls that fill the offers' tables and the grocers', and from that of `tallies_at`.
+abbrev head-priced : tie.After-fill-prices → tie.After-read-head
+head-priced c = c .before .before
+
+abbrev head-owned : tie.After-fill-bytes → tie.After-read-head
+head-owned c = head-priced (priced c)
+
+abbrev head-coded : tie.After-fill-codes → tie.After-read-head
+head-coded c = head-owned (owned c)
+
 abbrev head-issued : tie.After-fill-words → tie.After-read-head
-head-issued c = headed (offered (c .before) .before)
+head-issued c = head-coded (coded c)
 
-abbrev head-owned : tie.After-fill-owners → tie.After-read-head
-head-owned c = head-issued (issued (c .before))
+abbrev head-grocers : tie.After-fill-owners → tie.After-read-head
+head-grocers c = head-issued (issued c)
 
-abbrev head-tallied : tie.After-fill-tallies → tie.After-read-head
-head-tallied c = head-owned (owned (c .before))
+abbrev headed : tie.After-tallies-at → tie.After-read-head
+headed c = head-grocers (grocers-owned c)
 
-abbrev head-ended : tie.After-fill-tally-ends → tie.After-read-head
-head-ended c = head-tallied (tallied (c .before .before .before .before))
+-- The call of `tallies_at`, from those that fill the tallies' tables.
+abbrev at-grocered : tie.After-fill-words2 → tie.After-tallies-at
+at-grocered c = c .before .before
 
-abbrev head-bagged : tie.After-fill-bags → tie.After-read-head
-head-bagged c = head-ended (ended (c .before))
+abbrev at-boxed : tie.After-fill-bytes2 → tie.After-tallies-at
+at-boxed c = at-grocered (tally-grocered c)
 
--- The calls that fill tables, from the end.
-abbrev calls : tie.After-job-of → tie.After-fill-offers × tie.After-fill-words × tie.After-fill-owners × tie.After-fill-tallies × tie.After-fill-tally-ends
-calls c =
-    let n = ended (bagged (c .before) .before) in
-    let t = tallied (n .before .before .before .before) in
-    let g = owned (t .before) in
-    let w = issued (g .before) in
-    (offered (w .before), w, g, t, n)
+abbrev at-coded : tie.After-fill-codes2 → tie.After-tallies-at
+at-coded c = at-boxed (tally-boxed c)
+
+abbrev at-counted : tie.After-fill-counts → tie.After-tallies-at
+at-counted c = at-coded (tally-coded c)
+
+abbrev at-issued : tie.After-fill-words3 → tie.After-tallies-at
+at-issued c = at-counted (tally-counted c)
+
+abbrev at-bagged : tie.After-fill-words4 → tie.After-tallies-at
+at-bagged c = at-issued (tally-issued c)
+
+abbrev at-revised : tie.After-fill-words5 → tie.After-tallies-at
+at-revised c = at-bagged (tally-bagged c)
+
+-- The calls of the tallies' tables, from the end,
+abbrev copied : tie.After-job-of → tie.After-copy
+copied c = c .before .before .before
+
+abbrev revised : tie.After-job-of → tie.After-fill-words5
+revised c = tally-revised (copied c .before .before)
+
+abbrev bagged : tie.After-job-of → tie.After-fill-words4
+bagged c = tally-bagged (revised c)
+
+abbrev issuers : tie.After-job-of → tie.After-fill-words3
+issuers c = tally-issued (bagged c)
+
+abbrev counts : tie.After-job-of → tie.After-fill-counts
+counts c = tally-counted (issuers c)
+
+abbrev codes : tie.After-job-of → tie.After-fill-codes2
+codes c = tally-coded (counts c)
+
+abbrev boxes : tie.After-job-of → tie.After-fill-bytes2
+boxes c = tally-boxed (codes c)
+
+abbrev grocers : tie.After-job-of → tie.After-fill-words2
+grocers c = tally-grocered (boxes c)
+
+-- and of the others.
+abbrev owners : tie.After-job-of → tie.After-fill-owners
+owners c = grocers-owned (at-grocered (grocers c))
+
+abbrev offer-issued : tie.After-job-of → tie.After-fill-words
+offer-issued c = issued (owners c)
+
+abbrev offer-coded : tie.After-job-of → tie.After-fill-codes
+offer-coded c = coded (offer-issued c)
+
+abbrev offer-owned : tie.After-job-of → tie.After-fill-bytes
+offer-owned c = owned (offer-coded c)
+
+abbrev offer-priced : tie.After-job-of → tie.After-fill-prices
+offer-priced c = priced (offer-owned c)
 
 -- The tables as they are lent.
 abbrev lent : tie.Start → ReaderTables
@@ -124,81 +194,133 @@ known c = sound-read (c .read-head .ensures) (kept (c .before) .sound)
 free : (c : tie.After-read-head) → Room (asHead (c .read-head .result)) (lent (entry (c .before)))
 free c = room _ _ (known c .whole .most) (long (c .before))
 
+-- The number of offers is small enough for each call,
+few-offers : (c : tie.After-read-head) → c .read-head .result .offers ≤ 1_000
+few-offers c = omega (arith, known c .whole .most .offers)
+
+-- and so is the first block of the tallies,
+low : (c : tie.After-tallies-at) → c .tallies-at .result ≤ 100
+low c = omega (arith, c .tallies-at .ensures, known (headed c) .whole .most .offers)
+
+-- whose records are in the file.
+inside : (c : tie.After-tallies-at) → (i : ℕ) → i < headed c .read-head .result .tallies → recordAt (c .tallies-at .result) i + 24 ≤ length (entry (headed c .before) .args .file .now)
+inside c i l = omega (arith, c .tallies-at .ensures, tally-room (known (headed c) .whole) i l)
+
+-- It is the block that the file says.
+placed : (c : tie.After-tallies-at) → c .tallies-at .result ≡ talliesAt (decode (entry (headed c .before) .args .file .now) .head)
+placed c = c .tallies-at .ensures ∙ ap talliesAt (headed c .read-head .ensures)
+
 returns : tie.Need-returns
 returns c = let r = c .before .before in read-refusal _ _ _ (due r) (c .if1 .taken)
 
 read-head-requires : tie.Need-read-head-requires
 read-head-requires c κs = has-header (kept c .sound)
 
-fill-offers-requires : tie.Need-fill-offers-requires
-fill-offers-requires c κs =
-    let h = headed c in
-    let o = free h .tables .offers in
-    (known h .whole, (o .price, o .owner, o .code))
+fill-prices-requires : tie.Need-fill-prices-requires
+fill-prices-requires c κs =
+    let h = c .before in
+    let w = known h .whole in
+    ((w .most .offers, free h .tables .offers .price), offer-room w)
+
+fill-bytes-requires : tie.Need-fill-bytes-requires
+fill-bytes-requires c κs =
+    let h = head-priced (c .before .before .before) in
+    ((omega arith, few-offers h, omega arith, free h .tables .offers .owner), offer-room (known h .whole))
+
+fill-codes-requires : tie.Need-fill-codes-requires
+fill-codes-requires c κs =
+    let h = head-owned (c .before .before .before) in
+    ((omega arith, few-offers h, omega arith, free h .tables .offers .code), offer-room (known h .whole))
 
 fill-words-requires : tie.Need-fill-words-requires
 fill-words-requires c κs =
-    let h = headed (offered c .before) in
-    let w = known h .whole in
-    ((omega arith, omega (arith, w .most .offers), omega arith, free h .tables .offers .issuer), offer-room w)
+    let h = head-coded (c .before .before .before) in
+    ((omega arith, few-offers h, omega arith, free h .tables .offers .issuer), offer-room (known h .whole))
 
 fill-owners-requires : tie.Need-fill-owners-requires
-fill-owners-requires c κs = let h = head-issued (issued c) in (known h .whole, free h .tables .grocerOwner)
+fill-owners-requires c κs = let h = head-issued (c .before .before .before) in (known h .whole, free h .tables .grocerOwner)
 
-fill-tallies-requires : tie.Need-fill-tallies-requires
-fill-tallies-requires c κs =
-    let h = head-owned (owned c) in
-    let t = free h .tables .tallies in
-    (known h .whole, (t .grocer, (t .box, t .code)))
+tallies-at-requires : tie.Need-tallies-at-requires
+tallies-at-requires c κs = let h = head-grocers (c .before .before) in omega (arith, known h .whole .most .offers)
+
+fill-words-requires-2 : tie.Need-fill-words-requires-2
+fill-words-requires-2 c κs =
+    let t = c .before in
+    let h = headed t in
+    ((low t, known h .whole .most .tallies, omega arith, free h .tables .tallies .grocer), inside t)
+
+fill-bytes-requires-2 : tie.Need-fill-bytes-requires-2
+fill-bytes-requires-2 c κs =
+    let t = at-grocered (c .before .before .before) in
+    let h = headed t in
+    ((low t, known h .whole .most .tallies, omega arith, free h .tables .tallies .box), inside t)
+
+fill-codes-requires-2 : tie.Need-fill-codes-requires-2
+fill-codes-requires-2 c κs =
+    let t = at-boxed (c .before .before .before) in
+    let h = headed t in
+    ((low t, known h .whole .most .tallies, omega arith, free h .tables .tallies .code), inside t)
+
+fill-counts-requires : tie.Need-fill-counts-requires
+fill-counts-requires c κs =
+    let t = at-coded (c .before .before .before) in
+    let h = headed t in
+    ((low t, known h .whole .most .tallies, free h .tables .tallies .count), inside t)
+
+fill-words-requires-3 : tie.Need-fill-words-requires-3
+fill-words-requires-3 c κs =
+    let t = at-counted (c .before .before) in
+    let h = headed t in
+    ((low t, known h .whole .most .tallies, omega arith, free h .tables .tallies .issuer), inside t)
+
+fill-words-requires-4 : tie.Need-fill-words-requires-4
+fill-words-requires-4 c κs =
+    let t = at-issued (c .before .before .before) in
+    let h = headed t in
+    ((low t, known h .whole .most .tallies, omega arith, free h .tables .tallies .bag), inside t)
+
+fill-words-requires-5 : tie.Need-fill-words-requires-5
+fill-words-requires-5 c κs =
+    let t = at-bagged (c .before .before .before) in
+    let h = headed t in
+    ((low t, known h .whole .most .tallies, omega arith, free h .tables .tallies .revision), inside t)
 
 -- There is a word for the place of each tally.
-places-long : (c : tie.After-places3) → 1_000 ≡ length (refused (head-tallied (tallied c) .before) .refusal .last .1 .1 .0)
-places-long c = sym (refused (head-tallied (tallied c) .before) .refusal .kept .1 .1 .0)
+places-long : (c : tie.After-places3) → 1_000 ≡ length (refused (headed (at-revised (tally-revised c)) .before) .refusal .last .1 .1 .0)
+places-long c = sym (refused (headed (at-revised (tally-revised c)) .before) .refusal .kept .1 .1 .0)
 
-fill-tally-ends-requires : tie.Need-fill-tally-ends-requires
-fill-tally-ends-requires c κs =
-    let p = c .before .before .before in
-    let h = head-tallied (tallied p) in
-    let w = known h .whole in
-    let t = free h .tables .tallies in
-    ((w, omega (arith, places-long p, w .most .tallies)), (t .count, t .issuer, free h .tallyOffer))
-
-fill-bags-requires : tie.Need-fill-bags-requires
-fill-bags-requires c κs =
-    let h = head-ended (ended c) in
-    let t = free h .tables .tallies in
-    (known h .whole, (t .bag, t .revision))
+copy-requires : tie.Need-copy-requires
+copy-requires c κs =
+    let p = c .before in
+    let h = headed (at-revised (tally-revised p)) in
+    (omega (arith, places-long p, known h .whole .most .tallies), free h .tallyOffer)
 
 job-of-requires : tie.Need-job-of-requires
-job-of-requires c κs = known (head-bagged (bagged c)) .whole .most
+job-of-requires c κs = known (headed (at-revised (tally-revised (c .before .before .before .before)))) .whole .most
 
 returns-2 : tie.Need-returns-2
 returns-2 c =
-    let b = bagged (c .before) in
-    let q = calls c in
-    let o = q .0 in
-    let g = q .2 in
-    let t = q .3 in
-    let n = q .4 in
-    let h = headed (o .before) in
+    let t = at-grocered (grocers c) in
+    let h = headed t in
     let s = entry (h .before) in
     let e = h .read-head .ensures in
     let f = s .args .file .now in
+    let p = placed t in
     read-job _ _ (asHead (h .read-head .result)) (c .job-of .ensures) (sym (due (refused (h .before))) ∙ h .before .if1 .left) e
     (record {
-      price = o .fill-offers .ensures .0;
-      owner = o .fill-offers .ensures .1 .0;
-      code = o .fill-offers .ensures .1 .1;
-      issuer = offer-issuers f _ _ (q .1 .fill-words .ensures);
-      grocerOwner = g .fill-owners .ensures;
-      tallyGrocer = t .fill-tallies .ensures .0;
-      tallyBox = t .fill-tallies .ensures .1 .0;
-      tallyCode = t .fill-tallies .ensures .1 .1;
-      tallyCount = n .fill-tally-ends .ensures .0;
-      tallyIssuer = n .fill-tally-ends .ensures .1 .0;
-      tallyBag = b .fill-bags .ensures .0;
-      tallyRevision = b .fill-bags .ensures .1;
-      tallyOffer = places-stored f _ (s .args .tally-offer .now) _ e (kept (h .before) .placed) (n .fill-tally-ends .ensures .1 .1);
+      price = offer-priced c .fill-prices .ensures;
+      owner = offer-owners f _ _ (offer-owned c .fill-bytes .ensures);
+      code = offer-codes f _ _ (offer-coded c .fill-codes .ensures);
+      issuer = offer-issuers f _ _ (offer-issued c .fill-words .ensures);
+      grocerOwner = owners c .fill-owners .ensures;
+      tallyGrocer = tally-grocers f _ _ p (grocers c .fill-words2 .ensures);
+      tallyBox = tally-boxes f _ _ p (boxes c .fill-bytes2 .ensures);
+      tallyCode = tally-codes f _ _ p (codes c .fill-codes2 .ensures);
+      tallyCount = tally-counts f _ _ p (counts c .fill-counts .ensures);
+      tallyIssuer = tally-issuers f _ _ p (issuers c .fill-words3 .ensures);
+      tallyBag = tally-bags f _ _ p (bagged c .fill-words4 .ensures);
+      tallyRevision = tally-revisions f _ _ p (revised c .fill-words5 .ensures);
+      tallyOffer = places-stored f _ (s .args .tally-offer .now) _ e (kept (h .before) .placed) (copied c .copy .ensures);
     })
 
 pub read-spec : {M : Type 1} → statement M
@@ -211,25 +333,33 @@ read-spec =
     (λ c κs. omega arith)
     returns
     read-head-requires
-    fill-offers-requires
+    fill-prices-requires
+    fill-bytes-requires
+    fill-codes-requires
     fill-words-requires
     fill-owners-requires
-    fill-tallies-requires
+    tallies-at-requires
+    fill-words-requires-2
+    fill-bytes-requires-2
+    fill-codes-requires-2
+    fill-counts-requires
+    fill-words-requires-3
+    fill-words-requires-4
+    fill-words-requires-5
     places-long
-    fill-tally-ends-requires
-    fill-bags-requires
+    copy-requires
     job-of-requires
-    (λ c. calls c .0 .fill-offers .kept .1 .1 .0)
-    (λ c. calls c .0 .fill-offers .kept .1 .1 .1 .0)
-    (λ c. calls c .0 .fill-offers .kept .1 .1 .1 .1 .0)
-    (λ c. calls c .1 .fill-words .kept .1 .1 .1 .1 .0)
-    (λ c. calls c .2 .fill-owners .kept .1 .1 .0)
-    (λ c. calls c .3 .fill-tallies .kept .1 .1 .0)
-    (λ c. calls c .3 .fill-tallies .kept .1 .1 .1 .0)
-    (λ c. calls c .3 .fill-tallies .kept .1 .1 .1 .1 .0)
-    (λ c. calls c .4 .fill-tally-ends .kept .1 .1 .1 .0)
-    (λ c. calls c .4 .fill-tally-ends .kept .1 .1 .1 .1 .0)
-    (λ c. bagged (c .before) .fill-bags .kept .1 .1 .0)
-    (λ c. bagged (c .before) .fill-bags .kept .1 .1 .1 .0)
-    (λ c. calls c .4 .fill-tally-ends .kept .1 .1 .1 .1 .1 .0)
+    (λ c. offer-priced c .fill-prices .kept .1 .1 .0)
+    (λ c. offer-owned c .fill-bytes .kept .1 .1 .1 .1 .0)
+    (λ c. offer-coded c .fill-codes .kept .1 .1 .1 .1 .0)
+    (λ c. offer-issued c .fill-words .kept .1 .1 .1 .1 .0)
+    (λ c. owners c .fill-owners .kept .1 .1 .0)
+    (λ c. grocers c .fill-words2 .kept .1 .1 .1 .1 .0)
+    (λ c. boxes c .fill-bytes2 .kept .1 .1 .1 .1 .0)
+    (λ c. codes c .fill-codes2 .kept .1 .1 .1 .1 .0)
+    (λ c. counts c .fill-counts .kept .1 .1 .1 .0)
+    (λ c. issuers c .fill-words3 .kept .1 .1 .1 .1 .0)
+    (λ c. bagged c .fill-words4 .kept .1 .1 .1 .1 .0)
+    (λ c. revised c .fill-words5 .kept .1 .1 .1 .1 .0)
+    (λ c. copied c .copy .kept .1 .0)
     returns-2)

@@ -18,7 +18,7 @@ use Rattle.reconcile.proofs.Walk.{within, next, from-none, less, Array,
 use denote.Enum.Laws as EL
 use denote.Struct.Laws as LL
 use Rattle.recount.specs.Recount.{Counted}
-use Rattle.bags.specs.Bags.{KeysOf}
+use Rattle.index.specs.Bags.{KeysOf}
 use Rattle.model.specs.Reconcile.{countedRecords, reconciled}
 use Rattle.records.specs.Head.{headRefusal}
 use Rattle.records.specs.Rows.{Took}

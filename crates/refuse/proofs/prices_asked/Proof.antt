@@ -12,7 +12,7 @@ use Rattle.refuse.proofs.prices_asked.Statement.{statement}
 use Rattle.refuse.proofs.prices_asked.Tie as tie
 
 -- The start, from the words of receivers.
-abbrev entry : tie.After-receivers → tie.Start
+abbrev entry : tie.After-by-owner → tie.Start
 entry c = c .before .before .before .before
 
 returns : tie.Need-returns
@@ -21,7 +21,7 @@ returns c =
     let s = entry w in
     c .request-refusal .ensures
     ∙ ap (λ (to : List ℕ). firstMet (rulesBy (s .args .z .boxes) to (replicate 16 (replicate 16 0)) (stepsDone (s .args .z .boxes) (now (s .args .done))) (asked (s .args .x .kind) (s .args .x .first) (s .args .x .second))))
-    (w .receivers .ensures)
+    (w .by-owner .ensures)
 
 pub prices-asked-spec : {M : Type 1} → statement M
 prices-asked-spec = tie.close (tie.spec (λ c κs. c .before .before .before .pre .0) (λ c κs. entry (c .before .before) .pre .1) returns)

@@ -17,7 +17,8 @@ use Rattle.fits.specs.Request.{rulesBy}
 use Rattle.waits.proofs.Told.{receivers-of, waits-of, waits-in}
 use Rattle.apply.specs.Apply.{Applies}
 use Rattle.refuse.specs.Late.{earlyRules, laterRules, Held}
-use Rattle.waits.specs.Waits.{receiverTable, tallyLists, waitTable}
+use Rattle.tables.specs.Masks.{byOwner}
+use Rattle.waits.specs.Waits.{tallyLists, waitTable}
 use Rattle.tables.proofs.Holders.{need-words, sharer-words}
 use Rattle.tables.proofs.InJob.{placed-offers, placed-grocers, owned-offers}
 use Rattle.refuse.proofs.Refused.{answer-early, held, answer-later}
@@ -123,7 +124,7 @@ needs-are c = c .needs .ensures ∙ need-words (handed (priced (needs-for c))) r
 
 receivers-are : (c : tie.After-needs) →
     let e = priced (needs-for c) in
-    ReceiversOf (jobOf (handed e)) (receiverTable (entry e .args .z .offers) (now (entry e .args .offer-owner)) (c .needs .result))
+    ReceiversOf (jobOf (handed e)) (byOwner (entry e .args .z .offers) (now (entry e .args .offer-owner)) (c .needs .result))
 receivers-are c =
     let e = priced (needs-for c) in
     receivers-of (handed e) (in-hand e .job-in) (c .needs .result) (needs-are c) _ refl

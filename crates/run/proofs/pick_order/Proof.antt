@@ -7,10 +7,10 @@ use Rattle.run.proofs.pick_order.Tie as tie
 abbrev waited : tie.After-put-order-arg2 → tie.After-waits
 waited c = c .before .before .before .before
 
-abbrev lent : tie.After-receivers-arg → tie.After-shared-slice-known4
+abbrev lent : tie.After-by-owner-arg → tie.After-shared-slice-known4
 lent c = c .before .before .before .before
 
-abbrev entry : tie.After-receivers-arg → tie.Start
+abbrev entry : tie.After-by-owner-arg → tie.Start
 entry c = lent c .before .before .before .before
 
 put-order-requires : tie.Need-put-order-requires
@@ -18,14 +18,14 @@ put-order-requires c κs =
     let w = waited c in
     let r = w .before in
     let o = entry (r .before) .pre in
-    ((o .0 .done-in, some-same _ _ _ _ _ (r .receivers .ensures) (w .waits .ensures) (o .0 .some-job), o .1), λ j p. run-few j (p .boxes-in) _)
+    ((o .0 .done-in, some-same _ _ _ _ _ (r .by-owner .ensures) (w .waits .ensures) (o .0 .some-job), o .1), λ j p. run-few j (p .boxes-in) _)
 
 returns : tie.Need-returns
 returns c =
     let p = c .before .before in
     let w = waited (p .before) in
     let r = w .before in
-    (p .put-order .ensures .0, every-same _ _ _ _ _ (r .receivers .ensures) (w .waits .ensures) _ (p .put-order .ensures .1))
+    (p .put-order .ensures .0, every-same _ _ _ _ _ (r .by-owner .ensures) (w .waits .ensures) _ (p .put-order .ensures .1))
 
 pub pick-order-spec : {M : Type 1} → statement M
 pick-order-spec =

@@ -7,7 +7,7 @@ use native.Mathlib.Omega.{arith}
 use borrow.Author.Needs.{needs}
 use Rattle.laws.specs.Below.{count}
 use Rattle.laws.proofs.Below.{count-start}
-use Rattle.words.specs.Message.{inMessage, wordIn}
+use Rattle.places.specs.Message.{inMessage, wordIn}
 use denote.Ref.{now}
 use Rattle.sending.proofs.Counting.{counted-fits, counted}
 use Rattle.sending.proofs.count_words.Statement.{statement}

@@ -2,6 +2,7 @@
 use mathlib.Core.Path.{refl}
 use lib.ListN.{replicate}
 use borrow.Author.Needs.{needs}
+use denote.Ref.{now}
 use Rattle.step.proofs.move_prices.Statement.{statement}
 use Rattle.step.proofs.move_prices.Tie as tie
 
@@ -16,7 +17,7 @@ abbrev offers-at : tie.After-tally-links → tie.After-link
 offers-at c = c .before .before .before .before
 
 abbrev tallies-at : tie.After-tally-links3 → tie.After-link-pairs
-tallies-at c = c .before .before .before .before
+tallies-at c = c .before .before .before
 
 abbrev step-at : tie.After-working → tie.After-price-step
 step-at c = c .before .before .before .before .before
@@ -31,7 +32,15 @@ price-step-requires : tie.Need-price-step-requires
 price-step-requires c κs =
     let l = tallies-at (c .before .before .before) in
     let o = offers-at (l .before) in
-    entry (o .before) .pre .step-in _ _ (o .link .ensures) (l .link-pairs .ensures)
+    let s = entry (o .before) in
+    record { list = now (s .args .standing); passes = s .pre .step-in _ _ (o .link .ensures) (l .link-pairs .ensures) }
+
+returns : tie.Need-returns
+returns c =
+    let m = step-at c in
+    let l = tallies-at (m .before .before .before .before) in
+    let s = entry (offers-at (l .before) .before) in
+    m .price-step .ensures (now (s .args .standing)) (l .link-pairs .ensures)
 
 pub move-prices-spec : {M : Type 1} → statement M
 move-prices-spec =
@@ -44,7 +53,7 @@ move-prices-spec =
     (λ c. refl)
     link-pairs-requires
     price-step-requires
+    (λ c. step-at c .price-step .kept .1 .1 .1 .1 .1 .1 .1 .1 .0)
     (λ c. step-at c .price-step .kept .1 .1 .1 .1 .1 .1 .1 .1 .1 .0)
     (λ c. step-at c .price-step .kept .1 .1 .1 .1 .1 .1 .1 .1 .1 .1 .0)
-    (λ c. step-at c .price-step .kept .1 .1 .1 .1 .1 .1 .1 .1 .1 .1 .1 .0)
-    (λ c. step-at c .price-step .ensures))
+    returns)

@@ -2,6 +2,7 @@
 use mathlib.Core.Path.{refl}
 use lib.ListN.{replicate}
 use borrow.Author.Needs.{needs}
+use denote.Ref.{now}
 use Rattle.step.proofs.move_totals.Statement.{statement}
 use Rattle.step.proofs.move_totals.Tie as tie
 
@@ -19,7 +20,16 @@ link-requires : tie.Need-link-requires
 link-requires c κs = entry c .pre .grocers-keyed (replicate 272 0) refl
 
 total-step-requires : tie.Need-total-step-requires
-total-step-requires c κs = let l = links-at c in entry (l .before) .pre .step-in _ (l .link .ensures)
+total-step-requires c κs =
+    let l = links-at c in
+    let s = entry (l .before) in
+    record { list = now (s .args .grocer-owner); passes = s .pre .step-in _ (l .link .ensures) }
+
+returns : tie.Need-returns
+returns c =
+    let l = links-at (step-at c .before) in
+    let s = entry (l .before) in
+    step-at c .total-step .ensures (now (s .args .grocer-owner)) (l .link .ensures)
 
 pub move-totals-spec : {M : Type 1} → statement M
 move-totals-spec =
@@ -29,7 +39,7 @@ move-totals-spec =
     (λ c. refl)
     link-requires
     total-step-requires
+    (λ c. step-at c .total-step .kept .1 .1 .1 .0)
     (λ c. step-at c .total-step .kept .1 .1 .1 .1 .0)
     (λ c. step-at c .total-step .kept .1 .1 .1 .1 .1 .0)
-    (λ c. step-at c .total-step .kept .1 .1 .1 .1 .1 .1 .0)
-    (λ c. step-at c .total-step .ensures))
+    returns)

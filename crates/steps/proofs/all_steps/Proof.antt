@@ -7,7 +7,8 @@ use borrow.Author.Count.{falls}
 use denote.Ref.{now}
 use Rattle.model.specs.Tables.{JobTables, jobTables, StateTables}
 use Rattle.apply.proofs.Keys.{offers-keyed, grocers-keyed, tallies-keyed}
-use Rattle.steps.specs.All.{withoutMarks}
+use Rattle.totals.proofs.Effect.{talliesOf}
+use Rattle.steps.specs.All.{withoutMarks, StepOut}
 use Rattle.steps.proofs.Turns.{Turning, Chained, turning-first, turning-last, prices-fresh, totals-fresh, fresh-holds, turn-place}
 use Rattle.steps.proofs.Turns.{up, may-step, counts-fit, turning-next}
 use Rattle.steps.proofs.Turns.{known-length, transit-length, working-length, totals-length, statement-length}
@@ -116,13 +117,33 @@ step-at-requires c κs = let l = c .before .loop in turn-place _ _ _ _ _ _ (l .i
 one-step-requires : tie.Need-one-step-requires Inv-loop μ-loop
 one-step-requires c κs =
     let x = told (found c) in
-    may-step _ _ _ _ _ _ _ _ _ _ (turning (turn x)) (x .before .loop-test .taken) _ _ _ (x .step-at .ensures) _ _ _ (turn x .loop .inv .2)
+    let s = at-start (turn x) in
+    record {
+      list = now (s .args .tally-box);
+      passes = record {
+        list = now (s .args .grocer-owner);
+        passes = may-step _ _ _ _ _ _ _ _ _ _ (turning (turn x)) (x .before .loop-test .taken) _ _ _ (x .step-at .ensures) _ _ _ (turn x .loop .inv .2);
+      };
+    }
+
+-- What the step left, with the boxes of the tallies and the owners of the grocers as they are lent.
+left : (c : tie.After-one-step Inv-loop μ-loop) →
+    let x = told (found (c .before)) in
+    let s = at-start (turn x) in
+    StepOut (talliesOf (job s)) (now (s .args .grocer-owner)) (now (s .args .needs)) (now (s .args .sharers)) (held (turn x))
+    (let l = c .one-step .last .1 .1 .1 .1 .1 .1 .1 .1 .1 .1 in withoutMarks (l .0) (l .1 .0) (l .1 .1 .0) (l .1 .1 .1 .0) (l .1 .1 .1 .1 .0))
+    (x .step-at .result .kind) (x .step-at .result .first) (x .step-at .result .second) (c .one-step .result)
+left c =
+    let x = told (found (c .before)) in
+    let s = at-start (turn x) in
+    let k = turn x .loop .inv .2 in
+    c .one-step .ensures (now (s .args .tally-box)) (now (s .args .grocer-owner)) (λ _. k .tallies-linked) (λ _. k .grocers-linked)
 
 sent-more-requires : tie.Need-sent-more-requires Inv-loop μ-loop
 sent-more-requires c κs =
     let y = stepped (c .before .before) in
     let x = told (found (y .before)) in
-    counts-fit _ _ _ _ _ _ _ _ _ _ (turning (turn x)) (x .before .loop-test .taken) _ _ _ (x .step-at .ensures) _ _ (y .one-step .ensures)
+    counts-fit _ _ _ _ _ _ _ _ _ _ (turning (turn x)) (x .before .loop-test .taken) _ _ _ (x .step-at .ensures) _ _ (left y)
 
 -- The turn, from its end.
 abbrev turned : tie.After-sent-more Inv-loop μ-loop → tie.After-one-step Inv-loop μ-loop
@@ -143,7 +164,7 @@ loop-again c =
     let x = step-of c in
     let t = x .before .loop-test .taken in (
       up (turn x .loop .i) _ t,
-      turning-next _ _ _ _ _ _ _ _ _ _ (turning (turn x)) t _ _ _ (x .step-at .ensures) _ _ (y .one-step .ensures) _ _ (c .sent-more .ensures .0) (c .sent-more .ensures .1),
+      turning-next _ _ _ _ _ _ _ _ _ _ (turning (turn x)) t _ _ _ (x .step-at .ensures) _ _ (left y) _ _ (c .sent-more .ensures .0) (c .sent-more .ensures .1),
       turn x .loop .inv .2,
     )
 

@@ -3,7 +3,7 @@ use mathlib.Core.Path.{refl, ap}
 use Prim.Native.Nat.{ℕ, _+_}
 use native.Mathlib.Omega.{arith}
 use Rattle.model.specs.Steps.{kindOf}
-use Rattle.walk.proofs.Sends.{one-each}
+use Rattle.places.proofs.Sends.{one-each}
 use Rattle.steps.proofs.sent_more.Statement.{statement}
 use Rattle.steps.proofs.sent_more.Tie as tie
 

@@ -9,7 +9,8 @@ use Rattle.model.specs.Tables.{JobTables, bagTables, countedOf, jobLengths, job
 use Rattle.model.specs.Ranges.{jobInRange}
 use denote.Ref.{now}
 use Rattle.model.proofs.Handed.{bare-short, bare-range}
-use Rattle.admit.proofs.Standing.{not-off, columns-in, standing-boxes, met-20, met-21, met-9, met-none}
+use Rattle.admit.proofs.Standing.{columns-in, standing-boxes}
+use Rattle.admit.proofs.Refusals.{not-off, met-20, met-21, met-9, met-none}
 use Rattle.model.proofs.Whole.{job-whole}
 use Rattle.admit.proofs.checks.job_refusal.Statement.{statement}
 use Rattle.admit.proofs.checks.job_refusal.Tie as tie

@@ -6,8 +6,8 @@ use native.Mathlib.Omega.{arith}
 use lib.ListN.{length, length-set}
 use borrow.Author.Needs.{needs}
 use Rattle.format.specs.Job.{FileJob}
-use Rattle.fills.specs.Fills.{Placed}
-use Rattle.fills.proofs.Places.{unnamedBelow, none-yet, named-more, unnamed-hit, unnamed-end, placed-none, placed-more, placed-end, place-most}
+use Rattle.blocks.specs.Fills.{Placed}
+use Rattle.blocks.proofs.Looked.{unnamedBelow, none-yet, named-more, unnamed-hit, unnamed-end, placed-none, placed-more, placed-end, place-most}
 use Rattle.checks.specs.Rows.{Finds}
 use Rattle.checks.proofs.codes.find_places.Statement.{statement}
 use Rattle.checks.proofs.codes.find_places.Tie as tie

@@ -1,11 +1,11 @@
 -- `checks::codes::index_names` meets its contract. Assumes nothing.
 use mathlib.Core.Path.{sym}
 use native.Mathlib.Omega.{arith}
-use denote.Ref.{now}
 use borrow.Author.Needs.{needs}
+use denote.Ref.{now}
+use Rattle.laws.proofs.Tables.{filled-right}
 use Rattle.format.specs.Codes.{nameNumber}
 use Rattle.format.specs.Tables.{nameIn}
-use Rattle.fills.proofs.Naming.{filled-right}
 use Rattle.checks.proofs.codes.index_names.Statement.{statement}
 use Rattle.checks.proofs.codes.index_names.Tie as tie
 
@@ -36,7 +36,7 @@ returns c =
     let b = built c in
     let n = filled (b .before) in
     let a = entry n .args in
-    record { numbers = _; index = b .build .ensures; right = filled-right (λ i. nameNumber (nameIn (now (a .code)) (now (a .issuer)) i)) _ _ _ (n .number-all .ensures) }
+    record { numbers = _; index = b .build .ensures; right = filled-right 0 (λ i. nameNumber (nameIn (now (a .code)) (now (a .issuer)) i)) _ _ _ (n .number-all .ensures) }
 
 pub index-names-spec : {M : Type 1} → statement M
 index-names-spec =

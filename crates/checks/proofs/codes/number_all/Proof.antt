@@ -1,13 +1,13 @@
 -- `checks::codes::number_all` meets its contract. The invariant: the first i numbers are written. Assumes nothing.
-use Prim.Native.Nat.{_≤_, _-_}
 use mathlib.Core.Path.{_≡_, refl}
+use Prim.Native.Nat.{_≤_, _-_}
 use native.Mathlib.Omega.{arith}
 use lib.ListN.{length, length-set}
 use borrow.Author.Needs.{needs}
 use Rattle.laws.specs.Tables.{overwrite}
+use Rattle.laws.proofs.Tables.{fill-none, fill-more, fill-end}
 use Rattle.format.specs.Codes.{nameNumber}
 use Rattle.format.specs.Tables.{nameIn}
-use Rattle.fills.proofs.Filling.{fill-none, fill-more, fill-end}
 use Rattle.checks.proofs.codes.number_all.Statement.{statement}
 use Rattle.checks.proofs.codes.number_all.Tie as tie
 

@@ -27,7 +27,7 @@ product-row-requires c κs =
     let s = entry c in
     let p = s .pre in (
       tally-rows (tables s) (now (s .args .prices)) (s .args .a) (p .0) (p .1 .0) (p .1 .2),
-      amount-row (s .args .z .boxes) (s .args .z .grocers) (s .args .a) (now (s .args .working)) (p .1 .1) (p .1 .2),
+      (amount-row (s .args .z .boxes) (s .args .z .grocers) (s .args .a) (now (s .args .working)) (p .1 .1) (p .1 .2), (p .0 .owner-long, p .0 .holder-long)),
     )
 
 -- The row has 255 words.

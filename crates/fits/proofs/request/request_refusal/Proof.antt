@@ -5,7 +5,7 @@ use native.Mathlib.Omega.{arith}
 use borrow.Author.Tests.{not-false}
 use Rattle.laws.specs.Checks.{firstMet}
 use Rattle.model.specs.Step.{isKind}
-use Rattle.rules.specs.Marks.{MarksIn}
+use Rattle.places.specs.Marks.{MarksIn}
 use Rattle.fits.specs.Request.{rulesBy}
 use borrow.Author.Needs.{needs}
 use denote.Ref.{now}

@@ -56,11 +56,11 @@ small c =
     let p = place s (c .before .loop .i) in
     small-still (s .args .m) (s .args .n) (s .args .t) (s .args .a) (now (s .args .offer-owner)) (now (s .args .tally-grocer)) (now (s .args .tally-box)) (now (s .args .tally-offer)) (now (s .args .tally-count))
     (now (s .args .prices)) (s .args .from) (began c .row-start .result) (s .pre .0) (began c .row-start .ensures) (row .result) (c .before .loop .row) (place s) (c .before .loop .i) p (c .loop-test .taken)
-    (subst (λ (r : List ℤ). natAbs (getD r p (pos 0)) ≤ 1_000_000_000_000_000) (sym (row .ensures)) (row-size (s .args .m) (s .args .a) (now (s .args .working)) p (s .pre .1) (grocer-in c) (s .pre .0 .grocers-in)))
+    (subst (λ (r : List ℤ). natAbs (getD r p (pos 0)) ≤ 1_000_000_000_000_000) (sym (row .ensures)) (row-size (s .args .m) (s .args .a) (now (s .args .working)) p (s .pre .1 .0) (grocer-in c) (s .pre .0 .grocers-in)))
     (c .before .loop .inv .2 p)
 
 row-at-requires : tie.Need-row-at-requires Inv-loop μ-loop
-row-at-requires c κs = let s = lent c in (s .pre .0 .grocers-in, s .pre .0 .box-in, s .pre .1 .long)
+row-at-requires c κs = let s = lent c in (s .pre .0 .grocers-in, s .pre .0 .box-in, s .pre .1 .0 .long)
 
 row-start-requires : tie.Need-row-start-requires Inv-loop μ-loop
 row-start-requires c κs = let s = lent (c .before) in (s .pre .0 .offers-in, s .pre .0 .box-in)
@@ -83,7 +83,7 @@ add-taken-requires c κs =
     let l = e .loop-test .taken in (
       tally-at (s .args .m) (s .args .n) (s .args .t) (s .args .a) (now (s .args .offer-owner)) (now (s .args .tally-grocer)) (now (s .args .tally-box)) (now (s .args .tally-offer)) (now (s .args .tally-count))
           (now (s .args .prices)) (s .args .from) (began e .row-start .result) (s .pre .0) (began e .row-start .ensures) i l,
-      ((s .pre .0 .holder-long i l, s .pre .0 .owner-long i l), (omega (arith, grocer-in e, s .pre .0 .grocers-in, e .before .loop .inv .1), small e)),
+      ((omega (arith, l, s .pre .1 .1 .1), omega (arith, s .pre .0 .offer-in i l, s .pre .1 .1 .0)), (omega (arith, grocer-in e, s .pre .0 .grocers-in, e .before .loop .inv .1), small e)),
     )
 
 loop-again : tie.Need-loop-again Inv-loop μ-loop

@@ -4,7 +4,7 @@ use Prim.Native.Nat.{ℕ}
 use native.Mathlib.Omega.{arith}
 use lib.ListN.{getD}
 use denote.Ref.{now}
-use Rattle.words.specs.Message.{inMessage, wordIn}
+use Rattle.places.specs.Message.{inMessage, wordIn}
 use Rattle.prices.proofs.offers.due.Statement.{statement}
 use Rattle.prices.proofs.offers.due.Tie as tie
 

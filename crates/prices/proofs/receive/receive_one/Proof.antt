@@ -3,7 +3,7 @@ use mathlib.Core.Path.{_≡_, sym, _∙_}
 use mathlib.Core.Bool.{Bool, true, false}
 use borrow.Author.Needs.{needs}
 use Rattle.laws.proofs.Bools.{cond-yes, cond-no}
-use Rattle.words.specs.Message.{wordIn}
+use Rattle.places.specs.Message.{wordIn}
 use denote.Ref.{now}
 use Rattle.prices.proofs.receive.receive_one.Statement.{statement}
 use Rattle.prices.proofs.receive.receive_one.Tie as tie

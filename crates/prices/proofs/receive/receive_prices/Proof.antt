@@ -12,11 +12,11 @@ use Rattle.laws.proofs.Tables.{cell-at}
 use Rattle.laws.proofs.Loops.{guarded, guarded-more, guarded-next, guarded-none, row-stored}
 use Rattle.laws.proofs.Bools.{cond-no}
 use Rattle.links.specs.Links.{Skips}
-use Rattle.words.specs.Message.{wordIn}
+use Rattle.places.specs.Message.{wordIn}
 use Rattle.prices.specs.Prices.{receivedKnown, receivedTransit}
 use denote.Ref.{now}
 use Rattle.links.proofs.Walks.{goes-on, guarded-passed}
-use Rattle.words.proofs.Message.{word-owner}
+use Rattle.places.proofs.Message.{word-owner}
 use Rattle.prices.proofs.receive.receive_prices.Statement.{statement}
 use Rattle.prices.proofs.receive.receive_prices.Tie as tie
 
@@ -47,17 +47,17 @@ abbrev came : Start → ℕ → ℕ
 came s i = getD (now (s .args .transit)) i 0
 
 -- The entry of the call, from the row of box a; that row, from a turn of the loop; and where it begins.
-abbrev begun : tie.After-row Inv-loop μ-loop → Start
+abbrev begun : tie.After-row-start Inv-loop μ-loop → Start
 begun c = c .before .before .before .before
 
-abbrev lent : tie.In-loop Inv-loop μ-loop → tie.After-row Inv-loop μ-loop
+abbrev lent : tie.In-loop Inv-loop μ-loop → tie.After-row-start Inv-loop μ-loop
 lent e = e .before .before .before
 
 abbrev entry : tie.In-loop Inv-loop μ-loop → Start
 entry e = begun (lent e)
 
-abbrev row : tie.After-row Inv-loop μ-loop → ℕ
-row c = c .row .result
+abbrev row : tie.After-row-start Inv-loop μ-loop → ℕ
+row c = c .row-start .result
 
 -- The turn, and what is received in it, from what follows it.
 abbrev turn : tie.After-receive-one Inv-loop μ-loop → tie.In-loop Inv-loop μ-loop
@@ -114,7 +114,7 @@ receive-one-requires c κs =
         omega (arith, l, s .pre .0 .offers-in),
         (
           omega (arith, l, s .pre .0 .owner-long),
-          (omega (arith, l, s .pre .0 .known-long, e .before .loop .inv .1, lent e .row .ensures), omega (arith, l, s .pre .0 .transit-long, e .before .loop .inv .2, lent e .row .ensures)),
+          (omega (arith, l, s .pre .0 .known-long, e .before .loop .inv .1, lent e .row-start .ensures), omega (arith, l, s .pre .0 .transit-long, e .before .loop .inv .2, lent e .row-start .ensures)),
         ),
       ),
     )
@@ -138,11 +138,11 @@ loop-again c =
       call .kept .0 ∙ inv .1,
       call .kept .1 .0 ∙ inv .2,
       λ i. ap (λ (t : List ℕ). getD t i 0) (call .ensures .0)
-          ∙ guarded-more (e .before .loop .known) 0 (came s) (knew s) (row r) o (due s) (omega (arith, l, s .pre .0 .known-long, inv .1, r .row .ensures)) (inv .3) _
+          ∙ guarded-more (e .before .loop .known) 0 (came s) (knew s) (row r) o (due s) (omega (arith, l, s .pre .0 .known-long, inv .1, r .row-start .ensures)) (inv .3) _
           (inv .4 (row r + o) ∙ cond-no _ 0 (came s (row r + o)) (guarded-next (row r) o (due s))) i
           ∙ ap (λ (t : Bool). cond t (came s i) (knew s i)) (past i),
       λ i. ap (λ (t : List ℕ). getD t i 0) (call .ensures .1)
-          ∙ guarded-more (e .before .loop .transit) 0 (λ x. 0) (came s) (row r) o (due s) (omega (arith, l, s .pre .0 .transit-long, inv .2, r .row .ensures)) (inv .4) 0 refl i
+          ∙ guarded-more (e .before .loop .transit) 0 (λ x. 0) (came s) (row r) o (due s) (omega (arith, l, s .pre .0 .transit-long, inv .2, r .row-start .ensures)) (inv .4) 0 refl i
           ∙ ap (λ (t : Bool). cond t 0 (came s i)) (past i),
       walks c .hits,
     )
@@ -161,10 +161,10 @@ returns c k h =
     let inv = c .before .loop .inv in
     let end : c .before .loop .o ≡ s .args .n = le-antisymm (inv .0) (c .loop-test .left) in (
       row-stored k (s .args .n) (s .args .a) (row r) (c .before .loop .o) (now (s .args .known)) (c .before .loop .known) 0
-          (due s) (came s) (cell k (s .args .n) (now (s .args .transit)) 0 (s .args .a)) (h .a-in) (h .known-long) (r .row .ensures) end (inv .1) (inv .3)
+          (due s) (came s) (cell k (s .args .n) (now (s .args .transit)) 0 (s .args .a)) (h .a-in) (h .known-long) (r .row-start .ensures) end (inv .1) (inv .3)
           (λ o l. sym (cell-at k (s .args .n) (now (s .args .transit)) 0 (s .args .a) o (h .a-in) l)),
       row-stored k (s .args .n) (s .args .a) (row r) (c .before .loop .o) (now (s .args .transit)) (c .before .loop .transit) 0
-          (due s) (λ i. 0) (λ o. 0) (h .a-in) (h .transit-long) (r .row .ensures) end (inv .2) (inv .4) (λ o l. refl),
+          (due s) (λ i. 0) (λ o. 0) (h .a-in) (h .transit-long) (r .row-start .ensures) end (inv .2) (inv .4) (λ o l. refl),
     )
 
 pub receive-prices-spec : {M : Type 1} → statement M

@@ -7,7 +7,7 @@ use borrow.Author.Needs.{needs}
 use Rattle.laws.specs.Below.{naturals}
 use Rattle.laws.proofs.Bools.{cond-yes, cond-no}
 use Rattle.laws.proofs.Sums.{only-yes, only-no}
-use Rattle.words.specs.Message.{wordIn}
+use Rattle.places.specs.Message.{wordIn}
 use denote.Ref.{now}
 use Rattle.prices.proofs.send.send_one.Statement.{statement}
 use Rattle.prices.proofs.send.send_one.Tie as tie

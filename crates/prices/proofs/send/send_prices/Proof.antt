@@ -13,11 +13,11 @@ use Rattle.laws.proofs.Tables.{cell-at}
 use Rattle.laws.proofs.Loops.{guarded, guarded-more, guarded-none, row-stored}
 use Rattle.laws.proofs.Bools.{cond-no}
 use Rattle.links.specs.Links.{Skips}
-use Rattle.words.specs.Message.{wordIn}
+use Rattle.places.specs.Message.{wordIn}
 use Rattle.prices.specs.Prices.{sentTransit}
 use denote.Ref.{now}
 use Rattle.links.proofs.Walks.{goes-on, count-passed, guarded-passed}
-use Rattle.words.proofs.Message.{word-owner}
+use Rattle.places.proofs.Message.{word-owner}
 use Rattle.prices.proofs.send.send_prices.Statement.{statement}
 use Rattle.prices.proofs.send.send_prices.Tie as tie
 
@@ -40,24 +40,24 @@ abbrev due : Start → ℕ → Bool
 due s = wordIn (now (s .args .owner)) (now (s .args .needs)) (s .args .a) (s .args .b)
 
 -- The entry of the call, from the rows of the two boxes; and the rows, from a turn of the loop.
-abbrev begun : tie.After-row2 Inv-loop μ-loop → Start
+abbrev begun : tie.After-row-start2 Inv-loop μ-loop → Start
 begun c = c .before .before .before .before .before
 
-abbrev rows : tie.In-loop Inv-loop μ-loop → tie.After-row2 Inv-loop μ-loop
+abbrev rows : tie.In-loop Inv-loop μ-loop → tie.After-row-start2 Inv-loop μ-loop
 rows e = e .before .before .before
 
 abbrev entry : tie.In-loop Inv-loop μ-loop → Start
 entry e = begun (rows e)
 
 -- Where these rows begin.
-abbrev from : tie.After-row2 Inv-loop μ-loop → ℕ
-from c = c .before .row .result
+abbrev from : tie.After-row-start2 Inv-loop μ-loop → ℕ
+from c = c .before .row-start .result
 
-abbrev to : tie.After-row2 Inv-loop μ-loop → ℕ
-to c = c .row2 .result
+abbrev to : tie.After-row-start2 Inv-loop μ-loop → ℕ
+to c = c .row-start2 .result
 
 -- The new word at place i, and the old one.
-abbrev new : tie.After-row2 Inv-loop μ-loop → ℕ → ℕ
+abbrev new : tie.After-row-start2 Inv-loop μ-loop → ℕ → ℕ
 new c i = getD (now (begun c .args .known)) (from c + (i - to c)) 0
 
 abbrev old : Start → ℕ → ℕ
@@ -110,7 +110,7 @@ send-one-requires c κs =
         omega (arith, l, s .pre .0 .offers-in),
         (
           omega (arith, l, s .pre .0 .owner-long),
-          (omega (arith, l, s .pre .0 .known-long, rows e .before .row .ensures), omega (arith, l, s .pre .0 .transit-long, e .before .loop .inv .2, rows e .row2 .ensures)),
+          (omega (arith, l, s .pre .0 .known-long, rows e .before .row-start .ensures), omega (arith, l, s .pre .0 .transit-long, e .before .loop .inv .2, rows e .row-start2 .ensures)),
         ),
       ),
     )
@@ -140,7 +140,7 @@ loop-again c =
       ap₂ _+_ (inv .1) (call .ensures .0) ∙ sym (count-next o (due s)) ∙ sym (count-passed (s .args .n) own (s .args .a) (o + 1) j (walks c) (due s) (due-own s)),
       call .kept .0 ∙ inv .2,
       λ i. ap (λ (t : List ℕ). getD t i 0) (call .ensures .1)
-          ∙ guarded-more (e .before .loop .transit) 0 (new r) (old s) (to r) o (due s) (omega (arith, l, s .pre .0 .transit-long, inv .2, r .row2 .ensures)) (inv .3) _
+          ∙ guarded-more (e .before .loop .transit) 0 (new r) (old s) (to r) o (due s) (omega (arith, l, s .pre .0 .transit-long, inv .2, r .row-start2 .ensures)) (inv .3) _
           (ap (λ (x : ℕ). getD (now (s .args .known)) (from r + x) 0) (omega arith)) i
           ∙ ap (λ (t : Bool). cond t (new r i) (old s i)) (sym (guarded-passed (s .args .n) own (s .args .a) (o + 1) j (walks c) (due s) (due-own s) (to r) i)),
       walks c .hits,
@@ -150,11 +150,11 @@ same-length : tie.Need-same-length Inv-loop μ-loop
 same-length c = c .before .loop .inv .2
 
 -- The new word of column o is the sender's.
-row-word : (r : tie.After-row2 Inv-loop μ-loop) (k : ℕ) → let s = begun r in s .args .a < k → (o : ℕ) → o < s .args .n →
+row-word : (r : tie.After-row-start2 Inv-loop μ-loop) (k : ℕ) → let s = begun r in s .args .a < k → (o : ℕ) → o < s .args .n →
     new r (s .args .b * s .args .n + o) ≡ cell k (s .args .n) (now (s .args .known)) 0 (s .args .a) o
 row-word r k la o l =
     let s = begun r in
-    ap (λ (x : ℕ). getD (now (s .args .known)) x 0) (omega (arith, r .before .row .ensures, r .row2 .ensures))
+    ap (λ (x : ℕ). getD (now (s .args .known)) x 0) (omega (arith, r .before .row-start .ensures, r .row-start2 .ensures))
     ∙ sym (cell-at k (s .args .n) (now (s .args .known)) 0 (s .args .a) o la l)
 
 returns : tie.Need-returns Inv-loop μ-loop
@@ -165,7 +165,7 @@ returns c =
     let inv = c .before .loop .inv in
     let end : c .before .loop .o ≡ s .args .n = le-antisymm (inv .0) (c .loop-test .left) in (
       (λ k h. row-stored k (s .args .n) (s .args .b) (to r) (c .before .loop .o) (now (s .args .transit)) (c .before .loop .transit) 0
-          (due s) (new r) (cell k (s .args .n) (now (s .args .known)) 0 (s .args .a)) (h .b-in) (h .transit-long) (r .row2 .ensures) end (inv .2) (inv .3) (row-word r k (h .a-in))),
+          (due s) (new r) (cell k (s .args .n) (now (s .args .known)) 0 (s .args .a)) (h .b-in) (h .transit-long) (r .row-start2 .ensures) end (inv .2) (inv .3) (row-word r k (h .a-in))),
       inv .1 ∙ ap (λ (m : ℕ). count m (due s)) end,
     )
 

@@ -9,11 +9,11 @@ use Rattle.rules.proofs.ready.fits.Tie as tie
 
 returns : tie.Need-returns
 unfolding fitsBy kindOf
-returns c = rw (c .before .if1 .taken) (c .prices-due .ensures)
+returns c = rw (c .before .if1 .taken) (c .reaches .ensures)
 
 returns-2 : tie.Need-returns-2
 unfolding fitsBy kindOf
-returns-2 c = rw (c .before .if2 .taken) (c .prices-due2 .ensures)
+returns-2 c = rw (c .before .if2 .taken) (c .reaches2 .ensures)
 
 returns-3 : tie.Need-returns-3
 unfolding fitsBy kindOf

@@ -1,4 +1,6 @@
--- `totals::credit::credit` meets its contract. The invariant: of the grocers passed, the totals that are credited are in the statements, and 0 where they were; the next one is box a's. A grocer passed over is not box a's. Assumes nothing.
+-- `totals::credit::credit` meets its contract. The invariant: of the grocers passed, the totals that are credited are in
+-- the statements, and 0 where they were; the next one is box a's, by every list of owners that the links link. A grocer
+-- passed over is not box a's. Assumes nothing.
 use mathlib.Core.Path.{_≡_, refl, sym, ap, ap₂, _∙_, subst}
 use mathlib.Core.Bool.{Bool, true, cond, _&&_}
 use mathlib.Core.List.{List}
@@ -10,7 +12,7 @@ use lib.ListN.{length, getD, set}
 use lib.IntN.{ℤ, pos, natAbs, _+ℤ_}
 use Rattle.laws.proofs.Loops.{guarded, guarded-more, guarded-next, guarded-none, front-more, front-next, front-none, row-stored}
 use Rattle.laws.proofs.Bools.{cond-no}
-use Rattle.links.specs.Links.{Skips}
+use Rattle.links.specs.Links.{Skips, Linked, Some}
 use Rattle.totals.specs.Credit.{takesTotal, credited, cleared}
 use Rattle.links.proofs.Walks.{guarded-passed}
 use denote.Ref.{now}
@@ -21,22 +23,30 @@ use Rattle.model.proofs.Step.{around-at}
 use Rattle.totals.proofs.credit.credit.Tie as tie
 
 abbrev Inv-loop : tie.InvT-loop
-Inv-loop m a from owner sharers links source₀ statement₀ at g₀ source statement g =
+Inv-loop m a from sharers links source₀ statement₀ at g₀ source statement g =
     (g ≤ m)
     × (length source ≡ length source₀)
     × (length statement ≡ length statement₀)
-    × ((i : ℕ) → getD source i (pos 0) ≡ cond (guarded at g (credited owner sharers a from) i) (pos 0) (getD source₀ i (pos 0)))
+    × ((owner : List ℕ) → Linked m owner links →
+    ((i : ℕ) → getD source i (pos 0) ≡ cond (guarded at g (credited owner sharers a from) i) (pos 0) (getD source₀ i (pos 0)))
     × ((i : ℕ) → getD statement i (pos 0) ≡ cond (ltb i g && credited owner sharers a from i) (getD statement₀ i (pos 0) +ℤ getD source₀ (at + i) (pos 0)) (getD statement₀ i (pos 0)))
-    × (g < m → getD owner g 0 ≡ a)
+    × (g < m → getD owner g 0 ≡ a))
 
 abbrev μ-loop : tie.MeasureT-loop
-μ-loop m a from owner sharers links source₀ statement₀ at g₀ source statement g = m - g
+μ-loop m a from sharers links source₀ statement₀ at g₀ source statement g = m - g
 
 abbrev Start : Type 0
 Start = tie.Start Inv-loop μ-loop
 
-abbrev test : Start → ℕ → Bool
-test s = credited (now (s .args .owner)) (now (s .args .sharers)) (s .args .a) (s .args .from)
+-- A list of owners that the links link, and one of these.
+abbrev linked : Start → List ℕ → Type 0
+linked s owner = Linked (s .args .m) owner (now (s .args .links))
+
+abbrev some : (s : Start) → Some (linked s)
+some s = s .pre .1 .1 .1
+
+abbrev test : Start → List ℕ → ℕ → Bool
+test s owner = credited owner (now (s .args .sharers)) (s .args .a) (s .args .from)
 
 abbrev was : Start → ℕ → ℤ
 was s i = getD (now (s .args .source)) i (pos 0)
@@ -45,7 +55,7 @@ abbrev old : Start → ℕ → ℤ
 old s i = getD (now (s .args .statement)) i (pos 0)
 
 abbrev entry : tie.In-loop Inv-loop μ-loop → Start
-entry c = c .before .before .before .before .before
+entry c = c .before .before .before .before
 
 -- The turn, and what is done in it, from what follows it.
 abbrev turn : tie.After-credit-one Inv-loop μ-loop → tie.In-loop Inv-loop μ-loop
@@ -65,8 +75,9 @@ place c = omega (arith, c .before .before .before .row-start .ensures, c .loop-t
 total-is : (c : tie.In-loop Inv-loop μ-loop) → getD (c .before .loop .source) (start c + c .before .loop .g) (pos 0) ≡ was (entry c) (start c + c .before .loop .g)
 total-is c =
     let s = entry c in
+    let w = some s in
     let i = start c + c .before .loop .g in
-    c .before .loop .inv .3 i ∙ cond-no _ (pos 0) (was s i) (guarded-next (start c) (c .before .loop .g) (test s))
+    c .before .loop .inv .3 (w .list) (w .passes) .0 i ∙ cond-no _ (pos 0) (was s i) (guarded-next (start c) (c .before .loop .g) (test s (w .list)))
 
 was-in : (c : tie.In-loop Inv-loop μ-loop) → natAbs (was (entry c) (start c + c .before .loop .g)) ≤ 1_000_000_000_000_000
 was-in c =
@@ -76,31 +87,40 @@ was-in c =
 old-is : (c : tie.In-loop Inv-loop μ-loop) → getD (c .before .loop .statement) (c .before .loop .g) (pos 0) ≡ old (entry c) (c .before .loop .g)
 old-is c =
     let s = entry c in
+    let w = some s in
     let g = c .before .loop .g in
-    c .before .loop .inv .4 g ∙ cond-no _ (old s g +ℤ was s (start c + g)) (old s g) (front-next g (test s g))
+    c .before .loop .inv .3 (w .list) (w .passes) .1 g ∙ cond-no _ (old s g +ℤ was s (start c + g)) (old s g) (front-next g (test s (w .list) g))
 
 row-start-requires : tie.Need-row-start-requires Inv-loop μ-loop
-row-start-requires c κs = (omega (arith, c .before .pre .0 .0), c .before .pre .0 .1)
+row-start-requires c κs = (omega (arith, c .pre .0 .0), c .pre .0 .1)
 
 -- The totals that are credited are of box a's grocers.
-keyed : (s : Start) (x : ℕ) → test s x ≡ true → getD (now (s .args .owner)) x 0 ≡ s .args .a
-keyed s = credit-owner (now (s .args .owner)) (now (s .args .sharers)) (s .args .a) (s .args .from)
+keyed : (s : Start) (owner : List ℕ) (x : ℕ) → test s owner x ≡ true → getD owner x 0 ≡ s .args .a
+keyed s owner = credit-owner owner (now (s .args .sharers)) (s .args .a) (s .args .from)
 
 begin-requires : tie.Need-begin-requires Inv-loop μ-loop
-begin-requires c κs = c .before .before .pre .1 .1 .0
+begin-requires c κs = c .before .pre .1 .1 .0
+
+-- The walk begins at the first grocer of box a.
+first-of : (c : tie.After-begin Inv-loop μ-loop) → let s = c .before .before in (owner : List ℕ) → linked s owner → Skips (s .args .m) owner (s .args .a) 0 (c .begin .result)
+first-of c owner l = c .begin .ensures (c .before .before .args .m) owner l
 
 loop-holds : tie.Need-loop-holds Inv-loop μ-loop
 loop-holds c =
-    let s = c .before .before .before in
+    let s = c .before .before in
+    let w = some s in
+    let m = s .args .m in
+    let a = s .args .a in
     let g = c .begin .result in
-    let at = c .before .row-start .result in
-    let k : Skips (s .args .m) (now (s .args .owner)) (s .args .a) 0 g = c .begin .ensures (s .args .m) (now (s .args .owner)) (s .pre .1 .1 .1) in (
-      k .to,
+    let at = c .before .row-start .result in (
+      first-of c (w .list) (w .passes) .to,
       refl,
       refl,
-      λ i. sym (cond-no _ (pos 0) (was s i) (guarded-passed (s .args .m) (now (s .args .owner)) (s .args .a) 0 g k (test s) (keyed s) at i ∙ guarded-none at (test s) i)),
-      λ i. sym (cond-no _ (old s i +ℤ was s (at + i)) (old s i) (front-over (s .args .m) (now (s .args .owner)) (s .args .a) 0 g k (test s) (keyed s) i ∙ front-none i (test s i))),
-      k .hits,
+      λ owner l. (
+        (λ i. sym (cond-no _ (pos 0) (was s i) (guarded-passed m owner a 0 g (first-of c owner l) (test s owner) (keyed s owner) at i ∙ guarded-none at (test s owner) i))),
+        (λ i. sym (cond-no _ (old s i +ℤ was s (at + i)) (old s i) (front-over m owner a 0 g (first-of c owner l) (test s owner) (keyed s owner) i ∙ front-none i (test s owner i)))),
+        first-of c owner l .hits,
+      ),
     )
 
 add-credit-one : tie.Need-add-credit-one Inv-loop μ-loop
@@ -127,38 +147,51 @@ next-requires c κs = let e = turn (c .before .before) in omega (arith, e .loop-
 -- The link goes to the next grocer of box a.
 link : (c : tie.After-next Inv-loop μ-loop) →
     let e = turn (called c) in
-    Skips (entry e .args .m) (now (entry e .args .owner)) (entry e .args .a) (e .before .loop .g + 1) (c .next .result)
-link c =
+    let s = entry e in
+    (owner : List ℕ) → linked s owner → Skips (s .args .m) owner (s .args .a) (e .before .loop .g + 1) (c .next .result)
+link c owner l =
     let e = turn (called c) in
     let s = entry e in
-    goes-to 17 (s .args .m) (λ x. getD (now (s .args .owner)) x 0) (now (s .args .links)) (s .args .a) (e .before .loop .g) (c .next .result) (s .pre .1 .1 .1) (e .loop-test .taken)
-    (e .before .loop .inv .5 (e .loop-test .taken)) (c .next .ensures)
+    goes-to 17 (s .args .m) (λ x. getD owner x 0) (now (s .args .links)) (s .args .a) (e .before .loop .g) (c .next .result) l (e .loop-test .taken)
+    (e .before .loop .inv .3 owner l .2 (e .loop-test .taken)) (c .next .ensures)
+
+-- As it does by the list that there is.
+onward : (c : tie.After-next Inv-loop μ-loop) → let e = turn (called c) in (e .before .loop .g < c .next .result) × (c .next .result ≤ entry e .args .m)
+onward c =
+    let w = some (entry (turn (called c))) in
+    let k = link c (w .list) (w .passes) in
+    (omega (arith, k .from), k .to)
 
 loop-less : tie.Need-loop-less Inv-loop μ-loop
-loop-less c = omega (arith, link c .from, link c .to, turn (called c) .loop-test .taken)
+loop-less c = omega (arith, onward c .0, onward c .1, turn (called c) .loop-test .taken)
 
 loop-again : tie.Need-loop-again Inv-loop μ-loop
 loop-again c =
     let e = turn (called c) in
     let s = entry e in
+    let m = s .args .m in
+    let a = s .args .a in
     let at = start e in
     let g = e .before .loop .g in
     let h = c .next .result in
-    let k = link c in
+    let source = e .before .loop .source in
+    let statement = e .before .loop .statement in
     let inv = e .before .loop .inv in
     let call = called c .credit-one in
-    let same : takesTotal (now (s .args .sharers)) (s .args .a) (s .args .from) g ≡ test s g = credit-taken (now (s .args .owner)) (now (s .args .sharers)) (s .args .a) (s .args .from) g (inv .5 (e .loop-test .taken)) in (
-      k .to,
+    let same : (owner : List ℕ) → linked s owner → takesTotal (now (s .args .sharers)) a (s .args .from) g ≡ test s owner g =
+    λ owner l. credit-taken owner (now (s .args .sharers)) a (s .args .from) g (inv .3 owner l .2 (e .loop-test .taken)) in (
+      onward c .1,
       call .kept .1 .1 .1 .1 .1 .0 ∙ inv .1,
       call .kept .1 .1 .1 .1 .1 .1 .0 ∙ inv .2,
-      λ i. ap (λ (l : List ℤ). getD l i (pos 0)) (call .ensures .0 ∙ ap (λ (t : Bool). cond t (set (e .before .loop .source) (at + g) (pos 0)) (e .before .loop .source)) same)
-          ∙ guarded-more (e .before .loop .source) (pos 0) (λ i. pos 0) (was s) at g (test s) (omega (arith, place e, inv .1)) (inv .3) (pos 0) refl i
-          ∙ ap (λ (t : Bool). cond t (pos 0) (was s i)) (sym (guarded-passed (s .args .m) (now (s .args .owner)) (s .args .a) (g + 1) h k (test s) (keyed s) at i)),
-      λ i. ap (λ (l : List ℤ). getD l i (pos 0)) (call .ensures .1
-          ∙ ap (λ (t : Bool). cond t (set (e .before .loop .statement) g (getD (e .before .loop .statement) g (pos 0) +ℤ getD (e .before .loop .source) (at + g) (pos 0))) (e .before .loop .statement)) same)
-          ∙ front-more (e .before .loop .statement) (pos 0) (λ i. old s i +ℤ was s (at + i)) (old s) g (test s) (omega (arith, s .pre .1 .0 .1 .long, e .loop-test .taken, inv .2)) (inv .4) _ (ap₂ _+ℤ_ (old-is e) (total-is e)) i
-          ∙ ap (λ (t : Bool). cond t (old s i +ℤ was s (at + i)) (old s i)) (sym (front-over (s .args .m) (now (s .args .owner)) (s .args .a) (g + 1) h k (test s) (keyed s) i)),
-      k .hits,
+      λ owner l. (
+        (λ i. ap (λ (l : List ℤ). getD l i (pos 0)) (call .ensures .0 ∙ ap (λ (t : Bool). cond t (set source (at + g) (pos 0)) source) (same owner l))
+            ∙ guarded-more source (pos 0) (λ i. pos 0) (was s) at g (test s owner) (omega (arith, place e, inv .1)) (inv .3 owner l .0) (pos 0) refl i
+            ∙ ap (λ (t : Bool). cond t (pos 0) (was s i)) (sym (guarded-passed m owner a (g + 1) h (link c owner l) (test s owner) (keyed s owner) at i))),
+        (λ i. ap (λ (l : List ℤ). getD l i (pos 0)) (call .ensures .1 ∙ ap (λ (t : Bool). cond t (set statement g (getD statement g (pos 0) +ℤ getD source (at + g) (pos 0))) statement) (same owner l))
+            ∙ front-more statement (pos 0) (λ i. old s i +ℤ was s (at + i)) (old s) g (test s owner) (omega (arith, s .pre .1 .0 .1 .long, e .loop-test .taken, inv .2)) (inv .3 owner l .1) _ (ap₂ _+ℤ_ (old-is e) (total-is e)) i
+            ∙ ap (λ (t : Bool). cond t (old s i +ℤ was s (at + i)) (old s i)) (sym (front-over m owner a (g + 1) h (link c owner l) (test s owner) (keyed s owner) i))),
+        link c owner l .hits,
+      ),
     )
 
 same-length : tie.Need-same-length Inv-loop μ-loop
@@ -169,14 +202,16 @@ same-length-2 c = c .before .loop .inv .2
 
 returns : tie.Need-returns Inv-loop μ-loop
 unfolding cleared
-returns c k lf long =
-    let s = c .before .before .before .before .before in
+returns c owner l k lf long =
+    let s = c .before .before .before .before in
     let m = s .args .m in
     let at = c .before .before .before .row-start in
     let inv = c .before .loop .inv in
+    let source = now (s .args .source) in
+    let held = inv .3 owner l in
     let done : c .before .loop .g ≡ m = le-antisymm (inv .0) (c .loop-test .left) in (
-      row-stored k m (s .args .from) (at .result) (c .before .loop .g) (now (s .args .source)) (c .before .loop .source) (pos 0) (test s) (λ i. pos 0) (λ g. pos 0) lf long (at .ensures) done (inv .1) (inv .3) (λ o l. refl),
-      credit-stored k m (s .args .from) (test s) (now (s .args .source)) (now (s .args .statement)) lf (c .before .loop .statement) (at .result) (c .before .loop .g) (s .pre .1 .0 .1 .long) (at .ensures) done (inv .2) (inv .4),
+      row-stored k m (s .args .from) (at .result) (c .before .loop .g) source (c .before .loop .source) (pos 0) (test s owner) (λ i. pos 0) (λ g. pos 0) lf long (at .ensures) done (inv .1) (held .0) (λ o l. refl),
+      credit-stored k m (s .args .from) (test s owner) source (now (s .args .statement)) lf (c .before .loop .statement) (at .result) (c .before .loop .g) (s .pre .1 .0 .1 .long) (at .ensures) done (inv .2) (held .1),
     )
 
 pub credit-spec : {M : Type 1} → statement M

@@ -1,3 +1,0 @@
--- Lemmas on counts in the order of their keys.
-pub mod Beside
-pub mod Filling

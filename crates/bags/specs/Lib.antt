@@ -1,4 +1,0 @@
--- What sorting the counts of bags comes to.
-
-pub mod Bags
-pub mod Order

@@ -1,0 +1,2 @@
+-- Lemmas on codes that are copied.
+pub mod Codes

@@ -1,0 +1,2 @@
+-- Definitions of bytes that are copied.
+pub mod Copied

@@ -1,0 +1,2 @@
+-- Lemmas on columns of tables.
+pub mod Filling

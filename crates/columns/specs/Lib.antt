@@ -1,0 +1,2 @@
+-- Definitions of columns of tables.
+pub mod Columns

@@ -1,0 +1,77 @@
+-- The blank buffers are long enough, so that a file is printed by its refusal, or by the job that it says. Assumes nothing.
+use mathlib.Core.Path.{_≡_, sym, ap, _∙_}
+use mathlib.Core.List.{List}
+use mathlib.Core.Bool.{false}
+use Prim.Native.Nat.{ℕ, _*_, _≤_}
+use native.Mathlib.Omega.{arith}
+use native.Mathlib.Nat.{le-refl, mul-le-mul}
+use lib.IntN.{pos}
+use lib.ListN.{length, replicate, length-replicate}
+use borrow.Author.Tests.{le-ltb}
+use Rattle.model.specs.Tables.{JobTables, StateTables, stateLengths, stateShort}
+use Rattle.format.specs.Refusals.{fileRefusal}
+use Rattle.format.specs.Tables.{ReaderTables, LongOffers, LongTallies, ReadOutcome, largest, shortReader, readRefusal}
+use Rattle.printing.specs.Printed.{jobRead, blankJob, blankState, refusedText, jobText, readText, printed}
+use Rattle.format.proofs.Order.{reader-file}
+use Rattle.format.proofs.Tables.{read-accepted, read-refused, tables-long}
+
+pub zeros : (n : ℕ) → n ≤ length (replicate {A = ℕ} n 0)
+zeros n = rw (length-replicate {A = ℕ} n 0) (le-refl n)
+
+pub zeros-signed : (n : ℕ) → n ≤ length (replicate n (pos 0))
+zeros-signed n = rw (length-replicate n (pos 0)) (le-refl n)
+
+-- Those of the state, for every job in range.
+state-enough : (job : JobTables) (t : StateTables) → job .boxes ≤ 16 → job .grocers ≤ 255 → job .offers ≤ 500 →
+    8_000 ≤ length (t .known) → 8_000 ≤ length (t .priceTransit) → 4_080 ≤ length (t .working) → 4_080 ≤ length (t .totalTransit) → 255 ≤ length (t .statement) → 1_536 ≤ length (t .done) → 1 ≤ length (t .sent) →
+    stateShort job (stateLengths t) ≡ false
+unfolding stateShort stateLengths
+state-enough job t k m n a b c d e f g =
+    let prices : job .boxes * job .offers ≤ 8_000 = mul-le-mul k n in
+    let totals : job .boxes * job .grocers ≤ 4_080 = mul-le-mul k m in
+    let marks : 6 * job .boxes * job .boxes ≤ 1_536 = mul-le-mul {n₂ = 96} (omega arith) k in
+    rw (
+      le-ltb (length (t .known)) (job .boxes * job .offers) (omega arith),
+      le-ltb (length (t .priceTransit)) (job .boxes * job .offers) (omega arith),
+      le-ltb (length (t .working)) (job .boxes * job .grocers) (omega arith),
+      le-ltb (length (t .totalTransit)) (job .boxes * job .grocers) (omega arith),
+      le-ltb (length (t .statement)) (job .grocers) (omega arith),
+      le-ltb (length (t .done)) (6 * job .boxes * job .boxes) (omega arith),
+      le-ltb (length (t .sent)) 1 g,
+    )
+
+pub blank-state : (job : JobTables) → job .boxes ≤ 16 → job .grocers ≤ 255 → job .offers ≤ 500 → stateShort job (stateLengths blankState) ≡ false
+unfolding blankState
+blank-state job k m n =
+    state-enough job blankState k m n (zeros 8_000) (zeros 8_000) (zeros-signed 4_080) (zeros-signed 4_080) (zeros-signed 255) (zeros 1_536) (zeros 1)
+
+-- Those of the reader.
+reader-enough : (l : ReaderTables) → LongOffers 500 (l .job .offers) → 255 ≤ length (l .job .grocerOwner) → LongTallies 1_000 (l .job .tallies) → 1_000 ≤ length (l .tallyOffer) → shortReader l ≡ false
+unfolding shortReader
+reader-enough l o g t p =
+    rw (tables-long largest (l .job) (record { offers = o; grocerOwner = g; tallies = t }), le-ltb (length (l .tallyOffer)) 1_000 p)
+
+blank-reader : shortReader blankJob ≡ false
+unfolding blankJob
+blank-reader =
+    reader-enough blankJob
+    (record { price = zeros 500; owner = zeros 500; code = zeros 5_500; issuer = zeros 500 })
+    (zeros 255)
+    (record { grocer = zeros 1_000; box = zeros 1_000; code = zeros 11_000; count = zeros-signed 1_000; issuer = zeros 1_000; bag = zeros 1_000; revision = zeros 1_000 })
+    (zeros 1_000)
+
+-- So the reader, lent them, refuses just what the file's conditions refuse.
+pub read-by-file : (file : List ℕ) → readRefusal file blankJob ≡ fileRefusal file
+read-by-file file = reader-file file blankJob blank-reader
+
+-- What is printed of a refused file,
+pub printed-refusal : (file : List ℕ) → (fileRefusal file ≡ 0 → ⊥) → printed file ≡ refusedText (fileRefusal file)
+unfolding printed readText
+printed-refusal file met =
+    let e = read-by-file file in
+    ap (λ (o : ReadOutcome). readText file (o .answer)) (read-refused file blankJob (λ z. met (sym e ∙ z))) ∙ ap refusedText e
+
+-- and of an accepted one.
+pub printed-job : (file : List ℕ) → fileRefusal file ≡ 0 → printed file ≡ jobText (jobRead file blankJob)
+unfolding printed readText
+printed-job file ok = ap (λ (o : ReadOutcome). readText file (o .answer)) (read-accepted file blankJob (read-by-file file ∙ ok))

@@ -1,0 +1,97 @@
+// From the bytes of a job file to the lines that settle prints. Only what these need is read: no digits, and no issuers.
+ghost use mathlib.Core.Path.{_≡_};
+ghost use lib.ListN.{take, drop};
+ghost use Rattle.io.specs.Counts.{Counts};
+ghost use Rattle.format.specs.File.{decode};
+ghost use Rattle.format.specs.Refusals.{fileRefusal};
+ghost use Rattle.blocks.specs.Due.{asHead, Most};
+ghost use Rattle.blocks.specs.Sound.{Kept};
+ghost use Rattle.text.specs.Puts.{Put};
+ghost use Rattle.printing.specs.Printed.{printed};
+use crate::due::due_run;
+use apply::Sizes;
+use blocks::file::file_refusal;
+use blocks::fill::fill_bytes;
+use blocks::fill::fill_counts;
+use blocks::fill::fill_owners;
+use blocks::fill::fill_prices;
+use blocks::fill::fill_words;
+use blocks::fill::narrow;
+use blocks::plan::Head;
+use blocks::plan::read_head;
+use blocks::plan::tallies_at;
+use blocks::standing::standing_boxes;
+use index::sort::copy;
+use text::lines::put_refused;
+use text::lines::put_settled;
+
+// A job's sizes as words of 16 bits.
+fn sizes_of(head: Head) -> Sizes
+    requires { ⌜ Most (asHead head) ⌝ }
+    ensures { λ r. ⌜ (r .boxes ≡ head .boxes) × (r .grocers ≡ head .grocers) × (r .offers ≡ head .offers) × (r .tallies ≡ head .tallies) ⌝ }
+{
+    Sizes {
+        boxes: narrow(head.boxes),
+        grocers: narrow(head.grocers),
+        offers: narrow(head.offers),
+        tallies: narrow(head.tallies),
+    }
+}
+
+// The lines of an accepted file: its job is run with no choices, with the tallies that stand.
+fn put_job(out: &mut [u8; 8192], file: &[u8], head: Head, places: &[u16; 1000]) -> usize
+    requires { ⌜ (asHead head ≡ decode (now file) .head) × ((fileRefusal (now file) ≡ 0) × Kept (now file) (now places)) ⌝ }
+    ensures { λ r. ⌜ Put 0 (printed (now (file .entry))) (now (out .entry)) (now (out .exit)) r ⌝ }
+{
+    let n = head.offers;
+    let mut price = [0u32; 500];
+    fill_prices(file, n, &mut price);
+    let mut offer_owner = [0u16; 500];
+    fill_bytes(file, 1, n, 4, &mut offer_owner);
+    let mut grocer_owner = [0u16; 255];
+    fill_owners(file, head, &mut grocer_owner);
+    let first = tallies_at(head);
+    let t = head.tallies;
+    let mut tally_grocer = [0u16; 1000];
+    fill_words(file, first, t, 0, &mut tally_grocer);
+    let mut tally_box = [0u16; 1000];
+    standing_boxes(file, head, places, &mut tally_box);
+    let mut tally_offer = [0u16; 1000];
+    copy(places, &mut tally_offer, t);
+    let mut tally_count = [0i32; 1000];
+    fill_counts(file, first, t, &mut tally_count);
+    let mut statement = [0i64; 255];
+    let report = due_run(
+        sizes_of(head),
+        &price,
+        &offer_owner,
+        &grocer_owner,
+        &tally_grocer,
+        &tally_box,
+        &tally_offer,
+        &tally_count,
+        &mut statement,
+    );
+    put_settled(
+        out,
+        head.grocers,
+        &statement,
+        report.words,
+        report.messages,
+        report.steps,
+    )
+}
+
+// Puts what settle prints for a job file at the start of the buffer, and answers how many bytes that is. What stands behind them stays.
+pub fn settled(file: &[u8], out: &mut [u8; 8192]) -> usize
+    ensures { λ r. ⌜ Counts r (now (out .exit)) ⌝ }
+    ensures { λ r. ⌜ take r (now (out .exit)) ≡ printed (now (file .entry)) ⌝ }
+    ensures { λ r. ⌜ drop r (now (out .exit)) ≡ drop r (now (out .entry)) ⌝ }
+{
+    let mut places = [0u16; 1000];
+    let r = file_refusal(file, &mut places);
+    if r != 0 {
+        return put_refused(out, r);
+    }
+    put_job(out, file, read_head(file), &places)
+}

@@ -1,0 +1,2 @@
+-- Lemmas that the proofs cite.
+pub mod Products

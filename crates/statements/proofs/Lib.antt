@@ -1,2 +1,0 @@
--- Laws that the functions are proved with.
-pub mod Texts

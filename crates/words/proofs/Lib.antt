@@ -1,2 +1,0 @@
--- Words of messages as the model has them.
-pub mod Message

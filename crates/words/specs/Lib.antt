@@ -1,2 +1,0 @@
--- The test of a word against its owner and its mask.
-pub mod Message
