@@ -10,7 +10,7 @@ use lib.Seq.{ext-getD, getD-append-add, getD-set-same, getD-set-other, getD-take
 use lib.Arith.{digits-div, digits-mod}
 use lib.Dec.{eqb, ltb}
 use borrow.Author.Tests.{eqb-true, eqb-false, lt-ltb, le-ltb, ltb-true, ltb-false}
-use Rattle.laws.specs.Tables.{tabulate, overwrite, word, cell, recell}
+use Rattle.laws.specs.Tables.{tabulate, overwrite, layOver, word, cell, recell}
 use Rattle.laws.proofs.Bools.{split, and-l, and-r}
 
 -- A product with a place below it has a second factor that is not 0.
@@ -218,6 +218,36 @@ module _ {A : Type 0} where
       split (ltb n m)
       (λ e. let k : n < m = ltb-true n m e in lt-ltb (length (take n l)) m (rw (length-take n l) (omega arith)) ∙ sym e)
       (λ e. let k : m ≤ n = ltb-false n m e in le-ltb (length (take n l)) m (rw (length-take n l) (omega arith)) ∙ sym e)
+
+-- ---- Words laid over a buffer, as far as it reaches
+
+module _ {A : Type 0} (z : A) where
+  -- Where m is the less of both lengths, the first m words are written anew.
+  pub lay-over : (xs l : List A) (m : ℕ) → m ≤ length xs → m ≤ length l → (m < length xs → m ≡ length l) → layOver xs l ≡ overwrite m (λ i. getD xs i z) l
+  unfolding layOver overwrite tabulate
+  lay-over [] [] zero a b c = refl
+  lay-over [] (y ∷ l) zero a b c = refl
+  lay-over [] l (suc m) a b c = absurd (omega arith)
+  lay-over (x ∷ xs) [] zero a b c = refl
+  lay-over (x ∷ xs) [] (suc m) a b c = absurd (omega arith)
+  lay-over (x ∷ xs) (y ∷ l) zero a b c = absurd (omega (arith, c (omega arith)))
+  lay-over (x ∷ xs) (y ∷ l) (suc m) a b c = ap (λ (r : List A). x ∷ r) (lay-over xs l m (omega arith) (omega arith) (λ k. let e = c (omega arith) in omega (arith, e)))
+
+  -- A word that was laid, and one past them.
+  pub lay-in : (xs l : List A) (i : ℕ) → i < length xs → i < length l → getD (layOver xs l) i z ≡ getD xs i z
+  unfolding layOver
+  lay-in (x ∷ xs) (y ∷ l) zero a b = refl
+  lay-in (x ∷ xs) (y ∷ l) (suc i) a b = lay-in xs l i (omega arith) (omega arith)
+  lay-in [] l i a b = absurd (omega arith)
+  lay-in (x ∷ xs) [] i a b = absurd (omega arith)
+
+  pub lay-past : (xs l : List A) (i : ℕ) → length xs ≤ i → getD (layOver xs l) i z ≡ getD l i z
+  unfolding layOver
+  lay-past [] [] i a = refl
+  lay-past [] (y ∷ l) i a = refl
+  lay-past (x ∷ xs) [] i a = refl
+  lay-past (x ∷ xs) (y ∷ l) zero a = absurd (omega arith)
+  lay-past (x ∷ xs) (y ∷ l) (suc i) a = lay-past xs l i (omega arith)
 
 -- ---- A table written word by word from the front
 

@@ -2,7 +2,7 @@
 use mathlib.Core.List.{List, [], _∷_, _++_}
 use mathlib.Core.Bool.{cond, _&&_}
 use Prim.Native.Nat.{ℕ, zero, suc, _+_, _*_, _/_, _%_}
-use lib.ListN.{getD, drop}
+use lib.ListN.{getD, take, drop, length}
 use lib.Dec.{ltb}
 
 module _ {A : Type 0} where
@@ -14,6 +14,10 @@ module _ {A : Type 0} where
   -- The list l with its first n words written anew, and the others not touched.
   unfoldable pub overwrite : ℕ → (ℕ → A) → List A → List A
   overwrite n f l = tabulate n f ++ drop n l
+
+  -- The words xs laid over the first words of a lent buffer l, as far as it reaches; its other words are not touched.
+  unfoldable pub layOver : List A → List A → List A
+  layOver xs l = take (length l) xs ++ drop (length xs) l
 
   -- Word i of a table of n words: what stands past them is not read.
   unfoldable pub word : ℕ → List A → A → ℕ → A

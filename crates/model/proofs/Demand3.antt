@@ -2,32 +2,33 @@
 use mathlib.Core.Path.{_≡_, refl, sym, ap, _∙_}
 use mathlib.Core.Bool.{true, false, cond, _&&_, not}
 use mathlib.Core.List.{List, [], _∷_, map}
-use Prim.Native.Nat.{ℕ, _*_, _<_}
+use Prim.Native.Nat.{ℕ, _*_, _<_, _≤_}
 use native.Mathlib.Omega.{arith}
 use lib.Dec.{eqb}
-use lib.ListN.{length, getD}
+use lib.ListN.{length, getD, length-map}
 use lib.IntN.{pos}
 use borrow.Author.Tests.{le-ltb}
-use Rattle.laws.proofs.Tables.{getD-overwrite}
+use Rattle.laws.proofs.Tables.{getD-overwrite, lay-in, lay-past}
 use Rattle.laws.proofs.Bools.{split}
 use Rattle.laws.specs.Checks.{firstMet}
+use Rattle.laws.specs.Tables.{layOver}
 use Rattle.model.specs.Job.{plainSum}
 use Rattle.model.specs.Requests.{Request, lendsShort, answerTo, serve, serveAll, acceptedFrom, tablesAfter, acceptedIn, doneIn, answersFrom, answersIn}
 use Rattle.model.specs.Tables.{JobTables, jobOf, StateTables, view, store, jobShort, bagsShort, stateShort, lentShort}
-use Rattle.model.specs.Run.{run, runState, reported, runRefusals, ran, finished}
+use Rattle.model.specs.Run.{run, runState, reported, runRefusals, ran, finished, placed, pickedPlaces}
 use Rattle.model.specs.Ranges.{Settles}
 use Rattle.model.specs.Handed.{handedInRange}
 use Rattle.model.specs.Step.{isKind, stepOf, freshTables, stepAnswer}
 use Rattle.model.specs.Words.{over, wordsOf, ownerWords, messageCount, stepCount, messagesOf}
 use Rattle.model.specs.Steps.{Step, Steps, doneBy, State, hasStep, fresh, effectOf, Kind, kindNumber, sendPrices, multiplyOwn, receivePrices, sendTotals, addOwn, receiveTotals, mark, permitted, kindOf}
-use Rattle.model.specs.Demand3.{AllDone, permittedRequest, refusalOf, Demand3, wholeRequest, RunIsList, answersByRules}
+use Rattle.model.specs.Demand3.{AllDone, permittedRequest, refusalOf, Demand3, wholeRequest, RunIsList, answersByRules, SomeStep, SomeAccepted}
+use Rattle.model.specs.Boxes.{stateByRules, Closed, Sound}
 use Rattle.model.proofs.Running.{running}
 use Rattle.model.proofs.Trace.{trace-sent}
 use Rattle.model.proofs.Counting.{steps-number, all-of-size, size-le}
 use Rattle.model.proofs.Finish.{all-steps, end-price-transit, end-total-transit, end-working, end-statement}
 use Rattle.model.proofs.Lists.{marked, sound, form, closed, taken-size, all-reached, all-sends}
 use Rattle.model.proofs.Progress.{progress}
-use Rattle.model.specs.Boxes.{stateByRules, Closed, Sound}
 use Rattle.model.proofs.Run.{run-done, run-reached, run-taken, run-length, run-sends}
 use Rattle.model.proofs.Step.{range, ok-store}
 use Rattle.model.proofs.Served.{allowed, settles-in, within, view-is, next, one-answer, one-serve, one-sound}
@@ -222,7 +223,7 @@ module _ (f : JobTables) where
   asks-whole [] = refl
   asks-whole (x ∷ xs) = rw (whole-lends x, whole-kind x, whole-step x, asks-whole xs)
 
-module _ (f : JobTables) (z : Settles f) (t : StateTables) (cs : List ℕ) where
+module _ (f : JobTables) (z : Settles f) (t : StateTables) (cs p : List ℕ) where
   run-sent : runState (jobOf f) cs .sent ≡ ownerWords (jobOf f)
   run-sent = ap (λ (s : State). s .sent) (run-all f (settles-in f z) cs) ∙ end-sent (jobOf f) (range f (settles-in f z))
 
@@ -230,33 +231,57 @@ module _ (f : JobTables) (z : Settles f) (t : StateTables) (cs : List ℕ) where
   unfolding runRefusals firstMet
   run-number = rw (z .inRange, z .once)
 
-  ran-answer : ran f t cs .answer ≡ reported (cond (lentShort f t) 20 0) (finished (ownerWords (jobOf f)) (messageCount (jobOf f)) (stepCount (jobOf f)))
+  ran-answer : ran f t cs p .answer ≡ reported (cond (lentShort f t) 20 0) (finished (ownerWords (jobOf f)) (messageCount (jobOf f)) (stepCount (jobOf f)))
   unfolding ran
   ran-answer = rw (run-number, run-sent, run-sends (jobOf f) (range f (settles-in f z)) cs, run-length (jobOf f) (range f (settles-in f z)) cs)
 
-  ran-tables : lentShort f t ≡ false → ran f t cs .tables ≡ store (jobOf f) (runState (jobOf f) cs) t
+  ran-tables : lentShort f t ≡ false → ran f t cs p .tables ≡ store (jobOf f) (runState (jobOf f) cs) t
   unfolding ran
   ran-tables h = rw (run-number, h)
 
-  ran-keeps : lentShort f t ≡ true → ran f t cs .tables ≡ t
+  -- The places of the steps picked lie in front of the buffer.
+  ran-picked : lentShort f t ≡ false → ran f t cs p .picked ≡ layOver (pickedPlaces (jobOf f) cs) p
   unfolding ran
-  ran-keeps h = rw (run-number, h)
+  ran-picked h = rw (run-number, h)
+
+  picked-length : length (pickedPlaces (jobOf f) cs) ≡ stepCount (jobOf f)
+  unfolding pickedPlaces
+  picked-length = length-map (run (jobOf f) cs) (placed (jobOf f)) ∙ run-length (jobOf f) (range f (settles-in f z)) cs
+
+  ran-places : lentShort f t ≡ false → (i : ℕ) → i < stepCount (jobOf f) → i < length p → getD (ran f t cs p .picked) i 0 ≡ getD (pickedPlaces (jobOf f) cs) i 0
+  ran-places h i l m = rw (ran-picked h) (lay-in 0 (pickedPlaces (jobOf f) cs) p i (omega (arith, l, picked-length)) m)
+
+  ran-past : lentShort f t ≡ false → (i : ℕ) → stepCount (jobOf f) ≤ i → getD (ran f t cs p .picked) i 0 ≡ getD p i 0
+  ran-past h i l = rw (ran-picked h) (lay-past 0 (pickedPlaces (jobOf f) cs) p i (omega (arith, l, picked-length)))
+
+  ran-keeps : lentShort f t ≡ true → (ran f t cs p .tables ≡ t) × (ran f t cs p .picked ≡ p)
+  unfolding ran
+  ran-keeps h = (rw (run-number, h), rw (run-number, h))
 
 -- The tables that a run leaves hold the state of all steps.
-run-view : (f : JobTables) → Settles f → (u : StateTables) (cs : List ℕ) → lentShort f u ≡ false →
-    view (jobOf f) (ran f u cs .tables) ≡ stateByRules (jobOf f) (hasStep (jobOf f))
-run-view f z u cs n =
-    ap (view (jobOf f)) (ran-tables f z u cs n ∙ ap (λ (s : State). store (jobOf f) s u) (run-reached (jobOf f) (range f (settles-in f z)) cs))
+run-view : (f : JobTables) → Settles f → (u : StateTables) (cs p : List ℕ) → lentShort f u ≡ false →
+    view (jobOf f) (ran f u cs p .tables) ≡ stateByRules (jobOf f) (hasStep (jobOf f))
+run-view f z u cs p n =
+    ap (view (jobOf f)) (ran-tables f z u cs p n ∙ ap (λ (s : State). store (jobOf f) s u) (run-reached (jobOf f) (range f (settles-in f z)) cs))
     ∙ view-is f (settles-in f z) u (reached (jobOf f) (run (jobOf f) cs)) (sound (jobOf f) (range f (settles-in f z)) (run (jobOf f) cs))
     ∙ all-reached (jobOf f) (range f (settles-in f z)) (run (jobOf f) cs) (run-done (jobOf f) (range f (settles-in f z)) cs)
 
-run-statement : (f : JobTables) → Settles f → (t : StateTables) (cs : List ℕ) → lentShort f t ≡ false → (g : ℕ) → g < f .grocers →
-    getD (ran f t cs .tables .statement) g (pos 0) ≡ plainSum (jobOf f) g
+run-statement : (f : JobTables) → Settles f → (t : StateTables) (cs p : List ℕ) → lentShort f t ≡ false → (g : ℕ) → g < f .grocers →
+    getD (ran f t cs p .tables .statement) g (pos 0) ≡ plainSum (jobOf f) g
 unfolding store jobOf
-run-statement f z t cs n g l =
-    rw (ran-tables f z t cs n) (getD-overwrite (f .grocers) (runState (jobOf f) cs .statement) (t .statement) g (pos 0) l)
+run-statement f z t cs p n g l =
+    rw (ran-tables f z t cs p n) (getD-overwrite (f .grocers) (runState (jobOf f) cs .statement) (t .statement) g (pos 0) l)
     ∙ ap (λ (s : State). s .statement g) (run-all f (settles-in f z) cs)
     ∙ end-statement (jobOf f) (range f (settles-in f z)) g l
+
+-- A permitted step has a request that is accepted: one that lends of each table what it needs.
+step-accepted : (f : JobTables) → Settles f → (t : StateTables) (rs : List Request) → SomeStep (permitted (jobOf f) (doneIn f t rs)) → SomeAccepted f (tablesAfter f t rs)
+unfolding permittedRequest
+step-accepted f z t rs s =
+    let x : Step = record { kind = s .kind; first = s .first; second = s .second } in
+    let r = wholeRequest f x in
+    let allowed : permittedRequest f (doneIn f t rs) r ≡ true = rw (whole-lends f x, whole-kind f x, whole-step f x) (s .holds) in
+    record { request = r; holds = rw (answer-of f z t rs r, accepted-zero (refusalOf f (doneIn f t rs) r)) (refusal-zero f (doneIn f t rs) r ∙ allowed) }
 
 pub demand3 : (f : JobTables) → Settles f → (t : StateTables) (rs : List Request) → Demand3 f t rs
 unfolding jobOf reported
@@ -273,6 +298,7 @@ demand3 f z t rs = record {
   wordsSent = words-is f z t rs;
   runningSum = λ g. rw (state-is f z t rs) (running (jobOf f) (range f (settles-in f z)) (doneIn f t rs) (closed-is f z t rs) g);
   goesOn = progress (jobOf f) (range f (settles-in f z)) (doneIn f t rs);
+  someAccepted = λ k a b h n. step-accepted f z t rs (progress (jobOf f) (range f (settles-in f z)) (doneIn f t rs) k a b h n);
   atMost = omega (arith, size-is f z t rs, size-le (jobOf f) (doneIn f t rs) (hasStep (jobOf f)) (closed-is f z t rs .steps), steps-number (jobOf f));
   allDone = count-is f z t rs;
   allTaken = λ e. all-of-size (jobOf f) (doneIn f t rs) (closed-is f z t rs) (size-is f z t rs ∙ e ∙ sym (steps-number (jobOf f)));
@@ -288,17 +314,19 @@ demand3 f z t rs = record {
   eachWord = rw (accepted-is f z t rs) (each-word (jobOf f) (fresh (jobOf f)) (asks f rs));
   sameSteps = λ h u ps e. count-is f z u ps e ∙ sym (count-is f z t rs h);
   sameState = λ h u ps e. all-is f z u ps e ∙ sym (all-is f z t rs h);
-  runLeaves = λ h u cs n. run-view f z u cs n ∙ sym (all-is f z t rs h);
-  runReport = λ h u cs n. ran-answer f z u cs ∙ rw (n, owner-is f z t rs h, sends-is f z t rs h, count-is f z t rs h);
+  runLeaves = λ h u cs p n. run-view f z u cs p n ∙ sym (all-is f z t rs h);
+  runReport = λ h u cs p n. ran-answer f z u cs p ∙ rw (n, owner-is f z t rs h, sends-is f z t rs h, count-is f z t rs h);
 }
 
 -- A run is the list of the steps it picks.
-pub demand3-run : (f : JobTables) → Settles f → (t : StateTables) (cs : List ℕ) → RunIsList f t cs
-demand3-run f z t cs = record {
-  answer = ran-answer f z t cs;
+pub demand3-run : (f : JobTables) → Settles f → (t : StateTables) (cs p : List ℕ) → RunIsList f t cs p
+demand3-run f z t cs p = record {
+  answer = ran-answer f z t cs p;
   accepted = accepted-is f z t (map (wholeRequest f) (run (jobOf f) cs)) ∙ rw (asks-whole f (run (jobOf f) cs)) (run-taken (jobOf f) (range f (settles-in f z)) cs);
   allDone = rw (done-is f z t (map (wholeRequest f) (run (jobOf f) cs)), asks-whole f (run (jobOf f) cs)) (run-done (jobOf f) (range f (settles-in f z)) cs);
-  tables = λ h. ran-tables f z t cs h ∙ sym (left-is f z t (map (wholeRequest f) (run (jobOf f) cs)) ∙ rw (asks-whole f (run (jobOf f) cs), ← (run-reached (jobOf f) (range f (settles-in f z)) cs)));
-  statements = run-statement f z t cs;
-  keeps = ran-keeps f z t cs;
+  tables = λ h. ran-tables f z t cs p h ∙ sym (left-is f z t (map (wholeRequest f) (run (jobOf f) cs)) ∙ rw (asks-whole f (run (jobOf f) cs), ← (run-reached (jobOf f) (range f (settles-in f z)) cs)));
+  statements = run-statement f z t cs p;
+  places = ran-places f z t cs p;
+  past = ran-past f z t cs p;
+  keeps = ran-keeps f z t cs p;
 }

@@ -9,21 +9,21 @@ use lib.Dec.{eqb, ltb, leb}
 use lib.IntN.{pos}
 use borrow.Author.Tests.{eq-eqb, ltb-true, ltb-false, le-ltb, le-leb}
 use Rattle.laws.specs.Checks.{firstMet}
-use Rattle.laws.specs.Tables.{word}
+use Rattle.laws.specs.Tables.{word, layOver}
 use Rattle.laws.proofs.Bools.{split, and-true, and-l, cond-same, cond-either}
 use Rattle.laws.proofs.Below.{all-of}
 use Rattle.laws.proofs.Checks.{any-each, all-each}
 use Rattle.laws.proofs.Tables.{word-in, word-past}
 use Rattle.recount.specs.Recount.{loose, stands, countedTwice}
-use Rattle.recount.proofs.Recount.{loose-stands}
 use Rattle.model.specs.Job.{Job}
 use Rattle.model.specs.Steps.{kindOf, effect}
 use Rattle.model.specs.Words.{over, messagesOf}
 use Rattle.model.specs.Tables.{JobTables, countedOf, nobody, jobOf, jobLengths, jobShort, StateTables, view, store, StateLengths, stateShort, lentShort}
 use Rattle.model.specs.Ranges.{upTo, sizesInRange, jobWordsInRange, jobInRange, stateInRange}
 use Rattle.model.specs.Step.{Asked, stepRules, moved, refusals, stepRefusal, stepTables}
-use Rattle.model.specs.Run.{run, runState, reported, finished, runRefusals, ran}
+use Rattle.model.specs.Run.{run, runState, reported, finished, runRefusals, ran, pickedPlaces}
 use Rattle.model.specs.Handed.{handedTables, Standing, handedInRange, Handed}
+use Rattle.recount.proofs.Recount.{loose-stands}
 use Rattle.model.proofs.Step.{job-in, in-handed, up-at}
 use Rattle.model.proofs.Lent.{job-long}
 
@@ -142,18 +142,20 @@ module _ (f : JobTables) (boxes : List ℕ) (s : Standing f boxes) where
   handed-tables t q = ap (λ (u : StateTables). cond (eqb (stepRefusal f t q) 0) u t) (sym (handed-moved t q))
 
   -- The run likewise.
-  pub handed-run : (t : StateTables) (cs : List ℕ) → lentShort f t ≡ false → jobInRange f ≡ true → countedTwice (countedOf f) ≡ false →
-      ran f t cs ≡ record {
+  pub handed-run : (t : StateTables) (cs p : List ℕ) → lentShort f t ≡ false → jobInRange f ≡ true → countedTwice (countedOf f) ≡ false →
+      ran f t cs p ≡ record {
         answer = finished (runState (jobOf (handedTables f boxes)) cs .sent) (over messagesOf (run (jobOf (handedTables f boxes)) cs))
             (length (run (jobOf (handedTables f boxes)) cs));
         tables = store (jobOf (handedTables f boxes)) (runState (jobOf (handedTables f boxes)) cs) t;
+        picked = layOver (pickedPlaces (jobOf (handedTables f boxes)) cs) p;
       }
   unfolding ran runRefusals firstMet reported
-  handed-run t cs short inside once =
+  handed-run t cs p short inside once =
       rw (short, inside, once)
       (ap (λ (j : Job). record {
         answer = finished (runState j cs .sent) (over messagesOf (run j cs)) (length (run j cs));
         tables = store j (runState j cs) t;
+        picked = layOver (pickedPlaces j cs) p;
       }) (sym handed-job))
 
 -- Without bags the checks of the other tables are the same.

@@ -53,7 +53,7 @@ pub record Cases : Type 0 where
   pub e-words : ownerWords (jobOf jobE) ≡ 3
   pub e-messages : messageCount (jobOf jobE) ≡ 3
   pub e-steps : stepCount (jobOf jobE) ≡ 10
-  pub e-report : ran jobE freshE [] .answer ≡ finished 3 3 10
+  pub e-report : ran jobE freshE [] [] .answer ≡ finished 3 3 10
   -- T = 0: 2 × K steps, no words. Here K 2; proofs/Quiet.antt has it for every K.
   pub quiet-steps : stepCount (jobOf (away 0 [] [] [] [])) ≡ 4
   pub quiet-words : ownerWords (jobOf (away 0 [] [] [] [])) ≡ 0
@@ -196,7 +196,7 @@ pub record Examples : Type 0 where
   -- Two offers of box 0 that box 1 needs, and a grocer of box 1: 2 words, 1 message, 6 steps.
   pub two-words : ownerWords (jobOf twoOffers) ≡ 2
   pub one-message : messageCount (jobOf twoOffers) ≡ 1
-  pub two-report : ran twoOffers (freshTables twoOffers empty) [] .answer ≡ finished 2 1 6
+  pub two-report : ran twoOffers (freshTables twoOffers empty) [] [] .answer ≡ finished 2 1 6
   -- The ready steps of a fresh state of E: both messages of prices, and step 2 of both boxes. Choice 6 picks the one that 2 picks.
   pub e-ready : readySteps (jobOf jobE) (doneBy []) ≡ ofKind sendPrices 0 1 ∷ ofKind sendPrices 1 0 ∷ ofKind multiplyOwn 0 0 ∷ ofKind multiplyOwn 1 1 ∷ []
   pub e-pick : pick (jobOf jobE) (doneBy []) 6 ≡ ofKind multiplyOwn 0 0
@@ -220,8 +220,8 @@ pub record Examples : Type 0 where
   pub marked : stepped jobE freshE (asked 2 0 0) .tables .done ≡ tabulate 24 (λ i. cond (eqb i 4) 1 0)
   pub not-yet : stepped jobE freshE (asked 2 0 0) .tables .statement ≡ pos 0 ∷ pos 0 ∷ []
   -- The statements that a run leaves of E and of the job of one box.
-  pub e-leaves : ran jobE freshE [] .tables .statement ≡ pos 2250 ∷ pos 2500 ∷ []
-  pub one-leaves : ran oneBoxJob (freshTables oneBoxJob empty) [] .tables .statement ≡ pos 30 ∷ []
+  pub e-leaves : ran jobE freshE [] [] .tables .statement ≡ pos 2250 ∷ pos 2500 ∷ []
+  pub one-leaves : ran oneBoxJob (freshTables oneBoxJob empty) [] [] .tables .statement ≡ pos 30 ∷ []
   -- A state without a word; a result beyond ±10^15.
   pub short : stepped jobE empty (asked 9 99 0) .answer ≡ refused 20
   pub too-much : stepped jobE fullE (asked 2 0 0) .answer ≡ refused 21
@@ -236,7 +236,7 @@ pub record Examples : Type 0 where
   pub recount-words : ownerWords (jobOf recount) ≡ 0
   pub recount-steps : stepCount (jobOf recount) ≡ 4
   pub recount-answer : stepped recount (freshTables recount empty) (asked 1 1 0) .answer ≡ refused 24
-  pub recount-leaves : ran recount (freshTables recount empty) [] .tables .statement ≡ pos 40 ∷ []
+  pub recount-leaves : ran recount (freshTables recount empty) [] [] .tables .statement ≡ pos 40 ∷ []
   pub recount-book : localGrocers (jobOf recount) 0 ≡ []
   -- The count that stands may be 0; loose coupons of one revision all stand, and so do two bags.
   pub recount-none : plainSum (jobOf (recounted 2 (0 ∷ 1 ∷ []) (pos 5 ∷ pos 0 ∷ []) (7 ∷ 7 ∷ []) (0 ∷ 1 ∷ []))) 0 ≡ pos 0
@@ -244,10 +244,10 @@ pub record Examples : Type 0 where
   pub recount-bags : plainSum (jobOf (recounted 2 (0 ∷ 1 ∷ []) (pos 5 ∷ pos 4 ∷ []) (7 ∷ 8 ∷ []) (0 ∷ 1 ∷ []))) 0 ≡ pos 90
   -- One bag and revision twice, though a higher one stands: 9, before 22; revisions lent short are 20, before 9.
   pub twice-step : stepped lowTwice (freshTables lowTwice empty) (asked 9 99 0) .answer ≡ refused 9
-  pub twice-run : ran lowTwice (freshTables lowTwice empty) [] .answer ≡ notRun 9
-  pub twice-short : ran (recounted 2 (0 ∷ 1 ∷ []) (pos 5 ∷ pos 4 ∷ []) (7 ∷ 7 ∷ []) (0 ∷ [])) (freshTables lowTwice empty) [] .answer ≡ notRun 20
+  pub twice-run : ran lowTwice (freshTables lowTwice empty) [] [] .answer ≡ notRun 9
+  pub twice-short : ran (recounted 2 (0 ∷ 1 ∷ []) (pos 5 ∷ pos 4 ∷ []) (7 ∷ 7 ∷ []) (0 ∷ [])) (freshTables lowTwice empty) [] [] .answer ≡ notRun 20
   -- A superseded tally's words are looked at: its box is not below K.
-  pub superseded-21 : ran (recounted 2 (2 ∷ 1 ∷ []) (pos 5 ∷ pos 4 ∷ []) (7 ∷ 7 ∷ []) (0 ∷ 1 ∷ [])) (freshTables recount empty) [] .answer ≡ notRun 21
+  pub superseded-21 : ran (recounted 2 (2 ∷ 1 ∷ []) (pos 5 ∷ pos 4 ∷ []) (7 ∷ 7 ∷ []) (0 ∷ 1 ∷ [])) (freshTables recount empty) [] [] .answer ≡ notRun 21
   -- The desk: the higher revision stands; one bag of two grocers is two; the same twice, of a grocer not wanted, is 9.
   pub desk-recount : reconciled 2 1 0 (10 ∷ []) (bagRecord 0 0 (pos 5) 7 1 ∷ bagRecord 0 15 (pos 4) 7 0 ∷ bagRecord 1 0 (pos 3) 7 2 ∷ []) ≡ owed (pos 50)
   pub desk-9 : reconciled 2 1 0 (10 ∷ []) (bagRecord 1 0 (pos 5) 7 1 ∷ bagRecord 0 0 (pos 4) 7 1 ∷ bagRecord 1 3 (pos 3) 7 1 ∷ []) ≡ notOwed 9

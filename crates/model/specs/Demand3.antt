@@ -15,7 +15,7 @@ use Rattle.model.specs.Words.{over, wordsOf, priceTo, totalFrom, message
 use Rattle.model.specs.Tables.{JobTables, jobOf, StateTables, view, store, lentShort}
 use Rattle.model.specs.Ranges.{stateInRange}
 use Rattle.model.specs.Step.{isKind, stepOf, stepRules, StepAnswer, stepAnswer, isAccepted}
-use Rattle.model.specs.Run.{run, ran, reported, finished}
+use Rattle.model.specs.Run.{run, pickedPlaces, ran, reported, finished}
 use Rattle.model.specs.Requests.{Request, lendsShort, answerTo, serve, tablesAfter, answersIn, acceptedIn, doneIn}
 
 -- Some step of a set.
@@ -24,6 +24,11 @@ pub record SomeStep (d : Steps) : Type 0 where
   pub first : ℕ
   pub second : ℕ
   pub holds : d kind first second ≡ true
+
+-- Some request that is accepted on the tables as they are.
+pub record SomeAccepted (f : JobTables) (t : StateTables) : Type 0 where
+  pub request : Request
+  pub holds : isAccepted (answerTo f t request) ≡ true
 
 module _ (j : Job) where
   -- All steps of the job are done.
@@ -95,6 +100,8 @@ pub record AfterList (f : JobTables) (t : StateTables) (rs : List Request)
   pub runningSum : (g : ℕ) → together job state g ≡ addedSum job done g
   -- While a step of the job is not done, some step is permitted.
   pub goesOn : (k : Kind) (a b : ℕ) → hasStep job k a b ≡ true → done k a b ≡ false → SomeStep (permitted job done)
+  -- and so some request is accepted.
+  pub someAccepted : (k : Kind) (a b : ℕ) → hasStep job k a b ≡ true → done k a b ≡ false → SomeAccepted f tables
   -- At most 2 × K + 2 × (messages) requests are accepted, and all steps are done just where so many were.
   pub atMost : length accepted ≤ stepCount job
   pub allDone : AllDone job done → length accepted ≡ stepCount job
@@ -116,10 +123,11 @@ pub record AfterList (f : JobTables) (t : StateTables) (rs : List Request)
   -- and leaves the same state, equal statements among it;
   pub sameState : AllDone job done → (u : StateTables) (ps : List Request) → AllDone job (doneIn f u ps) → view job (tablesAfter f u ps) ≡ state
   -- so does a run, whatever its choices and its buffers held: its tables hold this state,
-  pub runLeaves : AllDone job done → (u : StateTables) (choices : List ℕ) → lentShort f u ≡ false → view job (ran f u choices .tables) ≡ state
+  pub runLeaves : AllDone job done → (u : StateTables) (choices picked : List ℕ) → lentShort f u ≡ false →
+      view job (ran f u choices picked .tables) ≡ state
   -- and it reports the words, the messages and the number of the steps accepted in the list.
-  pub runReport : AllDone job done → (u : StateTables) (choices : List ℕ) → lentShort f u ≡ false →
-      ran f u choices .answer ≡ finished (over (wordsOf job) accepted) (over messagesOf accepted) (length accepted)
+  pub runReport : AllDone job done → (u : StateTables) (choices picked : List ℕ) → lentShort f u ≡ false →
+      ran f u choices picked .answer ≡ finished (over (wordsOf job) accepted) (over messagesOf accepted) (length accepted)
 
 -- Demand 3: what holds after the list rs of requests on the job tables f, from a fresh state in the buffers t.
 abbrev pub Demand3 : JobTables → StateTables → List Request → Type 0
@@ -152,14 +160,20 @@ wholeRequest f x = record {
 }
 
 -- A run is the list of the steps it picks, until all are done.
-pub record RunIsList (f : JobTables) (t : StateTables) (choices : List ℕ) : Type 0 where
+pub record RunIsList (f : JobTables) (t : StateTables) (choices picked : List ℕ) : Type 0 where
   -- Only 20 refuses it; else it reports the words of the owner tables, the messages and the steps of the job.
-  pub answer : ran f t choices .answer ≡ reported (cond (lentShort f t) 20 0) (finished (ownerWords (jobOf f)) (messageCount (jobOf f)) (stepCount (jobOf f)))
+  pub answer : ran f t choices picked .answer
+      ≡ reported (cond (lentShort f t) 20 0) (finished (ownerWords (jobOf f)) (messageCount (jobOf f)) (stepCount (jobOf f)))
   -- Requests for its steps are all accepted, do all steps, and leave its tables.
   pub accepted : acceptedIn f t (map (wholeRequest f) (run (jobOf f) choices)) ≡ run (jobOf f) choices
   pub allDone : AllDone (jobOf f) (doneIn f t (map (wholeRequest f) (run (jobOf f) choices)))
-  pub tables : lentShort f t ≡ false → ran f t choices .tables ≡ tablesAfter f t (map (wholeRequest f) (run (jobOf f) choices))
+  pub tables : lentShort f t ≡ false → ran f t choices picked .tables ≡ tablesAfter f t (map (wholeRequest f) (run (jobOf f) choices))
   -- It leaves every grocer's plain sum in the statements.
-  pub statements : lentShort f t ≡ false → (g : ℕ) → g < f .grocers → getD (ran f t choices .tables .statement) g (pos 0) ≡ plainSum (jobOf f) g
+  pub statements : lentShort f t ≡ false → (g : ℕ) → g < f .grocers → getD (ran f t choices picked .tables .statement) g (pos 0) ≡ plainSum (jobOf f) g
+  -- Which steps it picked shows in the lent buffer: word i is the place of its step i, as far as the buffer reaches,
+  pub places : lentShort f t ≡ false → (i : ℕ) → i < stepCount (jobOf f) → i < length picked →
+      getD (ran f t choices picked .picked) i 0 ≡ getD (pickedPlaces (jobOf f) choices) i 0
+  -- and the words past the steps stay.
+  pub past : lentShort f t ≡ false → (i : ℕ) → stepCount (jobOf f) ≤ i → getD (ran f t choices picked .picked) i 0 ≡ getD picked i 0
   -- A refusal changes no word.
-  pub keeps : lentShort f t ≡ true → ran f t choices .tables ≡ t
+  pub keeps : lentShort f t ≡ true → (ran f t choices picked .tables ≡ t) × (ran f t choices picked .picked ≡ picked)

@@ -1,13 +1,14 @@
 -- The run: the list of the steps it picks, until all are done.
-use mathlib.Core.List.{List, [], _∷_}
+use mathlib.Core.List.{List, [], _∷_, map}
 use mathlib.Core.Bool.{Bool, cond, not}
 use Prim.Native.Nat.{ℕ, zero, suc, _%_}
 use lib.ListN.{getD, drop, length}
 use lib.Dec.{eqb}
+use Rattle.laws.specs.Tables.{layOver}
 use Rattle.laws.specs.Checks.{firstMet}
 use Rattle.recount.specs.Recount.{countedTwice}
 use Rattle.model.specs.Job.{Job}
-use Rattle.model.specs.Steps.{Steps, Step, stepAt, atPlace, listOf, State, permitted, fresh, effectOf}
+use Rattle.model.specs.Steps.{Steps, Step, kindNumber, stepPlace, stepAt, atPlace, listOf, State, permitted, fresh, effectOf}
 use Rattle.model.specs.Words.{over, messagesOf, stepCount}
 use Rattle.model.specs.Tables.{JobTables, countedOf, jobOf, StateTables, store, lentShort}
 use Rattle.model.specs.Ranges.{jobInRange}
@@ -45,6 +46,14 @@ module _ (j : Job) where
   unfoldable pub run : List ℕ → List Step
   run cs = picks (stepCount j) (fresh j) cs
 
+  -- The place of a step: by kind, first box, second box.
+  abbrev pub placed : Step → ℕ
+  placed x = stepPlace (j .boxes) (kindNumber (x .kind)) (x .first) (x .second)
+
+  -- The places of the steps that a run picks, in the order in which it picks them.
+  unfoldable pub pickedPlaces : List ℕ → List ℕ
+  pickedPlaces cs = map placed (run cs)
+
 -- What the run answers: words sent, messages and steps; or the number of the refusal.
 pub data RunAnswer : Type 0 where
   finished : (words messages steps : ℕ) → RunAnswer
@@ -55,10 +64,11 @@ unfoldable pub reported : ℕ → RunAnswer → RunAnswer
 reported zero r = r
 reported (suc n) r = refused (suc n)
 
--- What a run gives: its answer, and the state's tables.
+-- What a run gives: its answer, the state's tables, and the buffer for the places of the steps picked.
 pub record RunOutcome : Type 0 where
   pub answer : RunAnswer
   pub tables : StateTables
+  pub picked : List ℕ
 
 -- The refusals of a run. What its state buffers held before is not examined.
 unfoldable pub runRefusals : JobTables → StateTables → List (Bool × ℕ)
@@ -69,10 +79,12 @@ unfoldable pub runState : Job → List ℕ → State
 runState j cs = afterSteps j (fresh j) (run j cs)
 
 -- The run: THE definition that the run's contract cites. Words sent is the count in the state; messages and steps are those of the list.
-unfoldable pub ran : JobTables → StateTables → List ℕ → RunOutcome
-ran f t cs =
+-- Where it is not refused, the places of the steps picked lie in front of the buffer p, as far as it reaches: any length will do.
+unfoldable pub ran : JobTables → StateTables → List ℕ → List ℕ → RunOutcome
+ran f t cs p =
     let n = firstMet (runRefusals f t) in
     record {
       answer = reported n (finished (runState (jobOf f) cs .sent) (over messagesOf (run (jobOf f) cs)) (length (run (jobOf f) cs)));
       tables = cond (eqb n 0) (store (jobOf f) (runState (jobOf f) cs) t) t;
+      picked = cond (eqb n 0) (layOver (pickedPlaces (jobOf f) cs) p) p;
     }
