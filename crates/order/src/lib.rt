@@ -2,9 +2,9 @@
 ghost use mathlib.Core.Path.{_≡_};
 ghost use mathlib.Core.List.{[]};
 ghost use Prim.Native.Nat.{_+_, _*_, _≤_, _<_};
-ghost use lib.ListN.{length, drop, set};
+ghost use lib.ListN.{length, take, drop, set};
 ghost use Rattle.laws.specs.Below.{count};
-ghost use Rattle.laws.specs.Tables.{overwrite};
+ghost use Rattle.laws.specs.Tables.{overwrite, layOver};
 ghost use Rattle.model.specs.Steps.{kindOf};
 ghost use Rattle.model.specs.Tables.{stepsDone};
 ghost use Rattle.model.specs.Run.{run};
@@ -175,4 +175,25 @@ pub fn put_order(
     zero16(done, slices::bits::marks(k));
     let n = chosen(k, receivers, waits, choices, done, order);
     rest(k, receivers, waits, n, done, order)
+}
+
+// The less of two numbers.
+fn least(a: usize, b: usize) -> usize
+    ensures { λ r. ⌜ (r ≤ a) × (r ≤ b) × (r < a → r ≡ b) ⌝ }
+{
+    if a < b {
+        return a;
+    }
+    b
+}
+
+// The first n words of an order are laid over a lent buffer, as far as it reaches.
+pub fn lay_order(order: &[u16; 1536], n: usize, picked: &mut [u16])
+    requires { ⌜ (n ≤ 1536) × (length (now order) ≡ 1536) ⌝ }
+    ensures { λ _. ⌜ now (picked .exit) ≡ layOver (take n (now (order .entry))) (now (picked .entry)) ⌝ }
+{
+    let words = least(n, picked.len());
+    for i in 0..words {
+        picked[i] = order[i];
+    }
 }

@@ -1,12 +1,17 @@
 -- Orders of steps, one word more at a time. Assumes nothing.
-use mathlib.Core.Path.{_≡_, refl, ap, ap₂, _∙_}
+use mathlib.Core.Path.{_≡_, refl, sym, ap, ap₂, _∙_}
+use mathlib.Core.Bool.{true}
 use mathlib.Core.List.{List, [], _∷_, _++_, map}
-use Prim.Native.Nat.{ℕ, _+_, _≤_, _<_}
+use Prim.Native.Nat.{ℕ, suc, _+_, _-_, _*_, _/_, _%_, _≤_, _<_}
+use native.Mathlib.Nat.{div-add-mod', div-lt-iff-lt-mul, mul-le-mul}
 use native.Mathlib.Omega.{arith}
 use native.Mathlib.Numerals.{add-one}
-use lib.ListN.{length, getD, set, take, length-map, length-set}
-use lib.Seq.{take-suc, take-set-le, getD-set-same, length-take-le}
-use Rattle.model.specs.Steps.{Steps, Step, stepAt}
+use lib.ListN.{length, getD, set, take, length-map, length-set, length-take, List·getD-map}
+use lib.Seq.{ext-getD, take-suc, take-set-le, getD-set-same, getD-take, length-take-le}
+use Rattle.model.specs.Steps.{Steps, Step, kindNumber, stepPlace, stepAt}
+use Rattle.model.specs.Ranges.{under}
+use Rattle.model.proofs.Machine.{number-place}
+use Rattle.model.proofs.Step.{under-at}
 use Rattle.places.specs.Order.{stepsIn, markAll}
 use Rattle.places.proofs.Left.{and-step}
 
@@ -42,3 +47,41 @@ pub steps-put : (k n i : ℕ) (order : List ℕ) → n < length order → stepsI
 steps-put k n i order l =
     steps-next k n (set order n i) (rw (length-set order n i) l)
     ∙ ap₂ (λ (xs : List Step) (x : ℕ). xs ++ (stepAt k x ∷ [])) (steps-before k n n i order (omega arith)) (getD-set-same order n i 0 l)
+
+-- The place of the step at a place is this place.
+pub place-back : (k i : ℕ) → 1 ≤ k → i < 6 * k * k → stepPlace k (kindNumber (stepAt k i .kind)) (stepAt k i .first) (stepAt k i .second) ≡ i
+unfolding stepAt
+place-back k i some l =
+    ap (λ (q : ℕ). ((q - 1) * k + i / k % k) * k + i % k) (number-place (i / k / k) (div-lt-iff-lt-mul {k = k} some .1 (div-lt-iff-lt-mul {k = k} some .1 l)))
+    ∙ ap (λ (q : ℕ). (q * k + i / k % k) * k + i % k) (down (i / k / k))
+    ∙ ap (λ (r : ℕ). r * k + i % k) (div-add-mod' (i / k) k)
+    ∙ div-add-mod' i k
+  where
+    down : (n : ℕ) → suc n - 1 ≡ n
+    down n = omega arith
+
+-- So the places of the steps of an order are its words.
+pub places-back : (k n : ℕ) (order : List ℕ) → 1 ≤ k → under (6 * k * k) n order ≡ true →
+    map (λ (x : Step). stepPlace k (kindNumber (x .kind)) (x .first) (x .second)) (stepsIn k n order) ≡ take n order
+unfolding stepsIn
+places-back k n order some inside =
+    ext-getD zero-place (map place (map (stepAt k) (take n order))) (take n order) same-size
+    (λ i l. word-back i (omega (arith, l, same-size, length-take n order)))
+  where
+    place : Step → ℕ
+    place x = stepPlace k (kindNumber (x .kind)) (x .first) (x .second)
+
+    zero-place : ℕ
+    zero-place = place (stepAt k 0)
+
+    same-size : length (map place (map (stepAt k) (take n order))) ≡ length (take n order)
+    same-size = length-map (map (stepAt k) (take n order)) place ∙ length-map (take n order) (stepAt k)
+
+    word-back : (i : ℕ) → i < n → getD (map place (map (stepAt k) (take n order))) i zero-place ≡ getD (take n order) i zero-place
+    word-back i l =
+        List·getD-map place (map (stepAt k) (take n order)) i (stepAt k 0)
+        ∙ ap place (List·getD-map (stepAt k) (take n order) i 0)
+        ∙ ap (λ (w : ℕ). place (stepAt k w)) (getD-take n order i 0 l)
+        ∙ place-back k (getD order i 0) some (under-at (6 * k * k) n order i inside l)
+        ∙ sym (getD-take n order i 0 l)
+        ∙ ap (getD (take n order) i) (sym (place-back k 0 some (omega (arith, mul-le-mul some some))))

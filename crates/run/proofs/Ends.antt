@@ -1,15 +1,15 @@
 -- What a run begins with, and what it comes to. Assumes nothing.
 use mathlib.Core.Path.{_≡_, refl, sym, ap, _∙_}
 use mathlib.Core.Bool.{Bool, true, false, cond, _||_}
-use mathlib.Core.List.{List, [], _∷_}
+use mathlib.Core.List.{List, [], _∷_, map}
 use Prim.Native.Nat.{ℕ, zero, suc, _≤_}
 use native.Mathlib.Omega.{arith}
 use native.Mathlib.Nat.{mul-le-mul}
 use lib.Dec.{eqb}
-use lib.ListN.{length, getD, set, drop}
+use lib.ListN.{length, getD, set, take, drop}
 use borrow.Author.Tests.{ne-eqb}
 use Rattle.laws.specs.Below.{count}
-use Rattle.laws.specs.Tables.{tabulate}
+use Rattle.laws.specs.Tables.{tabulate, layOver}
 use Rattle.laws.specs.Checks.{firstMet}
 use Rattle.laws.proofs.Bools.{or-true, or-false}
 use Rattle.laws.proofs.Sums.{sum-max}
@@ -24,7 +24,7 @@ use Rattle.model.specs.Handed.{handedTables, Standing}
 use Rattle.model.proofs.Handed.{handed-whole, handed-in, handed-run}
 use Rattle.admit.proofs.Refusals.{accepted}
 use Rattle.model.specs.Words.{over, messagesOf, messageCount, stepCount}
-use Rattle.model.specs.Run.{readyCount, pick, picks, run, runState, afterSteps, RunAnswer, finished, refused, reported, runRefusals, ran}
+use Rattle.model.specs.Run.{readyCount, pick, picks, run, placed, pickedPlaces, runState, afterSteps, RunAnswer, finished, refused, reported, runRefusals, ran}
 use Rattle.tables.specs.Masks.{holderWord, Placed, Owned, byOwner}
 use Rattle.waits.specs.Waits.{TallyLists, tallyLists, waitTable, WaitsIn}
 use Rattle.admit.specs.Sizes.{sizes}
@@ -42,7 +42,7 @@ use Rattle.tables.proofs.Holders.{need-words, sharer-words}
 use Rattle.tables.proofs.InJob.{placed-offers, placed-grocers, owned-offers}
 use Rattle.waits.proofs.Told.{receivers-of, waits-of, waits-in}
 use Rattle.prices.proofs.Effect.{tables-eq}
-use Rattle.places.proofs.Orders.{steps-length}
+use Rattle.places.proofs.Orders.{steps-length, places-back}
 use Rattle.steps.proofs.Way.{some-box}
 use Rattle.steps.proofs.Turns.{after-marks}
 
@@ -194,11 +194,16 @@ module _ (f : JobTables) (t : StateTables) (g : Begins f t) where
       unfolding jobOf
       steps-is = sym (steps-length (f .boxes) n order (rw (w .picked .long) (w .picked .in-order))) ∙ ap length (w .steps-are)
 
-      -- What is answered, and the tables.
-      pub run-ended : given (answerOf (Finished words messages n)) t′
-          ≡ given (finished (end .sent) (over messagesOf (run (jobOf f) cs)) (length (run (jobOf f) cs))) (store (jobOf f) end t)
+      -- The words of the order are the places of the steps picked.
+      places-are : take n order ≡ pickedPlaces (jobOf f) cs
+      unfolding pickedPlaces jobOf
+      places-are = sym (places-back (f .boxes) n order (some-box f (g .job-in)) (w .picked .places-in)) ∙ ap (map (placed (jobOf f))) (w .steps-are)
+
+      -- What is answered, the tables, and the places of the steps picked.
+      pub run-ended : (p p′ : List ℕ) → p′ ≡ layOver (take n order) p → given (answerOf (Finished words messages n)) t′ p′
+          ≡ given (finished (end .sent) (over messagesOf (run (jobOf f) cs)) (length (run (jobOf f) cs))) (store (jobOf f) end t) (layOver (pickedPlaces (jobOf f) cs) p)
       unfolding answerOf
-      run-ended = λ i. given (finished (words-is i) (messages-is i) (steps-is i)) (tables-are i)
+      run-ended p p′ e = λ i. given (finished (words-is i) (messages-is i) (steps-is i)) (tables-are i) ((e ∙ ap (λ (l : List ℕ). layOver l p) places-are) i)
 
 -- A number that is not 0 is a refusal.
 pub refused-said : (n : ℕ) (a : RunAnswer) → (n ≡ 0 → ⊥) → refused n ≡ reported n a
@@ -212,9 +217,9 @@ module _ (f : JobTables) (t : StateTables) (c : Bool) (e : c ≡ stateShort (siz
   state-is = e ∙ short-sizes f (stateLengths t)
 
   -- A table of the state is short: no word is changed.
-  pub run-short : (cs : List ℕ) → c ≡ true → given (answerOf (Refused 20)) t ≡ ran f t cs
+  pub run-short : (cs p : List ℕ) → c ≡ true → given (answerOf (Refused 20)) t p ≡ ran f t cs p
   unfolding ran answerOf runRefusals firstMet lentShort
-  run-short cs h = rw (sym state-is ∙ h, or-true (jobShort f (jobLengths f) || bagsShort f (jobLengths f))) (ap (λ (a : RunAnswer). given a t) (refused-said 20 _ (λ q. omega arith)))
+  run-short cs p h = rw (sym state-is ∙ h, or-true (jobShort f (jobLengths f) || bagsShort f (jobLengths f))) (ap (λ (a : RunAnswer). given a t p) (refused-said 20 _ (λ q. omega arith)))
 
   -- None is: the refusals are those of the job's tables.
   module _ (h : c ≡ false) where
@@ -222,9 +227,9 @@ module _ (f : JobTables) (t : StateTables) (c : Bool) (e : c ≡ stateShort (siz
     unfolding runRefusals jobRefusals firstMet lentShort
     refusal-is = rw (sym state-is ∙ h, or-false (jobShort f (jobLengths f) || bagsShort f (jobLengths f)))
 
-    pub run-refused : (cs : List ℕ) (n : ℕ) → n ≡ firstMet (jobRefusals f) → (n ≡ 0 → ⊥) → given (answerOf (Refused n)) t ≡ ran f t cs
+    pub run-refused : (cs p : List ℕ) (n : ℕ) → n ≡ firstMet (jobRefusals f) → (n ≡ 0 → ⊥) → given (answerOf (Refused n)) t p ≡ ran f t cs p
     unfolding ran answerOf
-    run-refused cs n q k = rw (refusal-is, ← q, ne-eqb n 0 k) (ap (λ (a : RunAnswer). given a t) (refused-said n _ k))
+    run-refused cs p n q k = rw (refusal-is, ← q, ne-eqb n 0 k) (ap (λ (a : RunAnswer). given a t p) (refused-said n _ k))
 
     -- No refusal: with the boxes of the tallies that stand the run may begin, and what it comes to is the run of the tables as lent.
     module _ (z : firstMet (jobRefusals f) ≡ 0) (standing : List ℕ) (s : Standing f standing) where
@@ -239,8 +244,9 @@ module _ (f : JobTables) (t : StateTables) (c : Bool) (e : c ≡ stateShort (siz
         state-long = sym state-is ∙ h;
       }
 
-      pub run-finished : (cs : List ℕ) →
+      pub run-finished : (cs p : List ℕ) →
           given (finished (runState (jobOf (handedTables f standing)) cs .sent) (over messagesOf (run (jobOf (handedTables f standing)) cs)) (length (run (jobOf (handedTables f standing)) cs)))
-          (store (jobOf (handedTables f standing)) (runState (jobOf (handedTables f standing)) cs) t) ≡ ran f t cs
+          (store (jobOf (handedTables f standing)) (runState (jobOf (handedTables f standing)) cs) t)
+          (layOver (pickedPlaces (jobOf (handedTables f standing)) cs) p) ≡ ran f t cs p
       unfolding lentShort
-      run-finished cs = sym (handed-run f standing s t cs (rw (settled .whole, settled .bags, sym state-is ∙ h)) (settled .inRange) (settled .once))
+      run-finished cs p = sym (handed-run f standing s t cs p (rw (settled .whole, settled .bags, sym state-is ∙ h)) (settled .inRange) (settled .once))

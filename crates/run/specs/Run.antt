@@ -18,9 +18,9 @@ unfoldable pub answerOf : Answer → RunAnswer
 answerOf (Finished words messages steps) = finished words messages steps
 answerOf (Refused number) = refused number
 
--- What a call gives: its answer, and the state's tables.
-abbrev pub given : RunAnswer → StateTables → RunOutcome
-given a t = record { answer = a; tables = t }
+-- What a call gives: its answer, the state's tables, and the buffer for the places of the steps picked.
+abbrev pub given : RunAnswer → StateTables → List ℕ → RunOutcome
+given a t p = record { answer = a; tables = t; picked = p }
 
 -- What a run begins with: tables as handed, nothing lent short.
 pub record Begins (f : JobTables) (t : StateTables) : Type 0 where

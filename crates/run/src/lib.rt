@@ -81,7 +81,7 @@ fn pick_order(
 }
 
 // The run of a job, from a fresh state: its steps are picked first, by the marks alone, and then done one after the other.
-// The state's old words are not examined.
+// The places of the steps picked lie in front of `picked`, as far as it reaches. The state's old words are not examined.
 pub fn run(
     boxes: u16,
     grocers: u16,
@@ -104,11 +104,12 @@ pub fn run(
     done: &mut [u16],
     sent: &mut [u32],
     choices: &[u16],
+    picked: &mut [u16],
 ) -> Answer
-    ensures { λ r. ⌜ given (answerOf r) (stateAfter known «price_transit» working «total_transit» statement done sent) ≡ ran
+    ensures { λ r. ⌜ given (answerOf r) (stateAfter known «price_transit» working «total_transit» statement done sent) (now (picked .exit)) ≡ ran
         (bagLent boxes grocers offers tallies price «offer_owner» «grocer_owner» «tally_grocer» «tally_box» «tally_offer» «tally_count»
         «tally_bag» «tally_revision»)
-        (stateBefore known «price_transit» working «total_transit» statement done sent) (now (choices .entry)) ⌝ }
+        (stateBefore known «price_transit» working «total_transit» statement done sent) (now (choices .entry)) (now (picked .entry)) ⌝ }
 {
     let z = Sizes {
         boxes: boxes,
@@ -164,6 +165,7 @@ pub fn run(
         done,
         &mut order,
     );
+    order::lay_order(&order, n, picked);
     let all = steps::all_steps(
         z,
         price,

@@ -1,8 +1,9 @@
 -- `run::run` meets its contract: refused, or its steps are picked and then done. Assumes nothing.
 use mathlib.Core.Path.{_≡_, refl, sym, _∙_}
 use mathlib.Core.List.{List}
-use Prim.Native.Nat.{ℕ}
+use Prim.Native.Nat.{ℕ, _≤_}
 use native.Mathlib.Omega.{arith}
+use lib.ListN.{length, length-set}
 use borrow.Author.Needs.{needs}
 use denote.Ref.{now}
 use Rattle.laws.specs.Checks.{firstMet}
@@ -28,7 +29,7 @@ abbrev state-lent : tie.After-slice-known4 → tie.After-shared-slice-known8
 state-lent c = c .before .before .before .before
 
 abbrev slices : tie.After-state-short → tie.After-shared-slice-known8
-slices c = state-lent (c .before .before)
+slices c = state-lent (c .before .before .before)
 
 abbrev shared : tie.After-shared-slice-known8 → tie.After-shared-slice-known4
 shared c = c .before .before .before .before
@@ -36,7 +37,7 @@ shared c = c .before .before .before .before
 abbrev entry : tie.After-state-short → tie.Start
 entry c = shared (slices c) .before .before .before .before
 
--- The boxes of the tallies that stand, need words and sharer words, the order and the steps done.
+-- The boxes of the tallies that stand, need words and sharer words, the order, its places told, and the steps done.
 abbrev looked : tie.Else2 → tie.After-job-refusal
 looked e = e .before .before
 
@@ -49,14 +50,17 @@ whole c = c .before .before
 abbrev worded : tie.After-pick-order → tie.After-sharers
 worded c = c .before .before .before .before
 
-abbrev marks-back : tie.After-slice-known5 → tie.After-pick-order
-marks-back c = c .before .before
+abbrev marks-back : tie.After-lay-order → tie.After-pick-order
+marks-back c = c .before .before .before .before .before
 
-abbrev ordered : tie.After-all-steps-arg → tie.After-pick-order
-ordered c = marks-back (c .before .before .before .before)
+abbrev laid : tie.After-all-steps-arg → tie.After-lay-order
+laid c = let n = c .before .before .before .before in n .before .before
+
+abbrev told : tie.After-all-steps-arg5 → tie.After-lay-order
+told c = laid (c .before .before .before .before)
 
 abbrev picked : tie.After-all-steps-arg5 → tie.After-pick-order
-picked c = ordered (c .before .before .before .before)
+picked c = marks-back (told c)
 
 abbrev written : tie.After-statement → tie.After-price-transit
 written c = c .before .before .before .before
@@ -66,7 +70,7 @@ done c = written c .before .before .before
 
 returns : tie.Need-returns
 unfolding answerOf stateLengths
-returns c = let s = entry (c .before) in run-short (job s) (lent s) _ (c .before .state-short .ensures) (now (s .args .choices)) (c .if1 .taken)
+returns c = let s = entry (c .before) in run-short (job s) (lent s) _ (c .before .state-short .ensures) (now (s .args .choices)) (now (s .args .picked)) (c .if1 .taken)
 
 returns-2 : tie.Need-returns-2
 unfolding answerOf stateLengths
@@ -74,7 +78,7 @@ returns-2 c =
     let b = c .before .before in
     let w = whole b in
     let s = entry (w .before) in
-    run-refused (job s) (lent s) _ (w .before .state-short .ensures) (w .if1 .left) (now (s .args .choices)) _ (b .job-refusal .ensures .0) (c .if2 .taken)
+    run-refused (job s) (lent s) _ (w .before .state-short .ensures) (w .if1 .left) (now (s .args .choices)) (now (s .args .picked)) _ (b .job-refusal .ensures .0) (c .if2 .taken)
 
 -- No refusal: the boxes of the tallies that stand, and the tables with them.
 abbrev standing : tie.Else2 → List ℕ
@@ -109,6 +113,16 @@ sharers-requires c κs = begins-sharers _ _ (may (c .before .before))
 pick-order-requires : tie.Need-pick-order-requires
 pick-order-requires c κs = let w = c .before .before .before in (order-in _ _ (may (stood w)) _ _ (w .before .needs .ensures) (w .sharers .ensures), refl)
 
+-- The order has room for its words.
+order-in-room : (o : tie.After-pick-order) → (o .pick-order .result ≤ 1536) × (length (o .pick-order .last .1 .1 .1 .1 .1 .1 .1 .1 .1 .0) ≡ 1536)
+order-in-room o =
+    let w = worded o in
+    let p = o .pick-order .ensures .1 _ (of-job _ _ (may (stood w)) _ _ (w .before .needs .ensures) (w .sharers .ensures)) .picked in
+    (p .in-order, p .long)
+
+lay-order-requires : tie.Need-lay-order-requires
+lay-order-requires c κs = order-in-room (c .before .before .before .before)
+
 all-steps-requires : tie.Need-all-steps-requires
 all-steps-requires c κs =
     let o = picked c in
@@ -121,7 +135,7 @@ all-steps-requires c κs =
 write-sent : tie.Need-slice-write-sent
 write-sent c = omega (arith, sent-room _ _ (may (stood (worded (picked (done c .before))))))
 
-cast-steps : tie.Need-cast-t63
+cast-steps : tie.Need-cast-t68
 cast-steps c =
     let o = picked (done c .before) in
     let w = worded o in
@@ -139,8 +153,8 @@ returns-3 c =
     let en = w .before .needs .ensures in
     let es = w .sharers .ensures in
     run-ended (handed e) (lent s) g _ _ (now (s .args .choices)) _ _ _ (needs-of _ _ g _ _ en es) (sharers-of _ _ g _ _ en es) (o .pick-order .ensures .1 _ (of-job _ _ g _ _ en es)) _ _ _ (a .all-steps .ensures)
-    (o .pick-order .ensures .0) refl refl
-    ∙ run-finished (job s) (lent s) _ (whole (looked e) .before .state-short .ensures) (whole (looked e) .if1 .left) (none-met e) (standing e) (stand e) (now (s .args .choices))
+    (o .pick-order .ensures .0) refl refl (now (s .args .picked)) _ (told (a .before) .lay-order .ensures)
+    ∙ run-finished (job s) (lent s) _ (whole (looked e) .before .state-short .ensures) (whole (looked e) .if1 .left) (none-met e) (standing e) (stand e) (now (s .args .choices)) (now (s .args .picked))
 
 pub run-spec : {M : Type 1} → statement M
 run-spec =
@@ -155,6 +169,7 @@ run-spec =
     needs-requires
     sharers-requires
     pick-order-requires
+    lay-order-requires
     all-steps-requires
     write-sent
     cast-steps
@@ -164,5 +179,6 @@ run-spec =
     (λ c. done c .all-steps .kept .1 .1 .1 .1 .1 .1 .1 .1 .1 .1 .1 .1 .1 .1 .1 .0)
     (λ c. done c .all-steps .kept .1 .1 .1 .1 .1 .1 .1 .1 .1 .1 .1 .1 .1 .1 .1 .1 .0)
     (λ c. picked (done c .before) .pick-order .kept .1 .1 .1 .1 .1 .1 .1 .1 .0)
-    (λ c. search needs)
+    (λ c. length-set (now (start (stood (worded (picked (done c .before)))) .args .sent)) 0 (done c .all-steps .result .words))
+    (λ c. told (done c .before) .lay-order .kept .1 .1 .0)
     returns-3)
