@@ -48,9 +48,10 @@ unfolding reported
 reported-no zero r h = absurd (h refl)
 reported-no (suc n) r h = refl
 
-run-refused : (f : JobTables) (t : StateTables) (cs : List ℕ) → (firstMet (runRefusals f t) ≡ 0 → ⊥) → ran f t cs ≡ record { answer = refused (firstMet (runRefusals f t)); tables = t }
+run-refused : (f : JobTables) (t : StateTables) (cs p : List ℕ) → (firstMet (runRefusals f t) ≡ 0 → ⊥) →
+    ran f t cs p ≡ record { answer = refused (firstMet (runRefusals f t)); tables = t; picked = p }
 unfolding ran
-run-refused f t cs n = rw (ne-eqb (firstMet (runRefusals f t)) 0 n, reported-no (firstMet (runRefusals f t)) _ n)
+run-refused f t cs p n = rw (ne-eqb (firstMet (runRefusals f t)) 0 n, reported-no (firstMet (runRefusals f t)) _ n)
 
 desk-no : (n : ℕ) (z : ℤ) → (n ≡ 0 → ⊥) → deskAnswer n z ≡ notOwed n
 unfolding deskAnswer

@@ -25,20 +25,21 @@ read-refused file l s =
     (λ e. rw e (λ n. refl))
     (λ e. rw e (split (eqb (readRefusal file l) 0) (λ q. rw q (λ n. absurd (n refl))) (λ q. rw q (λ n. refl))))
 
--- A refusal number that is not 0 is the answer, and leaves the tables t and the report p.
-kept : (r w m n : ℕ) (u t : StateTables) (p : List ℕ) → (runAs (reported r (finished w m n)) (cond (eqb r 0) u t) p .answer ≡ 0 → ⊥) →
-    runAs (reported r (finished w m n)) (cond (eqb r 0) u t) p ≡ hostRun (runAs (reported r (finished w m n)) (cond (eqb r 0) u t) p .answer) t p
+-- A refusal number that is not 0 is the answer, and leaves the tables t, the places k and the report p.
+kept : (r w m n : ℕ) (u t : StateTables) (l k p : List ℕ) →
+    let o = runAs (reported r (finished w m n)) (cond (eqb r 0) u t) (cond (eqb r 0) l k) p in (o .answer ≡ 0 → ⊥) → o ≡ hostRun (o .answer) t k p
 unfolding runAs reported
-kept zero w m n u t p h = absurd (h refl)
-kept (suc r) w m n u t p h = rw (ne-eqb (suc r) 0 (λ e. omega (arith, e)))
+kept zero w m n u t l k p h = absurd (h refl)
+kept (suc r) w m n u t l k p h = rw (ne-eqb (suc r) 0 (λ e. omega (arith, e)))
 
--- The run: where the answer is not 0, the tables and the report are as they were.
-pub run-refused : (f : JobTables) (t : StateTables) (choices p : List ℕ) → (ranByHost f t choices p .answer ≡ 0 → ⊥) → ranByHost f t choices p ≡ hostRun (ranByHost f t choices p .answer) t p
+-- The run: where the answer is not 0, the tables, the buffer for places and the report are as they were.
+pub run-refused : (f : JobTables) (t : StateTables) (choices k p : List ℕ) → (ranByHost f t choices k p .answer ≡ 0 → ⊥) →
+    ranByHost f t choices k p ≡ hostRun (ranByHost f t choices k p .answer) t k p
 unfolding ranByHost ran
-run-refused f t choices p =
+run-refused f t choices k p =
     split (ltb (length p) 3)
     (λ e. rw e (λ n. refl))
-    (λ e. rw e (kept (firstMet (runRefusals f t)) _ _ _ _ t p))
+    (λ e. rw e (kept (firstMet (runRefusals f t)) _ _ _ _ t _ k p))
 
 -- The step's answer is the number of the first condition met.
 number-is : (n : ℕ) → stepNumber (stepAnswer n) ≡ n
@@ -70,14 +71,14 @@ first-read file l s =
     (λ q. rw (q, eqb-true (readRefusal file l) 0 q))
     (λ q. rw q (sym (first-last (readRefusal file l))))))
 
-run-number : (r w m n : ℕ) (u : StateTables) (p : List ℕ) → runAs (reported r (finished w m n)) u p .answer ≡ r
+run-number : (r w m n : ℕ) (u : StateTables) (k p : List ℕ) → runAs (reported r (finished w m n)) u k p .answer ≡ r
 unfolding runAs reported
-run-number zero w m n u p = refl
-run-number (suc r) w m n u p = refl
+run-number zero w m n u k p = refl
+run-number (suc r) w m n u k p = refl
 
-pub first-run : (f : JobTables) (t : StateTables) (choices p : List ℕ) → ranByHost f t choices p .answer ≡ firstMet (hostRunRefusals f t p)
+pub first-run : (f : JobTables) (t : StateTables) (choices k p : List ℕ) → ranByHost f t choices k p .answer ≡ firstMet (hostRunRefusals f t p)
 unfolding ranByHost ran hostRunRefusals firstMet
-first-run f t choices p =
+first-run f t choices k p =
     split (ltb (length p) 3)
     (λ e. rw e)
-    (λ e. rw e (run-number (firstMet (runRefusals f t)) _ _ _ _ p))
+    (λ e. rw e (run-number (firstMet (runRefusals f t)) _ _ _ _ _ p))

@@ -129,21 +129,21 @@ module _ (file : List ℕ) (ok : fileRefusal file ≡ 0) where
       rw (given .settles .whole, given .settles .bags, blank-state job (s .boxes-most) (s .grocers-most) (s .offers-most))
 
   -- The run is not refused: its answer is the job's words, messages and steps,
-  answer-is : ran job blankState [] .answer ≡ finished (ownerWords (jobOf job)) (messageCount (jobOf job)) (stepCount (jobOf job))
+  answer-is : ran job blankState [] [] .answer ≡ finished (ownerWords (jobOf job)) (messageCount (jobOf job)) (stepCount (jobOf job))
   unfolding reported
-  answer-is = given .run blankState [] .answer ∙ rw lent-ok
+  answer-is = given .run blankState [] [] .answer ∙ rw lent-ok
 
   -- and each statement is what the file says is owed.
-  amount-is : (g : ℕ) → g < decode file .head .grocers → getD (ran job blankState [] .tables .statement) g (pos 0) ≡ owedByFile (decode file) g
+  amount-is : (g : ℕ) → g < decode file .head .grocers → getD (ran job blankState [] [] .tables .statement) g (pos 0) ≡ owedByFile (decode file) g
   unfolding jobRead
-  amount-is g h = demand3-run job (given .settles) blankState [] .statements lent-ok g h ∙ given .sums g
+  amount-is g h = demand3-run job (given .settles) blankState [] [] .statements lent-ok g h ∙ given .sums g
 
   settled-is : printed file ≡ settledText (decode file .head .grocers) (owedByFile (decode file)) (ownerWords (jobOf job)) (messageCount (jobOf job)) (stepCount (jobOf job))
   unfolding jobText runText jobRead
   settled-is =
       printed-job file ok
-      ∙ ap (λ (a : RunAnswer). runText (decode file .head .grocers) a (ran job blankState [] .tables .statement)) answer-is
-      ∙ text-cong (decode file .head .grocers) (λ g. getD (ran job blankState [] .tables .statement) g (pos 0)) (owedByFile (decode file)) (ownerWords (jobOf job)) (messageCount (jobOf job)) (stepCount (jobOf job)) amount-is
+      ∙ ap (λ (a : RunAnswer). runText (decode file .head .grocers) a (ran job blankState [] [] .tables .statement)) answer-is
+      ∙ text-cong (decode file .head .grocers) (λ g. getD (ran job blankState [] [] .tables .statement) g (pos 0)) (owedByFile (decode file)) (ownerWords (jobOf job)) (messageCount (jobOf job)) (stepCount (jobOf job)) amount-is
 
 -- The first n bytes of a file say the file's length, if they are a file.
 cut-is : (file : List ℕ) (n : ℕ) → fileRefusal file ≡ 0 → n < length file → fileRefusal (take n file) ≡ 0 → ⊥

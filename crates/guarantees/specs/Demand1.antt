@@ -52,8 +52,8 @@ pub record Demand1 : Type 0 where
   pub step : (f : JobTables) (t : StateTables) (q : Asked) → (firstMet (refusals f t q) ≡ 0 → ⊥) →
       stepped f t q ≡ outcome (notDone (firstMet (refusals f t q))) t
   -- So does a run,
-  pub run : (f : JobTables) (t : StateTables) (choices : List ℕ) → (firstMet (runRefusals f t) ≡ 0 → ⊥) →
-      ran f t choices ≡ record { answer = refused (firstMet (runRefusals f t)); tables = t }
+  pub run : (f : JobTables) (t : StateTables) (choices picked : List ℕ) → (firstMet (runRefusals f t) ≡ 0 → ⊥) →
+      ran f t choices picked ≡ record { answer = refused (firstMet (runRefusals f t)); tables = t; picked = picked }
   -- the reader
   pub reader : (file : List ℕ) (l : ReaderTables) → (readRefusal file l ≡ 0 → ⊥) →
       readResult file l ≡ record { answer = notRead (readRefusal file l); tables = l }
@@ -74,13 +74,14 @@ pub record Demand1 : Type 0 where
   -- a step
   pub firstStep : (f : JobTables) (t : StateTables) (q : Asked) → steppedByHost f t q .answer ≡ firstMet (refusals f t q)
   -- and a run.
-  pub firstRun : (f : JobTables) (t : StateTables) (choices p : List ℕ) → ranByHost f t choices p .answer ≡ firstMet (hostRunRefusals f t p)
+  pub firstRun : (f : JobTables) (t : StateTables) (choices picked report : List ℕ) →
+      ranByHost f t choices picked report .answer ≡ firstMet (hostRunRefusals f t report)
   -- Refused, the reader leaves its tables and the buffer for sizes as they were;
   pub hostRead : (file : List ℕ) (l : ReaderTables) (s : List ℕ) → (readByHost file l s .answer ≡ 0 → ⊥) →
       readByHost file l s ≡ hostRead (readByHost file l s .answer) l s
   -- a step, the state's tables;
   pub hostStep : (f : JobTables) (t : StateTables) (q : Asked) → (steppedByHost f t q .answer ≡ 0 → ⊥) →
       steppedByHost f t q ≡ hostStep (steppedByHost f t q .answer) t
-  -- a run, the state's tables and the report.
-  pub hostRun : (f : JobTables) (t : StateTables) (choices p : List ℕ) → (ranByHost f t choices p .answer ≡ 0 → ⊥) →
-      ranByHost f t choices p ≡ hostRun (ranByHost f t choices p .answer) t p
+  -- a run, the state's tables, the buffer for places and the report.
+  pub hostRun : (f : JobTables) (t : StateTables) (choices picked report : List ℕ) → (ranByHost f t choices picked report .answer ≡ 0 → ⊥) →
+      ranByHost f t choices picked report ≡ hostRun (ranByHost f t choices picked report .answer) t picked report

@@ -24,9 +24,9 @@ pub record Demand3Holds : Type 0 where
   -- Of every file that the reader accepts, whatever its tables held,
   pub files : (file : List ℕ) (l : ReaderTables) → readRefusal file l ≡ 0 → Accepted file l
   -- of every list of step requests, from a fresh state in whatever buffers,
-  pub lists : (f : JobTables) → Settles f → (t : StateTables) (rs : List Request) → Demand3 f t rs
+  pub lists : (f : JobTables) → Settles f → (buffers : StateTables) (requests : List Request) → Demand3 f buffers requests
   -- and of every run.
-  pub runs : (f : JobTables) → Settles f → (t : StateTables) (choices : List ℕ) → RunIsList f t choices
+  pub runs : (f : JobTables) → Settles f → (buffers : StateTables) (choices picked : List ℕ) → RunIsList f buffers choices picked
   -- An accepted job in whatever tables: tables that hold what a file without a refusal says are in range,
   pub anyTables : (file : List ℕ) → fileRefusal file ≡ 0 → (f : JobTables) → Holds (decode file) f → jobInRange f ≡ true
   -- do not meet 9,

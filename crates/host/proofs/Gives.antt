@@ -36,15 +36,15 @@ unfolding readAs
 told-refused a n s e l = rw e
 
 -- What a finished run reports, told.
-pub told-report : (a : RunnerAnswer) (w m n : ℕ) (p : List ℕ) → 3 ≤ length p → a ≡ Finished w m n → (t : StateTables) →
-    hostRun 0 t (set (set (set p 0 w) 1 m) 2 n) ≡ runAs (runAnswer a) t p
+pub told-report : (a : RunnerAnswer) (w m n : ℕ) (p : List ℕ) → 3 ≤ length p → a ≡ Finished w m n → (t : StateTables) (k : List ℕ) →
+    hostRun 0 t k (set (set (set p 0 w) 1 m) 2 n) ≡ runAs (runAnswer a) t k p
 unfolding runAs runAnswer
-told-report a w m n p h e t = rw e (ap (hostRun 0 t) (put-three p w m n h))
+told-report a w m n p h e t k = rw e (ap (hostRun 0 t k) (put-three p w m n h))
 
 -- A refusal of the run, told.
-pub told-not-run : (a : RunnerAnswer) (n : ℕ) (p : List ℕ) → a ≡ NotRun n → (t : StateTables) → hostRun n t p ≡ runAs (runAnswer a) t p
+pub told-not-run : (a : RunnerAnswer) (n : ℕ) (p : List ℕ) → a ≡ NotRun n → (t : StateTables) (k : List ℕ) → hostRun n t k p ≡ runAs (runAnswer a) t k p
 unfolding runAs runAnswer
-told-not-run a n p e t = rw e
+told-not-run a n p e t k = rw e
 
 module _ (file : List ℕ) (l : ReaderTables) (s : List ℕ) where
   -- 20: the buffer for sizes is short.
@@ -58,14 +58,14 @@ module _ (file : List ℕ) (l : ReaderTables) (s : List ℕ) where
   unfolding readByHost
   read-told a l′ r s′ h e told = told l′ ∙ ap (λ (o : ReadOutcome). readAs (o .answer) (o .tables) s) e ∙ sym (cond-no _ _ _ (le-ltb _ _ h))
 
-module _ (f : JobTables) (t : StateTables) (choices p : List ℕ) where
+module _ (f : JobTables) (t : StateTables) (choices k p : List ℕ) where
   -- 20: the report is short.
-  pub run-short : length p < 3 → hostRun 20 t p ≡ ranByHost f t choices p
+  pub run-short : length p < 3 → hostRun 20 t k p ≡ ranByHost f t choices k p
   unfolding ranByHost
   run-short h = sym (cond-yes _ _ _ (lt-ltb _ _ h))
 
   -- What the run gave, and its answer told.
-  pub run-told : (a : RunAnswer) (t′ : StateTables) (r : ℕ) (p′ : List ℕ) → 3 ≤ length p → record { answer = a; tables = t′ } ≡ ran f t choices →
-      ((u : StateTables) → hostRun r u p′ ≡ runAs a u p) → hostRun r t′ p′ ≡ ranByHost f t choices p
+  pub run-told : (a : RunAnswer) (t′ : StateTables) (k′ : List ℕ) (r : ℕ) (p′ : List ℕ) → 3 ≤ length p → record { answer = a; tables = t′; picked = k′ } ≡ ran f t choices k →
+      ((u : StateTables) (l : List ℕ) → hostRun r u l p′ ≡ runAs a u l p) → hostRun r t′ k′ p′ ≡ ranByHost f t choices k p
   unfolding ranByHost
-  run-told a t′ r p′ h e told = told t′ ∙ ap (λ (o : RunOutcome). runAs (o .answer) (o .tables) p) e ∙ sym (cond-no _ _ _ (le-ltb _ _ h))
+  run-told a t′ k′ r p′ h e told = told t′ k′ ∙ ap (λ (o : RunOutcome). runAs (o .answer) (o .tables) (o .picked) p) e ∙ sym (cond-no _ _ _ (le-ltb _ _ h))

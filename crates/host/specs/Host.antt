@@ -32,24 +32,27 @@ readAs (notRead number) l s = hostRead number l s
 unfoldable pub readByHost : List ℕ → ReaderTables → List ℕ → HostRead
 readByHost file l s = cond (ltb (length s) 5) (hostRead 20 l s) (readAs (readResult file l .answer) (readResult file l .tables) s)
 
--- What `settlement_run` gives: the number, the state's tables, and the buffer for the report.
+-- What `settlement_run` gives: the number, the state's tables, the buffer for the places of the steps picked, and the one for the report.
 pub record HostRun : Type 0 where
   pub answer : ℕ
   pub tables : StateTables
+  pub picked : List ℕ
   pub report : List ℕ
 
 -- The same, as a contract names it.
-abbrev pub hostRun : ℕ → StateTables → List ℕ → HostRun
-hostRun n t p = record { answer = n; tables = t; report = p }
+abbrev pub hostRun : ℕ → StateTables → List ℕ → List ℕ → HostRun
+hostRun n t k p = record { answer = n; tables = t; picked = k; report = p }
 
 -- The run's answer as a number; words sent, messages and steps go into the report.
-unfoldable pub runAs : RunAnswer → StateTables → List ℕ → HostRun
-runAs (finished words messages steps) t p = hostRun 0 t (put (words ∷ messages ∷ steps ∷ []) p)
-runAs (refused number) t p = hostRun number t p
+unfoldable pub runAs : RunAnswer → StateTables → List ℕ → List ℕ → HostRun
+runAs (finished words messages steps) t k p = hostRun 0 t k (put (words ∷ messages ∷ steps ∷ []) p)
+runAs (refused number) t k p = hostRun number t k p
 
--- The host's run: 20 also where the report is shorter than three words.
-unfoldable pub ranByHost : JobTables → StateTables → List ℕ → List ℕ → HostRun
-ranByHost f t choices p = cond (ltb (length p) 3) (hostRun 20 t p) (runAs (ran f t choices .answer) (ran f t choices .tables) p)
+-- The host's run: 20 also where the report is shorter than three words. The buffer for the places may have any length.
+unfoldable pub ranByHost : JobTables → StateTables → (choices picked report : List ℕ) → HostRun
+ranByHost f t choices k p =
+    let o = ran f t choices k in
+    cond (ltb (length p) 3) (hostRun 20 t k p) (runAs (o .answer) (o .tables) (o .picked) p)
 
 -- What `settlement_step` gives: the number, and the state's tables.
 pub record HostStep : Type 0 where

@@ -1,6 +1,7 @@
 // The three calls of a C host, on numbers and lent words. Each answers 0, or the number of the refusal.
 ghost use mathlib.Core.Path.{_≡_};
-ghost use Prim.Native.Nat.{_≤_};
+ghost use mathlib.Core.List.{List};
+ghost use Prim.Native.Nat.{ℕ, _≤_};
 ghost use lib.ListN.{length};
 ghost use Rattle.model.specs.Tables.{StateTables};
 ghost use Rattle.model.specs.Lent.{bagLent, stateBefore, stateAfter};
@@ -39,7 +40,7 @@ fn tell_sizes(a: reader::Answer, sizes: &mut [u16]) -> u16
 // The number of the run's answer; words sent, messages and steps of a finished run go in front of the buffer.
 fn tell_report(a: run::Answer, report: &mut [u32]) -> u16
     requires { ⌜ 3 ≤ length (now report) ⌝ }
-    ensures { λ r. ⌜ ((t : StateTables) → hostRun r t (now (report .exit)) ≡ runAs (runAnswer a) t (now (report .entry))) ⌝ }
+    ensures { λ r. ⌜ ((t : StateTables) (k : List ℕ) → hostRun r t k (now (report .exit)) ≡ runAs (runAnswer a) t k (now (report .entry))) ⌝ }
 {
     match a {
         run::Answer::Finished {
@@ -177,7 +178,8 @@ pub extern "C" fn settlement_step(
     step_number(a)
 }
 
-// The run of a job from a fresh state; what it reports goes into the buffer for the report. A refusal leaves every word as it was.
+// The run of a job from a fresh state; the places of the steps picked go into one buffer, as far as it reaches, and what it reports into
+// another. A refusal leaves every word as it was.
 #[no_mangle]
 pub extern "C" fn settlement_run(
     boxes: u16,
@@ -201,16 +203,19 @@ pub extern "C" fn settlement_run(
     done: &mut [u16],
     sent: &mut [u32],
     choices: &[u16],
+    picked: &mut [u16],
     report: &mut [u32],
 ) -> u16
     ensures { λ r. ⌜ hostRun r
         (stateAfter known «price_transit» working «total_transit» statement done sent)
+        (now (picked .exit))
         (now (report .exit))
         ≡ ranByHost
         (bagLent boxes grocers offers tallies price «offer_owner» «grocer_owner» «tally_grocer» «tally_box» «tally_offer» «tally_count»
         «tally_bag» «tally_revision»)
         (stateBefore known «price_transit» working «total_transit» statement done sent)
         (now (choices .entry))
+        (now (picked .entry))
         (now (report .entry)) ⌝ }
 {
     if report.len() < 3 {
@@ -238,6 +243,7 @@ pub extern "C" fn settlement_run(
         done,
         sent,
         choices,
+        picked,
     );
     tell_report(a, report)
 }

@@ -58,7 +58,7 @@ pub record Accepted (file : List ℕ) (l : ReaderTables) : Type 0 where
   pub settles : Settles (jobRead file l)
   -- So demand 3 holds of every list of step requests and of every run.
   pub steps : (t : StateTables) (rs : List Request) → Demand3 (jobRead file l) t rs
-  pub run : (t : StateTables) (choices : List ℕ) → RunIsList (jobRead file l) t choices
+  pub run : (t : StateTables) (choices picked : List ℕ) → RunIsList (jobRead file l) t choices picked
   -- The tallies that stand in its tables are those that stand in the file,
   pub standing : (t : ℕ) → t < decode file .head .tallies → stands (countedOf (jobRead file l)) t ≡ stands (countedTallies (decode file)) t
   -- and the plain sum, over these, is what the file says is owed.

@@ -92,9 +92,9 @@ unfoldable pub runText : ℕ → RunAnswer → List ℤ → List ℕ
 runText grocers (finished words messages steps) statement = settledText grocers (λ g. getD statement g (pos 0)) words messages steps
 runText grocers (refused number) statement = refusedText number
 
--- What is printed of a job: the run with no choices.
+-- What is printed of a job: the run with no choices, lent no buffer for the places of its steps.
 unfoldable pub jobText : JobTables → List ℕ
-jobText f = let o = ran f blankState [] in runText (f .grocers) (o .answer) (o .tables .statement)
+jobText f = let o = ran f blankState [] [] in runText (f .grocers) (o .answer) (o .tables .statement)
 
 -- What is printed once a file is read.
 unfoldable pub readText : List ℕ → ReadAnswer → List ℕ

@@ -48,7 +48,7 @@ module _ (f : JobTables) (s : Settles f) (standing : List ℕ) (st : Standing f 
   unfolding jobText runText blankState store
   due-text statement words messages steps r =
       (λ i. settledText (f .grocers) (λ g. getD (r .statement-is i) g (pos 0)) (r .words-are i) (r .messages-are i) (r .steps-are i))
-      ∙ sym (ap (λ (o : RunOutcome). runText (f .grocers) (o .answer) (o .tables .statement)) (handed-run f standing st blankState [] lent-ok (s .inRange) (s .once)))
+      ∙ sym (ap (λ (o : RunOutcome). runText (f .grocers) (o .answer) (o .tables .statement)) (handed-run f standing st blankState [] [] lent-ok (s .inRange) (s .once)))
 
 -- ---- An accepted file
 
