@@ -52,8 +52,8 @@ nameOf s c = record { issuer = s; code = c }
 unfoldable pub sameOffer : Name → Name → Bool
 sameOffer a b = eqb (a .issuer) (b .issuer) && eqb (codeNumber (a .code)) (codeNumber (b .code))
 
--- The number of a name, by which the index sorts: the issuer in front of 34 bits, in which the lowest 9 bits of the code's number come first, so that
--- numbers which lie close together begin apart.
+-- A key of the index, not to be believed (`sameOffer` says which names are one offer): the number of a name, the issuer in front of 34 bits,
+-- in which the lowest 9 bits of the code's number come first, so that numbers which lie close together begin apart.
 unfoldable pub nameNumber : Name → ℕ
 nameNumber a = a .issuer * 17_179_869_184 + (codeNumber (a .code) % 512 * 33_554_432 + codeNumber (a .code) / 512)
 

@@ -33,3 +33,4 @@ pub mod Demand3
 pub mod Quiet
 pub mod Cases
 pub mod Cursor
+pub mod Evening

@@ -21,7 +21,7 @@ pub record Job : Type 0 where
   pub tallyCount : ℕ → ℤ  -- of a tally
 
 module _ (j : Job) where
-  -- Box b holds tally t. A tally of a box not below K is held by nobody.
+  -- Box b holds tally t. A tally of a box not below K is held by nobody; a superseded one is such a tally (`jobOf`), so a box holds standing tallies alone.
   unfoldable pub heldBy : ℕ → ℕ → Bool
   heldBy t b = eqb (j .tallyBox t) b && ltb b (j .boxes)
 
@@ -29,11 +29,11 @@ module _ (j : Job) where
   unfoldable pub held : ℕ → Bool
   held t = heldBy t (j .tallyBox t)
 
-  -- The needs of an offer are the boxes holding a tally of it: box b is one of them.
+  -- The needs of an offer are the boxes holding a standing tally of it: box b is one of them.
   unfoldable pub needs : ℕ → ℕ → Bool
   needs o b = any (j .tallies) (λ t. heldBy t b && eqb (j .tallyOffer t) o)
 
-  -- The sharers of a grocer likewise: box b holds a tally of it, and so has a part total of it, whatever the amount.
+  -- The sharers of a grocer likewise: box b holds a standing tally of it, and so has a part total of it, whatever the amount.
   unfoldable pub shares : ℕ → ℕ → Bool
   shares g b = any (j .tallies) (λ t. heldBy t b && eqb (j .tallyGrocer t) g)
 

@@ -90,7 +90,8 @@ oneBox addOwn = true
 oneBox receiveTotals = false
 
 module _ (j : Job) where
-  -- Message steps exist only for nonempty lists; steps 2 and 5 exist for every box.
+  -- Message steps exist only for nonempty lists; steps 2 and 5 exist for every box. In 3 and 6 the second box is the sender: there the boxes
+  -- stand exchanged.
   unfoldable pub fits : Steps
   fits sendPrices a b = pricesDue j a b
   fits multiplyOwn a b = eqb a b
@@ -110,12 +111,13 @@ module _ (j : Job) where
       (d multiplyOwn (j .tallyBox t) (j .tallyBox t))
       (d receivePrices (j .tallyBox t) (j .offerOwner (j .tallyOffer t)))
 
-  -- Every tally that box a holds of box b's grocers has been added.
+  -- Every standing tally that box a holds of box b's grocers has been added.
   unfoldable pub allAdded : Steps → ℕ → ℕ → Bool
   allAdded d a b = all (j .tallies) (λ t. not (heldBy j t a && eqb (j .grocerOwner (j .tallyGrocer t)) b) || added d t)
 
-  -- The steps done make this one ready: 1 and 2 from the start, 3 and 6 once sent, 4 once every tally of the second box's grocers is added,
-  -- 5 once this is so of its own grocers.
+  -- The steps done make this one ready: 1 and 2 from the start; 3 and 6 once the second box has sent to the first, so that the boxes stand
+  -- exchanged in the step asked for; 4 once every standing tally that the first box holds of the second box's grocers is added; 5 once
+  -- this is so of its own grocers.
   unfoldable pub ready : Steps → Steps
   ready d sendPrices a b = true
   ready d multiplyOwn a b = true
@@ -140,7 +142,7 @@ module _ (j : Job) where
     sent = 0;
   }
 
-  -- Count × price over the tallies of box a and grocer g whose offer passes p, at the prices that the box knows.
+  -- Count × price over the standing tallies of box a and grocer g whose offer passes p, at the prices that the box knows.
   unfoldable pub products : (ℕ → ℕ) → (ℕ → Bool) → ℕ → ℕ → ℤ
   products know p a g =
       sum integers (j .tallies) (λ t.
