@@ -1,7 +1,7 @@
 -- Two names are one offer where their issuers are equal and their codes agree after leading zeros are dropped, and only there. Assumes nothing.
 use mathlib.Core.Path.{_≡_, refl, sym, _∙_, ap}
 use mathlib.Core.Logic.{_↔_}
-use mathlib.Core.Bool.{Bool, true, cond, _&&_}
+use mathlib.Core.Bool.{true, cond, _&&_}
 use mathlib.Core.List.{List, [], _∷_, _++_}
 use Prim.Native.Nat.{ℕ, zero, suc, _+_, _-_, _*_, _^_, _≤_, _<_, _/_, _%_}
 use native.Mathlib.Omega.{arith}
@@ -200,6 +200,13 @@ same-offer a b ha hb =
       λ e. (same-parts a b e .0, n .0 (same-parts a b e .1)),
       λ e. parts-same a b (e .0) (n .1 (e .1)),
     )
+
+-- Whichever of the two is asked first.
+pub same-turn : (a b : Name) → sameOffer a b ≡ sameOffer b a
+same-turn a b = same-test (sameOffer a b) (sameOffer b a) (turn a b) (turn b a)
+  where
+    turn : (a b : Name) → sameOffer a b ≡ true → sameOffer b a ≡ true
+    turn a b h = let (i, n) = same-parts a b h in parts-same b a (sym i) (sym n)
 
 -- Two names that are one offer with a third are one offer.
 pub same-trans : (a b c : Name) → sameOffer a c ≡ true → sameOffer b c ≡ true → sameOffer a b ≡ true

@@ -21,7 +21,8 @@ use Rattle.format.proofs.Firsts.{each, below-none, below-hit}
 use Rattle.format.proofs.Words.{first-cong, second-cong}
 use Rattle.format.proofs.Plan.{At, at-header, at-offers, at-grocers, at-tallies, kind-at}
 use Rattle.format.proofs.Accept.{long, top, below, clean-all, accepted-range}
-use Rattle.format.proofs.Same.{OfferWords, TallyWords, offer-same, tally-same}
+use Rattle.format.specs.Same.{OfferWords, TallyWords}
+use Rattle.format.proofs.Same.{offer-same, tally-same}
 use Rattle.format.proofs.Detect.{seen}
 
 -- Sums that do not both agree.

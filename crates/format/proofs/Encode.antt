@@ -13,7 +13,7 @@ use Rattle.format.specs.Blocks.{BlockKind, header, offerBlock, grocerBlo
 use Rattle.format.specs.File.{recordByte, bodyByte, blockByte, encode}
 use Rattle.format.proofs.Words.{first-cong, second-cong}
 use Rattle.format.proofs.Read.{in-field}
-use Rattle.format.proofs.Same.{SameCode, OfferWords, TallyWords, SameWords}
+use Rattle.format.specs.Same.{SameCode, OfferWords, TallyWords, SameWords}
 
 -- Codes with the same digits have the same eleven bytes.
 pub code-bytes : (a b : Code) → SameCode a b → codeBytes a ≡ codeBytes b

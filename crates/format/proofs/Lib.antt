@@ -9,6 +9,7 @@ pub mod Same
 pub mod Read
 pub mod Accept
 pub mod Write
+pub mod Rearranged
 pub mod Small
 pub mod Encode
 pub mod Tables

@@ -16,6 +16,7 @@ use Rattle.recount.specs.Recount.{countedTwice}
 use Rattle.format.specs.Codes.{isCode, sameOffer}
 use Rattle.format.specs.Job.{Head, FileJob, Offer, Tally, badSizes, badOffer, badOwner, badTally, badRecords, offerName, tallyName, names, placeOf, shared, unnamed, countedTallies}
 use Rattle.format.specs.Refusals.{jobRefusal}
+use Rattle.format.specs.Rearranged.{Named}
 use Rattle.format.proofs.Codes.{same-trans}
 
 -- K, M, N and T within their values.
@@ -84,6 +85,27 @@ tally-in h t e =
 
 -- ---- what the conditions of a whole job say where none is met
 
+-- 6 is met by no record.
+pub record FineRecords (j : FileJob) : Type 0 where
+  pub offer : (i : ℕ) → i < j .head .offers → badOffer (j .head) (j .offer i) ≡ false
+  pub grocerOwner : (i : ℕ) → i < j .head .grocers → badOwner (j .head) (j .grocerOwner i) ≡ false
+  pub tally : (t : ℕ) → t < j .head .tallies → badTally (j .head) (j .tally t) ≡ false
+
+-- A job that does not meet 6.
+pub fine-records : (j : FileJob) → badRecords j ≡ false → FineRecords j
+unfolding badRecords
+fine-records j e =
+    let p = any (j .head .offers) (λ i. badOffer (j .head) (j .offer i)) in
+    let q = any (j .head .grocers) (λ i. badOwner (j .head) (j .grocerOwner i)) in
+    let s = any (j .head .tallies) (λ i. badTally (j .head) (j .tally i)) in
+    let b = or-off (p || q) s e in
+    let a = or-off p q (b .0) in
+    record {
+      offer = λ i h. any-none (j .head .offers) (λ i. badOffer (j .head) (j .offer i)) i h (a .0);
+      grocerOwner = λ i h. any-none (j .head .grocers) (λ i. badOwner (j .head) (j .grocerOwner i)) i h (a .1);
+      tally = λ i h. any-none (j .head .tallies) (λ i. badTally (j .head) (j .tally i)) i h (b .1);
+    }
+
 -- None of the conditions 4 and 6 to 9 is met.
 pub record Fine (j : FileJob) : Type 0 where
   pub sizes : badSizes (j .head) ≡ false
@@ -94,23 +116,25 @@ pub record Fine (j : FileJob) : Type 0 where
   pub unnamed : unnamed j ≡ false
   pub once : countedTwice (countedTallies j) ≡ false
 
--- A job that is not refused.
+-- A job that is not refused does not meet 6, 7 and 8,
+pub named-job : (j : FileJob) → jobRefusal j ≡ 0 → Named j
+unfolding jobRefusal
+named-job j e = let r = unmet _ refl e in record { codes = r .1 .0; apart = r .1 .1 .0; named = r .1 .1 .1 .0 }
+
+-- nor 4 and 9.
 pub fine : (j : FileJob) → jobRefusal j ≡ 0 → Fine j
-unfolding jobRefusal badRecords
+unfolding jobRefusal
 fine j e =
     let r = unmet _ refl e in
-    let p = any (j .head .offers) (λ i. badOffer (j .head) (j .offer i)) in
-    let q = any (j .head .grocers) (λ i. badOwner (j .head) (j .grocerOwner i)) in
-    let s = any (j .head .tallies) (λ i. badTally (j .head) (j .tally i)) in
-    let b = or-off (p || q) s (r .1 .0) in
-    let a = or-off p q (b .0) in
+    let n = named-job j e in
+    let f = fine-records j (n .codes) in
     record {
       sizes = r .0;
-      offer = λ i h. any-none (j .head .offers) (λ i. badOffer (j .head) (j .offer i)) i h (a .0);
-      grocerOwner = λ i h. any-none (j .head .grocers) (λ i. badOwner (j .head) (j .grocerOwner i)) i h (a .1);
-      tally = λ i h. any-none (j .head .tallies) (λ i. badTally (j .head) (j .tally i)) i h (b .1);
-      shared = r .1 .1 .0;
-      unnamed = r .1 .1 .1 .0;
+      offer = f .offer;
+      grocerOwner = f .grocerOwner;
+      tally = f .tally;
+      shared = n .apart;
+      unnamed = n .named;
       once = r .1 .1 .1 .1 .0;
     }
 

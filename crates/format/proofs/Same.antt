@@ -1,47 +1,70 @@
 -- Two jobs with the same words are refused alike. Assumes nothing.
-use mathlib.Core.Path.{_≡_, refl, _∙_, ap}
-use mathlib.Core.Bool.{true, not}
+use mathlib.Core.Path.{_≡_, sym, _∙_, ap}
+use mathlib.Core.Bool.{true, false, not, _||_}
 use Prim.Native.Nat.{ℕ, _<_}
 use native.Mathlib.Omega.{arith}
 use Rattle.laws.specs.Below.{any, find}
+use Rattle.laws.specs.Checks.{firstMet}
+use Rattle.laws.proofs.Bools.{split}
 use Rattle.laws.proofs.Below.{any-cong, find-cong}
-use Rattle.recount.specs.Recount.{Counted, countedTwice}
-use Rattle.recount.proofs.Recount.{recount-laws}
+use Rattle.recount.specs.Recount.{Counted, stands, countedTwice, Reordered}
 use Rattle.format.specs.Codes.{Code, Name, isCode, codeNumber, sameOffer}
-use Rattle.format.specs.Job.{Head, FileJob, Offer, Tally, badOffer, badTally, offerName, tallyName, names, placeOf, shared, unnamed, countedTallies}
+use Rattle.format.specs.Job.{Head, FileJob, Offer, Tally, badSizes, badOffer, badOwner, badTally, badRecords, offerName, tallyName, names, placeOf, shared, unnamed, countedTallies}
+use Rattle.format.specs.Same.{SameCode, OfferWords, TallyWords, SameWords}
+use Rattle.format.specs.Rearranged.{Named}
 use Rattle.format.specs.Refusals.{jobRefusal}
+use Rattle.recount.proofs.Recount.{recount-laws, same-order}
 use Rattle.format.proofs.Codes.{code-cong, number-cong}
-use Rattle.format.proofs.Range.{fine, fine-job, offer-in, tally-in}
+use Rattle.format.proofs.Range.{fine-records, named-job, offer-in, tally-in}
 
--- The same digit count, and the same bytes of the field.
-pub record SameCode (a b : Code) : Type 0 where
-  pub size : a .size ≡ b .size
-  pub digit : (k : ℕ) → k < 10 → a .digit k ≡ b .digit k
+-- The same words both ways round,
+code-back : (a b : Code) → SameCode a b → SameCode b a
+code-back a b s = record { size = sym (s .size); digit = λ k l. sym (s .digit k l) }
 
--- Two offers with the same words.
-pub record OfferWords (a b : Offer) : Type 0 where
-  pub price : a .price ≡ b .price
-  pub owner : a .owner ≡ b .owner
-  pub code : SameCode (a .code) (b .code)
-  pub issuer : a .issuer ≡ b .issuer
+pub words-back : (a b : FileJob) → SameWords a b → SameWords b a
+words-back a b s = record {
+  head = sym (s .head);
+  offer = λ i l. let o = s .offer i (rw (s .head) at l) in
+      record { price = sym (o .price); owner = sym (o .owner); code = code-back _ _ (o .code); issuer = sym (o .issuer) };
+  grocerOwner = λ i l. sym (s .grocerOwner i (rw (s .head) at l));
+  tally = λ i l. let t = s .tally i (rw (s .head) at l) in record {
+    grocer = sym (t .grocer);
+    box = sym (t .box);
+    code = code-back _ _ (t .code);
+    count = sym (t .count);
+    issuer = sym (t .issuer);
+    bag = sym (t .bag);
+    revision = sym (t .revision);
+  };
+}
 
--- Two tallies with the same words.
-pub record TallyWords (a b : Tally) : Type 0 where
-  pub grocer : a .grocer ≡ b .grocer
-  pub box : a .box ≡ b .box
-  pub code : SameCode (a .code) (b .code)
-  pub count : a .count ≡ b .count
-  pub issuer : a .issuer ≡ b .issuer
-  pub bag : a .bag ≡ b .bag
-  pub revision : a .revision ≡ b .revision
+-- and on to a third job.
+code-on : (a b c : Code) → SameCode a b → SameCode b c → SameCode a c
+code-on a b c s r = record { size = s .size ∙ r .size; digit = λ k l. s .digit k l ∙ r .digit k l }
 
--- The same head, and the same words in each table as far as it counts: two jobs that are one.
-pub record SameWords (a b : FileJob) : Type 0 where
-  pub head : a .head ≡ b .head
-  pub offer : (i : ℕ) → i < b .head .offers → OfferWords (a .offer i) (b .offer i)
-  pub grocerOwner : (i : ℕ) → i < b .head .grocers → a .grocerOwner i ≡ b .grocerOwner i
-  pub tally : (i : ℕ) → i < b .head .tallies → TallyWords (a .tally i) (b .tally i)
+pub words-on : (a b c : FileJob) → SameWords a b → SameWords b c → SameWords a c
+words-on a b c s r = record {
+  head = s .head ∙ r .head;
+  offer = λ i l.
+      let x = s .offer i (rw (r .head) l) in
+      let y = r .offer i l in
+      record { price = x .price ∙ y .price; owner = x .owner ∙ y .owner; code = code-on _ _ _ (x .code) (y .code); issuer = x .issuer ∙ y .issuer };
+  grocerOwner = λ i l. s .grocerOwner i (rw (r .head) l) ∙ r .grocerOwner i l;
+  tally = λ i l.
+      let x = s .tally i (rw (r .head) l) in
+      let y = r .tally i l in
+      record {
+        grocer = x .grocer ∙ y .grocer;
+        box = x .box ∙ y .box;
+        code = code-on _ _ _ (x .code) (y .code);
+        count = x .count ∙ y .count;
+        issuer = x .issuer ∙ y .issuer;
+        bag = x .bag ∙ y .bag;
+        revision = x .revision ∙ y .revision;
+      };
+}
 
+-- Fields with the same bytes are codes alike, and have one number.
 same-code : (a b : Code) → SameCode a b → isCode a ≡ isCode b
 same-code a b s = code-cong a b (s .size) (s .digit)
 
@@ -67,25 +90,40 @@ tally-same h o p w = rw (w .grocer, w .box, w .count, same-code (o .code) (p .co
 -- Counts with the same words meet 9 alike.
 pub twice-cong : (a b : Counted) → a .size ≡ b .size → ((t : ℕ) → t < b .size → a .grocer t ≡ b .grocer t) → ((t : ℕ) → t < b .size → a .offer t ≡ b .offer t) →
     ((t : ℕ) → t < b .size → a .bag t ≡ b .bag t) → ((t : ℕ) → t < b .size → a .revision t ≡ b .revision t) → countedTwice a ≡ countedTwice b
-twice-cong a b e grocer offer bag revision =
-    recount-laws .orderTwice b a (λ t. t) (λ t. t) (record {
-      size = e;
-      inside = λ t h. rw e at h;
-      back = λ t h. rw e h;
-      there = λ t h. refl;
-      here = λ t h. refl;
-      grocer = λ t h. grocer t (rw e at h);
-      offer = λ t h. offer t (rw e at h);
-      bag = λ t h. bag t (rw e at h);
-      revision = λ t h. revision t (rw e at h);
-    })
+twice-cong a b e grocer offer bag revision = recount-laws .orderTwice b a (λ t. t) (λ t. t) (same-order a b e grocer offer bag revision)
 
-module _ (a b : FileJob) (s : SameWords a b) (ok : jobRefusal b ≡ 0) where
+-- Jobs that meet 4 and 6 alike, 7 and 8 where 6 is not met, and 9 where 8 is not met either, are refused alike.
+pub refused-alike : (a b : FileJob) → badSizes (a .head) ≡ badSizes (b .head) → badRecords a ≡ badRecords b →
+    (badRecords b ≡ false → shared a ≡ shared b) → (badRecords b ≡ false → unnamed a ≡ unnamed b) →
+    (Named b → countedTwice (countedTallies a) ≡ countedTwice (countedTallies b)) → jobRefusal a ≡ jobRefusal b
+unfolding jobRefusal firstMet
+refused-alike a b four six seven eight nine =
+    split (badRecords b)
+    (λ e. rw (four, six, e))
+    (λ e. split (shared b)
+    (λ f. rw (four, six, e, seven e, f))
+    (λ f. split (unnamed b)
+    (λ g. rw (four, six, e, seven e, f, eight e, g))
+    (λ g. rw (four, six, seven e, eight e, nine (record { codes = e; apart = f; named = g })))))
+
+-- The same words: 6 is met alike,
+pub records-same : (a b : FileJob) → SameWords a b → badRecords a ≡ badRecords b
+unfolding badRecords
+records-same a b s =
+    ap (λ (h : Head). any (h .offers) (λ i. badOffer h (a .offer i)) || any (h .grocers) (λ i. badOwner h (a .grocerOwner i)) || any (h .tallies) (λ i. badTally h (a .tally i))) (s .head)
+    ∙ rw (
+      any-cong (b .head .offers) (λ i. badOffer (b .head) (a .offer i)) (λ i. badOffer (b .head) (b .offer i)) (λ i l. offer-same (b .head) (a .offer i) (b .offer i) (s .offer i l)),
+      any-cong (b .head .grocers) (λ i. badOwner (b .head) (a .grocerOwner i)) (λ i. badOwner (b .head) (b .grocerOwner i)) (λ i l. ap (badOwner (b .head)) (s .grocerOwner i l)),
+      any-cong (b .head .tallies) (λ i. badTally (b .head) (a .tally i)) (λ i. badTally (b .head) (b .tally i)) (λ i l. tally-same (b .head) (a .tally i) (b .tally i) (s .tally i l)),
+    )
+
+-- and where codes are codes, so are 7, 8 and 9.
+module _ (a b : FileJob) (s : SameWords a b) (codes : badRecords b ≡ false) where
   offer-number : (i : ℕ) → i < b .head .offers → codeNumber (a .offer i .code) ≡ codeNumber (b .offer i .code)
-  offer-number i h = same-number _ _ (s .offer i h .code) (offer-in (b .head) (b .offer i) (fine b ok .offer i h) .code)
+  offer-number i h = same-number _ _ (s .offer i h .code) (offer-in (b .head) (b .offer i) (fine-records b codes .offer i h) .code)
 
   tally-number : (i : ℕ) → i < b .head .tallies → codeNumber (a .tally i .code) ≡ codeNumber (b .tally i .code)
-  tally-number i h = same-number _ _ (s .tally i h .code) (tally-in (b .head) (b .tally i) (fine b ok .tally i h) .code)
+  tally-number i h = same-number _ _ (s .tally i h .code) (tally-in (b .head) (b .tally i) (fine-records b codes .tally i h) .code)
 
   names-same : (t : ℕ) → t < b .head .tallies → (i : ℕ) → i < b .head .offers → names a t i ≡ names b t i
   unfolding names
@@ -93,44 +131,52 @@ module _ (a b : FileJob) (s : SameWords a b) (ok : jobRefusal b ≡ 0) where
       name-cong (offerName a i) (tallyName a t) (offerName b i) (tallyName b t) (s .offer i l .issuer) (offer-number i l) (s .tally t h .issuer) (tally-number t h)
 
   -- Each tally's place is the same.
-  pub place-same : (t : ℕ) → t < b .head .tallies → placeOf a t ≡ placeOf b t
+  pub places-same : (t : ℕ) → t < b .head .tallies → placeOf a t ≡ placeOf b t
   unfolding placeOf
-  place-same t h = ap (λ (h : Head). find (h .offers) (names a t)) (s .head) ∙ find-cong (b .head .offers) (names a t) (names b t) (names-same t h)
+  places-same t h = ap (λ (h : Head). find (h .offers) (names a t)) (s .head) ∙ find-cong (b .head .offers) (names a t) (names b t) (names-same t h)
 
   offers-same : (k i : ℕ) → k < b .head .offers → i < b .head .offers → sameOffer (offerName a k) (offerName a i) ≡ sameOffer (offerName b k) (offerName b i)
   offers-same k i p q =
       name-cong (offerName a k) (offerName a i) (offerName b k) (offerName b i) (s .offer k p .issuer) (offer-number k p) (s .offer i q .issuer) (offer-number i q)
 
-  shared-same : shared a ≡ shared b
+  pub shared-same : shared a ≡ shared b
   unfolding shared
   shared-same =
       ap (λ (h : Head). any (h .offers) (λ i. any i (λ k. sameOffer (offerName a k) (offerName a i)))) (s .head)
       ∙ any-cong (b .head .offers) _ _ (λ i l. any-cong i _ _ (λ k m. offers-same k i (omega arith) l))
 
-  unnamed-same : unnamed a ≡ unnamed b
+  pub unnamed-same : unnamed a ≡ unnamed b
   unfolding unnamed
   unnamed-same =
       ap (λ (h : Head). any (h .tallies) (λ t. not (any (h .offers) (names a t)))) (s .head)
       ∙ any-cong (b .head .tallies) _ _ (λ t l. ap not (any-cong (b .head .offers) (names a t) (names b t) (names-same t l)))
 
-  -- What the recount rule looks at is the same.
-  twice-same : countedTwice (countedTallies a) ≡ countedTwice (countedTallies b)
+  -- What the recount rule looks at is the same,
+  counted-same : Reordered (countedTallies b) (countedTallies a) (λ t. t) (λ t. t)
   unfolding countedTallies
-  twice-same =
-      twice-cong (countedTallies a) (countedTallies b) (ap (λ (h : Head). h .tallies) (s .head))
-      (λ t h. s .tally t h .grocer) place-same (λ t h. s .tally t h .bag) (λ t h. s .tally t h .revision)
+  counted-same =
+      same-order (countedTallies a) (countedTallies b) (ap (λ (h : Head). h .tallies) (s .head))
+      (λ t h. s .tally t h .grocer) places-same (λ t h. s .tally t h .bag) (λ t h. s .tally t h .revision)
 
-  -- A job with the words of one that is not refused is not refused.
-  pub same-fine : jobRefusal a ≡ 0
-  same-fine =
-      let f = fine b ok in
-      let e = s .head in
-      fine-job a (record {
-        sizes = rw e (f .sizes);
-        offer = λ i h. let h′ : i < b .head .offers = rw e at h in rw e (offer-same (b .head) _ _ (s .offer i h′) ∙ f .offer i h′);
-        grocerOwner = λ i h. let h′ : i < b .head .grocers = rw e at h in rw (e, s .grocerOwner i h′) (f .grocerOwner i h′);
-        tally = λ i h. let h′ : i < b .head .tallies = rw e at h in rw e (tally-same (b .head) _ _ (s .tally i h′) ∙ f .tally i h′);
-        shared = shared-same ∙ f .shared;
-        unnamed = unnamed-same ∙ f .unnamed;
-        once = twice-same ∙ f .once;
-      })
+  -- so 9 is met alike, and the same tallies stand.
+  pub twice-same : countedTwice (countedTallies a) ≡ countedTwice (countedTallies b)
+  twice-same = recount-laws .orderTwice (countedTallies b) (countedTallies a) (λ t. t) (λ t. t) counted-same
+
+  pub stands-same : (t : ℕ) → t < b .head .tallies → stands (countedTallies a) t ≡ stands (countedTallies b) t
+  unfolding countedTallies
+  stands-same t l =
+      recount-laws .order (countedTallies b) (countedTallies a) (λ t. t) (λ t. t) counted-same t (rw (s .head) l)
+
+module _ (a b : FileJob) (s : SameWords a b) where
+  -- Two jobs with the same words are refused alike,
+  refusal-same : jobRefusal a ≡ jobRefusal b
+  refusal-same =
+      refused-alike a b (ap badSizes (s .head)) (records-same a b s) (shared-same a b s) (unnamed-same a b s) (λ n. twice-same a b s (n .codes))
+
+  -- so that one with the words of one that is not refused is not refused,
+  pub same-fine : jobRefusal b ≡ 0 → jobRefusal a ≡ 0
+  same-fine ok = refusal-same ∙ ok
+
+  -- and each tally's place is the same.
+  pub place-same : jobRefusal b ≡ 0 → (t : ℕ) → t < b .head .tallies → placeOf a t ≡ placeOf b t
+  place-same ok = places-same a b s (named-job b ok .codes)

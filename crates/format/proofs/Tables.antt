@@ -25,7 +25,8 @@ use Rattle.format.specs.Tables.{fileJobOf, storeCodes, store, storeRead,
 use Rattle.format.proofs.Firsts.{each}
 use Rattle.format.proofs.Order.{reader-file, writer-job}
 use Rattle.format.proofs.Range.{InRange, in-range}
-use Rattle.format.proofs.Same.{SameCode, OfferWords, TallyWords, SameWords, place-same, same-fine}
+use Rattle.format.specs.Same.{SameCode, OfferWords, TallyWords, SameWords}
+use Rattle.format.proofs.Same.{place-same, same-fine}
 use Rattle.format.proofs.Encode.{code-bytes, encode-same}
 use Rattle.format.proofs.Accept.{long, accepted, job-accepted}
 use Rattle.format.proofs.Small.{encode-small}

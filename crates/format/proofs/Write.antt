@@ -30,7 +30,8 @@ use Rattle.format.proofs.Order.{file-accepted}
 use Rattle.format.proofs.Words.{word-bytes16, word-bytes32, first-cong, second-cong}
 use Rattle.format.proofs.Plan.{kind-header, kind-offers, kind-grocers, kind-tallies}
 use Rattle.format.proofs.Range.{Fine, fine, in-range}
-use Rattle.format.proofs.Same.{OfferWords, TallyWords, SameWords, same-fine}
+use Rattle.format.specs.Same.{OfferWords, TallyWords, SameWords}
+use Rattle.format.proofs.Same.{same-fine}
 
 -- A record's fields are within the record.
 pub fields-fit : (b : BlockKind) → fieldSize b ≤ recordSize b

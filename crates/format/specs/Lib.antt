@@ -7,5 +7,7 @@ pub mod Job
 pub mod Blocks
 pub mod File
 pub mod Refusals
+pub mod Same
+pub mod Rearranged
 pub mod Tables
 pub mod Lent

@@ -1,25 +1,21 @@
 -- The table of ◆ cases holds. Assumes nothing.
 use mathlib.Core.Path.{_≡_, refl, sym, ap, fun-ext, _∙_}
-use mathlib.Core.Bool.{true, false, cond}
-use mathlib.Core.List.{List, [], _∷_}
-use Prim.Native.Nat.{ℕ, zero, suc, _<_, _≤_}
+use mathlib.Core.Bool.{true, false}
+use mathlib.Core.List.{[], _∷_}
+use Prim.Native.Nat.{ℕ, zero, suc, _<_}
 use native.Mathlib.Omega.{arith}
-use lib.Dec.{ltb}
 use lib.IntN.{ℤ, pos}
 use lib.ListN.{getD}
-use borrow.Author.Tests.{ltb-true, ltb-false}
-use Rattle.laws.proofs.Bools.{split}
-use Rattle.laws.proofs.Tables.{word-in, word-past}
 use Rattle.laws.specs.Below.{naturals, integers, sum, only, any, all, find}
 use Rattle.laws.specs.Checks.{firstMet}
 use Rattle.laws.specs.Tables.{tabulate, word}
 use Rattle.model.specs.Job.{Job, plainSum}
 use Rattle.model.specs.Words.{ownerWords, messageCount, stepCount}
 use Rattle.recount.specs.Recount.{loose, sameBag, superseded, stands, countedTwice}
-use Rattle.model.specs.Tables.{JobTables, countedOf, nobody, jobOf}
+use Rattle.model.specs.Tables.{jobOf}
 use Rattle.model.specs.Cases.{jobE}
 use Rattle.format.specs.Codes.{isPlace, isCode, value, codeNumber, written, dropZeros, nameOf, sameOffer}
-use Rattle.format.specs.Job.{Head, FileJob, badSizes, badOffer, badOwner, badTally, badRecords, names, placeOf, shared, unnamed, countedTallies}
+use Rattle.format.specs.Job.{Head, badSizes, badOffer, badOwner, badTally, badRecords, names, placeOf, shared, unnamed, countedTallies}
 use Rattle.format.specs.Blocks.{firstSum, secondSum}
 use Rattle.format.specs.File.{encode, decode}
 use Rattle.format.specs.Refusals.{jobRefusal, fileRefusal}
@@ -29,7 +25,9 @@ use Rattle.printing.specs.Printed.{jobRead, digitsOf, decimal, signedDecimal, l
 use Rattle.guarantees.specs.Cases.{code, alone, fileE, twoIssuers, recounted, textE, Cases}
 use Rattle.model.proofs.Step.{range, in-handed}
 use Rattle.model.proofs.Quiet.{no-tallies-words, no-tallies-steps}
-use Rattle.format.proofs.Same.{SameWords, place-same}
+use Rattle.format.proofs.Range.{sizes-in}
+use Rattle.format.proofs.Same.{place-same}
+use Rattle.printing.proofs.OneJob.{holds-same, one-job}
 use Rattle.format.proofs.Write.{written-accepted, read-back}
 use Rattle.guarantees.proofs.Settle.{given, settle}
 use Rattle.model.proofs.Cases as Settlement
@@ -179,73 +177,13 @@ e-tables = record {
 
 -- ---- what `settle` prints for E
 
--- Two tables of one length with the same words.
-words-same : {A : Type 0} (n m : ℕ) (x y : List A) (z : A) → n ≡ m → ((i : ℕ) → i < n → word n x z i ≡ word m y z i) → word n x z ≡ word m y z
-words-same n m x y z e h =
-    fun-ext (λ i. split (ltb i n)
-    (λ l. h i (ltb-true i n l))
-    (λ l. let g : n ≤ i = ltb-false i n l in word-past n x z i g ∙ sym (word-past m y z i (omega arith))))
-
--- Tables that hold one job are one job.
-module _ (j k : FileJob) (s : SameWords j k) (ok : jobRefusal k ≡ 0) (a b : JobTables) (p : Holds j a) (q : Holds k b) where
-  size : {x y u v : ℕ} → x ≡ u → u ≡ v → y ≡ v → x ≡ y
-  size e f g = e ∙ f ∙ sym g
-
-  same-job : jobOf a ≡ jobOf b
-  unfolding jobOf countedOf
-  same-job =
-      let eo = size (p .offers) (ap (λ (h : Head). h .offers) (s .head)) (q .offers) in
-      let eg = size (p .grocers) (ap (λ (h : Head). h .grocers) (s .head)) (q .grocers) in
-      let et = size (p .tallies) (ap (λ (h : Head). h .tallies) (s .head)) (q .tallies) in
-      let price = words-same (a .offers) (b .offers) (a .price) (b .price) 0 eo (λ i l. p .price i (first-offer i l) ∙ s .offer i (offer-in i l) .price ∙ sym (q .price i (offer-in i l))) in
-      let offerOwner = words-same (a .offers) (b .offers) (a .offerOwner) (b .offerOwner) 0 eo (λ i l. p .offerOwner i (first-offer i l) ∙ s .offer i (offer-in i l) .owner ∙ sym (q .offerOwner i (offer-in i l))) in
-      let grocerOwner = words-same (a .grocers) (b .grocers) (a .grocerOwner) (b .grocerOwner) 0 eg (λ i l. p .grocerOwner i (first-grocer i l) ∙ s .grocerOwner i (grocer-in i l) ∙ sym (q .grocerOwner i (grocer-in i l))) in
-      let tallyGrocer = words-same (a .tallies) (b .tallies) (a .tallyGrocer) (b .tallyGrocer) 0 et (λ i l. p .tallyGrocer i (first-tally i l) ∙ s .tally i (tally-in i l) .grocer ∙ sym (q .tallyGrocer i (tally-in i l))) in
-      let box = tally-words (a .tallyBox) (b .tallyBox) (λ i l. p .tallyBox i (first-tally i l) ∙ s .tally i (tally-in i l) .box ∙ sym (q .tallyBox i (tally-in i l))) in
-      let bag = tally-words (a .tallyBag) (b .tallyBag) (λ i l. p .tallyBag i (first-tally i l) ∙ s .tally i (tally-in i l) .bag ∙ sym (q .tallyBag i (tally-in i l))) in
-      let revision = tally-words (a .tallyRevision) (b .tallyRevision) (λ i l. p .tallyRevision i (first-tally i l) ∙ s .tally i (tally-in i l) .revision ∙ sym (q .tallyRevision i (tally-in i l))) in
-      let tallyOffer = words-same (a .tallies) (b .tallies) (a .tallyOffer) (b .tallyOffer) 0 et (λ i l. p .tallyOffer i (first-tally i l) ∙ place-same j k s ok i (tally-in i l) ∙ sym (q .tallyOffer i (tally-in i l))) in
-      let tallyCount = words-same (a .tallies) (b .tallies) (a .tallyCount) (b .tallyCount) (pos 0) et (λ i l. p .tallyCount i (first-tally i l) ∙ s .tally i (tally-in i l) .count ∙ sym (q .tallyCount i (tally-in i l))) in
-      λ i. record {
-        boxes = size (p .boxes) (ap (λ (h : Head). h .boxes) (s .head)) (q .boxes) i;
-        grocers = eg i;
-        offers = eo i;
-        tallies = et i;
-        price = price i;
-        offerOwner = offerOwner i;
-        grocerOwner = grocerOwner i;
-        tallyGrocer = tallyGrocer i;
-        tallyBox = λ t. cond (stands (record { size = et i; grocer = tallyGrocer i; offer = tallyOffer i; bag = bag i; revision = revision i }) t) (box i t) nobody;
-        tallyOffer = tallyOffer i;
-        tallyCount = tallyCount i;
-      }
-    where
-      first-offer : (i : ℕ) → i < a .offers → i < j .head .offers
-      first-offer i l = omega (arith, p .offers)
-
-      offer-in : (i : ℕ) → i < a .offers → i < k .head .offers
-      offer-in i l = omega (arith, p .offers, ap (λ (h : Head). h .offers) (s .head))
-
-      first-grocer : (i : ℕ) → i < a .grocers → i < j .head .grocers
-      first-grocer i l = omega (arith, p .grocers)
-
-      grocer-in : (i : ℕ) → i < a .grocers → i < k .head .grocers
-      grocer-in i l = omega (arith, p .grocers, ap (λ (h : Head). h .grocers) (s .head))
-
-      first-tally : (i : ℕ) → i < a .tallies → i < j .head .tallies
-      first-tally i l = omega (arith, p .tallies)
-
-      tally-words : (x y : List ℕ) → ((i : ℕ) → i < a .tallies → getD x i 0 ≡ getD y i 0) → word (a .tallies) x 0 ≡ word (b .tallies) y 0
-      tally-words x y h =
-          let et = size (p .tallies) (ap (λ (h : Head). h .tallies) (s .head)) (q .tallies) in
-          words-same (a .tallies) (b .tallies) x y 0 et (λ i l. word-in (a .tallies) x 0 i l ∙ h i l ∙ sym (word-in (b .tallies) y 0 i (omega (arith, l, et))))
-
-      tally-in : (i : ℕ) → i < a .tallies → i < k .head .tallies
-      tally-in i l = omega (arith, p .tallies, ap (λ (h : Head). h .tallies) (s .head))
-
 -- The job that the reader leaves of E's file is E.
 e-same : jobOf (jobRead (encode fileE) blankJob) ≡ jobOf jobE
-e-same = same-job (decode (encode fileE)) fileE (read-back fileE e-written) e-written (jobRead (encode fileE) blankJob) jobE (given (encode fileE) e-accepted .holds) e-tables
+e-same =
+    let back = read-back fileE e-written in
+    one-job fileE (jobRead (encode fileE) blankJob) jobE
+    (holds-same (decode (encode fileE)) fileE back (place-same (decode (encode fileE)) fileE back e-written) (jobRead (encode fileE) blankJob) (given (encode fileE) e-accepted .holds))
+    e-tables
 
 e-amount : (g : ℕ) → owedByFile (decode (encode fileE)) g ≡ plainSum (jobOf jobE) g
 e-amount g = sym (given (encode fileE) e-accepted .sums g) ∙ ap (λ (j : Job). plainSum j g) e-same
@@ -298,4 +236,5 @@ cases = record {
   byte-507-first = byte-507-first;
   byte-507-second = byte-507-second;
   longest = refl;
+  no-longer = λ h ok. let s = sizes-in h ok in omega arith;
 }

@@ -5,25 +5,32 @@ use mathlib.Core.Bool.{true, false, not}
 use Prim.Native.Nat.{ℕ, _+_, _*_, _<_, _≤_}
 use native.Mathlib.Omega.{arith}
 use lib.Dec.{eqb}
-use borrow.Author.Tests.{eq-eqb}
 use lib.ListN.{take, drop, length, getD, length-append}
+use borrow.Author.Tests.{eq-eqb}
 use Rattle.laws.specs.Tables.{overwrite}
 use Rattle.laws.proofs.Below.{any-cong, any-false, find-cong}
 use Rattle.laws.proofs.Bools.{no-true}
 use Rattle.recount.specs.Recount.{loose, stands, countedTwice}
-use Rattle.recount.proofs.Recount.{recount-laws, loose-stands}
 use Rattle.model.specs.Steps.{effectOf}
 use Rattle.model.specs.Tables.{JobTables, StateTables, jobOf, view, store}
 use Rattle.model.specs.Step.{Asked, stepOf, accepted, stepAnswer, isAccepted, stepped, stepRefusal, stepTables, moved}
-use Rattle.model.proofs.Refusal.{accepted-zero}
-use Rattle.format.specs.Job.{Head, FileJob, names, placeOf, shared, unnamed, countedTallies, Words16}
+use Rattle.format.specs.Job.{Head, FileJob, badSizes, badOffer, badOwner, badTally, badRecords, names, placeOf, shared, unnamed, countedTallies, Words16}
+use Rattle.format.specs.Rearranged.{Rearranged}
 use Rattle.format.specs.Codes.{Name, sameOffer}
 use Rattle.format.specs.Blocks.{blockCount}
 use Rattle.format.specs.File.{readHead, readOffer, readTally, decode}
-use Rattle.format.specs.Refusals.{fileRefusal}
+use Rattle.format.specs.Refusals.{jobRefusal, fileRefusal}
 use Rattle.format.specs.Tables.{ReaderTables, FileTables, ReadAnswer, ReadOutcome, WriteAnswer, WriteOutcome, wrote, notWritten, fileJobOf, shortReader, readRefusal, readResult, sizes, refused, writeRefusal, writeResult}
-use Rattle.guarantees.specs.Demand2.{Bytes, sameNumber, namedBefore, NoIssuers, AsBefore, NoBags, Demand2}
+use Rattle.guarantees.specs.Demand2.{Bytes, sameNumber, namedBefore, NoIssuers, AsBefore, NoBags, inCycle, withWords, SameInOrder, Demand2}
+use Rattle.recount.proofs.Recount.{recount-laws, loose-stands}
+use Rattle.model.proofs.Refusal.{accepted-zero}
 use Rattle.format.proofs.Codes.{same-offer}
+use Rattle.format.proofs.Range.{named-job}
+use Rattle.format.proofs.Accept.{job-accepted}
+use Rattle.format.proofs.Write.{written-accepted, read-back}
+use Rattle.format.proofs.Small.{encode-small}
+use Rattle.format.proofs.Rearranged.{order-six, order-seven, order-eight, order-nine, order-stands, order-refusal, order-read}
+use Rattle.printing.proofs.Owed.{order-owed}
 use Rattle.format.proofs.Damage.{damaged}
 use Rattle.format.proofs.Order.{reader-20, reader-file}
 use Rattle.format.proofs.Tables.{read-buffer, read-own, read-written, read-file, read-accepted, read-refused, write-read, written-bytes}
@@ -133,6 +140,31 @@ old-tallies j n = (
   λ t l. loose-stands (countedTallies j) t (all-loose j n t l),
 )
 
+-- Nothing that is checked of a whole job looks at the cycle,
+any-cycle : (j : FileJob) (c : ℕ) → jobRefusal (inCycle c j) ≡ jobRefusal j
+unfolding jobRefusal badSizes badRecords badOffer badOwner badTally shared unnamed countedTallies placeOf names
+any-cycle j c = refl
+
+-- and 4 and 6 at no issuer, bag or revision.
+any-words : (j : FileJob) (cycle : ℕ) (offerIssuer tallyIssuer bag revision : ℕ → ℕ) →
+    (badSizes (withWords cycle offerIssuer tallyIssuer bag revision j .head) ≡ badSizes (j .head)) ×
+    (badRecords (withWords cycle offerIssuer tallyIssuer bag revision j) ≡ badRecords j)
+unfolding badSizes badRecords badOffer badOwner badTally
+any-words j cycle offerIssuer tallyIssuer bag revision = (refl, refl)
+
+-- Records in another order.
+same-in-order : (j j′ : FileJob) (p q r s : ℕ → ℕ) → Rearranged j j′ p q r s → SameInOrder j j′ p
+same-in-order j j′ p q r s x = record {
+  six = order-six j j′ p q r s x;
+  seven = order-seven j j′ p q r s x;
+  eight = order-eight j j′ p q r s x;
+  nine = order-nine j j′ p q r s x;
+  standing = order-stands j j′ p q r s x;
+  owed = order-owed j j′ p q r s x;
+  refusal = order-refusal j j′ p q r s x;
+  files = λ ok. (written-accepted j ok, written-accepted j′ (order-refusal j j′ p q r s x ∙ ok));
+}
+
 pub demand2 : Demand2
 unfolding Bytes
 demand2 = record {
@@ -142,8 +174,14 @@ demand2 = record {
   readOwn = read-own-buffer;
   writtenBytes = λ x l out c ok. written-bytes x l out ok c;
   wordsRead = words-read;
+  anyCycle = any-cycle;
+  anyWords = any-words;
+  anyAccepted = λ j words ok. (encode-small j ok words, written-accepted j ok, read-back j ok);
   names = same-offer;
   recount = recount-laws;
+  order = same-in-order;
+  orderNamed = λ file ok. named-job (decode file) (job-accepted file ok);
+  orderRead = order-read;
   oldTallies = old-tallies;
   oldNames = as-before;
   damage = λ f f′ l bytes bytes′ ok k i j hk hi hj long same differs. read-two f′ l (reader-whole f l ok) (damaged f f′ bytes bytes′ (read-file f l ok) k i j hk hi hj long same differs);

@@ -4,7 +4,8 @@ use Rattle.model.proofs.Standing.{standing-count}
 use Rattle.model.proofs.Early.{early-totals}
 use Rattle.model.proofs.Listed.{steps-counted}
 use Rattle.model.proofs.Demand3.{demand3, demand3-run}
-use Rattle.printing.proofs.Accepted.{range-ok, once-ok, stands-ok, sums-ok, accepted}
+use Rattle.printing.proofs.Accepted.{range-ok, once-ok, settles-ok, stands-ok, sums-ok, accepted}
+use Rattle.printing.proofs.OneJob.{one-job}
 
 pub demand3-holds : Demand3Holds
 demand3-holds = record {
@@ -13,8 +14,10 @@ demand3-holds = record {
   runs = demand3-run;
   anyTables = range-ok;
   anyOnce = once-ok;
+  anySettles = settles-ok;
   anyStanding = stands-ok;
   anySums = sums-ok;
+  oneJob = one-job;
   counts = standing-count;
   stepsCounted = steps-counted;
   early = early-totals;

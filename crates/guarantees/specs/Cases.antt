@@ -2,7 +2,7 @@
 use mathlib.Core.Path.{_≡_}
 use mathlib.Core.List.{List, [], _∷_}
 use mathlib.Core.Bool.{true, false, cond}
-use Prim.Native.Nat.{ℕ, _*_}
+use Prim.Native.Nat.{ℕ, _*_, _≤_}
 use lib.Dec.{eqb}
 use lib.ListN.{getD, length}
 use lib.IntN.{pos, negsuc}
@@ -10,7 +10,7 @@ use Rattle.model.specs.Words.{ownerWords, stepCount}
 use Rattle.model.specs.Tables.{JobTables, jobOf}
 use Rattle.model.specs.Ranges.{jobInRange}
 use Rattle.format.specs.Codes.{Code, isCode, codeNumber, written, dropZeros, nameOf, sameOffer}
-use Rattle.format.specs.Job.{headOf, FileJob, Offer, Tally}
+use Rattle.format.specs.Job.{Head, headOf, FileJob, Offer, Tally, badSizes}
 use Rattle.format.specs.Refusals.{jobRefusal, fileRefusal}
 use Rattle.format.specs.Blocks.{blockCount, firstSum, secondSum}
 use Rattle.format.specs.File.{encode}
@@ -133,5 +133,6 @@ pub record Cases : Type 0 where
   pub byte-0-second : secondSum (alone 0) ≡ 64_019
   pub byte-507-first : firstSum (alone 507) ≡ 255
   pub byte-507-second : secondSum (alone 507) ≡ 255
-  -- Without ◆: the longest file has 74 blocks.
+  -- Without ◆: the longest file has 74 blocks, and no job in range has a longer one.
   pub longest : blockCount largest ≡ 74
+  pub no-longer : (h : Head) → badSizes h ≡ false → blockCount h ≤ 74

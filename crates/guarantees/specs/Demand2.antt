@@ -13,11 +13,15 @@ use Rattle.model.specs.Steps.{effectOf}
 use Rattle.model.specs.Tables.{JobTables, StateTables, jobOf, view, store}
 use Rattle.model.specs.Step.{Asked, stepOf, accepted, stepped}
 use Rattle.format.specs.Codes.{Code, isCode, codeNumber, written, dropZeros, Name, sameOffer}
-use Rattle.format.specs.Job.{Head, FileJob, placeOf, shared, unnamed, countedTallies, Words16}
+use Rattle.format.specs.Job.{Head, headOf, FileJob, badSizes, badRecords, placeOf, shared, unnamed, countedTallies, Words16}
 use Rattle.format.specs.Blocks.{blocks, blockCount}
-use Rattle.format.specs.File.{decode}
+use Rattle.format.specs.File.{encode, decode}
+use Rattle.format.specs.Refusals.{jobRefusal, fileRefusal}
+use Rattle.format.specs.Same.{SameWords}
+use Rattle.format.specs.Rearranged.{Rearranged, Named}
 use Rattle.format.specs.Tables.{FileTables, ReaderTables, fileJobOf, storeRead, shortReader, readRefusal, readResult, sizes, refused}
 use Rattle.format.specs.Tables.{writeRefusal, writeResult, wrote}
+use Rattle.printing.specs.Accepted.{owedByFile}
 
 -- A file's words are bytes.
 unfoldable pub Bytes : List ℕ → Type 0
@@ -46,6 +50,47 @@ pub record AsBefore (j : FileJob) : Type 0 where
 pub record NoBags (j : FileJob) : Type 0 where
   pub tally : (t : ℕ) → t < j .head .tallies → j .tally t .bag ≡ 0
 
+-- The job in settlement cycle c.
+abbrev pub inCycle : (c : ℕ) → FileJob → FileJob
+inCycle c j = record {
+  head = headOf (j .head .boxes) (j .head .grocers) (j .head .offers) (j .head .tallies) c;
+  offer = j .offer;
+  grocerOwner = j .grocerOwner;
+  tally = j .tally;
+}
+
+-- The job with other words where any 16 bits may stand: its cycle, its issuers, bags and revisions.
+abbrev pub withWords : (cycle : ℕ) (offerIssuer tallyIssuer bag revision : ℕ → ℕ) → FileJob → FileJob
+withWords cycle offerIssuer tallyIssuer bag revision j = record {
+  head = headOf (j .head .boxes) (j .head .grocers) (j .head .offers) (j .head .tallies) cycle;
+  offer = λ i. record { price = j .offer i .price; owner = j .offer i .owner; code = j .offer i .code; issuer = offerIssuer i };
+  grocerOwner = j .grocerOwner;
+  tally = λ t. record {
+    grocer = j .tally t .grocer;
+    box = j .tally t .box;
+    code = j .tally t .code;
+    count = j .tally t .count;
+    issuer = tallyIssuer t;
+    bag = bag t;
+    revision = revision t;
+  };
+}
+
+-- What is the same in a job j′ that has the records of j in another order, its tally t being tally p t of j.
+pub record SameInOrder (j j′ : FileJob) (p : ℕ → ℕ) : Type 0 where
+  -- 6 is met by both or by neither, so are 7 and 8 where 6 is not, and so is 9 where none of them is.
+  pub six : badRecords j′ ≡ badRecords j
+  pub seven : badRecords j ≡ false → shared j′ ≡ shared j
+  pub eight : badRecords j ≡ false → unnamed j′ ≡ unnamed j
+  pub nine : Named j → countedTwice (countedTallies j′) ≡ countedTwice (countedTallies j)
+  -- The same tallies stand,
+  pub standing : Named j → (t : ℕ) → t < j .head .tallies → stands (countedTallies j′) t ≡ stands (countedTallies j) (p t)
+  -- and each grocer is owed the same.
+  pub owed : Named j → (g : ℕ) → owedByFile j′ g ≡ owedByFile j g
+  -- So the first of 4, 6, 7, 8 and 9 that is met, if any, is the same, and where none is both files are accepted.
+  pub refusal : jobRefusal j′ ≡ jobRefusal j
+  pub files : jobRefusal j ≡ 0 → (fileRefusal (encode j) ≡ 0) × (fileRefusal (encode j′) ≡ 0)
+
 -- Demand 2 whole.
 pub record Demand2 : Type 0 where
   -- Writing what was read gives the file, byte for byte, in front of the rest of the buffer.
@@ -69,6 +114,15 @@ pub record Demand2 : Type 0 where
       Bytes (take (512 * blockCount h) (writeResult h l out .out))
   -- And those that were read are such numbers, whatever the file's bytes are.
   pub wordsRead : (file : List ℕ) → Bytes file → Words16 (decode file)
+  -- "any 16-bit number, 0 included": whatever the cycle is, a job is refused alike;
+  pub anyCycle : (j : FileJob) (c : ℕ) → jobRefusal (inCycle c j) ≡ jobRefusal j
+  -- whatever cycle, issuers, bags and revisions are, 4 and 6 are met alike, so that no range is asked of them;
+  pub anyWords : (j : FileJob) (cycle : ℕ) (offerIssuer tallyIssuer bag revision : ℕ → ℕ) →
+      (badSizes (withWords cycle offerIssuer tallyIssuer bag revision j .head) ≡ badSizes (j .head)) ×
+      (badRecords (withWords cycle offerIssuer tallyIssuer bag revision j) ≡ badRecords j)
+  -- and a job that meets none of 4, 6, 7, 8 and 9 has a file of bytes that is accepted and says its words, where these are 16-bit numbers.
+  pub anyAccepted : (j : FileJob) → Words16 j → jobRefusal j ≡ 0 →
+      Bytes (encode j) × (fileRefusal (encode j) ≡ 0) × SameWords (decode (encode j)) j
   -- Two names are one offer exactly when their issuers are equal and their codes agree after leading zeros are dropped.
   pub names : (a b : Name) → isCode (a .code) ≡ true → isCode (b .code) ≡ true →
       (sameOffer a b ≡ true) ↔ ((a .issuer ≡ b .issuer) × (dropZeros (written (a .code)) ≡ dropZeros (written (b .code))))
@@ -76,6 +130,13 @@ pub record Demand2 : Type 0 where
   pub oldNames : (j : FileJob) → NoIssuers j → AsBefore j
   -- Which counts of a bag stand: in whatever order their records come the same, and where 9 is not met one of each bag, the highest revision.
   pub recount : RecountLaws
+  -- "Show also that the order in which records come does not alter which stand": of a file's offers and tallies in whatever order,
+  pub order : (j j′ : FileJob) (p q r s : ℕ → ℕ) → Rearranged j j′ p q r s → SameInOrder j j′ p
+  -- where none of 6, 7 and 8 is met, so of every accepted file;
+  pub orderNamed : (file : List ℕ) → fileRefusal file ≡ 0 → Named (decode file)
+  -- and the files of two such jobs say two such jobs.
+  pub orderRead : (j j′ : FileJob) (p q r s : ℕ → ℕ) → Rearranged j j′ p q r s → jobRefusal j ≡ 0 →
+      Rearranged (decode (encode j)) (decode (encode j′)) p q r s
   -- Where every bag is 0, all tallies stand and 9 is not met: such files settle as before 02 §3.
   pub oldTallies : (j : FileJob) → NoBags j →
       (countedTwice (countedTallies j) ≡ false) × ((t : ℕ) → t < j .head .tallies → stands (countedTallies j) t ≡ true)

@@ -6,14 +6,14 @@ use Prim.Native.Nat.{ℕ, _<_}
 use Rattle.model.specs.Job.{Job, plainSum}
 use Rattle.model.specs.Steps.{Steps}
 use Rattle.model.specs.Words.{StepsCounted}
-use Rattle.model.specs.Tables.{JobTables, StateTables, countedOf, jobOf}
+use Rattle.model.specs.Tables.{JobTables, StateTables, countedOf, jobOf, jobLengths, jobShort, bagsShort}
 use Rattle.model.specs.Standing.{StandingCount}
 use Rattle.model.specs.Ranges.{jobInRange, Settles}
 use Rattle.model.specs.Early.{EarlyTotals}
 use Rattle.model.specs.Requests.{Request}
 use Rattle.model.specs.Demand3.{Demand3, RunIsList}
 use Rattle.recount.specs.Recount.{stands, countedTwice}
-use Rattle.format.specs.Job.{countedTallies}
+use Rattle.format.specs.Job.{FileJob, countedTallies}
 use Rattle.format.specs.File.{decode}
 use Rattle.format.specs.Refusals.{fileRefusal}
 use Rattle.format.specs.Tables.{ReaderTables, readRefusal}
@@ -31,11 +31,17 @@ pub record Demand3Holds : Type 0 where
   pub anyTables : (file : List ℕ) → fileRefusal file ≡ 0 → (f : JobTables) → Holds (decode file) f → jobInRange f ≡ true
   -- do not meet 9,
   pub anyOnce : (file : List ℕ) → fileRefusal file ≡ 0 → (f : JobTables) → Holds (decode file) f → countedTwice (countedOf f) ≡ false
+  -- settle where they are as long as they must be, so that lists of requests and runs with them do what is said above,
+  pub anySettles : (file : List ℕ) → fileRefusal file ≡ 0 → (f : JobTables) → Holds (decode file) f →
+      jobShort f (jobLengths f) ≡ false → bagsShort f (jobLengths f) ≡ false → Settles f
   -- agree with the file which tallies stand,
   pub anyStanding : (file : List ℕ) → fileRefusal file ≡ 0 → (f : JobTables) → Holds (decode file) f → (t : ℕ) → t < decode file .head .tallies →
       stands (countedOf f) t ≡ stands (countedTallies (decode file)) t
   -- and have for plain sums what the file says is owed.
   pub anySums : (file : List ℕ) → fileRefusal file ≡ 0 → (f : JobTables) → Holds (decode file) f → (g : ℕ) → plainSum (jobOf f) g ≡ owedByFile (decode file) g
+  -- All tables that hold what one file says are one job, whatever stands past their needed lengths: "two such lists of one job", and equal books,
+  -- speak of a job and not of one set of tables.
+  pub oneJob : (j : FileJob) (f f′ : JobTables) → Holds j f → Holds j f′ → jobOf f ≡ jobOf f′
   -- In range the tallies that count are those that stand: for amounts, needs, sharers, local books, words, messages and steps.
   pub counts : (f : JobTables) → jobInRange f ≡ true → StandingCount f
   -- The steps a job has, counted one by one, are 2 × K + 2 × (messages).

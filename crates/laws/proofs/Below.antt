@@ -6,8 +6,8 @@ use native.Mathlib.Omega.{arith}
 use native.Mathlib.Numerals.{add-one}
 use lib.Dec.{eqb, ltb}
 use borrow.Author.Tests.{eqb-true, eqb-false, ne-eqb, ltb-true, ltb-false}
-use Rattle.laws.specs.Below.{naturals, sum, only, any, all, count, find}
-use Rattle.laws.proofs.Bools.{split, clash, no-true, and-true, and-l, and-r, and-one, or-true, or-false, eqb-same, and-false}
+use Rattle.laws.specs.Below.{naturals, sum, only, any, all, count, find, Order}
+use Rattle.laws.proofs.Bools.{split, clash, no-true, same-test, and-true, and-l, and-r, and-one, or-true, or-false, eqb-same, and-false}
 use Rattle.laws.proofs.Sums.{sum-cong, sum-none, sum-one, sum-max, sum-next}
 
 -- One place more, as code counts.
@@ -270,3 +270,45 @@ find-none (suc n) p h =
 -- The only number that passes is the one found.
 pub find-only : (n : ℕ) (p : ℕ → Bool) (k : ℕ) → k < n → p k ≡ true → ((i : ℕ) → i < n → p i ≡ true → i ≡ k) → find n p ≡ k
 find-only n p k l h one = let (m, q) = find-passes n p (any-at n p k l h) in one (find n p) m q
+
+-- An order read the other way round is one.
+pub order-back : {n : ℕ} {p q : ℕ → ℕ} → Order n p q → Order n q p
+order-back o = record { inside = o .back; back = o .inside; there = o .here; here = o .there }
+
+-- The order that the numbers have.
+pub order-same : (n : ℕ) → Order n (λ i. i) (λ i. i)
+order-same n = record { inside = λ i l. l; back = λ i l. l; there = λ i l. refl; here = λ i l. refl }
+
+-- Whether some number passes does not go by the order.
+pub any-moved : (n : ℕ) (p q : ℕ → ℕ) → Order n p q → (f : ℕ → Bool) → any n (λ i. f (p i)) ≡ any n f
+any-moved n p q o f =
+    same-test (any n (λ i. f (p i))) (any n f)
+    (λ h. let (i, l, e) = any-find n (λ i. f (p i)) h in any-at n f (p i) (o .inside i l) e)
+    (λ h. let (k, l, e) = any-find n f h in any-at n (λ i. f (p i)) (q k) (o .back k l) (ap f (o .there k l) ∙ e))
+
+-- Two numbers of which a test holds, whichever is the smaller.
+pair-at : (n : ℕ) (f : ℕ → ℕ → Bool) → ((i k : ℕ) → f i k ≡ f k i) → (i k : ℕ) → i < n → k < n → (i ≡ k → ⊥) → f k i ≡ true → any n (λ i. any i (λ k. f k i)) ≡ true
+pair-at n f turn i k l m ne h =
+    split (ltb k i)
+    (λ q. any-at n (λ i. any i (λ k. f k i)) i l (any-at i (λ k. f k i) k (ltb-true k i q) h))
+    (λ q. let g : i ≤ k = ltb-false k i q in
+    any-at n (λ i. any i (λ k. f k i)) k m (any-at k (λ i. f i k) i (omega arith) (turn i k ∙ h)))
+
+-- Nor does it matter for whether a test holds of two numbers.
+pub pairs-moved : (n : ℕ) (p q : ℕ → ℕ) → Order n p q → (f : ℕ → ℕ → Bool) → ((i k : ℕ) → f i k ≡ f k i) →
+    any n (λ i. any i (λ k. f (p k) (p i))) ≡ any n (λ i. any i (λ k. f k i))
+pairs-moved n p q o f turn =
+    same-test (any n (λ i. any i (λ k. f (p k) (p i)))) (any n (λ i. any i (λ k. f k i)))
+    (λ h.
+    let (i, l, h′) = any-find n (λ i. any i (λ k. f (p k) (p i))) h in
+    let (k, m, e) = any-find i (λ k. f (p k) (p i)) h′ in
+    let m′ : k < n = omega arith in
+    pair-at n f turn (p i) (p k) (o .inside i l) (o .inside k m′)
+    (λ same. let w : i ≡ k = sym (o .here i l) ∙ ap q same ∙ o .here k m′ in omega arith) e)
+    (λ h.
+    let (i, l, h′) = any-find n (λ i. any i (λ k. f k i)) h in
+    let (k, m, e) = any-find i (λ k. f k i) h′ in
+    let m′ : k < n = omega arith in
+    pair-at n (λ k i. f (p k) (p i)) (λ i k. turn (p i) (p k)) (q i) (q k) (o .back i l) (o .back k m′)
+    (λ same. let w : i ≡ k = sym (o .there i l) ∙ ap p same ∙ o .there k m′ in omega arith)
+    (ap₂ f (o .there k m′) (o .there i l) ∙ e))

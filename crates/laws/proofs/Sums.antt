@@ -6,8 +6,8 @@ use native.Mathlib.Decide.{ℕ-discrete}
 use native.Mathlib.Omega.{arith}
 use native.Mathlib.Numerals.{add-one, unary-clauses}
 use lib.Dec.{eqb}
-use borrow.Author.Tests.{eqb-true, eqb-false, ne-eqb}
-use Rattle.laws.specs.Below.{Adds, naturals, sum, only}
+use borrow.Author.Tests.{eqb-true, eqb-false, eq-eqb, ne-eqb}
+use Rattle.laws.specs.Below.{Adds, naturals, sum, only, Order}
 use Rattle.laws.proofs.Bools.{split, eqb-same}
 
 module _ {A : Type 0} (w : Adds A) where
@@ -129,6 +129,24 @@ module _ {A : Type 0} (w : Adds A) where
       (λ i m ne. simp (ne-eqb k i (λ e. ne (sym e))))
       ∙ ap (λ (y : A). w .plus y (cond u x (w .none))) (sum-none n (λ i. w .none) (λ i m. refl))
       ∙ w .comm (w .none) (cond u x (w .none)) ∙ w .idr (cond u x (w .none))
+
+  -- What is added in another order comes to the same.
+  pub sum-moved : (n : ℕ) (p q : ℕ → ℕ) → Order n p q → (f : ℕ → A) → sum w n (λ i. f (p i)) ≡ sum w n f
+  unfolding only
+  sum-moved n p q o f =
+      sum-cong n (λ i. f (p i)) (λ i. sum w n (λ k. only w (eqb (q k) i && true) (f k)))
+      (λ i l. sym (sum-pick n (p i) true (f (p i)) (o .inside i l))
+      ∙ sum-cong n (λ k. only w (eqb (p i) k && true) (f (p i))) (λ k. only w (eqb (q k) i && true) (f k)) (moved i l))
+      ∙ sum-swap n n (λ i k. only w (eqb (q k) i && true) (f k))
+      ∙ sum-cong n (λ k. sum w n (λ i. only w (eqb (q k) i && true) (f k))) f (λ k l. sum-pick n (q k) true (f k) (o .back k l))
+    where
+      -- k is p i exactly where i is q k.
+      moved : (i : ℕ) → i < n → (k : ℕ) → k < n → only w (eqb (p i) k && true) (f (p i)) ≡ only w (eqb (q k) i && true) (f k)
+      moved i l k m =
+          split (eqb (p i) k)
+          (λ e. let same : p i ≡ k = eqb-true (p i) k e in
+          rw (e, same, eq-eqb (q k) i (ap q (sym same) ∙ o .here i l)))
+          (λ e. rw (e, ne-eqb (q k) i (λ same. eqb-false (p i) k e (ap p (sym same) ∙ o .there k m))))
 
   -- A test that does not depend on the place.
   pub sum-only : (n : ℕ) (u : Bool) (f : ℕ → A) → sum w n (λ i. only w u (f i)) ≡ only w u (sum w n f)

@@ -2,7 +2,7 @@
 use mathlib.Core.Path.{_≡_}
 use mathlib.Core.Bool.{Bool, true, false, cond, _&&_, _||_}
 use mathlib.Core.List.{List, [], _∷_, _++_}
-use Prim.Native.Nat.{ℕ, zero, suc, _+_}
+use Prim.Native.Nat.{ℕ, zero, suc, _+_, _<_}
 use native.Mathlib.Nat.{add-assoc, add-comm, add-zero}
 use lib.Dec.{eqb}
 use lib.IntN.{ℤ, pos, _+ℤ_, +ℤ-assoc, +ℤ-comm, +ℤ-idr}
@@ -61,3 +61,10 @@ ascending (suc n) p = ascending n p ++ cond (p n) (n ∷ []) []
 unfoldable pub nth : ℕ → (ℕ → Bool) → ℕ → ℕ
 nth zero p c = 0
 nth (suc n) p c = cond (p n && eqb (count n p) c) n (nth n p c)
+
+-- Another order of the numbers below n: p and q stay below n, and each undoes the other.
+pub record Order (n : ℕ) (p q : ℕ → ℕ) : Type 0 where
+  pub inside : (i : ℕ) → i < n → p i < n
+  pub back : (i : ℕ) → i < n → q i < n
+  pub there : (i : ℕ) → i < n → p (q i) ≡ i
+  pub here : (i : ℕ) → i < n → q (p i) ≡ i

@@ -1,15 +1,16 @@
 -- An accepted file gives a job in range that holds what it says, and demand 3 holds. Assumes nothing.
 use mathlib.Core.Path.{_≡_, refl, ap, _∙_, sym}
 use mathlib.Core.List.{List}
-use mathlib.Core.Bool.{true, false, _&&_}
+use mathlib.Core.Bool.{true, false}
 use Prim.Native.Nat.{ℕ, _<_, _≤_}
 use native.Mathlib.Omega.{arith}
-use lib.Dec.{eqb, ltb, leb}
+use native.Mathlib.Decide.{ℕ-discrete, decLt}
+use lib.Dec.{ltb, leb}
 use lib.ListN.{length, getD}
-use lib.IntN.{ℤ, pos, natAbs, _*ℤ_}
+use lib.IntN.{ℤ, pos, natAbs}
 use borrow.Author.Tests.{lt-ltb, le-leb, le-ltb}
-use Rattle.laws.specs.Below.{only, integers, sum}
-use Rattle.laws.proofs.Bools.{and-true}
+use Rattle.laws.specs.Below.{integers, sum}
+use Rattle.laws.proofs.Bools.{and-true, clash}
 use Rattle.laws.proofs.Sums.{sum-cong}
 use Rattle.laws.proofs.Below.{all-of}
 use Rattle.laws.proofs.Tables.{word-in, long-overwrite, getD-overwrite}
@@ -17,19 +18,22 @@ use Rattle.recount.specs.Recount.{stands, countedTwice, Reordered}
 use Rattle.model.specs.Job.{plainSum}
 use Rattle.model.specs.Tables.{countedOf, jobOf, jobLengths, jobShort, bagsShort, JobTables}
 use Rattle.model.specs.Ranges.{upTo, under, around, sizesInRange, jobWordsInRange, jobInRange, Settles}
-use Rattle.format.specs.Job.{FileJob, names, placeOf, countedTallies}
+use Rattle.format.specs.Job.{FileJob, names, placeOf, countedTallies, offerName}
 use Rattle.format.specs.File.{decode}
 use Rattle.format.specs.Refusals.{fileRefusal}
 use Rattle.format.specs.Tables.{FileTables, ReaderTables, ReadOutcome, Long, fileJobOf, readRefusal, readResult, storeRead}
 use Rattle.printing.specs.Printed.{jobRead}
 use Rattle.printing.specs.Accepted.{owedByFile, Holds, Accepted}
-use Rattle.recount.proofs.Recount.{recount-laws}
+use Rattle.format.specs.Same.{SameWords}
+use Rattle.format.specs.Codes.{sameOffer}
+use Rattle.recount.proofs.Recount.{recount-laws, same-order}
 use Rattle.model.proofs.Standing.{standing-count}
 use Rattle.model.proofs.Demand3.{demand3, demand3-run}
 use Rattle.format.proofs.Range.{InRange, fine, only-place}
 use Rattle.format.proofs.Accept.{job-accepted, accepted-range}
 use Rattle.format.proofs.Tables.{read-file, long-tables, read-long, read-range, read-place, read-job, read-accepted}
-use Rattle.format.proofs.Same.{SameWords}
+use Rattle.format.proofs.Codes.{same-turn}
+use Rattle.printing.proofs.Owed.{owed-at}
 
 up-all : (m n : ℕ) (l : List ℕ) → ((i : ℕ) → i < n → getD l i 0 ≤ m) → upTo m n l ≡ true
 unfolding upTo
@@ -59,6 +63,9 @@ module _ (file : List ℕ) (ok : fileRefusal file ≡ 0) (f : JobTables) (h : Ho
 
   tally-in : (t : ℕ) → t < f .tallies → t < job .head .tallies
   tally-in t l = omega (arith, h .tallies)
+
+  tally-of : (t : ℕ) → t < job .head .tallies → t < f .tallies
+  tally-of t l = omega (arith, h .tallies)
 
   -- The words of the tables are the file's.
   price-at : (o : ℕ) → o < f .offers → getD (f .price) o 0 ≡ job .offer o .price
@@ -117,29 +124,22 @@ module _ (file : List ℕ) (ok : fileRefusal file ≡ 0) (f : JobTables) (h : Ho
   -- The rule looks at the same in the tables and in the file.
   counted-same : Reordered (countedTallies job) (countedOf f) (λ t. t) (λ t. t)
   unfolding countedTallies countedOf jobOf
-  counted-same = record {
-    size = h .tallies;
-    inside = λ t l. omega (arith, l, h .tallies);
-    back = λ u l. omega (arith, l, h .tallies);
-    there = λ u l. refl;
-    here = λ t l. refl;
-    grocer = λ t l. h .tallyGrocer t (tally-in t l);
-    offer = λ t l. h .tallyOffer t (tally-in t l);
-    bag = λ t l. word-in (f .tallies) (f .tallyBag) 0 t l ∙ h .tallyBag t (tally-in t l);
-    revision = λ t l. word-in (f .tallies) (f .tallyRevision) 0 t l ∙ h .tallyRevision t (tally-in t l);
-  }
+  counted-same =
+      same-order (countedOf f) (countedTallies job) (h .tallies) (h .tallyGrocer) (h .tallyOffer)
+      (λ t l. word-in (f .tallies) (f .tallyBag) 0 t (tally-of t l) ∙ h .tallyBag t l)
+      (λ t l. word-in (f .tallies) (f .tallyRevision) 0 t (tally-of t l) ∙ h .tallyRevision t l)
 
   -- So 9 is not met, and the same tallies stand.
   pub once-ok : countedTwice (countedOf f) ≡ false
   once-ok = recount-laws .orderTwice (countedTallies job) (countedOf f) (λ t. t) (λ t. t) counted-same ∙ in-file .once
 
+  -- Where they are as long as they must be, they settle.
+  pub settles-ok : jobShort f (jobLengths f) ≡ false → bagsShort f (jobLengths f) ≡ false → Settles f
+  settles-ok whole bags = record { whole = whole; bags = bags; inRange = range-ok; once = once-ok }
+
   pub stands-ok : (t : ℕ) → t < job .head .tallies → stands (countedOf f) t ≡ stands (countedTallies job) t
   unfolding countedOf
   stands-ok t l = recount-laws .order (countedTallies job) (countedOf f) (λ t. t) (λ t. t) counted-same t (omega (arith, l, h .tallies))
-
-  -- What tally t adds to what grocer g is owed.
-  abbrev owed-at : ℕ → ℕ → ℤ
-  owed-at g t = only integers (stands (countedTallies job) t && eqb (job .tally t .grocer) g) (job .tally t .count *ℤ pos (job .offer (placeOf job t) .price))
 
   -- The price of a tally is that of the offer its code names.
   price-named : (t : ℕ) → t < f .tallies → getD (f .price) (getD (f .tallyOffer) t 0) 0 ≡ job .offer (placeOf job t) .price
@@ -151,8 +151,8 @@ module _ (file : List ℕ) (ok : fileRefusal file ≡ 0) (f : JobTables) (h : Ho
   unfolding owedByFile
   sums-ok g =
       standing-count f range-ok .sums g
-      ∙ sum-cong integers (f .tallies) _ (owed-at g) (λ t l. rw (stands-ok t (tally-in t l), grocer-at t l, count-at t l, price-named t l))
-      ∙ ap (λ (n : ℕ). sum integers n (owed-at g)) (h .tallies)
+      ∙ sum-cong integers (f .tallies) _ (owed-at job g) (λ t l. rw (stands-ok t (tally-in t l), grocer-at t l, count-at t l, price-named t l))
+      ∙ ap (λ (n : ℕ). sum integers n (owed-at job g)) (h .tallies)
 
 module _ (f : List ℕ) (l : ReaderTables) (ok : readRefusal f l ≡ 0) where
   -- The tables that the reader leaves, and the job that they hold.
@@ -267,14 +267,21 @@ module _ (f : List ℕ) (l : ReaderTables) (ok : readRefusal f l ≡ 0) where
   unfolding names
   other-ok t i h m e = only-place (decode f) t (fine (decode f) (job-accepted f (read-file f l ok)) .shared) i m e
 
+  -- Two offers of one name are one.
+  apart-ok : (i k : ℕ) → i < decode f .head .offers → k < decode f .head .offers → sameOffer (offerName (decode f) i) (offerName (decode f) k) ≡ true → i ≡ k
+  apart-ok i k h m e =
+      let r = accepted-range f (read-file f l ok) in
+      elim (ℕ-discrete i k) [
+        | yes d ↦ d
+        | no d ↦ elim (decLt i k) [
+          | yes n ↦ absurd (clash e (r .apart k i n m))
+          | no n ↦ absurd (clash (same-turn (offerName (decode f) k) (offerName (decode f) i) ∙ e) (r .apart i k (omega (arith, n, d)) h))
+        ]
+      ]
+
 -- The tables that the reader leaves for an accepted file settle without a refusal.
 pub settles : (f : List ℕ) (l : ReaderTables) → readRefusal f l ≡ 0 → Settles (jobRead f l)
-settles f l ok = record {
-  whole = whole-ok f l ok;
-  bags = bags-ok f l ok;
-  inRange = range-ok f (read-file f l ok) (jobRead f l) (holds-ok f l ok);
-  once = once-ok f (read-file f l ok) (jobRead f l) (holds-ok f l ok);
-}
+settles f l ok = settles-ok f (read-file f l ok) (jobRead f l) (holds-ok f l ok) (whole-ok f l ok) (bags-ok f l ok)
 
 -- Every file that the reader accepts.
 pub accepted : (f : List ℕ) (l : ReaderTables) → readRefusal f l ≡ 0 → Accepted f l
@@ -282,6 +289,9 @@ accepted f l ok = record {
   holds = holds-ok f l ok;
   named = named-ok f l ok;
   noOther = other-ok f l ok;
+  apart = apart-ok f l ok;
+  offerCode = λ i h. accepted-range f (read-file f l ok) .offer i h .code;
+  tallyCode = λ t h. accepted-range f (read-file f l ok) .tally t h .code;
   once = accepted-range f (read-file f l ok) .once;
   answer = ap (λ (o : ReadOutcome). o .answer) (read-accepted f l ok);
   settles = settles f l ok;

@@ -13,7 +13,8 @@ use Rattle.model.specs.Ranges.{Settles}
 use Rattle.model.specs.Requests.{Request}
 use Rattle.model.specs.Demand3.{Demand3, RunIsList}
 use Rattle.recount.specs.Recount.{stands, countedTwice}
-use Rattle.format.specs.Job.{FileJob, names, placeOf, countedTallies}
+use Rattle.format.specs.Codes.{isCode, sameOffer}
+use Rattle.format.specs.Job.{FileJob, offerName, names, placeOf, countedTallies}
 use Rattle.format.specs.File.{decode}
 use Rattle.printing.specs.Printed.{jobRead}
 use Rattle.format.specs.Tables.{ReaderTables, sizes, readResult}
@@ -50,6 +51,12 @@ pub record Accepted (file : List ℕ) (l : ReaderTables) : Type 0 where
   pub named : (t : ℕ) → t < decode file .head .tallies →
       (placeOf (decode file) t < decode file .head .offers) × (names (decode file) t (placeOf (decode file) t) ≡ true)
   pub noOther : (t i : ℕ) → t < decode file .head .tallies → i < decode file .head .offers → names (decode file) t i ≡ true → placeOf (decode file) t ≡ i
+  -- No two offers have one name (7), those that no tally names among them,
+  pub apart : (i k : ℕ) → i < decode file .head .offers → k < decode file .head .offers →
+      sameOffer (offerName (decode file) i) (offerName (decode file) k) ≡ true → i ≡ k
+  -- and every code of an offer and of a tally is a code (6).
+  pub offerCode : (i : ℕ) → i < decode file .head .offers → isCode (decode file .offer i .code) ≡ true
+  pub tallyCode : (t : ℕ) → t < decode file .head .tallies → isCode (decode file .tally t .code) ≡ true
   -- No bag and revision is there twice for a grocer and offer.
   pub once : countedTwice (countedTallies (decode file)) ≡ false
   -- The reader answers K, M, N and T.

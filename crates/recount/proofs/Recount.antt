@@ -7,7 +7,7 @@ use lib.Dec.{eqb, ltb}
 use borrow.Author.Tests.{eqb-true, eqb-false, eq-eqb, ltb-true, ltb-false, le-ltb, lt-ltb}
 use Rattle.laws.specs.Below.{any, count}
 use Rattle.laws.proofs.Bools.{split, clash, same-test, and-true, and-l, and-r, or-true}
-use Rattle.laws.proofs.Below.{any-at, any-none, any-find, any-false, count-one}
+use Rattle.laws.proofs.Below.{any-at, any-none, any-find, any-false, count-one, order-back, order-same}
 use Rattle.recount.specs.Recount.{Counted, loose, sameBag, superseded, stands, countedTwice, Reordered, RecountLaws}
 
 -- What is not so is false.
@@ -159,52 +159,65 @@ module _ (c : Counted) where
 back : (a b : Counted) (p q : ℕ → ℕ) → Reordered a b p q → Reordered b a q p
 back a b p q r = record {
   size = sym (r .size);
-  inside = r .back;
-  back = r .inside;
-  there = r .here;
-  here = r .there;
-  grocer = λ u l. sym (r .grocer (q u) (r .back u l) ∙ ap (a .grocer) (r .there u l));
-  offer = λ u l. sym (r .offer (q u) (r .back u l) ∙ ap (a .offer) (r .there u l));
-  bag = λ u l. sym (r .bag (q u) (r .back u l) ∙ ap (a .bag) (r .there u l));
-  revision = λ u l. sym (r .revision (q u) (r .back u l) ∙ ap (a .revision) (r .there u l));
+  places = rw (r .size) (order-back (r .places));
+  grocer = λ u l. sym (r .grocer (q u) (there u l) ∙ ap (a .grocer) (r .places .there u l));
+  offer = λ u v l m. sym (r .offer (q u) (q v) (there u l) (there v m) ∙ ap₂ (λ (x y : ℕ). eqb (a .offer x) (a .offer y)) (r .places .there u l) (r .places .there v m));
+  bag = λ u l. sym (r .bag (q u) (there u l) ∙ ap (a .bag) (r .places .there u l));
+  revision = λ u l. sym (r .revision (q u) (there u l) ∙ ap (a .revision) (r .places .there u l));
 }
+  where
+    there : (u : ℕ) → u < a .size → q u < b .size
+    there u l = rw (r .size) (r .places .back u l)
 
 module _ (a b : Counted) (p q : ℕ → ℕ) (r : Reordered a b p q) where
+  -- A number of b is one of a,
+  in-a : (t : ℕ) → t < b .size → t < a .size
+  in-a t l = rw (r .size) at l
+
+  -- and so is the one that it was.
+  was-in : (t : ℕ) → t < b .size → p t < a .size
+  was-in t l = r .places .inside t (in-a t l)
+
+  -- Two of one bag were of one bag,
   same-moves : (t u : ℕ) → t < b .size → u < b .size → SameBag b t u → SameBag a (p t) (p u)
   same-moves t u lt lu s = record {
     grocer = sym (r .grocer t lt) ∙ s .grocer ∙ r .grocer u lu;
-    offer = sym (r .offer t lt) ∙ s .offer ∙ r .offer u lu;
+    offer = eqb-true (a .offer (p t)) (a .offer (p u)) (sym (r .offer t u lt lu) ∙ eq-eqb (b .offer t) (b .offer u) (s .offer));
     bag = sym (r .bag t lt) ∙ s .bag ∙ r .bag u lu;
   }
 
+  -- loose ones were loose,
   loose-moves : (t : ℕ) → t < b .size → loose b t ≡ loose a (p t)
   unfolding loose
   loose-moves t l = ap (λ (x : ℕ). eqb x 0) (r .bag t l)
 
+  -- superseded ones were superseded,
   above-moves : (t : ℕ) → t < b .size → superseded b t ≡ true → superseded a (p t) ≡ true
   unfolding superseded
   above-moves t l h =
       let (u, m, e) = any-find (b .size) (λ u. sameBag b t u && ltb (b .revision t) (b .revision u)) h in
       let s = same-is b t u (and-l (sameBag b t u) (ltb (b .revision t) (b .revision u)) e) in
       let up = ltb-true (b .revision t) (b .revision u) (and-r (sameBag b t u) (ltb (b .revision t) (b .revision u)) e) in
-      any-at (a .size) (λ u. sameBag a (p t) u && ltb (a .revision (p t)) (a .revision u)) (p u) (r .inside u m)
+      any-at (a .size) (λ u. sameBag a (p t) u && ltb (a .revision (p t)) (a .revision u)) (p u) (was-in u m)
       (and-true (is-same a (p t) (p u) (same-moves t u l m s))
       (lt-ltb (a .revision (p t)) (a .revision (p u)) (omega (arith, up, r .revision t l, r .revision u m))))
 
+  -- and what was there twice was so before.
   twice-moves : countedTwice b ≡ true → countedTwice a ≡ true
   twice-moves h =
       let (t, u, lt, lu, off, s, e) = twice-find b h in
       let lu′ : u < b .size = omega arith in
-      twice-at a (p t) (p u) (r .inside t lt) (r .inside u lu′)
-      (λ same. let w : t ≡ u = sym (r .here t lt) ∙ ap q same ∙ r .here u lu′ in omega arith)
+      twice-at a (p t) (p u) (was-in t lt) (was-in u lu′)
+      (λ same. let w : t ≡ u = sym (r .places .here t (in-a t lt)) ∙ ap q same ∙ r .places .here u (in-a u lu′) in omega arith)
       (sym (loose-moves t lt) ∙ off) (same-moves t u lt lu′ s)
       (sym (r .revision t lt) ∙ e ∙ r .revision u lu′)
 
+-- So, both ways: the same are superseded, the same stand, and 9 is met alike.
 module _ (a b : Counted) (p q : ℕ → ℕ) (r : Reordered a b p q) where
   above-is : (t : ℕ) → t < b .size → superseded b t ≡ superseded a (p t)
   above-is t l =
       same-test (superseded b t) (superseded a (p t)) (above-moves a b p q r t l)
-      (λ h. ap (superseded b) (sym (r .here t l)) ∙ above-moves b a q p (back a b p q r) (p t) (r .inside t l) h)
+      (λ h. ap (superseded b) (sym (r .places .here t (in-a a b p q r t l))) ∙ above-moves b a q p (back a b p q r) (p t) (was-in a b p q r t l) h)
 
   stands-is : (t : ℕ) → t < b .size → stands b t ≡ stands a (p t)
   unfolding stands
@@ -213,6 +226,19 @@ module _ (a b : Counted) (p q : ℕ → ℕ) (r : Reordered a b p q) where
   twice-is : countedTwice b ≡ countedTwice a
   twice-is = same-test (countedTwice b) (countedTwice a) (twice-moves a b p q r) (twice-moves b a q p (back a b p q r))
 
+-- Counts with the same words come in one order.
+pub same-order : (a b : Counted) → a .size ≡ b .size → ((t : ℕ) → t < b .size → a .grocer t ≡ b .grocer t) → ((t : ℕ) → t < b .size → a .offer t ≡ b .offer t) →
+    ((t : ℕ) → t < b .size → a .bag t ≡ b .bag t) → ((t : ℕ) → t < b .size → a .revision t ≡ b .revision t) → Reordered b a (λ t. t) (λ t. t)
+same-order a b e grocer offer bag revision = record {
+  size = e;
+  places = order-same (b .size);
+  grocer = λ t l. grocer t (rw e at l);
+  offer = λ t u l m. ap₂ (λ (x y : ℕ). eqb x y) (offer t (rw e at l)) (offer u (rw e at m));
+  bag = λ t l. bag t (rw e at l);
+  revision = λ t l. revision t (rw e at l);
+}
+
+-- Loose coupons all stand.
 pub loose-stands : (c : Counted) (t : ℕ) → loose c t ≡ true → stands c t ≡ true
 unfolding stands
 loose-stands c t h = rw h

@@ -4,7 +4,7 @@ use mathlib.Core.Bool.{Bool, true, false, _&&_, _||_, not}
 use mathlib.Core.List.{List}
 use Prim.Native.Nat.{ℕ, _≤_, _<_}
 use lib.Dec.{eqb, ltb}
-use Rattle.laws.specs.Below.{any, count}
+use Rattle.laws.specs.Below.{any, count, Order}
 use Rattle.laws.specs.Tables.{word}
 
 -- What the rule looks at: how many tallies there are, and of each its grocer, its offer (the place), its bag and its revision; no box.
@@ -42,14 +42,12 @@ module _ (c : Counted) where
   countedTwice = any (c .size) (λ t. any t (λ u. not (loose t) && (sameBag t u && eqb (c .revision t) (c .revision u))))
 
 -- The tallies of a in another order are those of b: tally t of b is tally p t of a, and tally u of a is tally q u of b.
+-- Their offers may have other places in b: two tallies of b are of one offer exactly where those of a are.
 pub record Reordered (a b : Counted) (p q : ℕ → ℕ) : Type 0 where
   pub size : b .size ≡ a .size
-  pub inside : (t : ℕ) → t < b .size → p t < a .size
-  pub back : (u : ℕ) → u < a .size → q u < b .size
-  pub there : (u : ℕ) → u < a .size → p (q u) ≡ u
-  pub here : (t : ℕ) → t < b .size → q (p t) ≡ t
+  pub places : Order (a .size) p q
   pub grocer : (t : ℕ) → t < b .size → b .grocer t ≡ a .grocer (p t)
-  pub offer : (t : ℕ) → t < b .size → b .offer t ≡ a .offer (p t)
+  pub offer : (t u : ℕ) → t < b .size → u < b .size → eqb (b .offer t) (b .offer u) ≡ eqb (a .offer (p t)) (a .offer (p u))
   pub bag : (t : ℕ) → t < b .size → b .bag t ≡ a .bag (p t)
   pub revision : (t : ℕ) → t < b .size → b .revision t ≡ a .revision (p t)
 
