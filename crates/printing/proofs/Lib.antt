@@ -2,4 +2,5 @@
 pub mod Digits
 pub mod Accepted
 pub mod Blank
+pub mod Long
 pub mod Rounding
