@@ -8,7 +8,7 @@
 #include <stdint.h>
 
 /* Counts of a table of messages, and numbers of a book. */
-enum { ENTRIES_TABLE = 256, ENTRIES_NUMBERS = 3, ENTRIES_MAX_RECORDS = 1024 };
+enum { ENTRIES_TABLE = 256, ENTRIES_NUMBERS = 3 };
 
 /* K, M, N, T and the tables of a job. */
 #define ENTRIES_JOB                                                                                                    \
@@ -30,8 +30,8 @@ enum { ENTRIES_TABLE = 256, ENTRIES_NUMBERS = 3, ENTRIES_MAX_RECORDS = 1024 };
 size_t entries_write(ENTRIES_WRITE);
 
 /* What the grocer wanted is owed, into owed[0], by the records that stand within their list. The fields of the records
-   are lent apart, one word of each for every word of tally_grocer; 20 also for more than 1,024 records, a field that is
-   shorter, or no word for the amount. */
+   are lent apart, one word of each for every word of tally_grocer; 20 also for a field that is shorter, or no word for
+   the amount. */
 #define ENTRIES_RECONCILE                                                                                              \
     const uint16_t *tally_grocer, size_t tally_grocer_len, const uint16_t *tally_box, size_t tally_box_len,            \
         const uint16_t *tally_offer, size_t tally_offer_len, const int32_t *tally_count, size_t tally_count_len,       \

@@ -188,12 +188,13 @@ static size_t read_records(struct tally record[], const struct table tables[])
 
 uint16_t desk_refusal(struct sizes sizes, uint16_t wanted, const struct table tables[ALL_TABLES])
 {
-    static struct tally record[ENTRIES_MAX_RECORDS];
+    static struct tally record[MOST_TALLIES];
     size_t records = tables[TALLY_GROCER].length;
-    if (records > ENTRIES_MAX_RECORDS || tables[OWED].length < 1) return 20;
+    if (tables[OWED].length < 1) return 20;
     for (unsigned i = 0; i < FIELDS; i++)
         if (tables[fields[i]].length < records) return 20;
     if (is_short(tables[PRICE], sizes)) return 20;
+    if (records > MOST_TALLIES) return 21;
     sizes.boxes = MOST_BOXES;
     sizes.tallies = (uint16_t)records;
     if (!sizes_in_range(sizes) || wanted >= sizes.grocers || !words_in_range(tables[PRICE], sizes)) return 21;
@@ -209,7 +210,7 @@ static int64_t price_of(const struct table tables[], size_t record)
 
 int64_t serial_amount(uint16_t wanted, const struct table tables[ALL_TABLES])
 {
-    static struct tally record[ENTRIES_MAX_RECORDS];
+    static struct tally record[MOST_TALLIES];
     size_t records = read_records(record, tables);
     int64_t sum = 0;
     for (size_t i = 0; i < records; i++)

@@ -55,11 +55,11 @@ unfoldable pub lentRecords : ℕ → (grocer box place : List ℕ) → (count : 
 lentRecords n gs bs ps cs ss vs =
     tabulate n (λ i. tallyRecord (getD gs i 0) (getD bs i 0) (getD ps i 0) (getD cs i (pos 0)) (getD ss i 0) (getD vs i 0))
 
--- 20: more than 1,024 records, a field that one of them lacks, or no room for the amount.
+-- 20: a field that one of the records lacks, or no room for the amount.
 unfoldable pub shortFields : (grocer box place : List ℕ) → (count : List ℤ) → (bag revision : List ℕ) → (owed : List ℤ) → Bool
 shortFields gs bs ps cs ss vs out =
     anyOf (
-    ltb 1_024 (length gs) ∷ ltb (length bs) (length gs) ∷ ltb (length ps) (length gs) ∷ ltb (length cs) (length gs) ∷ ltb (length ss) (length gs)
+    ltb (length bs) (length gs) ∷ ltb (length ps) (length gs) ∷ ltb (length cs) (length gs) ∷ ltb (length ss) (length gs)
     ∷ ltb (length vs) (length gs) ∷ ltb (length out) 1 ∷ [])
 
 -- A number, and the words for the amount as they are afterwards.
@@ -76,7 +76,7 @@ unfoldable pub toldAs : DeskAnswer → List ℤ → Told
 toldAs (owed amount) l = told 0 (overwrite 1 (λ i. amount) l)
 toldAs (refused number) l = told number l
 
--- What the reconciliation gives for fields that are lent apart.
+-- What the reconciliation gives for fields that are lent apart: 20 where one is short, else what the desk answers for their records.
 unfoldable pub toldBy : ℕ → ℕ → ℕ → List ℕ → (grocer box place : List ℕ) → (count : List ℤ) → (bag revision : List ℕ) → (owed : List ℤ) → Told
 toldBy m n g prices gs bs ps cs ss vs out =
     cond (shortFields gs bs ps cs ss vs out) (told 20 out) (toldAs (reconciled m n g prices (lentRecords (length gs) gs bs ps cs ss vs)) out)

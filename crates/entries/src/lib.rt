@@ -1,6 +1,6 @@
 // C entry points of the calls that the host does not export, for the tests in C and the benchmark.
 ghost use mathlib.Core.Path.{_≡_};
-ghost use Prim.Native.Nat.{_≤_, _<_};
+ghost use Prim.Native.Nat.{_+_, _≤_, _<_};
 ghost use lib.ListN.{take, length};
 ghost use Rattle.laws.specs.Tables.{recell, cellAt};
 ghost use Rattle.model.specs.Lent.{bagLent};
@@ -88,8 +88,7 @@ fn tally(
     tally_revision: &[u16],
     i: usize,
 ) -> Tally
-    requires { ⌜ i < length (now «tally_grocer») ⌝ }
-    requires { ⌜ Fields (length (now «tally_grocer»)) (now «tally_grocer») (now «tally_box») (now «tally_offer») (now «tally_count») (now «tally_bag»)
+    requires { ⌜ Fields (i + 1) (now «tally_grocer») (now «tally_box») (now «tally_offer») (now «tally_count») (now «tally_bag»)
         (now «tally_revision») ⌝ }
     ensures { λ r. ⌜ r ≡ lentTally (now («tally_grocer» .entry)) (now («tally_box» .entry)) (now («tally_offer» .entry))
         (now («tally_count» .entry)) (now («tally_bag» .entry)) (now («tally_revision» .entry)) i ⌝ }
@@ -104,7 +103,17 @@ fn tally(
     }
 }
 
-// The list of records whose fields are lent apart.
+// How many of n records are shown to the desk: it refuses more than 1,000 whatever they are, and is shown no more than 1,024.
+fn shown(n: usize) -> usize
+    ensures { λ r. ⌜ (r ≤ n) × ((r ≤ 1024) × (r < n → 1000 < r)) ⌝ }
+{
+    if n > 1024 {
+        return 1024;
+    }
+    n
+}
+
+// The list of the first n records whose fields are lent apart.
 fn records(
     tally_grocer: &[u16],
     tally_box: &[u16],
@@ -112,15 +121,13 @@ fn records(
     tally_count: &[i32],
     tally_bag: &[u16],
     tally_revision: &[u16],
+    n: usize,
 ) -> [Tally; 1024]
-    requires { ⌜ length (now «tally_grocer») ≤ 1024 ⌝ }
-    requires { ⌜ Fields (length (now «tally_grocer»)) (now «tally_grocer») (now «tally_box») (now «tally_offer») (now «tally_count») (now «tally_bag»)
-        (now «tally_revision») ⌝ }
-    ensures { λ r. ⌜ recordsOf (take (length (now («tally_grocer» .entry))) r) ≡ lentRecords (length (now («tally_grocer» .entry)))
-        (now («tally_grocer» .entry)) (now («tally_box» .entry)) (now («tally_offer» .entry)) (now («tally_count» .entry))
-        (now («tally_bag» .entry)) (now («tally_revision» .entry)) ⌝ }
+    requires { ⌜ n ≤ 1024 ⌝ }
+    requires { ⌜ Fields n (now «tally_grocer») (now «tally_box») (now «tally_offer») (now «tally_count») (now «tally_bag») (now «tally_revision») ⌝ }
+    ensures { λ r. ⌜ recordsOf (take n r) ≡ lentRecords n (now («tally_grocer» .entry)) (now («tally_box» .entry)) (now («tally_offer» .entry))
+        (now («tally_count» .entry)) (now («tally_bag» .entry)) (now («tally_revision» .entry)) ⌝ }
 {
-    let n = tally_grocer.len();
     let none = Tally {
         grocer: 0,
         tally_box: 0,
@@ -179,8 +186,7 @@ pub extern "C" fn entries_reconcile(
         (now («tally_revision» .entry)) (now (owed .entry)) ⌝ }
 {
     let n = tally_grocer.len();
-    let few = (1024 < n)
-        | (tally_box.len() < n)
+    let few = (tally_box.len() < n)
         | (tally_offer.len() < n)
         | (tally_count.len() < n)
         | (tally_bag.len() < n)
@@ -188,6 +194,7 @@ pub extern "C" fn entries_reconcile(
     if few | (owed.len() < 1) {
         return 20;
     }
+    let k = shown(n);
     let list = records(
         tally_grocer,
         tally_box,
@@ -195,8 +202,9 @@ pub extern "C" fn entries_reconcile(
         tally_count,
         tally_bag,
         tally_revision,
+        k,
     );
-    let a = reconcile::reconcile_few(list, n, price, grocers, offers, wanted);
+    let a = reconcile::reconcile_few(list, k, price, grocers, offers, wanted);
     tell(a, owed)
 }
 

@@ -22,6 +22,7 @@ use Rattle.printing.specs.Cents.{cents}
 use Rattle.printing.specs.Printed.{jobRead, digitsOf, decimal, signedDecimal, line, grocerLines, settledText, blankJob, blankState, runText, jobText, printed}
 use Rattle.guarantees.specs.Settle.{valueOf, amountOf, Settle}
 use Rattle.printing.proofs.Blank.{blank-state, read-by-file, printed-refusal, printed-job}
+use Rattle.printing.proofs.Long.{long-printed, cut-printed}
 use Rattle.printing.proofs.Rounding.{none-below, rounding}
 use Rattle.printing.proofs.Digits.{below-power}
 use Rattle.format.proofs.Accept.{long, accepted-range}
@@ -160,6 +161,8 @@ settle = record {
   accepted = settled-is;
   refused = printed-refusal;
   cut = cut-is;
+  tooLong = long-printed;
+  enough = λ file. cut-printed file 37_889 (omega arith);
   reads = number-reads;
   readsAmount = λ z. amount-reads (cents z);
   rounded = rounding;

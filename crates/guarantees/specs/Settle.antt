@@ -38,6 +38,10 @@ pub record Settle : Type 0 where
   pub refused : (file : List ℕ) → (fileRefusal file ≡ 0 → ⊥) → printed file ≡ refusedText (fileRefusal file)
   -- Cut short anywhere, an accepted file is refused.
   pub cut : (file : List ℕ) (n : ℕ) → fileRefusal file ≡ 0 → n < length file → fileRefusal (take n file) ≡ 0 → ⊥
+  -- An input that is longer than the longest file, of 37,888 bytes, is refused with 1,
+  pub tooLong : (file : List ℕ) → 37_888 < length file → printed file ≡ refusedText 1
+  -- so that no more than 37,889 bytes of an input need be read.
+  pub enough : (file : List ℕ) → printed (take 37_889 file) ≡ printed file
   -- A printed number is the number, and a printed amount the cents of the amount.
   pub reads : (n : ℕ) → valueOf (decimal n) 0 ≡ n
   pub readsAmount : (z : ℤ) → amountOf (signedDecimal (cents z)) ≡ cents z

@@ -4,4 +4,5 @@ pub mod Owed
 pub mod Accepted
 pub mod OneJob
 pub mod Blank
+pub mod Long
 pub mod Rounding

@@ -1,13 +1,12 @@
 -- `records` makes the list of records. The invariant: the records before i are those lent. Assumes nothing.
-use mathlib.Core.Path.{_≡_, refl, sym, _∙_, subst}
-use Prim.Native.Nat.{ℕ, _≤_, _<_, _-_}
+use mathlib.Core.Path.{_≡_, refl, _∙_}
+use Prim.Native.Nat.{_≤_, _-_}
 use native.Mathlib.Omega.{arith}
-use lib.ListN.{length, take, length-set}
+use lib.ListN.{length, length-set}
 use borrow.Author.Needs.{needs}
+use Rattle.entries.specs.Entries.{lentTally}
 use denote.Ref.{now}
-use Rattle.reconcile.specs.Records.{recordsOf}
-use Rattle.entries.specs.Entries.{lentTally, lentRecords}
-use Rattle.entries.proofs.Fields.{Filled, filled-more, filled-all}
+use Rattle.entries.proofs.Fields.{Filled, filled-more, filled-all, fields-fewer}
 use Rattle.entries.proofs.records.Statement.{statement}
 use Rattle.entries.proofs.records.Tie as tie
 use Rattle.entries.proofs.records.Reads as reads
@@ -31,7 +30,7 @@ loop-holds : tie.Need-loop-holds Inv-loop μ-loop
 loop-holds c = (search needs, refl, λ p h. absurd (omega (arith, h)))
 
 tally-requires : tie.Need-tally-requires Inv-loop μ-loop
-tally-requires c κs = (c .loop-test .taken, entry (c .before) .pre .1)
+tally-requires c κs = fields-fewer (entry (c .before) .pre .1) (omega (arith, c .loop-test .taken))
 
 mul-list : tie.Need-mul-list Inv-loop μ-loop
 mul-list c = omega (arith, c .before .before .loop .inv .0, outset c .pre .0)
@@ -63,7 +62,7 @@ returns c =
     let b = c .before in
     let s = entry b in
     let inv = b .loop .inv in
-    let e : b .loop .i ≡ length (now (s .args .tally-grocer)) = omega arith in
+    let e : b .loop .i ≡ s .args .n = omega arith in
     filled-all (now (s .args .tally-grocer)) (now (s .args .tally-box)) (now (s .args .tally-offer)) (now (s .args .tally-count)) (now (s .args .tally-bag)) (now (s .args .tally-revision)) _ (b .loop .list)
     (omega (arith, inv .1, s .pre .0)) (rw e at (inv .2))
 

@@ -26,19 +26,19 @@ same-fields : {g b p s v g′ b′ p′ s′ v′ : ℕ} {z z′ : ℤ} → g �
 same-fields a b c d e f = rw a (rw b (rw c (rw d (rw e (rw f)))))
 
 u16-at-requires-2 : tie.Need-u16-at-requires-2
-u16-at-requires-2 c κs = let p = entry (c .before) .pre in omega (arith, p .0, p .1 .boxes)
+u16-at-requires-2 c κs = let p = entry (c .before) .pre in omega (arith, p .boxes)
 
 u16-at-requires-3 : tie.Need-u16-at-requires-3
-u16-at-requires-3 c κs = let p = entry (c .before .before) .pre in omega (arith, p .0, p .1 .places)
+u16-at-requires-3 c κs = let p = entry (c .before .before) .pre in omega (arith, p .places)
 
 i32-at-requires : tie.Need-i32-at-requires
-i32-at-requires c κs = let p = entry (c .before .before .before) .pre in omega (arith, p .0, p .1 .counts)
+i32-at-requires c κs = let p = entry (c .before .before .before) .pre in omega (arith, p .counts)
 
 u16-at-requires-4 : tie.Need-u16-at-requires-4
-u16-at-requires-4 c κs = let p = entry (c .before .before .before .before) .pre in omega (arith, p .0, p .1 .bags)
+u16-at-requires-4 c κs = let p = entry (c .before .before .before .before) .pre in omega (arith, p .bags)
 
 u16-at-requires-5 : tie.Need-u16-at-requires-5
-u16-at-requires-5 c κs = let p = entry (c .before .before .before .before .before) .pre in omega (arith, p .0, p .1 .revisions)
+u16-at-requires-5 c κs = let p = entry (c .before .before .before .before .before) .pre in omega (arith, p .revisions)
 
 returns : tie.Need-returns
 unfolding lentTally
@@ -51,7 +51,7 @@ pub tally-spec : {M : Type 1} → statement M
 tally-spec =
     tie.close
     (tie.spec
-    (λ c κs. entry c .pre .0)
+    (λ c κs. omega (arith, entry c .pre .grocers))
     u16-at-requires-2
     u16-at-requires-3
     i32-at-requires
