@@ -32,4 +32,5 @@ pub mod Served
 pub mod Demand3
 pub mod Quiet
 pub mod Cases
+pub mod Edges
 pub mod Cursor
