@@ -1,16 +1,17 @@
 -- The table of ◆ cases and the examples hold: each computes. Assumes nothing.
 use mathlib.Core.Path.{refl}
+use mathlib.Core.Bool.{Bool, true}
 use lib.Count.{ones}
 use Rattle.laws.specs.Masks.{maskOf, without}
 use Rattle.laws.specs.Checks.{firstMet}
 use Rattle.laws.specs.Below.{naturals, integers, sum, only, any, all, count, find, ascending}
-use Rattle.laws.specs.Tables.{tabulate, overwrite, word, cell, recell}
+use Rattle.laws.specs.Tables.{tabulate, overwrite, layOver, word, cell, recell}
 use Rattle.recount.specs.Recount.{loose, sameBag, superseded, stands, countedTwice}
-use Rattle.model.specs.Local.{chained, localOffers, localGrocers, localGrocer, ofOffer, start, starts, packed, packedGrocers, packedCounts, priceTable, totalTable}
+use Rattle.model.specs.Local.{chained, localOffers, localGrocers, localGrocer, ofOffer, start, starts, packed, packedGrocers, packedCounts, priceTable, totalTable, bookShort, bookRefusals, jobRefusals}
 use Rattle.model.specs.Reconcile.{recordInRange, recordsInRange, recordIn, countedRecords, standingRecords, serialAmount, deskRefusals, deskAnswer, reconciled}
 use Rattle.model.specs.Job.{heldBy, held, needs, shares, needWord, sharerWord, priceWord, totalWord, pricesDue, totalsDue, amount, plainSum}
 use Rattle.model.specs.Tables.{countedOf, jobOf, stepsDone, marksOf, view, store, jobLengths, stateLengths, jobShort, bagsShort, stateShort, lentShort}
-use Rattle.model.specs.Run.{readySteps, readyCount, pick, picks, afterSteps, run, reported, runRefusals, runState, ran}
+use Rattle.model.specs.Run.{readySteps, readyCount, pick, picks, afterSteps, run, pickedPlaces, reported, runRefusals, runState, ran}
 use Rattle.model.specs.Ranges.{upTo, under, around, sizesInRange, jobWordsInRange, jobInRange, stateInRange}
 use Rattle.model.specs.Step.{isKind, stepOf, boxesFit, stepRules, moved, refusals, stepRefusal, stepTables, freshTables, stepAnswer, stepped}
 use Rattle.model.specs.Requests.{lentJob, lentState, returned, answerTo, serve, serveAll, answersFrom, tablesAfter, answersIn}
@@ -20,13 +21,19 @@ use Rattle.model.specs.Boxes.{knows, priceOnWay, gone, arrived, partOf, 
 use Rattle.model.specs.Steps.{doneBy, added, kindNumber, kindOf, mark, oneBox, fits, hasStep, allAdded, ready, permitted, fresh, products, received, effect, stepAt, listOf}
 use Rattle.model.specs.Cases.{Cases, Examples}
 
+-- What a case is computed with. To unfold this is to unfold every name of its line.
+unfoldable pub computed : Bool
+unfolding wholeRequest stepOf tablesAfter answersIn serveAll answersFrom answerTo serve returned lentJob lentState loose sameBag superseded stands countedTwice countedOf bagsShort doneBy stateByRules knows
+    priceOnWay gone arrived partOf paid sentOf jobOf stepsDone marksOf view store word cell recell overwrite tabulate jobShort stateShort jobLengths stateLengths lentShort jobInRange sizesInRange
+    jobWordsInRange stateInRange upTo under around firstMet refusals stepRules stepRefusal stepTables moved isKind boxesFit oneBox stepAnswer stepped freshTables fresh effect products received kindNumber
+    kindOf mark fits hasStep allAdded added ready permitted heldBy held needs shares needWord sharerWord priceWord totalWord pricesDue totalsDue amount plainSum maskOf without sum only naturals integers
+    any all count find ownerWords messageCount stepCount over messagesOf run runState afterSteps picks pick stepAt listOf readySteps readyCount ran runRefusals reported ascending chained localOffers
+    localGrocers ofOffer start starts localGrocer packed packedGrocers packedCounts priceTable totalTable reconciled deskAnswer deskRefusals recordsInRange recordInRange recordIn countedRecords
+    standingRecords serialAmount ones lib.Count.onesIn layOver pickedPlaces bookShort bookRefusals jobRefusals
+computed = true
+
 pub cases : Cases
-unfolding loose sameBag superseded stands countedTwice countedOf bagsShort jobOf stepsDone marksOf view store word cell recell overwrite tabulate jobShort stateShort jobLengths stateLengths
-    lentShort jobInRange sizesInRange jobWordsInRange stateInRange upTo under around firstMet refusals stepRules stepRefusal stepTables moved isKind boxesFit oneBox stepAnswer stepped
-    freshTables fresh effect products received kindNumber kindOf mark fits hasStep allAdded added ready permitted heldBy held needs shares needWord sharerWord priceWord totalWord pricesDue
-    totalsDue amount plainSum maskOf without sum only naturals integers any all count find ownerWords messageCount stepCount over messagesOf run runState afterSteps picks pick stepAt listOf
-    readySteps readyCount ran runRefusals reported ascending chained localOffers localGrocers ofOffer start starts priceTable totalTable reconciled deskAnswer deskRefusals recordsInRange
-    recordInRange recordIn countedRecords standingRecords serialAmount ones lib.Count.onesIn
+unfolding computed
 cases = record {
   e-amount-0 = refl;
   e-amount-1 = refl;
@@ -46,13 +53,7 @@ cases = record {
 }
 
 pub examples : Examples
-unfolding wholeRequest stepOf tablesAfter answersIn serveAll answersFrom answerTo serve returned lentJob lentState
-    loose sameBag superseded stands countedTwice countedOf bagsShort doneBy stateByRules knows priceOnWay gone arrived partOf paid sentOf jobOf stepsDone marksOf view store word
-    cell recell overwrite tabulate jobShort stateShort jobLengths stateLengths lentShort jobInRange sizesInRange jobWordsInRange stateInRange upTo under around firstMet refusals stepRules
-    stepRefusal stepTables moved isKind boxesFit oneBox stepAnswer stepped freshTables fresh effect products received kindNumber kindOf mark fits hasStep allAdded added ready permitted heldBy
-    held needs shares needWord sharerWord priceWord totalWord pricesDue totalsDue amount plainSum maskOf without sum only naturals integers any all count find ownerWords messageCount
-    stepCount over messagesOf run runState afterSteps picks pick stepAt listOf readySteps readyCount ran runRefusals reported ascending chained localOffers localGrocers ofOffer start starts
-    localGrocer packed packedGrocers packedCounts priceTable totalTable reconciled deskAnswer deskRefusals recordsInRange recordInRange recordIn countedRecords standingRecords serialAmount ones lib.Count.onesIn
+unfolding computed
 examples = record {
   needs-away = refl;
   words-away = refl;

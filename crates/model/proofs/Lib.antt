@@ -32,5 +32,6 @@ pub mod Served
 pub mod Demand3
 pub mod Quiet
 pub mod Cases
+pub mod Edges
 pub mod Cursor
 pub mod Evening

@@ -16,4 +16,4 @@ pub mod Reconcile
 pub mod Requests
 pub mod Demand3
 pub mod Cases
-pub mod Evening
+pub mod Edges
