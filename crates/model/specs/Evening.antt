@@ -4,8 +4,9 @@ use mathlib.Core.List.{List, [], _∷_, _++_}
 use Prim.Native.Nat.{ℕ}
 use lib.IntN.{ℤ, pos, negsuc}
 use lib.ListN.{take}
-use Rattle.model.specs.Tables.{StateTables}
+use Rattle.model.specs.Tables.{StateTables, jobOf}
 use Rattle.model.specs.Step.{Asked, asked}
+use Rattle.model.specs.Local.{localOffers, localGrocers}
 use Rattle.model.specs.Cases.{jobE, tablesInTurn}
 
 -- The steps of E in the order of a run without choices.
@@ -60,3 +61,8 @@ pub record Evening : Type 0 where
   -- After step 10, kind 6 of box 1 and box 0.
   pub prices-10 : pricesHeld (eveningAfter 10) ≡ 500 ∷ 1250 ∷ 500 ∷ 1250 ∷ 0 ∷ 0 ∷ 0 ∷ 0 ∷ 3 ∷ []
   pub amounts-10 : amountsHeld (eveningAfter 10) ≡ pos 0 ∷ pos 0 ∷ pos 0 ∷ pos 0 ∷ pos 0 ∷ pos 0 ∷ pos 0 ∷ pos 0 ∷ pos 2250 ∷ pos 2500 ∷ []
+  -- The local books of both boxes: offers, and grocers, their own first.
+  pub offers-0 : localOffers (jobOf jobE) 0 ≡ 0 ∷ 1 ∷ []
+  pub offers-1 : localOffers (jobOf jobE) 1 ≡ 1 ∷ 0 ∷ []
+  pub grocers-0 : localGrocers (jobOf jobE) 0 ≡ 1 ∷ 0 ∷ []
+  pub grocers-1 : localGrocers (jobOf jobE) 1 ≡ 0 ∷ []

@@ -17,3 +17,4 @@ pub mod Requests
 pub mod Demand3
 pub mod Cases
 pub mod Edges
+pub mod Evening
