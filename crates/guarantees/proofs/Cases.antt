@@ -31,6 +31,7 @@ use Rattle.printing.proofs.OneJob.{holds-same, one-job}
 use Rattle.format.proofs.Write.{written-accepted, read-back}
 use Rattle.guarantees.proofs.Settle.{given, settle}
 use Rattle.model.proofs.Cases as Settlement
+use Rattle.model.proofs.Edges.{edges}
 
 -- ---- codes and sums
 
@@ -230,6 +231,7 @@ cases = record {
   e-tables = e-tables;
   e-printed = e-printed;
   settlement = Settlement.cases;
+  edges = edges;
   quiet = λ f ok none. (no-tallies-words (jobOf f) (range f (in-handed f ok)) none, no-tallies-steps (jobOf f) (range f (in-handed f ok)) none);
   byte-0-first = byte-0-first;
   byte-0-second = byte-0-second;

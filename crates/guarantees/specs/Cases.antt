@@ -18,6 +18,7 @@ use Rattle.format.specs.Tables.{largest}
 use Rattle.printing.specs.Accepted.{owedByFile, Holds}
 use Rattle.printing.specs.Printed.{printed}
 use Rattle.model.specs.Cases as Settlement
+use Rattle.model.specs.Edges.{Edges}
 
 -- A code by its digits.
 abbrev pub code : List ℕ → Code
@@ -126,6 +127,8 @@ pub record Cases : Type 0 where
   pub e-printed : printed (encode fileE) ≡ textE
   -- E's amounts, words and steps; T = 0 for K 2; one tally in another box; the same tally twice; the largest amount and its negative.
   pub settlement : Settlement.Cases
+  -- Without ◆: both sides of each limit, the order of refusals, choices and the places of the steps picked.
+  pub edges : Edges
   -- T = 0: 2 × K steps, no words, whatever the job.
   pub quiet : (f : JobTables) → jobInRange f ≡ true → f .tallies ≡ 0 → (ownerWords (jobOf f) ≡ 0) × (stepCount (jobOf f) ≡ 2 * f .boxes)
   -- Byte 0 alone 255: sums 255 and 64,019. Byte 507 alone 255: 255 and 255.

@@ -109,10 +109,11 @@ shortStateE i = lentState (doneE 24 0) (record {
 abbrev pub ofSizes : ℕ → ℕ → ℕ → ℕ → JobTables
 ofSizes k m n t = jobTables k m n t [] [] [] [] [] [] []
 
--- K, M and N 2, one tally: the price and owner of offer 1, the owner of grocer 1; the grocer, box, offer and count of the tally.
-abbrev pub oneTally : (price owner grocerOwner grocer box offer : ℕ) → ℤ → JobTables
-oneTally price owner grocerOwner grocer box offer count =
-    looseTables 2 2 2 1 (0 ∷ price ∷ []) (0 ∷ owner ∷ []) (0 ∷ grocerOwner ∷ []) (grocer ∷ []) (box ∷ []) (offer ∷ []) (count ∷ [])
+-- K 1, M 2, N 3, T 4: of each table the last word as told, and 0 before it.
+abbrev pub lastWords : (price owner grocerOwner grocer box offer : ℕ) → ℤ → JobTables
+lastWords price owner grocerOwner grocer box offer count =
+    looseTables 1 2 3 4 (0 ∷ 0 ∷ price ∷ []) (0 ∷ 0 ∷ owner ∷ []) (0 ∷ grocerOwner ∷ []) (0 ∷ 0 ∷ 0 ∷ grocer ∷ []) (0 ∷ 0 ∷ 0 ∷ box ∷ [])
+    (0 ∷ 0 ∷ 0 ∷ offer ∷ []) (pos 0 ∷ pos 0 ∷ pos 0 ∷ count ∷ [])
 
 -- What a run of such a job without choices answers.
 abbrev pub runOf : JobTables → RunAnswer
@@ -174,25 +175,25 @@ pub record Edges : Type 0 where
   -- A run looks at sizes: N 0 is 21, though no word is out of range.
   pub sizes-run : ran (looseTables 1 1 0 0 [] [] (0 ∷ []) [] [] [] []) (doneE 24 0) [] [] .answer ≡ notRun 21
   -- Each word of a job's tables: every one at its highest is in range.
-  pub words-most : runOf (oneTally 9_999_999 1 1 1 1 1 (pos 99_999)) ≡ finished 0 0 4
+  pub words-most : runOf (lastWords 9_999_999 0 0 1 0 2 (pos 99_999)) ≡ finished 0 0 2
   -- A price of 10,000,000 is 21.
-  pub price-over : runOf (oneTally 10_000_000 1 1 1 1 1 (pos 1)) ≡ notRun 21
+  pub price-over : runOf (lastWords 10_000_000 0 0 1 0 2 (pos 1)) ≡ notRun 21
   -- The owner of an offer is below K.
-  pub owner-over : runOf (oneTally 10 2 1 1 1 1 (pos 1)) ≡ notRun 21
+  pub owner-over : runOf (lastWords 10 1 0 1 0 2 (pos 1)) ≡ notRun 21
   -- The owner of a grocer is below K.
-  pub grocer-owner-over : runOf (oneTally 10 1 2 1 1 1 (pos 1)) ≡ notRun 21
+  pub grocer-owner-over : runOf (lastWords 10 0 1 1 0 2 (pos 1)) ≡ notRun 21
   -- The grocer of a tally is below M.
-  pub grocer-over : runOf (oneTally 10 1 1 2 1 1 (pos 1)) ≡ notRun 21
+  pub grocer-over : runOf (lastWords 10 0 0 2 0 2 (pos 1)) ≡ notRun 21
   -- The box of a tally is below K.
-  pub box-over : runOf (oneTally 10 1 1 1 2 1 (pos 1)) ≡ notRun 21
+  pub box-over : runOf (lastWords 10 0 0 1 1 2 (pos 1)) ≡ notRun 21
   -- The offer of a tally is below N.
-  pub offer-over : runOf (oneTally 10 1 1 1 1 2 (pos 1)) ≡ notRun 21
+  pub offer-over : runOf (lastWords 10 0 0 1 0 3 (pos 1)) ≡ notRun 21
   -- A count of 100,000 is 21,
-  pub count-over : runOf (oneTally 10 1 1 1 1 1 (pos 100_000)) ≡ notRun 21
+  pub count-over : runOf (lastWords 10 0 0 1 0 2 (pos 100_000)) ≡ notRun 21
   -- and so is −100,000;
-  pub count-under : runOf (oneTally 10 1 1 1 1 1 (negsuc 99_999)) ≡ notRun 21
+  pub count-under : runOf (lastWords 10 0 0 1 0 2 (negsuc 99_999)) ≡ notRun 21
   -- −99,999 is in range.
-  pub count-least : runOf (oneTally 10 1 1 1 1 1 (negsuc 99_998)) ≡ finished 0 0 4
+  pub count-least : runOf (lastWords 10 0 0 1 0 2 (negsuc 99_998)) ≡ finished 0 0 2
   -- Each word of a state: a known price of 10,000,000 is 21,
   pub known-over : answerE (knownE (500 ∷ 0 ∷ 10_000_000 ∷ 1250 ∷ [])) 2 0 0 ≡ refused 21
   -- and 9,999,999 is in range.
@@ -320,7 +321,7 @@ pub record Edges : Type 0 where
   -- 21 before 9 and 23,
   pub book-21-9 : bookRefusal twicePriced (bookLengths 1 1 2 2 2) 2 ≡ 21
   -- 21 before 23, without a 9,
-  pub book-21-23 : bookRefusal (oneTally 10_000_000 1 1 1 1 1 (pos 1)) (bookLengths 2 2 3 1 1) 2 ≡ 21
+  pub book-21-23 : bookRefusal (lastWords 10_000_000 0 0 1 0 2 (pos 1)) (bookLengths 3 2 4 4 4) 1 ≡ 21
   -- 9 before 23.
   pub book-9-23 : bookRefusal lowTwice (bookLengths 1 1 2 3 3) 2 ≡ 9
   -- Message tables: 20 before 21,
@@ -401,8 +402,8 @@ pub record Edges : Type 0 where
       ∷ ofKind receivePrices 1 0 ∷ ofKind sendTotals 0 1 ∷ ofKind addOwn 0 0 ∷ ofKind addOwn 1 1 ∷ ofKind receiveTotals 1 0 ∷ []
   -- Without choices always the first.
   pub unchosen : pickedPlaces (jobOf jobE) [] ≡ 1 ∷ 2 ∷ 4 ∷ 7 ∷ 9 ∷ 10 ∷ 13 ∷ 16 ∷ 19 ∷ 22 ∷ []
-  -- One choice is used once: 3, and then the first.
-  pub chosen-once : pickedPlaces (jobOf jobE) (3 ∷ []) ≡ 7 ∷ 1 ∷ 2 ∷ 4 ∷ 9 ∷ 10 ∷ 13 ∷ 16 ∷ 19 ∷ 22 ∷ []
+  -- One choice is used once: the second ready step, and then always the first.
+  pub chosen-once : pickedPlaces (jobOf jobE) (1 ∷ []) ≡ 2 ∷ 1 ∷ 4 ∷ 7 ∷ 9 ∷ 10 ∷ 13 ∷ 16 ∷ 19 ∷ 22 ∷ []
   -- Choices are used from the front: 0 and then 3 are not 3 and then 0.
   pub chosen-in-order : pickedPlaces (jobOf jobE) (0 ∷ 3 ∷ []) ≡ 1 ∷ 10 ∷ 2 ∷ 4 ∷ 7 ∷ 9 ∷ 13 ∷ 16 ∷ 19 ∷ 22 ∷ []
   -- Choices left when all steps are done are passed over.
