@@ -59,7 +59,8 @@ static uint16_t settle_by_steps(const struct settlement_job *j, struct settlemen
 static uint16_t settle_by_run(const struct settlement_job *j, struct settlement_state *s, uint32_t *report)
 {
     static const uint16_t choices[1]; /* none is lent: the first ready step is taken each time */
-    return settlement_run_job(j, s, choices, 0, report);
+    static uint16_t picked[1];        /* none is lent: the order of the steps is not asked for */
+    return settlement_run_job(j, s, choices, 0, picked, 0, report);
 }
 
 static void print_settlement(const char *title, const struct settlement_job *j, const struct settlement_state *s,

@@ -106,6 +106,11 @@
 #define SETTLEMENT_MAX_DONE (6 * SETTLEMENT_MAX_BOXES * SETTLEMENT_MAX_BOXES)
 #define SETTLEMENT_SENT 1
 
+/* The most steps that a run makes, 2 K + 2 x (messages): each box sends prices and totals to every other. So many words
+ * of `picked` always suffice. */
+#define SETTLEMENT_MAX_MESSAGES (2 * SETTLEMENT_MAX_BOXES * (SETTLEMENT_MAX_BOXES - 1))
+#define SETTLEMENT_MAX_STEPS (2 * SETTLEMENT_MAX_BOXES + 2 * SETTLEMENT_MAX_MESSAGES)
+
 /* Words of `sizes` (K, M, N, T and the settlement cycle) and of `report` (words sent, messages, steps). */
 #define SETTLEMENT_SIZES 5
 #define SETTLEMENT_REPORT 3
@@ -240,9 +245,15 @@ uint16_t settlement_step(
  * after. choices, of any length from 0 on, pick the order: the next choice modulo the number of ready steps picks one
  * from their list, which goes by kind, first and second; when choices end, the first ready step. Choices left at the
  * end are passed over.
+ * picked, of any length from 0 on, becomes the steps in the order in which the run made them, as far as it reaches:
+ * word i is the place of step i, which is that of its mark in done, ((kind - 1) K + first) K + second. With 2 boxes the
+ * word 10 is kind 3, first 1 and second 0, since ((3 - 1) x 2 + 1) x 2 + 0 = 10; back from a place p, kind is
+ * p / (K K) + 1, first p / K % K and second p % K. Words of picked past the steps stay as they were. Where the order is
+ * not asked for, lend any object and 0; SETTLEMENT_MAX_STEPS words hold the steps of every job.
  * report[0] is the number of words sent, report[1] of messages sent, report[2] of steps.
  *
- * Needed lengths are the words of the tables above, from K, M, N and T as given; sent 1, report 3.
+ * Needed lengths are the words of the tables above, from K, M, N and T as given; sent 1, report 3. choices and picked
+ * need none, and no length of them is refused.
  *
  * Refusals, in the order in which they are looked for:
  *   20  a table, or the report, shorter than needed
@@ -268,6 +279,7 @@ uint16_t settlement_run(
     uint16_t *done, size_t done_len,
     uint32_t *sent, size_t sent_len,
     const uint16_t *choices, size_t choices_len,
+    uint16_t *picked, size_t picked_len,
     uint32_t *report, size_t report_len);
 
 #ifdef __cplusplus
@@ -361,11 +373,13 @@ static inline uint16_t settlement_step_job(const struct settlement_job *job, str
     return settlement_step(SETTLEMENT_LENT(job, state), kind, first, second);
 }
 
-/* settlement_run on a job and a state; report has SETTLEMENT_REPORT words. */
+/* settlement_run on a job and a state; choices and picked have any length, report has SETTLEMENT_REPORT words. */
 static inline uint16_t settlement_run_job(const struct settlement_job *job, struct settlement_state *state,
-                                          const uint16_t *choices, size_t choices_len, uint32_t *report)
+                                          const uint16_t *choices, size_t choices_len, uint16_t *picked,
+                                          size_t picked_len, uint32_t *report)
 {
-    return settlement_run(SETTLEMENT_LENT(job, state), choices, choices_len, report, SETTLEMENT_REPORT);
+    return settlement_run(SETTLEMENT_LENT(job, state), choices, choices_len, picked, picked_len, report,
+                          SETTLEMENT_REPORT);
 }
 
 #endif

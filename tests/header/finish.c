@@ -1,5 +1,6 @@
 /* When a settlement by steps is finished, as host/settlement.h says it: for each job file named, both ways of knowing
-   it agree, in several orders of requests. The last line is 'N passed, M failed'. */
+   it agree, in several orders of requests, and in that of the steps which a run has picked. The last line is 'N passed,
+   M failed'. */
 #include "settlement.h"
 
 #include <stdio.h>
@@ -8,6 +9,7 @@
 static struct settlement_job job;
 static struct settlement_state state, by_run;
 static uint32_t report[SETTLEMENT_REPORT];
+static uint16_t picked[SETTLEMENT_MAX_STEPS];
 static unsigned passed, failed;
 
 static void expect(int holds, const char *name, const char *what)
@@ -69,6 +71,21 @@ static void settle(const char *name, uint32_t start, uint32_t stride)
     expect(!memcmp(&state, &by_run, sizeof state), name, "the state is that of a run");
 }
 
+/* The steps that the run has picked, in their order; a kind, first and second from each place. */
+static void settle_as_picked(const char *name)
+{
+    uint32_t accepted = 0;
+    settlement_make_fresh(&job, &state);
+    for (uint32_t i = 0; i < report[2]; i++) {
+        unsigned place = picked[i], boxes = job.boxes;
+        accepted += settlement_step_job(&job, &state, (uint16_t)(place / (boxes * boxes) + 1),
+                                        (uint16_t)(place / boxes % boxes),
+                                        (uint16_t)(place % boxes)) == SETTLEMENT_ACCEPTED;
+    }
+    expect(accepted == report[2], name, "the steps that a run has picked are accepted in their order");
+    expect(!memcmp(&state, &by_run, sizeof state), name, "they leave the state of the run");
+}
+
 static size_t read_file(const char *path, uint8_t *bytes, size_t most)
 {
     FILE *in = fopen(path, "rb");
@@ -89,11 +106,12 @@ int main(int argc, char **argv)
         if (answer != SETTLEMENT_ACCEPTED)
             continue;
         memset(&by_run, 0, sizeof by_run);
-        answer = settlement_run_job(&job, &by_run, choices, 4, report);
+        answer = settlement_run_job(&job, &by_run, choices, 4, SETTLEMENT_TABLE(picked), report);
         expect(answer == SETTLEMENT_ACCEPTED, argv[i], "the run is accepted");
         expect(report[2] == 2u * job.boxes + 2 * report[1], argv[i], "2 K + 2 x (messages) steps");
         for (size_t s = 0; s < sizeof strides / sizeof strides[0]; s++)
             settle(argv[i], (uint32_t)s, strides[s]);
+        settle_as_picked(argv[i]);
     }
     printf("%u passed, %u failed\n", passed, failed);
     return failed != 0;

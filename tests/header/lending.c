@@ -8,6 +8,7 @@ static struct settlement_job job;
 static struct settlement_state state;
 static const uint8_t file[5];
 static const uint16_t choices[7];
+static uint16_t picked[9];
 static uint32_t report[SETTLEMENT_REPORT];
 
 static unsigned passed, failed;
@@ -141,6 +142,7 @@ uint16_t settlement_run(
     uint16_t *done, size_t done_len,
     uint32_t *sent, size_t sent_len,
     const uint16_t *choices_, size_t choices_len,
+    uint16_t *picked_, size_t picked_len,
     uint32_t *report_, size_t report_len)
 {
     EXPECT(boxes == 11 && grocers == 12 && offers == 13 && tallies == 14);
@@ -149,7 +151,8 @@ uint16_t settlement_run(
                tally_bag, tally_bag_len, tally_revision, tally_revision_len);
     expect_state(known, known_len, price_transit, price_transit_len, working, working_len, total_transit,
                  total_transit_len, statement, statement_len, done, done_len, sent, sent_len);
-    EXPECT(choices_ == choices && choices_len == 7 && report_ == report && report_len == 3);
+    EXPECT(choices_ == choices && choices_len == 7 && picked_ == picked && picked_len == 9);
+    EXPECT(report_ == report && report_len == 3);
     return next_answer;
 }
 
@@ -164,7 +167,7 @@ int main(void)
     next_answer = SETTLEMENT_NOT_READY;
     EXPECT(settlement_step_job(&job, &state, 3, 1, 2) == SETTLEMENT_NOT_READY);
     next_answer = SETTLEMENT_OUT_OF_RANGE;
-    EXPECT(settlement_run_job(&job, &state, choices, 7, report) == SETTLEMENT_OUT_OF_RANGE);
+    EXPECT(settlement_run_job(&job, &state, choices, 7, picked, 9, report) == SETTLEMENT_OUT_OF_RANGE);
     printf("%u passed, %u failed\n", passed, failed);
     return failed != 0;
 }

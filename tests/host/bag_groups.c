@@ -59,12 +59,13 @@ static void in_every_order(void (*open)(void), void (*check)(const struct bagged
 
 static void open_tables(void) { open_settlement(&settlement, SPARE, 0); }
 
-/* Tables of the largest job, and the file. */
+/* Tables of the largest job, the file, and a few words for the steps picked. */
 static void open_files(void)
 {
     size_t lengths[ALL_TABLES];
     for (unsigned name = 0; name < ALL_TABLES; name++) lengths[name] = needed(name, LARGEST);
     lengths[FILE_BYTES] = MOST_FILE;
+    lengths[PICKED] = 8;
     open_lending(&settlement.lending, lengths);
 }
 
@@ -343,9 +344,10 @@ static void near_bags(void)
     }
 }
 
-/* The run's words sent, messages and steps, and every word of its state. */
+/* The run's words sent, messages and steps, the steps that it picked, and every word of its state. */
 struct ending {
     int64_t report[3];
+    uint16_t picked[MOST_STEPS];
     struct state_words state;
 };
 
@@ -353,8 +355,12 @@ static void end_of_run(struct ending *ending, uint16_t choice)
 {
     open_settlement(&settlement, SPARE, 50);
     for (size_t i = 0; i < 50; i++) put_both(&settlement.lending, CHOICES, i, (int64_t)(choice * i % 65536));
+    lend_whole(&settlement.lending);
     expect_run(0);
     for (size_t i = 0; i < 3; i++) ending->report[i] = lent_word(&settlement, REPORT, i);
+    memset(ending->picked, 0, sizeof ending->picked);
+    for (size_t i = 0; i < steps_of_job(&settlement); i++)
+        ending->picked[i] = (uint16_t)lent_word(&settlement, PICKED, i);
     keep_state(&settlement, &ending->state);
     close_settlement(&settlement);
 }

@@ -226,6 +226,58 @@ static void runs_of_sample(void)
     }
 }
 
+/* Which steps choices pick from E's list of ready steps, by their places: prices from box 0 to box 1 are 1 and the other
+   way 2; the own tallies of box 0 and 1 are 4 and 7; prices received by box 0 are 9, by box 1 10; the totals sent 13,
+   the own totals 16 and 19, the totals received 22. Fresh, 1, 2, 4 and 7 are ready; 9 comes behind 2, 10 behind 1, 13
+   behind 4, 16 behind 9, 19 behind 7 and 10, 22 behind 13. */
+enum { E_STEPS = 10 };
+static const struct {
+    const char *what;
+    size_t length;
+    uint16_t choices[E_STEPS + 1];
+    int64_t places[E_STEPS];
+} picked_in_sample[] = {
+    {"no choices: the first each time", 0, {0}, {1, 2, 4, 7, 9, 10, 13, 16, 19, 22}},
+    {"0 of 4", 1, {0}, {1, 2, 4, 7, 9, 10, 13, 16, 19, 22}},
+    {"3 of 4", 1, {3}, {7, 1, 2, 4, 9, 10, 13, 16, 19, 22}},
+    {"4 of 4", 1, {4}, {1, 2, 4, 7, 9, 10, 13, 16, 19, 22}},
+    {"65,535 of 4", 1, {65535}, {7, 1, 2, 4, 9, 10, 13, 16, 19, 22}},
+    {"65,535 of 4, once box 0 has sent its price", 2, {0, 65535}, {1, 10, 2, 4, 7, 9, 13, 16, 19, 22}},
+    {"2 behind 1", 2, {1, 2}, {2, 7, 1, 4, 9, 10, 13, 16, 19, 22}},
+    {"1 behind 2", 2, {2, 1}, {4, 2, 1, 7, 9, 10, 13, 16, 19, 22}},
+    {"0 behind 3", 2, {3, 0}, {7, 1, 2, 4, 9, 10, 13, 16, 19, 22}},
+    {"as many as steps", 10, {0, 1, 2, 3, 4, 5, 6, 7, 8, 9}, {1, 4, 10, 2, 9, 16, 7, 19, 13, 22}},
+    {"one too many", 11, {3, 1, 4, 1, 5, 9, 2, 6, 5, 3, 5}, {7, 2, 4, 9, 16, 13, 1, 10, 22, 19}},
+    {"65,535 each time",
+     11,
+     {65535, 65535, 65535, 65535, 65535, 65535, 65535, 65535, 65535, 65535, 65535},
+     {7, 1, 2, 4, 9, 10, 13, 16, 22, 19}},
+};
+
+static void pick_in_sample(size_t list, size_t length)
+{
+    int64_t before[E_STEPS + SPARE];
+    size_t written = length < E_STEPS ? length : E_STEPS;
+    sample_job(&settlement.job);
+    open_settlement(&settlement, SPARE, picked_in_sample[list].length);
+    at_case("E, %s, picked of %zu words", picked_in_sample[list].what, length);
+    put_choices(picked_in_sample[list].choices, picked_in_sample[list].length);
+    settlement.lending.lend[PICKED] = length;
+    for (size_t i = 0; i < E_STEPS + SPARE; i++) before[i] = lent_word(&settlement, PICKED, i);
+    expect_run(settlement.job.sizes, 0);
+    expect_table(PICKED, picked_in_sample[list].places, written);
+    for (size_t i = written; i < E_STEPS + SPARE; i++)
+        expect(lent_word(&settlement, PICKED, i) == before[i], "picked[%zu] was written to", i);
+    close_settlement(&settlement);
+}
+
+static void picks_in_sample(void)
+{
+    static const size_t lengths[] = {0, 1, 2, 9, 10, 11, 16};
+    for (size_t list = 0; list < sizeof picked_in_sample / sizeof picked_in_sample[0]; list++)
+        for (size_t i = 0; i < sizeof lengths / sizeof lengths[0]; i++) pick_in_sample(list, lengths[i]);
+}
+
 /* E with other sizes, its buffers just as long as E needs. */
 static void other_sizes(void)
 {
@@ -265,6 +317,7 @@ static void sizes_on_zeros(void)
     for (size_t i = 0; i < sizeof tried / sizeof tried[0]; i++) {
         for (unsigned name = 0; name < ALL_TABLES; name++)
             lengths[name] = needed(name, (struct sizes){17, 256, 501, 1001});
+        lengths[PICKED] = 20;
         open_lending(&settlement.lending, lengths);
         for (unsigned name = 0; name < STEP_TABLES; name++)
             for (size_t place = 0; place < lengths[name]; place++) put_both(&settlement.lending, name, place, 0);
@@ -288,15 +341,27 @@ static void open_ruled(struct sizes sizes, struct rules rules, size_t choices)
     for (size_t i = 0; i < choices; i++) put_both(&settlement.lending, CHOICES, i, 65535);
 }
 
-/* 16 boxes, each with an offer and a grocer of its own and a tally of every offer: every pair exchanges messages. */
+/* The steps picked go from place 1 upwards to the last. */
+static void expect_by_place(size_t steps, int64_t last)
+{
+    expect(lent_word(&settlement, PICKED, 0) == 1, "the first step is not prices from box 0 to box 1");
+    for (size_t i = 1; i < steps; i++)
+        expect(lent_word(&settlement, PICKED, i - 1) < lent_word(&settlement, PICKED, i), "picked[%zu] goes back", i);
+    expect(lent_word(&settlement, PICKED, steps - 1) == last, "the last step is not at place %lld", (long long)last);
+}
+
+/* 16 boxes, each with an offer and a grocer of its own and a tally of every offer: every pair exchanges messages. Without
+   choices each kind is ready before the next is begun. */
 static void every_pair(void)
 {
     for (size_t choices = 0; choices <= 1000; choices += 1000) {
         at_case("every pair, %zu choices", choices);
         open_ruled((struct sizes){16, 16, 16, 256}, (struct rules){{1, 16}, {1, 16}, {1, 16}, {16, 16}, {1, 16}},
                    choices);
+        lend_whole(&settlement.lending);
         expect_run(settlement.job.sizes, 0);
         expect_report((const int64_t[]){480, 480, 992});
+        if (choices == 0) expect_by_place(992, 1534);
         for (int64_t g = 0; g < 16; g++)
             expect(lent_word(&settlement, STATEMENT, (size_t)g) == -159855984 - 16 * g, "statement %lld differs",
                    (long long)g);
@@ -324,6 +389,7 @@ void check_cases(void)
     run_group("step: other requests on E", other_requests);
     run_group("step: every word at an end of its range", ends_of_ranges);
     run_group("run: E with choices, word by word", runs_of_sample);
+    run_group("run: which steps choices pick on E", picks_in_sample);
     run_group("run: E with other sizes", other_sizes);
     run_group("step and run: K, M, N and T at and beyond their values", sizes_on_zeros);
     run_group("run: 16 boxes that all exchange messages", every_pair);

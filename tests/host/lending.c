@@ -86,7 +86,8 @@ void copy_twins(struct lending *lending)
 
 /* Handing over and back */
 
-static bool is_state(unsigned name) { return name >= JOB_TABLES && name < STEP_TABLES; }
+/* What a run writes and does not look at; its report is not among them. */
+static bool is_left_blank(unsigned name) { return (name >= JOB_TABLES && name < STEP_TABLES) || name == PICKED; }
 
 void hand_over(const struct lending *lending, struct table lent[ALL_TABLES])
 {
@@ -95,7 +96,7 @@ void hand_over(const struct lending *lending, struct table lent[ALL_TABLES])
         lent[name].length = lending->lend[name];
         if (!lend_exactly) continue;
         lent[name].words = memory(bytes_of(lent[name]));
-        if (!lending->blank || !is_state(name))
+        if (!lending->blank || !is_left_blank(name))
             memcpy(lent[name].words, lending->table[name].words, bytes_of(lent[name]));
     }
 }
@@ -139,7 +140,8 @@ uint16_t call_run(struct lending *lending, struct sizes sizes)
 {
     struct table lent[ALL_TABLES];
     hand_over(lending, lent);
-    uint16_t answer = settlement_run(SIZES_AND_TABLES, SLICE(const uint16_t, CHOICES), SLICE(uint32_t, REPORT));
+    uint16_t answer = settlement_run(SIZES_AND_TABLES, SLICE(const uint16_t, CHOICES), SLICE(uint16_t, PICKED),
+                                     SLICE(uint32_t, REPORT));
     return hand_back(lending, lent, RUN, answer);
 }
 

@@ -457,6 +457,14 @@ static void write_marks(const struct machine *machine, struct table done)
             for (size_t b = 0; b < boxes; b++) put_word(done, mark_place(boxes, kind, a, b), machine->done[kind][a][b]);
 }
 
+void write_picked_words(const struct job *job, const struct step picked[], size_t steps, struct table table)
+{
+    for (size_t i = 0; i < steps && i < table.length; i++) {
+        struct step step = picked[i];
+        put_word(table, i, (int64_t)mark_place(job->sizes.boxes, step.kind, step.first, step.second));
+    }
+}
+
 /* Prices under way stand by receiver, totals by sender. */
 static void write_post(const struct machine *machine, const struct table tables[])
 {

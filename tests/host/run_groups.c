@@ -1,18 +1,22 @@
-/* The run: its refusals, its choices, its report, and a list of steps that ends alike. */
+/* The run: its refusals, its choices, the steps it picks, its report, and a list of steps that ends alike. */
 #include "groups.h"
 #include "settling.h"
 
 static struct settlement settlement;
 static struct picks picks;
 
-/* A run of the job with these many choices; the state buffers hold anything before. */
+/* A run of the job with these many choices; the state's buffers and that of the steps picked hold anything before. */
 static void open_run(size_t choices) { open_settlement(&settlement, SPARE, choices); }
+
+static void scramble(enum table_name name, size_t words)
+{
+    for (size_t place = 0; place < words; place++)
+        put_both(&settlement.lending, name, place, (int64_t)random_word());
+}
 
 static void scramble_state(void)
 {
-    for (unsigned name = JOB_TABLES; name < STEP_TABLES; name++)
-        for (size_t place = 0; place < needed(name, settlement.job.sizes); place++)
-            put_both(&settlement.lending, name, place, (int64_t)random_word());
+    for (unsigned name = JOB_TABLES; name < STEP_TABLES; name++) scramble(name, needed(name, settlement.job.sizes));
 }
 
 static void expect_run(uint16_t due)
@@ -100,7 +104,7 @@ static void short_buffers(void)
             refused_run(name, below((uint32_t)need));
         }
         for (unsigned name = 0; name < ALL_TABLES; name++)
-            if (settlement.lending.lend[name] > 0 && name != CHOICES)
+            if (settlement.lending.lend[name] > 0 && name != CHOICES && name != PICKED)
                 settlement.lending.lend[name] = needed(name, sizes);
         at_case("every buffer just long enough");
         expect_run(0);
@@ -162,7 +166,7 @@ static void sizes_out_of_range(void)
     close_settlement(&settlement);
 }
 
-/* Random runs */
+/* Choices, and the steps that they pick */
 
 static size_t random_choice_count(void)
 {
@@ -183,13 +187,54 @@ static void random_choices(void)
     }
 }
 
-/* The picked steps, asked one by one from a fresh state, leave the words that the run left. */
+/* No length of the buffer is refused: the places stand in front, as far as it reaches, and the words behind stay. */
+static void try_length(size_t length)
+{
+    at_case("%zu steps, picked of %zu words", steps_of_job(&settlement), length);
+    scramble(PICKED, settlement.lending.table[PICKED].length);
+    settlement.lending.lend[PICKED] = length;
+    expect_run(0);
+}
+
+/* A refused run leaves all of them. */
+static void refused_lengths(size_t length)
+{
+    at_case("a refused run, picked of %zu words", length);
+    settlement.lending.lend[PICKED] = length;
+    settlement.lending.lend[REPORT] = 2;
+    expect_run(20);
+    settlement.lending.lend[REPORT] = 3;
+    put_both(&settlement.lending, OFFER_OWNER, 0, settlement.job.sizes.boxes);
+    expect_run(21);
+    put_both(&settlement.lending, OFFER_OWNER, 0, settlement.job.offer[0].owner);
+}
+
+static void lengths_of_picked(void)
+{
+    for (unsigned long round = 0; round < 10 + job_count / 20; round++) {
+        random_job(&settlement.job, random_sizes(round % 4 ? TINY : round % 16 ? SMALL : MEDIUM));
+        open_run(random_choice_count());
+        random_choices();
+        size_t steps = steps_of_job(&settlement);
+        size_t lengths[] = {0, 1, below((uint32_t)steps), steps - 1, steps, steps + 1, steps + SPARE};
+        for (size_t i = 0; i < sizeof lengths / sizeof lengths[0]; i++) {
+            try_length(lengths[i]);
+            scramble(PICKED, settlement.lending.table[PICKED].length);
+            refused_lengths(lengths[i]);
+        }
+        close_settlement(&settlement);
+    }
+}
+
+/* Random runs */
+
+/* The steps that the library says it picked, asked one by one from a fresh state, leave the words that the run left. */
 static void list_ends_alike(void)
 {
     start_fresh(&settlement.machine, &settlement.job);
     lend_state(&settlement);
     for (size_t i = 0; i < picks.length; i++)
-        expect(ask(&settlement, picks.step[i]) == 0, "the run's step %zu was refused in the list", i);
+        expect(ask(&settlement, picked_step(&settlement, i)) == 0, "the run's step %zu was refused in the list", i);
     expect_plain_sums(&settlement);
     expect(lent_word(&settlement, SENT, 0) == lent_word(&settlement, REPORT, 0),
            "words sent in the list and the run's report differ");
@@ -202,6 +247,7 @@ static void try_run(struct sizes sizes, bool as_list)
     open_run(random_choice_count());
     scramble_state();
     random_choices();
+    if (as_list) lend_whole(&settlement.lending);
     expect_run(0);
     expect_plain_sums(&settlement);
     expect_report(words_of_job(&settlement.job), (uint32_t)(picks.length / 2 - sizes.boxes), (uint32_t)picks.length);
@@ -231,6 +277,7 @@ static void open_for_files(void)
     size_t lengths[ALL_TABLES];
     for (unsigned name = 0; name < ALL_TABLES; name++) lengths[name] = needed(name, LARGEST);
     lengths[FILE_BYTES] = MOST_FILE;
+    lengths[PICKED] = MOST_STEPS;
     open_lending(&settlement.lending, lengths);
 }
 
@@ -271,7 +318,8 @@ static void issuers_to_statements(void)
     close_settlement(&settlement);
 }
 
-/* State buffers that nothing was written to: a memory checker sees a run that looks at them. */
+/* Buffers that nothing was written to, of the state and of the steps picked: a memory checker sees a run that looks at
+   them. */
 static void blank_state(void)
 {
     bool exactly = lend_exactly;
@@ -295,9 +343,10 @@ void check_run(void)
     run_group("run: each buffer short", short_buffers);
     run_group("run: each table of the job with a word beyond its range", words_out_of_range);
     run_group("run: K, M, N and T out of range", sizes_out_of_range);
-    run_group("run: random runs, and lists that end alike", random_runs);
+    run_group("run: the steps picked, in a buffer of any length", lengths_of_picked);
+    run_group("run: random runs, and lists of the steps picked that end alike", random_runs);
     run_group("run: the largest jobs", largest_runs);
     run_group("run: from a file to its statements", from_file_to_statements);
     run_group("run: one number under two issuers, from the file to the statements", issuers_to_statements);
-    run_group("run: what the state buffers held is not looked at", blank_state);
+    run_group("run: what its buffers held is not looked at", blank_state);
 }

@@ -4,16 +4,35 @@
 
 static size_t spare_words(uint32_t spare) { return below(spare + 1); }
 
+size_t steps_of_job(const struct settlement *settlement)
+{
+    size_t steps = 0;
+    for (unsigned kind = 1; kind < KINDS; kind++)
+        for (size_t a = 0; a < settlement->job.sizes.boxes; a++)
+            for (size_t b = 0; b < settlement->job.sizes.boxes; b++) steps += settlement->machine.has[kind][a][b];
+    return steps;
+}
+
+/* A length of the steps picked: no word, one, fewer than there are steps, just as many, or all that there are. */
+static size_t some_length(size_t steps, size_t whole)
+{
+    size_t lengths[] = {0, 1, below((uint32_t)steps), steps, whole};
+    return lengths[below(5)];
+}
+
 void open_settlement(struct settlement *settlement, uint32_t spare, size_t choices)
 {
     size_t lengths[ALL_TABLES] = {0};
+    start_fresh(&settlement->machine, &settlement->job);
+    size_t steps = steps_of_job(settlement);
     for (unsigned name = 0; name < STEP_TABLES; name++)
         lengths[name] = needed(name, settlement->job.sizes) + spare_words(spare);
     lengths[REPORT] = needed(REPORT, settlement->job.sizes) + spare_words(spare);
     lengths[CHOICES] = choices;
+    lengths[PICKED] = steps + spare;
     open_lending(&settlement->lending, lengths);
+    settlement->lending.lend[PICKED] = some_length(steps, lengths[PICKED]);
     write_job_words(&settlement->job, settlement->lending.twin);
-    start_fresh(&settlement->machine, &settlement->job);
     lend_state(settlement);
     for (size_t t = 0; t < settlement->job.sizes.tallies; t++)
         settlement->stands[t] = stands(settlement->job.tally, settlement->job.sizes.tallies, t);
@@ -133,6 +152,13 @@ size_t mark_place(const struct settlement *settlement, struct step step)
     return ((step.kind - 1u) * boxes + step.first) * (size_t)boxes + step.second;
 }
 
+struct step picked_step(const struct settlement *settlement, size_t i)
+{
+    size_t place = (size_t)lent_word(settlement, PICKED, i), boxes = settlement->job.sizes.boxes;
+    return (struct step){(uint16_t)(place / (boxes * boxes) + 1), (uint16_t)(place / boxes % boxes),
+                         (uint16_t)(place % boxes)};
+}
+
 void set_mark(struct settlement *settlement, struct step step)
 {
     put_both(&settlement->lending, DONE, mark_place(settlement, step), 1);
@@ -158,6 +184,7 @@ uint16_t ask_run(struct settlement *settlement, struct sizes sizes, struct picks
         struct report report = run_all(&machine, &job, tables[CHOICES], picks->step);
         picks->length = report.steps;
         write_state_words(&machine, settlement->lending.twin);
+        write_picked_words(&job, picks->step, picks->length, tables[PICKED]);
         write_report(settlement->lending.twin[REPORT], report);
     }
     uint16_t answer = call_run(&settlement->lending, sizes);

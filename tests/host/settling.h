@@ -15,9 +15,13 @@ struct settlement {
 /* Spare words that buffers have at the most. */
 enum { SPARE = 6 };
 
-/* Lends the job's tables and a fresh state; the buffers have up to this many spare words, and room for the choices. */
+/* Lends the job's tables and a fresh state; the buffers have up to this many spare words, and room for the choices. The
+   buffer of the steps picked has room for all of the job's, and so many words more; of it some length is lent. */
 void open_settlement(struct settlement *settlement, uint32_t spare, size_t choices);
 void close_settlement(struct settlement *settlement);
+
+/* The steps that the job has. */
+size_t steps_of_job(const struct settlement *settlement);
 
 /* Writes the model's state to the buffers. */
 void lend_state(struct settlement *settlement);
@@ -53,6 +57,9 @@ struct step some_ready_step(const struct settlement *settlement);
 /* The place of a step's mark, and the mark set. */
 size_t mark_place(const struct settlement *settlement, struct step step);
 void set_mark(struct settlement *settlement, struct step step);
+
+/* The step that a word of the steps picked names, as the library left it. */
+struct step picked_step(const struct settlement *settlement, size_t i);
 
 /* A run on whatever words are lent; the steps that the model picks. */
 struct picks {

@@ -15,7 +15,7 @@ static struct settlement_job job;
 static struct settlement_state state;
 static uint8_t file[SETTLEMENT_MAX_FILE];
 static size_t length, most[CALLS];
-static uint16_t kind, first, second, answer, choices[CHOICES];
+static uint16_t kind, first, second, answer, choices[CHOICES], picked[SETTLEMENT_MAX_STEPS];
 static size_t choices_len;
 static uint32_t report[SETTLEMENT_REPORT];
 static unsigned passed, failed;
@@ -32,7 +32,10 @@ static void expect(int holds, const char *name, const char *what)
 
 static void read_it(void) { answer = settlement_read_job(file, length, &job); }
 static void step_it(void) { answer = settlement_step_job(&job, &state, kind, first, second); }
-static void run_it(void) { answer = settlement_run_job(&job, &state, choices, choices_len, report); }
+static void run_it(void)
+{
+    answer = settlement_run_job(&job, &state, choices, choices_len, SETTLEMENT_TABLE(picked), report);
+}
 
 /* Functions whose need is known. */
 static void use_some(void)

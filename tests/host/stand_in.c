@@ -79,17 +79,21 @@ ENTRY settlement_step(SIZES_AND_TABLES, uint16_t kind, uint16_t first, uint16_t 
     return 0;
 }
 
-ENTRY settlement_run(SIZES_AND_TABLES, const uint16_t *choices, size_t l16, uint32_t *report, size_t l17)
+ENTRY settlement_run(SIZES_AND_TABLES, const uint16_t *choices, size_t l16, uint16_t *picked, size_t l17,
+                     uint32_t *report, size_t l18)
 {
     struct table tables[ALL_TABLES] = GATHERED;
     const struct sizes sizes = {k, m, n, t};
-    struct step picked[MOST_STEPS];
-    tables[REPORT] = (struct table){REPORT, l17, report};
+    struct step order[MOST_STEPS];
+    tables[CHOICES] = (struct table){CHOICES, l16, (void *)choices};
+    tables[PICKED] = (struct table){PICKED, l17, picked};
+    tables[REPORT] = (struct table){REPORT, l18, report};
     uint16_t refusal = run_tables_refusal(sizes, tables);
     if (refusal) return refusal;
     read_job_words(&job, sizes, tables);
-    struct report made = run_all(&machine, &job, (struct table){CHOICES, l16, (void *)choices}, picked);
+    struct report made = run_all(&machine, &job, tables[CHOICES], order);
     write_state_words(&machine, tables);
+    write_picked_words(&job, order, made.steps, tables[PICKED]);
     report[0] = made.words;
     report[1] = made.messages;
     report[2] = made.steps;

@@ -31,6 +31,7 @@ static const struct {
     [REPORT] = {"report", 4, false},
     [FILE_BYTES] = {"file", 1, false},
     [CHOICES] = {"choices", 2, false},
+    [PICKED] = {"picked", 2, false},
     [OUT] = {"out", 1, false},
     [OWED] = {"owed", 8, true},
     [PRICE_WORDS] = {"price_words", 2, false},

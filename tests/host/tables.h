@@ -42,6 +42,7 @@ enum table_name {
     REPORT,
     FILE_BYTES,
     CHOICES,
+    PICKED,
     HOST_TABLES, /* those from here on are lent to the calls of tests/calls alone */
     OUT = HOST_TABLES,
     OWED,
@@ -72,7 +73,7 @@ const char *table_text(enum table_name name);
 size_t width_of(enum table_name name);
 bool is_signed(enum table_name name);
 
-/* The words that a table needs for K, M, N and T as given; 0 for a file. */
+/* The words that a table needs for K, M, N and T as given; 0 for those of any length: a file, choices, steps picked. */
 uint64_t needed(enum table_name name, struct sizes sizes);
 
 /* All that a word of the table's width holds. */
