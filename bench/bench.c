@@ -97,6 +97,7 @@ static void wrong_bags(struct work *w)
         b->tally_bag[t] = b->tally_bag[from];
         b->tally_revision[t] = (uint16_t)(b->tally_revision[from] + (below(4) == 0));
         w->wanted = b->tally_grocer[t];
+        w->picked_len = below(SETTLEMENT_MAX_STEPS);
         agree_on(w, WRITE, "writer of a bag counted twice");
         agree_on(w, RUN, "run of a bag counted twice");
         agree_on(w, STEP, "step of a bag counted twice");
@@ -163,10 +164,12 @@ static void run_both(struct work *w)
         w->choices_len = i == 0 ? 0 : below(TALLIES + 1);
         for (unsigned c = 0; c < w->choices_len; c++)
             w->choices[c] = (uint16_t)below(65536);
+        w->picked_len = i == 2 ? SETTLEMENT_MAX_STEPS + MORE : below(SETTLEMENT_MAX_STEPS);
         if (agree_on(w, RUN, "run") == 0)
             statements_right(w);
     }
     w->choices_len = 0;
+    w->picked_len = 0;
 }
 
 static void agree_at_random(struct work *w)
@@ -300,13 +303,23 @@ static void prepare_all(const struct item *item, struct work whole[JOBS], struct
 
 static struct work whole_jobs[JOBS], tenth_jobs[JOBS];
 
+/* As it is measured, and a run also with room for the steps that it picks. */
+static void agree_on_work(struct work *w, const struct item *item)
+{
+    agree_and_accept(w, item);
+    if (item->operation != RUN)
+        return;
+    w->picked_len = SETTLEMENT_MAX_STEPS + MORE;
+    agree_and_accept(w, item);
+}
+
 static void agree_on_works(void)
 {
     for (unsigned i = 0; i < ITEMS; i++) {
         prepare_all(&items[i], whole_jobs, tenth_jobs);
         for (unsigned k = 0; k < JOBS; k++) {
-            agree_and_accept(&whole_jobs[k], &items[i]);
-            agree_and_accept(&tenth_jobs[k], &items[i]);
+            agree_on_work(&whole_jobs[k], &items[i]);
+            agree_on_work(&tenth_jobs[k], &items[i]);
         }
     }
 }

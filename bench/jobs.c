@@ -30,7 +30,7 @@ size_t call(const struct calls *c, const struct work *w, struct buffers *b)
     case STEP:
         return c->step(TABLES, w->kind, w->first, w->second);
     case RUN:
-        return c->run(TABLES, w->choices, w->choices_len, WORDS(b->report));
+        return c->run(TABLES, w->choices, w->choices_len, b->picked, w->picked_len, WORDS(b->report));
     case RECONCILE:
         return c->reconcile(b->tally_grocer, w->tallies, b->tally_box, w->tallies, b->tally_offer, w->tallies,
                             b->tally_count, w->tallies, b->tally_bag, w->tallies, b->tally_revision, w->tallies,

@@ -38,7 +38,7 @@ struct buffers {
 #undef TABLE
     uint32_t known[BOXES * OFFERS], price_transit[BOXES * OFFERS];
     int64_t working[BOXES * GROCERS], total_transit[BOXES * GROCERS], statement[GROCERS];
-    uint16_t done[6 * BOXES * BOXES];
+    uint16_t done[6 * BOXES * BOXES], picked[SETTLEMENT_MAX_STEPS + MORE];
     uint32_t sent[1], report[3];
     int64_t owed[1];
 };
@@ -62,6 +62,7 @@ struct work {
     uint16_t kind, first, second;
     uint16_t choices[TALLIES];
     size_t choices_len;
+    size_t picked_len; /* 0 where time is taken */
     uint16_t wanted;
 };
 
