@@ -44,6 +44,7 @@ pub fn sample() {
     let mut statement = [0i64; 2];
     let mut done = [0u16; 24];
     let mut sent = [0u32; 1];
+    let mut picked = [0u16; 10];
     text(b"E");
     let a = run::run(
         2,
@@ -67,6 +68,7 @@ pub fn sample() {
         &mut done,
         &mut sent,
         &[],
+        &mut picked,
     );
     run_lines(a, statement[0], statement[1]);
 }

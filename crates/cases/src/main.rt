@@ -2,7 +2,6 @@
 mod desk;
 mod evening;
 mod files;
-mod picks;
 mod show;
 mod steps;
 mod sums;
@@ -16,5 +15,4 @@ fn main() {
     steps::requests();
     desk::long_lists();
     words::sums();
-    picks::choices();
 }

@@ -17,7 +17,7 @@ pub fn next(n: u64) {
 }
 
 // A space and a 16-bit word.
-pub fn next16(n: u16) {
+fn next16(n: u16) {
     next(n as u64);
 }
 
