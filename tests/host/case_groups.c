@@ -226,10 +226,10 @@ static void runs_of_sample(void)
     }
 }
 
-/* Which steps choices pick from E's list of ready steps, by their places: prices from box 0 to box 1 are 1 and the other
-   way 2; the own tallies of box 0 and 1 are 4 and 7; prices received by box 0 are 9, by box 1 10; the totals sent 13,
-   the own totals 16 and 19, the totals received 22. Fresh, 1, 2, 4 and 7 are ready; 9 comes behind 2, 10 behind 1, 13
-   behind 4, 16 behind 9, 19 behind 7 and 10, 22 behind 13. */
+/* Which steps choices pick from E's list of ready steps, by their places: prices from box 0 to box 1 are 1, the other
+   way 2; own tallies of boxes 0 and 1 are 4 and 7; prices received by box 0 are 9, by box 1 10; the totals sent are 13,
+   own totals of boxes 0 and 1 16 and 19, the totals received 22. Fresh, 1, 2, 4 and 7 are ready; 9 comes behind 2, 10
+   behind 1, 13 behind 4, 16 behind 9, 19 behind 7 and 10, 22 behind 13. */
 enum { E_STEPS = 10 };
 static const struct {
     const char *what;
@@ -350,8 +350,8 @@ static void expect_by_place(size_t steps, int64_t last)
     expect(lent_word(&settlement, PICKED, steps - 1) == last, "the last step is not at place %lld", (long long)last);
 }
 
-/* 16 boxes, each with an offer and a grocer of its own and a tally of every offer: every pair exchanges messages. Without
-   choices each kind is ready before the next is begun. */
+/* 16 boxes, each with an offer and a grocer of its own and a tally of every offer: every pair exchanges messages.
+   Without choices the first ready step is always the first that is not done. */
 static void every_pair(void)
 {
     for (size_t choices = 0; choices <= 1000; choices += 1000) {

@@ -11,7 +11,7 @@
 struct lending {
     struct table table[ALL_TABLES], twin[ALL_TABLES];
     size_t lend[ALL_TABLES]; /* the words of each that the next call is lent */
-    bool blank;              /* whether the next run's state and its steps picked are lent without a word written there */
+    bool blank;              /* whether the next run's state and steps picked are lent without a word written there */
 };
 
 /* Whether every call is lent copies in memory of exactly the lent size, for a memory checker to watch. */

@@ -94,8 +94,8 @@ uint16_t job_tables_refusal(struct sizes sizes, const struct table tables[ALL_TA
 uint16_t step_tables_refusal(struct sizes sizes, const struct table tables[ALL_TABLES]);
 uint16_t run_tables_refusal(struct sizes sizes, const struct table tables[ALL_TABLES]);
 
-/* Words as they should stand in tables: of a job, those that the reader alone gives, of a state, and of the steps picked,
-   as far as their table reaches; and back. */
+/* Words as they should stand in tables: of a job, those that the reader alone gives, of a state, and of the steps
+   picked, as far as their table reaches; and back. */
 void write_job_words(const struct job *job, const struct table tables[ALL_TABLES]);
 void write_reader_words(const struct job *job, const struct table tables[ALL_TABLES]);
 void write_state_words(const struct machine *machine, const struct table tables[ALL_TABLES]);

@@ -187,20 +187,15 @@ static void random_choices(void)
     }
 }
 
-/* No length of the buffer is refused: the places stand in front, as far as it reaches, and the words behind stay. */
+/* No length of the buffer is refused: the places stand in front, as far as it reaches, and the words behind stay. A
+   refused run leaves all of them. */
 static void try_length(size_t length)
 {
     at_case("%zu steps, picked of %zu words", steps_of_job(&settlement), length);
+    settlement.lending.lend[PICKED] = length;
     scramble(PICKED, settlement.lending.table[PICKED].length);
-    settlement.lending.lend[PICKED] = length;
     expect_run(0);
-}
-
-/* A refused run leaves all of them. */
-static void refused_lengths(size_t length)
-{
-    at_case("a refused run, picked of %zu words", length);
-    settlement.lending.lend[PICKED] = length;
+    scramble(PICKED, settlement.lending.table[PICKED].length);
     settlement.lending.lend[REPORT] = 2;
     expect_run(20);
     settlement.lending.lend[REPORT] = 3;
@@ -217,11 +212,7 @@ static void lengths_of_picked(void)
         random_choices();
         size_t steps = steps_of_job(&settlement);
         size_t lengths[] = {0, 1, below((uint32_t)steps), steps - 1, steps, steps + 1, steps + SPARE};
-        for (size_t i = 0; i < sizeof lengths / sizeof lengths[0]; i++) {
-            try_length(lengths[i]);
-            scramble(PICKED, settlement.lending.table[PICKED].length);
-            refused_lengths(lengths[i]);
-        }
+        for (size_t i = 0; i < sizeof lengths / sizeof lengths[0]; i++) try_length(lengths[i]);
         close_settlement(&settlement);
     }
 }
