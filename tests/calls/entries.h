@@ -1,5 +1,5 @@
-/* The calls of the crate `entries`, for tests and the benchmark: the writer, the reconciliation, the tables of messages
-   and the local book. Link with libentries.a. Buffers and answers are as in host/settlement.h: a slice is a pointer and
+/* The calls of the crate `test_calls`, for tests and the benchmark: the writer, the reconciliation, the tables of messages
+   and the local book. Link with libtest_calls.a. Buffers and answers are as in host/settlement.h: a slice is a pointer and
    then its number of words, and a refused call has changed no word. */
 #ifndef ENTRIES_H
 #define ENTRIES_H

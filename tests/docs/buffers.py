@@ -9,7 +9,7 @@ sys.path.insert(0, os.path.join(os.path.dirname(os.path.abspath(__file__)), "../
 from contracts import functions, plain_code, present  # it goes to the root of the tree
 
 CRATES = (
-    "slices", "bytes", "sums", "digits", "blocks", "codes", "names", "checks", "reader", "puts", "writer", "lookup", "index", "keys", "columns",
+    "slices", "file_bytes", "file_sums", "file_digits", "file_blocks", "file_codes", "writer_names", "writer_checks", "reader", "writer_bytes", "writer", "index_lookup", "index", "bag_keys", "bag_standing",
 )
 BUFFER = re.compile(r"let mut (\w+)(?:: \[(\w+); \w+\])? = \[[\d_]+(\w*); \w+\];")
 

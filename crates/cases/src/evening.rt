@@ -6,7 +6,7 @@ use crate::show::number;
 use crate::show::refused;
 use crate::show::text;
 use run::Answer;
-use text::numbers::size;
+use settle_text::numbers::size;
 
 // The line of a grocer, whose amount is not negative.
 fn grocer_line(g: u64, amount: i64) {

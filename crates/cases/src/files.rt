@@ -4,9 +4,9 @@ ghost use lib.ListN.{length};
 use crate::show::judged;
 use crate::show::number;
 use crate::show::text;
-use blocks::file::file_refusal;
-use small_job::small_file;
-use text::numbers::put_bytes;
+use file_blocks::file::file_refusal;
+use sample_job::small_file;
+use settle_text::numbers::put_bytes;
 
 // E's file with other bytes at a place, and both sums of their block.
 fn changed(at: usize, bytes: &[u8], place: usize, sums: [u8; 4])

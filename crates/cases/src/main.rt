@@ -1,5 +1,5 @@
 // Cases of 01 that no theorem has, and what only a caller in Rattle sees: each line is a case and what it gave.
-mod desk;
+mod desk_lists;
 mod evening;
 mod files;
 mod show;
@@ -13,6 +13,6 @@ fn main() {
     files::codes();
     files::fields();
     steps::requests();
-    desk::long_lists();
+    desk_lists::long_lists();
     words::sums();
 }

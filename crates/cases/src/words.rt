@@ -2,10 +2,10 @@
 use crate::show::end;
 use crate::show::next32;
 use crate::show::text;
-use messages::message_tables;
-use messages::sums::column_sum;
-use messages::sums::row_sum;
-use messages::sums::table_sum;
+use message_tables::message_tables;
+use message_tables::sums::column_sum;
+use message_tables::sums::row_sum;
+use message_tables::sums::table_sum;
 
 // What boxes 0, 1 and 16 send.
 fn row_sums(table: [[u16; 16]; 16]) {

@@ -5,8 +5,8 @@ use Rattle.laws.specs.Checks.{firstMet}
 use Rattle.model.specs.Job.{Job}
 use Rattle.model.specs.Tables.{JobTables, jobOf}
 use Rattle.model.specs.Local.{bookRefusals}
-use Rattle.local.specs.Book.{bookAnswer, BookTables, bookLengths, written, given, booked}
-use Rattle.local.proofs.Booking.{booked-accepted}
+use Rattle.book.specs.Book.{bookAnswer, BookTables, bookLengths, written, given, booked}
+use Rattle.book.proofs.Booking.{booked-accepted}
 
 pub same-books : (f f′ : JobTables) (b : ℕ) (t : BookTables) → jobOf f ≡ jobOf f′ →
     firstMet (bookRefusals f (bookLengths t) b) ≡ 0 → firstMet (bookRefusals f′ (bookLengths t) b) ≡ 0 → booked f b t ≡ booked f′ b t

@@ -1,10 +1,10 @@
 -- What the other calls come to. Assumes nothing.
 use Rattle.model.specs.Tables.{jobOf}
-use Rattle.messages.specs.Answers.{messagesAnswer, messageTables}
+use Rattle.message_tables.specs.Answers.{messagesAnswer, messageTables}
 use Rattle.guarantees.specs.Calls.{Calls}
 use Rattle.model.proofs.Step.{range, in-handed}
-use Rattle.reconcile.proofs.Fold.{amounts-in-range}
-use Rattle.local.proofs.Booking.{all-packed}
+use Rattle.desk.proofs.Fold.{amounts-in-range}
+use Rattle.book.proofs.Booking.{all-packed}
 use Rattle.guarantees.proofs.Book.{same-books}
 use Rattle.guarantees.proofs.Tables.{table-sums}
 use Rattle.guarantees.proofs.Desk.{answers}

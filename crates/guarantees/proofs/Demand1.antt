@@ -11,8 +11,8 @@ use Rattle.laws.specs.Checks.{firstMet}
 use Rattle.laws.proofs.Bools.{split}
 use Rattle.model.specs.Tables.{JobTables, StateTables}
 use Rattle.model.specs.Local.{bookRefusals, jobRefusals}
-use Rattle.messages.specs.Answers.{said}
-use Rattle.local.specs.Book.{bookLengths}
+use Rattle.message_tables.specs.Answers.{said}
+use Rattle.book.specs.Book.{bookLengths}
 use Rattle.model.specs.Step.{Asked, refused as notDone, outcome, stepped, stepRefusal, stepTables, refusals}
 use Rattle.model.specs.Run.{RunAnswer, refused, reported, runRefusals, ran}
 use Rattle.model.specs.Reconcile.{TallyRecord, refused as notOwed, deskRefusals, deskAnswer, reconciled}
@@ -21,8 +21,8 @@ use Rattle.guarantees.specs.Demand1.{IsFirst, IsFirstOf, Demand1}
 use Rattle.model.proofs.Refusal.{refused-number}
 use Rattle.format.proofs.Firsts.{below-hit, below-none}
 use Rattle.format.proofs.Tables.{read-refused, write-refused}
-use Rattle.messages.proofs.Refused.{messages-refused}
-use Rattle.local.proofs.Booking.{booked-none}
+use Rattle.message_tables.proofs.Refused.{messages-refused}
+use Rattle.book.proofs.Booking.{booked-none}
 use Rattle.guarantees.proofs.Host as H
 
 first-is : (rs : List (Bool × ℕ)) → IsFirst rs (firstMet rs)

@@ -21,7 +21,7 @@ use Rattle.model.specs.Ranges.{upTo, sizesInRange, jobWordsInRange, jobInRange}
 use Rattle.model.specs.Reconcile.{TallyRecord, owed, recordInRange, recordsInRange, recordIn, deskRefusals, deskAnswer, reconciled}
 use Rattle.model.proofs.Step.{JobIn, job-in, in-handed, boxes-under, under-at, around-at}
 use Rattle.model.proofs.Desk.{OwnRecords, own-counted, own-sum}
-use Rattle.reconcile.specs.Records.{tallyRecord}
+use Rattle.desk.specs.Records.{tallyRecord}
 use Rattle.guarantees.specs.Calls.{jobRecords}
 
 -- Records that are in range one by one.

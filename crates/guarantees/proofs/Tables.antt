@@ -7,7 +7,7 @@ use Rattle.model.specs.Local.{priceTable, totalTable}
 use Rattle.laws.specs.Tables.{cellAt}
 use Rattle.guarantees.specs.Calls.{TableSums}
 use Rattle.model.proofs.Range.{InRange}
-use Rattle.messages.proofs.Laws.{price-row-past, price-column-past, total-row-past, total-column-past, price-self, total-self, price-row-sum, total-column-sum, tables-sum}
+use Rattle.message_tables.proofs.Laws.{price-row-past, price-column-past, total-row-past, total-column-past, price-self, total-self, price-row-sum, total-column-sum, tables-sum}
 
 module _ (j : Job) (r : InRange j) where
   -- Boxes from K on have 0 in both.

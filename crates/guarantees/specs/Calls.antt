@@ -20,10 +20,10 @@ use Rattle.model.specs.Tables.{JobTables, countedOf, jobOf}
 use Rattle.model.specs.Ranges.{jobInRange}
 use Rattle.model.specs.Local.{localOffers, start, packed, BookLengths, bookRefusals, priceTable, totalTable, jobRefusals}
 use Rattle.model.specs.Reconcile.{TallyRecord, owed, reconciled}
-use Rattle.messages.specs.Sums.{rowSum, columnSum, tableSum}
-use Rattle.messages.specs.Answers.{made, tablesGiven, messageTables}
-use Rattle.local.specs.Book.{BookTables, bookLengths, booked}
-use Rattle.reconcile.specs.Records.{tallyRecord}
+use Rattle.message_tables.specs.Sums.{rowSum, columnSum, tableSum}
+use Rattle.message_tables.specs.Answers.{made, tablesGiven, messageTables}
+use Rattle.book.specs.Book.{BookTables, bookLengths, booked}
+use Rattle.desk.specs.Records.{tallyRecord}
 
 -- Where the two tables of a job have 0, and what they sum to.
 pub record TableSums (j : Job) : Type 0 where

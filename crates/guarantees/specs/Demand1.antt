@@ -17,8 +17,8 @@ use Rattle.format.specs.First.{firstOf, firstBelow}
 use Rattle.format.specs.Job.{Head}
 use Rattle.format.specs.Tables.{ReaderTables, FileTables, refused as notRead, notWritten, readRefusal, readResult, writeRefusal, writeResult}
 use Rattle.model.specs.Local.{bookRefusals, jobRefusals}
-use Rattle.messages.specs.Answers.{refused as notMade, tablesGiven, messageTables}
-use Rattle.local.specs.Book.{refused as notBooked, BookTables, bookLengths, given, booked}
+use Rattle.message_tables.specs.Answers.{refused as notMade, tablesGiven, messageTables}
+use Rattle.book.specs.Book.{refused as notBooked, BookTables, bookLengths, given, booked}
 use Rattle.host.specs.Host.{hostRead, readByHost, hostRun, ranByHost, hostStep, steppedByHost}
 
 -- n is the number of the first condition met, or 0 where none is.

@@ -5,4 +5,4 @@ pub mod build;
 pub mod sort;
 pub mod tops;
 
-pub use lookup::look;
+pub use index_lookup::look;

@@ -15,7 +15,7 @@ use Rattle.format.specs.First.{firstOf}
 use Rattle.format.specs.Job.{Head, placeOf}
 use Rattle.format.specs.File.{decode}
 use Rattle.format.specs.Tables.{ReaderTables, storeCodes, storeOffers, storeTallies, store, storeRead, ReadAnswer, sizes, refused, largest, shortTables, shortReader, Long, readRefusal, readResult}
-use Rattle.blocks.specs.Due.{Most}
+use Rattle.file_blocks.specs.Due.{Most}
 use Rattle.format.proofs.Firsts.{hit, next, alone}
 use Rattle.format.proofs.Tables.{read-accepted, read-refused, long-tables}
 

@@ -22,29 +22,29 @@ use Rattle.model.specs.Ranges.{Settles}
 use Rattle.model.specs.Local.{jobRefusals}
 use Rattle.model.specs.Handed.{handedTables, Standing}
 use Rattle.model.proofs.Handed.{handed-whole, handed-in, handed-run}
-use Rattle.admit.proofs.Refusals.{accepted}
+use Rattle.job_checks.proofs.Refusals.{accepted}
 use Rattle.model.specs.Words.{over, messagesOf, messageCount, stepCount}
 use Rattle.model.specs.Run.{readyCount, pick, picks, run, placed, pickedPlaces, runState, afterSteps, RunAnswer, finished, refused, reported, runRefusals, ran}
-use Rattle.tables.specs.Masks.{holderWord, Placed, Owned, byOwner}
-use Rattle.waits.specs.Waits.{TallyLists, tallyLists, waitTable, WaitsIn}
-use Rattle.admit.specs.Sizes.{sizes}
-use Rattle.walk.specs.Walk.{WalkIn}
-use Rattle.places.specs.Order.{markAll, noSteps}
-use Rattle.order.specs.Order.{OfJob, SomeJob, EveryJob, MarksFrom, Ordered}
+use Rattle.job_masks.specs.Masks.{holderWord, Placed, Owned, byOwner}
+use Rattle.step_waits.specs.Waits.{TallyLists, tallyLists, waitTable, WaitsIn}
+use Rattle.job_checks.specs.Sizes.{sizes}
+use Rattle.run_ready.specs.Walk.{WalkIn}
+use Rattle.step_places.specs.Order.{markAll, noSteps}
+use Rattle.run_order.specs.Order.{OfJob, SomeJob, EveryJob, MarksFrom, Ordered}
 use Rattle.run.specs.declared.Answer.the-variants.{Finished, Refused}
-use Rattle.steps.specs.All.{withoutMarks, AllIn, AllOut, afterOrder}
+use Rattle.run_steps.specs.All.{withoutMarks, AllIn, AllOut, afterOrder}
 use Rattle.run.specs.Run.{Begins, answerOf, given, OrderIn}
 use Rattle.model.proofs.Step.{range}
 use Rattle.model.proofs.Lent.{state-long}
-use Rattle.admit.proofs.Sizes.{short-sizes}
+use Rattle.job_checks.proofs.Sizes.{short-sizes}
 use Rattle.model.proofs.Whole.{JobWhole, job-whole}
-use Rattle.tables.proofs.Holders.{need-words, sharer-words}
-use Rattle.tables.proofs.InJob.{placed-offers, placed-grocers, owned-offers}
-use Rattle.waits.proofs.Told.{receivers-of, waits-of, waits-in}
-use Rattle.prices.proofs.Effect.{tables-eq}
-use Rattle.places.proofs.Orders.{steps-length, places-back}
-use Rattle.steps.proofs.Way.{some-box}
-use Rattle.steps.proofs.Turns.{after-marks}
+use Rattle.job_masks.proofs.Holders.{need-words, sharer-words}
+use Rattle.job_masks.proofs.InJob.{placed-offers, placed-grocers, owned-offers}
+use Rattle.step_waits.proofs.Told.{receivers-of, waits-of, waits-in}
+use Rattle.step_prices.proofs.Effect.{tables-eq}
+use Rattle.step_places.proofs.Orders.{steps-length, places-back}
+use Rattle.run_steps.proofs.Way.{some-box}
+use Rattle.run_steps.proofs.Turns.{after-marks}
 
 -- At most 16 boxes have at most 512 messages.
 messages-few : (j : Job) → j .boxes ≤ 16 → messageCount j ≤ 512

@@ -3,10 +3,10 @@ use mathlib.Core.Path.{_≡_}
 use mathlib.Core.Bool.{false}
 use mathlib.Core.List.{List}
 use Prim.Native.Nat.{ℕ}
-use Rattle.tables.specs.Masks.{Owned, byOwner}
-use Rattle.waits.specs.Waits.{TallyLists, waitTable, WaitsIn}
-use Rattle.walk.specs.Walk.{WalkIn}
-use Rattle.order.specs.Order.{SomeJob}
+use Rattle.job_masks.specs.Masks.{Owned, byOwner}
+use Rattle.step_waits.specs.Waits.{TallyLists, waitTable, WaitsIn}
+use Rattle.run_ready.specs.Walk.{WalkIn}
+use Rattle.run_order.specs.Order.{SomeJob}
 use Rattle.model.specs.Tables.{JobTables, StateTables, StateLengths, jobLengths, stateLengths, jobShort, stateShort}
 use Rattle.model.specs.Handed.{Handed}
 use Rattle.model.specs.Run.{RunAnswer, finished, refused, RunOutcome}

@@ -4,12 +4,12 @@ ghost use lib.ListN.{length};
 ghost use Rattle.model.specs.Lent.{bagLent, stateBefore, stateAfter};
 ghost use Rattle.model.specs.Run.{ran};
 ghost use Rattle.model.specs.Tables.{stateShort};
-ghost use Rattle.admit.specs.Sizes.{sizes};
-ghost use Rattle.tables.specs.Masks.{byOwner};
-ghost use Rattle.waits.specs.Waits.{tallyLists, waitTable};
-ghost use Rattle.order.specs.Order.{MarksFrom, EveryJob, Ordered};
+ghost use Rattle.job_checks.specs.Sizes.{sizes};
+ghost use Rattle.job_masks.specs.Masks.{byOwner};
+ghost use Rattle.step_waits.specs.Waits.{tallyLists, waitTable};
+ghost use Rattle.run_order.specs.Order.{MarksFrom, EveryJob, Ordered};
 ghost use Rattle.run.specs.Run.{answerOf, given, lengthsOf, OrderIn};
-use apply::Sizes;
+use step_apply::Sizes;
 
 // What a run answers: words sent, messages and steps; or the number of the condition that refuses it.
 pub enum Answer {
@@ -67,8 +67,8 @@ fn pick_order(
         (tallyLists (now («offer_owner» .entry)) (now («grocer_owner» .entry)) (now («tally_grocer» .entry)) (now (standing .entry))
         (now («tally_offer» .entry))) (z .tallies)) (λ j. Ordered j (now (choices .entry)) (now (done .exit)) (now (order .exit)) r) ⌝ }
 {
-    let receivers = tables::masks::by_owner(z.offers, offer_owner, needs);
-    let waits = waits::waits(
+    let receivers = job_masks::masks::by_owner(z.offers, offer_owner, needs);
+    let waits = step_waits::waits(
         z.boxes,
         z.tallies,
         offer_owner,
@@ -77,7 +77,7 @@ fn pick_order(
         standing,
         tally_offer,
     );
-    order::put_order(z.boxes, &receivers, &waits, choices, done, order)
+    run_order::put_order(z.boxes, &receivers, &waits, choices, done, order)
 }
 
 // The run of a job, from a fresh state: its steps are picked first, by the marks alone, and then done one after the other.
@@ -130,7 +130,7 @@ pub fn run(
         return Answer::Refused(20);
     }
     let mut standing = [0u16; 1000];
-    let r = admit::checks::job_refusal(
+    let r = job_checks::checks::job_refusal(
         boxes,
         grocers,
         offers,
@@ -150,8 +150,8 @@ pub fn run(
         return Answer::Refused(r);
     }
     let boxes_standing: &[u16] = &standing;
-    let needs = tables::masks::needs(boxes, tallies, boxes_standing, tally_offer);
-    let sharers = tables::masks::sharers(boxes, tallies, boxes_standing, tally_grocer);
+    let needs = job_masks::masks::needs(boxes, tallies, boxes_standing, tally_offer);
+    let sharers = job_masks::masks::sharers(boxes, tallies, boxes_standing, tally_grocer);
     let mut order = [0u16; 1536];
     let n = pick_order(
         z,
@@ -165,8 +165,8 @@ pub fn run(
         done,
         &mut order,
     );
-    order::lay_order(&order, n, picked);
-    let all = steps::all_steps(
+    run_order::lay_order(&order, n, picked);
+    let all = run_steps::all_steps(
         z,
         price,
         offer_owner,

@@ -1,5 +1,5 @@
 // Writes E's job file to standard output.
 fn main() {
-    let f = small_job::small_file();
+    let f = sample_job::small_file();
     io::write_all(1, &f);
 }

@@ -17,13 +17,13 @@ use Rattle.model.specs.Tables.{JobTables, jobOf, StateTables, store}
 use Rattle.model.specs.Run.{afterSteps, run, runState}
 use Rattle.model.proofs.Step.{range, limits}
 use Rattle.model.proofs.Whole.{JobWhole, job-whole}
-use Rattle.places.proofs.Plain.{Plain, plain-order}
-use Rattle.tables.specs.Masks.{Placed, Owned, holderWord, byOwner}
-use Rattle.tables.proofs.Holders.{need-words, sharer-words}
-use Rattle.tables.proofs.InJob.{placed-offers, placed-grocers, owned-offers, owned-grocers}
-use Rattle.tables.proofs.Owned.{prices-reach, totals-reach}
-use Rattle.steps.specs.All.{withoutMarks, AllIn, afterOrder, AllOut}
-use Rattle.steps.proofs.Way.{some-box}
+use Rattle.step_places.proofs.Plain.{Plain, plain-order}
+use Rattle.job_masks.specs.Masks.{Placed, Owned, holderWord, byOwner}
+use Rattle.job_masks.proofs.Holders.{need-words, sharer-words}
+use Rattle.job_masks.proofs.InJob.{placed-offers, placed-grocers, owned-offers, owned-grocers}
+use Rattle.job_masks.proofs.Owned.{prices-reach, totals-reach}
+use Rattle.run_steps.specs.All.{withoutMarks, AllIn, afterOrder, AllOut}
+use Rattle.run_steps.proofs.Way.{some-box}
 use Rattle.settle.specs.Due.{dueBy, dueAt, DueIn, DueOut}
 
 module _ (f : JobTables) (g : DueIn f) where

@@ -12,8 +12,8 @@ use lib.ListN.{length, take, set, length-set}
 use lib.Seq.{take-suc, take-set-le, getD-set-same}
 use Rattle.laws.specs.Below.{ascending}
 use Rattle.model.specs.Steps.{kindOf, stepAt}
-use Rattle.places.specs.Places.{PlaceIn, here}
-use Rattle.places.proofs.Places.{kind-of, first-of, second-of}
+use Rattle.step_places.specs.Places.{PlaceIn, here}
+use Rattle.step_places.proofs.Places.{kind-of, first-of, second-of}
 use Rattle.settle.specs.Due.{dueBy, dueAt}
 
 -- The kinds with one box are due where their boxes are equal.

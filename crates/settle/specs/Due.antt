@@ -13,7 +13,7 @@ use Rattle.model.specs.Words.{over, messagesOf}
 use Rattle.model.specs.Tables.{JobTables, jobLengths, jobShort}
 use Rattle.model.specs.Handed.{Handed}
 use Rattle.model.specs.Run.{run, runState}
-use Rattle.places.specs.Message.{reaches}
+use Rattle.step_places.specs.Message.{reaches}
 
 -- `receivers` has for each box those that need an offer of its, and `senders` those that hold a tally of a grocer of its.
 -- Message steps exist only for nonempty lists; steps 2 and 5 exist for every box.

@@ -5,11 +5,11 @@ ghost use lib.ListN.{take, length};
 ghost use Rattle.laws.specs.Below.{ascending};
 ghost use Rattle.model.specs.Steps.{kindOf};
 ghost use Rattle.model.specs.Tables.{jobTables, jobOf};
-ghost use Rattle.tables.specs.Masks.{Owned, byOwner};
+ghost use Rattle.job_masks.specs.Masks.{Owned, byOwner};
 ghost use Rattle.settle.specs.Due.{dueBy, dueAt, DueIn, DueOut};
-use apply::Sizes;
-use places::Place;
-use places::words::reaches;
+use step_apply::Sizes;
+use step_places::Place;
+use step_places::words::reaches;
 
 // What a run reports: words sent, messages and steps.
 pub struct Report {
@@ -54,7 +54,7 @@ fn put_due(k: u16, receivers: &[u16; 16], senders: &[u16; 16], order: &mut [u16;
     for i in 0..places {
         order[words] = i as u16;
         words += is_due(p.kind, p.first, p.second, receivers, senders) as usize;
-        let q = places::next(k, p);
+        let q = step_places::next(k, p);
         p = q;
     }
     words
@@ -75,8 +75,8 @@ fn due_order(
         (dueAt (z .boxes) (byOwner (z .offers) (now («offer_owner» .entry)) (now (needs .entry)))
         (byOwner (z .grocers) (now («grocer_owner» .entry)) (now (sharers .entry))))) ⌝ }
 {
-    let receivers = tables::masks::by_owner(z.offers, offer_owner, needs);
-    let senders = tables::masks::by_owner(z.grocers, grocer_owner, sharers);
+    let receivers = job_masks::masks::by_owner(z.offers, offer_owner, needs);
+    let senders = job_masks::masks::by_owner(z.grocers, grocer_owner, sharers);
     put_due(z.boxes, &receivers, &senders, order)
 }
 
@@ -98,15 +98,15 @@ pub fn due_run(
         (now («grocer_owner» .entry)) (now («tally_grocer» .entry)) (now («tally_box» .entry)) (now («tally_offer» .entry))
         (now («tally_count» .entry)))) (now (statement .entry)) (now (statement .exit)) (r .words) (r .messages) (r .steps) ⌝ }
 {
-    let needs = tables::masks::needs(z.boxes, z.tallies, tally_box, tally_offer);
-    let sharers = tables::masks::sharers(z.boxes, z.tallies, tally_box, tally_grocer);
+    let needs = job_masks::masks::needs(z.boxes, z.tallies, tally_box, tally_offer);
+    let sharers = job_masks::masks::sharers(z.boxes, z.tallies, tally_box, tally_grocer);
     let mut order = [0u16; 1536];
     let n = due_order(z, offer_owner, grocer_owner, &needs, &sharers, &mut order);
     let mut known = [0u32; 8000];
     let mut price_transit = [0u32; 8000];
     let mut working = [0i64; 4080];
     let mut total_transit = [0i64; 4080];
-    let all = steps::all_steps(
+    let all = run_steps::all_steps(
         z,
         price,
         offer_owner,

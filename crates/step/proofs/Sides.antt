@@ -11,18 +11,18 @@ use Rattle.model.specs.Steps.{kindOf}
 use Rattle.model.specs.Tables.{JobTables, StateTables, stateTables}
 use Rattle.model.specs.Ranges.{upTo}
 use Rattle.model.specs.Step.{Asked, outcome, accepted, stepped}
-use Rattle.places.specs.Marks.{MarksIn, marked}
-use Rattle.apply.specs.Apply.{sentMore, PriceStepOut, TotalStepOut}
-use Rattle.refuse.specs.Late.{Decided}
+use Rattle.step_places.specs.Marks.{MarksIn, marked}
+use Rattle.step_apply.specs.Apply.{sentMore, PriceStepOut, TotalStepOut}
+use Rattle.step_refusal.specs.Late.{Decided}
 use Rattle.step.specs.Lent.{PricesLent, TotalsLent}
 use Rattle.model.specs.Handed.{handedTables}
 use Rattle.model.proofs.Handed.{handed-moved}
-use Rattle.prices.proofs.Effect.{tables-eq}
-use Rattle.totals.proofs.Effect.{talliesOf}
-use Rattle.apply.proofs.Keys.{offers-keyed, grocers-keyed, tallies-keyed}
-use Rattle.apply.proofs.Given.{Given, given, marks-in, sent-in, price-step-in, total-step-in}
-use Rattle.apply.proofs.Sides.{prices-few, totals-few}
-use Rattle.apply.proofs.Moved.{prices-moved, totals-moved}
+use Rattle.step_prices.proofs.Effect.{tables-eq}
+use Rattle.step_totals.proofs.Effect.{talliesOf}
+use Rattle.step_apply.proofs.Keys.{offers-keyed, grocers-keyed, tallies-keyed}
+use Rattle.step_apply.proofs.Given.{Given, given, marks-in, sent-in, price-step-in, total-step-in}
+use Rattle.step_apply.proofs.Sides.{prices-few, totals-few}
+use Rattle.step_apply.proofs.Moved.{prices-moved, totals-moved}
 use Rattle.step.proofs.Zero.{accepted-by}
 
 module _ (f : JobTables) (t : StateTables) (q : Asked) {needs sharers standing : List ℕ} {r : ℕ} (d : Decided f t q needs sharers standing r) (z : r ≡ 0) where

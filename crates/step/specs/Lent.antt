@@ -4,9 +4,9 @@ use mathlib.Core.List.{List}
 use Prim.Native.Nat.{ℕ}
 use lib.ListN.{length}
 use lib.IntN.{ℤ}
-use Rattle.links.specs.Links.{Keyed, Linked, PairsKeyed, LinkedPairs}
-use Rattle.totals.specs.Row.{Tallies}
-use Rattle.apply.specs.Apply.{PriceStepIn, TotalStepIn}
+use Rattle.step_links.specs.Links.{Keyed, Linked, PairsKeyed, LinkedPairs}
+use Rattle.step_totals.specs.Row.{Tallies}
+use Rattle.step_apply.specs.Apply.{PriceStepIn, TotalStepIn}
 
 -- Kinds 1 to 3: offers can be linked by owner and tallies by box and owner, and with these links the step can be applied.
 pub record PricesLent (e : Tallies) (known transit : List ℕ) (working : List ℤ) (kind a b : ℕ) : Type 0 where

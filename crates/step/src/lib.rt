@@ -3,13 +3,13 @@ ghost use mathlib.Core.Path.{_≡_};
 ghost use Prim.Native.Nat.{_≤_};
 ghost use Rattle.model.specs.Lent.{bagLent, stateBefore, stateAfter};
 ghost use Rattle.model.specs.Step.{asked, outcome, stepped};
-ghost use Rattle.totals.specs.Row.{tallies};
-ghost use Rattle.apply.specs.Apply.{PriceStepOut, TotalStepOut};
+ghost use Rattle.step_totals.specs.Row.{tallies};
+ghost use Rattle.step_apply.specs.Apply.{PriceStepOut, TotalStepOut};
 ghost use Rattle.step.specs.Answer.{answerOf};
 ghost use Rattle.step.specs.Lent.{PricesLent, TotalsLent};
-use apply::Sizes;
-use apply::Step;
-use sending::raise;
+use step_apply::Sizes;
+use step_apply::Step;
+use step_sent::raise;
 
 // A request is accepted, or refused under the number of the first condition met.
 pub enum Answer {
@@ -41,15 +41,15 @@ fn move_prices(
 {
     let mut offer_links = [0u16; 517];
     let mut tally_links = [0u16; 1272];
-    links::link(z.offers as usize, offer_owner, &mut offer_links);
-    links::link_pairs(
+    step_links::link(z.offers as usize, offer_owner, &mut offer_links);
+    step_links::link_pairs(
         z.tallies as usize,
         standing,
         tally_offer,
         offer_owner,
         &mut tally_links,
     );
-    apply::price_step(
+    step_apply::price_step(
         z,
         offer_owner,
         tally_grocer,
@@ -82,8 +82,8 @@ fn move_totals(
         (now (working .exit)) (now («total_transit» .exit)) (now (statement .exit)) r ⌝ }
 {
     let mut grocer_links = [0u16; 272];
-    links::link(z.grocers as usize, grocer_owner, &mut grocer_links);
-    apply::total_step(
+    step_links::link(z.grocers as usize, grocer_owner, &mut grocer_links);
+    step_apply::total_step(
         z,
         sharers,
         &grocer_links,
@@ -140,7 +140,7 @@ pub fn step(
     let mut needs = [0u16; 500];
     let mut sharers = [0u16; 255];
     let mut standing = [0u16; 1000];
-    let r = refuse::refusal(
+    let r = step_refusal::refusal(
         z,
         price,
         offer_owner,
@@ -166,7 +166,7 @@ pub fn step(
     if r != 0 {
         return Answer::Refused(r);
     }
-    rules::marks::mark(boxes, kind, first, second, done);
+    step_rules::marks::mark(boxes, kind, first, second, done);
     if kind <= 3 {
         let more = move_prices(
             z,

@@ -15,11 +15,11 @@ use Rattle.format.specs.Bytes.{from, bytes16}
 use Rattle.format.specs.Job.{FileJob}
 use Rattle.format.specs.Blocks.{BlockKind, header, offerBlock, grocerBlock, tallyBlock, kindAt, blockKindNumber, records, recordSize, fieldSize, recordBytes, spare, firstSum, secondSum}
 use Rattle.format.specs.File.{recordByte, bodyByte, blockByte}
-use Rattle.puts.specs.Puts.{put, bytesOf}
+use Rattle.writer_bytes.specs.Puts.{put, bytesOf}
 use Rattle.writer.specs.Bodies.{rowsOf, bodyOf, keepOf, blocksOf}
 use Rattle.format.proofs.Plan.{fields-length}
 use Rattle.format.proofs.Words.{first-cong, second-cong}
-use Rattle.puts.proofs.Puts.{put-in, put-cong, put-next, put-keep, put-over}
+use Rattle.writer_bytes.proofs.Puts.{put-in, put-cong, put-next, put-keep, put-over}
 
 -- ---- what a block of a job's file holds
 

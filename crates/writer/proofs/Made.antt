@@ -9,9 +9,9 @@ use Rattle.format.specs.Bytes.{from, bytes16}
 use Rattle.format.specs.Job.{headOf}
 use Rattle.format.specs.Blocks.{headerBytes}
 use Rattle.format.specs.File.{blockByte}
-use Rattle.puts.specs.Puts.{put, bytesOf}
+use Rattle.writer_bytes.specs.Puts.{put, bytesOf}
 use Rattle.writer.specs.Bodies.{rowsOf, bodyOf, keepOf, recordBody}
-use Rattle.puts.proofs.Puts.{put-cong, put-next}
+use Rattle.writer_bytes.proofs.Puts.{put-cong, put-next}
 use Rattle.writer.proofs.Blocks.{block-made, body-head, body-row, body-rest}
 
 -- K, 1, M, N, T and the cycle are the header's record.

@@ -13,10 +13,10 @@ use Rattle.format.specs.Bytes.{bytes16, bytes32}
 use Rattle.format.specs.Codes.{codeBytes, readCode}
 use Rattle.format.specs.Job.{Offer, Tally}
 use Rattle.format.specs.Blocks.{offerBytes, tallyBytes}
-use Rattle.codes.specs.Copied.{Copied}
-use Rattle.puts.specs.Puts.{put, bytesOf}
-use Rattle.codes.proofs.Codes.{code-byte}
-use Rattle.puts.proofs.Puts.{length-put, is-put, put-cong, put-next, store-next}
+use Rattle.file_codes.specs.Copied.{Copied}
+use Rattle.writer_bytes.specs.Puts.{put, bytesOf}
+use Rattle.file_codes.proofs.Codes.{code-byte}
+use Rattle.writer_bytes.proofs.Puts.{length-put, is-put, put-cong, put-next, store-next}
 
 -- Bytes that are copied are put.
 pub copied-put : (g : ℕ → ℕ) (at n : ℕ) (d d′ : List ℕ) → at + n ≤ length d → length d′ ≡ length d → Copied g at n d d′ → d′ ≡ put at n g d

@@ -16,14 +16,14 @@ use Rattle.format.specs.Blocks.{BlockKind, header, offerBlock, grocerBlock, tal
 use Rattle.format.specs.File.{bodyByte, blockByte, encode}
 use Rattle.format.specs.Refusals.{jobRefusal}
 use Rattle.format.specs.Tables.{FileTables, offerOf, tallyOf, fileJobOf, wrote, notWritten, shortTables, shortWriter, writeRefusal, writeResult}
-use Rattle.puts.specs.Puts.{put, bytesOf}
+use Rattle.writer_bytes.specs.Puts.{put, bytesOf}
 use Rattle.writer.specs.Bodies.{bodyOf, recordBody, blocksOf}
 use Rattle.writer.specs.Ready.{Ready}
 use Rattle.format.proofs.Firsts.{each}
 use Rattle.format.proofs.Plan.{kind-header, kind-offers, kind-grocers, kind-tallies}
 use Rattle.format.proofs.Range.{in-range}
 use Rattle.format.proofs.Tables.{long-tables, write-accepted, write-refused}
-use Rattle.puts.proofs.Puts.{put-none, put-front}
+use Rattle.writer_bytes.proofs.Puts.{put-none, put-front}
 use Rattle.writer.proofs.Blocks.{body-is, blocks-behind, block-behind}
 
 -- The body of a block whose kind is known.

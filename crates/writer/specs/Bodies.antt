@@ -6,7 +6,7 @@ use lib.Dec.{ltb}
 use lib.ListN.{getD}
 use Rattle.format.specs.Bytes.{bytes16}
 use Rattle.format.specs.File.{blockByte}
-use Rattle.puts.specs.Puts.{bytesOf}
+use Rattle.writer_bytes.specs.Puts.{bytesOf}
 
 -- Byte s of rows of `size` bytes each, one after the other.
 abbrev pub rowsOf : ℕ → (ℕ → ℕ → ℕ) → ℕ → ℕ

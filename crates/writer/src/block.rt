@@ -8,19 +8,19 @@ ghost use Rattle.format.specs.Blocks.{headerBytes, offerBytes, tallyBytes};
 ghost use Rattle.format.specs.File.{blockByte};
 ghost use Rattle.format.specs.Tables.{offerTables, tallyTables, LongOffers, LongTallies, offerOf, tallyOf};
 ghost use Rattle.format.specs.Lent.{offersLent, talliesLent};
-ghost use Rattle.blocks.specs.Due.{asHead, Most};
-ghost use Rattle.puts.specs.Puts.{put, bytesOf};
+ghost use Rattle.file_blocks.specs.Due.{asHead, Most};
+ghost use Rattle.writer_bytes.specs.Puts.{put, bytesOf};
 ghost use Rattle.writer.specs.Bodies.{bodyOf, keepOf, recordBody, Small};
 use crate::records::put_offers;
 use crate::records::put_owners;
 use crate::records::put_tallies;
-use blocks::plan::Head;
-use checks::sizes::size_of;
-use puts::put_four;
-use puts::put_words;
-use puts::put_zeros;
-use puts::put16;
-use sums::sums;
+use file_blocks::plan::Head;
+use file_sums::sums;
+use writer_bytes::put_four;
+use writer_bytes::put_words;
+use writer_bytes::put_zeros;
+use writer_bytes::put16;
+use writer_checks::sizes::size_of;
 
 // Zeros behind the first bytes of a block, and both sums.
 fn close_block(out: &mut [u8], at: usize, used: usize)

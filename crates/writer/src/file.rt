@@ -7,17 +7,17 @@ ghost use Rattle.format.specs.Blocks.{blocksFor, offerBytes, tallyBytes};
 ghost use Rattle.format.specs.File.{encode};
 ghost use Rattle.format.specs.Tables.{offerTables, tallyTables, fileTables, LongOffers, LongTallies, offerOf, tallyOf, fileJobOf};
 ghost use Rattle.format.specs.Lent.{offersLent, talliesLent, fileLent};
-ghost use Rattle.blocks.specs.Due.{asHead};
-ghost use Rattle.puts.specs.Puts.{put};
+ghost use Rattle.file_blocks.specs.Due.{asHead};
+ghost use Rattle.writer_bytes.specs.Puts.{put};
 ghost use Rattle.writer.specs.Bodies.{recordBody, blocksOf, Small};
 ghost use Rattle.writer.specs.Ready.{Ready};
 use crate::block::put_grocer_block;
 use crate::block::put_header;
 use crate::block::put_offer_block;
 use crate::block::put_tally_block;
-use blocks::plan::Head;
-use blocks::plan::blocks_for;
-use blocks::plan::grocers_at;
+use file_blocks::plan::Head;
+use file_blocks::plan::blocks_for;
+use file_blocks::plan::grocers_at;
 
 // All offer blocks, of n offers.
 fn put_offer_blocks(

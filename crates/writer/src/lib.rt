@@ -9,10 +9,10 @@ mod block;
 mod file;
 mod records;
 
-use checks::refusal::write_refusal;
-use checks::sizes::file_length;
-use checks::sizes::head_of;
 use file::put_file;
+use writer_checks::refusal::write_refusal;
+use writer_checks::sizes::file_length;
+use writer_checks::sizes::head_of;
 
 // What the writer answers: the file's length, or a refusal's number.
 pub enum Answer {

@@ -5,19 +5,19 @@ ghost use lib.ListN.{length, getD};
 ghost use Rattle.format.specs.Blocks.{offerBytes, tallyBytes};
 ghost use Rattle.format.specs.Tables.{offerOf, tallyOf};
 ghost use Rattle.format.specs.Lent.{offersLent, talliesLent};
-ghost use Rattle.puts.specs.Puts.{put, bytesOf};
+ghost use Rattle.writer_bytes.specs.Puts.{put, bytesOf};
 ghost use Rattle.writer.specs.Bodies.{rowsOf, Small};
-use blocks::codes::CODE_BYTES;
-use codes::copy_code;
-use puts::bits;
-use puts::put_byte;
-use puts::put_words;
-use puts::put_zeros;
-use puts::put16;
-use puts::put32;
+use file_blocks::codes::CODE_BYTES;
+use file_codes::copy_code;
 use slices::i32_at;
 use slices::index_at;
 use slices::u32_at;
+use writer_bytes::bits;
+use writer_bytes::put_byte;
+use writer_bytes::put_words;
+use writer_bytes::put_zeros;
+use writer_bytes::put16;
+use writer_bytes::put32;
 
 // Offer i in 24 bytes.
 pub fn put_offer(

@@ -7,12 +7,12 @@ use lib.ListN.{length}
 use Rattle.format.specs.Blocks.{talliesAt}
 use Rattle.format.specs.File.{recordAt, decode}
 use Rattle.format.specs.Tables.{ReaderTables, offerTables, tallyTables, fileTables, readerTables, shortOffers, shortTallies, shortTables, shortReader, readRefusal}
-use Rattle.blocks.specs.Due.{asHead}
-use Rattle.blocks.specs.Sound.{Kept, Sound}
-use Rattle.blocks.proofs.RecordWords.{offer-room, tally-room}
-use Rattle.blocks.proofs.Looked.{places-stored}
-use Rattle.blocks.proofs.Fields.{offer-owners, offer-codes, offer-issuers, tally-grocers, tally-boxes, tally-codes, tally-counts, tally-issuers, tally-bags, tally-revisions}
-use Rattle.blocks.proofs.Shapes.{has-header, sound-read}
+use Rattle.file_blocks.specs.Due.{asHead}
+use Rattle.file_blocks.specs.Sound.{Kept, Sound}
+use Rattle.file_blocks.proofs.RecordWords.{offer-room, tally-room}
+use Rattle.file_blocks.proofs.Looked.{places-stored}
+use Rattle.file_blocks.proofs.Fields.{offer-owners, offer-codes, offer-issuers, tally-grocers, tally-boxes, tally-codes, tally-counts, tally-issuers, tally-bags, tally-revisions}
+use Rattle.file_blocks.proofs.Shapes.{has-header, sound-read}
 use Rattle.reader.proofs.Results.{Room, room, read-refusal, read-job}
 use Rattle.reader.proofs.read.Statement.{statement}
 use Rattle.reader.proofs.read.Tie as tie

@@ -3,7 +3,7 @@ use mathlib.Core.Path.{_≡_, sym, ap, _∙_}
 use borrow.Author.Needs.{needs}
 use Rattle.format.specs.Job.{Head}
 use Rattle.format.specs.Tables.{FileTables, offerTables, tallyTables, fileTables, writeRefusal, writeResult}
-use Rattle.blocks.specs.Due.{asHead}
+use Rattle.file_blocks.specs.Due.{asHead}
 use denote.Ref.{now}
 use Rattle.writer.proofs.Written.{ready, refused-is, written-is}
 use Rattle.writer.proofs.write.Statement.{statement}

@@ -6,8 +6,8 @@ use lib.ListN.{length, take, length-set}
 use borrow.Author.Needs.{needs}
 use denote.Ref.{now}
 use Rattle.laws.specs.Below.{ascending}
-use Rattle.places.specs.Places.{PlaceIn}
-use Rattle.places.proofs.Walking.{At, at-first, at-next, at-in}
+use Rattle.step_places.specs.Places.{PlaceIn}
+use Rattle.step_places.proofs.Walking.{At, at-first, at-next, at-in}
 use Rattle.settle.specs.Due.{dueAt}
 use Rattle.settle.proofs.Steps.{none-yet, due-next, due-most, due-here, places-few}
 use Rattle.settle.proofs.due.put_due.Statement.{statement}

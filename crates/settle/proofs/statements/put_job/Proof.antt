@@ -8,13 +8,13 @@ use denote.Ref.{now}
 use Rattle.format.specs.Job.{Head}
 use Rattle.format.specs.Blocks.{talliesAt}
 use Rattle.format.specs.File.{decode}
-use Rattle.blocks.specs.Due.{asHead}
-use Rattle.blocks.specs.Fills.{Whole, Placed}
-use Rattle.blocks.proofs.RecordWords.{offer-room, tally-room}
-use Rattle.blocks.proofs.Fields.{offer-owners, tally-grocers, tally-counts}
-use Rattle.blocks.proofs.Looked.{places-stored}
-use Rattle.blocks.proofs.Shapes.{sound-read}
-use Rattle.text.proofs.Puts.{reworded}
+use Rattle.file_blocks.specs.Due.{asHead}
+use Rattle.file_blocks.specs.Fills.{Whole, Placed}
+use Rattle.file_blocks.proofs.RecordWords.{offer-room, tally-room}
+use Rattle.file_blocks.proofs.Fields.{offer-owners, tally-grocers, tally-counts}
+use Rattle.file_blocks.proofs.Looked.{places-stored}
+use Rattle.file_blocks.proofs.Shapes.{sound-read}
+use Rattle.settle_text.proofs.Puts.{reworded}
 use Rattle.settle.proofs.Texts.{once, may-run, run-text}
 use Rattle.settle.proofs.statements.put_job.Statement.{statement}
 use Rattle.settle.proofs.statements.put_job.Tie as tie

@@ -2,10 +2,10 @@
 use mathlib.Core.Path.{refl, sym, ap, _∙_}
 use native.Mathlib.Omega.{arith}
 use borrow.Author.Needs.{needs}
-use Rattle.blocks.proofs.Shapes.{has-header}
+use Rattle.file_blocks.proofs.Shapes.{has-header}
 use Rattle.printing.specs.Printed.{refusedText}
 use Rattle.printing.proofs.Blank.{printed-refusal}
-use Rattle.text.proofs.Puts.{reworded, shown}
+use Rattle.settle_text.proofs.Puts.{reworded, shown}
 use Rattle.settle.proofs.statements.settled.Statement.{statement}
 use Rattle.settle.proofs.statements.settled.Tie as tie
 

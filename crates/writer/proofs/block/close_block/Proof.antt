@@ -5,7 +5,7 @@ use native.Mathlib.Omega.{arith}
 use borrow.Author.Needs.{needs}
 use Rattle.format.specs.Bytes.{bytes16}
 use Rattle.format.specs.Blocks.{firstSum, secondSum}
-use Rattle.puts.specs.Puts.{put, bytesOf}
+use Rattle.writer_bytes.specs.Puts.{put, bytesOf}
 use denote.Ref.{now}
 use Rattle.writer.proofs.Blocks.{closed}
 use Rattle.writer.proofs.block.close_block.Statement.{statement}

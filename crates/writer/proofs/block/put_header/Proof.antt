@@ -3,7 +3,7 @@ use mathlib.Core.Path.{refl, _∙_}
 use native.Mathlib.Omega.{arith}
 use borrow.Author.Needs.{needs}
 use Rattle.format.specs.Blocks.{headerBytes}
-use Rattle.blocks.specs.Due.{asHead}
+use Rattle.file_blocks.specs.Due.{asHead}
 use denote.Ref.{now}
 use Rattle.writer.proofs.Made.{header-made}
 use Rattle.writer.proofs.block.put_header.Statement.{statement}

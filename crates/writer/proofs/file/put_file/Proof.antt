@@ -8,8 +8,8 @@ use Rattle.format.specs.Bytes.{bytes16}
 use Rattle.format.specs.Blocks.{blocksFor, tallyBytes}
 use Rattle.format.specs.File.{blockByte}
 use Rattle.format.specs.Tables.{FileTables, offerTables, tallyTables, fileTables, tallyOf}
-use Rattle.blocks.specs.Due.{asHead}
-use Rattle.puts.specs.Puts.{put, bytesOf}
+use Rattle.file_blocks.specs.Due.{asHead}
+use Rattle.writer_bytes.specs.Puts.{put, bytesOf}
 use Rattle.writer.specs.Bodies.{bodyOf, recordBody, blocksOf}
 use denote.Ref.{now}
 use Rattle.writer.proofs.Written.{file-put}

@@ -8,10 +8,10 @@ use borrow.Author.Needs.{needs}
 use Rattle.format.specs.Blocks.{tallyBytes}
 use Rattle.format.specs.File.{blockByte}
 use Rattle.format.specs.Tables.{tallyTables, tallyOf}
-use Rattle.puts.specs.Puts.{put}
+use Rattle.writer_bytes.specs.Puts.{put}
 use Rattle.writer.specs.Bodies.{recordBody, blocksOf}
 use denote.Ref.{now}
-use Rattle.puts.proofs.Puts.{put-none}
+use Rattle.writer_bytes.proofs.Puts.{put-none}
 use Rattle.writer.proofs.Blocks.{block-next}
 use Rattle.writer.proofs.file.put_tally_blocks.Statement.{statement}
 use Rattle.writer.proofs.file.put_tally_blocks.Tie as tie

@@ -5,7 +5,7 @@ use native.Mathlib.Omega.{arith}
 use lib.ListN.{length, getD, set}
 use borrow.Author.Needs.{needs}
 use Rattle.format.specs.Bytes.{from, bytes16, bytes32}
-use Rattle.puts.specs.Puts.{put, bytesOf}
+use Rattle.writer_bytes.specs.Puts.{put, bytesOf}
 use denote.Ref.{now}
 use Rattle.writer.proofs.Rows.{offer-put}
 use Rattle.writer.proofs.records.put_offer.Statement.{statement}

@@ -7,10 +7,10 @@ use lib.ListN.{length}
 use borrow.Author.Needs.{needs}
 use Rattle.format.specs.Blocks.{offerBytes}
 use Rattle.format.specs.Tables.{OfferTables, offerTables, offerOf}
-use Rattle.puts.specs.Puts.{put, bytesOf}
+use Rattle.writer_bytes.specs.Puts.{put, bytesOf}
 use Rattle.writer.specs.Bodies.{rowsOf}
 use denote.Ref.{now}
-use Rattle.puts.proofs.Puts.{put-none}
+use Rattle.writer_bytes.proofs.Puts.{put-none}
 use Rattle.writer.proofs.Blocks.{row-next}
 use Rattle.writer.proofs.records.put_offers.Statement.{statement}
 use Rattle.writer.proofs.records.put_offers.Tie as tie

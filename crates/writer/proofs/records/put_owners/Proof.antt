@@ -5,9 +5,9 @@ use native.Mathlib.Omega.{arith}
 use native.Mathlib.Nat.{le-antisymm}
 use lib.ListN.{length, length-set}
 use borrow.Author.Needs.{needs}
-use Rattle.puts.specs.Puts.{put, bytesOf}
+use Rattle.writer_bytes.specs.Puts.{put, bytesOf}
 use denote.Ref.{now}
-use Rattle.puts.proofs.Puts.{put-none, store-next}
+use Rattle.writer_bytes.proofs.Puts.{put-none, store-next}
 use Rattle.writer.proofs.records.put_owners.Statement.{statement}
 use Rattle.writer.proofs.records.put_owners.Tie as tie
 

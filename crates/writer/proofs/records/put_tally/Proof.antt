@@ -9,7 +9,7 @@ use mir.Val.{ofZ}
 use mir.Facts.{toZ-ofZ}
 use borrow.Author.Needs.{needs}
 use Rattle.format.specs.Bytes.{from, bytes16, bytes32}
-use Rattle.puts.specs.Puts.{put, bytesOf}
+use Rattle.writer_bytes.specs.Puts.{put, bytesOf}
 use denote.Ref.{now}
 use Rattle.writer.proofs.Rows.{words-same, tally-put}
 use Rattle.writer.proofs.records.put_tally.Statement.{statement}

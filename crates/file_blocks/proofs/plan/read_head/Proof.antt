@@ -1,0 +1,24 @@
+-- `file_blocks::plan::read_head` meets its contract. Assumes nothing.
+use Rattle.format.specs.File.{readHead, decode}
+use native.Mathlib.Omega.{arith}
+use Rattle.file_blocks.proofs.plan.read_head.Statement.{statement}
+use Rattle.file_blocks.proofs.plan.read_head.Tie as tie
+
+returns : tie.Need-returns
+unfolding decode readHead
+returns c =
+    let t = c .before in
+    let g = t .before .before in
+    rw (g .before .byte-at .ensures .0, g .word16 .ensures .0, t .before .word162 .ensures .0, t .word163 .ensures .0, c .word164 .ensures .0)
+
+pub read-head-spec : {M : Type 1} → statement M
+read-head-spec =
+    tie.close
+    (tie.spec
+    (λ c κs. omega arith)
+    (λ c κs. omega arith)
+    (λ c κs. omega arith)
+    (λ c κs. omega arith)
+    (λ c κs. omega arith)
+    (λ c. record { fits = omega (arith, c .word164 .ensures .1) })
+    returns)

@@ -1,0 +1,149 @@
+// The numbers that a file's header says, and what each block is due to hold.
+ghost use mathlib.Core.Path.{_≡_};
+ghost use Prim.Native.Nat.{_+_, _*_, _-_, _≤_, min};
+ghost use lib.ListN.{length};
+ghost use Rattle.format.specs.Bytes.{from};
+ghost use Rattle.format.specs.Job.{badSizes};
+ghost use Rattle.format.specs.Blocks.{blocksFor, grocersAt, talliesAt, blockCount, kindAt, blockKindNumber, records};
+ghost use Rattle.format.specs.File.{decode};
+ghost use Rattle.format.specs.Refusals.{notDue};
+ghost use Rattle.file_blocks.specs.Due.{asHead, Most, Due};
+use file_bytes::word16;
+use slices::byte_at;
+
+// The largest numbers of a job.
+pub const MAX_BOXES: usize = 16;
+
+pub const MAX_GROCERS: usize = 255;
+
+pub const MAX_OFFERS: usize = 500;
+
+pub const MAX_TALLIES: usize = 1000;
+
+// The numbers of a header: how many boxes, grocers, offers and tallies, and the settlement cycle.
+pub struct Head {
+    pub boxes: usize,
+    pub grocers: usize,
+    pub offers: usize,
+    pub tallies: usize,
+    pub cycle: u16,
+}
+
+// The numbers that a file's header says.
+pub fn read_head(f: &[u8]) -> Head
+    requires { ⌜ 14 ≤ length (now f) ⌝ }
+    ensures { λ r. ⌜ asHead r ≡ decode (now (f .entry)) .head ⌝ }
+{
+    let boxes = byte_at(f, 4);
+    let grocers = word16(f, 6);
+    let offers = word16(f, 8);
+    let tallies = word16(f, 10);
+    let cycle = word16(f, 12) as u16;
+    Head {
+        boxes: boxes,
+        grocers: grocers,
+        offers: offers,
+        tallies: tallies,
+        cycle: cycle,
+    }
+}
+
+// 4: whether one of K, M, N and T is outside its values.
+pub fn bad_sizes(head: Head) -> bool
+    ensures { λ r. ⌜ r ≡ badSizes (asHead head) ⌝ }
+{
+    let b = (head.boxes < 1) | (MAX_BOXES < head.boxes);
+    let g = (b | (head.grocers < 1)) | (MAX_GROCERS < head.grocers);
+    ((g | (head.offers < 1)) | (MAX_OFFERS < head.offers)) | (MAX_TALLIES < head.tallies)
+}
+
+// How many blocks n records of 24 bytes take.
+pub fn blocks_for(n: usize) -> usize
+    requires { ⌜ n ≤ 65535 ⌝ }
+    ensures { λ r. ⌜ r ≡ blocksFor n ⌝ }
+{
+    (n + 20) / 21
+}
+
+// The plan of blocks: the grocer block, after the offer blocks,
+pub fn grocers_at(head: Head) -> usize
+    requires { ⌜ head .offers ≤ 65535 ⌝ }
+    ensures { λ r. ⌜ r ≡ grocersAt (asHead head) ⌝ }
+{
+    1 + blocks_for(head.offers)
+}
+
+// the first tally block,
+pub fn tallies_at(head: Head) -> usize
+    requires { ⌜ head .offers ≤ 65535 ⌝ }
+    ensures { λ r. ⌜ r ≡ talliesAt (asHead head) ⌝ }
+{
+    grocers_at(head) + 1
+}
+
+// and how many blocks there are.
+pub fn block_count(head: Head) -> usize
+    requires { ⌜ (head .offers ≤ 65535) × (head .tallies ≤ 65535) ⌝ }
+    ensures { λ r. ⌜ r ≡ blockCount (asHead head) ⌝ }
+{
+    tallies_at(head) + blocks_for(head.tallies)
+}
+
+// The number of the kind of block k.
+pub fn kind_at(head: Head, k: usize) -> usize
+    requires { ⌜ head .offers ≤ 65535 ⌝ }
+    ensures { λ r. ⌜ r ≡ blockKindNumber (kindAt (asHead head) k) ⌝ }
+{
+    let grocers = grocers_at(head);
+    if k < 1 {
+        return 0;
+    }
+    if k < grocers {
+        return 1;
+    }
+    if k < grocers + 1 {
+        return 2;
+    }
+    3
+}
+
+// How many of n records stand in block b of theirs.
+fn part(n: usize, b: usize) -> usize
+    requires { ⌜ b ≤ 65535 ⌝ }
+    ensures { λ r. ⌜ r ≡ min 21 (n - 21 * b) ⌝ }
+{
+    let before = 21 * b;
+    if n <= before {
+        return 0;
+    }
+    if n - before < 21 {
+        return n - before;
+    }
+    21
+}
+
+// How many records block k has, which is not the header.
+pub fn records_at(head: Head, k: usize, kind: usize) -> usize
+    requires { ⌜ (k ≤ 73) × Most (asHead head) ⌝ }
+    requires { ⌜ (1 ≤ k) × (kind ≡ blockKindNumber (kindAt (asHead head) k)) ⌝ }
+    ensures { λ r. ⌜ (r ≡ records (asHead head) (kindAt (asHead head) k)) × (r ≤ 255) ⌝ }
+{
+    if kind == 1 {
+        return part(head.offers, k - 1);
+    }
+    if kind == 2 {
+        return head.grocers;
+    }
+    let first = tallies_at(head);
+    part(head.tallies, k - first)
+}
+
+// Whether kind, block number or record count of block k is not as due.
+pub fn not_due(f: &[u8], k: usize, kind: usize, count: usize) -> bool
+    requires { ⌜ 512 * k + 512 ≤ length (now f) ⌝ }
+    requires { ⌜ Due (decode (now f) .head) k kind count ⌝ }
+    ensures { λ r. ⌜ r ≡ notDue (decode (now (f .entry)) .head) k (from (now (f .entry)) (512 * k)) ⌝ }
+{
+    let at = 512 * k;
+    (byte_at(f, at) != kind) | (word16(f, at + 2) != k) | (byte_at(f, at + 1) != count)
+}

@@ -1,0 +1,63 @@
+-- A table of codes, filled code by code, eleven bytes each. Assumes nothing.
+use mathlib.Core.Path.{_≡_, refl, sym, ap, _∙_, subst}
+use mathlib.Core.List.{List}
+use Prim.Native.Nat.{ℕ, _+_, _*_, _≤_, _<_}
+use native.Mathlib.Nat.{le-antisymm}
+use native.Mathlib.Decide.{ℕ-discrete}
+use native.Mathlib.Omega.{arith}
+use lib.ListN.{length, getD, set}
+use lib.Seq.{getD-set-same, getD-set-other}
+use Rattle.laws.specs.Tables.{tabulate, recell}
+use Rattle.laws.proofs.Tables.{is-recell, getD-past, getD-tabulate, getD-recell, fill-none}
+use Rattle.format.specs.Codes.{Code, readCode, codeBytes}
+use Rattle.format.specs.Tables.{storeCodes}
+use Rattle.file_codes.specs.Copied.{Copied}
+
+-- Nothing is copied yet.
+pub copied-none : (g : ℕ → ℕ) (to : ℕ) (l : List ℕ) → Copied g to 0 l l
+copied-none g to l = record { inside = λ k h. absurd (omega arith); before = λ k h. refl; past = λ k h. refl }
+
+-- One byte more.
+pub copied-more : {g : ℕ → ℕ} {to k : ℕ} {l l′ : List ℕ} (v : ℕ) → Copied g to k l l′ → to + k < length l′ → v ≡ g k → Copied g to (k + 1) l (set l′ (to + k) v)
+copied-more {g} {to} {k} {l} {l′} v c h q =
+    record {
+      inside = λ i m.
+          elim (ℕ-discrete i k) [
+            | yes p ↦ subst (λ (j : ℕ). getD (set l′ (to + k) v) (to + j) 0 ≡ g j) (sym p) (getD-set-same l′ (to + k) v 0 h ∙ q)
+            | no p ↦ getD-set-other l′ (to + k) (to + i) v 0 (λ e. p (omega arith)) ∙ c .inside i (omega (arith, p))
+          ];
+      before = λ i m. getD-set-other l′ (to + k) i v 0 (λ e. omega arith) ∙ c .before i m;
+      past = λ i m. getD-set-other l′ (to + k) i v 0 (λ e. omega arith) ∙ c .past i (omega arith);
+    }
+
+-- The bytes of the code that eleven bytes say are those bytes.
+pub code-byte : (g : ℕ → ℕ) (k : ℕ) → k < 11 → getD (codeBytes (readCode g)) k 0 ≡ g k
+code-byte g k h = ap (λ (x : List ℕ). getD x k 0) eleven ∙ getD-tabulate 11 g k 0 h
+  where
+    eleven : codeBytes (readCode g) ≡ tabulate 11 g
+    eleven = unfold codeBytes tabulate in refl
+
+-- No code is stored yet.
+pub codes-none : (c : ℕ → Code) (l : List ℕ) → l ≡ storeCodes 0 c l
+unfolding storeCodes recell
+codes-none c l = fill-none _ l
+
+-- A code's bytes are copied behind the codes stored.
+pub codes-more : (c : ℕ → Code) (i : ℕ) (l m l′ : List ℕ) (g : ℕ → ℕ) → m ≡ storeCodes i c l → (i + 1) * 11 ≤ length l → length l′ ≡ length l →
+    Copied g (i * 11) 11 m l′ → readCode g ≡ c i → l′ ≡ storeCodes (i + 1) c l
+unfolding storeCodes
+codes-more c i l m l′ g e h long w q =
+    is-recell (i + 1) 11 _ l l′ 0 h long (λ b o lb lo.
+    elim (ℕ-discrete b i) [
+      | yes p ↦
+          subst (λ (j : ℕ). getD l′ (j * 11 + o) 0 ≡ getD (codeBytes (c j)) o 0) (sym p)
+          (w .inside o lo ∙ sym (code-byte g o lo) ∙ ap (λ (x : Code). getD (codeBytes x) o 0) q)
+      | no p ↦
+          w .before (b * 11 + o) (omega (arith, p)) ∙ ap (λ (x : List ℕ). getD x (b * 11 + o) 0) e
+          ∙ getD-recell i 11 (λ i p. getD (codeBytes (c i)) p 0) l b o 0 (omega (arith, p)) lo
+    ])
+    (λ k p. w .past k (omega arith) ∙ ap (λ (x : List ℕ). getD x k 0) e ∙ unfold recell in getD-past (i * 11) _ l k 0 (omega arith))
+
+-- All n codes are stored.
+pub codes-end : (c : ℕ → Code) (i n : ℕ) (l l′ : List ℕ) → l′ ≡ storeCodes i c l → i ≤ n → n ≤ i → l′ ≡ storeCodes n c l
+codes-end c i n l l′ e a b = e ∙ ap (λ (k : ℕ). storeCodes k c l) (le-antisymm a b)

@@ -1,0 +1,173 @@
+// The steps of an order, done one after the other on the tables of prices and totals.
+ghost use mathlib.Core.Path.{_≡_};
+ghost use mathlib.Core.List.{List};
+ghost use Prim.Native.Nat.{ℕ, suc, _+_, _*_, _/_, _%_, _≤_, _<_};
+ghost use lib.ListN.{getD};
+ghost use Rattle.model.specs.Steps.{kindOf};
+ghost use Rattle.model.specs.Words.{messagesOf};
+ghost use Rattle.model.specs.Tables.{jobTables, jobOf};
+ghost use Rattle.step_links.specs.Links.{Linked, LinkedPairs, Some};
+ghost use Rattle.step_totals.specs.Row.{tallies};
+ghost use Rattle.run_steps.specs.All.{withoutMarks, StepIn, StepOut, AllIn, AllOut};
+use step_apply::Sizes;
+use step_apply::Step;
+
+// Words and messages sent, counted as steps are done.
+pub struct Sent {
+    pub words: u32,
+    pub messages: u32,
+}
+
+// The step of a place, of k boxes.
+fn step_of(k: u16, place: u16) -> Step
+    requires { ⌜ (1 ≤ k) × (k ≤ 16) × (place < 6 * k * k) ⌝ }
+    ensures { λ r. ⌜ (r .kind ≡ suc (place / k / k)) × (r .first ≡ place / k % k) × (r .second ≡ place % k) ⌝ }
+{
+    let row = step_places::by_boxes(place, k);
+    let rows = step_places::by_boxes(row, k);
+    Step {
+        kind: rows + 1,
+        first: row - rows * k,
+        second: place - row * k,
+    }
+}
+
+// The step of turn i of an order, of k boxes.
+fn step_at(k: u16, order: &[u16; 1536], i: usize) -> Step
+    requires { ⌜ (i < 1536) × (1 ≤ k) × (k ≤ 16) × (getD (now order) i 0 < 6 * k * k) ⌝ }
+    ensures { λ r. ⌜ (r .kind ≡ suc (getD (now (order .entry)) i 0 / k / k)) × (r .first ≡ getD (now (order .entry)) i 0 / k % k)
+        × (r .second ≡ getD (now (order .entry)) i 0 % k) ⌝ }
+{
+    step_of(k, order[i])
+}
+
+// What is sent so far, and the words of a step of this kind and its message.
+fn sent_more(sent: Sent, kind: u16, more: u32) -> Sent
+    requires { ⌜ (1 ≤ kind) × (kind ≤ 6) × (sent .words + more < 4_294_967_296) × (sent .messages < 4_294_967_295) ⌝ }
+    ensures { λ r. ⌜ (r .words ≡ sent .words + more) × ((a b : ℕ) → r .messages ≡ sent .messages + messagesOf (kindOf kind) a b) ⌝ }
+{
+    Sent {
+        words: sent.words + more,
+        messages: sent.messages + step_places::sent_by(kind),
+    }
+}
+
+// One step, on the side of prices or of totals. The words sent.
+fn one_step(
+    z: Sizes,
+    offer_owner: &[u16],
+    tally_grocer: &[u16],
+    tally_offer: &[u16],
+    tally_count: &[i32],
+    needs: &[u16; 500],
+    sharers: &[u16; 255],
+    offer_links: &[u16; 517],
+    grocer_links: &[u16; 272],
+    tally_links: &[u16; 1272],
+    known: &mut [u32],
+    price_transit: &mut [u32],
+    working: &mut [i64],
+    total_transit: &mut [i64],
+    statement: &mut [i64],
+    x: Step,
+) -> u32
+    requires { ⌜ Some (λ holder. Some (λ owner. StepIn (tallies (z .boxes) (z .grocers) (z .offers) (z .tallies) (now «offer_owner»)
+        (now «tally_grocer») holder (now «tally_offer») (now «tally_count»)) owner (now «offer_links») (now «grocer_links») (now «tally_links»)
+        (now known) (now «price_transit») (now working) (now «total_transit») (now statement) (x .kind) (x .first) (x .second))) ⌝ }
+    ensures { λ r. ⌜ ((holder owner : List ℕ) → (x .kind ≤ 3 → LinkedPairs (z .tallies) holder (now («tally_offer» .entry))
+        (now («offer_owner» .entry)) (now («tally_links» .entry))) → (3 < x .kind → Linked (z .grocers) owner (now («grocer_links» .entry))) →
+        StepOut (tallies (z .boxes) (z .grocers) (z .offers) (z .tallies) (now («offer_owner» .entry)) (now («tally_grocer» .entry)) holder
+        (now («tally_offer» .entry)) (now («tally_count» .entry))) owner (now (needs .entry)) (now (sharers .entry))
+        (withoutMarks (now (known .entry)) (now («price_transit» .entry)) (now (working .entry)) (now («total_transit» .entry)) (now (statement .entry)))
+        (withoutMarks (now (known .exit)) (now («price_transit» .exit)) (now (working .exit)) (now («total_transit» .exit)) (now (statement .exit)))
+        (x .kind) (x .first) (x .second) r) ⌝ }
+{
+    if x.kind <= 3 {
+        return step_apply::price_step(
+            z,
+            offer_owner,
+            tally_grocer,
+            tally_offer,
+            tally_count,
+            needs,
+            offer_links,
+            tally_links,
+            known,
+            price_transit,
+            working,
+            x,
+        );
+    }
+    step_apply::total_step(
+        z,
+        sharers,
+        grocer_links,
+        working,
+        total_transit,
+        statement,
+        x,
+    )
+}
+
+// From a fresh state, whatever the tables held before, the first n steps of an order: offers, grocers and tallies are linked once.
+pub fn all_steps(
+    z: Sizes,
+    price: &[u32],
+    offer_owner: &[u16],
+    grocer_owner: &[u16],
+    tally_grocer: &[u16],
+    tally_box: &[u16],
+    tally_offer: &[u16],
+    tally_count: &[i32],
+    needs: &[u16; 500],
+    sharers: &[u16; 255],
+    order: &[u16; 1536],
+    n: usize,
+    known: &mut [u32],
+    price_transit: &mut [u32],
+    working: &mut [i64],
+    total_transit: &mut [i64],
+    statement: &mut [i64],
+) -> Sent
+    requires { ⌜ AllIn (jobTables (z .boxes) (z .grocers) (z .offers) (z .tallies) (now price) (now «offer_owner») (now «grocer_owner»)
+        (now «tally_grocer») (now «tally_box») (now «tally_offer») (now «tally_count»)) (withoutMarks (now known) (now «price_transit») (now working)
+        (now «total_transit») (now statement)) (now needs) (now sharers) (now order) n ⌝ }
+    ensures { λ r. ⌜ AllOut (jobOf (jobTables (z .boxes) (z .grocers) (z .offers) (z .tallies) (now (price .entry)) (now («offer_owner» .entry))
+        (now («grocer_owner» .entry)) (now («tally_grocer» .entry)) (now («tally_box» .entry)) (now («tally_offer» .entry))
+        (now («tally_count» .entry)))) (withoutMarks (now (known .entry)) (now («price_transit» .entry)) (now (working .entry))
+        (now («total_transit» .entry)) (now (statement .entry))) (withoutMarks (now (known .exit)) (now («price_transit» .exit)) (now (working .exit))
+        (now («total_transit» .exit)) (now (statement .exit))) (now (order .entry)) n (r .words) (r .messages) ⌝ }
+{
+    run_fresh::fresh_prices(z.boxes, z.offers, price, offer_owner, known, price_transit);
+    run_fresh::fresh_totals(z.boxes, z.grocers, working, total_transit, statement);
+    let offer_links = step_links::offer_links(z.offers, offer_owner);
+    let grocer_links = step_links::grocer_links(z.grocers, grocer_owner);
+    let tally_links = step_links::tally_links(z.tallies, tally_box, tally_offer, offer_owner);
+    let mut sent = Sent {
+        words: 0,
+        messages: 0,
+    };
+    for i in 0..n {
+        let x = step_at(z.boxes, order, i);
+        let more = one_step(
+            z,
+            offer_owner,
+            tally_grocer,
+            tally_offer,
+            tally_count,
+            needs,
+            sharers,
+            &offer_links,
+            &grocer_links,
+            &tally_links,
+            known,
+            price_transit,
+            working,
+            total_transit,
+            statement,
+            x,
+        );
+        sent = sent_more(sent, x.kind, more);
+    }
+    sent
+}

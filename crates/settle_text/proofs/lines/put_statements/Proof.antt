@@ -1,0 +1,64 @@
+-- `settle_text::lines::put_statements` meets its contract. The loop's invariant: the lines of the first g grocers are put. Assumes nothing.
+use mathlib.Core.Path.{_≡_, ap, _∙_}
+use Prim.Native.Nat.{_≤_, _*_, _-_}
+use native.Mathlib.Omega.{arith}
+use denote.Ref.{now}
+use lib.IntN.{ℤ, pos}
+use lib.ListN.{getD}
+use Rattle.laws.proofs.Signed.{read64}
+use Rattle.printing.specs.Cents.{cents}
+use Rattle.printing.specs.Printed.{decimal, signedDecimal, line, grocerLines}
+use Rattle.settle_text.specs.Puts.{Put}
+use Rattle.settle_text.proofs.Puts.{reworded}
+use Rattle.settle_text.proofs.Decimals.{abs-64}
+use Rattle.settle_text.proofs.Grocers.{grocer-none, grocer-more, grocer-short}
+use Rattle.settle_text.proofs.lines.put_statements.Statement.{statement}
+use Rattle.settle_text.proofs.lines.put_statements.Tie as tie
+
+abbrev Inv-loop : tie.InvT-loop
+Inv-loop out₀ grocers statement at₀ g₀ out at g = Put 0 (grocerLines g (λ i. getD statement i (pos 0))) out₀ out at × (at ≤ 25 * g) × (g ≤ grocers)
+
+abbrev μ-loop : tie.MeasureT-loop
+μ-loop out₀ grocers statement at₀ g₀ out at g = grocers - g
+
+loop-holds : tie.Need-loop-holds Inv-loop μ-loop
+loop-holds c = (grocer-none _ _, omega arith, omega arith)
+
+put-statement-requires : tie.Need-put-statement-requires Inv-loop μ-loop
+put-statement-requires c κs = let i = c .before .before .before .before .loop .inv in omega (arith, i .1)
+
+loop-again : tie.Need-loop-again Inv-loop μ-loop
+loop-again c =
+    let k = c .before .before in
+    let l = k .before .before .before .loop in
+    let w = now (k .before .before .before .before .args .statement) in
+    let z = getD w (l .g) (pos 0) in
+    let y = k .cents .result in
+    let e : y ≡ cents z = k .cents .ensures ∙ ap cents (read64 z (k .before .amount .given)) in
+    let q = reworded (ap (λ (x : ℤ). line (decimal (l .g)) (signedDecimal x)) (read64 y (k .cents .ok) ∙ e)) (c .put-statement .ensures) in (
+      grocer-more (l .g) (λ i. getD w i (pos 0)) (l .inv .0) q,
+      omega (arith, q .next, l .inv .1, grocer-short (l .g) (cents z) (omega arith) (rw e at (abs-64 y (record { sfits = k .cents .ok })))),
+      omega arith,
+    )
+
+returns : tie.Need-returns Inv-loop μ-loop
+returns c =
+    let l = c .before .loop in
+    let e : l .g ≡ c .before .before .args .grocers = omega arith in
+    (rw e at (l .inv .0), omega arith)
+
+pub put-statements-spec : {M : Type 1} → statement M
+put-statements-spec =
+    tie.close
+    (tie.spec
+    Inv-loop
+    μ-loop
+    loop-holds
+    (λ c. omega arith)
+    (λ c. omega arith)
+    (λ c κs. tt)
+    put-statement-requires
+    (λ c. omega arith)
+    (λ c. omega arith)
+    loop-again
+    returns)

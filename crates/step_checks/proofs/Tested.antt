@@ -1,0 +1,34 @@
+-- The tests of a state, together. Assumes nothing.
+-- Words below 2 are those up to 1.
+use mathlib.Core.Path.{_≡_, sym, _∙_}
+use mathlib.Core.Bool.{Bool}
+use mathlib.Core.List.{[], _∷_, List}
+use Prim.Native.Nat.{ℕ, _*_}
+use native.Mathlib.Omega.{arith}
+use lib.Dec.{ltb}
+use lib.ListN.{getD}
+use borrow.Author.Tests.{ltb-true, ltb-false, le-leb, lt-leb}
+use Rattle.laws.specs.Limits.{maxPrice, maxAmount, maxSent}
+use Rattle.laws.specs.Checks.{allOf}
+use Rattle.laws.proofs.Bools.{split}
+use Rattle.laws.proofs.Below.{all-cong}
+use Rattle.model.specs.Tables.{StateTables}
+use Rattle.model.specs.Ranges.{upTo, under, around, stateInRange}
+use Rattle.job_checks.specs.Sizes.{sizes}
+
+under-two : (n : ℕ) (l : List ℕ) → under 2 n l ≡ upTo 1 n l
+unfolding under upTo
+under-two n l =
+    all-cong n _ _ (λ i _.
+    split (ltb (getD l i 0) 2)
+    (λ e. e ∙ sym (le-leb (getD l i 0) 1 (omega (arith, ltb-true (getD l i 0) 2 e))))
+    (λ e. e ∙ sym (lt-leb (getD l i 0) 1 (ltb-false (getD l i 0) 2 e))))
+
+-- The tests of the state's tables, at lengths that are the products of K, M and N.
+
+pub words-tested : (k m n : ℕ) (t : StateTables) (kn km kk : ℕ) → kn ≡ k * n → km ≡ k * m → kk ≡ 6 * k * k → (a b c d e g h : Bool) →
+    a ≡ upTo maxPrice kn (t .known) → b ≡ upTo maxPrice kn (t .priceTransit) → c ≡ around maxAmount km (t .working) → d ≡ around maxAmount km (t .totalTransit) →
+    e ≡ around maxAmount m (t .statement) → g ≡ under 2 kk (t .done) → h ≡ upTo maxSent 1 (t .sent) → allOf (a ∷ b ∷ c ∷ d ∷ e ∷ g ∷ h ∷ []) ≡ stateInRange (sizes k m n) t
+unfolding stateInRange
+words-tested k m n t kn km kk kn-is km-is kk-is a b c d e g h a-is b-is c-is d-is e-is g-is h-is =
+    rw (a-is, b-is, c-is, d-is, e-is, g-is, h-is, kn-is, km-is, kk-is, under-two (6 * k * k) (t .done))

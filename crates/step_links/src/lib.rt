@@ -1,0 +1,112 @@
+// Entries linked by key.
+ghost use mathlib.Core.Path.{_≡_};
+ghost use Prim.Native.Nat.{ℕ, _+_, _≤_, _<_};
+ghost use lib.ListN.{length, getD, set, replicate};
+ghost use Rattle.step_links.specs.Links.{pairKey, Keyed, Linked, PairsKeyed, LinkedPairs};
+
+// Keys are 0 to 16, and their first places stand in front of the links.
+pub const HEADS: usize = 17;
+
+// Keys of pairs are 0 to 271, likewise.
+pub const PAIR_HEADS: usize = 272;
+
+// No key has a place yet: each first place is the end.
+fn no_places(heads: usize, end: u16, links: &mut [u16])
+    requires { ⌜ heads ≤ length (now links) ⌝ }
+    ensures { λ _. ⌜ ((v : ℕ) → v < heads → getD (now (links .exit)) v 0 ≡ end) ⌝ }
+{
+    for v in 0..heads {
+        links[v] = end;
+    }
+}
+
+// Entry i goes in front of those of its key v.
+fn put_first(heads: usize, v: usize, i: usize, links: &mut [u16])
+    requires { ⌜ (v < heads) × (heads ≤ 272) × (i < 1_000) × (heads + i < length (now links)) ⌝ }
+    ensures { λ _. ⌜ now (links .exit) ≡ set (set (now (links .entry)) (heads + i) (getD (now (links .entry)) v 0)) v i ⌝ }
+{
+    let j = links[v];
+    links[heads + i] = j;
+    links[v] = i as u16;
+}
+
+// Links n entries, the last one first: each goes in front of those of its key.
+pub fn link(n: usize, keys: &[u16], links: &mut [u16])
+    requires { ⌜ Keyed n (now keys) (now links) ⌝ }
+    ensures { λ _. ⌜ Linked n (now (keys .entry)) (now (links .exit)) ⌝ }
+{
+    no_places(HEADS, n as u16, links);
+    let mut i = n;
+    while i > 0 {
+        i -= 1;
+        put_first(HEADS, slices::index_at(keys, i), i, links);
+    }
+}
+
+// The key of a pair of boxes.
+pub fn pair(a: u16, b: u16) -> usize
+    requires { ⌜ (a ≤ 16) × (b < 16) ⌝ }
+    ensures { λ r. ⌜ r ≡ pairKey a b ⌝ }
+{
+    a as usize * 16 + b as usize
+}
+
+// Links n entries by pairs, likewise: by the box of each, and the owner at its place.
+pub fn link_pairs(n: usize, boxes: &[u16], places: &[u16], owners: &[u16], links: &mut [u16])
+    requires { ⌜ PairsKeyed n (now boxes) (now places) (now owners) (now links) ⌝ }
+    ensures { λ _. ⌜ LinkedPairs n (now (boxes .entry)) (now (places .entry)) (now (owners .entry)) (now (links .exit)) ⌝ }
+{
+    no_places(PAIR_HEADS, n as u16, links);
+    let mut i = n;
+    while i > 0 {
+        i -= 1;
+        let o = slices::index_at(places, i);
+        put_first(
+            PAIR_HEADS,
+            pair(slices::u16_at(boxes, i), slices::u16_at(owners, o)),
+            i,
+            links,
+        );
+    }
+}
+
+// The links of offers by owner: first places, and for each offer the next of its owner.
+pub fn offer_links(offers: u16, offer_owner: &[u16]) -> [u16; 517]
+    requires { ⌜ Keyed offers (now «offer_owner») (replicate 517 0) ⌝ }
+    ensures { λ r. ⌜ Linked offers (now («offer_owner» .entry)) r ⌝ }
+{
+    let mut links = [0u16; 517];
+    link(offers as usize, offer_owner, &mut links);
+    links
+}
+
+// The links of grocers by owner, likewise.
+pub fn grocer_links(grocers: u16, grocer_owner: &[u16]) -> [u16; 272]
+    requires { ⌜ Keyed grocers (now «grocer_owner») (replicate 272 0) ⌝ }
+    ensures { λ r. ⌜ Linked grocers (now («grocer_owner» .entry)) r ⌝ }
+{
+    let mut links = [0u16; 272];
+    link(grocers as usize, grocer_owner, &mut links);
+    links
+}
+
+// The links of tallies by their box and the owner of their offer, likewise.
+pub fn tally_links(
+    tallies: u16,
+    tally_box: &[u16],
+    tally_offer: &[u16],
+    offer_owner: &[u16],
+) -> [u16; 1272]
+    requires { ⌜ PairsKeyed tallies (now «tally_box») (now «tally_offer») (now «offer_owner») (replicate 1_272 0) ⌝ }
+    ensures { λ r. ⌜ LinkedPairs tallies (now («tally_box» .entry)) (now («tally_offer» .entry)) (now («offer_owner» .entry)) r ⌝ }
+{
+    let mut links = [0u16; 1272];
+    link_pairs(
+        tallies as usize,
+        tally_box,
+        tally_offer,
+        offer_owner,
+        &mut links,
+    );
+    links
+}

@@ -1,0 +1,103 @@
+-- The conditions after 20, 21 and 9, on tables that are whole and in range. Assumes nothing.
+use mathlib.Core.Path.{_≡_, refl, sym, ap, _∙_}
+use mathlib.Core.Bool.{Bool, true, false, cond, not}
+use mathlib.Core.List.{List}
+use Prim.Native.Nat.{ℕ, _≤_}
+use native.Mathlib.Omega.{arith}
+use Rattle.laws.specs.Checks.{firstMet}
+use Rattle.laws.specs.Tables.{tabulate}
+use Rattle.model.specs.Job.{needWord, sharerWord}
+use Rattle.model.specs.Steps.{kindOf, Steps, fits, ready}
+use Rattle.model.specs.Tables.{JobTables, jobOf, StateTables, view, stepsDone}
+use Rattle.model.specs.Ranges.{stateInRange}
+use Rattle.model.specs.Step.{Asked, isKind, boxesFit, stepRules, moved}
+use Rattle.step_rules.specs.Rules.{ReceiversOf, WaitsOf}
+use Rattle.step_checks.specs.Request.{rulesBy}
+use Rattle.step_apply.specs.Apply.{Applies}
+use Rattle.step_refusal.specs.Late.{laterRules, Held}
+use Rattle.model.proofs.Step.{range}
+use Rattle.model.proofs.Whole.{JobWhole, job-whole, StateWhole, state-whole}
+use Rattle.step_prices.proofs.Effect.{steps-done}
+use Rattle.step_refusal.proofs.Extra.{met-first}
+use Rattle.step_checks.proofs.Asked.{rules-are}
+
+-- No condition of 22 to 26 is met: the late one decides.
+last-decides : (i x f d r c : Bool) → cond {A = ℕ} (not i) 22 (cond (not x) 23 (cond (not f) 24 (cond d 25 (cond (not r) 26 0)))) ≡ 0 →
+    cond {A = ℕ} (not i) 22 (cond (not x) 23 (cond (not f) 24 (cond d 25 (cond (not r) 26 (cond c 21 0))))) ≡ cond c 21 0
+last-decides false x f d r c h = absurd (omega arith)
+last-decides true false f d r c h = absurd (omega arith)
+last-decides true true false d r c h = absurd (omega arith)
+last-decides true true true true r c h = absurd (omega arith)
+last-decides true true true false false c h = absurd (omega arith)
+last-decides true true true false true c h = refl
+
+-- And the kind and its boxes are in order.
+in-order : (i x f d r : Bool) → cond {A = ℕ} (not i) 22 (cond (not x) 23 (cond (not f) 24 (cond d 25 (cond (not r) 26 0)))) ≡ 0 → (i ≡ true) × (x ≡ true)
+in-order false x f d r h = absurd (omega arith)
+in-order true false f d r h = absurd (omega arith)
+in-order true true f d r h = (refl, refl)
+
+module _ (f : JobTables) (t : StateTables) (h : Held f t) where
+  pub whole : JobWhole f
+  whole = job-whole f (h .job-long)
+
+  pub whole-state : StateWhole (f .boxes) (f .grocers) (f .offers) t
+  whole-state = state-whole f t (h .state-long)
+
+  pub few-boxes : f .boxes ≤ 16
+  unfolding jobOf
+  few-boxes = range f (h .job-in .inside) .boxes≤
+
+  -- With the words of receivers or of waits, as the kind's side asks.
+  module _ (receivers : List ℕ) (waits : List (List ℕ)) (q : Asked) (hr : q .kind ≤ 3 → ReceiversOf (jobOf f) receivers) (hw : 4 ≤ q .kind → WaitsOf (jobOf f) waits)
+      (r : ℕ) (er : r ≡ firstMet (rulesBy (f .boxes) receivers waits (stepsDone (f .boxes) (t .done)) q)) where
+    abbrev steps : Steps
+    steps = view (jobOf f) t .done
+
+    -- What the code's rules give is the model's.
+    rules-model : r ≡ firstMet (stepRules (jobOf f) steps q)
+    unfolding jobOf
+    rules-model =
+        er ∙ ap (λ (d : Steps). firstMet (rulesBy (f .boxes) receivers waits d q)) (sym (steps-done (jobOf f) t))
+        ∙ rules-are (jobOf f) receivers waits (view (jobOf f) t .done) q hr hw
+
+    -- A condition of 22 to 26 is met.
+    pub later-met : (r ≡ 0 → ⊥) → r ≡ firstMet (laterRules f t q)
+    unfolding laterRules
+    later-met ne = rules-model ∙ sym (met-first (stepRules (jobOf f) steps q) _ (λ z. ne (rules-model ∙ z)))
+
+    -- None is.
+    module _ (z : r ≡ 0) where
+      kind-boxes : (isKind (q .kind) ≡ true) × (boxesFit (jobOf f) (kindOf (q .kind)) (q .first) (q .second) ≡ true)
+      unfolding firstMet stepRules
+      kind-boxes =
+          in-order (isKind (q .kind)) (boxesFit (jobOf f) (kindOf (q .kind)) (q .first) (q .second)) (fits (jobOf f) (kindOf (q .kind)) (q .first) (q .second))
+          (steps (kindOf (q .kind)) (q .first) (q .second)) (ready (jobOf f) steps (kindOf (q .kind)) (q .first) (q .second)) (sym rules-model ∙ z)
+
+      -- What is asked of the step that is applied.
+      pub applies : (needs sharers : List ℕ) → (q .kind ≤ 3 → needs ≡ tabulate 500 (needWord (jobOf f))) → (4 ≤ q .kind → sharers ≡ tabulate 255 (sharerWord (jobOf f))) → Applies f t needs sharers q
+      applies needs sharers en es = record {
+        job-in = h .job-in;
+        job-long = h .job-long;
+        state-long = h .state-long;
+        state-in = h .state-in;
+        needs-are = en;
+        sharers-are = es;
+        kind-in = kind-boxes .0;
+        boxes-fit = kind-boxes .1;
+      }
+
+      module _ (v : Bool) (ev : v ≡ stateInRange f (moved f t q)) where
+        late-decides : firstMet (laterRules f t q) ≡ cond (not v) 21 0
+        unfolding firstMet laterRules stepRules
+        late-decides =
+            last-decides (isKind (q .kind)) (boxesFit (jobOf f) (kindOf (q .kind)) (q .first) (q .second)) (fits (jobOf f) (kindOf (q .kind)) (q .first) (q .second))
+            (steps (kindOf (q .kind)) (q .first) (q .second)) (ready (jobOf f) steps (kindOf (q .kind)) (q .first) (q .second)) (not (stateInRange f (moved f t q))) (sym rules-model ∙ z)
+            ∙ ap (λ (b : Bool). cond {A = ℕ} (not b) 21 0) (sym ev)
+
+        -- The late 21, and none.
+        pub later-late : not v ≡ true → 21 ≡ firstMet (laterRules f t q)
+        later-late e = sym (late-decides ∙ rw e)
+
+        pub later-none : not v ≡ false → 0 ≡ firstMet (laterRules f t q)
+        later-none e = sym (late-decides ∙ rw e)

@@ -1,0 +1,102 @@
+-- The conditions 20, 21 and 9, and the whole answer in two parts. Assumes nothing.
+use mathlib.Core.Path.{_≡_, refl, sym, _∙_}
+use mathlib.Core.Bool.{Bool, true, false, cond, _&&_, _||_, not}
+use mathlib.Core.List.{List}
+use Prim.Native.Nat.{ℕ}
+use native.Mathlib.Omega.{arith}
+use Rattle.laws.specs.Checks.{firstMet}
+use Rattle.laws.proofs.Bools.{and-l, and-r, or-off}
+use Rattle.recount.specs.Recount.{countedTwice}
+use Rattle.model.specs.Tables.{JobTables, countedOf, jobLengths, jobShort, bagsShort, StateTables, stateLengths, stateShort, lentShort}
+use Rattle.model.specs.Ranges.{jobInRange, stateInRange}
+use Rattle.model.specs.Step.{Asked, refusals, stepRefusal}
+use Rattle.model.specs.Handed.{handedTables, Standing}
+use Rattle.model.proofs.Handed.{handed-whole, handed-in, handed-refusal}
+use Rattle.job_checks.specs.Sizes.{sizes}
+use Rattle.step_refusal.specs.Late.{earlyRules, laterRules, Held}
+use Rattle.job_checks.proofs.Sizes.{short-sizes, range-sizes}
+use Rattle.step_refusal.proofs.Extra.{met-first}
+
+-- What the tests of lengths say: job, bags and state.
+module _ (f : JobTables) (t : StateTables) (x b y : Bool) (ex : x ≡ jobShort f (jobLengths f)) (eb : b ≡ bagsShort f (jobLengths f))
+    (ey : y ≡ stateShort (sizes (f .boxes) (f .grocers) (f .offers)) (stateLengths t)) where
+  short-is : ((x || b) || y) ≡ lentShort f t
+  unfolding lentShort
+  short-is = rw (ex, eb, ey ∙ short-sizes f (stateLengths t))
+
+  -- 20: a table is lent short.
+  pub met-short : ((x || b) || y) ≡ true → 20 ≡ firstMet (earlyRules f t)
+  unfolding earlyRules firstMet
+  met-short h = rw (sym short-is ∙ h)
+
+  module _ (h : ((x || b) || y) ≡ false) where
+    pub job-long : jobShort f (jobLengths f) ≡ false
+    job-long = sym ex ∙ or-off x b (or-off (x || b) y h .0) .0
+
+    pub bags-long : bagsShort f (jobLengths f) ≡ false
+    bags-long = sym eb ∙ or-off x b (or-off (x || b) y h .0) .1
+
+    pub state-long : stateShort (sizes (f .boxes) (f .grocers) (f .offers)) (stateLengths t) ≡ false
+    state-long = sym ey ∙ or-off (x || b) y h .1
+
+    module _ (u v : Bool) (eu : u ≡ jobInRange f) (ev : v ≡ stateInRange (sizes (f .boxes) (f .grocers) (f .offers)) t) where
+      range-is : (u && v) ≡ (jobInRange f && stateInRange f t)
+      range-is = rw (eu, ev ∙ range-sizes f t)
+
+      -- 21: a word is out of range.
+      pub met-range : not (u && v) ≡ true → 21 ≡ firstMet (earlyRules f t)
+      unfolding earlyRules firstMet
+      met-range g = rw (sym short-is ∙ h, sym range-is, g)
+
+      module _ (g : not (u && v) ≡ false) where
+        -- The job's words are in range.
+        pub job-inside : jobInRange f ≡ true
+        job-inside = sym eu ∙ and-l u v (not-off (u && v) g)
+          where
+            not-off : (b : Bool) → not b ≡ false → b ≡ true
+            not-off true e = refl
+            not-off false e = sym e
+
+        module _ (c : Bool) (ec : c ≡ countedTwice (countedOf f)) where
+          -- 9: one bag and revision twice.
+          pub met-twice : c ≡ true → 9 ≡ firstMet (earlyRules f t)
+          unfolding earlyRules firstMet
+          met-twice e = rw (sym short-is ∙ h, sym range-is, g, sym ec ∙ e)
+
+          -- None of them.
+          pub met-none : c ≡ false → 0 ≡ firstMet (earlyRules f t)
+          unfolding earlyRules firstMet
+          met-none e = rw (sym short-is ∙ h, sym range-is, g, sym ec ∙ e)
+
+module _ (f : JobTables) (t : StateTables) where
+  -- One of 20, 21 and 9 is met: it is the answer.
+  pub answer-early : (q : Asked) (r : ℕ) → r ≡ firstMet (earlyRules f t) → (r ≡ 0 → ⊥) → r ≡ stepRefusal f t q
+  unfolding stepRefusal refusals earlyRules laterRules
+  answer-early q r e n = e ∙ sym (met-first (earlyRules f t) (laterRules f t q) (λ z. n (e ∙ z)))
+
+  neither : (a b c : Bool) → cond {A = ℕ} a 20 (cond (not b) 21 (cond c 9 0)) ≡ 0 → (a ≡ false) × ((b ≡ true) × (c ≡ false))
+  neither true b c h = absurd (omega arith)
+  neither false false c h = absurd (omega arith)
+  neither false true true h = absurd (omega arith)
+  neither false true false h = (refl, (refl, refl))
+
+  -- None is met: the tables with the boxes of the tallies that stand are whole and in range, and the later conditions decide.
+  module _ (z : firstMet (earlyRules f t) ≡ 0) (standing : List ℕ) (s : Standing f standing) where
+    all-off : (lentShort f t ≡ false) × (((jobInRange f && stateInRange f t) ≡ true) × (countedTwice (countedOf f) ≡ false))
+    unfolding earlyRules firstMet
+    all-off = neither (lentShort f t) (jobInRange f && stateInRange f t) (countedTwice (countedOf f)) z
+
+    pub held : Held (handedTables f standing) t
+    unfolding lentShort stateShort stateInRange
+    held =
+        let l = or-off (jobShort f (jobLengths f) || bagsShort f (jobLengths f)) (stateShort f (stateLengths t)) (all-off .0) in
+        record {
+          job-long = handed-whole f standing s (or-off (jobShort f (jobLengths f)) (bagsShort f (jobLengths f)) (l .0) .0);
+          state-long = l .1;
+          job-in = handed-in f standing s (and-l (jobInRange f) (stateInRange f t) (all-off .1 .0));
+          state-in = and-r (jobInRange f) (stateInRange f t) (all-off .1 .0);
+        }
+
+    pub answer-later : (q : Asked) (r : ℕ) → r ≡ firstMet (laterRules (handedTables f standing) t q) → r ≡ stepRefusal f t q
+    unfolding laterRules
+    answer-later q r e = e ∙ sym (handed-refusal f standing s t q (all-off .0) (all-off .1 .0) (all-off .1 .1))

@@ -1,0 +1,281 @@
+// The refusal of a step: its number for every input.
+ghost use mathlib.Core.Path.{_≡_};
+ghost use mathlib.Core.Bool.{cond};
+ghost use Prim.Native.Nat.{_*_, _≤_};
+ghost use lib.ListN.{length, replicate};
+ghost use Rattle.laws.specs.Checks.{firstMet};
+ghost use Rattle.model.specs.Tables.{bagTables, stateTables, stepsDone};
+ghost use Rattle.model.specs.Step.{asked};
+ghost use Rattle.job_masks.specs.Masks.{Owned, byOwner};
+ghost use Rattle.step_waits.specs.Waits.{tallyLists, WaitsIn, waitTable};
+ghost use Rattle.step_checks.specs.Request.{rulesBy};
+ghost use Rattle.step_refusal.specs.Late.{Early, Decided};
+use bag_standing::standing_boxes;
+use job_checks::checks::bags_short;
+use job_checks::checks::job_in_range;
+use job_checks::checks::job_short;
+use job_masks::masks::by_owner;
+use step_apply::Sizes;
+use step_apply::Step;
+use step_checks::finish::price_fits;
+use step_checks::finish::total_fits;
+use step_checks::request::request_refusal;
+use step_checks::state::state_in_range;
+use step_checks::state::state_short;
+use step_waits::waits;
+
+// The first of the conditions 20, 21 and 9 that is met, or 0. Where none is, `standing` has the box of each tally that stands, and 16 for the others.
+pub fn early_refusal(
+    z: Sizes,
+    price: &[u32],
+    offer_owner: &[u16],
+    grocer_owner: &[u16],
+    tally_grocer: &[u16],
+    tally_box: &[u16],
+    tally_offer: &[u16],
+    tally_count: &[i32],
+    tally_bag: &[u16],
+    tally_revision: &[u16],
+    known: &[u32],
+    price_transit: &[u32],
+    working: &[i64],
+    total_transit: &[i64],
+    statement: &[i64],
+    done: &[u16],
+    sent: &[u32],
+    standing: &mut [u16; 1000],
+) -> u16
+    ensures { λ r. ⌜ Early
+        (bagTables (z .boxes) (z .grocers) (z .offers) (z .tallies) (now (price .entry)) (now («offer_owner» .entry)) (now («grocer_owner» .entry))
+        (now («tally_grocer» .entry)) (now («tally_box» .entry)) (now («tally_offer» .entry)) (now («tally_count» .entry))
+        (now («tally_bag» .entry)) (now («tally_revision» .entry)))
+        (stateTables (now (known .entry)) (now («price_transit» .entry)) (now (working .entry)) (now («total_transit» .entry))
+        (now (statement .entry)) (now (done .entry)) (now (sent .entry))) (now (standing .exit)) r ⌝ }
+{
+    if job_short(
+        z.grocers,
+        z.offers,
+        z.tallies,
+        price,
+        offer_owner,
+        grocer_owner,
+        tally_grocer,
+        tally_box,
+        tally_offer,
+        tally_count,
+    )
+        | bags_short(z.tallies, tally_bag, tally_revision)
+        | state_short(
+            z.boxes,
+            z.grocers,
+            z.offers,
+            known,
+            price_transit,
+            working,
+            total_transit,
+            statement,
+            done,
+            sent,
+        )
+    {
+        return 20;
+    }
+    if !(job_in_range(
+        z.boxes,
+        z.grocers,
+        z.offers,
+        z.tallies,
+        price,
+        offer_owner,
+        grocer_owner,
+        tally_grocer,
+        tally_box,
+        tally_offer,
+        tally_count,
+    )
+        & state_in_range(
+            z.boxes,
+            z.grocers,
+            z.offers,
+            known,
+            price_transit,
+            working,
+            total_transit,
+            statement,
+            done,
+            sent,
+        )) {
+        return 21;
+    }
+    if standing_boxes(
+        z.tallies as usize,
+        tally_grocer,
+        tally_box,
+        tally_offer,
+        tally_bag,
+        tally_revision,
+        standing,
+    ) {
+        return 9;
+    }
+    0
+}
+
+// Kinds 1 to 3: the first of the conditions 22 to 26 that is met, or 0, with the need words.
+fn prices_asked(z: Sizes, offer_owner: &[u16], needs: &[u16; 500], done: &[u16], x: Step) -> u16
+    requires { ⌜ Owned (z .offers) (now «offer_owner») (now needs) ⌝ }
+    requires { ⌜ (z .boxes ≤ 16) × (6 * z .boxes * z .boxes ≤ length (now done)) ⌝ }
+    ensures { λ r. ⌜ r ≡ firstMet (rulesBy (z .boxes) (byOwner (z .offers) (now («offer_owner» .entry)) (now (needs .entry)))
+        (replicate 16 (replicate 16 0)) (stepsDone (z .boxes) (now (done .entry))) (asked (x .kind) (x .first) (x .second))) ⌝ }
+{
+    let to = by_owner(z.offers, offer_owner, needs);
+    let row = [0u16; 16];
+    let none = [row; 16];
+    request_refusal(z.boxes, x.kind, x.first, x.second, &to, &none, done)
+}
+
+// Kinds 4 to 6, likewise, with the words of waits.
+fn totals_asked(
+    z: Sizes,
+    offer_owner: &[u16],
+    grocer_owner: &[u16],
+    tally_grocer: &[u16],
+    tally_box: &[u16],
+    tally_offer: &[u16],
+    done: &[u16],
+    x: Step,
+) -> u16
+    requires { ⌜ WaitsIn (z .boxes) (z .tallies) (tallyLists (now «offer_owner») (now «grocer_owner») (now «tally_grocer») (now «tally_box»)
+        (now «tally_offer»)) ⌝ }
+    requires { ⌜ (z .boxes ≤ 16) × (6 * z .boxes * z .boxes ≤ length (now done)) ⌝ }
+    ensures { λ r. ⌜ r ≡ firstMet (rulesBy (z .boxes) (replicate 16 0) (waitTable (z .boxes) (tallyLists (now («offer_owner» .entry))
+        (now («grocer_owner» .entry)) (now («tally_grocer» .entry)) (now («tally_box» .entry)) (now («tally_offer» .entry))) (z .tallies))
+        (stepsDone (z .boxes) (now (done .entry))) (asked (x .kind) (x .first) (x .second))) ⌝ }
+{
+    let from = waits(
+        z.boxes,
+        z.tallies,
+        offer_owner,
+        grocer_owner,
+        tally_grocer,
+        tally_box,
+        tally_offer,
+    );
+    let none = [0u16; 16];
+    request_refusal(z.boxes, x.kind, x.first, x.second, &none, &from, done)
+}
+
+// 0 where what the step leaves is in range, else 21.
+fn late(fits: bool) -> u16
+    ensures { λ r. ⌜ r ≡ cond fits 0 21 ⌝ }
+{
+    if fits {
+        return 0;
+    }
+    21
+}
+
+// The number of the first condition that is met, or 0. Where none is, the words of the tallies that stand are left, need words in `needs` for
+// kinds 1 to 3 and sharer words in `sharers` for 4 to 6, and their boxes in `standing`, with 16 for the others. A kind makes the words of its side alone.
+pub fn refusal(
+    z: Sizes,
+    price: &[u32],
+    offer_owner: &[u16],
+    grocer_owner: &[u16],
+    tally_grocer: &[u16],
+    tally_box: &[u16],
+    tally_offer: &[u16],
+    tally_count: &[i32],
+    tally_bag: &[u16],
+    tally_revision: &[u16],
+    known: &[u32],
+    price_transit: &[u32],
+    working: &[i64],
+    total_transit: &[i64],
+    statement: &[i64],
+    done: &[u16],
+    sent: &[u32],
+    needs: &mut [u16; 500],
+    sharers: &mut [u16; 255],
+    standing: &mut [u16; 1000],
+    x: Step,
+) -> u16
+    ensures { λ r. ⌜ Decided
+        (bagTables (z .boxes) (z .grocers) (z .offers) (z .tallies) (now (price .entry)) (now («offer_owner» .entry)) (now («grocer_owner» .entry))
+        (now («tally_grocer» .entry)) (now («tally_box» .entry)) (now («tally_offer» .entry)) (now («tally_count» .entry))
+        (now («tally_bag» .entry)) (now («tally_revision» .entry)))
+        (stateTables (now (known .entry)) (now («price_transit» .entry)) (now (working .entry)) (now («total_transit» .entry))
+        (now (statement .entry)) (now (done .entry)) (now (sent .entry)))
+        (asked (x .kind) (x .first) (x .second)) (now (needs .exit)) (now (sharers .exit)) (now (standing .exit)) r ⌝ }
+{
+    let early = early_refusal(
+        z,
+        price,
+        offer_owner,
+        grocer_owner,
+        tally_grocer,
+        tally_box,
+        tally_offer,
+        tally_count,
+        tally_bag,
+        tally_revision,
+        known,
+        price_transit,
+        working,
+        total_transit,
+        statement,
+        done,
+        sent,
+        standing,
+    );
+    if early != 0 {
+        return early;
+    }
+    if x.kind <= 3 {
+        let needing = job_masks::masks::needs(z.boxes, z.tallies, standing, tally_offer);
+        *needs = needing;
+        let r = prices_asked(z, offer_owner, &needing, done, x);
+        if r != 0 {
+            return r;
+        }
+        return late(price_fits(
+            z,
+            offer_owner,
+            tally_grocer,
+            standing,
+            tally_offer,
+            tally_count,
+            &needing,
+            known,
+            price_transit,
+            working,
+            sent,
+            x,
+        ));
+    }
+    let sharing = job_masks::masks::sharers(z.boxes, z.tallies, standing, tally_grocer);
+    *sharers = sharing;
+    let r = totals_asked(
+        z,
+        offer_owner,
+        grocer_owner,
+        tally_grocer,
+        standing,
+        tally_offer,
+        done,
+        x,
+    );
+    if r != 0 {
+        return r;
+    }
+    late(total_fits(
+        z,
+        grocer_owner,
+        &sharing,
+        working,
+        total_transit,
+        statement,
+        sent,
+        x,
+    ))
+}

@@ -1,0 +1,79 @@
+// The row of a box, multiplied.
+ghost use mathlib.Core.Path.{_≡_};
+ghost use mathlib.Core.List.{List};
+ghost use Prim.Native.Nat.{ℕ, _+_, _*_, _≤_, _<_};
+ghost use lib.ListN.{length, getD};
+ghost use lib.IntN.{pos, natAbs};
+ghost use Rattle.step_links.specs.Links.{Some};
+ghost use Rattle.step_totals.specs.Row.{tallies, RowIn, TallyIn, RowTallies, TalliesLinked, raised, productAt, productRow, putRow};
+use crate::walk::begin_pair;
+use crate::walk::next_pair;
+use slices::amounts::amount;
+use slices::amounts::raise_at;
+use slices::amounts::row_start;
+use slices::i32_at;
+use slices::index_at;
+use slices::u32_at;
+
+// Adds count × price of tally i to a row that begins at a place, at its grocer.
+pub fn add_tally(
+    at: usize,
+    base: usize,
+    i: usize,
+    tally_grocer: &[u16],
+    tally_offer: &[u16],
+    tally_count: &[i32],
+    prices: &[u32],
+    row: &mut [i64],
+)
+    requires { ⌜ TallyIn (now «tally_grocer») (now «tally_offer») (now «tally_count») (now prices) at i ⌝ }
+    requires { ⌜ (base + getD (now «tally_grocer») i 0 < length (now row)) × (natAbs (getD (now row) (base + getD (now «tally_grocer») i 0) (pos 0)) ≤
+        2_000_000_000_000_000) ⌝ }
+    ensures { λ _. ⌜ now (row .exit) ≡ raised (now (row .entry)) (base + getD (now («tally_grocer» .entry)) i 0)
+        (productAt (now («tally_offer» .entry)) (now («tally_count» .entry)) (now (prices .entry)) at i) ⌝ }
+{
+    let p = at + index_at(tally_offer, i);
+    let x = amount(i32_at(tally_count, i), u32_at(prices, p));
+    let g = base + index_at(tally_grocer, i);
+    raise_at(row, g, x);
+}
+
+// Multiplies the tallies of box a whose offers box `from` owns into row a of the working totals, in place, by a walk over these alone.
+pub fn add_products(
+    m: usize,
+    n: usize,
+    t: usize,
+    a: u16,
+    from: u16,
+    tally_links: &[u16; 1272],
+    tally_grocer: &[u16],
+    tally_offer: &[u16],
+    tally_count: &[i32],
+    prices: &[u32],
+    working: &mut [i64],
+)
+    requires { ⌜ RowTallies m n t a (now «tally_grocer») (now «tally_offer») (now «tally_count») (now prices) ⌝ }
+    requires { ⌜ RowIn m a (now working) ⌝ }
+    requires { ⌜ (from < 16) × Some (λ owner. Some (λ holder. TalliesLinked t owner holder (now «tally_offer») (now «tally_links»))) ⌝ }
+    ensures { λ _. ⌜ ((owner holder : List ℕ) → TalliesLinked t owner holder (now («tally_offer» .entry)) (now («tally_links» .entry)) →
+        (k : ℕ) → a < k → k * m ≤ length (now (working .entry)) →
+        now (working .exit) ≡ putRow k m a (productRow (tallies k m n t owner (now («tally_grocer» .entry)) holder
+        (now («tally_offer» .entry)) (now («tally_count» .entry))) (now (prices .entry)) a from (now (working .entry))) (now (working .entry))) ⌝ }
+{
+    let at = row_start(n, a);
+    let base = row_start(m, a);
+    let mut i = begin_pair(a, from, tally_links);
+    while i < t {
+        add_tally(
+            at,
+            base,
+            i,
+            tally_grocer,
+            tally_offer,
+            tally_count,
+            prices,
+            working,
+        );
+        i = next_pair(i, tally_links);
+    }
+}

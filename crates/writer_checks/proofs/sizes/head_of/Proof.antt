@@ -1,0 +1,16 @@
+-- `writer_checks::sizes::head_of` meets its contract. Assumes nothing.
+use borrow.Author.Needs.{needs}
+use Rattle.writer_checks.proofs.sizes.head_of.Statement.{statement}
+use Rattle.writer_checks.proofs.sizes.head_of.Tie as tie
+
+returns : tie.Need-returns
+returns c =
+    let n = c .before in
+    let m = n .before in
+    let k = m .before in (
+      rw (k .size-of .ensures .0, m .size-of2 .ensures .0, n .size-of3 .ensures .0, c .size-of4 .ensures .0),
+      record { grocers = m .size-of2 .ensures .1; offers = n .size-of3 .ensures .1; tallies = c .size-of4 .ensures .1 },
+    )
+
+pub head-of-spec : {M : Type 1} → statement M
+head-of-spec = tie.close (tie.spec (λ c κs. search needs) (λ c κs. search needs) (λ c κs. search needs) (λ c κs. search needs) returns)

@@ -1,0 +1,118 @@
+// 20: lengths, by K, M, N and T as they are given.
+ghost use mathlib.Core.Path.{_≡_};
+ghost use Prim.Native.Nat.{_*_, _≤_};
+ghost use Rattle.format.specs.Job.{headOf};
+ghost use Rattle.format.specs.Blocks.{blockCount};
+ghost use Rattle.format.specs.Tables.{shortOffers, shortTallies, shortWriter};
+ghost use Rattle.format.specs.Lent.{offersLent, talliesLent, fileLent};
+ghost use Rattle.file_blocks.specs.Due.{asHead, Fits};
+use file_blocks::codes::CODE_BYTES;
+use file_blocks::plan::Head;
+use file_blocks::plan::block_count;
+
+// A 16-bit number as a size.
+pub fn size_of(x: u16) -> usize
+    ensures { λ r. ⌜ (r ≡ x) × (r ≤ 65535) ⌝ }
+{
+    x as usize
+}
+
+// K, M, N and T as given, and the cycle.
+pub fn head_of(boxes: u16, grocers: u16, offers: u16, tallies: u16, cycle: u16) -> Head
+    ensures { λ r. ⌜ (asHead r ≡ headOf boxes grocers offers tallies cycle) × Fits (asHead r) ⌝ }
+{
+    let k = size_of(boxes);
+    let m = size_of(grocers);
+    let n = size_of(offers);
+    let t = size_of(tallies);
+    Head {
+        boxes: k,
+        grocers: m,
+        offers: n,
+        tallies: t,
+        cycle: cycle,
+    }
+}
+
+// The length of the file.
+pub fn file_length(head: Head) -> usize
+    requires { ⌜ Fits (asHead head) ⌝ }
+    ensures { λ r. ⌜ r ≡ 512 * blockCount (asHead head) ⌝ }
+{
+    512 * block_count(head)
+}
+
+// 20 of the tables of n offers.
+fn short_offers(
+    n: usize,
+    price: &[u32],
+    offer_owner: &[u16],
+    offer_code: &[u8],
+    offer_issuer: &[u16],
+) -> bool
+    requires { ⌜ n ≤ 65535 ⌝ }
+    ensures { λ r. ⌜ r ≡ shortOffers n (offersLent price «offer_owner» «offer_code» «offer_issuer») ⌝ }
+{
+    (price.len() < n)
+        | (offer_owner.len() < n)
+        | (offer_code.len() < n * CODE_BYTES)
+        | (offer_issuer.len() < n)
+}
+
+// 20 of the tables of t tallies.
+fn short_tallies(
+    t: usize,
+    tally_grocer: &[u16],
+    tally_box: &[u16],
+    tally_code: &[u8],
+    tally_count: &[i32],
+    tally_issuer: &[u16],
+    tally_bag: &[u16],
+    tally_revision: &[u16],
+) -> bool
+    requires { ⌜ t ≤ 65535 ⌝ }
+    ensures { λ r. ⌜ r ≡ shortTallies t (talliesLent «tally_grocer» «tally_box» «tally_code» «tally_count» «tally_issuer» «tally_bag» «tally_revision») ⌝ }
+{
+    (tally_grocer.len() < t)
+        | (tally_box.len() < t)
+        | (tally_code.len() < t * CODE_BYTES)
+        | (tally_count.len() < t)
+        | (tally_issuer.len() < t)
+        | (tally_bag.len() < t)
+        | (tally_revision.len() < t)
+}
+
+// 20: whether a table, or the buffer for the file, is shorter than K, M, N and T as given need.
+pub fn short_writer(
+    head: Head,
+    price: &[u32],
+    offer_owner: &[u16],
+    offer_code: &[u8],
+    offer_issuer: &[u16],
+    grocer_owner: &[u16],
+    tally_grocer: &[u16],
+    tally_box: &[u16],
+    tally_code: &[u8],
+    tally_count: &[i32],
+    tally_issuer: &[u16],
+    tally_bag: &[u16],
+    tally_revision: &[u16],
+    out: &[u8],
+) -> bool
+    requires { ⌜ Fits (asHead head) ⌝ }
+    ensures { λ r. ⌜ r ≡ shortWriter (asHead head) (fileLent price «offer_owner» «offer_code» «offer_issuer» «grocer_owner» «tally_grocer» «tally_box»
+        «tally_code» «tally_count» «tally_issuer» «tally_bag» «tally_revision») (now (out .entry)) ⌝ }
+{
+    let offers = short_offers(head.offers, price, offer_owner, offer_code, offer_issuer);
+    let tallies = short_tallies(
+        head.tallies,
+        tally_grocer,
+        tally_box,
+        tally_code,
+        tally_count,
+        tally_issuer,
+        tally_bag,
+        tally_revision,
+    );
+    offers | (grocer_owner.len() < head.grocers) | tallies | (out.len() < file_length(head))
+}
