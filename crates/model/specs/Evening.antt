@@ -10,13 +10,13 @@ use Rattle.model.specs.Local.{localOffers, localGrocers}
 use Rattle.model.specs.Cases.{jobE, tablesInTurn}
 
 -- The steps of E in the order of a run without choices.
-abbrev pub inOrder : List Asked
-inOrder =
+abbrev pub eveningSteps : List Asked
+eveningSteps =
     asked 1 0 1 ∷ asked 1 1 0 ∷ asked 2 0 0 ∷ asked 2 1 1 ∷ asked 3 0 1 ∷ asked 3 1 0 ∷ asked 4 0 1 ∷ asked 5 0 0 ∷ asked 5 1 1 ∷ asked 6 1 0 ∷ []
 
 -- E's state after its first n steps.
 abbrev pub eveningAfter : ℕ → StateTables
-eveningAfter n = tablesInTurn jobE (take n inOrder)
+eveningAfter n = tablesInTurn jobE (take n eveningSteps)
 
 -- The prices that box 0 and box 1 know, those on their way to each, by offer, and the words sent.
 abbrev pub pricesHeld : StateTables → List ℕ
