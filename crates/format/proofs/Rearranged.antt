@@ -21,9 +21,11 @@ use Rattle.format.proofs.Write.{read-back}
 
 -- The job itself, in another order.
 module _ (j : FileJob) (p q r s : ℕ → ℕ) (tallies : Order (j .head .tallies) p q) (offers : Order (j .head .offers) r s) where
+  -- The job with its records in that order.
   abbrev moved : FileJob
   moved = inOrder p r j
 
+  -- 6 is met alike,
   records-moved : badRecords moved ≡ badRecords j
   unfolding badRecords
   records-moved =
@@ -32,6 +34,7 @@ module _ (j : FileJob) (p q r s : ℕ → ℕ) (tallies : Order (j .head .tallie
         any-moved (j .head .tallies) p q tallies (λ t. badTally (j .head) (j .tally t)),
       )
 
+  -- and so is 7.
   shared-moved : shared moved ≡ shared j
   unfolding shared
   shared-moved =
@@ -42,6 +45,7 @@ module _ (j : FileJob) (p q r s : ℕ → ℕ) (tallies : Order (j .head .tallie
   unfolding names
   some-moved t = any-moved (j .head .offers) r s offers (names j (p t))
 
+  -- So 8 is met alike.
   unnamed-moved : unnamed moved ≡ unnamed j
   unfolding unnamed
   unnamed-moved =
@@ -56,10 +60,11 @@ module _ (j : FileJob) (p q r s : ℕ → ℕ) (tallies : Order (j .head .tallie
         some-moved t
         ∙ not-false _ (any-none (j .head .tallies) (λ t. not (any (j .head .offers) (names j t))) (p t) (tallies .inside t l) named)
 
+    -- whose place is below N,
     pub place-in : (t : ℕ) → t < j .head .tallies → placeOf moved t < j .head .offers
     place-in t l = named-place moved t (has-moved t l) .0
 
-    -- which is the one that it named.
+    -- and which is the one that it named.
     pub place-moved : (t : ℕ) → t < j .head .tallies → r (placeOf moved t) ≡ placeOf j (p t)
     place-moved t l =
         sym (only-place j (p t) apart (r (placeOf moved t)) (offers .inside (placeOf moved t) (place-in t l)) (named-place moved t (has-moved t l) .1))
@@ -74,6 +79,7 @@ module _ (j : FileJob) (p q r s : ℕ → ℕ) (tallies : Order (j .head .tallie
         ∙ ap s (place-moved t l ∙ eqb-true (placeOf j (p t)) (placeOf j (p u)) h ∙ sym (place-moved u m))
         ∙ offers .here (placeOf moved u) (place-in u m)))
 
+    -- So the rule looks at the same counts in another order:
     reordered : Reordered (countedTallies j) (countedTallies moved) p q
     unfolding countedTallies
     reordered = record {
@@ -85,24 +91,26 @@ module _ (j : FileJob) (p q r s : ℕ → ℕ) (tallies : Order (j .head .tallie
       revision = λ t l. refl;
     }
 
-    -- So the same tallies stand, and 9 is met alike.
+    -- the same tallies stand,
     pub stands-moved : (t : ℕ) → t < j .head .tallies → stands (countedTallies moved) t ≡ stands (countedTallies j) (p t)
     unfolding countedTallies
     stands-moved = recount-laws .order (countedTallies j) (countedTallies moved) p q reordered
 
+    -- and 9 is met alike.
     twice-moved : countedTwice (countedTallies moved) ≡ countedTwice (countedTallies j)
     twice-moved = recount-laws .orderTwice (countedTallies j) (countedTallies moved) p q reordered
 
 -- A job with the words of another in another order.
 module _ (j j′ : FileJob) (p q r s : ℕ → ℕ) (x : Rearranged j j′ p q r s) where
-  -- The job that it has the words of; 6 is met by it where j meets 6,
+  -- The job that it has the words of.
   abbrev other : FileJob
   other = inOrder p r j
 
+  -- 6 is met by that job where j meets it,
   records-other : badRecords other ≡ badRecords j
   records-other = records-moved j p q r s (x .tallies) (x .offers)
 
-  -- and it names its offers where j does.
+  -- and none of 6, 7 and 8 where j meets none.
   pub named-other : Named j → Named other
   named-other n = record {
     codes = records-other ∙ n .codes;
@@ -110,15 +118,18 @@ module _ (j j′ : FileJob) (p q r s : ℕ → ℕ) (x : Rearranged j j′ p q r
     named = unnamed-moved j p q r s (x .tallies) (x .offers) ∙ n .named;
   }
 
+  -- So 6 is met alike by j and j′,
   pub order-six : badRecords j′ ≡ badRecords j
   order-six = records-same j′ other (x .words) ∙ records-other
 
+  -- 7 and 8 where 6 is not met,
   pub order-seven : badRecords j ≡ false → shared j′ ≡ shared j
   order-seven h = shared-same j′ other (x .words) (records-other ∙ h) ∙ shared-moved j p q r s (x .tallies) (x .offers)
 
   pub order-eight : badRecords j ≡ false → unnamed j′ ≡ unnamed j
   order-eight h = unnamed-same j′ other (x .words) (records-other ∙ h) ∙ unnamed-moved j p q r s (x .tallies) (x .offers)
 
+  -- 9 where none of these is met, and the same tallies stand.
   pub order-nine : Named j → countedTwice (countedTallies j′) ≡ countedTwice (countedTallies j)
   order-nine n = twice-same j′ other (x .words) (records-other ∙ n .codes) ∙ twice-moved j p q r s (x .tallies) (x .offers) (n .apart) (n .named)
 
@@ -126,6 +137,7 @@ module _ (j j′ : FileJob) (p q r s : ℕ → ℕ) (x : Rearranged j j′ p q r
   order-stands n t l =
       stands-same j′ other (x .words) (records-other ∙ n .codes) t l ∙ stands-moved j p q r s (x .tallies) (x .offers) (n .apart) (n .named) t l
 
+  -- The refusal is the same.
   pub order-refusal : jobRefusal j′ ≡ jobRefusal j
   order-refusal = refused-alike j′ j (ap badSizes (x .words .head)) order-six order-seven order-eight order-nine
 

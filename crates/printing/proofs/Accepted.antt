@@ -133,13 +133,13 @@ module _ (file : List ℕ) (ok : fileRefusal file ≡ 0) (f : JobTables) (h : Ho
   pub once-ok : countedTwice (countedOf f) ≡ false
   once-ok = recount-laws .orderTwice (countedTallies job) (countedOf f) (λ t. t) (λ t. t) counted-same ∙ in-file .once
 
-  -- Where they are as long as they must be, they settle.
-  pub settles-ok : jobShort f (jobLengths f) ≡ false → bagsShort f (jobLengths f) ≡ false → Settles f
-  settles-ok whole bags = record { whole = whole; bags = bags; inRange = range-ok; once = once-ok }
-
   pub stands-ok : (t : ℕ) → t < job .head .tallies → stands (countedOf f) t ≡ stands (countedTallies job) t
   unfolding countedOf
   stands-ok t l = recount-laws .order (countedTallies job) (countedOf f) (λ t. t) (λ t. t) counted-same t (omega (arith, l, h .tallies))
+
+  -- Where they are as long as they must be, they settle.
+  pub settles-ok : jobShort f (jobLengths f) ≡ false → bagsShort f (jobLengths f) ≡ false → Settles f
+  settles-ok whole bags = record { whole = whole; bags = bags; inRange = range-ok; once = once-ok }
 
   -- The price of a tally is that of the offer its code names.
   price-named : (t : ℕ) → t < f .tallies → getD (f .price) (getD (f .tallyOffer) t 0) 0 ≡ job .offer (placeOf job t) .price

@@ -22,6 +22,7 @@ module _ (j j′ : FileJob) (p q r s : ℕ → ℕ) (x : Rearranged j j′ p q r
   abbrev other : FileJob
   other = inOrder p r j
 
+  -- Each of its tallies names an offer below N.
   other-in : (t : ℕ) → t < j .head .tallies → placeOf other t < j .head .offers
   other-in = place-in j p q r s (x .tallies) (x .offers) (n .apart) (n .named)
 
