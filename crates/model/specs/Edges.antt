@@ -11,7 +11,7 @@ use Rattle.laws.specs.Checks.{firstMet}
 use Rattle.model.specs.Steps.{sendPrices, multiplyOwn, receivePrices, sendTotals, addOwn, receiveTotals}
 use Rattle.model.specs.Tables.{JobTables, StateTables, jobTables, bagTables, stateTables, jobOf}
 use Rattle.model.specs.Ranges.{sizesInRange}
-use Rattle.model.specs.Step.{Asked, asked, StepAnswer, accepted, refused, stepped}
+use Rattle.model.specs.Step.{asked, StepAnswer, accepted, refused, stepped}
 use Rattle.model.specs.Run.{RunAnswer, RunOutcome, run, pickedPlaces, finished, refused as notRun, ran}
 use Rattle.model.specs.Local.{localOffers, localGrocers, priceTable, totalTable, BookLengths, bookRefusals, jobRefusals}
 use Rattle.model.specs.Reconcile.{TallyRecord, owed, refused as notOwed, reconciled}
@@ -66,6 +66,18 @@ statementE l = stateE pricesE zeroPrices zeroTotals zeroTotals l 24 0
 -- or but for the place of a step that is done and the count of words sent.
 abbrev pub doneE : (place sent : ℕ) → StateTables
 doneE place sent = stateE pricesE zeroPrices zeroTotals zeroTotals zeroStatements place sent
+
+-- A price of offer 0 is on its way to box 1, which has a working total of grocer 0; the step at this place is done: 1 where it was sent.
+abbrev pub priceSentE : (price : ℕ) (working : ℤ) (place : ℕ) → StateTables
+priceSentE price working place = stateE pricesE (0 ∷ 0 ∷ price ∷ 0 ∷ []) (pos 0 ∷ pos 0 ∷ working ∷ pos 0 ∷ []) zeroTotals zeroStatements place 1
+
+-- Box 0, which has received its prices, has a working total of grocer 1, its own; the statement of this grocer.
+abbrev pub ownTotalE : (working statement : ℤ) → StateTables
+ownTotalE working statement = stateE pricesE zeroPrices (pos 0 ∷ working ∷ pos 0 ∷ pos 0 ∷ []) zeroTotals (pos 0 ∷ statement ∷ []) 9 0
+
+-- A total of grocer 0 is on its way from box 0 to box 1; the statement of this grocer.
+abbrev pub totalSentE : (total statement : ℤ) → StateTables
+totalSentE total statement = stateE pricesE zeroPrices zeroTotals (total ∷ pos 0 ∷ pos 0 ∷ pos 0 ∷ []) (statement ∷ pos 0 ∷ []) 13 0
 
 -- What a step of E answers in a state of it,
 abbrev pub answerE : StateTables → (kind first second : ℕ) → StepAnswer
@@ -229,7 +241,7 @@ pub record Edges : Type 0 where
   -- and 1,000,000 are in range.
   pub sent-most : answerE (doneE 24 1_000_000) 2 0 0 ≡ accepted
   -- A word past those that are needed is not looked at, and not touched.
-  pub past-words : stepped jobE (stateTables pricesE zeroPrices zeroTotals zeroTotals zeroStatements (markAt 24 1) (0 ∷ 5_000_000 ∷ [])) (asked 1 0 1) .tables .sent
+  pub past-words : tablesE (stateTables pricesE zeroPrices zeroTotals zeroTotals zeroStatements (markAt 24 1) (0 ∷ 5_000_000 ∷ [])) 1 0 1 .sent
       ≡ 1 ∷ 5_000_000 ∷ []
   -- Each table of the job lent one word short is 20, in a step
   pub job-short : tabulate 9 (λ i. stepped (shortJobE i) (doneE 24 0) (asked 2 0 0) .answer) ≡ replicate 9 (refused 20)
@@ -268,36 +280,30 @@ pub record Edges : Type 0 where
   pub last-2 : tablesE (workingE (pos 999_999_999_998_500 ∷ pos 0 ∷ pos 0 ∷ pos 0 ∷ [])) 2 0 0 .working
       ≡ pos 1_000_000_000_000_000 ∷ pos 0 ∷ pos 0 ∷ pos 0 ∷ []
   -- Step 3: a working total, to which it adds 2,000;
-  pub late-3 : answerE (stateE pricesE (0 ∷ 0 ∷ 500 ∷ 0 ∷ []) (pos 0 ∷ pos 0 ∷ pos 999_999_999_998_001 ∷ pos 0 ∷ []) zeroTotals zeroStatements 1 1) 3 1 0
-      ≡ refused 21
+  pub late-3 : answerE (priceSentE 500 (pos 999_999_999_998_001) 1) 3 1 0 ≡ refused 21
   -- the last that fits.
-  pub last-3 : tablesE (stateE pricesE (0 ∷ 0 ∷ 500 ∷ 0 ∷ []) (pos 0 ∷ pos 0 ∷ pos 999_999_999_998_000 ∷ pos 0 ∷ []) zeroTotals zeroStatements 1 1) 3 1 0 .working
-      ≡ pos 0 ∷ pos 0 ∷ pos 1_000_000_000_000_000 ∷ pos 0 ∷ []
+  pub last-3 : tablesE (priceSentE 500 (pos 999_999_999_998_000) 1) 3 1 0 .working ≡ pos 0 ∷ pos 0 ∷ pos 1_000_000_000_000_000 ∷ pos 0 ∷ []
   -- Step 4: the count of words sent;
   pub late-4 : answerE (doneE 4 1_000_000) 4 0 1 ≡ refused 21
   -- the last count that fits.
   pub last-4 : tablesE (doneE 4 999_999) 4 0 1 .sent ≡ 1_000_000 ∷ []
   -- Step 5: a statement;
-  pub late-5 : answerE (stateE pricesE zeroPrices (pos 0 ∷ pos 1 ∷ pos 0 ∷ pos 0 ∷ []) zeroTotals (pos 0 ∷ pos 1_000_000_000_000_000 ∷ []) 9 0) 5 0 0
-      ≡ refused 21
+  pub late-5 : answerE (ownTotalE (pos 1) (pos 1_000_000_000_000_000)) 5 0 0 ≡ refused 21
   -- the last that fits.
-  pub last-5 : tablesE (stateE pricesE zeroPrices (pos 0 ∷ pos 1 ∷ pos 0 ∷ pos 0 ∷ []) zeroTotals (pos 0 ∷ pos 999_999_999_999_999 ∷ []) 9 0) 5 0 0 .statement
-      ≡ pos 0 ∷ pos 1_000_000_000_000_000 ∷ []
+  pub last-5 : tablesE (ownTotalE (pos 1) (pos 999_999_999_999_999)) 5 0 0 .statement ≡ pos 0 ∷ pos 1_000_000_000_000_000 ∷ []
   -- Step 6: a statement, below;
-  pub late-6 : answerE (stateE pricesE zeroPrices zeroTotals (negsuc 0 ∷ pos 0 ∷ pos 0 ∷ pos 0 ∷ []) (negsuc 999_999_999_999_999 ∷ pos 0 ∷ []) 13 0) 6 1 0
-      ≡ refused 21
+  pub late-6 : answerE (totalSentE (negsuc 0) (negsuc 999_999_999_999_999)) 6 1 0 ≡ refused 21
   -- the last that fits.
-  pub last-6 : tablesE (stateE pricesE zeroPrices zeroTotals (negsuc 0 ∷ pos 0 ∷ pos 0 ∷ pos 0 ∷ []) (negsuc 999_999_999_999_998 ∷ pos 0 ∷ []) 13 0) 6 1 0 .statement
-      ≡ negsuc 999_999_999_999_999 ∷ pos 0 ∷ []
+  pub last-6 : tablesE (totalSentE (negsuc 0) (negsuc 999_999_999_999_998)) 6 1 0 .statement ≡ negsuc 999_999_999_999_999 ∷ pos 0 ∷ []
   -- ## Prices of the state, not of the job
   -- Step 1 sends 7 where box 0 knows its price 500 as 7;
   pub state-price-1 : tablesE (knownE (7 ∷ 0 ∷ 0 ∷ 1250 ∷ [])) 1 0 1 .priceTransit ≡ 0 ∷ 0 ∷ 7 ∷ 0 ∷ []
   -- step 2 multiplies by 7;
   pub state-price-2 : tablesE (knownE (7 ∷ 0 ∷ 0 ∷ 1250 ∷ [])) 2 0 0 .working ≡ pos 21 ∷ pos 0 ∷ pos 0 ∷ pos 0 ∷ []
   -- step 3 multiplies by the price that was in transit,
-  pub state-price-3 : tablesE (stateE pricesE (0 ∷ 0 ∷ 7 ∷ 0 ∷ []) zeroTotals zeroTotals zeroStatements 1 1) 3 1 0 .working ≡ pos 0 ∷ pos 0 ∷ pos 28 ∷ pos 0 ∷ []
+  pub state-price-3 : tablesE (priceSentE 7 (pos 0) 1) 3 1 0 .working ≡ pos 0 ∷ pos 0 ∷ pos 28 ∷ pos 0 ∷ []
   -- which its box then knows.
-  pub state-known-3 : tablesE (stateE pricesE (0 ∷ 0 ∷ 7 ∷ 0 ∷ []) zeroTotals zeroTotals zeroStatements 1 1) 3 1 0 .known ≡ 500 ∷ 0 ∷ 7 ∷ 1250 ∷ []
+  pub state-known-3 : tablesE (priceSentE 7 (pos 0) 1) 3 1 0 .known ≡ 500 ∷ 0 ∷ 7 ∷ 1250 ∷ []
   -- ## Order of refusals
   -- Step: 20 before 21,
   pub step-20-21 : stepped twicePriced empty (asked 9 99 0) .answer ≡ refused 20
@@ -310,8 +316,7 @@ pub record Edges : Type 0 where
   -- 25 before 26: prices are marked as received, and not as sent;
   pub step-25-26 : answerE (doneE 10 0) 3 1 0 ≡ refused 25
   -- 26 before the late 21.
-  pub step-26-21 : answerE (stateE pricesE (0 ∷ 0 ∷ 500 ∷ 0 ∷ []) (pos 0 ∷ pos 0 ∷ pos 1_000_000_000_000_000 ∷ pos 0 ∷ []) zeroTotals zeroStatements 24 1) 3 1 0
-      ≡ refused 26
+  pub step-26-21 : answerE (priceSentE 500 (pos 1_000_000_000_000_000) 24) 3 1 0 ≡ refused 26
   -- Run: 20 before 21,
   pub run-20-21 : ran twicePriced empty [] [] .answer ≡ notRun 20
   -- 21 before 9.
