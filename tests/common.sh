@@ -37,8 +37,12 @@ add_result() { # add_result TEXT LOG STATUS: add the last line of a test's log
     if [ "$3" -ne 0 ] && [ "${line%% failed*}" -eq 0 ]; then fail "$1 ended with status $3"; fi
 }
 
-need() { # need TEST PACKAGE..: install Debian packages where a test does not hold
+need() { # need TEST PACKAGE..: where a test does not hold, install Debian packages if CI is set, and else say how
     eval "$1" >/dev/null 2>&1 && return
+    if [ -z "${CI:-}" ]; then
+        fail "not so: $1. To install what is missing: apt-get install --no-install-recommends ${*:2}"
+        return
+    fi
     { apt-get update && DEBIAN_FRONTEND=noninteractive apt-get install -y --no-install-recommends "${@:2}"; } >/dev/null 2>&1 ||
         fail "not so: $1, and ${*:2} could not be installed"
 }
