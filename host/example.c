@@ -40,10 +40,12 @@ static uint16_t try_kind(const struct settlement_job *j, struct settlement_state
  * round that has none accepted shows that all steps are done. */
 static uint16_t settle_by_steps(const struct settlement_job *j, struct settlement_state *s, uint32_t *report)
 {
-    static const uint16_t kinds[] = {SETTLEMENT_SEND_PRICES,    SETTLEMENT_MULTIPLY_OWN,   SETTLEMENT_SEND_TOTALS,
+    static const uint16_t kinds[] = {SETTLEMENT_SEND_PRICES,    SETTLEMENT_SWEEP_OWN,   SETTLEMENT_SEND_TOTALS,
                                      SETTLEMENT_ADD_OWN_TOTALS, SETTLEMENT_RECEIVE_PRICES, SETTLEMENT_RECEIVE_TOTALS};
     uint32_t before;
-    settlement_make_fresh(j, s);
+    uint16_t fresh = settlement_make_fresh(j, s);
+    if (fresh != SETTLEMENT_ACCEPTED)
+        return fresh;
     do {
         before = report[STEPS];
         for (size_t i = 0; i < sizeof kinds / sizeof kinds[0]; i++) {
@@ -58,15 +60,14 @@ static uint16_t settle_by_steps(const struct settlement_job *j, struct settlemen
 
 static uint16_t settle_by_run(const struct settlement_job *j, struct settlement_state *s, uint32_t *report)
 {
-    static const uint16_t choices[1]; /* none is lent: the first ready step is taken each time */
-    static uint16_t picked[1];        /* none is lent: the order of the steps is not asked for */
-    return settlement_run_job(j, s, choices, 0, picked, 0, report);
+    /* No choices: the first ready step is taken each time. No room for the steps picked: the order is not asked for. */
+    return settlement_run_job(j, s, NULL, 0, NULL, 0, report);
 }
 
 static void print_settlement(const char *title, const struct settlement_job *j, const struct settlement_state *s,
                              const uint32_t *report)
 {
-    puts(title);
+    printf("%s, amounts in tenths of a cent\n", title);
     for (size_t g = 0; g < j->grocers; g++)
         printf("%zu %" PRId64 "\n", g, s->statement[g]);
     printf("words %" PRIu32 "\n", report[SENT]);
@@ -77,6 +78,7 @@ static void print_settlement(const char *title, const struct settlement_job *j, 
 static int refused(uint16_t answer)
 {
     printf("refused %u\n", (unsigned)answer);
+    fprintf(stderr, "example: %s\n", settlement_text(answer));
     return 1;
 }
 

@@ -10,7 +10,8 @@
  * - Each pointer is real: aligned for its type, readable (and writable where it is not const) for the number of words
  *   given.
  * - NULL is not allowed, not with the number 0 either: what the call then does is undefined, since every call is proved
- *   for real pointers alone. Where there is nothing to lend, lend any object of the type and the number 0.
+ *   for real pointers alone. Where there is nothing to lend, lend any object of the type and the number 0. (The calls
+ *   of LENDING BY NAME do so by themselves.)
  * - Buffers of one call do not overlap, also where they are only read.
  * - During a call nobody else writes any of them, nor reads those that are not const: no other thread, no signal
  *   handler, no other process through memory or a mapped file that it shares.
@@ -29,7 +30,7 @@
  * 9,999,999 tenths of a cent, a count -99,999 to 99,999, an amount within +-10^15 tenths of a cent.
  *
  * TABLES OF A JOB              words  word i
- *   price          uint32_t    N      price of offer i
+ *   price          uint32_t    N      price of offer i, in tenths of a cent
  *   offer_owner    uint16_t    N      box that owns offer i
  *   grocer_owner   uint16_t    M      box that owns grocer i
  *   tally_grocer   uint16_t    T      grocer of tally i
@@ -56,11 +57,11 @@
  * refused (9), also under a higher revision. Files of before have 0 in both fields and settle as before.
  *
  * TABLES OF A STATE            words  what stands where
- *   known          uint32_t    K N    price of offer o that box b knows: word b N + o
- *   price_transit  uint32_t    K N    price of offer o sent to box b and not yet received: word b N + o
- *   working        int64_t     K M    working total of grocer g in box b: word b M + g
- *   total_transit  int64_t     K M    total of grocer g sent by box b and not yet received: word b M + g
- *   statement      int64_t     M      statement of grocer g: word g
+ *   known          uint32_t    K N    price of offer o that box b knows, in tenths of a cent: word b N + o
+ *   price_transit  uint32_t    K N    price of offer o sent to box b and not yet received, in tenths: word b N + o
+ *   working        int64_t     K M    working total of grocer g in box b, in tenths: word b M + g
+ *   total_transit  int64_t     K M    total of grocer g sent by box b and not yet received, in tenths: word b M + g
+ *   statement      int64_t     M      statement of grocer g, what it is owed, in tenths of a cent: word g
  *   done           uint16_t    6 K K  1 where the step of kind, first and second is done, else 0: word
  *                                     ((kind - 1) K + first) K + second
  *   sent           uint32_t    1      words sent so far, 0 to 1,000,000
@@ -87,6 +88,13 @@
 #include <stddef.h>
 #include <stdint.h>
 #include <string.h>
+
+/* The version of this interface. It is raised by one whenever a call's list of arguments, a struct's layout, the value
+ * of a constant or the meaning of a word changes: a host is then compiled anew, with the header and the archive of one
+ * build, after it has read docs/CHANGES.md. A host that needs a certain version says so:
+ *     _Static_assert(SETTLEMENT_VERSION == 1, "read what has changed");
+ */
+#define SETTLEMENT_VERSION 1
 
 /* The largest job. */
 #define SETTLEMENT_MAX_BOXES 16
@@ -136,7 +144,7 @@
 
 /* Kinds of steps. */
 #define SETTLEMENT_SEND_PRICES 1
-#define SETTLEMENT_MULTIPLY_OWN 2
+#define SETTLEMENT_SWEEP_OWN 2
 #define SETTLEMENT_RECEIVE_PRICES 3
 #define SETTLEMENT_SEND_TOTALS 4
 #define SETTLEMENT_ADD_OWN_TOTALS 5
@@ -190,7 +198,7 @@ uint16_t settlement_read(
  *   kind                  what first does                                       ready
  *   1  send prices        sends the prices that it knows of its offers that     from the start
  *                         second needs
- *   2  multiply own       adds count x price of its tallies of its own offers   from the start
+ *   2  sweep own          adds count x price of its tallies of its own offers   from the start
  *                         into its working totals
  *   3  receive prices     receives them from second, and adds the tallies of    once second has sent (1)
  *                         those offers
@@ -297,7 +305,7 @@ uint16_t settlement_run(
 struct settlement_job {
     uint16_t boxes, grocers, offers, tallies; /* K, M, N, T */
     uint16_t cycle;
-    uint32_t price[SETTLEMENT_MAX_OFFERS];
+    uint32_t price[SETTLEMENT_MAX_OFFERS]; /* tenths of a cent */
     uint16_t offer_owner[SETTLEMENT_MAX_OFFERS];
     uint8_t offer_code[SETTLEMENT_MAX_OFFER_CODES];
     uint16_t offer_issuer[SETTLEMENT_MAX_OFFERS];
@@ -313,11 +321,11 @@ struct settlement_job {
 };
 
 struct settlement_state {
-    uint32_t known[SETTLEMENT_MAX_KNOWN];
-    uint32_t price_transit[SETTLEMENT_MAX_KNOWN];
-    int64_t working[SETTLEMENT_MAX_WORKING];
-    int64_t total_transit[SETTLEMENT_MAX_WORKING];
-    int64_t statement[SETTLEMENT_MAX_GROCERS];
+    uint32_t known[SETTLEMENT_MAX_KNOWN];           /* tenths of a cent */
+    uint32_t price_transit[SETTLEMENT_MAX_KNOWN];   /* tenths of a cent */
+    int64_t working[SETTLEMENT_MAX_WORKING];        /* tenths of a cent */
+    int64_t total_transit[SETTLEMENT_MAX_WORKING];  /* tenths of a cent */
+    int64_t statement[SETTLEMENT_MAX_GROCERS];      /* tenths of a cent */
     uint16_t done[SETTLEMENT_MAX_DONE];
     uint32_t sent[SETTLEMENT_SENT];
 };
@@ -343,11 +351,14 @@ struct settlement_state {
     SETTLEMENT_TABLE((s)->total_transit), SETTLEMENT_TABLE((s)->statement), SETTLEMENT_TABLE((s)->done),               \
     SETTLEMENT_TABLE((s)->sent)
 
-/* settlement_read into a job, its sizes and its cycle too; a refusal leaves the job as it was. */
+/* settlement_read into a job, its sizes and its cycle too; a refusal leaves the job as it was. A file of no bytes may
+ * be NULL: an object of our own is lent in its place. */
 static inline uint16_t settlement_read_job(const uint8_t *file, size_t file_len, struct settlement_job *job)
 {
+    const uint8_t nothing = 0;
     uint16_t sizes[SETTLEMENT_SIZES] = {0};
-    uint16_t answer = settlement_read(file, file_len, SETTLEMENT_READ_INTO(job), SETTLEMENT_TABLE(sizes));
+    uint16_t answer = settlement_read(file_len == 0 ? &nothing : file, file_len, SETTLEMENT_READ_INTO(job),
+                                      SETTLEMENT_TABLE(sizes));
     if (answer == SETTLEMENT_ACCEPTED) {
         job->boxes = sizes[0];
         job->grocers = sizes[1];
@@ -358,12 +369,22 @@ static inline uint16_t settlement_read_job(const uint8_t *file, size_t file_len,
     return answer;
 }
 
-/* The fresh state of a job that settlement_read_job has accepted. */
-static inline void settlement_make_fresh(const struct settlement_job *job, struct settlement_state *state)
+/* The fresh state of a job: own prices known, all else 0. Whatever the job holds, no word outside the state is written:
+ * where K, M, N or T is out of range, or an owner of an offer is not below K, it is SETTLEMENT_OUT_OF_RANGE, and the
+ * state stays as it was. */
+static inline uint16_t settlement_make_fresh(const struct settlement_job *job, struct settlement_state *state)
 {
+    if (job->boxes < 1 || job->boxes > SETTLEMENT_MAX_BOXES || job->grocers < 1 ||
+        job->grocers > SETTLEMENT_MAX_GROCERS || job->offers < 1 || job->offers > SETTLEMENT_MAX_OFFERS ||
+        job->tallies > SETTLEMENT_MAX_TALLIES)
+        return SETTLEMENT_OUT_OF_RANGE;
+    for (size_t o = 0; o < job->offers; o++)
+        if (job->offer_owner[o] >= job->boxes)
+            return SETTLEMENT_OUT_OF_RANGE;
     memset(state, 0, sizeof *state);
     for (size_t o = 0; o < job->offers; o++)
         state->known[(size_t)job->offer_owner[o] * job->offers + o] = job->price[o];
+    return SETTLEMENT_ACCEPTED;
 }
 
 /* settlement_step on a job and a state. */
@@ -373,13 +394,47 @@ static inline uint16_t settlement_step_job(const struct settlement_job *job, str
     return settlement_step(SETTLEMENT_LENT(job, state), kind, first, second);
 }
 
-/* settlement_run on a job and a state; choices and picked have any length, report has SETTLEMENT_REPORT words. */
+/* settlement_run on a job and a state; choices and picked have any length, and may be NULL where it is 0: an object of
+ * our own is lent in their place. report has SETTLEMENT_REPORT words. */
 static inline uint16_t settlement_run_job(const struct settlement_job *job, struct settlement_state *state,
                                           const uint16_t *choices, size_t choices_len, uint16_t *picked,
                                           size_t picked_len, uint32_t *report)
 {
-    return settlement_run(SETTLEMENT_LENT(job, state), choices, choices_len, picked, picked_len, report,
-                          SETTLEMENT_REPORT);
+    const uint16_t no_choice = 0;
+    uint16_t no_step = 0;
+    return settlement_run(SETTLEMENT_LENT(job, state), choices_len == 0 ? &no_choice : choices, choices_len,
+                          picked_len == 0 ? &no_step : picked, picked_len, report, SETTLEMENT_REPORT);
+}
+
+/* What an answer means, in a few words for a log or a screen; docs/REFUSALS.md says what to do about each. */
+static inline const char *settlement_text(uint16_t answer)
+{
+    static const struct {
+        uint16_t number;
+        const char *text;
+    } texts[] = {
+        {SETTLEMENT_ACCEPTED, "accepted"},
+        {SETTLEMENT_BAD_LENGTH, "the file's length is not that of a job file"},
+        {SETTLEMENT_DAMAGED, "the file is damaged: the sums of a block differ"},
+        {SETTLEMENT_NOT_DUE, "a block's kind, number or record count is not as due"},
+        {SETTLEMENT_BAD_HEADER, "a size of the header is outside its values"},
+        {SETTLEMENT_SPARE_BYTE, "a spare byte is not 0"},
+        {SETTLEMENT_BAD_FIELD, "a field of a record is outside its range"},
+        {SETTLEMENT_SHARED_NUMBER, "two offers share a number under one issuer"},
+        {SETTLEMENT_UNKNOWN_CODE, "a tally's code names no offer of its issuer"},
+        {SETTLEMENT_COUNTED_TWICE, "one bag and revision is there twice for a grocer and offer"},
+        {SETTLEMENT_SHORT, "a lent buffer is too short"},
+        {SETTLEMENT_OUT_OF_RANGE, "a size or a word of a table is outside its range, or would be"},
+        {SETTLEMENT_BAD_KIND, "the kind of a step is not 1 to 6"},
+        {SETTLEMENT_BAD_BOXES, "the boxes of a step do not fit its kind"},
+        {SETTLEMENT_EMPTY_MESSAGE, "an empty message: the job has no such step"},
+        {SETTLEMENT_ALREADY_DONE, "the step is already done"},
+        {SETTLEMENT_NOT_READY, "the step is not ready: other steps come before it"},
+    };
+    for (size_t i = 0; i < sizeof texts / sizeof texts[0]; i++)
+        if (texts[i].number == answer)
+            return texts[i].text;
+    return "no such answer";
 }
 
 #endif

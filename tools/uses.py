@@ -30,7 +30,7 @@ EXT={'lib.Dec':'eqb ltb leb','borrow.Author.Tests':'lt-ltb le-ltb ltb-true ltb-f
 'mathlib.Core.Path':'_≡_ refl sym ap ap₂ _∙_ subst','mathlib.Core.Bool':'Bool true false cond _&&_ _||_ not false≢true','Prim.Native.Nat':'ℕ zero suc _+_ _-_ _*_ _/_ _%_ _^_ _<_ _≤_ min',
 'lib.ListN':'length getD take drop','native.Mathlib.Omega':'arith','lib.IntN':'ℤ pos negsuc natAbs _+ℤ_ _*ℤ_ +ℤ-idl +ℤ-idr','mathlib.Core.List':'List [] _∷_ _++_ map','lib.Count':'ones'}
 def build(root,crate):
-    if os.environ.get('ADD'):
+    if os.environ.get('ADD') == '1':
         for m,ns in EXT.items():
             for n in ns.split(): index.setdefault(n,m)
     for kind in ('specs','proofs'):
@@ -83,7 +83,7 @@ def fix(path, extra=()):
     pairs=[(n,mod) for mod,ns in uses for n in ns]
     have={n for n,_ in pairs}
     for n,p in index.items():
-        if os.environ.get('ADD') and n not in have: pairs.append((n,p))
+        if os.environ.get('ADD') == '1' and n not in have: pairs.append((n,p))
     for n,mod in pairs:
         base=n.split(' as ')[-1]
         if not used(base,text): continue

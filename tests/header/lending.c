@@ -3,6 +3,7 @@
 #include "settlement.h"
 
 #include <stdio.h>
+#include <string.h>
 
 static struct settlement_job job;
 static struct settlement_state state;
@@ -13,6 +14,7 @@ static uint32_t report[SETTLEMENT_REPORT];
 
 static unsigned passed, failed;
 static uint16_t next_answer;
+static int nothing_lent; /* the next call lends no file, no choices and no room for steps */
 
 static void expect(int holds, const char *what)
 {
@@ -78,7 +80,10 @@ uint16_t settlement_read(
     uint16_t *tally_offer, size_t tally_offer_len,
     uint16_t *sizes, size_t sizes_len)
 {
-    EXPECT(file_ == file && file_len == 5);
+    if (nothing_lent)
+        EXPECT(file_ != NULL && file_len == 0);
+    else
+        EXPECT(file_ == file && file_len == 5);
     expect_job(price, price_len, offer_owner, offer_owner_len, grocer_owner, grocer_owner_len, tally_grocer,
                tally_grocer_len, tally_box, tally_box_len, tally_offer, tally_offer_len, tally_count, tally_count_len,
                tally_bag, tally_bag_len, tally_revision, tally_revision_len);
@@ -151,9 +156,77 @@ uint16_t settlement_run(
                tally_bag, tally_bag_len, tally_revision, tally_revision_len);
     expect_state(known, known_len, price_transit, price_transit_len, working, working_len, total_transit,
                  total_transit_len, statement, statement_len, done, done_len, sent, sent_len);
-    EXPECT(choices_ == choices && choices_len == 7 && picked_ == picked && picked_len == 9);
+    if (nothing_lent)
+        EXPECT(choices_ != NULL && choices_len == 0 && picked_ != NULL && picked_len == 0);
+    else
+        EXPECT(choices_ == choices && choices_len == 7 && picked_ == picked && picked_len == 9);
     EXPECT(report_ == report && report_len == 3);
     return next_answer;
+}
+
+/* A job whose sizes are in range, for fresh states. */
+static void job_in_range(void)
+{
+    job = (struct settlement_job){.boxes = 2, .grocers = 1, .offers = 3, .tallies = 0};
+    for (uint32_t o = 0; o < 3; o++) {
+        job.price[o] = 10 + o;
+        job.offer_owner[o] = o == 1;
+    }
+}
+
+/* A fresh state is refused, and stays as it was. */
+static void no_fresh(const char *what)
+{
+    static struct settlement_state kept;
+    memset(&state, 7, sizeof state);
+    kept = state;
+    expect(settlement_make_fresh(&job, &state) == SETTLEMENT_OUT_OF_RANGE, what);
+    expect(memcmp(&kept, &state, sizeof state) == 0, what);
+}
+
+static void fresh_states(void)
+{
+    job_in_range();
+    EXPECT(settlement_make_fresh(&job, &state) == SETTLEMENT_ACCEPTED);
+    EXPECT(state.known[0] == 10 && state.known[1] == 0 && state.known[2] == 12);
+    EXPECT(state.known[3] == 0 && state.known[4] == 11 && state.known[5] == 0);
+    EXPECT(state.known[6] == 0 && state.done[0] == 0 && state.sent[0] == 0);
+    job.offer_owner[2] = 2;
+    no_fresh("an owner that is no box");
+    job.offer_owner[2] = 65535;
+    no_fresh("an owner far beyond the boxes");
+    uint16_t *sizes[] = {&job.boxes, &job.grocers, &job.offers, &job.tallies};
+    static const uint16_t over[] = {17, 256, 501, 1001};
+    for (size_t i = 0; i < 4; i++) {
+        job_in_range();
+        *sizes[i] = over[i];
+        no_fresh("a size over its range");
+        *sizes[i] = 65535;
+        no_fresh("a size far over its range");
+        *sizes[i] = 0;
+        if (i < 3)
+            no_fresh("a size of 0");
+    }
+    job = (struct settlement_job){.boxes = 16, .grocers = 255, .offers = 500, .tallies = 1000};
+    for (size_t o = 0; o < 500; o++)
+        job.offer_owner[o] = 15, job.price[o] = 1;
+    EXPECT(settlement_make_fresh(&job, &state) == SETTLEMENT_ACCEPTED && state.known[7999] == 1 && state.known[0] == 0);
+}
+
+/* Every answer has a text of its own, and no other number has one. */
+static void texts(void)
+{
+    unsigned with_text = 0;
+    for (uint32_t n = 0; n < 65536; n++) {
+        if (strcmp(settlement_text((uint16_t)n), "no such answer") == 0)
+            continue;
+        with_text++;
+        expect(n <= 9 || (n >= 20 && n <= 26), "a number with a text is an answer");
+        for (uint32_t m = 0; m < n; m++)
+            if (strcmp(settlement_text((uint16_t)m), settlement_text((uint16_t)n)) == 0)
+                expect(0, "two answers have one text");
+    }
+    EXPECT(with_text == 17);
 }
 
 int main(void)
@@ -168,6 +241,12 @@ int main(void)
     EXPECT(settlement_step_job(&job, &state, 3, 1, 2) == SETTLEMENT_NOT_READY);
     next_answer = SETTLEMENT_OUT_OF_RANGE;
     EXPECT(settlement_run_job(&job, &state, choices, 7, picked, 9, report) == SETTLEMENT_OUT_OF_RANGE);
+    nothing_lent = 1;
+    next_answer = SETTLEMENT_BAD_LENGTH;
+    EXPECT(settlement_read_job(NULL, 0, &job) == SETTLEMENT_BAD_LENGTH);
+    EXPECT(settlement_run_job(&job, &state, NULL, 0, NULL, 0, report) == SETTLEMENT_BAD_LENGTH);
+    fresh_states();
+    texts();
     printf("%u passed, %u failed\n", passed, failed);
     return failed != 0;
 }
