@@ -12,6 +12,11 @@ ghost use Rattle.desk_records.specs.Rows.{tallyRecord, share, Takes, Too
 use bag_keys::count_key;
 use job_ranges::is_count;
 use job_ranges::upto32;
+use slices::limits::MAX_BOXES;
+use slices::limits::MAX_GROCERS;
+use slices::limits::MAX_OFFERS;
+use slices::limits::MAX_PRICE;
+use slices::limits::TALLIES;
 
 // Whether a record is in range, by its fields.
 fn record_in_range(
@@ -24,7 +29,7 @@ fn record_in_range(
 ) -> bool
     ensures { λ r. ⌜ ((bag revision : ℕ) → r ≡ recordInRange grocers offers (tallyRecord grocer «tally_box» place count bag revision)) ⌝ }
 {
-    (grocer < grocers) & (tally_box < 16) & (place < offers) & is_count(count)
+    (grocer < grocers) & (tally_box < MAX_BOXES) & (place < offers) & is_count(count)
 }
 
 // A sum with count × price added.
@@ -43,8 +48,9 @@ pub fn head_refusal(len: usize, price: &[u32], grocers: u16, offers: u16, wanted
     if price.len() < n {
         return 20;
     }
-    let sizes = ((1 <= grocers) & (grocers <= 255)) & ((1 <= offers) & (offers <= 500));
-    if sizes & upto32(price, n, 9_999_999) & (len <= 1000) & (wanted < grocers) {
+    let sizes = ((1 <= grocers) & (grocers <= MAX_GROCERS))
+        & ((1 <= offers) & (offers <= MAX_OFFERS));
+    if sizes & upto32(price, n, MAX_PRICE) & (len <= TALLIES) & (wanted < grocers) {
         return 0;
     }
     21
@@ -76,8 +82,8 @@ pub fn take_record(
     grocers: u16,
     offers: u16,
     wanted: u16,
-    keys: &mut [u64; 1000],
-    shares: &mut [i64; 1000],
+    keys: &mut [u64; TALLIES],
+    shares: &mut [i64; TALLIES],
 ) -> u16
     requires { ⌜ (number ≡ 0 → Takes offers (now price) i) ⌝ }
     ensures { λ r. ⌜ Took (now (price .entry)) grocers offers wanted number i (tallyRecord grocer «tally_box» place count bag revision)

@@ -23,14 +23,6 @@ use file_bytes::word16;
 use file_bytes::word32;
 use file_digits::name_at;
 
-// A word that 16 bits hold.
-pub fn narrow(x: usize) -> u16
-    requires { ⌜ x ≤ 65535 ⌝ }
-    ensures { λ r. ⌜ r ≡ x ⌝ }
-{
-    x as u16
-}
-
 // The numbers of the offers' names.
 pub fn fill_names(f: &[u8], head: Head, numbers: &mut [u64])
     requires { ⌜ Whole (now f) (asHead head) × (head .offers ≤ length (now numbers)) ⌝ }

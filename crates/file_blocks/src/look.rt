@@ -10,14 +10,14 @@ ghost use Rattle.file_blocks.specs.Due.{asHead};
 ghost use Rattle.file_blocks.specs.Fills.{Placed};
 ghost use Rattle.file_blocks.specs.Sound.{Sound, Indexed, Ready, namesRefusal};
 use crate::fill::fill_names;
-use crate::fill::narrow;
 use crate::place::record_at;
 use crate::plan::Head;
-use crate::plan::MAX_OFFERS;
 use crate::plan::tallies_at;
 use file_bytes::word16;
 use file_digits::name_at;
 use index::look::DIGITS;
+use slices::casts::word_of;
+use slices::limits::OFFERS;
 
 // Makes the index of the offers.
 fn index_offers(f: &[u8], head: Head, keys: &mut [u64], order: &mut [u16])
@@ -25,9 +25,9 @@ fn index_offers(f: &[u8], head: Head, keys: &mut [u64], order: &mut [u16])
     requires { ⌜ (head .offers ≤ length (now keys)) × (head .offers ≤ length (now order)) ⌝ }
     ensures { λ _. ⌜ Indexed (now (f .entry)) (now (keys .exit)) (now (order .exit)) (asHead head) ⌝ }
 {
-    let mut numbers = [0u64; MAX_OFFERS];
+    let mut numbers = [0u64; OFFERS];
     fill_names(f, head, &mut numbers);
-    let mut spare = [0u16; MAX_OFFERS];
+    let mut spare = [0u16; OFFERS];
     index::build::build(&numbers, keys, order, &mut spare, head.offers);
 }
 
@@ -76,7 +76,7 @@ fn find_places(
         if p == n {
             return true;
         }
-        places[i] = narrow(p);
+        places[i] = word_of(p);
         i += 1;
     }
     false
@@ -107,8 +107,8 @@ pub fn names_refusal(f: &[u8], head: Head, places: &mut [u16]) -> u16
     ensures { λ r. ⌜ r ≡ namesRefusal (decode (now (f .entry))) ⌝ }
     ensures { λ r. ⌜ (r ≡ 0 → Placed (decode (now (f .entry))) (now (places .exit)) (head .tallies)) ⌝ }
 {
-    let mut keys = [0u64; MAX_OFFERS];
-    let mut order = [0u16; MAX_OFFERS];
+    let mut keys = [0u64; OFFERS];
+    let mut order = [0u16; OFFERS];
     index_offers(f, head, &mut keys, &mut order);
     indexed_refusal(f, head, &keys, &order, places)
 }

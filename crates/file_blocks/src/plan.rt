@@ -10,15 +10,10 @@ ghost use Rattle.format.specs.Refusals.{notDue};
 ghost use Rattle.file_blocks.specs.Due.{asHead, Most, Due};
 use file_bytes::word16;
 use slices::byte_at;
-
-// The largest numbers of a job.
-pub const MAX_BOXES: usize = 16;
-
-pub const MAX_GROCERS: usize = 255;
-
-pub const MAX_OFFERS: usize = 500;
-
-pub const MAX_TALLIES: usize = 1000;
+use slices::limits::BOXES;
+use slices::limits::GROCERS;
+use slices::limits::OFFERS;
+use slices::limits::TALLIES;
 
 // The numbers of a header: how many boxes, grocers, offers and tallies, and the settlement cycle.
 pub struct Head {
@@ -52,9 +47,9 @@ pub fn read_head(f: &[u8]) -> Head
 pub fn bad_sizes(head: Head) -> bool
     ensures { λ r. ⌜ r ≡ badSizes (asHead head) ⌝ }
 {
-    let b = (head.boxes < 1) | (MAX_BOXES < head.boxes);
-    let g = (b | (head.grocers < 1)) | (MAX_GROCERS < head.grocers);
-    ((g | (head.offers < 1)) | (MAX_OFFERS < head.offers)) | (MAX_TALLIES < head.tallies)
+    let b = (head.boxes < 1) | (BOXES < head.boxes);
+    let g = (b | (head.grocers < 1)) | (GROCERS < head.grocers);
+    ((g | (head.offers < 1)) | (OFFERS < head.offers)) | (TALLIES < head.tallies)
 }
 
 // How many blocks n records of 24 bytes take.

@@ -18,20 +18,20 @@ use crate::plan::Head;
 use file_bytes::word16;
 use file_bytes::word32;
 use slices::byte_at;
+use slices::limits::MAX_COUNT;
+use slices::limits::MAX_PRICE;
 
-// The largest price, in tenths of a cent.
-pub const MAX_PRICE: u32 = 9_999_999;
+// The 32 bits of the largest count,
+const MAX_BITS: u32 = MAX_COUNT as u32;
 
-// The 32 bits of the largest count, 99,999, and of the least, −99,999.
-const MAX_COUNT: u32 = 99_999;
-
-const MIN_COUNT: u32 = 4_294_867_297;
+// and of the least, which is as far below 2^32.
+const MIN_BITS: u32 = 4_294_967_295 - MAX_BITS + 1;
 
 // Whether the count that 32 bits say is outside −99,999 to 99,999.
 pub fn bad_count(v: u32) -> bool
     ensures { λ r. ⌜ r ≡ ltb 99999 (natAbs (toZ w32 v)) ⌝ }
 {
-    (MAX_COUNT < v) & (v < MIN_COUNT)
+    (MAX_BITS < v) & (v < MIN_BITS)
 }
 
 // Whether a field of the offer at a place is outside its range.

@@ -12,10 +12,10 @@ ghost use Rattle.file_blocks.specs.Due.{asHead};
 ghost use Rattle.file_blocks.specs.Fills.{Whole, Placed};
 use crate::fill::fill_bytes;
 use crate::plan::Head;
-use crate::plan::MAX_TALLIES;
 use crate::plan::tallies_at;
 use crate::twice::any_bag;
 use crate::twice::fill_keys;
+use slices::limits::TALLIES;
 
 // The boxes of superseded tallies become 16.
 fn strike_keys(f: &[u8], head: Head, places: &[u16], boxes: &mut [u16])
@@ -24,7 +24,7 @@ fn strike_keys(f: &[u8], head: Head, places: &[u16], boxes: &mut [u16])
     requires { ⌜ countedTwice (countedTallies (decode (now f))) ≡ false ⌝ }
     ensures { λ _. ⌜ Struck (countedTallies (decode (now (f .entry)))) (head .tallies) (now (boxes .entry)) (now (boxes .exit)) ⌝ }
 {
-    let mut keys = [0u64; MAX_TALLIES];
+    let mut keys = [0u64; TALLIES];
     fill_keys(f, head, places, &mut keys);
     index::bags::strike(&keys, head.tallies, boxes);
 }

@@ -16,10 +16,10 @@ ghost use Rattle.file_blocks.specs.Sound.{Sound, lastRefusal};
 use crate::look::names_refusal;
 use crate::place::record_at;
 use crate::plan::Head;
-use crate::plan::MAX_TALLIES;
 use crate::plan::tallies_at;
 use file_bytes::narrow16;
 use file_bytes::word16;
+use slices::limits::TALLIES;
 use slices::u16_at;
 
 // Whether one of the tallies has a bag other than 0.
@@ -73,7 +73,7 @@ fn keys_twice(f: &[u8], head: Head, places: &[u16]) -> bool
     requires { ⌜ head .tallies ≤ length (now places) ⌝ }
     ensures { λ r. ⌜ r ≡ countedTwice (countedTallies (decode (now (f .entry)))) ⌝ }
 {
-    let mut keys = [0u64; MAX_TALLIES];
+    let mut keys = [0u64; TALLIES];
     fill_keys(f, head, places, &mut keys);
     index::bags::counted_twice(&keys, head.tallies)
 }

@@ -6,18 +6,12 @@ ghost use Prim.Native.Nat.{ℕ, _+_, _≤_, _<_};
 ghost use lib.Dec.{leb};
 ghost use lib.ListN.{length, getD};
 ghost use Rattle.index_lookup.specs.Lookup.{IsIndex, sharesNumber, placeOf, Tops, Widest, Bracket};
+use slices::casts::index_of;
 
 // How many digits of 9 bits there are: the index is sorted by such digits, and looked up by the top one,
 pub const DIGITS: usize = 512;
 // which is less than this, so that where the next one begins is told too.
 pub const TOPS: usize = 511;
-
-// A place as an index.
-pub fn index_of(place: u16) -> usize
-    ensures { λ r. ⌜ r ≡ place ⌝ }
-{
-    place as usize
-}
 
 // Whether two offers share a number.
 pub fn shared(keys: &[u64], n: usize) -> bool

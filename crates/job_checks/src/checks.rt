@@ -13,13 +13,13 @@ ghost use Rattle.model.specs.Handed.{Standing};
 ghost use Rattle.model.specs.Local.{jobRefusals};
 use bag_standing::standing_boxes;
 use job_ranges::around32;
-use job_ranges::limits::MAX_BOXES;
-use job_ranges::limits::MAX_GROCERS;
-use job_ranges::limits::MAX_OFFERS;
-use job_ranges::limits::MAX_PRICE;
-use job_ranges::limits::MAX_TALLIES;
 use job_ranges::under16;
 use job_ranges::upto32;
+use slices::limits::MAX_BOXES;
+use slices::limits::MAX_GROCERS;
+use slices::limits::MAX_OFFERS;
+use slices::limits::MAX_PRICE;
+use slices::limits::MAX_TALLIES;
 
 // 20: whether a table of the job is shorter than M, N and T as given need.
 pub fn job_short(

@@ -6,11 +6,8 @@ ghost use lib.Dec.{leb};
 ghost use lib.IntN.{natAbs};
 ghost use Rattle.laws.specs.Limits.{maxCount};
 ghost use Rattle.model.specs.Ranges.{upTo, under, around};
-
-pub mod limits;
-
-use crate::limits::MAX_COUNT;
-use crate::limits::MIN_COUNT;
+use slices::limits::MAX_COUNT;
+use slices::limits::MIN_COUNT;
 
 // Whether the first n words of s are below m. There is no branch in the loop, so that several words are tested at once.
 pub fn under16(s: &[u16], n: usize, m: u16) -> bool

@@ -13,21 +13,20 @@ ghost use Rattle.format.specs.Lent.{readerBefore, readerAfter};
 ghost use Rattle.file_blocks.specs.Due.{asHead, Most};
 ghost use Rattle.reader.specs.Answer.{answerOf, outcome};
 ghost use Rattle.file_blocks.specs.Sound.{Kept};
+use file_blocks::codes::CODE_BYTES;
 use file_blocks::file::file_refusal;
 use file_blocks::fill::fill_bytes;
-use file_blocks::fill::fill_counts;
-use file_blocks::fill::fill_owners;
-use file_blocks::fill::fill_prices;
 use file_blocks::fill::fill_words;
-use file_blocks::fill::narrow;
 use file_blocks::plan::Head;
-use file_blocks::plan::MAX_GROCERS;
-use file_blocks::plan::MAX_OFFERS;
-use file_blocks::plan::MAX_TALLIES;
 use file_blocks::plan::read_head;
 use file_blocks::plan::tallies_at;
+use file_blocks::tables::fill_offers;
+use file_blocks::tables::fill_tallies;
 use file_codes::fill_codes;
-use index::sort::copy;
+use slices::casts::word_of;
+use slices::limits::GROCERS;
+use slices::limits::OFFERS;
+use slices::limits::TALLIES;
 
 // What the reader answers: the numbers of the job that it read, or why it refused the file.
 pub enum Answer {
@@ -42,18 +41,15 @@ pub enum Answer {
 }
 
 // The bytes of the codes of the most offers and of the most tallies.
-const OFFER_CODES: usize = 5500;
+const OFFER_CODES: usize = OFFERS * CODE_BYTES;
 
-const TALLY_CODES: usize = 11000;
+const TALLY_CODES: usize = TALLIES * CODE_BYTES;
 
 // Whether one of the offers' tables is shorter than the most offers need, by their lengths.
 fn short_offers(price: usize, offer_owner: usize, offer_code: usize, offer_issuer: usize) -> bool
     ensures { λ r. ⌜ r ≡ anyOf (ltb price 500 ∷ ltb «offer_owner» 500 ∷ ltb «offer_code» 5500 ∷ ltb «offer_issuer» 500 ∷ []) ⌝ }
 {
-    (price < MAX_OFFERS)
-        | (offer_owner < MAX_OFFERS)
-        | (offer_code < OFFER_CODES)
-        | (offer_issuer < MAX_OFFERS)
+    (price < OFFERS) | (offer_owner < OFFERS) | (offer_code < OFFER_CODES) | (offer_issuer < OFFERS)
 }
 
 // Whether a table is shorter than the largest job needs: one of the offers', or one of the others by their lengths.
@@ -72,15 +68,15 @@ fn short_tables(
     ensures { λ r. ⌜ r ≡ anyOf (offers ∷ ltb «grocer_owner» 255 ∷ anyOf (ltb «tally_grocer» 1000 ∷ ltb «tally_box» 1000 ∷ ltb «tally_code» 11000 ∷
         ltb «tally_count» 1000 ∷ ltb «tally_issuer» 1000 ∷ ltb «tally_bag» 1000 ∷ ltb «tally_revision» 1000 ∷ []) ∷ []) || ltb «tally_offer» 1000 ⌝ }
 {
-    let front = (tally_grocer < MAX_TALLIES)
-        | (tally_box < MAX_TALLIES)
+    let front = (tally_grocer < TALLIES)
+        | (tally_box < TALLIES)
         | (tally_code < TALLY_CODES)
-        | (tally_count < MAX_TALLIES);
+        | (tally_count < TALLIES);
     let tallies = front
-        | (tally_issuer < MAX_TALLIES)
-        | (tally_bag < MAX_TALLIES)
-        | (tally_revision < MAX_TALLIES);
-    offers | (grocer_owner < MAX_GROCERS) | tallies | (tally_offer < MAX_TALLIES)
+        | (tally_issuer < TALLIES)
+        | (tally_bag < TALLIES)
+        | (tally_revision < TALLIES);
+    offers | (grocer_owner < GROCERS) | tallies | (tally_offer < TALLIES)
 }
 
 // 20 where a table is short, and otherwise the refusal of the file; where it is 0, the file is sound, and each tally's place is kept.
@@ -101,10 +97,10 @@ fn job_of(head: Head) -> Answer
     ensures { λ r. ⌜ answerOf r ≡ sizes (asHead head) ⌝ }
 {
     Answer::Job {
-        boxes: narrow(head.boxes),
-        grocers: narrow(head.grocers),
-        offers: narrow(head.offers),
-        tallies: narrow(head.tallies),
+        boxes: word_of(head.boxes),
+        grocers: word_of(head.grocers),
+        offers: word_of(head.offers),
+        tallies: word_of(head.tallies),
         cycle: head.cycle,
     }
 }
@@ -150,27 +146,23 @@ pub fn read(
         tally_revision.len(),
         tally_offer.len(),
     );
-    let mut places = [0u16; MAX_TALLIES];
+    let mut places = [0u16; TALLIES];
     let r = refusal(file, short, &mut places);
     if r != 0 {
         return Answer::Refused(r);
     }
     let head = read_head(file);
+    fill_offers(file, head, price, offer_owner, grocer_owner);
     let n = head.offers;
-    fill_prices(file, n, price);
-    fill_bytes(file, 1, n, 4, offer_owner);
     fill_codes(file, 1, n, 5, offer_code);
     fill_words(file, 1, n, 16, offer_issuer);
-    fill_owners(file, head, grocer_owner);
+    fill_tallies(file, head, &places, tally_grocer, tally_offer, tally_count);
     let first = tallies_at(head);
     let t = head.tallies;
-    fill_words(file, first, t, 0, tally_grocer);
     fill_bytes(file, first, t, 2, tally_box);
     fill_codes(file, first, t, 3, tally_code);
-    fill_counts(file, first, t, tally_count);
     fill_words(file, first, t, 18, tally_issuer);
     fill_words(file, first, t, 20, tally_bag);
     fill_words(file, first, t, 22, tally_revision);
-    copy(&places, tally_offer, t);
     job_of(head)
 }

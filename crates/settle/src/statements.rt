@@ -10,19 +10,17 @@ ghost use Rattle.settle_text.specs.Puts.{Put};
 ghost use Rattle.printing.specs.Printed.{printed};
 use crate::due::due_run;
 use file_blocks::file::file_refusal;
-use file_blocks::fill::fill_bytes;
-use file_blocks::fill::fill_counts;
-use file_blocks::fill::fill_owners;
-use file_blocks::fill::fill_prices;
-use file_blocks::fill::fill_words;
-use file_blocks::fill::narrow;
 use file_blocks::plan::Head;
 use file_blocks::plan::read_head;
-use file_blocks::plan::tallies_at;
 use file_blocks::standing::standing_boxes;
-use index::sort::copy;
+use file_blocks::tables::fill_offers;
+use file_blocks::tables::fill_tallies;
 use settle_text::lines::put_refused;
 use settle_text::lines::put_settled;
+use slices::casts::word_of;
+use slices::limits::GROCERS;
+use slices::limits::OFFERS;
+use slices::limits::TALLIES;
 use step_apply::Sizes;
 
 // A job's sizes as words of 16 bits.
@@ -31,36 +29,36 @@ fn sizes_of(head: Head) -> Sizes
     ensures { λ r. ⌜ (r .boxes ≡ head .boxes) × (r .grocers ≡ head .grocers) × (r .offers ≡ head .offers) × (r .tallies ≡ head .tallies) ⌝ }
 {
     Sizes {
-        boxes: narrow(head.boxes),
-        grocers: narrow(head.grocers),
-        offers: narrow(head.offers),
-        tallies: narrow(head.tallies),
+        boxes: word_of(head.boxes),
+        grocers: word_of(head.grocers),
+        offers: word_of(head.offers),
+        tallies: word_of(head.tallies),
     }
 }
 
 // The lines of an accepted file: its job is run with no choices, with the tallies that stand.
-fn put_job(out: &mut [u8; 8192], file: &[u8], head: Head, places: &[u16; 1000]) -> usize
+fn put_job(out: &mut [u8; 8192], file: &[u8], head: Head, places: &[u16; TALLIES]) -> usize
     requires { ⌜ (asHead head ≡ decode (now file) .head) × ((fileRefusal (now file) ≡ 0) × Kept (now file) (now places)) ⌝ }
     ensures { λ r. ⌜ Put 0 (printed (now (file .entry))) (now (out .entry)) (now (out .exit)) r ⌝ }
 {
-    let n = head.offers;
-    let mut price = [0u32; 500];
-    fill_prices(file, n, &mut price);
-    let mut offer_owner = [0u16; 500];
-    fill_bytes(file, 1, n, 4, &mut offer_owner);
-    let mut grocer_owner = [0u16; 255];
-    fill_owners(file, head, &mut grocer_owner);
-    let first = tallies_at(head);
-    let t = head.tallies;
-    let mut tally_grocer = [0u16; 1000];
-    fill_words(file, first, t, 0, &mut tally_grocer);
-    let mut tally_box = [0u16; 1000];
+    let mut price = [0u32; OFFERS];
+    let mut offer_owner = [0u16; OFFERS];
+    let mut grocer_owner = [0u16; GROCERS];
+    fill_offers(file, head, &mut price, &mut offer_owner, &mut grocer_owner);
+    let mut tally_grocer = [0u16; TALLIES];
+    let mut tally_offer = [0u16; TALLIES];
+    let mut tally_count = [0i32; TALLIES];
+    fill_tallies(
+        file,
+        head,
+        places,
+        &mut tally_grocer,
+        &mut tally_offer,
+        &mut tally_count,
+    );
+    let mut tally_box = [0u16; TALLIES];
     standing_boxes(file, head, places, &mut tally_box);
-    let mut tally_offer = [0u16; 1000];
-    copy(places, &mut tally_offer, t);
-    let mut tally_count = [0i32; 1000];
-    fill_counts(file, first, t, &mut tally_count);
-    let mut statement = [0i64; 255];
+    let mut statement = [0i64; GROCERS];
     let report = due_run(
         sizes_of(head),
         &price,
@@ -88,7 +86,7 @@ pub fn settled(file: &[u8], out: &mut [u8; 8192]) -> usize
     ensures { λ r. ⌜ take r (now (out .exit)) ≡ printed (now (file .entry)) ⌝ }
     ensures { λ r. ⌜ drop r (now (out .exit)) ≡ drop r (now (out .entry)) ⌝ }
 {
-    let mut places = [0u16; 1000];
+    let mut places = [0u16; TALLIES];
     let r = file_refusal(file, &mut places);
     if r != 0 {
         return put_refused(out, r);

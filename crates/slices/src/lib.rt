@@ -1,4 +1,4 @@
-// A word of a slice, read by a call: a caller's own proof then has one step for it, and not the steps of its address. Beside it bits of words, and sums.
+// A word of a slice, read by a call: a caller's own proof then has one step for it, not the steps of its address. Beside it bits, sums, casts and limits.
 ghost use mathlib.Core.Path.{_≡_};
 ghost use Prim.Native.Nat.{_≤_, _<_};
 ghost use lib.ListN.{length, getD};
@@ -6,27 +6,18 @@ ghost use lib.IntN.{pos};
 
 pub mod amounts;
 pub mod bits;
+pub mod casts;
+pub mod limits;
 
-// A byte as a size.
-fn size(x: u8) -> usize
-    ensures { λ r. ⌜ (r ≡ x) × (r ≤ 255) ⌝ }
-{
-    x as usize
-}
-
-// A 16-bit word as an index.
-fn index(x: u16) -> usize
-    ensures { λ r. ⌜ (r ≡ x) × (r ≤ 65535) ⌝ }
-{
-    x as usize
-}
+use crate::casts::byte_size;
+use crate::casts::index_of;
 
 // The byte at a place, as a size.
 pub fn byte_at(s: &[u8], i: usize) -> usize
     requires { ⌜ i < length (now s) ⌝ }
     ensures { λ r. ⌜ (r ≡ getD (now (s .entry)) i 0) × (r ≤ 255) ⌝ }
 {
-    size(s[i])
+    byte_size(s[i])
 }
 
 // The 16-bit word at a place, as an index.
@@ -34,7 +25,7 @@ pub fn index_at(s: &[u16], i: usize) -> usize
     requires { ⌜ i < length (now s) ⌝ }
     ensures { λ r. ⌜ (r ≡ getD (now (s .entry)) i 0) × (r ≤ 65535) ⌝ }
 {
-    index(s[i])
+    index_of(s[i])
 }
 
 // The 16-bit word at a place.

@@ -6,12 +6,12 @@ ghost use Rattle.model.specs.Lent.{stateBefore};
 ghost use Rattle.model.specs.Ranges.{stateInRange};
 ghost use Rattle.job_checks.specs.Sizes.{sizes};
 use crate::in_range::around64;
-use job_ranges::limits::MAX_PRICE;
-use job_ranges::limits::MAX_SENT;
 use job_ranges::under16;
 use job_ranges::upto32;
 use slices::bits::marks;
 use slices::bits::words;
+use slices::limits::MAX_PRICE;
+use slices::limits::MAX_SENT;
 
 // 20: whether a table of the state is shorter than K, M and N as given need.
 pub fn state_short(

@@ -6,11 +6,9 @@ ghost use Rattle.laws.specs.Below.{count};
 ghost use Rattle.laws.specs.Limits.{maxSent};
 ghost use Rattle.step_places.specs.Message.{wordIn};
 ghost use Rattle.step_sent.specs.Sent.{sentFits};
+use slices::limits::MAX_SENT;
 use slices::u16_at;
 use step_places::words::in_message;
-
-// The most words that can have been sent.
-const MAX_SENT: u32 = 1_000_000;
 
 // How many of the first n words stand in the message that box a, their owner, exchanges with box b. There is no branch in the loop, since none could be
 // foreseen.

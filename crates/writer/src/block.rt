@@ -16,11 +16,11 @@ use crate::records::put_owners;
 use crate::records::put_tallies;
 use file_blocks::plan::Head;
 use file_sums::sums;
+use slices::casts::index_of;
 use writer_bytes::put_four;
 use writer_bytes::put_words;
 use writer_bytes::put_zeros;
 use writer_bytes::put16;
-use writer_checks::sizes::size_of;
 
 // Zeros behind the first bytes of a block, and both sums.
 fn close_block(out: &mut [u8], at: usize, used: usize)
@@ -51,7 +51,7 @@ fn put_sizes(out: &mut [u8], head: Head)
     ensures { λ _. ⌜ now (out .exit) ≡ put 4 10 (bytesOf (headerBytes (asHead head))) (now (out .entry)) ⌝ }
 {
     put_four(out, 4, head.boxes, 1, head.grocers);
-    put_words(out, 8, head.offers, head.tallies, size_of(head.cycle));
+    put_words(out, 8, head.offers, head.tallies, index_of(head.cycle));
 }
 
 // The header block.

@@ -16,13 +16,13 @@ ghost use Rattle.index_lookup.specs.Lookup.{Ascending};
 ghost use Rattle.index.specs.Index.{Tops, Widest};
 ghost use Rattle.writer_checks.specs.Rows.{Codes, Indexed, Keyed, Finds, NamesIn, HasNames, HasBags};
 use bag_standing::columns_twice;
-use file_blocks::fill::narrow;
 use file_blocks::plan::Head;
-use file_blocks::plan::MAX_OFFERS;
-use file_blocks::plan::MAX_TALLIES;
 use index::build::build;
 use index::look::DIGITS;
 use index::look::place;
+use slices::casts::word_of;
+use slices::limits::OFFERS;
+use slices::limits::TALLIES;
 use writer_names::number_of;
 
 // Puts the numbers of the first n names into a list.
@@ -44,9 +44,9 @@ fn index_names(code: &[u8], issuer: &[u16], n: usize, keys: &mut [u64], order: &
     requires { ⌜ (n ≤ length (now keys)) × (n ≤ length (now order)) ⌝ }
     ensures { λ _. ⌜ Indexed (now (code .entry)) (now (issuer .entry)) (now (keys .exit)) (now (order .exit)) n ⌝ }
 {
-    let mut numbers = [0u64; MAX_OFFERS];
+    let mut numbers = [0u64; OFFERS];
     number_all(code, issuer, n, &mut numbers);
-    let mut spare = [0u16; MAX_OFFERS];
+    let mut spare = [0u16; OFFERS];
     build(&numbers, keys, order, &mut spare, n);
 }
 
@@ -110,7 +110,7 @@ fn find_places(
         if n <= p {
             return true;
         }
-        places[i] = narrow(p);
+        places[i] = word_of(p);
         i += 1;
     }
     false
@@ -173,8 +173,8 @@ fn names_refusal(
     ensures { λ r. ⌜ ((j : FileJob) → HasNames j (now («offer_code» .entry)) (now («offer_issuer» .entry)) (now («tally_code» .entry))
         (now («tally_issuer» .entry)) (asHead head) → r ≡ 0 → Placed j (now (places .exit)) (head .tallies)) ⌝ }
 {
-    let mut keys = [0u64; MAX_OFFERS];
-    let mut order = [0u16; MAX_OFFERS];
+    let mut keys = [0u64; OFFERS];
+    let mut order = [0u16; OFFERS];
     index_names(offer_code, offer_issuer, head.offers, &mut keys, &mut order);
     look_refusal(
         &keys,
@@ -205,7 +205,7 @@ pub fn last_refusal(
         (now («tally_issuer» .entry)) (asHead head) → HasBags j (now («tally_grocer» .entry)) (now («tally_bag» .entry)) (now («tally_revision» .entry)) →
         r ≡ firstMet ((shared j, 7) ∷ (unnamed j, 8) ∷ (countedTwice (countedTallies j), 9) ∷ [])) ⌝ }
 {
-    let mut places = [0u16; MAX_TALLIES];
+    let mut places = [0u16; TALLIES];
     let r = names_refusal(
         head,
         offer_code,

@@ -12,15 +12,12 @@ ghost use Rattle.file_blocks.specs.Due.{asHead};
 use file_blocks::codes::CODE_BYTES;
 use file_blocks::codes::is_code;
 use file_blocks::plan::Head;
-use file_blocks::records::MAX_PRICE;
 use slices::i32_at;
 use slices::index_at;
+use slices::limits::MAX_COUNT;
+use slices::limits::MAX_PRICE;
+use slices::limits::MIN_COUNT;
 use slices::u32_at;
-
-// The largest count and the least.
-const MAX_COUNT: i32 = 99_999;
-
-const MIN_COUNT: i32 = -99_999;
 
 // Whether a count is outside −99,999 to 99,999.
 fn bad_count(z: i32) -> bool

@@ -9,22 +9,16 @@ ghost use Rattle.file_blocks.specs.Due.{asHead, Fits};
 use file_blocks::codes::CODE_BYTES;
 use file_blocks::plan::Head;
 use file_blocks::plan::block_count;
-
-// A 16-bit number as a size.
-pub fn size_of(x: u16) -> usize
-    ensures { λ r. ⌜ (r ≡ x) × (r ≤ 65535) ⌝ }
-{
-    x as usize
-}
+use slices::casts::index_of;
 
 // K, M, N and T as given, and the cycle.
 pub fn head_of(boxes: u16, grocers: u16, offers: u16, tallies: u16, cycle: u16) -> Head
     ensures { λ r. ⌜ (asHead r ≡ headOf boxes grocers offers tallies cycle) × Fits (asHead r) ⌝ }
 {
-    let k = size_of(boxes);
-    let m = size_of(grocers);
-    let n = size_of(offers);
-    let t = size_of(tallies);
+    let k = index_of(boxes);
+    let m = index_of(grocers);
+    let n = index_of(offers);
+    let t = index_of(tallies);
     Head {
         boxes: k,
         grocers: m,

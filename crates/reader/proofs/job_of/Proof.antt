@@ -10,7 +10,7 @@ returns c =
     let o = c .before in
     let g = o .before in
     let b = g .before in
-    rw (b .narrow .ensures, g .narrow2 .ensures, o .narrow3 .ensures, c .narrow4 .ensures)
+    rw (b .word-of .ensures, g .word-of2 .ensures, o .word-of3 .ensures, c .word-of4 .ensures)
 
 pub job-of-spec : {M : Type 1} → statement M
 job-of-spec = tie.close (tie.spec (λ c κs. search needs) (λ c κs. search needs) (λ c κs. search needs) (λ c κs. search needs) returns)

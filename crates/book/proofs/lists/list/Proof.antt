@@ -20,7 +20,7 @@ abbrev entry : tie.After-index-of → tie.Start
 entry c = lent (c .before .before .before .before)
 
 m-is : (c : tie.After-index-of) → c .index-of .result + 1 ≡ entry c .args .k + 1
-m-is c = ap (λ (i : ℕ). i + 1) (c .index-of .ensures)
+m-is c = ap (λ (i : ℕ). i + 1) (c .index-of .ensures .0)
 
 needs-requires : tie.Need-needs-requires
 needs-requires c κs =

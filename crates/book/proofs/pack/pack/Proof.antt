@@ -50,12 +50,12 @@ starts c = ordered c .order-twice .last .1 .1 .1 .1 .1 .1 .1 .1 .1 .0
 number-is : (c : tie.After-index-of2) → at (starts c) (c .before .before .before .index-of .result) ≡ packedStart (lent (entry c)) (entry c .args .l)
 number-is c =
     let s = entry c in
-    ap (at (starts c)) (c .before .before .before .index-of .ensures)
+    ap (at (starts c)) (c .before .before .before .index-of .ensures .0)
     ∙ ap (λ (r : List ℕ). at r (s .args .l)) (ordered c .order-twice .ensures .1)
     ∙ getD-overwrite (suc (s .args .l)) (packedStart (lent s)) (now (s .args .starts)) (s .args .l) 0 (omega arith)
 
 total-is : (c : tie.After-index-of2) → c .index-of2 .result ≡ packedStart (lent (entry c)) (entry c .args .l)
-total-is c = c .index-of2 .ensures ∙ number-is c
+total-is c = c .index-of2 .ensures .0 ∙ number-is c
 
 total-in : (c : tie.After-index-of2) → c .index-of2 .result ≤ entry c .args .tallies
 total-in c = omega (arith, total-is c, packed-le (lent (entry c)))
@@ -111,11 +111,11 @@ returns c =
               (grocer-put (packedTallies (lent s)) (order i) (i .index-of2 .result) (s .args .tallies) (tally-in i) (order-at i) (i .before .numbers .result) (now (s .args .tally-grocer))
               (now (s .args .local-grocers)) (s .args .g) (i .before .numbers .ensures) (s .pre .0 .1 .item-in))
               ∙ ap (λ (k : ℕ). overwrite k (packedNumber (now (s .args .local-grocers)) (s .args .g) (now (s .args .tally-grocer)) (packedTallies (lent s))) (now (s .args .packed-grocers)))
-              (i .index-of2 .ensures),
+              (i .index-of2 .ensures .0),
           p .ensures .1
               ∙ overwrite-cong (i .index-of2 .result) (packedCount (now (s .args .tally-count)) (order i)) (packedCount (now (s .args .tally-count)) (packedTallies (lent s))) (now (s .args .packed-counts))
               (count-put (packedTallies (lent s)) (order i) (i .index-of2 .result) (s .args .tallies) (tally-in i) (order-at i) (now (s .args .tally-count)))
-              ∙ ap (λ (k : ℕ). overwrite k (packedCount (now (s .args .tally-count)) (packedTallies (lent s))) (now (s .args .packed-counts))) (i .index-of2 .ensures),
+              ∙ ap (λ (k : ℕ). overwrite k (packedCount (now (s .args .tally-count)) (packedTallies (lent s))) (now (s .args .packed-counts))) (i .index-of2 .ensures .0),
         ),
       ),
     )

@@ -46,8 +46,8 @@ returns c =
     let h = unnamed-hit _ (s .args .head .offers) (l .loop .i) (p .find-place .result) (s .args .head .tallies) (offers-is s) (tallies-is s) (p .find-place .ensures) (c .if1 .taken) (p .before .loop-test .taken) in
     (sym h, λ e. absurd (false≢true (sym e)))
 
-narrow-requires : tie.Need-narrow-requires Inv-loop μ-loop
-narrow-requires c κs =
+word-of-requires : tie.Need-word-of-requires Inv-loop μ-loop
+word-of-requires c κs =
     let p = c .before in
     let l = p .before .before in
     let s = entry (l .before) in
@@ -68,7 +68,7 @@ loop-again c =
       omega (arith, p .before .loop-test .taken),
       simp length-set (v .1),
       named-more _ (s .args .head .offers) (l .loop .i) _ (offers-is s) e (c .before .if1 .left) (v .2),
-      placed-more _ (v .3) (omega (arith, v .1, s .pre .1, p .before .loop-test .taken)) (c .narrow .ensures ∙ e),
+      placed-more _ (v .3) (omega (arith, v .1, s .pre .1, p .before .loop-test .taken)) (c .word-of .ensures ∙ e),
     )
 
 returns-2 : tie.Need-returns-2 Inv-loop μ-loop
@@ -91,7 +91,7 @@ find-places-spec =
     find-place-requires
     (λ c. c .before .before .before .loop .inv .1)
     returns
-    narrow-requires
+    word-of-requires
     (λ c. search needs)
     write-places
     (λ c. search needs)

@@ -28,14 +28,14 @@ rises : (c : tie.After-index-of2) → c .before .before .index-of .result ≤ c 
 rises c =
     let e = topped c in
     let s = entry e in
-    top-rises (s .pre .1 .0) (s .args .number) (top s) _ _ (small e) refl (c .before .before .index-of .ensures) (c .index-of2 .ensures)
+    top-rises (s .pre .1 .0) (s .args .number) (top s) _ _ (small e) refl (c .before .before .index-of .ensures .0) (c .index-of2 .ensures .0)
 
 -- and the number is in between.
 range : (c : tie.After-index-of2) → let s = entry (topped c) in let from = c .before .before .index-of .result in Bracket (now (s .args .keys)) (s .args .n) (s .args .number) from (c .index-of2 .result - from)
 range c =
     let e = topped c in
     let s = entry e in
-    bracket-start (s .pre .1 .0) (s .args .number) (top s) _ _ (small e) refl (c .before .before .index-of .ensures) (c .index-of2 .ensures)
+    bracket-start (s .pre .1 .0) (s .args .number) (top s) _ _ (small e) refl (c .before .before .index-of .ensures .0) (c .index-of2 .ensures .0)
 
 -- What is left of it.
 one : (c : tie.After-halve) → let s = entry (topped (c .before .before)) in Bracket (now (s .args .keys)) (s .args .n) (s .args .number) (c .halve .result) 1
@@ -56,14 +56,14 @@ returns-2 c =
     let b = c .before in
     let e = topped b in
     let s = entry e in
-    missing x (s .args .number) d (top-none (s .pre .1 .0) (s .args .number) (top s) _ _ (small e) refl (b .before .before .index-of .ensures) (b .index-of2 .ensures) (c .if2 .taken))
+    missing x (s .args .number) d (top-none (s .pre .1 .0) (s .args .number) (top s) _ _ (small e) refl (b .before .before .index-of .ensures .0) (b .index-of2 .ensures .0) (c .if2 .taken))
 
 halve-requires : tie.Need-halve-requires
 halve-requires c κs =
     let s = entry (topped (c .before)) in
     let b = c .before in
     let w = s .pre .1 .1 .within (top s) (small (topped b)) in
-    omega (arith, c .if2 .left, rises b, range b .inside, s .pre .0 .0, s .pre .0 .1 .0, w, b .before .before .index-of .ensures, b .index-of2 .ensures)
+    omega (arith, c .if2 .left, rises b, range b .inside, s .pre .0 .0, s .pre .0 .1 .0, w, b .before .before .index-of .ensures .0, b .index-of2 .ensures .0)
 
 returns-3 : tie.Need-returns-3
 returns-3 c =
@@ -71,7 +71,7 @@ returns-3 c =
     let t = c .before .before in
     let h = t .before .before in
     let s = entry (topped (h .before .before)) in
-    c .index-of3 .ensures ∙ found x (s .args .number) d (h .halve .result) (in-keys h) (t .if3 .taken)
+    c .index-of3 .ensures .0 ∙ found x (s .args .number) d (h .halve .result) (in-keys h) (t .if3 .taken)
 
 returns-4 : tie.Need-returns-4
 returns-4 c =

@@ -12,7 +12,7 @@ use Rattle.writer.proofs.block.put_sizes.Tie as tie
 abbrev entry : tie.After-put-four → tie.Start
 entry c = c .before .before .before
 
-abbrev started : tie.After-size-of → tie.After-put-four
+abbrev started : tie.After-index-of → tie.After-put-four
 started c = c .before .before .before .before
 
 put-four-requires : tie.Need-put-four-requires
@@ -24,7 +24,7 @@ put-words-requires : tie.Need-put-words-requires
 put-words-requires c κs =
     let f = started c in
     let p = entry f .pre in
-    (omega (arith, f .put-four .kept .0, p .0), (omega (arith, p .1 .offers), (omega (arith, p .1 .tallies), omega (arith, c .size-of .ensures .1))))
+    (omega (arith, f .put-four .kept .0, p .0), (omega (arith, p .1 .offers), (omega (arith, p .1 .tallies), omega (arith, c .index-of .ensures .1))))
 
 same-length : tie.Need-same-length
 same-length c = let z = c .before .before in z .put-words .kept .0 ∙ started (z .before) .put-four .kept .0
@@ -36,7 +36,7 @@ returns c =
     let s = entry f in
     let h = s .args .head in
     sizes-put (h .boxes) (h .grocers) (h .offers) (h .tallies) (h .cycle) (now (s .args .out)) _ _ (s .pre .0) (f .put-four .ensures)
-    (z .put-words .ensures ∙ words-same 8 (f .put-four .last .0) refl refl (z .before .size-of .ensures .0))
+    (z .put-words .ensures ∙ words-same 8 (f .put-four .last .0) refl refl (z .before .index-of .ensures .0))
 
 pub put-sizes-spec : {M : Type 1} → statement M
 put-sizes-spec = tie.close (tie.spec put-four-requires (λ c κs. search needs) put-words-requires same-length returns)

@@ -60,7 +60,7 @@ loop-again c =
       λ j x.
           let q = p .find-place .ensures j x in (
             named-more j (s .args .n) i _ (sym (x .size)) q (λ z. omega (arith, c .before .if1 .left)) (v .2 j x .0),
-            placed-more _ (v .2 j x .1) (omega (arith, v .1, s .pre .1 .1, p .before .loop-test .taken)) (c .narrow .ensures ∙ q),
+            placed-more _ (v .2 j x .1) (omega (arith, v .1, s .pre .1 .1, p .before .loop-test .taken)) (c .word-of .ensures ∙ q),
           ),
     )
 

@@ -8,8 +8,8 @@ returns c =
     let n = c .before in
     let m = n .before in
     let k = m .before in (
-      rw (k .size-of .ensures .0, m .size-of2 .ensures .0, n .size-of3 .ensures .0, c .size-of4 .ensures .0),
-      record { grocers = m .size-of2 .ensures .1; offers = n .size-of3 .ensures .1; tallies = c .size-of4 .ensures .1 },
+      rw (k .index-of .ensures .0, m .index-of2 .ensures .0, n .index-of3 .ensures .0, c .index-of4 .ensures .0),
+      record { grocers = m .index-of2 .ensures .1; offers = n .index-of3 .ensures .1; tallies = c .index-of4 .ensures .1 },
     )
 
 pub head-of-spec : {M : Type 1} → statement M
