@@ -14,10 +14,10 @@ use Rattle.laws.proofs.Bools.{split}
 use Rattle.laws.proofs.Below.{any-next, any-at, find-passes, find-none}
 use Rattle.laws.specs.Tables.{overwrite}
 use Rattle.laws.proofs.Tables.{overwrite-cong}
-use Rattle.format.specs.Job.{Head, FileJob, names, placeOf, unnamed}
+use Rattle.format.specs.Job.{FileJob, names, placeOf, unnamed}
 use Rattle.format.specs.File.{decode}
-use Rattle.format.proofs.Range.{unnamed-place}
 use Rattle.file_blocks.specs.Fills.{Placed}
+use Rattle.format.proofs.Range.{unnamed-place}
 
 -- A place is at most N.
 pub place-most : (j : FileJob) (t : ℕ) → placeOf j t ≤ j .head .offers
@@ -77,6 +77,5 @@ pub placed-end : {j : FileJob} {l : List ℕ} (i t : ℕ) → i ≤ t → t ≤ 
 placed-end {j} {l} i t a b p = subst (λ (k : ℕ). Placed j l k) (le-antisymm a b) p
 
 -- The places that were kept are the places that are stored.
-pub places-stored : (f places old : List ℕ) {new : List ℕ} (h : Head) → h ≡ decode f .head → Placed (decode f) places (decode f .head .tallies) → new ≡ overwrite (h .tallies) (λ i. getD places i 0) old →
-    new ≡ overwrite (h .tallies) (placeOf (decode f)) old
-places-stored f places old h e p w = w ∙ overwrite-cong (h .tallies) _ _ old (λ i l. p .at i (rw e at l))
+pub places-stored : (f places old : List ℕ) {new : List ℕ} {t : ℕ} → Placed (decode f) places t → new ≡ overwrite t (λ i. getD places i 0) old → new ≡ overwrite t (placeOf (decode f)) old
+places-stored f places old {t = t} p w = w ∙ overwrite-cong t _ _ old (λ i l. p .at i l)

@@ -46,3 +46,7 @@ sound-read {f} e s = subst (Sound f) (sym e) s
 -- A sound file whose tallies' places are kept.
 pub kept-read : {f places : List ℕ} {h : Head} → h ≡ decode f .head → Sound f (decode f .head) → Placed (decode f) places (h .tallies) → Kept f places
 kept-read {f} {places} e s p = record { sound = s; placed = subst (λ (x : Head). Placed (decode f) places (x .tallies)) e p }
+
+-- The places that are kept, for the numbers that were read.
+pub placed-read : {f places : List ℕ} {h : Head} → h ≡ decode f .head → Kept f places → Placed (decode f) places (h .tallies)
+placed-read {f} {places} e k = subst (λ (x : Head). Placed (decode f) places (x .tallies)) (sym e) (k .placed)

@@ -9,4 +9,5 @@ pub mod records;
 pub mod refusals;
 pub mod spares;
 pub mod standing;
+pub mod tables;
 mod twice;

@@ -15,9 +15,6 @@ ghost use Rattle.reader.specs.Answer.{answerOf, outcome};
 ghost use Rattle.file_blocks.specs.Sound.{Kept};
 use file_blocks::file::file_refusal;
 use file_blocks::fill::fill_bytes;
-use file_blocks::fill::fill_counts;
-use file_blocks::fill::fill_owners;
-use file_blocks::fill::fill_prices;
 use file_blocks::fill::fill_words;
 use file_blocks::fill::narrow;
 use file_blocks::plan::Head;
@@ -26,8 +23,9 @@ use file_blocks::plan::MAX_OFFERS;
 use file_blocks::plan::MAX_TALLIES;
 use file_blocks::plan::read_head;
 use file_blocks::plan::tallies_at;
+use file_blocks::tables::fill_offers;
+use file_blocks::tables::fill_tallies;
 use file_codes::fill_codes;
-use index::sort::copy;
 
 // What the reader answers: the numbers of the job that it read, or why it refused the file.
 pub enum Answer {
@@ -156,21 +154,17 @@ pub fn read(
         return Answer::Refused(r);
     }
     let head = read_head(file);
+    fill_offers(file, head, price, offer_owner, grocer_owner);
     let n = head.offers;
-    fill_prices(file, n, price);
-    fill_bytes(file, 1, n, 4, offer_owner);
     fill_codes(file, 1, n, 5, offer_code);
     fill_words(file, 1, n, 16, offer_issuer);
-    fill_owners(file, head, grocer_owner);
+    fill_tallies(file, head, &places, tally_grocer, tally_offer, tally_count);
     let first = tallies_at(head);
     let t = head.tallies;
-    fill_words(file, first, t, 0, tally_grocer);
     fill_bytes(file, first, t, 2, tally_box);
     fill_codes(file, first, t, 3, tally_code);
-    fill_counts(file, first, t, tally_count);
     fill_words(file, first, t, 18, tally_issuer);
     fill_words(file, first, t, 20, tally_bag);
     fill_words(file, first, t, 22, tally_revision);
-    copy(&places, tally_offer, t);
     job_of(head)
 }

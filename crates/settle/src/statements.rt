@@ -10,17 +10,12 @@ ghost use Rattle.settle_text.specs.Puts.{Put};
 ghost use Rattle.printing.specs.Printed.{printed};
 use crate::due::due_run;
 use file_blocks::file::file_refusal;
-use file_blocks::fill::fill_bytes;
-use file_blocks::fill::fill_counts;
-use file_blocks::fill::fill_owners;
-use file_blocks::fill::fill_prices;
-use file_blocks::fill::fill_words;
 use file_blocks::fill::narrow;
 use file_blocks::plan::Head;
 use file_blocks::plan::read_head;
-use file_blocks::plan::tallies_at;
 use file_blocks::standing::standing_boxes;
-use index::sort::copy;
+use file_blocks::tables::fill_offers;
+use file_blocks::tables::fill_tallies;
 use settle_text::lines::put_refused;
 use settle_text::lines::put_settled;
 use step_apply::Sizes;
@@ -43,23 +38,23 @@ fn put_job(out: &mut [u8; 8192], file: &[u8], head: Head, places: &[u16; 1000]) 
     requires { ⌜ (asHead head ≡ decode (now file) .head) × ((fileRefusal (now file) ≡ 0) × Kept (now file) (now places)) ⌝ }
     ensures { λ r. ⌜ Put 0 (printed (now (file .entry))) (now (out .entry)) (now (out .exit)) r ⌝ }
 {
-    let n = head.offers;
     let mut price = [0u32; 500];
-    fill_prices(file, n, &mut price);
     let mut offer_owner = [0u16; 500];
-    fill_bytes(file, 1, n, 4, &mut offer_owner);
     let mut grocer_owner = [0u16; 255];
-    fill_owners(file, head, &mut grocer_owner);
-    let first = tallies_at(head);
-    let t = head.tallies;
+    fill_offers(file, head, &mut price, &mut offer_owner, &mut grocer_owner);
     let mut tally_grocer = [0u16; 1000];
-    fill_words(file, first, t, 0, &mut tally_grocer);
+    let mut tally_offer = [0u16; 1000];
+    let mut tally_count = [0i32; 1000];
+    fill_tallies(
+        file,
+        head,
+        places,
+        &mut tally_grocer,
+        &mut tally_offer,
+        &mut tally_count,
+    );
     let mut tally_box = [0u16; 1000];
     standing_boxes(file, head, places, &mut tally_box);
-    let mut tally_offer = [0u16; 1000];
-    copy(places, &mut tally_offer, t);
-    let mut tally_count = [0i32; 1000];
-    fill_counts(file, first, t, &mut tally_count);
     let mut statement = [0i64; 255];
     let report = due_run(
         sizes_of(head),
