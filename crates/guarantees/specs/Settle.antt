@@ -10,7 +10,7 @@ use Rattle.model.specs.Words.{ownerWords, messageCount, stepCount}
 use Rattle.model.specs.Tables.{jobOf}
 use Rattle.format.specs.File.{decode}
 use Rattle.format.specs.Refusals.{fileRefusal}
-use Rattle.printing.specs.Cents.{cents, Cents}
+use Rattle.printing.specs.Cents.{Half, cents, Cents}
 use Rattle.printing.specs.Printed.{jobRead, decimal, signedDecimal, settledText, refusedText, blankJob, printed}
 use Rattle.printing.specs.Accepted.{owedByFile}
 
@@ -26,11 +26,11 @@ amountOf (c ∷ s) = cond (eqb c 45) (negℤ (pos (valueOf s 0))) (pos (valueOf 
 
 -- What is printed is what the file says is owed, or its refusal.
 pub record Settle : Type 0 where
-  -- An accepted file: each grocer's line says, in whole cents, what the file says is owed; then the words of the owner tables, the messages,
-  -- and 2 × K + 2 × (messages) steps.
+  -- An accepted file: each grocer's line says, in whole cents by the rule of the file's cycle, what the file says is owed; then the words of
+  -- the owner tables, the messages, and 2 × K + 2 × (messages) steps.
   pub accepted : (file : List ℕ) → fileRefusal file ≡ 0 →
       printed file
-      ≡ settledText (decode file .head .grocers) (owedByFile (decode file))
+      ≡ settledText (decode file .head .cycle) (decode file .head .grocers) (owedByFile (decode file))
       (ownerWords (jobOf (jobRead file blankJob)))
       (messageCount (jobOf (jobRead file blankJob)))
       (stepCount (jobOf (jobRead file blankJob)))
@@ -44,9 +44,9 @@ pub record Settle : Type 0 where
   pub enough : (file : List ℕ) → printed (take 37_889 file) ≡ printed file
   -- A printed number is the number, and a printed amount the cents of the amount.
   pub reads : (n : ℕ) → valueOf (decimal n) 0 ≡ n
-  pub readsAmount : (z : ℤ) → amountOf (signedDecimal (cents z)) ≡ cents z
-  -- Which are the nearest, a half going away from zero.
+  pub readsAmount : (h : Half) (z : ℤ) → amountOf (signedDecimal (cents h z)) ≡ cents h z
+  -- Which are the nearest, an exact half away from zero or, from cycle 500, to the even cent.
   pub rounded : Cents
   -- There is no `-0`: an amount of less than half a cent is printed as `0`, and behind a minus sign stands a digit from 1 to 9.
-  pub noCent : (z : ℤ) → natAbs z < 5 → signedDecimal (cents z) ≡ 48 ∷ []
-  pub minus : (z : ℤ) (s : List ℕ) → signedDecimal (cents z) ≡ 45 ∷ s → (d : ℕ) × (t : List ℕ) × (s ≡ d ∷ t) × (49 ≤ d) × (d ≤ 57)
+  pub noCent : (h : Half) (z : ℤ) → natAbs z < 5 → signedDecimal (cents h z) ≡ 48 ∷ []
+  pub minus : (h : Half) (z : ℤ) (s : List ℕ) → signedDecimal (cents h z) ≡ 45 ∷ s → (d : ℕ) × (t : List ℕ) × (s ≡ d ∷ t) × (49 ≤ d) × (d ≤ 57)

@@ -69,6 +69,7 @@ fn put_job(out: &mut [u8; 8192], file: &[u8], head: Head, places: &[u16; 1000]) 
     );
     put_settled(
         out,
+        head.cycle,
         head.grocers,
         &statement,
         report.words,
