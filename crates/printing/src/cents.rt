@@ -3,11 +3,14 @@ ghost use mathlib.Core.Path.{_≡_};
 ghost use lib.IntN.{pos, natAbs};
 ghost use Rattle.printing.specs.Cents.{halfOf, edge, cents};
 
+// The first cycle in which an exact half goes to the even cent.
+const EVEN_FROM: u16 = 500;
+
 // The least rest that makes a cent more: 5, but from cycle 500 on 6 where the whole cents are even, so that a half goes to them.
 fn edge(whole: i64, cycle: u16) -> i64
     ensures { λ r. ⌜ r ≡ pos (edge (halfOf cycle) (natAbs whole)) ⌝ }
 {
-    if cycle < 500 {
+    if cycle < EVEN_FROM {
         return 5;
     }
     if whole % 2 == 0 {
