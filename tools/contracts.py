@@ -2,7 +2,8 @@
 """contracts.py: each function of every crate's src/ with its parameters, result, requires and ensures, without comments, in one layout.
 contracts.py REV: what differs from the git revision REV, which is not checked out: functions that stand in one of both alone, or whose
 signature or contract is another, and files of definitions (crates/*/specs/*.antt) that differ in more than comments and white space.
-Private functions are told and are no difference. Exit status 1 where a public function or a file of definitions differs."""
+Private functions are told and are no difference. A revision of before the crates were renamed is read with the names of today, by the
+table "Was | Is" of docs/CHANGES.md. Exit status 1 where a public function or a file of definitions differs."""
 import difflib
 import os
 import re
@@ -35,6 +36,25 @@ def of_revision(commit):
         end = start + int(data[at:start].split()[2])
         files[p], at = data[start:end].decode("utf-8"), end + 1
     return files
+
+
+def renamed(files):
+    """The files of a revision with the names of crates of today, and the module of the book as part of its crate."""
+    rows = re.findall(r"^\| (\w.*?) \|$", open("docs/CHANGES.md", encoding="utf-8").read().split("| Was | Is |")[-1], flags=re.M)
+    cells = [c.strip() for row in rows for c in row.split("|")]
+    names = {was: now for was, now in zip(cells[::2], cells[1::2]) if was and re.fullmatch(r"\w+", was) and re.fullmatch(r"\w+", now)}
+    had = {p.split("/")[1] for p in files}
+    names = {was: now for was, now in names.items() if was in had and (now not in had or now in names)}
+    if not names:
+        return files
+    any_name = "|".join(sorted(names, key=len, reverse=True))
+    use = re.compile(rf"(?<=Rattle·)({any_name})(?=[·.])|(?<![\w.:])({any_name})(?=::)")
+    out = {}
+    for path, text in files.items():
+        crate = path.split("/")[1]
+        path = path.replace(f"crates/{crate}/", f"crates/{names.get(crate, crate)}/")
+        out[path] = use.sub(lambda m: names[m.group()], text).replace("book::book::", "book::")
+    return out
 
 
 def one_line(text):
@@ -140,7 +160,7 @@ def main(words):
     if not commit:
         print(f"contracts.py: git knows no revision {words[0]}", file=sys.stderr)
         sys.exit(2)
-    sys.exit(1 if compare(of_revision(commit), present()) else 0)
+    sys.exit(1 if compare(renamed(of_revision(commit)), present()) else 0)
 
 
 if __name__ == "__main__":

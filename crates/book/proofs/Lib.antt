@@ -3,4 +3,5 @@ pub mod Listing
 pub mod Packing
 pub mod Modelled
 pub mod Ready
+pub mod Bounds
 pub mod Booking

@@ -108,7 +108,7 @@ module _ (f : JobTables) (n : BookLengths) (b : ℕ) (h : firstMet (bookRefusals
       let e = or-off (jobShort f (jobLengths f) || bagsShort f (jobLengths f)) (bookShort f n) (u .0) in
       none-met (jobRefusals f) (e .0, (u .1 .0, (u .1 .1 .0, tt)))
 
-  in-range : jobInRange f ≡ true
+  pub in-range : jobInRange f ≡ true
   in-range = tests .2
 
   pub box-in : b < f .boxes

@@ -8,5 +8,6 @@ pub mod Demand1
 pub mod Demand2
 pub mod Demand3
 pub mod Calls
+pub mod Ascii
 pub mod Settle
 pub mod Cases

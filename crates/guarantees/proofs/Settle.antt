@@ -5,11 +5,11 @@ use mathlib.Core.List.{List, [], _∷_, _++_}
 use Prim.Native.Nat.{ℕ, zero, suc, _+_, _-_, _*_, _/_, _%_, _^_, _<_, _≤_}
 use native.Mathlib.Omega.{arith}
 use native.Mathlib.Nat.{pow-suc}
-use lib.Dec.{ltb}
+use lib.Dec.{eqb, ltb}
 use lib.IntN.{ℤ, pos, negsuc, negℤ, natAbs}
 use lib.ListN.{getD, length, take, drop}
 use lib.Seq.{getD-take, length-take-le}
-use borrow.Author.Tests.{lt-ltb, ne-eqb, ltb-true, ltb-false}
+use borrow.Author.Tests.{eqb-true, eqb-false, lt-ltb, ne-eqb, ltb-true, ltb-false}
 use Rattle.laws.proofs.Bools.{split}
 use Rattle.model.specs.Words.{ownerWords, messageCount, stepCount}
 use Rattle.model.specs.Tables.{JobTables, jobOf, lentShort}
@@ -21,6 +21,7 @@ use Rattle.printing.specs.Accepted.{owedByFile, Accepted}
 use Rattle.printing.specs.Cents.{Half, halfOf, cents}
 use Rattle.printing.specs.Printed.{jobRead, digitsOf, decimal, signedDecimal, line, grocerLines, settledText, blankJob, blankState, runText, jobText, printed}
 use Rattle.guarantees.specs.Settle.{valueOf, amountOf, Settle}
+use Rattle.guarantees.proofs.Ascii.{printed-ascii}
 use Rattle.printing.proofs.Blank.{blank-state, read-by-file, printed-refusal, printed-job}
 use Rattle.printing.proofs.Long.{long-printed, cut-printed}
 use Rattle.printing.proofs.Rounding.{none-below, rounding}
@@ -85,6 +86,17 @@ leads (suc k) n some small =
     let l = ltb-false n 10 e in
     let (d, t, f, a, b) = leads k (n / 10) (omega arith) (omega (arith, pow-suc 10 (suc k))) in
     (d, t ++ ((48 + n % 10) ∷ []), rw (e, f), a, b))
+
+-- So a number that begins with 0 is 0 itself.
+leading-zero : (n : ℕ) (s : List ℕ) → decimal n ≡ 48 ∷ s → (n ≡ 0) × (s ≡ [])
+unfolding decimal digitsOf
+leading-zero n s e =
+    split (eqb n 0)
+    (λ q. let z : n ≡ 0 = eqb-true n 0 q in (z, ap (drop 1) (sym e ∙ ap decimal z)))
+    (λ q.
+    let ne : n ≡ 0 → ⊥ = eqb-false n 0 q in
+    let (d, t, f, a, b) = leads n n (omega arith) (below-power n) in
+    absurd (omega (arith, ap (λ (l : List ℕ). getD l 0 0) (sym f ∙ e), a)))
 
 -- A minus sign stands in front of them alone.
 signed-minus : (z : ℤ) (s : List ℕ) → signedDecimal z ≡ 45 ∷ s → (d : ℕ) × (t : List ℕ) × (s ≡ d ∷ t) × (49 ≤ d) × (d ≤ 57)
@@ -163,8 +175,10 @@ settle = record {
   cut = cut-is;
   tooLong = long-printed;
   enough = λ file. cut-printed file 37_889 (omega arith);
+  ascii = printed-ascii;
   reads = number-reads;
   readsAmount = λ h z. amount-reads (cents h z);
+  noLeadingZero = leading-zero;
   rounded = rounding;
   noCent = no-cent;
   minus = λ h z. signed-minus (cents h z);

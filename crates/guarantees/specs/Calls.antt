@@ -3,7 +3,7 @@ use mathlib.Core.Path.{_≡_}
 use mathlib.Core.Logic.{_⊎_}
 use mathlib.Core.Bool.{true, false}
 use mathlib.Core.List.{List}
-use Prim.Native.Nat.{ℕ, _+_, _<_, _≤_}
+use Prim.Native.Nat.{ℕ, _+_, _^_, _<_, _≤_}
 use lib.Count.{ones}
 use lib.Dec.{eqb}
 use lib.IntN.{ℤ, pos, natAbs}
@@ -12,13 +12,14 @@ use Rattle.laws.specs.Below.{naturals, sum, only}
 use Rattle.laws.specs.Checks.{firstMet}
 use Rattle.laws.specs.Masks.{without}
 use Rattle.laws.specs.Tables.{tabulate, cellAt}
-use Rattle.laws.specs.Limits.{maxAmount}
+use Rattle.laws.specs.Limits.{maxCount, maxAmount, maxSent}
 use Rattle.model.specs.Job.{Job, needWord, sharerWord, plainSum}
 use Rattle.model.specs.Words.{ownerWords}
 use Rattle.recount.specs.Recount.{countedTwice}
 use Rattle.model.specs.Tables.{JobTables, countedOf, jobOf}
 use Rattle.model.specs.Ranges.{jobInRange}
-use Rattle.model.specs.Local.{localOffers, start, packed, BookLengths, bookRefusals, priceTable, totalTable, jobRefusals}
+use Rattle.model.specs.Local.{localOffers, localGrocers, start, starts, packed, packedGrocers, packedCounts}
+use Rattle.model.specs.Local.{BookLengths, bookRefusals, priceTable, totalTable, jobRefusals}
 use Rattle.model.specs.Reconcile.{TallyRecord, owed, reconciled}
 use Rattle.message_tables.specs.Sums.{rowSum, columnSum, tableSum}
 use Rattle.message_tables.specs.Answers.{made, tablesGiven, messageTables}
@@ -41,6 +42,33 @@ pub record TableSums (j : Job) : Type 0 where
       ≡ sum naturals (j .grocers) (λ g. only naturals (eqb (j .grocerOwner g) b) (ones (without (j .grocerOwner g) (sharerWord j g))))
   -- Both tables together have the words of the job by the owner tables.
   pub whole : tableSum (priceTable j) + tableSum (totalTable j) ≡ ownerWords j
+
+-- Every word of the local book of box b is in its range.
+pub record BookInRange (f : JobTables) (b : ℕ) : Type 0 where
+  -- There are at most N local offers, each below N;
+  pub fewOffers : length (localOffers (jobOf f) b) ≤ f .offers
+  pub offersBelow : (i : ℕ) → i < length (localOffers (jobOf f) b) → getD (localOffers (jobOf f) b) i 0 < f .offers
+  -- at most M local grocers, each below M;
+  pub fewGrocers : length (localGrocers (jobOf f) b) ≤ f .grocers
+  pub grocersBelow : (i : ℕ) → i < length (localGrocers (jobOf f) b) → getD (localGrocers (jobOf f) b) i 0 < f .grocers
+  -- one start more than local offers, each at most T;
+  pub startsMore : length (starts (jobOf f) b) ≡ length (localOffers (jobOf f) b) + 1
+  pub startsMost : (i : ℕ) → i < length (starts (jobOf f) b) → getD (starts (jobOf f) b) i 0 ≤ f .tallies
+  -- at most T packed tallies: the grocer of each is the number of a local grocer,
+  pub fewPacked : (length (packedGrocers (jobOf f) b) ≤ f .tallies) × (length (packedCounts (jobOf f) b) ≤ f .tallies)
+  pub packedLocal : (i : ℕ) → i < length (packedGrocers (jobOf f) b) → getD (packedGrocers (jobOf f) b) i 0 < length (localGrocers (jobOf f) b)
+  -- and its count is within ±99,999.
+  pub countsWithin : (i : ℕ) → i < length (packedCounts (jobOf f) b) → natAbs (getD (packedCounts (jobOf f) b) i (pos 0)) ≤ maxCount
+
+-- Every word of the two tables of a job, and of their answer, is in its range.
+pub record MessagesInRange (j : Job) : Type 0 where
+  -- A message of prices has at most N words, one of totals at most M,
+  pub prices : (a b : ℕ) → a < 16 → b < 16 → cellAt (priceTable j) a b ≤ j .offers
+  pub totals : (a b : ℕ) → a < 16 → b < 16 → cellAt (totalTable j) a b ≤ j .grocers
+  -- so each count fits a word of 16 bits.
+  pub fits : (a b : ℕ) → a < 16 → b < 16 → (cellAt (priceTable j) a b < 2 ^ 16) × (cellAt (totalTable j) a b < 2 ^ 16)
+  -- The words of the job are at most 1,000,000.
+  pub words : ownerWords j ≤ maxSent
 
 -- A job's tallies as a list of records, superseded ones among them.
 unfoldable pub jobRecords : JobTables → List TallyRecord
@@ -66,5 +94,7 @@ pub record Calls : Type 0 where
   pub deskSum : (f : JobTables) → jobInRange f ≡ true → countedTwice (countedOf f) ≡ false → f .offers ≤ length (f .price) → (g : ℕ) → g < f .grocers →
       reconciled (f .grocers) (f .offers) g (f .price) (jobRecords f) ≡ owed (plainSum (jobOf f) g)
   -- "An entry whose finished result would leave a range refuses with 21, after all its other checks":
-  -- the desk's other checks leave no such result.
+  -- the other checks of the book, of the tables of words and of the desk leave no such result.
+  pub bookInRange : (f : JobTables) (n : BookLengths) (b : ℕ) → firstMet (bookRefusals f n b) ≡ 0 → BookInRange f b
+  pub messagesInRange : (f : JobTables) → jobInRange f ≡ true → MessagesInRange (jobOf f)
   pub deskInRange : (m n g : ℕ) (prices : List ℕ) (rs : List TallyRecord) (z : ℤ) → reconciled m n g prices rs ≡ owed z → natAbs z ≤ maxAmount

@@ -1,11 +1,12 @@
 -- What `settle` prints for a job file are the amounts owed, in whole cents.
 use mathlib.Core.Path.{_≡_}
-use mathlib.Core.Bool.{cond}
+use mathlib.Core.Bool.{Bool, true, cond, _&&_}
 use mathlib.Core.List.{List, [], _∷_}
 use Prim.Native.Nat.{ℕ, _+_, _-_, _*_, _≤_, _<_}
-use lib.Dec.{eqb}
+use lib.Dec.{eqb, leb}
 use lib.IntN.{ℤ, pos, negℤ, natAbs}
-use lib.ListN.{length, take}
+use lib.ListN.{getD, length, take}
+use Rattle.laws.specs.Checks.{anyOf}
 use Rattle.model.specs.Words.{ownerWords, messageCount, stepCount}
 use Rattle.model.specs.Tables.{jobOf}
 use Rattle.format.specs.File.{decode}
@@ -23,6 +24,10 @@ valueOf (d ∷ ds) n = valueOf ds (10 * n + (d - 48))
 unfoldable pub amountOf : List ℕ → ℤ
 amountOf [] = pos 0
 amountOf (c ∷ s) = cond (eqb c 45) (negℤ (pos (valueOf s 0))) (pos (valueOf (c ∷ s) 0))
+
+-- A byte of what is printed: the end of a line, a space, a minus sign, a digit or a small letter of ASCII.
+unfoldable pub isPrinted : ℕ → Bool
+isPrinted c = anyOf (eqb c 10 ∷ eqb c 32 ∷ eqb c 45 ∷ (leb 48 c && leb c 57) ∷ (leb 97 c && leb c 122) ∷ [])
 
 -- What is printed is what the file says is owed, or its refusal.
 pub record Settle : Type 0 where
@@ -42,9 +47,13 @@ pub record Settle : Type 0 where
   pub tooLong : (file : List ℕ) → 37_888 < length file → printed file ≡ refusedText 1
   -- so that no more than 37,889 bytes of an input need be read.
   pub enough : (file : List ℕ) → printed (take 37_889 file) ≡ printed file
+  -- Whatever the file, each byte that is printed is ASCII: the end of a line, a space, a minus sign, a digit or a small letter.
+  pub ascii : (file : List ℕ) (p : ℕ) → p < length (printed file) → isPrinted (getD (printed file) p 0) ≡ true
   -- A printed number is the number, and a printed amount the cents of the amount.
   pub reads : (n : ℕ) → valueOf (decimal n) 0 ≡ n
   pub readsAmount : (h : Half) (z : ℤ) → amountOf (signedDecimal (cents h z)) ≡ cents h z
+  -- Numbers have no leading zeros: one that begins with 0 is 0 itself, and behind a minus sign stands no 0 (`minus`).
+  pub noLeadingZero : (n : ℕ) (s : List ℕ) → decimal n ≡ 48 ∷ s → (n ≡ 0) × (s ≡ [])
   -- Which are the nearest, an exact half away from zero or, from cycle 500, to the even cent.
   pub rounded : Cents
   -- There is no `-0`: an amount of less than half a cent is printed as `0`, and behind a minus sign stands a digit from 1 to 9.

@@ -7,6 +7,7 @@ ghost use Rattle.laws.specs.Masks.{bit};
 ghost use Rattle.job_masks.specs.Masks.{Owned};
 ghost use Rattle.message_words.specs.Messages.{sentTable};
 use slices::bits::clear_bit;
+use slices::bits::has_bit;
 use slices::u16_at;
 
 // 1 where bit b of the word is set, else 0.
@@ -14,7 +15,7 @@ fn bit_word(word: u16, b: usize) -> u16
     requires { ⌜ b < 16 ⌝ }
     ensures { λ r. ⌜ r ≡ only naturals (bit b word) 1 ⌝ }
 {
-    (word >> b) & 1
+    has_bit(word, b as u16) as u16
 }
 
 // x where the test holds, else y.

@@ -10,6 +10,7 @@ ghost use Rattle.step_waits.specs.Waits.{tallyLists, waitTable};
 ghost use Rattle.run_order.specs.Order.{MarksFrom, EveryJob, Ordered};
 ghost use Rattle.run.specs.Run.{answerOf, given, lengthsOf, OrderIn};
 use step_apply::Sizes;
+use step_places::PLACES;
 
 // What a run answers: words sent, messages and steps; or the number of the condition that refuses it.
 pub enum Answer {
@@ -58,7 +59,7 @@ fn pick_order(
     needs: &[u16; 500],
     choices: &[u16],
     done: &mut [u16],
-    order: &mut [u16; 1536],
+    order: &mut [u16; PLACES],
 ) -> usize
     requires { ⌜ OrderIn (z .boxes) (z .offers) (z .tallies) (tallyLists (now «offer_owner») (now «grocer_owner») (now «tally_grocer») (now standing)
         (now «tally_offer»)) (now needs) (now done) × (length (now order) ≡ 1536) ⌝ }
@@ -152,7 +153,7 @@ pub fn run(
     let boxes_standing: &[u16] = &standing;
     let needs = job_masks::masks::needs(boxes, tallies, boxes_standing, tally_offer);
     let sharers = job_masks::masks::sharers(boxes, tallies, boxes_standing, tally_grocer);
-    let mut order = [0u16; 1536];
+    let mut order = [0u16; PLACES];
     let n = pick_order(
         z,
         offer_owner,

@@ -14,6 +14,8 @@ ghost use Rattle.run_ready.specs.Walk.{listedBy, WalkIn};
 ghost use Rattle.run_ready.specs.Rows.{IsRows};
 ghost use Rattle.step_places.specs.Order.{NoneBefore};
 ghost use Rattle.run_order.specs.Order.{SomeJob, MarksFrom, Picked, Kept, Ended, Passed, EveryJob, Ordered};
+use step_places::PLACES;
+use step_places::Step;
 
 // The first n words become 0.
 fn zero16(s: &mut [u16], n: usize)
@@ -26,7 +28,7 @@ fn zero16(s: &mut [u16], n: usize)
 }
 
 // The step of a place is word n of the order, and it is marked as done.
-fn put_step(k: u16, p: step_places::Place, n: usize, done: &mut [u16], order: &mut [u16; 1536])
+fn put_step(k: u16, p: Step, n: usize, done: &mut [u16], order: &mut [u16; PLACES])
     requires { ⌜ PlaceIn k (p .kind) (p .first) (p .second) × MarksFrom k (now done) (now done) × (n < 1536) ⌝ }
     ensures { λ _. ⌜ (now (done .exit) ≡ marked k (kindOf (p .kind)) (p .first) (p .second) (now (done .entry))) ×
         (now (order .exit) ≡ set (now (order .entry)) n (here k (p .kind) (p .first) (p .second))) × MarksFrom k (now (done .entry)) (now (done .exit)) ⌝ }
@@ -45,8 +47,8 @@ fn choose(
     i: usize,
     ready: u16,
     done: &mut [u16],
-    rows: &mut [u16; 192],
-    order: &mut [u16; 1536],
+    rows: &mut [u16; run_ready::ROW_WORDS],
+    order: &mut [u16; PLACES],
 )
     requires { ⌜ WalkIn k (now done) × MarksFrom k (now done) (now done) × SomeJob k (now receivers) (now waits) ⌝ }
     requires { ⌜ IsRows k (listedBy k (now receivers) (now waits) (now done)) (now rows) ⌝ }
@@ -70,7 +72,7 @@ fn chosen(
     waits: &[[u16; 16]; 16],
     choices: &[u16],
     done: &mut [u16],
-    order: &mut [u16; 1536],
+    order: &mut [u16; PLACES],
 ) -> usize
     requires { ⌜ WalkIn k (now done) × MarksFrom k (now done) (now done) × SomeJob k (now receivers) (now waits) ⌝ }
     requires { ⌜ EveryJob k (now receivers) (now waits) (λ j. Picked j (now done) (now order) 0 (now choices)) ⌝ }
@@ -103,12 +105,12 @@ fn chosen(
 // The step of a place is word n of the order where it is ready. How many words the order has then.
 fn turn(
     k: u16,
-    p: step_places::Place,
+    p: Step,
     receivers: &[u16; 16],
     waits: &[[u16; 16]; 16],
     n: usize,
     done: &mut [u16],
-    order: &mut [u16; 1536],
+    order: &mut [u16; PLACES],
 ) -> usize
     requires { ⌜ PlaceIn k (p .kind) (p .first) (p .second) ⌝ }
     requires { ⌜ WalkIn k (now done) × MarksFrom k (now done) (now done) × SomeJob k (now receivers) (now waits) ⌝ }
@@ -133,7 +135,7 @@ fn rest(
     waits: &[[u16; 16]; 16],
     n: usize,
     done: &mut [u16],
-    order: &mut [u16; 1536],
+    order: &mut [u16; PLACES],
 ) -> usize
     requires { ⌜ WalkIn k (now done) × MarksFrom k (now done) (now done) × SomeJob k (now receivers) (now waits) ⌝ }
     requires { ⌜ EveryJob k (now receivers) (now waits) (λ j. Picked j (now done) (now order) n []) ⌝ }
@@ -143,7 +145,7 @@ fn rest(
 {
     let places = slices::bits::marks(k);
     let mut words = n;
-    let mut p = step_places::Place {
+    let mut p = Step {
         kind: 1,
         first: 0,
         second: 0,
@@ -164,7 +166,7 @@ pub fn put_order(
     waits: &[[u16; 16]; 16],
     choices: &[u16],
     done: &mut [u16],
-    order: &mut [u16; 1536],
+    order: &mut [u16; PLACES],
 ) -> usize
     requires { ⌜ WalkIn k (now done) × SomeJob k (now receivers) (now waits) × (length (now order) ≡ 1536) ⌝ }
     requires { ⌜ EveryJob k (now receivers) (now waits) (λ j. length (run j (now choices)) ≤ 1536) ⌝ }
@@ -188,7 +190,7 @@ fn least(a: usize, b: usize) -> usize
 }
 
 // The first n words of an order are laid over a lent buffer, as far as it reaches.
-pub fn lay_order(order: &[u16; 1536], n: usize, picked: &mut [u16])
+pub fn lay_order(order: &[u16; PLACES], n: usize, picked: &mut [u16])
     requires { ⌜ (n ≤ 1536) × (length (now order) ≡ 1536) ⌝ }
     ensures { λ _. ⌜ now (picked .exit) ≡ layOver (take n (now (order .entry))) (now (picked .entry)) ⌝ }
 {

@@ -6,31 +6,33 @@ ghost use lib.Dec.{eqb};
 ghost use Rattle.step_places.specs.Marks.{MarksIn};
 ghost use Rattle.run_ready.specs.Walk.{listedBy};
 ghost use Rattle.run_ready.specs.Rows.{rowOf, HasRow, IsRows, Renewed, PlaceOf, RowsBefore};
+use run_ready::ROW_WORDS;
+use run_ready::ROWS;
 use run_ready::one;
 use run_ready_rows::put_row;
 use run_ready_rows::row_at;
 
 // A row loses a place that it has.
-fn one_less(k: u16, kind: u16, a: u16, b: u16, rows: &mut [u16; 192])
+fn one_less(k: u16, kind: u16, a: u16, b: u16, rows: &mut [u16; ROW_WORDS])
     requires { ⌜ PlaceOf k kind a b 1 (now rows) ⌝ }
     ensures { λ _. ⌜ ((f : ℕ → Bool) → HasRow k f (rowOf k kind a) (now (rows .entry)) → f b ≡ true →
         Renewed k (λ i. f i && not (eqb b i)) (rowOf k kind a) (now (rows .entry)) (now (rows .exit))) ⌝ }
 {
     let r = row_at(k, kind, a);
     let word = slices::bits::clear_bit(rows[r], b);
-    let number = rows[96 + r] - 1;
+    let number = rows[ROWS + r] - 1;
     put_row(r, word, number, rows);
 }
 
 // A row gets a place that it lacks, where the test holds.
-fn one_more(k: u16, kind: u16, a: u16, b: u16, test: bool, rows: &mut [u16; 192])
+fn one_more(k: u16, kind: u16, a: u16, b: u16, test: bool, rows: &mut [u16; ROW_WORDS])
     requires { ⌜ PlaceOf k kind a b 0 (now rows) ⌝ }
     ensures { λ _. ⌜ ((f : ℕ → Bool) → HasRow k f (rowOf k kind a) (now (rows .entry)) → f b ≡ false →
         Renewed k (λ i. f i || (test && eqb b i)) (rowOf k kind a) (now (rows .entry)) (now (rows .exit))) ⌝ }
 {
     let r = row_at(k, kind, a);
     let word = step_rules::ready::with_bit(rows[r], b, test);
-    let number = rows[96 + r] + one(test);
+    let number = rows[ROWS + r] + one(test);
     put_row(r, word, number, rows);
 }
 
@@ -44,7 +46,7 @@ pub fn renew(
     receivers: &[u16; 16],
     waits: &[[u16; 16]; 16],
     done: &[u16],
-    rows: &mut [u16; 192],
+    rows: &mut [u16; ROW_WORDS],
 )
     requires { ⌜ MarksIn k kind a b (now done) ⌝ }
     requires { ⌜ RowsBefore k kind a b (now receivers) (now waits) (now done) (now rows) ⌝ }

@@ -12,8 +12,11 @@ ghost use Rattle.step_rules.specs.Rules.{hasGot, permittedBy, BoxIn};
 ghost use Rattle.step_places.specs.Places.{Found};
 ghost use Rattle.run_ready.specs.Walk.{listedBy, WalkIn};
 ghost use Rattle.run_ready.specs.Rows.{rowOf, RowIn, IsRows, rowsTotal, FewRows, Renewed};
+use run_ready::ROW_WORDS;
+use run_ready::ROWS;
 use run_ready::one;
-use step_places::Place;
+use slices::bits::has_bit;
+use step_places::Step;
 use step_rules::marks::is_done;
 use step_rules::ready::covers;
 use step_rules::ready::with_bit;
@@ -28,16 +31,16 @@ pub fn row_at(k: u16, kind: u16, a: u16) -> usize
 }
 
 // Row r gets this word and this number.
-pub fn put_row(r: usize, word: u16, number: u16, rows: &mut [u16; 192])
+pub fn put_row(r: usize, word: u16, number: u16, rows: &mut [u16; ROW_WORDS])
     requires { ⌜ (r < 96) × (length (now rows) ≡ 192) ⌝ }
     ensures { λ _. ⌜ ((k : ℕ) (f : ℕ → Bool) → word ≡ maskOf k f → number ≡ count k f → Renewed k f r (now (rows .entry)) (now (rows .exit))) ⌝ }
 {
     rows[r] = word;
-    rows[96 + r] = number;
+    rows[ROWS + r] = number;
 }
 
 // Row r gets this word, and the number of its bits.
-fn put_word(r: usize, word: u16, rows: &mut [u16; 192])
+fn put_word(r: usize, word: u16, rows: &mut [u16; ROW_WORDS])
     requires { ⌜ (r < 96) × (length (now rows) ≡ 192) ⌝ }
     ensures { λ _. ⌜ ((k : ℕ) (f : ℕ → Bool) → word ≡ maskOf k f → Renewed k f r (now (rows .entry)) (now (rows .exit))) ⌝ }
 {
@@ -75,7 +78,7 @@ pub fn renew_sends(
     got: u16,
     waits: &[[u16; 16]; 16],
     done: &[u16],
-    rows: &mut [u16; 192],
+    rows: &mut [u16; ROW_WORDS],
 )
     requires { ⌜ BoxIn k a (now done) × (got ≡ maskOf 16 (hasGot (stepsDone k (now done)) a)) ⌝ }
     requires { ⌜ length (now rows) ≡ 192 ⌝ }
@@ -94,7 +97,7 @@ pub fn renew_own(
     got: u16,
     waits: &[[u16; 16]; 16],
     done: &[u16],
-    rows: &mut [u16; 192],
+    rows: &mut [u16; ROW_WORDS],
 )
     requires { ⌜ BoxIn k a (now done) × (got ≡ maskOf 16 (hasGot (stepsDone k (now done)) a)) ⌝ }
     requires { ⌜ length (now rows) ≡ 192 ⌝ }
@@ -136,11 +139,16 @@ fn row_word(
 }
 
 // All rows are made.
-pub fn all_rows(k: u16, receivers: &[u16; 16], waits: &[[u16; 16]; 16], done: &[u16]) -> [u16; 192]
+pub fn all_rows(
+    k: u16,
+    receivers: &[u16; 16],
+    waits: &[[u16; 16]; 16],
+    done: &[u16],
+) -> [u16; ROW_WORDS]
     requires { ⌜ WalkIn k (now done) ⌝ }
     ensures { λ r. ⌜ IsRows k (listedBy k (now (receivers .entry)) (now (waits .entry)) (now (done .entry))) r ⌝ }
 {
-    let mut rows = [0u16; 192];
+    let mut rows = [0u16; ROW_WORDS];
     let n = 6 * k;
     for r in 0..n {
         let word = row_word(k, r / k + 1, r % k, receivers, waits, done);
@@ -157,12 +165,12 @@ pub fn rows_for(
     receivers: &[u16; 16],
     waits: &[[u16; 16]; 16],
     done: &[u16],
-) -> [u16; 192]
+) -> [u16; ROW_WORDS]
     requires { ⌜ WalkIn k (now done) ⌝ }
     ensures { λ r. ⌜ (1 ≤ choices → IsRows k (listedBy k (now (receivers .entry)) (now (waits .entry)) (now (done .entry))) r) ⌝ }
 {
     if choices == 0 {
-        return [0u16; 192];
+        return [0u16; ROW_WORDS];
     }
     all_rows(k, receivers, waits, done)
 }
@@ -174,7 +182,7 @@ fn bit_at(k: u16, c: u16, word: u16) -> u16
 {
     let mut left = c;
     for b in 0..k {
-        let set = step_places::words::has_bit(word, b);
+        let set = has_bit(word, b);
         if set & (left == 0) {
             return b;
         }
@@ -185,7 +193,7 @@ fn bit_at(k: u16, c: u16, word: u16) -> u16
 }
 
 // The number of places of k rows, from row `first` on.
-fn places_in(k: u16, first: u16, rows: &[u16; 192]) -> u16
+fn places_in(k: u16, first: u16, rows: &[u16; ROW_WORDS]) -> u16
     requires { ⌜ FewRows k (now rows) × (first + k ≤ 6 * k) ⌝ }
     ensures { λ r. ⌜ r + rowsTotal (now (rows .entry)) first ≡ rowsTotal (now (rows .entry)) (first + k) ⌝ }
 {
@@ -193,13 +201,13 @@ fn places_in(k: u16, first: u16, rows: &[u16; 192]) -> u16
     let from = first as usize;
     let mut found: u16 = 0;
     for i in 0..n {
-        found += rows[96 + (from + i)];
+        found += rows[ROWS + (from + i)];
     }
     found
 }
 
 // The place that has c places before it, of k rows from row `first` on, where they have more than c.
-fn find_row(k: u16, first: u16, c: u16, rows: &[u16; 192]) -> Place
+fn find_row(k: u16, first: u16, c: u16, rows: &[u16; ROW_WORDS]) -> Step
     requires { ⌜ (1 ≤ k) × (k ≤ 16) × (first + k ≤ 6 * k) ⌝ }
     ensures { λ p. ⌜ ((f : ℕ → Bool) → IsRows k f (now (rows .entry)) → c + rowsTotal (now (rows .entry)) first < rowsTotal (now (rows .entry)) (first + k) →
         Found k (nth (6 * k * k) f (c + rowsTotal (now (rows .entry)) first)) (p .kind) (p .first) (p .second)) ⌝ }
@@ -208,9 +216,9 @@ fn find_row(k: u16, first: u16, c: u16, rows: &[u16; 192]) -> Place
     for i in 0..k {
         let r = first + i;
         let at = r as usize;
-        let found = rows[96 + at];
+        let found = rows[ROWS + at];
         if left < found {
-            return Place {
+            return Step {
                 kind: r / k + 1,
                 first: r % k,
                 second: bit_at(k, left, rows[at]),
@@ -218,7 +226,7 @@ fn find_row(k: u16, first: u16, c: u16, rows: &[u16; 192]) -> Place
         }
         left -= found;
     }
-    Place {
+    Step {
         kind: 1,
         first: 0,
         second: 0,
@@ -226,7 +234,7 @@ fn find_row(k: u16, first: u16, c: u16, rows: &[u16; 192]) -> Place
 }
 
 // The place that has c places before it, of those that the rows have: kinds are passed, then rows, and then bits of one row's word.
-pub fn find_in(k: u16, c: u16, rows: &[u16; 192]) -> Place
+pub fn find_in(k: u16, c: u16, rows: &[u16; ROW_WORDS]) -> Step
     requires { ⌜ (1 ≤ k) × FewRows k (now rows) ⌝ }
     ensures { λ p. ⌜ ((f : ℕ → Bool) → IsRows k f (now (rows .entry)) → c < count (6 * k * k) f →
         Found k (nth (6 * k * k) f c) (p .kind) (p .first) (p .second)) ⌝ }
@@ -239,7 +247,7 @@ pub fn find_in(k: u16, c: u16, rows: &[u16; 192]) -> Place
         }
         left -= found;
     }
-    Place {
+    Step {
         kind: 1,
         first: 0,
         second: 0,

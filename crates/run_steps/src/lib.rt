@@ -10,7 +10,11 @@ ghost use Rattle.step_links.specs.Links.{Linked, LinkedPairs, Some};
 ghost use Rattle.step_totals.specs.Row.{tallies};
 ghost use Rattle.run_steps.specs.All.{withoutMarks, StepIn, StepOut, AllIn, AllOut};
 use step_apply::Sizes;
-use step_apply::Step;
+use step_links::GROCER_LINKS;
+use step_links::OFFER_LINKS;
+use step_links::TALLY_LINKS;
+use step_places::PLACES;
+use step_places::Step;
 
 // Words and messages sent, counted as steps are done.
 pub struct Sent {
@@ -33,7 +37,7 @@ fn step_of(k: u16, place: u16) -> Step
 }
 
 // The step of turn i of an order, of k boxes.
-fn step_at(k: u16, order: &[u16; 1536], i: usize) -> Step
+fn step_at(k: u16, order: &[u16; PLACES], i: usize) -> Step
     requires { ⌜ (i < 1536) × (1 ≤ k) × (k ≤ 16) × (getD (now order) i 0 < 6 * k * k) ⌝ }
     ensures { λ r. ⌜ (r .kind ≡ suc (getD (now (order .entry)) i 0 / k / k)) × (r .first ≡ getD (now (order .entry)) i 0 / k % k)
         × (r .second ≡ getD (now (order .entry)) i 0 % k) ⌝ }
@@ -61,9 +65,9 @@ fn one_step(
     tally_count: &[i32],
     needs: &[u16; 500],
     sharers: &[u16; 255],
-    offer_links: &[u16; 517],
-    grocer_links: &[u16; 272],
-    tally_links: &[u16; 1272],
+    offer_links: &[u16; OFFER_LINKS],
+    grocer_links: &[u16; GROCER_LINKS],
+    tally_links: &[u16; TALLY_LINKS],
     known: &mut [u32],
     price_transit: &mut [u32],
     working: &mut [i64],
@@ -121,7 +125,7 @@ pub fn all_steps(
     tally_count: &[i32],
     needs: &[u16; 500],
     sharers: &[u16; 255],
-    order: &[u16; 1536],
+    order: &[u16; PLACES],
     n: usize,
     known: &mut [u32],
     price_transit: &mut [u32],

@@ -8,7 +8,8 @@ ghost use Rattle.model.specs.Tables.{jobTables, jobOf};
 ghost use Rattle.job_masks.specs.Masks.{Owned, byOwner};
 ghost use Rattle.settle.specs.Due.{dueBy, dueAt, DueIn, DueOut};
 use step_apply::Sizes;
-use step_places::Place;
+use step_places::PLACES;
+use step_places::Step;
 use step_places::words::reaches;
 
 // What a run reports: words sent, messages and steps.
@@ -39,14 +40,14 @@ fn is_due(kind: u16, a: u16, b: u16, receivers: &[u16; 16], senders: &[u16; 16])
 }
 
 // The places of the steps that the job has, ascending, are the first words of the order. How many. A place that has no step is written over.
-fn put_due(k: u16, receivers: &[u16; 16], senders: &[u16; 16], order: &mut [u16; 1536]) -> usize
+fn put_due(k: u16, receivers: &[u16; 16], senders: &[u16; 16], order: &mut [u16; PLACES]) -> usize
     requires { ⌜ (1 ≤ k) × (k ≤ 16) × (length (now order) ≡ 1536) ⌝ }
     ensures { λ r. ⌜ (r ≤ 1536) × (length (now (order .exit)) ≡ 1536) × (take r (now (order .exit)) ≡ ascending (6 * k * k)
         (dueAt k (now (receivers .entry)) (now (senders .entry)))) ⌝ }
 {
     let places = slices::bits::marks(k);
     let mut words: usize = 0;
-    let mut p = Place {
+    let mut p = Step {
         kind: 1,
         first: 0,
         second: 0,
@@ -67,7 +68,7 @@ fn due_order(
     grocer_owner: &[u16],
     needs: &[u16; 500],
     sharers: &[u16; 255],
-    order: &mut [u16; 1536],
+    order: &mut [u16; PLACES],
 ) -> usize
     requires { ⌜ (1 ≤ z .boxes) × (z .boxes ≤ 16) × (length (now order) ≡ 1536) ⌝ }
     requires { ⌜ Owned (z .offers) (now «offer_owner») (now needs) × Owned (z .grocers) (now «grocer_owner») (now sharers) ⌝ }
@@ -100,7 +101,7 @@ pub fn due_run(
 {
     let needs = job_masks::masks::needs(z.boxes, z.tallies, tally_box, tally_offer);
     let sharers = job_masks::masks::sharers(z.boxes, z.tallies, tally_box, tally_grocer);
-    let mut order = [0u16; 1536];
+    let mut order = [0u16; PLACES];
     let n = due_order(z, offer_owner, grocer_owner, &needs, &sharers, &mut order);
     let mut known = [0u32; 8000];
     let mut price_transit = [0u32; 8000];

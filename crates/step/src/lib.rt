@@ -8,7 +8,10 @@ ghost use Rattle.step_apply.specs.Apply.{PriceStepOut, TotalStepOut};
 ghost use Rattle.step.specs.Answer.{answerOf};
 ghost use Rattle.step.specs.Lent.{PricesLent, TotalsLent};
 use step_apply::Sizes;
-use step_apply::Step;
+use step_links::GROCER_LINKS;
+use step_links::OFFER_LINKS;
+use step_links::TALLY_LINKS;
+use step_places::Step;
 use step_sent::raise;
 
 // A request is accepted, or refused under the number of the first condition met.
@@ -39,8 +42,8 @@ fn move_prices(
         (now («price_transit» .entry)) (now (working .entry)) (x .kind) (x .first) (x .second)
         (now (known .exit)) (now («price_transit» .exit)) (now (working .exit)) r ⌝ }
 {
-    let mut offer_links = [0u16; 517];
-    let mut tally_links = [0u16; 1272];
+    let mut offer_links = [0u16; OFFER_LINKS];
+    let mut tally_links = [0u16; TALLY_LINKS];
     step_links::link(z.offers as usize, offer_owner, &mut offer_links);
     step_links::link_pairs(
         z.tallies as usize,
@@ -81,7 +84,7 @@ fn move_totals(
         (now («total_transit» .entry)) (now (statement .entry)) (x .kind) (x .first) (x .second)
         (now (working .exit)) (now («total_transit» .exit)) (now (statement .exit)) r ⌝ }
 {
-    let mut grocer_links = [0u16; 272];
+    let mut grocer_links = [0u16; GROCER_LINKS];
     step_links::link(z.grocers as usize, grocer_owner, &mut grocer_links);
     step_apply::total_step(
         z,

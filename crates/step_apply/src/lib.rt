@@ -4,6 +4,10 @@ ghost use Prim.Native.Nat.{ℕ};
 ghost use Rattle.step_links.specs.Links.{Linked, LinkedPairs, Some};
 ghost use Rattle.step_totals.specs.Row.{tallies};
 ghost use Rattle.step_apply.specs.Apply.{PriceStepIn, PriceStepOut, TotalStepIn, TotalStepOut};
+use step_links::GROCER_LINKS;
+use step_links::OFFER_LINKS;
+use step_links::TALLY_LINKS;
+use step_places::Step;
 
 // How many boxes, grocers, offers and tallies a job has: K, M, N and T.
 pub struct Sizes {
@@ -11,13 +15,6 @@ pub struct Sizes {
     pub grocers: u16,
     pub offers: u16,
     pub tallies: u16,
-}
-
-// A step: its kind and its two boxes.
-pub struct Step {
-    pub kind: u16,
-    pub first: u16,
-    pub second: u16,
 }
 
 // A step of kind 1, 2 or 3: prices sent, own tallies multiplied, or prices received and their tallies multiplied. The words sent.
@@ -28,8 +25,8 @@ pub fn price_step(
     tally_offer: &[u16],
     tally_count: &[i32],
     needs: &[u16; 500],
-    offer_links: &[u16; 517],
-    tally_links: &[u16; 1272],
+    offer_links: &[u16; OFFER_LINKS],
+    tally_links: &[u16; TALLY_LINKS],
     known: &mut [u32],
     price_transit: &mut [u32],
     working: &mut [i64],
@@ -105,7 +102,7 @@ pub fn price_step(
 pub fn total_step(
     z: Sizes,
     sharers: &[u16; 255],
-    grocer_links: &[u16; 272],
+    grocer_links: &[u16; GROCER_LINKS],
     working: &mut [i64],
     total_transit: &mut [i64],
     statement: &mut [i64],

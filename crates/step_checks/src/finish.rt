@@ -9,7 +9,7 @@ use crate::credit::credit_fits;
 use crate::in_range::around64;
 use crate::row::product_row;
 use step_apply::Sizes;
-use step_apply::Step;
+use step_places::Step;
 use step_sent::sent_fits;
 
 // Steps 2 and 3: whether the working totals of box a stay in range with the tallies of offers of box `from`.

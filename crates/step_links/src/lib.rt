@@ -7,8 +7,17 @@ ghost use Rattle.step_links.specs.Links.{pairKey, Keyed, Linked, PairsKe
 // Keys are 0 to 16, and their first places stand in front of the links.
 pub const HEADS: usize = 17;
 
-// Keys of pairs are 0 to 271, likewise.
-pub const PAIR_HEADS: usize = 272;
+// Keys of pairs are 0 to 271, likewise: one of 17 numbers, and one of the 16 boxes.
+pub const PAIR_HEADS: usize = HEADS * 16;
+
+// The words of the links of offers: first places, and one link for each of the most offers, 517.
+pub const OFFER_LINKS: usize = HEADS + 500;
+
+// The words of the links of grocers, likewise for the most grocers, 272.
+pub const GROCER_LINKS: usize = HEADS + 255;
+
+// The words of the links of tallies: first places of pairs, and one link for each of the most tallies, 1272.
+pub const TALLY_LINKS: usize = PAIR_HEADS + 1000;
 
 // No key has a place yet: each first place is the end.
 fn no_places(heads: usize, end: u16, links: &mut [u16])
@@ -71,21 +80,21 @@ pub fn link_pairs(n: usize, boxes: &[u16], places: &[u16], owners: &[u16], links
 }
 
 // The links of offers by owner: first places, and for each offer the next of its owner.
-pub fn offer_links(offers: u16, offer_owner: &[u16]) -> [u16; 517]
+pub fn offer_links(offers: u16, offer_owner: &[u16]) -> [u16; OFFER_LINKS]
     requires { ⌜ Keyed offers (now «offer_owner») (replicate 517 0) ⌝ }
     ensures { λ r. ⌜ Linked offers (now («offer_owner» .entry)) r ⌝ }
 {
-    let mut links = [0u16; 517];
+    let mut links = [0u16; OFFER_LINKS];
     link(offers as usize, offer_owner, &mut links);
     links
 }
 
 // The links of grocers by owner, likewise.
-pub fn grocer_links(grocers: u16, grocer_owner: &[u16]) -> [u16; 272]
+pub fn grocer_links(grocers: u16, grocer_owner: &[u16]) -> [u16; GROCER_LINKS]
     requires { ⌜ Keyed grocers (now «grocer_owner») (replicate 272 0) ⌝ }
     ensures { λ r. ⌜ Linked grocers (now («grocer_owner» .entry)) r ⌝ }
 {
-    let mut links = [0u16; 272];
+    let mut links = [0u16; GROCER_LINKS];
     link(grocers as usize, grocer_owner, &mut links);
     links
 }
@@ -96,11 +105,11 @@ pub fn tally_links(
     tally_box: &[u16],
     tally_offer: &[u16],
     offer_owner: &[u16],
-) -> [u16; 1272]
+) -> [u16; TALLY_LINKS]
     requires { ⌜ PairsKeyed tallies (now «tally_box») (now «tally_offer») (now «offer_owner») (replicate 1_272 0) ⌝ }
     ensures { λ r. ⌜ LinkedPairs tallies (now («tally_box» .entry)) (now («tally_offer» .entry)) (now («offer_owner» .entry)) r ⌝ }
 {
-    let mut links = [0u16; 1272];
+    let mut links = [0u16; TALLY_LINKS];
     link_pairs(
         tallies as usize,
         tally_box,

@@ -7,35 +7,44 @@ ghost use Rattle.step_places.specs.Places.{PlaceIn, Next};
 
 pub mod words;
 
-// A place among the steps: kind, first box and second box.
-pub struct Place {
+// The most boxes: those of a word are its 16 bits.
+pub const BOXES: usize = 16;
+
+// The kinds of steps, 1 to 6.
+pub const KINDS: usize = 6;
+
+// The places of steps among the most boxes, one for each kind, first box and second box: 1536.
+pub const PLACES: usize = KINDS * BOXES * BOXES;
+
+// A step: its kind, first box and second box. By these it has a place among the steps.
+pub struct Step {
     pub kind: u16,
     pub first: u16,
     pub second: u16,
 }
 
-// The place after this one.
-pub fn next(k: u16, p: Place) -> Place
+// The step of the place after this one's.
+pub fn next(k: u16, p: Step) -> Step
     requires { ⌜ PlaceIn k (p .kind) (p .first) (p .second) ⌝ }
     ensures { λ r. ⌜ Next k (p .kind) (p .first) (p .second) (r .kind) (r .first) (r .second) ⌝ }
 {
     let a = p.first;
     let b = p.second;
     if b + 1 < k {
-        return Place {
+        return Step {
             kind: p.kind,
             first: a,
             second: b + 1,
         };
     }
     if a + 1 < k {
-        return Place {
+        return Step {
             kind: p.kind,
             first: a + 1,
             second: 0,
         };
     }
-    Place {
+    Step {
         kind: p.kind + 1,
         first: 0,
         second: 0,

@@ -1,16 +1,8 @@
 // Whether a word stands in a message, told from its owner and its mask; and whether a box is among those of a box's word.
 ghost use mathlib.Core.Path.{_≡_};
 ghost use Prim.Native.Nat.{_<_};
-ghost use Rattle.laws.specs.Masks.{bit};
 ghost use Rattle.step_places.specs.Message.{inMessage, reaches};
-
-// Whether bit b of the mask w is set.
-pub fn has_bit(w: u16, b: u16) -> bool
-    requires { ⌜ b < 16 ⌝ }
-    ensures { λ r. ⌜ r ≡ bit b w ⌝ }
-{
-    (w >> b) & 1 == 1
-}
+pub use slices::bits::has_bit;
 
 // Whether a word of this owner and mask stands in the message that box a, its owner, exchanges with box b.
 pub fn in_message(owner: u16, mask: u16, a: u16, b: u16) -> bool

@@ -4,9 +4,10 @@ ghost use Prim.Native.Nat.{_+_, _<_};
 ghost use lib.ListN.{length, getD};
 ghost use Rattle.step_places.specs.Message.{wordIn};
 use step_links::HEADS;
+use step_links::OFFER_LINKS;
 
 // The first offer of box a, by the links.
-pub fn first(a: u16, links: &[u16; 517]) -> usize
+pub fn first(a: u16, links: &[u16; OFFER_LINKS]) -> usize
     requires { ⌜ a < 16 ⌝ }
     ensures { λ r. ⌜ r ≡ getD (now (links .entry)) a 0 ⌝ }
 {
@@ -14,7 +15,7 @@ pub fn first(a: u16, links: &[u16; 517]) -> usize
 }
 
 // The next offer of the owner of offer o, by the links.
-pub fn after(o: usize, links: &[u16; 517]) -> usize
+pub fn after(o: usize, links: &[u16; OFFER_LINKS]) -> usize
     requires { ⌜ o < 500 ⌝ }
     ensures { λ r. ⌜ r ≡ getD (now (links .entry)) (17 + o) 0 ⌝ }
 {

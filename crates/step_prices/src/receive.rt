@@ -10,6 +10,7 @@ use crate::offers::after;
 use crate::offers::due;
 use crate::offers::first;
 use slices::amounts::row_start;
+use step_links::OFFER_LINKS;
 
 // Takes the price of offer o out of transit, in the row of box a, if a is to have it from box b.
 fn receive_one(
@@ -43,7 +44,7 @@ pub fn receive_prices(
     b: u16,
     owner: &[u16],
     needs: &[u16; 500],
-    links: &[u16; 517],
+    links: &[u16; OFFER_LINKS],
     known: &mut [u32],
     transit: &mut [u32],
 )

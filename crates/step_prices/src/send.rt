@@ -11,6 +11,7 @@ use crate::offers::after;
 use crate::offers::due;
 use crate::offers::first;
 use slices::amounts::row_start;
+use step_links::OFFER_LINKS;
 
 // Sends the price of offer o, from row `from` to row `to`, if box b is to have it from box a: 1 where it is, else 0.
 fn send_one(
@@ -43,7 +44,7 @@ pub fn send_prices(
     b: u16,
     owner: &[u16],
     needs: &[u16; 500],
-    links: &[u16; 517],
+    links: &[u16; OFFER_LINKS],
     known: &[u32],
     transit: &mut [u32],
 ) -> u32

@@ -16,12 +16,12 @@ use job_checks::checks::job_in_range;
 use job_checks::checks::job_short;
 use job_masks::masks::by_owner;
 use step_apply::Sizes;
-use step_apply::Step;
 use step_checks::finish::price_fits;
 use step_checks::finish::total_fits;
 use step_checks::request::request_refusal;
 use step_checks::state::state_in_range;
 use step_checks::state::state_short;
+use step_places::Step;
 use step_waits::waits;
 
 // The first of the conditions 20, 21 and 9 that is met, or 0. Where none is, `standing` has the box of each tally that stands, and 16 for the others.

@@ -12,13 +12,14 @@ use crate::walk::begin;
 use crate::walk::next;
 use slices::amounts::raise_at;
 use slices::amounts::row_start;
+use step_links::GROCER_LINKS;
 
 // Whether the owner a of grocer g adds a total of box `from` to its statement: its own, or one of which `from` has a part total.
 pub fn takes_total(g: usize, sharers: &[u16; 255], a: u16, from: u16) -> bool
     requires { ⌜ (g < 255) × (from < 16) ⌝ }
     ensures { λ r. ⌜ r ≡ takesTotal (now (sharers .entry)) a from g ⌝ }
 {
-    (from == a) | step_places::words::has_bit(sharers[g], from)
+    (from == a) | slices::bits::has_bit(sharers[g], from)
 }
 
 // Adds the total of grocer g of box a, which is at a place, to its statement if it takes it, and puts 0 in its place.
@@ -50,7 +51,7 @@ pub fn credit(
     a: u16,
     from: u16,
     sharers: &[u16; 255],
-    links: &[u16; 272],
+    links: &[u16; GROCER_LINKS],
     source: &mut [i64],
     statement: &mut [i64],
 )

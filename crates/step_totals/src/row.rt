@@ -14,6 +14,7 @@ use slices::amounts::row_start;
 use slices::i32_at;
 use slices::index_at;
 use slices::u32_at;
+use step_links::TALLY_LINKS;
 
 // Adds count × price of tally i to a row that begins at a place, at its grocer.
 pub fn add_tally(
@@ -45,7 +46,7 @@ pub fn add_products(
     t: usize,
     a: u16,
     from: u16,
-    tally_links: &[u16; 1272],
+    tally_links: &[u16; TALLY_LINKS],
     tally_grocer: &[u16],
     tally_offer: &[u16],
     tally_count: &[i32],

@@ -12,13 +12,14 @@ ghost use Rattle.step_totals.specs.Credit.{cleared, sentTotals, sendsPar
 use crate::walk::begin;
 use crate::walk::next;
 use slices::amounts::row_start;
+use step_links::GROCER_LINKS;
 
 // Whether box a sends its part total of grocer g to box b, the owner: it has one, and is another box.
 fn sends_part(g: usize, sharers: &[u16; 255], a: u16, b: u16) -> bool
     requires { ⌜ (g < 255) × (a < 16) ⌝ }
     ensures { λ r. ⌜ r ≡ sendsPart (now (sharers .entry)) a b g ⌝ }
 {
-    (b != a) & step_places::words::has_bit(sharers[g], a)
+    (b != a) & slices::bits::has_bit(sharers[g], a)
 }
 
 // Sends the total of grocer g of box b, which is at a place, if box a has a part total of it: 1 if it does, else 0.
@@ -52,7 +53,7 @@ pub fn send_totals(
     a: u16,
     b: u16,
     sharers: &[u16; 255],
-    links: &[u16; 272],
+    links: &[u16; GROCER_LINKS],
     working: &mut [i64],
     transit: &mut [i64],
 ) -> u32

@@ -5,12 +5,14 @@ ghost use Prim.Native.Nat.{ℕ, _+_, _<_};
 ghost use lib.ListN.{getD};
 ghost use Rattle.step_links.specs.Links.{Skips, Linked, pairKey};
 use slices::amounts::index;
+use step_links::GROCER_LINKS;
 use step_links::HEADS;
 use step_links::PAIR_HEADS;
+use step_links::TALLY_LINKS;
 use step_links::pair;
 
 // The first of the places whose key is v, by the links: of n places n where there is none.
-pub fn begin(v: u16, links: &[u16; 272]) -> usize
+pub fn begin(v: u16, links: &[u16; GROCER_LINKS]) -> usize
     requires { ⌜ v < 16 ⌝ }
     ensures { λ r. ⌜ ((n : ℕ) (keys : List ℕ) → Linked n keys (now (links .entry)) → Skips n keys v 0 r) ⌝ }
 {
@@ -19,7 +21,7 @@ pub fn begin(v: u16, links: &[u16; 272]) -> usize
 }
 
 // The link of place g: the next place of its key.
-pub fn next(g: usize, links: &[u16; 272]) -> usize
+pub fn next(g: usize, links: &[u16; GROCER_LINKS]) -> usize
     requires { ⌜ g < 255 ⌝ }
     ensures { λ r. ⌜ r ≡ getD (now (links .entry)) (17 + g) 0 ⌝ }
 {
@@ -27,7 +29,7 @@ pub fn next(g: usize, links: &[u16; 272]) -> usize
 }
 
 // The first of the places of a pair of boxes, by the links.
-pub fn begin_pair(a: u16, b: u16, links: &[u16; 1272]) -> usize
+pub fn begin_pair(a: u16, b: u16, links: &[u16; TALLY_LINKS]) -> usize
     requires { ⌜ (a < 16) × (b < 16) ⌝ }
     ensures { λ r. ⌜ r ≡ getD (now (links .entry)) (pairKey a b) 0 ⌝ }
 {
@@ -36,7 +38,7 @@ pub fn begin_pair(a: u16, b: u16, links: &[u16; 1272]) -> usize
 }
 
 // The link of place i: the next place of its pair.
-pub fn next_pair(i: usize, links: &[u16; 1272]) -> usize
+pub fn next_pair(i: usize, links: &[u16; TALLY_LINKS]) -> usize
     requires { ⌜ i < 1_000 ⌝ }
     ensures { λ r. ⌜ r ≡ getD (now (links .entry)) (272 + i) 0 ⌝ }
 {

@@ -8,7 +8,6 @@ use Rattle.step_places.proofs.words.in_message.Statement.{statement}
 use Rattle.step_places.proofs.words.in_message.Tie as tie
 use Rattle.step_places.proofs.words.in_message.Reads as reads
 use Rattle.step_places.proofs.words.in_message.Lts as lts
-use Rattle.step_places.proofs.words.has_bit.Reads as has-bit-reads
 
 returns : tie.Need-returns
 unfolding inMessage
