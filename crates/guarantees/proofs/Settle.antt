@@ -156,7 +156,8 @@ module _ (file : List ℕ) (ok : fileRefusal file ≡ 0) where
   settled-is =
       printed-job file ok
       ∙ ap (λ (a : RunAnswer). runText (decode file .head .cycle) (decode file .head .grocers) a (ran job blankState [] [] .tables .statement)) answer-is
-      ∙ text-cong (decode file .head .cycle) (decode file .head .grocers) (λ g. getD (ran job blankState [] [] .tables .statement) g (pos 0)) (owedByFile (decode file)) (ownerWords (jobOf job)) (messageCount (jobOf job)) (stepCount (jobOf job)) amount-is
+      ∙ text-cong (decode file .head .cycle) (decode file .head .grocers) (λ g. getD (ran job blankState [] [] .tables .statement) g (pos 0)) (owedByFile (decode file))
+      (ownerWords (jobOf job)) (messageCount (jobOf job)) (stepCount (jobOf job)) amount-is
 
 -- The first n bytes of a file say the file's length, if they are a file.
 cut-is : (file : List ℕ) (n : ℕ) → fileRefusal file ≡ 0 → n < length file → fileRefusal (take n file) ≡ 0 → ⊥

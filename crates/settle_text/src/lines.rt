@@ -60,7 +60,8 @@ pub fn put_settled(
     steps: u32,
 ) -> usize
     requires { ⌜ grocers ≤ 255 ⌝ }
-    ensures { λ r. ⌜ Put 0 (settledText cycle grocers (λ g. getD (now (statement .entry)) g (pos 0)) words messages steps) (now (out .entry)) (now (out .exit)) r ⌝ }
+    ensures { λ r. ⌜ Put 0 (settledText cycle grocers (λ g. getD (now (statement .entry)) g (pos 0)) words messages steps) (now (out .entry))
+        (now (out .exit)) r ⌝ }
 {
     let lines = put_statements(out, cycle, grocers, statement);
     let sent = put_count(out, lines, b"words", words);
