@@ -97,6 +97,23 @@ static size_t halves(void)
     return write_file(&job, file);
 }
 
+/* Every amount from -127 to 127 tenths, in a cycle: halves of both signs, to even and to odd cents. */
+static size_t tenths_in(uint16_t cycle)
+{
+    one_tally_job(&job, (struct sizes){2, MOST_GROCERS, 1, MOST_GROCERS}, 1, (struct tally){0});
+    for (uint16_t t = 0; t < MOST_GROCERS; t++) {
+        job.tally[t].grocer = t;
+        job.tally[t].box = t % 2;
+        job.tally[t].count = t - 127;
+    }
+    job.cycle = cycle;
+    return write_file(&job, file);
+}
+
+static size_t tenths_499(void) { return tenths_in(499); }
+static size_t tenths_500(void) { return tenths_in(500); }
+static size_t tenths_last(void) { return tenths_in(UINT16_MAX); }
+
 /* 5521 of issuers 1 and 2 and of an old offer, at 1,250, 399 and 80, each with tallies of both grocers: grocer 0 is owed
    3 x 1,250 + 2 x 399 - 1 x 80 = 4,468, in cents 447, and grocer 1 4 x 399 + 5 x 80 + 1 x 1,250 = 3,246, in cents 325.
    Box 0 owns the first offer and grocer 1, box 1 the rest. Box 1 sends two prices and a total, box 0 a price and a
@@ -300,6 +317,9 @@ static const struct sample {
     {"largest_negative", largest_negative, 0},
     {"halves", halves, 0},
     {"last_cycle", last_cycle, 0},
+    {"tenths_499", tenths_499, 0},
+    {"tenths_500", tenths_500, 0},
+    {"tenths_last", tenths_last, 0},
     {"issuers", issuers, 0},
     {"recount_two_boxes", recount_two_boxes, 0},
     {"loose_twice", loose_twice, 0},
@@ -347,14 +367,19 @@ static FILE *open_file(const char *folder, const char *name, const char *ending)
     exit(2);
 }
 
-/* Tenths of a cent in whole cents, to the nearest, a half going away from zero: the whole number c of which 10 * c is nearest, found
-   by looking at those around. */
+/* Of two cents that are equally near, whether c is the one printed: to cycle 499 the one away from zero, from cycle 500 on the even one. */
+static bool takes_half(int64_t c, int64_t other)
+{
+    return job.cycle < 500 ? llabs(c) > llabs(other) : c % 2 == 0;
+}
+
+/* Tenths of a cent in whole cents, by the job's cycle: the whole number c of which 10 * c is nearest, found by looking at those around. */
 static int64_t in_cents(int64_t tenths)
 {
     int64_t best = tenths / 10 - 2;
     for (int64_t c = best + 1; c <= tenths / 10 + 2; c++) {
         int64_t off = llabs(10 * c - tenths), least = llabs(10 * best - tenths);
-        if (off < least || (off == least && llabs(c) > llabs(best))) best = c;
+        if (off < least || (off == least && takes_half(c, best))) best = c;
     }
     return best;
 }

@@ -11,7 +11,7 @@ use borrow.Author.Tests.{le-leb, ltb-true}
 use Rattle.laws.proofs.Bools.{split, or-true}
 use Rattle.model.specs.Run.{RunAnswer, finished, refused}
 use Rattle.format.specs.Tables.{ReadAnswer, sizes, refused as notRead, readResult}
-use Rattle.printing.specs.Cents.{cents}
+use Rattle.printing.specs.Cents.{Half, halfOf, cents}
 use Rattle.printing.specs.Printed.{digitsOf, decimal, signedDecimal, line, grocerLines, wordsName, messagesName, stepsName, refusedName, settledText, refusedText, blankJob, runText, jobText, readText, printed}
 use Rattle.guarantees.specs.Settle.{isPrinted}
 
@@ -54,20 +54,20 @@ lined : (name value : List ℕ) → Plain name → Plain value → Plain (line n
 unfolding line isPrinted
 lined name value a b = both (name ++ (32 ∷ value)) (10 ∷ []) (both name (32 ∷ value) a (refl, b)) (refl, tt)
 
-grocers : (m : ℕ) (owed : ℕ → ℤ) → Plain (grocerLines m owed)
+grocers : (h : Half) (m : ℕ) (owed : ℕ → ℤ) → Plain (grocerLines h m owed)
 unfolding grocerLines
-grocers zero owed = tt
-grocers (suc m) owed =
-    both (grocerLines m owed) (line (decimal m) (signedDecimal (cents (owed m)))) (grocers m owed)
-    (lined (decimal m) (signedDecimal (cents (owed m))) (number m) (amount (cents (owed m))))
+grocers h zero owed = tt
+grocers h (suc m) owed =
+    both (grocerLines h m owed) (line (decimal m) (signedDecimal (cents h (owed m)))) (grocers h m owed)
+    (lined (decimal m) (signedDecimal (cents h (owed m))) (number m) (amount (cents h (owed m))))
 
 -- A settled job,
-settled : (m : ℕ) (owed : ℕ → ℤ) (words messages steps : ℕ) → Plain (settledText m owed words messages steps)
+settled : (cycle m : ℕ) (owed : ℕ → ℤ) (words messages steps : ℕ) → Plain (settledText cycle m owed words messages steps)
 unfolding settledText isPrinted
-settled m owed words messages steps =
-    both (grocerLines m owed ++ line wordsName (decimal words) ++ line messagesName (decimal messages)) (line stepsName (decimal steps))
-    (both (grocerLines m owed ++ line wordsName (decimal words)) (line messagesName (decimal messages))
-    (both (grocerLines m owed) (line wordsName (decimal words)) (grocers m owed)
+settled cycle m owed words messages steps =
+    both (grocerLines (halfOf cycle) m owed ++ line wordsName (decimal words) ++ line messagesName (decimal messages)) (line stepsName (decimal steps))
+    (both (grocerLines (halfOf cycle) m owed ++ line wordsName (decimal words)) (line messagesName (decimal messages))
+    (both (grocerLines (halfOf cycle) m owed) (line wordsName (decimal words)) (grocers (halfOf cycle) m owed)
     (lined wordsName (decimal words) (refl, (refl, (refl, (refl, (refl, tt))))) (number words)))
     (lined messagesName (decimal messages) (refl, (refl, (refl, (refl, (refl, (refl, (refl, (refl, tt)))))))) (number messages)))
     (lined stepsName (decimal steps) (refl, (refl, (refl, (refl, (refl, tt))))) (number steps))
@@ -77,14 +77,14 @@ no-job : (n : ℕ) → Plain (refusedText n)
 unfolding refusedText isPrinted
 no-job n = lined refusedName (decimal n) (refl, (refl, (refl, (refl, (refl, (refl, (refl, tt))))))) (number n)
 
-of-run : (m : ℕ) (a : RunAnswer) (statement : List ℤ) → Plain (runText m a statement)
+of-run : (cycle m : ℕ) (a : RunAnswer) (statement : List ℤ) → Plain (runText cycle m a statement)
 unfolding runText
-of-run m (finished words messages steps) statement = settled m (λ g. getD statement g (pos 0)) words messages steps
-of-run m (refused n) statement = no-job n
+of-run cycle m (finished words messages steps) statement = settled cycle m (λ g. getD statement g (pos 0)) words messages steps
+of-run cycle m (refused n) statement = no-job n
 
 of-answer : (file : List ℕ) (a : ReadAnswer) → Plain (readText file a)
 unfolding readText jobText
-of-answer file (sizes head) = of-run _ _ _
+of-answer file (sizes head) = of-run _ _ _ _
 of-answer file (notRead n) = no-job n
 
 pub printed-ascii : (file : List ℕ) (p : ℕ) → p < length (printed file) → isPrinted (getD (printed file) p 0) ≡ true

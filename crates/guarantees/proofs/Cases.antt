@@ -19,7 +19,7 @@ use Rattle.format.specs.Job.{Head, badSizes, badOffer, badOwner, badTally, badR
 use Rattle.format.specs.Blocks.{firstSum, secondSum}
 use Rattle.format.specs.File.{encode, decode}
 use Rattle.format.specs.Refusals.{jobRefusal, fileRefusal}
-use Rattle.printing.specs.Cents.{nearest, cents}
+use Rattle.printing.specs.Cents.{halfOf, edge, nearest, cents}
 use Rattle.printing.specs.Accepted.{owedByFile, Holds}
 use Rattle.printing.specs.Printed.{jobRead, digitsOf, decimal, signedDecimal, line, grocerLines, settledText, blankJob, printed}
 use Rattle.guarantees.specs.Cases.{code, alone, fileE, twoIssuers, recounted, textE, Cases}
@@ -189,20 +189,20 @@ e-same =
 e-amount : (g : ℕ) → owedByFile (decode (encode fileE)) g ≡ plainSum (jobOf jobE) g
 e-amount g = sym (given (encode fileE) e-accepted .sums g) ∙ ap (λ (j : Job). plainSum j g) e-same
 
-e-text : settledText 2 (plainSum (jobOf jobE)) 3 3 10 ≡ textE
-unfolding settledText grocerLines line decimal digitsOf signedDecimal cents nearest only naturals
+e-text : settledText 0 2 (plainSum (jobOf jobE)) 3 3 10 ≡ textE
+unfolding settledText grocerLines line decimal digitsOf signedDecimal halfOf cents nearest edge only naturals
 e-text = rw (Settlement.cases .e-amount-0, Settlement.cases .e-amount-1)
 
 e-printed : printed (encode fileE) ≡ textE
 unfolding fileE plainSum
 e-printed =
     settle .accepted (encode fileE) e-accepted
-    ∙ text-same (ap (λ (h : Head). h .grocers) (read-back fileE e-written .head)) (fun-ext e-amount)
+    ∙ text-same (ap (λ (h : Head). h .cycle) (read-back fileE e-written .head)) (ap (λ (h : Head). h .grocers) (read-back fileE e-written .head)) (fun-ext e-amount)
     (ap ownerWords e-same ∙ Settlement.cases .e-words) (ap messageCount e-same ∙ Settlement.cases .e-messages) (ap stepCount e-same ∙ Settlement.cases .e-steps)
     ∙ e-text
   where
-    text-same : {m m′ w w′ c c′ n n′ : ℕ} {f f′ : ℕ → ℤ} → m ≡ m′ → f ≡ f′ → w ≡ w′ → c ≡ c′ → n ≡ n′ → settledText m f w c n ≡ settledText m′ f′ w′ c′ n′
-    text-same a b c d e = λ i. settledText (a i) (b i) (c i) (d i) (e i)
+    text-same : {y y′ m m′ w w′ c c′ n n′ : ℕ} {f f′ : ℕ → ℤ} → y ≡ y′ → m ≡ m′ → f ≡ f′ → w ≡ w′ → c ≡ c′ → n ≡ n′ → settledText y m f w c n ≡ settledText y′ m′ f′ w′ c′ n′
+    text-same x a b c d e = λ i. settledText (x i) (a i) (b i) (c i) (d i) (e i)
 
 pub cases : Cases
 unfolding jobOf

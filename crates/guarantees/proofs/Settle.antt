@@ -18,7 +18,7 @@ use Rattle.format.specs.File.{readHead, decode}
 use Rattle.format.specs.Refusals.{fileRefusal}
 use Rattle.format.specs.Tables.{readRefusal}
 use Rattle.printing.specs.Accepted.{owedByFile, Accepted}
-use Rattle.printing.specs.Cents.{cents}
+use Rattle.printing.specs.Cents.{Half, halfOf, cents}
 use Rattle.printing.specs.Printed.{jobRead, digitsOf, decimal, signedDecimal, line, grocerLines, settledText, blankJob, blankState, runText, jobText, printed}
 use Rattle.guarantees.specs.Settle.{valueOf, amountOf, Settle}
 use Rattle.guarantees.proofs.Ascii.{printed-ascii}
@@ -108,22 +108,22 @@ signed-minus (negsuc n) s e =
     let (d, t, f, a, b) = leads (suc n) (suc n) (omega arith) (below-power (suc n)) in
     (d, t, ap (drop 1) (sym e) ∙ f, a, b)
 
-no-cent : (z : ℤ) → natAbs z < 5 → signedDecimal (cents z) ≡ 48 ∷ []
+no-cent : (h : Half) (z : ℤ) → natAbs z < 5 → signedDecimal (cents h z) ≡ 48 ∷ []
 unfolding signedDecimal decimal digitsOf
-no-cent z h = rw (none-below z h)
+no-cent h z l = rw (none-below h z l)
 
 -- ---- the lines
 
 -- The first m amounts alone count.
-lines-cong : (m : ℕ) (a b : ℕ → ℤ) → ((g : ℕ) → g < m → a g ≡ b g) → grocerLines m a ≡ grocerLines m b
+lines-cong : (r : Half) (m : ℕ) (a b : ℕ → ℤ) → ((g : ℕ) → g < m → a g ≡ b g) → grocerLines r m a ≡ grocerLines r m b
 unfolding grocerLines
-lines-cong zero a b h = refl
-lines-cong (suc m) a b h =
-    ap₂ (λ (x : List ℕ) (z : ℤ). x ++ line (decimal m) (signedDecimal (cents z))) (lines-cong m a b (λ g l. h g (omega arith))) (h m (omega arith))
+lines-cong r zero a b h = refl
+lines-cong r (suc m) a b h =
+    ap₂ (λ (x : List ℕ) (z : ℤ). x ++ line (decimal m) (signedDecimal (cents r z))) (lines-cong r m a b (λ g l. h g (omega arith))) (h m (omega arith))
 
-text-cong : (m : ℕ) (a b : ℕ → ℤ) (w c n : ℕ) → ((g : ℕ) → g < m → a g ≡ b g) → settledText m a w c n ≡ settledText m b w c n
+text-cong : (y m : ℕ) (a b : ℕ → ℤ) (w c n : ℕ) → ((g : ℕ) → g < m → a g ≡ b g) → settledText y m a w c n ≡ settledText y m b w c n
 unfolding settledText
-text-cong m a b w c n h = rw (lines-cong m a b h)
+text-cong y m a b w c n h = rw (lines-cong (halfOf y) m a b h)
 
 module _ (file : List ℕ) (ok : fileRefusal file ≡ 0) where
   read-ok : readRefusal file blankJob ≡ 0
@@ -151,12 +151,13 @@ module _ (file : List ℕ) (ok : fileRefusal file ≡ 0) where
   unfolding jobRead
   amount-is g h = demand3-run job (given .settles) blankState [] [] .statements lent-ok g h ∙ given .sums g
 
-  settled-is : printed file ≡ settledText (decode file .head .grocers) (owedByFile (decode file)) (ownerWords (jobOf job)) (messageCount (jobOf job)) (stepCount (jobOf job))
+  settled-is : printed file ≡ settledText (decode file .head .cycle) (decode file .head .grocers) (owedByFile (decode file)) (ownerWords (jobOf job)) (messageCount (jobOf job)) (stepCount (jobOf job))
   unfolding jobText runText jobRead
   settled-is =
       printed-job file ok
-      ∙ ap (λ (a : RunAnswer). runText (decode file .head .grocers) a (ran job blankState [] [] .tables .statement)) answer-is
-      ∙ text-cong (decode file .head .grocers) (λ g. getD (ran job blankState [] [] .tables .statement) g (pos 0)) (owedByFile (decode file)) (ownerWords (jobOf job)) (messageCount (jobOf job)) (stepCount (jobOf job)) amount-is
+      ∙ ap (λ (a : RunAnswer). runText (decode file .head .cycle) (decode file .head .grocers) a (ran job blankState [] [] .tables .statement)) answer-is
+      ∙ text-cong (decode file .head .cycle) (decode file .head .grocers) (λ g. getD (ran job blankState [] [] .tables .statement) g (pos 0)) (owedByFile (decode file))
+      (ownerWords (jobOf job)) (messageCount (jobOf job)) (stepCount (jobOf job)) amount-is
 
 -- The first n bytes of a file say the file's length, if they are a file.
 cut-is : (file : List ℕ) (n : ℕ) → fileRefusal file ≡ 0 → n < length file → fileRefusal (take n file) ≡ 0 → ⊥
@@ -177,9 +178,9 @@ settle = record {
   enough = λ file. cut-printed file 37_889 (omega arith);
   ascii = printed-ascii;
   reads = number-reads;
-  readsAmount = λ z. amount-reads (cents z);
+  readsAmount = λ h z. amount-reads (cents h z);
   noLeadingZero = leading-zero;
   rounded = rounding;
   noCent = no-cent;
-  minus = λ z. signed-minus (cents z);
+  minus = λ h z. signed-minus (cents h z);
 }

@@ -11,7 +11,7 @@ use Rattle.model.specs.Words.{ownerWords, messageCount, stepCount}
 use Rattle.model.specs.Tables.{jobOf}
 use Rattle.format.specs.File.{decode}
 use Rattle.format.specs.Refusals.{fileRefusal}
-use Rattle.printing.specs.Cents.{cents, Cents}
+use Rattle.printing.specs.Cents.{Half, cents, Cents}
 use Rattle.printing.specs.Printed.{jobRead, decimal, signedDecimal, settledText, refusedText, blankJob, printed}
 use Rattle.printing.specs.Accepted.{owedByFile}
 
@@ -31,11 +31,11 @@ isPrinted c = anyOf (eqb c 10 ∷ eqb c 32 ∷ eqb c 45 ∷ (leb 48 c && leb c 5
 
 -- What is printed is what the file says is owed, or its refusal.
 pub record Settle : Type 0 where
-  -- An accepted file: each grocer's line says, in whole cents, what the file says is owed; then the words of the owner tables, the messages,
-  -- and 2 × K + 2 × (messages) steps.
+  -- An accepted file: each grocer's line says, in whole cents by the rule of the file's cycle, what the file says is owed; then the words of
+  -- the owner tables, the messages, and 2 × K + 2 × (messages) steps.
   pub accepted : (file : List ℕ) → fileRefusal file ≡ 0 →
       printed file
-      ≡ settledText (decode file .head .grocers) (owedByFile (decode file))
+      ≡ settledText (decode file .head .cycle) (decode file .head .grocers) (owedByFile (decode file))
       (ownerWords (jobOf (jobRead file blankJob)))
       (messageCount (jobOf (jobRead file blankJob)))
       (stepCount (jobOf (jobRead file blankJob)))
@@ -51,11 +51,11 @@ pub record Settle : Type 0 where
   pub ascii : (file : List ℕ) (p : ℕ) → p < length (printed file) → isPrinted (getD (printed file) p 0) ≡ true
   -- A printed number is the number, and a printed amount the cents of the amount.
   pub reads : (n : ℕ) → valueOf (decimal n) 0 ≡ n
-  pub readsAmount : (z : ℤ) → amountOf (signedDecimal (cents z)) ≡ cents z
+  pub readsAmount : (h : Half) (z : ℤ) → amountOf (signedDecimal (cents h z)) ≡ cents h z
   -- Numbers have no leading zeros: one that begins with 0 is 0 itself, and behind a minus sign stands no 0 (`minus`).
   pub noLeadingZero : (n : ℕ) (s : List ℕ) → decimal n ≡ 48 ∷ s → (n ≡ 0) × (s ≡ [])
-  -- Which are the nearest, a half going away from zero.
+  -- Which are the nearest, an exact half away from zero or, from cycle 500, to the even cent.
   pub rounded : Cents
   -- There is no `-0`: an amount of less than half a cent is printed as `0`, and behind a minus sign stands a digit from 1 to 9.
-  pub noCent : (z : ℤ) → natAbs z < 5 → signedDecimal (cents z) ≡ 48 ∷ []
-  pub minus : (z : ℤ) (s : List ℕ) → signedDecimal (cents z) ≡ 45 ∷ s → (d : ℕ) × (t : List ℕ) × (s ≡ d ∷ t) × (49 ≤ d) × (d ≤ 57)
+  pub noCent : (h : Half) (z : ℤ) → natAbs z < 5 → signedDecimal (cents h z) ≡ 48 ∷ []
+  pub minus : (h : Half) (z : ℤ) (s : List ℕ) → signedDecimal (cents h z) ≡ 45 ∷ s → (d : ℕ) × (t : List ℕ) × (s ≡ d ∷ t) × (49 ≤ d) × (d ≤ 57)

@@ -9,6 +9,7 @@ use lib.IntN.{pos}
 use lib.ListN.{length, replicate, length-replicate}
 use borrow.Author.Tests.{le-ltb}
 use Rattle.model.specs.Tables.{JobTables, StateTables, stateLengths, stateShort}
+use Rattle.format.specs.File.{decode}
 use Rattle.format.specs.Refusals.{fileRefusal}
 use Rattle.format.specs.Tables.{ReaderTables, LongOffers, LongTallies, ReadOutcome, largest, shortReader, readRefusal}
 use Rattle.printing.specs.Printed.{jobRead, blankJob, blankState, refusedText, jobText, readText, printed}
@@ -72,6 +73,6 @@ printed-refusal file met =
     ap (λ (o : ReadOutcome). readText file (o .answer)) (read-refused file blankJob (λ z. met (sym e ∙ z))) ∙ ap refusedText e
 
 -- and of an accepted one.
-pub printed-job : (file : List ℕ) → fileRefusal file ≡ 0 → printed file ≡ jobText (jobRead file blankJob)
+pub printed-job : (file : List ℕ) → fileRefusal file ≡ 0 → printed file ≡ jobText (decode file .head .cycle) (jobRead file blankJob)
 unfolding printed readText
 printed-job file ok = ap (λ (o : ReadOutcome). readText file (o .answer)) (read-accepted file blankJob (read-by-file file ∙ ok))

@@ -8,7 +8,7 @@ use lib.ListN.{getD, replicate}
 use Rattle.model.specs.Tables.{JobTables, bagTables, StateTables, stateTables}
 use Rattle.model.specs.Run.{RunAnswer, finished, refused, ran}
 use Rattle.format.specs.File.{decode}
-use Rattle.printing.specs.Cents.{cents}
+use Rattle.printing.specs.Cents.{Half, halfOf, cents}
 use Rattle.format.specs.Tables.{ReadAnswer, sizes, refused as notRead, ReaderTables, offerTables, tallyTables, fileTables, readerTables, readResult}
 
 -- The job's tables after the reader has read a file into the tables l: K, M, N and T as it answers them, the words it stored,
@@ -40,10 +40,10 @@ signedDecimal (negsuc n) = 45 ∷ decimal (suc n)
 unfoldable pub line : List ℕ → List ℕ → List ℕ
 line name value = name ++ (32 ∷ value) ++ (10 ∷ [])
 
--- The lines of the first m grocers: number and amount in whole cents; `amount` is in tenths.
-unfoldable pub grocerLines : ℕ → (ℕ → ℤ) → List ℕ
-grocerLines zero amount = []
-grocerLines (suc m) amount = grocerLines m amount ++ line (decimal m) (signedDecimal (cents (amount m)))
+-- The lines of the first m grocers: number and amount in whole cents, an exact half by the rule h; `amount` is in tenths.
+unfoldable pub grocerLines : Half → ℕ → (ℕ → ℤ) → List ℕ
+grocerLines h zero amount = []
+grocerLines h (suc m) amount = grocerLines h m amount ++ line (decimal m) (signedDecimal (cents h (amount m)))
 
 -- The words of the output, in ASCII: "words",
 abbrev pub wordsName : List ℕ
@@ -61,10 +61,10 @@ stepsName = 115 ∷ 116 ∷ 101 ∷ 112 ∷ 115 ∷ []
 abbrev pub refusedName : List ℕ
 refusedName = 114 ∷ 101 ∷ 102 ∷ 117 ∷ 115 ∷ 101 ∷ 100 ∷ []
 
--- A settled job: the grocers' lines, then the words and messages sent and the steps accepted.
-unfoldable pub settledText : (grocers : ℕ) → (amount : ℕ → ℤ) → (words messages steps : ℕ) → List ℕ
-settledText grocers amount words messages steps =
-    grocerLines grocers amount ++ line wordsName (decimal words) ++ line messagesName (decimal messages) ++ line stepsName (decimal steps)
+-- A settled job: the grocers' lines, by the rule of its cycle, then the words and messages sent and the steps accepted.
+unfoldable pub settledText : (cycle grocers : ℕ) → (amount : ℕ → ℤ) → (words messages steps : ℕ) → List ℕ
+settledText cycle grocers amount words messages steps =
+    grocerLines (halfOf cycle) grocers amount ++ line wordsName (decimal words) ++ line messagesName (decimal messages) ++ line stepsName (decimal steps)
 
 -- "one line of `refused`, a space and the number".
 unfoldable pub refusedText : ℕ → List ℕ
@@ -87,18 +87,18 @@ blankState =
     stateTables (replicate 8_000 0) (replicate 8_000 0) (replicate 4_080 (pos 0)) (replicate 4_080 (pos 0))
     (replicate 255 (pos 0)) (replicate 1_536 0) (replicate 1 0)
 
--- What is printed of a run of m grocers, by its answer and the statements it leaves.
-unfoldable pub runText : ℕ → RunAnswer → List ℤ → List ℕ
-runText grocers (finished words messages steps) statement = settledText grocers (λ g. getD statement g (pos 0)) words messages steps
-runText grocers (refused number) statement = refusedText number
+-- What is printed of a run of m grocers, by its cycle, its answer and the statements it leaves.
+unfoldable pub runText : ℕ → ℕ → RunAnswer → List ℤ → List ℕ
+runText cycle grocers (finished words messages steps) statement = settledText cycle grocers (λ g. getD statement g (pos 0)) words messages steps
+runText cycle grocers (refused number) statement = refusedText number
 
--- What is printed of a job: the run with no choices, lent no buffer for the places of its steps.
-unfoldable pub jobText : JobTables → List ℕ
-jobText f = let o = ran f blankState [] [] in runText (f .grocers) (o .answer) (o .tables .statement)
+-- What is printed of a job and its cycle: the run with no choices, lent no buffer for the places of its steps.
+unfoldable pub jobText : ℕ → JobTables → List ℕ
+jobText cycle f = let o = ran f blankState [] [] in runText cycle (f .grocers) (o .answer) (o .tables .statement)
 
 -- What is printed once a file is read.
 unfoldable pub readText : List ℕ → ReadAnswer → List ℕ
-readText file (sizes head) = jobText (jobRead file blankJob)
+readText file (sizes head) = jobText (head .cycle) (jobRead file blankJob)
 readText file (notRead number) = refusedText number
 
 -- What `settle` prints: it "reads a job file from standard input, runs it with no choices and prints".

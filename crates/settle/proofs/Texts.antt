@@ -43,12 +43,12 @@ module _ (f : JobTables) (s : Settles f) (standing : List ℕ) (st : Standing f 
       rw (s .whole, s .bags, blank-state f (w .boxes≤) (w .grocers≤) (w .offers≤))
 
   -- What its run without choices comes to is printed of it.
-  pub due-text : (statement : List ℤ) (words messages steps : ℕ) → DueOut (jobOf handed) (replicate 255 (pos 0)) statement words messages steps →
-      settledText (f .grocers) (λ g. getD statement g (pos 0)) words messages steps ≡ jobText f
+  pub due-text : (cycle : ℕ) (statement : List ℤ) (words messages steps : ℕ) → DueOut (jobOf handed) (replicate 255 (pos 0)) statement words messages steps →
+      settledText cycle (f .grocers) (λ g. getD statement g (pos 0)) words messages steps ≡ jobText cycle f
   unfolding jobText runText blankState store
-  due-text statement words messages steps r =
-      (λ i. settledText (f .grocers) (λ g. getD (r .statement-is i) g (pos 0)) (r .words-are i) (r .messages-are i) (r .steps-are i))
-      ∙ sym (ap (λ (o : RunOutcome). runText (f .grocers) (o .answer) (o .tables .statement)) (handed-run f standing st blankState [] [] lent-ok (s .inRange) (s .once)))
+  due-text cycle statement words messages steps r =
+      (λ i. settledText cycle (f .grocers) (λ g. getD (r .statement-is i) g (pos 0)) (r .words-are i) (r .messages-are i) (r .steps-are i))
+      ∙ sym (ap (λ (o : RunOutcome). runText cycle (f .grocers) (o .answer) (o .tables .statement)) (handed-run f standing st blankState [] [] lent-ok (s .inRange) (s .once)))
 
 -- ---- An accepted file
 
@@ -116,6 +116,7 @@ module _ (file : List ℕ) (ok : fileRefusal file ≡ 0) where
 
         pub run-text : (statement : List ℤ) (words messages steps : ℕ) →
             DueOut (jobOf (jobTables k m n t price offerOwner grocerOwner tallyGrocer boxes tallyOffer tallyCount)) (replicate 255 (pos 0)) statement words messages steps →
-            settledText (h .grocers) (λ g. getD statement g (pos 0)) words messages steps ≡ printed file
+            settledText (h .cycle) (h .grocers) (λ g. getD statement g (pos 0)) words messages steps ≡ printed file
         run-text statement words messages steps r =
-            due-text job job-settles boxes standing statement words messages steps (rw (ek, em, en, et) at r) ∙ ap jobText job-is ∙ sym (printed-job file ok)
+            due-text job job-settles boxes standing (h .cycle) statement words messages steps (rw (ek, em, en, et) at r)
+            ∙ (λ i. jobText (says i .cycle) (job-is i)) ∙ sym (printed-job file ok)

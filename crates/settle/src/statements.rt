@@ -72,6 +72,7 @@ fn put_job(out: &mut [u8; 8192], file: &[u8], head: Head, places: &[u16; TALLIES
     );
     put_settled(
         out,
+        head.cycle,
         head.grocers,
         &statement,
         report.words,

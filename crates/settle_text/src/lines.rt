@@ -2,6 +2,7 @@
 ghost use Prim.Native.Nat.{_+_, _≤_, _<_};
 ghost use lib.IntN.{pos};
 ghost use lib.ListN.{length, getD};
+ghost use Rattle.printing.specs.Cents.{halfOf};
 ghost use Rattle.printing.specs.Printed.{decimal, signedDecimal, line, grocerLines, settledText, refusedText};
 ghost use Rattle.settle_text.specs.Puts.{Put};
 use crate::numbers::put_amount;
@@ -20,17 +21,17 @@ fn put_statement(out: &mut [u8; 8192], at: usize, g: u64, z: i64) -> usize
     put_byte(out, end, b'\n')
 }
 
-// The lines of the first grocers, whose amounts are in tenths of a cent.
-fn put_statements(out: &mut [u8; 8192], grocers: usize, statement: &[i64; 255]) -> usize
+// The lines of the first grocers, whose amounts are in tenths of a cent, in whole cents by the rule of the cycle.
+fn put_statements(out: &mut [u8; 8192], cycle: u16, grocers: usize, statement: &[i64; 255]) -> usize
     requires { ⌜ grocers ≤ 255 ⌝ }
-    ensures { λ r. ⌜ Put 0 (grocerLines grocers (λ g. getD (now (statement .entry)) g (pos 0))) (now (out .entry)) (now (out .exit)) r ⌝ }
+    ensures { λ r. ⌜ Put 0 (grocerLines (halfOf cycle) grocers (λ g. getD (now (statement .entry)) g (pos 0))) (now (out .entry)) (now (out .exit)) r ⌝ }
     ensures { λ r. ⌜ r ≤ 6375 ⌝ }
 {
     let mut at: usize = 0;
     let mut g: usize = 0;
     while g < grocers {
         let amount = statement[g];
-        let z = printing::cents::cents(amount);
+        let z = printing::cents::cents(amount, cycle);
         at = put_statement(out, at, g as u64, z);
         g += 1;
     }
@@ -51,6 +52,7 @@ fn put_count(out: &mut [u8; 8192], at: usize, name: &[u8], n: u32) -> usize
 // The lines of a settled job: its grocers, then the words, the messages and the steps.
 pub fn put_settled(
     out: &mut [u8; 8192],
+    cycle: u16,
     grocers: usize,
     statement: &[i64; 255],
     words: u32,
@@ -58,9 +60,10 @@ pub fn put_settled(
     steps: u32,
 ) -> usize
     requires { ⌜ grocers ≤ 255 ⌝ }
-    ensures { λ r. ⌜ Put 0 (settledText grocers (λ g. getD (now (statement .entry)) g (pos 0)) words messages steps) (now (out .entry)) (now (out .exit)) r ⌝ }
+    ensures { λ r. ⌜ Put 0 (settledText cycle grocers (λ g. getD (now (statement .entry)) g (pos 0)) words messages steps) (now (out .entry))
+        (now (out .exit)) r ⌝ }
 {
-    let lines = put_statements(out, grocers, statement);
+    let lines = put_statements(out, cycle, grocers, statement);
     let sent = put_count(out, lines, b"words", words);
     let told = put_count(out, sent, b"messages", messages);
     put_count(out, told, b"steps", steps)

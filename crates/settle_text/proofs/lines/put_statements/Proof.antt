@@ -6,7 +6,7 @@ use denote.Ref.{now}
 use lib.IntN.{ℤ, pos}
 use lib.ListN.{getD}
 use Rattle.laws.proofs.Signed.{read64}
-use Rattle.printing.specs.Cents.{cents}
+use Rattle.printing.specs.Cents.{halfOf, cents}
 use Rattle.printing.specs.Printed.{decimal, signedDecimal, line, grocerLines}
 use Rattle.settle_text.specs.Puts.{Put}
 use Rattle.settle_text.proofs.Puts.{reworded}
@@ -16,13 +16,13 @@ use Rattle.settle_text.proofs.lines.put_statements.Statement.{statement
 use Rattle.settle_text.proofs.lines.put_statements.Tie as tie
 
 abbrev Inv-loop : tie.InvT-loop
-Inv-loop out₀ grocers statement at₀ g₀ out at g = Put 0 (grocerLines g (λ i. getD statement i (pos 0))) out₀ out at × (at ≤ 25 * g) × (g ≤ grocers)
+Inv-loop out₀ cycle grocers statement at₀ g₀ out at g = Put 0 (grocerLines (halfOf cycle) g (λ i. getD statement i (pos 0))) out₀ out at × (at ≤ 25 * g) × (g ≤ grocers)
 
 abbrev μ-loop : tie.MeasureT-loop
-μ-loop out₀ grocers statement at₀ g₀ out at g = grocers - g
+μ-loop out₀ cycle grocers statement at₀ g₀ out at g = grocers - g
 
 loop-holds : tie.Need-loop-holds Inv-loop μ-loop
-loop-holds c = (grocer-none _ _, omega arith, omega arith)
+loop-holds c = (grocer-none _ _ _, omega arith, omega arith)
 
 put-statement-requires : tie.Need-put-statement-requires Inv-loop μ-loop
 put-statement-requires c κs = let i = c .before .before .before .before .loop .inv in omega (arith, i .1)
@@ -34,10 +34,11 @@ loop-again c =
     let w = now (k .before .before .before .before .args .statement) in
     let z = getD w (l .g) (pos 0) in
     let y = k .cents .result in
-    let e : y ≡ cents z = k .cents .ensures ∙ ap cents (read64 z (k .before .amount .given)) in
+    let h = halfOf (k .before .before .before .before .args .cycle) in
+    let e : y ≡ cents h z = k .cents .ensures ∙ ap (cents h) (read64 z (k .before .amount .given)) in
     let q = reworded (ap (λ (x : ℤ). line (decimal (l .g)) (signedDecimal x)) (read64 y (k .cents .ok) ∙ e)) (c .put-statement .ensures) in (
-      grocer-more (l .g) (λ i. getD w i (pos 0)) (l .inv .0) q,
-      omega (arith, q .next, l .inv .1, grocer-short (l .g) (cents z) (omega arith) (rw e at (abs-64 y (record { sfits = k .cents .ok })))),
+      grocer-more h (l .g) (λ i. getD w i (pos 0)) (l .inv .0) q,
+      omega (arith, q .next, l .inv .1, grocer-short (l .g) (cents h z) (omega arith) (rw e at (abs-64 y (record { sfits = k .cents .ok })))),
       omega arith,
     )
 
