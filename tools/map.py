@@ -18,7 +18,7 @@ FILE_WALK = [
     ("file_blocks", "refusals.rt", ["shape_refusal", "header_refusal", "blocks_refusal"], "1, then the header, then each other block"),
     ("file_blocks", "look.rt", ["names_refusal"], "7 and 8: the offers are sorted by number, and each tally's is looked up"),
     ("file_blocks", "twice.rt", ["job_refusal"], "9: the counts of bags are sorted by their keys"),
-    ("file_blocks", "fill.rt", ["fill_prices", "fill_bytes", "fill_owners", "fill_words", "fill_counts"], "the tables of a run, filled from the accepted file"),
+    ("file_blocks", "tables.rt", ["fill_offers", "fill_tallies"], "the tables of a run, filled from the accepted file, for settle and the reader alike"),
     ("file_blocks", "standing.rt", ["standing_boxes"], "which tallies stand"),
     ("settle", "due.rt", ["due_run"], "the steps that the job has, in the order of a run without choices"),
     ("run_steps", "lib.rt", ["all_steps", "one_step"], "each step on its tables; words and messages are counted"),
