@@ -1,8 +1,8 @@
 #!/usr/bin/env python3
 """uses.py FILE..: write the `use` lines of antt files anew: one line for each module, names sorted as declared, unused names left out.
 With ADD=1 in the environment, also names that are used and not imported.
-Names are looked up in crates/*/specs and crates/*/proofs of the repository that FILE stands in: its root is what stands before the
-last /crates/ of FILE's path. Names of the kit keep the module they came from. Where two crates declare one name, look at the result."""
+Names are looked up in specs/ and proofs/ of FILE's crate and of the crates that it stands on by crates.txt (for a file of definitions in
+specs/ alone), in the repository that FILE stands in: its root is what stands before the last /crates/ of FILE's path. Names of the kit keep the module they came from. Where two crates declare one name, look at the result."""
 import re, sys, os, glob
 def decls(path):
     out=[]
@@ -29,14 +29,20 @@ def put(n,path):
 EXT={'lib.Dec':'eqb ltb leb','borrow.Author.Tests':'lt-ltb le-ltb ltb-true ltb-false eqb-true eqb-false ne-eqb eq-eqb le-leb lt-leb leb-true leb-false not-true not-false',
 'mathlib.Core.Path':'_≡_ refl sym ap ap₂ _∙_ subst','mathlib.Core.Bool':'Bool true false cond _&&_ _||_ not false≢true','Prim.Native.Nat':'ℕ zero suc _+_ _-_ _*_ _/_ _%_ _^_ _<_ _≤_ min',
 'lib.ListN':'length getD take drop','native.Mathlib.Omega':'arith','lib.IntN':'ℤ pos negsuc natAbs _+ℤ_ _*ℤ_ +ℤ-idl +ℤ-idr','mathlib.Core.List':'List [] _∷_ _++_ map','lib.Count':'ones'}
-def build(root,crate):
+def stands_on(root,crate):
+    for line in open(f'{root}/crates.txt'):
+        name,colon,rest=line.split('#')[0].partition(':')
+        if colon and name.strip()==crate: return {crate,*rest.split()}
+    return {crate}
+def build(root,crate,kinds):
+    below=stands_on(root,crate)
     if os.environ.get('ADD') == '1':
         for m,ns in EXT.items():
             for n in ns.split(): index.setdefault(n,m)
-    for kind in ('specs','proofs'):
+    for kind in kinds:
         for p in glob.glob(f'{root}/crates/*/{kind}/*.antt'):
             c=p.split('/')[-3]; mod=os.path.basename(p)[:-5]
-            if mod=='Lib': continue
+            if mod=='Lib' or c not in below: continue
             path = f'Rattle.{c}.{kind}.{mod}' if c==crate else f'Rattle.{c}.{kind}.{mod}'
             # record fields are indented `  pub x :` inside records: drop them
             inrec=False
@@ -66,7 +72,7 @@ def used(n,body):
 def fix(path, extra=()):
     root,_,inside=path.rpartition('/crates/')
     crate=inside.split('/')[0]
-    index.clear(); places.clear(); build(root,crate)
+    index.clear(); places.clear(); build(root,crate,('specs',) if '/specs/' in path else ('specs','proofs'))
     lines=open(path).read().split('\n')
     head=[];uses=[];aliases=[];body=[];i=0
     for l in lines:
