@@ -8,7 +8,7 @@ use Rattle.file_blocks.specs.declared.plan.Head.{Head as HeadWords}
 
 -- The numbers that code holds, in the format's words.
 abbrev pub asHead : HeadWords → Head
-asHead w = headOf (w .boxes) (w .grocers) (w .offers) (w .tallies) (w .cycle)
+asHead w = headOf (w .sizes .boxes) (w .sizes .grocers) (w .sizes .offers) (w .sizes .tallies) (w .cycle)
 
 -- Each number is at most the largest one: "Boxes K: 1 to 16. Grocers M: 1 to 255. Offers N: 1 to 500. Tallies T: 0 to 1,000."
 pub record Most (h : Head) : Type 0 where

@@ -25,11 +25,11 @@ use file_digits::name_at;
 
 // The numbers of the offers' names.
 pub fn fill_names(f: &[u8], head: Head, numbers: &mut [u64])
-    requires { ⌜ Whole (now f) (asHead head) × (head .offers ≤ length (now numbers)) ⌝ }
-    requires { ⌜ ((i : ℕ) → i < head .offers → isCode (decode (now f) .offer i .code) ≡ true) ⌝ }
-    ensures { λ _. ⌜ now (numbers .exit) ≡ overwrite (head .offers) (λ i. nameNumber (offerName (decode (now (f .entry))) i)) (now (numbers .entry)) ⌝ }
+    requires { ⌜ Whole (now f) (asHead head) × (head .sizes .offers ≤ length (now numbers)) ⌝ }
+    requires { ⌜ ((i : ℕ) → i < head .sizes .offers → isCode (decode (now f) .offer i .code) ≡ true) ⌝ }
+    ensures { λ _. ⌜ now (numbers .exit) ≡ overwrite (head .sizes .offers) (λ i. nameNumber (offerName (decode (now (f .entry))) i)) (now (numbers .entry)) ⌝ }
 {
-    let n = head.offers;
+    let n = head.sizes.offers as usize;
     let mut i: usize = 0;
     while i < n {
         let at = record_at(1, i);
@@ -40,11 +40,11 @@ pub fn fill_names(f: &[u8], head: Head, numbers: &mut [u64])
 
 // The owners of the grocers.
 pub fn fill_owners(f: &[u8], head: Head, grocer_owner: &mut [u16])
-    requires { ⌜ Whole (now f) (asHead head) × (head .grocers ≤ length (now «grocer_owner»)) ⌝ }
-    ensures { λ _. ⌜ now («grocer_owner» .exit) ≡ overwrite (head .grocers) (decode (now (f .entry)) .grocerOwner) (now («grocer_owner» .entry)) ⌝ }
+    requires { ⌜ Whole (now f) (asHead head) × (head .sizes .grocers ≤ length (now «grocer_owner»)) ⌝ }
+    ensures { λ _. ⌜ now («grocer_owner» .exit) ≡ overwrite (head .sizes .grocers) (decode (now (f .entry)) .grocerOwner) (now («grocer_owner» .entry)) ⌝ }
 {
+    let m = head.sizes.grocers as usize;
     let at = 512 * grocers_at(head) + 4;
-    let m = head.grocers;
     let mut i: usize = 0;
     while i < m {
         grocer_owner[i] = byte16(f, at + i);

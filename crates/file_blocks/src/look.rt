@@ -22,13 +22,14 @@ use slices::limits::OFFERS;
 // Makes the index of the offers.
 fn index_offers(f: &[u8], head: Head, keys: &mut [u64], order: &mut [u16])
     requires { ⌜ Sound (now f) (asHead head) ⌝ }
-    requires { ⌜ (head .offers ≤ length (now keys)) × (head .offers ≤ length (now order)) ⌝ }
+    requires { ⌜ (head .sizes .offers ≤ length (now keys)) × (head .sizes .offers ≤ length (now order)) ⌝ }
     ensures { λ _. ⌜ Indexed (now (f .entry)) (now (keys .exit)) (now (order .exit)) (asHead head) ⌝ }
 {
+    let n = head.sizes.offers as usize;
     let mut numbers = [0u64; OFFERS];
     fill_names(f, head, &mut numbers);
     let mut spare = [0u16; OFFERS];
-    index::build::build(&numbers, keys, order, &mut spare, head.offers);
+    index::build::build(&numbers, keys, order, &mut spare, n);
 }
 
 // The place of the offer that tally i names, or N where it names none.
@@ -44,12 +45,13 @@ fn find_place(
     i: usize,
 ) -> usize
     requires { ⌜ Ready (now f) (now keys) (now order) (now starts) shift widest (asHead head) ⌝ }
-    requires { ⌜ (first ≡ talliesAt (asHead head)) × (i < head .tallies) ⌝ }
+    requires { ⌜ (first ≡ talliesAt (asHead head)) × (i < head .sizes .tallies) ⌝ }
     ensures { λ r. ⌜ r ≡ placeOf (decode (now (f .entry))) i ⌝ }
 {
+    let n = head.sizes.offers as usize;
     let at = record_at(first, i);
     let number = name_at(f, at + 3, word16(f, at + 18));
-    index::look::place(keys, order, starts, shift, widest, head.offers, number)
+    index::look::place(keys, order, starts, shift, widest, n, number)
 }
 
 // Looks each tally up, once, and keeps its place; whether a tally names no offer.
@@ -63,13 +65,13 @@ fn find_places(
     widest: usize,
     places: &mut [u16],
 ) -> bool
-    requires { ⌜ Ready (now f) (now keys) (now order) (now starts) shift widest (asHead head) × (head .tallies ≤ length (now places)) ⌝ }
+    requires { ⌜ Ready (now f) (now keys) (now order) (now starts) shift widest (asHead head) × (head .sizes .tallies ≤ length (now places)) ⌝ }
     ensures { λ r. ⌜ r ≡ unnamed (decode (now (f .entry))) ⌝ }
-    ensures { λ r. ⌜ (r ≡ false → Placed (decode (now (f .entry))) (now (places .exit)) (head .tallies)) ⌝ }
+    ensures { λ r. ⌜ (r ≡ false → Placed (decode (now (f .entry))) (now (places .exit)) (head .sizes .tallies)) ⌝ }
 {
+    let n = head.sizes.offers as usize;
+    let t = head.sizes.tallies as usize;
     let first = tallies_at(head);
-    let n = head.offers;
-    let t = head.tallies;
     let mut i: usize = 0;
     while i < t {
         let p = find_place(f, head, keys, order, starts, shift, widest, first, i);
@@ -84,16 +86,18 @@ fn find_places(
 
 // 7 or 8 by the index of the offers, and, where neither is met, the place of each tally's offer.
 fn indexed_refusal(f: &[u8], head: Head, keys: &[u64], order: &[u16], places: &mut [u16]) -> u16
-    requires { ⌜ Sound (now f) (asHead head) × (head .tallies ≤ length (now places)) ⌝ }
-    requires { ⌜ (head .offers ≤ length (now keys)) × (head .offers ≤ length (now order)) × Indexed (now f) (now keys) (now order) (asHead head) ⌝ }
+    requires { ⌜ Sound (now f) (asHead head) × (head .sizes .tallies ≤ length (now places)) ⌝ }
+    requires { ⌜ (head .sizes .offers ≤ length (now keys)) × (head .sizes .offers ≤ length (now order)) ×
+        Indexed (now f) (now keys) (now order) (asHead head) ⌝ }
     ensures { λ r. ⌜ r ≡ namesRefusal (decode (now (f .entry))) ⌝ }
-    ensures { λ r. ⌜ (r ≡ 0 → Placed (decode (now (f .entry))) (now (places .exit)) (head .tallies)) ⌝ }
+    ensures { λ r. ⌜ (r ≡ 0 → Placed (decode (now (f .entry))) (now (places .exit)) (head .sizes .tallies)) ⌝ }
 {
-    if index::look::shared(keys, head.offers) {
+    let n = head.sizes.offers as usize;
+    if index::look::shared(keys, n) {
         return 7;
     }
-    let shift = index::tops::top_shift(keys, head.offers);
-    let starts = index::tops::tops(keys, head.offers, shift);
+    let shift = index::tops::top_shift(keys, n);
+    let starts = index::tops::tops(keys, n, shift);
     let widest = index::tops::widest(&starts);
     if find_places(f, head, keys, order, &starts, shift, widest, places) {
         return 8;
@@ -103,9 +107,9 @@ fn indexed_refusal(f: &[u8], head: Head, keys: &[u64], order: &[u16], places: &m
 
 // 7 or 8 of a file of which nothing before them is refused, and, where neither is met, the place of each tally's offer.
 pub fn names_refusal(f: &[u8], head: Head, places: &mut [u16]) -> u16
-    requires { ⌜ Sound (now f) (asHead head) × (head .tallies ≤ length (now places)) ⌝ }
+    requires { ⌜ Sound (now f) (asHead head) × (head .sizes .tallies ≤ length (now places)) ⌝ }
     ensures { λ r. ⌜ r ≡ namesRefusal (decode (now (f .entry))) ⌝ }
-    ensures { λ r. ⌜ (r ≡ 0 → Placed (decode (now (f .entry))) (now (places .exit)) (head .tallies)) ⌝ }
+    ensures { λ r. ⌜ (r ≡ 0 → Placed (decode (now (f .entry))) (now (places .exit)) (head .sizes .tallies)) ⌝ }
 {
     let mut keys = [0u64; OFFERS];
     let mut order = [0u16; OFFERS];

@@ -8,19 +8,19 @@ ghost use Rattle.format.specs.Blocks.{blocksFor, grocersAt, talliesAt, blockCou
 ghost use Rattle.format.specs.File.{decode};
 ghost use Rattle.format.specs.Refusals.{notDue};
 ghost use Rattle.file_blocks.specs.Due.{asHead, Most, Due};
+use file_bytes::byte16;
+use file_bytes::narrow16;
 use file_bytes::word16;
 use slices::byte_at;
-use slices::limits::BOXES;
-use slices::limits::GROCERS;
-use slices::limits::OFFERS;
-use slices::limits::TALLIES;
+use slices::limits::MAX_BOXES;
+use slices::limits::MAX_GROCERS;
+use slices::limits::MAX_OFFERS;
+use slices::limits::MAX_TALLIES;
+use slices::sizes::Sizes;
 
 // The numbers of a header: how many boxes, grocers, offers and tallies, and the settlement cycle.
 pub struct Head {
-    pub boxes: usize,
-    pub grocers: usize,
-    pub offers: usize,
-    pub tallies: usize,
+    pub sizes: Sizes,
     pub cycle: u16,
 }
 
@@ -29,17 +29,15 @@ pub fn read_head(f: &[u8]) -> Head
     requires { ⌜ 14 ≤ length (now f) ⌝ }
     ensures { λ r. ⌜ asHead r ≡ decode (now (f .entry)) .head ⌝ }
 {
-    let boxes = byte_at(f, 4);
-    let grocers = word16(f, 6);
-    let offers = word16(f, 8);
-    let tallies = word16(f, 10);
-    let cycle = word16(f, 12) as u16;
+    let sizes = Sizes {
+        boxes: byte16(f, 4),
+        grocers: narrow16(f, 6),
+        offers: narrow16(f, 8),
+        tallies: narrow16(f, 10),
+    };
     Head {
-        boxes: boxes,
-        grocers: grocers,
-        offers: offers,
-        tallies: tallies,
-        cycle: cycle,
+        sizes: sizes,
+        cycle: narrow16(f, 12),
     }
 }
 
@@ -47,9 +45,10 @@ pub fn read_head(f: &[u8]) -> Head
 pub fn bad_sizes(head: Head) -> bool
     ensures { λ r. ⌜ r ≡ badSizes (asHead head) ⌝ }
 {
-    let b = (head.boxes < 1) | (BOXES < head.boxes);
-    let g = (b | (head.grocers < 1)) | (GROCERS < head.grocers);
-    ((g | (head.offers < 1)) | (OFFERS < head.offers)) | (TALLIES < head.tallies)
+    let z = head.sizes;
+    let b = (z.boxes < 1) | (MAX_BOXES < z.boxes);
+    let g = (b | (z.grocers < 1)) | (MAX_GROCERS < z.grocers);
+    ((g | (z.offers < 1)) | (MAX_OFFERS < z.offers)) | (MAX_TALLIES < z.tallies)
 }
 
 // How many blocks n records of 24 bytes take.
@@ -62,15 +61,15 @@ pub fn blocks_for(n: usize) -> usize
 
 // The plan of blocks: the grocer block, after the offer blocks,
 pub fn grocers_at(head: Head) -> usize
-    requires { ⌜ head .offers ≤ 65535 ⌝ }
+    requires { ⌜ head .sizes .offers ≤ 65535 ⌝ }
     ensures { λ r. ⌜ r ≡ grocersAt (asHead head) ⌝ }
 {
-    1 + blocks_for(head.offers)
+    1 + blocks_for(head.sizes.offers as usize)
 }
 
 // the first tally block,
 pub fn tallies_at(head: Head) -> usize
-    requires { ⌜ head .offers ≤ 65535 ⌝ }
+    requires { ⌜ head .sizes .offers ≤ 65535 ⌝ }
     ensures { λ r. ⌜ r ≡ talliesAt (asHead head) ⌝ }
 {
     grocers_at(head) + 1
@@ -78,15 +77,15 @@ pub fn tallies_at(head: Head) -> usize
 
 // and how many blocks there are.
 pub fn block_count(head: Head) -> usize
-    requires { ⌜ (head .offers ≤ 65535) × (head .tallies ≤ 65535) ⌝ }
+    requires { ⌜ (head .sizes .offers ≤ 65535) × (head .sizes .tallies ≤ 65535) ⌝ }
     ensures { λ r. ⌜ r ≡ blockCount (asHead head) ⌝ }
 {
-    tallies_at(head) + blocks_for(head.tallies)
+    tallies_at(head) + blocks_for(head.sizes.tallies as usize)
 }
 
 // The number of the kind of block k.
 pub fn kind_at(head: Head, k: usize) -> usize
-    requires { ⌜ head .offers ≤ 65535 ⌝ }
+    requires { ⌜ head .sizes .offers ≤ 65535 ⌝ }
     ensures { λ r. ⌜ r ≡ blockKindNumber (kindAt (asHead head) k) ⌝ }
 {
     let grocers = grocers_at(head);
@@ -124,13 +123,13 @@ pub fn records_at(head: Head, k: usize, kind: usize) -> usize
     ensures { λ r. ⌜ (r ≡ records (asHead head) (kindAt (asHead head) k)) × (r ≤ 255) ⌝ }
 {
     if kind == 1 {
-        return part(head.offers, k - 1);
+        return part(head.sizes.offers as usize, k - 1);
     }
     if kind == 2 {
-        return head.grocers;
+        return head.sizes.grocers as usize;
     }
     let first = tallies_at(head);
-    part(head.tallies, k - first)
+    part(head.sizes.tallies as usize, k - first)
 }
 
 // Whether kind, block number or record count of block k is not as due.

@@ -15,9 +15,9 @@ ghost use Rattle.format.specs.Refusals.{badRecord};
 ghost use Rattle.file_blocks.specs.Due.{asHead, Due};
 use crate::codes::is_code;
 use crate::plan::Head;
-use file_bytes::word16;
+use file_bytes::byte16;
+use file_bytes::narrow16;
 use file_bytes::word32;
-use slices::byte_at;
 use slices::limits::MAX_COUNT;
 use slices::limits::MAX_PRICE;
 
@@ -39,7 +39,7 @@ pub fn bad_offer(f: &[u8], at: usize, head: Head) -> bool
     requires { ⌜ at + 24 ≤ length (now f) ⌝ }
     ensures { λ r. ⌜ r ≡ badOffer (asHead head) (readOffer (from (now (f .entry)) at)) ⌝ }
 {
-    (MAX_PRICE < word32(f, at)) | (head.boxes <= byte_at(f, at + 4)) | !is_code(f, at + 5)
+    (MAX_PRICE < word32(f, at)) | (head.sizes.boxes <= byte16(f, at + 4)) | !is_code(f, at + 5)
 }
 
 // Whether a field of the tally at a place is outside its range.
@@ -47,7 +47,7 @@ pub fn bad_tally(f: &[u8], at: usize, head: Head) -> bool
     requires { ⌜ at + 24 ≤ length (now f) ⌝ }
     ensures { λ r. ⌜ r ≡ badTally (asHead head) (readTally (from (now (f .entry)) at)) ⌝ }
 {
-    let ranges = (head.grocers <= word16(f, at)) | (head.boxes <= byte_at(f, at + 2));
+    let ranges = (head.sizes.grocers <= narrow16(f, at)) | (head.sizes.boxes <= byte16(f, at + 2));
     ranges | !is_code(f, at + 3) | bad_count(word32(f, at + 14))
 }
 
@@ -73,7 +73,7 @@ fn bad_owners(f: &[u8], at: usize, count: usize, head: Head) -> bool
     let mut found = false;
     let mut i: usize = 0;
     while i < count {
-        found = found | (head.boxes <= byte_at(f, at + i));
+        found = found | (head.sizes.boxes <= byte16(f, at + i));
         i += 1;
     }
     found

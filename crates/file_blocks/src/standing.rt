@@ -19,25 +19,27 @@ use slices::limits::TALLIES;
 
 // The boxes of superseded tallies become 16.
 fn strike_keys(f: &[u8], head: Head, places: &[u16], boxes: &mut [u16])
-    requires { ⌜ Whole (now f) (asHead head) × Placed (decode (now f)) (now places) (head .tallies) ⌝ }
-    requires { ⌜ (head .tallies ≤ length (now places)) × (head .tallies ≤ length (now boxes)) ⌝ }
+    requires { ⌜ Whole (now f) (asHead head) × Placed (decode (now f)) (now places) (head .sizes .tallies) ⌝ }
+    requires { ⌜ (head .sizes .tallies ≤ length (now places)) × (head .sizes .tallies ≤ length (now boxes)) ⌝ }
     requires { ⌜ countedTwice (countedTallies (decode (now f))) ≡ false ⌝ }
-    ensures { λ _. ⌜ Struck (countedTallies (decode (now (f .entry)))) (head .tallies) (now (boxes .entry)) (now (boxes .exit)) ⌝ }
+    ensures { λ _. ⌜ Struck (countedTallies (decode (now (f .entry)))) (head .sizes .tallies) (now (boxes .entry)) (now (boxes .exit)) ⌝ }
 {
+    let t = head.sizes.tallies as usize;
     let mut keys = [0u64; TALLIES];
     fill_keys(f, head, places, &mut keys);
-    index::bags::strike(&keys, head.tallies, boxes);
+    index::bags::strike(&keys, t, boxes);
 }
 
 // The box of each tally that stands, and 16 for the others. Where every bag is 0 nothing is sorted.
 pub fn standing_boxes(f: &[u8], head: Head, places: &[u16], boxes: &mut [u16])
-    requires { ⌜ Whole (now f) (asHead head) × Placed (decode (now f)) (now places) (head .tallies) ⌝ }
-    requires { ⌜ (head .tallies ≤ length (now places)) × (head .tallies ≤ length (now boxes)) ⌝ }
+    requires { ⌜ Whole (now f) (asHead head) × Placed (decode (now f)) (now places) (head .sizes .tallies) ⌝ }
+    requires { ⌜ (head .sizes .tallies ≤ length (now places)) × (head .sizes .tallies ≤ length (now boxes)) ⌝ }
     requires { ⌜ countedTwice (countedTallies (decode (now f))) ≡ false ⌝ }
-    ensures { λ _. ⌜ Struck (countedTallies (decode (now (f .entry)))) (head .tallies) (overwrite (head .tallies) (λ i. decode (now (f .entry)) .tally i .box)
-        (now (boxes .entry))) (now (boxes .exit)) ⌝ }
+    ensures { λ _. ⌜ Struck (countedTallies (decode (now (f .entry)))) (head .sizes .tallies)
+        (overwrite (head .sizes .tallies) (λ i. decode (now (f .entry)) .tally i .box) (now (boxes .entry))) (now (boxes .exit)) ⌝ }
 {
-    fill_bytes(f, tallies_at(head), head.tallies, 2, boxes);
+    let t = head.sizes.tallies as usize;
+    fill_bytes(f, tallies_at(head), t, 2, boxes);
     if any_bag(f, head) {
         strike_keys(f, head, places, boxes);
     }

@@ -25,12 +25,13 @@ pub fn fill_offers(
     grocer_owner: &mut [u16],
 )
     requires { ⌜ Whole (now f) (asHead head) ⌝ }
-    requires { ⌜ (head .offers ≤ length (now price)) × (head .offers ≤ length (now «offer_owner»)) × (head .grocers ≤ length (now «grocer_owner»)) ⌝ }
-    ensures { λ _. ⌜ now (price .exit) ≡ overwrite (head .offers) (λ i. decode (now (f .entry)) .offer i .price) (now (price .entry)) ⌝ }
-    ensures { λ _. ⌜ now («offer_owner» .exit) ≡ overwrite (head .offers) (λ i. decode (now (f .entry)) .offer i .owner) (now («offer_owner» .entry)) ⌝ }
-    ensures { λ _. ⌜ now («grocer_owner» .exit) ≡ overwrite (head .grocers) (decode (now (f .entry)) .grocerOwner) (now («grocer_owner» .entry)) ⌝ }
+    requires { ⌜ (head .sizes .offers ≤ length (now price)) × (head .sizes .offers ≤ length (now «offer_owner»)) ×
+        (head .sizes .grocers ≤ length (now «grocer_owner»)) ⌝ }
+    ensures { λ _. ⌜ now (price .exit) ≡ overwrite (head .sizes .offers) (λ i. decode (now (f .entry)) .offer i .price) (now (price .entry)) ⌝ }
+    ensures { λ _. ⌜ now («offer_owner» .exit) ≡ overwrite (head .sizes .offers) (λ i. decode (now (f .entry)) .offer i .owner) (now («offer_owner» .entry)) ⌝ }
+    ensures { λ _. ⌜ now («grocer_owner» .exit) ≡ overwrite (head .sizes .grocers) (decode (now (f .entry)) .grocerOwner) (now («grocer_owner» .entry)) ⌝ }
 {
-    let n = head.offers;
+    let n = head.sizes.offers as usize;
     fill_prices(f, n, price);
     fill_bytes(f, 1, n, 4, offer_owner);
     fill_owners(f, head, grocer_owner);
@@ -45,14 +46,17 @@ pub fn fill_tallies(
     tally_offer: &mut [u16],
     tally_count: &mut [i32],
 )
-    requires { ⌜ Whole (now f) (asHead head) × Placed (decode (now f)) (now places) (head .tallies) × (head .tallies ≤ length (now places)) ⌝ }
-    requires { ⌜ (head .tallies ≤ length (now «tally_grocer»)) × (head .tallies ≤ length (now «tally_offer»)) × (head .tallies ≤ length (now «tally_count»)) ⌝ }
-    ensures { λ _. ⌜ now («tally_grocer» .exit) ≡ overwrite (head .tallies) (λ i. decode (now (f .entry)) .tally i .grocer) (now («tally_grocer» .entry)) ⌝ }
-    ensures { λ _. ⌜ now («tally_offer» .exit) ≡ overwrite (head .tallies) (placeOf (decode (now (f .entry)))) (now («tally_offer» .entry)) ⌝ }
-    ensures { λ _. ⌜ now («tally_count» .exit) ≡ overwrite (head .tallies) (λ i. decode (now (f .entry)) .tally i .count) (now («tally_count» .entry)) ⌝ }
+    requires { ⌜ Whole (now f) (asHead head) × Placed (decode (now f)) (now places) (head .sizes .tallies) × (head .sizes .tallies ≤ length (now places)) ⌝ }
+    requires { ⌜ (head .sizes .tallies ≤ length (now «tally_grocer»)) × (head .sizes .tallies ≤ length (now «tally_offer»)) ×
+        (head .sizes .tallies ≤ length (now «tally_count»)) ⌝ }
+    ensures { λ _. ⌜ now («tally_grocer» .exit) ≡ overwrite (head .sizes .tallies) (λ i. decode (now (f .entry)) .tally i .grocer)
+        (now («tally_grocer» .entry)) ⌝ }
+    ensures { λ _. ⌜ now («tally_offer» .exit) ≡ overwrite (head .sizes .tallies) (placeOf (decode (now (f .entry)))) (now («tally_offer» .entry)) ⌝ }
+    ensures { λ _. ⌜ now («tally_count» .exit) ≡ overwrite (head .sizes .tallies) (λ i. decode (now (f .entry)) .tally i .count)
+        (now («tally_count» .entry)) ⌝ }
 {
+    let t = head.sizes.tallies as usize;
     let first = tallies_at(head);
-    let t = head.tallies;
     fill_words(f, first, t, 0, tally_grocer);
     copy(places, tally_offer, t);
     fill_counts(f, first, t, tally_count);

@@ -25,10 +25,10 @@ use slices::u16_at;
 // Whether one of the tallies has a bag other than 0.
 pub fn any_bag(f: &[u8], head: Head) -> bool
     requires { ⌜ Whole (now f) (asHead head) ⌝ }
-    ensures { λ r. ⌜ r ≡ any (head .tallies) (λ t. not (eqb (decode (now (f .entry)) .tally t .bag) 0)) ⌝ }
+    ensures { λ r. ⌜ r ≡ any (head .sizes .tallies) (λ t. not (eqb (decode (now (f .entry)) .tally t .bag) 0)) ⌝ }
 {
+    let t = head.sizes.tallies as usize;
     let first = tallies_at(head);
-    let t = head.tallies;
     let mut found = false;
     let mut i: usize = 0;
     while i < t {
@@ -54,12 +54,12 @@ fn tally_key(f: &[u8], at: usize, offer: u16) -> u64
 
 // The keys of the tallies.
 pub fn fill_keys(f: &[u8], head: Head, places: &[u16], keys: &mut [u64])
-    requires { ⌜ Whole (now f) (asHead head) × Placed (decode (now f)) (now places) (head .tallies) ⌝ }
-    requires { ⌜ (head .tallies ≤ length (now places)) × (head .tallies ≤ length (now keys)) ⌝ }
-    ensures { λ _. ⌜ KeysOf (countedTallies (decode (now (f .entry)))) (now (keys .exit)) (head .tallies) ⌝ }
+    requires { ⌜ Whole (now f) (asHead head) × Placed (decode (now f)) (now places) (head .sizes .tallies) ⌝ }
+    requires { ⌜ (head .sizes .tallies ≤ length (now places)) × (head .sizes .tallies ≤ length (now keys)) ⌝ }
+    ensures { λ _. ⌜ KeysOf (countedTallies (decode (now (f .entry)))) (now (keys .exit)) (head .sizes .tallies) ⌝ }
 {
+    let t = head.sizes.tallies as usize;
     let first = tallies_at(head);
-    let t = head.tallies;
     let mut i: usize = 0;
     while i < t {
         keys[i] = tally_key(f, record_at(first, i), u16_at(places, i));
@@ -69,19 +69,20 @@ pub fn fill_keys(f: &[u8], head: Head, places: &[u16], keys: &mut [u64])
 
 // 9, by the keys of the tallies.
 fn keys_twice(f: &[u8], head: Head, places: &[u16]) -> bool
-    requires { ⌜ Whole (now f) (asHead head) × Placed (decode (now f)) (now places) (head .tallies) ⌝ }
-    requires { ⌜ head .tallies ≤ length (now places) ⌝ }
+    requires { ⌜ Whole (now f) (asHead head) × Placed (decode (now f)) (now places) (head .sizes .tallies) ⌝ }
+    requires { ⌜ head .sizes .tallies ≤ length (now places) ⌝ }
     ensures { λ r. ⌜ r ≡ countedTwice (countedTallies (decode (now (f .entry)))) ⌝ }
 {
+    let t = head.sizes.tallies as usize;
     let mut keys = [0u64; TALLIES];
     fill_keys(f, head, places, &mut keys);
-    index::bags::counted_twice(&keys, head.tallies)
+    index::bags::counted_twice(&keys, t)
 }
 
 // 9. Where every bag is 0 no key is made, and nothing is sorted.
 fn bags_twice(f: &[u8], head: Head, places: &[u16]) -> bool
-    requires { ⌜ Whole (now f) (asHead head) × Placed (decode (now f)) (now places) (head .tallies) ⌝ }
-    requires { ⌜ head .tallies ≤ length (now places) ⌝ }
+    requires { ⌜ Whole (now f) (asHead head) × Placed (decode (now f)) (now places) (head .sizes .tallies) ⌝ }
+    requires { ⌜ head .sizes .tallies ≤ length (now places) ⌝ }
     ensures { λ r. ⌜ r ≡ countedTwice (countedTallies (decode (now (f .entry)))) ⌝ }
 {
     if any_bag(f, head) {
@@ -92,9 +93,9 @@ fn bags_twice(f: &[u8], head: Head, places: &[u16]) -> bool
 
 // 7, 8 or 9 of a file of which nothing before them is refused, and, where none is met, the place of each tally's offer.
 pub fn job_refusal(f: &[u8], head: Head, places: &mut [u16]) -> u16
-    requires { ⌜ Sound (now f) (asHead head) × (head .tallies ≤ length (now places)) ⌝ }
+    requires { ⌜ Sound (now f) (asHead head) × (head .sizes .tallies ≤ length (now places)) ⌝ }
     ensures { λ r. ⌜ r ≡ lastRefusal (decode (now (f .entry))) ⌝ }
-    ensures { λ r. ⌜ (r ≡ 0 → Placed (decode (now (f .entry))) (now (places .exit)) (head .tallies)) ⌝ }
+    ensures { λ r. ⌜ (r ≡ 0 → Placed (decode (now (f .entry))) (now (places .exit)) (head .sizes .tallies)) ⌝ }
 {
     let r = names_refusal(f, head, places);
     if r != 0 {

@@ -10,7 +10,7 @@ ghost use Rattle.format.specs.First.{firstOf};
 ghost use Rattle.format.specs.Refusals.{fileRefusal};
 ghost use Rattle.format.specs.Tables.{sizes, readResult};
 ghost use Rattle.format.specs.Lent.{readerBefore, readerAfter};
-ghost use Rattle.file_blocks.specs.Due.{asHead, Most};
+ghost use Rattle.file_blocks.specs.Due.{asHead};
 ghost use Rattle.reader.specs.Answer.{answerOf, outcome};
 ghost use Rattle.file_blocks.specs.Sound.{Kept};
 use file_blocks::codes::CODE_BYTES;
@@ -23,7 +23,6 @@ use file_blocks::plan::tallies_at;
 use file_blocks::tables::fill_offers;
 use file_blocks::tables::fill_tallies;
 use file_codes::fill_codes;
-use slices::casts::word_of;
 use slices::limits::GROCERS;
 use slices::limits::OFFERS;
 use slices::limits::TALLIES;
@@ -93,14 +92,14 @@ fn refusal(f: &[u8], short: bool, places: &mut [u16]) -> u16
 
 // The answer that says a job's numbers.
 fn job_of(head: Head) -> Answer
-    requires { ⌜ Most (asHead head) ⌝ }
     ensures { λ r. ⌜ answerOf r ≡ sizes (asHead head) ⌝ }
 {
+    let z = head.sizes;
     Answer::Job {
-        boxes: word_of(head.boxes),
-        grocers: word_of(head.grocers),
-        offers: word_of(head.offers),
-        tallies: word_of(head.tallies),
+        boxes: z.boxes,
+        grocers: z.grocers,
+        offers: z.offers,
+        tallies: z.tallies,
         cycle: head.cycle,
     }
 }
@@ -152,13 +151,13 @@ pub fn read(
         return Answer::Refused(r);
     }
     let head = read_head(file);
+    let n = head.sizes.offers as usize;
+    let t = head.sizes.tallies as usize;
     fill_offers(file, head, price, offer_owner, grocer_owner);
-    let n = head.offers;
     fill_codes(file, 1, n, 5, offer_code);
     fill_words(file, 1, n, 16, offer_issuer);
     fill_tallies(file, head, &places, tally_grocer, tally_offer, tally_count);
     let first = tallies_at(head);
-    let t = head.tallies;
     fill_bytes(file, first, t, 2, tally_box);
     fill_codes(file, first, t, 3, tally_code);
     fill_words(file, first, t, 18, tally_issuer);

@@ -9,7 +9,7 @@ ghost use Rattle.job_masks.specs.Masks.{byOwner};
 ghost use Rattle.step_waits.specs.Waits.{tallyLists, waitTable};
 ghost use Rattle.run_order.specs.Order.{MarksFrom, EveryJob, Ordered};
 ghost use Rattle.run.specs.Run.{answerOf, given, lengthsOf, OrderIn};
-use step_apply::Sizes;
+use slices::sizes::Sizes;
 use step_places::PLACES;
 
 // What a run answers: words sent, messages and steps; or the number of the condition that refuses it.

@@ -3,7 +3,7 @@ ghost use mathlib.Core.Path.{_≡_};
 ghost use Prim.Native.Nat.{_*_};
 ghost use Rattle.laws.specs.Below.{naturals, only};
 ghost use Rattle.run_ready.specs.Rows.{rowsTotal, FewRows};
-use step_places::BOXES;
+use slices::limits::BOXES;
 use step_places::KINDS;
 
 // The rows among the most boxes, one for each kind and first box: 96.

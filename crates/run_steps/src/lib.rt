@@ -9,7 +9,7 @@ ghost use Rattle.model.specs.Tables.{jobTables, jobOf};
 ghost use Rattle.step_links.specs.Links.{Linked, LinkedPairs, Some};
 ghost use Rattle.step_totals.specs.Row.{tallies};
 ghost use Rattle.run_steps.specs.All.{withoutMarks, StepIn, StepOut, AllIn, AllOut};
-use step_apply::Sizes;
+use slices::sizes::Sizes;
 use step_links::GROCER_LINKS;
 use step_links::OFFER_LINKS;
 use step_links::TALLY_LINKS;

@@ -110,13 +110,15 @@ module _ (file : List ℕ) (ok : fileRefusal file ≡ 0) where
       }
 
       -- So the job may be run, and what the run comes to is printed of the file.
-      module _ (k m n t : ℕ) (ek : k ≡ h .boxes) (em : m ≡ h .grocers) (en : n ≡ h .offers) (et : t ≡ h .tallies) where
-        pub may-run : DueIn (jobTables k m n t price offerOwner grocerOwner tallyGrocer boxes tallyOffer tallyCount)
-        may-run = rw (ek, em, en, et) (due-in job job-settles boxes standing)
+      abbrev ran : JobTables
+      ran = jobTables (h .boxes) (h .grocers) (h .offers) (h .tallies) price offerOwner grocerOwner tallyGrocer boxes tallyOffer tallyCount
 
-        pub run-text : (statement : List ℤ) (words messages steps : ℕ) →
-            DueOut (jobOf (jobTables k m n t price offerOwner grocerOwner tallyGrocer boxes tallyOffer tallyCount)) (replicate 255 (pos 0)) statement words messages steps →
-            settledText (h .cycle) (h .grocers) (λ g. getD statement g (pos 0)) words messages steps ≡ printed file
-        run-text statement words messages steps r =
-            due-text job job-settles boxes standing (h .cycle) statement words messages steps (rw (ek, em, en, et) at r)
-            ∙ (λ i. jobText (says i .cycle) (job-is i)) ∙ sym (printed-job file ok)
+      pub may-run : DueIn ran
+      may-run = due-in job job-settles boxes standing
+
+      pub run-text : (statement : List ℤ) (words messages steps : ℕ) →
+          DueOut (jobOf ran) (replicate 255 (pos 0)) statement words messages steps →
+          settledText (h .cycle) (h .grocers) (λ g. getD statement g (pos 0)) words messages steps ≡ printed file
+      run-text statement words messages steps r =
+          due-text job job-settles boxes standing (h .cycle) statement words messages steps r
+          ∙ (λ i. jobText (says i .cycle) (job-is i)) ∙ sym (printed-job file ok)

@@ -7,7 +7,7 @@ ghost use Rattle.model.specs.Steps.{kindOf};
 ghost use Rattle.model.specs.Tables.{jobTables, jobOf};
 ghost use Rattle.job_masks.specs.Masks.{Owned, byOwner};
 ghost use Rattle.settle.specs.Due.{dueBy, dueAt, DueIn, DueOut};
-use step_apply::Sizes;
+use slices::sizes::Sizes;
 use step_places::PLACES;
 use step_places::Step;
 use step_places::words::reaches;

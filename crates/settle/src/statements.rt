@@ -4,7 +4,7 @@ ghost use lib.ListN.{take, drop};
 ghost use Rattle.io.specs.Counts.{Counts};
 ghost use Rattle.format.specs.File.{decode};
 ghost use Rattle.format.specs.Refusals.{fileRefusal};
-ghost use Rattle.file_blocks.specs.Due.{asHead, Most};
+ghost use Rattle.file_blocks.specs.Due.{asHead};
 ghost use Rattle.file_blocks.specs.Sound.{Kept};
 ghost use Rattle.settle_text.specs.Puts.{Put};
 ghost use Rattle.printing.specs.Printed.{printed};
@@ -17,30 +17,17 @@ use file_blocks::tables::fill_offers;
 use file_blocks::tables::fill_tallies;
 use settle_text::lines::put_refused;
 use settle_text::lines::put_settled;
-use slices::casts::word_of;
 use slices::limits::GROCERS;
 use slices::limits::OFFERS;
 use slices::limits::TALLIES;
-use step_apply::Sizes;
-
-// A job's sizes as words of 16 bits.
-fn sizes_of(head: Head) -> Sizes
-    requires { ⌜ Most (asHead head) ⌝ }
-    ensures { λ r. ⌜ (r .boxes ≡ head .boxes) × (r .grocers ≡ head .grocers) × (r .offers ≡ head .offers) × (r .tallies ≡ head .tallies) ⌝ }
-{
-    Sizes {
-        boxes: word_of(head.boxes),
-        grocers: word_of(head.grocers),
-        offers: word_of(head.offers),
-        tallies: word_of(head.tallies),
-    }
-}
 
 // The lines of an accepted file: its job is run with no choices, with the tallies that stand.
 fn put_job(out: &mut [u8; 8192], file: &[u8], head: Head, places: &[u16; TALLIES]) -> usize
     requires { ⌜ (asHead head ≡ decode (now file) .head) × ((fileRefusal (now file) ≡ 0) × Kept (now file) (now places)) ⌝ }
     ensures { λ r. ⌜ Put 0 (printed (now (file .entry))) (now (out .entry)) (now (out .exit)) r ⌝ }
 {
+    let z = head.sizes;
+    let m = z.grocers as usize;
     let mut price = [0u32; OFFERS];
     let mut offer_owner = [0u16; OFFERS];
     let mut grocer_owner = [0u16; GROCERS];
@@ -60,7 +47,7 @@ fn put_job(out: &mut [u8; 8192], file: &[u8], head: Head, places: &[u16; TALLIES
     standing_boxes(file, head, places, &mut tally_box);
     let mut statement = [0i64; GROCERS];
     let report = due_run(
-        sizes_of(head),
+        z,
         &price,
         &offer_owner,
         &grocer_owner,
@@ -73,7 +60,7 @@ fn put_job(out: &mut [u8; 8192], file: &[u8], head: Head, places: &[u16; TALLIES
     put_settled(
         out,
         head.cycle,
-        head.grocers,
+        m,
         &statement,
         report.words,
         report.messages,

@@ -1,4 +1,4 @@
-// Amounts and their places: an index, a row, a sum and a product that fit, and a sum at a place.
+// Amounts and their places: a row, a sum and a product that fit, and a sum at a place.
 ghost use mathlib.Core.Path.{_≡_};
 ghost use Prim.Native.Nat.{_*_, _≤_, _<_};
 ghost use lib.ListN.{length, getD, set};
@@ -6,20 +6,14 @@ ghost use lib.IntN.{pos, natAbs, _+ℤ_, _*ℤ_};
 ghost use mir.Syntax.{w64};
 ghost use mir.Val.{SFits};
 ghost use Rattle.laws.specs.Limits.{maxPrice, maxCount};
-
-// A 16-bit number as an index.
-pub fn index(x: u16) -> usize
-    ensures { λ r. ⌜ r ≡ x ⌝ }
-{
-    x as usize
-}
+use crate::casts::index_of;
 
 // Where row a of a table begins, whose rows have m words.
 pub fn row_start(m: usize, a: u16) -> usize
     requires { ⌜ (m ≤ 500) × (a < 16) ⌝ }
     ensures { λ r. ⌜ r ≡ a * m ⌝ }
 {
-    index(a) * m
+    index_of(a) * m
 }
 
 // The sum of two amounts that is known to fit.

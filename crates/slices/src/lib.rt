@@ -1,4 +1,4 @@
-// A word of a slice, read by a call: a caller's own proof then has one step for it, not the steps of its address. Beside it bits, sums, casts and limits.
+// A word of a slice, read by a call: a caller's own proof then has one step for it, not the steps of its address. Beside it bits, sums, casts, limits, sizes.
 ghost use mathlib.Core.Path.{_≡_};
 ghost use Prim.Native.Nat.{_≤_, _<_};
 ghost use lib.ListN.{length, getD};
@@ -8,6 +8,7 @@ pub mod amounts;
 pub mod bits;
 pub mod casts;
 pub mod limits;
+pub mod sizes;
 
 use crate::casts::byte_size;
 use crate::casts::index_of;

@@ -7,7 +7,7 @@ ghost use Rattle.step_totals.specs.Row.{tallies};
 ghost use Rattle.step_apply.specs.Apply.{PriceStepOut, TotalStepOut};
 ghost use Rattle.step.specs.Answer.{answerOf};
 ghost use Rattle.step.specs.Lent.{PricesLent, TotalsLent};
-use step_apply::Sizes;
+use slices::sizes::Sizes;
 use step_links::GROCER_LINKS;
 use step_links::OFFER_LINKS;
 use step_links::TALLY_LINKS;

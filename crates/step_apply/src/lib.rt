@@ -4,18 +4,11 @@ ghost use Prim.Native.Nat.{ℕ};
 ghost use Rattle.step_links.specs.Links.{Linked, LinkedPairs, Some};
 ghost use Rattle.step_totals.specs.Row.{tallies};
 ghost use Rattle.step_apply.specs.Apply.{PriceStepIn, PriceStepOut, TotalStepIn, TotalStepOut};
+use slices::sizes::Sizes;
 use step_links::GROCER_LINKS;
 use step_links::OFFER_LINKS;
 use step_links::TALLY_LINKS;
 use step_places::Step;
-
-// How many boxes, grocers, offers and tallies a job has: K, M, N and T.
-pub struct Sizes {
-    pub boxes: u16,
-    pub grocers: u16,
-    pub offers: u16,
-    pub tallies: u16,
-}
 
 // A step of kind 1, 2 or 3: prices sent, own tallies multiplied, or prices received and their tallies multiplied. The words sent.
 pub fn price_step(

@@ -8,7 +8,7 @@ ghost use Rattle.step_checks.specs.Fits.{priceFits, totalFits, PriceFits
 use crate::credit::credit_fits;
 use crate::in_range::around64;
 use crate::row::product_row;
-use step_apply::Sizes;
+use slices::sizes::Sizes;
 use step_places::Step;
 use step_sent::sent_fits;
 

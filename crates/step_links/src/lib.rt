@@ -3,21 +3,25 @@ ghost use mathlib.Core.Path.{_≡_};
 ghost use Prim.Native.Nat.{ℕ, _+_, _≤_, _<_};
 ghost use lib.ListN.{length, getD, set, replicate};
 ghost use Rattle.step_links.specs.Links.{pairKey, Keyed, Linked, PairsKeyed, LinkedPairs};
+use slices::limits::BOXES;
+use slices::limits::GROCERS;
+use slices::limits::OFFERS;
+use slices::limits::TALLIES;
 
 // Keys are 0 to 16, and their first places stand in front of the links.
-pub const HEADS: usize = 17;
+pub const HEADS: usize = BOXES + 1;
 
 // Keys of pairs are 0 to 271, likewise: one of 17 numbers, and one of the 16 boxes.
-pub const PAIR_HEADS: usize = HEADS * 16;
+pub const PAIR_HEADS: usize = HEADS * BOXES;
 
 // The words of the links of offers: first places, and one link for each of the most offers, 517.
-pub const OFFER_LINKS: usize = HEADS + 500;
+pub const OFFER_LINKS: usize = HEADS + OFFERS;
 
 // The words of the links of grocers, likewise for the most grocers, 272.
-pub const GROCER_LINKS: usize = HEADS + 255;
+pub const GROCER_LINKS: usize = HEADS + GROCERS;
 
 // The words of the links of tallies: first places of pairs, and one link for each of the most tallies, 1272.
-pub const TALLY_LINKS: usize = PAIR_HEADS + 1000;
+pub const TALLY_LINKS: usize = PAIR_HEADS + TALLIES;
 
 // No key has a place yet: each first place is the end.
 fn no_places(heads: usize, end: u16, links: &mut [u16])

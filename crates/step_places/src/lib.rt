@@ -4,11 +4,9 @@ ghost use Prim.Native.Nat.{ℕ, _/_, _≤_};
 ghost use Rattle.model.specs.Steps.{kindOf};
 ghost use Rattle.model.specs.Words.{messagesOf};
 ghost use Rattle.step_places.specs.Places.{PlaceIn, Next};
+use slices::limits::BOXES;
 
 pub mod words;
-
-// The most boxes: those of a word are its 16 bits.
-pub const BOXES: usize = 16;
 
 // The kinds of steps, 1 to 6.
 pub const KINDS: usize = 6;

@@ -15,7 +15,7 @@ use job_checks::checks::bags_short;
 use job_checks::checks::job_in_range;
 use job_checks::checks::job_short;
 use job_masks::masks::by_owner;
-use step_apply::Sizes;
+use slices::sizes::Sizes;
 use step_checks::finish::price_fits;
 use step_checks::finish::total_fits;
 use step_checks::request::request_refusal;

@@ -50,8 +50,12 @@ fn put_sizes(out: &mut [u8], head: Head)
     requires { ⌜ (14 ≤ length (now out)) × Most (asHead head) ⌝ }
     ensures { λ _. ⌜ now (out .exit) ≡ put 4 10 (bytesOf (headerBytes (asHead head))) (now (out .entry)) ⌝ }
 {
-    put_four(out, 4, head.boxes, 1, head.grocers);
-    put_words(out, 8, head.offers, head.tallies, index_of(head.cycle));
+    let k = head.sizes.boxes as usize;
+    let m = head.sizes.grocers as usize;
+    let n = head.sizes.offers as usize;
+    let t = head.sizes.tallies as usize;
+    put_four(out, 4, k, 1, m);
+    put_words(out, 8, n, t, index_of(head.cycle));
 }
 
 // The header block.

@@ -110,21 +110,17 @@ pub fn put_file(
         «tally_grocer» «tally_box» «tally_code» «tally_count» «tally_issuer» «tally_bag» «tally_revision»))
         in file ++ drop (length file) (now (out .entry))) ⌝ }
 {
+    let m = head.sizes.grocers as usize;
+    let n = head.sizes.offers as usize;
+    let t = head.sizes.tallies as usize;
     let k = grocers_at(head);
     put_header(out, head);
-    put_offer_blocks(
-        out,
-        head.offers,
-        price,
-        offer_owner,
-        offer_code,
-        offer_issuer,
-    );
-    put_grocer_block(out, k, head.grocers, grocer_owner);
+    put_offer_blocks(out, n, price, offer_owner, offer_code, offer_issuer);
+    put_grocer_block(out, k, m, grocer_owner);
     put_tally_blocks(
         out,
         k + 1,
-        head.tallies,
+        t,
         tally_grocer,
         tally_box,
         tally_code,

@@ -167,24 +167,18 @@ fn names_refusal(
     places: &mut [u16],
 ) -> u16
     requires { ⌜ NamesIn (asHead head) (now «offer_code») (now «offer_issuer») (now «tally_code») (now «tally_issuer») ⌝ }
-    requires { ⌜ head .tallies ≤ length (now places) ⌝ }
+    requires { ⌜ head .sizes .tallies ≤ length (now places) ⌝ }
     ensures { λ r. ⌜ ((j : FileJob) → HasNames j (now («offer_code» .entry)) (now («offer_issuer» .entry)) (now («tally_code» .entry))
         (now («tally_issuer» .entry)) (asHead head) → r ≡ firstMet ((shared j, 7) ∷ (unnamed j, 8) ∷ [])) ⌝ }
     ensures { λ r. ⌜ ((j : FileJob) → HasNames j (now («offer_code» .entry)) (now («offer_issuer» .entry)) (now («tally_code» .entry))
-        (now («tally_issuer» .entry)) (asHead head) → r ≡ 0 → Placed j (now (places .exit)) (head .tallies)) ⌝ }
+        (now («tally_issuer» .entry)) (asHead head) → r ≡ 0 → Placed j (now (places .exit)) (head .sizes .tallies)) ⌝ }
 {
+    let n = head.sizes.offers as usize;
+    let t = head.sizes.tallies as usize;
     let mut keys = [0u64; OFFERS];
     let mut order = [0u16; OFFERS];
-    index_names(offer_code, offer_issuer, head.offers, &mut keys, &mut order);
-    look_refusal(
-        &keys,
-        &order,
-        head.offers,
-        tally_code,
-        tally_issuer,
-        head.tallies,
-        places,
-    )
+    index_names(offer_code, offer_issuer, n, &mut keys, &mut order);
+    look_refusal(&keys, &order, n, tally_code, tally_issuer, t, places)
 }
 
 // 7, 8, 9 or no refusal, by the names of the offers and by the tallies.
@@ -199,12 +193,13 @@ pub fn last_refusal(
     tally_revision: &[u16],
 ) -> u16
     requires { ⌜ NamesIn (asHead head) (now «offer_code») (now «offer_issuer») (now «tally_code») (now «tally_issuer») ⌝ }
-    requires { ⌜ (head .tallies ≤ length (now «tally_grocer»)) × (head .tallies ≤ length (now «tally_bag»)) × (head .tallies ≤
+    requires { ⌜ (head .sizes .tallies ≤ length (now «tally_grocer»)) × (head .sizes .tallies ≤ length (now «tally_bag»)) × (head .sizes .tallies ≤
         length (now «tally_revision»)) ⌝ }
     ensures { λ r. ⌜ ((j : FileJob) → HasNames j (now («offer_code» .entry)) (now («offer_issuer» .entry)) (now («tally_code» .entry))
         (now («tally_issuer» .entry)) (asHead head) → HasBags j (now («tally_grocer» .entry)) (now («tally_bag» .entry)) (now («tally_revision» .entry)) →
         r ≡ firstMet ((shared j, 7) ∷ (unnamed j, 8) ∷ (countedTwice (countedTallies j), 9) ∷ [])) ⌝ }
 {
+    let t = head.sizes.tallies as usize;
     let mut places = [0u16; TALLIES];
     let r = names_refusal(
         head,
@@ -217,13 +212,7 @@ pub fn last_refusal(
     if r != 0 {
         return r;
     }
-    if columns_twice(
-        head.tallies,
-        tally_grocer,
-        &places,
-        tally_bag,
-        tally_revision,
-    ) {
+    if columns_twice(t, tally_grocer, &places, tally_bag, tally_revision) {
         return 9;
     }
     0

@@ -13,10 +13,10 @@ use file_blocks::codes::CODE_BYTES;
 use file_blocks::codes::is_code;
 use file_blocks::plan::Head;
 use slices::i32_at;
-use slices::index_at;
 use slices::limits::MAX_COUNT;
 use slices::limits::MAX_PRICE;
 use slices::limits::MIN_COUNT;
+use slices::u16_at;
 use slices::u32_at;
 
 // Whether a count is outside −99,999 to 99,999.
@@ -33,7 +33,7 @@ fn bad_offer(head: Head, price: &[u32], offer_owner: &[u16], offer_code: &[u8], 
         (offerOf (offerTables (now (price .entry)) (now («offer_owner» .entry)) (now («offer_code» .entry)) s) i)) ⌝ }
 {
     (MAX_PRICE < u32_at(price, i))
-        | (head.boxes <= index_at(offer_owner, i))
+        | (head.sizes.boxes <= u16_at(offer_owner, i))
         | !is_code(offer_code, i * CODE_BYTES)
 }
 
@@ -51,19 +51,20 @@ fn bad_tally(
     ensures { λ r. ⌜ ((s b v : List ℕ) → r ≡ badTally (asHead head)
         (tallyOf (tallyTables (now («tally_grocer» .entry)) (now («tally_box» .entry)) (now («tally_code» .entry)) (now («tally_count» .entry)) s b v) i)) ⌝ }
 {
-    (head.grocers <= index_at(tally_grocer, i))
-        | (head.boxes <= index_at(tally_box, i))
+    (head.sizes.grocers <= u16_at(tally_grocer, i))
+        | (head.sizes.boxes <= u16_at(tally_box, i))
         | !is_code(tally_code, i * CODE_BYTES)
         | bad_count(i32_at(tally_count, i))
 }
 
 // Whether one of the offers is.
 fn bad_offers(head: Head, price: &[u32], offer_owner: &[u16], offer_code: &[u8]) -> bool
-    requires { ⌜ (head .offers ≤ length (now price)) × (head .offers ≤ length (now «offer_owner»)) × (head .offers * 11 ≤ length (now «offer_code»)) ⌝ }
-    ensures { λ r. ⌜ ((s : List ℕ) → r ≡ any (head .offers) (λ i. badOffer (asHead head)
+    requires { ⌜ (head .sizes .offers ≤ length (now price)) × (head .sizes .offers ≤ length (now «offer_owner»)) ×
+        (head .sizes .offers * 11 ≤ length (now «offer_code»)) ⌝ }
+    ensures { λ r. ⌜ ((s : List ℕ) → r ≡ any (head .sizes .offers) (λ i. badOffer (asHead head)
         (offerOf (offerTables (now (price .entry)) (now («offer_owner» .entry)) (now («offer_code» .entry)) s) i))) ⌝ }
 {
-    let n = head.offers;
+    let n = head.sizes.offers as usize;
     let mut bad = false;
     let mut i: usize = 0;
     while i < n {
@@ -75,15 +76,15 @@ fn bad_offers(head: Head, price: &[u32], offer_owner: &[u16], offer_code: &[u8])
 
 // Whether one of the grocers' owners is K or more.
 fn bad_owners(head: Head, grocer_owner: &[u16]) -> bool
-    requires { ⌜ head .grocers ≤ length (now «grocer_owner») ⌝ }
-    ensures { λ r. ⌜ r ≡ any (head .grocers) (λ i. badOwner (asHead head) (getD (now («grocer_owner» .entry)) i 0)) ⌝ }
+    requires { ⌜ head .sizes .grocers ≤ length (now «grocer_owner») ⌝ }
+    ensures { λ r. ⌜ r ≡ any (head .sizes .grocers) (λ i. badOwner (asHead head) (getD (now («grocer_owner» .entry)) i 0)) ⌝ }
 {
-    let k = head.boxes;
-    let m = head.grocers;
+    let k = head.sizes.boxes;
+    let m = head.sizes.grocers as usize;
     let mut bad = false;
     let mut i: usize = 0;
     while i < m {
-        bad = bad | (k <= index_at(grocer_owner, i));
+        bad = bad | (k <= u16_at(grocer_owner, i));
         i += 1;
     }
     bad
@@ -97,12 +98,12 @@ fn bad_tallies(
     tally_code: &[u8],
     tally_count: &[i32],
 ) -> bool
-    requires { ⌜ (head .tallies ≤ length (now «tally_grocer»)) × (head .tallies ≤ length (now «tally_box»)) ⌝ }
-    requires { ⌜ (head .tallies * 11 ≤ length (now «tally_code»)) × (head .tallies ≤ length (now «tally_count»)) ⌝ }
-    ensures { λ r. ⌜ ((s b v : List ℕ) → r ≡ any (head .tallies) (λ i. badTally (asHead head)
+    requires { ⌜ (head .sizes .tallies ≤ length (now «tally_grocer»)) × (head .sizes .tallies ≤ length (now «tally_box»)) ⌝ }
+    requires { ⌜ (head .sizes .tallies * 11 ≤ length (now «tally_code»)) × (head .sizes .tallies ≤ length (now «tally_count»)) ⌝ }
+    ensures { λ r. ⌜ ((s b v : List ℕ) → r ≡ any (head .sizes .tallies) (λ i. badTally (asHead head)
         (tallyOf (tallyTables (now («tally_grocer» .entry)) (now («tally_box» .entry)) (now («tally_code» .entry)) (now («tally_count» .entry)) s b v) i))) ⌝ }
 {
-    let t = head.tallies;
+    let t = head.sizes.tallies as usize;
     let mut bad = false;
     let mut i: usize = 0;
     while i < t {
@@ -124,10 +125,11 @@ pub fn bad_records(
     tally_code: &[u8],
     tally_count: &[i32],
 ) -> bool
-    requires { ⌜ (head .offers ≤ length (now price)) × (head .offers ≤ length (now «offer_owner»)) × (head .offers * 11 ≤ length (now «offer_code»)) ⌝ }
-    requires { ⌜ head .grocers ≤ length (now «grocer_owner») ⌝ }
-    requires { ⌜ (head .tallies ≤ length (now «tally_grocer»)) × (head .tallies ≤ length (now «tally_box»)) ⌝ }
-    requires { ⌜ (head .tallies * 11 ≤ length (now «tally_code»)) × (head .tallies ≤ length (now «tally_count»)) ⌝ }
+    requires { ⌜ (head .sizes .offers ≤ length (now price)) × (head .sizes .offers ≤ length (now «offer_owner»)) ×
+        (head .sizes .offers * 11 ≤ length (now «offer_code»)) ⌝ }
+    requires { ⌜ head .sizes .grocers ≤ length (now «grocer_owner») ⌝ }
+    requires { ⌜ (head .sizes .tallies ≤ length (now «tally_grocer»)) × (head .sizes .tallies ≤ length (now «tally_box»)) ⌝ }
+    requires { ⌜ (head .sizes .tallies * 11 ≤ length (now «tally_code»)) × (head .sizes .tallies ≤ length (now «tally_count»)) ⌝ }
     ensures { λ r. ⌜ ((s s′ b v : List ℕ) → r ≡ badRecords (fileJobOf (asHead head) (fileTables
         (offerTables (now (price .entry)) (now («offer_owner» .entry)) (now («offer_code» .entry)) s) (now («grocer_owner» .entry))
         (tallyTables (now («tally_grocer» .entry)) (now («tally_box» .entry)) (now («tally_code» .entry)) (now («tally_count» .entry)) s′ b v)))) ⌝ }

@@ -9,21 +9,20 @@ ghost use Rattle.file_blocks.specs.Due.{asHead, Fits};
 use file_blocks::codes::CODE_BYTES;
 use file_blocks::plan::Head;
 use file_blocks::plan::block_count;
-use slices::casts::index_of;
+use slices::sizes::Sizes;
 
 // K, M, N and T as given, and the cycle.
 pub fn head_of(boxes: u16, grocers: u16, offers: u16, tallies: u16, cycle: u16) -> Head
     ensures { λ r. ⌜ (asHead r ≡ headOf boxes grocers offers tallies cycle) × Fits (asHead r) ⌝ }
 {
-    let k = index_of(boxes);
-    let m = index_of(grocers);
-    let n = index_of(offers);
-    let t = index_of(tallies);
+    let sizes = Sizes {
+        boxes: boxes,
+        grocers: grocers,
+        offers: offers,
+        tallies: tallies,
+    };
     Head {
-        boxes: k,
-        grocers: m,
-        offers: n,
-        tallies: t,
+        sizes: sizes,
         cycle: cycle,
     }
 }
@@ -97,9 +96,12 @@ pub fn short_writer(
     ensures { λ r. ⌜ r ≡ shortWriter (asHead head) (fileLent price «offer_owner» «offer_code» «offer_issuer» «grocer_owner» «tally_grocer» «tally_box»
         «tally_code» «tally_count» «tally_issuer» «tally_bag» «tally_revision») (now (out .entry)) ⌝ }
 {
-    let offers = short_offers(head.offers, price, offer_owner, offer_code, offer_issuer);
+    let m = head.sizes.grocers as usize;
+    let n = head.sizes.offers as usize;
+    let t = head.sizes.tallies as usize;
+    let offers = short_offers(n, price, offer_owner, offer_code, offer_issuer);
     let tallies = short_tallies(
-        head.tallies,
+        t,
         tally_grocer,
         tally_box,
         tally_code,
@@ -108,5 +110,5 @@ pub fn short_writer(
         tally_bag,
         tally_revision,
     );
-    offers | (grocer_owner.len() < head.grocers) | tallies | (out.len() < file_length(head))
+    offers | (grocer_owner.len() < m) | tallies | (out.len() < file_length(head))
 }

@@ -12,6 +12,7 @@ use Rattle.file_blocks.specs.Sound.{Kept, Sound}
 use Rattle.file_blocks.proofs.RecordWords.{offer-room, tally-room}
 use Rattle.file_blocks.proofs.Fields.{offer-codes, offer-issuers, tally-boxes, tally-codes, tally-issuers, tally-bags, tally-revisions}
 use Rattle.file_blocks.proofs.Shapes.{has-header, sound-read, placed-read}
+use borrow.Author.Needs.{needs}
 use Rattle.reader.proofs.Results.{Room, room, read-refusal, read-job}
 use Rattle.reader.proofs.read.Statement.{statement}
 use Rattle.reader.proofs.read.Tie as tie
@@ -72,7 +73,7 @@ tally-bagged c = c .before .before .before .before
 
 -- The call of `read_head`, from those calls and from that of `tallies_at`.
 abbrev head-filled : tie.After-fill-offers → tie.After-read-head
-head-filled c = c .before .before .before .before
+head-filled c = c .before .before .before .before .before .before
 
 abbrev head-coded : tie.After-fill-codes → tie.After-read-head
 head-coded c = head-filled (offers-filled c)
@@ -101,9 +102,6 @@ at-issued c = at-coded (tally-coded c)
 
 abbrev at-bagged : tie.After-fill-words3 → tie.After-tallies-at
 at-bagged c = at-issued (tally-issued c)
-
-abbrev at-revised : tie.After-fill-words4 → tie.After-tallies-at
-at-revised c = at-bagged (tally-bagged c)
 
 -- The calls, from the end.
 abbrev revised : tie.After-job-of → tie.After-fill-words4
@@ -171,7 +169,7 @@ free : (c : tie.After-read-head) → Room (asHead (c .read-head .result)) (lent 
 free c = room _ _ (known c .whole .most) (long (c .before))
 
 -- The number of offers is small enough for each call,
-few-offers : (c : tie.After-read-head) → c .read-head .result .offers ≤ 1_000
+few-offers : (c : tie.After-read-head) → c .read-head .result .sizes .offers ≤ 1_000
 few-offers c = omega (arith, known c .whole .most .offers)
 
 -- and so is the first block of the tallies,
@@ -179,7 +177,7 @@ low : (c : tie.After-tallies-at) → c .tallies-at .result ≤ 100
 low c = omega (arith, c .tallies-at .ensures, known (headed c) .whole .most .offers)
 
 -- whose records are in the file.
-inside : (c : tie.After-tallies-at) → (i : ℕ) → i < headed c .read-head .result .tallies → recordAt (c .tallies-at .result) i + 24 ≤ length (entry (headed c .before) .args .file .now)
+inside : (c : tie.After-tallies-at) → (i : ℕ) → i < headed c .read-head .result .sizes .tallies → recordAt (c .tallies-at .result) i + 24 ≤ length (entry (headed c .before) .args .file .now)
 inside c i l = omega (arith, c .tallies-at .ensures, tally-room (known (headed c) .whole) i l)
 
 -- It is the block that the file says.
@@ -194,7 +192,7 @@ read-head-requires c κs = has-header (kept c .sound)
 
 fill-offers-requires : tie.Need-fill-offers-requires
 fill-offers-requires c κs =
-    let h = c .before .before .before in
+    let h = c .before .before .before .before .before in
     (known h .whole, (free h .tables .offers .price, free h .tables .offers .owner, free h .tables .grocerOwner))
 
 fill-codes-requires : tie.Need-fill-codes-requires
@@ -252,9 +250,6 @@ fill-words-requires-4 c κs =
     let h = headed t in
     ((low t, known h .whole .most .tallies, omega arith, free h .tables .tallies .revision), inside t)
 
-job-of-requires : tie.Need-job-of-requires
-job-of-requires c κs = known (headed (at-revised (c .before .before))) .whole .most
-
 returns-2 : tie.Need-returns-2
 returns-2 c =
     let t = at-boxed (boxes c) in
@@ -291,6 +286,8 @@ read-spec =
     (λ c κs. omega arith)
     returns
     read-head-requires
+    (λ c. search needs)
+    (λ c. search needs)
     fill-offers-requires
     fill-codes-requires
     fill-words-requires
@@ -302,7 +299,7 @@ read-spec =
     fill-words-requires-2
     fill-words-requires-3
     fill-words-requires-4
-    job-of-requires
+    (λ c κs. tt)
     (λ c. offers c .fill-offers .kept .1 .1 .0)
     (λ c. offers c .fill-offers .kept .1 .1 .1 .0)
     (λ c. offer-coded c .fill-codes .kept .1 .1 .1 .1 .0)

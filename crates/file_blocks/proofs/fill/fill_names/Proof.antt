@@ -21,25 +21,25 @@ abbrev μ-loop : tie.MeasureT-loop
 
 -- The entry, from the loop.
 abbrev entry : tie.At-loop Inv-loop μ-loop → tie.Start Inv-loop μ-loop
-entry l = l .before .before .before
+entry l = l .before .before .before .before
 
 loop-holds : tie.Need-loop-holds Inv-loop μ-loop
 loop-holds c = (omega arith, refl, fill-none _ _)
 
 record-at-requires : tie.Need-record-at-requires Inv-loop μ-loop
-record-at-requires c κs = (omega arith, omega (arith, c .before .before .before .before .pre .0 .0 .most .offers))
+record-at-requires c κs = (omega arith, omega (arith, entry (c .before) .pre .0 .0 .most .offers))
 
 -- The record is in the file.
-room : (c : tie.After-record-at Inv-loop μ-loop) → c .record-at .result + 24 ≤ length (c .before .before .before .before .before .args .f .now)
+room : (c : tie.After-record-at Inv-loop μ-loop) → c .record-at .result + 24 ≤ length (entry (c .before .before) .args .f .now)
 room c =
     let l = c .before .before in
-    omega (arith, c .record-at .ensures, offer-room (l .before .before .before .pre .0 .0) (l .loop .i) (c .before .loop-test .taken))
+    omega (arith, c .record-at .ensures, offer-room (entry l .pre .0 .0) (l .loop .i) (c .before .loop-test .taken))
 
 name-at-requires : tie.Need-name-at-requires Inv-loop μ-loop
 name-at-requires c κs =
     let at = c .before in
     let l = at .before .before in
-    let s = l .before .before .before in
+    let s = entry l in
     let i = l .loop .i in (
       (omega (arith, room at), c .word16 .ensures .1),
       ap isCode (offer-code (s .args .f .now) i (at .record-at .ensures)) ∙ s .pre .1 i (at .before .loop-test .taken),
@@ -50,7 +50,7 @@ loop-again c =
     let w = c .before in
     let at = w .before in
     let l = at .before .before in
-    let s = l .before .before .before in
+    let s = entry l in
     let e = offer-name (s .args .f .now) (l .loop .i) (at .record-at .ensures) (w .word16 .result) (w .word16 .ensures .0) in
     (omega arith, simp length-set (l .loop .inv .1), fill-more _ (l .loop .i) _ _ _ (l .loop .inv .2) (omega arith) (c .name-at .ensures ∙ e))
 
@@ -63,6 +63,7 @@ fill-names-spec =
     (tie.spec
     Inv-loop
     μ-loop
+    (λ c. search needs)
     loop-holds
     record-at-requires
     (λ c. omega (arith, room c))

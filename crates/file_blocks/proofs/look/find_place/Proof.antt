@@ -17,7 +17,7 @@ use Rattle.file_blocks.proofs.look.find_place.Tie as tie
 
 -- The entry.
 abbrev entry : tie.After-record-at → tie.Start
-entry c = c .before .before .before .before
+entry c = c .before .before .before .before .before
 
 -- Where the record stands,
 stands : (c : tie.After-record-at) → c .record-at .result ≡ recordAt (talliesAt (asHead (entry c .args .head))) (entry c .args .i)
@@ -29,7 +29,7 @@ room c = let s = entry c in omega (arith, stands c, tally-room (s .pre .0 .sound
 
 record-at-requires : tie.Need-record-at-requires
 record-at-requires c κs =
-    let s = c .before .before .before in
+    let s = c .before .before .before .before in
     let m = s .pre .0 .sound .whole .most in
     (omega (arith, s .pre .1 .0, m .offers), omega (arith, s .pre .1 .1, m .tallies))
 
@@ -55,13 +55,14 @@ returns c =
     let r = s .pre .0 in
     let x = r .indexed in
     c .place .ensures (x .numbers) (x .index) (r .apart)
-    ∙ ap (placeOf (x .numbers) (s .args .head .offers)) (c .before .name-at .ensures ∙ tally-name f i (r .sound .whole) (stands at) (w .word16 .result) (w .word16 .ensures .0))
-    ∙ place-is (decode f) (x .numbers) (s .args .head .offers) (sym (ap (λ (h : Head). h .offers) (r .sound .whole .says))) (r .sound .offer) (x .right) i (r .sound .tally i (s .pre .1 .1))
+    ∙ ap (placeOf (x .numbers) (s .args .head .sizes .offers)) (c .before .name-at .ensures ∙ tally-name f i (r .sound .whole) (stands at) (w .word16 .result) (w .word16 .ensures .0))
+    ∙ place-is (decode f) (x .numbers) (s .args .head .sizes .offers) (sym (ap (λ (h : Head). h .offers) (r .sound .whole .says))) (r .sound .offer) (x .right) i (r .sound .tally i (s .pre .1 .1))
 
 pub find-place-spec : {M : Type 1} → statement M
 find-place-spec =
     tie.close
     (tie.spec
+    (λ c. search needs)
     record-at-requires
     (λ c. omega (arith, room c))
     (λ c. omega (arith, room c))

@@ -13,24 +13,27 @@ use Rattle.file_blocks.proofs.look.find_places.Statement.{statement}
 use Rattle.file_blocks.proofs.look.find_places.Tie as tie
 
 abbrev Inv-loop : tie.InvT-loop
-Inv-loop f head keys order starts shift widest places₀ first n t i₀ places i = (i ≤ t) × (length places ≡ length places₀) × (unnamedBelow (decode f) i ≡ false) × Placed (decode f) places i
+Inv-loop f head keys order starts shift widest places₀ n t first i₀ places i = (i ≤ t) × (length places ≡ length places₀) × (unnamedBelow (decode f) i ≡ false) × Placed (decode f) places i
 
 abbrev μ-loop : tie.MeasureT-loop
-μ-loop f head keys order starts shift widest places₀ first n t i₀ places i = t - i
+μ-loop f head keys order starts shift widest places₀ n t first i₀ places i = t - i
 
--- The entry, from the call before the loop.
+-- The entry, from where the sizes are known, and from the call before the loop.
+abbrev start : tie.After-struct-known2 Inv-loop μ-loop → tie.Start Inv-loop μ-loop
+start c = c .before .before .before .before .before .before
+
 abbrev entry : tie.After-tallies-at Inv-loop μ-loop → tie.Start Inv-loop μ-loop
-entry c = c .before .before .before .before .before
+entry c = start (c .before)
 
 -- The numbers of offers and of tallies are the file's.
-offers-is : (s : tie.Start Inv-loop μ-loop) → s .args .head .offers ≡ decode (s .args .f .now) .head .offers
+offers-is : (s : tie.Start Inv-loop μ-loop) → s .args .head .sizes .offers ≡ decode (s .args .f .now) .head .offers
 offers-is s = ap (λ (h : Head). h .offers) (s .pre .0 .sound .whole .says)
 
-tallies-is : (s : tie.Start Inv-loop μ-loop) → s .args .head .tallies ≡ decode (s .args .f .now) .head .tallies
+tallies-is : (s : tie.Start Inv-loop μ-loop) → s .args .head .sizes .tallies ≡ decode (s .args .f .now) .head .tallies
 tallies-is s = ap (λ (h : Head). h .tallies) (s .pre .0 .sound .whole .says)
 
 tallies-at-requires : tie.Need-tallies-at-requires Inv-loop μ-loop
-tallies-at-requires c κs = omega (arith, c .before .before .before .before .pre .0 .sound .whole .most .offers)
+tallies-at-requires c κs = omega (arith, start c .pre .0 .sound .whole .most .offers)
 
 loop-holds : tie.Need-loop-holds Inv-loop μ-loop
 loop-holds c = (omega arith, refl, none-yet _, placed-none _ _)
@@ -43,7 +46,7 @@ returns c =
     let p = c .before in
     let l = p .before .before in
     let s = entry (l .before) in
-    let h = unnamed-hit _ (s .args .head .offers) (l .loop .i) (p .find-place .result) (s .args .head .tallies) (offers-is s) (tallies-is s) (p .find-place .ensures) (c .if1 .taken) (p .before .loop-test .taken) in
+    let h = unnamed-hit _ (s .args .head .sizes .offers) (l .loop .i) (p .find-place .result) (s .args .head .sizes .tallies) (offers-is s) (tallies-is s) (p .find-place .ensures) (c .if1 .taken) (p .before .loop-test .taken) in
     (sym h, λ e. absurd (false≢true (sym e)))
 
 word-of-requires : tie.Need-word-of-requires Inv-loop μ-loop
@@ -67,7 +70,7 @@ loop-again c =
     let e = p .find-place .ensures in (
       omega (arith, p .before .loop-test .taken),
       simp length-set (v .1),
-      named-more _ (s .args .head .offers) (l .loop .i) _ (offers-is s) e (c .before .if1 .left) (v .2),
+      named-more _ (s .args .head .sizes .offers) (l .loop .i) _ (offers-is s) e (c .before .if1 .left) (v .2),
       placed-more _ (v .3) (omega (arith, v .1, s .pre .1, p .before .loop-test .taken)) (c .word-of .ensures ∙ e),
     )
 
@@ -76,7 +79,7 @@ returns-2 c =
     let l = c .before in
     let s = entry (l .before) in
     let v = l .loop .inv in
-    let t = s .args .head .tallies in
+    let t = s .args .head .sizes .tallies in
     let n = c .loop-test .left in
     (sym (unnamed-end _ (l .loop .i) t (v .0) n (tallies-is s) (v .2)), λ e. placed-end (l .loop .i) t (v .0) n (v .3))
 
@@ -86,6 +89,8 @@ find-places-spec =
     (tie.spec
     Inv-loop
     μ-loop
+    (λ c. search needs)
+    (λ c. search needs)
     tallies-at-requires
     loop-holds
     find-place-requires

@@ -11,7 +11,7 @@ abbrev filled : tie.After-spare → tie.After-fill-names
 filled c = c .before .before .before .before .before
 
 abbrev entry : tie.After-fill-names → tie.Start
-entry c = c .before .before .before .before .before
+entry c = c .before .before .before .before .before .before
 
 -- The call of `build`, from the end.
 abbrev built : tie.After-spare2 → tie.After-build
@@ -19,7 +19,7 @@ built c = c .before .before .before .before .before
 
 fill-names-requires : tie.Need-fill-names-requires
 fill-names-requires c κs =
-    let s = c .before .before .before .before in
+    let s = c .before .before .before .before .before in
     ((s .pre .0 .whole, omega (arith, s .pre .0 .whole .most .offers)), s .pre .0 .offer)
 
 slice-aggregate-build : tie.Need-slice-aggregate-build
@@ -41,6 +41,7 @@ pub index-offers-spec : {M : Type 1} → statement M
 index-offers-spec =
     tie.close
     (tie.spec
+    (λ c. search needs)
     (λ c. search needs)
     fill-names-requires
     slice-aggregate-build

@@ -5,6 +5,7 @@ use Rattle.format.specs.Job.{Head, shared}
 use Rattle.format.specs.File.{decode}
 use Rattle.index.specs.Index.{sharesNumber}
 use Rattle.index.proofs.Topping.{starts-rise}
+use borrow.Author.Needs.{needs}
 use Rattle.file_blocks.proofs.Naming.{shared-is}
 use Rattle.file_blocks.proofs.Last.{names-7, names-8, names-0}
 use Rattle.file_blocks.proofs.look.indexed_refusal.Statement.{statement}
@@ -12,7 +13,7 @@ use Rattle.file_blocks.proofs.look.indexed_refusal.Tie as tie
 
 -- The entry, from the first question.
 abbrev entry : tie.After-shared → tie.Start
-entry c = c .before .before .before .before .before
+entry c = c .before .before .before .before .before .before
 
 -- The look-up of the tallies, the top digits before it, and the branch before these.
 abbrev looked : tie.After-slice-known2 → tie.After-find-places
@@ -34,7 +35,7 @@ shared-told c =
     let s = entry c in
     let i = s .pre .1 .2 in
     let w = s .pre .0 .0 in
-    sym (shared-is (decode (s .args .f .now)) (i .numbers) (s .args .head .offers) (sym (ap (λ (h : Head). h .offers) (w .whole .says))) (w .offer) (i .right))
+    sym (shared-is (decode (s .args .f .now)) (i .numbers) (s .args .head .sizes .offers) (sym (ap (λ (h : Head). h .offers) (w .whole .says))) (w .offer) (i .right))
     ∙ sym (c .shared .ensures _ (i .numbers) (i .index))
 
 returns : tie.Need-returns
@@ -81,7 +82,8 @@ pub indexed-refusal-spec : {M : Type 1} → statement M
 indexed-refusal-spec =
     tie.close
     (tie.spec
-    (λ c κs. c .before .before .before .before .pre .1 .0)
+    (λ c. search needs)
+    (λ c κs. c .before .before .before .before .before .pre .1 .0)
     returns
     top-shift-requires
     tops-requires

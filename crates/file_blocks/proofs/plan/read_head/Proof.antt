@@ -9,7 +9,7 @@ unfolding decode readHead
 returns c =
     let t = c .before in
     let g = t .before .before in
-    rw (g .before .byte-at .ensures .0, g .word16 .ensures .0, t .before .word162 .ensures .0, t .word163 .ensures .0, c .word164 .ensures .0)
+    rw (g .before .byte16 .ensures, g .narrow16 .ensures, t .before .narrow162 .ensures, t .narrow163 .ensures, c .narrow164 .ensures)
 
 pub read-head-spec : {M : Type 1} → statement M
 read-head-spec =
@@ -20,5 +20,4 @@ read-head-spec =
     (λ c κs. omega arith)
     (λ c κs. omega arith)
     (λ c κs. omega arith)
-    (λ c. record { fits = omega (arith, c .word164 .ensures .1) })
     returns)

@@ -19,24 +19,24 @@ rest c =
 
 returns : tie.Need-returns
 returns c =
-    let s = c .before .before in
+    let s = c .before .before .before in
     let h = asHead (s .args .head) in
-    let e = one-is h (s .args .k) (sym (s .pre .1 .1) ∙ c .before .if1 .taken) in
+    let e = one-is h (s .args .k) (sym (s .pre .1 .1) ∙ c .before .before .if1 .taken) in
     (c .part .ensures ∙ sym (ap (records h) e), omega arith)
 
 returns-2 : tie.Need-returns-2
 returns-2 c =
-    let s = c .before .before in
+    let s = c .before .before .before in
     let h = asHead (s .args .head) in
-    let e = two-is h (s .args .k) (sym (s .pre .1 .1) ∙ c .if2 .taken) in
+    let e = two-is h (s .args .k) (sym (s .pre .1 .1) ∙ c .before .if2 .taken) in
     (sym (ap (records h) (e .0)), omega (arith, s .pre .0 .1 .grocers))
 
 sub-part-2 : tie.Need-sub-part-2
-sub-part-2 c = omega (arith, rest (c .before) .1)
+sub-part-2 c = omega (arith, rest (c .before .before) .1)
 
 returns-3 : tie.Need-returns-3
 returns-3 c =
-    let b = c .before in
+    let b = c .before .before in
     let s = b .before .before .before in
     let h = asHead (s .args .head) in
     let k = s .args .k in
@@ -47,10 +47,13 @@ records-at-spec =
     tie.close
     (tie.spec
     (λ c. search needs)
+    (λ c. search needs)
     (λ c κs. search needs)
     returns
+    (λ c. search needs)
     returns-2
     (λ c κs. search needs)
+    (λ c. search needs)
     sub-part-2
     (λ c κs. search needs)
     returns-3)

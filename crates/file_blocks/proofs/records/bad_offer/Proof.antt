@@ -16,7 +16,7 @@ returns c =
     let p = z .before in
     let s = p .before .before in
     let e = c .is-code .ensures ∙ ap (λ (g : ℕ → ℕ). isCode (readCode g)) (from-after (s .args .f .now) (s .args .at) 5) in
-    rw (p .word32 .ensures, z .byte-at .ensures .0, e)
+    rw (p .word32 .ensures, z .byte16 .ensures, e)
 
 pub bad-offer-spec : {M : Type 1} → statement M
 bad-offer-spec =

@@ -25,7 +25,7 @@ loop-again : tie.Need-loop-again Inv-loop μ-loop
 unfolding badOwner
 loop-again c =
     let l = c .before .before .before in
-    (omega arith, any-more (l .loop .i) _ _ _ (l .loop .inv .1) (ap (leb (l .before .before .args .head .boxes)) (c .before .byte-at .ensures .0)))
+    (omega arith, any-more (l .loop .i) _ _ _ (l .loop .inv .1) (ap (leb (l .before .before .args .head .sizes .boxes)) (c .before .byte16 .ensures)))
 
 returns : tie.Need-returns Inv-loop μ-loop
 returns c = any-end _ _ _ _ (omega arith) (c .before .loop .inv .1)

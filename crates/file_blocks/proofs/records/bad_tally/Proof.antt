@@ -25,7 +25,7 @@ returns c =
     let f = s .args .f .now in
     let e = q .is-code .ensures ∙ ap (λ (g : ℕ → ℕ). isCode (readCode g)) (from-after f (s .args .at) 3) in
     let n = c .bad-count .ensures ∙ ap (λ (x : ℕ). ltb 99999 (natAbs (toZ w32 x))) (v .word32 .ensures ∙ ap word32 (from-after f (s .args .at) 14)) in
-    rw (g .word16 .ensures .0, z .byte-at .ensures .0, e, n)
+    rw (g .narrow16 .ensures, z .byte16 .ensures, e, n)
 
 pub bad-tally-spec : {M : Type 1} → statement M
 bad-tally-spec =

@@ -13,6 +13,7 @@ use Rattle.format.specs.Blocks.{talliesAt}
 use Rattle.format.specs.File.{decode}
 use Rattle.index.specs.Bags.{Struck}
 use Rattle.index.proofs.Loose.{loose-struck}
+use borrow.Author.Needs.{needs}
 use Rattle.file_blocks.proofs.RecordWords.{tally-room}
 use Rattle.file_blocks.proofs.Fields.{tally-boxes}
 use Rattle.file_blocks.proofs.Last.{all-loose}
@@ -21,7 +22,7 @@ use Rattle.file_blocks.proofs.standing.standing_boxes.Tie as tie
 
 -- Places, from places after them.
 abbrev entry : tie.After-tallies-at → tie.Start
-entry c = c .before .before .before .before
+entry c = c .before .before .before .before .before
 
 abbrev filled : tie.After-any-bag → tie.After-fill-bytes
 filled c = c .before .before .before
@@ -43,7 +44,7 @@ strike-keys-requires c κs =
     (s .pre .0, ((s .pre .1 .0 .0, omega (arith, x .fill-bytes .kept .1 .1 .1 .1 .0, s .pre .1 .0 .1)), s .pre .1 .1))
 
 -- The boxes are those of the tallies.
-boxes : (c : tie.After-fill-bytes) → c .fill-bytes .last .1 .1 .1 .1 .0 ≡ overwrite (start c .args .head .tallies) (λ i. decode (start c .args .f .now) .tally i .box) (start c .args .boxes .now)
+boxes : (c : tie.After-fill-bytes) → c .fill-bytes .last .1 .1 .1 .1 .0 ≡ overwrite (start c .args .head .sizes .tallies) (λ i. decode (start c .args .f .now) .tally i .box) (start c .args .boxes .now)
 boxes c =
     let t = c .before .before in
     let s = entry t in
@@ -54,7 +55,7 @@ returns c =
     let k = c .before .before in
     let x = filled (k .before .before .before) in
     let s = start x in
-    subst (λ (l : List ℕ). Struck (countedTallies (decode (s .args .f .now))) (s .args .head .tallies) l (k .strike-keys .last .1 .1 .1 .0)) (boxes x) (k .strike-keys .ensures)
+    subst (λ (l : List ℕ). Struck (countedTallies (decode (s .args .f .now))) (s .args .head .sizes .tallies) l (k .strike-keys .last .1 .1 .1 .0)) (boxes x) (k .strike-keys .ensures)
 
 returns-2 : tie.Need-returns-2
 unfolding countedTallies
@@ -73,7 +74,8 @@ pub standing-boxes-spec : {M : Type 1} → statement M
 standing-boxes-spec =
     tie.close
     (tie.spec
-    (λ c κs. omega (arith, c .before .before .before .pre .0 .0 .most .offers))
+    (λ c. search needs)
+    (λ c κs. omega (arith, c .before .before .before .before .pre .0 .0 .most .offers))
     fill-bytes-requires
     (λ c κs. start (c .before .before) .pre .0 .0)
     strike-keys-requires

@@ -10,11 +10,11 @@ abbrev made : tie.After-keys3 → tie.After-fill-keys
 made c = c .before .before
 
 abbrev entry : tie.After-fill-keys → tie.Start
-entry c = c .before .before .before .before .before
+entry c = c .before .before .before .before .before .before
 
 fill-keys-requires : tie.Need-fill-keys-requires
 fill-keys-requires c κs =
-    let s = c .before .before .before .before in
+    let s = c .before .before .before .before .before in
     (s .pre .0, (s .pre .1 .0 .0, omega (arith, s .pre .0 .0 .most .tallies)))
 
 strike-requires : tie.Need-strike-requires
@@ -34,6 +34,7 @@ pub strike-keys-spec : {M : Type 1} → statement M
 strike-keys-spec =
     tie.close
     (tie.spec
+    (λ c. search needs)
     (λ c. search needs)
     fill-keys-requires
     (λ c. sym (made c .fill-keys .kept .1 .1 .1 .0))

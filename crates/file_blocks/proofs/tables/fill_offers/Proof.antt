@@ -1,5 +1,6 @@
 -- `file_blocks::tables::fill_offers` meets its contract, by the calls that fill one table each. Assumes nothing.
 use native.Mathlib.Omega.{arith}
+use borrow.Author.Needs.{needs}
 use Rattle.file_blocks.proofs.RecordWords.{offer-room}
 use Rattle.file_blocks.proofs.Fields.{offer-owners}
 use Rattle.file_blocks.proofs.tables.fill_offers.Statement.{statement}
@@ -7,7 +8,7 @@ use Rattle.file_blocks.proofs.tables.fill_offers.Tie as tie
 
 -- The entry, and each call from the next one.
 abbrev start : tie.After-fill-prices-arg → tie.Start
-start c = c .before .before .before .before .before
+start c = c .before .before .before .before .before .before
 
 abbrev priced : tie.After-fill-bytes-arg → tie.After-fill-prices
 priced c = c .before .before .before
@@ -42,6 +43,7 @@ pub fill-offers-spec : {M : Type 1} → statement M
 fill-offers-spec =
     tie.close
     (tie.spec
+    (λ c. search needs)
     fill-prices-requires
     fill-bytes-requires
     fill-owners-requires

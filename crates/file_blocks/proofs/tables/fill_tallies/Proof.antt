@@ -3,6 +3,7 @@ use mathlib.Core.Path.{_≡_, ap, _∙_}
 use native.Mathlib.Omega.{arith}
 use Rattle.format.specs.Blocks.{talliesAt}
 use Rattle.format.specs.File.{decode}
+use borrow.Author.Needs.{needs}
 use Rattle.file_blocks.proofs.RecordWords.{tally-room}
 use Rattle.file_blocks.proofs.Fields.{tally-grocers, tally-counts}
 use Rattle.file_blocks.proofs.Looked.{places-stored}
@@ -11,7 +12,7 @@ use Rattle.file_blocks.proofs.tables.fill_tallies.Tie as tie
 
 -- The entry, and each call from the next one.
 abbrev start : tie.After-tallies-at → tie.Start
-start c = c .before .before .before .before .before
+start c = c .before .before .before .before .before .before
 
 abbrev first : tie.After-fill-words → tie.After-tallies-at
 first c = c .before .before
@@ -59,7 +60,8 @@ pub fill-tallies-spec : {M : Type 1} → statement M
 fill-tallies-spec =
     tie.close
     (tie.spec
-    (λ c κs. omega (arith, c .before .before .before .before .pre .0 .0 .most .offers))
+    (λ c. search needs)
+    (λ c κs. omega (arith, c .before .before .before .before .before .pre .0 .0 .most .offers))
     fill-words-requires
     copy-requires
     fill-counts-requires

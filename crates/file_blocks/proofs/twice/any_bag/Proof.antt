@@ -16,14 +16,14 @@ use Rattle.file_blocks.proofs.twice.any_bag.Statement.{statement}
 use Rattle.file_blocks.proofs.twice.any_bag.Tie as tie
 
 abbrev Inv-loop : tie.InvT-loop
-Inv-loop f first t found₀ i₀ found i = (i ≤ t) × (found ≡ any i (λ t. not (eqb (decode f .tally t .bag) 0)))
+Inv-loop f t first found₀ i₀ found i = (i ≤ t) × (found ≡ any i (λ t. not (eqb (decode f .tally t .bag) 0)))
 
 abbrev μ-loop : tie.MeasureT-loop
-μ-loop f first t found₀ i₀ found i = t - i
+μ-loop f t first found₀ i₀ found i = t - i
 
 -- The entry, from the loop.
 abbrev entry : tie.At-loop Inv-loop μ-loop → tie.Start Inv-loop μ-loop
-entry l = l .before .before .before
+entry l = l .before .before .before .before
 
 loop-holds : tie.Need-loop-holds Inv-loop μ-loop
 unfolding any
@@ -56,7 +56,8 @@ any-bag-spec =
     (tie.spec
     Inv-loop
     μ-loop
-    (λ c κs. omega (arith, c .before .pre .most .offers))
+    (λ c. search needs)
+    (λ c κs. omega (arith, c .before .before .pre .most .offers))
     loop-holds
     record-at-requires
     (λ c. omega (arith, room c))

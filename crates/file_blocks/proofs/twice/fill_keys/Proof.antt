@@ -10,20 +10,21 @@ use Rattle.format.specs.Job.{countedTallies}
 use Rattle.format.specs.Blocks.{talliesAt}
 use Rattle.format.specs.File.{recordAt, decode}
 use Rattle.file_blocks.specs.Due.{asHead}
+use borrow.Author.Needs.{needs}
 use Rattle.file_blocks.proofs.RecordWords.{tally-room}
 use Rattle.file_blocks.proofs.Last.{key-at, keys-of}
 use Rattle.file_blocks.proofs.twice.fill_keys.Statement.{statement}
 use Rattle.file_blocks.proofs.twice.fill_keys.Tie as tie
 
 abbrev Inv-loop : tie.InvT-loop
-Inv-loop f places keys₀ first t i₀ keys i = (i ≤ t) × (length keys ≡ length keys₀) × (keys ≡ overwrite i (countKey (countedTallies (decode f))) keys₀)
+Inv-loop f places keys₀ t first i₀ keys i = (i ≤ t) × (length keys ≡ length keys₀) × (keys ≡ overwrite i (countKey (countedTallies (decode f))) keys₀)
 
 abbrev μ-loop : tie.MeasureT-loop
-μ-loop f places keys₀ first t i₀ keys i = t - i
+μ-loop f places keys₀ t first i₀ keys i = t - i
 
 -- The file's bytes are bytes, from the loop; and the entry.
 abbrev given : tie.At-loop Inv-loop μ-loop → tie.After-shared-slice-known Inv-loop μ-loop
-given l = l .before .before .before .before
+given l = l .before .before .before .before .before
 
 abbrev entry : tie.At-loop Inv-loop μ-loop → tie.Start Inv-loop μ-loop
 entry l = given l .before
@@ -72,7 +73,8 @@ fill-keys-spec =
     (tie.spec
     Inv-loop
     μ-loop
-    (λ c κs. omega (arith, c .before .before .before .pre .0 .0 .most .offers))
+    (λ c. search needs)
+    (λ c κs. omega (arith, c .before .before .before .before .pre .0 .0 .most .offers))
     loop-holds
     record-at-requires
     (λ c κs. omega (arith, entry (c .before .before) .pre .1 .0, c .before .loop-test .taken))

@@ -8,10 +8,10 @@ use Rattle.slices.proofs.amounts.row_start.Statement.{statement}
 use Rattle.slices.proofs.amounts.row_start.Tie as tie
 
 mul-result : tie.Need-mul-result
-mul-result c = let few : c .index .result ≤ 15 = omega arith in omega (arith, mul-le-mul few (c .before .pre .0))
+mul-result c = let few : c .index-of .result ≤ 15 = omega arith in omega (arith, mul-le-mul few (c .before .pre .0))
 
 returns : tie.Need-returns
-returns c = ap (λ (x : ℕ). x * c .before .args .m) (c .index .ensures)
+returns c = ap (λ (x : ℕ). x * c .before .args .m) (c .index-of .ensures .0)
 
 pub row-start-spec : {M : Type 1} → statement M
 row-start-spec = tie.close (tie.spec (λ c κs. search needs) mul-result returns)

@@ -14,7 +14,7 @@ returns c n keys h =
     let s = c .before .before .before in
     let v = s .args .v in
     let links = now (s .args .links) in
-    subst (λ (x : ℕ). Skips n keys v 0 x) (sym (c .index2 .ensures ∙ ap (λ (b : ℕ). getD links b 0) (c .before .before .index .ensures))) (h .begins v (omega (arith, s .pre)))
+    subst (λ (x : ℕ). Skips n keys v 0 x) (sym (c .index-of2 .ensures .0 ∙ ap (λ (b : ℕ). getD links b 0) (c .before .before .index-of .ensures .0))) (h .begins v (omega (arith, s .pre)))
 
 pub begin-spec : {M : Type 1} → statement M
 begin-spec =

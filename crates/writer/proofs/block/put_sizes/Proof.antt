@@ -8,16 +8,19 @@ use Rattle.writer.proofs.Made.{sizes-put}
 use Rattle.writer.proofs.block.put_sizes.Statement.{statement}
 use Rattle.writer.proofs.block.put_sizes.Tie as tie
 
--- The entry, and the first call from the second.
+-- The entry, from where the sizes are known and from the first call; and this from the second.
+abbrev start : tie.After-struct-known4 → tie.Start
+start c = c .before .before .before .before .before
+
 abbrev entry : tie.After-put-four → tie.Start
-entry c = c .before .before .before
+entry c = start (c .before .before)
 
 abbrev started : tie.After-index-of → tie.After-put-four
 started c = c .before .before .before .before
 
 put-four-requires : tie.Need-put-four-requires
 put-four-requires c κs =
-    let p = c .before .before .pre in
+    let p = start (c .before) .pre in
     (omega (arith, p .0), (omega (arith, p .1 .boxes), (omega arith, omega (arith, p .1 .grocers))))
 
 put-words-requires : tie.Need-put-words-requires
@@ -35,8 +38,19 @@ returns c =
     let f = started (z .before) in
     let s = entry f in
     let h = s .args .head in
-    sizes-put (h .boxes) (h .grocers) (h .offers) (h .tallies) (h .cycle) (now (s .args .out)) _ _ (s .pre .0) (f .put-four .ensures)
+    sizes-put (h .sizes .boxes) (h .sizes .grocers) (h .sizes .offers) (h .sizes .tallies) (h .cycle) (now (s .args .out)) _ _ (s .pre .0) (f .put-four .ensures)
     (z .put-words .ensures ∙ words-same 8 (f .put-four .last .0) refl refl (z .before .index-of .ensures .0))
 
 pub put-sizes-spec : {M : Type 1} → statement M
-put-sizes-spec = tie.close (tie.spec put-four-requires (λ c κs. search needs) put-words-requires same-length returns)
+put-sizes-spec =
+    tie.close
+    (tie.spec
+    (λ c. search needs)
+    (λ c. search needs)
+    (λ c. search needs)
+    (λ c. search needs)
+    put-four-requires
+    (λ c κs. search needs)
+    put-words-requires
+    same-length
+    returns)

@@ -12,13 +12,14 @@ use Rattle.file_blocks.specs.Due.{asHead}
 use Rattle.writer_bytes.specs.Puts.{put, bytesOf}
 use Rattle.writer.specs.Bodies.{bodyOf, recordBody, blocksOf}
 use denote.Ref.{now}
+use borrow.Author.Needs.{needs}
 use Rattle.writer.proofs.Written.{file-put}
 use Rattle.writer.proofs.file.put_file.Statement.{statement}
 use Rattle.writer.proofs.file.put_file.Tie as tie
 
 -- The calls, each from the next, and the entry.
-abbrev start : tie.After-slice-known → tie.Start
-start c = c .before .before .before .before .before .before .before .before .before .before .before .before
+abbrev start : tie.After-struct-known3 → tie.Start
+start c = c .before .before .before .before .before .before .before .before .before .before .before .before .before .before .before
 
 abbrev entry : tie.After-grocers-at → tie.Start
 entry c = start (c .before)
@@ -109,6 +110,9 @@ pub put-file-spec : {M : Type 1} → statement M
 put-file-spec =
     tie.close
     (tie.spec
+    (λ c. search needs)
+    (λ c. search needs)
+    (λ c. search needs)
     grocers-at-requires
     put-header-requires
     put-offer-blocks-requires

@@ -14,7 +14,7 @@ use Rattle.writer_checks.proofs.codes.last_refusal.Tie as tie
 
 -- The entry, from the first call.
 abbrev start : tie.After-places → tie.Start
-start c = c .before .before .before .before .before .before .before .before
+start c = c .before .before .before .before .before .before .before .before .before
 
 -- The first call, from where its answer is 0; and the entry.
 abbrev named : tie.After-places3 → tie.After-names-refusal
@@ -72,6 +72,7 @@ pub last-refusal-spec : {M : Type 1} → statement M
 last-refusal-spec =
     tie.close
     (tie.spec
+    (λ c. search needs)
     (λ c. search needs)
     names-refusal-requires
     returns

@@ -7,7 +7,7 @@ use Rattle.writer_checks.proofs.codes.names_refusal.Tie as tie
 
 -- The entry, from the call that makes the index.
 abbrev start : tie.After-order → tie.Start
-start c = c .before .before .before .before .before .before .before
+start c = c .before .before .before .before .before .before .before .before .before
 
 abbrev entry : tie.After-index-names → tie.Start
 entry c = start (c .before)
@@ -44,6 +44,8 @@ pub names-refusal-spec : {M : Type 1} → statement M
 names-refusal-spec =
     tie.close
     (tie.spec
+    (λ c. search needs)
+    (λ c. search needs)
     (λ c. search needs)
     (λ c. search needs)
     index-names-requires

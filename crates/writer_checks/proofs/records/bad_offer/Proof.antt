@@ -10,7 +10,7 @@ entry c = c .before .before .before .before
 
 returns : tie.Need-returns
 unfolding badOffer
-returns c = let i = c .before .before in λ s. rw (i .before .u32-at .ensures, i .index-at .ensures .0, c .is-code .ensures)
+returns c = let i = c .before .before in λ s. rw (i .before .u32-at .ensures, i .u16-at .ensures, c .is-code .ensures)
 
 pub bad-offer-spec : {M : Type 1} → statement M
 bad-offer-spec =

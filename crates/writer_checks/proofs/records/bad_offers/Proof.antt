@@ -25,7 +25,7 @@ loop-holds c = (omega arith, λ s. refl)
 bad-offer-requires : tie.Need-bad-offer-requires Inv-loop μ-loop
 bad-offer-requires c κs =
     let l = c .before in
-    let p = l .before .before .before .before .pre in
+    let p = l .before .before .before .before .before .pre in
     let h = c .loop-test .taken in
     (omega (arith, p .0), (omega (arith, p .1), omega (arith, p .2)))
 
@@ -38,4 +38,4 @@ returns c = λ s. any-end _ _ _ _ (omega arith) (c .before .loop .inv .1 s)
 pub bad-offers-spec : {M : Type 1} → statement M
 bad-offers-spec =
     tie.close
-    (tie.spec Inv-loop μ-loop loop-holds bad-offer-requires (λ c. search needs) (λ c. search needs) loop-again returns)
+    (tie.spec Inv-loop μ-loop (λ c. search needs) loop-holds bad-offer-requires (λ c. search needs) (λ c. search needs) loop-again returns)

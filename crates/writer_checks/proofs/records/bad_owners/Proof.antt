@@ -24,7 +24,7 @@ loop-holds c = (omega arith, refl)
 loop-again : tie.Need-loop-again Inv-loop μ-loop
 loop-again c =
     let l = c .before .before in
-    (omega arith, any-more _ _ _ _ (l .loop .inv .1) (ap (leb (l .before .before .args .head .boxes)) (c .index-at .ensures .0)))
+    (omega arith, any-more _ _ _ _ (l .loop .inv .1) (ap (leb (l .before .before .before .args .head .sizes .boxes)) (c .u16-at .ensures)))
 
 returns : tie.Need-returns Inv-loop μ-loop
 unfolding badOwner
@@ -36,6 +36,7 @@ bad-owners-spec =
     (tie.spec
     Inv-loop
     μ-loop
+    (λ c. search needs)
     loop-holds
     (λ c κs. search needs)
     (λ c. search needs)

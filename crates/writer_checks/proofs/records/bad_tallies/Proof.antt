@@ -25,7 +25,7 @@ loop-holds c = (omega arith, λ s b v. refl)
 bad-tally-requires : tie.Need-bad-tally-requires Inv-loop μ-loop
 bad-tally-requires c κs =
     let l = c .before in
-    let p = l .before .before .before .before .pre in
+    let p = l .before .before .before .before .before .pre in
     let h = c .loop-test .taken in
     ((omega (arith, p .0 .0), omega (arith, p .0 .1)), (omega (arith, p .1 .0), omega (arith, p .1 .1)))
 
@@ -38,4 +38,4 @@ returns c = λ s b v. any-end _ _ _ _ (omega arith) (c .before .loop .inv .1 s b
 pub bad-tallies-spec : {M : Type 1} → statement M
 bad-tallies-spec =
     tie.close
-    (tie.spec Inv-loop μ-loop loop-holds bad-tally-requires (λ c. search needs) (λ c. search needs) loop-again returns)
+    (tie.spec Inv-loop μ-loop (λ c. search needs) loop-holds bad-tally-requires (λ c. search needs) (λ c. search needs) loop-again returns)

@@ -12,10 +12,10 @@ use Rattle.writer_checks.proofs.records.bad_tally.Statement.{statement}
 use Rattle.writer_checks.proofs.records.bad_tally.Tie as tie
 
 -- The entry, from the readings of the grocer and of the count.
-abbrev entry : tie.After-index-at → tie.Start
+abbrev entry : tie.After-u16-at → tie.Start
 entry c = c .before .before .before .before
 
-abbrev first : tie.After-is-code → tie.After-index-at
+abbrev first : tie.After-is-code → tie.After-u16-at
 first c = c .before .before .before .before
 
 -- The four tests, of words that are the same.
@@ -29,7 +29,7 @@ returns c =
     let k = n .before in
     let i = first k in
     let h = entry i .args .head in
-    λ _ _ _. tests (h .grocers) (h .boxes) (i .index-at .ensures .0) (k .before .before .index-at2 .ensures .0) (k .is-code .ensures)
+    λ _ _ _. tests (h .sizes .grocers) (h .sizes .boxes) (i .u16-at .ensures) (k .before .before .u16-at2 .ensures) (k .is-code .ensures)
     (c .bad-count .ensures ∙ ap (λ (z : ℤ). ltb 99_999 (natAbs z)) (toZ-ofZ {w = w32} (record { sfits = n .i32-at .ok }) ∙ n .i32-at .ensures))
 
 pub bad-tally-spec : {M : Type 1} → statement M
