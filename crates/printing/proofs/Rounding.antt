@@ -1,6 +1,6 @@
 -- What whole cents come to, and the quotient and the rest that they are made of. Assumes nothing.
 use mathlib.Core.Path.{_≡_, refl, sym, ap, _∙_}
-use mathlib.Core.Bool.{true, false, true≢false}
+use mathlib.Core.Bool.{Bool, true, false, not, true≢false}
 use Prim.Native.Nat.{ℕ, zero, suc, _+_, _*_, _/_, _%_, _≤_, _<_}
 use native.Mathlib.Omega.{arith}
 use lib.Dec.{eqb, ltb, leb, leb·suc-suc}
@@ -13,7 +13,7 @@ use borrow.Author.Tests.{ltb-true, ltb-false, leb-true, leb-false, le-leb, lt-le
 use Rattle.laws.specs.Below.{naturals, only}
 use Rattle.laws.proofs.Bools.{split, cond-either, cond-yes, cond-no}
 use Rattle.laws.proofs.Signed.{fits64, read64-abs, abs-plus}
-use Rattle.printing.specs.Cents.{Half, away, even, halfOf, edge, nearest, cents, Cents}
+use Rattle.printing.specs.Cents.{Half, away, even, rule, halfOf, edge, nearest, cents, Cents}
 
 -- The least rest that makes a cent more is 5 or 6.
 pub edge-from : (h : Half) (n : ℕ) → 5 ≤ edge h n
@@ -133,18 +133,25 @@ pub odd-rest : (z : ℤ) → natAbs z % 2 ≡ 0 → remZ z (pos 2) ≡ pos 0
 odd-rest (pos n) e = ap pos e
 odd-rest (negsuc n) e = ap (λ (k : ℕ). negℤ (pos k)) e
 
--- The rule by its cycle.
-pub edge-old : (c n : ℕ) → c < 500 → edge (halfOf c) n ≡ 5
-unfolding halfOf edge
-edge-old c n l = rw (cond-yes (ltb c 500) away even (lt-ltb c 500 l))
+-- The rule of a cycle.
+pub from-500 : (c : ℕ) → rule (leb 500 c) ≡ halfOf c
+unfolding rule halfOf
+from-500 c = split (ltb c 500) (λ e. rw (e, lt-leb 500 c (ltb-true c 500 e))) (λ e. rw (e, le-leb 500 c (ltb-false c 500 e)))
 
-pub edge-even : (c n : ℕ) → 500 ≤ c → n % 2 ≡ 0 → edge (halfOf c) n ≡ 6
-unfolding halfOf edge
-edge-even c n l e = rw (cond-no (ltb c 500) away even (le-ltb c 500 l), e)
+-- The least rest by the rule.
+pub edge-away : (t : Bool) (n : ℕ) → not t ≡ true → edge (rule t) n ≡ 5
+unfolding rule edge
+edge-away false n e = refl
+edge-away true n e = absurd (true≢false (sym e))
 
-pub edge-odd : (c n : ℕ) → (n % 2 ≡ 0 → ⊥) → edge (halfOf c) n ≡ 5
-unfolding halfOf edge
-edge-odd c n e = split (ltb c 500) (λ q. rw q) (λ q. rw (q, ne-eqb (n % 2) 0 e))
+pub edge-even : (t : Bool) (n : ℕ) → not t ≡ false → n % 2 ≡ 0 → edge (rule t) n ≡ 6
+unfolding rule edge
+edge-even true n t e = rw e
+edge-even false n t e = absurd (true≢false t)
+
+pub edge-odd : (t : Bool) (n : ℕ) → (n % 2 ≡ 0 → ⊥) → edge (rule t) n ≡ 5
+unfolding rule edge
+edge-odd t n e = split t (λ q. rw (q, ne-eqb (n % 2) 0 e)) (λ q. rw q)
 
 -- ---- what they come to
 
@@ -239,6 +246,7 @@ rounding = record {
   cycle-500 = refl;
   cycle-last = refl;
   of-25 = refl;
+  of-35 = refl;
   of-24 = refl;
   of-minus-25 = refl;
   even-25 = refl;

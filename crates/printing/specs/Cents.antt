@@ -1,6 +1,6 @@
 -- Tenths of a cent in whole cents: "tenths divided by ten, to the nearest", an exact half by the rule of the cycle.
 use mathlib.Core.Path.{_≡_}
-use mathlib.Core.Bool.{cond}
+use mathlib.Core.Bool.{Bool, cond}
 use Prim.Native.Nat.{ℕ, suc, _+_, _*_, _/_, _%_, _≤_}
 use lib.Dec.{eqb, ltb, leb}
 use lib.IntN.{ℤ, pos, negsuc, negℤ, natAbs, _-ℤ_, _*ℤ_}
@@ -14,6 +14,10 @@ pub data Half : Type 0 where
 -- "from cycle 500"; "Cycles 0 to 499 are reprinted for years, with the old rule."
 unfoldable pub halfOf : ℕ → Half
 halfOf cycle = cond (ltb cycle 500) away even
+
+-- The rule as a call takes it: whether an exact half goes to the even cent.
+unfoldable pub rule : Bool → Half
+rule toEven = cond toEven even away
 
 -- The least rest, in tenths, that makes n whole cents n + 1: 5, but 6 where a half goes to n, the even cent.
 unfoldable pub edge : Half → ℕ → ℕ
@@ -48,8 +52,9 @@ pub record Cents : Type 0 where
   pub cycle-499 : halfOf 499 ≡ away
   pub cycle-500 : halfOf 500 ≡ even
   pub cycle-last : halfOf 65_535 ≡ even
-  -- "25 gives 3, 24 gives 2, −25 gives −3", by the old rule.
+  -- "25 gives 3, 24 gives 2, −25 gives −3", by the old rule; 35 gives 4 by either.
   pub of-25 : cents away (pos 25) ≡ pos 3
+  pub of-35 : cents away (pos 35) ≡ pos 4
   pub of-24 : cents away (pos 24) ≡ pos 2
   pub of-minus-25 : cents away (negsuc 24) ≡ negsuc 2
   -- "25 gives 2, 35 gives 4, −25 gives −2", by the new one.

@@ -1,16 +1,23 @@
 // Amounts in tenths of a cent as whole cents.
 ghost use mathlib.Core.Path.{_≡_};
 ghost use lib.IntN.{pos, natAbs};
-ghost use Rattle.printing.specs.Cents.{halfOf, edge, cents};
+ghost use Rattle.printing.specs.Cents.{rule, halfOf, edge, cents};
 
 // The first cycle in which an exact half goes to the even cent.
 const EVEN_FROM: u16 = 500;
 
-// The least rest that makes a cent more: 5, but from cycle 500 on 6 where the whole cents are even, so that a half goes to them.
-fn edge(whole: i64, cycle: u16) -> i64
-    ensures { λ r. ⌜ r ≡ pos (edge (halfOf cycle) (natAbs whole)) ⌝ }
+// The rule of a cycle: whether an exact half goes to the even cent. Else it goes away from zero.
+pub fn half_to_even(cycle: u16) -> bool
+    ensures { λ r. ⌜ rule r ≡ halfOf cycle ⌝ }
 {
-    if cycle < EVEN_FROM {
+    cycle >= EVEN_FROM
+}
+
+// The least rest that makes a cent more: 5, but 6 where a half goes to the even cent and the whole cents are even, so that it goes to them.
+fn edge(whole: i64, even: bool) -> i64
+    ensures { λ r. ⌜ r ≡ pos (edge (rule even) (natAbs whole)) ⌝ }
+{
+    if !even {
         return 5;
     }
     if whole % 2 == 0 {
@@ -19,14 +26,14 @@ fn edge(whole: i64, cycle: u16) -> i64
     5
 }
 
-// The whole cents that a cycle prints of an amount: the nearest, an exact half by the cycle's rule. The quotient is rounded toward zero and the rest
+// The whole cents of an amount: the nearest, an exact half by the rule. The quotient is rounded toward zero and the rest
 // has the amount's sign, so that positive and negative amounts mirror each other.
-pub fn cents(amount: i64, cycle: u16) -> i64
-    ensures { λ r. ⌜ r ≡ cents (halfOf cycle) amount ⌝ }
+pub fn cents(amount: i64, even: bool) -> i64
+    ensures { λ r. ⌜ r ≡ cents (rule even) amount ⌝ }
 {
     let whole = amount / 10;
     let rest = amount % 10;
-    let least = edge(whole, cycle);
+    let least = edge(whole, even);
     if rest >= least {
         return whole + 1;
     }

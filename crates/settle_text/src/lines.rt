@@ -27,11 +27,12 @@ fn put_statements(out: &mut [u8; 8192], cycle: u16, grocers: usize, statement: &
     ensures { λ r. ⌜ Put 0 (grocerLines (halfOf cycle) grocers (λ g. getD (now (statement .entry)) g (pos 0))) (now (out .entry)) (now (out .exit)) r ⌝ }
     ensures { λ r. ⌜ r ≤ 6375 ⌝ }
 {
+    let to_even = printing::cents::half_to_even(cycle);
     let mut at: usize = 0;
     let mut g: usize = 0;
     while g < grocers {
         let amount = statement[g];
-        let z = printing::cents::cents(amount, cycle);
+        let z = printing::cents::cents(amount, to_even);
         at = put_statement(out, at, g as u64, z);
         g += 1;
     }

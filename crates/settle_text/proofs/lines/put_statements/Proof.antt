@@ -6,7 +6,7 @@ use denote.Ref.{now}
 use lib.IntN.{ℤ, pos}
 use lib.ListN.{getD}
 use Rattle.laws.proofs.Signed.{read64}
-use Rattle.printing.specs.Cents.{halfOf, cents}
+use Rattle.printing.specs.Cents.{rule, cents}
 use Rattle.printing.specs.Printed.{decimal, signedDecimal, line, grocerLines}
 use Rattle.settle_text.specs.Puts.{Put}
 use Rattle.settle_text.proofs.Puts.{reworded}
@@ -16,10 +16,10 @@ use Rattle.settle_text.proofs.lines.put_statements.Statement.{statement
 use Rattle.settle_text.proofs.lines.put_statements.Tie as tie
 
 abbrev Inv-loop : tie.InvT-loop
-Inv-loop out₀ cycle grocers statement at₀ g₀ out at g = Put 0 (grocerLines (halfOf cycle) g (λ i. getD statement i (pos 0))) out₀ out at × (at ≤ 25 * g) × (g ≤ grocers)
+Inv-loop out₀ cycle grocers statement even at₀ g₀ out at g = Put 0 (grocerLines (rule even) g (λ i. getD statement i (pos 0))) out₀ out at × (at ≤ 25 * g) × (g ≤ grocers)
 
 abbrev μ-loop : tie.MeasureT-loop
-μ-loop out₀ cycle grocers statement at₀ g₀ out at g = grocers - g
+μ-loop out₀ cycle grocers statement even at₀ g₀ out at g = grocers - g
 
 loop-holds : tie.Need-loop-holds Inv-loop μ-loop
 loop-holds c = (grocer-none _ _ _, omega arith, omega arith)
@@ -31,10 +31,10 @@ loop-again : tie.Need-loop-again Inv-loop μ-loop
 loop-again c =
     let k = c .before .before in
     let l = k .before .before .before .loop in
-    let w = now (k .before .before .before .before .args .statement) in
+    let w = now (k .before .before .before .before .before .args .statement) in
     let z = getD w (l .g) (pos 0) in
     let y = k .cents .result in
-    let h = halfOf (k .before .before .before .before .args .cycle) in
+    let h = rule (k .before .before .before .before .half-to-even .result) in
     let e : y ≡ cents h z = k .cents .ensures ∙ ap (cents h) (read64 z (k .before .amount .given)) in
     let q = reworded (ap (λ (x : ℤ). line (decimal (l .g)) (signedDecimal x)) (read64 y (k .cents .ok) ∙ e)) (c .put-statement .ensures) in (
       grocer-more h (l .g) (λ i. getD w i (pos 0)) (l .inv .0) q,
@@ -45,8 +45,9 @@ loop-again c =
 returns : tie.Need-returns Inv-loop μ-loop
 returns c =
     let l = c .before .loop in
-    let e : l .g ≡ c .before .before .args .grocers = omega arith in
-    (rw e at (l .inv .0), omega arith)
+    let k = c .before .before in
+    let e : l .g ≡ k .before .args .grocers = omega arith in
+    (rw (e, k .half-to-even .ensures) at (l .inv .0), omega arith)
 
 pub put-statements-spec : {M : Type 1} → statement M
 put-statements-spec =
@@ -54,6 +55,7 @@ put-statements-spec =
     (tie.spec
     Inv-loop
     μ-loop
+    (λ c κs. tt)
     loop-holds
     (λ c. omega arith)
     (λ c. omega arith)
