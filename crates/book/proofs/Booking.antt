@@ -17,13 +17,14 @@ use Rattle.model.specs.Tables.{JobTables, countedOf, nobody, jobOf}
 use Rattle.model.specs.Handed.{handedTables, Standing}
 use Rattle.model.specs.Local.{localOffers, localGrocers, start, starts, packed, packedGrocers, packedCounts, BookLengths, bookRefusals}
 use Rattle.book_sort.specs.Sort.{at, inFront}
-use Rattle.book.specs.Lists.{localList, heldOf}
+use Rattle.book_places.specs.Lists.{localList, heldOf}
 use Rattle.book_order.specs.Twice.{PackLent, packWords, packedTallies, packedStart}
 use Rattle.book.specs.Pack.{packedNumber, packedCount}
 use Rattle.book.specs.Book.{book, refused, said, bookAnswer, BookTables, bookTables, bookLengths, written, given, booked}
 use Rattle.book.specs.declared.Answer.the-variants.{Book, Refused}
 use Rattle.model.proofs.Handed.{handed-job}
-use Rattle.book.proofs.Modelled.{offers-are, grocers-are, has-place, packed-whole, starts-model, total-model, grocers-model, counts-model}
+use Rattle.book_places.proofs.Modelled.{offers-are, grocers-are, has-place}
+use Rattle.book.proofs.Modelled.{packed-whole, starts-model, total-model, grocers-model, counts-model}
 use Rattle.book.proofs.Ready.{box-in, grocer-owners, grocer-in}
 
 module _ (f : JobTables) (b : ℕ) (before : BookTables) where

@@ -1,5 +1,4 @@
 -- Laws of the local matrix.
-pub mod Listing
 pub mod Packing
 pub mod Modelled
 pub mod Ready

@@ -7,18 +7,22 @@ use Rattle.laws.specs.Checks.{firstMet}
 use Rattle.laws.specs.Below.{naturals, integers, sum, only, any, all, count, find, ascending}
 use Rattle.laws.specs.Tables.{tabulate, overwrite, layOver, word, cell, recell}
 use Rattle.recount.specs.Recount.{loose, sameBag, superseded, stands, countedTwice}
-use Rattle.model.specs.Local.{chained, localOffers, localGrocers, localGrocer, ofOffer, start, starts, packed, packedGrocers, packedCounts, priceTable, totalTable, bookShort, bookRefusals, jobRefusals}
+use Rattle.model.specs.LocalLists.{chained, localOffers, localGrocers, localGrocer}
+use Rattle.model.specs.Local.{ofOffer, start, starts, packed, packedGrocers, packedCounts, priceTable, totalTable, bookShort, bookRefusals, jobRefusals}
 use Rattle.model.specs.Reconcile.{recordInRange, recordsInRange, recordIn, countedRecords, standingRecords, serialAmount, deskRefusals, deskAnswer, reconciled}
 use Rattle.model.specs.Job.{heldBy, held, needs, shares, needWord, sharerWord, priceWord, totalWord, pricesDue, totalsDue, amount, plainSum}
-use Rattle.model.specs.Tables.{countedOf, jobOf, stepsDone, marksOf, view, store, jobLengths, stateLengths, jobShort, bagsShort, stateShort, lentShort}
+use Rattle.model.specs.Tables.{countedOf, jobOf, stepsDone, marksOf, view, store, jobLengths, stateLengths, jobShort, bagsShort, stateShort, lentShort, totalsShort}
 use Rattle.model.specs.Run.{readySteps, readyCount, pick, picks, afterSteps, run, pickedPlaces, reported, runRefusals, runState, ran}
-use Rattle.model.specs.Ranges.{upTo, under, around, sizesInRange, jobWordsInRange, jobInRange, stateInRange}
+use Rattle.model.specs.Ranges.{upTo, under, around, sizesInRange, jobWordsInRange, jobInRange, stateInRange, totalsInRange}
 use Rattle.model.specs.Step.{isKind, stepOf, boxesFit, stepRules, moved, refusals, stepRefusal, stepTables, freshTables, stepAnswer, stepped}
 use Rattle.model.specs.Requests.{lentJob, lentState, returned, answerTo, serve, serveAll, answersFrom, tablesAfter, answersIn}
 use Rattle.model.specs.Demand3.{wholeRequest}
 use Rattle.model.specs.Words.{over, ownerWords, messageCount, stepCount, messagesOf}
 use Rattle.model.specs.Boxes.{knows, priceOnWay, gone, arrived, partOf, paid, sentOf, stateByRules}
 use Rattle.model.specs.Steps.{doneBy, added, kindNumber, kindOf, mark, oneBox, fits, hasStep, allAdded, ready, permitted, fresh, products, received, effect, stepAt, listOf}
+use Rattle.model.specs.PackedTotals.{isLocal, hasTotal, totalsStart, totalsLength, totalPlace, totalRows, packTotals, unpackTotals}
+use Rattle.model.specs.Spans.{groupStart, placeGrocers}
+use Rattle.model.specs.FullRows.{fullView, fullStore, rowsShort, rowsInRange, unpacked, fullMoved, fullRefusals, fullRefusal, fullStepped}
 use Rattle.model.specs.Cases.{Cases, Examples}
 
 -- What a case is computed with. To unfold this is to unfold every name of its line.
@@ -30,6 +34,8 @@ unfolding wholeRequest stepOf tablesAfter answersIn serveAll answersFrom answerT
     any all count find ownerWords messageCount stepCount over messagesOf run runState afterSteps picks pick stepAt listOf readySteps readyCount ran runRefusals reported ascending chained localOffers
     localGrocers ofOffer start starts localGrocer packed packedGrocers packedCounts priceTable totalTable reconciled deskAnswer deskRefusals recordsInRange recordInRange recordIn countedRecords
     standingRecords serialAmount ones lib.Count.onesIn layOver pickedPlaces bookShort bookRefusals jobRefusals
+    totalsShort totalsInRange packTotals unpackTotals totalRows totalsStart totalsLength
+    totalPlace hasTotal isLocal unpacked fullView fullStore rowsShort rowsInRange fullMoved fullRefusals fullRefusal fullStepped groupStart placeGrocers
 computed = true
 
 pub cases : Cases
@@ -141,4 +147,28 @@ examples = record {
   standing-waits = refl;
   superseded-own = refl;
   standing-own = refl;
+  packed-length = refl;
+  packed-starts = refl;
+  packed-places = refl;
+  packed-none = refl;
+  unpacked-rows = refl;
+  packed-recount = refl;
+  packed-own = refl;
+  packed-groups-0 = refl;
+  packed-groups-1 = refl;
+  packed-grocers = refl;
+  packed-enough = refl;
+  packed-short = refl;
+  packed-past = refl;
+  packed-20-21 = refl;
+  packed-21-22 = refl;
+  packed-9-20 = refl;
+  packed-9-21 = refl;
+  packed-else = refl;
+  packed-other-20 = refl;
+  packed-run-9 = refl;
+  packed-run-20 = refl;
+  packed-run = refl;
+  rows-stay = refl;
+  rows-21 = refl;
 }

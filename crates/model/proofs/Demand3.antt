@@ -9,12 +9,13 @@ use lib.ListN.{length, getD, length-map}
 use lib.IntN.{pos}
 use borrow.Author.Tests.{le-ltb}
 use Rattle.laws.proofs.Tables.{getD-overwrite, lay-in, lay-past}
-use Rattle.laws.proofs.Bools.{split}
+use Rattle.laws.proofs.Bools.{split, and-true}
 use Rattle.laws.specs.Checks.{firstMet}
 use Rattle.laws.specs.Tables.{layOver}
 use Rattle.model.specs.Job.{plainSum}
 use Rattle.model.specs.Requests.{Request, lendsShort, answerTo, serve, serveAll, acceptedFrom, tablesAfter, acceptedIn, doneIn, answersFrom, answersIn}
-use Rattle.model.specs.Tables.{JobTables, jobOf, StateTables, view, store, jobShort, bagsShort, stateShort, lentShort}
+use Rattle.model.specs.Tables.{JobTables, jobOf, StateTables, view, store, jobShort, bagsShort, stateShort, lentShort, totalsShort, anyShort}
+use Rattle.model.specs.PackedTotals.{totalsLength}
 use Rattle.model.specs.Run.{run, runState, reported, runRefusals, ran, finished, placed, pickedPlaces}
 use Rattle.model.specs.Ranges.{Settles}
 use Rattle.model.specs.Handed.{handedInRange}
@@ -30,7 +31,7 @@ use Rattle.model.proofs.Finish.{all-steps, end-price-transit, end-total
 use Rattle.model.proofs.Lists.{marked, sound, form, closed, taken-size, all-reached, all-sends}
 use Rattle.model.proofs.Progress.{progress}
 use Rattle.model.proofs.Run.{run-done, run-reached, run-taken, run-length, run-sends}
-use Rattle.model.proofs.Step.{range, ok-store}
+use Rattle.model.proofs.Step.{range, ok-store, totals-store}
 use Rattle.model.proofs.Served.{allowed, settles-in, within, view-is, next, one-answer, one-serve, one-sound}
 use Rattle.model.proofs.Words.{end-sent}
 use Rattle.model.proofs.EachWord.{each-word, one-price, one-total}
@@ -199,14 +200,14 @@ kind-named receiveTotals = refl
 -- A request for a step that lends of each table what it needs asks for the step.
 module _ (f : JobTables) where
   whole-lends : (x : Step) → lendsShort f (wholeRequest f x) ≡ false
-  unfolding lendsShort wholeRequest jobShort bagsShort stateShort
+  unfolding lendsShort wholeRequest jobShort bagsShort stateShort totalsShort
   whole-lends x =
       rw (
         le-ltb (f .offers) (f .offers) (omega arith),
         le-ltb (f .grocers) (f .grocers) (omega arith),
         le-ltb (f .tallies) (f .tallies) (omega arith),
         le-ltb (f .boxes * f .offers) (f .boxes * f .offers) (omega arith),
-        le-ltb (f .boxes * f .grocers) (f .boxes * f .grocers) (omega arith),
+        le-ltb (totalsLength (jobOf f)) (totalsLength (jobOf f)) (omega arith),
         le-ltb (6 * f .boxes * f .boxes) (6 * f .boxes * f .boxes) (omega arith),
       )
 
@@ -227,20 +228,20 @@ module _ (f : JobTables) (z : Settles f) (t : StateTables) (cs p : List ℕ) whe
   run-sent : runState (jobOf f) cs .sent ≡ ownerWords (jobOf f)
   run-sent = ap (λ (s : State). s .sent) (run-all f (settles-in f z) cs) ∙ end-sent (jobOf f) (range f (settles-in f z))
 
-  run-number : firstMet (runRefusals f t) ≡ cond (lentShort f t) 20 0
-  unfolding runRefusals firstMet
-  run-number = rw (z .inRange, z .once)
+  run-number : firstMet (runRefusals f t) ≡ cond (anyShort f t) 20 0
+  unfolding runRefusals firstMet anyShort
+  run-number = rw (z .inRange, z .once) (split (lentShort f t) (λ e. rw e) (λ e. rw e))
 
-  ran-answer : ran f t cs p .answer ≡ reported (cond (lentShort f t) 20 0) (finished (ownerWords (jobOf f)) (messageCount (jobOf f)) (stepCount (jobOf f)))
+  ran-answer : ran f t cs p .answer ≡ reported (cond (anyShort f t) 20 0) (finished (ownerWords (jobOf f)) (messageCount (jobOf f)) (stepCount (jobOf f)))
   unfolding ran
   ran-answer = rw (run-number, run-sent, run-sends (jobOf f) (range f (settles-in f z)) cs, run-length (jobOf f) (range f (settles-in f z)) cs)
 
-  ran-tables : lentShort f t ≡ false → ran f t cs p .tables ≡ store (jobOf f) (runState (jobOf f) cs) t
+  ran-tables : anyShort f t ≡ false → ran f t cs p .tables ≡ store (jobOf f) (runState (jobOf f) cs) t
   unfolding ran
   ran-tables h = rw (run-number, h)
 
   -- The places of the steps picked lie in front of the buffer.
-  ran-picked : lentShort f t ≡ false → ran f t cs p .picked ≡ layOver (pickedPlaces (jobOf f) cs) p
+  ran-picked : anyShort f t ≡ false → ran f t cs p .picked ≡ layOver (pickedPlaces (jobOf f) cs) p
   unfolding ran
   ran-picked h = rw (run-number, h)
 
@@ -248,25 +249,25 @@ module _ (f : JobTables) (z : Settles f) (t : StateTables) (cs p : List ℕ) whe
   unfolding pickedPlaces
   picked-length = length-map (run (jobOf f) cs) (placed (jobOf f)) ∙ run-length (jobOf f) (range f (settles-in f z)) cs
 
-  ran-places : lentShort f t ≡ false → (i : ℕ) → i < stepCount (jobOf f) → i < length p → getD (ran f t cs p .picked) i 0 ≡ getD (pickedPlaces (jobOf f) cs) i 0
+  ran-places : anyShort f t ≡ false → (i : ℕ) → i < stepCount (jobOf f) → i < length p → getD (ran f t cs p .picked) i 0 ≡ getD (pickedPlaces (jobOf f) cs) i 0
   ran-places h i l m = rw (ran-picked h) (lay-in 0 (pickedPlaces (jobOf f) cs) p i (omega (arith, l, picked-length)) m)
 
-  ran-past : lentShort f t ≡ false → (i : ℕ) → stepCount (jobOf f) ≤ i → getD (ran f t cs p .picked) i 0 ≡ getD p i 0
+  ran-past : anyShort f t ≡ false → (i : ℕ) → stepCount (jobOf f) ≤ i → getD (ran f t cs p .picked) i 0 ≡ getD p i 0
   ran-past h i l = rw (ran-picked h) (lay-past 0 (pickedPlaces (jobOf f) cs) p i (omega (arith, l, picked-length)))
 
-  ran-keeps : lentShort f t ≡ true → (ran f t cs p .tables ≡ t) × (ran f t cs p .picked ≡ p)
+  ran-keeps : anyShort f t ≡ true → (ran f t cs p .tables ≡ t) × (ran f t cs p .picked ≡ p)
   unfolding ran
   ran-keeps h = (rw (run-number, h), rw (run-number, h))
 
 -- The tables that a run leaves hold the state of all steps.
-run-view : (f : JobTables) → Settles f → (u : StateTables) (cs p : List ℕ) → lentShort f u ≡ false →
+run-view : (f : JobTables) → Settles f → (u : StateTables) (cs p : List ℕ) → anyShort f u ≡ false →
     view (jobOf f) (ran f u cs p .tables) ≡ stateByRules (jobOf f) (hasStep (jobOf f))
 run-view f z u cs p n =
     ap (view (jobOf f)) (ran-tables f z u cs p n ∙ ap (λ (s : State). store (jobOf f) s u) (run-reached (jobOf f) (range f (settles-in f z)) cs))
     ∙ view-is f (settles-in f z) u (reached (jobOf f) (run (jobOf f) cs)) (sound (jobOf f) (range f (settles-in f z)) (run (jobOf f) cs))
     ∙ all-reached (jobOf f) (range f (settles-in f z)) (run (jobOf f) cs) (run-done (jobOf f) (range f (settles-in f z)) cs)
 
-run-statement : (f : JobTables) → Settles f → (t : StateTables) (cs p : List ℕ) → lentShort f t ≡ false → (g : ℕ) → g < f .grocers →
+run-statement : (f : JobTables) → Settles f → (t : StateTables) (cs p : List ℕ) → anyShort f t ≡ false → (g : ℕ) → g < f .grocers →
     getD (ran f t cs p .tables .statement) g (pos 0) ≡ plainSum (jobOf f) g
 unfolding store jobOf
 run-statement f z t cs p n g l =
@@ -293,7 +294,8 @@ demand3 f z t rs = record {
   keeps = keeps-is f z t rs;
   holds = state-is f z t rs;
   stays = left-is f z t rs ∙ ap (λ (s : State). store (jobOf f) s t) (sym (view-left f z t rs));
-  inRange = rw (left-is f z t rs) (ok-store f (reached (jobOf f) (asks f rs)) t (within f (settles-in f z) t (reached (jobOf f) (asks f rs)) (reach f z t rs)));
+  inRange = rw (left-is f z t rs) (and-true (ok-store f (reached (jobOf f) (asks f rs)) t (within f (settles-in f z) t (reached (jobOf f) (asks f rs)) (reach f z t rs)))
+      (totals-store (jobOf f) (reached (jobOf f) (asks f rs)) t (within f (settles-in f z) t (reached (jobOf f) (asks f rs)) (reach f z t rs))));
   marks = λ k a b i. (ap (λ (s : State). s .done) (view-left f z t rs) ∙ marked-is f z t rs) i k a b;
   wordsSent = words-is f z t rs;
   runningSum = λ g. rw (state-is f z t rs) (running (jobOf f) (range f (settles-in f z)) (doneIn f t rs) (closed-is f z t rs) g);

@@ -18,8 +18,8 @@ use Rattle.recount.specs.Recount.{loose, stands, countedTwice}
 use Rattle.model.specs.Job.{Job}
 use Rattle.model.specs.Steps.{kindOf, effect}
 use Rattle.model.specs.Words.{over, messagesOf}
-use Rattle.model.specs.Tables.{JobTables, countedOf, nobody, jobOf, jobLengths, jobShort, StateTables, view, store, StateLengths, stateShort, lentShort}
-use Rattle.model.specs.Ranges.{upTo, sizesInRange, jobWordsInRange, jobInRange, stateInRange}
+use Rattle.model.specs.Tables.{JobTables, countedOf, nobody, jobOf, jobLengths, jobShort, StateTables, view, store, StateLengths, stateLengths, stateShort, lentShort, totalsShort}
+use Rattle.model.specs.Ranges.{upTo, sizesInRange, jobWordsInRange, jobInRange, stateInRange, totalsInRange}
 use Rattle.model.specs.Step.{Asked, stepRules, moved, refusals, stepRefusal, stepTables}
 use Rattle.model.specs.Run.{run, runState, reported, finished, runRefusals, ran, pickedPlaces}
 use Rattle.model.specs.Handed.{handedTables, Standing, handedInRange, Handed}
@@ -128,13 +128,15 @@ module _ (f : JobTables) (boxes : List ℕ) (s : Standing f boxes) where
 
   -- Where 20, 21 and 9 are not met, the number of the refusal is that of 22 to 26 and the late 21 on the tables as handed.
   pub handed-refusal : (t : StateTables) (q : Asked) → lentShort f t ≡ false → (jobInRange f && stateInRange f t) ≡ true → countedTwice (countedOf f) ≡ false →
+      totalsShort (jobOf f) (stateLengths t) ≡ false → totalsInRange (jobOf f) t ≡ true →
       stepRefusal f t q ≡ firstMet (stepRules (jobOf (handedTables f boxes)) (view (jobOf (handedTables f boxes)) t .done) q
-      ++ (not (stateInRange (handedTables f boxes) (moved (handedTables f boxes) t q)), 21) ∷ [])
+      ++ (not (stateInRange (handedTables f boxes) (moved (handedTables f boxes) t q) && totalsInRange (jobOf (handedTables f boxes)) (moved (handedTables f boxes) t q)), 21) ∷ [])
   unfolding stepRefusal refusals firstMet
-  handed-refusal t q short inside once =
-      rw (short, inside, once)
-      (ap₂ (λ (j : Job) (u : StateTables). firstMet (stepRules j (view j t .done) q ++ (not (stateInRange f u), 21) ∷ [])) (sym handed-job) (sym (handed-moved t q))
-      ∙ ap (λ (b : Bool). firstMet (stepRules (jobOf (handedTables f boxes)) (view (jobOf (handedTables f boxes)) t .done) q ++ (not b, 21) ∷ []))
+  handed-refusal t q short inside once packed amounts =
+      rw (short, inside, once, packed, amounts)
+      (ap₂ (λ (j : Job) (u : StateTables). firstMet (stepRules j (view j t .done) q ++ (not (stateInRange f u && totalsInRange j u), 21) ∷ [])) (sym handed-job) (sym (handed-moved t q))
+      ∙ ap (λ (b : Bool). firstMet (stepRules (jobOf (handedTables f boxes)) (view (jobOf (handedTables f boxes)) t .done) q
+      ++ (not (b && totalsInRange (jobOf (handedTables f boxes)) (moved (handedTables f boxes) t q)), 21) ∷ []))
       (sym (handed-state-range (moved (handedTables f boxes) t q))))
 
   pub handed-tables : (t : StateTables) (q : Asked) → stepTables f t q ≡ cond (eqb (stepRefusal f t q) 0) (moved (handedTables f boxes) t q) t
@@ -143,6 +145,7 @@ module _ (f : JobTables) (boxes : List ℕ) (s : Standing f boxes) where
 
   -- The run likewise.
   pub handed-run : (t : StateTables) (cs p : List ℕ) → lentShort f t ≡ false → jobInRange f ≡ true → countedTwice (countedOf f) ≡ false →
+      totalsShort (jobOf f) (stateLengths t) ≡ false →
       ran f t cs p ≡ record {
         answer = finished (runState (jobOf (handedTables f boxes)) cs .sent) (over messagesOf (run (jobOf (handedTables f boxes)) cs))
             (length (run (jobOf (handedTables f boxes)) cs));
@@ -150,8 +153,8 @@ module _ (f : JobTables) (boxes : List ℕ) (s : Standing f boxes) where
         picked = layOver (pickedPlaces (jobOf (handedTables f boxes)) cs) p;
       }
   unfolding ran runRefusals firstMet reported
-  handed-run t cs p short inside once =
-      rw (short, inside, once)
+  handed-run t cs p short inside once packed =
+      rw (short, inside, once, packed)
       (ap (λ (j : Job). record {
         answer = finished (runState j cs .sent) (over messagesOf (run j cs)) (length (run j cs));
         tables = store j (runState j cs) t;

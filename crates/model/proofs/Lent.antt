@@ -8,17 +8,19 @@ use lib.ListN.{take, take-append-drop}
 use lib.Seq.{getD-take}
 use lib.Dec.{ltb}
 use lib.IntN.{pos}
-use borrow.Author.Tests.{ltb-true, ltb-false}
+use borrow.Author.Tests.{ltb-true, ltb-false, le-ltb}
 use Rattle.laws.specs.Tables.{recell}
 use Rattle.laws.proofs.Bools.{split, or-off}
-use Rattle.recount.specs.Recount.{stands}
 use Rattle.laws.proofs.Checks.{none-of}
 use Rattle.laws.proofs.Tables.{over-over, word-take, cell-take, overwrite-take, long-take}
+use Rattle.recount.specs.Recount.{stands}
 use Rattle.model.specs.Job.{Job}
 use Rattle.model.specs.Requests.{lentJob, lentState, returned}
-use Rattle.model.specs.Tables.{JobTables, jobOf, StateTables, stepsDone, marksOf, view, store, JobLengths, StateLengths, jobLengths, stateLengths, jobShort, bagsShort, stateShort, countedOf, nobody}
-use Rattle.model.specs.Ranges.{sizesInRange, jobWordsInRange, jobInRange, stateInRange}
+use Rattle.model.specs.Tables.{JobTables, jobOf, StateTables, stepsDone, marksOf, view, store, JobLengths, StateLengths, jobLengths, stateLengths, jobShort, bagsShort, stateShort, totalsShort, countedOf, nobody}
+use Rattle.model.specs.PackedTotals.{totalsLength}
+use Rattle.model.specs.Ranges.{sizesInRange, jobWordsInRange, jobInRange, stateInRange, totalsInRange}
 use Rattle.model.specs.Steps.{Kind, kindNumber, stepPlace, atPlace, State}
+use Rattle.model.proofs.PackedTotals.{unpack-take, pack-take, pack-pack}
 use Rattle.model.proofs.Step.{up-take, under-take, around-take}
 use Rattle.model.proofs.Core.{state-eq}
 use Rattle.model.proofs.Tables.{place-in, kind-six}
@@ -62,8 +64,6 @@ job-long f n h =
 pub record StateLong (k m o : ℕ) (n : StateLengths) : Type 0 where
   pub known : k * o ≤ n .known
   pub priceTransit : k * o ≤ n .priceTransit
-  pub working : k * m ≤ n .working
-  pub totalTransit : k * m ≤ n .totalTransit
   pub statement : m ≤ n .statement
   pub done : 6 * k * k ≤ n .done
   pub sent : 1 ≤ n .sent
@@ -74,8 +74,6 @@ state-long f n h =
     let e = none-of (
     ltb (n .known) (f .boxes * f .offers)
     ∷ ltb (n .priceTransit) (f .boxes * f .offers)
-    ∷ ltb (n .working) (f .boxes * f .grocers)
-    ∷ ltb (n .totalTransit) (f .boxes * f .grocers)
     ∷ ltb (n .statement) (f .grocers)
     ∷ ltb (n .done) (6 * f .boxes * f .boxes)
     ∷ ltb (n .sent) 1
@@ -83,12 +81,25 @@ state-long f n h =
     record {
       known = le-of _ _ (e .0);
       priceTransit = le-of _ _ (e .1 .0);
-      working = le-of _ _ (e .1 .1 .0);
-      totalTransit = le-of _ _ (e .1 .1 .1 .0);
-      statement = le-of _ _ (e .1 .1 .1 .1 .0);
-      done = le-of _ _ (e .1 .1 .1 .1 .1 .0);
-      sent = le-of _ _ (e .1 .1 .1 .1 .1 .1 .0);
+      statement = le-of _ _ (e .1 .1 .0);
+      done = le-of _ _ (e .1 .1 .1 .0);
+      sent = le-of _ _ (e .1 .1 .1 .1 .0);
     }
+
+-- The packed tables likewise.
+pub record TotalsLong (length : ℕ) (n : StateLengths) : Type 0 where
+  pub working : length ≤ n .working
+  pub totalTransit : length ≤ n .totalTransit
+
+pub totals-long : (j : Job) (n : StateLengths) → totalsShort j n ≡ false → TotalsLong (totalsLength j) n
+unfolding totalsShort
+totals-long j n h =
+    let e = or-off (ltb (n .working) (totalsLength j)) (ltb (n .totalTransit) (totalsLength j)) h in
+    record { working = le-of _ _ (e .0); totalTransit = le-of _ _ (e .1) }
+
+pub totals-whole : (j : Job) (n : StateLengths) → TotalsLong (totalsLength j) n → totalsShort j n ≡ false
+unfolding totalsShort
+totals-whole j n l = rw (le-ltb (n .working) (totalsLength j) (l .working), le-ltb (n .totalTransit) (totalsLength j) (l .totalTransit))
 
 -- The job's lent tables are short just where the lent lengths are.
 pub lent-job-short : (f : JobTables) (n : JobLengths) → jobShort f (jobLengths f) ≡ false → jobShort f (jobLengths (lentJob f n)) ≡ jobShort f n
@@ -175,11 +186,19 @@ lent-state-short f t n h =
     rw (
       long-take (f .boxes * f .offers) (n .known) (t .known) (l .known),
       long-take (f .boxes * f .offers) (n .priceTransit) (t .priceTransit) (l .priceTransit),
-      long-take (f .boxes * f .grocers) (n .working) (t .working) (l .working),
-      long-take (f .boxes * f .grocers) (n .totalTransit) (t .totalTransit) (l .totalTransit),
       long-take (f .grocers) (n .statement) (t .statement) (l .statement),
       long-take (6 * f .boxes * f .boxes) (n .done) (t .done) (l .done),
       long-take 1 (n .sent) (t .sent) (l .sent),
+    )
+
+-- The packed tables likewise.
+pub lent-totals-short : (j : Job) (t : StateTables) (n : StateLengths) → totalsShort j (stateLengths t) ≡ false → totalsShort j (stateLengths (lentState t n)) ≡ totalsShort j n
+unfolding totalsShort stateLengths lentState
+lent-totals-short j t n h =
+    let l = totals-long j (stateLengths t) h in
+    rw (
+      long-take (totalsLength j) (n .working) (t .working) (l .working),
+      long-take (totalsLength j) (n .totalTransit) (t .totalTransit) (l .totalTransit),
     )
 
 -- Of the marks the first that K boxes need are read.
@@ -193,15 +212,15 @@ marks-take k n marks q a b l =
     (λ e. rw e)
 
 -- The state that lent tables hold, where they are long enough.
-module _ (j : Job) (t : StateTables) (n : StateLengths) (l : StateLong (j .boxes) (j .grocers) (j .offers) n) where
+module _ (j : Job) (t : StateTables) (n : StateLengths) (l : StateLong (j .boxes) (j .grocers) (j .offers) n) (m : TotalsLong (totalsLength j) n) where
   pub lent-view : view j (lentState t n) ≡ view j t
   unfolding view lentState
   lent-view =
       state-eq (view j (lentState t n)) (view j t)
       (λ b o. cell-take (j .boxes) (j .offers) (n .known) (t .known) 0 b o (l .known))
       (λ b o. cell-take (j .boxes) (j .offers) (n .priceTransit) (t .priceTransit) 0 b o (l .priceTransit))
-      (λ b g. cell-take (j .boxes) (j .grocers) (n .working) (t .working) (pos 0) b g (l .working))
-      (λ b g. cell-take (j .boxes) (j .grocers) (n .totalTransit) (t .totalTransit) (pos 0) b g (l .totalTransit))
+      (unpack-take j (n .working) (t .working) (m .working))
+      (unpack-take j (n .totalTransit) (t .totalTransit) (m .totalTransit))
       (λ g. word-take (j .grocers) (n .statement) (t .statement) (pos 0) g (l .statement))
       (λ i k a b. marks-take (j .boxes) (n .done) (t .done) k a b (l .done) i)
       (word-take 1 (n .sent) (t .sent) 0 0 (l .sent))
@@ -212,8 +231,8 @@ module _ (j : Job) (t : StateTables) (n : StateLengths) (l : StateLong (j .boxes
   lent-store s = λ i. record {
     known = overwrite-take (j .boxes * j .offers) (n .known) (λ k. s .known (k / j .offers) (k % j .offers)) (t .known) (l .known) i;
     priceTransit = overwrite-take (j .boxes * j .offers) (n .priceTransit) (λ k. s .priceTransit (k / j .offers) (k % j .offers)) (t .priceTransit) (l .priceTransit) i;
-    working = overwrite-take (j .boxes * j .grocers) (n .working) (λ k. s .working (k / j .grocers) (k % j .grocers)) (t .working) (l .working) i;
-    totalTransit = overwrite-take (j .boxes * j .grocers) (n .totalTransit) (λ k. s .totalTransit (k / j .grocers) (k % j .grocers)) (t .totalTransit) (l .totalTransit) i;
+    working = pack-take j (s .working) (n .working) (t .working) (m .working) i;
+    totalTransit = pack-take j (s .totalTransit) (n .totalTransit) (t .totalTransit) (m .totalTransit) i;
     statement = overwrite-take (j .grocers) (n .statement) (s .statement) (t .statement) (l .statement) i;
     done = overwrite-take (6 * j .boxes * j .boxes) (n .done) (λ k. cond (atPlace (j .boxes) (s .done) k) 1 0) (t .done) (l .done) i;
     sent = overwrite-take 1 (n .sent) (λ k. s .sent) (t .sent) (l .sent) i;
@@ -227,11 +246,17 @@ lent-state-range f n′ t n l =
     rw (
       up-take 9_999_999 (f .boxes * f .offers) (n .known) (t .known) (l .known),
       up-take 9_999_999 (f .boxes * f .offers) (n .priceTransit) (t .priceTransit) (l .priceTransit),
-      around-take 1_000_000_000_000_000 (f .boxes * f .grocers) (n .working) (t .working) (l .working),
-      around-take 1_000_000_000_000_000 (f .boxes * f .grocers) (n .totalTransit) (t .totalTransit) (l .totalTransit),
       around-take 1_000_000_000_000_000 (f .grocers) (n .statement) (t .statement) (l .statement),
       up-take 1 (6 * f .boxes * f .boxes) (n .done) (t .done) (l .done),
       up-take 1_000_000 1 (n .sent) (t .sent) (l .sent),
+    )
+
+pub lent-totals-range : (j : Job) (t : StateTables) (n : StateLengths) → TotalsLong (totalsLength j) n → totalsInRange j (lentState t n) ≡ totalsInRange j t
+unfolding totalsInRange lentState
+lent-totals-range j t n m =
+    rw (
+      around-take 1_000_000_000_000_000 (totalsLength j) (n .working) (t .working) (m .working),
+      around-take 1_000_000_000_000_000 (totalsLength j) (n .totalTransit) (t .totalTransit) (m .totalTransit),
     )
 
 -- Tables that come back as they were lent are as they were.
@@ -253,8 +278,8 @@ unfolding store recell marksOf
 store-store j s r t = λ i. record {
   known = over-over (j .boxes * j .offers) (λ k. s .known (k / j .offers) (k % j .offers)) (λ k. r .known (k / j .offers) (k % j .offers)) (t .known) i;
   priceTransit = over-over (j .boxes * j .offers) (λ k. s .priceTransit (k / j .offers) (k % j .offers)) (λ k. r .priceTransit (k / j .offers) (k % j .offers)) (t .priceTransit) i;
-  working = over-over (j .boxes * j .grocers) (λ k. s .working (k / j .grocers) (k % j .grocers)) (λ k. r .working (k / j .grocers) (k % j .grocers)) (t .working) i;
-  totalTransit = over-over (j .boxes * j .grocers) (λ k. s .totalTransit (k / j .grocers) (k % j .grocers)) (λ k. r .totalTransit (k / j .grocers) (k % j .grocers)) (t .totalTransit) i;
+  working = pack-pack j (s .working) (r .working) (t .working) i;
+  totalTransit = pack-pack j (s .totalTransit) (r .totalTransit) (t .totalTransit) i;
   statement = over-over (j .grocers) (s .statement) (r .statement) (t .statement) i;
   done = over-over (6 * j .boxes * j .boxes) (λ k. cond (atPlace (j .boxes) (s .done) k) 1 0) (λ k. cond (atPlace (j .boxes) (r .done) k) 1 0) (t .done) i;
   sent = over-over 1 (λ k. s .sent) (λ k. r .sent) (t .sent) i;

@@ -7,6 +7,8 @@ pub mod Parts
 pub mod Totals
 pub mod Sent
 pub mod Core
+pub mod LocalLists
+pub mod PackedTotals
 pub mod Reach
 pub mod Trace
 pub mod Progress
@@ -18,6 +20,8 @@ pub mod Listed
 pub mod Lists
 pub mod EachWord
 pub mod Tables
+pub mod LocalTotals
+pub mod Spans
 pub mod Run
 pub mod Ranges
 pub mod Refusal
@@ -30,6 +34,7 @@ pub mod Handed
 pub mod Desk
 pub mod Served
 pub mod Demand3
+pub mod FullRows
 pub mod Quiet
 pub mod Cases
 pub mod Edges

@@ -10,19 +10,21 @@ use Rattle.laws.proofs.Bools.{or-off, split, and-true, and-r}
 use Rattle.recount.specs.Recount.{countedTwice}
 use Rattle.model.specs.Job.{Job}
 use Rattle.model.specs.Requests.{Request, lentJob, lentState, lendsShort, answerTo, serve}
-use Rattle.model.specs.Tables.{JobTables, countedOf, jobOf, StateTables, view, store, JobLengths, StateLengths, jobLengths, stateLengths, jobShort, bagsShort, stateShort, lentShort}
-use Rattle.model.specs.Ranges.{jobInRange, Settles, stateInRange}
+use Rattle.model.specs.Tables.{JobTables, countedOf, jobOf, StateTables, view, store, JobLengths, StateLengths, jobLengths, stateLengths, jobShort, bagsShort, stateShort, lentShort, totalsShort}
+use Rattle.model.specs.PackedTotals.{totalsLength}
+use Rattle.model.specs.Ranges.{jobInRange, Settles, stateInRange, totalsInRange}
 use Rattle.model.specs.Handed.{handedInRange}
 use Rattle.model.specs.Step.{Asked, isKind, boxesFit, stepRules, moved, refusals, stepRefusal, stepTables, stepAnswer, stepped}
 use Rattle.model.specs.Steps.{kindOf, Steps, State, fits, ready, permitted, effect}
 use Rattle.model.specs.Demand3.{refusalOf}
+use Rattle.model.specs.Boxes.{Sound}
 use Rattle.model.proofs.Tables.{view-store, held-form}
 use Rattle.model.proofs.Ranges.{Within, form-within}
-use Rattle.model.proofs.Step.{range, limits, in-handed, ok-store, whole-store}
+use Rattle.model.proofs.Step.{range, limits, in-handed, ok-store, totals-store, whole-store, whole-totals}
 use Rattle.model.proofs.Core.{permit}
-use Rattle.model.proofs.Lent.{job-long, bags-long, state-long, lent-job-short, lent-bags-short, lent-counted, lent-job, lent-job-range, lent-state-short, lent-view, lent-store, lent-state-range, lent-back, store-store}
+use Rattle.model.proofs.Lent.{TotalsLong, totals-long, lent-totals-short, lent-totals-range, job-long, bags-long, state-long, lent-job-short, lent-bags-short, lent-counted, lent-job, lent-job-range, lent-state-short, lent-view}
+use Rattle.model.proofs.Lent.{lent-store, lent-state-range, lent-back, store-store}
 use Rattle.model.proofs.Refusal.{rules-zero}
-use Rattle.model.specs.Boxes.{Sound}
 use Rattle.model.proofs.Reach.{sound-effect}
 
 -- The late 21 comes after conditions 22 to 26.
@@ -36,7 +38,7 @@ then-last false false false true r c = refl
 then-last false false false false true c = refl
 then-last false false false false false c = refl
 
-rules-then : (j : Job) (d : Steps) (q : Asked) (c : Bool) →
+pub rules-then : (j : Job) (d : Steps) (q : Asked) (c : Bool) →
     firstMet (stepRules j d q ++ (c, 21) ∷ []) ≡ cond (eqb (firstMet (stepRules j d q)) 0) (cond c 21 0) (firstMet (stepRules j d q))
 unfolding stepRules firstMet
 rules-then j d q c =
@@ -50,7 +52,9 @@ allowed j s q = isKind (q .kind) && permitted j (s .done) (kindOf (q .kind)) (q 
 -- A step on tables u that hold the state s of the job j, where nothing is short and all is in range.
 module _ (f : JobTables) (u : StateTables) (j : Job) (s : State) (q : Asked)
     (job : jobOf f ≡ j) (holds : view j u ≡ s) (short : lentShort f u ≡ false) (inside : (jobInRange f && stateInRange f u) ≡ true) (once : countedTwice (countedOf f) ≡ false)
-    (late : allowed j s q ≡ true → stateInRange f (store j (effect j s (kindOf (q .kind)) (q .first) (q .second)) u) ≡ true) where
+    (packed : totalsShort j (stateLengths u) ≡ false) (amounts : totalsInRange j u ≡ true)
+    (late : allowed j s q ≡ true →
+    (stateInRange f (store j (effect j s (kindOf (q .kind)) (q .first) (q .second)) u) && totalsInRange j (store j (effect j s (kindOf (q .kind)) (q .first) (q .second)) u)) ≡ true) where
   moved-is : moved f u q ≡ store j (effect j s (kindOf (q .kind)) (q .first) (q .second)) u
   unfolding moved
   moved-is = rw (job, holds)
@@ -62,8 +66,9 @@ module _ (f : JobTables) (u : StateTables) (j : Job) (s : State) (q : Asked)
   pub answer-is : stepRefusal f u q ≡ firstMet (stepRules j (s .done) q)
   unfolding stepRefusal refusals firstMet
   answer-is =
-      rw (short, inside, once, job, holds, moved-is)
-      (rules-then j (s .done) q (not (stateInRange f (store j (effect j s (kindOf (q .kind)) (q .first) (q .second)) u)))
+      rw (short, inside, once, job, packed, amounts, holds, moved-is)
+      (rules-then j (s .done) q
+      (not (stateInRange f (store j (effect j s (kindOf (q .kind)) (q .first) (q .second)) u) && totalsInRange j (store j (effect j s (kindOf (q .kind)) (q .first) (q .second)) u)))
       ∙ split (allowed j s q)
       (λ e. rw (zero-is, e, late e) (sym (eqb-true (firstMet (stepRules j (s .done) q)) 0 (zero-is ∙ e))))
       (λ e. rw (zero-is, e)))
@@ -104,9 +109,16 @@ module _ (f : JobTables) (z : Settles f) (t : StateTables) where
   unfolding stateShort lentJob
   same-sizes′ n m = refl
 
-  -- The lent tables are short just where the request lends short.
-  short-is : (s : State) (r : Request) → lentShort (lentJob f (r .job)) (lentState (store (jobOf f) s t) (r .state)) ≡ lendsShort f r
-  unfolding lentShort lendsShort
+  -- A table that is not packed is lent short.
+  unfoldable elseShort : Request → Bool
+  elseShort r = jobShort f (r .job) || bagsShort f (r .job) || stateShort f (r .state)
+
+  lends-is : (r : Request) → lendsShort f r ≡ (elseShort r || totalsShort (jobOf f) (r .state))
+  unfolding lendsShort elseShort
+  lends-is r = refl
+
+  short-is : (s : State) (r : Request) → lentShort (lentJob f (r .job)) (lentState (store (jobOf f) s t) (r .state)) ≡ elseShort r
+  unfolding lentShort elseShort
   short-is s r =
       rw (
         same-sizes (r .job) (jobLengths (lentJob f (r .job))),
@@ -117,31 +129,26 @@ module _ (f : JobTables) (z : Settles f) (t : StateTables) where
         lent-state-short f (store (jobOf f) s t) (r .state) (whole-store f s t),
       )
 
-  -- A request that lends short.
-  module _ (s : State) (r : Request) (y : lendsShort f r ≡ true) where
-    short-answer : stepRefusal (lentJob f (r .job)) (lentState (store (jobOf f) s t) (r .state)) (r .asked) ≡ 20
-    unfolding stepRefusal refusals firstMet
-    short-answer = rw (short-is s r, y)
+  -- A request that lends such a table short.
+  else-answer : (s : State) (r : Request) → elseShort r ≡ true → stepRefusal (lentJob f (r .job)) (lentState (store (jobOf f) s t) (r .state)) (r .asked) ≡ 20
+  unfolding stepRefusal refusals firstMet
+  else-answer s r y = rw (short-is s r, y)
 
-    short-after : stepTables (lentJob f (r .job)) (lentState (store (jobOf f) s t) (r .state)) (r .asked) ≡ lentState (store (jobOf f) s t) (r .state)
-    unfolding stepTables
-    short-after = rw short-answer
-
-  -- A request that lends enough.
-  module _ (s : State) (o : Sound (jobOf f) s) (r : Request) (y : lendsShort f r ≡ false) where
+  -- A request that lends enough of these tables.
+  module _ (s : State) (o : Sound (jobOf f) s) (r : Request) (y : elseShort r ≡ false) where
     no-short : lentShort (lentJob f (r .job)) (lentState (store (jobOf f) s t) (r .state)) ≡ false
     no-short = short-is s r ∙ y
 
     job-enough : jobShort f (r .job) ≡ false
-    unfolding lendsShort
+    unfolding elseShort
     job-enough = or-off (jobShort f (r .job)) (bagsShort f (r .job)) (or-off (jobShort f (r .job) || bagsShort f (r .job)) (stateShort f (r .state)) y .0) .0
 
     bags-enough : bagsShort f (r .job) ≡ false
-    unfolding lendsShort
+    unfolding elseShort
     bags-enough = or-off (jobShort f (r .job)) (bagsShort f (r .job)) (or-off (jobShort f (r .job) || bagsShort f (r .job)) (stateShort f (r .state)) y .0) .1
 
     state-enough : stateShort f (r .state) ≡ false
-    unfolding lendsShort
+    unfolding elseShort
     state-enough = or-off (jobShort f (r .job) || bagsShort f (r .job)) (stateShort f (r .state)) y .1
 
     job-is : jobOf (lentJob f (r .job)) ≡ jobOf f
@@ -153,10 +160,6 @@ module _ (f : JobTables) (z : Settles f) (t : StateTables) where
     range-is : jobInRange (lentJob f (r .job)) ≡ true
     range-is = lent-job-range f (r .job) (job-long f (r .job) job-enough) (bags-long f (r .job) bags-enough) ∙ z .inRange
 
-    lent-is : view (jobOf f) (lentState (store (jobOf f) s t) (r .state)) ≡ s
-    unfolding jobOf
-    lent-is = lent-view (jobOf f) (store (jobOf f) s t) (r .state) (state-long f (r .state) state-enough) ∙ view-is f (settles-in f z) t s o
-
     states-is : stateInRange (lentJob f (r .job)) (lentState (store (jobOf f) s t) (r .state)) ≡ true
     states-is = lent-state-range f (r .job) (store (jobOf f) s t) (r .state) (state-long f (r .state) state-enough) ∙ ok-store f s t (within f (settles-in f z) t s o)
 
@@ -164,19 +167,60 @@ module _ (f : JobTables) (z : Settles f) (t : StateTables) where
     unfolding stateInRange lentJob
     same-range u = refl
 
-    late-is : allowed (jobOf f) s (r .asked) ≡ true →
-        stateInRange (lentJob f (r .job)) (store (jobOf f) (effect (jobOf f) s (kindOf (r .asked .kind)) (r .asked .first) (r .asked .second)) (lentState (store (jobOf f) s t) (r .state))) ≡ true
-    late-is e = same-range _ ∙ ok-store f _ _ (within f (settles-in f z) t _ (sound-allowed s (r .asked) o e))
+    packed-is : totalsShort (jobOf f) (stateLengths (lentState (store (jobOf f) s t) (r .state))) ≡ totalsShort (jobOf f) (r .state)
+    packed-is = lent-totals-short (jobOf f) (store (jobOf f) s t) (r .state) (whole-totals (jobOf f) s t)
 
-    whole-answer : stepRefusal (lentJob f (r .job)) (lentState (store (jobOf f) s t) (r .state)) (r .asked) ≡ firstMet (stepRules (jobOf f) (s .done) (r .asked))
-    whole-answer =
-        answer-is (lentJob f (r .job)) (lentState (store (jobOf f) s t) (r .state)) (jobOf f) s (r .asked) job-is lent-is no-short (and-true range-is states-is) once-is late-is
+    -- It lends a packed table short.
+    totals-answer : totalsShort (jobOf f) (r .state) ≡ true → stepRefusal (lentJob f (r .job)) (lentState (store (jobOf f) s t) (r .state)) (r .asked) ≡ 20
+    unfolding stepRefusal refusals firstMet
+    totals-answer e = rw (no-short, range-is, states-is, once-is, job-is, packed-is, e)
 
-    whole-after : stepTables (lentJob f (r .job)) (lentState (store (jobOf f) s t) (r .state)) (r .asked)
-        ≡ cond (allowed (jobOf f) s (r .asked)) (store (jobOf f) (effect (jobOf f) s (kindOf (r .asked .kind)) (r .asked .first) (r .asked .second)) (lentState (store (jobOf f) s t) (r .state)))
-        (lentState (store (jobOf f) s t) (r .state))
-    whole-after =
-        after-is (lentJob f (r .job)) (lentState (store (jobOf f) s t) (r .state)) (jobOf f) s (r .asked) job-is lent-is no-short (and-true range-is states-is) once-is late-is
+    -- It lends enough of these too.
+    module _ (e : totalsShort (jobOf f) (r .state) ≡ false) where
+      packed-long : TotalsLong (totalsLength (jobOf f)) (r .state)
+      packed-long = totals-long (jobOf f) (r .state) e
+
+      lent-is : view (jobOf f) (lentState (store (jobOf f) s t) (r .state)) ≡ s
+      unfolding jobOf
+      lent-is = lent-view (jobOf f) (store (jobOf f) s t) (r .state) (state-long f (r .state) state-enough) packed-long ∙ view-is f (settles-in f z) t s o
+
+      amounts-is : totalsInRange (jobOf f) (lentState (store (jobOf f) s t) (r .state)) ≡ true
+      amounts-is = lent-totals-range (jobOf f) (store (jobOf f) s t) (r .state) packed-long ∙ totals-store (jobOf f) s t (within f (settles-in f z) t s o)
+
+      late-is : allowed (jobOf f) s (r .asked) ≡ true →
+          (stateInRange (lentJob f (r .job)) (store (jobOf f) (effect (jobOf f) s (kindOf (r .asked .kind)) (r .asked .first) (r .asked .second)) (lentState (store (jobOf f) s t) (r .state)))
+          && totalsInRange (jobOf f) (store (jobOf f) (effect (jobOf f) s (kindOf (r .asked .kind)) (r .asked .first) (r .asked .second)) (lentState (store (jobOf f) s t) (r .state)))) ≡ true
+      late-is e =
+          and-true (same-range _ ∙ ok-store f _ _ (within f (settles-in f z) t _ (sound-allowed s (r .asked) o e)))
+          (totals-store (jobOf f) _ _ (within f (settles-in f z) t _ (sound-allowed s (r .asked) o e)))
+
+      whole-answer : stepRefusal (lentJob f (r .job)) (lentState (store (jobOf f) s t) (r .state)) (r .asked) ≡ firstMet (stepRules (jobOf f) (s .done) (r .asked))
+      whole-answer =
+          answer-is (lentJob f (r .job)) (lentState (store (jobOf f) s t) (r .state)) (jobOf f) s (r .asked) job-is lent-is no-short (and-true range-is states-is) once-is
+          (packed-is ∙ e) amounts-is late-is
+
+      whole-after : stepTables (lentJob f (r .job)) (lentState (store (jobOf f) s t) (r .state)) (r .asked)
+          ≡ cond (allowed (jobOf f) s (r .asked)) (store (jobOf f) (effect (jobOf f) s (kindOf (r .asked .kind)) (r .asked .first) (r .asked .second)) (lentState (store (jobOf f) s t) (r .state)))
+          (lentState (store (jobOf f) s t) (r .state))
+      whole-after =
+          after-is (lentJob f (r .job)) (lentState (store (jobOf f) s t) (r .state)) (jobOf f) s (r .asked) job-is lent-is no-short (and-true range-is states-is) once-is
+          (packed-is ∙ e) amounts-is late-is
+
+  -- A request that lends a table short.
+  module _ (s : State) (o : Sound (jobOf f) s) (r : Request) where
+    short-answer : lendsShort f r ≡ true → stepRefusal (lentJob f (r .job)) (lentState (store (jobOf f) s t) (r .state)) (r .asked) ≡ 20
+    short-answer y =
+        split (elseShort r)
+        (λ e. else-answer s r e)
+        (λ e. totals-answer s o r e (rw e at (sym (lends-is r) ∙ y)))
+
+    short-after : lendsShort f r ≡ true → stepTables (lentJob f (r .job)) (lentState (store (jobOf f) s t) (r .state)) (r .asked) ≡ lentState (store (jobOf f) s t) (r .state)
+    unfolding stepTables
+    short-after y = rw (short-answer y)
+
+    -- One that does not lends enough of both.
+    enough : lendsShort f r ≡ false → (elseShort r ≡ false) × (totalsShort (jobOf f) (r .state) ≡ false)
+    enough y = or-off (elseShort r) (totalsShort (jobOf f) (r .state)) (sym (lends-is r) ∙ y)
 
   -- What a request does to the state.
   unfoldable pub next : State → Request → State
@@ -186,16 +230,17 @@ module _ (f : JobTables) (z : Settles f) (t : StateTables) where
   unfolding answerTo stepped refusalOf
   one-answer s o r =
       ap stepAnswer (split (lendsShort f r)
-      (λ e. short-answer s r e ∙ rw e)
-      (λ e. whole-answer s o r e ∙ rw e))
+      (λ e. short-answer s o r e ∙ rw e)
+      (λ e. whole-answer s o r (enough s o r e .0) (enough s o r e .1) ∙ rw e))
 
   pub one-serve : (s : State) → Sound (jobOf f) s → (r : Request) → serve f (store (jobOf f) s t) r ≡ store (jobOf f) (next s r) t
   unfolding serve stepped next jobOf
   one-serve s o r =
       split (lendsShort f r)
-      (λ e. rw (short-after s r e, e) (lent-back (store (jobOf f) s t) (r .state)))
-      (λ e. rw (whole-after s o r e, e) (split (allowed (jobOf f) s (r .asked))
-      (λ a. rw a (lent-store (jobOf f) (store (jobOf f) s t) (r .state) (state-long f (r .state) (state-enough s o r e)) _ ∙ store-store (jobOf f) _ s t))
+      (λ e. rw (short-after s o r e, e) (lent-back (store (jobOf f) s t) (r .state)))
+      (λ e. rw (whole-after s o r (enough s o r e .0) (enough s o r e .1), e) (split (allowed (jobOf f) s (r .asked))
+      (λ a. rw a (lent-store (jobOf f) (store (jobOf f) s t) (r .state) (state-long f (r .state) (state-enough s o r (enough s o r e .0)))
+      (packed-long s o r (enough s o r e .0) (enough s o r e .1)) _ ∙ store-store (jobOf f) _ s t))
       (λ a. rw a (lent-back (store (jobOf f) s t) (r .state)))))
 
   pub one-sound : (s : State) → Sound (jobOf f) s → (r : Request) → Sound (jobOf f) (next s r)

@@ -15,10 +15,13 @@ use Rattle.laws.proofs.Checks.{any-each, each-of, all-each}
 use Rattle.laws.proofs.Bools.{split, and-true, and-l, and-r, cond-either}
 use Rattle.laws.proofs.Below.{all-at, all-of, all-cong, count-le}
 use Rattle.laws.proofs.Tables.{getD-overwrite, long-overwrite, word-in, word-past}
-use Rattle.model.specs.Tables.{JobTables, nobody, jobOf, StateTables, store, marksOf, stateLengths, stateShort}
-use Rattle.model.specs.Ranges.{upTo, under, around, sizesInRange, jobWordsInRange, jobInRange, stateInRange}
+use Rattle.model.specs.Tables.{JobTables, nobody, jobOf, StateTables, store, marksOf, stateLengths, stateShort, totalsShort}
+use Rattle.model.specs.Job.{Job}
+use Rattle.model.specs.PackedTotals.{totalsLength, totalRows, packTotals}
+use Rattle.model.specs.Ranges.{upTo, under, around, sizesInRange, jobWordsInRange, jobInRange, stateInRange, totalsInRange}
 use Rattle.model.specs.Handed.{handedInRange}
 use Rattle.model.specs.Steps.{places, Steps, atPlace, State}
+use Rattle.model.proofs.PackedTotals.{pack-over, pack-long, rows-each}
 use Rattle.model.proofs.Range.{InRange}
 use Rattle.model.proofs.Ranges.{Limits, Within}
 
@@ -168,35 +171,39 @@ marks-bits k d marks =
 pub ok-store : (f : JobTables) (s : State) (t : StateTables) → Within s → stateInRange f (store (jobOf f) s t) ≡ true
 unfolding stateInRange store recell jobOf
 ok-store f s t w =
-    and-true (and-true (and-true (and-true (and-true (and-true
+    and-true (and-true (and-true (and-true
     (up-over 9_999_999 (f .boxes * f .offers) (λ i. s .known (i / f .offers) (i % f .offers)) (t .known) (λ i. w .known≤ (i / f .offers) (i % f .offers)))
     (up-over 9_999_999 (f .boxes * f .offers) (λ i. s .priceTransit (i / f .offers) (i % f .offers)) (t .priceTransit) (λ i. w .priceTransit≤ (i / f .offers) (i % f .offers))))
-    (around-over 1_000_000_000_000_000 (f .boxes * f .grocers) (λ i. s .working (i / f .grocers) (i % f .grocers)) (t .working) (λ i. w .working≤ (i / f .grocers) (i % f .grocers))))
-    (around-over 1_000_000_000_000_000 (f .boxes * f .grocers) (λ i. s .totalTransit (i / f .grocers) (i % f .grocers)) (t .totalTransit) (λ i. w .totalTransit≤ (i / f .grocers) (i % f .grocers))))
     (around-over 1_000_000_000_000_000 (f .grocers) (s .statement) (t .statement) (w .statement≤)))
     (marks-bits (f .boxes) (s .done) (t .done)))
     (up-over 1_000_000 1 (λ i. s .sent) (t .sent) (λ i. w .sent≤))
+
+-- The packed tables likewise, of any job.
+pub totals-store : (j : Job) (s : State) (t : StateTables) → Within s → totalsInRange j (store j s t) ≡ true
+unfolding totalsInRange store
+totals-store j s t w =
+    and-true (packed-range (s .working) (t .working) (w .working≤)) (packed-range (s .totalTransit) (t .totalTransit) (w .totalTransit≤))
+  where
+    packed-range : (v : ℕ → ℕ → ℤ) (l : List ℤ) → ((b g : ℕ) → natAbs (v b g) ≤ 1_000_000_000_000_000) → around 1_000_000_000_000_000 (totalsLength j) (packTotals j v l) ≡ true
+    packed-range v l h =
+        rw (pack-over j v l) (around-over 1_000_000_000_000_000 (totalsLength j) (λ i. getD (totalRows j (j .boxes) v) i (pos 0)) l
+        (rows-each j v (λ (z : ℤ). natAbs z ≤ 1_000_000_000_000_000) (omega arith) h))
 
 -- The tables that hold a written state are whole.
 pub whole-store : (f : JobTables) (s : State) (t : StateTables) → stateShort f (stateLengths (store (jobOf f) s t)) ≡ false
 unfolding stateShort stateLengths store recell marksOf jobOf
 whole-store f s t =
-    any-each (_ ∷ _ ∷ _ ∷ _ ∷ _ ∷ _ ∷ _ ∷ []) (
+    any-each (_ ∷ _ ∷ _ ∷ _ ∷ _ ∷ []) (
       le-ltb _ _ (long-overwrite (f .boxes * f .offers) _ (t .known)),
       (
         le-ltb _ _ (long-overwrite (f .boxes * f .offers) _ (t .priceTransit)),
         (
-          le-ltb _ _ (long-overwrite (f .boxes * f .grocers) _ (t .working)),
-          (
-            le-ltb _ _ (long-overwrite (f .boxes * f .grocers) _ (t .totalTransit)),
-            (
-              le-ltb _ _ (long-overwrite (f .grocers) _ (t .statement)),
-              (
-                le-ltb _ _ (long-overwrite (6 * f .boxes * f .boxes) _ (t .done)),
-                (le-ltb _ _ (long-overwrite 1 _ (t .sent)), tt),
-              ),
-            ),
-          ),
+          le-ltb _ _ (long-overwrite (f .grocers) _ (t .statement)),
+          (le-ltb _ _ (long-overwrite (6 * f .boxes * f .boxes) _ (t .done)), (le-ltb _ _ (long-overwrite 1 _ (t .sent)), tt)),
         ),
       ),
     )
+
+pub whole-totals : (j : Job) (s : State) (t : StateTables) → totalsShort j (stateLengths (store j s t)) ≡ false
+unfolding totalsShort stateLengths store
+whole-totals j s t = rw (le-ltb _ _ (pack-long j (s .working) (t .working)), le-ltb _ _ (pack-long j (s .totalTransit) (t .totalTransit)))

@@ -9,19 +9,22 @@ use lib.Arith.{digits-div, digits-mod}
 use borrow.Author.Tests.{ne-eqb, eqb-true, ltb-true, ltb-false, lt-ltb}
 use Rattle.laws.specs.Below.{naturals, integers, only}
 use Rattle.laws.proofs.Below.{any-find}
-use Rattle.laws.proofs.Bools.{split, and-true, and-l, and-r, and-false, no-true, clash, cond-same}
+use Rattle.laws.proofs.Bools.{eqb-same, or-l, or-r, split, and-true, and-l, and-r, and-false, no-true, clash, cond-same}
 use Rattle.laws.proofs.Masks.{one-is}
 use Rattle.laws.proofs.Sums.{sum-none}
 use Rattle.laws.proofs.Tables.{cell-in, cell-recell, word-overwrite, getD-overwrite}
 use Rattle.model.specs.Job.{heldBy, Job, needs, shares}
 use Rattle.model.specs.Steps.{Kind, kindNumber, stepPlace, places, stepAt, Steps, atPlace, State, added, kindOf}
 use Rattle.model.specs.Tables.{view, store, StateTables, stepsDone, marksOf}
-use Rattle.model.proofs.Marks as M
+use Rattle.model.specs.Boxes.{knows, priceOnWay, paid, stateByRules, Closed, Sound}
+use Rattle.model.specs.PackedTotals.{hasTotal}
 use Rattle.model.proofs.Machine.{kinds}
 use Rattle.model.proofs.Range.{InRange, held-lt}
-use Rattle.model.specs.Boxes.{knows, priceOnWay, paid, stateByRules, Closed, Sound}
 use Rattle.model.proofs.Parts.{part-none}
+use Rattle.model.proofs.LocalLists.{ownedOrShared, local-is}
+use Rattle.model.proofs.PackedTotals.{unpack-pack}
 use Rattle.model.proofs.Core.{state-eq, first<, second<}
+use Rattle.model.proofs.Marks as M
 
 pub kind-place : (k : Kind) → kindOf (suc (kindNumber k - 1)) ≡ k
 kind-place = M.kind-place kinds
@@ -55,13 +58,13 @@ marks-back k d marks q a b =
     (λ f. rw f)))
     (λ e. rw e)
 
--- The state s inside the job's bounds, and 0 outside.
+-- The state s inside the job's bounds, totals at local grocers, and 0 outside.
 unfoldable pub clip : Job → State → State
 clip j s = record {
   known = λ b o. cond (ltb b (j .boxes) && ltb o (j .offers)) (s .known b o) 0;
   priceTransit = λ b o. cond (ltb b (j .boxes) && ltb o (j .offers)) (s .priceTransit b o) 0;
-  working = λ b g. cond (ltb b (j .boxes) && ltb g (j .grocers)) (s .working b g) (pos 0);
-  totalTransit = λ b g. cond (ltb b (j .boxes) && ltb g (j .grocers)) (s .totalTransit b g) (pos 0);
+  working = λ b g. cond (hasTotal j b g) (s .working b g) (pos 0);
+  totalTransit = λ b g. cond (hasTotal j b g) (s .totalTransit b g) (pos 0);
   statement = λ g. cond (ltb g (j .grocers)) (s .statement g) (pos 0);
   done = λ k a b. ltb a (j .boxes) && (ltb b (j .boxes) && s .done k a b);
   sent = s .sent;
@@ -73,8 +76,8 @@ view-store j s t =
     state-eq (view j (store j s t)) (clip j s)
     (cell-recell (j .boxes) (j .offers) (s .known) (t .known) 0)
     (cell-recell (j .boxes) (j .offers) (s .priceTransit) (t .priceTransit) 0)
-    (cell-recell (j .boxes) (j .grocers) (s .working) (t .working) (pos 0))
-    (cell-recell (j .boxes) (j .grocers) (s .totalTransit) (t .totalTransit) (pos 0))
+    (unpack-pack j (s .working) (t .working))
+    (unpack-pack j (s .totalTransit) (t .totalTransit))
     (word-overwrite (j .grocers) (s .statement) (t .statement) (pos 0))
     (λ i k a b. marks k a b i)
     (word-overwrite 1 (λ i. s .sent) (t .sent) 0 0)
@@ -100,6 +103,27 @@ module _ (j : Job) (r : InRange j) where
       (lt-ltb b (j .boxes) (held-lt j t b (and-l (heldBy j t b) _ e)))
       (lt-ltb g (j .grocers) (rw (eqb-true (j .tallyGrocer t) g (and-r (heldBy j t b) _ e)) at (r .grocer< t l)))) h)
 
+  -- A box has a total of each grocer that it holds a tally of.
+  pub shared-has : (b g : ℕ) → shares j g b ≡ true → hasTotal j b g ≡ true
+  unfolding hasTotal ownedOrShared
+  shared-has b g q =
+      let inside = in-bounds b g q in
+      let lg : g < j .grocers = ltb-true g (j .grocers) (and-r (ltb b (j .boxes)) _ inside) in
+      and-true (and-l (ltb b (j .boxes)) _ inside)
+      (local-is j b g ∙ and-true (lt-ltb g (j .grocers) lg) (or-r (eqb (j .grocerOwner g) b) _ (and-true (lt-ltb (j .grocerOwner g) (j .boxes) (r .grocerOwner< g lg)) q)))
+    where
+      in-bounds : (b g : ℕ) → shares j g b ≡ true → (ltb b (j .boxes) && ltb g (j .grocers)) ≡ true
+      in-bounds b g q = split (ltb b (j .boxes) && ltb g (j .grocers)) (λ e. e) (λ e. absurd (clash q (shares-out b g e)))
+
+  -- It has one of each grocer that it owns.
+  pub own-has : (b g : ℕ) → b < j .boxes → g < j .grocers → j .grocerOwner g ≡ b → hasTotal j b g ≡ true
+  unfolding hasTotal ownedOrShared
+  own-has b g lb lg e = and-true (lt-ltb b (j .boxes) lb) (local-is j b g ∙ and-true (lt-ltb g (j .grocers) lg) (or-l (eqb (j .grocerOwner g) b) _ (rw e (eqb-same b))))
+
+  -- Without a total of a grocer it holds no tally of it.
+  pub none-shared : (b g : ℕ) → hasTotal j b g ≡ false → shares j g b ≡ false
+  none-shared b g h = no-true (shares j g b) (λ q. clash (shared-has b g q) h)
+
   clip-form : (d : Steps) → Closed j d → clip j (stateByRules j d) ≡ stateByRules j d
   unfolding clip stateByRules knows priceOnWay paid only integers
   clip-form d c =
@@ -112,12 +136,12 @@ module _ (j : Job) (r : InRange j) where
       (λ b o. split (ltb b (j .boxes) && ltb o (j .offers))
       (λ e. rw e)
       (λ e. simp (e, needs-out b o e, and-false)))
-      (λ b g. split (ltb b (j .boxes) && ltb g (j .grocers))
+      (λ b g. split (hasTotal j b g)
       (λ e. rw e)
-      (λ e. simp (e, part-none j (added j d) b g (shares-out b g e), cond-same)))
-      (λ b g. split (ltb b (j .boxes) && ltb g (j .grocers))
+      (λ e. simp (e, part-none j (added j d) b g (none-shared b g e), cond-same)))
+      (λ b g. split (hasTotal j b g)
       (λ e. rw e)
-      (λ e. simp (e, part-none j (λ t. true) b g (shares-out b g e), cond-same)))
+      (λ e. simp (e, part-none j (λ t. true) b g (none-shared b g e), cond-same)))
       (λ g. split (ltb g (j .grocers))
       (λ e. rw e)
       (λ e. rw e (sym (sum-none integers (j .boxes) (paid j d g)

@@ -34,8 +34,6 @@ job-whole f h =
 pub record StateWhole (k m n : ℕ) (t : StateTables) : Type 0 where
   pub known : k * n ≤ length (t .known)
   pub priceTransit : k * n ≤ length (t .priceTransit)
-  pub working : k * m ≤ length (t .working)
-  pub totalTransit : k * m ≤ length (t .totalTransit)
   pub statement : m ≤ length (t .statement)
   pub done : 6 * k * k ≤ length (t .done)
   pub sent : 1 ≤ length (t .sent)
@@ -47,8 +45,6 @@ state-whole f t h =
     record {
       known = l .known;
       priceTransit = l .priceTransit;
-      working = l .working;
-      totalTransit = l .totalTransit;
       statement = l .statement;
       done = l .done;
       sent = l .sent;

@@ -74,7 +74,7 @@ module _ (j : Job) where
       (λ b. only naturals (not (eqb (j .offerOwner o) b) && needs j o b) 1)
       (λ b m. sum-pick naturals (j .boxes) (j .offerOwner o) (not (eqb (j .offerOwner o) b) && needs j o b) 1 (r .owner< o l)))
 
-  total-words : InRange j →
+  pub total-words : InRange j →
       sum naturals (j .boxes) (λ a. sum naturals (j .boxes) (λ b. count (j .grocers) (totalWord j a b)))
       ≡ sum naturals (j .grocers) (λ g. count (j .boxes) (λ b. not (eqb (j .grocerOwner g) b) && shares j g b))
   unfolding count totalWord
@@ -92,7 +92,7 @@ module _ (j : Job) where
   unfolding needWord
   need-ones r o l = ones-others (j .boxes) (j .offerOwner o) (needs j o) (r .boxes≤) (r .owner< o l) (needs-past j o)
 
-  sharer-ones : InRange j → (g : ℕ) → g < j .grocers → ones (without (j .grocerOwner g) (sharerWord j g)) ≡ count (j .boxes) (λ b. not (eqb (j .grocerOwner g) b) && shares j g b)
+  pub sharer-ones : InRange j → (g : ℕ) → g < j .grocers → ones (without (j .grocerOwner g) (sharerWord j g)) ≡ count (j .boxes) (λ b. not (eqb (j .grocerOwner g) b) && shares j g b)
   unfolding sharerWord
   sharer-ones r g l = ones-others (j .boxes) (j .grocerOwner g) (shares j g) (r .boxes≤) (r .grocerOwner< g l) (shares-past j g)
 

@@ -1,7 +1,7 @@
 -- The ◆ cases of 01 that concern the settlement, in 01's order, and other small examples that say what the definitions mean.
 use mathlib.Core.Path.{_≡_}
 use mathlib.Core.List.{List, [], _∷_, map}
-use mathlib.Core.Bool.{cond}
+use mathlib.Core.Bool.{false, cond}
 use Prim.Native.Nat.{ℕ}
 use lib.Dec.{eqb}
 use lib.IntN.{ℤ, pos, negsuc}
@@ -16,7 +16,11 @@ use Rattle.model.specs.Step.{Asked, asked, stepOf, StepAnswer, accepted,
 use Rattle.model.specs.Requests.{Request, tablesAfter, answersIn}
 use Rattle.model.specs.Demand3.{wholeRequest}
 use Rattle.model.specs.Run.{readySteps, pick, runState, finished, refused as notRun, ran}
-use Rattle.model.specs.Local.{localOffers, localGrocers, starts, packed, packedGrocers, packedCounts, priceTable, totalTable}
+use Rattle.model.specs.LocalLists.{localOffers, localGrocers}
+use Rattle.model.specs.Local.{starts, packed, packedGrocers, packedCounts, priceTable, totalTable}
+use Rattle.model.specs.PackedTotals.{hasTotal, totalsStart, totalsLength, totalPlace}
+use Rattle.model.specs.Spans.{groupStart, placeGrocers}
+use Rattle.model.specs.FullRows.{unpacked, fullStepped}
 use Rattle.model.specs.Reconcile.{TallyRecord, owed, refused as notOwed, reconciled}
 
 -- Tables in which every coupon is loose: bags and revisions are 0.
@@ -74,10 +78,10 @@ ownerWithout = looseTables 4 1 1 2 (10 ∷ []) (0 ∷ []) (0 ∷ []) (0 ∷ 0 �
 abbrev pub oneBoxJob : JobTables
 oneBoxJob = looseTables 1 1 1 2 (10 ∷ []) (0 ∷ []) (0 ∷ []) (0 ∷ 0 ∷ []) (0 ∷ 0 ∷ []) (0 ∷ 0 ∷ []) (pos 5 ∷ negsuc 1 ∷ [])
 
--- E with working totals at their limit.
+-- E with a working total at its limit: box 0's of grocer 0, its second local grocer.
 abbrev pub fullE : StateTables
 fullE =
-    stateTables (500 ∷ 0 ∷ 0 ∷ 1250 ∷ []) (0 ∷ 0 ∷ 0 ∷ 0 ∷ []) (pos 1_000_000_000_000_000 ∷ pos 0 ∷ pos 0 ∷ pos 0 ∷ []) (pos 0 ∷ pos 0 ∷ pos 0 ∷ pos 0 ∷ [])
+    stateTables (500 ∷ 0 ∷ 0 ∷ 1250 ∷ []) (0 ∷ 0 ∷ 0 ∷ 0 ∷ []) (pos 0 ∷ pos 1_000_000_000_000_000 ∷ pos 0 ∷ []) (pos 0 ∷ pos 0 ∷ pos 0 ∷ [])
     (pos 0 ∷ pos 0 ∷ []) (tabulate 24 (λ i. 0)) (0 ∷ [])
 
 -- Two offers of box 0, both with a tally in box 1, which owns the grocer.
@@ -160,6 +164,19 @@ bagMoved x y =
     bagTables 2 1 2 3 (10 ∷ 20 ∷ []) (0 ∷ 1 ∷ []) (1 ∷ []) (0 ∷ 0 ∷ 0 ∷ []) (0 ∷ 0 ∷ 1 ∷ []) (0 ∷ 1 ∷ 1 ∷ [])
     (pos 3 ∷ pos 5 ∷ pos 4 ∷ []) (0 ∷ x ∷ y ∷ []) (0 ∷ 0 ∷ 1 ∷ [])
 
+-- Packed tables of E with these words, in a fresh state.
+abbrev pub packedE : (working totalTransit : List ℤ) → StateTables
+packedE working totalTransit =
+    stateTables (500 ∷ 0 ∷ 0 ∷ 1250 ∷ []) (0 ∷ 0 ∷ 0 ∷ 0 ∷ []) working totalTransit (pos 0 ∷ pos 0 ∷ []) (tabulate 24 (λ i. 0)) (0 ∷ [])
+
+-- The same with full rows, box 0's of grocers 0 and 1 and then box 1's. Box 1 has no part total of grocer 1.
+abbrev pub rowsE : List ℤ → StateTables
+rowsE working = packedE working (pos 0 ∷ pos 0 ∷ pos 0 ∷ pos 0 ∷ [])
+
+-- A fresh state of `lowTwice`, in which one bag and revision is there twice, with these packed tables.
+abbrev pub packedTwice : List ℤ → StateTables
+packedTwice working = stateTables (0 ∷ 10 ∷ []) (0 ∷ 0 ∷ []) working (pos 0 ∷ []) (pos 0 ∷ []) (tabulate 24 (λ i. 0)) (0 ∷ [])
+
 -- Small examples that say what the definitions mean.
 pub record Examples : Type 0 where
   -- The owner is not among the needs: bits 1 and 2, two price words; two totals; a tally of count 0 is one like any other.
@@ -213,8 +230,8 @@ pub record Examples : Type 0 where
   pub repeated : stepped jobE (stepped jobE freshE (asked 2 0 0) .tables) (asked 2 0 0) .answer ≡ refused 25
   -- Step 2 of box 0, accepted on a fresh state of E: 3 × 500 is in its working totals, where there was nothing;
   pub begins : stepped jobE freshE (asked 2 0 0) .answer ≡ accepted
-  pub no-work : freshE .working ≡ pos 0 ∷ pos 0 ∷ pos 0 ∷ pos 0 ∷ []
-  pub works : stepped jobE freshE (asked 2 0 0) .tables .working ≡ pos 1500 ∷ pos 0 ∷ pos 0 ∷ pos 0 ∷ []
+  pub no-work : freshE .working ≡ pos 0 ∷ pos 0 ∷ pos 0 ∷ []
+  pub works : stepped jobE freshE (asked 2 0 0) .tables .working ≡ pos 0 ∷ pos 1500 ∷ pos 0 ∷ []
   -- its mark alone is set, where there was none, and the statements are not made yet.
   pub unmarked : freshE .done ≡ tabulate 24 (λ i. 0)
   pub marked : stepped jobE freshE (asked 2 0 0) .tables .done ≡ tabulate 24 (λ i. cond (eqb i 4) 1 0)
@@ -254,7 +271,7 @@ pub record Examples : Type 0 where
   -- Totals that leave early. E: box 0 may send totals to box 1 once it has multiplied its own, and not before;
   pub early-waits : answersInTurn jobE (asked 4 0 1 ∷ asked 2 0 0 ∷ asked 4 0 1 ∷ []) ≡ refused 26 ∷ accepted ∷ accepted ∷ []
   -- 3 × 500 is then on its way. A list that does so does all steps and ends with the same statements.
-  pub early-sent : tablesInTurn jobE (asked 2 0 0 ∷ asked 4 0 1 ∷ []) .totalTransit ≡ pos 1500 ∷ pos 0 ∷ pos 0 ∷ pos 0 ∷ []
+  pub early-sent : tablesInTurn jobE (asked 2 0 0 ∷ asked 4 0 1 ∷ []) .totalTransit ≡ pos 0 ∷ pos 1500 ∷ pos 0 ∷ []
   pub early-answers : answersInTurn jobE earlyTotals ≡ map (λ q. accepted) earlyTotals
   pub early-leaves : tablesInTurn jobE earlyTotals .statement ≡ pos 2250 ∷ pos 2500 ∷ []
   -- Box 0 may add its own totals once the price of box 1's offer is in, before it multiplies its own: the statement is whole. 2 alone is not enough.
@@ -280,3 +297,43 @@ pub record Examples : Type 0 where
   -- Likewise of its own grocers: box 1's count of bag 7 is superseded by box 0's.
   pub superseded-own : answersInTurn (recounted 2 (1 ∷ 0 ∷ []) (pos 5 ∷ pos 4 ∷ []) (7 ∷ 7 ∷ []) (0 ∷ 1 ∷ [])) (asked 5 1 1 ∷ []) ≡ accepted ∷ []
   pub standing-own : answersInTurn (recounted 2 (1 ∷ 0 ∷ []) (pos 5 ∷ pos 4 ∷ []) (7 ∷ 7 ∷ []) (1 ∷ 0 ∷ [])) (asked 5 1 1 ∷ []) ≡ refused 26 ∷ []
+  -- Working totals by local grocer. E's box 0 has grocers 1 and 0, its own first; box 1 has grocer 0: three words, where full rows have four.
+  pub packed-length : totalsLength (jobOf jobE) ≡ 3
+  pub packed-starts : tabulate 3 (totalsStart (jobOf jobE)) ≡ 0 ∷ 2 ∷ 3 ∷ []
+  pub packed-places : totalPlace (jobOf jobE) 0 1 ∷ totalPlace (jobOf jobE) 0 0 ∷ totalPlace (jobOf jobE) 1 0 ∷ [] ≡ 0 ∷ 1 ∷ 2 ∷ []
+  pub packed-none : hasTotal (jobOf jobE) 1 1 ≡ false
+  -- Box 1's full row has 0 for grocer 1.
+  pub unpacked-rows : unpacked (jobOf jobE) (packedE (pos 7 ∷ pos 8 ∷ pos 9 ∷ []) []) .working ≡ pos 8 ∷ pos 7 ∷ pos 9 ∷ pos 0 ∷ []
+  -- A superseded tally makes no word: box 0 has none, box 1, the owner, one. A box's own grocer has one, though nobody holds a tally of it.
+  pub packed-recount : totalsLength (jobOf recount) ≡ 1
+  pub packed-own : totalsLength (jobOf noTallies) ≡ 1
+  -- Its groups: box 0's own grocer 1, none of its own again, and grocer 0, box 1's; box 1's own grocer 0, and nothing else.
+  pub packed-groups-0 : tabulate 4 (groupStart (jobOf jobE) 0) ≡ 0 ∷ 1 ∷ 1 ∷ 2 ∷ []
+  pub packed-groups-1 : tabulate 4 (groupStart (jobOf jobE) 1) ≡ 2 ∷ 3 ∷ 3 ∷ 3 ∷ []
+  pub packed-grocers : placeGrocers (jobOf jobE) ≡ 1 ∷ 0 ∷ 0 ∷ []
+  -- Three words are enough, two are not; a word past them may be anything, and stays.
+  pub packed-enough : stepped jobE (packedE (pos 0 ∷ pos 0 ∷ pos 0 ∷ []) (pos 0 ∷ pos 0 ∷ pos 0 ∷ [])) (asked 2 0 0) .answer ≡ accepted
+  pub packed-short : stepped jobE (packedE (pos 0 ∷ pos 0 ∷ pos 0 ∷ []) (pos 0 ∷ pos 0 ∷ [])) (asked 2 0 0) .answer ≡ refused 20
+  pub packed-past :
+      stepped jobE (packedE (pos 0 ∷ pos 0 ∷ pos 0 ∷ pos 1_000_000_000_000_001 ∷ []) (pos 0 ∷ pos 0 ∷ pos 0 ∷ [])) (asked 2 0 0) .tables .working
+      ≡ pos 0 ∷ pos 1500 ∷ pos 0 ∷ pos 1_000_000_000_000_001 ∷ []
+  -- The order: 20 on them before 21 on their words, both before 22 ..
+  pub packed-20-21 : stepped jobE (packedE (pos 1_000_000_000_000_001 ∷ []) []) (asked 9 99 0) .answer ≡ refused 20
+  pub packed-21-22 :
+      stepped jobE (packedE (pos 0 ∷ pos 0 ∷ pos 1_000_000_000_000_001 ∷ []) (pos 0 ∷ pos 0 ∷ pos 0 ∷ [])) (asked 9 99 0) .answer ≡ refused 21
+  -- .. but after 9; and after 21 on all else, here a mark that is 2, which comes after 20 on all else.
+  pub packed-9-20 : stepped lowTwice (packedTwice []) (asked 2 0 0) .answer ≡ refused 9
+  pub packed-9-21 : stepped lowTwice (packedTwice (pos 1_000_000_000_000_001 ∷ [])) (asked 2 0 0) .answer ≡ refused 9
+  pub packed-else :
+      stepped jobE (stateTables (500 ∷ 0 ∷ 0 ∷ 1250 ∷ []) (0 ∷ 0 ∷ 0 ∷ 0 ∷ []) [] [] (pos 0 ∷ pos 0 ∷ []) (tabulate 24 (λ i. 2)) (0 ∷ [])) (asked 2 0 0) .answer
+      ≡ refused 21
+  pub packed-other-20 :
+      stepped jobE (stateTables (500 ∷ 0 ∷ 0 ∷ 1250 ∷ []) (0 ∷ 0 ∷ 0 ∷ 0 ∷ []) [] [] (pos 0 ∷ pos 0 ∷ []) (tabulate 24 (λ i. 2)) []) (asked 2 0 0) .answer
+      ≡ refused 20
+  -- A run: 20 on them after 9, and their old words are not examined.
+  pub packed-run-9 : ran lowTwice (packedTwice []) [] [] .answer ≡ notRun 9
+  pub packed-run-20 : ran jobE (packedE (pos 0 ∷ pos 0 ∷ []) (pos 0 ∷ pos 0 ∷ pos 0 ∷ [])) [] [] .answer ≡ notRun 20
+  pub packed-run : ran jobE (packedE (pos 1_000_000_000_000_001 ∷ pos 5 ∷ pos 5 ∷ []) (pos 0 ∷ pos 0 ∷ pos 0 ∷ [])) [] [] .answer ≡ finished 3 3 10
+  -- Full rows with 7 in box 1's word for grocer 1, which is not local: no step touches it, and beyond ±10^15 it would be 21.
+  pub rows-stay : fullStepped jobE (rowsE (pos 0 ∷ pos 0 ∷ pos 0 ∷ pos 7 ∷ [])) (asked 2 1 1) .tables .working ≡ pos 0 ∷ pos 0 ∷ negsuc 1249 ∷ pos 7 ∷ []
+  pub rows-21 : fullStepped jobE (rowsE (pos 0 ∷ pos 0 ∷ pos 0 ∷ pos 1_000_000_000_000_001 ∷ [])) (asked 2 1 1) .answer ≡ refused 21

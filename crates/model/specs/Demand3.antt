@@ -12,8 +12,9 @@ use Rattle.model.specs.Job.{Job, held, needs, shares, amount, plainSum}
 use Rattle.model.specs.Steps.{Kind, Steps, Step, State, kindNumber, mark, hasStep, permitted, added, effectOf}
 use Rattle.model.specs.Boxes.{stateByRules}
 use Rattle.model.specs.Words.{over, wordsOf, priceTo, totalFrom, messagesOf, ownerWords, messageCount, stepCount}
-use Rattle.model.specs.Tables.{JobTables, jobOf, StateTables, view, store, lentShort}
-use Rattle.model.specs.Ranges.{stateInRange}
+use Rattle.model.specs.Tables.{JobTables, jobOf, StateTables, view, store, anyShort}
+use Rattle.model.specs.Ranges.{stateInRange, totalsInRange}
+use Rattle.model.specs.PackedTotals.{totalsLength}
 use Rattle.model.specs.Step.{isKind, stepOf, stepRules, StepAnswer, stepAnswer, isAccepted}
 use Rattle.model.specs.Run.{run, pickedPlaces, ran, reported, finished}
 use Rattle.model.specs.Requests.{Request, lendsShort, answerTo, serve, tablesAfter, answersIn, acceptedIn, doneIn}
@@ -91,7 +92,7 @@ pub record AfterList (f : JobTables) (t : StateTables) (rs : List Request)
   -- The tables are the state that they hold, written into the buffers t: words past the needed length stay.
   pub stays : tables ≡ store job state t
   -- Every word is in range.
-  pub inRange : stateInRange f tables ≡ true
+  pub inRange : (stateInRange f tables && totalsInRange job tables) ≡ true
   -- The marks are the steps done in the list.
   pub marks : (k : Kind) (a b : ℕ) → state .done k a b ≡ done k a b
   -- After every list the count of words sent is the number sent in it.
@@ -123,10 +124,10 @@ pub record AfterList (f : JobTables) (t : StateTables) (rs : List Request)
   -- and leaves the same state, equal statements among it;
   pub sameState : AllDone job done → (u : StateTables) (ps : List Request) → AllDone job (doneIn f u ps) → view job (tablesAfter f u ps) ≡ state
   -- so does a run, whatever its choices and its buffers held: its tables hold this state,
-  pub runLeaves : AllDone job done → (u : StateTables) (choices picked : List ℕ) → lentShort f u ≡ false →
+  pub runLeaves : AllDone job done → (u : StateTables) (choices picked : List ℕ) → anyShort f u ≡ false →
       view job (ran f u choices picked .tables) ≡ state
   -- and it reports the words, the messages and the number of the steps accepted in the list.
-  pub runReport : AllDone job done → (u : StateTables) (choices picked : List ℕ) → lentShort f u ≡ false →
+  pub runReport : AllDone job done → (u : StateTables) (choices picked : List ℕ) → anyShort f u ≡ false →
       ran f u choices picked .answer ≡ finished (over (wordsOf job) accepted) (over messagesOf accepted) (length accepted)
 
 -- Demand 3: what holds after the list rs of requests on the job tables f, from a fresh state in the buffers t.
@@ -151,8 +152,8 @@ wholeRequest f x = record {
   state = record {
     known = f .boxes * f .offers;
     priceTransit = f .boxes * f .offers;
-    working = f .boxes * f .grocers;
-    totalTransit = f .boxes * f .grocers;
+    working = totalsLength (jobOf f);
+    totalTransit = totalsLength (jobOf f);
     statement = f .grocers;
     done = 6 * f .boxes * f .boxes;
     sent = 1;
@@ -163,17 +164,17 @@ wholeRequest f x = record {
 pub record RunIsList (f : JobTables) (t : StateTables) (choices picked : List ℕ) : Type 0 where
   -- Only 20 refuses it; else it reports the words of the owner tables, the messages and the steps of the job.
   pub answer : ran f t choices picked .answer
-      ≡ reported (cond (lentShort f t) 20 0) (finished (ownerWords (jobOf f)) (messageCount (jobOf f)) (stepCount (jobOf f)))
+      ≡ reported (cond (anyShort f t) 20 0) (finished (ownerWords (jobOf f)) (messageCount (jobOf f)) (stepCount (jobOf f)))
   -- Requests for its steps are all accepted, do all steps, and leave its tables.
   pub accepted : acceptedIn f t (map (wholeRequest f) (run (jobOf f) choices)) ≡ run (jobOf f) choices
   pub allDone : AllDone (jobOf f) (doneIn f t (map (wholeRequest f) (run (jobOf f) choices)))
-  pub tables : lentShort f t ≡ false → ran f t choices picked .tables ≡ tablesAfter f t (map (wholeRequest f) (run (jobOf f) choices))
+  pub tables : anyShort f t ≡ false → ran f t choices picked .tables ≡ tablesAfter f t (map (wholeRequest f) (run (jobOf f) choices))
   -- It leaves every grocer's plain sum in the statements.
-  pub statements : lentShort f t ≡ false → (g : ℕ) → g < f .grocers → getD (ran f t choices picked .tables .statement) g (pos 0) ≡ plainSum (jobOf f) g
+  pub statements : anyShort f t ≡ false → (g : ℕ) → g < f .grocers → getD (ran f t choices picked .tables .statement) g (pos 0) ≡ plainSum (jobOf f) g
   -- Which steps it picked shows in the lent buffer: word i is the place of its step i, as far as the buffer reaches,
-  pub places : lentShort f t ≡ false → (i : ℕ) → i < stepCount (jobOf f) → i < length picked →
+  pub places : anyShort f t ≡ false → (i : ℕ) → i < stepCount (jobOf f) → i < length picked →
       getD (ran f t choices picked .picked) i 0 ≡ getD (pickedPlaces (jobOf f) choices) i 0
   -- and the words past the steps stay.
-  pub past : lentShort f t ≡ false → (i : ℕ) → stepCount (jobOf f) ≤ i → getD (ran f t choices picked .picked) i 0 ≡ getD picked i 0
+  pub past : anyShort f t ≡ false → (i : ℕ) → stepCount (jobOf f) ≤ i → getD (ran f t choices picked .picked) i 0 ≡ getD picked i 0
   -- A refusal changes no word.
-  pub keeps : lentShort f t ≡ true → (ran f t choices picked .tables ≡ t) × (ran f t choices picked .picked ≡ picked)
+  pub keeps : anyShort f t ≡ true → (ran f t choices picked .tables ≡ t) × (ran f t choices picked .picked ≡ picked)

@@ -26,9 +26,9 @@ pricesE = 500 ∷ 0 ∷ 0 ∷ 1250 ∷ []
 abbrev pub zeroPrices : List ℕ
 zeroPrices = 0 ∷ 0 ∷ 0 ∷ 0 ∷ []
 
--- No total of E, working or in transit, by box and grocer.
+-- No total of E, working or in transit: of box 0 grocers 1, its own, and 0, of box 1 grocer 0.
 abbrev pub zeroTotals : List ℤ
-zeroTotals = pos 0 ∷ pos 0 ∷ pos 0 ∷ pos 0 ∷ []
+zeroTotals = pos 0 ∷ pos 0 ∷ pos 0 ∷ []
 
 -- E's statements before anything is added.
 abbrev pub zeroStatements : List ℤ
@@ -69,15 +69,15 @@ doneE place sent = stateE pricesE zeroPrices zeroTotals zeroTotals zeroStatement
 
 -- A price of offer 0 is on its way to box 1, which has a working total of grocer 0; the step at this place is done: 1 where it was sent.
 abbrev pub priceSentE : (price : ℕ) (working : ℤ) (place : ℕ) → StateTables
-priceSentE price working place = stateE pricesE (0 ∷ 0 ∷ price ∷ 0 ∷ []) (pos 0 ∷ pos 0 ∷ working ∷ pos 0 ∷ []) zeroTotals zeroStatements place 1
+priceSentE price working place = stateE pricesE (0 ∷ 0 ∷ price ∷ 0 ∷ []) (pos 0 ∷ pos 0 ∷ working ∷ []) zeroTotals zeroStatements place 1
 
 -- Box 0, which has received its prices, has a working total of grocer 1, its own; the statement of this grocer.
 abbrev pub ownTotalE : (working statement : ℤ) → StateTables
-ownTotalE working statement = stateE pricesE zeroPrices (pos 0 ∷ working ∷ pos 0 ∷ pos 0 ∷ []) zeroTotals (pos 0 ∷ statement ∷ []) 9 0
+ownTotalE working statement = stateE pricesE zeroPrices (working ∷ pos 0 ∷ pos 0 ∷ []) zeroTotals (pos 0 ∷ statement ∷ []) 9 0
 
 -- A total of grocer 0 is on its way from box 0 to box 1; the statement of this grocer.
 abbrev pub totalSentE : (total statement : ℤ) → StateTables
-totalSentE total statement = stateE pricesE zeroPrices zeroTotals (total ∷ pos 0 ∷ pos 0 ∷ pos 0 ∷ []) (statement ∷ pos 0 ∷ []) 13 0
+totalSentE total statement = stateE pricesE zeroPrices zeroTotals (pos 0 ∷ total ∷ pos 0 ∷ []) (statement ∷ pos 0 ∷ []) 13 0
 
 -- What a step of E answers in a state of it,
 abbrev pub answerE : StateTables → (kind first second : ℕ) → StepAnswer
@@ -110,8 +110,8 @@ abbrev pub shortStateE : ℕ → StateTables
 shortStateE i = lentState (doneE 24 0) (record {
   known = less i 0 4;
   priceTransit = less i 1 4;
-  working = less i 2 4;
-  totalTransit = less i 3 4;
+  working = less i 2 3;
+  totalTransit = less i 3 3;
   statement = less i 4 2;
   done = less i 5 24;
   sent = less i 6 1;
@@ -215,17 +215,17 @@ pub record Edges : Type 0 where
   -- and 9,999,999 is in range.
   pub transit-most : answerE (transitE (0 ∷ 0 ∷ 0 ∷ 9_999_999 ∷ [])) 2 0 0 ≡ accepted
   -- A working total of 10^15 + 1 is 21,
-  pub working-over : answerE (workingE (pos 0 ∷ pos 0 ∷ pos 0 ∷ pos 1_000_000_000_000_001 ∷ [])) 2 0 0 ≡ refused 21
+  pub working-over : answerE (workingE (pos 0 ∷ pos 0 ∷ pos 1_000_000_000_000_001 ∷ [])) 2 0 0 ≡ refused 21
   -- and so is −10^15 − 1;
-  pub working-under : answerE (workingE (pos 0 ∷ pos 0 ∷ pos 0 ∷ negsuc 1_000_000_000_000_000 ∷ [])) 2 0 0 ≡ refused 21
+  pub working-under : answerE (workingE (pos 0 ∷ pos 0 ∷ negsuc 1_000_000_000_000_000 ∷ [])) 2 0 0 ≡ refused 21
   -- 10^15 and −10^15 are in range.
-  pub working-most : answerE (workingE (pos 0 ∷ pos 0 ∷ pos 1_000_000_000_000_000 ∷ negsuc 999_999_999_999_999 ∷ [])) 2 0 0 ≡ accepted
+  pub working-most : answerE (workingE (pos 1_000_000_000_000_000 ∷ pos 0 ∷ negsuc 999_999_999_999_999 ∷ [])) 2 0 0 ≡ accepted
   -- A total in transit of 10^15 + 1 is 21,
-  pub total-transit-over : answerE (totalTransitE (pos 0 ∷ pos 0 ∷ pos 0 ∷ pos 1_000_000_000_000_001 ∷ [])) 2 0 0 ≡ refused 21
+  pub total-transit-over : answerE (totalTransitE (pos 0 ∷ pos 0 ∷ pos 1_000_000_000_000_001 ∷ [])) 2 0 0 ≡ refused 21
   -- and so is −10^15 − 1;
-  pub total-transit-under : answerE (totalTransitE (pos 0 ∷ pos 0 ∷ pos 0 ∷ negsuc 1_000_000_000_000_000 ∷ [])) 2 0 0 ≡ refused 21
+  pub total-transit-under : answerE (totalTransitE (pos 0 ∷ pos 0 ∷ negsuc 1_000_000_000_000_000 ∷ [])) 2 0 0 ≡ refused 21
   -- 10^15 and −10^15 are in range.
-  pub total-transit-most : answerE (totalTransitE (pos 0 ∷ pos 0 ∷ pos 1_000_000_000_000_000 ∷ negsuc 999_999_999_999_999 ∷ [])) 2 0 0 ≡ accepted
+  pub total-transit-most : answerE (totalTransitE (pos 0 ∷ pos 1_000_000_000_000_000 ∷ negsuc 999_999_999_999_999 ∷ [])) 2 0 0 ≡ accepted
   -- A statement of 10^15 + 1 is 21,
   pub statement-over : answerE (statementE (pos 0 ∷ pos 1_000_000_000_000_001 ∷ [])) 2 0 0 ≡ refused 21
   -- and so is −10^15 − 1;
@@ -275,14 +275,14 @@ pub record Edges : Type 0 where
   -- the last count that fits.
   pub last-1 : tablesE (doneE 24 999_999) 1 0 1 .sent ≡ 1_000_000 ∷ []
   -- Step 2: a working total, to which it adds 1,500;
-  pub late-2 : answerE (workingE (pos 999_999_999_998_501 ∷ pos 0 ∷ pos 0 ∷ pos 0 ∷ [])) 2 0 0 ≡ refused 21
+  pub late-2 : answerE (workingE (pos 0 ∷ pos 999_999_999_998_501 ∷ pos 0 ∷ [])) 2 0 0 ≡ refused 21
   -- the last that fits.
-  pub last-2 : tablesE (workingE (pos 999_999_999_998_500 ∷ pos 0 ∷ pos 0 ∷ pos 0 ∷ [])) 2 0 0 .working
-      ≡ pos 1_000_000_000_000_000 ∷ pos 0 ∷ pos 0 ∷ pos 0 ∷ []
+  pub last-2 : tablesE (workingE (pos 0 ∷ pos 999_999_999_998_500 ∷ pos 0 ∷ [])) 2 0 0 .working
+      ≡ pos 0 ∷ pos 1_000_000_000_000_000 ∷ pos 0 ∷ []
   -- Step 3: a working total, to which it adds 2,000;
   pub late-3 : answerE (priceSentE 500 (pos 999_999_999_998_001) 1) 3 1 0 ≡ refused 21
   -- the last that fits.
-  pub last-3 : tablesE (priceSentE 500 (pos 999_999_999_998_000) 1) 3 1 0 .working ≡ pos 0 ∷ pos 0 ∷ pos 1_000_000_000_000_000 ∷ pos 0 ∷ []
+  pub last-3 : tablesE (priceSentE 500 (pos 999_999_999_998_000) 1) 3 1 0 .working ≡ pos 0 ∷ pos 0 ∷ pos 1_000_000_000_000_000 ∷ []
   -- Step 4: the count of words sent;
   pub late-4 : answerE (doneE 4 1_000_000) 4 0 1 ≡ refused 21
   -- the last count that fits.
@@ -299,9 +299,9 @@ pub record Edges : Type 0 where
   -- Step 1 sends 7 where box 0 knows its price 500 as 7;
   pub state-price-1 : tablesE (knownE (7 ∷ 0 ∷ 0 ∷ 1250 ∷ [])) 1 0 1 .priceTransit ≡ 0 ∷ 0 ∷ 7 ∷ 0 ∷ []
   -- step 2 multiplies by 7;
-  pub state-price-2 : tablesE (knownE (7 ∷ 0 ∷ 0 ∷ 1250 ∷ [])) 2 0 0 .working ≡ pos 21 ∷ pos 0 ∷ pos 0 ∷ pos 0 ∷ []
+  pub state-price-2 : tablesE (knownE (7 ∷ 0 ∷ 0 ∷ 1250 ∷ [])) 2 0 0 .working ≡ pos 0 ∷ pos 21 ∷ pos 0 ∷ []
   -- step 3 multiplies by the price that was in transit,
-  pub state-price-3 : tablesE (priceSentE 7 (pos 0) 1) 3 1 0 .working ≡ pos 0 ∷ pos 0 ∷ pos 28 ∷ pos 0 ∷ []
+  pub state-price-3 : tablesE (priceSentE 7 (pos 0) 1) 3 1 0 .working ≡ pos 0 ∷ pos 0 ∷ pos 28 ∷ []
   -- which its box then knows.
   pub state-known-3 : tablesE (priceSentE 7 (pos 0) 1) 3 1 0 .known ≡ 500 ∷ 0 ∷ 7 ∷ 1250 ∷ []
   -- ## Order of refusals

@@ -3,7 +3,10 @@ pub mod Job
 pub mod Steps
 pub mod Boxes
 pub mod Words
+pub mod LocalLists
+pub mod PackedTotals
 pub mod Tables
+pub mod Spans
 pub mod Lent
 pub mod Standing
 pub mod Ranges
@@ -15,6 +18,7 @@ pub mod Local
 pub mod Reconcile
 pub mod Requests
 pub mod Demand3
+pub mod FullRows
 pub mod Cases
 pub mod Edges
 pub mod Evening

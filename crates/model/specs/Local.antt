@@ -1,39 +1,23 @@
 -- The local book of a box (its local matrix, packed by offer), and the tables of words between boxes.
-use mathlib.Core.List.{List, [], _∷_, _++_, map}
+use mathlib.Core.List.{List, [], _∷_, map}
 use mathlib.Core.Bool.{Bool, _&&_, _||_, not}
-use Prim.Native.Nat.{ℕ, zero, suc}
+use Prim.Native.Nat.{ℕ, suc}
 use lib.ListN.{getD, length}
 use lib.Dec.{eqb, ltb}
 use lib.IntN.{ℤ}
-use Rattle.laws.specs.Below.{sum, naturals, count, find, ascending}
+use Rattle.laws.specs.Below.{sum, naturals, count, ascending}
 use Rattle.laws.specs.Tables.{tabulate}
 use Rattle.laws.specs.Checks.{anyOf}
 use Rattle.recount.specs.Recount.{countedTwice}
 use Rattle.model.specs.Job.{Job, heldBy, priceWord, totalWord}
 use Rattle.model.specs.Tables.{JobTables, countedOf, jobLengths, jobShort, bagsShort}
 use Rattle.model.specs.Ranges.{jobInRange}
-
--- The lists f 0, f 1, .. f (n − 1), one behind the other.
-unfoldable pub chained : ℕ → (ℕ → List ℕ) → List ℕ
-chained zero f = []
-chained (suc n) f = chained n f ++ f n
+unfoldable pub use Rattle.model.specs.LocalLists.{chained, localOffers, localGrocers, localGrocer}
 
 module _ (j : Job) (b : ℕ) where
-  -- Local offers: own ones ascending, then others it holds a tally of, by owner and then place in the offer table.
-  unfoldable pub localOffers : List ℕ
-  localOffers = ascending (j .offers) (λ o. eqb (j .offerOwner o) b) ++ chained (j .boxes) (λ a. ascending (j .offers) (priceWord j a b))
-
-  -- Local grocers likewise.
-  unfoldable pub localGrocers : List ℕ
-  localGrocers = ascending (j .grocers) (λ g. eqb (j .grocerOwner g) b) ++ chained (j .boxes) (λ a. ascending (j .grocers) (totalWord j b a))
-
-  -- The local number of grocer g: its place among the local grocers.
-  unfoldable pub localGrocer : ℕ → ℕ
-  localGrocer g = find (length localGrocers) (λ i. eqb (getD localGrocers i 0) g)
-
   -- Tally t is one of the box's tallies of its local offer i.
   unfoldable pub ofOffer : ℕ → ℕ → Bool
-  ofOffer i t = heldBy j t b && eqb (j .tallyOffer t) (getD localOffers i 0)
+  ofOffer i t = heldBy j t b && eqb (j .tallyOffer t) (getD (localOffers j b) i 0)
 
   -- Where the list of local offer i begins: behind the tallies of those before it.
   unfoldable pub start : ℕ → ℕ
@@ -41,7 +25,7 @@ module _ (j : Job) (b : ℕ) where
 
   -- Starts: one more than local offers, the first 0.
   unfoldable pub starts : List ℕ
-  starts = tabulate (suc (length localOffers)) start
+  starts = tabulate (suc (length (localOffers j b))) start
 
 module _ (j : Job) (b : ℕ) where
   -- The box's tallies by local offer; "Inside one offer's list, tallies go by local grocer, then by place in the file" (02 §4).

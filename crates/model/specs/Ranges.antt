@@ -10,6 +10,8 @@ use Rattle.laws.specs.Limits.{maxBoxes, maxGrocers, maxOffers, maxTallies, maxP
 use Rattle.laws.specs.Below.{all}
 use Rattle.laws.specs.Checks.{allOf}
 use Rattle.recount.specs.Recount.{countedTwice}
+use Rattle.model.specs.Job.{Job}
+use Rattle.model.specs.PackedTotals.{totalsLength}
 use Rattle.model.specs.Tables.{JobTables, countedOf, jobLengths, jobShort, bagsShort, StateTables}
 
 -- The first n words of a table are at most m.
@@ -58,15 +60,17 @@ pub record Settles (f : JobTables) : Type 0 where
   pub inRange : jobInRange f ≡ true
   pub once : countedTwice (countedOf f) ≡ false
 
--- Condition 21 is not met by the state's tables: a done mark is 0 or 1.
+-- Condition 21 is not met by the state's tables but the packed ones: a done mark is 0 or 1.
 unfoldable pub stateInRange : JobTables → StateTables → Bool
 stateInRange f t =
     allOf (
     upTo maxPrice (f .boxes * f .offers) (t .known)
     ∷ upTo maxPrice (f .boxes * f .offers) (t .priceTransit)
-    ∷ around maxAmount (f .boxes * f .grocers) (t .working)
-    ∷ around maxAmount (f .boxes * f .grocers) (t .totalTransit)
     ∷ around maxAmount (f .grocers) (t .statement)
     ∷ upTo 1 (6 * f .boxes * f .boxes) (t .done)
     ∷ upTo maxSent 1 (t .sent)
     ∷ [])
+
+-- Condition 21 is not met by the packed tables: "on their words within the job's length".
+unfoldable pub totalsInRange : Job → StateTables → Bool
+totalsInRange j t = around maxAmount (totalsLength j) (t .working) && around maxAmount (totalsLength j) (t .totalTransit)

@@ -10,7 +10,7 @@ use Rattle.recount.specs.Recount.{countedTwice}
 use Rattle.model.specs.Job.{Job}
 use Rattle.model.specs.Steps.{Steps, Step, kindNumber, stepPlace, stepAt, atPlace, listOf, State, permitted, fresh, effectOf}
 use Rattle.model.specs.Words.{over, messagesOf, stepCount}
-use Rattle.model.specs.Tables.{JobTables, countedOf, jobOf, StateTables, store, lentShort}
+use Rattle.model.specs.Tables.{JobTables, countedOf, jobOf, StateTables, store, stateLengths, lentShort, totalsShort}
 use Rattle.model.specs.Ranges.{jobInRange}
 
 module _ (j : Job) where
@@ -72,7 +72,8 @@ pub record RunOutcome : Type 0 where
 
 -- The refusals of a run. What its state buffers held before is not examined.
 unfoldable pub runRefusals : JobTables → StateTables → List (Bool × ℕ)
-runRefusals f t = (lentShort f t, 20) ∷ (not (jobInRange f), 21) ∷ (countedTwice (countedOf f), 9) ∷ []
+runRefusals f t =
+    (lentShort f t, 20) ∷ (not (jobInRange f), 21) ∷ (countedTwice (countedOf f), 9) ∷ (totalsShort (jobOf f) (stateLengths t), 20) ∷ []
 
 -- The state that a run's steps leave.
 unfoldable pub runState : Job → List ℕ → State

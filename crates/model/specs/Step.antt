@@ -7,8 +7,8 @@ use Rattle.laws.specs.Checks.{firstMet}
 use Rattle.recount.specs.Recount.{countedTwice}
 use Rattle.model.specs.Job.{Job}
 use Rattle.model.specs.Steps.{Kind, kindOf, Steps, Step, oneBox, fits, ready, fresh, effect}
-use Rattle.model.specs.Tables.{JobTables, countedOf, jobOf, StateTables, view, store, lentShort}
-use Rattle.model.specs.Ranges.{jobInRange, stateInRange}
+use Rattle.model.specs.Tables.{JobTables, countedOf, jobOf, StateTables, view, store, stateLengths, lentShort, totalsShort}
+use Rattle.model.specs.Ranges.{jobInRange, stateInRange, totalsInRange}
 
 -- What a request asks for, as three numbers: kind, first box, second box.
 pub record Asked : Type 0 where
@@ -48,15 +48,18 @@ module _ (f : JobTables) (t : StateTables) where
   unfoldable pub moved : Asked → StateTables
   moved q = store (jobOf f) (effect (jobOf f) (view (jobOf f) t) (kindOf (q .kind)) (q .first) (q .second)) t
 
-  -- The refusals of a step. Elsewhere by number; the first condition met is always the one refused.
+  -- The refusals of a step. By number, but that 20 on the packed tables and then 21 on their words come straight after 21 on all else and 9;
+  -- the first condition met is always the one refused.
   -- An entry whose finished result would leave a range refuses with 21, after all its other checks.
   unfoldable pub refusals : Asked → List (Bool × ℕ)
   refusals q =
       (lentShort f t, 20)
       ∷ (not (jobInRange f && stateInRange f t), 21)
       ∷ (countedTwice (countedOf f), 9)
+      ∷ (totalsShort (jobOf f) (stateLengths t), 20)
+      ∷ (not (totalsInRange (jobOf f) t), 21)
       ∷ stepRules (jobOf f) (view (jobOf f) t .done) q
-      ++ (not (stateInRange f (moved q)), 21)
+      ++ (not (stateInRange f (moved q) && totalsInRange (jobOf f) (moved q)), 21)
       ∷ []
 
   -- The number of the first condition met, or 0 where none is.

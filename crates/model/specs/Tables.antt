@@ -9,6 +9,7 @@ use Rattle.laws.specs.Tables.{overwrite, word, cell, recell}
 use Rattle.laws.specs.Checks.{anyOf}
 use Rattle.recount.specs.Recount.{Counted, columns, stands}
 use Rattle.model.specs.Job.{Job}
+use Rattle.model.specs.PackedTotals.{totalsLength, packTotals, unpackTotals}
 use Rattle.model.specs.Steps.{kindNumber, stepPlace, places, Steps, atPlace, State}
 
 -- The job's tables: K, M, N and T as given, and nine lent slices.
@@ -78,8 +79,8 @@ jobOf f = record {
 pub record StateTables : Type 0 where
   pub known : List ℕ  -- K × N words, by box
   pub priceTransit : List ℕ  -- K × N, by receiving box
-  pub working : List ℤ  -- K × M, by box
-  pub totalTransit : List ℤ  -- K × M, by sending box
+  pub working : List ℤ  -- packed, by box and local grocer: `totalsLength`
+  pub totalTransit : List ℤ  -- the same, by sending box and its local grocer
   pub statement : List ℤ  -- M
   pub done : List ℕ  -- 6 × K × K marks, by kind, first box and second box
   pub sent : List ℕ  -- 1
@@ -110,8 +111,8 @@ module _ (j : Job) where
   view t = record {
     known = cell (j .boxes) (j .offers) (t .known) 0;
     priceTransit = cell (j .boxes) (j .offers) (t .priceTransit) 0;
-    working = cell (j .boxes) (j .grocers) (t .working) (pos 0);
-    totalTransit = cell (j .boxes) (j .grocers) (t .totalTransit) (pos 0);
+    working = unpackTotals j (t .working);
+    totalTransit = unpackTotals j (t .totalTransit);
     statement = word (j .grocers) (t .statement) (pos 0);
     done = stepsDone (j .boxes) (t .done);
     sent = word 1 (t .sent) 0 0;
@@ -122,8 +123,8 @@ module _ (j : Job) where
   store s t = record {
     known = recell (j .boxes) (j .offers) (s .known) (t .known);
     priceTransit = recell (j .boxes) (j .offers) (s .priceTransit) (t .priceTransit);
-    working = recell (j .boxes) (j .grocers) (s .working) (t .working);
-    totalTransit = recell (j .boxes) (j .grocers) (s .totalTransit) (t .totalTransit);
+    working = packTotals j (s .working) (t .working);
+    totalTransit = packTotals j (s .totalTransit) (t .totalTransit);
     statement = overwrite (j .grocers) (s .statement) (t .statement);
     done = marksOf (j .boxes) (s .done) (t .done);
     sent = overwrite 1 (λ i. s .sent) (t .sent);
@@ -194,19 +195,25 @@ jobShort f n =
 unfoldable pub bagsShort : JobTables → JobLengths → Bool
 bagsShort f n = ltb (n .tallyBag) (f .tallies) || ltb (n .tallyRevision) (f .tallies)
 
--- 20 on the state's tables: a lent buffer shorter than K, M and N as given need.
+-- 20 on the state's tables but the packed ones: a lent buffer shorter than K, M and N as given need.
 unfoldable pub stateShort : JobTables → StateLengths → Bool
 stateShort f n =
     anyOf (
     ltb (n .known) (f .boxes * f .offers)
     ∷ ltb (n .priceTransit) (f .boxes * f .offers)
-    ∷ ltb (n .working) (f .boxes * f .grocers)
-    ∷ ltb (n .totalTransit) (f .boxes * f .grocers)
     ∷ ltb (n .statement) (f .grocers)
     ∷ ltb (n .done) (6 * f .boxes * f .boxes)
     ∷ ltb (n .sent) 1
     ∷ [])
 
--- 20 for step and run: one of the sixteen tables is lent short.
+-- 20 on all else, which a step and a run look at first: one of the fourteen tables that are not packed is lent short.
 unfoldable pub lentShort : JobTables → StateTables → Bool
 lentShort f t = jobShort f (jobLengths f) || bagsShort f (jobLengths f) || stateShort f (stateLengths t)
+
+-- 20 on the packed tables: shorter than the packed length of the job. Asked "straight after 21 on all else and 9".
+unfoldable pub totalsShort : Job → StateLengths → Bool
+totalsShort j n = ltb (n .working) (totalsLength j) || ltb (n .totalTransit) (totalsLength j)
+
+-- One of the sixteen tables is lent short.
+unfoldable pub anyShort : JobTables → StateTables → Bool
+anyShort f t = lentShort f t || totalsShort (jobOf f) (stateLengths t)

@@ -1,5 +1,5 @@
 -- Laws of the tables of a fresh state. Assumes nothing.
-use mathlib.Core.Path.{_≡_, sym, ap, _∙_}
+use mathlib.Core.Path.{_≡_, refl, sym, ap, _∙_}
 use mathlib.Core.List.{List}
 use mathlib.Core.Bool.{cond, _&&_}
 use Prim.Native.Nat.{ℕ, _+_, _*_, _/_, _%_, _≤_, _<_}
@@ -16,6 +16,9 @@ use Rattle.laws.proofs.Tables.{over-over, recell-cong, word-in, cell-in}
 use Rattle.model.specs.Steps.{fresh}
 use Rattle.model.specs.Tables.{jobTables, jobOf, StateTables, stateTables, store, marksOf}
 use Rattle.model.specs.Step.{freshTables}
+use Rattle.model.specs.Job.{Job}
+use Rattle.model.specs.PackedTotals.{totalsLength, packTotals}
+use Rattle.model.proofs.Spans.{pack-places}
 use Rattle.run_fresh.specs.Fresh.{ownPrices}
 
 -- Own prices, one offer a turn: row b, column o of the table of known prices.
@@ -72,10 +75,18 @@ module _ (k m n : ℕ) (price owner : List ℕ) (t : StateTables) (tallies : ℕ
       over-recell : recell k n (λ b o. cond (eqb (getD owner o 0) b) (getD price o 0) 0) (overwrite (k * n) (λ i. 0) (t .known)) ≡ recell k n (λ b o. cond (eqb (getD owner o 0) b) (getD price o 0) 0) (t .known)
       over-recell = recell-over k n (λ b o. cond (eqb (getD owner o 0) b) (getD price o 0) 0) (λ i. 0) (t .known)
 
-  pub fresh-is : stateTables (ownPrices k n price owner (overwrite (k * n) (λ i. 0) (t .known))) (overwrite (k * n) (λ i. 0) (t .priceTransit))
-      (overwrite (k * m) (λ i. pos 0) (t .working)) (overwrite (k * m) (λ i. pos 0) (t .totalTransit)) (overwrite m (λ i. pos 0) (t .statement))
+  -- The job, and packed tables of zeros.
+  abbrev job : Job
+  job = jobOf (jobTables k m n tallies price owner gowner tgrocer tbox toffer tcount)
+
+  packed-none : (l : List ℤ) → totalsLength job ≤ length l → overwrite (totalsLength job) (λ i. pos 0) l ≡ packTotals job (λ b g. pos 0) l
+  packed-none l long = sym (pack-places job l long (λ b g. pos 0) (λ i. pos 0) (λ c g h. refl))
+
+  pub fresh-is : totalsLength job ≤ length (t .working) → totalsLength job ≤ length (t .totalTransit) →
+      stateTables (ownPrices k n price owner (overwrite (k * n) (λ i. 0) (t .known))) (overwrite (k * n) (λ i. 0) (t .priceTransit))
+      (overwrite (totalsLength job) (λ i. pos 0) (t .working)) (overwrite (totalsLength job) (λ i. pos 0) (t .totalTransit)) (overwrite m (λ i. pos 0) (t .statement))
       (overwrite (6 * k * k) (λ i. 0) (t .done)) (overwrite 1 (λ i. 0) (t .sent))
       ≡ freshTables (jobTables k m n tallies price owner gowner tgrocer tbox toffer tcount) t
   unfolding freshTables store fresh jobOf recell marksOf
-  fresh-is = λ i. stateTables (fresh-known i) (overwrite (k * n) (λ i. 0) (t .priceTransit)) (overwrite (k * m) (λ i. pos 0) (t .working)) (overwrite (k * m) (λ i. pos 0) (t .totalTransit)) (overwrite m (λ i. pos 0) (t .statement))
+  fresh-is lw lt = λ i. stateTables (fresh-known i) (overwrite (k * n) (λ i. 0) (t .priceTransit)) (packed-none (t .working) lw i) (packed-none (t .totalTransit) lt i) (overwrite m (λ i. pos 0) (t .statement))
       (overwrite (6 * k * k) (λ i. 0) (t .done)) (overwrite 1 (λ i. 0) (t .sent))

@@ -21,10 +21,8 @@ pub record FreshPrices (k n : ℕ) (price owner known transit : List ℕ) : Type
   pub knownLong : k * n ≤ length known
   pub transitLong : k * n ≤ length transit
 
--- What its tables of totals require.
-pub record FreshTotals (k m : ℕ) (working transit statement : List ℤ) : Type 0 where
-  pub boxes≤ : k ≤ 16
-  pub grocers≤ : m ≤ 255
-  pub workingLong : k * m ≤ length working
-  pub transitLong : k * m ≤ length transit
+-- What its tables of totals require: packed tables of so many words, and the statements.
+pub record FreshTotals (words m : ℕ) (working transit statement : List ℤ) : Type 0 where
+  pub workingLong : words ≤ length working
+  pub transitLong : words ≤ length transit
   pub statementLong : m ≤ length statement

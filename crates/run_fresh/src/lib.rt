@@ -57,22 +57,20 @@ pub fn fresh_prices(
     }
 }
 
-// The tables of totals of a fresh state, whatever they held before: all words are 0.
+// The tables of totals of a fresh state, whatever they held before: the words of the packed tables and the statements are 0.
 pub fn fresh_totals(
-    boxes: u16,
+    words: usize,
     grocers: u16,
     working: &mut [i64],
     total_transit: &mut [i64],
     statement: &mut [i64],
 )
-    requires { ⌜ FreshTotals boxes grocers (now working) (now «total_transit») (now statement) ⌝ }
-    ensures { λ _. ⌜ (now (working .exit) ≡ overwrite (boxes * grocers) (λ i. pos 0) (now (working .entry))) ×
-        (now («total_transit» .exit) ≡ overwrite (boxes * grocers) (λ i. pos 0) (now («total_transit» .entry))) ×
+    requires { ⌜ FreshTotals words grocers (now working) (now «total_transit») (now statement) ⌝ }
+    ensures { λ _. ⌜ (now (working .exit) ≡ overwrite words (λ i. pos 0) (now (working .entry))) ×
+        (now («total_transit» .exit) ≡ overwrite words (λ i. pos 0) (now («total_transit» .entry))) ×
         (now (statement .exit) ≡ overwrite grocers (λ i. pos 0) (now (statement .entry))) ⌝ }
 {
-    let m = grocers as usize;
-    let words = boxes as usize * m;
     zero64(working, words);
     zero64(total_transit, words);
-    zero64(statement, m);
+    zero64(statement, grocers as usize);
 }

@@ -2,34 +2,40 @@
 use mathlib.Core.Path.{_≡_, sym}
 use mathlib.Core.Bool.{Bool, true, false, cond, not, false≢true}
 use mathlib.Core.List.{List, [], _∷_}
-use Prim.Native.Nat.{ℕ, _*_, _≤_, _<_}
+use Prim.Native.Nat.{ℕ, zero, suc, _+_, _*_, _≤_, _<_}
 use native.Mathlib.Omega.{arith}
 use lib.Dec.{eqb, ltb, leb}
-use borrow.Author.Tests.{ltb-true, leb-true, eqb-false, not-true}
+use borrow.Author.Tests.{ltb-true, lt-ltb, le-leb, leb-true, eqb-false, not-true}
 use Rattle.laws.specs.Tables.{tabulate}
-use Rattle.laws.proofs.Bools.{and-l, and-r}
+use Rattle.laws.proofs.Bools.{and-l, and-r, and-true, cond-either}
+use Rattle.laws.proofs.Below.{count-le}
+use native.Mathlib.Nat.{le-trans}
+use lib.ListN.{getD, length}
 use Rattle.laws.proofs.Checks.{each-of}
-use Rattle.model.specs.Job.{needWord, sharerWord}
+use Rattle.model.specs.Job.{needWord, totalWord}
 use Rattle.model.specs.Steps.{kindOf, oneBox}
 use Rattle.model.specs.Tables.{JobTables, jobOf, StateTables, jobLengths, stateLengths}
-use Rattle.laws.specs.Limits.{maxPrice, maxAmount, maxSent}
-use Rattle.model.specs.Ranges.{upTo, around, stateInRange}
+use Rattle.laws.specs.Limits.{maxBoxes, maxOffers, maxGrocers, maxPrice, maxAmount, maxSent}
+use Rattle.model.specs.Ranges.{upTo, around, stateInRange, totalsInRange}
+use Rattle.model.specs.PackedTotals.{totalsLength}
+use Rattle.model.specs.Spans.{groupStart, inSpan, BySpans}
 use Rattle.model.specs.Step.{Asked, isKind, boxesFit}
 use Rattle.step_places.specs.Marks.{MarksIn}
 use Rattle.step_links.specs.Links.{Linked, LinkedPairs}
-use Rattle.step_totals.specs.Row.{TalliesIn, PricesIn, AmountsIn}
-use Rattle.step_apply.specs.Apply.{Applies, SentIn, PriceStepIn, TotalStepIn}
-use Rattle.model.proofs.Lent.{JobLong, job-long, StateLong, state-long}
+use Rattle.step_totals.specs.Row.{TalliesIn, PricesIn, PlacesIn}
+use Rattle.step_apply.specs.Apply.{Applies, Spots, SpanOf, spanBox, spanGroup, SentIn, PriceStepIn, TotalStepIn}
+use Rattle.model.proofs.Lent.{JobLong, job-long, StateLong, state-long, TotalsLong, totals-long}
 use Rattle.step_totals.proofs.Effect.{talliesOf}
-use Rattle.model.proofs.Step.{up-at}
+use Rattle.model.proofs.Step.{up-at, around-at, range, job-in}
+use Rattle.model.proofs.Range.{InRange}
+use Rattle.model.proofs.Spans.{own-next, group-next, own-within, span-within}
+use Rattle.model.proofs.Spans as span-laws
 use Rattle.step_totals.proofs.Given.{tallies-given}
 
 -- The words of the state's tables are in range, table by table.
 pub record StateWords (f : JobTables) (t : StateTables) : Type 0 where
   pub known : upTo maxPrice (f .boxes * f .offers) (t .known) ≡ true
   pub priceTransit : upTo maxPrice (f .boxes * f .offers) (t .priceTransit) ≡ true
-  pub working : around maxAmount (f .boxes * f .grocers) (t .working) ≡ true
-  pub totalTransit : around maxAmount (f .boxes * f .grocers) (t .totalTransit) ≡ true
   pub statement : around maxAmount (f .grocers) (t .statement) ≡ true
   pub done : upTo 1 (6 * f .boxes * f .boxes) (t .done) ≡ true
   pub sent : upTo maxSent 1 (t .sent) ≡ true
@@ -40,8 +46,6 @@ state-words f t h =
     let e = each-of (
     upTo maxPrice (f .boxes * f .offers) (t .known)
     ∷ upTo maxPrice (f .boxes * f .offers) (t .priceTransit)
-    ∷ around maxAmount (f .boxes * f .grocers) (t .working)
-    ∷ around maxAmount (f .boxes * f .grocers) (t .totalTransit)
     ∷ around maxAmount (f .grocers) (t .statement)
     ∷ upTo 1 (6 * f .boxes * f .boxes) (t .done)
     ∷ upTo maxSent 1 (t .sent)
@@ -49,22 +53,29 @@ state-words f t h =
     record {
       known = e .0;
       priceTransit = e .1 .0;
-      working = e .1 .1 .0;
-      totalTransit = e .1 .1 .1 .0;
-      statement = e .1 .1 .1 .1 .0;
-      done = e .1 .1 .1 .1 .1 .0;
-      sent = e .1 .1 .1 .1 .1 .1 .0;
+      statement = e .1 .1 .0;
+      done = e .1 .1 .1 .0;
+      sent = e .1 .1 .1 .1 .0;
     }
 
--- Sizes, lengths, ranges, masks and boxes.
-pub record Given (f : JobTables) (t : StateTables) (needs sharers : List ℕ) (q : Asked) : Type 0 where
+-- Sizes, lengths, ranges, words, places and boxes.
+pub record Given (f : JobTables) (t : StateTables) (needs places : List ℕ) (from to : ℕ) (grocers : List ℕ) (q : Asked) : Type 0 where
   pub bare : f .tallyBag ≡ []
-  pub tallies-in : TalliesIn (talliesOf f)
+  pub in-range : InRange (jobOf f)
+  pub boxes-in : f .boxes ≤ maxBoxes
+  pub offers-in : f .offers ≤ maxOffers
+  pub grocers-in : f .grocers ≤ maxGrocers
+  pub tallies-in : q .kind ≤ 3 → TalliesIn (talliesOf f places)
   pub job-long : JobLong (f .grocers) (f .offers) (f .tallies) (jobLengths f)
   pub state-long : StateLong (f .boxes) (f .grocers) (f .offers) (stateLengths t)
+  pub totals-long : TotalsLong (totalsLength (jobOf f)) (stateLengths t)
   pub words-in : StateWords f t
+  pub working-around : around maxAmount (totalsLength (jobOf f)) (t .working) ≡ true
+  pub transit-around : around maxAmount (totalsLength (jobOf f)) (t .totalTransit) ≡ true
+  pub by-spans : BySpans (jobOf f) t
   pub needs-are : q .kind ≤ 3 → needs ≡ tabulate 500 (needWord (jobOf f))
-  pub sharers-are : 4 ≤ q .kind → sharers ≡ tabulate 255 (sharerWord (jobOf f))
+  pub places-are : q .kind ≤ 3 → Spots f (q .first) places
+  pub span-is : 4 ≤ q .kind → SpanOf (jobOf f) (q .kind) (q .first) (q .second) from to grocers
   pub kind-from : 1 ≤ q .kind
   pub kind-to : q .kind ≤ 6
   pub first-in : q .first < f .boxes
@@ -76,21 +87,31 @@ boxes-differ : (t : Bool) (a b : ℕ) → cond t (eqb a b) (not (eqb a b)) ≡ t
 boxes-differ true a b h e = absurd (false≢true (sym e))
 boxes-differ false a b h e = eqb-false a b (not-true (eqb a b) h)
 
-pub given : (f : JobTables) (t : StateTables) (needs sharers : List ℕ) (q : Asked) → Applies f t needs sharers q → Given f t needs sharers q
-unfolding jobOf isKind boxesFit
-given f t needs sharers q h =
+pub given : (f : JobTables) (t : StateTables) (needs places : List ℕ) (from to : ℕ) (grocers : List ℕ) (q : Asked) → Applies f t needs places from to grocers q → Given f t needs places from to grocers q
+unfolding jobOf isKind boxesFit totalsInRange
+given f t needs places from to grocers q h =
     let k = kindOf (q .kind) in
     let fit = h .boxes-fit in
     let rest = and-r (ltb (q .first) (f .boxes)) _ fit in
     let long = job-long f (jobLengths f) (h .job-long) in
+    let w = job-in f (h .job-in .inside) in
     record {
       bare = h .job-in .bare;
-      tallies-in = tallies-given f long (h .job-in .inside);
+      in-range = range f (h .job-in .inside);
+      boxes-in = w .boxes≤;
+      offers-in = w .offers≤;
+      grocers-in = w .grocers≤;
+      tallies-in = λ few. tallies-given f places long (h .job-in .inside) (h .places-are few .long);
       job-long = long;
       state-long = state-long f (stateLengths t) (h .state-long);
+      totals-long = totals-long (jobOf f) (stateLengths t) (h .totals-long);
       words-in = state-words f t (h .state-in);
+      working-around = and-l (around maxAmount (totalsLength (jobOf f)) (t .working)) (around maxAmount (totalsLength (jobOf f)) (t .totalTransit)) (h .totals-in);
+      transit-around = and-r (around maxAmount (totalsLength (jobOf f)) (t .working)) (around maxAmount (totalsLength (jobOf f)) (t .totalTransit)) (h .totals-in);
+      by-spans = span-laws.by-spans (jobOf f) (range f (h .job-in .inside)) t (h .totals-long);
       needs-are = h .needs-are;
-      sharers-are = h .sharers-are;
+      places-are = h .places-are;
+      span-is = h .span-is;
       kind-from = leb-true 1 (q .kind) (and-l (leb 1 (q .kind)) (leb (q .kind) 6) (h .kind-in));
       kind-to = leb-true (q .kind) 6 (and-r (leb 1 (q .kind)) (leb (q .kind) 6) (h .kind-in));
       first-in = ltb-true (q .first) (f .boxes) (and-l (ltb (q .first) (f .boxes)) _ fit);
@@ -98,14 +119,24 @@ given f t needs sharers q h =
       two-boxes = boxes-differ (oneBox k) (q .first) (q .second) (and-r (ltb (q .second) (f .boxes)) _ rest);
     }
 
+-- The span of a group: at most 255 places, within the packed tables.
+module _ (f : JobTables) (r : InRange (jobOf f)) (few : f .grocers ≤ 255) where
+  span-bounds : (b c : ℕ) → b < f .boxes → c ≤ f .boxes →
+      (groupStart (jobOf f) b c ≤ groupStart (jobOf f) b (suc c)) × (groupStart (jobOf f) b (suc c) ≤ groupStart (jobOf f) b c + 255) × (groupStart (jobOf f) b (suc c) ≤ totalsLength (jobOf f))
+  unfolding jobOf
+  span-bounds b zero lb lc =
+      (omega (arith, own-next (jobOf f) b), omega (arith, own-next (jobOf f) b, count-le (f .grocers) (λ g. eqb (jobOf f .grocerOwner g) b)), own-within (jobOf f) r b lb)
+  span-bounds b (suc c) lb lc =
+      (omega (arith, group-next (jobOf f) b c), omega (arith, group-next (jobOf f) b c, count-le (f .grocers) (totalWord (jobOf f) b c)), span-within (jobOf f) r b c lb (omega arith))
+
 -- What each part of a step requires.
-module _ (f : JobTables) (t : StateTables) (needs sharers : List ℕ) (q : Asked) (g : Given f t needs sharers q) where
+module _ (f : JobTables) (t : StateTables) (needs places : List ℕ) (from to : ℕ) (grocers : List ℕ) (q : Asked) (g : Given f t needs places from to grocers q) where
   pub marks-in : MarksIn (f .boxes) (q .kind) (q .first) (q .second) (t .done)
   unfolding stateLengths
   marks-in = record {
     kind-from = g .kind-from;
     kind-to = g .kind-to;
-    boxes-in = g .tallies-in .boxes-in;
+    boxes-in = g .boxes-in;
     a-in = g .first-in;
     b-in = g .second-in;
     done-long = g .state-long .done;
@@ -115,18 +146,6 @@ module _ (f : JobTables) (t : StateTables) (needs sharers : List ℕ) (q : Asked
   unfolding stateLengths
   sent-in = record { long = g .state-long .sent; word-in = up-at maxSent 1 (t .sent) 0 (g .words-in .sent) (omega arith) }
 
-  pub working-in : AmountsIn (f .boxes * f .grocers) (t .working)
-  unfolding stateLengths
-  working-in = record { long = g .state-long .working; words-in = g .words-in .working }
-
-  pub transit-in : AmountsIn (f .boxes * f .grocers) (t .totalTransit)
-  unfolding stateLengths
-  transit-in = record { long = g .state-long .totalTransit; words-in = g .words-in .totalTransit }
-
-  pub statement-in : AmountsIn (f .grocers) (t .statement)
-  unfolding stateLengths
-  statement-in = record { long = g .state-long .statement; words-in = g .words-in .statement }
-
   pub known-in : PricesIn (f .boxes) (f .offers) (t .known)
   unfolding stateLengths
   known-in = record { long = g .state-long .known; words-in = g .words-in .known }
@@ -135,35 +154,64 @@ module _ (f : JobTables) (t : StateTables) (needs sharers : List ℕ) (q : Asked
   unfolding stateLengths
   price-transit-in = record { long = g .state-long .priceTransit; words-in = g .words-in .priceTransit }
 
+  -- Each tally's place is one of the working totals, in range.
+  pub working-in : q .kind ≤ 3 → PlacesIn (f .tallies) places (t .working)
+  unfolding stateLengths
+  working-in few = record {
+    place-in = λ i l. le-trans (g .places-are few .within i l) (g .totals-long .working);
+    word-in = λ i l. around-at 1_000_000_000_000_000 (totalsLength (jobOf f)) (t .working) (getD places i 0) (g .working-around) (g .places-are few .within i l);
+  }
+
   -- A step of kind 1, 2 or 3, with offers linked by owner, and tallies by box and owner of their offer.
   pub price-step-in : (offerLinks tallyLinks : List ℕ) → Linked (f .offers) (f .offerOwner) offerLinks → LinkedPairs (f .tallies) (f .tallyBox) (f .tallyOffer) (f .offerOwner) tallyLinks → q .kind ≤ 3 →
-      PriceStepIn (talliesOf f) offerLinks tallyLinks (t .known) (t .priceTransit) (t .working) (q .kind) (q .first) (q .second)
+      PriceStepIn (talliesOf f places) offerLinks tallyLinks (t .known) (t .priceTransit) (t .working) (q .kind) (q .first) (q .second)
   price-step-in offerLinks tallyLinks lo lt few = record {
-    tallies-in = g .tallies-in;
+    tallies-in = g .tallies-in few;
     offers-linked = lo;
     tallies-linked = lt;
     known-in = known-in;
     transit-in = price-transit-in;
-    working-in = working-in;
+    working-in = working-in few;
     kind-from = g .kind-from;
     kind-to = few;
     a-in = g .first-in;
     b-in = g .second-in;
   }
 
-  -- A step of kind 4, 5 or 6, with grocers linked by owner.
-  pub total-step-in : (links : List ℕ) → Linked (f .grocers) (f .grocerOwner) links → 4 ≤ q .kind →
-      TotalStepIn (f .boxes) (f .grocers) (f .grocerOwner) links (t .working) (t .totalTransit) (t .statement) (q .kind) (q .first) (q .second)
-  unfolding jobLengths
-  total-step-in links l many = record {
-    boxes-in = g .tallies-in .boxes-in;
-    grocers-in = g .tallies-in .grocers-in;
-    grocers-linked = l;
-    working-in = working-in;
-    transit-in = transit-in;
-    statement-in = statement-in;
-    kind-from = many;
-    kind-to = g .kind-to;
-    a-in = g .first-in;
-    b-in = g .second-in;
-  }
+  -- The box and the group of a span are there.
+  box-in : spanBox (q .kind) (q .first) (q .second) < f .boxes
+  unfolding spanBox
+  box-in = cond-either (λ (x : ℕ). x < f .boxes) (eqb (q .kind) 6) (q .second) (q .first) (g .second-in) (g .first-in)
+
+  group-in : spanGroup (q .kind) (q .first) (q .second) ≤ f .boxes
+  unfolding spanGroup
+  group-in =
+      cond-either (λ (x : ℕ). x ≤ f .boxes) (eqb (q .kind) 4) (suc (q .second)) (cond (eqb (q .kind) 5) 0 (suc (q .first))) (g .second-in)
+      (cond-either (λ (x : ℕ). x ≤ f .boxes) (eqb (q .kind) 5) 0 (suc (q .first)) (omega arith) (g .first-in))
+
+  pub span-in : 4 ≤ q .kind → (from ≤ to) × (to ≤ from + 255) × (to ≤ totalsLength (jobOf f))
+  span-in many =
+      let z = g .span-is many in
+      let b = span-bounds f (g .in-range) (g .grocers-in) (spanBox (q .kind) (q .first) (q .second)) (spanGroup (q .kind) (q .first) (q .second)) box-in group-in in
+      (omega (arith, z .from-is, z .to-is, b .0), omega (arith, z .from-is, z .to-is, b .1), omega (arith, z .to-is, b .2))
+
+  -- A step of kind 4, 5 or 6.
+  pub total-step-in : 4 ≤ q .kind → TotalStepIn from to grocers (t .working) (t .totalTransit) (t .statement) (q .kind)
+  unfolding stateLengths jobOf inSpan
+  total-step-in many =
+      let z = g .span-is many in
+      let b = span-in many in
+      let small : (i : ℕ) → from ≤ i → i < to → getD grocers i 0 < f .grocers = λ i l h. z .each i (and-true (le-leb from i l) (lt-ltb i to h)) .1 in
+      record {
+        order = b .0;
+        few = b .1;
+        grocers-long = z .long;
+        working-long = le-trans (b .2) (g .totals-long .working);
+        transit-long = le-trans (b .2) (g .totals-long .totalTransit);
+        grocer-in = λ i l h. le-trans (small i l h) (g .state-long .statement);
+        working-in = λ i l h. around-at 1_000_000_000_000_000 (totalsLength (jobOf f)) (t .working) i (g .working-around) (omega (arith, h, b .2));
+        transit-in = λ i l h. around-at 1_000_000_000_000_000 (totalsLength (jobOf f)) (t .totalTransit) i (g .transit-around) (omega (arith, h, b .2));
+        statement-in = λ i l h. around-at 1_000_000_000_000_000 (f .grocers) (t .statement) (getD grocers i 0) (g .words-in .statement) (small i l h);
+        kind-from = many;
+        kind-to = g .kind-to;
+      }

@@ -4,3 +4,4 @@ pub mod Keys
 pub mod Given
 pub mod Sides
 pub mod Moved
+pub mod Found

@@ -2,33 +2,59 @@
 use mathlib.Core.Path.{_≡_}
 use mathlib.Core.Bool.{true, false, cond}
 use mathlib.Core.List.{List}
-use Prim.Native.Nat.{ℕ, _+_, _*_, _≤_, _<_}
+use Prim.Native.Nat.{ℕ, suc, _+_, _-_, _*_, _≤_, _<_}
 use lib.Dec.{eqb}
 use lib.ListN.{length, getD, set}
-use lib.IntN.{ℤ}
+use lib.IntN.{ℤ, pos, natAbs}
 use Rattle.laws.specs.Below.{naturals, only, count}
 use Rattle.laws.specs.Tables.{tabulate}
-use Rattle.model.specs.Job.{needWord, sharerWord}
+use Rattle.model.specs.Job.{Job, needWord, heldBy}
 use Rattle.model.specs.Steps.{kindOf}
-use Rattle.model.specs.Tables.{JobTables, jobOf, StateTables, jobLengths, stateLengths, jobShort, stateShort}
-use Rattle.laws.specs.Limits.{maxBoxes, maxGrocers, maxSent}
-use Rattle.model.specs.Ranges.{stateInRange}
+use Rattle.model.specs.Tables.{JobTables, jobOf, StateTables, jobLengths, stateLengths, jobShort, stateShort, totalsShort}
+use Rattle.laws.specs.Limits.{maxAmount, maxSent}
+use Rattle.model.specs.Ranges.{stateInRange, totalsInRange}
 use Rattle.model.specs.Handed.{Handed}
 use Rattle.model.specs.Step.{Asked, isKind, boxesFit}
 use Rattle.step_places.specs.Message.{wordIn}
 use Rattle.step_links.specs.Links.{Linked, LinkedPairs}
 use Rattle.step_prices.specs.Prices.{sentTransit, receivedKnown, receivedTransit}
-use Rattle.step_totals.specs.Row.{Tallies, TalliesIn, PricesIn, AmountsIn, productRow, putRow}
-use Rattle.step_totals.specs.Credit.{cleared, sentTotals, credited, creditAll}
+use Rattle.step_totals.specs.Row.{Tallies, TalliesIn, PricesIn, PlacesIn, brings, placed}
+use Rattle.step_spans.specs.Credit.{creditSpan}
+use Rattle.model.specs.PackedTotals.{totalsLength}
+use Rattle.model.specs.Spans.{groupStart, placeGrocers, tallyPlace, inSpan, spanWritten}
 
--- The tables are long enough and in range, the masks of the step's side are the job's, and the step is one of a kind with boxes that fit it.
-pub record Applies (f : JobTables) (t : StateTables) (needs sharers : List ℕ) (q : Asked) : Type 0 where
+-- The places of the totals of box a's tallies; every tally has some place in the packed tables.
+pub record Spots (f : JobTables) (a : ℕ) (places : List ℕ) : Type 0 where
+  pub long : f .tallies ≤ length places
+  pub within : (i : ℕ) → i < f .tallies → getD places i 0 < totalsLength (jobOf f)
+  pub each : (i : ℕ) → i < f .tallies → heldBy (jobOf f) i a ≡ true → getD places i 0 ≡ tallyPlace (jobOf f) i
+
+-- The box whose totals a step of kind 4, 5 or 6 touches, and the group of them: 4 sends to the owner, 5 adds own ones, 6 those of a message.
+unfoldable pub spanBox : ℕ → ℕ → ℕ → ℕ
+spanBox kind a b = cond (eqb kind 6) b a
+
+unfoldable pub spanGroup : ℕ → ℕ → ℕ → ℕ
+spanGroup kind a b = cond (eqb kind 4) (suc b) (cond (eqb kind 5) 0 (suc a))
+
+-- The span of such a step, and the grocer of each of its places.
+pub record SpanOf (j : Job) (kind a b from to : ℕ) (grocers : List ℕ) : Type 0 where
+  pub from-is : from ≡ groupStart j (spanBox kind a b) (spanGroup kind a b)
+  pub to-is : to ≡ groupStart j (spanBox kind a b) (suc (spanGroup kind a b))
+  pub long : to ≤ length grocers
+  pub each : (i : ℕ) → inSpan from to i ≡ true → (getD grocers i 0 ≡ getD (placeGrocers j) i 0) × (getD grocers i 0 < j .grocers)
+
+-- The tables are long enough and in range, the words, places or span of the step's side are the job's, and the step is one of a kind with boxes
+-- that fit it.
+pub record Applies (f : JobTables) (t : StateTables) (needs places : List ℕ) (from to : ℕ) (grocers : List ℕ) (q : Asked) : Type 0 where
   pub job-in : Handed f
   pub job-long : jobShort f (jobLengths f) ≡ false
   pub state-long : stateShort f (stateLengths t) ≡ false
   pub state-in : stateInRange f t ≡ true
+  pub totals-long : totalsShort (jobOf f) (stateLengths t) ≡ false
+  pub totals-in : totalsInRange (jobOf f) t ≡ true
   pub needs-are : q .kind ≤ 3 → needs ≡ tabulate 500 (needWord (jobOf f))
-  pub sharers-are : 4 ≤ q .kind → sharers ≡ tabulate 255 (sharerWord (jobOf f))
+  pub places-are : q .kind ≤ 3 → Spots f (q .first) places
+  pub span-is : 4 ≤ q .kind → SpanOf (jobOf f) (q .kind) (q .first) (q .second) from to grocers
   pub kind-in : isKind (q .kind) ≡ true
   pub boxes-fit : boxesFit (jobOf f) (kindOf (q .kind)) (q .first) (q .second) ≡ true
 
@@ -48,24 +74,25 @@ pub record PriceStepIn (e : Tallies) (offerLinks tallyLinks known transit : List
   pub tallies-linked : LinkedPairs (e .tallies) (e .holder) (e .offer) (e .owner) tallyLinks
   pub known-in : PricesIn (e .boxes) (e .offers) known
   pub transit-in : PricesIn (e .boxes) (e .offers) transit
-  pub working-in : AmountsIn (e .boxes * e .grocers) working
+  pub working-in : PlacesIn (e .tallies) (e .place) working
   pub kind-from : 1 ≤ kind
   pub kind-to : kind ≤ 3
   pub a-in : a < e .boxes
   pub b-in : b < e .boxes
 
--- What a step of kind 4, 5 or 6 requires, likewise.
-pub record TotalStepIn (k m : ℕ) (owner links : List ℕ) (working transit statement : List ℤ) (kind a b : ℕ) : Type 0 where
-  pub boxes-in : k ≤ maxBoxes
-  pub grocers-in : m ≤ maxGrocers
-  pub grocers-linked : Linked m owner links
-  pub working-in : AmountsIn (k * m) working
-  pub transit-in : AmountsIn (k * m) transit
-  pub statement-in : AmountsIn m statement
+-- What a step of kind 4, 5 or 6 requires: a span in the tables of totals, of at most 255 places with grocers that have statements, and amounts in range.
+pub record TotalStepIn (from to : ℕ) (grocers : List ℕ) (working transit statement : List ℤ) (kind : ℕ) : Type 0 where
+  pub order : from ≤ to
+  pub few : to ≤ from + 255
+  pub grocers-long : to ≤ length grocers
+  pub working-long : to ≤ length working
+  pub transit-long : to ≤ length transit
+  pub grocer-in : (i : ℕ) → from ≤ i → i < to → getD grocers i 0 < length statement
+  pub working-in : (i : ℕ) → from ≤ i → i < to → natAbs (getD working i (pos 0)) ≤ maxAmount
+  pub transit-in : (i : ℕ) → from ≤ i → i < to → natAbs (getD transit i (pos 0)) ≤ maxAmount
+  pub statement-in : (i : ℕ) → from ≤ i → i < to → natAbs (getD statement (getD grocers i 0) (pos 0)) ≤ maxAmount
   pub kind-from : 4 ≤ kind
   pub kind-to : kind ≤ 6
-  pub a-in : a < k
-  pub b-in : b < k
 
 module _ (e : Tallies) (needs known transit : List ℕ) (kind a b : ℕ) where
   -- The prices known: 3 receives them.
@@ -82,8 +109,8 @@ module _ (e : Tallies) (needs known transit : List ℕ) (kind a b : ℕ) where
 unfoldable pub multipliedAfter : Tallies → List ℕ → List ℕ → List ℤ → ℕ → ℕ → ℕ → List ℤ
 multipliedAfter e known transit working kind a b =
     cond (eqb kind 1) working
-    (cond (eqb kind 2) (putRow (e .boxes) (e .grocers) a (productRow e known a a working) working)
-    (putRow (e .boxes) (e .grocers) a (productRow e transit a b working) working))
+    (cond (eqb kind 2) (placed (e .tallies) (e .place) (brings (e .owner) (e .holder) (e .offer) (e .counts) known a a (a * e .offers)) working)
+    (placed (e .tallies) (e .place) (brings (e .owner) (e .holder) (e .offer) (e .counts) transit a b (a * e .offers)) working))
 
 -- The prices that a step sends: those of its message, for kind 1.
 unfoldable pub pricesSent : Tallies → List ℕ → ℕ → ℕ → ℕ → ℕ
@@ -97,34 +124,31 @@ pub record PriceStepOut (e : Tallies) (needs known transit : List ℕ) (working 
   pub working-is : working′ ≡ multipliedAfter e known transit working kind a b
   pub sent-is : sent ≡ pricesSent e needs kind a b
 
-module _ (k m : ℕ) (owner sharers : List ℕ) (kind a b : ℕ) where
-  -- The working totals: 4 sends some, 5 adds some to statements, and these become 0.
+module _ (from to : ℕ) (grocers : List ℕ) (kind : ℕ) where
+  -- The working totals: 4 sends those of the span, 5 adds them to statements, and they become 0.
   unfoldable pub workingAfter : List ℤ → List ℤ
-  workingAfter working =
-      cond (eqb kind 4) (cleared k m a (wordIn owner sharers b a) working)
-      (cond (eqb kind 5) (cleared k m a (credited owner sharers a a) working) working)
+  workingAfter working = cond (eqb kind 6) working (spanWritten from to (λ i. pos 0) working)
 
   -- The totals in transit: 4 sends them, 6 receives them.
   unfoldable pub totalTransitAfter : List ℤ → List ℤ → List ℤ
   totalTransitAfter working transit =
-      cond (eqb kind 4) (sentTotals k m a (wordIn owner sharers b a) working transit)
-      (cond (eqb kind 6) (cleared k m b (credited owner sharers a b) transit) transit)
+      cond (eqb kind 4) (spanWritten from to (λ i. getD working i (pos 0)) transit)
+      (cond (eqb kind 6) (spanWritten from to (λ i. pos 0) transit) transit)
 
   -- The statements: 5 adds the box's own totals, 6 those received.
   unfoldable pub statementAfter : List ℤ → List ℤ → List ℤ → List ℤ
   statementAfter working transit statement =
       cond (eqb kind 4) statement
-      (cond (eqb kind 5) (creditAll k m a (credited owner sharers a a) working statement)
-      (creditAll k m b (credited owner sharers a b) transit statement))
+      (cond (eqb kind 5) (creditSpan (to - from) from grocers working statement) (creditSpan (to - from) from grocers transit statement))
 
-  -- The totals that a step sends: those of its message, for kind 4.
+  -- The totals that a step sends: those of its span, for kind 4.
   unfoldable pub totalsSent : ℕ
-  totalsSent = only naturals (eqb kind 4) (count m (wordIn owner sharers b a))
+  totalsSent = only naturals (eqb kind 4) (to - from)
 
 -- What such a step leaves: the three tables, and how many words it sent.
-pub record TotalStepOut (k m : ℕ) (owner sharers : List ℕ) (working transit statement : List ℤ) (kind a b : ℕ)
-    (working′ transit′ statement′ : List ℤ) (sent : ℕ) : Type 0 where
-  pub working-is : working′ ≡ workingAfter k m owner sharers kind a b working
-  pub transit-is : transit′ ≡ totalTransitAfter k m owner sharers kind a b working transit
-  pub statement-is : statement′ ≡ statementAfter k m owner sharers kind a b working transit statement
-  pub sent-is : sent ≡ totalsSent k m owner sharers kind a b
+pub record TotalStepOut (from to : ℕ) (grocers : List ℕ) (working transit statement : List ℤ) (kind : ℕ) (working′ transit′ statement′ : List ℤ)
+    (sent : ℕ) : Type 0 where
+  pub working-is : working′ ≡ workingAfter from to grocers kind working
+  pub transit-is : transit′ ≡ totalTransitAfter from to grocers kind working transit
+  pub statement-is : statement′ ≡ statementAfter from to grocers kind working transit statement
+  pub sent-is : sent ≡ totalsSent from to grocers kind

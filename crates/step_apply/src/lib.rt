@@ -1,7 +1,7 @@
 // One step applied to the lent tables: kinds 1 to 3 to prices and working totals, kinds 4 to 6 to totals and statements.
 ghost use mathlib.Core.List.{List};
 ghost use Prim.Native.Nat.{ℕ};
-ghost use Rattle.step_links.specs.Links.{Linked, LinkedPairs, Some};
+ghost use Rattle.step_links.specs.Links.{LinkedPairs, Some};
 ghost use Rattle.step_totals.specs.Row.{tallies};
 ghost use Rattle.step_apply.specs.Apply.{PriceStepIn, PriceStepOut, TotalStepIn, TotalStepOut};
 use slices::sizes::Sizes;
@@ -14,7 +14,7 @@ use step_places::Step;
 pub fn price_step(
     z: Sizes,
     offer_owner: &[u16],
-    tally_grocer: &[u16],
+    tally_place: &[u16],
     tally_offer: &[u16],
     tally_count: &[i32],
     needs: &[u16; 500],
@@ -25,16 +25,15 @@ pub fn price_step(
     working: &mut [i64],
     x: Step,
 ) -> u32
-    requires { ⌜ Some (λ holder. PriceStepIn (tallies (z .boxes) (z .grocers) (z .offers) (z .tallies) (now «offer_owner») (now «tally_grocer») holder
+    requires { ⌜ Some (λ holder. PriceStepIn (tallies (z .boxes) (z .offers) (z .tallies) (now «offer_owner») (now «tally_place») holder
         (now «tally_offer») (now «tally_count»)) (now «offer_links») (now «tally_links») (now known) (now «price_transit») (now working)
         (x .kind) (x .first) (x .second)) ⌝ }
     ensures { λ r. ⌜ ((holder : List ℕ) → LinkedPairs (z .tallies) holder (now («tally_offer» .entry)) (now («offer_owner» .entry))
-        (now («tally_links» .entry)) → PriceStepOut (tallies (z .boxes) (z .grocers) (z .offers) (z .tallies) (now («offer_owner» .entry))
-        (now («tally_grocer» .entry)) holder (now («tally_offer» .entry)) (now («tally_count» .entry))) (now (needs .entry)) (now (known .entry))
+        (now («tally_links» .entry)) → PriceStepOut (tallies (z .boxes) (z .offers) (z .tallies) (now («offer_owner» .entry))
+        (now («tally_place» .entry)) holder (now («tally_offer» .entry)) (now («tally_count» .entry))) (now (needs .entry)) (now (known .entry))
         (now («price_transit» .entry)) (now (working .entry)) (x .kind) (x .first) (x .second)
         (now (known .exit)) (now («price_transit» .exit)) (now (working .exit)) r) ⌝ }
 {
-    let m = z.grocers as usize;
     let n = z.offers as usize;
     let t = z.tallies as usize;
     if x.kind == 1 {
@@ -50,14 +49,13 @@ pub fn price_step(
         );
     }
     if x.kind == 2 {
-        step_totals::row::add_products(
-            m,
+        step_totals::row::add_placed(
             n,
             t,
             x.first,
             x.first,
             tally_links,
-            tally_grocer,
+            tally_place,
             tally_offer,
             tally_count,
             known,
@@ -65,14 +63,13 @@ pub fn price_step(
         );
         return 0;
     }
-    step_totals::row::add_products(
-        m,
+    step_totals::row::add_placed(
         n,
         t,
         x.first,
         x.second,
         tally_links,
-        tally_grocer,
+        tally_place,
         tally_offer,
         tally_count,
         price_transit,
@@ -91,55 +88,28 @@ pub fn price_step(
     0
 }
 
-// A step of kind 4, 5 or 6: totals sent, or own totals or totals received added to statements. The words sent.
+// A step of kind 4, 5 or 6, on the span of its totals: they are sent, or own totals or totals received added to statements. The words sent.
 pub fn total_step(
-    z: Sizes,
-    sharers: &[u16; 255],
-    grocer_links: &[u16; GROCER_LINKS],
+    kind: u16,
+    from: usize,
+    to: usize,
+    grocers: &[u16],
     working: &mut [i64],
     total_transit: &mut [i64],
     statement: &mut [i64],
-    x: Step,
 ) -> u32
-    requires { ⌜ Some (λ owner. TotalStepIn (z .boxes) (z .grocers) owner (now «grocer_links») (now working) (now «total_transit») (now statement)
-        (x .kind) (x .first) (x .second)) ⌝ }
-    ensures { λ r. ⌜ ((owner : List ℕ) → Linked (z .grocers) owner (now («grocer_links» .entry)) →
-        TotalStepOut (z .boxes) (z .grocers) owner (now (sharers .entry)) (now (working .entry))
-        (now («total_transit» .entry)) (now (statement .entry)) (x .kind) (x .first) (x .second)
-        (now (working .exit)) (now («total_transit» .exit)) (now (statement .exit)) r) ⌝ }
+    requires { ⌜ TotalStepIn from to (now grocers) (now working) (now «total_transit») (now statement) kind ⌝ }
+    ensures { λ r. ⌜ TotalStepOut from to (now (grocers .entry)) (now (working .entry)) (now («total_transit» .entry)) (now (statement .entry)) kind
+        (now (working .exit)) (now («total_transit» .exit)) (now (statement .exit)) r ⌝ }
 {
-    let m = z.grocers as usize;
-    if x.kind == 4 {
-        return step_totals::send::send_totals(
-            m,
-            x.first,
-            x.second,
-            sharers,
-            grocer_links,
-            working,
-            total_transit,
-        );
+    if kind == 4 {
+        spans::move_span(from, to, working, total_transit);
+        return (to - from) as u32;
     }
-    if x.kind == 5 {
-        step_totals::credit::credit(
-            m,
-            x.first,
-            x.first,
-            sharers,
-            grocer_links,
-            working,
-            statement,
-        );
+    if kind == 5 {
+        spans::credit_span(from, to, grocers, working, statement);
         return 0;
     }
-    step_totals::credit::credit(
-        m,
-        x.first,
-        x.second,
-        sharers,
-        grocer_links,
-        total_transit,
-        statement,
-    );
+    spans::credit_span(from, to, grocers, total_transit, statement);
     0
 }

@@ -15,7 +15,9 @@ use Rattle.model.specs.Tables.{JobTables, jobOf, StateTables, stateTables, stat
 use Rattle.step_places.specs.Message.{wordIn}
 use Rattle.step_prices.specs.Prices.{sentTransit, receivedKnown, receivedTransit}
 use Rattle.step_places.specs.Marks.{marked}
-use Rattle.model.proofs.Lent.{StateLong}
+use Rattle.model.specs.PackedTotals.{totalsLength, packTotals}
+use Rattle.model.proofs.PackedTotals.{pack-unpack}
+use Rattle.model.proofs.Lent.{StateLong, TotalsLong}
 use Rattle.step_places.proofs.Message.{price-word}
 
 -- Tables are equal where each of them is.
@@ -42,13 +44,13 @@ module _ (j : Job) (s : State) (t : StateTables) (l : StateLong (j .boxes) (j .g
   unfolding view store stateLengths
   price-transit-stays e = ap (λ (f : ℕ → ℕ → ℕ). recell (j .boxes) (j .offers) f (t .priceTransit)) e ∙ recell-cell (j .boxes) (j .offers) (t .priceTransit) 0 (l .priceTransit)
 
-  pub working-stays : s .working ≡ view j t .working → store j s t .working ≡ t .working
+  pub working-stays : TotalsLong (totalsLength j) (stateLengths t) → s .working ≡ view j t .working → store j s t .working ≡ t .working
   unfolding view store stateLengths
-  working-stays e = ap (λ (f : ℕ → ℕ → ℤ). recell (j .boxes) (j .grocers) f (t .working)) e ∙ recell-cell (j .boxes) (j .grocers) (t .working) (pos 0) (l .working)
+  working-stays m e = ap (λ (f : ℕ → ℕ → ℤ). packTotals j f (t .working)) e ∙ pack-unpack j (t .working) (m .working)
 
-  pub total-transit-stays : s .totalTransit ≡ view j t .totalTransit → store j s t .totalTransit ≡ t .totalTransit
+  pub total-transit-stays : TotalsLong (totalsLength j) (stateLengths t) → s .totalTransit ≡ view j t .totalTransit → store j s t .totalTransit ≡ t .totalTransit
   unfolding view store stateLengths
-  total-transit-stays e = ap (λ (f : ℕ → ℕ → ℤ). recell (j .boxes) (j .grocers) f (t .totalTransit)) e ∙ recell-cell (j .boxes) (j .grocers) (t .totalTransit) (pos 0) (l .totalTransit)
+  total-transit-stays m e = ap (λ (f : ℕ → ℕ → ℤ). packTotals j f (t .totalTransit)) e ∙ pack-unpack j (t .totalTransit) (m .totalTransit)
 
   pub statement-stays : s .statement ≡ view j t .statement → store j s t .statement ≡ t .statement
   unfolding view store stateLengths
@@ -109,7 +111,7 @@ module _ (f : JobTables) (t : StateTables) (masks : List ℕ) (a b : ℕ) (la : 
   unfolding store effect view receivedTransit jobOf
   received-transit = recell-cong (f .boxes) (f .offers) _ _ (t .priceTransit) (λ c o lc lo. rw (due b a o la lo))
 
-  module _ (l : StateLong (f .boxes) (f .grocers) (f .offers) (stateLengths t)) where
+  module _ (l : StateLong (f .boxes) (f .grocers) (f .offers) (stateLengths t)) (m : TotalsLong (totalsLength (jobOf f)) (stateLengths t)) where
     -- All tables after step 1: prices in transit, the mark and the count.
     pub prices-sent : store (jobOf f) (effect (jobOf f) (view (jobOf f) t) sendPrices a b) t
         ≡ stateTables
@@ -126,8 +128,8 @@ module _ (f : JobTables) (t : StateTables) (masks : List ℕ) (a b : ℕ) (la : 
         tables-eq (store (jobOf f) s t) _
         (known-stays (jobOf f) s t l refl)
         sent-transit
-        (working-stays (jobOf f) s t l refl)
-        (total-transit-stays (jobOf f) s t l refl)
+        (working-stays (jobOf f) s t l m refl)
+        (total-transit-stays (jobOf f) s t l m refl)
         (statement-stays (jobOf f) s t l refl)
         (step-marked (jobOf f) t sendPrices a b)
         (sent-more ∙ overwrite-one _ (t .sent) (l .sent))
@@ -149,7 +151,7 @@ module _ (f : JobTables) (t : StateTables) (masks : List ℕ) (a b : ℕ) (la : 
         received-known
         received-transit
         refl
-        (total-transit-stays (jobOf f) s t l refl)
+        (total-transit-stays (jobOf f) s t l m refl)
         (statement-stays (jobOf f) s t l refl)
         (step-marked (jobOf f) t receivePrices a b)
         (sent-stays (jobOf f) s t l refl)

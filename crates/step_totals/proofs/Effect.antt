@@ -1,86 +1,52 @@
--- The lists that the calls leave are the model's: the tables with the effect of steps 2 to 6 written into them. Assumes nothing.
+-- The packed working totals that `add_placed` leaves are the model's after steps 2 and 3. Assumes nothing.
 use mathlib.Core.Path.{_≡_, refl, sym, ap, _∙_}
-use mathlib.Core.Bool.{Bool, true, false, cond, _&&_}
+use mathlib.Core.Bool.{Bool, true, false, _&&_}
 use mathlib.Core.List.{List, []}
-use Prim.Native.Nat.{ℕ, _+_, _<_, _≤_}
+use Prim.Native.Nat.{ℕ, _*_, _<_, _≤_}
 use native.Mathlib.Omega.{arith}
 use lib.Dec.{eqb, ltb}
-use lib.ListN.{getD}
-use lib.IntN.{ℤ, pos, _+ℤ_, _*ℤ_}
-use borrow.Author.Tests.{lt-ltb, ne-eqb, eqb-true}
-use Rattle.laws.specs.Below.{integers, only, count}
-use Rattle.laws.specs.Tables.{tabulate, overwrite, word, cell, recell}
-use Rattle.laws.proofs.Bools.{split, eqb-same}
-use Rattle.laws.proofs.Below.{count-cong}
-use Rattle.laws.proofs.Sums.{sum-cong}
-use Rattle.laws.proofs.Tables.{recell-cong, overwrite-cong, getD-tabulate, word-in}
-use Rattle.model.specs.Job.{heldBy, needs, amount, sharerWord, priceWord, totalWord}
-use Rattle.model.specs.Steps.{products, received, effect, multiplyOwn, receivePrices, sendTotals, addOwn, receiveTotals}
+use lib.ListN.{getD, length}
+use lib.IntN.{ℤ, pos, _+ℤ_, _*ℤ_, +ℤ-idr}
+use borrow.Author.Tests.{eqb-true, lt-ltb, ltb-true, ltb-false, ne-eqb}
+use Rattle.laws.specs.Below.{integers, sum, only}
+use Rattle.laws.specs.Tables.{overwrite, cell}
+use Rattle.laws.proofs.Bools.{split, and-one, eqb-same, cond-same}
+use Rattle.laws.proofs.Sums.{sum-cong, sum-none}
+use Rattle.laws.proofs.Tables.{cell-at, is-tabulate, getD-overwrite, getD-past, length-overwrite, word-in}
+use Rattle.model.specs.Job.{heldBy, needs, amount, priceWord}
+use Rattle.model.specs.Steps.{received, effect, multiplyOwn, receivePrices}
+use Rattle.model.specs.PackedTotals.{totalsLength, totalPlace}
 use Rattle.model.specs.Tables.{JobTables, jobOf, StateTables, view, store}
-use Rattle.step_places.specs.Message.{wordIn}
-use Rattle.step_totals.specs.Row.{Tallies, tallies, TalliesIn, putRow, product, productSum, productRow}
-use Rattle.step_totals.specs.Credit.{cleared, sentTotals, credited, creditWord, creditAll}
-use Rattle.model.proofs.Parts.{needs-at}
+use Rattle.model.specs.Spans.{tallyPlace, addedAt, BySpans}
+use Rattle.step_totals.specs.Row.{Tallies, tallies, TalliesIn, brings, productAt, placed}
 use Rattle.model.proofs.Handed.{bare-stands}
-use Rattle.step_places.proofs.Message.{total-word}
-use Rattle.step_totals.proofs.Credits.{credited-own, credited-other}
+use Rattle.model.proofs.Parts.{needs-at}
+use Rattle.model.proofs.Range.{InRange}
+use Rattle.model.proofs.PackedTotals.{place-within}
+use Rattle.model.proofs.Spans.{tally-has, tally-at}
 use Rattle.model.proofs.Step.{under-at}
 
--- The tables of tallies of a job.
-abbrev pub talliesOf : JobTables → Tallies
-talliesOf f =
-    tallies (f .boxes) (f .grocers) (f .offers) (f .tallies) (f .offerOwner) (f .tallyGrocer) (f .tallyBox) (f .tallyOffer) (f .tallyCount)
+-- The tables of tallies of a job, with the places of their totals.
+abbrev pub talliesOf : JobTables → List ℕ → Tallies
+talliesOf f places =
+    tallies (f .boxes) (f .offers) (f .tallies) (f .offerOwner) places (f .tallyBox) (f .tallyOffer) (f .tallyCount)
 
 -- One tally, as the model adds it and as the call does.
-only-same : (h l g p o : Bool) (x y : ℤ) → l ≡ true → (h ≡ true → p ≡ o) → (p ≡ true → x ≡ y) → only integers (h && l && g && p) x ≡ only integers (h && (g && o)) y
+only-same : (h g p o : Bool) (x y : ℤ) → (h ≡ true → p ≡ o) → (h ≡ true → p ≡ true → x ≡ y) → only integers g (only integers (h && o) y) ≡ only integers (h && g && p) x
 unfolding only integers
-only-same false l g p o x y el eo ex = refl
-only-same true l false p o x y el eo ex = rw el
-only-same true l true p o x y el eo ex = rw (el, ← (eo refl)) (split p (λ e. rw e (ex e)) (λ e. rw e))
+only-same false true p o x y eo ex = refl
+only-same false false p o x y eo ex = refl
+only-same true false p o x y eo ex = refl
+only-same true true p o x y eo ex = rw (← (eo refl)) (split p (λ e. rw e (sym (ex refl e))) (λ e. rw e))
 
-module _ (f : JobTables) (bare : f .tallyBag ≡ []) (h : TalliesIn (talliesOf f)) (a : ℕ) (la : a < f .boxes) where
-  module _ (prices : List ℕ) (from : ℕ) (know : ℕ → ℕ) (p : ℕ → Bool)
-      (same : (i : ℕ) → i < f .tallies → heldBy (jobOf f) i a ≡ true → p (getD (f .tallyOffer) i 0) ≡ eqb (getD (f .offerOwner) (getD (f .tallyOffer) i 0) 0) from)
-      (known : (o : ℕ) → p o ≡ true → know o ≡ cell (f .boxes) (f .offers) prices 0 a o) where
-    -- The model's products are the sums that the call adds.
-    products-are : (g : ℕ) → products (jobOf f) know p a g ≡ productSum (talliesOf f) prices a from g
-    unfolding products productSum product amount jobOf heldBy
-    products-are g =
-        sum-cong integers (f .tallies) _ _ (λ i l.
-        rw (
-          bare-stands f bare i,
-          word-in (f .tallies) (f .tallyBox) 0 i l,
-          word-in (f .tallies) (f .tallyGrocer) 0 i l,
-          word-in (f .tallies) (f .tallyOffer) 0 i l,
-          word-in (f .tallies) (f .tallyCount) (pos 0) i l,
-        )
-        (only-same (eqb (getD (f .tallyBox) i 0) a) (ltb a (f .boxes)) (eqb (getD (f .tallyGrocer) i 0) g) (p (getD (f .tallyOffer) i 0)) (eqb (getD (f .offerOwner) (getD (f .tallyOffer) i 0) 0) from) _ _
-        (lt-ltb a (f .boxes) la)
-        (λ e. same i l (rw (bare-stands f bare i, word-in (f .tallies) (f .tallyBox) 0 i l, e, lt-ltb a (f .boxes) la)))
-        (λ e. ap (λ (x : ℕ). getD (f .tallyCount) i (pos 0) *ℤ pos x) (known (getD (f .tallyOffer) i 0) e))))
-
-    -- The row of products put in its place is the model's table.
-    put-is : (w : List ℤ) →
-        recell (f .boxes) (f .grocers) (λ c g. cond (eqb c a) (cell (f .boxes) (f .grocers) w (pos 0) a g +ℤ products (jobOf f) know p a g) (cell (f .boxes) (f .grocers) w (pos 0) c g)) w
-        ≡ putRow (f .boxes) (f .grocers) a (productRow (talliesOf f) prices a from w) w
-    unfolding putRow productRow
-    put-is w =
-        recell-cong (f .boxes) (f .grocers) _ _ w (λ c g lc lg.
-        ap (λ (x : ℤ). cond (eqb c a) x (cell (f .boxes) (f .grocers) w (pos 0) c g))
-        (ap (λ (x : ℤ). cell (f .boxes) (f .grocers) w (pos 0) a g +ℤ x) (products-are g)
-        ∙ sym (getD-tabulate 255 _ g (pos 0) (omega (arith, lg, h .grocers-in)))))
+module _ (f : JobTables) (places : List ℕ) (bare : f .tallyBag ≡ []) (h : TalliesIn (talliesOf f places)) (r : InRange (jobOf f)) (a : ℕ) (la : a < f .boxes)
+    (at : (i : ℕ) → i < f .tallies → heldBy (jobOf f) i a ≡ true → getD places i 0 ≡ tallyPlace (jobOf f) i) where
+  held-is : (i : ℕ) → i < f .tallies → heldBy (jobOf f) i a ≡ eqb (getD (f .tallyBox) i 0) a
+  unfolding heldBy jobOf
+  held-is i l = rw (bare-stands f bare i, word-in (f .tallies) (f .tallyBox) 0 i l, lt-ltb a (f .boxes) la) (and-one (eqb (getD (f .tallyBox) i 0) a))
 
   offer-in : (i : ℕ) → i < f .tallies → getD (f .tallyOffer) i 0 < f .offers
   offer-in i l = under-at (f .offers) (f .tallies) (f .tallyOffer) i (h .offer-in) l
-
-  -- Step 2: the working totals.
-  pub multiplied-working : (t : StateTables) (b : ℕ) → store (jobOf f) (effect (jobOf f) (view (jobOf f) t) multiplyOwn a b) t .working
-      ≡ putRow (f .boxes) (f .grocers) a (productRow (talliesOf f) (t .known) a a (t .working)) (t .working)
-  unfolding store effect view jobOf
-  multiplied-working t b =
-      put-is (t .known) a (cell (f .boxes) (f .offers) (t .known) 0 a) (λ o. eqb (word (f .offers) (f .offerOwner) 0 o) a)
-      (λ i l _. rw (word-in (f .offers) (f .offerOwner) 0 (getD (f .tallyOffer) i 0) (offer-in i l)))
-      (λ o _. refl) (t .working)
 
   -- The offer of a tally, as the model reads it: its owner, and that box a needs it if it holds the tally.
   owner-is : (i : ℕ) → i < f .tallies → jobOf f .offerOwner (getD (f .tallyOffer) i 0) ≡ getD (f .offerOwner) (getD (f .tallyOffer) i 0) 0
@@ -91,79 +57,109 @@ module _ (f : JobTables) (bare : f .tallyBag ≡ []) (h : TalliesIn (talliesOf f
   unfolding jobOf
   needed i l q = rw (word-in (f .tallies) (f .tallyOffer) 0 i l) at (needs-at (jobOf f) i a l q)
 
-  module _ (t : StateTables) (b : ℕ) (ne : a ≡ b → ⊥) where
-    -- Of the tallies that box a holds, those whose offers stand in the message from box b are those whose offers b owns.
-    received-offer : (i : ℕ) → i < f .tallies → heldBy (jobOf f) i a ≡ true →
-        priceWord (jobOf f) b a (getD (f .tallyOffer) i 0) ≡ eqb (getD (f .offerOwner) (getD (f .tallyOffer) i 0) 0) b
-    unfolding priceWord
-    received-offer i l held =
-        rw (owner-is i l, needed i l held)
-        (split (eqb (getD (f .offerOwner) (getD (f .tallyOffer) i 0) 0) b)
-        (λ e. rw (eqb-true (getD (f .offerOwner) (getD (f .tallyOffer) i 0) 0) b e, ne-eqb b a (λ q. ne (sym q)), eqb-same b))
+  known-is : (t : StateTables) (o : ℕ) → view (jobOf f) t .known a o ≡ cell (f .boxes) (f .offers) (t .known) 0 a o
+  unfolding view jobOf
+  known-is t o = refl
+
+  -- Of the tallies that box a holds, those whose offers stand in the message from box b are those whose offers b owns.
+  received-offer : (b : ℕ) → (a ≡ b → ⊥) → (i : ℕ) → i < f .tallies → heldBy (jobOf f) i a ≡ true →
+      priceWord (jobOf f) b a (getD (f .tallyOffer) i 0) ≡ eqb (getD (f .offerOwner) (getD (f .tallyOffer) i 0) 0) b
+  unfolding priceWord
+  received-offer b ne i l held =
+      rw (owner-is i l, needed i l held)
+      (split (eqb (getD (f .offerOwner) (getD (f .tallyOffer) i 0) 0) b)
+      (λ e. rw (eqb-true (getD (f .offerOwner) (getD (f .tallyOffer) i 0) 0) b e, ne-eqb b a (λ q. ne (sym q)), eqb-same b))
+      (λ e. rw e))
+
+  -- The price received of such an offer is the one in transit.
+  received-price : (t : StateTables) (b o : ℕ) → priceWord (jobOf f) b a o ≡ true → received (jobOf f) (view (jobOf f) t) a b a o ≡ cell (f .boxes) (f .offers) (t .priceTransit) 0 a o
+  unfolding received view jobOf
+  received-price t b o e = rw (eqb-same a, e)
+
+  -- A tally that is not held adds nothing.
+  held-none : (i : ℕ) (b c : Bool) (x : ℤ) → heldBy (jobOf f) i a ≡ false → only integers (heldBy (jobOf f) i a && b && c) x ≡ pos 0
+  unfolding only integers
+  held-none i b c x e = rw e
+
+  module _ (prices : List ℕ) (from : ℕ) (know : ℕ → ℕ) (p : ℕ → Bool)
+      (same : (i : ℕ) → i < f .tallies → heldBy (jobOf f) i a ≡ true → p (getD (f .tallyOffer) i 0) ≡ eqb (getD (f .offerOwner) (getD (f .tallyOffer) i 0) 0) from)
+      (known : (o : ℕ) → p o ≡ true → know o ≡ cell (f .boxes) (f .offers) prices 0 a o) where
+    abbrev brought : ℕ → ℤ
+    brought = brings (f .offerOwner) (f .tallyBox) (f .tallyOffer) (f .tallyCount) prices a from (a * f .offers)
+
+    -- A tally that box a does not hold.
+    away : (i k : ℕ) → i < f .tallies → heldBy (jobOf f) i a ≡ false → only integers (eqb (getD places i 0) k) (brought i) ≡ pos 0
+    unfolding only integers
+    away i k l e = rw (sym (held-is i l) ∙ e) (cond-same (eqb (getD places i 0) k) (pos 0))
+
+    owned : (i : ℕ) → i < f .tallies → heldBy (jobOf f) i a ≡ true → p (jobOf f .tallyOffer i) ≡ eqb (getD (f .offerOwner) (getD (f .tallyOffer) i 0) 0) from
+    unfolding jobOf
+    owned i l e = ap p (word-in (f .tallies) (f .tallyOffer) 0 i l) ∙ same i l e
+
+    priced : (i : ℕ) → i < f .tallies → p (jobOf f .tallyOffer i) ≡ true →
+        amount (jobOf f) (know (jobOf f .tallyOffer i)) i ≡ productAt (f .tallyOffer) (f .tallyCount) prices (a * f .offers) i
+    unfolding amount jobOf
+    priced i l e =
+        rw (word-in (f .tallies) (f .tallyCount) (pos 0) i l)
+        (ap (λ (x : ℕ). getD (f .tallyCount) i (pos 0) *ℤ pos x)
+        (ap know (word-in (f .tallies) (f .tallyOffer) 0 i l)
+        ∙ known (getD (f .tallyOffer) i 0) (ap p (sym (word-in (f .tallies) (f .tallyOffer) 0 i l)) ∙ e)
+        ∙ cell-at (f .boxes) (f .offers) prices 0 a (getD (f .tallyOffer) i 0) la (offer-in i l)))
+
+    one : (i k : ℕ) → i < f .tallies →
+        only integers (eqb (getD places i 0) k) (brought i)
+        ≡ only integers (heldBy (jobOf f) i a && eqb (tallyPlace (jobOf f) i) k && p (jobOf f .tallyOffer i)) (amount (jobOf f) (know (jobOf f .tallyOffer i)) i)
+    one i k l =
+        split (heldBy (jobOf f) i a)
+        (λ e.
+        ap (λ (x : ℕ). only integers (eqb x k) (brought i)) (at i l e)
+        ∙ ap (λ (b : Bool). only integers (eqb (tallyPlace (jobOf f) i) k) (only integers (b && eqb (getD (f .offerOwner) (getD (f .tallyOffer) i 0) 0) from) (productAt (f .tallyOffer) (f .tallyCount) prices (a * f .offers) i)))
+        (sym (held-is i l))
+        ∙ only-same (heldBy (jobOf f) i a) (eqb (tallyPlace (jobOf f) i) k) (p (jobOf f .tallyOffer i)) (eqb (getD (f .offerOwner) (getD (f .tallyOffer) i 0) 0) from) _ _ (owned i l) (λ q s. priced i l s))
+        (λ e. away i k l e ∙ sym (held-none i (eqb (tallyPlace (jobOf f) i) k) (p (jobOf f .tallyOffer i)) (amount (jobOf f) (know (jobOf f .tallyOffer i)) i) e))
+
+    -- What all tallies add at a place, and nothing past the packed table.
+    added-is : (k : ℕ) → sum integers (f .tallies) (λ i. only integers (eqb (getD places i 0) k) (brought i)) ≡ addedAt (jobOf f) know p a k
+    unfolding addedAt jobOf
+    added-is k = sum-cong integers (f .tallies) _ _ (λ i l. one i k l)
+
+    added-past : (k : ℕ) → totalsLength (jobOf f) ≤ k → addedAt (jobOf f) know p a k ≡ pos 0
+    unfolding addedAt only integers
+    added-past k q =
+        sum-none integers (jobOf f .tallies) _ (λ i l. split (heldBy (jobOf f) i a)
+        (λ e. let s = place-within (jobOf f) a (jobOf f .tallyGrocer i) (tally-has (jobOf f) r i a l e) in
+        rw (e, tally-at (jobOf f) r i a e, ne-eqb (totalPlace (jobOf f) a (jobOf f .tallyGrocer i)) k (λ z. omega arith)))
         (λ e. rw e))
 
-    -- The price received of such an offer is the one in transit.
-    received-price : (o : ℕ) → priceWord (jobOf f) b a o ≡ true → received (jobOf f) (view (jobOf f) t) a b a o ≡ cell (f .boxes) (f .offers) (t .priceTransit) 0 a o
-    unfolding received view jobOf
-    received-price o e = rw (eqb-same a, e)
+    -- The table that the call leaves.
+    placed-model : (w : List ℤ) → totalsLength (jobOf f) ≤ length w →
+        placed (f .tallies) places brought w ≡ overwrite (totalsLength (jobOf f)) (λ k. getD w k (pos 0) +ℤ addedAt (jobOf f) know p a k) w
+    unfolding placed
+    placed-model w long =
+        sym (is-tabulate (overwrite (totalsLength (jobOf f)) (λ k. getD w k (pos 0) +ℤ addedAt (jobOf f) know p a k) w) (length w)
+        (λ k. getD w k (pos 0) +ℤ sum integers (f .tallies) (λ i. only integers (eqb (getD places i 0) k) (brought i))) (pos 0)
+        (length-overwrite (totalsLength (jobOf f)) (λ k. getD w k (pos 0) +ℤ addedAt (jobOf f) know p a k) w long)
+        (λ k q. split (ltb k (totalsLength (jobOf f)))
+        (λ e. getD-overwrite (totalsLength (jobOf f)) (λ k. getD w k (pos 0) +ℤ addedAt (jobOf f) know p a k) w k (pos 0) (ltb-true k (totalsLength (jobOf f)) e)
+        ∙ ap (λ (z : ℤ). getD w k (pos 0) +ℤ z) (sym (added-is k)))
+        (λ e. let past = ltb-false k (totalsLength (jobOf f)) e in
+        getD-past (totalsLength (jobOf f)) (λ k. getD w k (pos 0) +ℤ addedAt (jobOf f) know p a k) w k (pos 0) past
+        ∙ sym (ap (λ (z : ℤ). getD w k (pos 0) +ℤ z) (added-is k ∙ added-past k past) ∙ +ℤ-idr (getD w k (pos 0))))))
 
-    -- Step 3: the working totals.
-    pub received-working : store (jobOf f) (effect (jobOf f) (view (jobOf f) t) receivePrices a b) t .working
-        ≡ putRow (f .boxes) (f .grocers) a (productRow (talliesOf f) (t .priceTransit) a b (t .working)) (t .working)
-    unfolding store effect view jobOf
-    received-working =
-        put-is (t .priceTransit) b (received (jobOf f) (view (jobOf f) t) a b a) (priceWord (jobOf f) b a) received-offer received-price (t .working)
+  -- Step 2: the working totals.
+  pub multiplied-working : (t : StateTables) (b : ℕ) → BySpans (jobOf f) t → totalsLength (jobOf f) ≤ length (t .working) →
+      placed (f .tallies) places (brings (f .offerOwner) (f .tallyBox) (f .tallyOffer) (f .tallyCount) (t .known) a a (a * f .offers)) (t .working)
+      ≡ store (jobOf f) (effect (jobOf f) (view (jobOf f) t) multiplyOwn a b) t .working
+  unfolding jobOf
+  multiplied-working t b z long =
+      placed-model (t .known) a (view (jobOf f) t .known a) (λ o. eqb (jobOf f .offerOwner o) a) (λ i l e. ap (λ (x : ℕ). eqb x a) (owner-is i l)) (λ o e. known-is t o) (t .working) long
+      ∙ sym (z .multiplied a b la)
 
-module _ (f : JobTables) (t : StateTables) (masks : List ℕ) (a b : ℕ) (la : a < f .boxes) (lb : b < f .boxes)
-    (lk : f .boxes ≤ 16) (lm : f .grocers ≤ 255) (e : masks ≡ tabulate 255 (sharerWord (jobOf f))) where
-  -- The words of a message of totals from box x to box y, told from owners and masks.
-  due : (x y g : ℕ) → x < f .boxes → g < f .grocers → wordIn (f .grocerOwner) masks y x g ≡ totalWord (jobOf f) x y g
-  due x y g lx lg = total-word f masks y x g (omega arith) lg lm e
-
-  -- Step 4: the working totals, the totals in transit, and the words sent.
-  pub totals-sent-working : store (jobOf f) (effect (jobOf f) (view (jobOf f) t) sendTotals a b) t .working
-      ≡ cleared (f .boxes) (f .grocers) a (wordIn (f .grocerOwner) masks b a) (t .working)
-  unfolding store effect view cleared jobOf
-  totals-sent-working = recell-cong (f .boxes) (f .grocers) _ _ (t .working) (λ c g lc lg. rw (due a b g la lg))
-
-  pub totals-sent-transit : store (jobOf f) (effect (jobOf f) (view (jobOf f) t) sendTotals a b) t .totalTransit
-      ≡ sentTotals (f .boxes) (f .grocers) a (wordIn (f .grocerOwner) masks b a) (t .working) (t .totalTransit)
-  unfolding store effect view sentTotals jobOf
-  totals-sent-transit = recell-cong (f .boxes) (f .grocers) _ _ (t .totalTransit) (λ c g lc lg. rw (due a b g la lg))
-
-  pub totals-sent-count : count (f .grocers) (wordIn (f .grocerOwner) masks b a) ≡ count (f .grocers) (totalWord (jobOf f) a b)
-  totals-sent-count = count-cong (f .grocers) (wordIn (f .grocerOwner) masks b a) (totalWord (jobOf f) a b) (λ g lg. due a b g la lg)
-
-  pub totals-sent-more : store (jobOf f) (effect (jobOf f) (view (jobOf f) t) sendTotals a b) t .sent
-      ≡ overwrite 1 (λ i. getD (t .sent) 0 0 + count (f .grocers) (wordIn (f .grocerOwner) masks b a)) (t .sent)
-  unfolding store effect view jobOf
-  totals-sent-more = rw (totals-sent-count, word-in 1 (t .sent) 0 0 (omega arith))
-
-  -- Step 5: the working totals, and the statements with their range.
-  own : (g : ℕ) → g < f .grocers → credited (f .grocerOwner) masks a a g ≡ eqb (word (f .grocers) (f .grocerOwner) 0 g) a
-  own g lg = credited-own (f .grocerOwner) masks a g ∙ ap (λ (x : ℕ). eqb x a) (sym (word-in (f .grocers) (f .grocerOwner) 0 g lg))
-
-  pub added-working : store (jobOf f) (effect (jobOf f) (view (jobOf f) t) addOwn a b) t .working
-      ≡ cleared (f .boxes) (f .grocers) a (credited (f .grocerOwner) masks a a) (t .working)
-  unfolding store effect view cleared jobOf
-  added-working = recell-cong (f .boxes) (f .grocers) _ _ (t .working) (λ c g lc lg. rw (own g lg))
-
-  pub added-statement : store (jobOf f) (effect (jobOf f) (view (jobOf f) t) addOwn a b) t .statement
-      ≡ creditAll (f .boxes) (f .grocers) a (credited (f .grocerOwner) masks a a) (t .working) (t .statement)
-  unfolding store effect view creditAll creditWord jobOf
-  added-statement = overwrite-cong (f .grocers) _ _ (t .statement) (λ g lg. rw (own g lg))
-
-  module _ (ne : a ≡ b → ⊥) where
-    other : (g : ℕ) → g < f .grocers → credited (f .grocerOwner) masks a b g ≡ totalWord (jobOf f) b a g
-    other g lg = credited-other (f .grocerOwner) masks a b g ne ∙ due b a g lb lg
-
-    -- Step 6: the totals in transit, and the statements with their range.
-    pub totals-received-transit : store (jobOf f) (effect (jobOf f) (view (jobOf f) t) receiveTotals a b) t .totalTransit
-        ≡ cleared (f .boxes) (f .grocers) b (credited (f .grocerOwner) masks a b) (t .totalTransit)
-    unfolding store effect view cleared jobOf
-    totals-received-transit = recell-cong (f .boxes) (f .grocers) _ _ (t .totalTransit) (λ c g lc lg. rw (other g lg))
-
-    pub totals-received-statement : store (jobOf f) (effect (jobOf f) (view (jobOf f) t) receiveTotals a b) t .statement
-        ≡ creditAll (f .boxes) (f .grocers) b (credited (f .grocerOwner) masks a b) (t .totalTransit) (t .statement)
-    unfolding store effect view creditAll creditWord jobOf
-    totals-received-statement = overwrite-cong (f .grocers) _ _ (t .statement) (λ g lg. rw (other g lg))
+  -- Step 3: the working totals.
+  pub received-working : (t : StateTables) (b : ℕ) → (a ≡ b → ⊥) → BySpans (jobOf f) t → totalsLength (jobOf f) ≤ length (t .working) →
+      placed (f .tallies) places (brings (f .offerOwner) (f .tallyBox) (f .tallyOffer) (f .tallyCount) (t .priceTransit) a b (a * f .offers)) (t .working)
+      ≡ store (jobOf f) (effect (jobOf f) (view (jobOf f) t) receivePrices a b) t .working
+  unfolding jobOf
+  received-working t b ne z long =
+      placed-model (t .priceTransit) b (received (jobOf f) (view (jobOf f) t) a b a) (priceWord (jobOf f) b a) (received-offer b ne) (received-price t b) (t .working) long
+      ∙ sym (z .receivedPrices a b la)

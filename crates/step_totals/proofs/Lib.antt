@@ -1,7 +1,7 @@
 -- The laws of totals that belong to no one function.
 
 pub mod Rows
-pub mod Credits
+pub mod Placed
 pub mod Walks
 pub mod Effect
 pub mod Given

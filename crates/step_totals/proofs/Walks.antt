@@ -13,38 +13,12 @@ use Rattle.laws.specs.Below.{integers, only}
 use Rattle.laws.proofs.Bools.{eqb-same, and-l, and-r, and-true, and-false, no-true}
 use Rattle.laws.proofs.Loops.{share}
 use Rattle.step_links.specs.Links.{SkipsBy, LinkedBy, Skips, pairKey, pairAt}
-use Rattle.step_places.specs.Message.{inMessage, wordIn}
-use Rattle.step_totals.specs.Credit.{sendsPart, takesTotal, credited}
 use Rattle.step_totals.specs.Row.{isTaken, brings}
-use Rattle.step_links.proofs.Walks.{test-passed, goes-by}
-
--- What a loop from the front has stored goes on unchanged, where a test holds of entries of key v alone.
-pub front-over : (n : ℕ) (keys : List ℕ) (v i j : ℕ) (s : Skips n keys v i j) (test : ℕ → Bool) (keyed : (x : ℕ) → test x ≡ true → getD keys x 0 ≡ v) (x : ℕ) → (ltb x j && test x) ≡ (ltb x i && test x)
-front-over n keys v i j s test keyed x = which (decLt x i) (decLt x j)
-  where
-    which : Dec (x < i) → Dec (x < j) → (ltb x j && test x) ≡ (ltb x i && test x)
-    which (yes a) b = ap (λ (t : Bool). t && test x) (lt-ltb x j (omega (arith, s .from)) ∙ sym (lt-ltb x i a))
-    which (no a) (yes b) = rw (test-passed n keys v i j s test keyed x (omega arith) b) (and-false (ltb x j) ∙ sym (and-false (ltb x i)))
-    which (no a) (no b) = ap (λ (t : Bool). t && test x) (le-ltb x j (omega arith) ∙ sym (le-ltb x i (omega arith)))
+use Rattle.step_links.proofs.Walks.{goes-by}
 
 -- A step of a walk, where the place that it goes to is named.
 pub goes-to : (heads n : ℕ) (key : ℕ → ℕ) (links : List ℕ) (v i j : ℕ) → LinkedBy heads n key links → i < n → key i ≡ v → j ≡ getD links (heads + i) 0 → SkipsBy n key v (i + 1) j
 goes-to heads n key links v i j h l e to = subst (λ (x : ℕ). SkipsBy n key v (i + 1) x) (sym to) (goes-by heads n key links v i h l e)
-
--- A grocer that box a credits is of box a.
-pub credit-owner : (owners sharers : List ℕ) (a from g : ℕ) → credited owners sharers a from g ≡ true → getD owners g 0 ≡ a
-unfolding credited
-credit-owner owners sharers a from g t = eqb-true (getD owners g 0) a (and-l (eqb (getD owners g 0) a) _ t)
-
--- Of box a's grocers those are credited whose total it takes.
-pub credit-taken : (owners sharers : List ℕ) (a from g : ℕ) → getD owners g 0 ≡ a → takesTotal sharers a from g ≡ credited owners sharers a from g
-unfolding credited
-credit-taken owners sharers a from g e = rw (e, eqb-same a)
-
--- And of box b's those stand in the message whose part total box a sends.
-pub word-part : (owners sharers : List ℕ) (a b g : ℕ) → getD owners g 0 ≡ b → sendsPart sharers a b g ≡ wordIn owners sharers b a g
-unfolding wordIn inMessage
-word-part owners sharers a b g e = rw (e, eqb-same b)
 
 -- A tally of the pair that is walked over is taken.
 pub pair-taken : (owner holder offer : List ℕ) (a from i : ℕ) → from < 16 → getD owner (getD offer i 0) 0 < 16 → pairAt holder offer owner i ≡ pairKey a from →

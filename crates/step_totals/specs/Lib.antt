@@ -1,4 +1,3 @@
 -- Definitions that the contracts of the steps on totals cite.
 
 pub mod Row
-pub mod Credit

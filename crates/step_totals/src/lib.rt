@@ -1,5 +1,3 @@
-// Steps 2 to 6 on tables of amounts: working totals, totals in transit and statements.
-pub mod credit;
+// Steps 2 and 3 on packed working totals.
 pub mod row;
-pub mod send;
 mod walk;

@@ -1,11 +1,11 @@
-// The row of a box, multiplied.
+// Tallies multiplied into packed totals.
 ghost use mathlib.Core.Path.{_≡_};
 ghost use mathlib.Core.List.{List};
 ghost use Prim.Native.Nat.{ℕ, _+_, _*_, _≤_, _<_};
 ghost use lib.ListN.{length, getD};
 ghost use lib.IntN.{pos, natAbs};
 ghost use Rattle.step_links.specs.Links.{Some};
-ghost use Rattle.step_totals.specs.Row.{tallies, RowIn, TallyIn, RowTallies, TalliesLinked, raised, productAt, productRow, putRow};
+ghost use Rattle.step_totals.specs.Row.{TallyIn, TalliesLinked, PlacedTallies, raised, productAt, brings, placed};
 use crate::walk::begin_pair;
 use crate::walk::next_pair;
 use slices::amounts::amount;
@@ -39,42 +39,38 @@ pub fn add_tally(
     raise_at(row, g, x);
 }
 
-// Multiplies the tallies of box a whose offers box `from` owns into row a of the working totals, in place, by a walk over these alone.
-pub fn add_products(
-    m: usize,
+// Multiplies the tallies of box a whose offers box `from` owns into the packed working totals, each at the place of its total.
+pub fn add_placed(
     n: usize,
     t: usize,
     a: u16,
     from: u16,
-    tally_links: &[u16; TALLY_LINKS],
-    tally_grocer: &[u16],
+    links: &[u16; TALLY_LINKS],
+    tally_place: &[u16],
     tally_offer: &[u16],
     tally_count: &[i32],
     prices: &[u32],
     working: &mut [i64],
 )
-    requires { ⌜ RowTallies m n t a (now «tally_grocer») (now «tally_offer») (now «tally_count») (now prices) ⌝ }
-    requires { ⌜ RowIn m a (now working) ⌝ }
-    requires { ⌜ (from < 16) × Some (λ owner. Some (λ holder. TalliesLinked t owner holder (now «tally_offer») (now «tally_links»))) ⌝ }
-    ensures { λ _. ⌜ ((owner holder : List ℕ) → TalliesLinked t owner holder (now («tally_offer» .entry)) (now («tally_links» .entry)) →
-        (k : ℕ) → a < k → k * m ≤ length (now (working .entry)) →
-        now (working .exit) ≡ putRow k m a (productRow (tallies k m n t owner (now («tally_grocer» .entry)) holder
-        (now («tally_offer» .entry)) (now («tally_count» .entry))) (now (prices .entry)) a from (now (working .entry))) (now (working .entry))) ⌝ }
+    requires { ⌜ PlacedTallies n t a (now «tally_place») (now «tally_offer») (now «tally_count») (now prices) (now working) ⌝ }
+    requires { ⌜ (from < 16) × Some (λ owner. Some (λ holder. TalliesLinked t owner holder (now «tally_offer») (now links))) ⌝ }
+    ensures { λ _. ⌜ ((owner holder : List ℕ) → TalliesLinked t owner holder (now («tally_offer» .entry)) (now (links .entry)) →
+        now (working .exit) ≡ placed t (now («tally_place» .entry)) (brings owner holder (now («tally_offer» .entry)) (now («tally_count» .entry))
+        (now (prices .entry)) a from (a * n)) (now (working .entry))) ⌝ }
 {
     let at = row_start(n, a);
-    let base = row_start(m, a);
-    let mut i = begin_pair(a, from, tally_links);
+    let mut i = begin_pair(a, from, links);
     while i < t {
         add_tally(
             at,
-            base,
+            0,
             i,
-            tally_grocer,
+            tally_place,
             tally_offer,
             tally_count,
             prices,
             working,
         );
-        i = next_pair(i, tally_links);
+        i = next_pair(i, links);
     }
 }

@@ -8,8 +8,8 @@ use borrow.Author.Needs.{needs}
 use Rattle.laws.proofs.Tables.{row-in}
 use Rattle.step_prices.specs.Prices.{PriceRows, PricesIn}
 use Rattle.step_links.specs.Links.{LinkedPairs, Some}
-use Rattle.step_totals.specs.Row.{Tallies, tallies, RowIn, RowTallies, TalliesLinked}
-use Rattle.step_totals.proofs.Rows.{amount-row, tally-rows, pairs-linked}
+use Rattle.step_totals.specs.Row.{Tallies, tallies, PlacedTallies, TalliesLinked}
+use Rattle.step_totals.proofs.Rows.{placed-tallies, pairs-linked}
 use denote.Ref.{now}
 use Rattle.step_apply.proofs.Sides.{prices-sent-out, own-multiplied-out, prices-received-out}
 use Rattle.step_apply.proofs.price_step.Statement.{statement}
@@ -18,15 +18,15 @@ use Rattle.step_apply.proofs.price_step.Tie as tie
 
 -- The tables of tallies, as they are lent, with the boxes of a list.
 abbrev tables : tie.Start → List ℕ → Tallies
-tables s holder = tallies (s .args .z .boxes) (s .args .z .grocers) (s .args .z .offers) (s .args .z .tallies) (now (s .args .offer-owner)) (now (s .args .tally-grocer)) holder (now (s .args .tally-offer))
+tables s holder = tallies (s .args .z .boxes) (s .args .z .offers) (s .args .z .tallies) (now (s .args .offer-owner)) (now (s .args .tally-place)) holder (now (s .args .tally-offer))
     (now (s .args .tally-count))
 
 -- The start, from where the kind is asked.
 abbrev lent : tie.After-slice-known2 → tie.Start
 lent c = c .before .before .before .before .before
 
-abbrev entry : tie.After-struct-known4 → tie.Start
-entry c = lent (c .before .before .before .before)
+abbrev entry : tie.After-struct-known3 → tie.Start
+entry c = lent (c .before .before .before)
 
 -- What the calls on price tables require, for row c of the prices in transit, and what they are told of all boxes.
 price-rows : (s : tie.Start) (c : ℕ) → c < s .args .z .boxes → PriceRows (s .args .z .offers) (s .args .x .first) (s .args .x .second) c (now (s .args .offer-owner)) (now (s .args .known)) (now (s .args .price-transit))
@@ -48,8 +48,8 @@ prices-in s = record { a-in = s .pre .passes .a-in; b-in = s .pre .passes .b-in;
 
 -- What multiplying requires of the tallies, of their links, and of the working totals.
 rows-in : (s : tie.Start) (prices : List ℕ) → totals.PricesIn (s .args .z .boxes) (s .args .z .offers) prices →
-    RowTallies (s .args .z .grocers) (s .args .z .offers) (s .args .z .tallies) (s .args .x .first) (now (s .args .tally-grocer)) (now (s .args .tally-offer)) (now (s .args .tally-count)) prices
-rows-in s prices p = tally-rows (tables s (s .pre .list)) prices (s .args .x .first) (s .pre .passes .tallies-in) p (s .pre .passes .a-in)
+    PlacedTallies (s .args .z .offers) (s .args .z .tallies) (s .args .x .first) (now (s .args .tally-place)) (now (s .args .tally-offer)) (now (s .args .tally-count)) prices (now (s .args .working))
+rows-in s prices p = placed-tallies (tables s (s .pre .list)) prices (now (s .args .working)) (s .args .x .first) (s .pre .passes .tallies-in) p (s .pre .passes .working-in) (s .pre .passes .a-in)
 
 linked-by : (s : tie.Start) (holder : List ℕ) → LinkedPairs (s .args .z .tallies) holder (now (s .args .tally-offer)) (now (s .args .offer-owner)) (now (s .args .tally-links)) →
     TalliesLinked (s .args .z .tallies) (now (s .args .offer-owner)) holder (now (s .args .tally-offer)) (now (s .args .tally-links))
@@ -57,9 +57,6 @@ linked-by s holder l = pairs-linked (tables s (s .pre .list)) holder (now (s .ar
 
 some-linked : (s : tie.Start) → Some (λ owner. Some (λ holder. TalliesLinked (s .args .z .tallies) owner holder (now (s .args .tally-offer)) (now (s .args .tally-links))))
 some-linked s = record { list = now (s .args .offer-owner); passes = record { list = s .pre .list; passes = linked-by s (s .pre .list) (s .pre .passes .tallies-linked) } }
-
-working-row : (s : tie.Start) → RowIn (s .args .z .grocers) (s .args .x .first) (now (s .args .working))
-working-row s = amount-row (s .args .z .boxes) (s .args .z .grocers) (s .args .x .first) (now (s .args .working)) (s .pre .passes .working-in) (s .pre .passes .a-in)
 
 send-prices-requires : tie.Need-send-prices-requires
 send-prices-requires c κs = let s = entry (c .before .before .before) in (price-rows s (s .args .x .second) (s .pre .passes .b-in), s .pre .passes .offers-linked)
@@ -72,10 +69,10 @@ returns c holder l =
     let o = prices-sent-out (tables s holder) (now (s .args .needs)) (now (s .args .known)) (now (s .args .price-transit)) (now (s .args .working)) (s .args .x .kind) (s .args .x .first) (s .args .x .second) (if1 .if1 .taken) in
     record { known-is = o .known-is; transit-is = call .send-prices .ensures .0 (s .args .z .boxes) (prices-in s) ∙ o .transit-is; working-is = o .working-is; sent-is = call .send-prices .ensures .1 ∙ o .sent-is }
 
-add-products-requires : tie.Need-add-products-requires
-add-products-requires c κs =
+add-placed-requires : tie.Need-add-placed-requires
+add-placed-requires c κs =
     let s = entry (c .before .before .before .before .before) in
-    (rows-in s (now (s .args .known)) (s .pre .passes .known-in), (working-row s, (le-trans (s .pre .passes .a-in) (s .pre .passes .tallies-in .boxes-in), some-linked s)))
+    (rows-in s (now (s .args .known)) (s .pre .passes .known-in), (le-trans (s .pre .passes .a-in) (s .pre .passes .tallies-in .boxes-in), some-linked s))
 
 returns-2 : tie.Need-returns-2
 returns-2 c holder l =
@@ -86,20 +83,20 @@ returns-2 c holder l =
     record {
       known-is = o .known-is;
       transit-is = o .transit-is;
-      working-is = call .add-products .ensures (now (s .args .offer-owner)) holder (linked-by s holder l) (s .args .z .boxes) (s .pre .passes .a-in) (s .pre .passes .working-in .long) ∙ o .working-is;
+      working-is = call .add-placed .ensures (now (s .args .offer-owner)) holder (linked-by s holder l) ∙ o .working-is;
       sent-is = o .sent-is;
     }
 
-add-products-requires-2 : tie.Need-add-products-requires-2
-add-products-requires-2 c κs =
+add-placed-requires-2 : tie.Need-add-placed-requires-2
+add-placed-requires-2 c κs =
     let s = entry (c .before .before .before .before .before) in
-    (rows-in s (now (s .args .price-transit)) (s .pre .passes .transit-in), (working-row s, (le-trans (s .pre .passes .b-in) (s .pre .passes .tallies-in .boxes-in), some-linked s)))
+    (rows-in s (now (s .args .price-transit)) (s .pre .passes .transit-in), (le-trans (s .pre .passes .b-in) (s .pre .passes .tallies-in .boxes-in), some-linked s))
 
 -- The products added, from the prices received.
-abbrev added : tie.After-receive-prices → tie.After-add-products2
+abbrev added : tie.After-receive-prices → tie.After-add-placed2
 added c = c .before .before .before .before
 
-abbrev begun : tie.After-add-products2 → tie.Start
+abbrev begun : tie.After-add-placed2 → tie.Start
 begun c = entry (c .before .before .before .before .before .before)
 
 receive-prices-requires : tie.Need-receive-prices-requires
@@ -117,7 +114,7 @@ returns-3 c holder l =
     record {
       known-is = e .0 ∙ o .known-is;
       transit-is = e .1 ∙ o .transit-is;
-      working-is = sums .add-products2 .ensures (now (s .args .offer-owner)) holder (linked-by s holder l) (s .args .z .boxes) (s .pre .passes .a-in) (s .pre .passes .working-in .long) ∙ o .working-is;
+      working-is = sums .add-placed2 .ensures (now (s .args .offer-owner)) holder (linked-by s holder l) ∙ o .working-is;
       sent-is = o .sent-is;
     }
 
@@ -127,18 +124,17 @@ price-step-spec =
     (tie.spec
     (λ c. search needs)
     (λ c. search needs)
-    (λ c. search needs)
     send-prices-requires
     (λ c. refl)
     (λ c. c .before .before .send-prices .kept .1 .1 .1 .1 .1 .1 .1 .0)
     returns
-    add-products-requires
+    add-placed-requires
     (λ c. refl)
-    (λ c. c .before .add-products .kept .1 .1 .1 .1 .1 .1 .1 .1 .1 .1 .0)
+    (λ c. c .before .add-placed .kept .1 .1 .1 .1 .1 .1 .1 .1 .1 .0)
     returns-2
-    add-products-requires-2
+    add-placed-requires-2
     receive-prices-requires
     (λ c. c .before .before .before .before .receive-prices .kept .1 .1 .1 .1 .1 .1 .0)
     (λ c. c .before .before .before .before .receive-prices .kept .1 .1 .1 .1 .1 .1 .1 .0)
-    (λ c. added (c .before .before .before .before) .add-products2 .kept .1 .1 .1 .1 .1 .1 .1 .1 .1 .1 .0)
+    (λ c. added (c .before .before .before .before) .add-placed2 .kept .1 .1 .1 .1 .1 .1 .1 .1 .1 .0)
     returns-3)

@@ -1,0 +1,6 @@
+-- Laws of local lists and of places.
+pub mod Listing
+pub mod Modelled
+pub mod Groups
+pub mod Putting
+pub mod Joined

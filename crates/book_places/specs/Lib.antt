@@ -1,0 +1,3 @@
+-- Local grocers and the places of packed totals: definitions.
+pub mod Lists
+pub mod Spots

@@ -1,0 +1,170 @@
+// Places of packed totals: a box's local grocers in order, where each group of them begins, and the place of each tally's total.
+ghost use mathlib.Core.Path.{_≡_};
+ghost use mathlib.Core.Bool.{_||_};
+ghost use Prim.Native.Nat.{ℕ, _+_, _*_, _≤_, _<_};
+ghost use lib.Dec.{eqb};
+ghost use lib.ListN.{length};
+ghost use Rattle.laws.specs.Below.{naturals, only};
+ghost use Rattle.laws.specs.Masks.{bit};
+ghost use Rattle.laws.specs.Tables.{tabulate, overwrite};
+ghost use Rattle.book_sort.specs.Sort.{at, begin, inFront};
+ghost use Rattle.book_keys.specs.Keys.{TalliesIn, OwnersIn, PlacesIn, numberIn};
+ghost use Rattle.book_places.specs.Spots.{classBy, listBy, countBy, startBy, placeBy, spotBy, groupBy, putAt, CountIn, BoxIn};
+use book_keys::classes;
+use book_keys::if_same;
+use book_keys::numbers;
+use slices::index_at;
+use slices::u16_at;
+use book_sort::index_of;
+use book_sort::sort;
+
+// The local list of box b, of n numbers with these owners and words of holders, and where each class of it begins. Its length.
+pub fn box_list(
+    k: u16,
+    n: usize,
+    owners: &[u16],
+    words: &[u16],
+    b: u16,
+    starts: &mut [u16],
+    out: &mut [u16],
+) -> u16
+    requires { ⌜ OwnersIn k n (now owners) × (n ≤ length (now words)) ⌝ }
+    requires { ⌜ (b < k) × ((k + 1 < length (now starts)) × (n ≤ length (now out))) ⌝ }
+    ensures { λ r. ⌜ r ≡ length (listBy k n (now (owners .entry)) (now (words .entry)) b) ⌝ }
+    ensures { λ _. ⌜ now (starts .exit) ≡ overwrite (k + 2) (begin (classBy k b (now (owners .entry)) (now (words .entry))) n) (now (starts .entry)) ⌝ }
+    ensures { λ _. ⌜ now (out .exit) ≡ inFront (listBy k n (now (owners .entry)) (now (words .entry)) b) (now (out .entry)) ⌝ }
+{
+    let keys = classes(owners, words, n, k, b);
+    let m = index_of(k) + 1;
+    sort(&keys, n, m, starts, out);
+    starts[m]
+}
+
+// 1 where box b owns a grocer of this owner, or is among those of its word, else 0.
+fn has_total(owner: u16, word: u16, b: u16) -> u16
+    requires { ⌜ b < 16 ⌝ }
+    ensures { λ r. ⌜ r ≡ only naturals (eqb owner b || bit b word) 1 ⌝ }
+{
+    if (owner == b) | step_places::words::has_bit(word, b) {
+        return 1;
+    }
+    0
+}
+
+// How many of the first m grocers box b has a total of.
+fn box_count(m: usize, owners: &[u16], words: &[u16], b: u16) -> u16
+    requires { ⌜ CountIn m (now owners) (now words) × (b < 16) ⌝ }
+    ensures { λ r. ⌜ (r ≡ countBy m (now (owners .entry)) (now (words .entry)) b) × (r ≤ 500) ⌝ }
+{
+    let mut count: u16 = 0;
+    for g in 0..m {
+        count += has_total(u16_at(owners, g), u16_at(words, g), b);
+    }
+    count
+}
+
+// Where the totals of box b begin; for b = K the packed length.
+pub fn box_start(m: usize, owners: &[u16], words: &[u16], b: u16) -> u16
+    requires { ⌜ CountIn m (now owners) (now words) × (b ≤ 16) ⌝ }
+    ensures { λ r. ⌜ (r ≡ startBy m (now (owners .entry)) (now (words .entry)) b) × (r ≤ 8_000) ⌝ }
+{
+    let mut sum: u16 = 0;
+    for c in 0..b {
+        sum += box_count(m, owners, words, c);
+    }
+    sum
+}
+
+// Puts the place of each tally of box b: the start of the box, and the local number of the tally's grocer.
+pub fn put_places(
+    n: usize,
+    boxes: &[u16],
+    items: &[u16],
+    numbers: &[u16; 500],
+    b: u16,
+    start: u16,
+    out: &mut [u16],
+)
+    requires { ⌜ TalliesIn (now boxes) (now items) n × ((start ≤ 60_000) × (n ≤ length (now out))) ⌝ }
+    requires { ⌜ ((x : ℕ) → x < 500 → at (now numbers) x ≤ 500) ⌝ }
+    ensures { λ _. ⌜ now (out .exit) ≡ tabulate (length (now (out .entry)))
+        (placeBy n (now (boxes .entry)) (now (items .entry)) (now (numbers .entry)) b start (now (out .entry))) ⌝ }
+{
+    for t in 0..n {
+        let g = index_at(items, t);
+        let place = if_same(u16_at(boxes, t), b, start + numbers[g], out[t]);
+        out[t] = place;
+    }
+}
+
+// Puts the first l words of a list into a table, from a place on.
+pub fn put_list(list: &[u16], l: usize, start: usize, out: &mut [u16])
+    requires { ⌜ (l ≤ length (now list)) × ((start + l ≤ length (now out)) × (start + l < 65536)) ⌝ }
+    ensures { λ _. ⌜ now (out .exit) ≡ putAt (now (list .entry)) l start (now (out .entry)) ⌝ }
+{
+    for i in 0..l {
+        let at = start + i;
+        out[at] = u16_at(list, i);
+    }
+}
+
+// A span of places: from one up to another.
+pub struct Span {
+    pub from: usize,
+    pub to: usize,
+}
+
+// The span of a group of box b, and into a table by places the grocers of the box.
+pub fn box_span(
+    k: u16,
+    m: usize,
+    owners: &[u16],
+    words: &[u16],
+    b: u16,
+    group: usize,
+    grocers: &mut [u16],
+) -> Span
+    requires { ⌜ BoxIn k m b (now owners) (now words) × (group ≤ k) ⌝ }
+    requires { ⌜ startBy m (now owners) (now words) b + length (listBy k m (now owners) (now words) b) ≤ length (now grocers) ⌝ }
+    ensures { λ r. ⌜ (r .from ≡ groupBy k m (now (owners .entry)) (now (words .entry)) b group)
+        × (r .to ≡ groupBy k m (now (owners .entry)) (now (words .entry)) b (group + 1)) ⌝ }
+    ensures { λ _. ⌜ now (grocers .exit) ≡ putAt (listBy k m (now (owners .entry)) (now (words .entry)) b)
+        (length (listBy k m (now (owners .entry)) (now (words .entry)) b)) (startBy m (now (owners .entry)) (now (words .entry)) b) (now (grocers .entry)) ⌝ }
+{
+    let start = index_of(box_start(m, owners, words, b));
+    let mut starts = [0u16; 18];
+    let mut list = [0u16; 255];
+    let l = box_list(k, m, owners, words, b, &mut starts, &mut list);
+    put_list(&list, index_of(l), start, grocers);
+    let next = group + 1;
+    let first = index_of(starts[group]);
+    let last = index_of(starts[next]);
+    Span {
+        from: start + first,
+        to: start + last,
+    }
+}
+
+// The places of the totals of box b's tallies, and 0 for other tallies.
+pub fn box_places(
+    k: u16,
+    m: usize,
+    owners: &[u16],
+    words: &[u16],
+    b: u16,
+    n: usize,
+    boxes: &[u16],
+    items: &[u16],
+) -> [u16; 1000]
+    requires { ⌜ BoxIn k m b (now owners) (now words) × TalliesIn (now boxes) (now items) n ⌝ }
+    ensures { λ r. ⌜ r ≡ tabulate 1000 (spotBy k m (now (owners .entry)) (now (words .entry)) b n (now (boxes .entry)) (now (items .entry))) ⌝ }
+{
+    let start = box_start(m, owners, words, b);
+    let mut starts = [0u16; 18];
+    let mut list = [0u16; 255];
+    let l = box_list(k, m, owners, words, b, &mut starts, &mut list);
+    let by_grocer = numbers(&list, l);
+    let mut places = [0u16; 1000];
+    put_places(n, boxes, items, &by_grocer, b, start, &mut places);
+    places
+}

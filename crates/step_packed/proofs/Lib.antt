@@ -1,0 +1,2 @@
+-- Laws of the tests on packed totals.
+pub mod Fits

@@ -1,0 +1,2 @@
+-- Definitions of the tests on packed totals.
+pub mod Fits

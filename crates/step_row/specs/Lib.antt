@@ -1,0 +1,2 @@
+-- The words of a box.
+pub mod Row

@@ -1,0 +1,162 @@
+// A box's own words of packed totals as multiplying would leave them, told before anything is written.
+ghost use mathlib.Core.Path.{_≡_};
+ghost use Prim.Native.Nat.{_+_, _*_, _≤_, _<_};
+ghost use lib.ListN.{length, getD};
+ghost use lib.IntN.{pos, natAbs};
+ghost use Rattle.laws.specs.Limits.{maxAmount};
+ghost use Rattle.model.specs.Ranges.{around};
+ghost use Rattle.step_totals.specs.Row.{TallyIn, isTaken, raised, brings, placed};
+ghost use Rattle.step_row.specs.Row.{rowOf, RowIn};
+use step_packed::in_range::around64;
+use slices::amounts::row_start;
+use slices::index_at;
+use slices::u16_at;
+use step_totals::row::add_tally;
+
+// The words of a box, which begin at a place.
+fn row_at(start: usize, len: usize, working: &[i64]) -> [i64; 255]
+    requires { ⌜ (len ≤ 255) × (start + len ≤ length (now working)) ⌝ }
+    ensures { λ r. ⌜ r ≡ rowOf start len (now (working .entry)) ⌝ }
+{
+    let mut row = [0i64; 255];
+    for g in 0..len {
+        let i = start + g;
+        let v = working[i];
+        row[g] = v;
+    }
+    row
+}
+
+// Whether box a holds tally i, and box `from` owns its offer.
+fn is_taken(
+    a: u16,
+    from: u16,
+    i: usize,
+    offer_owner: &[u16],
+    tally_box: &[u16],
+    tally_offer: &[u16],
+) -> bool
+    requires { ⌜ (i < length (now «tally_box»)) × (i < length (now «tally_offer»)) × (getD (now «tally_offer») i 0 < length (now «offer_owner»)) ⌝ }
+    ensures { λ r. ⌜ r ≡ isTaken (now («offer_owner» .entry)) (now («tally_box» .entry)) (now («tally_offer» .entry)) a from i ⌝ }
+{
+    let o = index_at(tally_offer, i);
+    (u16_at(tally_box, i) == a) & (u16_at(offer_owner, o) == from)
+}
+
+// Adds what tally i brings to the row of box a, at its local number: count × price where the tally is taken, else nothing.
+fn add_taken(
+    at: usize,
+    a: u16,
+    from: u16,
+    i: usize,
+    offer_owner: &[u16],
+    tally_number: &[u16],
+    tally_box: &[u16],
+    tally_offer: &[u16],
+    tally_count: &[i32],
+    prices: &[u32],
+    row: &mut [i64],
+)
+    requires { ⌜ TallyIn (now «tally_number») (now «tally_offer») (now «tally_count») (now prices) at i ⌝ }
+    requires { ⌜ (i < length (now «tally_box»)) × (getD (now «tally_offer») i 0 < length (now «offer_owner»)) ⌝ }
+    requires { ⌜ (getD (now «tally_number») i 0 < length (now row)) × (natAbs (getD (now row) (getD (now «tally_number») i 0) (pos 0)) ≤
+        2_000_000_000_000_000) ⌝ }
+    ensures { λ _. ⌜ now (row .exit) ≡ raised (now (row .entry)) (getD (now («tally_number» .entry)) i 0)
+        (brings (now («offer_owner» .entry)) (now («tally_box» .entry)) (now («tally_offer» .entry)) (now («tally_count» .entry))
+        (now (prices .entry)) a from at i) ⌝ }
+{
+    if !is_taken(a, from, i, offer_owner, tally_box, tally_offer) {
+        return;
+    }
+    add_tally(
+        at,
+        0,
+        i,
+        tally_number,
+        tally_offer,
+        tally_count,
+        prices,
+        row,
+    );
+}
+
+// The words of box a after multiplying its tallies whose offers box `from` owns, at the prices of row a. `tally_number` has the local number of each
+// tally's grocer; of tallies of other boxes it is some number of the row.
+pub fn product_row(
+    start: usize,
+    len: usize,
+    n: usize,
+    t: usize,
+    a: u16,
+    from: u16,
+    offer_owner: &[u16],
+    tally_number: &[u16],
+    tally_box: &[u16],
+    tally_offer: &[u16],
+    tally_count: &[i32],
+    prices: &[u32],
+    working: &[i64],
+) -> [i64; 255]
+    requires { ⌜ RowIn start len n t a (now «tally_number») (now «tally_offer») (now «tally_count») (now prices) (now working) ⌝ }
+    requires { ⌜ (n ≤ length (now «offer_owner»)) × (t ≤ length (now «tally_box»)) ⌝ }
+    ensures { λ r. ⌜ r ≡ placed t (now («tally_number» .entry)) (brings (now («offer_owner» .entry)) (now («tally_box» .entry)) (now («tally_offer» .entry))
+        (now («tally_count» .entry)) (now (prices .entry)) a from (a * n)) (rowOf start len (now (working .entry))) ⌝ }
+{
+    let mut row = row_at(start, len, working);
+    let at = row_start(n, a);
+    for i in 0..t {
+        add_taken(
+            at,
+            a,
+            from,
+            i,
+            offer_owner,
+            tally_number,
+            tally_box,
+            tally_offer,
+            tally_count,
+            prices,
+            &mut row,
+        );
+    }
+    row
+}
+
+// Steps 2 and 3: whether the working totals of box a stay in range with its tallies of offers of box `from`.
+pub fn products_fit(
+    start: usize,
+    len: usize,
+    n: usize,
+    t: usize,
+    a: u16,
+    from: u16,
+    offer_owner: &[u16],
+    tally_number: &[u16],
+    tally_box: &[u16],
+    tally_offer: &[u16],
+    tally_count: &[i32],
+    prices: &[u32],
+    working: &[i64],
+) -> bool
+    requires { ⌜ RowIn start len n t a (now «tally_number») (now «tally_offer») (now «tally_count») (now prices) (now working) ⌝ }
+    requires { ⌜ (n ≤ length (now «offer_owner»)) × (t ≤ length (now «tally_box»)) ⌝ }
+    ensures { λ r. ⌜ r ≡ around maxAmount len (placed t (now («tally_number» .entry)) (brings (now («offer_owner» .entry)) (now («tally_box» .entry))
+        (now («tally_offer» .entry)) (now («tally_count» .entry)) (now (prices .entry)) a from (a * n)) (rowOf start len (now (working .entry)))) ⌝ }
+{
+    let row = product_row(
+        start,
+        len,
+        n,
+        t,
+        a,
+        from,
+        offer_owner,
+        tally_number,
+        tally_box,
+        tally_offer,
+        tally_count,
+        prices,
+        working,
+    );
+    around64(&row, len)
+}

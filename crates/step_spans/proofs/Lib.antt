@@ -1,0 +1,3 @@
+-- Laws of spans.
+pub mod Laws
+pub mod Statements

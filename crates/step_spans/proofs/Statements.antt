@@ -1,0 +1,133 @@
+-- Adding a span to statements is what steps 5 and 6 do. Assumes nothing.
+use mathlib.Core.Path.{_≡_, refl, sym, ap, _∙_}
+use mathlib.Core.Bool.{true}
+use mathlib.Core.List.{List}
+use Prim.Native.Nat.{ℕ, zero, suc, _+_, _-_, _<_, _≤_}
+use native.Mathlib.Omega.{arith}
+use lib.Dec.{eqb, ltb, leb}
+use lib.IntN.{ℤ, pos, natAbs, _+ℤ_}
+use lib.ListN.{length, getD}
+use lib.Seq.{getD-set-same, getD-set-other}
+use borrow.Author.Tests.{eqb-true, eqb-false, eq-eqb, ltb-true, lt-ltb, le-leb, leb-true}
+use Rattle.laws.specs.Below.{any, all}
+use Rattle.laws.specs.Tables.{overwrite}
+use Rattle.laws.proofs.Bools.{split, clash, and-true, and-l, and-r, same-test}
+use Rattle.laws.proofs.Below.{any-at, any-find, all-at, all-of}
+use Rattle.laws.proofs.Tables.{is-overwrite, word-in, getD-overwrite}
+use Rattle.model.specs.Job.{Job}
+use Rattle.model.specs.Ranges.{around}
+use Rattle.model.specs.Steps.{effect, addOwn, receiveTotals}
+use Rattle.model.specs.Tables.{StateTables, view, store}
+use Rattle.model.specs.Spans.{groupStart, placeGrocers, inSpan, BySpans}
+use Rattle.step_spans.specs.Credit.{creditSpan}
+use Rattle.step_spans.proofs.Laws.{length-credit}
+
+module _ (from : ℕ) (grocers : List ℕ) (source statement : List ℤ) where
+  -- A grocer that has no place in the span.
+  credit-other : (n g : ℕ) → ((i : ℕ) → i < n → getD grocers (from + i) 0 ≡ g → ⊥) → getD (creditSpan n from grocers source statement) g (pos 0) ≡ getD statement g (pos 0)
+  unfolding creditSpan
+  credit-other zero g h = refl
+  credit-other (suc n) g h =
+      getD-set-other (creditSpan n from grocers source statement) (getD grocers (from + n) 0) g _ (pos 0) (λ e. h n (omega arith) (sym e))
+      ∙ credit-other n g (λ i l. h i (omega arith))
+
+  -- One that has one.
+  credit-at : (n : ℕ) → ((i : ℕ) → i < n → getD grocers (from + i) 0 < length statement) →
+      ((i k : ℕ) → i < n → k < n → getD grocers (from + i) 0 ≡ getD grocers (from + k) 0 → i ≡ k) →
+      (m : ℕ) → m < n → getD (creditSpan n from grocers source statement) (getD grocers (from + m) 0) (pos 0) ≡ getD statement (getD grocers (from + m) 0) (pos 0) +ℤ getD source (from + m) (pos 0)
+  unfolding creditSpan
+  credit-at zero long once m l = absurd (omega arith)
+  credit-at (suc n) long once m l =
+      split (eqb m n)
+      (λ e.
+      rw (eqb-true m n e)
+      (getD-set-same (creditSpan n from grocers source statement) (getD grocers (from + n) 0) _ (pos 0) (omega (arith, length-credit n from grocers source statement, long n (omega arith)))
+      ∙ ap (λ (z : ℤ). z +ℤ getD source (from + n) (pos 0)) (credit-other n (getD grocers (from + n) 0) (λ i k q. let same : i ≡ n = once i n (omega arith) (omega arith) q in omega arith))))
+      (λ e. let ne : m ≡ n → ⊥ = eqb-false m n e in
+      getD-set-other (creditSpan n from grocers source statement) (getD grocers (from + n) 0) (getD grocers (from + m) 0) _ (pos 0) (λ q. ne (once m n (omega arith) (omega arith) q))
+      ∙ credit-at n (λ i k. long i (omega arith)) (λ i k li lk. once i k (omega arith) (omega arith)) m (omega arith))
+
+in-span : (from to i : ℕ) → i < to - from → inSpan from to (from + i) ≡ true
+unfolding inSpan
+in-span from to i l = and-true (le-leb from (from + i) (omega arith)) (lt-ltb (from + i) to (omega arith))
+
+and-place : (from to i : ℕ) → inSpan from to i ≡ true → (i - from < to - from) × (from + (i - from) ≡ i)
+unfolding inSpan
+and-place from to i h =
+    let a = leb-true from i (and-l (leb from i) (ltb i to) h) in
+    let b = ltb-true i to (and-r (leb from i) (ltb i to) h) in
+    (omega arith, omega arith)
+
+read-word : (j : Job) (t : StateTables) (g : ℕ) → g < j .grocers → view j t .statement g ≡ getD (t .statement) g (pos 0)
+unfolding view
+read-word j t g l = word-in (j .grocers) (t .statement) (pos 0) g l
+
+-- The statements to which a span is added: those of its grocers are raised, and no other.
+pub credit-is : (m from to : ℕ) (grocers : List ℕ) (source statement : List ℤ) (f : ℕ → ℤ) → m ≤ length statement →
+    ((i : ℕ) → inSpan from to i ≡ true → getD grocers i 0 < m) →
+    ((i k : ℕ) → inSpan from to i ≡ true → inSpan from to k ≡ true → getD grocers i 0 ≡ getD grocers k 0 → i ≡ k) →
+    ((i : ℕ) → inSpan from to i ≡ true → f (getD grocers i 0) ≡ getD statement (getD grocers i 0) (pos 0) +ℤ getD source i (pos 0)) →
+    ((g : ℕ) → g < m → ((i : ℕ) → inSpan from to i ≡ true → getD grocers i 0 ≡ g → ⊥) → f g ≡ getD statement g (pos 0)) →
+    creditSpan (to - from) from grocers source statement ≡ overwrite m f statement
+credit-is m from to grocers source statement f long inside once each other =
+    is-overwrite m f statement (creditSpan (to - from) from grocers source statement) (pos 0) long (length-credit (to - from) from grocers source statement)
+    (λ g l. split (any (to - from) (λ i. eqb (getD grocers (from + i) 0) g))
+    (λ e. let (i, li, q) = any-find (to - from) (λ i. eqb (getD grocers (from + i) 0) g) e in
+    let same = eqb-true (getD grocers (from + i) 0) g q in
+    rw (← same) (credit-at from grocers source statement (to - from) (λ i l. omega (arith, inside (from + i) (in-span from to i l)))
+    (λ i k li lk p. let z : from + i ≡ from + k = once (from + i) (from + k) (in-span from to i li) (in-span from to k lk) p in omega arith) i li
+    ∙ sym (each (from + i) (in-span from to i li))))
+    (λ e. credit-other from grocers source statement (to - from) g (λ i li q. clash (any-at (to - from) (λ i. eqb (getD grocers (from + i) 0) g) i li (eq-eqb (getD grocers (from + i) 0) g q)) e)
+    ∙ sym (other g l (λ i h q. let n = and-place from to i h in
+    clash (any-at (to - from) (λ i. eqb (getD grocers (from + i) 0) g) (i - from) (n .0) (eq-eqb (getD grocers (from + (i - from)) 0) g (ap (λ (k : ℕ). getD grocers k 0) (n .1) ∙ q))) e))))
+    (λ g l. credit-other from grocers source statement (to - from) g (λ i li q. let k = inside (from + i) (in-span from to i li) in omega arith))
+
+-- The late 21 of steps 5 and 6: the statements are in range just where those of the span's grocers are.
+pub credit-range : (n m from to : ℕ) (grocers : List ℕ) (source statement : List ℤ) (f : ℕ → ℤ) →
+    ((i : ℕ) → inSpan from to i ≡ true → getD grocers i 0 < m) →
+    ((i : ℕ) → inSpan from to i ≡ true → f (getD grocers i 0) ≡ getD statement (getD grocers i 0) (pos 0) +ℤ getD source i (pos 0)) →
+    ((g : ℕ) → g < m → ((i : ℕ) → inSpan from to i ≡ true → getD grocers i 0 ≡ g → ⊥) → f g ≡ getD statement g (pos 0)) →
+    ((g : ℕ) → g < m → natAbs (getD statement g (pos 0)) ≤ n) →
+    around n m (overwrite m f statement) ≡ all (to - from) (λ i. leb (natAbs (getD statement (getD grocers (from + i) 0) (pos 0) +ℤ getD source (from + i) (pos 0))) n)
+unfolding around
+credit-range n m from to grocers source statement f inside each other was =
+    same-test _ _
+    (λ h. all-of (to - from) (λ i. leb (natAbs (getD statement (getD grocers (from + i) 0) (pos 0) +ℤ getD source (from + i) (pos 0))) n) (λ i l.
+    let k = in-span from to i l in
+    ap (λ (z : ℤ). leb (natAbs z) n) (sym (each (from + i) k) ∙ sym (getD-overwrite m f statement (getD grocers (from + i) 0) (pos 0) (inside (from + i) k)))
+    ∙ all-at m (λ g. leb (natAbs (getD (overwrite m f statement) g (pos 0))) n) (getD grocers (from + i) 0) (inside (from + i) k) h))
+    (λ h. all-of m (λ g. leb (natAbs (getD (overwrite m f statement) g (pos 0))) n) (λ g l.
+    ap (λ (z : ℤ). leb (natAbs z) n) (getD-overwrite m f statement g (pos 0) l)
+    ∙ split (any (to - from) (λ i. eqb (getD grocers (from + i) 0) g))
+    (λ e. let (i, li, q) = any-find (to - from) (λ i. eqb (getD grocers (from + i) 0) g) e in
+    ap (λ (x : ℕ). leb (natAbs (f x)) n) (sym (eqb-true (getD grocers (from + i) 0) g q))
+    ∙ ap (λ (z : ℤ). leb (natAbs z) n) (each (from + i) (in-span from to i li))
+    ∙ all-at (to - from) (λ i. leb (natAbs (getD statement (getD grocers (from + i) 0) (pos 0) +ℤ getD source (from + i) (pos 0))) n) i li h)
+    (λ e. ap (λ (z : ℤ). leb (natAbs z) n) (other g l (λ i k q. let p = and-place from to i k in
+    clash (any-at (to - from) (λ i. eqb (getD grocers (from + i) 0) g) (i - from) (p .0) (eq-eqb (getD grocers (from + (i - from)) 0) g (ap (λ (x : ℕ). getD grocers x 0) (p .1) ∙ q))) e))
+    ∙ le-leb (natAbs (getD statement g (pos 0))) n (was g l))))
+
+-- Steps 5 and 6 on the statements, where `grocers` has the grocer of each place of the span.
+module _ (j : Job) (t : StateTables) (z : BySpans j t) (grocers : List ℕ) (long : j .grocers ≤ length (t .statement)) where
+  pub added-statement : (a b : ℕ) → a < j .boxes → ((i : ℕ) → inSpan (groupStart j a 0) (groupStart j a 1) i ≡ true → (getD grocers i 0 ≡ getD (placeGrocers j) i 0) × (getD grocers i 0 < j .grocers)) →
+      creditSpan (groupStart j a 1 - groupStart j a 0) (groupStart j a 0) grocers (t .working) (t .statement) ≡ store j (effect j (view j t) addOwn a b) t .statement
+  unfolding store
+  added-statement a b la at =
+      credit-is (j .grocers) (groupStart j a 0) (groupStart j a 1) grocers (t .working) (t .statement) (effect j (view j t) addOwn a b .statement) long
+      (λ i h. at i h .1)
+      (λ i k hi hk q. z .ownOnce a i k la hi hk (sym (at i hi .0) ∙ q ∙ at k hk .0))
+      (λ i h. ap (effect j (view j t) addOwn a b .statement) (at i h .0) ∙ z .addedEach a b i la h
+      ∙ ap (λ (y : ℤ). y +ℤ getD (t .working) i (pos 0)) (ap (view j t .statement) (sym (at i h .0)) ∙ read-word j t (getD grocers i 0) (at i h .1)))
+      (λ g l none. z .addedOther a b g la l (λ i h q. none i h (at i h .0 ∙ q)) ∙ read-word j t g l)
+
+  pub received-statement : (a b : ℕ) → a < j .boxes → b < j .boxes →
+      ((i : ℕ) → inSpan (groupStart j b (suc a)) (groupStart j b (suc (suc a))) i ≡ true → (getD grocers i 0 ≡ getD (placeGrocers j) i 0) × (getD grocers i 0 < j .grocers)) →
+      creditSpan (groupStart j b (suc (suc a)) - groupStart j b (suc a)) (groupStart j b (suc a)) grocers (t .totalTransit) (t .statement) ≡ store j (effect j (view j t) receiveTotals a b) t .statement
+  unfolding store
+  received-statement a b la lb at =
+      credit-is (j .grocers) (groupStart j b (suc a)) (groupStart j b (suc (suc a))) grocers (t .totalTransit) (t .statement) (effect j (view j t) receiveTotals a b .statement) long
+      (λ i h. at i h .1)
+      (λ i k hi hk q. z .messageOnce b a i k lb la hi hk (sym (at i hi .0) ∙ q ∙ at k hk .0))
+      (λ i h. ap (effect j (view j t) receiveTotals a b .statement) (at i h .0) ∙ z .receivedEach a b i la lb h
+      ∙ ap (λ (y : ℤ). y +ℤ getD (t .totalTransit) i (pos 0)) (ap (view j t .statement) (sym (at i h .0)) ∙ read-word j t (getD grocers i 0) (at i h .1)))
+      (λ g l none. z .receivedOther a b g la lb l (λ i h q. none i h (at i h .0 ∙ q)) ∙ read-word j t g l)

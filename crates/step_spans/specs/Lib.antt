@@ -1,0 +1,2 @@
+-- Definitions that the contracts of spans cite.
+pub mod Credit
