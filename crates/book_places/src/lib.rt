@@ -13,10 +13,16 @@ ghost use Rattle.book_places.specs.Spots.{classBy, listBy, countBy, star
 use book_keys::classes;
 use book_keys::if_same;
 use book_keys::numbers;
-use slices::index_at;
-use slices::u16_at;
-use book_sort::index_of;
 use book_sort::sort;
+use slices::casts::index_of;
+use slices::index_at;
+use slices::limits::GROCERS;
+use slices::limits::OFFERS;
+use slices::limits::TALLIES;
+use slices::u16_at;
+
+// The most classes of a box's numbers: its own, those of 16 boxes, and those that it does not hold.
+pub const CLASSES: usize = 18;
 
 // The local list of box b, of n numbers with these owners and words of holders, and where each class of it begins. Its length.
 pub fn box_list(
@@ -45,7 +51,7 @@ fn has_total(owner: u16, word: u16, b: u16) -> u16
     requires { ⌜ b < 16 ⌝ }
     ensures { λ r. ⌜ r ≡ only naturals (eqb owner b || bit b word) 1 ⌝ }
 {
-    if (owner == b) | step_places::words::has_bit(word, b) {
+    if (owner == b) | slices::bits::has_bit(word, b) {
         return 1;
     }
     0
@@ -80,7 +86,7 @@ pub fn put_places(
     n: usize,
     boxes: &[u16],
     items: &[u16],
-    numbers: &[u16; 500],
+    numbers: &[u16; OFFERS],
     b: u16,
     start: u16,
     out: &mut [u16],
@@ -132,8 +138,8 @@ pub fn box_span(
         (length (listBy k m (now (owners .entry)) (now (words .entry)) b)) (startBy m (now (owners .entry)) (now (words .entry)) b) (now (grocers .entry)) ⌝ }
 {
     let start = index_of(box_start(m, owners, words, b));
-    let mut starts = [0u16; 18];
-    let mut list = [0u16; 255];
+    let mut starts = [0u16; CLASSES];
+    let mut list = [0u16; GROCERS];
     let l = box_list(k, m, owners, words, b, &mut starts, &mut list);
     put_list(&list, index_of(l), start, grocers);
     let next = group + 1;
@@ -155,16 +161,16 @@ pub fn box_places(
     n: usize,
     boxes: &[u16],
     items: &[u16],
-) -> [u16; 1000]
+) -> [u16; TALLIES]
     requires { ⌜ BoxIn k m b (now owners) (now words) × TalliesIn (now boxes) (now items) n ⌝ }
     ensures { λ r. ⌜ r ≡ tabulate 1000 (spotBy k m (now (owners .entry)) (now (words .entry)) b n (now (boxes .entry)) (now (items .entry))) ⌝ }
 {
     let start = box_start(m, owners, words, b);
-    let mut starts = [0u16; 18];
-    let mut list = [0u16; 255];
+    let mut starts = [0u16; CLASSES];
+    let mut list = [0u16; GROCERS];
     let l = box_list(k, m, owners, words, b, &mut starts, &mut list);
     let by_grocer = numbers(&list, l);
-    let mut places = [0u16; 1000];
+    let mut places = [0u16; TALLIES];
     put_places(n, boxes, items, &by_grocer, b, start, &mut places);
     places
 }

@@ -5,7 +5,6 @@ ghost use Rattle.step_links.specs.Links.{LinkedPairs, Some};
 ghost use Rattle.step_totals.specs.Row.{tallies};
 ghost use Rattle.step_apply.specs.Apply.{PriceStepIn, PriceStepOut, TotalStepIn, TotalStepOut};
 use slices::sizes::Sizes;
-use step_links::GROCER_LINKS;
 use step_links::OFFER_LINKS;
 use step_links::TALLY_LINKS;
 use step_places::Step;
@@ -103,13 +102,13 @@ pub fn total_step(
         (now (working .exit)) (now («total_transit» .exit)) (now (statement .exit)) r ⌝ }
 {
     if kind == 4 {
-        spans::move_span(from, to, working, total_transit);
+        step_spans::move_span(from, to, working, total_transit);
         return (to - from) as u32;
     }
     if kind == 5 {
-        spans::credit_span(from, to, grocers, working, statement);
+        step_spans::credit_span(from, to, grocers, working, statement);
         return 0;
     }
-    spans::credit_span(from, to, grocers, total_transit, statement);
+    step_spans::credit_span(from, to, grocers, total_transit, statement);
     0
 }

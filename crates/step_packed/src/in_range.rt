@@ -6,8 +6,8 @@ ghost use lib.Dec.{leb};
 ghost use lib.IntN.{natAbs};
 ghost use Rattle.laws.specs.Limits.{maxAmount};
 ghost use Rattle.model.specs.Ranges.{around};
-use job_ranges::limits::MAX_AMOUNT;
-use job_ranges::limits::MIN_AMOUNT;
+use slices::limits::MAX_AMOUNT;
+use slices::limits::MIN_AMOUNT;
 
 // Whether an amount is within ±10^15.
 pub fn is_amount(x: i64) -> bool

@@ -16,12 +16,10 @@ use crate::in_range::is_amount;
 use slices::amounts::plus;
 use slices::i64_at;
 use slices::index_at;
+use slices::limits::MAX_SENT;
 use slices::u32_at;
 
 pub mod in_range;
-
-// The most words that can have been sent.
-const MAX_SENT: u32 = 1_000_000;
 
 // The first of the conditions 20 and 21 that the tables of packed totals meet, of so many words, or 0. Words past them are not looked at.
 pub fn packed_refusal(words: usize, working: &[i64], total_transit: &[i64]) -> u16

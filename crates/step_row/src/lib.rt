@@ -7,10 +7,10 @@ ghost use Rattle.laws.specs.Limits.{maxAmount};
 ghost use Rattle.model.specs.Ranges.{around};
 ghost use Rattle.step_totals.specs.Row.{TallyIn, isTaken, raised, brings, placed};
 ghost use Rattle.step_row.specs.Row.{rowOf, RowIn};
-use step_packed::in_range::around64;
 use slices::amounts::row_start;
 use slices::index_at;
 use slices::u16_at;
+use step_packed::in_range::around64;
 use step_totals::row::add_tally;
 
 // The words of a box, which begin at a place.

@@ -16,7 +16,7 @@ abbrev entry : tie.After-classes → tie.Start
 entry c = c .before .before .before .before .before
 
 m-is : (c : tie.After-index-of) → c .index-of .result + 1 ≡ entry (c .before) .args .k + 1
-m-is c = ap (λ (i : ℕ). i + 1) (c .index-of .ensures)
+m-is c = ap (λ (i : ℕ). i + 1) (c .index-of .ensures .0)
 
 classes-requires : tie.Need-classes-requires
 classes-requires c κs = let s = c .before .before .before .before in (s .pre .0 .0, (s .pre .0 .1, omega (arith, s .pre .0 .0 .k-in, s .pre .1 .0)))

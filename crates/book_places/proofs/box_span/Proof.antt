@@ -26,13 +26,13 @@ begun c = c .before .before .before .before .before .before .before .before
 
 -- The start of the box and the length of its list.
 start-is : (c : tie.After-put-list-arg) → let s = entry c in begun c .index-of .result ≡ startBy (s .args .m) (now (s .args .owners)) (now (s .args .words)) (s .args .b)
-start-is c = begun c .index-of .ensures ∙ begun c .before .box-start .ensures .0
+start-is c = begun c .index-of .ensures .0 ∙ begun c .before .box-start .ensures .0
 
 few : (c : tie.After-put-list-arg) → begun c .index-of .result ≤ 8_000
-few c = omega (arith, begun c .index-of .ensures, begun c .before .box-start .ensures .1)
+few c = omega (arith, begun c .index-of .ensures .0, begun c .before .box-start .ensures .1)
 
 long-is : (c : tie.After-put-list-arg) → let s = entry c in c .before .index-of2 .result ≡ length (listBy (s .args .k) (s .args .m) (now (s .args .owners)) (now (s .args .words)) (s .args .b))
-long-is c = c .before .index-of2 .ensures ∙ listed c .box-list .ensures .0
+long-is c = c .before .index-of2 .ensures .0 ∙ listed c .box-list .ensures .0
 
 list-long : (c : tie.After-put-list-arg) → let s = entry c in length (listBy (s .args .k) (s .args .m) (now (s .args .owners)) (now (s .args .words)) (s .args .b)) ≤ 255
 list-long c = let s = entry c in omega (arith, list-few (s .args .k) (s .args .m) (now (s .args .owners)) (now (s .args .words)) (s .args .b), s .pre .0 .0 .m-in)
@@ -67,8 +67,8 @@ returns c =
     let p = put c in
     let s = entry p in (
       (
-        ap (λ (x : ℕ). begun p .index-of .result + x) (c .before .index-of3 .ensures) ∙ group-is p (s .args .group) (omega (arith, s .pre .0 .1)),
-        ap (λ (x : ℕ). begun p .index-of .result + x) (c .index-of4 .ensures) ∙ group-is p (s .args .group + 1) (omega (arith, s .pre .0 .1)),
+        ap (λ (x : ℕ). begun p .index-of .result + x) (c .before .index-of3 .ensures .0) ∙ group-is p (s .args .group) (omega (arith, s .pre .0 .1)),
+        ap (λ (x : ℕ). begun p .index-of .result + x) (c .index-of4 .ensures .0) ∙ group-is p (s .args .group + 1) (omega (arith, s .pre .0 .1)),
       ),
       c .before .before .before .before .put-list .ensures
           ∙ ap₂ (λ (l z : ℕ). putAt (listed p .box-list .last .1 .1 .1 .1 .1 .1 .0) l z (now (s .args .grocers))) (long-is p) (start-is p)
@@ -95,7 +95,7 @@ box-span-spec =
     (λ c. search needs)
     (λ c. let s = entry (c .before .before .before .before) in omega (arith, s .pre .0 .1, s .pre .0 .0 .owners-in .k-in))
     (λ c κs. search needs)
-    (λ c. let p = put c in let s = entry p in omega (arith, few p, c .before .index-of3 .ensures, begin-few p (s .args .group) (omega (arith, s .pre .0 .1))))
-    (λ c. let p = put c in let s = entry p in omega (arith, few p, c .index-of4 .ensures, begin-few p (s .args .group + 1) (omega (arith, s .pre .0 .1))))
+    (λ c. let p = put c in let s = entry p in omega (arith, few p, c .before .index-of3 .ensures .0, begin-few p (s .args .group) (omega (arith, s .pre .0 .1))))
+    (λ c. let p = put c in let s = entry p in omega (arith, few p, c .index-of4 .ensures .0, begin-few p (s .args .group + 1) (omega (arith, s .pre .0 .1))))
     (λ c. search needs)
     returns)
