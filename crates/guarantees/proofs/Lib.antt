@@ -7,6 +7,7 @@ pub mod Host
 pub mod Demand1
 pub mod Demand2
 pub mod Demand3
+pub mod Packed
 pub mod Calls
 pub mod Ascii
 pub mod Settle

@@ -12,7 +12,7 @@ use lib.Seq.{getD-take, length-take-le}
 use borrow.Author.Tests.{eqb-true, eqb-false, lt-ltb, ne-eqb, ltb-true, ltb-false}
 use Rattle.laws.proofs.Bools.{split}
 use Rattle.model.specs.Words.{ownerWords, messageCount, stepCount}
-use Rattle.model.specs.Tables.{JobTables, jobOf, lentShort}
+use Rattle.model.specs.Tables.{JobTables, jobOf, lentShort, anyShort}
 use Rattle.model.specs.Run.{RunAnswer, finished, reported, ran}
 use Rattle.format.specs.File.{readHead, decode}
 use Rattle.format.specs.Refusals.{fileRefusal}
@@ -22,7 +22,7 @@ use Rattle.printing.specs.Cents.{Half, halfOf, cents}
 use Rattle.printing.specs.Printed.{jobRead, digitsOf, decimal, signedDecimal, line, grocerLines, settledText, blankJob, blankState, runText, jobText, printed}
 use Rattle.guarantees.specs.Settle.{valueOf, amountOf, Settle}
 use Rattle.guarantees.proofs.Ascii.{printed-ascii}
-use Rattle.printing.proofs.Blank.{blank-state, read-by-file, printed-refusal, printed-job}
+use Rattle.printing.proofs.Blank.{blank-state, blank-totals, read-by-file, printed-refusal, printed-job}
 use Rattle.printing.proofs.Long.{long-printed, cut-printed}
 use Rattle.printing.proofs.Rounding.{none-below, rounding}
 use Rattle.printing.proofs.Digits.{below-power}
@@ -135,11 +135,11 @@ module _ (file : List ℕ) (ok : fileRefusal file ≡ 0) where
   abbrev job : JobTables
   job = jobRead file blankJob
 
-  lent-ok : lentShort job blankState ≡ false
-  unfolding lentShort jobRead
+  lent-ok : anyShort job blankState ≡ false
+  unfolding anyShort lentShort jobRead
   lent-ok =
       let s = accepted-range file ok .sizes in
-      rw (given .settles .whole, given .settles .bags, blank-state job (s .boxes-most) (s .grocers-most) (s .offers-most))
+      rw (given .settles .whole, given .settles .bags, blank-state job (s .boxes-most) (s .grocers-most) (s .offers-most), blank-totals job (given .settles .inRange))
 
   -- The run is not refused: its answer is the job's words, messages and steps,
   answer-is : ran job blankState [] [] .answer ≡ finished (ownerWords (jobOf job)) (messageCount (jobOf job)) (stepCount (jobOf job))

@@ -3,6 +3,7 @@
 pub mod Demand1
 pub mod Demand2
 pub mod Demand3
+pub mod Packed
 pub mod Calls
 pub mod Settle
 pub mod Cases

@@ -1,14 +1,18 @@
 -- The blank buffers are long enough, so that a file is printed by its refusal, or by the job that it says. Assumes nothing.
 use mathlib.Core.Path.{_≡_, sym, ap, _∙_}
 use mathlib.Core.List.{List}
-use mathlib.Core.Bool.{false}
+use mathlib.Core.Bool.{true, false}
 use Prim.Native.Nat.{ℕ, _*_, _≤_}
 use native.Mathlib.Omega.{arith}
 use native.Mathlib.Nat.{le-refl, mul-le-mul}
 use lib.IntN.{pos}
 use lib.ListN.{length, replicate, length-replicate}
 use borrow.Author.Tests.{le-ltb}
-use Rattle.model.specs.Tables.{JobTables, StateTables, stateLengths, stateShort}
+use Rattle.model.specs.Tables.{JobTables, jobOf, StateTables, stateLengths, stateShort, totalsShort}
+use Rattle.model.specs.Ranges.{jobInRange}
+use Rattle.model.specs.PackedTotals.{totalsLength}
+use Rattle.model.proofs.Step.{range, job-in, in-handed}
+use Rattle.model.proofs.Spans.{length-most}
 use Rattle.format.specs.File.{decode}
 use Rattle.format.specs.Refusals.{fileRefusal}
 use Rattle.format.specs.Tables.{ReaderTables, LongOffers, LongTallies, ReadOutcome, largest, shortReader, readRefusal}
@@ -24,18 +28,15 @@ zeros-signed n = rw (length-replicate n (pos 0)) (le-refl n)
 
 -- Those of the state, for every job in range.
 state-enough : (job : JobTables) (t : StateTables) → job .boxes ≤ 16 → job .grocers ≤ 255 → job .offers ≤ 500 →
-    8_000 ≤ length (t .known) → 8_000 ≤ length (t .priceTransit) → 4_080 ≤ length (t .working) → 4_080 ≤ length (t .totalTransit) → 255 ≤ length (t .statement) → 1_536 ≤ length (t .done) → 1 ≤ length (t .sent) →
+    8_000 ≤ length (t .known) → 8_000 ≤ length (t .priceTransit) → 255 ≤ length (t .statement) → 1_536 ≤ length (t .done) → 1 ≤ length (t .sent) →
     stateShort job (stateLengths t) ≡ false
 unfolding stateShort stateLengths
-state-enough job t k m n a b c d e f g =
+state-enough job t k m n a b e f g =
     let prices : job .boxes * job .offers ≤ 8_000 = mul-le-mul k n in
-    let totals : job .boxes * job .grocers ≤ 4_080 = mul-le-mul k m in
     let marks : 6 * job .boxes * job .boxes ≤ 1_536 = mul-le-mul {n₂ = 96} (omega arith) k in
     rw (
       le-ltb (length (t .known)) (job .boxes * job .offers) (omega arith),
       le-ltb (length (t .priceTransit)) (job .boxes * job .offers) (omega arith),
-      le-ltb (length (t .working)) (job .boxes * job .grocers) (omega arith),
-      le-ltb (length (t .totalTransit)) (job .boxes * job .grocers) (omega arith),
       le-ltb (length (t .statement)) (job .grocers) (omega arith),
       le-ltb (length (t .done)) (6 * job .boxes * job .boxes) (omega arith),
       le-ltb (length (t .sent)) 1 g,
@@ -44,7 +45,23 @@ state-enough job t k m n a b c d e f g =
 pub blank-state : (job : JobTables) → job .boxes ≤ 16 → job .grocers ≤ 255 → job .offers ≤ 500 → stateShort job (stateLengths blankState) ≡ false
 unfolding blankState
 blank-state job k m n =
-    state-enough job blankState k m n (zeros 8_000) (zeros 8_000) (zeros-signed 4_080) (zeros-signed 4_080) (zeros-signed 255) (zeros 1_536) (zeros 1)
+    state-enough job blankState k m n (zeros 8_000) (zeros 8_000) (zeros-signed 255) (zeros 1_536) (zeros 1)
+
+-- The packed ones, for every job of at most 1,255 totals.
+totals-enough : (job : JobTables) (t : StateTables) → totalsLength (jobOf job) ≤ 1_255 → 1_255 ≤ length (t .working) → 1_255 ≤ length (t .totalTransit) → totalsShort (jobOf job) (stateLengths t) ≡ false
+unfolding totalsShort stateLengths
+totals-enough job t most a b = rw (le-ltb (length (t .working)) (totalsLength (jobOf job)) (omega arith), le-ltb (length (t .totalTransit)) (totalsLength (jobOf job)) (omega arith))
+
+-- No job in range has more totals than grocers and tallies together.
+totals-most : (job : JobTables) → jobInRange job ≡ true → totalsLength (jobOf job) ≤ 1_255
+unfolding jobOf
+totals-most job h =
+    let w = job-in job (in-handed job h) in
+    omega (arith, length-most (jobOf job) (range job (in-handed job h)), w .grocers≤, w .tallies≤)
+
+pub blank-totals : (job : JobTables) → jobInRange job ≡ true → totalsShort (jobOf job) (stateLengths blankState) ≡ false
+unfolding blankState
+blank-totals job h = totals-enough job blankState (totals-most job h) (zeros-signed 1_255) (zeros-signed 1_255)
 
 -- Those of the reader.
 reader-enough : (l : ReaderTables) → LongOffers 500 (l .job .offers) → 255 ≤ length (l .job .grocerOwner) → LongTallies 1_000 (l .job .tallies) → 1_000 ≤ length (l .tallyOffer) → shortReader l ≡ false

@@ -84,7 +84,7 @@ blankJob =
 -- and the run.
 unfoldable pub blankState : StateTables
 blankState =
-    stateTables (replicate 8_000 0) (replicate 8_000 0) (replicate 4_080 (pos 0)) (replicate 4_080 (pos 0))
+    stateTables (replicate 8_000 0) (replicate 8_000 0) (replicate 1_255 (pos 0)) (replicate 1_255 (pos 0))
     (replicate 255 (pos 0)) (replicate 1_536 0) (replicate 1 0)
 
 -- What is printed of a run of m grocers, by its cycle, its answer and the statements it leaves.

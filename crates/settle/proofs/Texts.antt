@@ -23,7 +23,7 @@ use Rattle.model.proofs.Step.{job-in, in-handed}
 use Rattle.model.proofs.Handed.{handed-whole, handed-in, handed-run}
 use Rattle.format.proofs.Tables.{read-accepted}
 use Rattle.printing.proofs.Accepted.{settles, accepted}
-use Rattle.printing.proofs.Blank.{blank-state, read-by-file, printed-job}
+use Rattle.printing.proofs.Blank.{blank-state, blank-totals, read-by-file, printed-job}
 
 -- ---- A job that settles, and the boxes of its tallies that stand
 
@@ -48,7 +48,7 @@ module _ (f : JobTables) (s : Settles f) (standing : List ℕ) (st : Standing f 
   unfolding jobText runText blankState store
   due-text cycle statement words messages steps r =
       (λ i. settledText cycle (f .grocers) (λ g. getD (r .statement-is i) g (pos 0)) (r .words-are i) (r .messages-are i) (r .steps-are i))
-      ∙ sym (ap (λ (o : RunOutcome). runText cycle (f .grocers) (o .answer) (o .tables .statement)) (handed-run f standing st blankState [] [] lent-ok (s .inRange) (s .once)))
+      ∙ sym (ap (λ (o : RunOutcome). runText cycle (f .grocers) (o .answer) (o .tables .statement)) (handed-run f standing st blankState [] [] lent-ok (s .inRange) (s .once) (blank-totals f (s .inRange))))
 
 -- ---- An accepted file
 

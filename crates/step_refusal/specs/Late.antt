@@ -1,28 +1,42 @@
--- The conditions of a step in two parts, and the late 21 by the number of the kind.
+-- The conditions of a step in parts: those on the tables, and those on the request with the late 21.
 use mathlib.Core.Path.{_≡_}
 use mathlib.Core.Bool.{Bool, true, false, _&&_, not}
 use mathlib.Core.List.{List, [], _∷_, _++_}
-use Prim.Native.Nat.{ℕ}
+use Prim.Native.Nat.{ℕ, suc}
 use Rattle.laws.specs.Checks.{firstMet}
+use Rattle.laws.specs.Tables.{tabulate}
 use Rattle.recount.specs.Recount.{countedTwice}
-use Rattle.model.specs.Tables.{JobTables, countedOf, jobOf, jobLengths, jobShort, StateTables, stateLengths, stateShort, lentShort, view}
-use Rattle.model.specs.Ranges.{jobInRange, stateInRange}
+use Rattle.model.specs.Job.{Job, sharerWord}
+use Rattle.model.specs.PackedTotals.{totalsStart}
+use Rattle.model.specs.Tables.{JobTables, countedOf, jobOf, jobLengths, jobShort, StateTables, stateLengths, stateShort, lentShort, totalsShort, view}
+use Rattle.model.specs.Ranges.{jobInRange, stateInRange, totalsInRange}
 use Rattle.model.specs.Handed.{handedTables, Standing, Handed}
 use Rattle.model.specs.Step.{Asked, stepRules, moved, stepRefusal}
-use Rattle.step_apply.specs.Apply.{Applies}
+use Rattle.step_apply.specs.Apply.{Spots, Applies}
 
--- Conditions 20, 21 and 9.
+-- Conditions 20, 21 and 9 on all else than the packed tables.
 unfoldable pub earlyRules : JobTables → StateTables → List (Bool × ℕ)
 earlyRules f t = (lentShort f t, 20) ∷ (not (jobInRange f && stateInRange f t), 21) ∷ (countedTwice (countedOf f), 9) ∷ []
 
+-- Conditions 20 and 21 on the packed tables.
+unfoldable pub packedRules : Job → StateTables → List (Bool × ℕ)
+packedRules j t = (totalsShort j (stateLengths t), 20) ∷ (not (totalsInRange j t), 21) ∷ []
+
 -- Conditions 22 to 26, and the late 21.
 unfoldable pub laterRules : JobTables → StateTables → Asked → List (Bool × ℕ)
-laterRules f t q = stepRules (jobOf f) (view (jobOf f) t .done) q ++ (not (stateInRange f (moved f t q)), 21) ∷ []
+laterRules f t q =
+    stepRules (jobOf f) (view (jobOf f) t .done) q ++ (not (stateInRange f (moved f t q) && totalsInRange (jobOf f) (moved f t q)), 21) ∷ []
 
--- What they tell: their number, and where it is 0, the boxes of the tallies that stand.
+-- What the first tell: their number, and where it is 0, the boxes of the tallies that stand.
 pub record Early (f : JobTables) (t : StateTables) (standing : List ℕ) (r : ℕ) : Type 0 where
   pub number-is : r ≡ firstMet (earlyRules f t)
   pub standing-are : r ≡ 0 → Standing f standing
+
+-- What the conditions on the tables tell: their number, and where it is 0, the boxes of the tallies that stand, and the sharer words.
+pub record Tested (f : JobTables) (t : StateTables) (standing sharers : List ℕ) (r : ℕ) : Type 0 where
+  pub number-is : r ≡ firstMet (earlyRules f t ++ packedRules (jobOf f) t)
+  pub standing-are : r ≡ 0 → Standing f standing
+  pub sharers-are : r ≡ 0 → sharers ≡ tabulate 255 (sharerWord (jobOf (handedTables f standing)))
 
 -- The tables as handed where none of them is met: nothing is lent short, and every word is in range.
 pub record Held (f : JobTables) (t : StateTables) : Type 0 where
@@ -30,10 +44,18 @@ pub record Held (f : JobTables) (t : StateTables) : Type 0 where
   pub state-long : stateShort f (stateLengths t) ≡ false
   pub job-in : Handed f
   pub state-in : stateInRange f t ≡ true
+  pub totals-long : totalsShort (jobOf f) (stateLengths t) ≡ false
+  pub totals-in : totalsInRange (jobOf f) t ≡ true
 
 -- What the refusal of a step tells: the model's number, and where that is 0, the boxes of the tallies that stand, and that the step may be
 -- applied to the tables with these boxes.
-pub record Decided (f : JobTables) (t : StateTables) (q : Asked) (needs sharers standing : List ℕ) (r : ℕ) : Type 0 where
+pub record Decided (f : JobTables) (t : StateTables) (q : Asked) (needs places : List ℕ) (from to : ℕ) (grocers standing : List ℕ) (r : ℕ) : Type 0 where
   pub number-is : r ≡ stepRefusal f t q
   pub standing-are : r ≡ 0 → Standing f standing
-  pub applies : r ≡ 0 → Applies (handedTables f standing) t needs sharers q
+  pub applies : r ≡ 0 → Applies (handedTables f standing) t needs places from to grocers q
+
+-- The places that kinds 2 and 3 ask for, and the span of all totals of box a.
+pub record OwnPlaces (f : JobTables) (a from to : ℕ) (places : List ℕ) : Type 0 where
+  pub from-is : from ≡ totalsStart (jobOf f) a
+  pub to-is : to ≡ totalsStart (jobOf f) (suc a)
+  pub spots : Spots f a places

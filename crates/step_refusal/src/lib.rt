@@ -24,8 +24,8 @@ use step_checks::state::state_short;
 use step_places::Step;
 use step_waits::waits;
 
-// The first of the conditions 20, 21 and 9 that is met, or 0. Where none is, `standing` has the box of each tally that stands, and 16 for the others.
-pub fn early_refusal(
+// The first of the conditions 20, 21 and 9 that is met on all else than the packed tables, or 0. Where none is, `standing` has the box of each tally that stands, and 16 for the others.
+fn early_refusal(
     z: Sizes,
     price: &[u32],
     offer_owner: &[u16],
@@ -38,19 +38,17 @@ pub fn early_refusal(
     tally_revision: &[u16],
     known: &[u32],
     price_transit: &[u32],
-    working: &[i64],
-    total_transit: &[i64],
     statement: &[i64],
     done: &[u16],
     sent: &[u32],
     standing: &mut [u16; 1000],
 ) -> u16
-    ensures { λ r. ⌜ Early
+    ensures { λ r. ⌜ ((working totals : List ℤ) → Early
         (bagTables (z .boxes) (z .grocers) (z .offers) (z .tallies) (now (price .entry)) (now («offer_owner» .entry)) (now («grocer_owner» .entry))
         (now («tally_grocer» .entry)) (now («tally_box» .entry)) (now («tally_offer» .entry)) (now («tally_count» .entry))
         (now («tally_bag» .entry)) (now («tally_revision» .entry)))
-        (stateTables (now (known .entry)) (now («price_transit» .entry)) (now (working .entry)) (now («total_transit» .entry))
-        (now (statement .entry)) (now (done .entry)) (now (sent .entry))) (now (standing .exit)) r ⌝ }
+        (stateTables (now (known .entry)) (now («price_transit» .entry)) working totals
+        (now (statement .entry)) (now (done .entry)) (now (sent .entry))) (now (standing .exit)) r) ⌝ }
 {
     if job_short(
         z.grocers,
@@ -71,8 +69,6 @@ pub fn early_refusal(
             z.offers,
             known,
             price_transit,
-            working,
-            total_transit,
             statement,
             done,
             sent,
@@ -99,8 +95,6 @@ pub fn early_refusal(
             z.offers,
             known,
             price_transit,
-            working,
-            total_transit,
             statement,
             done,
             sent,
@@ -119,6 +113,63 @@ pub fn early_refusal(
         return 9;
     }
     0
+}
+
+// The first of the conditions on the tables that is met, or 0: 20, 21 and 9, then 20 and 21 on the packed tables. Where none is, `standing` has the
+// box of each tally that stands, and 16 for the others, and `sharers` the sharer words.
+fn tables_refusal(
+    z: Sizes,
+    price: &[u32],
+    offer_owner: &[u16],
+    grocer_owner: &[u16],
+    tally_grocer: &[u16],
+    tally_box: &[u16],
+    tally_offer: &[u16],
+    tally_count: &[i32],
+    tally_bag: &[u16],
+    tally_revision: &[u16],
+    known: &[u32],
+    price_transit: &[u32],
+    working: &[i64],
+    total_transit: &[i64],
+    statement: &[i64],
+    done: &[u16],
+    sent: &[u32],
+    standing: &mut [u16; 1000],
+    sharers: &mut [u16; 255],
+) -> u16
+    ensures { λ r. ⌜ Tested
+        (bagTables (z .boxes) (z .grocers) (z .offers) (z .tallies) (now (price .entry)) (now («offer_owner» .entry)) (now («grocer_owner» .entry))
+        (now («tally_grocer» .entry)) (now («tally_box» .entry)) (now («tally_offer» .entry)) (now («tally_count» .entry))
+        (now («tally_bag» .entry)) (now («tally_revision» .entry)))
+        (stateTables (now (known .entry)) (now («price_transit» .entry)) (now (working .entry)) (now («total_transit» .entry))
+        (now (statement .entry)) (now (done .entry)) (now (sent .entry))) (now (standing .exit)) (now (sharers .exit)) r ⌝ }
+{
+    let early = early_refusal(
+        z,
+        price,
+        offer_owner,
+        grocer_owner,
+        tally_grocer,
+        tally_box,
+        tally_offer,
+        tally_count,
+        tally_bag,
+        tally_revision,
+        known,
+        price_transit,
+        statement,
+        done,
+        sent,
+        standing,
+    );
+    if early != 0 {
+        return early;
+    }
+    let sharing = job_masks::masks::sharers(z.boxes, z.tallies, standing, tally_grocer);
+    *sharers = sharing;
+    let words = box_start(z.grocers as usize, grocer_owner, &sharing, z.boxes);
+    packed_refusal(index_of(words), working, total_transit)
 }
 
 // Kinds 1 to 3: the first of the conditions 22 to 26 that is met, or 0, with the need words.
@@ -175,9 +226,37 @@ fn late(fits: bool) -> u16
     21
 }
 
-// The number of the first condition that is met, or 0. Where none is, the words of the tallies that stand are left, need words in `needs` for
-// kinds 1 to 3 and sharer words in `sharers` for 4 to 6, and their boxes in `standing`, with 16 for the others. A kind makes the words of its side alone.
-pub fn refusal(
+// Kinds 2 and 3: the places of the totals of the first box's tallies, and the span of all its totals. Kind 1 needs none.
+fn own_places(
+    z: Sizes,
+    grocer_owner: &[u16],
+    sharers: &[u16; 255],
+    tally_grocer: &[u16],
+    standing: &[u16; 1000],
+    places: &mut [u16; 1000],
+    x: Step,
+) -> Span
+    requires { ⌜ PlacesAsked ... ⌝ }
+{
+    if x.kind == 1 {
+        return Span { from: 0, to: 0 };
+    }
+    box_places(
+        z.boxes,
+        z.grocers as usize,
+        grocer_owner,
+        sharers,
+        x.first,
+        z.tallies as usize,
+        standing,
+        tally_grocer,
+        places,
+    )
+}
+
+// Kinds 1 to 3: the number of the first condition that is met, or 0. Where none is, `standing` has the boxes of the tallies that stand, with 16 for
+// the others, `needs` the need words and, for kinds 2 and 3, `places` the places of the first box's tallies.
+pub fn price_refusal(
     z: Sizes,
     price: &[u32],
     offer_owner: &[u16],
@@ -196,19 +275,21 @@ pub fn refusal(
     done: &[u16],
     sent: &[u32],
     needs: &mut [u16; 500],
-    sharers: &mut [u16; 255],
+    places: &mut [u16; 1000],
     standing: &mut [u16; 1000],
     x: Step,
 ) -> u16
+    requires { ⌜ x .kind ≤ 3 ⌝ }
     ensures { λ r. ⌜ Decided
         (bagTables (z .boxes) (z .grocers) (z .offers) (z .tallies) (now (price .entry)) (now («offer_owner» .entry)) (now («grocer_owner» .entry))
         (now («tally_grocer» .entry)) (now («tally_box» .entry)) (now («tally_offer» .entry)) (now («tally_count» .entry))
         (now («tally_bag» .entry)) (now («tally_revision» .entry)))
         (stateTables (now (known .entry)) (now («price_transit» .entry)) (now (working .entry)) (now («total_transit» .entry))
         (now (statement .entry)) (now (done .entry)) (now (sent .entry)))
-        (asked (x .kind) (x .first) (x .second)) (now (needs .exit)) (now (sharers .exit)) (now (standing .exit)) r ⌝ }
+        (asked (x .kind) (x .first) (x .second)) (now (needs .exit)) (now (places .exit)) 0 0 [] (now (standing .exit)) r ⌝ }
 {
-    let early = early_refusal(
+    let mut sharers = [0u16; 255];
+    let tested = tables_refusal(
         z,
         price,
         offer_owner,
@@ -227,55 +308,72 @@ pub fn refusal(
         done,
         sent,
         standing,
+        &mut sharers,
     );
-    if early != 0 {
-        return early;
+    if tested != 0 {
+        return tested;
     }
-    if x.kind <= 3 {
-        let needing = job_masks::masks::needs(z.boxes, z.tallies, standing, tally_offer);
-        *needs = needing;
-        let r = prices_asked(z, offer_owner, &needing, done, x);
-        if r != 0 {
-            return r;
-        }
-        return late(price_fits(
-            z,
-            offer_owner,
-            tally_grocer,
-            standing,
-            tally_offer,
-            tally_count,
-            &needing,
-            known,
-            price_transit,
-            working,
-            sent,
-            x,
-        ));
-    }
-    let sharing = job_masks::masks::sharers(z.boxes, z.tallies, standing, tally_grocer);
-    *sharers = sharing;
-    let r = totals_asked(
-        z,
-        offer_owner,
-        grocer_owner,
-        tally_grocer,
-        standing,
-        tally_offer,
-        done,
-        x,
-    );
+    let needing = job_masks::masks::needs(z.boxes, z.tallies, standing, tally_offer);
+    *needs = needing;
+    let r = prices_asked(z, offer_owner, &needing, done, x);
     if r != 0 {
         return r;
     }
-    late(total_fits(
+    let own = own_places(z, grocer_owner, &sharers, tally_grocer, standing, places, x);
+    late(price_fits(
         z,
-        grocer_owner,
-        &sharing,
+        own.from,
+        own.to,
+        offer_owner,
+        places,
+        standing,
+        tally_offer,
+        tally_count,
+        &needing,
+        known,
+        price_transit,
         working,
-        total_transit,
-        statement,
         sent,
         x,
     ))
 }
+
+// The number of the first condition that is met, or 0, and the span of the step's totals.
+pub struct Judged {
+    pub met: u16,
+    pub from: usize,
+    pub to: usize,
+}
+
+// Kinds 4 to 6, likewise. Where no condition is met, `grocers` has the grocer of each place of the step's span.
+pub fn total_refusal(
+    z: Sizes,
+    price: &[u32],
+    offer_owner: &[u16],
+    grocer_owner: &[u16],
+    tally_grocer: &[u16],
+    tally_box: &[u16],
+    tally_offer: &[u16],
+    tally_count: &[i32],
+    tally_bag: &[u16],
+    tally_revision: &[u16],
+    known: &[u32],
+    price_transit: &[u32],
+    working: &[i64],
+    total_transit: &[i64],
+    statement: &[i64],
+    done: &[u16],
+    sent: &[u32],
+    grocers: &mut [u16; TOTALS],
+    standing: &mut [u16; 1000],
+    x: Step,
+) -> Judged
+    requires { ⌜ 4 ≤ x .kind ⌝ }
+    ensures { λ r. ⌜ Decided
+        (bagTables (z .boxes) (z .grocers) (z .offers) (z .tallies) (now (price .entry)) (now («offer_owner» .entry)) (now («grocer_owner» .entry))
+        (now («tally_grocer» .entry)) (now («tally_box» .entry)) (now («tally_offer» .entry)) (now («tally_count» .entry))
+        (now («tally_bag» .entry)) (now («tally_revision» .entry)))
+        (stateTables (now (known .entry)) (now («price_transit» .entry)) (now (working .entry)) (now («total_transit» .entry))
+        (now (statement .entry)) (now (done .entry)) (now (sent .entry)))
+        (asked (x .kind) (x .first) (x .second)) [] [] (r .from) (r .to) (now (grocers .exit)) (now (standing .exit)) (r .met) ⌝ }
+{
