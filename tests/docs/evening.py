@@ -16,9 +16,11 @@ def cell(words):
 
 
 def row(n, prices, amounts):
-    """What the boxes hold after n steps: known, on the way, working, totals on the way from box 0, statements, their sum, words sent."""
-    working, transit, statement = amounts[:4], amounts[4:8], amounts[8:]
-    together = [sum(amounts[g::2]) for g in range(2)]
+    """What the boxes hold after n steps: known, on the way, working, totals on the way from box 0, statements, their sum, words sent.
+
+    Totals lie packed: of box 0 grocers 1 and 0, of box 1 grocer 0."""
+    working, transit, statement = amounts[:3], amounts[3:6], amounts[6:]
+    together = [working[1] + working[2] + transit[1] + transit[2] + statement[0], working[0] + transit[0] + statement[1]]
     cells = [prices[:2], prices[2:4], prices[4:6], prices[6:8], working[:2], working[2:], transit[:2], statement, together]
     return f"| {n} | " + " | ".join(map(cell, cells)) + f" | {prices[8]} |"
 

@@ -1,19 +1,19 @@
--- The conditions after 20, 21 and 9, on tables that are whole and in range. Assumes nothing.
+-- The conditions after those on the tables, on tables that are whole and in range. Assumes nothing.
 use mathlib.Core.Path.{_≡_, refl, sym, ap, _∙_}
-use mathlib.Core.Bool.{Bool, true, false, cond, not}
+use mathlib.Core.Bool.{Bool, true, false, cond, not, _&&_}
 use mathlib.Core.List.{List}
 use Prim.Native.Nat.{ℕ, _≤_}
 use native.Mathlib.Omega.{arith}
 use Rattle.laws.specs.Checks.{firstMet}
 use Rattle.laws.specs.Tables.{tabulate}
-use Rattle.model.specs.Job.{needWord, sharerWord}
+use Rattle.model.specs.Job.{needWord}
 use Rattle.model.specs.Steps.{kindOf, Steps, fits, ready}
 use Rattle.model.specs.Tables.{JobTables, jobOf, StateTables, view, stepsDone}
-use Rattle.model.specs.Ranges.{stateInRange}
+use Rattle.model.specs.Ranges.{stateInRange, totalsInRange}
 use Rattle.model.specs.Step.{Asked, isKind, boxesFit, stepRules, moved}
 use Rattle.step_rules.specs.Rules.{ReceiversOf, WaitsOf}
 use Rattle.step_checks.specs.Request.{rulesBy}
-use Rattle.step_apply.specs.Apply.{Applies}
+use Rattle.step_apply.specs.Apply.{Spots, SpanOf, Applies}
 use Rattle.step_refusal.specs.Late.{laterRules, Held}
 use Rattle.model.proofs.Step.{range}
 use Rattle.model.proofs.Whole.{JobWhole, job-whole, StateWhole, state-whole}
@@ -75,24 +75,28 @@ module _ (f : JobTables) (t : StateTables) (h : Held f t) where
           (steps (kindOf (q .kind)) (q .first) (q .second)) (ready (jobOf f) steps (kindOf (q .kind)) (q .first) (q .second)) (sym rules-model ∙ z)
 
       -- What is asked of the step that is applied.
-      pub applies : (needs sharers : List ℕ) → (q .kind ≤ 3 → needs ≡ tabulate 500 (needWord (jobOf f))) → (4 ≤ q .kind → sharers ≡ tabulate 255 (sharerWord (jobOf f))) → Applies f t needs sharers q
-      applies needs sharers en es = record {
+      pub applies : (needs places : List ℕ) (from to : ℕ) (grocers : List ℕ) → (q .kind ≤ 3 → needs ≡ tabulate 500 (needWord (jobOf f))) → (2 ≤ q .kind → q .kind ≤ 3 → Spots f (q .first) places) →
+          (4 ≤ q .kind → SpanOf (jobOf f) (q .kind) (q .first) (q .second) from to grocers) → Applies f t needs places from to grocers q
+      applies needs places from to grocers en ep es = record {
         job-in = h .job-in;
         job-long = h .job-long;
         state-long = h .state-long;
         state-in = h .state-in;
+        totals-long = h .totals-long;
+        totals-in = h .totals-in;
         needs-are = en;
-        sharers-are = es;
+        places-are = ep;
+        span-is = es;
         kind-in = kind-boxes .0;
         boxes-fit = kind-boxes .1;
       }
 
-      module _ (v : Bool) (ev : v ≡ stateInRange f (moved f t q)) where
+      module _ (v : Bool) (ev : v ≡ (stateInRange f (moved f t q) && totalsInRange (jobOf f) (moved f t q))) where
         late-decides : firstMet (laterRules f t q) ≡ cond (not v) 21 0
         unfolding firstMet laterRules stepRules
         late-decides =
             last-decides (isKind (q .kind)) (boxesFit (jobOf f) (kindOf (q .kind)) (q .first) (q .second)) (fits (jobOf f) (kindOf (q .kind)) (q .first) (q .second))
-            (steps (kindOf (q .kind)) (q .first) (q .second)) (ready (jobOf f) steps (kindOf (q .kind)) (q .first) (q .second)) (not (stateInRange f (moved f t q))) (sym rules-model ∙ z)
+            (steps (kindOf (q .kind)) (q .first) (q .second)) (ready (jobOf f) steps (kindOf (q .kind)) (q .first) (q .second)) (not (stateInRange f (moved f t q) && totalsInRange (jobOf f) (moved f t q))) (sym rules-model ∙ z)
             ∙ ap (λ (b : Bool). cond {A = ℕ} (not b) 21 0) (sym ev)
 
         -- The late 21, and none.

@@ -1,5 +1,5 @@
--- The conditions 20, 21 and 9, and the whole answer in two parts. Assumes nothing.
-use mathlib.Core.Path.{_≡_, refl, sym, _∙_}
+-- The conditions on the tables, and the whole answer in two parts. Assumes nothing.
+use mathlib.Core.Path.{_≡_, refl, sym, _∙_, subst}
 use mathlib.Core.Bool.{Bool, true, false, cond, _&&_, _||_, not}
 use mathlib.Core.List.{List}
 use Prim.Native.Nat.{ℕ}
@@ -7,15 +7,16 @@ use native.Mathlib.Omega.{arith}
 use Rattle.laws.specs.Checks.{firstMet}
 use Rattle.laws.proofs.Bools.{and-l, and-r, or-off}
 use Rattle.recount.specs.Recount.{countedTwice}
-use Rattle.model.specs.Tables.{JobTables, countedOf, jobLengths, jobShort, bagsShort, StateTables, stateLengths, stateShort, lentShort}
-use Rattle.model.specs.Ranges.{jobInRange, stateInRange}
+use Rattle.model.specs.Job.{Job}
+use Rattle.model.specs.Tables.{JobTables, countedOf, jobOf, jobLengths, jobShort, bagsShort, StateTables, stateLengths, stateShort, lentShort, totalsShort}
+use Rattle.model.specs.Ranges.{jobInRange, stateInRange, totalsInRange}
 use Rattle.model.specs.Step.{Asked, refusals, stepRefusal}
-use Rattle.model.specs.Handed.{handedTables, Standing}
-use Rattle.model.proofs.Handed.{handed-whole, handed-in, handed-refusal}
+use Rattle.model.specs.Handed.{handedTables, Standing, Handed}
+use Rattle.model.proofs.Handed.{handed-job, handed-whole, handed-in, handed-refusal}
 use Rattle.job_checks.specs.Sizes.{sizes}
-use Rattle.step_refusal.specs.Late.{earlyRules, laterRules, Held}
+use Rattle.step_refusal.specs.Late.{earlyRules, packedRules, tableRules, laterRules, Held}
 use Rattle.job_checks.proofs.Sizes.{short-sizes, range-sizes}
-use Rattle.step_refusal.proofs.Extra.{met-first}
+use Rattle.step_refusal.proofs.Extra.{met-first, Numbered, none-first}
 
 -- What the tests of lengths say: job, bags and state.
 module _ (f : JobTables) (t : StateTables) (x b y : Bool) (ex : x ≡ jobShort f (jobLengths f)) (eb : b ≡ bagsShort f (jobLengths f))
@@ -69,34 +70,77 @@ module _ (f : JobTables) (t : StateTables) (x b y : Bool) (ex : x ≡ jobShort f
           met-none e = rw (sym short-is ∙ h, sym range-is, g, sym ec ∙ e)
 
 module _ (f : JobTables) (t : StateTables) where
-  -- One of 20, 21 and 9 is met: it is the answer.
-  pub answer-early : (q : Asked) (r : ℕ) → r ≡ firstMet (earlyRules f t) → (r ≡ 0 → ⊥) → r ≡ stepRefusal f t q
-  unfolding stepRefusal refusals earlyRules laterRules
-  answer-early q r e n = e ∙ sym (met-first (earlyRules f t) (laterRules f t q) (λ z. n (e ∙ z)))
+  -- One of the first three is met, or none: then 20 and 21 on the packed tables decide.
+  pub tested-early : (r : ℕ) → r ≡ firstMet (earlyRules f t) → (r ≡ 0 → ⊥) → r ≡ firstMet (tableRules f t)
+  unfolding tableRules
+  tested-early r e n = e ∙ sym (met-first (earlyRules f t) (packedRules (jobOf f) t) (λ z. n (e ∙ z)))
 
-  neither : (a b c : Bool) → cond {A = ℕ} a 20 (cond (not b) 21 (cond c 9 0)) ≡ 0 → (a ≡ false) × ((b ≡ true) × (c ≡ false))
-  neither true b c h = absurd (omega arith)
-  neither false false c h = absurd (omega arith)
-  neither false true true h = absurd (omega arith)
-  neither false true false h = (refl, (refl, refl))
+  pub tested-packed : firstMet (earlyRules f t) ≡ 0 → firstMet (tableRules f t) ≡ firstMet (packedRules (jobOf f) t)
+  unfolding tableRules
+  tested-packed z = none-first (earlyRules f t) (packedRules (jobOf f) t) (early-numbers z) z
+    where
+      early-numbers : firstMet (earlyRules f t) ≡ 0 → Numbered (earlyRules f t)
+      unfolding earlyRules
+      early-numbers z = (omega arith, (omega arith, (omega arith, tt)))
+
+  -- One of the conditions on the tables is met: it is the answer.
+  pub answer-tested : (q : Asked) (r : ℕ) → r ≡ firstMet (tableRules f t) → (r ≡ 0 → ⊥) → r ≡ stepRefusal f t q
+  unfolding stepRefusal refusals tableRules earlyRules packedRules laterRules
+  answer-tested q r e n = e ∙ sym (met-first (tableRules f t) (laterRules f t q) (λ z. n (e ∙ z)))
+
+  neither : (a b c d e : Bool) → cond {A = ℕ} a 20 (cond (not b) 21 (cond c 9 (cond d 20 (cond (not e) 21 0)))) ≡ 0 →
+      (a ≡ false) × ((b ≡ true) × ((c ≡ false) × ((d ≡ false) × (e ≡ true))))
+  neither true b c d e h = absurd (omega arith)
+  neither false false c d e h = absurd (omega arith)
+  neither false true true d e h = absurd (omega arith)
+  neither false true false true e h = absurd (omega arith)
+  neither false true false false false h = absurd (omega arith)
+  neither false true false false true h = (refl, (refl, (refl, (refl, refl))))
 
   -- None is met: the tables with the boxes of the tallies that stand are whole and in range, and the later conditions decide.
-  module _ (z : firstMet (earlyRules f t) ≡ 0) (standing : List ℕ) (s : Standing f standing) where
-    all-off : (lentShort f t ≡ false) × (((jobInRange f && stateInRange f t) ≡ true) × (countedTwice (countedOf f) ≡ false))
-    unfolding earlyRules firstMet
-    all-off = neither (lentShort f t) (jobInRange f && stateInRange f t) (countedTwice (countedOf f)) z
+  module _ (z : firstMet (tableRules f t) ≡ 0) (standing : List ℕ) (s : Standing f standing) where
+    all-off : (lentShort f t ≡ false) × (((jobInRange f && stateInRange f t) ≡ true) × ((countedTwice (countedOf f) ≡ false)
+        × ((totalsShort (jobOf f) (stateLengths t) ≡ false) × (totalsInRange (jobOf f) t ≡ true))))
+    unfolding tableRules earlyRules packedRules firstMet
+    all-off = neither (lentShort f t) (jobInRange f && stateInRange f t) (countedTwice (countedOf f)) (totalsShort (jobOf f) (stateLengths t)) (totalsInRange (jobOf f) t) z
 
     pub held : Held (handedTables f standing) t
     unfolding lentShort stateShort stateInRange
     held =
         let l = or-off (jobShort f (jobLengths f) || bagsShort f (jobLengths f)) (stateShort f (stateLengths t)) (all-off .0) in
+        let j = sym (handed-job f standing s) in
         record {
           job-long = handed-whole f standing s (or-off (jobShort f (jobLengths f)) (bagsShort f (jobLengths f)) (l .0) .0);
           state-long = l .1;
           job-in = handed-in f standing s (and-l (jobInRange f) (stateInRange f t) (all-off .1 .0));
           state-in = and-r (jobInRange f) (stateInRange f t) (all-off .1 .0);
+          totals-long = subst (λ (x : Job). totalsShort x (stateLengths t) ≡ false) j (all-off .1 .1 .1 .0);
+          totals-in = subst (λ (x : Job). totalsInRange x t ≡ true) j (all-off .1 .1 .1 .1);
         }
 
     pub answer-later : (q : Asked) (r : ℕ) → r ≡ firstMet (laterRules (handedTables f standing) t q) → r ≡ stepRefusal f t q
     unfolding laterRules
-    answer-later q r e = e ∙ sym (handed-refusal f standing s t q (all-off .0) (all-off .1 .0) (all-off .1 .1))
+    answer-later q r e = e ∙ sym (handed-refusal f standing s t q (all-off .0) (all-off .1 .0) (all-off .1 .1 .0) (all-off .1 .1 .1 .0) (all-off .1 .1 .1 .1))
+
+-- None of the first three is met: what the calls that make the sharer words ask for.
+module _ (f : JobTables) (t : StateTables) (z : firstMet (earlyRules f t) ≡ 0) (standing : List ℕ) (s : Standing f standing) where
+  none : (a b c : Bool) → cond {A = ℕ} a 20 (cond (not b) 21 (cond c 9 0)) ≡ 0 → (a ≡ false) × (b ≡ true)
+  none true b c h = absurd (omega arith)
+  none false false c h = absurd (omega arith)
+  none false true c h = (refl, refl)
+
+  off : (lentShort f t ≡ false) × ((jobInRange f && stateInRange f t) ≡ true)
+  unfolding earlyRules firstMet
+  off = none (lentShort f t) (jobInRange f && stateInRange f t) (countedTwice (countedOf f)) z
+
+  pub job-ranged : jobInRange f ≡ true
+  job-ranged = and-l (jobInRange f) (stateInRange f t) (off .1)
+
+  pub job-handed : Handed (handedTables f standing)
+  job-handed = handed-in f standing s job-ranged
+
+  pub job-whole-at : jobShort (handedTables f standing) (jobLengths (handedTables f standing)) ≡ false
+  unfolding lentShort
+  job-whole-at =
+      let l = or-off (jobShort f (jobLengths f) || bagsShort f (jobLengths f)) (stateShort f (stateLengths t)) (off .0) in
+      handed-whole f standing s (or-off (jobShort f (jobLengths f)) (bagsShort f (jobLengths f)) (l .0) .0)

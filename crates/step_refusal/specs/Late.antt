@@ -2,17 +2,16 @@
 use mathlib.Core.Path.{_≡_}
 use mathlib.Core.Bool.{Bool, true, false, _&&_, not}
 use mathlib.Core.List.{List, [], _∷_, _++_}
-use Prim.Native.Nat.{ℕ, suc}
+use Prim.Native.Nat.{ℕ}
 use Rattle.laws.specs.Checks.{firstMet}
 use Rattle.laws.specs.Tables.{tabulate}
 use Rattle.recount.specs.Recount.{countedTwice}
 use Rattle.model.specs.Job.{Job, sharerWord}
-use Rattle.model.specs.PackedTotals.{totalsStart}
 use Rattle.model.specs.Tables.{JobTables, countedOf, jobOf, jobLengths, jobShort, StateTables, stateLengths, stateShort, lentShort, totalsShort, view}
 use Rattle.model.specs.Ranges.{jobInRange, stateInRange, totalsInRange}
 use Rattle.model.specs.Handed.{handedTables, Standing, Handed}
 use Rattle.model.specs.Step.{Asked, stepRules, moved, stepRefusal}
-use Rattle.step_apply.specs.Apply.{Spots, Applies}
+use Rattle.step_apply.specs.Apply.{Applies}
 
 -- Conditions 20, 21 and 9 on all else than the packed tables.
 unfoldable pub earlyRules : JobTables → StateTables → List (Bool × ℕ)
@@ -21,6 +20,10 @@ earlyRules f t = (lentShort f t, 20) ∷ (not (jobInRange f && stateInRange f t)
 -- Conditions 20 and 21 on the packed tables.
 unfoldable pub packedRules : Job → StateTables → List (Bool × ℕ)
 packedRules j t = (totalsShort j (stateLengths t), 20) ∷ (not (totalsInRange j t), 21) ∷ []
+
+-- The conditions on the tables, in their order.
+unfoldable pub tableRules : JobTables → StateTables → List (Bool × ℕ)
+tableRules f t = earlyRules f t ++ packedRules (jobOf f) t
 
 -- Conditions 22 to 26, and the late 21.
 unfoldable pub laterRules : JobTables → StateTables → Asked → List (Bool × ℕ)
@@ -34,7 +37,7 @@ pub record Early (f : JobTables) (t : StateTables) (standing : List ℕ) (r : �
 
 -- What the conditions on the tables tell: their number, and where it is 0, the boxes of the tallies that stand, and the sharer words.
 pub record Tested (f : JobTables) (t : StateTables) (standing sharers : List ℕ) (r : ℕ) : Type 0 where
-  pub number-is : r ≡ firstMet (earlyRules f t ++ packedRules (jobOf f) t)
+  pub number-is : r ≡ firstMet (tableRules f t)
   pub standing-are : r ≡ 0 → Standing f standing
   pub sharers-are : r ≡ 0 → sharers ≡ tabulate 255 (sharerWord (jobOf (handedTables f standing)))
 
@@ -53,9 +56,3 @@ pub record Decided (f : JobTables) (t : StateTables) (q : Asked) (needs places :
   pub number-is : r ≡ stepRefusal f t q
   pub standing-are : r ≡ 0 → Standing f standing
   pub applies : r ≡ 0 → Applies (handedTables f standing) t needs places from to grocers q
-
--- The places that kinds 2 and 3 ask for, and the span of all totals of box a.
-pub record OwnPlaces (f : JobTables) (a from to : ℕ) (places : List ℕ) : Type 0 where
-  pub from-is : from ≡ totalsStart (jobOf f) a
-  pub to-is : to ≡ totalsStart (jobOf f) (suc a)
-  pub spots : Spots f a places
