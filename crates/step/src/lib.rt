@@ -4,11 +4,12 @@ ghost use Prim.Native.Nat.{_≤_};
 ghost use Rattle.model.specs.Lent.{bagLent, stateBefore, stateAfter};
 ghost use Rattle.model.specs.Step.{asked, outcome, stepped};
 ghost use Rattle.step_totals.specs.Row.{tallies};
-ghost use Rattle.step_apply.specs.Apply.{PriceStepOut, TotalStepOut};
+ghost use Rattle.step_apply.specs.Apply.{PriceStepOut};
 ghost use Rattle.step.specs.Answer.{answerOf};
-ghost use Rattle.step.specs.Lent.{PricesLent, TotalsLent};
+ghost use Rattle.step.specs.Lent.{PricesLent};
+use book_places::TOTALS;
 use slices::sizes::Sizes;
-use step_links::GROCER_LINKS;
+use step_apply::total_step;
 use step_links::OFFER_LINKS;
 use step_links::TALLY_LINKS;
 use step_places::Step;
@@ -25,7 +26,7 @@ pub enum Answer {
 fn move_prices(
     z: Sizes,
     offer_owner: &[u16],
-    tally_grocer: &[u16],
+    tally_place: &[u16; 1000],
     standing: &[u16; 1000],
     tally_offer: &[u16],
     tally_count: &[i32],
@@ -35,9 +36,9 @@ fn move_prices(
     working: &mut [i64],
     x: Step,
 ) -> u32
-    requires { ⌜ PricesLent (tallies (z .boxes) (z .grocers) (z .offers) (z .tallies) (now «offer_owner») (now «tally_grocer») (now standing)
+    requires { ⌜ PricesLent (tallies (z .boxes) (z .offers) (z .tallies) (now «offer_owner») (now «tally_place») (now standing)
         (now «tally_offer») (now «tally_count»)) (now known) (now «price_transit») (now working) (x .kind) (x .first) (x .second) ⌝ }
-    ensures { λ r. ⌜ PriceStepOut (tallies (z .boxes) (z .grocers) (z .offers) (z .tallies) (now («offer_owner» .entry)) (now («tally_grocer» .entry))
+    ensures { λ r. ⌜ PriceStepOut (tallies (z .boxes) (z .offers) (z .tallies) (now («offer_owner» .entry)) (now («tally_place» .entry))
         (now (standing .entry)) (now («tally_offer» .entry)) (now («tally_count» .entry))) (now (needs .entry)) (now (known .entry))
         (now («price_transit» .entry)) (now (working .entry)) (x .kind) (x .first) (x .second)
         (now (known .exit)) (now («price_transit» .exit)) (now (working .exit)) r ⌝ }
@@ -55,7 +56,7 @@ fn move_prices(
     step_apply::price_step(
         z,
         offer_owner,
-        tally_grocer,
+        tally_place,
         tally_offer,
         tally_count,
         needs,
@@ -64,35 +65,6 @@ fn move_prices(
         known,
         price_transit,
         working,
-        x,
-    )
-}
-
-// A step of kind 4, 5 or 6: grocers are linked by owner, and the step is applied. The words sent.
-fn move_totals(
-    z: Sizes,
-    grocer_owner: &[u16],
-    sharers: &[u16; 255],
-    working: &mut [i64],
-    total_transit: &mut [i64],
-    statement: &mut [i64],
-    x: Step,
-) -> u32
-    requires { ⌜ TotalsLent (z .boxes) (z .grocers) (now «grocer_owner») (now working) (now «total_transit») (now statement)
-        (x .kind) (x .first) (x .second) ⌝ }
-    ensures { λ r. ⌜ TotalStepOut (z .boxes) (z .grocers) (now («grocer_owner» .entry)) (now (sharers .entry)) (now (working .entry))
-        (now («total_transit» .entry)) (now (statement .entry)) (x .kind) (x .first) (x .second)
-        (now (working .exit)) (now («total_transit» .exit)) (now (statement .exit)) r ⌝ }
-{
-    let mut grocer_links = [0u16; GROCER_LINKS];
-    step_links::link(z.grocers as usize, grocer_owner, &mut grocer_links);
-    step_apply::total_step(
-        z,
-        sharers,
-        &grocer_links,
-        working,
-        total_transit,
-        statement,
         x,
     )
 }
@@ -140,10 +112,55 @@ pub fn step(
         first,
         second,
     };
-    let mut needs = [0u16; 500];
-    let mut sharers = [0u16; 255];
     let mut standing = [0u16; 1000];
-    let r = step_refusal::refusal(
+    if kind <= 3 {
+        let mut needs = [0u16; 500];
+        let mut places = [0u16; 1000];
+        let met = step_refusal::price_refusal(
+            z,
+            price,
+            offer_owner,
+            grocer_owner,
+            tally_grocer,
+            tally_box,
+            tally_offer,
+            tally_count,
+            tally_bag,
+            tally_revision,
+            known,
+            price_transit,
+            working,
+            total_transit,
+            statement,
+            done,
+            sent,
+            &mut needs,
+            &mut places,
+            &mut standing,
+            x,
+        );
+        if met != 0 {
+            return Answer::Refused(met);
+        }
+        step_rules::marks::mark(boxes, kind, first, second, done);
+        let more = move_prices(
+            z,
+            offer_owner,
+            &places,
+            &standing,
+            tally_offer,
+            tally_count,
+            &needs,
+            known,
+            price_transit,
+            working,
+            x,
+        );
+        raise(sent, more);
+        return Answer::Accepted;
+    }
+    let mut grocers = [0u16; TOTALS];
+    let judged = step_refusal::total_refusal(
         z,
         price,
         offer_owner,
@@ -161,40 +178,22 @@ pub fn step(
         statement,
         done,
         sent,
-        &mut needs,
-        &mut sharers,
+        &mut grocers,
         &mut standing,
         x,
     );
-    if r != 0 {
-        return Answer::Refused(r);
+    if judged.met != 0 {
+        return Answer::Refused(judged.met);
     }
     step_rules::marks::mark(boxes, kind, first, second, done);
-    if kind <= 3 {
-        let more = move_prices(
-            z,
-            offer_owner,
-            tally_grocer,
-            &standing,
-            tally_offer,
-            tally_count,
-            &needs,
-            known,
-            price_transit,
-            working,
-            x,
-        );
-        raise(sent, more);
-        return Answer::Accepted;
-    }
-    let more = move_totals(
-        z,
-        grocer_owner,
-        &sharers,
+    let more = total_step(
+        kind,
+        judged.from,
+        judged.to,
+        &grocers,
         working,
         total_transit,
         statement,
-        x,
     );
     raise(sent, more);
     Answer::Accepted

@@ -2,15 +2,17 @@
 use mathlib.Core.Path.{_≡_}
 use mathlib.Core.Bool.{Bool, true, false, _&&_, not}
 use mathlib.Core.List.{List, [], _∷_, _++_}
-use Prim.Native.Nat.{ℕ}
+use Prim.Native.Nat.{ℕ, _+_}
+use lib.ListN.{length}
 use Rattle.laws.specs.Checks.{firstMet}
-use Rattle.laws.specs.Tables.{tabulate}
+use Rattle.laws.specs.Tables.{tabulate, overwrite}
 use Rattle.recount.specs.Recount.{countedTwice}
 use Rattle.model.specs.Job.{Job, sharerWord}
 use Rattle.model.specs.Tables.{JobTables, countedOf, jobOf, jobLengths, jobShort, StateTables, stateLengths, stateShort, lentShort, totalsShort, view}
 use Rattle.model.specs.Ranges.{jobInRange, stateInRange, totalsInRange}
 use Rattle.model.specs.Handed.{handedTables, Standing, Handed}
 use Rattle.model.specs.Step.{Asked, stepRules, moved, stepRefusal}
+use Rattle.book_places.specs.Spots.{listBy, startBy, spotBy}
 use Rattle.step_apply.specs.Apply.{Applies}
 
 -- Conditions 20, 21 and 9 on all else than the packed tables.
@@ -56,3 +58,9 @@ pub record Decided (f : JobTables) (t : StateTables) (q : Asked) (needs places :
   pub number-is : r ≡ stepRefusal f t q
   pub standing-are : r ≡ 0 → Standing f standing
   pub applies : r ≡ 0 → Applies (handedTables f standing) t needs places from to grocers q
+
+-- The places of the totals of box b's tallies put into a table, and the span of all its totals, by the owners of the grocers and the sharer words.
+pub record OwnPlaces (k m : ℕ) (owners words : List ℕ) (b n : ℕ) (boxes items before : List ℕ) (from to : ℕ) (after : List ℕ) : Type 0 where
+  pub from-is : from ≡ startBy m owners words b
+  pub to-is : to ≡ startBy m owners words b + length (listBy k m owners words b)
+  pub places-are : after ≡ overwrite n (spotBy k m owners words b boxes items) before

@@ -1,6 +1,8 @@
 // The refusal of a step: its number for every input.
 ghost use mathlib.Core.Path.{_≡_};
 ghost use mathlib.Core.Bool.{cond};
+ghost use mathlib.Core.List.{List, []};
+ghost use lib.IntN.{ℤ};
 ghost use Prim.Native.Nat.{_*_, _≤_};
 ghost use lib.ListN.{length, replicate};
 ghost use Rattle.laws.specs.Checks.{firstMet};
@@ -9,18 +11,29 @@ ghost use Rattle.model.specs.Step.{asked};
 ghost use Rattle.job_masks.specs.Masks.{Owned, byOwner};
 ghost use Rattle.step_waits.specs.Waits.{tallyLists, WaitsIn, waitTable};
 ghost use Rattle.step_checks.specs.Request.{rulesBy};
-ghost use Rattle.step_refusal.specs.Late.{Early, Decided};
+ghost use Rattle.book_keys.specs.Keys.{TalliesIn};
+ghost use Rattle.book_places.specs.Spots.{BoxIn};
+ghost use Rattle.step_refusal.specs.Late.{Early, Tested, Decided, OwnPlaces};
 use bag_standing::standing_boxes;
+use book_places::Span;
+use book_places::TOTALS;
+use book_places::box_places;
+use book_places::box_span;
+use book_places::box_start;
 use job_checks::checks::bags_short;
 use job_checks::checks::job_in_range;
 use job_checks::checks::job_short;
 use job_masks::masks::by_owner;
+use slices::casts::index_of;
 use slices::sizes::Sizes;
+use step_apply::span_box;
+use step_apply::span_group;
 use step_checks::finish::price_fits;
-use step_checks::finish::total_fits;
 use step_checks::request::request_refusal;
 use step_checks::state::state_in_range;
 use step_checks::state::state_short;
+use step_packed::packed_refusal;
+use step_packed::total_fits;
 use step_places::Step;
 use step_waits::waits;
 
@@ -226,7 +239,7 @@ fn late(fits: bool) -> u16
     21
 }
 
-// Kinds 2 and 3: the places of the totals of the first box's tallies, and the span of all its totals. Kind 1 needs none.
+// Kinds 2 and 3: puts the places of the totals of the first box's tallies, and answers the span of all its totals. Kind 1 needs none.
 fn own_places(
     z: Sizes,
     grocer_owner: &[u16],
@@ -236,9 +249,12 @@ fn own_places(
     places: &mut [u16; 1000],
     x: Step,
 ) -> Span
-    requires { ⌜ PlacesAsked ... ⌝ }
+    requires { ⌜ BoxIn (z .boxes) (z .grocers) (x .first) (now «grocer_owner») (now sharers) ⌝ }
+    requires { ⌜ TalliesIn (now standing) (now «tally_grocer») (z .tallies) ⌝ }
+    ensures { λ r. ⌜ (2 ≤ x .kind → OwnPlaces (z .boxes) (z .grocers) (now («grocer_owner» .entry)) (now (sharers .entry)) (x .first) (z .tallies)
+        (now (standing .entry)) (now («tally_grocer» .entry)) (now (places .entry)) (r .from) (r .to) (now (places .exit))) ⌝ }
 {
-    if x.kind == 1 {
+    if x.kind < 2 {
         return Span { from: 0, to: 0 };
     }
     box_places(
@@ -345,6 +361,17 @@ pub struct Judged {
     pub to: usize,
 }
 
+// A number that is met, and no span.
+fn refused(met: u16) -> Judged
+    ensures { λ r. ⌜ r .met ≡ met ⌝ }
+{
+    Judged {
+        met,
+        from: 0,
+        to: 0,
+    }
+}
+
 // Kinds 4 to 6, likewise. Where no condition is met, `grocers` has the grocer of each place of the step's span.
 pub fn total_refusal(
     z: Sizes,
@@ -377,3 +404,66 @@ pub fn total_refusal(
         (now (statement .entry)) (now (done .entry)) (now (sent .entry)))
         (asked (x .kind) (x .first) (x .second)) [] [] (r .from) (r .to) (now (grocers .exit)) (now (standing .exit)) (r .met) ⌝ }
 {
+    let mut sharers = [0u16; 255];
+    let tested = tables_refusal(
+        z,
+        price,
+        offer_owner,
+        grocer_owner,
+        tally_grocer,
+        tally_box,
+        tally_offer,
+        tally_count,
+        tally_bag,
+        tally_revision,
+        known,
+        price_transit,
+        working,
+        total_transit,
+        statement,
+        done,
+        sent,
+        standing,
+        &mut sharers,
+    );
+    if tested != 0 {
+        return refused(tested);
+    }
+    let r = totals_asked(
+        z,
+        offer_owner,
+        grocer_owner,
+        tally_grocer,
+        standing,
+        tally_offer,
+        done,
+        x,
+    );
+    if r != 0 {
+        return refused(r);
+    }
+    let span = box_span(
+        z.boxes,
+        z.grocers as usize,
+        grocer_owner,
+        &sharers,
+        span_box(x),
+        span_group(x),
+        grocers,
+    );
+    let met = late(total_fits(
+        x.kind,
+        span.from,
+        span.to,
+        grocers,
+        working,
+        total_transit,
+        statement,
+        sent,
+    ));
+    Judged {
+        met,
+        from: span.from,
+        to: span.to,
+    }
+}
