@@ -50,11 +50,12 @@ groupBy k m owners words b c = startBy m owners words b + begin (classBy k b own
 unfoldable pub putAt : List ℕ → ℕ → ℕ → List ℕ → List ℕ
 putAt list l start old = tabulate (length old) (λ i. cond (inSpan start (start + l) i) (at list (i - start)) (at old i))
 
--- What counting asks: at most 500 grocers, with an owner and a word each.
+-- What counting asks: at most 500 grocers, with an owner below 16 and a word each.
 pub record CountIn (m : ℕ) (owners words : List ℕ) : Type 0 where
   pub m-in : m ≤ 500
   pub owners-long : m ≤ length owners
   pub words-long : m ≤ length words
+  pub owner-in : (g : ℕ) → g < m → at owners g < 16
 
 -- What is asked for a box of at most 16 and at most 255 grocers, each with an owner among them and a word.
 pub record BoxIn (k m b : ℕ) (owners words : List ℕ) : Type 0 where

@@ -1,15 +1,15 @@
 // Places of packed totals: a box's local grocers in order, where each group of them begins, and the place of each tally's total.
 ghost use mathlib.Core.Path.{_≡_};
 ghost use mathlib.Core.Bool.{_||_};
-ghost use Prim.Native.Nat.{ℕ, _+_, _*_, _≤_, _<_};
+ghost use Prim.Native.Nat.{ℕ, _+_, _-_, _*_, _^_, _≤_, _<_};
 ghost use lib.Dec.{eqb};
 ghost use lib.ListN.{length};
-ghost use Rattle.laws.specs.Below.{naturals, only};
+ghost use Rattle.laws.specs.Below.{count};
 ghost use Rattle.laws.specs.Masks.{bit};
 ghost use Rattle.laws.specs.Tables.{tabulate, overwrite};
 ghost use Rattle.book_sort.specs.Sort.{at, begin, inFront};
 ghost use Rattle.book_keys.specs.Keys.{TalliesIn, OwnersIn, PlacesIn, numberIn};
-ghost use Rattle.book_places.specs.Spots.{classBy, listBy, countBy, startBy, placeBy, spotBy, groupBy, putAt, CountIn, BoxIn};
+ghost use Rattle.book_places.specs.Spots.{classBy, listBy, startBy, placeBy, spotBy, groupBy, putAt, CountIn, BoxIn};
 use book_keys::classes;
 use book_keys::if_same;
 use book_keys::numbers;
@@ -17,6 +17,7 @@ use book_sort::sort;
 use slices::casts::index_of;
 use slices::index_at;
 use slices::limits::GROCERS;
+use slices::limits::MAX_BOXES;
 use slices::limits::OFFERS;
 use slices::limits::TALLIES;
 use slices::u16_at;
@@ -46,27 +47,24 @@ pub fn box_list(
     starts[m]
 }
 
-// 1 where box b owns a grocer of this owner, or is among those of its word, else 0.
-fn has_total(owner: u16, word: u16, b: u16) -> u16
-    requires { ⌜ b < 16 ⌝ }
-    ensures { λ r. ⌜ r ≡ only naturals (eqb owner b || bit b word) 1 ⌝ }
+// The word of the boxes below b.
+fn boxes_below(b: u16) -> u16
+    requires { ⌜ b ≤ 16 ⌝ }
+    ensures { λ r. ⌜ r ≡ 2 ^ b - 1 ⌝ }
 {
-    if (owner == b) | slices::bits::has_bit(word, b) {
-        return 1;
+    if b == MAX_BOXES {
+        return 65_535;
     }
-    0
+    (1 << b) - 1
 }
 
-// How many of the first m grocers box b has a total of.
-fn box_count(m: usize, owners: &[u16], words: &[u16], b: u16) -> u16
-    requires { ⌜ CountIn m (now owners) (now words) × (b < 16) ⌝ }
-    ensures { λ r. ⌜ (r ≡ countBy m (now (owners .entry)) (now (words .entry)) b) × (r ≤ 500) ⌝ }
+// How many boxes below b own a grocer of this owner, or are among those of its word. `below` is the word of the boxes below b.
+fn totals_among(owner: u16, word: u16, below: u16) -> u16
+    requires { ⌜ owner < 16 ⌝ }
+    ensures { λ r. ⌜ ((b : ℕ) → b ≤ 16 → below ≡ 2 ^ b - 1 → r ≡ count b (λ c. eqb owner c || bit c word)) × (r ≤ 16) ⌝ }
 {
-    let mut count: u16 = 0;
-    for g in 0..m {
-        count += has_total(u16_at(owners, g), u16_at(words, g), b);
-    }
-    count
+    let boxes = slices::bits::set_bit(word, owner) & below;
+    u16::count_ones(boxes) as u16
 }
 
 // Where the totals of box b begin; for b = K the packed length.
@@ -74,9 +72,10 @@ pub fn box_start(m: usize, owners: &[u16], words: &[u16], b: u16) -> u16
     requires { ⌜ CountIn m (now owners) (now words) × (b ≤ 16) ⌝ }
     ensures { λ r. ⌜ (r ≡ startBy m (now (owners .entry)) (now (words .entry)) b) × (r ≤ 8_000) ⌝ }
 {
+    let below = boxes_below(b);
     let mut sum: u16 = 0;
-    for c in 0..b {
-        sum += box_count(m, owners, words, c);
+    for g in 0..m {
+        sum += totals_among(u16_at(owners, g), u16_at(words, g), below);
     }
     sum
 }
