@@ -1,9 +1,9 @@
 -- Places of packed totals, from the owners of the grocers and the words of the boxes that hold tallies of each.
-use mathlib.Core.Bool.{Bool, cond, _&&_, _||_}
+use mathlib.Core.Bool.{Bool, cond, _||_}
 use mathlib.Core.List.{List}
 use Prim.Native.Nat.{ℕ, _+_, _-_, _<_, _≤_}
 use lib.ListN.{length}
-use lib.Dec.{eqb, ltb}
+use lib.Dec.{eqb}
 use Rattle.laws.specs.Below.{naturals, sum, count}
 use Rattle.laws.specs.Masks.{bit}
 use Rattle.laws.specs.Tables.{tabulate}
@@ -32,14 +32,14 @@ countBy m owners words b = count m (totalBy owners words b)
 unfoldable pub startBy : ℕ → List ℕ → List ℕ → ℕ → ℕ
 startBy m owners words b = sum naturals b (countBy m owners words)
 
--- The place of tally i of box b, whose totals begin at a place, by the local numbers of the grocers; another tally's stays.
-unfoldable pub placeBy : ℕ → List ℕ → List ℕ → List ℕ → ℕ → ℕ → List ℕ → ℕ → ℕ
-placeBy n boxes items numbers b start old i = cond (ltb i n && eqb (at boxes i) b) (start + at numbers (at items i)) (at old i)
+-- The place of tally i of box b, whose totals begin at a place, by the local numbers of the grocers; 0 for a tally of another box.
+unfoldable pub placeBy : List ℕ → List ℕ → List ℕ → ℕ → ℕ → ℕ → ℕ
+placeBy boxes items numbers b start i = cond (eqb (at boxes i) b) (start + at numbers (at items i)) 0
 
 -- The places of the tallies of box b: behind the start of its totals, by local grocer; 0 for the tallies of other boxes.
-unfoldable pub spotBy : ℕ → ℕ → List ℕ → List ℕ → ℕ → ℕ → List ℕ → List ℕ → ℕ → ℕ
-spotBy k m owners words b n boxes items i =
-    cond (ltb i n && eqb (at boxes i) b)
+unfoldable pub spotBy : ℕ → ℕ → List ℕ → List ℕ → ℕ → List ℕ → List ℕ → ℕ → ℕ
+spotBy k m owners words b boxes items i =
+    cond (eqb (at boxes i) b)
     (startBy m owners words b + numberIn (listBy k m owners words b) (length (listBy k m owners words b)) (at items i)) 0
 
 -- Where group c of box b begins: class c of its local list, behind the start of its totals.

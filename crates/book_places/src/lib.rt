@@ -6,9 +6,9 @@ ghost use lib.Dec.{eqb};
 ghost use lib.ListN.{length};
 ghost use Rattle.laws.specs.Below.{count};
 ghost use Rattle.laws.specs.Masks.{bit};
-ghost use Rattle.laws.specs.Tables.{tabulate, overwrite};
+ghost use Rattle.laws.specs.Tables.{overwrite};
 ghost use Rattle.book_sort.specs.Sort.{at, begin, inFront};
-ghost use Rattle.book_keys.specs.Keys.{TalliesIn, OwnersIn, PlacesIn, numberIn};
+ghost use Rattle.book_keys.specs.Keys.{TalliesIn, OwnersIn};
 ghost use Rattle.book_places.specs.Spots.{classBy, listBy, startBy, placeBy, spotBy, groupBy, putAt, CountIn, BoxIn};
 use book_keys::classes;
 use book_keys::if_same;
@@ -19,7 +19,6 @@ use slices::index_at;
 use slices::limits::GROCERS;
 use slices::limits::MAX_BOXES;
 use slices::limits::OFFERS;
-use slices::limits::TALLIES;
 use slices::u16_at;
 
 // The most classes of a box's numbers: its own, those of 16 boxes, and those that it does not hold.
@@ -80,8 +79,8 @@ pub fn box_start(m: usize, owners: &[u16], words: &[u16], b: u16) -> u16
     sum
 }
 
-// Puts the place of each tally of box b: the start of the box, and the local number of the tally's grocer.
-pub fn put_places(
+// Puts the place of each tally: of box b the start of the box and the local number of the tally's grocer, and 0 for other tallies.
+fn put_places(
     n: usize,
     boxes: &[u16],
     items: &[u16],
@@ -92,12 +91,11 @@ pub fn put_places(
 )
     requires { ⌜ TalliesIn (now boxes) (now items) n × ((start ≤ 60_000) × (n ≤ length (now out))) ⌝ }
     requires { ⌜ ((x : ℕ) → x < 500 → at (now numbers) x ≤ 500) ⌝ }
-    ensures { λ _. ⌜ now (out .exit) ≡ tabulate (length (now (out .entry)))
-        (placeBy n (now (boxes .entry)) (now (items .entry)) (now (numbers .entry)) b start (now (out .entry))) ⌝ }
+    ensures { λ _. ⌜ now (out .exit) ≡ overwrite n (placeBy (now (boxes .entry)) (now (items .entry)) (now (numbers .entry)) b start) (now (out .entry)) ⌝ }
 {
     for t in 0..n {
         let g = index_at(items, t);
-        let place = if_same(u16_at(boxes, t), b, start + numbers[g], out[t]);
+        let place = if_same(u16_at(boxes, t), b, start + numbers[g], 0);
         out[t] = place;
     }
 }
@@ -150,7 +148,7 @@ pub fn box_span(
     }
 }
 
-// The places of the totals of box b's tallies, and 0 for other tallies.
+// The span of all totals of box b, and the places of the totals of its tallies; 0 for other tallies.
 pub fn box_places(
     k: u16,
     m: usize,
@@ -160,16 +158,23 @@ pub fn box_places(
     n: usize,
     boxes: &[u16],
     items: &[u16],
-) -> [u16; TALLIES]
-    requires { ⌜ BoxIn k m b (now owners) (now words) × TalliesIn (now boxes) (now items) n ⌝ }
-    ensures { λ r. ⌜ r ≡ tabulate 1000 (spotBy k m (now (owners .entry)) (now (words .entry)) b n (now (boxes .entry)) (now (items .entry))) ⌝ }
+    places: &mut [u16],
+) -> Span
+    requires { ⌜ BoxIn k m b (now owners) (now words) × (TalliesIn (now boxes) (now items) n × (n ≤ length (now places))) ⌝ }
+    ensures { λ r. ⌜ (r .from ≡ startBy m (now (owners .entry)) (now (words .entry)) b)
+        × (r .to ≡ startBy m (now (owners .entry)) (now (words .entry)) b + length (listBy k m (now (owners .entry)) (now (words .entry)) b)) ⌝ }
+    ensures { λ _. ⌜ now (places .exit) ≡ overwrite n (spotBy k m (now (owners .entry)) (now (words .entry)) b (now (boxes .entry)) (now (items .entry)))
+        (now (places .entry)) ⌝ }
 {
     let start = box_start(m, owners, words, b);
     let mut starts = [0u16; CLASSES];
     let mut list = [0u16; GROCERS];
     let l = box_list(k, m, owners, words, b, &mut starts, &mut list);
     let by_grocer = numbers(&list, l);
-    let mut places = [0u16; TALLIES];
-    put_places(n, boxes, items, &by_grocer, b, start, &mut places);
-    places
+    put_places(n, boxes, items, &by_grocer, b, start, places);
+    let end = start + l;
+    Span {
+        from: index_of(start),
+        to: index_of(end),
+    }
 }
