@@ -5,16 +5,16 @@ use mathlib.Core.List.{List, []}
 use Prim.Native.Nat.{ℕ, zero, suc, _+_, _-_, _<_, _≤_}
 use native.Mathlib.Omega.{arith}
 use lib.Dec.{eqb, ltb, leb}
-use lib.ListN.{length, getD, replicate, getD-replicate, length-replicate}
-use borrow.Author.Tests.{lt-ltb, leb-true, ltb-true}
+use lib.ListN.{length, getD, replicate, length-replicate}
+use borrow.Author.Tests.{leb-true, ltb-true}
 use Rattle.laws.specs.Below.{naturals, sum, count, find}
 use Rattle.laws.specs.Masks.{bit}
-use Rattle.laws.specs.Tables.{tabulate}
-use Rattle.laws.proofs.Bools.{split, and-true, and-l, and-r}
+use Rattle.laws.specs.Tables.{tabulate, overwrite}
+use Rattle.laws.proofs.Bools.{split, and-l, and-r}
 use Rattle.laws.proofs.Below.{count-cong, find-cong}
 use Rattle.laws.proofs.Masks.{bit-mask}
 use Rattle.laws.proofs.Sums.{sum-cong, sum-start}
-use Rattle.laws.proofs.Tables.{getD-tabulate, getD-overwrite, length-overwrite, tabulate-cong, word-in}
+use Rattle.laws.proofs.Tables.{getD-tabulate, getD-overwrite, length-overwrite, overwrite-cong, tabulate-cong, word-in}
 use Rattle.model.specs.Job.{shares, sharerWord, heldBy, totalWord}
 use Rattle.model.specs.LocalLists.{chained, localGrocers, localGrocer}
 use Rattle.model.specs.PackedTotals.{totalsStart, totalsLength, totalPlace}
@@ -66,17 +66,14 @@ number-front l list rest n x e en =
     ∙ find-cong (length l) (λ i. eqb (at list i) x) (λ i. eqb (at l i) x) (λ i h. ap (λ (v : ℕ). eqb v x) (ap (λ (s : List ℕ). at s i) e ∙ at-front l rest i h))
 
 -- The places by the local numbers of the list that was put in front of a table.
-pub spot-is : (k m : ℕ) (owners words : List ℕ) (b n : ℕ) (boxes items list rest numbers : List ℕ) (l start : ℕ) → ((t : ℕ) → t < n → at items t < 500) →
+pub spot-is : (k m : ℕ) (owners words : List ℕ) (b n : ℕ) (boxes items list rest numbers old : List ℕ) (l start : ℕ) → ((t : ℕ) → t < n → at items t < 500) →
     list ≡ inFront (listBy k m owners words b) rest → l ≡ length (listBy k m owners words b) → numbers ≡ tabulate 500 (numberIn list l) → start ≡ startBy m owners words b →
-    tabulate 1_000 (placeBy n boxes items numbers b start (replicate 1_000 0)) ≡ tabulate 1_000 (spotBy k m owners words b n boxes items)
+    overwrite n (placeBy boxes items numbers b start) old ≡ overwrite n (spotBy k m owners words b boxes items) old
 unfolding placeBy spotBy
-spot-is k m owners words b n boxes items list rest numbers l start small e el en es =
-    tabulate-cong 1_000 _ _ (λ i h. split (ltb i n && eqb (at boxes i) b)
-    (λ q. let li = ltb-true i n (and-l (ltb i n) (eqb (at boxes i) b) q) in
-    ap₂ (λ (x y : ℕ). cond (ltb i n && eqb (at boxes i) b) (x + y) (at (replicate 1_000 0) i)) es
-    (ap (λ (s : List ℕ). at s (at items i)) en ∙ getD-tabulate 500 (numberIn list l) (at items i) 0 (small i li) ∙ number-front (listBy k m owners words b) list rest l (at items i) e el)
-    ∙ ap (λ (z : ℕ). cond (ltb i n && eqb (at boxes i) b) (startBy m owners words b + numberIn (listBy k m owners words b) (length (listBy k m owners words b)) (at items i)) z) (getD-replicate 1_000 i 0 0 h))
-    (λ q. rw q (getD-replicate 1_000 i 0 0 h)))
+spot-is k m owners words b n boxes items list rest numbers old l start small e el en es =
+    overwrite-cong n _ _ old (λ i h.
+    ap₂ (λ (x y : ℕ). cond (eqb (at boxes i) b) (x + y) 0) es
+    (ap (λ (s : List ℕ). at s (at items i)) en ∙ getD-tabulate 500 (numberIn list l) (at items i) 0 (small i h) ∙ number-front (listBy k m owners words b) list rest l (at items i) e el))
 
 -- What the local numbers are at most.
 pub number-le : (list : List ℕ) (l : ℕ) (numbers : List ℕ) → l ≤ 500 → numbers ≡ tabulate 500 (numberIn list l) → (x : ℕ) → x < 500 → at numbers x ≤ 500
@@ -162,11 +159,11 @@ module _ (f : JobTables) (bare : f .tallyBag ≡ []) (r : InRange (jobOf f)) (fe
 
   -- The place of a tally that box b holds.
   pub spot-model : (b i : ℕ) → b < f .boxes → i < f .tallies → heldBy (jobOf f) i b ≡ true →
-      spotBy (f .boxes) (f .grocers) (f .grocerOwner) words b (f .tallies) (f .tallyBox) (f .tallyGrocer) i ≡ tallyPlace (jobOf f) i
+      spotBy (f .boxes) (f .grocers) (f .grocerOwner) words b (f .tallyBox) (f .tallyGrocer) i ≡ tallyPlace (jobOf f) i
   unfolding spotBy numberIn totalPlace localGrocer
   spot-model b i lb li e =
       ap (λ (t : Bool). cond t (startBy (f .grocers) (f .grocerOwner) words b + numberIn (listBy (f .boxes) (f .grocers) (f .grocerOwner) words b) (length (listBy (f .boxes) (f .grocers) (f .grocerOwner) words b)) (at (f .tallyGrocer) i)) 0)
-      (and-true (lt-ltb i (f .tallies) li) (sym (held-word f bare b lb i li) ∙ e))
+      (sym (held-word f bare b lb i li) ∙ e)
       ∙ ap₂ (λ (n : ℕ) (l : List ℕ). n + numberIn l (length l) (at (f .tallyGrocer) i)) (start-model b (omega arith)) (list-model b lb)
       ∙ ap (λ (g : ℕ). totalPlace (jobOf f) b g) (sym (grocer-is i li))
       ∙ sym (tally-at (jobOf f) r i b e)

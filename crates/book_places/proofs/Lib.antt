@@ -2,5 +2,6 @@
 pub mod Listing
 pub mod Modelled
 pub mod Groups
+pub mod Starts
 pub mod Putting
 pub mod Joined

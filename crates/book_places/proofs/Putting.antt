@@ -11,7 +11,6 @@ use borrow.Author.Tests.{eqb-true, eqb-false, lt-ltb, ltb-true, ltb-false, le-lt
 use Rattle.laws.proofs.Bools.{split, and-true, and-l, and-r, same-test, clash}
 use Rattle.model.specs.Spans.{inSpan}
 use Rattle.book_sort.specs.Sort.{at}
-use Rattle.book_places.specs.Spots.{placeBy}
 
 -- A number is below the next one just where it is below this one, but for this one itself.
 ltb-next : (i x : ℕ) → (i ≡ x → ⊥) → ltb i x ≡ ltb i (x + 1)
@@ -20,29 +19,6 @@ ltb-next i x ne =
   where
     lower : (i x : ℕ) → (i ≡ x → ⊥) → i < x + 1 → i < x
     lower i x ne l = omega arith
-
-not-below : (x : ℕ) → ltb x x ≡ false
-not-below x = le-ltb x x (omega arith)
-
-module _ (boxes items numbers : List ℕ) (b start : ℕ) (old : List ℕ) where
-  pub place-none : (i : ℕ) → at old i ≡ placeBy 0 boxes items numbers b start old i
-  unfolding placeBy
-  place-none i = rw (le-ltb i 0 (omega arith))
-
-  pub place-here : (x : ℕ) → placeBy x boxes items numbers b start old x ≡ at old x
-  unfolding placeBy
-  place-here x = rw (not-below x)
-
-  pub place-next : (x : ℕ) (out : List ℕ) (v : ℕ) → x < length out → at out x ≡ placeBy x boxes items numbers b start old x →
-      v ≡ cond (eqb (at boxes x) b) (start + at numbers (at items x)) (at out x) →
-      (i : ℕ) → at out i ≡ placeBy x boxes items numbers b start old i → at (set out x v) i ≡ placeBy (x + 1) boxes items numbers b start old i
-  unfolding placeBy
-  place-next x out v lx h0 e i hi =
-      split (eqb i x)
-      (λ q. rw (eqb-true i x q) (getD-set-same out x v 0 lx ∙ e ∙ ap (λ (y : ℕ). cond (eqb (at boxes x) b) (start + at numbers (at items x)) y) (h0 ∙ place-here x)
-      ∙ sym (ap (λ (t : Bool). cond (t && eqb (at boxes x) b) (start + at numbers (at items x)) (at old x)) (lt-ltb x (x + 1) (omega arith)))))
-      (λ q. let ne = eqb-false i x q in
-      getD-set-other out x i v 0 ne ∙ hi ∙ ap (λ (t : Bool). cond (t && eqb (at boxes i) b) (start + at numbers (at items i)) (at old i)) (ltb-next i x ne))
 
 module _ (list : List ℕ) (start : ℕ) (old : List ℕ) where
   -- The table with x words put.

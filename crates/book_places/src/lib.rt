@@ -1,15 +1,15 @@
 // Places of packed totals: a box's local grocers in order, where each group of them begins, and the place of each tally's total.
 ghost use mathlib.Core.Path.{_≡_};
 ghost use mathlib.Core.Bool.{_||_};
-ghost use Prim.Native.Nat.{ℕ, _+_, _*_, _≤_, _<_};
+ghost use Prim.Native.Nat.{ℕ, _+_, _-_, _*_, _^_, _≤_, _<_};
 ghost use lib.Dec.{eqb};
 ghost use lib.ListN.{length};
-ghost use Rattle.laws.specs.Below.{naturals, only};
+ghost use Rattle.laws.specs.Below.{count};
 ghost use Rattle.laws.specs.Masks.{bit};
-ghost use Rattle.laws.specs.Tables.{tabulate, overwrite};
+ghost use Rattle.laws.specs.Tables.{overwrite};
 ghost use Rattle.book_sort.specs.Sort.{at, begin, inFront};
-ghost use Rattle.book_keys.specs.Keys.{TalliesIn, OwnersIn, PlacesIn, numberIn};
-ghost use Rattle.book_places.specs.Spots.{classBy, listBy, countBy, startBy, placeBy, spotBy, groupBy, putAt, CountIn, BoxIn};
+ghost use Rattle.book_keys.specs.Keys.{TalliesIn, OwnersIn};
+ghost use Rattle.book_places.specs.Spots.{classBy, listBy, startBy, placeBy, spotBy, groupBy, putAt, CountIn, BoxIn};
 use book_keys::classes;
 use book_keys::if_same;
 use book_keys::numbers;
@@ -17,8 +17,8 @@ use book_sort::sort;
 use slices::casts::index_of;
 use slices::index_at;
 use slices::limits::GROCERS;
+use slices::limits::MAX_BOXES;
 use slices::limits::OFFERS;
-use slices::limits::TALLIES;
 use slices::u16_at;
 
 // The most classes of a box's numbers: its own, those of 16 boxes, and those that it does not hold.
@@ -46,27 +46,24 @@ pub fn box_list(
     starts[m]
 }
 
-// 1 where box b owns a grocer of this owner, or is among those of its word, else 0.
-fn has_total(owner: u16, word: u16, b: u16) -> u16
-    requires { ⌜ b < 16 ⌝ }
-    ensures { λ r. ⌜ r ≡ only naturals (eqb owner b || bit b word) 1 ⌝ }
+// The word of the boxes below b.
+fn boxes_below(b: u16) -> u16
+    requires { ⌜ b ≤ 16 ⌝ }
+    ensures { λ r. ⌜ r ≡ 2 ^ b - 1 ⌝ }
 {
-    if (owner == b) | slices::bits::has_bit(word, b) {
-        return 1;
+    if b == MAX_BOXES {
+        return 65_535;
     }
-    0
+    (1 << b) - 1
 }
 
-// How many of the first m grocers box b has a total of.
-fn box_count(m: usize, owners: &[u16], words: &[u16], b: u16) -> u16
-    requires { ⌜ CountIn m (now owners) (now words) × (b < 16) ⌝ }
-    ensures { λ r. ⌜ (r ≡ countBy m (now (owners .entry)) (now (words .entry)) b) × (r ≤ 500) ⌝ }
+// How many boxes below b own a grocer of this owner, or are among those of its word. `below` is the word of the boxes below b.
+fn totals_among(owner: u16, word: u16, below: u16) -> u16
+    requires { ⌜ owner < 16 ⌝ }
+    ensures { λ r. ⌜ ((b : ℕ) → b ≤ 16 → below ≡ 2 ^ b - 1 → r ≡ count b (λ c. eqb owner c || bit c word)) × (r ≤ 16) ⌝ }
 {
-    let mut count: u16 = 0;
-    for g in 0..m {
-        count += has_total(u16_at(owners, g), u16_at(words, g), b);
-    }
-    count
+    let boxes = slices::bits::set_bit(word, owner) & below;
+    u16::count_ones(boxes) as u16
 }
 
 // Where the totals of box b begin; for b = K the packed length.
@@ -74,15 +71,16 @@ pub fn box_start(m: usize, owners: &[u16], words: &[u16], b: u16) -> u16
     requires { ⌜ CountIn m (now owners) (now words) × (b ≤ 16) ⌝ }
     ensures { λ r. ⌜ (r ≡ startBy m (now (owners .entry)) (now (words .entry)) b) × (r ≤ 8_000) ⌝ }
 {
+    let below = boxes_below(b);
     let mut sum: u16 = 0;
-    for c in 0..b {
-        sum += box_count(m, owners, words, c);
+    for g in 0..m {
+        sum += totals_among(u16_at(owners, g), u16_at(words, g), below);
     }
     sum
 }
 
-// Puts the place of each tally of box b: the start of the box, and the local number of the tally's grocer.
-pub fn put_places(
+// Puts the place of each tally: of box b the start of the box and the local number of the tally's grocer, and 0 for other tallies.
+fn put_places(
     n: usize,
     boxes: &[u16],
     items: &[u16],
@@ -93,12 +91,11 @@ pub fn put_places(
 )
     requires { ⌜ TalliesIn (now boxes) (now items) n × ((start ≤ 60_000) × (n ≤ length (now out))) ⌝ }
     requires { ⌜ ((x : ℕ) → x < 500 → at (now numbers) x ≤ 500) ⌝ }
-    ensures { λ _. ⌜ now (out .exit) ≡ tabulate (length (now (out .entry)))
-        (placeBy n (now (boxes .entry)) (now (items .entry)) (now (numbers .entry)) b start (now (out .entry))) ⌝ }
+    ensures { λ _. ⌜ now (out .exit) ≡ overwrite n (placeBy (now (boxes .entry)) (now (items .entry)) (now (numbers .entry)) b start) (now (out .entry)) ⌝ }
 {
     for t in 0..n {
         let g = index_at(items, t);
-        let place = if_same(u16_at(boxes, t), b, start + numbers[g], out[t]);
+        let place = if_same(u16_at(boxes, t), b, start + numbers[g], 0);
         out[t] = place;
     }
 }
@@ -151,7 +148,7 @@ pub fn box_span(
     }
 }
 
-// The places of the totals of box b's tallies, and 0 for other tallies.
+// The span of all totals of box b, and the places of the totals of its tallies; 0 for other tallies.
 pub fn box_places(
     k: u16,
     m: usize,
@@ -161,16 +158,23 @@ pub fn box_places(
     n: usize,
     boxes: &[u16],
     items: &[u16],
-) -> [u16; TALLIES]
-    requires { ⌜ BoxIn k m b (now owners) (now words) × TalliesIn (now boxes) (now items) n ⌝ }
-    ensures { λ r. ⌜ r ≡ tabulate 1000 (spotBy k m (now (owners .entry)) (now (words .entry)) b n (now (boxes .entry)) (now (items .entry))) ⌝ }
+    places: &mut [u16],
+) -> Span
+    requires { ⌜ BoxIn k m b (now owners) (now words) × (TalliesIn (now boxes) (now items) n × (n ≤ length (now places))) ⌝ }
+    ensures { λ r. ⌜ (r .from ≡ startBy m (now (owners .entry)) (now (words .entry)) b)
+        × (r .to ≡ startBy m (now (owners .entry)) (now (words .entry)) b + length (listBy k m (now (owners .entry)) (now (words .entry)) b)) ⌝ }
+    ensures { λ _. ⌜ now (places .exit) ≡ overwrite n (spotBy k m (now (owners .entry)) (now (words .entry)) b (now (boxes .entry)) (now (items .entry)))
+        (now (places .entry)) ⌝ }
 {
     let start = box_start(m, owners, words, b);
     let mut starts = [0u16; CLASSES];
     let mut list = [0u16; GROCERS];
     let l = box_list(k, m, owners, words, b, &mut starts, &mut list);
     let by_grocer = numbers(&list, l);
-    let mut places = [0u16; TALLIES];
-    put_places(n, boxes, items, &by_grocer, b, start, &mut places);
-    places
+    put_places(n, boxes, items, &by_grocer, b, start, places);
+    let end = start + l;
+    Span {
+        from: index_of(start),
+        to: index_of(end),
+    }
 }

@@ -1,4 +1,4 @@
--- The places and the span that `spots` finds are those that a step asks for. Assumes nothing.
+-- The places and the span that `book_places` finds are those that a step asks for. Assumes nothing.
 use mathlib.Core.Path.{_≡_, refl, sym, ap, ap₂, _∙_, subst}
 use mathlib.Core.Bool.{Bool, true, false, cond, _&&_}
 use mathlib.Core.List.{List, []}
@@ -7,14 +7,15 @@ use native.Mathlib.Omega.{arith}
 use lib.Dec.{eqb, ltb, leb}
 use lib.ListN.{length, getD}
 use borrow.Author.Tests.{lt-ltb, ltb-true, le-leb, leb-true}
-use Rattle.laws.specs.Tables.{tabulate}
+use Rattle.laws.specs.Tables.{tabulate, overwrite}
 use Rattle.laws.proofs.Bools.{split, and-true, and-l, and-r, cond-either}
-use Rattle.laws.proofs.Tables.{getD-tabulate, length-tabulate, word-in}
+use Rattle.laws.proofs.Tables.{getD-tabulate, length-tabulate, getD-overwrite, length-overwrite}
 use Rattle.model.specs.Job.{sharerWord, heldBy}
 use Rattle.model.specs.LocalLists.{localGrocers}
 use Rattle.model.specs.PackedTotals.{totalsStart, totalsLength, totalPlace, hasTotal}
 use Rattle.model.specs.Spans.{groupStart, placeGrocers, tallyPlace, inSpan}
 use Rattle.model.specs.Tables.{JobTables, jobOf}
+use Rattle.model.proofs.LocalLists.{local-at}
 use Rattle.model.proofs.PackedTotals.{place-within}
 use Rattle.model.proofs.Tables.{own-has}
 use Rattle.book_sort.proofs.Extra.{sum-suc, sum-mono}
@@ -28,7 +29,7 @@ use Rattle.step_apply.specs.Apply.{Spots, SpanOf, spanBox, spanGroup}
 
 module _ (f : JobTables) (bare : f .tallyBag ≡ []) (r : InRange (jobOf f)) (few : f .grocers ≤ 255) (words : List ℕ) (ew : words ≡ tabulate 255 (sharerWord (jobOf f))) where
   abbrev spot : ℕ → ℕ → ℕ
-  spot a = spotBy (f .boxes) (f .grocers) (f .grocerOwner) words a (f .tallies) (f .tallyBox) (f .tallyGrocer)
+  spot a = spotBy (f .boxes) (f .grocers) (f .grocerOwner) words a (f .tallyBox) (f .tallyGrocer)
 
   -- A held tally's place is within the packed tables, and there is a place 0 where there is a tally.
   held-within : (a i : ℕ) → a < f .boxes → i < f .tallies → heldBy (jobOf f) i a ≡ true → spot a i < totalsLength (jobOf f)
@@ -49,18 +50,18 @@ module _ (f : JobTables) (bare : f .tallyBag ≡ []) (r : InRange (jobOf f)) (fe
   -- A tally that is not held has place 0.
   away-spot : (a i : ℕ) → a < f .boxes → i < f .tallies → heldBy (jobOf f) i a ≡ false → spot a i ≡ 0
   unfolding spotBy
-  away-spot a i la li e = rw (lt-ltb i (f .tallies) li, sym (held-word f bare a la i li) ∙ e)
+  away-spot a i la li e = rw (sym (held-word f bare a la i li) ∙ e)
 
-  -- The places of box a's tallies.
-  pub spots-found : (a : ℕ) (places : List ℕ) → a < f .boxes → f .tallies ≤ 1_000 → places ≡ tabulate 1_000 (spot a) → Spots f a places
-  spots-found a places la lt e = record {
-    long = omega (arith, ap length e ∙ length-tabulate 1_000 (spot a));
+  -- The places of box a's tallies, as `box_places` leaves them.
+  pub spots-found : (a : ℕ) (old places : List ℕ) → a < f .boxes → f .tallies ≤ length old → places ≡ overwrite (f .tallies) (spot a) old → Spots f a places
+  spots-found a old places la long e = record {
+    long = omega (arith, ap length e ∙ length-overwrite (f .tallies) (spot a) old long);
     within = λ i l. omega (arith, at i l, split (heldBy (jobOf f) i a) (λ h. held-within a i la l h) (λ h. small i l h));
     each = λ i l h. at i l ∙ spot-model f bare r few words ew a i la l h;
   }
     where
       at : (i : ℕ) → i < f .tallies → getD places i 0 ≡ spot a i
-      at i l = ap (λ (s : List ℕ). getD s i 0) e ∙ getD-tabulate 1_000 (spot a) i 0 (omega arith)
+      at i l = ap (λ (s : List ℕ). getD s i 0) e ∙ getD-overwrite (f .tallies) (spot a) old i 0 l
 
       small : (i : ℕ) → i < f .tallies → heldBy (jobOf f) i a ≡ false → spot a i < totalsLength (jobOf f)
       small i l h = omega (arith, away-spot a i la l h, some-place i l)
@@ -87,6 +88,31 @@ module _ (f : JobTables) (bare : f .tallyBag ≡ []) (r : InRange (jobOf f)) (fe
   unfolding totalsStart
   start-next b = sum-suc b (λ c. length (localGrocers (jobOf f) c))
 
+  -- Boxes are within the packed tables.
+  box-within : (b : ℕ) → b < f .boxes → totalsStart (jobOf f) (suc b) ≤ totalsLength (jobOf f)
+  unfolding totalsLength totalsStart jobOf
+  box-within b lb = sum-mono (suc b) (f .boxes) (λ c. length (localGrocers (jobOf f) c)) lb
+
+  -- The span of all totals of box a, as `box_places` answers it.
+  pub box-found : (a from to : ℕ) → a < f .boxes → from ≡ startBy (f .grocers) (f .grocerOwner) words a →
+      to ≡ startBy (f .grocers) (f .grocerOwner) words a + length (listBy (f .boxes) (f .grocers) (f .grocerOwner) words a) →
+      (from ≡ totalsStart (jobOf f) a) × (to ≡ totalsStart (jobOf f) (suc a)) × (to ≤ totalsLength (jobOf f)) × (to ≤ from + 255)
+  box-found a from to la ef et =
+      let start = start-model f bare r few words ew a (omega arith) in
+      let list = ap length (list-model f bare r few words ew a la) in
+      let to-is : to ≡ totalsStart (jobOf f) (suc a) = omega (arith, start, list, start-next a) in
+      (ef ∙ start, to-is, omega (arith, box-within a la), omega (arith, list-few (f .boxes) (f .grocers) (f .grocerOwner) words a))
+
+  -- The places of its tallies are within it.
+  pub held-inside : (a i : ℕ) → a < f .boxes → i < f .tallies → heldBy (jobOf f) i a ≡ true →
+      (totalsStart (jobOf f) a ≤ tallyPlace (jobOf f) i) × (tallyPlace (jobOf f) i < totalsStart (jobOf f) (suc a))
+  unfolding jobOf totalPlace hasTotal
+  held-inside a i la li e =
+      let g = jobOf f .tallyGrocer i in
+      let at = tally-at (jobOf f) r i a e in
+      let number = local-at (jobOf f) a (jobOf f .tallyGrocer i) (and-r (ltb a (jobOf f .boxes)) _ (tally-has (jobOf f) r i a li e)) .0 in
+      (omega (arith, at), omega (arith, at, number, start-next a))
+
   -- A place within a box has its grocer there, where the box's list was put at its start.
   grocer-put : (b i : ℕ) (old : List ℕ) → b < f .boxes → totalsLength (jobOf f) ≤ length old → totalsStart (jobOf f) b ≤ i → i < totalsStart (jobOf f) (suc b) → totalsStart (jobOf f) (suc b) ≤ totalsLength (jobOf f) →
       (getD (putAt (localGrocers (jobOf f) b) (length (localGrocers (jobOf f) b)) (totalsStart (jobOf f) b) old) i 0 ≡ getD (placeGrocers (jobOf f)) i 0)
@@ -104,11 +130,6 @@ module _ (f : JobTables) (bare : f .tallyBag ≡ []) (r : InRange (jobOf f)) (fe
       subst (λ (l : List ℕ). i - totalsStart (jobOf f) b < length l → getD l (i - totalsStart (jobOf f) b) 0 < f .grocers) (list-model f bare r few words ew b lb)
       (list-below (f .boxes) (f .grocers) (f .grocerOwner) words b (i - totalsStart (jobOf f) b)) small in
       (here ∙ sym (grocer-model f bare r few words ew b (i - totalsStart (jobOf f) b) lb small) ∙ ap (λ (x : ℕ). getD (placeGrocers (jobOf f)) x 0) same, omega (arith, here, below))
-
-  -- Boxes are within the packed tables.
-  box-within : (b : ℕ) → b < f .boxes → totalsStart (jobOf f) (suc b) ≤ totalsLength (jobOf f)
-  unfolding totalsLength totalsStart jobOf
-  box-within b lb = sum-mono (suc b) (f .boxes) (λ c. length (localGrocers (jobOf f) c)) lb
 
   length-put : (list old : List ℕ) (l start : ℕ) → length (putAt list l start old) ≡ length old
   unfolding putAt

@@ -80,7 +80,7 @@ pub box-span-spec : {M : Type 1} → statement M
 box-span-spec =
     tie.close
     (tie.spec
-    (λ c κs. let b = c .before .before .before .pre .0 .0 in (record { m-in = omega (arith, b .m-in); owners-long = b .owners-in .owners-long; words-long = b .words-long }, omega (arith, b .box-in, b .owners-in .k-in)))
+    (λ c κs. let b = c .before .before .before .pre .0 .0 in (record { m-in = omega (arith, b .m-in); owners-long = b .owners-in .owners-long; words-long = b .words-long; owner-in = λ g l. omega (arith, b .owners-in .owner-in g l, b .owners-in .k-in) }, omega (arith, b .box-in, b .owners-in .k-in)))
     (λ c κs. search needs)
     (λ c. search needs)
     (λ c. search needs)
