@@ -19,10 +19,14 @@ use slices::index_at;
 use slices::limits::GROCERS;
 use slices::limits::MAX_BOXES;
 use slices::limits::OFFERS;
+use slices::limits::TALLIES;
 use slices::u16_at;
 
 // The most classes of a box's numbers: its own, those of 16 boxes, and those that it does not hold.
 pub const CLASSES: usize = 18;
+
+// The most totals of all boxes: an own one of each grocer, and one for each tally.
+pub const TOTALS: usize = GROCERS + TALLIES;
 
 // The local list of box b, of n numbers with these owners and words of holders, and where each class of it begins. Its length.
 pub fn box_list(

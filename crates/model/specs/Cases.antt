@@ -173,10 +173,6 @@ packedE working totalTransit =
 abbrev pub rowsE : List ℤ → StateTables
 rowsE working = packedE working (pos 0 ∷ pos 0 ∷ pos 0 ∷ pos 0 ∷ [])
 
--- A fresh state of `lowTwice`, in which one bag and revision is there twice, with these packed tables.
-abbrev pub packedTwice : List ℤ → StateTables
-packedTwice working = stateTables (0 ∷ 10 ∷ []) (0 ∷ 0 ∷ []) working (pos 0 ∷ []) (pos 0 ∷ []) (tabulate 24 (λ i. 0)) (0 ∷ [])
-
 -- Small examples that say what the definitions mean.
 pub record Examples : Type 0 where
   -- The owner is not among the needs: bits 1 and 2, two price words; two totals; a tally of count 0 is one like any other.
@@ -311,29 +307,6 @@ pub record Examples : Type 0 where
   pub packed-groups-0 : tabulate 4 (groupStart (jobOf jobE) 0) ≡ 0 ∷ 1 ∷ 1 ∷ 2 ∷ []
   pub packed-groups-1 : tabulate 4 (groupStart (jobOf jobE) 1) ≡ 2 ∷ 3 ∷ 3 ∷ 3 ∷ []
   pub packed-grocers : placeGrocers (jobOf jobE) ≡ 1 ∷ 0 ∷ 0 ∷ []
-  -- Three words are enough, two are not; a word past them may be anything, and stays.
-  pub packed-enough : stepped jobE (packedE (pos 0 ∷ pos 0 ∷ pos 0 ∷ []) (pos 0 ∷ pos 0 ∷ pos 0 ∷ [])) (asked 2 0 0) .answer ≡ accepted
-  pub packed-short : stepped jobE (packedE (pos 0 ∷ pos 0 ∷ pos 0 ∷ []) (pos 0 ∷ pos 0 ∷ [])) (asked 2 0 0) .answer ≡ refused 20
-  pub packed-past :
-      stepped jobE (packedE (pos 0 ∷ pos 0 ∷ pos 0 ∷ pos 1_000_000_000_000_001 ∷ []) (pos 0 ∷ pos 0 ∷ pos 0 ∷ [])) (asked 2 0 0) .tables .working
-      ≡ pos 0 ∷ pos 1500 ∷ pos 0 ∷ pos 1_000_000_000_000_001 ∷ []
-  -- The order: 20 on them before 21 on their words, both before 22 ..
-  pub packed-20-21 : stepped jobE (packedE (pos 1_000_000_000_000_001 ∷ []) []) (asked 9 99 0) .answer ≡ refused 20
-  pub packed-21-22 :
-      stepped jobE (packedE (pos 0 ∷ pos 0 ∷ pos 1_000_000_000_000_001 ∷ []) (pos 0 ∷ pos 0 ∷ pos 0 ∷ [])) (asked 9 99 0) .answer ≡ refused 21
-  -- .. but after 9; and after 21 on all else, here a mark that is 2, which comes after 20 on all else.
-  pub packed-9-20 : stepped lowTwice (packedTwice []) (asked 2 0 0) .answer ≡ refused 9
-  pub packed-9-21 : stepped lowTwice (packedTwice (pos 1_000_000_000_000_001 ∷ [])) (asked 2 0 0) .answer ≡ refused 9
-  pub packed-else :
-      stepped jobE (stateTables (500 ∷ 0 ∷ 0 ∷ 1250 ∷ []) (0 ∷ 0 ∷ 0 ∷ 0 ∷ []) [] [] (pos 0 ∷ pos 0 ∷ []) (tabulate 24 (λ i. 2)) (0 ∷ [])) (asked 2 0 0) .answer
-      ≡ refused 21
-  pub packed-other-20 :
-      stepped jobE (stateTables (500 ∷ 0 ∷ 0 ∷ 1250 ∷ []) (0 ∷ 0 ∷ 0 ∷ 0 ∷ []) [] [] (pos 0 ∷ pos 0 ∷ []) (tabulate 24 (λ i. 2)) []) (asked 2 0 0) .answer
-      ≡ refused 20
-  -- A run: 20 on them after 9, and their old words are not examined.
-  pub packed-run-9 : ran lowTwice (packedTwice []) [] [] .answer ≡ notRun 9
-  pub packed-run-20 : ran jobE (packedE (pos 0 ∷ pos 0 ∷ []) (pos 0 ∷ pos 0 ∷ pos 0 ∷ [])) [] [] .answer ≡ notRun 20
-  pub packed-run : ran jobE (packedE (pos 1_000_000_000_000_001 ∷ pos 5 ∷ pos 5 ∷ []) (pos 0 ∷ pos 0 ∷ pos 0 ∷ [])) [] [] .answer ≡ finished 3 3 10
   -- Full rows with 7 in box 1's word for grocer 1, which is not local: no step touches it, and beyond ±10^15 it would be 21.
   pub rows-stay : fullStepped jobE (rowsE (pos 0 ∷ pos 0 ∷ pos 0 ∷ pos 7 ∷ [])) (asked 2 1 1) .tables .working ≡ pos 0 ∷ pos 0 ∷ negsuc 1249 ∷ pos 7 ∷ []
   pub rows-21 : fullStepped jobE (rowsE (pos 0 ∷ pos 0 ∷ pos 0 ∷ pos 1_000_000_000_000_001 ∷ [])) (asked 2 1 1) .answer ≡ refused 21

@@ -79,6 +79,10 @@ ownTotalE working statement = stateE pricesE zeroPrices (working ∷ pos 0 ∷ p
 abbrev pub totalSentE : (total statement : ℤ) → StateTables
 totalSentE total statement = stateE pricesE zeroPrices zeroTotals (pos 0 ∷ total ∷ pos 0 ∷ []) (statement ∷ pos 0 ∷ []) 13 0
 
+-- A fresh state of `lowTwice`, in which one bag and revision is there twice, with these packed tables.
+abbrev pub packedTwice : List ℤ → StateTables
+packedTwice working = stateTables (0 ∷ 10 ∷ []) (0 ∷ 0 ∷ []) working (pos 0 ∷ []) (pos 0 ∷ []) (tabulate 24 (λ i. 0)) (0 ∷ [])
+
 -- What a step of E answers in a state of it,
 abbrev pub answerE : StateTables → (kind first second : ℕ) → StepAnswer
 answerE t kind first second = stepped jobE t (asked kind first second) .answer
@@ -253,6 +257,21 @@ pub record Edges : Type 0 where
   pub state-short-run : tabulate 7 (λ i. ran jobE (shortStateE i) [] [] .answer) ≡ replicate 7 (notRun 20)
   -- Tables that are lent whole are not short.
   pub whole : stepped (shortJobE 9) (shortStateE 7) (asked 2 0 0) .answer ≡ accepted
+  -- A word past the packed length may be anything, and stays.
+  pub packed-past :
+      tablesE (workingE (pos 0 ∷ pos 0 ∷ pos 0 ∷ pos 1_000_000_000_000_001 ∷ [])) 2 0 0 .working
+      ≡ pos 0 ∷ pos 1500 ∷ pos 0 ∷ pos 1_000_000_000_000_001 ∷ []
+  -- The order: 20 on them before 21 on their words, both before 22 ..
+  pub packed-20-21 : answerE (workingE (pos 1_000_000_000_000_001 ∷ [])) 9 99 0 ≡ refused 20
+  pub packed-21-22 : answerE (workingE (pos 0 ∷ pos 0 ∷ pos 1_000_000_000_000_001 ∷ [])) 9 99 0 ≡ refused 21
+  -- .. but after 9; and after 21 on all else, here a mark that is 2, which comes after 20 on all else.
+  pub packed-9-20 : stepped lowTwice (packedTwice []) (asked 2 0 0) .answer ≡ refused 9
+  pub packed-9-21 : stepped lowTwice (packedTwice (pos 1_000_000_000_000_001 ∷ [])) (asked 2 0 0) .answer ≡ refused 9
+  pub packed-else : answerE (stateTables pricesE zeroPrices [] [] zeroStatements (markAt 23 2) (0 ∷ [])) 2 0 0 ≡ refused 21
+  pub packed-other-20 : answerE (stateTables pricesE zeroPrices [] [] zeroStatements (markAt 23 2) []) 2 0 0 ≡ refused 20
+  -- A run: 20 on them after 9, and their old words are not examined.
+  pub packed-run-9 : ran lowTwice (packedTwice []) [] [] .answer ≡ notRun 9
+  pub packed-run : ran jobE (workingE (pos 1_000_000_000_000_001 ∷ pos 5 ∷ pos 5 ∷ [])) [] [] .answer ≡ finished 3 3 10
   -- Kind 0 is 22,
   pub kind-0 : answerE (doneE 24 0) 0 0 1 ≡ refused 22
   -- and so is 7;

@@ -76,12 +76,8 @@ module _ (f : JobTables) (t : StateTables) where
   tested-early r e n = e ∙ sym (met-first (earlyRules f t) (packedRules (jobOf f) t) (λ z. n (e ∙ z)))
 
   pub tested-packed : firstMet (earlyRules f t) ≡ 0 → firstMet (tableRules f t) ≡ firstMet (packedRules (jobOf f) t)
-  unfolding tableRules
-  tested-packed z = none-first (earlyRules f t) (packedRules (jobOf f) t) (early-numbers z) z
-    where
-      early-numbers : firstMet (earlyRules f t) ≡ 0 → Numbered (earlyRules f t)
-      unfolding earlyRules
-      early-numbers z = (omega arith, (omega arith, (omega arith, tt)))
+  unfolding tableRules earlyRules
+  tested-packed z = none-first (earlyRules f t) (packedRules (jobOf f) t) (omega arith, (omega arith, (omega arith, tt))) z
 
   -- One of the conditions on the tables is met: it is the answer.
   pub answer-tested : (q : Asked) (r : ℕ) → r ≡ firstMet (tableRules f t) → (r ≡ 0 → ⊥) → r ≡ stepRefusal f t q

@@ -20,8 +20,10 @@ abbrev job : tie.Start → JobTables
 job s = bagTables (s .args .z .boxes) (s .args .z .grocers) (s .args .z .offers) (s .args .z .tallies) (now (s .args .price)) (now (s .args .offer-owner)) (now (s .args .grocer-owner))
     (now (s .args .tally-grocer)) (now (s .args .tally-box)) (now (s .args .tally-offer)) (now (s .args .tally-count)) (now (s .args .tally-bag)) (now (s .args .tally-revision))
 
-abbrev state : tie.Start → StateTables
-state s = stateTables (now (s .args .known)) (now (s .args .price-transit)) (now (s .args .working)) (now (s .args .total-transit)) (now (s .args .statement)) (now (s .args .done)) (now (s .args .sent))
+-- Whatever the packed totals are.
+module _ (working totals : List ℤ) where
+  abbrev state : tie.Start → StateTables
+  state s = stateTables (now (s .args .known)) (now (s .args .price-transit)) working totals (now (s .args .statement)) (now (s .args .done)) (now (s .args .sent))
 
 -- The start, from the three tests of lengths.
 abbrev lent : tie.After-shared-slice-known5 → tie.Start
