@@ -136,7 +136,7 @@ module _ (f : JobTables) (t : StateTables) (needs places : List ℕ) (from to : 
       (sent-stays (jobOf f) (left receivePrices) t (g .state-long) refl)
 
   -- The span of a step, by the number of its kind.
-  span-at : (k : ℕ) → q .kind ≡ k → 4 ≤ k →
+  pub span-at : (k : ℕ) → q .kind ≡ k → 4 ≤ k →
       (from ≡ groupStart (jobOf f) (spanBox k (q .first) (q .second)) (spanGroup k (q .first) (q .second)))
       × (to ≡ groupStart (jobOf f) (spanBox k (q .first) (q .second)) (suc (spanGroup k (q .first) (q .second))))
   span-at k e many =
@@ -149,7 +149,7 @@ module _ (f : JobTables) (t : StateTables) (needs places : List ℕ) (from to : 
   span-as : (x y : ℕ) (w : ℕ → ℤ) (l : List ℤ) → from ≡ x → to ≡ y → spanWritten x y w l ≡ spanWritten from to w l
   span-as x y w l ex ey = ap₂ (λ (u v : ℕ). spanWritten u v w l) (sym ex) (sym ey)
 
-  grocers-as : (x y : ℕ) → 4 ≤ q .kind → from ≡ x → to ≡ y → (i : ℕ) → inSpan x y i ≡ true → (getD grocers i 0 ≡ getD (placeGrocers (jobOf f)) i 0) × (getD grocers i 0 < f .grocers)
+  pub grocers-as : (x y : ℕ) → 4 ≤ q .kind → from ≡ x → to ≡ y → (i : ℕ) → inSpan x y i ≡ true → (getD grocers i 0 ≡ getD (placeGrocers (jobOf f)) i 0) × (getD grocers i 0 < f .grocers)
   unfolding jobOf
   grocers-as x y many ex ey i h = g .span-is many .each i (ap₂ (λ (u v : ℕ). inSpan u v i) ex ey ∙ h)
 
