@@ -2,30 +2,30 @@
 use mathlib.Core.Path.{_≡_, sym, _∙_}
 use mathlib.Core.Bool.{Bool, _&&_}
 use mathlib.Core.List.{List}
-use Prim.Native.Nat.{ℕ, _+_, _-_, _*_, _<_, _≤_}
+use Prim.Native.Nat.{ℕ, _-_, _<_, _≤_}
 use native.Mathlib.Decide.{ℕ-discrete}
 use native.Mathlib.Nat.{le-trans}
 use native.Mathlib.Omega.{arith}
 use lib.ListN.{length, getD}
 use lib.IntN.{ℤ, pos, natAbs}
-use borrow.Author.Tests.{eqb-true}
 use lib.Dec.{eqb}
+use borrow.Author.Tests.{eqb-true}
 use Rattle.laws.proofs.Bools.{and-l}
 use Rattle.model.specs.Tables.{JobTables, StateTables, jobOf}
 use Rattle.model.specs.Ranges.{stateInRange, totalsInRange}
 use Rattle.model.specs.Step.{Asked, moved}
-use Rattle.model.proofs.Step.{under-at}
 use Rattle.step_sent.specs.Sent.{sentFits}
 use Rattle.step_spans.specs.Credit.{CreditIn}
 use Rattle.step_packed.specs.Fits.{totalFits, TotalFitsIn}
-use Rattle.step_packed.proofs.Fits.{fits-4, fits-5, fits-6}
 use Rattle.step_totals.specs.Row.{Tallies, TalliesIn, PricesIn}
-use Rattle.step_totals.proofs.Effect.{talliesOf}
-use Rattle.step_totals.proofs.Rows.{each-tally}
 use Rattle.step_row.specs.Row.{RowIn}
 use Rattle.step_apply.specs.Apply.{Applies, TotalStepIn}
-use Rattle.step_apply.proofs.Given.{Given, given, sent-in, known-in, price-transit-in, total-step-in}
 use Rattle.step_checks.specs.Fits.{BoxSpan, rowFits, priceFits, HeldIn, PriceFitsIn}
+use Rattle.model.proofs.Step.{under-at}
+use Rattle.step_packed.proofs.Fits.{fits-4, fits-5, fits-6}
+use Rattle.step_totals.proofs.Effect.{talliesOf}
+use Rattle.step_totals.proofs.Rows.{each-tally}
+use Rattle.step_apply.proofs.Given.{Given, given, sent-in, known-in, price-transit-in, total-step-in}
 use Rattle.step_checks.proofs.Late.{held-in, late-prices-sent, late-own-multiplied, late-prices-received, late-totals-sent, late-own-added, late-totals-received}
 
 -- The test of each kind.

@@ -11,9 +11,8 @@ use lib.IntN.{ℤ, pos, natAbs}
 use borrow.Author.Tests.{eqb-true, eq-eqb, le-leb}
 use Rattle.laws.specs.Below.{integers, naturals, sum, count}
 use Rattle.laws.specs.Tables.{cell}
-use Rattle.laws.proofs.Below.{count-le}
+use Rattle.laws.proofs.Below.{count-le, all-of}
 use Rattle.laws.proofs.Bools.{and-one, and-true, and-l, and-r, cond-either}
-use Rattle.laws.proofs.Below.{all-of}
 use Rattle.laws.proofs.Checks.{one-left}
 use Rattle.laws.proofs.Sums.{only-no, sum-within}
 use Rattle.laws.specs.Limits.{maxPrice, maxAmount, maxSent}
@@ -25,26 +24,26 @@ use Rattle.model.specs.Spans.{placeGrocers, inSpan, spanWritten}
 use Rattle.model.specs.Step.{Asked, moved}
 use Rattle.model.specs.Steps.{kindOf}
 use Rattle.model.specs.Tables.{JobTables, jobOf, StateTables, stateTables, stateLengths}
+use Rattle.step_places.specs.Message.{wordIn}
+use Rattle.step_places.specs.Marks.{marked}
+use Rattle.step_prices.specs.Prices.{sentTransit, receivedKnown, receivedTransit}
+use Rattle.step_spans.specs.Credit.{creditSpan}
+use Rattle.step_packed.specs.Fits.{spanFits}
+use Rattle.step_totals.specs.Row.{isTaken, brings, placed}
+use Rattle.step_apply.specs.Apply.{Applies, spanBox, spanGroup}
+use Rattle.step_checks.specs.Fits.{BoxSpan, HeldIn, rowFits}
 use Rattle.model.proofs.LocalLists.{local-at}
 use Rattle.model.proofs.PackedTotals.{within}
 use Rattle.model.proofs.Spans.{tally-has, tally-at}
 use Rattle.model.proofs.Step.{around-at}
-use Rattle.step_places.specs.Message.{wordIn}
-use Rattle.step_places.specs.Marks.{marked}
-use Rattle.step_prices.specs.Prices.{sentTransit, receivedKnown, receivedTransit}
 use Rattle.step_rules.proofs.Marked.{marked-bits}
 use Rattle.step_spans.proofs.Laws.{span-word}
 use Rattle.step_spans.proofs.Statements.{credit-range}
-use Rattle.step_spans.specs.Credit.{creditSpan}
-use Rattle.step_packed.specs.Fits.{spanFits}
-use Rattle.step_totals.specs.Row.{isTaken, brings, placed}
 use Rattle.step_totals.proofs.Effect.{talliesOf, held-is}
 use Rattle.step_row.proofs.Ranges.{row-range}
-use Rattle.step_apply.specs.Apply.{Applies, spanBox, spanGroup}
 use Rattle.step_apply.proofs.Given.{Given, given}
 use Rattle.step_apply.proofs.Moved.{prices-sent, own-multiplied, prices-received, totals-sent, own-added, totals-received, span-at, grocers-as}
 use Rattle.step_apply.proofs.Ranges.{cell-up, recell-up, set-up}
-use Rattle.step_checks.specs.Fits.{BoxSpan, HeldIn, rowFits}
 
 -- Prices sent or received stay in range.
 module _ (k n a b : ℕ) (owner needs known transit : List ℕ) (hk : upTo maxPrice (k * n) known ≡ true) (ht : upTo maxPrice (k * n) transit ≡ true) where

@@ -1,12 +1,12 @@
 -- `step_checks::finish::price_fits` meets its contract, kind by kind. Assumes nothing.
 use mathlib.Core.Path.{_≡_, sym, _∙_}
+use mathlib.Core.List.{List}
 use Prim.Native.Nat.{ℕ, _-_, _<_, _≤_}
 use native.Mathlib.Omega.{arith}
 use borrow.Author.Needs.{needs}
 use Rattle.step_totals.specs.Row.{Tallies, tallies, PricesIn}
 use Rattle.step_row.specs.Row.{RowIn}
 use denote.Ref.{now}
-use mathlib.Core.List.{List}
 use Rattle.step_checks.proofs.Finished.{fits-1, fits-2, fits-3, row-in}
 use Rattle.step_checks.proofs.finish.price_fits.Statement.{statement}
 use Rattle.step_checks.proofs.finish.price_fits.Tie as tie
@@ -42,7 +42,8 @@ returns c =
     let i = c .before .before in
     let s = entry (i .before) in
     c .sent-fits .ensures
-    ∙ sym (fits-1 (tables s) (s .args .from) (s .args .to) (now (s .args .needs)) (now (s .args .known)) (now (s .args .price-transit)) (now (s .args .working)) (now (s .args .sent)) (s .args .x .kind) (s .args .x .first) (s .args .x .second) (i .if1 .taken))
+    ∙ sym (fits-1 (tables s) (s .args .from) (s .args .to) (now (s .args .needs)) (now (s .args .known)) (now (s .args .price-transit)) (now (s .args .working)) (now (s .args .sent))
+    (s .args .x .kind) (s .args .x .first) (s .args .x .second) (i .if1 .taken))
 
 -- What multiplying requires.
 rows-in : (c : tie.Else1) (prices : List ℕ) (owner : ℕ) → let s = entry (c .before) in PricesIn (s .args .z .boxes) (s .args .z .offers) prices →
@@ -60,7 +61,8 @@ returns-2 c =
     let i = c .before in
     let s = entry (past (i .before) .before) in
     c .products-fit .ensures
-    ∙ sym (fits-2 (tables s) (s .args .from) (s .args .to) (now (s .args .needs)) (now (s .args .known)) (now (s .args .price-transit)) (now (s .args .working)) (now (s .args .sent)) (s .args .x .kind) (s .args .x .first) (s .args .x .second) (i .if2 .taken))
+    ∙ sym (fits-2 (tables s) (s .args .from) (s .args .to) (now (s .args .needs)) (now (s .args .known)) (now (s .args .price-transit)) (now (s .args .working)) (now (s .args .sent))
+    (s .args .x .kind) (s .args .x .first) (s .args .x .second) (i .if2 .taken))
 
 products-fit-requires-2 : tie.Need-products-fit-requires-2
 products-fit-requires-2 c κs = let e = past (c .before) in let s = entry (e .before) in rows-in e (now (s .args .price-transit)) (s .args .x .second) (s .pre .transit-in)
@@ -72,7 +74,8 @@ returns-3 c =
     let s = entry (e .before) in
     let third : s .args .x .kind ≡ 3 = omega (arith, more e, s .pre .kind-to, i .if2 .left) in
     c .products-fit2 .ensures
-    ∙ sym (fits-3 (tables s) (s .args .from) (s .args .to) (now (s .args .needs)) (now (s .args .known)) (now (s .args .price-transit)) (now (s .args .working)) (now (s .args .sent)) (s .args .x .kind) (s .args .x .first) (s .args .x .second) third)
+    ∙ sym (fits-3 (tables s) (s .args .from) (s .args .to) (now (s .args .needs)) (now (s .args .known)) (now (s .args .price-transit)) (now (s .args .working)) (now (s .args .sent))
+    (s .args .x .kind) (s .args .x .first) (s .args .x .second) third)
 
 pub price-fits-spec : {M : Type 1} → statement M
 price-fits-spec =

@@ -1,7 +1,7 @@
 -- `step_checks::state::state_in_range` meets its contract: what each of the range checks ensures. Assumes nothing.
-use borrow.Author.Needs.{needs}
 use mathlib.Core.List.{List, []}
 use lib.IntN.{ℤ}
+use borrow.Author.Needs.{needs}
 use Rattle.model.specs.Tables.{StateTables, stateTables}
 use Rattle.job_checks.specs.Sizes.{sizes}
 use denote.Ref.{now}
