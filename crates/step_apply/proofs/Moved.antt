@@ -18,14 +18,14 @@ use Rattle.step_prices.specs.Prices.{sentTransit, receivedKnown, receivedTransi
 use Rattle.step_places.specs.Marks.{marked}
 use Rattle.step_totals.specs.Row.{brings, placed}
 use Rattle.step_spans.specs.Credit.{creditSpan}
-use Rattle.step_spans.proofs.Statements.{added-statement, received-statement}
 use Rattle.model.specs.Job.{totalWord}
-use Rattle.model.specs.Spans.{groupStart, placeGrocers, inSpan, spanWritten, BySpans}
+use Rattle.model.specs.Spans.{groupStart, placeGrocers, inSpan, spanWritten}
+use Rattle.step_apply.specs.Apply.{spanBox, spanGroup, sentMore, knownAfter, priceTransitAfter, multipliedAfter, pricesSent, PriceStepOut, workingAfter, totalTransitAfter, statementAfter, totalsSent, TotalStepOut}
+use Rattle.step_spans.proofs.Statements.{added-statement, received-statement}
 use Rattle.step_prices.proofs.Effect.{tables-eq, known-stays, price-transit-stays, working-stays, total-transit-stays, statement-stays, sent-stays, step-marked}
 use Rattle.step_totals.proofs.Effect.{talliesOf, multiplied-working, received-working}
 use Rattle.step_apply.proofs.Given.{Given}
 use Rattle.step_apply.proofs.Sides.{prices-sent-out, own-multiplied-out, prices-received-out, totals-sent-out, own-added-out, totals-received-out, none-more}
-use Rattle.step_apply.specs.Apply.{spanBox, spanGroup, sentMore, knownAfter, priceTransitAfter, multipliedAfter, pricesSent, PriceStepOut, workingAfter, totalTransitAfter, statementAfter, totalsSent, TotalStepOut}
 use Rattle.step_prices.proofs.Effect as price-laws
 
 -- The marks with the step's, and all tables as a step leaves them, told from what it leaves on its side.
@@ -130,13 +130,14 @@ module _ (f : JobTables) (t : StateTables) (needs places : List ℕ) (from to : 
       by-lists receivePrices (ap kindOf e) _ _ _ _ _ _
       (price-laws.received-known f t needs (q .first) (q .second) (g .first-in) (g .second-in) (g .boxes-in) (g .offers-in) (g .needs-are (omega arith)))
       (price-laws.received-transit f t needs (q .first) (q .second) (g .first-in) (g .second-in) (g .boxes-in) (g .offers-in) (g .needs-are (omega arith)))
-      (sym (received-working f places (g .bare) (g .tallies-in) (g .in-range) (q .first) (g .first-in) (g .places-are (omega arith) (omega arith) .each) t (q .second) (differ receivePrices (ap kindOf e) refl) (g .by-spans) (g .totals-long .working)))
+      (sym (received-working f places (g .bare) (g .tallies-in) (g .in-range) (q .first) (g .first-in) (g .places-are (omega arith) (omega arith) .each) t (q .second)
+      (differ receivePrices (ap kindOf e) refl) (g .by-spans) (g .totals-long .working)))
       (total-transit-stays (jobOf f) (left receivePrices) t (g .state-long) (g .totals-long) refl)
       (statement-stays (jobOf f) (left receivePrices) t (g .state-long) refl)
       (sent-stays (jobOf f) (left receivePrices) t (g .state-long) refl)
 
   -- The span of a step, by the number of its kind.
-  span-at : (k : ℕ) → q .kind ≡ k → 4 ≤ k →
+  pub span-at : (k : ℕ) → q .kind ≡ k → 4 ≤ k →
       (from ≡ groupStart (jobOf f) (spanBox k (q .first) (q .second)) (spanGroup k (q .first) (q .second)))
       × (to ≡ groupStart (jobOf f) (spanBox k (q .first) (q .second)) (suc (spanGroup k (q .first) (q .second))))
   span-at k e many =
@@ -149,7 +150,7 @@ module _ (f : JobTables) (t : StateTables) (needs places : List ℕ) (from to : 
   span-as : (x y : ℕ) (w : ℕ → ℤ) (l : List ℤ) → from ≡ x → to ≡ y → spanWritten x y w l ≡ spanWritten from to w l
   span-as x y w l ex ey = ap₂ (λ (u v : ℕ). spanWritten u v w l) (sym ex) (sym ey)
 
-  grocers-as : (x y : ℕ) → 4 ≤ q .kind → from ≡ x → to ≡ y → (i : ℕ) → inSpan x y i ≡ true → (getD grocers i 0 ≡ getD (placeGrocers (jobOf f)) i 0) × (getD grocers i 0 < f .grocers)
+  pub grocers-as : (x y : ℕ) → 4 ≤ q .kind → from ≡ x → to ≡ y → (i : ℕ) → inSpan x y i ≡ true → (getD grocers i 0 ≡ getD (placeGrocers (jobOf f)) i 0) × (getD grocers i 0 < f .grocers)
   unfolding jobOf
   grocers-as x y many ex ey i h = g .span-is many .each i (ap₂ (λ (u v : ℕ). inSpan u v i) ex ey ∙ h)
 

@@ -1,6 +1,5 @@
 -- What the tests are in the model.
 pub mod Late
-pub mod Rows
 pub mod Tested
 pub mod Asked
 pub mod Finished

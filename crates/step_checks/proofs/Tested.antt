@@ -26,9 +26,9 @@ under-two n l =
 
 -- The tests of the state's tables, at lengths that are the products of K, M and N.
 
-pub words-tested : (k m n : ℕ) (t : StateTables) (kn km kk : ℕ) → kn ≡ k * n → km ≡ k * m → kk ≡ 6 * k * k → (a b c d e g h : Bool) →
-    a ≡ upTo maxPrice kn (t .known) → b ≡ upTo maxPrice kn (t .priceTransit) → c ≡ around maxAmount km (t .working) → d ≡ around maxAmount km (t .totalTransit) →
-    e ≡ around maxAmount m (t .statement) → g ≡ under 2 kk (t .done) → h ≡ upTo maxSent 1 (t .sent) → allOf (a ∷ b ∷ c ∷ d ∷ e ∷ g ∷ h ∷ []) ≡ stateInRange (sizes k m n) t
+pub words-tested : (k m n : ℕ) (t : StateTables) (kn kk : ℕ) → kn ≡ k * n → kk ≡ 6 * k * k → (a b e g h : Bool) →
+    a ≡ upTo maxPrice kn (t .known) → b ≡ upTo maxPrice kn (t .priceTransit) → e ≡ around maxAmount m (t .statement) → g ≡ under 2 kk (t .done) → h ≡ upTo maxSent 1 (t .sent) →
+    allOf (a ∷ b ∷ e ∷ g ∷ h ∷ []) ≡ stateInRange (sizes k m n) t
 unfolding stateInRange
-words-tested k m n t kn km kk kn-is km-is kk-is a b c d e g h a-is b-is c-is d-is e-is g-is h-is =
-    rw (a-is, b-is, c-is, d-is, e-is, g-is, h-is, kn-is, km-is, kk-is, under-two (6 * k * k) (t .done))
+words-tested k m n t kn kk kn-is kk-is a b e g h a-is b-is e-is g-is h-is =
+    rw (a-is, b-is, e-is, g-is, h-is, kn-is, kk-is, under-two (6 * k * k) (t .done))

@@ -1,72 +1,64 @@
-// Conditions 20 and 21 on the tables of a state.
+// Conditions 20 and 21 on the tables of a state, but for the packed totals.
 ghost use mathlib.Core.Path.{_≡_};
 ghost use mathlib.Core.Bool.{false};
+ghost use mathlib.Core.List.{List, []};
+ghost use lib.IntN.{ℤ};
 ghost use Rattle.model.specs.Tables.{stateTables, stateLengths, stateShort};
-ghost use Rattle.model.specs.Lent.{stateBefore};
 ghost use Rattle.model.specs.Ranges.{stateInRange};
 ghost use Rattle.job_checks.specs.Sizes.{sizes};
-use crate::in_range::around64;
 use job_ranges::under16;
 use job_ranges::upto32;
 use slices::bits::marks;
 use slices::bits::words;
 use slices::limits::MAX_PRICE;
 use slices::limits::MAX_SENT;
+use step_packed::in_range::around64;
 
-// 20: whether a table of the state is shorter than K, M and N as given need.
+// 20: whether a table of the state but the packed totals is shorter than K, M and N as given need.
 pub fn state_short(
     boxes: u16,
     grocers: u16,
     offers: u16,
     known: &[u32],
     price_transit: &[u32],
-    working: &[i64],
-    total_transit: &[i64],
     statement: &[i64],
     done: &[u16],
     sent: &[u32],
 ) -> bool
-    ensures { λ r. ⌜ r ≡ stateShort (sizes boxes grocers offers)
-        (stateLengths (stateBefore known «price_transit» working «total_transit» statement done sent)) ⌝ }
+    ensures { λ r. ⌜ ((working totals : List ℤ) → r ≡ stateShort (sizes boxes grocers offers)
+        (stateLengths (stateTables (now (known .entry)) (now («price_transit» .entry)) working totals (now (statement .entry))
+        (now (done .entry)) (now (sent .entry))))) ⌝ }
 {
     let kn = words(boxes, offers);
-    let km = words(boxes, grocers);
     let kk = marks(boxes);
     (known.len() < kn)
         | (price_transit.len() < kn)
-        | (working.len() < km)
-        | (total_transit.len() < km)
         | (statement.len() < grocers as usize)
         | (done.len() < kk)
         | (sent.len() < 1)
 }
 
-// 21: whether every word of the state's tables is in range.
+// 21: whether every word of the state's tables but the packed totals is in range.
 pub fn state_in_range(
     boxes: u16,
     grocers: u16,
     offers: u16,
     known: &[u32],
     price_transit: &[u32],
-    working: &[i64],
-    total_transit: &[i64],
     statement: &[i64],
     done: &[u16],
     sent: &[u32],
 ) -> bool
     requires { ⌜ stateShort (sizes boxes grocers offers)
-        (stateLengths (stateTables (now known) (now «price_transit») (now working) (now «total_transit»)
-        (now statement) (now done) (now sent))) ≡ false ⌝ }
-    ensures { λ r. ⌜ r ≡ stateInRange (sizes boxes grocers offers)
-        (stateBefore known «price_transit» working «total_transit» statement done sent) ⌝ }
+        (stateLengths (stateTables (now known) (now «price_transit») [] [] (now statement) (now done) (now sent))) ≡ false ⌝ }
+    ensures { λ r. ⌜ ((working totals : List ℤ) → r ≡ stateInRange (sizes boxes grocers offers)
+        (stateTables (now (known .entry)) (now («price_transit» .entry)) working totals (now (statement .entry)) (now (done .entry))
+        (now (sent .entry)))) ⌝ }
 {
     let kn = words(boxes, offers);
-    let km = words(boxes, grocers);
     let kk = marks(boxes);
     upto32(known, kn, MAX_PRICE)
         & upto32(price_transit, kn, MAX_PRICE)
-        & around64(working, km)
-        & around64(total_transit, km)
         & around64(statement, grocers as usize)
         & under16(done, kk, 2)
         & upto32(sent, 1, MAX_SENT)

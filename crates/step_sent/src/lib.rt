@@ -24,7 +24,7 @@ fn count_words(n: usize, owners: &[u16], masks: &[u16], a: u16, b: u16) -> u16
     found
 }
 
-// Steps 1 and 4: whether the count of words sent stays in range with the words between box a, their owner, and box b.
+// Step 1: whether the count of words sent stays in range with the words between box a, their owner, and box b.
 pub fn sent_fits(n: u16, owners: &[u16], masks: &[u16], sent: &[u32], a: u16, b: u16) -> bool
     requires { ⌜ (b < 16) × ((n ≤ length (now owners)) × (n ≤ length (now masks))) ⌝ }
     requires { ⌜ (1 ≤ length (now sent)) × (getD (now sent) 0 0 ≤ maxSent) ⌝ }

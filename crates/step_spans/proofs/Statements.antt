@@ -13,7 +13,7 @@ use Rattle.laws.specs.Below.{any, all}
 use Rattle.laws.specs.Tables.{overwrite}
 use Rattle.laws.proofs.Bools.{split, clash, and-true, and-l, and-r, same-test}
 use Rattle.laws.proofs.Below.{any-at, any-find, all-at, all-of}
-use Rattle.laws.proofs.Tables.{is-overwrite, word-in, getD-overwrite}
+use Rattle.laws.proofs.Tables.{is-overwrite, word-in}
 use Rattle.model.specs.Job.{Job}
 use Rattle.model.specs.Ranges.{around}
 use Rattle.model.specs.Steps.{effect, addOwn, receiveTotals}
@@ -83,29 +83,32 @@ credit-is m from to grocers source statement f long inside once each other =
     (λ g l. credit-other from grocers source statement (to - from) g (λ i li q. let k = inside (from + i) (in-span from to i li) in omega arith))
 
 -- The late 21 of steps 5 and 6: the statements are in range just where those of the span's grocers are.
-pub credit-range : (n m from to : ℕ) (grocers : List ℕ) (source statement : List ℤ) (f : ℕ → ℤ) →
+pub credit-range : (n m from to : ℕ) (grocers : List ℕ) (source statement : List ℤ) → m ≤ length statement →
     ((i : ℕ) → inSpan from to i ≡ true → getD grocers i 0 < m) →
-    ((i : ℕ) → inSpan from to i ≡ true → f (getD grocers i 0) ≡ getD statement (getD grocers i 0) (pos 0) +ℤ getD source i (pos 0)) →
-    ((g : ℕ) → g < m → ((i : ℕ) → inSpan from to i ≡ true → getD grocers i 0 ≡ g → ⊥) → f g ≡ getD statement g (pos 0)) →
+    ((i k : ℕ) → inSpan from to i ≡ true → inSpan from to k ≡ true → getD grocers i 0 ≡ getD grocers k 0 → i ≡ k) →
     ((g : ℕ) → g < m → natAbs (getD statement g (pos 0)) ≤ n) →
-    around n m (overwrite m f statement) ≡ all (to - from) (λ i. leb (natAbs (getD statement (getD grocers (from + i) 0) (pos 0) +ℤ getD source (from + i) (pos 0))) n)
+    around n m (creditSpan (to - from) from grocers source statement)
+    ≡ all (to - from) (λ i. leb (natAbs (getD statement (getD grocers (from + i) 0) (pos 0) +ℤ getD source (from + i) (pos 0))) n)
 unfolding around
-credit-range n m from to grocers source statement f inside each other was =
+credit-range n m from to grocers source statement long inside once was =
     same-test _ _
     (λ h. all-of (to - from) (λ i. leb (natAbs (getD statement (getD grocers (from + i) 0) (pos 0) +ℤ getD source (from + i) (pos 0))) n) (λ i l.
-    let k = in-span from to i l in
-    ap (λ (z : ℤ). leb (natAbs z) n) (sym (each (from + i) k) ∙ sym (getD-overwrite m f statement (getD grocers (from + i) 0) (pos 0) (inside (from + i) k)))
-    ∙ all-at m (λ g. leb (natAbs (getD (overwrite m f statement) g (pos 0))) n) (getD grocers (from + i) 0) (inside (from + i) k) h))
-    (λ h. all-of m (λ g. leb (natAbs (getD (overwrite m f statement) g (pos 0))) n) (λ g l.
-    ap (λ (z : ℤ). leb (natAbs z) n) (getD-overwrite m f statement g (pos 0) l)
-    ∙ split (any (to - from) (λ i. eqb (getD grocers (from + i) 0) g))
+    ap (λ (z : ℤ). leb (natAbs z) n) (sym (at i l))
+    ∙ all-at m (λ g. leb (natAbs (getD (creditSpan (to - from) from grocers source statement) g (pos 0))) n) (getD grocers (from + i) 0) (inside (from + i) (in-span from to i l)) h))
+    (λ h. all-of m (λ g. leb (natAbs (getD (creditSpan (to - from) from grocers source statement) g (pos 0))) n) (λ g l.
+    split (any (to - from) (λ i. eqb (getD grocers (from + i) 0) g))
     (λ e. let (i, li, q) = any-find (to - from) (λ i. eqb (getD grocers (from + i) 0) g) e in
-    ap (λ (x : ℕ). leb (natAbs (f x)) n) (sym (eqb-true (getD grocers (from + i) 0) g q))
-    ∙ ap (λ (z : ℤ). leb (natAbs z) n) (each (from + i) (in-span from to i li))
+    ap (λ (x : ℕ). leb (natAbs (getD (creditSpan (to - from) from grocers source statement) x (pos 0))) n) (sym (eqb-true (getD grocers (from + i) 0) g q))
+    ∙ ap (λ (z : ℤ). leb (natAbs z) n) (at i li)
     ∙ all-at (to - from) (λ i. leb (natAbs (getD statement (getD grocers (from + i) 0) (pos 0) +ℤ getD source (from + i) (pos 0))) n) i li h)
-    (λ e. ap (λ (z : ℤ). leb (natAbs z) n) (other g l (λ i k q. let p = and-place from to i k in
-    clash (any-at (to - from) (λ i. eqb (getD grocers (from + i) 0) g) (i - from) (p .0) (eq-eqb (getD grocers (from + (i - from)) 0) g (ap (λ (x : ℕ). getD grocers x 0) (p .1) ∙ q))) e))
+    (λ e. ap (λ (z : ℤ). leb (natAbs z) n) (credit-other from grocers source statement (to - from) g (λ i li q. clash (any-at (to - from) (λ i. eqb (getD grocers (from + i) 0) g) i li (eq-eqb (getD grocers (from + i) 0) g q)) e))
     ∙ le-leb (natAbs (getD statement g (pos 0))) n (was g l))))
+  where
+    at : (i : ℕ) → i < to - from →
+        getD (creditSpan (to - from) from grocers source statement) (getD grocers (from + i) 0) (pos 0) ≡ getD statement (getD grocers (from + i) 0) (pos 0) +ℤ getD source (from + i) (pos 0)
+    at i l =
+        credit-at from grocers source statement (to - from) (λ i l. omega (arith, inside (from + i) (in-span from to i l)))
+        (λ i k li lk p. let z : from + i ≡ from + k = once (from + i) (from + k) (in-span from to i li) (in-span from to k lk) p in omega arith) i l
 
 -- Steps 5 and 6 on the statements, where `grocers` has the grocer of each place of the span.
 module _ (j : Job) (t : StateTables) (z : BySpans j t) (grocers : List ℕ) (long : j .grocers ≤ length (t .statement)) where

@@ -1,6 +1,6 @@
 // Steps 4, 5 and 6 on packed tables of totals: each touches one span of words.
 ghost use mathlib.Core.Path.{_≡_};
-ghost use Prim.Native.Nat.{ℕ, _+_, _-_, _*_, _≤_, _<_};
+ghost use Prim.Native.Nat.{_+_, _-_, _≤_, _<_};
 ghost use lib.ListN.{length, getD, set};
 ghost use lib.IntN.{pos, natAbs, _+ℤ_};
 ghost use Rattle.model.specs.Spans.{spanWritten};

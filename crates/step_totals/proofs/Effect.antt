@@ -39,12 +39,13 @@ only-same false false p o x y eo ex = refl
 only-same true false p o x y eo ex = refl
 only-same true true p o x y eo ex = rw (← (eo refl)) (split p (λ e. rw e (sym (ex refl e))) (λ e. rw e))
 
+-- A box holds a tally if the tally is counted in it.
+pub held-is : (f : JobTables) → f .tallyBag ≡ [] → (a : ℕ) → a < f .boxes → (i : ℕ) → i < f .tallies → heldBy (jobOf f) i a ≡ eqb (getD (f .tallyBox) i 0) a
+unfolding heldBy jobOf
+held-is f bare a la i l = rw (bare-stands f bare i, word-in (f .tallies) (f .tallyBox) 0 i l, lt-ltb a (f .boxes) la) (and-one (eqb (getD (f .tallyBox) i 0) a))
+
 module _ (f : JobTables) (places : List ℕ) (bare : f .tallyBag ≡ []) (h : TalliesIn (talliesOf f places)) (r : InRange (jobOf f)) (a : ℕ) (la : a < f .boxes)
     (at : (i : ℕ) → i < f .tallies → heldBy (jobOf f) i a ≡ true → getD places i 0 ≡ tallyPlace (jobOf f) i) where
-  held-is : (i : ℕ) → i < f .tallies → heldBy (jobOf f) i a ≡ eqb (getD (f .tallyBox) i 0) a
-  unfolding heldBy jobOf
-  held-is i l = rw (bare-stands f bare i, word-in (f .tallies) (f .tallyBox) 0 i l, lt-ltb a (f .boxes) la) (and-one (eqb (getD (f .tallyBox) i 0) a))
-
   offer-in : (i : ℕ) → i < f .tallies → getD (f .tallyOffer) i 0 < f .offers
   offer-in i l = under-at (f .offers) (f .tallies) (f .tallyOffer) i (h .offer-in) l
 
@@ -90,7 +91,7 @@ module _ (f : JobTables) (places : List ℕ) (bare : f .tallyBag ≡ []) (h : Ta
     -- A tally that box a does not hold.
     away : (i k : ℕ) → i < f .tallies → heldBy (jobOf f) i a ≡ false → only integers (eqb (getD places i 0) k) (brought i) ≡ pos 0
     unfolding only integers
-    away i k l e = rw (sym (held-is i l) ∙ e) (cond-same (eqb (getD places i 0) k) (pos 0))
+    away i k l e = rw (sym (held-is f bare a la i l) ∙ e) (cond-same (eqb (getD places i 0) k) (pos 0))
 
     owned : (i : ℕ) → i < f .tallies → heldBy (jobOf f) i a ≡ true → p (jobOf f .tallyOffer i) ≡ eqb (getD (f .offerOwner) (getD (f .tallyOffer) i 0) 0) from
     unfolding jobOf
@@ -114,7 +115,7 @@ module _ (f : JobTables) (places : List ℕ) (bare : f .tallyBag ≡ []) (h : Ta
         (λ e.
         ap (λ (x : ℕ). only integers (eqb x k) (brought i)) (at i l e)
         ∙ ap (λ (b : Bool). only integers (eqb (tallyPlace (jobOf f) i) k) (only integers (b && eqb (getD (f .offerOwner) (getD (f .tallyOffer) i 0) 0) from) (productAt (f .tallyOffer) (f .tallyCount) prices (a * f .offers) i)))
-        (sym (held-is i l))
+        (sym (held-is f bare a la i l))
         ∙ only-same (heldBy (jobOf f) i a) (eqb (tallyPlace (jobOf f) i) k) (p (jobOf f .tallyOffer i)) (eqb (getD (f .offerOwner) (getD (f .tallyOffer) i 0) 0) from) _ _ (owned i l) (λ q s. priced i l s))
         (λ e. away i k l e ∙ sym (held-none i (eqb (tallyPlace (jobOf f) i) k) (p (jobOf f .tallyOffer i)) (amount (jobOf f) (know (jobOf f .tallyOffer i)) i) e))
 

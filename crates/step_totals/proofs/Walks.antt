@@ -1,18 +1,17 @@
 -- Walks over the entries of one key: those that are passed over bring nothing and change nothing. Assumes nothing.
-use mathlib.Core.Path.{_≡_, refl, sym, ap, ap₂, _∙_, subst}
-use mathlib.Core.Bool.{Bool, true, false, _&&_}
+use mathlib.Core.Path.{_≡_, refl, sym, ap₂, subst}
+use mathlib.Core.Bool.{Bool, true, false}
 use mathlib.Core.List.{List}
 use Prim.Native.Nat.{ℕ, _+_, _<_}
-use native.Mathlib.Decide.{decLt}
 use native.Mathlib.Omega.{arith}
-use lib.Dec.{eqb, ltb}
+use lib.Dec.{eqb}
 use lib.ListN.{getD}
 use lib.IntN.{ℤ, pos}
-use borrow.Author.Tests.{eqb-true, eq-eqb, lt-ltb, le-ltb}
+use borrow.Author.Tests.{eqb-true, eq-eqb}
 use Rattle.laws.specs.Below.{integers, only}
-use Rattle.laws.proofs.Bools.{eqb-same, and-l, and-r, and-true, and-false, no-true}
+use Rattle.laws.proofs.Bools.{and-l, and-r, and-true, no-true}
 use Rattle.laws.proofs.Loops.{share}
-use Rattle.step_links.specs.Links.{SkipsBy, LinkedBy, Skips, pairKey, pairAt}
+use Rattle.step_links.specs.Links.{SkipsBy, LinkedBy, pairKey, pairAt}
 use Rattle.step_totals.specs.Row.{isTaken, brings}
 use Rattle.step_links.proofs.Walks.{goes-by}
 

@@ -90,7 +90,8 @@ returns-2 c holder l =
 add-placed-requires-2 : tie.Need-add-placed-requires-2
 add-placed-requires-2 c κs =
     let s = entry (c .before .before .before .before .before) in
-    (rows-in s (now (s .args .price-transit)) (omega (arith, s .pre .passes .kind-from, c .before .before .before .before .if1 .left)) (s .pre .passes .transit-in), (le-trans (s .pre .passes .b-in) (s .pre .passes .tallies-in .boxes-in), some-linked s))
+    let more : 2 ≤ s .args .x .kind = omega (arith, s .pre .passes .kind-from, c .before .before .before .before .if1 .left) in
+    (rows-in s (now (s .args .price-transit)) more (s .pre .passes .transit-in), (le-trans (s .pre .passes .b-in) (s .pre .passes .tallies-in .boxes-in), some-linked s))
 
 -- The products added, from the prices received.
 abbrev added : tie.After-receive-prices → tie.After-add-placed2

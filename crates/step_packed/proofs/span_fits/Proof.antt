@@ -1,6 +1,7 @@
 -- `step_packed::span_fits` meets its contract. The invariant: the statements passed are in range. Assumes nothing.
 use mathlib.Core.Path.{_≡_, sym, ap, _∙_}
 use mathlib.Core.Bool.{Bool, true}
+use mathlib.Core.List.{List}
 use Prim.Native.Nat.{ℕ, _≤_, _<_, _+_, _-_}
 use native.Mathlib.Nat.{le-antisymm}
 use native.Mathlib.Omega.{arith}
@@ -14,7 +15,6 @@ use Rattle.laws.proofs.Bools.{and-true}
 use Rattle.laws.proofs.Below.{all-next, all-fails, all-start}
 use Rattle.laws.specs.Limits.{maxAmount}
 use denote.Ref.{now}
-use mathlib.Core.List.{List}
 use Rattle.step_packed.proofs.span_fits.Statement.{statement}
 use Rattle.step_packed.proofs.span_fits.Tie as tie
 

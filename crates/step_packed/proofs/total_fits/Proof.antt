@@ -1,11 +1,11 @@
 -- `step_packed::total_fits` meets its contract, kind by kind. Assumes nothing.
-use mathlib.Core.Path.{_≡_, sym, ap, _∙_}
+use mathlib.Core.Path.{_≡_, ap, _∙_}
 use Prim.Native.Nat.{ℕ, _+_, _-_}
 use native.Mathlib.Omega.{arith}
 use lib.Dec.{leb}
 use borrow.Author.Needs.{needs}
-use denote.Ref.{now}
 use Rattle.laws.specs.Limits.{maxSent}
+use denote.Ref.{now}
 use Rattle.step_packed.proofs.Fits.{fits-4, fits-5, fits-6}
 use Rattle.step_packed.proofs.total_fits.Statement.{statement}
 use Rattle.step_packed.proofs.total_fits.Tie as tie

@@ -1,16 +1,16 @@
 -- `step_packed::word_fits` meets its contract. Assumes nothing.
-use mathlib.Core.Path.{_≡_, sym, ap, ap₂, _∙_}
-use Prim.Native.Nat.{ℕ, _<_}
+use mathlib.Core.Path.{_≡_, ap, ap₂, _∙_}
+use Prim.Native.Nat.{ℕ}
 use native.Mathlib.Omega.{arith}
 use lib.Dec.{leb}
-use lib.ListN.{getD, length}
+use lib.ListN.{getD}
 use lib.IntN.{ℤ, pos, natAbs, _+ℤ_}
 use mir.Syntax.{w64}
 use mir.Val.{toZ, ofZ}
 use borrow.Author.Needs.{needs}
-use denote.Ref.{now}
 use Rattle.laws.specs.Limits.{maxAmount}
 use Rattle.laws.proofs.Signed.{read64, fits64-as, abs-plus}
+use denote.Ref.{now}
 use Rattle.step_packed.proofs.word_fits.Statement.{statement}
 use Rattle.step_packed.proofs.word_fits.Tie as tie
 

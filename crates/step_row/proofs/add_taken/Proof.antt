@@ -5,9 +5,9 @@ use Prim.Native.Nat.{ℕ, _-_}
 use lib.ListN.{getD}
 use lib.IntN.{ℤ}
 use borrow.Author.Tests.{not-true, not-false}
-use Rattle.step_totals.specs.Row.{isTaken, productAt}
 use Rattle.laws.specs.Below.{integers, only}
 use Rattle.laws.proofs.Sums.{only-no}
+use Rattle.step_totals.specs.Row.{isTaken, productAt}
 use Rattle.step_totals.proofs.Rows.{raised-by}
 use denote.Ref.{now}
 use Rattle.step_row.proofs.Rows.{raised-none}

@@ -2,19 +2,19 @@
 use mathlib.Core.Path.{_≡_, sym, ap, _∙_, subst}
 use mathlib.Core.Bool.{Bool, true, false}
 use mathlib.Core.List.{List}
-use Prim.Native.Nat.{ℕ, _≤_, _<_, _+_, _-_, _*_}
+use Prim.Native.Nat.{ℕ, _≤_, _<_, _+_, _-_}
 use native.Mathlib.Nat.{le-antisymm}
 use native.Mathlib.Omega.{arith}
 use lib.ListN.{length, getD}
 use lib.IntN.{ℤ, pos, natAbs}
 use borrow.Author.Needs.{needs}
-use Rattle.laws.specs.Below.{integers, only}
+use Rattle.laws.specs.Below.{integers}
 use Rattle.laws.proofs.Sums.{only-no}
 use Rattle.step_totals.specs.Row.{TallyIn, isTaken, productAt, brings, placed, raised}
+use Rattle.step_row.specs.Row.{rowOf}
 use denote.Ref.{now}
 use Rattle.step_totals.proofs.Placed.{placed-still}
-use Rattle.step_row.specs.Row.{rowOf}
-use Rattle.step_row.proofs.Rows.{length-row, row-word, placed-none, placed-word, length-placed, row-next}
+use Rattle.step_row.proofs.Rows.{length-row, row-word, placed-none, placed-word, row-next}
 use Rattle.step_row.proofs.product_row.Statement.{statement}
 use Rattle.step_row.proofs.product_row.Tie as tie
 

@@ -2,8 +2,8 @@
 use mathlib.Core.Path.{ap}
 use mathlib.Core.Bool.{Bool, _&&_}
 use lib.Dec.{eqb, ltb}
-use Rattle.step_checks.specs.Request.{boxesFitBy}
 use borrow.Author.Needs.{needs}
+use Rattle.step_checks.specs.Request.{boxesFitBy}
 use Rattle.model.specs.Steps.{kindOf, oneBox}
 use Rattle.step_checks.proofs.Asked.{as-asked}
 use Rattle.step_checks.proofs.request.boxes_fit.Statement.{statement}

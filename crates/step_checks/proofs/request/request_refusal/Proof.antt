@@ -3,14 +3,13 @@ use mathlib.Core.Path.{_≡_, sym, _∙_}
 use mathlib.Core.Bool.{true}
 use native.Mathlib.Omega.{arith}
 use borrow.Author.Tests.{not-false}
+use borrow.Author.Needs.{needs}
 use Rattle.laws.specs.Checks.{firstMet}
 use Rattle.model.specs.Step.{isKind}
 use Rattle.step_places.specs.Marks.{MarksIn}
 use Rattle.step_checks.specs.Request.{rulesBy}
-use borrow.Author.Needs.{needs}
 use denote.Ref.{now}
-use Rattle.step_checks.proofs.Asked.{kind-from, kind-to}
-use Rattle.step_checks.proofs.Asked.{marks-in}
+use Rattle.step_checks.proofs.Asked.{kind-from, kind-to, marks-in}
 use Rattle.step_checks.proofs.request.request_refusal.Statement.{statement}
 use Rattle.step_checks.proofs.request.request_refusal.Tie as tie
 

@@ -6,7 +6,7 @@ use Rattle.step_checks.proofs.state.state_short.Tie as tie
 
 returns : tie.Need-returns
 unfolding stateShort stateLengths
-returns c = rw (c .before .before .words .ensures, c .before .words2 .ensures, c .marks .ensures)
+returns c working totals = rw (c .before .words .ensures, c .marks .ensures)
 
 pub state-short-spec : {M : Type 1} → statement M
-state-short-spec = tie.close (tie.spec (λ c κs. search needs) (λ c κs. search needs) (λ c κs. search needs) returns)
+state-short-spec = tie.close (tie.spec (λ c κs. search needs) (λ c κs. search needs) returns)

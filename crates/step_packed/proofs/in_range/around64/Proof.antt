@@ -2,16 +2,16 @@
 use mathlib.Core.Path.{_≡_, sym, ap, _∙_}
 use mathlib.Core.Bool.{true}
 use Prim.Native.Nat.{_≤_, _-_}
-use borrow.Author.Needs.{needs}
-use borrow.Author.Tests.{not-true, not-false}
-use denote.Ref.{now}
 use lib.ListN.{getD}
 use lib.IntN.{ℤ, pos, natAbs}
 use lib.Dec.{leb}
+use borrow.Author.Needs.{needs}
+use borrow.Author.Tests.{not-true, not-false}
 use Rattle.laws.specs.Below.{all}
 use Rattle.laws.proofs.Signed.{read64}
 use Rattle.laws.specs.Limits.{maxAmount}
 use Rattle.model.specs.Ranges.{around}
+use denote.Ref.{now}
 use Rattle.job_ranges.proofs.Loops.{test-none, test-more, test-fails, test-ends}
 use Rattle.step_packed.proofs.in_range.around64.Statement.{statement}
 use Rattle.step_packed.proofs.in_range.around64.Tie as tie

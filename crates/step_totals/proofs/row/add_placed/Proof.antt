@@ -199,7 +199,8 @@ loop-again c =
       λ owner holder l.
           let k = link c owner holder l in
           let before = inv .2 owner holder l in (
-            (λ p. ap (λ (l : List ℤ). getD l p (pos 0)) (call .ensures ∙ ap (λ (x : ℕ). raised w x (product s at i)) (from-0 (place s i)) ∙ raised-by w (place s i) _ _ (taken s owner holder l i (e .loop-test .taken) (before .1 (e .loop-test .taken))))
+            (λ p. ap (λ (l : List ℤ). getD l p (pos 0)) (call .ensures
+                ∙ ap (λ (x : ℕ). raised w x (product s at i)) (from-0 (place s i)) ∙ raised-by w (place s i) _ _ (taken s owner holder l i (e .loop-test .taken) (before .1 (e .loop-test .taken))))
                 ∙ pile-more (now (s .args .working)) w (place s) (brought s owner holder at) i (before .0) (omega (arith, inside e, inv .1)) p
                 ∙ ap (λ (z : ℤ). getD (now (s .args .working)) p (pos 0) +ℤ z)
                 (sym (sum-over integers (i + 1) h (share (place s) (brought s owner holder at) p) (k .from) (none s owner holder at p (i + 1) h k)))),
