@@ -18,10 +18,10 @@ use Rattle.model.specs.Job.{Job, heldBy, needs, shares, priceWord, totalWord}
 use Rattle.model.specs.Local.{chained, localOffers, localGrocers, localGrocer, ofOffer, start, starts, packed, packedGrocers, packedCounts}
 use Rattle.book_sort.specs.Sort.{at, keyCount, begin}
 use Rattle.book_keys.specs.Keys.{numberIn}
-use Rattle.book.specs.Lists.{localList}
+use Rattle.book_places.specs.Lists.{localList}
 use Rattle.book_sort.proofs.Extra.{length-chained, chained-at, sum-where, map-at}
 use Rattle.book_sort.proofs.Placing.{begin-le}
-use Rattle.book.proofs.Modelled.{list-le, list-in, list-once, number-is}
+use Rattle.book_places.proofs.Modelled.{list-le, list-in, list-once, number-is}
 
 module _ (j : Job) (b : ℕ) where
   offers-list : localOffers j b ≡ localList (j .boxes) (j .offers) (j .offerOwner) (λ o. needs j o b) b

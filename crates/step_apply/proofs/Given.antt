@@ -65,7 +65,7 @@ pub record Given (f : JobTables) (t : StateTables) (needs places : List ℕ) (fr
   pub boxes-in : f .boxes ≤ maxBoxes
   pub offers-in : f .offers ≤ maxOffers
   pub grocers-in : f .grocers ≤ maxGrocers
-  pub tallies-in : q .kind ≤ 3 → TalliesIn (talliesOf f places)
+  pub tallies-in : TalliesIn (talliesOf f places)
   pub job-long : JobLong (f .grocers) (f .offers) (f .tallies) (jobLengths f)
   pub state-long : StateLong (f .boxes) (f .grocers) (f .offers) (stateLengths t)
   pub totals-long : TotalsLong (totalsLength (jobOf f)) (stateLengths t)
@@ -74,7 +74,7 @@ pub record Given (f : JobTables) (t : StateTables) (needs places : List ℕ) (fr
   pub transit-around : around maxAmount (totalsLength (jobOf f)) (t .totalTransit) ≡ true
   pub by-spans : BySpans (jobOf f) t
   pub needs-are : q .kind ≤ 3 → needs ≡ tabulate 500 (needWord (jobOf f))
-  pub places-are : q .kind ≤ 3 → Spots f (q .first) places
+  pub places-are : 2 ≤ q .kind → q .kind ≤ 3 → Spots f (q .first) places
   pub span-is : 4 ≤ q .kind → SpanOf (jobOf f) (q .kind) (q .first) (q .second) from to grocers
   pub kind-from : 1 ≤ q .kind
   pub kind-to : q .kind ≤ 6
@@ -101,7 +101,7 @@ given f t needs places from to grocers q h =
       boxes-in = w .boxes≤;
       offers-in = w .offers≤;
       grocers-in = w .grocers≤;
-      tallies-in = λ few. tallies-given f places long (h .job-in .inside) (h .places-are few .long);
+      tallies-in = tallies-given f places long (h .job-in .inside);
       job-long = long;
       state-long = state-long f (stateLengths t) (h .state-long);
       totals-long = totals-long (jobOf f) (stateLengths t) (h .totals-long);
@@ -155,23 +155,24 @@ module _ (f : JobTables) (t : StateTables) (needs places : List ℕ) (from to : 
   price-transit-in = record { long = g .state-long .priceTransit; words-in = g .words-in .priceTransit }
 
   -- Each tally's place is one of the working totals, in range.
-  pub working-in : q .kind ≤ 3 → PlacesIn (f .tallies) places (t .working)
+  pub working-in : 2 ≤ q .kind → q .kind ≤ 3 → PlacesIn (f .tallies) places (t .working)
   unfolding stateLengths
-  working-in few = record {
-    place-in = λ i l. le-trans (g .places-are few .within i l) (g .totals-long .working);
-    word-in = λ i l. around-at 1_000_000_000_000_000 (totalsLength (jobOf f)) (t .working) (getD places i 0) (g .working-around) (g .places-are few .within i l);
+  working-in more few = record {
+    long = g .places-are more few .long;
+    place-in = λ i l. le-trans (g .places-are more few .within i l) (g .totals-long .working);
+    word-in = λ i l. around-at 1_000_000_000_000_000 (totalsLength (jobOf f)) (t .working) (getD places i 0) (g .working-around) (g .places-are more few .within i l);
   }
 
   -- A step of kind 1, 2 or 3, with offers linked by owner, and tallies by box and owner of their offer.
   pub price-step-in : (offerLinks tallyLinks : List ℕ) → Linked (f .offers) (f .offerOwner) offerLinks → LinkedPairs (f .tallies) (f .tallyBox) (f .tallyOffer) (f .offerOwner) tallyLinks → q .kind ≤ 3 →
       PriceStepIn (talliesOf f places) offerLinks tallyLinks (t .known) (t .priceTransit) (t .working) (q .kind) (q .first) (q .second)
   price-step-in offerLinks tallyLinks lo lt few = record {
-    tallies-in = g .tallies-in few;
+    tallies-in = g .tallies-in;
     offers-linked = lo;
     tallies-linked = lt;
     known-in = known-in;
     transit-in = price-transit-in;
-    working-in = working-in few;
+    working-in = λ more. working-in more few;
     kind-from = g .kind-from;
     kind-to = few;
     a-in = g .first-in;

@@ -107,7 +107,7 @@ module _ (f : JobTables) (t : StateTables) (needs places : List ℕ) (from to : 
       by-lists multiplyOwn (ap kindOf e) _ _ _ _ _ _
       (known-stays (jobOf f) (left multiplyOwn) t (g .state-long) refl)
       (price-transit-stays (jobOf f) (left multiplyOwn) t (g .state-long) refl)
-      (sym (multiplied-working f places (g .bare) (g .tallies-in (omega arith)) (g .in-range) (q .first) (g .first-in) (g .places-are (omega arith) .each) t (q .second) (g .by-spans) (g .totals-long .working)))
+      (sym (multiplied-working f places (g .bare) (g .tallies-in) (g .in-range) (q .first) (g .first-in) (g .places-are (omega arith) (omega arith) .each) t (q .second) (g .by-spans) (g .totals-long .working)))
       (total-transit-stays (jobOf f) (left multiplyOwn) t (g .state-long) (g .totals-long) refl)
       (statement-stays (jobOf f) (left multiplyOwn) t (g .state-long) refl)
       (sent-stays (jobOf f) (left multiplyOwn) t (g .state-long) refl)
@@ -130,7 +130,7 @@ module _ (f : JobTables) (t : StateTables) (needs places : List ℕ) (from to : 
       by-lists receivePrices (ap kindOf e) _ _ _ _ _ _
       (price-laws.received-known f t needs (q .first) (q .second) (g .first-in) (g .second-in) (g .boxes-in) (g .offers-in) (g .needs-are (omega arith)))
       (price-laws.received-transit f t needs (q .first) (q .second) (g .first-in) (g .second-in) (g .boxes-in) (g .offers-in) (g .needs-are (omega arith)))
-      (sym (received-working f places (g .bare) (g .tallies-in (omega arith)) (g .in-range) (q .first) (g .first-in) (g .places-are (omega arith) .each) t (q .second) (differ receivePrices (ap kindOf e) refl) (g .by-spans) (g .totals-long .working)))
+      (sym (received-working f places (g .bare) (g .tallies-in) (g .in-range) (q .first) (g .first-in) (g .places-are (omega arith) (omega arith) .each) t (q .second) (differ receivePrices (ap kindOf e) refl) (g .by-spans) (g .totals-long .working)))
       (total-transit-stays (jobOf f) (left receivePrices) t (g .state-long) (g .totals-long) refl)
       (statement-stays (jobOf f) (left receivePrices) t (g .state-long) refl)
       (sent-stays (jobOf f) (left receivePrices) t (g .state-long) refl)

@@ -53,7 +53,7 @@ pub record Applies (f : JobTables) (t : StateTables) (needs places : List ℕ) (
   pub totals-long : totalsShort (jobOf f) (stateLengths t) ≡ false
   pub totals-in : totalsInRange (jobOf f) t ≡ true
   pub needs-are : q .kind ≤ 3 → needs ≡ tabulate 500 (needWord (jobOf f))
-  pub places-are : q .kind ≤ 3 → Spots f (q .first) places
+  pub places-are : 2 ≤ q .kind → q .kind ≤ 3 → Spots f (q .first) places
   pub span-is : 4 ≤ q .kind → SpanOf (jobOf f) (q .kind) (q .first) (q .second) from to grocers
   pub kind-in : isKind (q .kind) ≡ true
   pub boxes-fit : boxesFit (jobOf f) (kindOf (q .kind)) (q .first) (q .second) ≡ true
@@ -74,7 +74,7 @@ pub record PriceStepIn (e : Tallies) (offerLinks tallyLinks known transit : List
   pub tallies-linked : LinkedPairs (e .tallies) (e .holder) (e .offer) (e .owner) tallyLinks
   pub known-in : PricesIn (e .boxes) (e .offers) known
   pub transit-in : PricesIn (e .boxes) (e .offers) transit
-  pub working-in : PlacesIn (e .tallies) (e .place) working
+  pub working-in : 2 ≤ kind → PlacesIn (e .tallies) (e .place) working
   pub kind-from : 1 ≤ kind
   pub kind-to : kind ≤ 3
   pub a-in : a < e .boxes

@@ -1,9 +1,11 @@
 // One step applied to the lent tables: kinds 1 to 3 to prices and working totals, kinds 4 to 6 to totals and statements.
 ghost use mathlib.Core.List.{List};
+ghost use mathlib.Core.Path.{_≡_};
 ghost use Prim.Native.Nat.{ℕ};
 ghost use Rattle.step_links.specs.Links.{LinkedPairs, Some};
 ghost use Rattle.step_totals.specs.Row.{tallies};
-ghost use Rattle.step_apply.specs.Apply.{PriceStepIn, PriceStepOut, TotalStepIn, TotalStepOut};
+ghost use Rattle.step_apply.specs.Apply.{PriceStepIn, PriceStepOut, TotalStepIn, TotalStepOut, spanBox, spanGroup};
+use slices::casts::index_of;
 use slices::sizes::Sizes;
 use step_links::OFFER_LINKS;
 use step_links::TALLY_LINKS;
@@ -111,4 +113,27 @@ pub fn total_step(
     }
     step_spans::credit_span(from, to, grocers, total_transit, statement);
     0
+}
+
+// Kinds 4 to 6: the box whose totals a step touches. 6 receives those that the second box has sent.
+pub fn span_box(x: Step) -> u16
+    ensures { λ r. ⌜ r ≡ spanBox (x .kind) (x .first) (x .second) ⌝ }
+{
+    if x.kind == 6 {
+        return x.second;
+    }
+    x.first
+}
+
+// And the group of them: 4 sends those of the second box's grocers, 5 adds its own ones, 6 those of the first box's grocers.
+pub fn span_group(x: Step) -> usize
+    ensures { λ r. ⌜ r ≡ spanGroup (x .kind) (x .first) (x .second) ⌝ }
+{
+    if x.kind == 4 {
+        return index_of(x.second) + 1;
+    }
+    if x.kind == 5 {
+        return 0;
+    }
+    index_of(x.first) + 1
 }

@@ -42,7 +42,6 @@ pub record TalliesIn (e : Tallies) : Type 0 where
   pub offers-in : e .offers ≤ maxOffers
   pub tallies-in : e .tallies ≤ maxTallies
   pub owner-long : e .offers ≤ length (e .owner)
-  pub place-long : e .tallies ≤ length (e .place)
   pub holder-long : e .tallies ≤ length (e .holder)
   pub offer-long : e .tallies ≤ length (e .offer)
   pub count-long : e .tallies ≤ length (e .counts)
@@ -57,13 +56,9 @@ pub record PricesIn (k n : ℕ) (prices : List ℕ) : Type 0 where
 
 -- Each tally has a place in a table of amounts, with an amount in range.
 pub record PlacesIn (t : ℕ) (place : List ℕ) (l : List ℤ) : Type 0 where
+  pub long : t ≤ length place
   pub place-in : (i : ℕ) → i < t → getD place i 0 < length l
   pub word-in : (i : ℕ) → i < t → natAbs (getD l (getD place i 0) (pos 0)) ≤ maxAmount
-
--- A table of n amounts is long enough and in range.
-pub record AmountsIn (n : ℕ) (l : List ℤ) : Type 0 where
-  pub long : n ≤ length l
-  pub words-in : around maxAmount n l ≡ true
 
 -- A list of amounts with x added to its word g.
 abbrev pub raised : List ℤ → ℕ → ℤ → List ℤ
@@ -82,8 +77,8 @@ abbrev pub brings : List ℕ → List ℕ → List ℕ → List ℤ → List ℕ
 brings owner holder offer counts prices a from at i = only integers (isTaken owner holder offer a from i) (productAt offer counts prices at i)
 
 -- Tally i of these tables, with prices from a place on.
-pub record TallyIn (grocer offer : List ℕ) (counts : List ℤ) (prices : List ℕ) (at i : ℕ) : Type 0 where
-  pub grocer-long : i < length grocer
+pub record TallyIn (place offer : List ℕ) (counts : List ℤ) (prices : List ℕ) (at i : ℕ) : Type 0 where
+  pub place-long : i < length place
   pub offer-long : i < length offer
   pub count-long : i < length counts
   pub price-long : at + getD offer i 0 < length prices

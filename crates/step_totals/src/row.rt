@@ -1,7 +1,7 @@
 // Tallies multiplied into packed totals.
 ghost use mathlib.Core.Path.{_≡_};
 ghost use mathlib.Core.List.{List};
-ghost use Prim.Native.Nat.{ℕ, _+_, _*_, _≤_, _<_};
+ghost use Prim.Native.Nat.{ℕ, _-_, _*_, _≤_, _<_};
 ghost use lib.ListN.{length, getD};
 ghost use lib.IntN.{pos, natAbs};
 ghost use Rattle.step_links.specs.Links.{Some};
@@ -16,26 +16,26 @@ use slices::index_at;
 use slices::u32_at;
 use step_links::TALLY_LINKS;
 
-// Adds count × price of tally i to a row that begins at a place, at its grocer.
+// Adds count × price of tally i at the place of its total, to a row of totals whose first word has the place `start`.
 pub fn add_tally(
     at: usize,
-    base: usize,
+    start: usize,
     i: usize,
-    tally_grocer: &[u16],
+    tally_place: &[u16],
     tally_offer: &[u16],
     tally_count: &[i32],
     prices: &[u32],
     row: &mut [i64],
 )
-    requires { ⌜ TallyIn (now «tally_grocer») (now «tally_offer») (now «tally_count») (now prices) at i ⌝ }
-    requires { ⌜ (base + getD (now «tally_grocer») i 0 < length (now row)) × (natAbs (getD (now row) (base + getD (now «tally_grocer») i 0) (pos 0)) ≤
-        2_000_000_000_000_000) ⌝ }
-    ensures { λ _. ⌜ now (row .exit) ≡ raised (now (row .entry)) (base + getD (now («tally_grocer» .entry)) i 0)
+    requires { ⌜ TallyIn (now «tally_place») (now «tally_offer») (now «tally_count») (now prices) at i ⌝ }
+    requires { ⌜ (start ≤ getD (now «tally_place») i 0) × (getD (now «tally_place») i 0 - start < length (now row)) ×
+        (natAbs (getD (now row) (getD (now «tally_place») i 0 - start) (pos 0)) ≤ 2_000_000_000_000_000) ⌝ }
+    ensures { λ _. ⌜ now (row .exit) ≡ raised (now (row .entry)) (getD (now («tally_place» .entry)) i 0 - start)
         (productAt (now («tally_offer» .entry)) (now («tally_count» .entry)) (now (prices .entry)) at i) ⌝ }
 {
     let p = at + index_at(tally_offer, i);
     let x = amount(i32_at(tally_count, i), u32_at(prices, p));
-    let g = base + index_at(tally_grocer, i);
+    let g = index_at(tally_place, i) - start;
     raise_at(row, g, x);
 }
 

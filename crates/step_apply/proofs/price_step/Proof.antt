@@ -1,7 +1,7 @@
 -- `step_apply::price_step` meets its contract, kind by kind. Assumes nothing.
 use mathlib.Core.Path.{_≡_, refl, _∙_}
 use mathlib.Core.List.{List}
-use Prim.Native.Nat.{ℕ, _<_}
+use Prim.Native.Nat.{ℕ, _<_, _≤_}
 use native.Mathlib.Nat.{le-trans}
 use native.Mathlib.Omega.{arith}
 use borrow.Author.Needs.{needs}
@@ -47,9 +47,9 @@ prices-in : (s : tie.Start) → PricesIn (s .args .z .boxes) (s .args .z .offers
 prices-in s = record { a-in = s .pre .passes .a-in; b-in = s .pre .passes .b-in; known-long = s .pre .passes .known-in .long; transit-long = s .pre .passes .transit-in .long }
 
 -- What multiplying requires of the tallies, of their links, and of the working totals.
-rows-in : (s : tie.Start) (prices : List ℕ) → totals.PricesIn (s .args .z .boxes) (s .args .z .offers) prices →
+rows-in : (s : tie.Start) (prices : List ℕ) → 2 ≤ s .args .x .kind → totals.PricesIn (s .args .z .boxes) (s .args .z .offers) prices →
     PlacedTallies (s .args .z .offers) (s .args .z .tallies) (s .args .x .first) (now (s .args .tally-place)) (now (s .args .tally-offer)) (now (s .args .tally-count)) prices (now (s .args .working))
-rows-in s prices p = placed-tallies (tables s (s .pre .list)) prices (now (s .args .working)) (s .args .x .first) (s .pre .passes .tallies-in) p (s .pre .passes .working-in) (s .pre .passes .a-in)
+rows-in s prices more p = placed-tallies (tables s (s .pre .list)) prices (now (s .args .working)) (s .args .x .first) (s .pre .passes .tallies-in) p (s .pre .passes .working-in more) (s .pre .passes .a-in)
 
 linked-by : (s : tie.Start) (holder : List ℕ) → LinkedPairs (s .args .z .tallies) holder (now (s .args .tally-offer)) (now (s .args .offer-owner)) (now (s .args .tally-links)) →
     TalliesLinked (s .args .z .tallies) (now (s .args .offer-owner)) holder (now (s .args .tally-offer)) (now (s .args .tally-links))
@@ -72,7 +72,7 @@ returns c holder l =
 add-placed-requires : tie.Need-add-placed-requires
 add-placed-requires c κs =
     let s = entry (c .before .before .before .before .before) in
-    (rows-in s (now (s .args .known)) (s .pre .passes .known-in), (le-trans (s .pre .passes .a-in) (s .pre .passes .tallies-in .boxes-in), some-linked s))
+    (rows-in s (now (s .args .known)) (omega (arith, c .before .before .if2 .taken)) (s .pre .passes .known-in), (le-trans (s .pre .passes .a-in) (s .pre .passes .tallies-in .boxes-in), some-linked s))
 
 returns-2 : tie.Need-returns-2
 returns-2 c holder l =
@@ -90,7 +90,7 @@ returns-2 c holder l =
 add-placed-requires-2 : tie.Need-add-placed-requires-2
 add-placed-requires-2 c κs =
     let s = entry (c .before .before .before .before .before) in
-    (rows-in s (now (s .args .price-transit)) (s .pre .passes .transit-in), (le-trans (s .pre .passes .b-in) (s .pre .passes .tallies-in .boxes-in), some-linked s))
+    (rows-in s (now (s .args .price-transit)) (omega (arith, s .pre .passes .kind-from, c .before .before .before .before .if1 .left)) (s .pre .passes .transit-in), (le-trans (s .pre .passes .b-in) (s .pre .passes .tallies-in .boxes-in), some-linked s))
 
 -- The products added, from the prices received.
 abbrev added : tie.After-receive-prices → tie.After-add-placed2

@@ -13,10 +13,10 @@ use Rattle.laws.specs.Below.{integers, sum}
 use Rattle.laws.proofs.Loops.{share, pile-more}
 use Rattle.laws.proofs.Sums.{sum-start, sum-over}
 use Rattle.step_links.specs.Links.{SkipsBy, pairKey, pairAt}
-use Rattle.step_totals.specs.Row.{TalliesLinked, isTaken, brings}
+use Rattle.step_totals.specs.Row.{TallyIn, TalliesLinked, isTaken, productAt, brings, raised}
 use denote.Ref.{now}
 use Rattle.step_totals.proofs.Rows.{raised-by}
-use Rattle.step_totals.proofs.Placed.{zero-plus, placed-at, placed-still, placed-is}
+use Rattle.step_totals.proofs.Placed.{placed-still, placed-is}
 use Rattle.step_totals.proofs.Walks.{goes-to, pair-taken, other-share}
 use Rattle.step_totals.proofs.row.add_placed.Statement.{statement}
 use Rattle.step_totals.proofs.row.add_placed.Tie as tie
@@ -26,7 +26,7 @@ Inv-loop n t a from links spots offer counts prices working₀ at i₀ working i
     (i ≤ t)
     × (length working ≡ length working₀)
     × ((owner holder : List ℕ) → TalliesLinked t owner holder offer links →
-    ((p : ℕ) → getD working p (pos 0) ≡ getD working₀ p (pos 0) +ℤ sum integers i (share (λ j. 0 + getD spots j 0) (brings owner holder offer counts prices a from at) p))
+    ((p : ℕ) → getD working p (pos 0) ≡ getD working₀ p (pos 0) +ℤ sum integers i (share (λ j. getD spots j 0) (brings owner holder offer counts prices a from at) p))
     × (i < t → pairAt holder offer owner i ≡ pairKey a from))
 
 abbrev μ-loop : tie.MeasureT-loop
@@ -51,8 +51,11 @@ some s = s .pre .1 .1 .passes .passes
 abbrev brought : Start → List ℕ → List ℕ → ℕ → ℕ → ℤ
 brought s owner holder at = brings owner holder (now (s .args .tally-offer)) (now (s .args .tally-count)) (now (s .args .prices)) (s .args .a) (s .args .from) at
 
+abbrev product : Start → ℕ → ℕ → ℤ
+product s at i = productAt (now (s .args .tally-offer)) (now (s .args .tally-count)) (now (s .args .prices)) at i
+
 abbrev place : Start → ℕ → ℕ
-place s i = 0 + getD (now (s .args .tally-place)) i 0
+place s i = getD (now (s .args .tally-place)) i 0
 
 -- The keys of the tallies, and the key that is walked over.
 abbrev key : Start → List ℕ → List ℕ → ℕ → ℕ
@@ -90,15 +93,25 @@ taken s owner holder h i l e = pair-taken owner holder (now (s .args .tally-offe
 inside : (c : tie.In-loop Inv-loop μ-loop) → let s = entry (rows (c .before .before)) in place s (c .before .loop .i) < length (now (s .args .working))
 inside c = let s = entry (rows (c .before .before)) in omega (arith, s .pre .0 .place-in (c .before .loop .i) (c .loop-test .taken))
 
+-- A tally, with the prices from the place where row a begins.
+tally : (c : tie.After-row-start Inv-loop μ-loop) → let s = entry c in
+    (i : ℕ) → i < s .args .t → TallyIn (now (s .args .tally-place)) (now (s .args .tally-offer)) (now (s .args .tally-count)) (now (s .args .prices)) (at-of c) i
+tally c i l =
+    let s = entry c in
+    subst (λ (x : ℕ). TallyIn (now (s .args .tally-place)) (now (s .args .tally-offer)) (now (s .args .tally-count)) (now (s .args .prices)) x i) (sym (c .row-start .ensures)) (s .pre .0 .tally-in i l)
+
 small : (c : tie.In-loop Inv-loop μ-loop) → let s = entry (rows (c .before .before)) in natAbs (getD (c .before .loop .working) (place s (c .before .loop .i)) (pos 0)) ≤ 2_000_000_000_000_000
 small c =
     let r = rows (c .before .before) in
     let s = entry r in
     let i = c .before .loop .i in
-    placed-still (s .args .n) (s .args .t) (s .args .a) (owners s) (now (s .args .tally-place)) (holders s) (now (s .args .tally-offer)) (now (s .args .tally-count))
-    (now (s .args .prices)) (now (s .args .working)) (s .args .from) (at-of r) (s .pre .0) (r .row-start .ensures) (c .before .loop .working) (place s) i (place s i) (c .loop-test .taken)
-    (subst (λ (x : ℕ). natAbs (getD (now (s .args .working)) x (pos 0)) ≤ 1_000_000_000_000_000) (sym (zero-plus (getD (now (s .args .tally-place)) i 0))) (s .pre .0 .word-in i (c .loop-test .taken)))
-    (c .before .loop .inv .2 (owners s) (holders s) (some s) .0 (place s i))
+    placed-still (s .args .t) (s .args .a) (owners s) (now (s .args .tally-place)) (holders s) (now (s .args .tally-offer)) (now (s .args .tally-count))
+    (now (s .args .prices)) (now (s .args .working)) (s .args .from) (at-of r) (s .pre .0 .tallies-in) (tally r) (c .before .loop .working) i (place s i) (c .loop-test .taken)
+    (s .pre .0 .word-in i (c .loop-test .taken)) (c .before .loop .inv .2 (owners s) (holders s) (some s) .0 (place s i))
+
+-- A row that begins at place 0 is the whole table.
+from-0 : (n : ℕ) → n - 0 ≡ n
+from-0 n = omega arith
 
 row-start-requires : tie.Need-row-start-requires Inv-loop μ-loop
 row-start-requires c κs = let s = lent c in (s .pre .0 .offers-in, s .pre .0 .box-in)
@@ -136,10 +149,10 @@ add-tally-requires : tie.Need-add-tally-requires Inv-loop μ-loop
 add-tally-requires c κs =
     let e = c .before in
     let r = rows (e .before .before) in
-    let s = entry r in (
-      placed-at (s .args .n) (s .args .t) (s .args .a) (owners s) (now (s .args .tally-place)) (holders s) (now (s .args .tally-offer)) (now (s .args .tally-count))
-          (now (s .args .prices)) (now (s .args .working)) (s .args .from) (at-of r) (s .pre .0) (r .row-start .ensures) (e .before .loop .i) (e .loop-test .taken),
-      (omega (arith, inside e, e .before .loop .inv .1), small e),
+    let s = entry r in
+    let i = e .before .loop .i in (
+      tally r i (e .loop-test .taken),
+      (omega arith, omega (arith, inside e, e .before .loop .inv .1), rw (from-0 (place s i)) (small e)),
     )
 
 -- The turn, from the next link.
@@ -186,7 +199,7 @@ loop-again c =
       λ owner holder l.
           let k = link c owner holder l in
           let before = inv .2 owner holder l in (
-            (λ p. ap (λ (l : List ℤ). getD l p (pos 0)) (call .ensures ∙ raised-by w (place s i) _ _ (taken s owner holder l i (e .loop-test .taken) (before .1 (e .loop-test .taken))))
+            (λ p. ap (λ (l : List ℤ). getD l p (pos 0)) (call .ensures ∙ ap (λ (x : ℕ). raised w x (product s at i)) (from-0 (place s i)) ∙ raised-by w (place s i) _ _ (taken s owner holder l i (e .loop-test .taken) (before .1 (e .loop-test .taken))))
                 ∙ pile-more (now (s .args .working)) w (place s) (brought s owner holder at) i (before .0) (omega (arith, inside e, inv .1)) p
                 ∙ ap (λ (z : ℤ). getD (now (s .args .working)) p (pos 0) +ℤ z)
                 (sym (sum-over integers (i + 1) h (share (place s) (brought s owner holder at) p) (k .from) (none s owner holder at p (i + 1) h k)))),

@@ -1,6 +1,6 @@
 -- `step_totals::row::add_tally` meets its contract. Assumes nothing.
 use mathlib.Core.Path.{_≡_, ap, ap₂, _∙_}
-use Prim.Native.Nat.{ℕ, _+_}
+use Prim.Native.Nat.{ℕ, _+_, _-_}
 use native.Mathlib.Nat.{le-trans}
 use native.Mathlib.Omega.{arith}
 use lib.Dec.{lit≤}
@@ -18,7 +18,7 @@ abbrev product : tie.Start → ℤ
 product s = productAt (now (s .args .tally-offer)) (now (s .args .tally-count)) (now (s .args .prices)) (s .args .at) (s .args .i)
 
 abbrev place : tie.Start → ℕ
-place s = s .args .base + getD (now (s .args .tally-grocer)) (s .args .i) 0
+place s = getD (now (s .args .tally-place)) (s .args .i) 0 - s .args .start
 
 -- The start, from the first word read; and the words read, from what follows them.
 abbrev entry : tie.After-index-at → tie.Start
@@ -47,8 +47,8 @@ price-is c =
 amount-is : (c : tie.After-amount) → toZ w64 (ofZ w64 (c .amount .result)) ≡ product (entry (offer-at (c .before)))
 amount-is c = read64 (c .amount .result) (c .amount .ok) ∙ c .amount .ensures ∙ ap₂ (λ (z : ℤ) (p : ℕ). z *ℤ pos p) (count-is (c .before .before)) (price-is (c .before))
 
-place-is : (c : tie.After-raise-at-arg) → begun c .args .base + c .before .index-at2 .result ≡ place (begun c)
-place-is c = ap (λ (g : ℕ). begun c .args .base + g) (c .before .index-at2 .ensures .0)
+place-is : (c : tie.After-raise-at-arg) → c .before .index-at2 .result - begun c .args .start ≡ place (begun c)
+place-is c = ap (λ (g : ℕ). g - begun c .args .start) (c .before .index-at2 .ensures .0)
 
 index-at-requires : tie.Need-index-at-requires
 index-at-requires c κs = c .before .before .before .pre .0 .offer-long
@@ -70,19 +70,19 @@ amount-requires c κs =
     (rw (count-is (c .before)) (s .pre .0 .count-in), rw (price-is c) (s .pre .0 .price-in))
 
 index-at-requires-2 : tie.Need-index-at-requires-2
-index-at-requires-2 c κs = entry (offer-at (c .before)) .pre .0 .grocer-long
+index-at-requires-2 c κs = entry (offer-at (c .before)) .pre .0 .place-long
 
-add-g : tie.Need-add-g
-add-g c = omega (arith, c .index-at2 .ensures .0, entry (offer-at (c .before .before)) .pre .1 .0)
+sub-g : tie.Need-sub-g
+sub-g c = omega (arith, c .index-at2 .ensures .0, entry (offer-at (c .before .before)) .pre .1 .0)
 
 raise-at-requires : tie.Need-raise-at-requires
 raise-at-requires c κs =
     let s = begun c in (
-      rw (c .before .index-at2 .ensures .0) (s .pre .1 .0),
+      rw (c .before .index-at2 .ensures .0) (s .pre .1 .1),
       fits64-as (ap₂ (λ (g : ℕ) (z : ℤ). getD (now (s .args .row)) g (pos 0) +ℤ z) (place-is c) (amount-is (c .before .before))) (omega (
         arith,
         abs-plus (getD (now (s .args .row)) (place s) (pos 0)) (product s),
-        s .pre .1 .1,
+        s .pre .1 .2,
         abs-times-le (getD (now (s .args .tally-count)) (s .args .i) (pos 0)) (pos (getD (now (s .args .prices)) (s .args .at + getD (now (s .args .tally-offer)) (s .args .i) 0) 0)) (s .pre .0 .count-in) (s .pre .0 .price-in),
       )),
     )
@@ -104,7 +104,7 @@ add-tally-spec =
     u32-at-requires
     amount-requires
     index-at-requires-2
-    add-g
+    sub-g
     raise-at-requires
     (λ c. c .before .raise-at .kept .0)
     returns)
