@@ -5,3 +5,4 @@ pub mod Groups
 pub mod Starts
 pub mod Putting
 pub mod Joined
+pub mod Boxes

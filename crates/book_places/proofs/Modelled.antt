@@ -54,7 +54,7 @@ module _ (k n : ℕ) (owner : ℕ → ℕ) (marked : ℕ → Bool) (b : ℕ) whe
   as-sorted : sorted class n (k + 1) ≡ localList k n owner marked b
   as-sorted = sorted-list k b n owner class marked (λ x l. refl)
 
-  length-is : length (localList k n owner marked b) ≡ begin class n (k + 1)
+  pub length-is : length (localList k n owner marked b) ≡ begin class n (k + 1)
   length-is = ap length (sym as-sorted) ∙ length-sorted class n (k + 1)
 
   pub list-le : length (localList k n owner marked b) ≤ n

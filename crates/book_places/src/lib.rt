@@ -10,6 +10,9 @@ ghost use Rattle.laws.specs.Tables.{overwrite};
 ghost use Rattle.book_sort.specs.Sort.{at, begin, inFront};
 ghost use Rattle.book_keys.specs.Keys.{TalliesIn, OwnersIn};
 ghost use Rattle.book_places.specs.Spots.{classBy, listBy, startBy, placeBy, spotBy, groupBy, putAt, CountIn, BoxIn};
+
+pub mod all;
+
 use book_keys::classes;
 use book_keys::if_same;
 use book_keys::numbers;

@@ -1,0 +1,147 @@
+// The places of all boxes at once, for a run: told from the boxes' local lists, each of them made once.
+ghost use mathlib.Core.Path.{_≡_};
+ghost use mathlib.Core.Bool.{cond};
+ghost use Prim.Native.Nat.{ℕ, _+_, _*_, _≤_, _<_};
+ghost use lib.Dec.{ltb};
+ghost use lib.ListN.{length};
+ghost use Rattle.laws.specs.Tables.{overwrite};
+ghost use Rattle.book_sort.specs.Sort.{at};
+ghost use Rattle.book_places.specs.Spots.{startBy};
+ghost use Rattle.book_places.specs.Boxes.{placeAt, BoxesTold, BoxRoom, NumbersIn, AllIn, AllPlaces};
+use crate::CLASSES;
+use crate::box_list;
+use crate::put_list;
+use slices::casts::index_of;
+use slices::casts::word_of;
+use slices::index_at;
+use slices::limits::BOXES;
+use slices::limits::GROCERS;
+use slices::limits::TALLIES;
+use slices::u16_at;
+
+// The most words by box and group, by box and grocer, and by place: at most M + T totals.
+pub const HEADS: usize = 288;
+
+const BOX_GROCERS: usize = 4_080;
+
+pub const TOTALS: usize = 1_255;
+
+// Puts where the groups of a box begin, from a word on: so far behind the start of the box.
+fn put_heads(starts: &[u16], from: usize, start: u16, heads: &mut [u16])
+    requires { ⌜ (18 ≤ length (now starts)) × ((from + 18 ≤ length (now heads)) × ((from ≤ 1_000) × (start ≤ 8_000))) ⌝ }
+    requires { ⌜ ((d : ℕ) → d < 18 → at (now starts) d ≤ 500) ⌝ }
+    ensures { λ _. ⌜ ((d : ℕ) → d < 18 → at (now (heads .exit)) (from + d) ≡ start + at (now (starts .entry)) d) ⌝ }
+    ensures { λ _. ⌜ ((i : ℕ) → i < from → at (now (heads .exit)) i ≡ at (now (heads .entry)) i) ⌝ }
+{
+    for d in 0..CLASSES {
+        let i = from + d;
+        heads[i] = start + u16_at(starts, d);
+    }
+}
+
+// Puts the place of each grocer of a list of l, by grocer from a word on: so far behind the start of the box.
+fn put_numbers(list: &[u16], l: usize, from: usize, start: u16, table: &mut [u16])
+    requires { ⌜ NumbersIn (now list) l × ((from + 255 ≤ length (now table)) × ((from ≤ 10_000) × (start ≤ 8_000))) ⌝ }
+    ensures { λ _. ⌜ ((i : ℕ) → i < l → at (now (table .exit)) (from + at (now (list .entry)) i) ≡ start + i) ⌝ }
+    ensures { λ _. ⌜ ((x : ℕ) → x < from → at (now (table .exit)) x ≡ at (now (table .entry)) x) ⌝ }
+{
+    for i in 0..l {
+        let g = from + index_at(list, i);
+        table[g] = start + word_of(i);
+    }
+}
+
+// One box more: where its groups begin, its grocers by place, and their places by box and grocer. Where the next box begins.
+fn put_box(
+    k: u16,
+    m: usize,
+    owners: &[u16],
+    words: &[u16],
+    b: u16,
+    start: u16,
+    heads: &mut [u16],
+    grocers: &mut [u16],
+    table: &mut [u16],
+) -> u16
+    requires { ⌜ BoxRoom k m (now owners) (now words) (length (now heads)) (length (now grocers)) (length (now table)) ⌝ }
+    requires { ⌜ (b < k) × ((start ≡ startBy m (now owners) (now words) b) × BoxesTold k m (now owners) (now words) b (now heads) (now grocers) (now table)) ⌝ }
+    ensures { λ r. ⌜ (r ≡ startBy m (now (owners .entry)) (now (words .entry)) (b + 1))
+        × BoxesTold k m (now (owners .entry)) (now (words .entry)) (b + 1) (now (heads .exit)) (now (grocers .exit)) (now (table .exit)) ⌝ }
+{
+    let mut starts = [0u16; CLASSES];
+    let mut list = [0u16; GROCERS];
+    let l = box_list(k, m, owners, words, b, &mut starts, &mut list);
+    let n = index_of(l);
+    let row = index_of(b);
+    put_heads(&starts, row * CLASSES, start, heads);
+    put_list(&list, n, index_of(start), grocers);
+    put_numbers(&list, n, row * GROCERS, start, table);
+    start + l
+}
+
+// All boxes, one after the other.
+fn put_boxes(
+    k: u16,
+    m: usize,
+    owners: &[u16],
+    words: &[u16],
+    heads: &mut [u16],
+    grocers: &mut [u16],
+    table: &mut [u16],
+)
+    requires { ⌜ BoxRoom k m (now owners) (now words) (length (now heads)) (length (now grocers)) (length (now table)) ⌝ }
+    ensures { λ _. ⌜ BoxesTold k m (now (owners .entry)) (now (words .entry)) k (now (heads .exit)) (now (grocers .exit)) (now (table .exit)) ⌝ }
+{
+    let mut start: u16 = 0;
+    for b in 0..k {
+        start = put_box(k, m, owners, words, b, start, heads, grocers, table);
+    }
+}
+
+// The place of a tally of box b and grocer g; 0 where b is no box.
+fn place_at(k: u16, b: u16, g: usize, table: &[u16]) -> u16
+    requires { ⌜ (k ≤ 16) × ((g < 255) × (4_080 ≤ length (now table))) ⌝ }
+    ensures { λ r. ⌜ r ≡ placeAt k (now (table .entry)) b g ⌝ }
+{
+    if b >= k {
+        return 0;
+    }
+    let i = index_of(b) * GROCERS + g;
+    u16_at(table, i)
+}
+
+// Puts the place of each of n tallies.
+fn look_places(k: u16, n: usize, boxes: &[u16], items: &[u16], table: &[u16], places: &mut [u16])
+    requires { ⌜ (k ≤ 16) × ((n ≤ length (now boxes)) × ((n ≤ length (now items)) × ((4_080 ≤ length (now table)) × (n ≤ length (now places))))) ⌝ }
+    requires { ⌜ ((t : ℕ) → t < n → at (now items) t < 255) ⌝ }
+    ensures { λ _. ⌜ now (places .exit) ≡ overwrite n (λ t. placeAt k (now (table .entry)) (at (now (boxes .entry)) t) (at (now (items .entry)) t))
+        (now (places .entry)) ⌝ }
+{
+    for t in 0..n {
+        let place = place_at(k, u16_at(boxes, t), index_at(items, t), table);
+        places[t] = place;
+    }
+}
+
+// What the steps of a run look up: where each group of each box begins, CLASSES words a box, the grocer of each place, and the place of each
+// tally's total; 0 for a tally of no box. Tallies are walked over once.
+pub fn all_boxes(
+    k: u16,
+    m: usize,
+    owners: &[u16],
+    words: &[u16],
+    n: usize,
+    boxes: &[u16],
+    items: &[u16],
+    heads: &mut [u16],
+    grocers: &mut [u16],
+    places: &mut [u16],
+)
+    requires { ⌜ AllIn k m n (now owners) (now words) (now boxes) (now items) (length (now heads)) (length (now grocers)) (length (now places)) ⌝ }
+    ensures { λ _. ⌜ AllPlaces k m n (now (owners .entry)) (now (words .entry)) (now (boxes .entry)) (now (items .entry)) (now (heads .exit))
+        (now (grocers .exit)) (now (places .exit)) ⌝ }
+{
+    let mut table = [0u16; BOX_GROCERS];
+    put_boxes(k, m, owners, words, heads, grocers, &mut table);
+    look_places(k, n, boxes, items, &table, places);
+}
