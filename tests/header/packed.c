@@ -1,6 +1,6 @@
-/* Where packed totals stand, as host/settlement.h says it. The first job file named is the small evening of the drawing: its
-   words are held to it. For every file: a total stands at its place by the header's words, so many words of both tables
-   are needed, no more and no less, and M + T suffice. The last line is 'N passed, M failed'. */
+/* Where packed totals stand, as host/settlement.h says it. The first job file named is the small evening of the
+   drawing: its words are held to it. For every file: a total stands at its place by the header's words, so many words
+   of both tables are needed, no more and no less, and M + T suffice. The last line is 'N passed, M failed'. */
 #include "settlement.h"
 
 #include <stdio.h>
@@ -24,8 +24,9 @@ static void expect(int holds, const char *name, const char *what)
 static int stands(size_t t)
 {
     for (size_t u = 0; u < job.tallies; u++)
-        if (job.tally_bag[t] != 0 && job.tally_bag[u] == job.tally_bag[t] && job.tally_grocer[u] == job.tally_grocer[t] &&
-            job.tally_offer[u] == job.tally_offer[t] && job.tally_revision[u] > job.tally_revision[t])
+        if (job.tally_bag[t] != 0 && job.tally_bag[u] == job.tally_bag[t] &&
+            job.tally_grocer[u] == job.tally_grocer[t] && job.tally_offer[u] == job.tally_offer[t] &&
+            job.tally_revision[u] > job.tally_revision[t])
             return 0;
     return 1;
 }
@@ -157,8 +158,7 @@ int main(int argc, char **argv)
         try_lengths(argv[i], words, words, SETTLEMENT_ACCEPTED);
         try_lengths(argv[i], words - 1, words, SETTLEMENT_SHORT);
         try_lengths(argv[i], words, words - 1, SETTLEMENT_SHORT);
-        try_lengths(argv[i], (size_t)job.grocers + job.tallies, (size_t)job.grocers + job.tallies,
-                    SETTLEMENT_ACCEPTED);
+        try_lengths(argv[i], (size_t)job.grocers + job.tallies, (size_t)job.grocers + job.tallies, SETTLEMENT_ACCEPTED);
     }
     printf("%u passed, %u failed\n", passed, failed);
     return failed != 0;

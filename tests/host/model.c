@@ -591,8 +591,9 @@ static void read_post(struct machine *machine, const struct table tables[])
                                             word_at(tables[PRICE_TRANSIT], (size_t)b * sizes.offers + o)});
         for (uint16_t g = 0; g < sizes.grocers; g++)
             if (machine->place[b][g] != NO_PLACE)
-                read_envelope(&machine->totals, (struct envelope){b, job->grocer_owner[g], g,
-                                                                  word_at(tables[TOTAL_TRANSIT], machine->place[b][g])});
+                read_envelope(&machine->totals,
+                              (struct envelope){b, job->grocer_owner[g], g,
+                                                word_at(tables[TOTAL_TRANSIT], machine->place[b][g])});
     }
 }
 

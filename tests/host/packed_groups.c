@@ -35,8 +35,8 @@ static void try_lengths(size_t words)
     const struct {
         size_t working, total_transit;
         uint16_t due;
-    } tried[] = {{words, words, 0},     {words - 1, words, 20}, {words, words - 1, 20},
-                 {words - 1, words - 1, 20}, {0, words, 20},    {words, 0, 20}};
+    } tried[] = {{words, words, 0},          {words - 1, words, 20}, {words, words - 1, 20},
+                 {words - 1, words - 1, 20}, {0, words, 20},         {words, 0, 20}};
     for (size_t i = sizeof tried / sizeof tried[0]; i-- > 0;) {
         lend_packed(tried[i].working, tried[i].total_transit);
         expect_step(&settlement, step, tried[i].due);
@@ -47,8 +47,8 @@ static void try_lengths(size_t words)
     lend_whole(&settlement.lending);
 }
 
-/* Jobs that are written out: one offer, of box 0 and at 7; which box owns each grocer; tallies, of which the first is of
-   1, the next of 10 and so on; and the box and grocer of every packed word, in order. Box 9 ends a list. */
+/* Jobs that are written out: one offer, of box 0 and at 7; which box owns each grocer; tallies, of which the first is
+   of 1, the next of 10 and so on; and the box and grocer of every packed word, in order. Box 9 ends a list. */
 
 enum { END = 9, MOST_WRITTEN = 12 };
 struct written {
@@ -68,8 +68,16 @@ static const struct written written[] = {
      2,
      {{0, 0, 0, 0}, {0, 1, 0, 0}, {1, 0, 0, 0}, {1, 0, 0, 0}, {END, 0, 0, 0}},
      {{0, 1}, {0, 0}, {1, 0}, {END, 0}}},
-    {"no tallies: own grocers alone, and none in box 1", "202", 3, {{END, 0, 0, 0}}, {{0, 1}, {2, 0}, {2, 2}, {END, 0}}},
-    {"all grocers of the last box, which alone has totals", "222", 3, {{END, 0, 0, 0}}, {{2, 0}, {2, 1}, {2, 2}, {END, 0}}},
+    {"no tallies: own grocers alone, and none in box 1",
+     "202",
+     3,
+     {{END, 0, 0, 0}},
+     {{0, 1}, {2, 0}, {2, 2}, {END, 0}}},
+    {"all grocers of the last box, which alone has totals",
+     "222",
+     3,
+     {{END, 0, 0, 0}},
+     {{2, 0}, {2, 1}, {2, 2}, {END, 0}}},
     {"own, then by owner and then by number",
      "302021",
      4,
@@ -129,9 +137,8 @@ static void open_written(const struct written *c)
     job->offer[0] = (struct offer){7, 0, {0, code_of("1")}};
     for (size_t g = 0; g < job->sizes.grocers; g++) job->grocer_owner[g] = (uint16_t)(c->owners[g] - '0');
     for (size_t t = 0; c->tally[t].box != END; t++, count *= 10)
-        job->tally[job->sizes.tallies++] =
-            (struct tally){c->tally[t].grocer, c->tally[t].box,       0, count, {0, code_of("1")}, c->tally[t].bag,
-                           c->tally[t].revision};
+        job->tally[job->sizes.tallies++] = (struct tally){
+            c->tally[t].grocer, c->tally[t].box, 0, count, {0, code_of("1")}, c->tally[t].bag, c->tally[t].revision};
     at_case("%s", c->what);
     open_settlement(&settlement, SPARE, 0);
 }
@@ -214,8 +221,8 @@ static void by_sender(void)
         struct step step;
         int64_t working[3], total_transit[3], statement;
     } lines[] = {
-        {{4, 0, 2}, {0, 70, 700}, {7, 0, 0}, 0},  {{4, 1, 2}, {0, 0, 700}, {7, 70, 0}, 0},
-        {{6, 2, 1}, {0, 0, 700}, {7, 0, 0}, 70},  {{6, 2, 0}, {0, 0, 700}, {0, 0, 0}, 77},
+        {{4, 0, 2}, {0, 70, 700}, {7, 0, 0}, 0}, {{4, 1, 2}, {0, 0, 700}, {7, 70, 0}, 0},
+        {{6, 2, 1}, {0, 0, 700}, {7, 0, 0}, 70}, {{6, 2, 0}, {0, 0, 700}, {0, 0, 0}, 77},
         {{5, 2, 2}, {0, 0, 0}, {0, 0, 0}, 777},
     };
     open_written(&c);
@@ -298,7 +305,7 @@ static void open_faults(unsigned set, enum table_name packed)
 static const struct {
     struct step step;
     uint16_t due;
-} requests[] = {{{2, 0, 0}, 0},   {{1, 0, 1}, 0},  {{0, 0, 0}, 22},  {{9, 99, 99}, 22}, {{1, 0, 0}, 23},
+} requests[] = {{{2, 0, 0}, 0},      {{1, 0, 1}, 0},  {{0, 0, 0}, 22}, {{9, 99, 99}, 22}, {{1, 0, 0}, 23},
                 {{2, 0, 65535}, 23}, {{4, 1, 0}, 24}, {{3, 0, 1}, 26}, {{6, 1, 0}, 26}};
 
 static void sets_of_faults(void)

@@ -10,8 +10,7 @@ static void open_run(size_t choices) { open_settlement(&settlement, SPARE, choic
 
 static void scramble(enum table_name name, size_t words)
 {
-    for (size_t place = 0; place < words; place++)
-        put_both(&settlement.lending, name, place, (int64_t)random_word());
+    for (size_t place = 0; place < words; place++) put_both(&settlement.lending, name, place, (int64_t)random_word());
 }
 
 static void scramble_state(void)

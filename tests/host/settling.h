@@ -16,8 +16,8 @@ struct settlement {
 enum { SPARE = 6 };
 
 /* Lends the job's tables and a fresh state; the buffers have up to this many spare words, and room for the choices.
-   Packed tables have now and then as many as suffice for every job of these sizes, or full rows. The buffer of the steps
-   picked has room for all of the job's, and so many words more; of it some length is lent. */
+   Packed tables have now and then as many as suffice for every job of these sizes, or full rows. The buffer of the
+   steps picked has room for all of the job's, and so many words more; of it some length is lent. */
 void open_settlement(struct settlement *settlement, uint32_t spare, size_t choices);
 void close_settlement(struct settlement *settlement);
 

@@ -196,7 +196,7 @@ struct late {
     const char *what;
     struct step step;
     enum table_name name;
-    size_t place; /* of working totals, the box: there is one grocer */
+    size_t place;      /* of working totals, the box: there is one grocer */
     int64_t just_fits; /* the word of the table with which the result is the last within the range */
 };
 

@@ -115,10 +115,9 @@ static void sizes_out_of_range(void)
    only where 16 or 32 bits wrap round. No length goes by K x M: boxes and grocers that are too many are 21. */
 static void lengths_that_wrap(void)
 {
-    static const struct sizes tried[] = {{16, 2, 4096, 4},  {2, 2, 32768, 4}, {256, 1, 1, 0},
-                                         {128, 1, 1, 0},    {32768, 1, 1, 0}, {26755, 1, 1, 0},
-                                         {65535, 1, 1, 0},  {257, 255, 2, 4}, {2, 2, 65535, 4},
-                                         {65535, 65535, 65535, 65535}};
+    static const struct sizes tried[] = {
+        {16, 2, 4096, 4}, {2, 2, 32768, 4}, {256, 1, 1, 0},   {128, 1, 1, 0},   {32768, 1, 1, 0},
+        {26755, 1, 1, 0}, {65535, 1, 1, 0}, {257, 255, 2, 4}, {2, 2, 65535, 4}, {65535, 65535, 65535, 65535}};
     static const struct sizes grocers[] = {{16, 4096, 2, 4}, {2, 32768, 2, 4}, {2, 65535, 2, 4}, {2, 65535, 2, 65535}};
     size_t lengths[ALL_TABLES];
     for (unsigned name = 0; name < ALL_TABLES; name++)

@@ -78,8 +78,8 @@ bool is_signed(enum table_name name);
    many that are goes by the job's owners and tallies (model.h), not by K, M, N and T alone. */
 bool is_packed(enum table_name name);
 
-/* The words that a table needs for K, M, N and T as given; 0 for those of any length: a file, choices, steps picked; and
-   0 for packed ones. */
+/* The words that a table needs for K, M, N and T as given; 0 for those of any length: a file, choices, steps picked;
+   and 0 for packed ones. */
 uint64_t needed(enum table_name name, struct sizes sizes);
 
 /* Words that suffice for every job of these sizes. */
