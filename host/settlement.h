@@ -86,9 +86,10 @@
  *           |  own       |  of box 1  |  own       |
  *           |--------- box 0 ---------|--- box 1 --|
  *
- * How many words that are goes by the owners of grocers and the tallies that stand, not by K, M, N and T alone: one for
- * each grocer, in the box that owns it, and one for each other box that holds a standing tally of it. M + T words are
- * always enough, and SETTLEMENT_MAX_WORKING for every job. Words past those that the job has are not looked at.
+ * How many words there are goes by the owners of grocers and the tallies that stand, not by K, M, N and T alone: one
+ * for each grocer, in the box that owns it, and one for each other box that holds a standing tally of it. A host need not
+ * count them: M + T words are always enough, and SETTLEMENT_MAX_WORKING for every job. Words past those that the job has
+ * are not looked at.
  *
  * A SETTLEMENT BY STEPS
  * It starts from a fresh state of a job in range that does not meet 9, and from then on only settlement_step writes the
@@ -116,7 +117,7 @@
  * build, after it has read docs/CHANGES.md. A host that needs a certain version says so:
  *     _Static_assert(SETTLEMENT_VERSION == 2, "read what has changed");
  * 2: working and total_transit are packed, where 1 had K M words of each, word b M + g for box b and grocer g; and a
- *    step and a run look at their lengths, a step at their words too, behind 9.
+ *    step and a run look for 20 on them, and a step for 21, after 9.
  */
 #define SETTLEMENT_VERSION 2
 

@@ -241,7 +241,7 @@ static void by_sender(void)
     close_settlement(&settlement);
 }
 
-/* Where 20 and 21 on packed tables come: every set of faults on E, each by itself known to be refused */
+/* Where 20 and 21 on packed tables come: every set of faults on E. A word past the length is no fault. */
 
 enum fault { OTHER_SHORT, JOB_WILD, STATE_WILD, TWICE, PACKED_SHORT, PACKED_WILD, PAST_WILD, FAULTS };
 
@@ -339,7 +339,8 @@ static void late_behind_short(void)
         }
 }
 
-/* Each packed word out of its range, the last within the length and the first past it */
+/* Each word of a packed table out of its range: within the length it is refused, past it the step is made and the word
+   stays. */
 static void each_word(void)
 {
     for (size_t i = 0; i < WRITTEN; i++)
