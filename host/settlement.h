@@ -87,9 +87,9 @@
  *           |--------- box 0 ---------|--- box 1 --|
  *
  * How many words there are goes by the owners of grocers and the tallies that stand, not by K, M, N and T alone: one
- * for each grocer, in the box that owns it, and one for each other box that holds a standing tally of it. A host need not
- * count them: M + T words are always enough, and SETTLEMENT_MAX_WORKING for every job. Words past those that the job has
- * are not looked at.
+ * for each grocer, in the box that owns it, and one for each other box that holds a standing tally of it. A host need
+ * not count them: M + T words are always enough, and SETTLEMENT_MAX_WORKING for every job. Words past those that the
+ * job has are not looked at.
  *
  * A SETTLEMENT BY STEPS
  * It starts from a fresh state of a job in range that does not meet 9, and from then on only settlement_step writes the
