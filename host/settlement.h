@@ -59,14 +59,37 @@
  * TABLES OF A STATE            words  what stands where
  *   known          uint32_t    K N    price of offer o that box b knows, in tenths of a cent: word b N + o
  *   price_transit  uint32_t    K N    price of offer o sent to box b and not yet received, in tenths: word b N + o
- *   working        int64_t     K M    working total of grocer g in box b, in tenths: word b M + g
- *   total_transit  int64_t     K M    total of grocer g sent by box b and not yet received, in tenths: word b M + g
+ *   working        int64_t     packed working total of a box and grocer, in tenths: see PACKED TOTALS
+ *   total_transit  int64_t     packed total of a grocer sent by a box and not yet received, in tenths: likewise
  *   statement      int64_t     M      statement of grocer g, what it is owed, in tenths of a cent: word g
  *   done           uint16_t    6 K K  1 where the step of kind, first and second is done, else 0: word
  *                                     ((kind - 1) K + first) K + second
  *   sent           uint32_t    1      words sent so far, 0 to 1,000,000
  * A fresh state has the price of each offer known in the box that owns it (word offer_owner[o] N + o of known), and 0
  * in every other word.
+ *
+ * PACKED TOTALS
+ * working has a word for each local grocer of each box, and for no other. The local grocers of a box are those it owns,
+ * ascending, whether or not anyone holds a tally of them; then those of other boxes of which it holds a tally that
+ * stands, by owner and then by number. That is the order of its local book. Several tallies of one grocer in one box
+ * make one word, and a superseded tally makes none. The words of box 0 come first, then those of box 1, and so on.
+ * total_transit has the same places: a total that box b has sent stands where box b's working total of that grocer has
+ * its place, whichever box is to receive it.
+ *
+ * In the small evening of docs/EVENING.md box 0 owns grocer 1 and holds tallies of grocers 0 and 1; box 1 owns grocer 0
+ * and holds tallies of it alone. So each of the two tables has three words:
+ *
+ *     word        0            1            2
+ *           +------------+------------+------------+
+ *           |  grocer 1  |  grocer 0  |  grocer 0  |
+ *           +------------+------------+------------+
+ *           |  own       |  of box 1  |  own       |
+ *           |--------- box 0 ---------|--- box 1 --|
+ *
+ * How many words there are goes by the owners of grocers and the tallies that stand, not by K, M, N and T alone: one
+ * for each grocer, in the box that owns it, and one for each other box that holds a standing tally of it. A host need
+ * not count them: M + T words are always enough, and SETTLEMENT_MAX_WORKING for every job. Words past those that the
+ * job has are not looked at.
  *
  * A SETTLEMENT BY STEPS
  * It starts from a fresh state of a job in range that does not meet 9, and from then on only settlement_step writes the
@@ -92,9 +115,11 @@
 /* The version of this interface. It is raised by one whenever a call's list of arguments, a struct's layout, the value
  * of a constant or the meaning of a word changes: a host is then compiled anew, with the header and the archive of one
  * build, after it has read docs/CHANGES.md. A host that needs a certain version says so:
- *     _Static_assert(SETTLEMENT_VERSION == 1, "read what has changed");
+ *     _Static_assert(SETTLEMENT_VERSION == 2, "read what has changed");
+ * 2: working and total_transit are packed, where 1 had K M words of each, word b M + g for box b and grocer g; and a
+ *    step and a run look for 20 on them, and a step for 21, after 9.
  */
-#define SETTLEMENT_VERSION 1
+#define SETTLEMENT_VERSION 2
 
 /* The largest job. */
 #define SETTLEMENT_MAX_BOXES 16
@@ -106,11 +131,12 @@
 #define SETTLEMENT_MAX_FILE 37888
 #define SETTLEMENT_CODE 11
 
-/* Words of the tables that the largest job needs and that are not one for each grocer, offer or tally. */
+/* Words of the tables that the largest job needs and that are not one for each grocer, offer or tally. For working and
+ * total_transit: the most that any job needs, a word for each grocer and one for each tally. */
 #define SETTLEMENT_MAX_OFFER_CODES (SETTLEMENT_MAX_OFFERS * SETTLEMENT_CODE)
 #define SETTLEMENT_MAX_TALLY_CODES (SETTLEMENT_MAX_TALLIES * SETTLEMENT_CODE)
 #define SETTLEMENT_MAX_KNOWN (SETTLEMENT_MAX_BOXES * SETTLEMENT_MAX_OFFERS)
-#define SETTLEMENT_MAX_WORKING (SETTLEMENT_MAX_BOXES * SETTLEMENT_MAX_GROCERS)
+#define SETTLEMENT_MAX_WORKING (SETTLEMENT_MAX_GROCERS + SETTLEMENT_MAX_TALLIES)
 #define SETTLEMENT_MAX_DONE (6 * SETTLEMENT_MAX_BOXES * SETTLEMENT_MAX_BOXES)
 #define SETTLEMENT_SENT 1
 
@@ -216,12 +242,15 @@ uint16_t settlement_read(
  * price_transit, 4 the totals into total_transit, and both raise sent by the number of words in the message; 3 puts the
  * prices into known; 3 and 6 set the words that they receive to 0 in price_transit or total_transit.
  *
- * Needed lengths are the words of the tables above, from K, M, N and T as given; sent 1.
+ * Needed lengths are the words of the tables above, from K, M, N and T as given; sent 1. Those of working and
+ * total_transit go by the job's words (PACKED TOTALS), so they are looked at once these are known to be in range.
  *
  * Refusals, in the order in which they are looked for:
- *   20  a table shorter than needed
- *   21  K, M, N, T or a needed word of a table of the job or the state outside its range, a done mark not 0 or 1
+ *   20  a table other than working and total_transit shorter than needed
+ *   21  K, M, N, T or a needed word of such a table outside its range, a done mark not 0 or 1
  *    9  one bag and revision twice for a grocer and offer, the bag not 0
+ *   20  working or total_transit shorter than needed
+ *   21  a needed word of working or total_transit outside its range
  *   22  kind not 1 to 6
  *   23  a box not below K; or first and second equal for kinds 1, 3, 4, 6, or different for kinds 2, 5
  *   24  an empty message: the job has no such step
@@ -260,13 +289,14 @@ uint16_t settlement_step(
  * not asked for, lend any object and 0; SETTLEMENT_MAX_STEPS words hold the steps of every job.
  * report[0] is the number of words sent, report[1] of messages sent, report[2] of steps.
  *
- * Needed lengths are the words of the tables above, from K, M, N and T as given; sent 1, report 3. choices and picked
- * need none, and no length of them is refused.
+ * Needed lengths are the words of the tables above, from K, M, N and T as given; sent 1, report 3; those of working and
+ * total_transit go by the job's words (PACKED TOTALS). choices and picked need none, and no length of them is refused.
  *
  * Refusals, in the order in which they are looked for:
- *   20  a table, or the report, shorter than needed
+ *   20  a table other than working and total_transit, or the report, shorter than needed
  *   21  K, M, N, T or a needed word of a table of the job outside its range
  *    9  one bag and revision twice for a grocer and offer, the bag not 0
+ *   20  working or total_transit shorter than needed
  */
 uint16_t settlement_run(
     uint16_t boxes, uint16_t grocers, uint16_t offers, uint16_t tallies,
@@ -298,7 +328,7 @@ uint16_t settlement_run(
  * Two structs with the tables of the largest job, and the three calls on them: each table stands in its place once,
  * here, and is lent whole. A host need not use any of this. It is plain C, which nothing proves.
  *
- * A job has about 37,000 bytes and a state 134,000: they belong in static memory or on the heap, not on a small stack.
+ * A job has about 37,000 bytes and a state 89,000: they belong in static memory or on the heap, not on a small stack.
  * SETTLEMENT_READ_INTO and SETTLEMENT_LENT take other structs as well, with more members or, for a step and a run, with
  * smaller tables, as long as these are arrays with the names below, and not pointers.
  */
@@ -323,8 +353,8 @@ struct settlement_job {
 struct settlement_state {
     uint32_t known[SETTLEMENT_MAX_KNOWN];           /* tenths of a cent */
     uint32_t price_transit[SETTLEMENT_MAX_KNOWN];   /* tenths of a cent */
-    int64_t working[SETTLEMENT_MAX_WORKING];        /* tenths of a cent */
-    int64_t total_transit[SETTLEMENT_MAX_WORKING];  /* tenths of a cent */
+    int64_t working[SETTLEMENT_MAX_WORKING];        /* tenths of a cent, packed */
+    int64_t total_transit[SETTLEMENT_MAX_WORKING];  /* tenths of a cent, packed */
     int64_t statement[SETTLEMENT_MAX_GROCERS];      /* tenths of a cent */
     uint16_t done[SETTLEMENT_MAX_DONE];
     uint32_t sent[SETTLEMENT_SENT];

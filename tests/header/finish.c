@@ -47,7 +47,7 @@ static int nothing_left(void)
     int64_t left = 0;
     for (size_t i = 0; i < (size_t)job.boxes * job.offers; i++)
         left |= state.price_transit[i];
-    for (size_t i = 0; i < (size_t)job.boxes * job.grocers; i++)
+    for (size_t i = 0; i < SETTLEMENT_MAX_WORKING; i++)
         left |= state.working[i] | state.total_transit[i];
     return left == 0;
 }

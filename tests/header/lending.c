@@ -56,8 +56,8 @@ static void expect_state(uint32_t *known, size_t known_len, uint32_t *price_tran
 {
     IS_LENT(state, known, 16 * 500);
     IS_LENT(state, price_transit, 16 * 500);
-    IS_LENT(state, working, 16 * 255);
-    IS_LENT(state, total_transit, 16 * 255);
+    IS_LENT(state, working, 255 + 1000);
+    IS_LENT(state, total_transit, 255 + 1000);
     IS_LENT(state, statement, 255);
     IS_LENT(state, done, 6 * 16 * 16);
     IS_LENT(state, sent, 1);

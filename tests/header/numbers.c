@@ -1,6 +1,9 @@
 /* The numbers of host/settlement.h are those of the specification. Nothing is run: it compiles, or a number differs. */
 #include "settlement.h"
 
+/* This test is of the version that has packed totals. */
+_Static_assert(SETTLEMENT_VERSION == 2, "read what has changed");
+
 #define IS(name, number) _Static_assert(SETTLEMENT_##name == (number), #name)
 
 IS(MAX_BOXES, 16);
@@ -9,6 +12,7 @@ IS(MAX_OFFERS, 500);
 IS(MAX_TALLIES, 1000);
 IS(MAX_FILE, 74 * 512);
 IS(CODE, 1 + 10);
+IS(MAX_WORKING, 255 + 1000);
 IS(SIZES, 5);
 IS(REPORT, 3);
 IS(MAX_MESSAGES, 480);

@@ -249,7 +249,7 @@ static void pack_state(uint8_t packed[MOST_PACKED])
     size_t length = 0;
     memset(packed, 0, MOST_PACKED);
     for (unsigned name = JOB_TABLES; name < STEP_TABLES; name++) {
-        size_t bytes = needed(name, settlement.job.sizes) * width_of(name);
+        size_t bytes = words_needed(&settlement, name) * width_of(name);
         memcpy(packed + length, settlement.lending.table[name].words, bytes);
         length += bytes;
     }

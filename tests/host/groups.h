@@ -13,5 +13,6 @@ void check_run(void);
 void check_cases(void);
 void check_bags(void);
 void check_early(void);
+void check_packed(void);
 
 #endif

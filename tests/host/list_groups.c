@@ -41,7 +41,7 @@ static void lend_short(void)
 {
     for (uint32_t tables = 1 + below(2); tables > 0; tables--) {
         enum table_name name = below(STEP_TABLES);
-        uint64_t need = needed(name, settlement.job.sizes);
+        size_t need = words_needed(&settlement, name);
         if (need > 0) settlement.lending.lend[name] = one_in(2) ? need - 1 : below((uint32_t)need);
     }
 }
@@ -56,7 +56,7 @@ static void ask_short(struct step step)
 static void ask_damaged(struct step step)
 {
     enum table_name name = below(STEP_TABLES);
-    uint64_t need = needed(name, settlement.job.sizes);
+    size_t need = words_needed(&settlement, name);
     if (need == 0 || !has_range(name)) return;
     size_t place = below((uint32_t)need);
     int64_t kept = word_at(settlement.lending.twin[name], place);
@@ -145,7 +145,7 @@ static void random_state(void)
     uint32_t all = below(12);
     for (unsigned name = JOB_TABLES; name < STEP_TABLES; name++) {
         uint32_t manner = all < 6 ? all : below(6);
-        for (size_t place = 0; place < needed(name, settlement.job.sizes); place++)
+        for (size_t place = 0; place < words_needed(&settlement, name); place++)
             put_both(&settlement.lending, name, place, random_state_word(range_of(name, settlement.job.sizes), manner));
     }
 }

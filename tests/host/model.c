@@ -50,6 +50,40 @@ static void note_holders(struct machine *machine)
     }
 }
 
+/* Packed totals */
+
+/* The next places are for the owner's grocers of which the box has a total: for each of its own, and for those of
+   another box of which it holds a tally that stands. */
+static void place_grocers(struct machine *machine, uint16_t box, uint16_t owner)
+{
+    const struct job *job = machine->job;
+    for (uint16_t g = 0; g < job->sizes.grocers; g++)
+        if (job->grocer_owner[g] == owner && (owner == box || in_mask(machine->sharers[g], box)))
+            machine->place[box][g] = machine->packed++;
+}
+
+/* Box by box, its own grocers first, then those of the other boxes in turn. */
+static void note_places(struct machine *machine)
+{
+    uint16_t boxes = machine->job->sizes.boxes;
+    memset(machine->place, 0xFF, sizeof machine->place);
+    machine->packed = 0;
+    for (uint16_t b = 0; b < boxes; b++) {
+        place_grocers(machine, b, b);
+        for (uint16_t owner = 0; owner < boxes; owner++)
+            if (owner != b) place_grocers(machine, b, owner);
+    }
+}
+
+size_t packed_length(const struct job *job)
+{
+    static struct machine machine;
+    machine.job = job;
+    note_holders(&machine);
+    note_places(&machine);
+    return machine.packed;
+}
+
 /* Messages */
 
 struct message {
@@ -327,6 +361,7 @@ static void start_empty(struct machine *machine, const struct job *job)
     machine->prices.length = machine->totals.length = 0;
     machine->sent = 0;
     note_holders(machine);
+    note_places(machine);
     note_steps(machine);
 }
 
@@ -387,16 +422,44 @@ uint16_t job_tables_refusal(struct sizes sizes, const struct table tables[ALL_TA
     return all_in_range(sizes, tables, JOB_TABLES) ? bags_refusal(sizes, tables) : 21;
 }
 
+/* The packed words that a job needs whose tables are long enough and in range. */
+static size_t packed_words(struct sizes sizes, const struct table tables[])
+{
+    static struct job job;
+    read_job_words(&job, sizes, tables);
+    return packed_length(&job);
+}
+
+static bool packed_short(const struct table tables[], size_t words)
+{
+    return tables[WORKING].length < words || tables[TOTAL_TRANSIT].length < words;
+}
+
+static bool packed_in_range(const struct table tables[], size_t words)
+{
+    for (size_t place = 0; place < words; place++)
+        if (!is_amount(word_at(tables[WORKING], place)) || !is_amount(word_at(tables[TOTAL_TRANSIT], place)))
+            return false;
+    return true;
+}
+
+/* 20 and 21 on all else and 9 come first: which words are packed goes by a job without a fault. */
 uint16_t step_tables_refusal(struct sizes sizes, const struct table tables[ALL_TABLES])
 {
     if (any_short(sizes, tables, 0, STEP_TABLES)) return 20;
-    return all_in_range(sizes, tables, STEP_TABLES) ? bags_refusal(sizes, tables) : 21;
+    if (!all_in_range(sizes, tables, STEP_TABLES)) return 21;
+    if (bags_refusal(sizes, tables)) return 9;
+    size_t words = packed_words(sizes, tables);
+    if (packed_short(tables, words)) return 20;
+    return packed_in_range(tables, words) ? 0 : 21;
 }
 
 uint16_t run_tables_refusal(struct sizes sizes, const struct table tables[ALL_TABLES])
 {
     if (any_short(sizes, tables, 0, STEP_TABLES) || is_short(tables[REPORT], sizes)) return 20;
-    return all_in_range(sizes, tables, JOB_TABLES) ? bags_refusal(sizes, tables) : 21;
+    if (!all_in_range(sizes, tables, JOB_TABLES)) return 21;
+    if (bags_refusal(sizes, tables)) return 9;
+    return packed_short(tables, packed_words(sizes, tables)) ? 20 : 0;
 }
 
 void write_job_words(const struct job *job, const struct table tables[ALL_TABLES])
@@ -439,10 +502,7 @@ void write_reader_words(const struct job *job, const struct table tables[ALL_TAB
     put_word(tables[SIZES], 4, job->cycle);
 }
 
-static void clear_words(struct table table, struct sizes sizes)
-{
-    memset(table.words, 0, needed(table.name, sizes) * width_of(table.name));
-}
+static void clear_words(struct table table, size_t words) { memset(table.words, 0, words * width_of(table.name)); }
 
 static size_t mark_place(uint16_t boxes, unsigned kind, size_t a, size_t b)
 {
@@ -469,15 +529,15 @@ void write_picked_words(const struct job *job, const struct step picked[], size_
 static void write_post(const struct machine *machine, const struct table tables[])
 {
     struct sizes sizes = machine->job->sizes;
-    clear_words(tables[PRICE_TRANSIT], sizes);
-    clear_words(tables[TOTAL_TRANSIT], sizes);
+    clear_words(tables[PRICE_TRANSIT], needed(PRICE_TRANSIT, sizes));
+    clear_words(tables[TOTAL_TRANSIT], machine->packed);
     for (size_t i = 0; i < machine->prices.length; i++) {
         const struct envelope *e = &machine->prices.envelope[i];
         put_word(tables[PRICE_TRANSIT], (size_t)e->receiver * sizes.offers + e->number, e->word);
     }
     for (size_t i = 0; i < machine->totals.length; i++) {
         const struct envelope *e = &machine->totals.envelope[i];
-        put_word(tables[TOTAL_TRANSIT], (size_t)e->sender * sizes.grocers + e->number, e->word);
+        put_word(tables[TOTAL_TRANSIT], machine->place[e->sender][e->number], e->word);
     }
 }
 
@@ -487,7 +547,8 @@ void write_state_words(const struct machine *machine, const struct table tables[
     for (size_t b = 0; b < sizes.boxes; b++) {
         for (size_t o = 0; o < sizes.offers; o++) put_word(tables[KNOWN], b * sizes.offers + o, machine->known[b][o]);
         for (size_t g = 0; g < sizes.grocers; g++)
-            put_word(tables[WORKING], b * sizes.grocers + g, machine->working[b][g]);
+            if (machine->place[b][g] != NO_PLACE)
+                put_word(tables[WORKING], machine->place[b][g], machine->working[b][g]);
     }
     for (size_t g = 0; g < sizes.grocers; g++) put_word(tables[STATEMENT], g, machine->statement[g]);
     write_post(machine, tables);
@@ -529,9 +590,10 @@ static void read_post(struct machine *machine, const struct table tables[])
                           (struct envelope){job->offer[o].owner, b, o,
                                             word_at(tables[PRICE_TRANSIT], (size_t)b * sizes.offers + o)});
         for (uint16_t g = 0; g < sizes.grocers; g++)
-            read_envelope(&machine->totals,
-                          (struct envelope){b, job->grocer_owner[g], g,
-                                            word_at(tables[TOTAL_TRANSIT], (size_t)b * sizes.grocers + g)});
+            if (machine->place[b][g] != NO_PLACE)
+                read_envelope(&machine->totals,
+                              (struct envelope){b, job->grocer_owner[g], g,
+                                                word_at(tables[TOTAL_TRANSIT], machine->place[b][g])});
     }
 }
 
@@ -552,7 +614,8 @@ void read_state_words(struct machine *machine, const struct job *job, const stru
         for (size_t o = 0; o < sizes.offers; o++)
             machine->known[b][o] = (uint32_t)word_at(tables[KNOWN], b * sizes.offers + o);
         for (size_t g = 0; g < sizes.grocers; g++)
-            machine->working[b][g] = word_at(tables[WORKING], b * sizes.grocers + g);
+            if (machine->place[b][g] != NO_PLACE)
+                machine->working[b][g] = word_at(tables[WORKING], machine->place[b][g]);
     }
     for (size_t g = 0; g < sizes.grocers; g++) machine->statement[g] = word_at(tables[STATEMENT], g);
     read_post(machine, tables);

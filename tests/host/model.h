@@ -55,10 +55,12 @@ struct post {
     struct envelope envelope[MOST_BOXES * MOST_OFFERS];
 };
 
-/* The boxes in the middle of a settlement. */
+/* The boxes in the middle of a settlement: of totals it has full rows, one word for each box and grocer. Packed tables
+   have some of these words, each at its place. */
 struct machine {
     const struct job *job;
     uint16_t needs[MOST_OFFERS], sharers[MOST_GROCERS];
+    uint16_t place[MOST_BOXES][MOST_GROCERS], packed; /* of each total in packed tables, and how many there are */
     bool has[KINDS][MOST_BOXES][MOST_BOXES], done[KINDS][MOST_BOXES][MOST_BOXES];
     uint32_t known[MOST_BOXES][MOST_OFFERS];
     int64_t working[MOST_BOXES][MOST_GROCERS], statement[MOST_GROCERS];
@@ -76,6 +78,12 @@ struct report {
 bool stands(const struct tally tally[], size_t tallies, size_t t);
 bool counted_twice(const struct tally tally[], size_t tallies);
 
+/* The place of a total that packed tables have no word for. */
+enum { NO_PLACE = 65535 };
+
+/* The words that working totals of a job need, and totals in transit as many. */
+size_t packed_length(const struct job *job);
+
 /* A fresh state of the job, which must stay where it is. */
 void start_fresh(struct machine *machine, const struct job *job);
 
@@ -89,7 +97,7 @@ size_t ready_steps(const struct machine *machine, struct step ready[MOST_STEPS])
 struct report run_all(struct machine *machine, const struct job *job, struct table choices,
                       struct step picked[MOST_STEPS]);
 
-/* 20, 21 or 9 on the lent tables, else 0. */
+/* 20, 21 or 9 on the lent tables, and then 20 and, for a step, 21 on the packed ones; else 0. */
 uint16_t job_tables_refusal(struct sizes sizes, const struct table tables[ALL_TABLES]);
 uint16_t step_tables_refusal(struct sizes sizes, const struct table tables[ALL_TABLES]);
 uint16_t run_tables_refusal(struct sizes sizes, const struct table tables[ALL_TABLES]);

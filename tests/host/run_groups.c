@@ -10,13 +10,12 @@ static void open_run(size_t choices) { open_settlement(&settlement, SPARE, choic
 
 static void scramble(enum table_name name, size_t words)
 {
-    for (size_t place = 0; place < words; place++)
-        put_both(&settlement.lending, name, place, (int64_t)random_word());
+    for (size_t place = 0; place < words; place++) put_both(&settlement.lending, name, place, (int64_t)random_word());
 }
 
 static void scramble_state(void)
 {
-    for (unsigned name = JOB_TABLES; name < STEP_TABLES; name++) scramble(name, needed(name, settlement.job.sizes));
+    for (unsigned name = JOB_TABLES; name < STEP_TABLES; name++) scramble(name, words_needed(&settlement, name));
 }
 
 static void expect_run(uint16_t due)
@@ -97,7 +96,7 @@ static void short_buffers(void)
         open_run(below(5));
         scramble_state();
         for (unsigned name = 0; name < ALL_TABLES; name++) {
-            size_t need = needed(name, sizes);
+            size_t need = words_needed(&settlement, name);
             if (need == 0 || (name >= STEP_TABLES && name != REPORT)) continue;
             refused_run(name, need - 1);
             refused_run(name, 0);
@@ -105,7 +104,7 @@ static void short_buffers(void)
         }
         for (unsigned name = 0; name < ALL_TABLES; name++)
             if (settlement.lending.lend[name] > 0 && name != CHOICES && name != PICKED)
-                settlement.lending.lend[name] = needed(name, sizes);
+                settlement.lending.lend[name] = words_needed(&settlement, name);
         at_case("every buffer just long enough");
         expect_run(0);
         close_settlement(&settlement);
@@ -266,7 +265,7 @@ static void largest_runs(void)
 static void open_for_files(void)
 {
     size_t lengths[ALL_TABLES];
-    for (unsigned name = 0; name < ALL_TABLES; name++) lengths[name] = needed(name, LARGEST);
+    for (unsigned name = 0; name < ALL_TABLES; name++) lengths[name] = enough(name, LARGEST);
     lengths[FILE_BYTES] = MOST_FILE;
     lengths[PICKED] = MOST_STEPS;
     open_lending(&settlement.lending, lengths);

@@ -20,13 +20,28 @@ static size_t some_length(size_t steps, size_t whole)
     return lengths[below(5)];
 }
 
+size_t words_needed(const struct settlement *settlement, enum table_name name)
+{
+    return is_packed(name) ? settlement->machine.packed : needed(name, settlement->job.sizes);
+}
+
+/* A length of a packed table: as for all others; or enough for every job of these sizes; or full rows. */
+static size_t packed_room(const struct settlement *settlement, uint32_t spare)
+{
+    struct sizes sizes = settlement->job.sizes;
+    size_t rooms[] = {settlement->machine.packed + spare_words(spare), enough(WORKING, sizes),
+                      (size_t)sizes.boxes * sizes.grocers};
+    return rooms[spare == 0 || one_in(2) ? 0 : below(3)];
+}
+
 void open_settlement(struct settlement *settlement, uint32_t spare, size_t choices)
 {
     size_t lengths[ALL_TABLES] = {0};
     start_fresh(&settlement->machine, &settlement->job);
     size_t steps = steps_of_job(settlement);
     for (unsigned name = 0; name < STEP_TABLES; name++)
-        lengths[name] = needed(name, settlement->job.sizes) + spare_words(spare);
+        lengths[name] =
+            is_packed(name) ? packed_room(settlement, spare) : words_needed(settlement, name) + spare_words(spare);
     lengths[REPORT] = needed(REPORT, settlement->job.sizes) + spare_words(spare);
     lengths[CHOICES] = choices;
     lengths[PICKED] = steps + spare;
@@ -49,6 +64,23 @@ void lend_state(struct settlement *settlement)
 int64_t lent_word(const struct settlement *settlement, enum table_name name, size_t place)
 {
     return word_at(settlement->lending.table[name], place);
+}
+
+bool has_total(const struct settlement *settlement, size_t box, size_t grocer)
+{
+    return settlement->machine.place[box][grocer] != NO_PLACE;
+}
+
+int64_t lent_total(const struct settlement *settlement, enum table_name name, size_t box, size_t grocer)
+{
+    if (!has_total(settlement, box, grocer)) return 0;
+    return lent_word(settlement, name, settlement->machine.place[box][grocer]);
+}
+
+void put_total(struct settlement *settlement, enum table_name name, size_t box, size_t grocer, int64_t word)
+{
+    if (has_total(settlement, box, grocer))
+        put_both(&settlement->lending, name, settlement->machine.place[box][grocer], word);
 }
 
 void expect_plain_sums(const struct settlement *settlement)
@@ -83,8 +115,7 @@ void expect_running_sum(const struct settlement *settlement)
     for (size_t g = 0; g < job->sizes.grocers; g++) {
         int64_t have = lent_word(settlement, STATEMENT, g);
         for (size_t b = 0; b < job->sizes.boxes; b++)
-            have += lent_word(settlement, WORKING, b * job->sizes.grocers + g) +
-                    lent_word(settlement, TOTAL_TRANSIT, b * job->sizes.grocers + g);
+            have += lent_total(settlement, WORKING, b, g) + lent_total(settlement, TOTAL_TRANSIT, b, g);
         expect(have == sum[g], "running sum of grocer %zu is %lld, should be %lld", g, (long long)have,
                (long long)sum[g]);
     }
@@ -95,7 +126,7 @@ void keep_state(const struct settlement *settlement, struct state_words *kept)
     memset(kept, 0, sizeof *kept);
     for (unsigned name = JOB_TABLES; name < STEP_TABLES; name++)
         memcpy(kept->table[name - JOB_TABLES], settlement->lending.table[name].words,
-               needed(name, settlement->job.sizes) * width_of(name));
+               words_needed(settlement, name) * width_of(name));
 }
 
 static uint16_t compare_step(struct settlement *settlement, struct sizes sizes, struct step step, uint16_t due)

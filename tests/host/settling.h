@@ -15,8 +15,9 @@ struct settlement {
 /* Spare words that buffers have at the most. */
 enum { SPARE = 6 };
 
-/* Lends the job's tables and a fresh state; the buffers have up to this many spare words, and room for the choices. The
-   buffer of the steps picked has room for all of the job's, and so many words more; of it some length is lent. */
+/* Lends the job's tables and a fresh state; the buffers have up to this many spare words, and room for the choices.
+   Packed tables have now and then as many as suffice for every job of these sizes, or full rows. The buffer of the
+   steps picked has room for all of the job's, and so many words more; of it some length is lent. */
 void open_settlement(struct settlement *settlement, uint32_t spare, size_t choices);
 void close_settlement(struct settlement *settlement);
 
@@ -25,6 +26,15 @@ size_t steps_of_job(const struct settlement *settlement);
 
 /* Writes the model's state to the buffers. */
 void lend_state(struct settlement *settlement);
+
+/* The words that a table needs, of the job as it was opened. */
+size_t words_needed(const struct settlement *settlement, enum table_name name);
+
+/* Whether packed tables have a word for a box's total of a grocer; it, as the library left it, or 0; and it put into a
+   buffer and its twin, where there is one. */
+bool has_total(const struct settlement *settlement, size_t box, size_t grocer);
+int64_t lent_total(const struct settlement *settlement, enum table_name name, size_t box, size_t grocer);
+void put_total(struct settlement *settlement, enum table_name name, size_t box, size_t grocer, int64_t word);
 
 /* A word as the library left it. */
 int64_t lent_word(const struct settlement *settlement, enum table_name name, size_t place);
@@ -38,7 +48,7 @@ void expect_running_sum(const struct settlement *settlement);
 
 /* Every word of a state as the library left it, 0 behind those of each table. */
 struct state_words {
-    uint8_t table[STEP_TABLES - JOB_TABLES][MOST_BOXES * MOST_GROCERS * 8];
+    uint8_t table[STEP_TABLES - JOB_TABLES][MOST_BOXES * MOST_OFFERS * 4]; /* known is the longest */
 };
 void keep_state(const struct settlement *settlement, struct state_words *kept);
 

@@ -118,8 +118,8 @@ static void make_large(void)
     for (size_t place = 0; place < 4; place++) {
         put_both(lending, KNOWN, place, 1);
         put_both(lending, PRICE_TRANSIT, place, 1);
-        put_both(lending, WORKING, place, MOST_AMOUNT);
-        put_both(lending, TOTAL_TRANSIT, place, MOST_AMOUNT);
+        put_total(&settlement, WORKING, place / 2, place % 2, MOST_AMOUNT);
+        put_total(&settlement, TOTAL_TRANSIT, place / 2, place % 2, MOST_AMOUNT);
     }
     for (size_t grocer = 0; grocer < 2; grocer++) put_both(lending, STATEMENT, grocer, MOST_AMOUNT);
     put_both(lending, SENT, 0, MOST_SENT);
@@ -151,8 +151,8 @@ static void plights_with_earlier_faults(void)
     for (size_t i = 0; i < PLIGHTS; i++)
         for (unsigned name = 0; name < STEP_TABLES; name++) {
             struct lending *lending = &settlement.lending;
-            size_t need = needed(name, (struct sizes){2, 2, 2, 4});
             open_plight(&plights[i], ", and an earlier fault");
+            size_t need = words_needed(&settlement, name);
             lending->lend[name] = need - 1;
             expect_step(&settlement, plights[i].step, 20);
             if (has_range(name)) {
@@ -165,25 +165,26 @@ static void plights_with_earlier_faults(void)
         }
 }
 
-/* Each plight with a bag and revision twice: 9 comes before 22 to 26 and the late 21, behind 20 and 21. */
+/* Each plight with a bag and revision twice: 9 comes before 22 to 26 and the late 21, and before 20 and 21 on packed
+   tables; behind 20 and 21 on all else. */
 static void plights_counted_twice(void)
 {
     for (size_t i = 0; i < PLIGHTS; i++)
         for (unsigned name = 0; name < STEP_TABLES; name++) {
             struct lending *lending = &settlement.lending;
-            size_t need = needed(name, (struct sizes){2, 2, 2, 4});
             open_plight(&plights[i], ", and a bag and revision twice");
+            size_t need = words_needed(&settlement, name);
             for (size_t t = 0; t < 4; t += 3) {
                 put_both(lending, TALLY_BAG, t, 500);
                 put_both(lending, TALLY_REVISION, t, 8);
             }
             expect_step(&settlement, plights[i].step, 9);
             lending->lend[name] = need - 1;
-            expect_step(&settlement, plights[i].step, 20);
+            expect_step(&settlement, plights[i].step, is_packed(name) ? 9 : 20);
             lend_whole(lending);
             if (has_range(name)) {
                 put_both(lending, name, below((uint32_t)need), range_of(name, settlement.job.sizes).most + 1);
-                expect_step(&settlement, plights[i].step, 21);
+                expect_step(&settlement, plights[i].step, is_packed(name) ? 9 : 21);
             }
             close_settlement(&settlement);
         }
@@ -195,7 +196,7 @@ struct late {
     const char *what;
     struct step step;
     enum table_name name;
-    size_t place;
+    size_t place;      /* of working totals, the box: there is one grocer */
     int64_t just_fits; /* the word of the table with which the result is the last within the range */
 };
 
@@ -217,8 +218,8 @@ static void open_late(struct step step, int sign, uint16_t tallies)
     settlement.job.tally[1].box = !box;
     open_settlement(&settlement, SPARE, 0);
     put_both(&settlement.lending, PRICE_TRANSIT, 1, 3);
-    put_both(&settlement.lending, WORKING, 1, 100 * sign);
-    put_both(&settlement.lending, TOTAL_TRANSIT, 0, 100 * sign);
+    put_total(&settlement, WORKING, 1, 0, 100 * sign);
+    put_total(&settlement, TOTAL_TRANSIT, 0, 0, 100 * sign);
     put_both(&settlement.lending, KNOWN, 0, 3);
 }
 
@@ -236,7 +237,11 @@ static void late_case(const struct late *late, int sign, uint16_t tallies, bool 
     at_case("%s, %s, sign %d, %u tallies", late->what, beyond ? "beyond" : "just fits", sign, tallies);
     open_late(late->step, sign, tallies);
     mark_all_but(late->step);
-    put_both(&settlement.lending, late->name, late->place, sign * (late->just_fits + beyond));
+    int64_t word = sign * (late->just_fits + beyond);
+    if (late->name == WORKING)
+        put_total(&settlement, WORKING, late->place, 0, word);
+    else
+        put_both(&settlement.lending, late->name, late->place, word);
     expect_step(&settlement, late->step, beyond ? 21 : 0);
     close_settlement(&settlement);
 }
@@ -284,8 +289,8 @@ static void open_beside(struct step step, int sign)
         int64_t amount = place % 3 == 0 ? 0 : sign * MOST_AMOUNT;
         put_both(&settlement.lending, KNOWN, place, MOST_PRICE);
         put_both(&settlement.lending, PRICE_TRANSIT, place, MOST_PRICE);
-        put_both(&settlement.lending, WORKING, place, amount);
-        put_both(&settlement.lending, TOTAL_TRANSIT, place, amount);
+        put_total(&settlement, WORKING, place / 3, place % 3, amount);
+        put_total(&settlement, TOTAL_TRANSIT, place / 3, place % 3, amount);
         if (place < 3) put_both(&settlement.lending, STATEMENT, place, amount);
     }
 }

@@ -35,7 +35,7 @@ static void short_buffers(void)
     for (unsigned long round = 0; round < 20 + job_count / 50; round++)
         for (unsigned name = 0; name < STEP_TABLES; name++) {
             open_middle(round % 4 ? SMALL : MEDIUM);
-            size_t need = needed(name, settlement.job.sizes);
+            size_t need = words_needed(&settlement, name);
             short_by(name, need - 1);
             short_by(name, 0);
             short_by(name, below((uint32_t)need));
@@ -79,7 +79,7 @@ static void words_out_of_range(void)
     for (unsigned long round = 0; round < 5 + job_count / 100; round++)
         for (unsigned name = 0; name < STEP_TABLES; name++) {
             open_middle(round % 4 ? SMALL : MEDIUM);
-            size_t need = needed(name, settlement.job.sizes);
+            size_t need = words_needed(&settlement, name);
             edges_of_word(name, 0);
             edges_of_word(name, need - 1);
             edges_of_word(name, below((uint32_t)need));
@@ -105,34 +105,26 @@ static void sizes_out_of_range(void)
         {2, 2, 501, 4},       {2, 2, 2, 1001},      {0, 0, 0, 0},        {17, 256, 501, 1001}, {16, 255, 500, 1001},
         {16, 255, 501, 1000}, {16, 256, 500, 1000}, {17, 255, 500, 1000}};
     size_t lengths[ALL_TABLES];
-    for (unsigned name = 0; name < ALL_TABLES; name++) lengths[name] = needed(name, (struct sizes){17, 256, 501, 1001});
+    for (unsigned name = 0; name < ALL_TABLES; name++) lengths[name] = enough(name, (struct sizes){17, 256, 501, 1001});
     open_lending(&settlement.lending, lengths);
     expect_for_sizes(tried, sizeof tried / sizeof tried[0], 21);
     close_settlement(&settlement);
 }
 
 /* Tables of one word for each grocer, offer or tally are as long as can be, the others short of lengths that are small
-   only where 16 or 32 bits wrap round. */
+   only where 16 or 32 bits wrap round. No length goes by K x M: boxes and grocers that are too many are 21. */
 static void lengths_that_wrap(void)
 {
-    static const struct sizes tried[] = {{16, 2, 4096, 4},
-                                         {2, 2, 32768, 4},
-                                         {16, 4096, 2, 4},
-                                         {2, 32768, 2, 4},
-                                         {256, 1, 1, 0},
-                                         {128, 1, 1, 0},
-                                         {32768, 1, 1, 0},
-                                         {26755, 1, 1, 0},
-                                         {65535, 1, 1, 0},
-                                         {257, 255, 2, 4},
-                                         {2, 2, 65535, 4},
-                                         {2, 65535, 2, 4},
-                                         {65535, 65535, 65535, 65535}};
+    static const struct sizes tried[] = {
+        {16, 2, 4096, 4}, {2, 2, 32768, 4}, {256, 1, 1, 0},   {128, 1, 1, 0},   {32768, 1, 1, 0},
+        {26755, 1, 1, 0}, {65535, 1, 1, 0}, {257, 255, 2, 4}, {2, 2, 65535, 4}, {65535, 65535, 65535, 65535}};
+    static const struct sizes grocers[] = {{16, 4096, 2, 4}, {2, 32768, 2, 4}, {2, 65535, 2, 4}, {2, 65535, 2, 65535}};
     size_t lengths[ALL_TABLES];
     for (unsigned name = 0; name < ALL_TABLES; name++)
         lengths[name] = needed(name, (struct sizes){0, 65535, 65535, 65535}) ? 65535 : 40000;
     open_lending(&settlement.lending, lengths);
     expect_for_sizes(tried, sizeof tried / sizeof tried[0], 20);
+    expect_for_sizes(grocers, sizeof grocers / sizeof grocers[0], 21);
     close_settlement(&settlement);
 }
 

@@ -72,8 +72,6 @@ uint64_t needed(enum table_name name, struct sizes sizes)
     case STARTS: return n + 1;
     case KNOWN:
     case PRICE_TRANSIT: return k * n;
-    case WORKING:
-    case TOTAL_TRANSIT: return k * m;
     case DONE: return 6 * k * k;
     case JOB_WORDS:
     case OWED:
@@ -87,6 +85,13 @@ uint64_t needed(enum table_name name, struct sizes sizes)
     case TOTAL_WORDS: return MOST_BOXES * MOST_BOXES;
     default: return 0;
     }
+}
+
+bool is_packed(enum table_name name) { return name == WORKING || name == TOTAL_TRANSIT; }
+
+uint64_t enough(enum table_name name, struct sizes sizes)
+{
+    return is_packed(name) ? (uint64_t)sizes.grocers + sizes.tallies : needed(name, sizes);
 }
 
 struct range width_range(enum table_name name)

@@ -7,6 +7,7 @@
 #include <stdint.h>
 
 enum { MOST_BOXES = 16, MOST_GROCERS = 255, MOST_OFFERS = 500, MOST_TALLIES = 1000 };
+enum { MOST_TOTALS = MOST_GROCERS + MOST_TALLIES };
 enum { MOST_PRICE = 9999999, MOST_COUNT = 99999, MOST_SENT = 1000000 };
 #define MOST_AMOUNT INT64_C(1000000000000000)
 
@@ -73,8 +74,16 @@ const char *table_text(enum table_name name);
 size_t width_of(enum table_name name);
 bool is_signed(enum table_name name);
 
-/* The words that a table needs for K, M, N and T as given; 0 for those of any length: a file, choices, steps picked. */
+/* Whether a table has a word for each local grocer of each box, and no other: working totals and totals in transit. How
+   many that are goes by the job's owners and tallies (model.h), not by K, M, N and T alone. */
+bool is_packed(enum table_name name);
+
+/* The words that a table needs for K, M, N and T as given; 0 for those of any length: a file, choices, steps picked;
+   and 0 for packed ones. */
 uint64_t needed(enum table_name name, struct sizes sizes);
+
+/* Words that suffice for every job of these sizes. */
+uint64_t enough(enum table_name name, struct sizes sizes);
 
 /* All that a word of the table's width holds. */
 struct range width_range(enum table_name name);

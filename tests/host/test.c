@@ -11,6 +11,7 @@ static void all_groups(void)
     check_cases();
     check_bags();
     check_early();
+    check_packed();
 }
 
 int main(int argc, char **argv) { return run_tests(argc, argv, all_groups); }
