@@ -1,4 +1,5 @@
-/* Our calls beside those of the plain C program, in one run: first that both give the same, then how long each takes.
+/* Our calls beside those of the plain C program, which two compilers have compiled, in one run: first that all give the
+   same, then how long each takes.
    bench              that they agree, and the table
    bench --agree      that they agree, alone
    bench --ours NAME  ours alone, once, on the work of this name: for callgrind
@@ -8,8 +9,14 @@
 #include <stdlib.h>
 #include <string.h>
 
+#define CALLS_OF(by) { by##_read, by##_write, by##_step, by##_run, by##_reconcile }
+#define CALLS(by) CALLS_OF(by)
+static const struct calls by_gcc = CALLS(gcc), by_clang = CALLS(clang);
+#ifdef COUNTED /* gcc or clang: plain C in our place, so that callgrind counts it */
+static const struct calls ours = CALLS(COUNTED);
+#else
 static const struct calls ours = { settlement_read, entries_write, settlement_step, settlement_run, entries_reconcile };
-static const struct calls plain = { plain_read, plain_write, plain_step, plain_run, plain_reconcile };
+#endif
 
 static bool superseded(const struct buffers *b, unsigned tallies, unsigned i)
 {
@@ -37,20 +44,28 @@ static void fail(const char *what)
     exit(1);
 }
 
-/* Calls both sides on the same words: answers and every lent word must agree. The answer; room[0] has the words. */
-static size_t agree(const struct work *w, const char *what)
+/* Plain C on the words of a call of ours that gave this answer: answer and every lent word must agree; room[0] has ours. */
+static void agrees(const struct calls *plain, const struct work *w, size_t answer, const char *what)
 {
-    room[0] = w->start;
     room[1] = w->start;
-    size_t a = call(&ours, w, &room[0]), b = call(&plain, w, &room[1]);
-    if (a != b) {
-        printf("bench: %s: ours answers %zu, plain %zu\n", what, a, b);
+    size_t b = call(plain, w, &room[1]);
+    if (answer != b) {
+        printf("bench: %s: ours answers %zu, plain %zu\n", what, answer, b);
         fail(what);
     }
     if (memcmp(&room[0], &room[1], sizeof room[0]))
         fail(what);
+}
+
+/* Calls both sides on the same words, plain C as either compiler made it. The answer; room[0] has the words. */
+static size_t agree(const struct work *w, const char *what)
+{
+    room[0] = w->start;
+    size_t answer = call(&ours, w, &room[0]);
+    agrees(&by_gcc, w, answer, what);
+    agrees(&by_clang, w, answer, what);
     compared++;
-    return a;
+    return answer;
 }
 
 static size_t agree_on(struct work *w, enum operation operation, const char *what)
@@ -195,21 +210,24 @@ static void agree_at_random(struct work *w)
 
 /* ---- time ---- */
 
-/* Medians of one work. */
+/* Medians of one work: our time over plain C's by either compiler, growth of ours and of the quicker plain C. */
 struct result {
-    double ratio, growth, plain_growth;
+    double gcc, clang, growth, plain_growth;
 };
 
-enum { OURS, PLAIN, OURS_TENTH, PLAIN_TENTH, TIMES };
+enum { OURS, GCC, CLANG, OURS_TENTH, GCC_TENTH, CLANG_TENTH, TIMES };
 
-/* Rounds of four calls: ours and the plain one, on a whole job and on a tenth. */
+/* Rounds of six calls: ours and the two plain ones, on a whole job and on a tenth. */
 static struct result measure(const struct work whole[JOBS], const struct work tenth[JOBS])
 {
     static double t[TIMES][ROUNDS];
-    const struct side sides[TIMES] = { { &ours, whole }, { &plain, whole }, { &ours, tenth }, { &plain, tenth } };
+    const struct side sides[TIMES] = { { &ours, whole }, { &by_gcc, whole }, { &by_clang, whole },
+                                       { &ours, tenth }, { &by_gcc, tenth }, { &by_clang, tenth } };
     unsigned n = rounds(sides, TIMES, room, t);
-    return (struct result){ median_ratio(t[OURS], t[PLAIN], n), median_ratio(t[OURS], t[OURS_TENTH], n),
-                            median_ratio(t[PLAIN], t[PLAIN_TENTH], n) };
+    double gcc = median_ratio(t[OURS], t[GCC], n), clang = median_ratio(t[OURS], t[CLANG], n);
+    bool quicker = gcc > clang;
+    return (struct result){ gcc, clang, median_ratio(t[OURS], t[OURS_TENTH], n),
+                            median_ratio(t[quicker ? GCC : CLANG], t[quicker ? GCC_TENTH : CLANG_TENTH], n) };
 }
 
 /* ---- the works that are measured ---- */
@@ -259,7 +277,7 @@ static void prepare_step(struct work *w, unsigned kind)
         w->first = (uint16_t)((7 + i / BOXES) % BOXES);
         w->second = (uint16_t)(w->kind == 2 || w->kind == 5 ? w->first : i % BOXES);
         room[0] = w->start;
-        if (call(&plain, w, &room[0]))
+        if (call(&by_gcc, w, &room[0]))
             continue;
         if (w->kind == kind)
             return;
@@ -274,7 +292,7 @@ static void prepare(struct work *w, const struct item *item, bool whole, unsigne
     make_measured(w, whole, item->issuers, item->bags, number);
     if (item->operation == READ) {
         w->operation = WRITE;
-        w->file_len = call(&plain, w, &w->start);
+        w->file_len = call(&by_gcc, w, &w->start);
     }
     if (item->operation == STEP)
         prepare_step(w, item->kind);
@@ -324,13 +342,15 @@ static void agree_on_works(void)
     }
 }
 
+/* `ours/C` is over the quicker of the two. */
 static void table(void)
 {
-    printf("%-31s | %6s | %6s | %8s\n", "what", "ours/C", "growth", "C's own");
+    printf("%-31s | %6s | %6s | %6s | %6s | %8s\n", "what", "ours/C", "gcc", "clang", "growth", "C's own");
     for (unsigned i = 0; i < ITEMS; i++) {
         prepare_all(&items[i], whole_jobs, tenth_jobs);
         struct result r = measure(whole_jobs, tenth_jobs);
-        printf("%-31s | %6.2f | %6.2f | %8.2f\n", items[i].what, r.ratio, r.growth, r.plain_growth);
+        printf("%-31s | %6.2f | %6.2f | %6.2f | %6.2f | %8.2f\n", items[i].what, r.gcc > r.clang ? r.gcc : r.clang, r.gcc,
+               r.clang, r.growth, r.plain_growth);
         fflush(stdout);
     }
 }

@@ -1,5 +1,6 @@
 /* The calls that are measured: ours, those of host/settlement.h and two of tests/calls/entries.h, and beside each the one of
-   the plain C program. A slice is a pointer and then its number of words. The answer is 0, or the number of the refusal. */
+   the plain C program. A slice is a pointer and then its number of words. The answer is 0, or the number of the refusal.
+   plain.c is compiled by gcc and by the kit's clang, and bench/run gives its calls the name of the compiler. */
 #ifndef BENCH_H
 #define BENCH_H
 #include "entries.h"
@@ -21,10 +22,13 @@ typedef __typeof__(settlement_run) run_call;
 typedef __typeof__(entries_write) write_call;
 typedef __typeof__(entries_reconcile) reconcile_call;
 
-read_call plain_read;
-step_call plain_step;
-run_call plain_run;
-write_call plain_write;
-reconcile_call plain_reconcile;
+#define PLAIN_CALLS(by)                                                                                               \
+    extern read_call by##_read;                                                                                       \
+    extern step_call by##_step;                                                                                       \
+    extern run_call by##_run;                                                                                         \
+    extern write_call by##_write;                                                                                     \
+    extern reconcile_call by##_reconcile;
+PLAIN_CALLS(gcc)
+PLAIN_CALLS(clang)
 
 #endif

@@ -30,6 +30,12 @@ copied-more {g} {to} {k} {l} {l′} v c h q =
       past = λ i m. getD-set-other l′ (to + k) i v 0 (λ e. omega arith) ∙ c .past i (omega arith);
     }
 
+-- The first byte.
+pub copied-first : {g : ℕ → ℕ} {to : ℕ} {l : List ℕ} (v : ℕ) → to < length l → v ≡ g 0 → Copied g to 1 l (set l to v)
+copied-first {g} {to} {l} v h q =
+    let e : to + 0 ≡ to = omega arith in
+    subst (λ (p : ℕ). Copied g to 1 l (set l p v)) e (copied-more v (copied-none g to l) (omega arith) q)
+
 -- The bytes of the code that eleven bytes say are those bytes.
 pub code-byte : (g : ℕ → ℕ) (k : ℕ) → k < 11 → getD (codeBytes (readCode g)) k 0 ≡ g k
 code-byte g k h = ap (λ (x : List ℕ). getD x k 0) eleven ∙ getD-tabulate 11 g k 0 h

@@ -1,51 +1,82 @@
--- `file_codes::copy_code` meets its contract. The invariant: the first k bytes are copied. Assumes nothing.
-use mathlib.Core.Path.{_≡_, refl}
-use Prim.Native.Nat.{_≤_, _-_}
+-- `file_codes::copy_code` meets its contract: eleven bytes are put, one after the other. Assumes nothing.
+use mathlib.Core.Path.{_≡_, refl, ap}
+use Prim.Native.Nat.{ℕ, _≤_}
 use native.Mathlib.Omega.{arith}
-use lib.ListN.{length, length-set}
+use lib.ListN.{length, length-set, getD}
 use borrow.Author.Needs.{needs}
-use Rattle.format.specs.Bytes.{from}
-use Rattle.file_codes.specs.Copied.{Copied}
-use Rattle.file_codes.proofs.Codes.{copied-none, copied-more}
+use denote.Ref.{now}
+use Rattle.file_codes.proofs.Codes.{copied-first, copied-more}
 use Rattle.file_codes.proofs.copy_code.Statement.{statement}
 use Rattle.file_codes.proofs.copy_code.Tie as tie
 
-abbrev Inv-loop : tie.InvT-loop
-Inv-loop f at code₀ to k₀ code k = (k ≤ 11) × (length code ≡ length code₀) × Copied (from f at) to k code₀ code
+abbrev entry : tie.After-shared-slice-known11 → tie.Start
+entry c = c .before .before .before .before .before .before .before .before .before .before .before
 
-abbrev μ-loop : tie.MeasureT-loop
-μ-loop f at code₀ to k₀ code k = 11 - k
+same-length : tie.Need-same-length
+same-length c = simp length-set refl
 
-loop-holds : tie.Need-loop-holds Inv-loop μ-loop
-loop-holds c = (omega arith, refl, copied-none _ _ _)
-
-loop-again : tie.Need-loop-again Inv-loop μ-loop
-loop-again c =
-    let l = c .before .before in
-    (omega arith, simp length-set (l .loop .inv .1), copied-more _ (l .loop .inv .2) (omega arith) refl)
-
-same-length : tie.Need-same-length Inv-loop μ-loop
-same-length c = c .before .loop .inv .1
-
-returns : tie.Need-returns Inv-loop μ-loop
+returns : tie.Need-returns
 returns c =
-    let l = c .before in
-    let e : l .loop .k ≡ 11 = omega arith in
-    rw e at (l .loop .inv .2)
+    let h = entry c .pre .1 in
+    copied-more _ (copied-more _ (copied-more _ (copied-more _ (copied-more _
+    (copied-more _ (copied-more _ (copied-more _ (copied-more _ (copied-more _
+    (copied-first _ (omega (arith, h)) (ap (λ (p : ℕ). getD (now (entry c .args .f)) p 0) (omega arith)))
+    (simp length-set (omega (arith, h))) refl)
+    (simp length-set (omega (arith, h))) refl)
+    (simp length-set (omega (arith, h))) refl)
+    (simp length-set (omega (arith, h))) refl)
+    (simp length-set (omega (arith, h))) refl)
+    (simp length-set (omega (arith, h))) refl)
+    (simp length-set (omega (arith, h))) refl)
+    (simp length-set (omega (arith, h))) refl)
+    (simp length-set (omega (arith, h))) refl)
+    (simp length-set (omega (arith, h))) refl
 
 pub copy-code-spec : {M : Type 1} → statement M
 copy-code-spec =
     tie.close
     (tie.spec
-    Inv-loop
-    μ-loop
-    loop-holds
     (λ c. search needs)
     (λ c. search needs)
     (λ c. search needs)
     (λ c. search needs)
     (λ c. search needs)
     (λ c. search needs)
-    loop-again
+    (λ c. search needs)
+    (λ c. search needs)
+    (λ c. search needs)
+    (λ c. search needs)
+    (λ c. search needs)
+    (λ c. search needs)
+    (λ c. search needs)
+    (λ c. search needs)
+    (λ c. search needs)
+    (λ c. search needs)
+    (λ c. search needs)
+    (λ c. search needs)
+    (λ c. search needs)
+    (λ c. search needs)
+    (λ c. search needs)
+    (λ c. search (needs, entry c .pre .1))
+    (λ c. search (needs, entry c .pre .1))
+    (λ c. simp length-set (omega (arith, entry c .pre .1)))
+    (λ c. search (needs, entry c .pre .1))
+    (λ c. simp length-set (omega (arith, entry c .pre .1)))
+    (λ c. search (needs, entry c .pre .1))
+    (λ c. simp length-set (omega (arith, entry c .pre .1)))
+    (λ c. search (needs, entry c .pre .1))
+    (λ c. simp length-set (omega (arith, entry c .pre .1)))
+    (λ c. search (needs, entry c .pre .1))
+    (λ c. simp length-set (omega (arith, entry c .pre .1)))
+    (λ c. search (needs, entry c .pre .1))
+    (λ c. simp length-set (omega (arith, entry c .pre .1)))
+    (λ c. search (needs, entry c .pre .1))
+    (λ c. simp length-set (omega (arith, entry c .pre .1)))
+    (λ c. search (needs, entry c .pre .1))
+    (λ c. simp length-set (omega (arith, entry c .pre .1)))
+    (λ c. search (needs, entry c .pre .1))
+    (λ c. simp length-set (omega (arith, entry c .pre .1)))
+    (λ c. search (needs, entry c .pre .1))
+    (λ c. simp length-set (omega (arith, entry c .pre .1)))
     same-length
     returns)
