@@ -26,6 +26,22 @@ static bool superseded(const struct buffers *b, unsigned tallies, unsigned i)
     return false;
 }
 
+/* How many words the packed totals of a job have: of each box one for each own grocer, and one for each other that it has a
+   standing tally of. */
+static unsigned packed_words(const struct work *w)
+{
+    bool has[BOXES][GROCERS] = { { false } };
+    const struct buffers *b = &w->start;
+    unsigned words = 0;
+    for (unsigned i = 0; i < w->tallies; i++)
+        if (!superseded(b, w->tallies, i))
+            has[b->tally_box[i]][b->tally_grocer[i]] = true;
+    for (unsigned g = 0; g < w->grocers; g++)
+        for (unsigned a = 0; a < w->boxes; a++)
+            words += has[a][g] || b->grocer_owner[g] == a;
+    return words;
+}
+
 static void make_fresh(struct work *w)
 {
     struct buffers *b = &w->start;
@@ -99,6 +115,15 @@ static void wrong_names(struct work *w)
     }
 }
 
+static size_t whole_or(size_t words) { return below(8) ? TOTALS + MORE : words; }
+
+/* Each table of totals whole, or about as long as the job's packed totals. */
+static void lend_totals(struct work *w, unsigned words)
+{
+    w->working_len = whole_or(words + 1 - below(3));
+    w->total_transit_len = whole_or(words + 1 - below(3));
+}
+
 /* Every call on a job in which some tally's bag and revision are another one's, for the same grocer and offer or nearly. */
 static void wrong_bags(struct work *w)
 {
@@ -113,12 +138,14 @@ static void wrong_bags(struct work *w)
         b->tally_revision[t] = (uint16_t)(b->tally_revision[from] + (below(4) == 0));
         w->wanted = b->tally_grocer[t];
         w->picked_len = below(SETTLEMENT_MAX_STEPS);
+        w->working_len = whole_or(below(w->grocers)); /* shorter than any job's, which is refused behind the bag */
         agree_on(w, WRITE, "writer of a bag counted twice");
         agree_on(w, RUN, "run of a bag counted twice");
         agree_on(w, STEP, "step of a bag counted twice");
         agree_on(w, RECONCILE, "reconciliation of a bag counted twice");
         *b = kept;
     }
+    w->working_len = TOTALS + MORE;
 }
 
 /* A byte of a block: any, or one of an issuer, a bag or a revision where the block has records of 24 bytes. */
@@ -144,21 +171,37 @@ static void damage(struct work *w)
     }
 }
 
-/* Requests of all kinds, wild ones too, on one state; some words are put out of range for one request. */
+/* A word of a state gets another value: any byte of the prices, or of so many packed totals one, the one behind them or
+   any, the largest amount or one more. */
+static void spoil(struct buffers *b, unsigned words)
+{
+    int64_t *totals = below(2) ? b->working : b->total_transit, amount = 1000000000000000 + (int64_t)below(2);
+    if (below(2))
+        *((uint8_t *)b->known + below(sizeof b->known + sizeof b->price_transit)) = (uint8_t)below(256);
+    else
+        totals[below(2) ? below(words) : words - below(2)] = below(2) ? amount : -amount;
+}
+
+/* Requests of all kinds, wild ones too, on one state; some words are put out of range for one request, and some lend the
+   packed totals short. */
 static void request_list(struct work *w)
 {
+    static struct buffers kept;
+    unsigned words = packed_words(w);
     for (unsigned i = 0; i < 400; i++) {
+        bool spoilt = !below(10);
+        lend_totals(w, words);
         w->kind = (uint16_t)(below(40) ? 1 + below(6) : below(9));
         w->first = (uint16_t)(below(40) ? below(w->boxes) : below(20));
         w->second = (uint16_t)(w->kind == 2 || w->kind == 5 ? w->first : below(w->boxes));
-        uint8_t *word = (uint8_t *)w->start.known + below(sizeof w->start.known + sizeof w->start.price_transit);
-        uint8_t old = *word;
-        if (!below(20))
-            *word = (uint8_t)below(256);
+        if (spoilt) {
+            kept = w->start;
+            spoil(&w->start, words);
+        }
         if (agree_on(w, STEP, "step") == 0)
             w->start = room[0];
-        else
-            *word = old;
+        else if (spoilt)
+            w->start = kept;
     }
 }
 
@@ -173,9 +216,14 @@ static void statements_right(const struct work *w)
         fail("statements and the plain sums");
 }
 
+/* Runs, on old totals that are out of range. */
 static void run_both(struct work *w)
 {
+    unsigned words = packed_words(w);
+    memset(w->start.working, 0xa5, sizeof w->start.working);
+    memset(w->start.total_transit, 0xa5, sizeof w->start.total_transit);
     for (unsigned i = 0; i < 3; i++) {
+        lend_totals(w, words);
         w->choices_len = i == 0 ? 0 : below(TALLIES + 1);
         for (unsigned c = 0; c < w->choices_len; c++)
             w->choices[c] = (uint16_t)below(65536);
@@ -185,6 +233,8 @@ static void run_both(struct work *w)
     }
     w->choices_len = 0;
     w->picked_len = 0;
+    memset(w->start.working, 0, sizeof w->start.working);
+    memset(w->start.total_transit, 0, sizeof w->start.total_transit);
 }
 
 static void agree_at_random(struct work *w)

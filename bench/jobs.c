@@ -11,8 +11,8 @@
 #define TABLES                                                                                                        \
     SIZES, WORDS(b->price), WORDS(b->offer_owner), WORDS(b->grocer_owner), WORDS(b->tally_grocer),                    \
         WORDS(b->tally_box), WORDS(b->tally_offer), WORDS(b->tally_count), WORDS(b->tally_bag),                       \
-        WORDS(b->tally_revision), WORDS(b->known), WORDS(b->price_transit), WORDS(b->working),                        \
-        WORDS(b->total_transit), WORDS(b->statement), WORDS(b->done), WORDS(b->sent)
+        WORDS(b->tally_revision), WORDS(b->known), WORDS(b->price_transit), b->working, w->working_len,               \
+        b->total_transit, w->total_transit_len, WORDS(b->statement), WORDS(b->done), WORDS(b->sent)
 
 size_t call(const struct calls *c, const struct work *w, struct buffers *b)
 {
@@ -88,6 +88,7 @@ void make_job(struct work *w, unsigned k, unsigned m, unsigned n, unsigned t)
     struct buffers *b = &w->start;
     memset(w, 0, sizeof *w);
     lend_all(&w->lent);
+    w->working_len = w->total_transit_len = TOTALS + MORE;
     w->boxes = (uint16_t)k;
     w->grocers = (uint16_t)m;
     w->offers = (uint16_t)n;

@@ -37,7 +37,7 @@ struct buffers {
     FILE_TABLES(TABLE)
 #undef TABLE
     uint32_t known[BOXES * OFFERS], price_transit[BOXES * OFFERS];
-    int64_t working[BOXES * GROCERS], total_transit[BOXES * GROCERS], statement[GROCERS];
+    int64_t working[TOTALS + MORE], total_transit[TOTALS + MORE], statement[GROCERS];
     uint16_t done[6 * BOXES * BOXES], picked[SETTLEMENT_MAX_STEPS + MORE];
     uint32_t sent[1], report[3];
     int64_t owed[1];
@@ -57,6 +57,7 @@ struct work {
     enum operation operation;
     struct buffers start;
     struct lengths lent;
+    size_t working_len, total_transit_len;
     uint16_t boxes, grocers, offers, tallies, cycle;
     size_t file_len;
     uint16_t kind, first, second;
