@@ -90,7 +90,7 @@ module _ (f : JobTables) (bare : f .tallyBag ≡ []) (r : InRange (jobOf f)) (fe
   start-next b = sum-suc b (λ c. length (localGrocers (jobOf f) c))
 
   -- Boxes are within the packed tables.
-  box-within : (b : ℕ) → b < f .boxes → totalsStart (jobOf f) (suc b) ≤ totalsLength (jobOf f)
+  pub box-within : (b : ℕ) → b < f .boxes → totalsStart (jobOf f) (suc b) ≤ totalsLength (jobOf f)
   unfolding totalsLength totalsStart jobOf
   box-within b lb = sum-mono (suc b) (f .boxes) (λ c. length (localGrocers (jobOf f) c)) lb
 
@@ -136,7 +136,7 @@ module _ (f : JobTables) (bare : f .tallyBag ≡ []) (r : InRange (jobOf f)) (fe
   unfolding putAt
   length-put list old l start = length-tabulate (length old) _
 
-  spans-in : (kind a b : ℕ) → a < f .boxes → b < f .boxes → (spanBox kind a b < f .boxes) × (spanGroup kind a b ≤ f .boxes)
+  pub spans-in : (kind a b : ℕ) → a < f .boxes → b < f .boxes → (spanBox kind a b < f .boxes) × (spanGroup kind a b ≤ f .boxes)
   unfolding spanBox spanGroup
   spans-in kind a b la lb = (
     cond-either (λ (x : ℕ). x < f .boxes) (eqb kind 6) b a lb la,

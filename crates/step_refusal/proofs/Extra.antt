@@ -18,7 +18,7 @@ met-first (r ∷ rs) ss h =
 
 -- Every number of a list is more than 0.
 abbrev pub Numbered : List (Bool × ℕ) → Type 0
-Numbered [] = ⊤
+Numbered [] = Unit {0}
 Numbered (r ∷ rs) = (0 < r .1) × Numbered rs
 
 -- Where none of the first list is met, the second decides.

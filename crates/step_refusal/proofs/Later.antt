@@ -2,10 +2,13 @@
 use mathlib.Core.Path.{_≡_, refl, sym, ap, _∙_}
 use mathlib.Core.Bool.{Bool, true, false, cond, not, _&&_}
 use mathlib.Core.List.{List}
-use Prim.Native.Nat.{ℕ, _≤_}
+use Prim.Native.Nat.{ℕ, _<_, _≤_}
+use lib.Dec.{ltb}
+use borrow.Author.Tests.{ltb-true}
 use native.Mathlib.Omega.{arith}
 use Rattle.laws.specs.Checks.{firstMet}
 use Rattle.laws.specs.Tables.{tabulate}
+use Rattle.laws.proofs.Bools.{split, and-l, and-r}
 use Rattle.model.specs.Job.{needWord}
 use Rattle.model.specs.Steps.{kindOf, Steps, fits, ready}
 use Rattle.model.specs.Tables.{JobTables, jobOf, StateTables, view, stepsDone}
@@ -74,6 +77,15 @@ module _ (f : JobTables) (t : StateTables) (h : Held f t) where
           in-order (isKind (q .kind)) (boxesFit (jobOf f) (kindOf (q .kind)) (q .first) (q .second)) (fits (jobOf f) (kindOf (q .kind)) (q .first) (q .second))
           (steps (kindOf (q .kind)) (q .first) (q .second)) (ready (jobOf f) steps (kindOf (q .kind)) (q .first) (q .second)) (sym rules-model ∙ z)
 
+      -- Both boxes are boxes of the job.
+      pub boxes-below : (q .first < f .boxes) × (q .second < f .boxes)
+      unfolding boxesFit jobOf
+      boxes-below =
+          let h = kind-boxes .1 in
+          let x = ltb (q .first) (f .boxes) in
+          let y = ltb (q .second) (f .boxes) in
+          (ltb-true (q .first) (f .boxes) (and-l x _ h), ltb-true (q .second) (f .boxes) (and-l y _ (and-r x _ h)))
+
       -- What is asked of the step that is applied.
       pub applies : (needs places : List ℕ) (from to : ℕ) (grocers : List ℕ) → (q .kind ≤ 3 → needs ≡ tabulate 500 (needWord (jobOf f))) → (2 ≤ q .kind → q .kind ≤ 3 → Spots f (q .first) places) →
           (4 ≤ q .kind → SpanOf (jobOf f) (q .kind) (q .first) (q .second) from to grocers) → Applies f t needs places from to grocers q
@@ -100,8 +112,11 @@ module _ (f : JobTables) (t : StateTables) (h : Held f t) where
             ∙ ap (λ (b : Bool). cond {A = ℕ} (not b) 21 0) (sym ev)
 
         -- The late 21, and none.
-        pub later-late : not v ≡ true → 21 ≡ firstMet (laterRules f t q)
+        later-late : not v ≡ true → 21 ≡ firstMet (laterRules f t q)
         later-late e = sym (late-decides ∙ rw e)
 
-        pub later-none : not v ≡ false → 0 ≡ firstMet (laterRules f t q)
+        later-none : not v ≡ false → 0 ≡ firstMet (laterRules f t q)
         later-none e = sym (late-decides ∙ rw e)
+
+        pub verdict : cond v 0 21 ≡ firstMet (laterRules f t q)
+        verdict = split v (λ y. rw y (later-none (ap not y))) (λ n. rw n (later-late (ap not n)))

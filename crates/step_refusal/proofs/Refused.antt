@@ -1,18 +1,28 @@
 -- The conditions on the tables, and the whole answer in two parts. Assumes nothing.
-use mathlib.Core.Path.{_≡_, refl, sym, _∙_, subst}
+use mathlib.Core.Path.{_≡_, refl, sym, ap, _∙_, subst}
 use mathlib.Core.Bool.{Bool, true, false, cond, _&&_, _||_, not}
-use mathlib.Core.List.{List}
-use Prim.Native.Nat.{ℕ}
+use mathlib.Core.List.{List, [], _∷_}
+use Prim.Native.Nat.{ℕ, _<_}
+use lib.Dec.{ltb}
+use lib.ListN.{length, getD}
 use native.Mathlib.Omega.{arith}
 use Rattle.laws.specs.Checks.{firstMet}
+use Rattle.laws.specs.Limits.{maxAmount}
+use Rattle.laws.specs.Tables.{tabulate}
+use Rattle.laws.proofs.Tables.{length-tabulate}
 use Rattle.laws.proofs.Bools.{and-l, and-r, or-off}
 use Rattle.recount.specs.Recount.{countedTwice}
-use Rattle.model.specs.Job.{Job}
+use Rattle.model.specs.Job.{Job, sharerWord}
+use Rattle.model.specs.PackedTotals.{totalsLength}
 use Rattle.model.specs.Tables.{JobTables, countedOf, jobOf, jobLengths, jobShort, bagsShort, StateTables, stateLengths, stateShort, lentShort, totalsShort}
-use Rattle.model.specs.Ranges.{jobInRange, stateInRange, totalsInRange}
+use Rattle.model.specs.Ranges.{around, jobInRange, stateInRange, totalsInRange}
 use Rattle.model.specs.Step.{Asked, refusals, stepRefusal}
 use Rattle.model.specs.Handed.{handedTables, Standing, Handed}
 use Rattle.model.proofs.Handed.{handed-job, handed-whole, handed-in, handed-refusal}
+use Rattle.model.proofs.Step.{JobIn, job-in, under-at}
+use Rattle.model.proofs.Whole.{JobWhole}
+use Rattle.book_keys.specs.Keys.{TalliesIn}
+use Rattle.book_places.specs.Spots.{CountIn, BoxIn}
 use Rattle.job_checks.specs.Sizes.{sizes}
 use Rattle.step_refusal.specs.Late.{earlyRules, packedRules, tableRules, laterRules, Held}
 use Rattle.job_checks.proofs.Sizes.{short-sizes, range-sizes}
@@ -140,3 +150,50 @@ module _ (f : JobTables) (t : StateTables) (z : firstMet (earlyRules f t) ≡ 0)
   job-whole-at =
       let l = or-off (jobShort f (jobLengths f) || bagsShort f (jobLengths f)) (stateShort f (stateLengths t)) (off .0) in
       handed-whole f standing s (or-off (jobShort f (jobLengths f)) (bagsShort f (jobLengths f)) (l .0) .0)
+
+-- What the test of the packed tables says, where it is told their length.
+pub packed-told : (j : Job) (t : StateTables) (words : ℕ) → words ≡ totalsLength j →
+    firstMet ((ltb (length (t .working)) words || ltb (length (t .totalTransit)) words, 20)
+    ∷ (not (around maxAmount words (t .working) && around maxAmount words (t .totalTransit)), 21) ∷ []) ≡ firstMet (packedRules j t)
+unfolding packedRules totalsShort totalsInRange stateLengths
+packed-told j t words e = rw e
+
+-- The grocers and tallies of a job as handed, as the calls that make places ask for them.
+module _ (f : JobTables) (h : Handed f) (w : JobWhole f) (words : List ℕ) (ew : words ≡ tabulate 255 (sharerWord (jobOf f))) where
+  long : length words ≡ 255
+  long = ap length ew ∙ length-tabulate 255 (sharerWord (jobOf f))
+
+  in-range : JobIn f
+  in-range = job-in f (h .inside)
+
+  owner-below : (g : ℕ) → g < f .grocers → getD (f .grocerOwner) g 0 < f .boxes
+  owner-below g l = under-at (f .boxes) (f .grocers) (f .grocerOwner) g (in-range .grocerOwner) l
+
+  pub count-in : CountIn (f .grocers) (f .grocerOwner) words
+  count-in = record {
+    m-in = omega (arith, in-range .grocers≤);
+    owners-long = w .grocerOwner;
+    words-long = omega (arith, in-range .grocers≤, long);
+    owner-in = λ g l. omega (arith, owner-below g l, in-range .boxes≤);
+  }
+
+  pub box-in : (b : ℕ) → b < f .boxes → BoxIn (f .boxes) (f .grocers) b (f .grocerOwner) words
+  box-in b l = record {
+    owners-in = record {
+      k-in = in-range .boxes≤;
+      n-in = omega (arith, in-range .grocers≤);
+      owners-long = w .grocerOwner;
+      owner-in = owner-below;
+    };
+    m-in = in-range .grocers≤;
+    words-long = omega (arith, in-range .grocers≤, long);
+    box-in = l;
+  }
+
+  pub tallies-placed : TalliesIn (f .tallyBox) (f .tallyGrocer) (f .tallies)
+  tallies-placed = record {
+    tallies-in = in-range .tallies≤;
+    boxes-long = w .tallyBox;
+    items-long = w .tallyGrocer;
+    item-in = λ t l. omega (arith, under-at (f .grocers) (f .tallies) (f .tallyGrocer) t (in-range .tallyGrocer) l, in-range .grocers≤);
+  }

@@ -2,7 +2,7 @@
 use mathlib.Core.Path.{_≡_}
 use mathlib.Core.Bool.{Bool, true, false, _&&_, not}
 use mathlib.Core.List.{List, [], _∷_, _++_}
-use Prim.Native.Nat.{ℕ, _+_}
+use Prim.Native.Nat.{ℕ, _+_, _≤_}
 use lib.ListN.{length}
 use Rattle.laws.specs.Checks.{firstMet}
 use Rattle.laws.specs.Tables.{tabulate, overwrite}
@@ -63,4 +63,5 @@ pub record Decided (f : JobTables) (t : StateTables) (q : Asked) (needs places :
 pub record OwnPlaces (k m : ℕ) (owners words : List ℕ) (b n : ℕ) (boxes items before : List ℕ) (from to : ℕ) (after : List ℕ) : Type 0 where
   pub from-is : from ≡ startBy m owners words b
   pub to-is : to ≡ startBy m owners words b + length (listBy k m owners words b)
+  pub long : n ≤ length before
   pub places-are : after ≡ overwrite n (spotBy k m owners words b boxes items) before

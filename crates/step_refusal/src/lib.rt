@@ -362,7 +362,7 @@ pub struct Judged {
 }
 
 // A number that is met, and no span.
-fn refused(met: u16) -> Judged
+fn no_span(met: u16) -> Judged
     ensures { λ r. ⌜ r .met ≡ met ⌝ }
 {
     Judged {
@@ -427,7 +427,7 @@ pub fn total_refusal(
         &mut sharers,
     );
     if tested != 0 {
-        return refused(tested);
+        return no_span(tested);
     }
     let r = totals_asked(
         z,
@@ -440,7 +440,7 @@ pub fn total_refusal(
         x,
     );
     if r != 0 {
-        return refused(r);
+        return no_span(r);
     }
     let span = box_span(
         z.boxes,

@@ -1,7 +1,9 @@
 -- `step_refusal::early_refusal` meets its contract: each number is that of the first condition that is met. Assumes nothing.
 use mathlib.Core.Path.{_≡_, _∙_}
 use mathlib.Core.Bool.{true, false}
+use mathlib.Core.List.{List, []}
 use Prim.Native.Nat.{_≤_}
+use lib.IntN.{ℤ}
 use native.Mathlib.Omega.{arith}
 use Rattle.model.specs.Tables.{JobTables, bagTables, StateTables, stateTables, countedOf, jobLengths, jobShort, bagsShort}
 use Rattle.model.specs.Ranges.{jobInRange}
@@ -21,9 +23,8 @@ job s = bagTables (s .args .z .boxes) (s .args .z .grocers) (s .args .z .offers)
     (now (s .args .tally-grocer)) (now (s .args .tally-box)) (now (s .args .tally-offer)) (now (s .args .tally-count)) (now (s .args .tally-bag)) (now (s .args .tally-revision))
 
 -- Whatever the packed totals are.
-module _ (working totals : List ℤ) where
-  abbrev state : tie.Start → StateTables
-  state s = stateTables (now (s .args .known)) (now (s .args .price-transit)) working totals (now (s .args .statement)) (now (s .args .done)) (now (s .args .sent))
+abbrev state : (working totals : List ℤ) → tie.Start → StateTables
+state working totals s = stateTables (now (s .args .known)) (now (s .args .price-transit)) working totals (now (s .args .statement)) (now (s .args .done)) (now (s .args .sent))
 
 -- The start, from the three tests of lengths.
 abbrev lent : tie.After-shared-slice-known5 → tie.Start
@@ -51,15 +52,15 @@ unfolding bagsShort jobLengths
 bags-told c = c .before .bags-short .ensures
 
 returns : tie.Need-returns
-returns c =
+returns c = λ working totals.
     let s = start (c .before) in
     record {
-      number-is = met-short (job s) (state s) _ _ _ (job-told (c .before)) (bags-told (c .before)) (c .before .state-short .ensures) (c .if1 .taken);
+      number-is = met-short (job s) (state working totals s) _ _ _ (job-told (c .before)) (bags-told (c .before)) (c .before .state-short .ensures working totals) (c .if1 .taken);
       standing-are = λ z. absurd (omega arith);
     }
 
 whole : (c : tie.Else1) → jobShort (job (entry c)) (jobLengths (job (entry c))) ≡ false
-whole c = job-long (job (entry c)) (state (entry c)) _ _ _ (job-told (c .before)) (bags-told (c .before)) (c .before .state-short .ensures) (c .if1 .left)
+whole c = job-long (job (entry c)) (state [] [] (entry c)) _ _ _ (job-told (c .before)) (bags-told (c .before)) (c .before .state-short .ensures [] []) (c .if1 .left)
 
 job-in-range-requires : tie.Need-job-in-range-requires
 unfolding jobShort jobLengths
@@ -68,7 +69,7 @@ job-in-range-requires c κs = whole c
 state-in-range-requires : tie.Need-state-in-range-requires
 state-in-range-requires c κs =
     let e = c .before in
-    state-long (job (entry e)) (state (entry e)) _ _ _ (job-told (e .before)) (bags-told (e .before)) (e .before .state-short .ensures) (e .if1 .left)
+    state-long (job (entry e)) (state [] [] (entry e)) _ _ _ (job-told (e .before)) (bags-told (e .before)) (e .before .state-short .ensures [] []) (e .if1 .left)
 
 -- What the tests of ranges say.
 abbrev measured : tie.After-state-in-range → tie.Else1
@@ -78,11 +79,11 @@ job-ranged : (c : tie.After-state-in-range) → c .before .job-in-range .result 
 job-ranged c = c .before .job-in-range .ensures ∙ bare-range (job (entry (measured c)))
 
 returns-2 : tie.Need-returns-2
-returns-2 c =
+returns-2 c = λ working totals.
     let e = measured (c .before) in
     record {
-      number-is = met-range (job (entry e)) (state (entry e)) _ _ _ (job-told (e .before)) (bags-told (e .before)) (e .before .state-short .ensures) (e .if1 .left) _ _
-          (job-ranged (c .before)) (c .before .state-in-range .ensures) (c .if2 .taken);
+      number-is = met-range (job (entry e)) (state working totals (entry e)) _ _ _ (job-told (e .before)) (bags-told (e .before)) (e .before .state-short .ensures working totals) (e .if1 .left) _ _
+          (job-ranged (c .before)) (c .before .state-in-range .ensures working totals) (c .if2 .taken);
       standing-are = λ z. absurd (omega arith);
     }
 
@@ -93,8 +94,8 @@ whole-at c = measured (c .before)
 inside : (c : tie.Else2) → jobInRange (job (entry (whole-at c))) ≡ true
 inside c =
     let e = whole-at c in
-    job-inside (job (entry e)) (state (entry e)) _ _ _ (job-told (e .before)) (bags-told (e .before)) (e .before .state-short .ensures) (e .if1 .left) _ _
-    (job-ranged (c .before)) (c .before .state-in-range .ensures) (c .if2 .left)
+    job-inside (job (entry e)) (state [] [] (entry e)) _ _ _ (job-told (e .before)) (bags-told (e .before)) (e .before .state-short .ensures [] []) (e .if1 .left) _ _
+    (job-ranged (c .before)) (c .before .state-in-range .ensures [] []) (c .if2 .left)
 
 few : (c : tie.Else2) → entry (whole-at c) .args .z .tallies ≤ 1_000
 few c = let f = job (entry (whole-at c)) in job-in f (in-handed f (inside c)) .tallies≤
@@ -107,7 +108,7 @@ unfolding jobLengths
 standing-boxes-requires c κs =
     let e = whole-at (c .before .before) in
     let f = job (entry e) in (
-      columns-in f (whole e) (bags-long f (state (entry e)) _ _ _ (job-told (e .before)) (bags-told (e .before)) (e .before .state-short .ensures) (e .if1 .left)) (inside (c .before .before)),
+      columns-in f (whole e) (bags-long f (state [] [] (entry e)) _ _ _ (job-told (e .before)) (bags-told (e .before)) (e .before .state-short .ensures [] []) (e .if1 .left)) (inside (c .before .before)),
       (long-tables f (jobLengths f) (whole e) .tallyBox, omega (arith, few (c .before .before), c .standing-boxes-arg .given .0 .1)),
     )
 
@@ -116,25 +117,25 @@ unfolding countedOf
 twice-told c = c .standing-boxes .ensures .0
 
 returns-3 : tie.Need-returns-3
-returns-3 c =
+returns-3 c = λ working totals.
     let t = c .before in
     let o = t .before .before .before in
     let e = whole-at o in
     record {
-      number-is = met-twice (job (entry e)) (state (entry e)) _ _ _ (job-told (e .before)) (bags-told (e .before)) (e .before .state-short .ensures) (e .if1 .left) _ _
-          (job-ranged (o .before)) (o .before .state-in-range .ensures) (o .if2 .left) _ (twice-told t) (c .if3 .taken);
+      number-is = met-twice (job (entry e)) (state working totals (entry e)) _ _ _ (job-told (e .before)) (bags-told (e .before)) (e .before .state-short .ensures working totals) (e .if1 .left) _ _
+          (job-ranged (o .before)) (o .before .state-in-range .ensures working totals) (o .if2 .left) _ (twice-told t) (c .if3 .taken);
       standing-are = λ z. absurd (omega arith);
     }
 
 returns-4 : tie.Need-returns-4
 unfolding countedOf
-returns-4 c =
+returns-4 c = λ working totals.
     let t = c .before in
     let o = t .before .before .before in
     let e = whole-at o in
     record {
-      number-is = met-none (job (entry e)) (state (entry e)) _ _ _ (job-told (e .before)) (bags-told (e .before)) (e .before .state-short .ensures) (e .if1 .left) _ _
-          (job-ranged (o .before)) (o .before .state-in-range .ensures) (o .if2 .left) _ (twice-told t) (c .if3 .left);
+      number-is = met-none (job (entry e)) (state working totals (entry e)) _ _ _ (job-told (e .before)) (bags-told (e .before)) (e .before .state-short .ensures working totals) (e .if1 .left) _ _
+          (job-ranged (o .before)) (o .before .state-in-range .ensures working totals) (o .if2 .left) _ (twice-told t) (c .if3 .left);
       standing-are = λ z. standing-boxes (job (entry e)) _ (t .standing-boxes .ensures .1 (c .if3 .left));
     }
 

@@ -1,32 +1,35 @@
--- `step_refusal::refusal` meets its contract: its number is that of the first condition met. Assumes nothing.
+-- `step_refusal::price_refusal` meets its contract: its number is that of the first condition met. Assumes nothing.
 use mathlib.Core.Path.{_≡_, refl, sym, ap, _∙_}
-use mathlib.Core.Bool.{Bool, true, false, cond, not}
-use mathlib.Core.List.{List}
-use Prim.Native.Nat.{ℕ, _≤_}
+use mathlib.Core.Bool.{Bool, _&&_, cond, not}
+use mathlib.Core.List.{List, []}
+use Prim.Native.Nat.{ℕ, _<_, _≤_}
 use native.Mathlib.Omega.{arith}
+use borrow.Author.Needs.{needs}
 use Rattle.laws.specs.Checks.{firstMet}
 use Rattle.laws.specs.Tables.{tabulate}
 use Rattle.laws.proofs.Bools.{split}
 use Rattle.model.specs.Job.{needWord, sharerWord}
 use Rattle.model.specs.Tables.{JobTables, bagTables, jobOf, StateTables, stateTables, stepsDone}
-use Rattle.model.specs.Ranges.{stateInRange}
+use Rattle.model.specs.Ranges.{stateInRange, totalsInRange}
 use Rattle.model.specs.Step.{Asked, asked, moved, stepRefusal}
 use Rattle.model.specs.Handed.{handedTables, Standing}
-use Rattle.step_rules.specs.Rules.{ReceiversOf, WaitsOf}
-use Rattle.step_checks.specs.Request.{rulesBy}
-use Rattle.step_waits.proofs.Told.{receivers-of, waits-of, waits-in}
-use Rattle.step_apply.specs.Apply.{Applies}
-use Rattle.step_refusal.specs.Late.{earlyRules, laterRules, Held}
-use Rattle.job_masks.specs.Masks.{byOwner}
-use Rattle.step_waits.specs.Waits.{tallyLists, waitTable}
-use Rattle.job_masks.proofs.Holders.{need-words, sharer-words}
-use Rattle.job_masks.proofs.InJob.{placed-offers, placed-grocers, owned-offers}
-use Rattle.step_refusal.proofs.Refused.{answer-early, held, answer-later}
-use Rattle.step_checks.proofs.Finished.{price-fits-in, total-fits-in, prices-fit, totals-fit}
-use Rattle.step_refusal.proofs.Later.{whole, whole-state, few-boxes, later-met, applies, later-late, later-none}
+use Rattle.model.proofs.Step.{job-in, range}
+use Rattle.model.proofs.Whole.{JobWhole}
+use Rattle.step_apply.specs.Apply.{Spots, SpanOf, Applies}
+use Rattle.step_refusal.specs.Late.{tableRules, laterRules, Held}
 use denote.Ref.{now}
-use Rattle.step_refusal.proofs.refusal.Statement.{statement}
-use Rattle.step_refusal.proofs.refusal.Tie as tie
+use Rattle.step_rules.specs.Rules.{ReceiversOf, WaitsOf}
+use Rattle.step_waits.proofs.Told.{receivers-of}
+use Rattle.job_masks.specs.Masks.{byOwner}
+use Rattle.job_masks.proofs.Holders.{need-words}
+use Rattle.job_masks.proofs.InJob.{placed-offers, owned-offers}
+use Rattle.step_checks.specs.Fits.{BoxSpan}
+use Rattle.step_checks.proofs.Finished.{price-fits-in, late-prices}
+use Rattle.step_apply.proofs.Found.{spots-found, box-found}
+use Rattle.step_refusal.proofs.Refused.{answer-tested, held, answer-later, box-in, tallies-placed}
+use Rattle.step_refusal.proofs.Later.{whole, whole-state, few-boxes, boxes-below, later-met, applies, verdict}
+use Rattle.step_refusal.proofs.price_refusal.Statement.{statement}
+use Rattle.step_refusal.proofs.price_refusal.Tie as tie
 
 -- The lent tables and what is asked.
 abbrev job : tie.Start → JobTables
@@ -39,242 +42,174 @@ state s = stateTables (now (s .args .known)) (now (s .args .price-transit)) (now
 abbrev ask : tie.Start → Asked
 ask s = asked (s .args .x .kind) (s .args .x .first) (s .args .x .second)
 
--- The start, from the first call.
-abbrev lent : tie.After-shared-slice-known5 → tie.Start
-lent c = c .before .before .before .before .before
+-- The start, from the conditions on the tables.
+abbrev lent : tie.After-shared-slice-known6 → tie.Start
+lent c = c .before .before .before .before .before .before
 
-abbrev known : tie.After-shared-slice-known10 → tie.Start
-known c = lent (c .before .before .before .before .before)
+abbrev known : tie.After-shared-slice-known12 → tie.Start
+known c = lent (c .before .before .before .before .before .before)
 
-abbrev start : tie.After-early-refusal → tie.Start
-start c = known (c .before .before .before .before)
+abbrev start : tie.After-tables-refusal → tie.Start
+start c = known (c .before .before .before)
 
 abbrev entry : tie.Else1 → tie.Start
 entry e = start (e .before)
 
-returns : tie.Need-returns
-returns c = let s = start (c .before) in record {
-  number-is = answer-early (job s) (state s) (ask s) _ (c .before .early-refusal .ensures .number-is) (c .if1 .taken);
-  standing-are = λ z. absurd (c .if1 .taken z);
-  applies = λ z. absurd (c .if1 .taken z);
-}
-
--- None of 20, 21 and 9 is met: the boxes of the tallies that stand, and the tables with them.
-none-early : (e : tie.Else1) → firstMet (earlyRules (job (entry e)) (state (entry e))) ≡ 0
-none-early e = sym (e .before .early-refusal .ensures .number-is) ∙ e .if1 .left
+-- None of them is met: the boxes of the tallies that stand, the tables with them, and the sharer words.
+none-tested : (e : tie.Else1) → firstMet (tableRules (job (entry e)) (state (entry e))) ≡ 0
+none-tested e = sym (e .before .tables-refusal .ensures .number-is) ∙ e .if1 .left
 
 abbrev standing : tie.Else1 → List ℕ
-standing e = e .before .early-refusal .last .1 .1 .1 .1 .1 .1 .1 .1 .1 .1 .1 .1 .1 .1 .1 .1 .1 .0
+standing e = e .before .tables-refusal .last .1 .1 .1 .1 .1 .1 .1 .1 .1 .1 .1 .1 .1 .1 .1 .1 .1 .0
+
+abbrev sharers : tie.Else1 → List ℕ
+sharers e = e .before .tables-refusal .last .1 .1 .1 .1 .1 .1 .1 .1 .1 .1 .1 .1 .1 .1 .1 .1 .1 .1 .0
 
 stand : (e : tie.Else1) → Standing (job (entry e)) (standing e)
-stand e = e .before .early-refusal .ensures .standing-are (e .if1 .left)
+stand e = e .before .tables-refusal .ensures .standing-are (e .if1 .left)
 
 abbrev handed : tie.Else1 → JobTables
 handed e = handedTables (job (entry e)) (standing e)
 
+sharers-are : (e : tie.Else1) → sharers e ≡ tabulate 255 (sharerWord (jobOf (handed e)))
+sharers-are e = e .before .tables-refusal .ensures .sharers-are (e .if1 .left)
+
 in-hand : (e : tie.Else1) → Held (handed e) (state (entry e))
-in-hand e = held (job (entry e)) (state (entry e)) (none-early e) (standing e) (stand e)
+in-hand e = held (job (entry e)) (state (entry e)) (none-tested e) (standing e) (stand e)
 
--- With words of receivers and waits: what the conditions 22 to 26 say.
-module _ (e : tie.Else1) (to : List ℕ) (from : List (List ℕ)) (hr : ask (entry e) .kind ≤ 3 → ReceiversOf (jobOf (handed e)) to) (hw : 4 ≤ ask (entry e) .kind → WaitsOf (jobOf (handed e)) from)
-    (r : ℕ) (er : r ≡ firstMet (rulesBy (entry e .args .z .boxes) to from (stepsDone (entry e .args .z .boxes) (now (entry e .args .done))) (ask (entry e)))) where
-  abbrev answer : ℕ → Type 0
-  answer n = n ≡ stepRefusal (job (entry e)) (state (entry e)) (ask (entry e))
+whole-job : (e : tie.Else1) → JobWhole (handed e)
+whole-job e = whole (handed e) (state (entry e)) (in-hand e)
 
-  by-later : (n : ℕ) → n ≡ firstMet (laterRules (handed e) (state (entry e)) (ask (entry e))) → answer n
-  by-later n l = answer-later (job (entry e)) (state (entry e)) (none-early e) (standing e) (stand e) (ask (entry e)) n l
+by-later : (e : tie.Else1) (n : ℕ) → n ≡ firstMet (laterRules (handed e) (state (entry e)) (ask (entry e))) → n ≡ stepRefusal (job (entry e)) (state (entry e)) (ask (entry e))
+by-later e n l = answer-later (job (entry e)) (state (entry e)) (none-tested e) (standing e) (stand e) (ask (entry e)) n l
 
-  met : (r ≡ 0 → ⊥) → answer r
-  met ne = by-later r (later-met (handed e) (state (entry e)) (in-hand e) to from (ask (entry e)) hr hw r er ne)
+returns : tie.Need-returns
+returns c = let s = start (c .before) in record {
+  number-is = answer-tested (job s) (state s) (ask s) _ (c .before .tables-refusal .ensures .number-is) (c .if1 .taken);
+  standing-are = λ z. absurd (c .if1 .taken z);
+  applies = λ z. absurd (c .if1 .taken z);
+}
 
-  -- None is met: the step may be applied where the late 21 is not met.
-  module _ (z : r ≡ 0) where
-    applied : (needs sharers : List ℕ) → (ask (entry e) .kind ≤ 3 → needs ≡ tabulate 500 (needWord (jobOf (handed e)))) → (4 ≤ ask (entry e) .kind → sharers ≡ tabulate 255 (sharerWord (jobOf (handed e)))) →
-        Applies (handed e) (state (entry e)) needs sharers (ask (entry e))
-    applied = applies (handed e) (state (entry e)) (in-hand e) to from (ask (entry e)) hr hw r er z
+few : (e : tie.Else1) → ask (entry e) .kind ≤ 3
+few e = entry e .pre
 
-    module _ (v : Bool) (ev : v ≡ stateInRange (handed e) (moved (handed e) (state (entry e)) (ask (entry e)))) where
-      late : v ≡ false → answer 21
-      late n = by-later 21 (later-late (handed e) (state (entry e)) (in-hand e) to from (ask (entry e)) hr hw r er z v ev (ap not n))
+-- The need words that are made are the job's, and so are the words of receivers.
+needs-requires : tie.Need-needs-requires
+needs-requires c κs = let e = c .before .before in placed-offers (handed e) (in-hand e .job-in) (whole-job e)
 
-      none : v ≡ true → answer 0
-      none y = by-later 0 (later-none (handed e) (state (entry e)) (in-hand e) to from (ask (entry e)) hr hw r er z v ev (ap not y))
-
-      verdict : answer (cond v 0 21)
-      verdict = split v (λ y. rw y (none y)) (λ n. rw n (late n))
-
--- Kinds 1 to 3: the need words that are made are the job's, and so are the words of receivers.
-abbrev priced : tie.Then2 → tie.Else1
-priced k = k .before .before
-
-abbrev needs-for : tie.After-needs → tie.Then2
+abbrev needs-for : tie.After-needs → tie.Else1
 needs-for c = c .before .before .before
 
-abbrev needs-asked : tie.After-prices-asked → tie.After-needs
-needs-asked c = c .before .before
-
-few : (k : tie.Then2) → ask (entry (priced k)) .kind ≤ 3
-few k = omega (arith, k .if2 .taken)
-
-needs-requires : tie.Need-needs-requires
-needs-requires c κs = let e = priced (c .before .before) in placed-offers (handed e) (in-hand e .job-in) (whole (handed e) (state (entry e)) (in-hand e))
-
-needs-are : (c : tie.After-needs) → c .needs .result ≡ tabulate 500 (needWord (jobOf (handed (priced (needs-for c)))))
-needs-are c = c .needs .ensures ∙ need-words (handed (priced (needs-for c))) refl
+needs-are : (c : tie.After-needs) → c .needs .result ≡ tabulate 500 (needWord (jobOf (handed (needs-for c))))
+needs-are c = c .needs .ensures ∙ need-words (handed (needs-for c)) refl
 
 receivers-are : (c : tie.After-needs) →
-    let e = priced (needs-for c) in
+    let e = needs-for c in
     ReceiversOf (jobOf (handed e)) (byOwner (entry e .args .z .offers) (now (entry e .args .offer-owner)) (c .needs .result))
 receivers-are c =
-    let e = priced (needs-for c) in
+    let e = needs-for c in
     receivers-of (handed e) (in-hand e .job-in) (c .needs .result) (needs-are c) _ refl
 
 prices-asked-requires : tie.Need-prices-asked-requires
 prices-asked-requires c κs =
-    let e = priced (needs-for (c .before)) in (
-      owned-offers (handed e) (in-hand e .job-in) (whole (handed e) (state (entry e)) (in-hand e)) _ _ (needs-are (c .before)),
+    let e = needs-for (c .before) in (
+      owned-offers (handed e) (in-hand e .job-in) (whole-job e) _ _ (needs-are (c .before)),
       (few-boxes (handed e) (state (entry e)) (in-hand e), whole-state (handed e) (state (entry e)) (in-hand e) .done),
     )
 
 -- What this side is given for the conditions 22 to 26.
-abbrev price-kind : tie.After-prices-asked → tie.Then2
-price-kind c = needs-for (needs-asked c)
+abbrev needs-asked : tie.After-prices-asked → tie.After-needs
+needs-asked c = c .before .before
 
-no-waits : (k : tie.Then2) (from : List (List ℕ)) → 4 ≤ ask (entry (priced k)) .kind → WaitsOf (jobOf (handed (priced k))) from
-no-waits k from m = absurd (omega (arith, few k, m))
+no-waits : (e : tie.Else1) (from : List (List ℕ)) → 4 ≤ ask (entry e) .kind → WaitsOf (jobOf (handed e)) from
+no-waits e from m = absurd (omega (arith, few e, m))
 
 returns-2 : tie.Need-returns-2
 returns-2 c =
     let r = c .before in
-    let k = price-kind r in
+    let n = needs-asked r in
+    let e = needs-for n in
     record {
-      number-is = met (priced k) _ _ (λ _. receivers-are (needs-asked r)) (no-waits k _) _ (r .prices-asked .ensures) (c .if3 .taken);
-      standing-are = λ z. absurd (c .if3 .taken z);
-      applies = λ z. absurd (c .if3 .taken z);
+      number-is = by-later e _ (later-met (handed e) (state (entry e)) (in-hand e) _ _ (ask (entry e)) (λ _. receivers-are n) (no-waits e _) _ (r .prices-asked .ensures) (c .if2 .taken));
+      standing-are = λ z. absurd (c .if2 .taken z);
+      applies = λ z. absurd (c .if2 .taken z);
     }
 
-abbrev price-entry : tie.Else3 → tie.Else1
-price-entry i = priced (price-kind (i .before))
+-- None of them is met: the boxes fit.
+abbrev passed : tie.Else2 → tie.Else1
+passed i = needs-for (needs-asked (i .before))
 
-prices-applied : (i : tie.Else3) → Applies (handed (price-entry i)) (state (entry (price-entry i))) (needs-asked (i .before) .needs .result) (now (entry (price-entry i) .args .sharers)) (ask (entry (price-entry i)))
-prices-applied i =
-    let r = i .before in
-    let k = price-kind r in
-    applied (priced k) _ _ (λ _. receivers-are (needs-asked r)) (no-waits k _) _ (r .prices-asked .ensures) (i .if3 .left) _ _
-    (λ _. needs-are (needs-asked r)) (λ m. absurd (omega (arith, few k, m)))
+first-in : (i : tie.Else2) → ask (entry (passed i)) .first < handed (passed i) .boxes
+first-in i =
+    let n = needs-asked (i .before) in
+    let e = passed i in
+    boxes-below (handed e) (state (entry e)) (in-hand e) _ _ (ask (entry e)) (λ _. receivers-are n) (no-waits e _) _ (i .before .prices-asked .ensures) (i .if2 .left) .0
+
+own-places-requires : tie.Need-own-places-requires
+own-places-requires c κs =
+    let i = c .before .before .before in
+    let e = passed i in
+    (box-in (handed e) (in-hand e .job-in) (whole-job e) (sharers e) (sharers-are e) _ (first-in i), tallies-placed (handed e) (in-hand e .job-in) (whole-job e) (sharers e) (sharers-are e))
+
+-- The places that are put are the job's.
+abbrev put : tie.After-own-places → tie.Else2
+put c = c .before .before .before .before
+
+abbrev places : tie.After-own-places → List ℕ
+places c = c .own-places .last .1 .1 .1 .1 .1 .0
+
+spots : (c : tie.After-own-places) → 2 ≤ ask (entry (passed (put c))) .kind → Spots (handed (passed (put c))) (ask (entry (passed (put c))) .first) (places c)
+spots c two =
+    let e = passed (put c) in
+    let j = in-hand e .job-in in
+    spots-found (handed e) (j .bare) (range (handed e) (j .inside)) (job-in (handed e) (j .inside) .grocers≤) (sharers e) (sharers-are e) _ _ _ (first-in (put c)) (c .own-places .ensures two .long) (c .own-places .ensures two .places-are)
+
+spanned : (c : tie.After-own-places) → 2 ≤ ask (entry (passed (put c))) .kind → BoxSpan (jobOf (handed (passed (put c)))) (ask (entry (passed (put c))) .first) (c .own-places .result .from) (c .own-places .result .to)
+spanned c two =
+    let e = passed (put c) in
+    let j = in-hand e .job-in in
+    let b = box-found (handed e) (j .bare) (range (handed e) (j .inside)) (job-in (handed e) (j .inside) .grocers≤) (sharers e) (sharers-are e) _ _ _ (first-in (put c)) (c .own-places .ensures two .from-is) (c .own-places .ensures two .to-is) in
+    record { from-is = b .0; to-is = b .1 }
+
+applied : (c : tie.After-own-places) (from to : ℕ) (grocers : List ℕ) → let e = passed (put c) in Applies (handed e) (state (entry e)) (needs-asked (put c .before) .needs .result) (places c) from to grocers (ask (entry e))
+applied c from to grocers =
+    let i = put c in
+    let n = needs-asked (i .before) in
+    let e = passed i in
+    applies (handed e) (state (entry e)) (in-hand e) _ _ (ask (entry e)) (λ _. receivers-are n) (no-waits e _) _ (i .before .prices-asked .ensures) (i .if2 .left) _ _ from to grocers
+    (λ _. needs-are n) (λ two _. spots c two) (λ m. absurd (omega (arith, few e, m)))
+
+abbrev fitted : tie.After-price-fits → tie.After-own-places
+fitted c = c .before .before .before .before .before .before
 
 price-fits-requires : tie.Need-price-fits-requires
 price-fits-requires c κs =
-    let i = c .before .before .before in
-    let e = price-entry i in
-    price-fits-in (handed e) (state (entry e)) _ _ (ask (entry e)) (prices-applied i) (few (price-kind (i .before)))
+    let o = c .before .before .before .before .before in
+    let e = passed (put o) in
+    price-fits-in (handed e) (state (entry e)) _ _ _ _ [] (ask (entry e)) (applied o _ _ []) (few e) (spanned o)
 
-abbrev prices-left : tie.After-price-fits → tie.Else3
-prices-left c = c .before .before .before .before
-
-prices-range : (c : tie.After-price-fits) → let e = price-entry (prices-left c) in c .price-fits .result ≡ stateInRange (handed e) (moved (handed e) (state (entry e)) (ask (entry e)))
-prices-range c =
-    let i = prices-left c in
-    let e = price-entry i in
-    c .price-fits .ensures ∙ prices-fit (handed e) (state (entry e)) _ _ (ask (entry e)) (prices-applied i) (few (price-kind (i .before)))
+in-order : (c : tie.After-price-fits) →
+    let e = passed (put (fitted c)) in
+    c .price-fits .result ≡ (stateInRange (handed e) (moved (handed e) (state (entry e)) (ask (entry e))) && totalsInRange (jobOf (handed e)) (moved (handed e) (state (entry e)) (ask (entry e))))
+in-order c =
+    let o = fitted c in
+    let e = passed (put o) in
+    c .price-fits .ensures ∙ late-prices (handed e) (state (entry e)) _ _ _ _ [] (ask (entry e)) (applied o _ _ []) (few e) (spanned o)
 
 returns-3 : tie.Need-returns-3
 returns-3 c =
-    let i = prices-left (c .before) in
-    let r = i .before in
-    let k = price-kind r in
+    let o = fitted (c .before) in
+    let i = put o in
+    let n = needs-asked (i .before) in
+    let e = passed i in
     record {
-      number-is = c .late .ensures ∙ verdict (priced k) _ _ (λ _. receivers-are (needs-asked r)) (no-waits k _) _ (r .prices-asked .ensures) (i .if3 .left) _ (prices-range (c .before));
-      standing-are = λ _. stand (priced k);
-      applies = λ _. prices-applied i;
+      number-is = c .late .ensures ∙ by-later e _ (verdict (handed e) (state (entry e)) (in-hand e) _ _ (ask (entry e)) (λ _. receivers-are n) (no-waits e _) _ (i .before .prices-asked .ensures) (i .if2 .left) _ (in-order (c .before)));
+      standing-are = λ _. stand e;
+      applies = λ _. applied o 0 0 [];
     }
 
--- Kinds 4 to 6: the sharer words are the job's, and so are the words of waits.
-abbrev totalled : tie.Else2 → tie.Else1
-totalled k = k .before .before
-
-abbrev sharers-for : tie.After-sharers → tie.Else2
-sharers-for c = c .before .before .before
-
-abbrev sharers-asked : tie.After-totals-asked → tie.After-sharers
-sharers-asked c = c .before .before .before
-
-many : (k : tie.Else2) → 4 ≤ ask (entry (totalled k)) .kind
-many k = omega (arith, k .if2 .left)
-
-sharers-requires : tie.Need-sharers-requires
-sharers-requires c κs = let e = totalled (c .before .before) in placed-grocers (handed e) (in-hand e .job-in) (whole (handed e) (state (entry e)) (in-hand e))
-
-sharers-are : (c : tie.After-sharers) → c .sharers .result ≡ tabulate 255 (sharerWord (jobOf (handed (totalled (sharers-for c)))))
-sharers-are c = c .sharers .ensures ∙ sharer-words (handed (totalled (sharers-for c))) refl
-
-waits-are : (k : tie.Else2) →
-    let e = totalled k in
-    WaitsOf (jobOf (handed e)) (waitTable (entry e .args .z .boxes)
-    (tallyLists (now (entry e .args .offer-owner)) (now (entry e .args .grocer-owner)) (now (entry e .args .tally-grocer)) (standing e) (now (entry e .args .tally-offer))) (entry e .args .z .tallies))
-waits-are k = let e = totalled k in waits-of (handed e) (in-hand e .job-in) _ refl
-
-totals-asked-requires : tie.Need-totals-asked-requires
-totals-asked-requires c κs =
-    let e = totalled (sharers-for (c .before .before)) in (
-      waits-in (handed e) (in-hand e .job-in) (whole (handed e) (state (entry e)) (in-hand e)),
-      (few-boxes (handed e) (state (entry e)) (in-hand e), whole-state (handed e) (state (entry e)) (in-hand e) .done),
-    )
-
-abbrev total-kind : tie.After-totals-asked → tie.Else2
-total-kind c = sharers-for (sharers-asked c)
-
-no-receivers : (k : tie.Else2) (to : List ℕ) → ask (entry (totalled k)) .kind ≤ 3 → ReceiversOf (jobOf (handed (totalled k))) to
-no-receivers k to m = absurd (omega (arith, many k, m))
-
-returns-4 : tie.Need-returns-4
-returns-4 c =
-    let r = c .before in
-    let k = total-kind r in
-    record {
-      number-is = met (totalled k) _ _ (no-receivers k _) (λ _. waits-are k) _ (r .totals-asked .ensures) (c .if4 .taken);
-      standing-are = λ z. absurd (c .if4 .taken z);
-      applies = λ z. absurd (c .if4 .taken z);
-    }
-
-abbrev total-entry : tie.Else4 → tie.Else1
-total-entry i = totalled (total-kind (i .before))
-
-totals-applied : (i : tie.Else4) → Applies (handed (total-entry i)) (state (entry (total-entry i))) (now (entry (total-entry i) .args .needs)) (sharers-asked (i .before) .sharers .result) (ask (entry (total-entry i)))
-totals-applied i =
-    let r = i .before in
-    let k = total-kind r in
-    applied (totalled k) _ _ (no-receivers k _) (λ _. waits-are k) _ (r .totals-asked .ensures) (i .if4 .left) _ _
-    (λ m. absurd (omega (arith, many k, m))) (λ _. sharers-are (sharers-asked r))
-
-total-fits-requires : tie.Need-total-fits-requires
-total-fits-requires c κs =
-    let i = c .before in
-    let e = total-entry i in
-    total-fits-in (handed e) (state (entry e)) _ _ (ask (entry e)) (totals-applied i) (many (total-kind (i .before)))
-
-abbrev totals-left : tie.After-total-fits → tie.Else4
-totals-left c = c .before .before
-
-totals-range : (c : tie.After-total-fits) → let e = total-entry (totals-left c) in c .total-fits .result ≡ stateInRange (handed e) (moved (handed e) (state (entry e)) (ask (entry e)))
-totals-range c =
-    let i = totals-left c in
-    let e = total-entry i in
-    c .total-fits .ensures ∙ totals-fit (handed e) (state (entry e)) _ _ (ask (entry e)) (totals-applied i) (many (total-kind (i .before)))
-
-returns-5 : tie.Need-returns-5
-returns-5 c =
-    let i = totals-left (c .before) in
-    let r = i .before in
-    let k = total-kind r in
-    record {
-      number-is = c .late2 .ensures ∙ verdict (totalled k) _ _ (no-receivers k _) (λ _. waits-are k) _ (r .totals-asked .ensures) (i .if4 .left) _ (totals-range (c .before));
-      standing-are = λ _. stand (totalled k);
-      applies = λ _. totals-applied i;
-    }
-
-pub refusal-spec : {M : Type 1} → statement M
-refusal-spec =
+pub price-refusal-spec : {M : Type 1} → statement M
+price-refusal-spec =
     tie.close
     (tie.spec
     (λ c κs. tt)
@@ -282,12 +217,7 @@ refusal-spec =
     needs-requires
     prices-asked-requires
     returns-2
+    own-places-requires
     price-fits-requires
     (λ c κs. tt)
-    returns-3
-    sharers-requires
-    totals-asked-requires
-    returns-4
-    total-fits-requires
-    (λ c κs. tt)
-    returns-5)
+    returns-3)
