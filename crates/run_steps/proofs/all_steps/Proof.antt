@@ -129,7 +129,8 @@ loop-holds c =
     let s = start i in (
       zero-le,
       turning-first (job s) (lent s) _ _ _ _ _ (s .pre) (fresh-are (cleared i)),
-      looked (job s) (s .pre .job-in) (s .pre .job-long) (now (s .args .sharers)) (s .pre .sharers-are) _ _ _ _ (a .all-boxes .last .1 .1 .1 .1 .1 .1 .1 .1 .1 .0) (a .all-boxes .last .1 .1 .1 .1 .1 .1 .1 .0) (a .all-boxes .last .1 .1 .1 .1 .1 .1 .1 .1 .0)
+      looked (job s) (s .pre .job-in) (s .pre .job-long) (now (s .args .sharers)) (s .pre .sharers-are) _ _ _ _
+          (a .all-boxes .last .1 .1 .1 .1 .1 .1 .1 .1 .1 .0) (a .all-boxes .last .1 .1 .1 .1 .1 .1 .1 .0) (a .all-boxes .last .1 .1 .1 .1 .1 .1 .1 .1 .0)
           (i .before .index-of .ensures .0) (i .index-of2 .ensures .0) (a .all-boxes .kept .1 .1 .1 .1 .1 .1 .1 .0) (a .all-boxes .kept .1 .1 .1 .1 .1 .1 .1 .1 .0) (a .all-boxes .kept .1 .1 .1 .1 .1 .1 .1 .1 .1 .0)
           (a .all-boxes .ensures) (c .before .offer-links .ensures) (c .tally-links .ensures),
     )
