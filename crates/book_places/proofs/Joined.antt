@@ -26,7 +26,7 @@ use Rattle.book_sort.specs.Sort.{at, begin, inFront}
 use Rattle.book_sort.proofs.Extra.{chained-at, find-le}
 use Rattle.book_keys.specs.Keys.{classOf, numberIn, PlacesIn}
 use Rattle.book_places.specs.Lists.{localList, heldOf}
-use Rattle.book_places.specs.Spots.{classBy, listBy, totalBy, countBy, startBy, spotBy, groupBy, placeBy, putAt}
+use Rattle.book_places.specs.Spots.{classBy, listBy, totalBy, countBy, startBy, spotBy, groupBy, placeBy, putAt, CountIn, BoxIn}
 use Rattle.book_places.proofs.Modelled.{list-cong, list-le, list-in, shares-held, held-word}
 use Rattle.book_places.proofs.Groups.{groups-are}
 
@@ -92,6 +92,13 @@ list-ready k m owners words b list l few e el = record {
   list-long = omega (arith, list-few k m owners words b, ap length e ∙ length-front (listBy k m owners words b) (replicate 255 0) (omega (arith, list-few k m owners words b, length-replicate {A = ℕ} 255 0)), length-replicate {A = ℕ} 255 0);
   place-in = λ i h. omega (arith, ap (λ (s : List ℕ). at s i) e ∙ at-front (listBy k m owners words b) (replicate 255 0) i (omega arith), list-below k m owners words b i (omega arith));
 }
+
+-- What is asked for a box is asked for the start of it.
+pub count-in : (k m b : ℕ) (owners words : List ℕ) → BoxIn k m b owners words → CountIn m owners words × (b ≤ 16)
+count-in k m b owners words h = (
+  record { m-in = omega (arith, h .m-in); owners-long = h .owners-in .owners-long; words-long = h .words-long; owner-in = λ g l. omega (arith, h .owners-in .owner-in g l, h .owners-in .k-in) },
+  omega (arith, h .box-in, h .owners-in .k-in),
+)
 
 -- ---- Of a job
 
@@ -162,7 +169,8 @@ module _ (f : JobTables) (bare : f .tallyBag ≡ []) (r : InRange (jobOf f)) (fe
       spotBy (f .boxes) (f .grocers) (f .grocerOwner) words b (f .tallyBox) (f .tallyGrocer) i ≡ tallyPlace (jobOf f) i
   unfolding spotBy numberIn totalPlace localGrocer
   spot-model b i lb li e =
-      ap (λ (t : Bool). cond t (startBy (f .grocers) (f .grocerOwner) words b + numberIn (listBy (f .boxes) (f .grocers) (f .grocerOwner) words b) (length (listBy (f .boxes) (f .grocers) (f .grocerOwner) words b)) (at (f .tallyGrocer) i)) 0)
+      let list = listBy (f .boxes) (f .grocers) (f .grocerOwner) words b in
+      ap (λ (t : Bool). cond t (startBy (f .grocers) (f .grocerOwner) words b + numberIn list (length list) (at (f .tallyGrocer) i)) 0)
       (sym (held-word f bare b lb i li) ∙ e)
       ∙ ap₂ (λ (n : ℕ) (l : List ℕ). n + numberIn l (length l) (at (f .tallyGrocer) i)) (start-model b (omega arith)) (list-model b lb)
       ∙ ap (λ (g : ℕ). totalPlace (jobOf f) b g) (sym (grocer-is i li))

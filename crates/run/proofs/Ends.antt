@@ -1,11 +1,11 @@
 -- What a run begins with, and what it comes to. Assumes nothing.
 use mathlib.Core.Path.{_≡_, refl, sym, ap, _∙_}
-use mathlib.Core.Bool.{Bool, true, false, cond, _||_}
+use mathlib.Core.Bool.{Bool, true, false, cond, not, _||_}
 use mathlib.Core.List.{List, [], _∷_, map}
 use Prim.Native.Nat.{ℕ, zero, suc, _≤_}
 use native.Mathlib.Omega.{arith}
 use native.Mathlib.Nat.{mul-le-mul}
-use lib.Dec.{eqb}
+use lib.Dec.{eqb, ltb}
 use lib.ListN.{length, getD, set, take, drop}
 use borrow.Author.Tests.{ne-eqb}
 use Rattle.laws.specs.Below.{count}
@@ -17,11 +17,12 @@ use Rattle.laws.proofs.Below.{count-le}
 use Rattle.laws.proofs.Tables.{overwrite-one}
 use Rattle.model.specs.Job.{Job, pricesDue, totalsDue, needWord, sharerWord}
 use Rattle.model.specs.Steps.{Steps, Step, State, fresh, effectOf}
-use Rattle.model.specs.Tables.{JobTables, jobOf, StateTables, store, stepsDone, marksOf, StateLengths, jobLengths, stateLengths, jobShort, bagsShort, stateShort, lentShort}
-use Rattle.model.specs.Ranges.{Settles}
+use Rattle.model.specs.Tables.{JobTables, jobOf, StateTables, store, stepsDone, marksOf, StateLengths, jobLengths, stateLengths, jobShort, bagsShort, stateShort, lentShort, totalsShort, countedOf}
+use Rattle.recount.specs.Recount.{countedTwice}
+use Rattle.model.specs.Ranges.{Settles, jobInRange}
 use Rattle.model.specs.Local.{jobRefusals}
 use Rattle.model.specs.Handed.{handedTables, Standing}
-use Rattle.model.proofs.Handed.{handed-whole, handed-in, handed-run}
+use Rattle.model.proofs.Handed.{handed-whole, handed-in, handed-job, handed-run}
 use Rattle.job_checks.proofs.Refusals.{accepted}
 use Rattle.model.specs.Words.{over, messagesOf, messageCount, stepCount}
 use Rattle.model.specs.Run.{readyCount, pick, picks, run, placed, pickedPlaces, runState, afterSteps, RunAnswer, finished, refused, reported, runRefusals, ran}
@@ -35,7 +36,8 @@ use Rattle.run.specs.declared.Answer.the-variants.{Finished, Refused}
 use Rattle.run_steps.specs.All.{withoutMarks, AllIn, AllOut, afterOrder}
 use Rattle.run.specs.Run.{Begins, answerOf, given, OrderIn}
 use Rattle.model.proofs.Step.{range}
-use Rattle.model.proofs.Lent.{state-long}
+use Rattle.model.proofs.Lent.{state-long, totals-long}
+use Rattle.book_places.specs.Spots.{CountIn, startBy}
 use Rattle.job_checks.proofs.Sizes.{short-sizes}
 use Rattle.model.proofs.Whole.{JobWhole, job-whole}
 use Rattle.job_masks.proofs.Holders.{need-words, sharer-words}
@@ -44,6 +46,7 @@ use Rattle.step_waits.proofs.Told.{receivers-of, waits-of, waits-in}
 use Rattle.step_prices.proofs.Effect.{tables-eq}
 use Rattle.step_places.proofs.Orders.{steps-length, places-back}
 use Rattle.run_steps.proofs.Way.{some-box}
+use Rattle.run_steps.proofs.Looking.{count-ready, packed-words}
 use Rattle.run_steps.proofs.Turns.{after-marks}
 
 -- At most 16 boxes have at most 512 messages.
@@ -104,16 +107,26 @@ module _ (f : JobTables) (t : StateTables) (g : Begins f t) where
   unfolding stateLengths jobOf
   begins-walk = record { some = some-box f (g .job-in); boxes-in = range f (g .job-in .inside) .boxes≤; done-long = state-long f (stateLengths t) (g .state-long) .done }
 
-  module _ (needs sharers : List ℕ) (en : needs ≡ tabulate 500 (holderWord (f .boxes) (f .tallies) (f .tallyBox) (f .tallyOffer))) (es : sharers ≡ tabulate 255 (holderWord (f .boxes) (f .tallies) (f .tallyBox) (f .tallyGrocer))) where
+  -- The sharer words are the job's, and tell whether the packed tables are short.
+  module _ (sharers : List ℕ) (es : sharers ≡ tabulate 255 (holderWord (f .boxes) (f .tallies) (f .tallyBox) (f .tallyGrocer))) where
+    pub sharers-of : sharers ≡ tabulate 255 (sharerWord (jobOf f))
+    sharers-of = es ∙ sharer-words f (g .job-in .bare)
+
+    pub totals-count : (CountIn (f .grocers) (f .grocerOwner) sharers) × (f .boxes ≤ 16)
+    totals-count = count-ready f (g .job-in) (g .job-long) sharers sharers-of
+
+    pub totals-told : (x : Bool) → x ≡ (ltb (length (t .working)) (startBy (f .grocers) (f .grocerOwner) sharers (f .boxes)) || ltb (length (t .totalTransit)) (startBy (f .grocers) (f .grocerOwner) sharers (f .boxes))) →
+        x ≡ totalsShort (jobOf f) (stateLengths t)
+    unfolding totalsShort stateLengths
+    totals-told x e = e ∙ ap (λ (n : ℕ). ltb (length (t .working)) n || ltb (length (t .totalTransit)) n) (packed-words f (g .job-in) (g .job-long) sharers sharers-of)
+
+  module _ (needs : List ℕ) (en : needs ≡ tabulate 500 (holderWord (f .boxes) (f .tallies) (f .tallyBox) (f .tallyOffer))) where
     begins-prices : Owned (f .offers) (f .offerOwner) needs
     begins-prices = owned-offers f (g .job-in) job-parts needs _ en
 
-    -- They are the job's, and so are the words of receivers and waits.
+    -- The need words are the job's, and so are the words of receivers and waits.
     pub needs-of : needs ≡ tabulate 500 (needWord (jobOf f))
     needs-of = en ∙ need-words f (g .job-in .bare)
-
-    pub sharers-of : sharers ≡ tabulate 255 (sharerWord (jobOf f))
-    sharers-of = es ∙ sharer-words f (g .job-in .bare)
 
     pub of-job : OfJob (f .boxes) (byOwner (f .offers) (f .offerOwner) needs) (waitTable (f .boxes) lists (f .tallies)) (jobOf f)
     unfolding jobOf
@@ -135,18 +148,20 @@ module _ (f : JobTables) (t : StateTables) (g : Begins f t) where
   sent-room = state-long f (stateLengths t) (g .state-long) .sent
 
   -- All steps of the order may be done.
-  module _ (needs sharers cs done order : List ℕ) (n : ℕ) (en : needs ≡ tabulate 500 (needWord (jobOf f))) (es : sharers ≡ tabulate 255 (sharerWord (jobOf f))) (w : Ordered (jobOf f) cs done order n) where
+  module _ (packed : totalsShort (jobOf f) (stateLengths t) ≡ false) (needs sharers cs done order : List ℕ) (n : ℕ)
+      (en : needs ≡ tabulate 500 (needWord (jobOf f))) (es : sharers ≡ tabulate 255 (sharerWord (jobOf f))) (w : Ordered (jobOf f) cs done order n) where
     pub all-in : AllIn f (withoutMarks (t .known) (t .priceTransit) (t .working) (t .totalTransit) (t .statement)) needs sharers order n
     unfolding stateLengths
     all-in =
         let l = state-long f (stateLengths t) (g .state-long) in
+        let k = totals-long (jobOf f) (stateLengths t) packed in
         record {
           job-in = g .job-in;
           job-long = g .job-long;
           known-long = l .known;
           transit-long = l .priceTransit;
-          working-long = l .working;
-          totals-long = l .totalTransit;
+          working-long = k .working;
+          totals-long = k .totalTransit;
           statement-long = l .statement;
           needs-are = en;
           sharers-are = es;
@@ -211,7 +226,22 @@ unfolding reported
 refused-said zero a h = absurd (h refl)
 refused-said (suc n) a h = refl
 
--- The refusals of a run: 20 on the state's tables, and those of the job's.
+-- Behind the refusals of the job's tables stands one more: it is met where those are not.
+met-before : (a b c d : Bool) (n : ℕ) → n ≡ firstMet ((a, 20) ∷ (b, 21) ∷ (c, 9) ∷ []) → (n ≡ 0 → ⊥) → firstMet ((a, 20) ∷ (b, 21) ∷ (c, 9) ∷ (d, 20) ∷ []) ≡ n
+unfolding firstMet
+met-before true b c d n e h = sym e
+met-before false true c d n e h = sym e
+met-before false false true d n e h = sym e
+met-before false false false d n e h = absurd (h e)
+
+met-last : (a b c d : Bool) → firstMet ((a, 20) ∷ (b, 21) ∷ (c, 9) ∷ []) ≡ 0 → d ≡ true → firstMet ((a, 20) ∷ (b, 21) ∷ (c, 9) ∷ (d, 20) ∷ []) ≡ 20
+unfolding firstMet
+met-last true b c d e h = refl
+met-last false true c d e h = absurd (omega (arith, e))
+met-last false false true d e h = absurd (omega (arith, e))
+met-last false false false d e h = rw h
+
+-- The refusals of a run: 20 on the state's tables, those of the job's, and 20 on the packed tables.
 module _ (f : JobTables) (t : StateTables) (c : Bool) (e : c ≡ stateShort (sizes (f .boxes) (f .grocers) (f .offers)) (stateLengths t)) where
   state-is : c ≡ stateShort f (stateLengths t)
   state-is = e ∙ short-sizes f (stateLengths t)
@@ -221,17 +251,23 @@ module _ (f : JobTables) (t : StateTables) (c : Bool) (e : c ≡ stateShort (siz
   unfolding ran answerOf runRefusals firstMet lentShort
   run-short cs p h = rw (sym state-is ∙ h, or-true (jobShort f (jobLengths f) || bagsShort f (jobLengths f))) (ap (λ (a : RunAnswer). given a t p) (refused-said 20 _ (λ q. omega arith)))
 
-  -- None is: the refusals are those of the job's tables.
+  -- None is: the refusals are those of the job's tables, and 20 on the packed tables.
   module _ (h : c ≡ false) where
-    refusal-is : firstMet (runRefusals f t) ≡ firstMet (jobRefusals f)
-    unfolding runRefusals jobRefusals firstMet lentShort
-    refusal-is = rw (sym state-is ∙ h, or-false (jobShort f (jobLengths f) || bagsShort f (jobLengths f)))
+    -- A number that is met is the run's refusal.
+    said : (cs p : List ℕ) (n : ℕ) → firstMet (runRefusals f t) ≡ n → (n ≡ 0 → ⊥) → given (answerOf (Refused n)) t p ≡ ran f t cs p
+    unfolding ran answerOf
+    said cs p n q k = rw (q, ne-eqb n 0 k) (ap (λ (a : RunAnswer). given a t p) (refused-said n _ k))
+
+    else-is : lentShort f t ≡ (jobShort f (jobLengths f) || bagsShort f (jobLengths f))
+    unfolding lentShort
+    else-is = rw (sym state-is ∙ h, or-false (jobShort f (jobLengths f) || bagsShort f (jobLengths f)))
 
     pub run-refused : (cs p : List ℕ) (n : ℕ) → n ≡ firstMet (jobRefusals f) → (n ≡ 0 → ⊥) → given (answerOf (Refused n)) t p ≡ ran f t cs p
-    unfolding ran answerOf
-    run-refused cs p n q k = rw (refusal-is, ← q, ne-eqb n 0 k) (ap (λ (a : RunAnswer). given a t p) (refused-said n _ k))
+    unfolding runRefusals jobRefusals
+    run-refused cs p n q k =
+        said cs p n (rw else-is (met-before (jobShort f (jobLengths f) || bagsShort f (jobLengths f)) (not (jobInRange f)) (countedTwice (countedOf f)) (totalsShort (jobOf f) (stateLengths t)) n q k)) k
 
-    -- No refusal: with the boxes of the tallies that stand the run may begin, and what it comes to is the run of the tables as lent.
+    -- No refusal of the job's tables: with the boxes of the tallies that stand the run may begin.
     module _ (z : firstMet (jobRefusals f) ≡ 0) (standing : List ℕ) (s : Standing f standing) where
       settled : Settles f
       settled = accepted f z
@@ -244,9 +280,21 @@ module _ (f : JobTables) (t : StateTables) (c : Bool) (e : c ≡ stateShort (siz
         state-long = sym state-is ∙ h;
       }
 
-      pub run-finished : (cs p : List ℕ) →
+      -- The packed tables of the job as handed are those of the tables as lent.
+      packed-is : (x : Bool) → x ≡ totalsShort (jobOf (handedTables f standing)) (stateLengths t) → x ≡ totalsShort (jobOf f) (stateLengths t)
+      packed-is x q = q ∙ ap (λ (j : Job). totalsShort j (stateLengths t)) (handed-job f standing s)
+
+      pub run-packed : (cs p : List ℕ) (x : Bool) → x ≡ totalsShort (jobOf (handedTables f standing)) (stateLengths t) → x ≡ true → given (answerOf (Refused 20)) t p ≡ ran f t cs p
+      unfolding runRefusals jobRefusals
+      run-packed cs p x q k =
+          said cs p 20 (rw else-is (met-last (jobShort f (jobLengths f) || bagsShort f (jobLengths f)) (not (jobInRange f)) (countedTwice (countedOf f)) (totalsShort (jobOf f) (stateLengths t)) z (sym (packed-is x q) ∙ k)))
+          (λ q. omega arith)
+
+      -- Nor is a packed table short: what the run comes to is the run of the tables as lent.
+      pub run-finished : (cs p : List ℕ) → totalsShort (jobOf (handedTables f standing)) (stateLengths t) ≡ false →
           given (finished (runState (jobOf (handedTables f standing)) cs .sent) (over messagesOf (run (jobOf (handedTables f standing)) cs)) (length (run (jobOf (handedTables f standing)) cs)))
           (store (jobOf (handedTables f standing)) (runState (jobOf (handedTables f standing)) cs) t)
           (layOver (pickedPlaces (jobOf (handedTables f standing)) cs) p) ≡ ran f t cs p
       unfolding lentShort
-      run-finished cs p = sym (handed-run f standing s t cs p (rw (settled .whole, settled .bags, sym state-is ∙ h)) (settled .inRange) (settled .once))
+      run-finished cs p k =
+          sym (handed-run f standing s t cs p (rw (settled .whole, settled .bags, sym state-is ∙ h)) (settled .inRange) (settled .once) (sym (packed-is (totalsShort (jobOf (handedTables f standing)) (stateLengths t)) refl) ∙ k))

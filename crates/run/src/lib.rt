@@ -1,14 +1,19 @@
 // The run: it starts fresh, picks steps until all are done, and reports the words sent, the messages and the steps.
 ghost use mathlib.Core.Path.{_≡_};
+ghost use mathlib.Core.Bool.{_||_};
+ghost use Prim.Native.Nat.{ℕ, _≤_};
+ghost use lib.Dec.{ltb};
 ghost use lib.ListN.{length};
 ghost use Rattle.model.specs.Lent.{bagLent, stateBefore, stateAfter};
 ghost use Rattle.model.specs.Run.{ran};
 ghost use Rattle.model.specs.Tables.{stateShort};
 ghost use Rattle.job_checks.specs.Sizes.{sizes};
 ghost use Rattle.job_masks.specs.Masks.{byOwner};
+ghost use Rattle.book_places.specs.Spots.{CountIn, startBy};
 ghost use Rattle.step_waits.specs.Waits.{tallyLists, waitTable};
 ghost use Rattle.run_order.specs.Order.{MarksFrom, EveryJob, Ordered};
 ghost use Rattle.run.specs.Run.{answerOf, given, lengthsOf, OrderIn};
+use slices::casts::index_of;
 use slices::sizes::Sizes;
 use step_places::PLACES;
 
@@ -22,30 +27,42 @@ pub enum Answer {
     Refused(u16),
 }
 
-// 20: whether a table of the state, by the words that are lent of each, is shorter than K, M and N as given need.
+// 20: whether a table of the state but the packed totals, by the words that are lent of each, is shorter than K, M and N as given need.
 fn state_short(
     z: Sizes,
     known: usize,
     price_transit: usize,
-    working: usize,
-    total_transit: usize,
     statement: usize,
     done: usize,
     sent: usize,
 ) -> bool
-    ensures { λ r. ⌜ r ≡ stateShort (sizes (z .boxes) (z .grocers) (z .offers)) (lengthsOf known «price_transit» working «total_transit» statement
-        done sent) ⌝ }
+    ensures { λ r. ⌜ ((working totals : ℕ) → r ≡ stateShort (sizes (z .boxes) (z .grocers) (z .offers)) (lengthsOf known «price_transit» working totals
+        statement done sent)) ⌝ }
 {
     let kn = slices::bits::words(z.boxes, z.offers);
-    let km = slices::bits::words(z.boxes, z.grocers);
     let kk = slices::bits::marks(z.boxes);
     (known < kn)
         | (price_transit < kn)
-        | (working < km)
-        | (total_transit < km)
         | (statement < z.grocers as usize)
         | (done < kk)
         | (sent < 1)
+}
+
+// 20: whether a table of packed totals, by the words that are lent of each, is shorter than all boxes have totals.
+fn totals_short(
+    z: Sizes,
+    grocer_owner: &[u16],
+    sharers: &[u16; 255],
+    working: usize,
+    total_transit: usize,
+) -> bool
+    requires { ⌜ CountIn (z .grocers) (now «grocer_owner») (now sharers) × (z .boxes ≤ 16) ⌝ }
+    ensures { λ r. ⌜ r ≡ (ltb working (startBy (z .grocers) (now («grocer_owner» .entry)) (now (sharers .entry)) (z .boxes))
+        || ltb «total_transit» (startBy (z .grocers) (now («grocer_owner» .entry)) (now (sharers .entry)) (z .boxes))) ⌝ }
+{
+    let m = index_of(z.grocers);
+    let words = index_of(book_places::box_start(m, grocer_owner, sharers, z.boxes));
+    (working < words) | (total_transit < words)
 }
 
 // The order of a run by its choices, picked by the marks alone: its steps are told by their places, and marked. How many they are.
@@ -122,8 +139,6 @@ pub fn run(
         z,
         known.len(),
         price_transit.len(),
-        working.len(),
-        total_transit.len(),
         statement.len(),
         done.len(),
         sent.len(),
@@ -151,8 +166,17 @@ pub fn run(
         return Answer::Refused(r);
     }
     let boxes_standing: &[u16] = &standing;
-    let needs = job_masks::masks::needs(boxes, tallies, boxes_standing, tally_offer);
     let sharers = job_masks::masks::sharers(boxes, tallies, boxes_standing, tally_grocer);
+    if totals_short(
+        z,
+        grocer_owner,
+        &sharers,
+        working.len(),
+        total_transit.len(),
+    ) {
+        return Answer::Refused(20);
+    }
+    let needs = job_masks::masks::needs(boxes, tallies, boxes_standing, tally_offer);
     let mut order = [0u16; PLACES];
     let n = pick_order(
         z,

@@ -9,36 +9,38 @@ use native.Mathlib.Numerals.{add-one}
 use lib.Dec.{leb}
 use lib.ListN.{length, getD, take}
 use lib.Seq.{take-suc, getD-set-same}
-use lib.IntN.{pos}
+use lib.IntN.{ℤ, pos}
 use borrow.Author.Tests.{le-leb, leb-true, leb-false}
 use Rattle.laws.specs.Tables.{tabulate, overwrite, recell}
 use Rattle.laws.proofs.Bools.{split, and-true}
 use Rattle.laws.proofs.Tables.{word-in, getD-overwrite, long-overwrite, length-overwrite}
-use Rattle.model.specs.Job.{Job, needWord, sharerWord}
+use Rattle.model.specs.Job.{Job, needWord}
 use Rattle.model.specs.Steps.{kindOf, Steps, Step, State, stepAt, permitted, fresh, effect, effectOf}
-use Rattle.model.specs.Tables.{JobTables, jobOf, StateTables, view, store, jobLengths, jobShort}
+use Rattle.model.specs.Tables.{JobTables, jobTables, jobOf, StateTables, view, store, jobLengths, jobShort}
 use Rattle.model.specs.Handed.{Handed}
 use Rattle.model.specs.Step.{Asked, asked, isKind, moved, freshTables}
 use Rattle.model.specs.Words.{over, messagesOf}
 use Rattle.model.specs.Run.{afterSteps}
 use Rattle.model.specs.Boxes.{Sound}
-use Rattle.step_links.specs.Links.{Linked, LinkedPairs}
+use Rattle.model.specs.PackedTotals.{totalsLength, packTotals}
 use Rattle.step_apply.specs.Apply.{sentMore}
 use Rattle.run_fresh.specs.Fresh.{ownPrices, FreshPrices, FreshTotals}
 use Rattle.step_places.specs.Order.{stepsIn, markAll, noSteps}
-use Rattle.run_steps.specs.All.{StepIn, StepOut, AllIn, afterOrder, Holds, AllOut}
+use Rattle.run_steps.specs.All.{headOf, Looked, StepIn, StepOut, AllIn, afterOrder, Holds, AllOut}
 use Rattle.model.proofs.Core.{permit}
 use Rattle.model.proofs.Reach.{effect-done, sound-fresh, sound-effect}
 use Rattle.model.proofs.Step.{range, limits, under-at}
 use Rattle.model.proofs.Lent.{job-long, store-store}
 use Rattle.model.proofs.Served.{within}
+use Rattle.model.proofs.PackedTotals.{pack-over}
+use Rattle.step_apply.proofs.Found.{spans-in}
 use Rattle.step_totals.proofs.Effect.{talliesOf}
 use Rattle.step_apply.proofs.Given.{Given, given, price-step-in, total-step-in}
 use Rattle.step_apply.proofs.Moved.{pricesLeft, totalsLeft, prices-moved, totals-moved}
 use Rattle.run_fresh.proofs.Made.{fresh-is}
 use Rattle.step_places.proofs.Orders.{steps-length, steps-next}
 use Rattle.step_places.proofs.Sends.{sends-few}
-use Rattle.run_steps.proofs.Way.{stored-view, stored-way, way-applies, some-box}
+use Rattle.run_steps.proofs.Way.{stored-view, stored-way, way-boxes, way-applies, some-box}
 
 -- The state after steps, and one more; and the steps that it marks.
 after-snoc : (j : Job) (s : State) (xs : List Step) (x : Step) → afterSteps j s (xs ++ (x ∷ [])) ≡ effectOf j (afterSteps j s xs) x
@@ -66,8 +68,8 @@ unfolding store
 sent-there j s t = long-overwrite 1 (λ i. s .sent) (t .sent)
 
 -- A step of the state s, whose tables are written over t.
-module _ (f : JobTables) (ok : Handed f) (long : jobShort f (jobLengths f) ≡ false) (t : StateTables) (needs sharers : List ℕ)
-    (en : needs ≡ tabulate 500 (needWord (jobOf f))) (es : sharers ≡ tabulate 255 (sharerWord (jobOf f)))
+module _ (f : JobTables) (ok : Handed f) (long : jobShort f (jobLengths f) ≡ false) (t : StateTables) (needs olinks tlinks places heads grocers : List ℕ)
+    (en : needs ≡ tabulate 500 (needWord (jobOf f))) (look : Looked f olinks tlinks places heads grocers)
     (s : State) (o : Sound (jobOf f) s) (kind a b : ℕ) (k : isKind kind ≡ true) (p : permitted (jobOf f) (s .done) (kindOf kind) a b ≡ true) where
   -- The tables that hold it, and what is asked.
   abbrev held : StateTables
@@ -82,8 +84,22 @@ module _ (f : JobTables) (ok : Handed f) (long : jobShort f (jobLengths f) ≡ f
   held-view : view (jobOf f) held ≡ s
   held-view = stored-view f ok long t held s o refl
 
-  facts : Given f held needs sharers ask
-  facts = given f held needs sharers ask (way-applies f held (stored-way f ok long t held s o refl) kind a b k (rw held-view p) needs sharers en es)
+  -- Where its span begins and ends.
+  abbrev from : ℕ
+  from = getD heads (headOf kind a b) 0
+
+  abbrev to : ℕ
+  to = getD heads (headOf kind a b + 1) 0
+
+  facts : Given f held needs places from to grocers ask
+  facts = given f held needs places from to grocers ask (way-applies f held (stored-way f ok long t held s o refl) kind a b k (rw held-view p) needs olinks tlinks places heads grocers en look)
+
+  head-there : (headOf kind a b < 1_000) × (headOf kind a b + 1 < length heads)
+  unfolding headOf jobOf
+  head-there =
+      let w = way-boxes f held (stored-way f ok long t held s o refl) kind a b k (rw held-view p) in
+      let i = spans-in f kind a b (w .0) (w .1) in
+      (omega (arith, i .0, i .1, range f (ok .inside) .boxes≤), omega (arith, i .0, i .1, look .heads-long, range f (ok .inside) .boxes≤))
 
   moved-is : store (jobOf f) next t ≡ moved f held ask
   unfolding moved
@@ -95,18 +111,18 @@ module _ (f : JobTables) (ok : Handed f) (long : jobShort f (jobLengths f) ≡ f
 
   -- The tables as they are, which hold it.
   module _ (t₁ : StateTables) (h : Holds (jobOf f) s t t₁) where
-    step-in : (olinks glinks tlinks : List ℕ) → Linked (f .offers) (f .offerOwner) olinks → Linked (f .grocers) (f .grocerOwner) glinks → LinkedPairs (f .tallies) (f .tallyBox) (f .tallyOffer) (f .offerOwner) tlinks →
-        StepIn (talliesOf f) (f .grocerOwner) olinks glinks tlinks (t₁ .known) (t₁ .priceTransit) (t₁ .working) (t₁ .totalTransit) (t₁ .statement) kind a b
-    step-in olinks glinks tlinks lo lg lt = record {
-      price-side = λ small. rw (h .known, h .priceTransit, h .working) (price-step-in f held needs sharers ask facts olinks tlinks lo lt small);
-      total-side = λ large. rw (h .working, h .totalTransit, h .statement) (total-step-in f held needs sharers ask facts glinks lg large);
+    step-in : StepIn (talliesOf f places) olinks tlinks heads grocers (t₁ .known) (t₁ .priceTransit) (t₁ .working) (t₁ .totalTransit) (t₁ .statement) kind a b
+    step-in = record {
+      price-side = λ small. rw (h .known, h .priceTransit, h .working) (price-step-in f held needs places from to grocers ask facts olinks tlinks (look .offers-linked) (look .tallies-linked) small);
+      head-in = λ _. head-there;
+      total-side = λ large. rw (h .working, h .totalTransit, h .statement) (total-step-in f held needs places from to grocers ask facts large);
     }
 
-    module _ (t₂ : StateTables) (more : ℕ) (out : StepOut (talliesOf f) (f .grocerOwner) needs sharers t₁ t₂ kind a b more) where
+    module _ (t₂ : StateTables) (more : ℕ) (out : StepOut (talliesOf f places) needs heads grocers t₁ t₂ kind a b more) where
       -- On the side of prices,
       module _ (small : kind ≤ 3) where
-        prices-left : store (jobOf f) next t ≡ pricesLeft f held needs ask
-        prices-left = moved-is ∙ prices-moved f held needs sharers ask facts small
+        prices-left : store (jobOf f) next t ≡ pricesLeft f held needs places ask
+        prices-left = moved-is ∙ prices-moved f held needs places from to grocers ask facts small
 
         price-holds : Holds (jobOf f) next t t₂
         price-holds =
@@ -128,8 +144,8 @@ module _ (f : JobTables) (ok : Handed f) (long : jobShort f (jobLengths f) ≡ f
 
       -- and on the side of totals.
       module _ (large : 3 < kind) where
-        totals-left : store (jobOf f) next t ≡ totalsLeft f held sharers ask
-        totals-left = moved-is ∙ totals-moved f held needs sharers ask facts large
+        totals-left : store (jobOf f) next t ≡ totalsLeft f held from to grocers ask
+        totals-left = moved-is ∙ totals-moved f held needs places from to grocers ask facts large
 
         total-holds : Holds (jobOf f) next t t₂
         total-holds =
@@ -178,15 +194,8 @@ module _ (f : JobTables) (t : StateTables) (needs sharers order : List ℕ) (n :
         transitLong = g .transit-long;
       }
 
-  pub totals-fresh : FreshTotals (f .boxes) (f .grocers) (t .working) (t .totalTransit) (t .statement)
-  unfolding jobOf
-  totals-fresh = record {
-    boxes≤ = range f (g .job-in .inside) .boxes≤;
-    grocers≤ = limits f (g .job-in .inside) .grocers≤;
-    workingLong = g .working-long;
-    transitLong = g .totals-long;
-    statementLong = g .statement-long;
-  }
+  pub totals-fresh : (words : ℕ) → words ≡ totalsLength job → FreshTotals words (f .grocers) (t .working) (t .totalTransit) (t .statement)
+  totals-fresh words e = record { workingLong = omega (arith, g .working-long); transitLong = omega (arith, g .totals-long); statementLong = g .statement-long }
 
   -- The word of turn i is a place.
   pub turn-place : (i : ℕ) → i < n → (i < 1536) × (1 ≤ f .boxes) × (f .boxes ≤ 16) × (getD order i 0 < 6 * f .boxes * f .boxes)
@@ -241,17 +250,16 @@ module _ (f : JobTables) (t : StateTables) (needs sharers order : List ℕ) (n :
     pub turn-sound : Sound job (afterOrder job (i + 1) order)
     turn-sound = rw next-is at (sound-effect job (range f (g .job-in .inside)) s (kindOf kind) a b o (permit job (s .done) (kindOf kind) a b turn-permitted))
 
-    module _ (t₁ : StateTables) (words messages : ℕ) (r : AllOut job t t₁ order i words messages) where
-      pub turn-in : (olinks glinks tlinks : List ℕ) → Linked (f .offers) (f .offerOwner) olinks → Linked (f .grocers) (f .grocerOwner) glinks → LinkedPairs (f .tallies) (f .tallyBox) (f .tallyOffer) (f .offerOwner) tlinks →
-          StepIn (talliesOf f) (f .grocerOwner) olinks glinks tlinks (t₁ .known) (t₁ .priceTransit) (t₁ .working) (t₁ .totalTransit) (t₁ .statement) kind a b
-      turn-in = step-in f (g .job-in) (g .job-long) t needs sharers (g .needs-are) (g .sharers-are) s o kind a b turn-kind turn-permitted t₁ (r .holds)
+    module _ (t₁ : StateTables) (words messages : ℕ) (r : AllOut job t t₁ order i words messages) (olinks tlinks places heads grocers : List ℕ) (look : Looked f olinks tlinks places heads grocers) where
+      pub turn-in : StepIn (talliesOf f places) olinks tlinks heads grocers (t₁ .known) (t₁ .priceTransit) (t₁ .working) (t₁ .totalTransit) (t₁ .statement) kind a b
+      turn-in = step-in f (g .job-in) (g .job-long) t needs olinks tlinks places heads grocers (g .needs-are) look s o kind a b turn-kind turn-permitted t₁ (r .holds)
 
-      module _ (t₂ : StateTables) (more : ℕ) (out : StepOut (talliesOf f) (f .grocerOwner) needs sharers t₁ t₂ kind a b more) where
+      module _ (t₂ : StateTables) (more : ℕ) (out : StepOut (talliesOf f places) needs heads grocers t₁ t₂ kind a b more) where
         turn-holds : Holds job (effect job s (kindOf kind) a b) t t₂
         turn-holds =
             either (leb kind 3)
-            (λ e. price-holds f (g .job-in) (g .job-long) t needs sharers (g .needs-are) (g .sharers-are) s o kind a b turn-kind turn-permitted t₁ (r .holds) t₂ more out (leb-true kind 3 e))
-            (λ e. total-holds f (g .job-in) (g .job-long) t needs sharers (g .needs-are) (g .sharers-are) s o kind a b turn-kind turn-permitted t₁ (r .holds) t₂ more out (leb-false kind 3 e))
+            (λ e. price-holds f (g .job-in) (g .job-long) t needs olinks tlinks places heads grocers (g .needs-are) look s o kind a b turn-kind turn-permitted t₁ (r .holds) t₂ more out (leb-true kind 3 e))
+            (λ e. total-holds f (g .job-in) (g .job-long) t needs olinks tlinks places heads grocers (g .needs-are) look s o kind a b turn-kind turn-permitted t₁ (r .holds) t₂ more out (leb-false kind 3 e))
           where
             either : (x : Bool) → (x ≡ true → Holds job (effect job s (kindOf kind) a b) t t₂) → (x ≡ false → Holds job (effect job s (kindOf kind) a b) t t₂) → Holds job (effect job s (kindOf kind) a b) t t₂
             either true u v = u refl
@@ -260,8 +268,8 @@ module _ (f : JobTables) (t : StateTables) (needs sharers order : List ℕ) (n :
         turn-sent : s .sent + more ≡ effect job s (kindOf kind) a b .sent
         turn-sent =
             split (leb kind 3)
-            (λ e. price-sent f (g .job-in) (g .job-long) t needs sharers (g .needs-are) (g .sharers-are) s o kind a b turn-kind turn-permitted t₁ (r .holds) t₂ more out (leb-true kind 3 e))
-            (λ e. total-sent f (g .job-in) (g .job-long) t needs sharers (g .needs-are) (g .sharers-are) s o kind a b turn-kind turn-permitted t₁ (r .holds) t₂ more out (leb-false kind 3 e))
+            (λ e. price-sent f (g .job-in) (g .job-long) t needs olinks tlinks places heads grocers (g .needs-are) look s o kind a b turn-kind turn-permitted t₁ (r .holds) t₂ more out (leb-true kind 3 e))
+            (λ e. total-sent f (g .job-in) (g .job-long) t needs olinks tlinks places heads grocers (g .needs-are) look s o kind a b turn-kind turn-permitted t₁ (r .holds) t₂ more out (leb-false kind 3 e))
 
         words-next : words + more ≡ afterOrder job (i + 1) order .sent
         words-next = ap (λ (w : ℕ). w + more) (r .words-are) ∙ turn-sent ∙ ap (λ (u : State). u .sent) next-is
@@ -297,31 +305,34 @@ module _ (f : JobTables) (t : StateTables) (needs sharers order : List ℕ) (n :
   transit-length = ap length (h .priceTransit) ∙ length-overwrite (f .boxes * f .offers) (λ i. s .priceTransit (i / f .offers) (i % f .offers)) (t .priceTransit) (g .transit-long)
 
   pub working-length : length (t₁ .working) ≡ length (t .working)
-  unfolding store recell jobOf
-  working-length = ap length (h .working) ∙ length-overwrite (f .boxes * f .grocers) (λ i. s .working (i / f .grocers) (i % f .grocers)) (t .working) (g .working-long)
+  unfolding store
+  working-length = ap length (h .working ∙ pack-over (jobOf f) (s .working) (t .working)) ∙ length-overwrite (totalsLength (jobOf f)) _ (t .working) (g .working-long)
 
   pub totals-length : length (t₁ .totalTransit) ≡ length (t .totalTransit)
-  unfolding store recell jobOf
-  totals-length = ap length (h .totalTransit) ∙ length-overwrite (f .boxes * f .grocers) (λ i. s .totalTransit (i / f .grocers) (i % f .grocers)) (t .totalTransit) (g .totals-long)
+  unfolding store
+  totals-length = ap length (h .totalTransit ∙ pack-over (jobOf f) (s .totalTransit) (t .totalTransit)) ∙ length-overwrite (totalsLength (jobOf f)) _ (t .totalTransit) (g .totals-long)
 
   pub statement-length : length (t₁ .statement) ≡ length (t .statement)
   unfolding store jobOf
   statement-length = ap length (h .statement) ∙ length-overwrite (f .grocers) (s .statement) (t .statement) (g .statement-long)
 
--- The tables that are made fresh hold the fresh state.
-module _ (f : JobTables) (t t₁ : StateTables) where
-  pub fresh-holds : t₁ .known ≡ ownPrices (f .boxes) (f .offers) (f .price) (f .offerOwner) (overwrite (f .boxes * f .offers) (λ i. 0) (t .known)) →
-      t₁ .priceTransit ≡ overwrite (f .boxes * f .offers) (λ i. 0) (t .priceTransit) → t₁ .working ≡ overwrite (f .boxes * f .grocers) (λ i. pos 0) (t .working) →
-      t₁ .totalTransit ≡ overwrite (f .boxes * f .grocers) (λ i. pos 0) (t .totalTransit) → t₁ .statement ≡ overwrite (f .grocers) (λ i. pos 0) (t .statement) →
-      Holds (jobOf f) (fresh (jobOf f)) t t₁
-  unfolding freshTables store fresh jobOf
-  fresh-holds ek ep ew et es =
-      let e = fresh-is (f .boxes) (f .grocers) (f .offers) (f .price) (f .offerOwner) t (f .tallies) (f .grocerOwner) (f .tallyGrocer) (f .tallyBox) (f .tallyOffer) (f .tallyCount) in
+-- The tables that are made fresh hold the fresh state: so many words of packed totals are 0.
+module _ (k m n tallies : ℕ) (price owner gowner tgrocer tbox toffer : List ℕ) (tcount : List ℤ) (t t₁ : StateTables) (words : ℕ) where
+  abbrev tables : JobTables
+  tables = jobTables k m n tallies price owner gowner tgrocer tbox toffer tcount
+
+  pub fresh-holds : words ≡ totalsLength (jobOf tables) → totalsLength (jobOf tables) ≤ length (t .working) → totalsLength (jobOf tables) ≤ length (t .totalTransit) →
+      t₁ .known ≡ ownPrices k n price owner (overwrite (k * n) (λ i. 0) (t .known)) → t₁ .priceTransit ≡ overwrite (k * n) (λ i. 0) (t .priceTransit) →
+      t₁ .working ≡ overwrite words (λ i. pos 0) (t .working) → t₁ .totalTransit ≡ overwrite words (λ i. pos 0) (t .totalTransit) → t₁ .statement ≡ overwrite m (λ i. pos 0) (t .statement) →
+      Holds (jobOf tables) (fresh (jobOf tables)) t t₁
+  unfolding freshTables
+  fresh-holds packed lw lt ek ep ew et es =
+      let e = fresh-is k m n price owner t tallies gowner tgrocer tbox toffer tcount lw lt in
       record {
         known = ek ∙ ap (λ (u : StateTables). u .known) e;
         priceTransit = ep ∙ ap (λ (u : StateTables). u .priceTransit) e;
-        working = ew ∙ ap (λ (u : StateTables). u .working) e;
-        totalTransit = et ∙ ap (λ (u : StateTables). u .totalTransit) e;
+        working = ew ∙ ap (λ (x : ℕ). overwrite x (λ i. pos 0) (t .working)) packed ∙ ap (λ (u : StateTables). u .working) e;
+        totalTransit = et ∙ ap (λ (x : ℕ). overwrite x (λ i. pos 0) (t .totalTransit)) packed ∙ ap (λ (u : StateTables). u .totalTransit) e;
         statement = es ∙ ap (λ (u : StateTables). u .statement) e;
       }
 
@@ -334,8 +345,8 @@ module _ (f : JobTables) (r s : State) (t t₁ t₂ : StateTables) (h : Holds (j
       record {
         known = k .known ∙ ap (recell (jobOf f .boxes) (jobOf f .offers) (s .known)) (h .known) ∙ ap (λ (u : StateTables). u .known) e;
         priceTransit = k .priceTransit ∙ ap (recell (jobOf f .boxes) (jobOf f .offers) (s .priceTransit)) (h .priceTransit) ∙ ap (λ (u : StateTables). u .priceTransit) e;
-        working = k .working ∙ ap (recell (jobOf f .boxes) (jobOf f .grocers) (s .working)) (h .working) ∙ ap (λ (u : StateTables). u .working) e;
-        totalTransit = k .totalTransit ∙ ap (recell (jobOf f .boxes) (jobOf f .grocers) (s .totalTransit)) (h .totalTransit) ∙ ap (λ (u : StateTables). u .totalTransit) e;
+        working = k .working ∙ ap (packTotals (jobOf f) (s .working)) (h .working) ∙ ap (λ (u : StateTables). u .working) e;
+        totalTransit = k .totalTransit ∙ ap (packTotals (jobOf f) (s .totalTransit)) (h .totalTransit) ∙ ap (λ (u : StateTables). u .totalTransit) e;
         statement = k .statement ∙ ap (overwrite (jobOf f .grocers) (s .statement)) (h .statement) ∙ ap (λ (u : StateTables). u .statement) e;
       }
 
@@ -347,8 +358,8 @@ holds-own f s t t₁ h =
     record {
       known = h .known ∙ sym (ap (λ (u : StateTables). u .known) e) ∙ ap (recell (jobOf f .boxes) (jobOf f .offers) (s .known)) (sym (h .known));
       priceTransit = h .priceTransit ∙ sym (ap (λ (u : StateTables). u .priceTransit) e) ∙ ap (recell (jobOf f .boxes) (jobOf f .offers) (s .priceTransit)) (sym (h .priceTransit));
-      working = h .working ∙ sym (ap (λ (u : StateTables). u .working) e) ∙ ap (recell (jobOf f .boxes) (jobOf f .grocers) (s .working)) (sym (h .working));
-      totalTransit = h .totalTransit ∙ sym (ap (λ (u : StateTables). u .totalTransit) e) ∙ ap (recell (jobOf f .boxes) (jobOf f .grocers) (s .totalTransit)) (sym (h .totalTransit));
+      working = h .working ∙ sym (ap (λ (u : StateTables). u .working) e) ∙ ap (packTotals (jobOf f) (s .working)) (sym (h .working));
+      totalTransit = h .totalTransit ∙ sym (ap (λ (u : StateTables). u .totalTransit) e) ∙ ap (packTotals (jobOf f) (s .totalTransit)) (sym (h .totalTransit));
       statement = h .statement ∙ sym (ap (λ (u : StateTables). u .statement) e) ∙ ap (overwrite (jobOf f .grocers) (s .statement)) (sym (h .statement));
     }
 
@@ -357,12 +368,6 @@ pub record Turning (f : JobTables) (t₀ t₁ : StateTables) (needs sharers orde
   pub all : AllIn f t₀ needs sharers order n
   pub sound : Sound (jobOf f) (afterOrder (jobOf f) i order)
   pub out : AllOut (jobOf f) t₀ t₁ order i words messages
-
--- Offers, grocers and tallies are linked.
-pub record Chained (f : JobTables) (offerLinks grocerLinks tallyLinks : List ℕ) : Type 0 where
-  pub offers-linked : Linked (f .offers) (f .offerOwner) offerLinks
-  pub grocers-linked : Linked (f .grocers) (f .grocerOwner) grocerLinks
-  pub tallies-linked : LinkedPairs (f .tallies) (f .tallyBox) (f .tallyOffer) (f .offerOwner) tallyLinks
 
 -- The first turn, on tables that are made fresh.
 pub turning-first : (f : JobTables) (t t₁ : StateTables) (needs sharers order : List ℕ) (n : ℕ) → AllIn f t needs sharers order n → Holds (jobOf f) (fresh (jobOf f)) t t₁ →
@@ -396,25 +401,24 @@ up i n l = omega arith
 
 -- A turn: the step of its word, told by the numbers kind, a and b.
 module _ (f : JobTables) (t₀ t₁ : StateTables) (needs sharers order : List ℕ) (n i words messages : ℕ) (w : Turning f t₀ t₁ needs sharers order n i words messages) (l : i < n) (kind a b : ℕ)
-    (e : (kind ≡ suc (getD order i 0 / f .boxes / f .boxes)) × (a ≡ getD order i 0 / f .boxes % f .boxes) × (b ≡ getD order i 0 % f .boxes)) where
+    (e : (kind ≡ suc (getD order i 0 / f .boxes / f .boxes)) × (a ≡ getD order i 0 / f .boxes % f .boxes) × (b ≡ getD order i 0 % f .boxes))
+    (olinks tlinks places heads grocers : List ℕ) (look : Looked f olinks tlinks places heads grocers) where
   -- Its kind is one of six, and it may be done.
   kind-between : (1 ≤ kind) × (kind ≤ 6)
   kind-between = turn-between f t₀ needs sharers order n (w .all) i l (w .sound) kind a b (e .0) (e .1) (e .2)
 
-  pub may-step : (olinks glinks tlinks : List ℕ) → Chained f olinks glinks tlinks →
-      StepIn (talliesOf f) (f .grocerOwner) olinks glinks tlinks (t₁ .known) (t₁ .priceTransit) (t₁ .working) (t₁ .totalTransit) (t₁ .statement) kind a b
-  may-step olinks glinks tlinks k =
-      turn-in f t₀ needs sharers order n (w .all) i l (w .sound) kind a b (e .0) (e .1) (e .2) t₁ words messages (w .out) olinks glinks tlinks (k .offers-linked) (k .grocers-linked) (k .tallies-linked)
+  pub may-step : StepIn (talliesOf f places) olinks tlinks heads grocers (t₁ .known) (t₁ .priceTransit) (t₁ .working) (t₁ .totalTransit) (t₁ .statement) kind a b
+  may-step = turn-in f t₀ needs sharers order n (w .all) i l (w .sound) kind a b (e .0) (e .1) (e .2) t₁ words messages (w .out) olinks tlinks places heads grocers look
 
   -- Where it is done,
-  module _ (t₂ : StateTables) (more : ℕ) (out : StepOut (talliesOf f) (f .grocerOwner) needs sharers t₁ t₂ kind a b more) where
+  module _ (t₂ : StateTables) (more : ℕ) (out : StepOut (talliesOf f places) needs heads grocers t₁ t₂ kind a b more) where
     -- the counts fit their numbers,
     pub counts-fit : (1 ≤ kind) × (kind ≤ 6) × (words + more < 4_294_967_296) × (messages < 4_294_967_295)
     counts-fit = (
       kind-between .0,
       kind-between .1,
-      omega (arith, words-few f t₀ needs sharers order n (w .all) i l (w .sound) kind a b (e .0) (e .1) (e .2) t₁ words messages (w .out) t₂ more out),
-      omega (arith, messages-few f t₀ needs sharers order n (w .all) i l (w .sound) kind a b (e .0) (e .1) (e .2) t₁ words messages (w .out) t₂ more out),
+      omega (arith, words-few f t₀ needs sharers order n (w .all) i l (w .sound) kind a b (e .0) (e .1) (e .2) t₁ words messages (w .out) olinks tlinks places heads grocers look t₂ more out),
+      omega (arith, messages-few f t₀ needs sharers order n (w .all) i l (w .sound) kind a b (e .0) (e .1) (e .2) t₁ words messages (w .out) olinks tlinks places heads grocers look t₂ more out),
     )
 
     -- and the next turn begins.
@@ -422,5 +426,5 @@ module _ (f : JobTables) (t₀ t₁ : StateTables) (needs sharers order : List �
     turning-next words′ messages′ ew em = record {
       all = w .all;
       sound = turn-sound f t₀ needs sharers order n (w .all) i l (w .sound) kind a b (e .0) (e .1) (e .2);
-      out = turn-out f t₀ needs sharers order n (w .all) i l (w .sound) kind a b (e .0) (e .1) (e .2) t₁ words messages (w .out) t₂ more out words′ messages′ ew (em a b);
+      out = turn-out f t₀ needs sharers order n (w .all) i l (w .sound) kind a b (e .0) (e .1) (e .2) t₁ words messages (w .out) olinks tlinks places heads grocers look t₂ more out words′ messages′ ew (em a b);
     }

@@ -2,22 +2,24 @@
 use mathlib.Core.Path.{_≡_, refl, sym, ap, ap₂, _∙_}
 use mathlib.Core.Bool.{Bool, true, false, cond, not}
 use mathlib.Core.List.{List}
-use Prim.Native.Nat.{ℕ, _≤_}
-use lib.Dec.{eqb}
+use Prim.Native.Nat.{ℕ, _+_, _<_, _≤_}
+use lib.Dec.{eqb, ltb}
+use lib.ListN.{getD}
 use Rattle.laws.specs.Tables.{tabulate}
 use Rattle.laws.specs.Checks.{firstMet}
-use borrow.Author.Tests.{leb-true}
+use borrow.Author.Tests.{leb-true, ltb-true}
 use Rattle.laws.proofs.Bools.{and-true, and-l, and-r}
-use Rattle.model.specs.Job.{Job, needWord, sharerWord}
+use Rattle.model.specs.Job.{Job, needWord}
 use Rattle.model.specs.Steps.{kindOf, Steps, State, fits, ready, permitted}
-use Rattle.model.specs.Tables.{JobTables, jobOf, StateTables, view, store, jobLengths, jobShort, stateLengths, stateShort}
-use Rattle.model.specs.Ranges.{sizesInRange, stateInRange}
+use Rattle.model.specs.Tables.{JobTables, jobOf, StateTables, view, store, jobLengths, jobShort, stateLengths, stateShort, totalsShort}
+use Rattle.model.specs.Ranges.{sizesInRange, stateInRange, totalsInRange}
 use Rattle.model.specs.Handed.{handedInRange, Handed}
 use Rattle.model.specs.Step.{asked, isKind, boxesFit, stepRules}
 use Rattle.step_apply.specs.Apply.{Applies}
+use Rattle.run_steps.specs.All.{headOf, Looked}
 use Rattle.model.specs.Boxes.{Sound}
 use Rattle.model.proofs.Refusal.{rules-zero}
-use Rattle.model.proofs.Step.{ok-store, whole-store}
+use Rattle.model.proofs.Step.{ok-store, whole-store, totals-store, whole-totals}
 use Rattle.model.proofs.Lent.{store-store}
 use Rattle.model.proofs.Served.{within, view-is}
 
@@ -60,16 +62,33 @@ module _ (f : JobTables) (t : StateTables) (o : OnWay f t) where
   pub way-range : stateInRange f t ≡ true
   way-range = ap (stateInRange f) (o .held) ∙ ok-store f (view (jobOf f) t) t (within f (o .job-in .inside) t (view (jobOf f) t) (o .sound))
 
+  pub way-totals : totalsShort (jobOf f) (stateLengths t) ≡ false
+  way-totals = ap (λ (u : StateTables). totalsShort (jobOf f) (stateLengths u)) (o .held) ∙ whole-totals (jobOf f) (view (jobOf f) t) t
+
+  pub way-amounts : totalsInRange (jobOf f) t ≡ true
+  way-amounts = ap (totalsInRange (jobOf f)) (o .held) ∙ totals-store (jobOf f) (view (jobOf f) t) t (within f (o .job-in .inside) t (view (jobOf f) t) (o .sound))
+
   -- A permitted step, asked for by its number.
   module _ (kind a b : ℕ) (k : isKind kind ≡ true) (p : permitted (jobOf f) (view (jobOf f) t .done) (kindOf kind) a b ≡ true) where
-    pub way-applies : (needs sharers : List ℕ) → needs ≡ tabulate 500 (needWord (jobOf f)) → sharers ≡ tabulate 255 (sharerWord (jobOf f)) → Applies f t needs sharers (asked kind a b)
-    way-applies needs sharers en es = record {
+    pub way-boxes : (a < f .boxes) × (b < f .boxes)
+    unfolding boxesFit jobOf
+    way-boxes =
+        let fit = permitted-fits (jobOf f) (view (jobOf f) t .done) kind a b k p in
+        let rest = and-r (ltb a (f .boxes)) _ fit in
+        (ltb-true a (f .boxes) (and-l (ltb a (f .boxes)) _ fit), ltb-true b (f .boxes) (and-l (ltb b (f .boxes)) _ rest))
+
+    pub way-applies : (needs olinks tlinks places heads grocers : List ℕ) → needs ≡ tabulate 500 (needWord (jobOf f)) → Looked f olinks tlinks places heads grocers →
+        Applies f t needs places (getD heads (headOf kind a b) 0) (getD heads (headOf kind a b + 1) 0) grocers (asked kind a b)
+    way-applies needs olinks tlinks places heads grocers en look = record {
       job-in = o .job-in;
       job-long = o .job-long;
       state-long = way-whole;
       state-in = way-range;
+      totals-long = way-totals;
+      totals-in = way-amounts;
       needs-are = λ _. en;
-      sharers-are = λ _. es;
+      places-are = λ _ _. look .spots-are a (way-boxes .0);
+      span-is = λ _. look .spans-are kind a b (way-boxes .0) (way-boxes .1);
       kind-in = k;
       boxes-fit = permitted-fits (jobOf f) (view (jobOf f) t .done) kind a b k p;
     }

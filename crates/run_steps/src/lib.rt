@@ -2,15 +2,24 @@
 ghost use mathlib.Core.Path.{_≡_};
 ghost use mathlib.Core.List.{List};
 ghost use Prim.Native.Nat.{ℕ, suc, _+_, _*_, _/_, _%_, _≤_, _<_};
+ghost use lib.IntN.{pos};
 ghost use lib.ListN.{getD};
+ghost use Rattle.laws.specs.Tables.{overwrite};
 ghost use Rattle.model.specs.Steps.{kindOf};
 ghost use Rattle.model.specs.Words.{messagesOf};
 ghost use Rattle.model.specs.Tables.{jobTables, jobOf};
-ghost use Rattle.step_links.specs.Links.{Linked, LinkedPairs, Some};
+ghost use Rattle.step_links.specs.Links.{LinkedPairs, Some};
 ghost use Rattle.step_totals.specs.Row.{tallies};
-ghost use Rattle.run_steps.specs.All.{withoutMarks, StepIn, StepOut, AllIn, AllOut};
+ghost use Rattle.book_places.specs.Spots.{CountIn, startBy};
+ghost use Rattle.run_fresh.specs.Fresh.{FreshTotals};
+ghost use Rattle.run_steps.specs.All.{withoutMarks, headOf, StepIn, StepOut, AllIn, AllOut};
+use book_places::CLASSES;
+use book_places::all::HEADS;
+use book_places::all::TOTALS;
+use slices::casts::index_of;
+use slices::index_at;
+use slices::limits::TALLIES;
 use slices::sizes::Sizes;
-use step_links::GROCER_LINKS;
 use step_links::OFFER_LINKS;
 use step_links::TALLY_LINKS;
 use step_places::PLACES;
@@ -56,18 +65,27 @@ fn sent_more(sent: Sent, kind: u16, more: u32) -> Sent
     }
 }
 
+// The word that tells where the span of a step begins.
+fn head_of(x: Step) -> usize
+    requires { ⌜ headOf (x .kind) (x .first) (x .second) < 1_000 ⌝ }
+    ensures { λ r. ⌜ r ≡ headOf (x .kind) (x .first) (x .second) ⌝ }
+{
+    let b = index_of(step_apply::span_box(x));
+    b * CLASSES + step_apply::span_group(x)
+}
+
 // One step, on the side of prices or of totals. The words sent.
 fn one_step(
     z: Sizes,
     offer_owner: &[u16],
-    tally_grocer: &[u16],
+    tally_place: &[u16],
     tally_offer: &[u16],
     tally_count: &[i32],
     needs: &[u16; 500],
-    sharers: &[u16; 255],
     offer_links: &[u16; OFFER_LINKS],
-    grocer_links: &[u16; GROCER_LINKS],
     tally_links: &[u16; TALLY_LINKS],
+    heads: &[u16],
+    grocers: &[u16],
     known: &mut [u32],
     price_transit: &mut [u32],
     working: &mut [i64],
@@ -75,13 +93,13 @@ fn one_step(
     statement: &mut [i64],
     x: Step,
 ) -> u32
-    requires { ⌜ Some (λ holder. Some (λ owner. StepIn (tallies (z .boxes) (z .grocers) (z .offers) (z .tallies) (now «offer_owner»)
-        (now «tally_grocer») holder (now «tally_offer») (now «tally_count»)) owner (now «offer_links») (now «grocer_links») (now «tally_links»)
-        (now known) (now «price_transit») (now working) (now «total_transit») (now statement) (x .kind) (x .first) (x .second))) ⌝ }
-    ensures { λ r. ⌜ ((holder owner : List ℕ) → (x .kind ≤ 3 → LinkedPairs (z .tallies) holder (now («tally_offer» .entry))
-        (now («offer_owner» .entry)) (now («tally_links» .entry))) → (3 < x .kind → Linked (z .grocers) owner (now («grocer_links» .entry))) →
-        StepOut (tallies (z .boxes) (z .grocers) (z .offers) (z .tallies) (now («offer_owner» .entry)) (now («tally_grocer» .entry)) holder
-        (now («tally_offer» .entry)) (now («tally_count» .entry))) owner (now (needs .entry)) (now (sharers .entry))
+    requires { ⌜ Some (λ holder. StepIn (tallies (z .boxes) (z .offers) (z .tallies) (now «offer_owner»)
+        (now «tally_place») holder (now «tally_offer») (now «tally_count»)) (now «offer_links») (now «tally_links») (now heads) (now grocers)
+        (now known) (now «price_transit») (now working) (now «total_transit») (now statement) (x .kind) (x .first) (x .second)) ⌝ }
+    ensures { λ r. ⌜ ((holder : List ℕ) → (x .kind ≤ 3 → LinkedPairs (z .tallies) holder (now («tally_offer» .entry))
+        (now («offer_owner» .entry)) (now («tally_links» .entry))) →
+        StepOut (tallies (z .boxes) (z .offers) (z .tallies) (now («offer_owner» .entry)) (now («tally_place» .entry)) holder
+        (now («tally_offer» .entry)) (now («tally_count» .entry))) (now (needs .entry)) (now (heads .entry)) (now (grocers .entry))
         (withoutMarks (now (known .entry)) (now («price_transit» .entry)) (now (working .entry)) (now («total_transit» .entry)) (now (statement .entry)))
         (withoutMarks (now (known .exit)) (now («price_transit» .exit)) (now (working .exit)) (now («total_transit» .exit)) (now (statement .exit)))
         (x .kind) (x .first) (x .second) r) ⌝ }
@@ -90,7 +108,7 @@ fn one_step(
         return step_apply::price_step(
             z,
             offer_owner,
-            tally_grocer,
+            tally_place,
             tally_offer,
             tally_count,
             needs,
@@ -102,18 +120,36 @@ fn one_step(
             x,
         );
     }
-    step_apply::total_step(
-        z,
-        sharers,
-        grocer_links,
-        working,
-        total_transit,
-        statement,
-        x,
-    )
+    let head = head_of(x);
+    let next = head + 1;
+    let from = index_at(heads, head);
+    let to = index_at(heads, next);
+    step_apply::total_step(x.kind, from, to, grocers, working, total_transit, statement)
 }
 
-// From a fresh state, whatever the tables held before, the first n steps of an order: offers, grocers and tallies are linked once.
+// The tables of totals of a fresh state: so many words as all boxes have totals, and the statements.
+fn clear_totals(
+    z: Sizes,
+    grocer_owner: &[u16],
+    sharers: &[u16; 255],
+    working: &mut [i64],
+    total_transit: &mut [i64],
+    statement: &mut [i64],
+)
+    requires { ⌜ CountIn (z .grocers) (now «grocer_owner») (now sharers) × (z .boxes ≤ 16) ⌝ }
+    requires { ⌜ FreshTotals (startBy (z .grocers) (now «grocer_owner») (now sharers) (z .boxes)) (z .grocers) (now working) (now «total_transit»)
+        (now statement) ⌝ }
+    ensures { λ _. ⌜ (now (working .exit) ≡ overwrite (startBy (z .grocers) (now («grocer_owner» .entry)) (now (sharers .entry)) (z .boxes)) (λ i. pos 0)
+        (now (working .entry))) × (now («total_transit» .exit) ≡ overwrite (startBy (z .grocers) (now («grocer_owner» .entry)) (now (sharers .entry))
+        (z .boxes)) (λ i. pos 0) (now («total_transit» .entry))) × (now (statement .exit) ≡ overwrite (z .grocers) (λ i. pos 0)
+        (now (statement .entry))) ⌝ }
+{
+    let m = index_of(z.grocers);
+    let words = index_of(book_places::box_start(m, grocer_owner, sharers, z.boxes));
+    run_fresh::fresh_totals(words, z.grocers, working, total_transit, statement);
+}
+
+// From a fresh state, whatever the tables held before, the first n steps of an order: offers and tallies are linked, and places told, once.
 pub fn all_steps(
     z: Sizes,
     price: &[u32],
@@ -143,9 +179,25 @@ pub fn all_steps(
         (now («total_transit» .exit)) (now (statement .exit))) (now (order .entry)) n (r .words) (r .messages) ⌝ }
 {
     run_fresh::fresh_prices(z.boxes, z.offers, price, offer_owner, known, price_transit);
-    run_fresh::fresh_totals(z.boxes, z.grocers, working, total_transit, statement);
+    clear_totals(z, grocer_owner, sharers, working, total_transit, statement);
+    let mut heads = [0u16; HEADS];
+    let mut grocers = [0u16; TOTALS];
+    let mut places = [0u16; TALLIES];
+    let m = index_of(z.grocers);
+    let t = index_of(z.tallies);
+    book_places::all::all_boxes(
+        z.boxes,
+        m,
+        grocer_owner,
+        sharers,
+        t,
+        tally_box,
+        tally_grocer,
+        &mut heads,
+        &mut grocers,
+        &mut places,
+    );
     let offer_links = step_links::offer_links(z.offers, offer_owner);
-    let grocer_links = step_links::grocer_links(z.grocers, grocer_owner);
     let tally_links = step_links::tally_links(z.tallies, tally_box, tally_offer, offer_owner);
     let mut sent = Sent {
         words: 0,
@@ -156,14 +208,14 @@ pub fn all_steps(
         let more = one_step(
             z,
             offer_owner,
-            tally_grocer,
+            &places,
             tally_offer,
             tally_count,
             needs,
-            sharers,
             &offer_links,
-            &grocer_links,
             &tally_links,
+            &heads,
+            &grocers,
             known,
             price_transit,
             working,

@@ -28,6 +28,14 @@ use Rattle.book_places.proofs.Joined.{list-model, start-model, group-model, own
 use Rattle.book_places.proofs.Modelled.{held-word}
 use Rattle.step_apply.specs.Apply.{Spots, SpanOf, spanBox, spanGroup}
 
+-- The box and the group of a span are there, of boxes that are.
+pub spans-in : (f : JobTables) (kind a b : ℕ) → a < f .boxes → b < f .boxes → (spanBox kind a b < f .boxes) × (spanGroup kind a b ≤ f .boxes)
+unfolding spanBox spanGroup
+spans-in f kind a b la lb = (
+  cond-either (λ (x : ℕ). x < f .boxes) (eqb kind 6) b a lb la,
+  cond-either (λ (x : ℕ). x ≤ f .boxes) (eqb kind 4) (suc b) (cond (eqb kind 5) 0 (suc a)) lb (cond-either (λ (x : ℕ). x ≤ f .boxes) (eqb kind 5) 0 (suc a) (omega arith) la),
+)
+
 module _ (f : JobTables) (bare : f .tallyBag ≡ []) (r : InRange (jobOf f)) (few : f .grocers ≤ 255) (words : List ℕ) (ew : words ≡ tabulate 255 (sharerWord (jobOf f))) where
   abbrev spot : ℕ → ℕ → ℕ
   spot a = spotBy (f .boxes) (f .grocers) (f .grocerOwner) words a (f .tallyBox) (f .tallyGrocer)
@@ -136,13 +144,6 @@ module _ (f : JobTables) (bare : f .tallyBag ≡ []) (r : InRange (jobOf f)) (fe
   unfolding putAt
   length-put list old l start = length-tabulate (length old) _
 
-  pub spans-in : (kind a b : ℕ) → a < f .boxes → b < f .boxes → (spanBox kind a b < f .boxes) × (spanGroup kind a b ≤ f .boxes)
-  unfolding spanBox spanGroup
-  spans-in kind a b la lb = (
-    cond-either (λ (x : ℕ). x < f .boxes) (eqb kind 6) b a lb la,
-    cond-either (λ (x : ℕ). x ≤ f .boxes) (eqb kind 4) (suc b) (cond (eqb kind 5) 0 (suc a)) lb (cond-either (λ (x : ℕ). x ≤ f .boxes) (eqb kind 5) 0 (suc a) (omega arith) la),
-  )
-
   -- The span of a step of kind 4, 5 or 6, and its grocers.
   pub span-found : (kind a b from to : ℕ) (old grocers : List ℕ) → a < f .boxes → b < f .boxes → totalsLength (jobOf f) ≤ length old →
       from ≡ groupBy (f .boxes) (f .grocers) (f .grocerOwner) words (spanBox kind a b) (spanGroup kind a b) →
@@ -172,10 +173,10 @@ module _ (f : JobTables) (bare : f .tallyBag ≡ []) (r : InRange (jobOf f)) (fe
       }
     where
       box-in : spanBox kind a b < f .boxes
-      box-in = spans-in kind a b la lb .0
+      box-in = spans-in f kind a b la lb .0
 
       group-in : spanGroup kind a b ≤ f .boxes
-      group-in = spans-in kind a b la lb .1
+      group-in = spans-in f kind a b la lb .1
 
   -- ---- What the steps of a run look up
 
@@ -227,8 +228,8 @@ module _ (f : JobTables) (bare : f .tallyBag ≡ []) (r : InRange (jobOf f)) (fe
         SpanOf (jobOf f) kind a b (getD heads (spanBox kind a b * 18 + spanGroup kind a b) 0) (getD heads (spanBox kind a b * 18 + spanGroup kind a b + 1) 0) grocers
     unfolding jobOf inSpan
     span-told kind a b la lb long =
-        let box-in = spans-in kind a b la lb .0 in
-        let group-in = spans-in kind a b la lb .1 in
+        let box-in = spans-in f kind a b la lb .0 in
+        let group-in = spans-in f kind a b la lb .1 in
         let inside = group-inside (spanBox kind a b) (spanGroup kind a b) box-in group-in in
         let within = box-within (spanBox kind a b) box-in in
         let from-is : getD heads (spanBox kind a b * 18 + spanGroup kind a b) 0 ≡ groupStart (jobOf f) (spanBox kind a b) (spanGroup kind a b) =

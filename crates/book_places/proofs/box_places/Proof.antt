@@ -8,7 +8,7 @@ use borrow.Author.Needs.{needs}
 use denote.Ref.{now}
 use Rattle.laws.specs.Tables.{overwrite}
 use Rattle.book_places.specs.Spots.{listBy, startBy, spotBy, BoxIn}
-use Rattle.book_places.proofs.Joined.{spot-is, number-le, list-few, list-ready}
+use Rattle.book_places.proofs.Joined.{count-in, spot-is, number-le, list-few, list-ready}
 use Rattle.book_places.proofs.box_places.Statement.{statement}
 use Rattle.book_places.proofs.box_places.Tie as tie
 
@@ -67,7 +67,7 @@ pub box-places-spec : {M : Type 1} → statement M
 box-places-spec =
     tie.close
     (tie.spec
-    (λ c κs. let b = c .before .before .before .before .before .pre .0 in (record { m-in = omega (arith, b .m-in); owners-long = b .owners-in .owners-long; words-long = b .words-long; owner-in = λ g l. omega (arith, b .owners-in .owner-in g l, b .owners-in .k-in) }, omega (arith, b .box-in, b .owners-in .k-in)))
+    (λ c κs. count-in _ _ _ _ _ (c .before .before .before .before .before .pre .0))
     (λ c. search needs)
     (λ c. search needs)
     (λ c κs. let b = c .before .before .before .before .before .before .before .before .pre .0 in ((b .owners-in, b .words-long), (b .box-in, (omega (arith, b .owners-in .k-in), b .m-in))))

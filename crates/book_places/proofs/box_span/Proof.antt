@@ -10,7 +10,7 @@ use Rattle.laws.proofs.Tables.{getD-overwrite}
 use Rattle.book_sort.specs.Sort.{at, begin}
 use Rattle.book_sort.proofs.Placing.{begin-le}
 use Rattle.book_places.specs.Spots.{classBy, listBy, startBy, groupBy, putAt, BoxIn}
-use Rattle.book_places.proofs.Joined.{put-front, list-few}
+use Rattle.book_places.proofs.Joined.{count-in, put-front, list-few}
 use Rattle.book_places.proofs.box_span.Statement.{statement}
 use Rattle.book_places.proofs.box_span.Tie as tie
 
@@ -80,7 +80,7 @@ pub box-span-spec : {M : Type 1} → statement M
 box-span-spec =
     tie.close
     (tie.spec
-    (λ c κs. let b = c .before .before .before .pre .0 .0 in (record { m-in = omega (arith, b .m-in); owners-long = b .owners-in .owners-long; words-long = b .words-long; owner-in = λ g l. omega (arith, b .owners-in .owner-in g l, b .owners-in .k-in) }, omega (arith, b .box-in, b .owners-in .k-in)))
+    (λ c κs. count-in _ _ _ _ _ (c .before .before .before .pre .0 .0))
     (λ c κs. search needs)
     (λ c. search needs)
     (λ c. search needs)

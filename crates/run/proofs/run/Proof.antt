@@ -1,5 +1,6 @@
 -- `run::run` meets its contract: refused, or its steps are picked and then done. Assumes nothing.
 use mathlib.Core.Path.{_≡_, refl, sym, _∙_}
+use mathlib.Core.Bool.{false}
 use mathlib.Core.List.{List}
 use Prim.Native.Nat.{ℕ, _≤_}
 use native.Mathlib.Omega.{arith}
@@ -7,12 +8,12 @@ use lib.ListN.{length, length-set}
 use borrow.Author.Needs.{needs}
 use denote.Ref.{now}
 use Rattle.laws.specs.Checks.{firstMet}
-use Rattle.model.specs.Tables.{JobTables, bagTables, jobOf, StateTables, stateTables, stateLengths}
+use Rattle.model.specs.Tables.{JobTables, bagTables, jobOf, StateTables, stateTables, stateLengths, totalsShort}
 use Rattle.model.specs.Local.{jobRefusals}
 use Rattle.model.specs.Handed.{handedTables, Standing}
 use Rattle.run.specs.Run.{Begins, answerOf}
 use Rattle.run.proofs.Ends.{begins, begins-needs, begins-sharers, order-in, run-ended, run-short}
-use Rattle.run.proofs.Ends.{needs-of, sharers-of, of-job, all-in, run-finished, run-refused, sent-room}
+use Rattle.run.proofs.Ends.{needs-of, sharers-of, totals-count, totals-told, of-job, all-in, run-finished, run-refused, run-packed, sent-room}
 use Rattle.run.proofs.run.Statement.{statement}
 use Rattle.run.proofs.run.Tie as tie
 
@@ -42,13 +43,22 @@ abbrev looked : tie.Else2 → tie.After-job-refusal
 looked e = e .before .before
 
 abbrev stood : tie.After-sharers → tie.Else2
-stood c = c .before .before .before
+stood c = c .before .before
+
+abbrev shared-out : tie.After-totals-short → tie.After-sharers
+shared-out c = c .before .before
 
 abbrev whole : tie.After-job-refusal → tie.Else1
 whole c = c .before .before
 
-abbrev worded : tie.After-pick-order → tie.After-sharers
+abbrev worded : tie.After-pick-order → tie.After-needs
 worded c = c .before .before .before .before
+
+abbrev counted : tie.After-needs → tie.Else3
+counted c = c .before
+
+abbrev of-needs : tie.After-needs → tie.Else2
+of-needs c = stood (shared-out (counted c .before))
 
 abbrev marks-back : tie.After-lay-order → tie.After-pick-order
 marks-back c = c .before .before .before .before .before
@@ -70,7 +80,7 @@ done c = written c .before .before .before
 
 returns : tie.Need-returns
 unfolding answerOf stateLengths
-returns c = let s = entry (c .before) in run-short (job s) (lent s) _ (c .before .state-short .ensures) (now (s .args .choices)) (now (s .args .picked)) (c .if1 .taken)
+returns c = let s = entry (c .before) in run-short (job s) (lent s) _ (c .before .state-short .ensures _ _) (now (s .args .choices)) (now (s .args .picked)) (c .if1 .taken)
 
 returns-2 : tie.Need-returns-2
 unfolding answerOf stateLengths
@@ -78,7 +88,7 @@ returns-2 c =
     let b = c .before .before in
     let w = whole b in
     let s = entry (w .before) in
-    run-refused (job s) (lent s) _ (w .before .state-short .ensures) (w .if1 .left) (now (s .args .choices)) (now (s .args .picked)) _ (b .job-refusal .ensures .0) (c .if2 .taken)
+    run-refused (job s) (lent s) _ (w .before .state-short .ensures _ _) (w .if1 .left) (now (s .args .choices)) (now (s .args .picked)) _ (b .job-refusal .ensures .0) (c .if2 .taken)
 
 -- No refusal: the boxes of the tallies that stand, and the tables with them.
 abbrev standing : tie.Else2 → List ℕ
@@ -99,25 +109,44 @@ handed e = handedTables (job (start e)) (standing e)
 -- With them the run may begin.
 may : (e : tie.Else2) → Begins (handed e) (lent (start e))
 unfolding stateLengths
-may e = begins (job (start e)) (lent (start e)) _ (whole (looked e) .before .state-short .ensures) (whole (looked e) .if1 .left) (none-met e) (standing e) (stand e)
+may e = begins (job (start e)) (lent (start e)) _ (whole (looked e) .before .state-short .ensures _ _) (whole (looked e) .if1 .left) (none-met e) (standing e) (stand e)
 
 standing-lent : tie.Need-slice-aggregate-boxes-standing
 standing-lent c = sym (looked (c .before) .job-refusal .kept .1 .1 .1 .1 .1 .1 .1 .1 .1 .1 .1 .1 .1 .0)
 
-needs-requires : tie.Need-needs-requires
-needs-requires c κs = begins-needs _ _ (may (c .before))
-
 sharers-requires : tie.Need-sharers-requires
-sharers-requires c κs = begins-sharers _ _ (may (c .before .before))
+sharers-requires c κs = begins-sharers _ _ (may (c .before))
+
+totals-short-requires : tie.Need-totals-short-requires
+totals-short-requires c κs = let h = c .before in totals-count _ _ (may (stood h)) _ (h .sharers .ensures)
+
+-- The packed tables are short just where the test says so.
+packed-told : (c : tie.After-totals-short) → let e = stood (shared-out c) in c .totals-short .result ≡ totalsShort (jobOf (handed e)) (stateLengths (lent (start e)))
+packed-told c = let h = shared-out c in totals-told (handed (stood h)) (lent (start (stood h))) (may (stood h)) _ (h .sharers .ensures) _ (c .totals-short .ensures)
+
+returns-3 : tie.Need-returns-3
+unfolding answerOf stateLengths
+returns-3 c =
+    let e = stood (shared-out (c .before)) in
+    let s = start e in
+    run-packed (job s) (lent s) _ (whole (looked e) .before .state-short .ensures _ _) (whole (looked e) .if1 .left) (none-met e) (standing e) (stand e) (now (s .args .choices)) (now (s .args .picked))
+    (c .before .totals-short .result) (packed-told (c .before)) (c .if3 .taken)
+
+-- None is.
+packed-long : (c : tie.Else3) → let e = stood (shared-out (c .before)) in totalsShort (jobOf (handed e)) (stateLengths (lent (start e))) ≡ false
+packed-long c = sym (packed-told (c .before)) ∙ c .if3 .left
+
+needs-requires : tie.Need-needs-requires
+needs-requires c κs = begins-needs _ _ (may (stood (shared-out (c .before))))
 
 pick-order-requires : tie.Need-pick-order-requires
-pick-order-requires c κs = let w = c .before .before .before in (order-in _ _ (may (stood w)) _ _ (w .before .needs .ensures) (w .sharers .ensures), refl)
+pick-order-requires c κs = let w = c .before .before .before in (order-in _ _ (may (of-needs w)) _ (w .needs .ensures), refl)
 
 -- The order has room for its words.
 order-in-room : (o : tie.After-pick-order) → (o .pick-order .result ≤ 1536) × (length (o .pick-order .last .1 .1 .1 .1 .1 .1 .1 .1 .1 .0) ≡ 1536)
 order-in-room o =
     let w = worded o in
-    let p = o .pick-order .ensures .1 _ (of-job _ _ (may (stood w)) _ _ (w .before .needs .ensures) (w .sharers .ensures)) .picked in
+    let p = o .pick-order .ensures .1 _ (of-job _ _ (may (of-needs w)) _ (w .needs .ensures)) .picked in
     (p .in-order, p .long)
 
 lay-order-requires : tie.Need-lay-order-requires
@@ -127,34 +156,32 @@ all-steps-requires : tie.Need-all-steps-requires
 all-steps-requires c κs =
     let o = picked c in
     let w = worded o in
-    let g = may (stood w) in
-    let en = w .before .needs .ensures in
-    let es = w .sharers .ensures in
-    all-in _ _ g _ _ _ _ _ _ (needs-of _ _ g _ _ en es) (sharers-of _ _ g _ _ en es) (o .pick-order .ensures .1 _ (of-job _ _ g _ _ en es))
+    let g = may (of-needs w) in
+    let h = shared-out (counted w .before) in
+    all-in _ _ g (packed-long (counted w)) _ _ _ _ _ _ (needs-of _ _ g _ (w .needs .ensures)) (sharers-of _ _ g _ (h .sharers .ensures)) (o .pick-order .ensures .1 _ (of-job _ _ g _ (w .needs .ensures)))
 
 write-sent : tie.Need-slice-write-sent
-write-sent c = omega (arith, sent-room _ _ (may (stood (worded (picked (done c .before))))))
+write-sent c = omega (arith, sent-room _ _ (may (of-needs (worded (picked (done c .before))))))
 
 cast-steps : tie.Need-cast-t68
 cast-steps c =
     let o = picked (done c .before) in
     let w = worded o in
-    omega (arith, o .pick-order .ensures .1 _ (of-job _ _ (may (stood w)) _ _ (w .before .needs .ensures) (w .sharers .ensures)) .picked .in-order)
+    omega (arith, o .pick-order .ensures .1 _ (of-job _ _ (may (of-needs w)) _ (w .needs .ensures)) .picked .in-order)
 
-returns-3 : tie.Need-returns-3
+returns-4 : tie.Need-returns-4
 unfolding answerOf stateLengths
-returns-3 c =
+returns-4 c =
     let a = done c in
     let o = picked (a .before) in
     let w = worded o in
-    let e = stood w in
+    let e = of-needs w in
     let g = may e in
     let s = start e in
-    let en = w .before .needs .ensures in
-    let es = w .sharers .ensures in
-    run-ended (handed e) (lent s) g _ _ (now (s .args .choices)) _ _ _ (needs-of _ _ g _ _ en es) (sharers-of _ _ g _ _ en es) (o .pick-order .ensures .1 _ (of-job _ _ g _ _ en es)) _ _ _ (a .all-steps .ensures)
-    (o .pick-order .ensures .0) refl refl (now (s .args .picked)) _ (told (a .before) .lay-order .ensures)
-    ∙ run-finished (job s) (lent s) _ (whole (looked e) .before .state-short .ensures) (whole (looked e) .if1 .left) (none-met e) (standing e) (stand e) (now (s .args .choices)) (now (s .args .picked))
+    let h = shared-out (counted w .before) in
+    run-ended (handed e) (lent s) g (packed-long (counted w)) _ _ (now (s .args .choices)) _ _ _ (needs-of _ _ g _ (w .needs .ensures)) (sharers-of _ _ g _ (h .sharers .ensures))
+    (o .pick-order .ensures .1 _ (of-job _ _ g _ (w .needs .ensures))) _ _ _ (a .all-steps .ensures) (o .pick-order .ensures .0) refl refl (now (s .args .picked)) _ (told (a .before) .lay-order .ensures)
+    ∙ run-finished (job s) (lent s) _ (whole (looked e) .before .state-short .ensures _ _) (whole (looked e) .if1 .left) (none-met e) (standing e) (stand e) (now (s .args .choices)) (now (s .args .picked)) (packed-long (counted w))
 
 pub run-spec : {M : Type 1} → statement M
 run-spec =
@@ -166,8 +193,10 @@ run-spec =
     (λ c κs. search needs)
     returns-2
     standing-lent
-    needs-requires
     sharers-requires
+    totals-short-requires
+    returns-3
+    needs-requires
     pick-order-requires
     lay-order-requires
     all-steps-requires
@@ -179,6 +208,6 @@ run-spec =
     (λ c. done c .all-steps .kept .1 .1 .1 .1 .1 .1 .1 .1 .1 .1 .1 .1 .1 .1 .1 .0)
     (λ c. done c .all-steps .kept .1 .1 .1 .1 .1 .1 .1 .1 .1 .1 .1 .1 .1 .1 .1 .1 .0)
     (λ c. picked (done c .before) .pick-order .kept .1 .1 .1 .1 .1 .1 .1 .1 .0)
-    (λ c. length-set (now (start (stood (worded (picked (done c .before)))) .args .sent)) 0 (done c .all-steps .result .words))
+    (λ c. length-set (now (start (of-needs (worded (picked (done c .before)))) .args .sent)) 0 (done c .all-steps .result .words))
     (λ c. told (done c .before) .lay-order .kept .1 .1 .0)
-    returns-3)
+    returns-4)

@@ -6,7 +6,7 @@ use Rattle.run.proofs.state_short.Tie as tie
 
 returns : tie.Need-returns
 unfolding stateShort
-returns c = cc
+returns c working totals = cc
 
 pub state-short-spec : {M : Type 1} → statement M
-state-short-spec = tie.close (tie.spec (λ c κs. tt) (λ c κs. tt) (λ c κs. tt) (λ c. search needs) returns)
+state-short-spec = tie.close (tie.spec (λ c κs. tt) (λ c κs. tt) (λ c. search needs) returns)

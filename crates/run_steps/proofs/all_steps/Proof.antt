@@ -4,26 +4,30 @@ use lib.ListN.{replicate}
 use Prim.Native.Nat.{_-_, _≤_, zero-le}
 use native.Mathlib.Omega.{arith}
 use borrow.Author.Count.{falls}
+use borrow.Author.Needs.{needs}
 use denote.Ref.{now}
-use Rattle.model.specs.Tables.{JobTables, jobTables, StateTables}
-use Rattle.step_apply.proofs.Keys.{offers-keyed, grocers-keyed, tallies-keyed}
+use Rattle.model.specs.PackedTotals.{totalsLength}
+use Rattle.model.specs.Tables.{JobTables, jobTables, jobOf, StateTables}
+use Rattle.model.specs.Steps.{fresh}
+use Rattle.step_apply.proofs.Keys.{offers-keyed, tallies-keyed}
 use Rattle.step_totals.proofs.Effect.{talliesOf}
-use Rattle.run_steps.specs.All.{withoutMarks, StepOut}
-use Rattle.run_steps.proofs.Turns.{Turning, Chained, turning-first, turning-last, prices-fresh, totals-fresh, fresh-holds, turn-place}
+use Rattle.run_steps.specs.All.{withoutMarks, Looked, StepOut, Holds}
+use Rattle.run_steps.proofs.Looking.{count-ready, packed-words, boxes-ready, looked}
+use Rattle.run_steps.proofs.Turns.{Turning, turning-first, turning-last, prices-fresh, totals-fresh, fresh-holds, turn-place}
 use Rattle.run_steps.proofs.Turns.{up, may-step, counts-fit, turning-next}
 use Rattle.run_steps.proofs.Turns.{known-length, transit-length, working-length, totals-length, statement-length}
 use Rattle.run_steps.proofs.all_steps.Statement.{statement}
 use Rattle.run_steps.proofs.all_steps.Tie as tie
 
 abbrev Inv-loop : tie.InvT-loop
-Inv-loop z price offer-owner grocer-owner tally-grocer tally-box tally-offer tally-count needs sharers order n known₀ price-transit₀ working₀ total-transit₀ statement₀ offer-links grocer-links tally-links
+Inv-loop z price offer-owner grocer-owner tally-grocer tally-box tally-offer tally-count needs sharers order n known₀ price-transit₀ working₀ total-transit₀ statement₀ heads grocers places m t offer-links tally-links
     sent₀ i₀ known price-transit working total-transit statement sent i =
     (i ≤ n) × (Turning (jobTables (z .boxes) (z .grocers) (z .offers) (z .tallies) price offer-owner grocer-owner tally-grocer tally-box tally-offer tally-count)
     (withoutMarks known₀ price-transit₀ working₀ total-transit₀ statement₀) (withoutMarks known price-transit working total-transit statement) needs sharers order n i (sent .words) (sent .messages))
-    × (Chained (jobTables (z .boxes) (z .grocers) (z .offers) (z .tallies) price offer-owner grocer-owner tally-grocer tally-box tally-offer tally-count) offer-links grocer-links tally-links)
+    × (Looked (jobTables (z .boxes) (z .grocers) (z .offers) (z .tallies) price offer-owner grocer-owner tally-grocer tally-box tally-offer tally-count) offer-links tally-links places heads grocers)
 
 abbrev μ-loop : tie.MeasureT-loop
-μ-loop z price offer-owner grocer-owner tally-grocer tally-box tally-offer tally-count needs sharers order n known₀ price-transit₀ working₀ total-transit₀ statement₀ offer-links grocer-links tally-links
+μ-loop z price offer-owner grocer-owner tally-grocer tally-box tally-offer tally-count needs sharers order n known₀ price-transit₀ working₀ total-transit₀ statement₀ heads grocers places m t offer-links tally-links
     sent₀ i₀ known price-transit working total-transit statement sent i = n - i
 
 -- The tables of the job and of the state, as they are lent.
@@ -34,47 +38,49 @@ job s = jobTables (s .args .z .boxes) (s .args .z .grocers) (s .args .z .offers)
 abbrev lent : tie.Start Inv-loop μ-loop → StateTables
 lent s = withoutMarks (now (s .args .known)) (now (s .args .price-transit)) (now (s .args .working)) (now (s .args .total-transit)) (now (s .args .statement))
 
--- Places: the start, the calls that make tables fresh, those that link, and the turn.
-abbrev begun : tie.After-fresh-prices-arg2 Inv-loop μ-loop → tie.After-shared-slice-known5 Inv-loop μ-loop
-begun c = c .before .before .before .before .before
+-- Places: the start, the calls that make tables fresh, those that tell places and link, and the turn.
+abbrev entry : tie.After-fresh-prices-arg2 Inv-loop μ-loop → tie.Start Inv-loop μ-loop
+entry c = c .before .before .before .before .before .before .before .before .before .before
 
-abbrev entry : tie.After-shared-slice-known5 Inv-loop μ-loop → tie.Start Inv-loop μ-loop
-entry c = c .before .before .before .before .before
+abbrev priced : tie.After-clear-totals-arg3 Inv-loop μ-loop → tie.After-fresh-prices Inv-loop μ-loop
+priced c = c .before .before .before .before .before .before .before
 
-abbrev priced : tie.After-fresh-totals-arg Inv-loop μ-loop → tie.After-fresh-prices Inv-loop μ-loop
-priced c = c .before .before .before .before .before
+abbrev cleared : tie.After-index-of2 Inv-loop μ-loop → tie.After-clear-totals Inv-loop μ-loop
+cleared c = c .before .before .before .before .before
 
-abbrev totalled : tie.After-statement Inv-loop μ-loop → tie.After-fresh-totals Inv-loop μ-loop
-totalled c = c .before .before .before
+abbrev numbered : tie.After-places Inv-loop μ-loop → tie.After-index-of2 Inv-loop μ-loop
+numbered c = c .before .before .before .before
 
--- The start, from the calls that link.
-abbrev start : tie.After-statement Inv-loop μ-loop → tie.Start Inv-loop μ-loop
-start c = entry (begun (priced (totalled c .before .before .before) .before))
+abbrev told : tie.After-places2 Inv-loop μ-loop → tie.After-all-boxes Inv-loop μ-loop
+told c = c .before .before .before
 
-abbrev linked : tie.At-loop Inv-loop μ-loop → tie.After-statement Inv-loop μ-loop
-linked c = c .before .before .before .before
+-- The start, from the calls that tell places.
+abbrev start : tie.After-index-of2 Inv-loop μ-loop → tie.Start Inv-loop μ-loop
+start c = entry (priced (cleared c .before) .before)
 
-abbrev found : tie.After-one-step-arg5 Inv-loop μ-loop → tie.After-one-step-arg Inv-loop μ-loop
-found c = c .before .before .before .before
+abbrev linked : tie.At-loop Inv-loop μ-loop → tie.After-places2 Inv-loop μ-loop
+linked c = c .before .before .before
 
-abbrev told : tie.After-one-step-arg Inv-loop μ-loop → tie.After-step-at Inv-loop μ-loop
-told c = c .before .before .before .before
+abbrev found : tie.After-one-step-arg5 Inv-loop μ-loop → tie.After-step-at Inv-loop μ-loop
+found c = c .before .before .before .before .before .before .before .before .before .before
 
-abbrev stepped : tie.After-working2 Inv-loop μ-loop → tie.After-one-step Inv-loop μ-loop
-stepped c = c .before .before .before .before .before
+abbrev stepped : tie.After-statement2 Inv-loop μ-loop → tie.After-one-step Inv-loop μ-loop
+stepped c = c .before .before .before .before .before .before .before
 
 abbrev turn : tie.After-step-at Inv-loop μ-loop → tie.At-loop Inv-loop μ-loop
 turn c = c .before .before
 
 abbrev at-start : tie.At-loop Inv-loop μ-loop → tie.Start Inv-loop μ-loop
-at-start c = start (linked c)
+at-start c = start (numbered (told (linked c) .before))
 
 -- The tables at the first turn, made fresh, and at a turn.
+abbrev fresh-of : tie.After-clear-totals Inv-loop μ-loop → StateTables
+fresh-of f =
+    let p = priced (f .before) in
+    withoutMarks (p .fresh-prices .last .1 .1 .1 .1 .0) (p .fresh-prices .last .1 .1 .1 .1 .1 .0) (f .clear-totals .last .1 .1 .1 .0) (f .clear-totals .last .1 .1 .1 .1 .0) (f .clear-totals .last .1 .1 .1 .1 .1 .0)
+
 abbrev fresh-at : tie.At-loop Inv-loop μ-loop → StateTables
-fresh-at c =
-    let f = totalled (linked c) in
-    let p = priced (f .before .before .before) in
-    withoutMarks (p .fresh-prices .last .1 .1 .1 .1 .0) (p .fresh-prices .last .1 .1 .1 .1 .1 .0) (f .fresh-totals .last .1 .1 .0) (f .fresh-totals .last .1 .1 .1 .0) (f .fresh-totals .last .1 .1 .1 .1 .0)
+fresh-at c = fresh-of (cleared (numbered (told (linked c) .before)))
 
 abbrev held : tie.At-loop Inv-loop μ-loop → StateTables
 held c = let l = c .loop in withoutMarks (l .known) (l .price-transit) (l .working) (l .total-transit) (l .statement)
@@ -85,30 +91,48 @@ turning : (c : tie.At-loop Inv-loop μ-loop) → let s = at-start c in
 turning c = c .loop .inv .1
 
 fresh-prices-requires : tie.Need-fresh-prices-requires Inv-loop μ-loop
-fresh-prices-requires c κs = let s = entry (begun c) in prices-fresh (job s) (lent s) _ _ _ _ (s .pre)
+fresh-prices-requires c κs = let s = entry c in prices-fresh (job s) (lent s) _ _ _ _ (s .pre)
 
-fresh-totals-requires : tie.Need-fresh-totals-requires Inv-loop μ-loop
-fresh-totals-requires c κs = let s = entry (begun (priced (c .before .before) .before)) in totals-fresh (job s) (lent s) _ _ _ _ (s .pre)
+clear-totals-requires : tie.Need-clear-totals-requires Inv-loop μ-loop
+clear-totals-requires c κs =
+    let s = entry (priced c .before) in (
+      count-ready (job s) (s .pre .job-in) (s .pre .job-long) (now (s .args .sharers)) (s .pre .sharers-are),
+      totals-fresh (job s) (lent s) _ _ _ _ (s .pre) _ (packed-words (job s) (s .pre .job-in) (s .pre .job-long) (now (s .args .sharers)) (s .pre .sharers-are)),
+    )
+
+-- The tables made fresh hold the fresh state.
+fresh-are : (c : tie.After-clear-totals Inv-loop μ-loop) → let s = entry (priced (c .before) .before) in Holds (jobOf (job s)) (fresh (jobOf (job s))) (lent s) (fresh-of c)
+fresh-are c =
+    let p = priced (c .before) in
+    let s = entry (p .before) in
+    fresh-holds (s .args .z .boxes) (s .args .z .grocers) (s .args .z .offers) (s .args .z .tallies) (now (s .args .price)) (now (s .args .offer-owner)) (now (s .args .grocer-owner)) (now (s .args .tally-grocer))
+    (now (s .args .tally-box)) (now (s .args .tally-offer)) (now (s .args .tally-count)) (lent s) (fresh-of c) _
+    (packed-words (job s) (s .pre .job-in) (s .pre .job-long) (now (s .args .sharers)) (s .pre .sharers-are)) (s .pre .working-long) (s .pre .totals-long)
+    (p .fresh-prices .ensures .0) (p .fresh-prices .ensures .1) (c .clear-totals .ensures .0) (c .clear-totals .ensures .1) (c .clear-totals .ensures .2)
+
+all-boxes-requires : tie.Need-all-boxes-requires Inv-loop μ-loop
+all-boxes-requires c κs =
+    let i = numbered c in
+    let s = start i in
+    boxes-ready (job s) (s .pre .job-in) (s .pre .job-long) (now (s .args .sharers)) (s .pre .sharers-are) _ _ (i .before .index-of .ensures .0) (i .index-of2 .ensures .0)
 
 offers-require : tie.Need-offer-links-requires Inv-loop μ-loop
-offers-require c κs = let s = start c in offers-keyed (job s) (s .pre .job-in) (s .pre .job-long) (replicate 517 0) refl
-
-grocers-require : tie.Need-grocer-links-requires Inv-loop μ-loop
-grocers-require c κs = let s = start (c .before) in grocers-keyed (job s) (s .pre .job-in) (s .pre .job-long) (replicate 272 0) refl
+offers-require c κs = let s = start (numbered (told c .before)) in offers-keyed (job s) (s .pre .job-in) (s .pre .job-long) (replicate 517 0) refl
 
 tallies-require : tie.Need-tally-links-requires Inv-loop μ-loop
-tallies-require c κs = let s = start (c .before .before) in tallies-keyed (job s) (s .pre .job-in) (s .pre .job-long) (replicate 1_272 0) refl
+tallies-require c κs = let s = start (numbered (told (c .before) .before)) in tallies-keyed (job s) (s .pre .job-in) (s .pre .job-long) (replicate 1_272 0) refl
 
 loop-holds : tie.Need-loop-holds Inv-loop μ-loop
 loop-holds c =
-    let l = c .before .before .before in
-    let f = totalled l in
-    let p = priced (f .before .before .before) in
-    let s = start l in (
+    let a = told (c .before .before) in
+    let i = numbered (a .before) in
+    let s = start i in (
       zero-le,
-      turning-first (job s) (lent s) _ _ _ _ _ (s .pre)
-          (fresh-holds (job s) (lent s) _ (p .fresh-prices .ensures .0) (p .fresh-prices .ensures .1) (f .fresh-totals .ensures .0) (f .fresh-totals .ensures .1) (f .fresh-totals .ensures .2)),
-      record { offers-linked = c .before .before .offer-links .ensures; grocers-linked = c .before .grocer-links .ensures; tallies-linked = c .tally-links .ensures },
+      turning-first (job s) (lent s) _ _ _ _ _ (s .pre) (fresh-are (cleared i)),
+      looked (job s) (s .pre .job-in) (s .pre .job-long) (now (s .args .sharers)) (s .pre .sharers-are) _ _ _ _
+          (a .all-boxes .last .1 .1 .1 .1 .1 .1 .1 .1 .1 .0) (a .all-boxes .last .1 .1 .1 .1 .1 .1 .1 .0) (a .all-boxes .last .1 .1 .1 .1 .1 .1 .1 .1 .0)
+          (i .before .index-of .ensures .0) (i .index-of2 .ensures .0) (a .all-boxes .kept .1 .1 .1 .1 .1 .1 .1 .0) (a .all-boxes .kept .1 .1 .1 .1 .1 .1 .1 .1 .0) (a .all-boxes .kept .1 .1 .1 .1 .1 .1 .1 .1 .1 .0)
+          (a .all-boxes .ensures) (c .before .offer-links .ensures) (c .tally-links .ensures),
     )
 
 step-at-requires : tie.Need-step-at-requires Inv-loop μ-loop
@@ -116,41 +140,35 @@ step-at-requires c κs = let l = c .before .loop in turn-place _ _ _ _ _ _ (l .i
 
 one-step-requires : tie.Need-one-step-requires Inv-loop μ-loop
 one-step-requires c κs =
-    let x = told (found c) in
+    let x = found c in
     let s = at-start (turn x) in
-    record {
-      list = now (s .args .tally-box);
-      passes = record {
-        list = now (s .args .grocer-owner);
-        passes = may-step _ _ _ _ _ _ _ _ _ _ (turning (turn x)) (x .before .loop-test .taken) _ _ _ (x .step-at .ensures) _ _ _ (turn x .loop .inv .2);
-      };
-    }
+    record { list = now (s .args .tally-box); passes = may-step _ _ _ _ _ _ _ _ _ _ (turning (turn x)) (x .before .loop-test .taken) _ _ _ (x .step-at .ensures) _ _ _ _ _ (turn x .loop .inv .2) }
 
--- What the step left, with the boxes of the tallies and the owners of the grocers as they are lent.
+-- What the step left, with the boxes of the tallies as they are lent.
 left : (c : tie.After-one-step Inv-loop μ-loop) →
-    let x = told (found (c .before)) in
+    let x = found (c .before) in
     let s = at-start (turn x) in
-    StepOut (talliesOf (job s)) (now (s .args .grocer-owner)) (now (s .args .needs)) (now (s .args .sharers)) (held (turn x))
+    let b = told (linked (turn x)) in
+    StepOut (talliesOf (job s) (b .all-boxes .last .1 .1 .1 .1 .1 .1 .1 .1 .1 .0)) (now (s .args .needs)) (b .all-boxes .last .1 .1 .1 .1 .1 .1 .1 .0) (b .all-boxes .last .1 .1 .1 .1 .1 .1 .1 .1 .0) (held (turn x))
     (let l = c .one-step .last .1 .1 .1 .1 .1 .1 .1 .1 .1 .1 in withoutMarks (l .0) (l .1 .0) (l .1 .1 .0) (l .1 .1 .1 .0) (l .1 .1 .1 .1 .0))
     (x .step-at .result .kind) (x .step-at .result .first) (x .step-at .result .second) (c .one-step .result)
 left c =
-    let x = told (found (c .before)) in
+    let x = found (c .before) in
     let s = at-start (turn x) in
-    let k = turn x .loop .inv .2 in
-    c .one-step .ensures (now (s .args .tally-box)) (now (s .args .grocer-owner)) (λ _. k .tallies-linked) (λ _. k .grocers-linked)
+    c .one-step .ensures (now (s .args .tally-box)) (λ _. turn x .loop .inv .2 .tallies-linked)
 
 sent-more-requires : tie.Need-sent-more-requires Inv-loop μ-loop
 sent-more-requires c κs =
-    let y = stepped (c .before .before) in
-    let x = told (found (y .before)) in
-    counts-fit _ _ _ _ _ _ _ _ _ _ (turning (turn x)) (x .before .loop-test .taken) _ _ _ (x .step-at .ensures) _ _ (left y)
+    let y = stepped c in
+    let x = found (y .before) in
+    counts-fit _ _ _ _ _ _ _ _ _ _ (turning (turn x)) (x .before .loop-test .taken) _ _ _ (x .step-at .ensures) _ _ _ _ _ (turn x .loop .inv .2) _ _ (left y)
 
 -- The turn, from its end.
 abbrev turned : tie.After-sent-more Inv-loop μ-loop → tie.After-one-step Inv-loop μ-loop
-turned c = stepped (c .before .before .before)
+turned c = stepped (c .before)
 
 abbrev step-of : tie.After-sent-more Inv-loop μ-loop → tie.After-step-at Inv-loop μ-loop
-step-of c = told (found (turned c .before))
+step-of c = found (turned c .before)
 
 add-i : tie.Need-add-i Inv-loop μ-loop
 add-i c = let x = step-of c in omega (arith, x .before .loop-test .taken, turn x .loop .inv .1 .all .does .few)
@@ -164,7 +182,7 @@ loop-again c =
     let x = step-of c in
     let t = x .before .loop-test .taken in (
       up (turn x .loop .i) _ t,
-      turning-next _ _ _ _ _ _ _ _ _ _ (turning (turn x)) t _ _ _ (x .step-at .ensures) _ _ (left y) _ _ (c .sent-more .ensures .0) (c .sent-more .ensures .1),
+      turning-next _ _ _ _ _ _ _ _ _ _ (turning (turn x)) t _ _ _ (x .step-at .ensures) _ _ _ _ _ (turn x .loop .inv .2) _ _ (left y) _ _ (c .sent-more .ensures .0) (c .sent-more .ensures .1),
       turn x .loop .inv .2,
     )
 
@@ -172,11 +190,7 @@ returns : tie.Need-returns Inv-loop μ-loop
 returns c =
     let l = c .before .loop in
     let s = at-start (c .before) in
-    let f = totalled (linked (c .before)) in
-    let p = priced (f .before .before .before) in
-    turning-last (job s) (lent s) _ _ _ _ _ _ (l .i) _ _
-    (fresh-holds (job s) (lent s) _ (p .fresh-prices .ensures .0) (p .fresh-prices .ensures .1) (f .fresh-totals .ensures .0) (f .fresh-totals .ensures .1) (f .fresh-totals .ensures .2))
-    (l .inv .1) (omega (arith, c .loop-test .left, l .inv .0))
+    turning-last (job s) (lent s) _ _ _ _ _ _ (l .i) _ _ (fresh-are (cleared (numbered (told (linked (c .before)) .before)))) (l .inv .1) (omega (arith, c .loop-test .left, l .inv .0))
 
 same-length : tie.Need-same-length Inv-loop μ-loop
 same-length c = let a = at-start (c .before) in let w = returns c in known-length (job a) (lent a) _ _ _ _ (a .pre) _ (held (c .before)) (w .holds)
@@ -200,12 +214,20 @@ all-steps-spec =
     Inv-loop
     μ-loop
     fresh-prices-requires
-    fresh-totals-requires
+    clear-totals-requires
+    (λ c κs. search needs)
+    (λ c κs. search needs)
+    (λ c. search needs)
+    (λ c. search needs)
+    (λ c. search needs)
+    all-boxes-requires
     offers-require
-    grocers-require
     tallies-require
     loop-holds
     step-at-requires
+    (λ c. search needs)
+    (λ c. search needs)
+    (λ c. search needs)
     one-step-requires
     sent-more-requires
     add-i

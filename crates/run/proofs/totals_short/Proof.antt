@@ -1,0 +1,23 @@
+-- `run::totals_short` meets its contract. Assumes nothing.
+use mathlib.Core.Path.{_≡_, ap, _∙_}
+use mathlib.Core.Bool.{_||_}
+use Prim.Native.Nat.{ℕ}
+use lib.Dec.{ltb}
+use borrow.Author.Needs.{needs}
+use denote.Ref.{now}
+use Rattle.book_places.specs.Spots.{startBy}
+use Rattle.run.proofs.totals_short.Statement.{statement}
+use Rattle.run.proofs.totals_short.Tie as tie
+
+returns : tie.Need-returns
+returns c =
+    let s = c .before .before .before .before .before in
+    ap (λ (n : ℕ). ltb (s .args .working) n || ltb (s .args .total-transit) n)
+    (c .index-of2 .ensures .0 ∙ c .before .box-start .ensures .0
+    ∙ ap (λ (m : ℕ). startBy m (now (s .args .grocer-owner)) (now (s .args .sharers)) (s .args .z .boxes)) (c .before .before .before .index-of .ensures .0))
+
+box-start-requires : tie.Need-box-start-requires
+box-start-requires c κs = let s = c .before .before .before in (rw (c .before .index-of .ensures .0) (s .pre .0), s .pre .1)
+
+pub totals-short-spec : {M : Type 1} → statement M
+totals-short-spec = tie.close (tie.spec (λ c κs. search needs) box-start-requires (λ c κs. search needs) returns)
