@@ -16,7 +16,6 @@ ghost use Rattle.book_places.specs.Spots.{BoxIn};
 ghost use Rattle.step_refusal.specs.Late.{Early, Tested, Decided, OwnPlaces};
 use bag_standing::standing_boxes;
 use book_places::Span;
-use book_places::TOTALS;
 use book_places::box_places;
 use book_places::box_span;
 use book_places::box_start;
@@ -391,11 +390,11 @@ pub fn total_refusal(
     statement: &[i64],
     done: &[u16],
     sent: &[u32],
-    grocers: &mut [u16; TOTALS],
+    grocers: &mut [u16],
     standing: &mut [u16; 1000],
     x: Step,
 ) -> Judged
-    requires { ⌜ 4 ≤ x .kind ⌝ }
+    requires { ⌜ (4 ≤ x .kind) × (1_255 ≤ length (now grocers)) ⌝ }
     ensures { λ r. ⌜ Decided
         (bagTables (z .boxes) (z .grocers) (z .offers) (z .tallies) (now (price .entry)) (now («offer_owner» .entry)) (now («grocer_owner» .entry))
         (now («tally_grocer» .entry)) (now («tally_box» .entry)) (now («tally_offer» .entry)) (now («tally_count» .entry))

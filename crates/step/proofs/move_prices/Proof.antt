@@ -8,7 +8,7 @@ use Rattle.step.proofs.move_prices.Tie as tie
 
 -- The start and the two links, from the step that is applied.
 abbrev lent : tie.After-slice-known2 → tie.Start
-lent c = c .before .before .before .before .before
+lent c = c .before .before .before .before
 
 abbrev entry : tie.After-offer-links → tie.Start
 entry c = lent (c .before .before)
@@ -17,7 +17,7 @@ abbrev offers-at : tie.After-tally-links → tie.After-link
 offers-at c = c .before .before .before .before
 
 abbrev tallies-at : tie.After-tally-links3 → tie.After-link-pairs
-tallies-at c = c .before .before .before
+tallies-at c = c .before .before .before .before
 
 abbrev step-at : tie.After-working → tie.After-price-step
 step-at c = c .before .before .before .before .before

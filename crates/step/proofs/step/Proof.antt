@@ -1,5 +1,5 @@
 -- `step::step` meets its contract: refused under a number, or applied on one of the two sides. Assumes nothing.
-use mathlib.Core.Path.{refl}
+use mathlib.Core.Path.{refl, sym, ap, _∙_}
 use Prim.Native.Nat.{_≤_}
 use native.Mathlib.Omega.{arith}
 use Rattle.model.specs.Tables.{JobTables, bagTables, StateTables, stateTables}
@@ -22,45 +22,45 @@ state s = stateTables (now (s .args .known)) (now (s .args .price-transit)) (now
 abbrev ask : tie.Start → Asked
 ask s = asked (s .args .kind) (s .args .first) (s .args .second)
 
--- The start, from the refusal.
+-- The start, from where the kind is asked.
 abbrev lent : tie.After-shared-slice-known6 → tie.Start
 lent c = c .before .before .before .before .before .before
 
-abbrev known : tie.After-slice-known2 → tie.Start
-known c = lent (c .before .before .before .before)
+abbrev known : tie.After-slice-known4 → tie.Start
+known c = lent (c .before .before .before .before .before .before)
 
-abbrev shared : tie.After-refusal-arg7 → tie.After-slice-known4
-shared c = c .before .before .before .before .before .before .before
+-- Kinds 1 to 3: from the refusal to where the kind is asked.
+abbrev prices-shared : tie.After-price-refusal-arg7 → tie.Then1
+prices-shared c = c .before .before .before .before .before .before .before
 
-abbrev start : tie.After-refusal → tie.Start
-start c = known (shared (c .before .before .before .before) .before .before)
+abbrev prices-kind : tie.After-price-refusal → tie.Then1
+prices-kind c = prices-shared (c .before .before .before .before)
 
-abbrev first : tie.Else1 → tie.Start
-first i = start (i .before)
+abbrev prices-start : tie.After-price-refusal → tie.Start
+prices-start c = known (prices-kind c .before)
+
+few : (k : tie.Then1) → known (k .before) .args .kind ≤ 3
+few k = omega (arith, k .if1 .taken)
 
 returns : tie.Need-returns
 unfolding answerOf
-returns c = let s = start (c .before) in refused-by (job s) (state s) (ask s) _ (c .before .refusal .ensures .number-is) (c .if1 .taken)
+returns c = let s = prices-start (c .before) in refused-by (job s) (state s) (ask s) _ (c .before .price-refusal .ensures .number-is) (c .if2 .taken)
 
--- The mark: from where the kind is asked to where nothing is refused.
-abbrev marked-at : tie.After-slice-known5 → tie.After-mark
-marked-at c = c .before .before
-
-abbrev unmarked : tie.After-mark → tie.Else1
-unmarked c = c .before .before
+abbrev prices-first : tie.Else2 → tie.Start
+prices-first i = prices-start (i .before)
 
 mark-requires : tie.Need-mark-requires
-mark-requires c κs = let i = c .before in marking (job (first i)) (state (first i)) (ask (first i)) (i .before .refusal .ensures) (i .if1 .left)
+mark-requires c κs = let i = c .before in marking (job (prices-first i)) (state (prices-first i)) (ask (prices-first i)) (i .before .price-refusal .ensures) (i .if2 .left)
 
--- Kinds 1 to 3: from the words counted to the tables moved, and from these to where the kind is asked.
+-- From the words counted to the tables moved, and from these to the mark and to where nothing is refused.
 abbrev prices-left : tie.After-working → tie.After-move-prices
 prices-left c = c .before .before .before .before .before
 
-abbrev prices-asked : tie.After-move-prices-arg3 → tie.Then2
-prices-asked c = c .before .before .before .before .before
+abbrev prices-marked : tie.After-move-prices-arg3 → tie.After-mark
+prices-marked c = c .before .before .before .before .before .before .before .before
 
-abbrev prices-open : tie.Then2 → tie.Else1
-prices-open k = unmarked (marked-at (k .before))
+abbrev prices-passed : tie.After-mark → tie.Else2
+prices-passed c = c .before .before
 
 abbrev prices-raised : tie.After-slice-known8 → tie.After-raise
 prices-raised c = c .before .before
@@ -70,74 +70,98 @@ prices-at c = prices-left (prices-raised c .before .before)
 
 move-prices-requires : tie.Need-move-prices-requires
 move-prices-requires c κs =
-    let k = prices-asked c in
-    let i = prices-open k in
-    prices-lent (job (first i)) (state (first i)) (ask (first i)) (i .before .refusal .ensures) (i .if1 .left) (k .if2 .taken)
+    let i = prices-passed (prices-marked c) in
+    let s = prices-first i in
+    prices-lent (job s) (state s) (ask s) (i .before .price-refusal .ensures) (i .if2 .left) (few (prices-kind (i .before)))
 
 raise-requires : tie.Need-raise-requires
 raise-requires c κs =
     let m = prices-left (c .before) in
-    let k = prices-asked (m .before) in
-    let i = prices-open k in
-    counting (job (first i)) (state (first i)) (ask (first i)) (i .before .refusal .ensures) (i .if1 .left) _
-    (few-prices (job (first i)) (state (first i)) (ask (first i)) (i .before .refusal .ensures) (i .if1 .left) (k .if2 .taken) (m .move-prices .ensures))
+    let i = prices-passed (prices-marked (m .before)) in
+    let s = prices-first i in
+    counting (job s) (state s) (ask s) (i .before .price-refusal .ensures) (i .if2 .left) _
+    (few-prices (job s) (state s) (ask s) (i .before .price-refusal .ensures) (i .if2 .left) (few (prices-kind (i .before))) (m .move-prices .ensures))
 
 returns-2 : tie.Need-returns-2
 unfolding answerOf
 returns-2 c =
     let m = prices-at c in
-    let k = prices-asked (m .before) in
-    let i = prices-open k in
-    prices-accepted (job (first i)) (state (first i)) (ask (first i)) (i .before .refusal .ensures) (i .if1 .left) (k .if2 .taken) (m .move-prices .ensures)
-    (marked-at (k .before) .mark .ensures .0) (prices-raised c .raise .ensures)
+    let k = prices-marked (m .before) in
+    let i = prices-passed k in
+    let s = prices-first i in
+    prices-accepted (job s) (state s) (ask s) (i .before .price-refusal .ensures) (i .if2 .left) (few (prices-kind (i .before))) (m .move-prices .ensures)
+    (k .mark .ensures .0) (prices-raised c .raise .ensures)
 
 -- Kinds 4 to 6, likewise.
-abbrev totals-left : tie.After-statement → tie.After-move-totals
+abbrev totals-shared : tie.After-total-refusal-arg7 → tie.Else1
+totals-shared c = c .before .before .before .before .before .before .before
+
+abbrev totals-kind : tie.After-total-refusal → tie.Else1
+totals-kind c = totals-shared (c .before .before .before)
+
+abbrev totals-start : tie.After-total-refusal → tie.Start
+totals-start c = known (totals-kind c .before)
+
+many : (k : tie.Else1) → 4 ≤ known (k .before) .args .kind
+many k = omega (arith, k .if1 .left)
+
+returns-3 : tie.Need-returns-3
+unfolding answerOf
+returns-3 c = let r = c .before .before .before in let s = totals-start r in refused-by (job s) (state s) (ask s) _ (r .total-refusal .ensures .number-is) (c .if3 .taken)
+
+abbrev totals-told : tie.Else3 → tie.After-total-refusal
+totals-told i = i .before .before .before
+
+abbrev totals-first : tie.Else3 → tie.Start
+totals-first i = totals-start (totals-told i)
+
+mark-requires-2 : tie.Need-mark-requires-2
+mark-requires-2 c κs = let i = c .before in marking (job (totals-first i)) (state (totals-first i)) (ask (totals-first i)) (totals-told i .total-refusal .ensures) (i .if3 .left)
+
+abbrev totals-left : tie.After-statement → tie.After-total-step
 totals-left c = c .before .before .before
 
-abbrev totals-asked : tie.After-move-totals-arg3 → tie.Else2
-totals-asked c = c .before .before .before .before
+abbrev totals-marked : tie.After-total-step-arg3 → tie.After-mark2
+totals-marked c = c .before .before .before .before .before .before
 
-abbrev totals-open : tie.Else2 → tie.Else1
-totals-open k = unmarked (marked-at (k .before))
+abbrev totals-passed : tie.After-mark2 → tie.Else3
+totals-passed c = c .before .before
 
-abbrev totals-raised : tie.After-slice-known9 → tie.After-raise2
+abbrev totals-raised : tie.After-slice-known10 → tie.After-raise2
 totals-raised c = c .before .before
 
-abbrev totals-at : tie.After-slice-known9 → tie.After-move-totals
+abbrev totals-at : tie.After-slice-known10 → tie.After-total-step
 totals-at c = totals-left (totals-raised c .before .before)
 
-many : (k : tie.Else2) → 4 ≤ first (totals-open k) .args .kind
-many k = omega (arith, k .if2 .left)
-
-move-totals-requires : tie.Need-move-totals-requires
-move-totals-requires c κs =
-    let k = totals-asked c in
-    let i = totals-open k in
-    totals-lent (job (first i)) (state (first i)) (ask (first i)) (i .before .refusal .ensures) (i .if1 .left) (many k)
+total-step-requires : tie.Need-total-step-requires
+total-step-requires c κs =
+    let i = totals-passed (totals-marked c) in
+    let s = totals-first i in
+    totals-lent (job s) (state s) (ask s) (totals-told i .total-refusal .ensures) (i .if3 .left) (many (totals-kind (totals-told i)))
 
 raise-requires-2 : tie.Need-raise-requires-2
 raise-requires-2 c κs =
     let m = totals-left (c .before) in
-    let k = totals-asked (m .before) in
-    let i = totals-open k in
-    counting (job (first i)) (state (first i)) (ask (first i)) (i .before .refusal .ensures) (i .if1 .left) _
-    (few-totals (job (first i)) (state (first i)) (ask (first i)) (i .before .refusal .ensures) (i .if1 .left) (many k) (m .move-totals .ensures))
+    let i = totals-passed (totals-marked (m .before)) in
+    let s = totals-first i in
+    counting (job s) (state s) (ask s) (totals-told i .total-refusal .ensures) (i .if3 .left) _
+    (few-totals (job s) (state s) (ask s) (totals-told i .total-refusal .ensures) (i .if3 .left) (many (totals-kind (totals-told i))) (m .total-step .ensures))
 
-returns-3 : tie.Need-returns-3
+returns-4 : tie.Need-returns-4
 unfolding answerOf
-returns-3 c =
+returns-4 c =
     let m = totals-at c in
-    let k = totals-asked (m .before) in
-    let i = totals-open k in
-    totals-accepted (job (first i)) (state (first i)) (ask (first i)) (i .before .refusal .ensures) (i .if1 .left) (many k) (m .move-totals .ensures)
-    (marked-at (k .before) .mark .ensures .0) (totals-raised c .raise2 .ensures)
+    let k = totals-marked (m .before) in
+    let i = totals-passed k in
+    let s = totals-first i in
+    totals-accepted (job s) (state s) (ask s) (totals-told i .total-refusal .ensures) (i .if3 .left) (many (totals-kind (totals-told i))) (m .total-step .ensures)
+    (k .mark2 .ensures .0) (totals-raised c .raise2 .ensures)
 
 pub step-spec : {M : Type 1} → statement M
 step-spec =
     tie.close
     (tie.spec
-    (λ c κs. tt)
+    (λ c κs. few (prices-shared (c .before .before .before)))
     (λ c. refl)
     (λ c. refl)
     (λ c. refl)
@@ -154,16 +178,28 @@ step-spec =
     (λ c. prices-at c .move-prices .kept .1 .1 .1 .1 .1 .1 .1 .1 .1 .0)
     (λ c. refl)
     (λ c. refl)
-    (λ c. marked-at (prices-asked (prices-at c .before) .before) .mark .kept .1 .1 .1 .1 .0)
+    (λ c. prices-marked (prices-at c .before) .mark .kept .1 .1 .1 .1 .0)
     (λ c. prices-raised c .raise .kept .0)
     returns-2
-    move-totals-requires
+    (λ c. refl)
+    (λ c κs. (many (totals-shared (c .before .before)), omega arith))
+    (λ c. refl)
+    (λ c. refl)
+    (λ c. refl)
+    (λ c. refl)
+    (λ c. refl)
+    (λ c. refl)
+    (λ c. refl)
+    returns-3
+    mark-requires-2
+    (λ c. sym (totals-told (totals-passed (c .before .before .before)) .total-refusal .kept .1 .1 .1 .1 .1 .1 .1 .1 .1 .1 .1 .1 .1 .1 .1 .1 .1 .0))
+    total-step-requires
     raise-requires-2
     (λ c. refl)
     (λ c. refl)
-    (λ c. totals-at c .move-totals .kept .1 .1 .1 .0)
-    (λ c. totals-at c .move-totals .kept .1 .1 .1 .1 .0)
-    (λ c. totals-at c .move-totals .kept .1 .1 .1 .1 .1 .0)
-    (λ c. marked-at (totals-asked (totals-at c .before) .before) .mark .kept .1 .1 .1 .1 .0)
+    (λ c. totals-at c .total-step .kept .1 .1 .1 .1 .0)
+    (λ c. totals-at c .total-step .kept .1 .1 .1 .1 .1 .0)
+    (λ c. totals-at c .total-step .kept .1 .1 .1 .1 .1 .1 .0)
+    (λ c. totals-marked (totals-at c .before) .mark2 .kept .1 .1 .1 .1 .0)
     (λ c. totals-raised c .raise2 .kept .0)
-    returns-3)
+    returns-4)

@@ -51,7 +51,7 @@ abbrev known : tie.After-shared-slice-known12 → tie.Start
 known c = lent (c .before .before .before .before .before .before)
 
 abbrev start : tie.After-tables-refusal → tie.Start
-start c = known (c .before .before .before)
+start c = known (c .before .before .before .before)
 
 abbrev entry : tie.Else1 → tie.Start
 entry e = start (e .before)
@@ -96,7 +96,7 @@ returns c =
     }
 
 many : (e : tie.Else1) → 4 ≤ ask (entry e) .kind
-many e = entry e .pre
+many e = entry e .pre .0
 
 -- The words of waits are the job's.
 waits-are : (e : tie.Else1) →
@@ -157,7 +157,7 @@ box-span-requires c κs =
     let room = box-found (handed e) (j .bare) r (few-grocers e) (sharers e) (sharers-are e) (g .before .span-box .result) _ _ lb refl refl in
     let n = job-in (handed e) (j .inside) in (
       (box-in (handed e) j (whole-job e) (sharers e) (sharers-are e) _ lb, omega (arith, g .span-group .ensures, l .1)),
-      le-trans (room .2) (omega (arith, length-most (jobOf (handed e)) r, n .grocers≤, n .tallies≤, c .box-span-arg .given .0)),
+      le-trans (room .2) (omega (arith, length-most (jobOf (handed e)) r, n .grocers≤, n .tallies≤, entry e .pre .1)),
     )
 
 -- The span that is found is the step's.
@@ -184,7 +184,7 @@ span-is c =
     let own = handed e .grocerOwner in
     let words = sharers e in
     span-found (handed e) (j .bare) r (few-grocers e) (sharers e) (sharers-are e) (q .kind) (q .first) (q .second) _ _ _ _ (below i .0) (below i .1)
-    (omega (arith, length-most (jobOf (handed e)) r, n .grocers≤, n .tallies≤, c .before .box-span-arg .given .0))
+    (omega (arith, length-most (jobOf (handed e)) r, n .grocers≤, n .tallies≤, entry e .pre .1))
     (c .box-span .ensures .0 .0 ∙ ap₂ (λ (b g : ℕ). groupBy k m own words b g) (box-is g) (g .span-group .ensures))
     (c .box-span .ensures .0 .1 ∙ ap₂ (λ (b g : ℕ). groupBy k m own words b (g + 1)) (box-is g) (g .span-group .ensures))
     (c .box-span .ensures .1 ∙ ap (λ (b : ℕ). putAt (listBy k m own words b) (length (listBy k m own words b)) (startBy m own words b) (now (entry e .args .grocers))) (box-is g))
@@ -200,12 +200,12 @@ applied c =
 
 total-fits-requires : tie.Need-total-fits-requires
 total-fits-requires c κs =
-    let b = c .before .before in
+    let b = c .before .before .before in
     let e = passed (found b) in
     total-fits-in (handed e) (state (entry e)) _ _ _ _ _ (ask (entry e)) (applied b) (many e)
 
 abbrev fitted : tie.After-total-fits → tie.After-box-span
-fitted c = c .before .before .before
+fitted c = c .before .before .before .before
 
 in-order : (c : tie.After-total-fits) →
     let e = passed (found (fitted c)) in
@@ -243,4 +243,5 @@ total-refusal-spec =
     box-span-requires
     total-fits-requires
     (λ c κs. tt)
+    (λ c. fitted (c .before) .box-span .kept .1 .1 .1 .1 .1 .1 .0)
     returns-3)
