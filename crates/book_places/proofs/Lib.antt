@@ -1,4 +1,5 @@
 -- Laws of local lists and of places.
+
 pub mod Listing
 pub mod Modelled
 pub mod Groups

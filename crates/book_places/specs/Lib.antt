@@ -1,4 +1,5 @@
 -- Local grocers and the places of packed totals: definitions.
+
 pub mod Lists
 pub mod Spots
 pub mod Boxes
