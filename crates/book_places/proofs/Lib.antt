@@ -1,5 +1,4 @@
 -- Laws of local lists and of places.
-
 pub mod Listing
 pub mod Modelled
 pub mod Groups

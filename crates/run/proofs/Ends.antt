@@ -30,8 +30,7 @@ use Rattle.job_checks.specs.Sizes.{sizes}
 use Rattle.run_ready.specs.Walk.{WalkIn}
 use Rattle.step_places.specs.Order.{markAll, noSteps}
 use Rattle.run_order.specs.Order.{OfJob, SomeJob, EveryJob, MarksFrom, Ordered}
-use Rattle.model.specs.Demand3.{Finished}
-use Rattle.run.specs.declared.Answer.the-variants.{Refused}
+use Rattle.run.specs.declared.Answer.the-variants.{Finished, Refused}
 use Rattle.run_steps.specs.All.{withoutMarks, AllIn, AllOut, afterOrder}
 use Rattle.run.specs.Run.{Begins, answerOf, given, OrderIn}
 use Rattle.book_places.specs.Spots.{CountIn, startBy}

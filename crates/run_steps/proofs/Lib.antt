@@ -1,5 +1,4 @@
 -- The laws that the proofs of this crate cite.
-
 pub mod Way
 pub mod Looking
 pub mod Turns

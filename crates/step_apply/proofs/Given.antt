@@ -4,18 +4,18 @@ use mathlib.Core.Bool.{Bool, true, false, cond, not, false≢true}
 use mathlib.Core.List.{List, [], _∷_}
 use Prim.Native.Nat.{ℕ, zero, suc, _+_, _*_, _≤_, _<_}
 use native.Mathlib.Omega.{arith}
-use native.Mathlib.Nat.{le-trans}
 use lib.Dec.{eqb, ltb, leb}
-use lib.ListN.{getD}
 use borrow.Author.Tests.{ltb-true, lt-ltb, le-leb, leb-true, eqb-false, not-true}
 use Rattle.laws.specs.Tables.{tabulate}
 use Rattle.laws.proofs.Bools.{and-l, and-r, and-true, cond-either}
 use Rattle.laws.proofs.Below.{count-le}
+use native.Mathlib.Nat.{le-trans}
+use lib.ListN.{getD, length}
 use Rattle.laws.proofs.Checks.{each-of}
-use Rattle.laws.specs.Limits.{maxBoxes, maxOffers, maxGrocers, maxPrice, maxAmount, maxSent}
 use Rattle.model.specs.Job.{needWord, totalWord}
 use Rattle.model.specs.Steps.{kindOf, oneBox}
 use Rattle.model.specs.Tables.{JobTables, jobOf, StateTables, jobLengths, stateLengths}
+use Rattle.laws.specs.Limits.{maxBoxes, maxOffers, maxGrocers, maxPrice, maxAmount, maxSent}
 use Rattle.model.specs.Ranges.{upTo, around, stateInRange, totalsInRange}
 use Rattle.model.specs.PackedTotals.{totalsLength}
 use Rattle.model.specs.Spans.{groupStart, inSpan, BySpans}
@@ -29,8 +29,8 @@ use Rattle.step_totals.proofs.Effect.{talliesOf}
 use Rattle.model.proofs.Step.{up-at, around-at, range, job-in}
 use Rattle.model.proofs.Range.{InRange}
 use Rattle.model.proofs.Spans.{own-next, group-next, own-within, span-within}
-use Rattle.step_totals.proofs.Given.{tallies-given}
 use Rattle.model.proofs.Spans as span-laws
+use Rattle.step_totals.proofs.Given.{tallies-given}
 
 -- The words of the state's tables are in range, table by table.
 pub record StateWords (f : JobTables) (t : StateTables) : Type 0 where

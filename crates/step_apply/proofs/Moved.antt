@@ -18,14 +18,14 @@ use Rattle.step_prices.specs.Prices.{sentTransit, receivedKnown, receivedTransi
 use Rattle.step_places.specs.Marks.{marked}
 use Rattle.step_totals.specs.Row.{brings, placed}
 use Rattle.step_spans.specs.Credit.{creditSpan}
-use Rattle.model.specs.Job.{totalWord}
-use Rattle.model.specs.Spans.{groupStart, placeGrocers, inSpan, spanWritten}
-use Rattle.step_apply.specs.Apply.{spanBox, spanGroup, sentMore, knownAfter, priceTransitAfter, multipliedAfter, pricesSent, PriceStepOut, workingAfter, totalTransitAfter, statementAfter, totalsSent, TotalStepOut}
 use Rattle.step_spans.proofs.Statements.{added-statement, received-statement}
+use Rattle.model.specs.Job.{totalWord}
+use Rattle.model.specs.Spans.{groupStart, placeGrocers, inSpan, spanWritten, BySpans}
 use Rattle.step_prices.proofs.Effect.{tables-eq, known-stays, price-transit-stays, working-stays, total-transit-stays, statement-stays, sent-stays, step-marked}
 use Rattle.step_totals.proofs.Effect.{talliesOf, multiplied-working, received-working}
 use Rattle.step_apply.proofs.Given.{Given}
 use Rattle.step_apply.proofs.Sides.{prices-sent-out, own-multiplied-out, prices-received-out, totals-sent-out, own-added-out, totals-received-out, none-more}
+use Rattle.step_apply.specs.Apply.{spanBox, spanGroup, sentMore, knownAfter, priceTransitAfter, multipliedAfter, pricesSent, PriceStepOut, workingAfter, totalTransitAfter, statementAfter, totalsSent, TotalStepOut}
 use Rattle.step_prices.proofs.Effect as price-laws
 
 -- The marks with the step's, and all tables as a step leaves them, told from what it leaves on its side.

@@ -8,10 +8,10 @@ use lib.ListN.{length, getD, set}
 use lib.IntN.{ℤ, pos, natAbs}
 use Rattle.laws.specs.Below.{naturals, only, count}
 use Rattle.laws.specs.Tables.{tabulate}
-use Rattle.laws.specs.Limits.{maxAmount, maxSent}
 use Rattle.model.specs.Job.{Job, needWord, heldBy}
 use Rattle.model.specs.Steps.{kindOf}
 use Rattle.model.specs.Tables.{JobTables, jobOf, StateTables, jobLengths, stateLengths, jobShort, stateShort, totalsShort}
+use Rattle.laws.specs.Limits.{maxAmount, maxSent}
 use Rattle.model.specs.Ranges.{stateInRange, totalsInRange}
 use Rattle.model.specs.Handed.{Handed}
 use Rattle.model.specs.Step.{Asked, isKind, boxesFit}

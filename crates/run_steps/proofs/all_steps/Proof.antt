@@ -11,7 +11,8 @@ use denote.Ref.{now}
 use Rattle.step_apply.proofs.Keys.{offers-keyed, tallies-keyed}
 use Rattle.step_totals.proofs.Effect.{talliesOf}
 use Rattle.run_steps.proofs.Looking.{count-ready, packed-words, boxes-ready, looked}
-use Rattle.run_steps.proofs.Turns.{Turning, turning-first, turning-last, prices-fresh, totals-fresh, fresh-holds, turn-place, up, may-step, counts-fit, turning-next, known-length, transit-length, working-length, totals-length, statement-length}
+use Rattle.run_steps.proofs.Turns.{Turning, turning-first, turning-last, prices-fresh, totals-fresh, fresh-holds, turn-place, up}
+use Rattle.run_steps.proofs.Turns.{may-step, counts-fit, turning-next, known-length, transit-length, working-length, totals-length, statement-length}
 use Rattle.run_steps.proofs.all_steps.Statement.{statement}
 use Rattle.run_steps.proofs.all_steps.Tie as tie
 
