@@ -1,6 +1,6 @@
 -- What is told of all boxes, one box more. Assumes nothing.
-use mathlib.Core.Path.{_≡_, refl, sym, ap, ap₂, _∙_}
-use mathlib.Core.Bool.{Bool, true, false, cond, _&&_, _||_}
+use mathlib.Core.Path.{_≡_, sym, ap, ap₂, _∙_}
+use mathlib.Core.Bool.{Bool, true, cond, _&&_, _||_}
 use mathlib.Core.List.{List}
 use Prim.Native.Nat.{ℕ, _+_, _-_, _*_, _<_, _≤_}
 use native.Mathlib.Omega.{arith}
@@ -10,20 +10,19 @@ use lib.Seq.{getD-set-same, getD-set-other}
 use borrow.Author.Tests.{eqb-true, eqb-false, ne-eqb, lt-ltb, ltb-true, ltb-false, le-ltb, le-leb, leb-true}
 use Rattle.laws.specs.Below.{naturals, sum, only, count}
 use Rattle.laws.specs.Masks.{bit}
-use Rattle.laws.specs.Tables.{tabulate, overwrite}
-use Rattle.laws.proofs.Bools.{split, and-true, and-one, and-r}
+use Rattle.laws.specs.Tables.{overwrite}
+use Rattle.laws.proofs.Bools.{split, and-true, and-one}
 use Rattle.laws.proofs.Below.{count-le}
 use Rattle.laws.proofs.Loops.{getD-zeros}
 use Rattle.laws.proofs.Sums.{sum-cong, sum-none, sum-swap, sum-pick, sum-start, sum-next, sum-within, sum-max}
 use Rattle.laws.proofs.Tables.{getD-tabulate, getD-overwrite, getD-past}
 use Rattle.model.specs.Spans.{inSpan}
 use Rattle.book_sort.specs.Sort.{at, keyCount, begin, inFront}
-use Rattle.book_sort.proofs.Placing.{begin-le}
 use Rattle.book_keys.specs.Keys.{classOf, OwnersIn}
-use Rattle.book_keys.proofs.Keys.{class-own, class-held, class-none}
-use Rattle.book_places.specs.Lists.{localList}
 use Rattle.book_places.specs.Spots.{classBy, listBy, totalBy, countBy, startBy, groupBy, putAt}
-use Rattle.book_places.specs.Boxes.{placeAt, BoxesTold, BoxRoom, NumbersIn, AllIn, AllPlaces}
+use Rattle.book_places.specs.Boxes.{placeAt, BoxesTold, BoxRoom, NumbersIn, AllPlaces}
+use Rattle.book_sort.proofs.Placing.{begin-le}
+use Rattle.book_keys.proofs.Keys.{class-own, class-held, class-none}
 use Rattle.book_places.proofs.Modelled.{length-is, list-once}
 use Rattle.book_places.proofs.Joined.{at-front, put-front, list-below, list-few}
 

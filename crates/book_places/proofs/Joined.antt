@@ -1,32 +1,32 @@
 -- Lists, starts, groups and places by owners and words are those of the job. Assumes nothing.
-use mathlib.Core.Path.{_≡_, refl, sym, ap, ap₂, _∙_}
-use mathlib.Core.Bool.{Bool, true, false, cond, _&&_, _||_}
+use mathlib.Core.Path.{_≡_, sym, ap, ap₂, _∙_}
+use mathlib.Core.Bool.{Bool, true, cond, _&&_, _||_}
 use mathlib.Core.List.{List, []}
-use Prim.Native.Nat.{ℕ, zero, suc, _+_, _-_, _<_, _≤_}
+use Prim.Native.Nat.{ℕ, suc, _+_, _-_, _<_, _≤_}
 use native.Mathlib.Omega.{arith}
 use lib.Dec.{eqb, ltb, leb}
 use lib.ListN.{length, getD, replicate, length-replicate}
 use borrow.Author.Tests.{leb-true, ltb-true}
-use Rattle.laws.specs.Below.{naturals, sum, count, find}
+use Rattle.laws.specs.Below.{naturals, sum, find}
 use Rattle.laws.specs.Masks.{bit}
 use Rattle.laws.specs.Tables.{tabulate, overwrite}
 use Rattle.laws.proofs.Bools.{split, and-l, and-r}
 use Rattle.laws.proofs.Below.{count-cong, find-cong}
 use Rattle.laws.proofs.Masks.{bit-mask}
-use Rattle.laws.proofs.Sums.{sum-cong, sum-start}
+use Rattle.laws.proofs.Sums.{sum-cong}
 use Rattle.laws.proofs.Tables.{getD-tabulate, getD-overwrite, length-overwrite, overwrite-cong, tabulate-cong, word-in}
 use Rattle.model.specs.Job.{shares, sharerWord, heldBy, totalWord}
-use Rattle.model.specs.LocalLists.{chained, localGrocers, localGrocer}
+use Rattle.model.specs.LocalLists.{localGrocers, localGrocer}
 use Rattle.model.specs.PackedTotals.{totalsStart, totalsLength, totalPlace}
 use Rattle.model.specs.Spans.{groupStart, placeGrocers, tallyPlace, inSpan}
 use Rattle.model.specs.Tables.{JobTables, jobOf}
-use Rattle.model.proofs.Range.{InRange}
-use Rattle.model.proofs.Spans.{local-count, tally-at}
 use Rattle.book_sort.specs.Sort.{at, begin, inFront}
-use Rattle.book_sort.proofs.Extra.{chained-at, find-le}
 use Rattle.book_keys.specs.Keys.{classOf, numberIn, PlacesIn}
 use Rattle.book_places.specs.Lists.{localList, heldOf}
 use Rattle.book_places.specs.Spots.{classBy, listBy, totalBy, countBy, startBy, spotBy, groupBy, placeBy, putAt, CountIn, BoxIn}
+use Rattle.model.proofs.Range.{InRange}
+use Rattle.model.proofs.Spans.{local-count, tally-at}
+use Rattle.book_sort.proofs.Extra.{chained-at, find-le}
 use Rattle.book_places.proofs.Modelled.{list-cong, list-le, list-in, shares-held, held-word}
 use Rattle.book_places.proofs.Groups.{groups-are}
 

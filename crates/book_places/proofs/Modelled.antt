@@ -1,8 +1,8 @@
 -- The lists of a box, from tables without bags, are the model's. Assumes nothing.
 use mathlib.Core.Path.{_≡_, refl, sym, ap, ap₂, _∙_, subst}
-use mathlib.Core.Bool.{Bool, true, false, _&&_, not}
+use mathlib.Core.Bool.{Bool, true, _&&_, not}
 use mathlib.Core.List.{List, [], _++_}
-use Prim.Native.Nat.{ℕ, suc, _+_, _<_, _≤_}
+use Prim.Native.Nat.{ℕ, _+_, _<_, _≤_}
 use native.Mathlib.Omega.{arith}
 use lib.Dec.{eqb}
 use lib.ListN.{length}
@@ -12,20 +12,20 @@ use Rattle.laws.proofs.Bools.{split, clash, and-one, and-true, eqb-same}
 use Rattle.laws.proofs.Below.{any-at, find-only, find-passes, find-none, any-cong}
 use Rattle.laws.proofs.Tables.{word-in}
 use Rattle.laws.proofs.Ascending.{ascending-cong}
+use Rattle.laws.specs.Masks.{bit}
+use Rattle.laws.specs.Tables.{tabulate}
 use Rattle.model.specs.Job.{heldBy, needs, shares, priceWord, totalWord}
 use Rattle.model.specs.Tables.{JobTables, jobOf}
-use Rattle.model.specs.Local.{localOffers, localGrocers, localGrocer}
-use Rattle.model.proofs.Handed.{bare-stands}
+use Rattle.model.specs.LocalLists.{localOffers, localGrocers, localGrocer}
 use Rattle.book_sort.specs.Sort.{at, begin, sorted, place}
-use Rattle.book_sort.proofs.Extra.{chained-cong}
-use Rattle.book_sort.proofs.Sorting.{length-sorted, sorted-at, sorted-in, sorted-once, place-in}
-use Rattle.book_sort.proofs.Placing.{begin-le}
 use Rattle.book_keys.specs.Keys.{classOf, numberIn}
 use Rattle.book_places.specs.Lists.{localList, heldOf}
 use Rattle.book_places.specs.Spots.{listBy}
 use Rattle.job_masks.specs.Masks.{holderWord}
-use Rattle.laws.specs.Masks.{bit}
-use Rattle.laws.specs.Tables.{tabulate}
+use Rattle.model.proofs.Handed.{bare-stands}
+use Rattle.book_sort.proofs.Extra.{chained-cong}
+use Rattle.book_sort.proofs.Sorting.{length-sorted, sorted-at, sorted-in, sorted-once, place-in}
+use Rattle.book_sort.proofs.Placing.{begin-le}
 use Rattle.book_places.proofs.Listing.{sorted-list, word-held}
 
 -- Owners and marks that agree below n make the same list.

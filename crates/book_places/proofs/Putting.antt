@@ -1,14 +1,14 @@
 -- Places and lists put into tables, one word more. Assumes nothing.
 use mathlib.Core.Path.{_≡_, sym, ap, _∙_}
-use mathlib.Core.Bool.{Bool, true, false, cond, _&&_}
+use mathlib.Core.Bool.{Bool, cond, _&&_}
 use mathlib.Core.List.{List}
-use Prim.Native.Nat.{ℕ, _+_, _-_, _<_, _≤_}
+use Prim.Native.Nat.{ℕ, _+_, _-_, _<_}
 use native.Mathlib.Omega.{arith}
 use lib.Dec.{eqb, ltb, leb}
 use lib.ListN.{length, set}
 use lib.Seq.{getD-set-same, getD-set-other}
-use borrow.Author.Tests.{eqb-true, eqb-false, lt-ltb, ltb-true, ltb-false, le-ltb, le-leb, leb-true}
-use Rattle.laws.proofs.Bools.{split, and-true, and-l, and-r, same-test, clash}
+use borrow.Author.Tests.{eqb-true, eqb-false, lt-ltb, ltb-true, le-ltb, le-leb, leb-true}
+use Rattle.laws.proofs.Bools.{split, and-true, same-test}
 use Rattle.model.specs.Spans.{inSpan}
 use Rattle.book_sort.specs.Sort.{at}
 

@@ -17,13 +17,11 @@ use Rattle.laws.proofs.Below.{count-le}
 use Rattle.laws.proofs.Tables.{overwrite-one}
 use Rattle.model.specs.Job.{Job, pricesDue, totalsDue, needWord, sharerWord}
 use Rattle.model.specs.Steps.{Steps, Step, State, fresh, effectOf}
-use Rattle.model.specs.Tables.{JobTables, jobOf, StateTables, store, stepsDone, marksOf, StateLengths, jobLengths, stateLengths, jobShort, bagsShort, stateShort, lentShort, totalsShort, countedOf}
+use Rattle.model.specs.Tables.{JobTables, jobOf, StateTables, store, stepsDone, marksOf, jobLengths, stateLengths, jobShort, bagsShort, stateShort, lentShort, totalsShort, countedOf}
 use Rattle.recount.specs.Recount.{countedTwice}
 use Rattle.model.specs.Ranges.{Settles, jobInRange}
 use Rattle.model.specs.Local.{jobRefusals}
 use Rattle.model.specs.Handed.{handedTables, Standing}
-use Rattle.model.proofs.Handed.{handed-whole, handed-in, handed-job, handed-run}
-use Rattle.job_checks.proofs.Refusals.{accepted}
 use Rattle.model.specs.Words.{over, messagesOf, messageCount, stepCount}
 use Rattle.model.specs.Run.{readyCount, pick, picks, run, placed, pickedPlaces, runState, afterSteps, RunAnswer, finished, refused, reported, runRefusals, ran}
 use Rattle.job_masks.specs.Masks.{holderWord, Placed, Owned, byOwner}
@@ -35,9 +33,11 @@ use Rattle.run_order.specs.Order.{OfJob, SomeJob, EveryJob, MarksFrom, Ordered}
 use Rattle.run.specs.declared.Answer.the-variants.{Finished, Refused}
 use Rattle.run_steps.specs.All.{withoutMarks, AllIn, AllOut, afterOrder}
 use Rattle.run.specs.Run.{Begins, answerOf, given, OrderIn}
+use Rattle.book_places.specs.Spots.{CountIn, startBy}
+use Rattle.model.proofs.Handed.{handed-whole, handed-in, handed-job, handed-run}
+use Rattle.job_checks.proofs.Refusals.{accepted}
 use Rattle.model.proofs.Step.{range}
 use Rattle.model.proofs.Lent.{state-long, totals-long}
-use Rattle.book_places.specs.Spots.{CountIn, startBy}
 use Rattle.job_checks.proofs.Sizes.{short-sizes}
 use Rattle.model.proofs.Whole.{JobWhole, job-whole}
 use Rattle.job_masks.proofs.Holders.{need-words, sharer-words}

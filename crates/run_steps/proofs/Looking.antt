@@ -1,8 +1,8 @@
 -- What the steps of a run look up: the places and spans of all boxes, told once, and links. Assumes nothing.
 use mathlib.Core.Path.{_≡_, ap, _∙_}
 use mathlib.Core.Bool.{false}
-use mathlib.Core.List.{List, []}
-use Prim.Native.Nat.{ℕ, suc, _+_, _*_, _<_, _≤_}
+use mathlib.Core.List.{List}
+use Prim.Native.Nat.{ℕ, _<_, _≤_}
 use native.Mathlib.Omega.{arith}
 use lib.ListN.{length, getD}
 use Rattle.laws.specs.Tables.{tabulate}
@@ -11,16 +11,16 @@ use Rattle.model.specs.Job.{sharerWord}
 use Rattle.model.specs.PackedTotals.{totalsLength}
 use Rattle.model.specs.Tables.{JobTables, jobOf, jobLengths, jobShort}
 use Rattle.model.specs.Handed.{Handed}
+use Rattle.book_places.specs.Spots.{CountIn, startBy}
+use Rattle.book_places.specs.Boxes.{AllIn, AllPlaces}
+use Rattle.step_links.specs.Links.{Linked, LinkedPairs}
+use Rattle.run_steps.specs.All.{headOf, Looked}
 use Rattle.model.proofs.Lent.{job-long}
 use Rattle.model.proofs.Range.{InRange}
 use Rattle.model.proofs.Spans.{length-most}
 use Rattle.model.proofs.Step.{JobIn, job-in, range, under-at}
-use Rattle.book_places.specs.Spots.{CountIn, startBy}
-use Rattle.book_places.specs.Boxes.{AllIn, AllPlaces}
 use Rattle.book_places.proofs.Joined.{length-model}
 use Rattle.step_apply.proofs.Found.{spots-told, span-told}
-use Rattle.step_links.specs.Links.{Linked, LinkedPairs}
-use Rattle.run_steps.specs.All.{headOf, Looked}
 
 module _ (f : JobTables) (ok : Handed f) (whole : jobShort f (jobLengths f) ≡ false) (sharers : List ℕ) (es : sharers ≡ tabulate 255 (sharerWord (jobOf f))) where
   words : JobIn f

@@ -1,14 +1,13 @@
 -- The steps of an order, one after the other: what each turn finds and leaves. Assumes nothing.
 use mathlib.Core.Path.{_≡_, refl, sym, ap, ap₂, _∙_, subst}
 use mathlib.Core.Bool.{Bool, true, false}
-use mathlib.Core.List.{List, [], _∷_, _++_, map}
+use mathlib.Core.List.{List, [], _∷_, _++_}
 use Prim.Native.Nat.{ℕ, suc, _+_, _*_, _/_, _%_, _≤_, _<_}
 use native.Mathlib.Omega.{arith}
 use native.Mathlib.Nat.{div-lt-iff-lt-mul}
-use native.Mathlib.Numerals.{add-one}
 use lib.Dec.{leb}
-use lib.ListN.{length, getD, take}
-use lib.Seq.{take-suc, getD-set-same}
+use lib.ListN.{length, getD}
+use lib.Seq.{getD-set-same}
 use lib.IntN.{ℤ, pos}
 use borrow.Author.Tests.{le-leb, leb-true, leb-false}
 use Rattle.laws.specs.Tables.{tabulate, overwrite, recell}

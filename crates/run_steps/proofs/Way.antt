@@ -5,9 +5,9 @@ use mathlib.Core.List.{List}
 use Prim.Native.Nat.{ℕ, _+_, _<_, _≤_}
 use lib.Dec.{eqb, ltb}
 use lib.ListN.{getD}
+use borrow.Author.Tests.{leb-true, ltb-true}
 use Rattle.laws.specs.Tables.{tabulate}
 use Rattle.laws.specs.Checks.{firstMet}
-use borrow.Author.Tests.{leb-true, ltb-true}
 use Rattle.laws.proofs.Bools.{and-true, and-l, and-r}
 use Rattle.model.specs.Job.{Job, needWord}
 use Rattle.model.specs.Steps.{kindOf, Steps, State, fits, ready, permitted}

@@ -1,9 +1,10 @@
 -- The places and the span that `book_places` finds are those that a step asks for. Assumes nothing.
 use mathlib.Core.Path.{_≡_, refl, sym, ap, ap₂, _∙_, subst}
-use mathlib.Core.Bool.{Bool, true, false, cond, _&&_}
+use mathlib.Core.Bool.{Bool, true, false, cond}
 use mathlib.Core.List.{List, []}
 use Prim.Native.Nat.{ℕ, zero, suc, _+_, _-_, _*_, _<_, _≤_}
 use native.Mathlib.Omega.{arith}
+use native.Mathlib.Numerals.{add-one}
 use lib.Dec.{eqb, ltb, leb}
 use lib.ListN.{length, getD}
 use borrow.Author.Tests.{eqb-true, lt-ltb, ltb-true, ltb-false, le-leb, leb-true}
@@ -15,18 +16,17 @@ use Rattle.model.specs.LocalLists.{localGrocers, localGrocer}
 use Rattle.model.specs.PackedTotals.{totalsStart, totalsLength, totalPlace, hasTotal}
 use Rattle.model.specs.Spans.{groupStart, placeGrocers, tallyPlace, inSpan}
 use Rattle.model.specs.Tables.{JobTables, jobOf}
+use Rattle.book_places.specs.Spots.{listBy, startBy, groupBy, spotBy, putAt}
+use Rattle.book_places.specs.Boxes.{AllPlaces}
+use Rattle.step_apply.specs.Apply.{Spots, SpanOf, spanBox, spanGroup}
 use Rattle.model.proofs.LocalLists.{local-at}
 use Rattle.model.proofs.PackedTotals.{place-within}
 use Rattle.model.proofs.Tables.{own-has}
 use Rattle.book_sort.proofs.Extra.{sum-suc, sum-mono}
-use native.Mathlib.Numerals.{add-one}
 use Rattle.model.proofs.Range.{InRange}
-use Rattle.model.proofs.Spans.{tally-has, tally-at, group-from, group-to, own-from, own-to, own-within, span-within}
-use Rattle.book_places.specs.Spots.{listBy, startBy, groupBy, spotBy, putAt}
-use Rattle.book_places.specs.Boxes.{AllPlaces}
+use Rattle.model.proofs.Spans.{tally-has, tally-at, group-from, group-to, own-from, own-to}
 use Rattle.book_places.proofs.Joined.{list-model, start-model, group-model, own-model, spot-model, grocer-model, list-few, list-below}
 use Rattle.book_places.proofs.Modelled.{held-word}
-use Rattle.step_apply.specs.Apply.{Spots, SpanOf, spanBox, spanGroup}
 
 -- The box and the group of a span are there, of boxes that are.
 pub spans-in : (f : JobTables) (kind a b : ℕ) → a < f .boxes → b < f .boxes → (spanBox kind a b < f .boxes) × (spanGroup kind a b ≤ f .boxes)

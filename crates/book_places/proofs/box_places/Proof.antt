@@ -1,13 +1,12 @@
 -- `book_places::box_places` meets its contract. Assumes nothing.
-use mathlib.Core.Path.{_≡_, refl, sym, ap, ap₂, _∙_}
-use mathlib.Core.List.{List}
-use Prim.Native.Nat.{ℕ, suc, _+_, _≤_}
+use mathlib.Core.Path.{_≡_, ap₂, _∙_}
+use Prim.Native.Nat.{ℕ, _+_, _≤_}
 use native.Mathlib.Omega.{arith}
-use lib.ListN.{length, replicate}
+use lib.ListN.{replicate}
 use borrow.Author.Needs.{needs}
-use denote.Ref.{now}
 use Rattle.laws.specs.Tables.{overwrite}
-use Rattle.book_places.specs.Spots.{listBy, startBy, spotBy, BoxIn}
+use Rattle.book_places.specs.Spots.{spotBy}
+use denote.Ref.{now}
 use Rattle.book_places.proofs.Joined.{count-in, spot-is, number-le, list-few, list-ready}
 use Rattle.book_places.proofs.box_places.Statement.{statement}
 use Rattle.book_places.proofs.box_places.Tie as tie

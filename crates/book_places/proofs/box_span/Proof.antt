@@ -1,15 +1,15 @@
 -- `book_places::box_span` meets its contract. Assumes nothing.
-use mathlib.Core.Path.{_≡_, refl, sym, ap, ap₂, _∙_}
+use mathlib.Core.Path.{_≡_, ap, ap₂, _∙_}
 use mathlib.Core.List.{List}
-use Prim.Native.Nat.{ℕ, suc, _+_, _≤_, _<_}
+use Prim.Native.Nat.{ℕ, _+_, _≤_, _<_}
 use native.Mathlib.Omega.{arith}
 use lib.ListN.{length, replicate}
 use borrow.Author.Needs.{needs}
-use denote.Ref.{now}
 use Rattle.laws.proofs.Tables.{getD-overwrite}
 use Rattle.book_sort.specs.Sort.{at, begin}
+use Rattle.book_places.specs.Spots.{classBy, listBy, startBy, groupBy, putAt}
+use denote.Ref.{now}
 use Rattle.book_sort.proofs.Placing.{begin-le}
-use Rattle.book_places.specs.Spots.{classBy, listBy, startBy, groupBy, putAt, BoxIn}
 use Rattle.book_places.proofs.Joined.{count-in, put-front, list-few}
 use Rattle.book_places.proofs.box_span.Statement.{statement}
 use Rattle.book_places.proofs.box_span.Tie as tie

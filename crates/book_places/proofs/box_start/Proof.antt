@@ -1,17 +1,17 @@
 -- `book_places::box_start` meets its contract. Assumes nothing.
-use mathlib.Core.Path.{_≡_, refl, sym, ap, ap₂, _∙_}
+use mathlib.Core.Path.{_≡_, sym, ap, ap₂, _∙_}
 use mathlib.Core.Bool.{_||_}
 use Prim.Native.Nat.{ℕ, _<_, _≤_, _-_, _+_, _*_}
 use native.Mathlib.Omega.{arith}
 use native.Mathlib.Nat.{le-antisymm}
-use borrow.Author.Needs.{needs}
-use denote.Ref.{now}
 use lib.Dec.{eqb}
+use borrow.Author.Needs.{needs}
 use Rattle.laws.specs.Below.{naturals, sum, count}
 use Rattle.laws.specs.Masks.{bit}
 use Rattle.laws.proofs.Sums.{sum-start, sum-next}
 use Rattle.book_sort.specs.Sort.{at}
-use Rattle.book_places.specs.Spots.{totalBy, startBy}
+use Rattle.book_places.specs.Spots.{totalBy}
+use denote.Ref.{now}
 use Rattle.book_places.proofs.Starts.{oneGrocer, start-grocers}
 use Rattle.book_places.proofs.box_start.Statement.{statement}
 use Rattle.book_places.proofs.box_start.Tie as tie

@@ -1,16 +1,16 @@
 -- `book_places::put_places` meets its contract. Assumes nothing.
-use mathlib.Core.Path.{_≡_, refl, ap, ap₂, _∙_}
+use mathlib.Core.Path.{_≡_, ap, ap₂, _∙_}
 use mathlib.Core.Bool.{cond}
 use Prim.Native.Nat.{ℕ, _<_, _≤_, _-_, _+_}
 use native.Mathlib.Omega.{arith}
 use lib.ListN.{length}
 use lib.Dec.{eqb}
 use borrow.Author.Needs.{needs}
-use denote.Ref.{now}
 use Rattle.laws.specs.Tables.{overwrite}
 use Rattle.laws.proofs.Tables.{length-overwrite, fill-none, fill-more, fill-end}
 use Rattle.book_sort.specs.Sort.{at}
 use Rattle.book_places.specs.Spots.{placeBy}
+use denote.Ref.{now}
 use Rattle.book_places.proofs.put_places.Statement.{statement}
 use Rattle.book_places.proofs.put_places.Tie as tie
 

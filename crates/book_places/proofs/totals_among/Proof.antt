@@ -1,10 +1,10 @@
 -- `book_places::totals_among` meets its contract. Assumes nothing.
-use mathlib.Core.Path.{_≡_, sym, ap, _∙_}
-use Prim.Native.Nat.{ℕ, _-_, _^_, _≤_, _<_}
+use mathlib.Core.Path.{ap, _∙_}
+use Prim.Native.Nat.{ℕ, _≤_}
 use native.Mathlib.Omega.{arith}
-use borrow.Author.Needs.{needs}
-use lib.Bits.{bitAnd, bitOr, and-le-r}
+use lib.Bits.{bitAnd, and-le-r}
 use lib.Count.{ones}
+use borrow.Author.Needs.{needs}
 use Rattle.book_places.proofs.Starts.{ones-few, below-count}
 use Rattle.book_places.proofs.totals_among.Statement.{statement}
 use Rattle.book_places.proofs.totals_among.Tie as tie

@@ -6,14 +6,13 @@ use Prim.Native.Nat.{ℕ, _≤_}
 use native.Mathlib.Omega.{arith}
 use lib.ListN.{length, length-set}
 use borrow.Author.Needs.{needs}
-use denote.Ref.{now}
 use Rattle.laws.specs.Checks.{firstMet}
 use Rattle.model.specs.Tables.{JobTables, bagTables, jobOf, StateTables, stateTables, stateLengths, totalsShort}
 use Rattle.model.specs.Local.{jobRefusals}
 use Rattle.model.specs.Handed.{handedTables, Standing}
 use Rattle.run.specs.Run.{Begins, answerOf}
-use Rattle.run.proofs.Ends.{begins, begins-needs, begins-sharers, order-in, run-ended, run-short}
-use Rattle.run.proofs.Ends.{needs-of, sharers-of, totals-count, totals-told, of-job, all-in, run-finished, run-refused, run-packed, sent-room}
+use denote.Ref.{now}
+use Rattle.run.proofs.Ends.{begins, begins-needs, begins-sharers, order-in, run-ended, run-short, needs-of, sharers-of, totals-count, totals-told, of-job, all-in, run-finished, run-refused, run-packed, sent-room}
 use Rattle.run.proofs.run.Statement.{statement}
 use Rattle.run.proofs.run.Tie as tie
 

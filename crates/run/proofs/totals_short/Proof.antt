@@ -1,11 +1,11 @@
 -- `run::totals_short` meets its contract. Assumes nothing.
-use mathlib.Core.Path.{_≡_, ap, _∙_}
+use mathlib.Core.Path.{ap, _∙_}
 use mathlib.Core.Bool.{_||_}
 use Prim.Native.Nat.{ℕ}
 use lib.Dec.{ltb}
 use borrow.Author.Needs.{needs}
-use denote.Ref.{now}
 use Rattle.book_places.specs.Spots.{startBy}
+use denote.Ref.{now}
 use Rattle.run.proofs.totals_short.Statement.{statement}
 use Rattle.run.proofs.totals_short.Tie as tie
 

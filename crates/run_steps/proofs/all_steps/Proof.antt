@@ -1,21 +1,18 @@
 -- `run_steps::all_steps` meets its contract: at turn i the tables hold the state after i steps. Assumes nothing.
-use mathlib.Core.Path.{refl}
-use lib.ListN.{replicate}
+use mathlib.Core.Path.{refl, sym}
 use Prim.Native.Nat.{_-_, _≤_, zero-le}
 use native.Mathlib.Omega.{arith}
+use lib.ListN.{replicate}
 use borrow.Author.Count.{falls}
-use borrow.Author.Needs.{needs}
-use denote.Ref.{now}
-use Rattle.model.specs.PackedTotals.{totalsLength}
 use Rattle.model.specs.Tables.{JobTables, jobTables, jobOf, StateTables}
 use Rattle.model.specs.Steps.{fresh}
+use Rattle.run_steps.specs.All.{withoutMarks, Looked, StepOut, Holds}
+use denote.Ref.{now}
 use Rattle.step_apply.proofs.Keys.{offers-keyed, tallies-keyed}
 use Rattle.step_totals.proofs.Effect.{talliesOf}
-use Rattle.run_steps.specs.All.{withoutMarks, Looked, StepOut, Holds}
 use Rattle.run_steps.proofs.Looking.{count-ready, packed-words, boxes-ready, looked}
-use Rattle.run_steps.proofs.Turns.{Turning, turning-first, turning-last, prices-fresh, totals-fresh, fresh-holds, turn-place}
-use Rattle.run_steps.proofs.Turns.{up, may-step, counts-fit, turning-next}
-use Rattle.run_steps.proofs.Turns.{known-length, transit-length, working-length, totals-length, statement-length}
+use Rattle.run_steps.proofs.Turns.{Turning, turning-first, turning-last, prices-fresh, totals-fresh, fresh-holds, turn-place, up}
+use Rattle.run_steps.proofs.Turns.{may-step, counts-fit, turning-next, known-length, transit-length, working-length, totals-length, statement-length}
 use Rattle.run_steps.proofs.all_steps.Statement.{statement}
 use Rattle.run_steps.proofs.all_steps.Tie as tie
 
@@ -215,19 +212,19 @@ all-steps-spec =
     μ-loop
     fresh-prices-requires
     clear-totals-requires
-    (λ c κs. search needs)
-    (λ c κs. search needs)
-    (λ c. search needs)
-    (λ c. search needs)
-    (λ c. search needs)
+    (λ c κs. tt)
+    (λ c κs. tt)
+    (λ c. refl)
+    (λ c. refl)
+    (λ c. refl)
     all-boxes-requires
     offers-require
     tallies-require
     loop-holds
     step-at-requires
-    (λ c. search needs)
-    (λ c. search needs)
-    (λ c. search needs)
+    (λ c. sym (told (linked (c .before .before .before)) .all-boxes .kept .1 .1 .1 .1 .1 .1 .1 .1 .1 .0))
+    (λ c. sym (told (linked (c .before .before .before .before .before .before)) .all-boxes .kept .1 .1 .1 .1 .1 .1 .1 .0))
+    (λ c. sym (told (linked (c .before .before .before .before .before .before .before)) .all-boxes .kept .1 .1 .1 .1 .1 .1 .1 .1 .0))
     one-step-requires
     sent-more-requires
     add-i

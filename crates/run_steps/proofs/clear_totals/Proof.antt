@@ -1,13 +1,11 @@
 -- `run_steps::clear_totals` meets its contract. Assumes nothing.
-use mathlib.Core.Path.{_≡_, sym, ap, ap₂, _∙_}
-use mathlib.Core.List.{List}
+use mathlib.Core.Path.{_≡_, ap, _∙_}
 use Prim.Native.Nat.{ℕ}
-use lib.IntN.{ℤ, pos}
+use lib.IntN.{pos}
 use borrow.Author.Needs.{needs}
-use denote.Ref.{now}
 use Rattle.laws.specs.Tables.{overwrite}
-use Rattle.book_places.specs.Spots.{CountIn, startBy}
-use Rattle.run_fresh.specs.Fresh.{FreshTotals}
+use Rattle.book_places.specs.Spots.{startBy}
+use denote.Ref.{now}
 use Rattle.run_steps.proofs.clear_totals.Statement.{statement}
 use Rattle.run_steps.proofs.clear_totals.Tie as tie
 

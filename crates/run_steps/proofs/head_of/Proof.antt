@@ -1,9 +1,8 @@
 -- `run_steps::head_of` meets its contract. Assumes nothing.
-use mathlib.Core.Path.{_≡_, ap₂, _∙_}
-use Prim.Native.Nat.{ℕ, _+_, _*_, _≤_}
+use mathlib.Core.Path.{ap₂, _∙_}
+use Prim.Native.Nat.{ℕ, _+_, _*_}
 use native.Mathlib.Omega.{arith}
 use borrow.Author.Needs.{needs}
-use Rattle.step_apply.specs.Apply.{spanGroup}
 use Rattle.run_steps.specs.All.{headOf}
 use Rattle.run_steps.proofs.head_of.Statement.{statement}
 use Rattle.run_steps.proofs.head_of.Tie as tie

@@ -3,9 +3,9 @@ use mathlib.Core.Path.{_≡_, refl, sym, ap, _∙_, subst}
 use Prim.Native.Nat.{ℕ, _+_, _<_}
 use native.Mathlib.Omega.{arith}
 use lib.ListN.{length, getD}
-use denote.Ref.{now}
 use Rattle.step_apply.specs.Apply.{TotalStepIn, TotalStepOut}
 use Rattle.run_steps.specs.All.{headOf}
+use denote.Ref.{now}
 use Rattle.run_steps.proofs.one_step.Statement.{statement}
 use Rattle.run_steps.proofs.one_step.Tie as tie
 

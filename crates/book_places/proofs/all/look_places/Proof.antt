@@ -1,14 +1,14 @@
 -- `book_places::all::look_places` meets its contract. Assumes nothing.
-use mathlib.Core.Path.{_≡_, refl, ap, ap₂, _∙_}
-use Prim.Native.Nat.{ℕ, _<_, _≤_, _-_, _+_}
+use mathlib.Core.Path.{_≡_, ap, ap₂, _∙_}
+use Prim.Native.Nat.{ℕ, _<_, _≤_, _-_}
 use native.Mathlib.Omega.{arith}
 use lib.ListN.{length}
 use borrow.Author.Needs.{needs}
-use denote.Ref.{now}
 use Rattle.laws.specs.Tables.{overwrite}
 use Rattle.laws.proofs.Tables.{length-overwrite, fill-none, fill-more, fill-end}
 use Rattle.book_sort.specs.Sort.{at}
 use Rattle.book_places.specs.Boxes.{placeAt}
+use denote.Ref.{now}
 use Rattle.book_places.proofs.all.look_places.Statement.{statement}
 use Rattle.book_places.proofs.all.look_places.Tie as tie
 

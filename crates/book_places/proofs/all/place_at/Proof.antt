@@ -1,13 +1,13 @@
 -- `book_places::all::place_at` meets its contract. Assumes nothing.
-use mathlib.Core.Path.{_≡_, sym, ap, ap₂, _∙_}
+use mathlib.Core.Path.{sym, ap, _∙_}
 use mathlib.Core.Bool.{Bool, cond}
-use Prim.Native.Nat.{ℕ, _<_, _+_, _*_}
+use Prim.Native.Nat.{ℕ, _+_, _*_}
 use native.Mathlib.Omega.{arith}
 use borrow.Author.Needs.{needs}
 use borrow.Author.Tests.{lt-ltb, le-ltb}
-use denote.Ref.{now}
 use Rattle.book_sort.specs.Sort.{at}
 use Rattle.book_places.specs.Boxes.{placeAt}
+use denote.Ref.{now}
 use Rattle.book_places.proofs.all.place_at.Statement.{statement}
 use Rattle.book_places.proofs.all.place_at.Tie as tie
 

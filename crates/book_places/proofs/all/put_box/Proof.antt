@@ -1,14 +1,13 @@
 -- `book_places::all::put_box` meets its contract. Assumes nothing.
-use mathlib.Core.Path.{_≡_, refl, sym, ap, ap₂, _∙_}
-use mathlib.Core.List.{List}
-use Prim.Native.Nat.{ℕ, _+_, _*_, _≤_, _<_}
+use mathlib.Core.Path.{_≡_, sym, ap, ap₂, _∙_}
+use Prim.Native.Nat.{ℕ, _+_, _*_, _≤_}
 use native.Mathlib.Omega.{arith}
-use lib.ListN.{length, replicate}
+use lib.ListN.{length}
 use borrow.Author.Needs.{needs}
-use denote.Ref.{now}
 use Rattle.book_sort.specs.Sort.{at}
-use Rattle.book_places.specs.Spots.{classBy, listBy, startBy, putAt}
+use Rattle.book_places.specs.Spots.{classBy, listBy, putAt}
 use Rattle.book_places.specs.Boxes.{BoxesTold}
+use denote.Ref.{now}
 use Rattle.book_places.proofs.Joined.{list-few}
 use Rattle.book_places.proofs.Boxes.{told-numbers, one-more, starts-few, start-few, start-next, start-before}
 use Rattle.book_places.proofs.all.put_box.Statement.{statement}

@@ -1,13 +1,13 @@
 -- `book_places::all::put_boxes` meets its contract. Assumes nothing.
-use mathlib.Core.Path.{_≡_, refl, sym, ap, _∙_, subst}
-use Prim.Native.Nat.{ℕ, _<_, _≤_, _-_, _+_}
+use mathlib.Core.Path.{_≡_, refl, _∙_, subst}
+use Prim.Native.Nat.{ℕ, _≤_, _-_}
 use native.Mathlib.Nat.{le-antisymm}
 use native.Mathlib.Omega.{arith}
 use lib.ListN.{length}
 use borrow.Author.Needs.{needs}
-use denote.Ref.{now}
 use Rattle.book_places.specs.Spots.{startBy}
-use Rattle.book_places.specs.Boxes.{BoxesTold, BoxRoom}
+use Rattle.book_places.specs.Boxes.{BoxesTold}
+use denote.Ref.{now}
 use Rattle.book_places.proofs.Boxes.{told-none, start-none}
 use Rattle.book_places.proofs.all.put_boxes.Statement.{statement}
 use Rattle.book_places.proofs.all.put_boxes.Tie as tie

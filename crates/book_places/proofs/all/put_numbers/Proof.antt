@@ -1,12 +1,12 @@
 -- `book_places::all::put_numbers` meets its contract. Assumes nothing.
-use mathlib.Core.Path.{_≡_, refl, ap, ap₂, _∙_}
+use mathlib.Core.Path.{_≡_, refl, ap, _∙_}
 use Prim.Native.Nat.{ℕ, _<_, _≤_, _-_, _+_}
 use native.Mathlib.Omega.{arith}
 use lib.ListN.{length, length-set, set}
 use lib.Seq.{getD-set-other}
 use borrow.Author.Needs.{needs}
-use denote.Ref.{now}
 use Rattle.book_sort.specs.Sort.{at}
+use denote.Ref.{now}
 use Rattle.book_places.proofs.Boxes.{keyed-more}
 use Rattle.book_places.proofs.all.put_numbers.Statement.{statement}
 use Rattle.book_places.proofs.all.put_numbers.Tie as tie
