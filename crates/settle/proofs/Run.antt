@@ -15,6 +15,7 @@ use Rattle.model.specs.Steps.{Kind, sendPrices, multiplyOwn, receivePrices, sen
 use Rattle.model.specs.Words.{over, messagesOf}
 use Rattle.model.specs.Tables.{JobTables, jobOf, StateTables, store}
 use Rattle.model.specs.Run.{afterSteps, run, runState}
+use Rattle.model.proofs.Spans.{length-most}
 use Rattle.model.proofs.Step.{range, limits}
 use Rattle.model.proofs.Whole.{JobWhole, job-whole}
 use Rattle.step_places.proofs.Plain.{Plain, plain-order}
@@ -94,18 +95,19 @@ module _ (f : JobTables) (g : DueIn f) where
 
       -- All of them may be done.
       pub all-in : (known transit : List ℕ) (working totals statement : List ℤ) → length known ≡ 8000 → length transit ≡ 8000 →
-          length working ≡ 4080 → length totals ≡ 4080 → length statement ≡ 255 → AllIn f (withoutMarks known transit working totals statement) needs sharers order n
+          length working ≡ 1255 → length totals ≡ 1255 → length statement ≡ 255 → AllIn f (withoutMarks known transit working totals statement) needs sharers order n
       unfolding jobOf
       all-in known transit working totals statement lk lt lw lm ls =
           let offers : f .boxes * f .offers ≤ 8000 = mul-le-mul {n₂ = 16} {m₂ = 500} few-boxes (limits f (g .job-in .inside) .offers≤) in
-          let grocers : f .boxes * f .grocers ≤ 4080 = mul-le-mul {n₂ = 16} {m₂ = 255} few-boxes (limits f (g .job-in .inside) .grocers≤) in
+          let l = limits f (g .job-in .inside) in
+          let most = length-most (jobOf f) (range f (g .job-in .inside)) in
           record {
             job-in = g .job-in;
             job-long = g .job-long;
             known-long = omega (arith, offers, lk);
             transit-long = omega (arith, offers, lt);
-            working-long = omega (arith, grocers, lw);
-            totals-long = omega (arith, grocers, lm);
+            working-long = omega (arith, most, l .grocers≤, l .tallies≤, lw);
+            totals-long = omega (arith, most, l .grocers≤, l .tallies≤, lm);
             statement-long = omega (arith, limits f (g .job-in .inside) .grocers≤, ls);
             needs-are = needs-of;
             sharers-are = sharers-of;

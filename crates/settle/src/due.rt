@@ -7,6 +7,7 @@ ghost use Rattle.model.specs.Steps.{kindOf};
 ghost use Rattle.model.specs.Tables.{jobTables, jobOf};
 ghost use Rattle.job_masks.specs.Masks.{Owned, byOwner};
 ghost use Rattle.settle.specs.Due.{dueBy, dueAt, DueIn, DueOut};
+use book_places::TOTALS;
 use slices::sizes::Sizes;
 use step_places::PLACES;
 use step_places::Step;
@@ -105,8 +106,8 @@ pub fn due_run(
     let n = due_order(z, offer_owner, grocer_owner, &needs, &sharers, &mut order);
     let mut known = [0u32; 8000];
     let mut price_transit = [0u32; 8000];
-    let mut working = [0i64; 4080];
-    let mut total_transit = [0i64; 4080];
+    let mut working = [0i64; TOTALS];
+    let mut total_transit = [0i64; TOTALS];
     let all = run_steps::all_steps(
         z,
         price,
