@@ -15,7 +15,8 @@ use Rattle.recount.specs.Recount.{stands}
 use Rattle.model.specs.Job.{Job}
 use Rattle.model.specs.Tables.{JobTables, countedOf, nobody, jobOf}
 use Rattle.model.specs.Handed.{handedTables, Standing}
-use Rattle.model.specs.Local.{localOffers, localGrocers, start, starts, packed, packedGrocers, packedCounts, BookLengths, bookRefusals}
+use Rattle.model.specs.LocalLists.{localOffers, localGrocers}
+use Rattle.model.specs.Local.{start, starts, packed, packedGrocers, packedCounts, BookLengths, bookRefusals}
 use Rattle.book_sort.specs.Sort.{at, inFront}
 use Rattle.book_places.specs.Lists.{localList, heldOf}
 use Rattle.book_order.specs.Twice.{PackLent, packWords, packedTallies, packedStart}

@@ -15,7 +15,8 @@ use Rattle.laws.proofs.Below.{counts-one, counts-none}
 use Rattle.laws.proofs.Tables.{length-tabulate, getD-tabulate}
 use Rattle.laws.proofs.Ascending.{length-ascending, getD-ascending, nth-passes}
 use Rattle.model.specs.Job.{Job, heldBy, needs, shares, priceWord, totalWord}
-use Rattle.model.specs.Local.{chained, localOffers, localGrocers, localGrocer, ofOffer, start, starts, packed, packedGrocers, packedCounts}
+use Rattle.model.specs.LocalLists.{chained, localOffers, localGrocers, localGrocer}
+use Rattle.model.specs.Local.{ofOffer, start, starts, packed, packedGrocers, packedCounts}
 use Rattle.book_sort.specs.Sort.{at, keyCount, begin}
 use Rattle.book_keys.specs.Keys.{numberIn}
 use Rattle.book_places.specs.Lists.{localList}

@@ -17,7 +17,8 @@ use Rattle.laws.proofs.Tables.{overwrite-cong, overwrite-as, length-tabulate, g
 use Rattle.laws.proofs.Ascending.{ascending-cong, length-ascending}
 use Rattle.model.specs.Job.{Job, heldBy, needs, shares, priceWord, totalWord}
 use Rattle.model.specs.Tables.{JobTables, jobOf}
-use Rattle.model.specs.Local.{chained, localOffers, localGrocers, localGrocer, ofOffer, start, starts, packed, packedGrocers, packedCounts}
+use Rattle.model.specs.LocalLists.{chained, localOffers, localGrocers, localGrocer}
+use Rattle.model.specs.Local.{ofOffer, start, starts, packed, packedGrocers, packedCounts}
 use Rattle.book_sort.specs.Sort.{at, inFront, begin, sorted, place}
 use Rattle.book_places.specs.Lists.{localList, heldOf}
 use Rattle.book_keys.specs.Keys.{classOf, numberIn, tallyKey}

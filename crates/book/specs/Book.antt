@@ -10,7 +10,8 @@ use Rattle.laws.specs.Checks.{firstMet}
 use Rattle.laws.specs.Lent.{Words, SignedWords}
 use Rattle.model.specs.Job.{Job}
 use Rattle.model.specs.Tables.{JobTables, jobTables, jobOf}
-use Rattle.model.specs.Local.{localOffers, localGrocers, start, starts, packedGrocers, packedCounts, BookLengths, bookRefusals}
+use Rattle.model.specs.LocalLists.{localOffers, localGrocers}
+use Rattle.model.specs.Local.{start, starts, packedGrocers, packedCounts, BookLengths, bookRefusals}
 use Rattle.book_sort.specs.Sort.{inFront}
 use Rattle.book.specs.declared.Answer.{Answer}
 use Rattle.book.specs.declared.Answer.the-variants.{Book, Refused}

@@ -7,7 +7,8 @@ use Rattle.laws.specs.Checks.{firstMet}
 use Rattle.laws.specs.Limits.{maxCount}
 use Rattle.model.specs.Job.{Job}
 use Rattle.model.specs.Tables.{JobTables, jobOf}
-use Rattle.model.specs.Local.{localOffers, packed, BookLengths, bookRefusals}
+use Rattle.model.specs.LocalLists.{localOffers}
+use Rattle.model.specs.Local.{packed, BookLengths, bookRefusals}
 use Rattle.book.specs.Book.{bookAnswer, BookTables, bookLengths, written, given, booked}
 use Rattle.guarantees.specs.Calls.{BookInRange}
 use Rattle.model.proofs.Step.{limits, in-handed}

@@ -18,7 +18,8 @@ use Rattle.model.specs.Words.{ownerWords}
 use Rattle.recount.specs.Recount.{countedTwice}
 use Rattle.model.specs.Tables.{JobTables, countedOf, jobOf}
 use Rattle.model.specs.Ranges.{jobInRange}
-use Rattle.model.specs.Local.{localOffers, localGrocers, start, starts, packed, packedGrocers, packedCounts}
+use Rattle.model.specs.LocalLists.{localOffers, localGrocers}
+use Rattle.model.specs.Local.{start, starts, packed, packedGrocers, packedCounts}
 use Rattle.model.specs.Local.{BookLengths, bookRefusals, priceTable, totalTable, jobRefusals}
 use Rattle.model.specs.Reconcile.{TallyRecord, owed, reconciled}
 use Rattle.message_tables.specs.Sums.{rowSum, columnSum, tableSum}

@@ -13,7 +13,8 @@ use Rattle.model.specs.Tables.{JobTables, StateTables, jobTables, bagTab
 use Rattle.model.specs.Ranges.{sizesInRange}
 use Rattle.model.specs.Step.{asked, StepAnswer, accepted, refused, stepped}
 use Rattle.model.specs.Run.{RunAnswer, RunOutcome, run, pickedPlaces, finished, refused as notRun, ran}
-use Rattle.model.specs.Local.{localOffers, localGrocers, priceTable, totalTable, BookLengths, bookRefusals, jobRefusals}
+use Rattle.model.specs.LocalLists.{localOffers, localGrocers}
+use Rattle.model.specs.Local.{priceTable, totalTable, BookLengths, bookRefusals, jobRefusals}
 use Rattle.model.specs.Reconcile.{TallyRecord, owed, refused as notOwed, reconciled}
 use Rattle.model.specs.Requests.{lentJob, lentState}
 use Rattle.model.specs.Cases.{jobE, empty, looseTables, lowTwice, ofKind, ownerWithout, bagRecord}

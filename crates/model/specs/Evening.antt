@@ -6,7 +6,7 @@ use lib.IntN.{ℤ, pos, negsuc}
 use lib.ListN.{take}
 use Rattle.model.specs.Tables.{StateTables, jobOf}
 use Rattle.model.specs.Step.{Asked, asked}
-use Rattle.model.specs.Local.{localOffers, localGrocers}
+use Rattle.model.specs.LocalLists.{localOffers, localGrocers}
 use Rattle.model.specs.Cases.{jobE, tablesInTurn}
 
 -- The steps of E in the order of a run without choices.

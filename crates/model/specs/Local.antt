@@ -12,7 +12,7 @@ use Rattle.recount.specs.Recount.{countedTwice}
 use Rattle.model.specs.Job.{Job, heldBy, priceWord, totalWord}
 use Rattle.model.specs.Tables.{JobTables, countedOf, jobLengths, jobShort, bagsShort}
 use Rattle.model.specs.Ranges.{jobInRange}
-unfoldable pub use Rattle.model.specs.LocalLists.{chained, localOffers, localGrocers, localGrocer}
+use Rattle.model.specs.LocalLists.{chained, localOffers, localGrocers, localGrocer}
 
 module _ (j : Job) (b : ℕ) where
   -- Tally t is one of the box's tallies of its local offer i.

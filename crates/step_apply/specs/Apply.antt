@@ -33,6 +33,7 @@ pub record Spots (f : JobTables) (a : ℕ) (places : List ℕ) : Type 0 where
 unfoldable pub spanBox : ℕ → ℕ → ℕ → ℕ
 spanBox kind a b = cond (eqb kind 6) b a
 
+-- The group of its totals: 0 its own grocers, c + 1 those of box c.
 unfoldable pub spanGroup : ℕ → ℕ → ℕ → ℕ
 spanGroup kind a b = cond (eqb kind 4) (suc b) (cond (eqb kind 5) 0 (suc a))
 
