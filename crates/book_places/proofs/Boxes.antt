@@ -45,7 +45,7 @@ class-total k b owner held l =
     (λ r. rw (class-held k b owner held q r, q, r) (lt-ltb (owner + 1) (k + 1) (omega arith)))
     (λ r. rw (class-none k b owner held q r, q, r) (le-ltb (k + 1) (k + 1) (omega arith))))
 
-pub list-count : (k m : ℕ) (owners words : List ℕ) (b : ℕ) → OwnersIn k m owners → length (listBy k m owners words b) ≡ countBy m owners words b
+list-count : (k m : ℕ) (owners words : List ℕ) (b : ℕ) → OwnersIn k m owners → length (listBy k m owners words b) ≡ countBy m owners words b
 unfolding listBy countBy totalBy begin keyCount count
 list-count k m owners words b h =
     length-is k m (at owners) (λ x. bit b (at words x)) b
@@ -73,7 +73,7 @@ keyed-more key word n i w v li lk e once h x lx =
 
 -- ---- Words of a list that was put
 
-pub put-word : (list old : List ℕ) (start i : ℕ) → i < length list → start + length list ≤ length old → at (putAt list (length list) start old) (start + i) ≡ at list i
+put-word : (list old : List ℕ) (start i : ℕ) → i < length list → start + length list ≤ length old → at (putAt list (length list) start old) (start + i) ≡ at list i
 unfolding putAt inSpan
 put-word list old start i l long =
     getD-tabulate (length old) _ (start + i) 0 (omega arith)
@@ -83,7 +83,7 @@ put-word list old start i l long =
     back : (start i : ℕ) → start + i - start ≡ i
     back start i = omega arith
 
-pub put-before : (list old : List ℕ) (n start i : ℕ) → i < start → start ≤ length old → at (putAt list n start old) i ≡ at old i
+put-before : (list old : List ℕ) (n start i : ℕ) → i < start → start ≤ length old → at (putAt list n start old) i ≡ at old i
 unfolding putAt inSpan
 put-before list old n start i l long =
     getD-tabulate (length old) _ i 0 (omega arith)
@@ -95,9 +95,6 @@ put-before list old n start i l long =
 -- ---- One box more
 
 module _ (k m : ℕ) (owners words : List ℕ) (b h g t : ℕ) (room : BoxRoom k m owners words h g t) (lb : b < k) where
-  abbrev list-of : ℕ → List ℕ
-  list-of c = listBy k m owners words c
-
   -- The list in front of 255 words.
   module _ (list : List ℕ) (el : list ≡ inFront (listBy k m owners words b) (replicate 255 0)) where
     pub told-numbers : (l : ℕ) → l ≡ length (listBy k m owners words b) → length list ≡ 255 → NumbersIn list l

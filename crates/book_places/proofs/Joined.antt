@@ -59,7 +59,7 @@ put-front l list rest old start e =
         (λ q. rw q)
 
 -- The local number in the list in front of a table is that in the list itself.
-pub number-front : (l list rest : List ℕ) (n x : ℕ) → list ≡ inFront l rest → n ≡ length l → numberIn list n x ≡ numberIn l (length l) x
+number-front : (l list rest : List ℕ) (n x : ℕ) → list ≡ inFront l rest → n ≡ length l → numberIn list n x ≡ numberIn l (length l) x
 unfolding numberIn
 number-front l list rest n x e en =
     ap (λ (m : ℕ). find m (λ i. eqb (at list i) x)) en

@@ -64,7 +64,7 @@ module _ (k n : ℕ) (owner : ℕ → ℕ) (marked : ℕ → Bool) (b : ℕ) whe
   list-in i h = rw as-sorted at (sorted-in class n (k + 1) i (omega (arith, length-is)) .0)
 
   -- What is marked stands in it: its local number is one of the list's places.
-  pub list-has : (x : ℕ) → x < n → owner x < k → marked x ≡ true → numberIn (localList k n owner marked b) (length (localList k n owner marked b)) x < length (localList k n owner marked b)
+  list-has : (x : ℕ) → x < n → owner x < k → marked x ≡ true → numberIn (localList k n owner marked b) (length (localList k n owner marked b)) x < length (localList k n owner marked b)
   unfolding numberIn classOf
   list-has x hx ho hm =
       let small : class x < k + 1 = split (eqb (owner x) b) (λ q. rw q (omega arith)) (λ q. rw (q, hm) (omega arith)) in
@@ -98,7 +98,7 @@ module _ (f : JobTables) (bare : f .tallyBag ≡ []) (b : ℕ) (hb : b < f .boxe
   unfolding heldBy jobOf
   held-word t l = rw (bare-stands f bare t, word-in (f .tallies) (f .tallyBox) 0 t l, lt-ltb b (f .boxes) hb) (and-one (eqb (at (f .tallyBox) t) b))
 
-  pub needs-held : (o : ℕ) → needs (jobOf f) o b ≡ heldOf (f .tallyOffer) (f .tallyBox) (f .tallies) b o
+  needs-held : (o : ℕ) → needs (jobOf f) o b ≡ heldOf (f .tallyOffer) (f .tallyBox) (f .tallies) b o
   unfolding needs heldOf jobOf
   needs-held o =
       any-cong (f .tallies) (λ t. heldBy (jobOf f) t b && eqb (jobOf f .tallyOffer t) o) (λ t. eqb (at (f .tallyBox) t) b && eqb (at (f .tallyOffer) t) o)

@@ -51,7 +51,7 @@ module _ (n : ℕ) (owners masks : List ℕ) (la : getD owners n 0 < 16) (lw : g
       ∙ mask-join 16 (ownsFor n owners masks a) (λ b. bit b w)
       ∙ mask-cong 16 _ (ownsFor (n + 1) owners masks a) (λ b l. sym (owns-next a b ∙ rw (eqb-same a)))
 
-  pub owner-more : set (byOwner n owners masks) a (bitOr (getD (byOwner n owners masks) a 0) w) ≡ byOwner (n + 1) owners masks
+  owner-more : set (byOwner n owners masks) a (bitOr (getD (byOwner n owners masks) a 0) w) ≡ byOwner (n + 1) owners masks
   unfolding byOwner
   owner-more =
       ap (set (tabulate 16 (wordOf n)) a) raised

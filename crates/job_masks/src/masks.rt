@@ -6,6 +6,9 @@ ghost use Rattle.laws.specs.Tables.{tabulate};
 ghost use Rattle.job_masks.specs.Masks.{marked, holderWord, Placed, Owned, byOwner};
 use slices::bits::set_bit;
 use slices::index_at;
+use slices::limits::BOXES;
+use slices::limits::GROCERS;
+use slices::limits::OFFERS;
 use slices::u16_at;
 
 // One tally: bit b of the word at its place, where box b is below k.
@@ -33,31 +36,31 @@ fn holders(boxes: u16, tallies: u16, tally_box: &[u16], places: &[u16], masks: &
 }
 
 // The need words of the offers: the boxes that hold a tally of each.
-pub fn needs(boxes: u16, tallies: u16, tally_box: &[u16], tally_offer: &[u16]) -> [u16; 500]
+pub fn needs(boxes: u16, tallies: u16, tally_box: &[u16], tally_offer: &[u16]) -> [u16; OFFERS]
     requires { ⌜ Placed boxes tallies 500 (now «tally_box») (now «tally_offer») ⌝ }
     ensures { λ r. ⌜ r ≡ tabulate 500 (holderWord boxes tallies (now («tally_box» .entry)) (now («tally_offer» .entry))) ⌝ }
 {
-    let mut masks = [0u16; 500];
+    let mut masks = [0u16; OFFERS];
     holders(boxes, tallies, tally_box, tally_offer, &mut masks);
     masks
 }
 
 // The sharer words of the grocers, likewise.
-pub fn sharers(boxes: u16, tallies: u16, tally_box: &[u16], tally_grocer: &[u16]) -> [u16; 255]
+pub fn sharers(boxes: u16, tallies: u16, tally_box: &[u16], tally_grocer: &[u16]) -> [u16; GROCERS]
     requires { ⌜ Placed boxes tallies 255 (now «tally_box») (now «tally_grocer») ⌝ }
     ensures { λ r. ⌜ r ≡ tabulate 255 (holderWord boxes tallies (now («tally_box» .entry)) (now («tally_grocer» .entry))) ⌝ }
 {
-    let mut masks = [0u16; 255];
+    let mut masks = [0u16; GROCERS];
     holders(boxes, tallies, tally_box, tally_grocer, &mut masks);
     masks
 }
 
 // For each box the words of all that it owns together, of n offers or grocers: the boxes that need one of them, or hold a tally of one.
-pub fn by_owner(n: u16, owners: &[u16], masks: &[u16]) -> [u16; 16]
+pub fn by_owner(n: u16, owners: &[u16], masks: &[u16]) -> [u16; BOXES]
     requires { ⌜ Owned n (now owners) (now masks) ⌝ }
     ensures { λ r. ⌜ r ≡ byOwner n (now (owners .entry)) (now (masks .entry)) ⌝ }
 {
-    let mut words = [0u16; 16];
+    let mut words = [0u16; BOXES];
     let size = n as usize;
     for i in 0..size {
         let a = index_at(owners, i);

@@ -3,7 +3,6 @@ use mathlib.Core.Path.{_≡_, refl, sym, ap, ap₂, _∙_, subst}
 use mathlib.Core.List.{List}
 use mathlib.Core.Bool.{Bool, true, false, cond, _&&_}
 use Prim.Native.Nat.{ℕ, zero, suc, _+_, _-_, _*_, _≤_, _<_}
-use native.Mathlib.Nat.{le-refl}
 use native.Mathlib.Decide.{ℕ-discrete, decLt}
 use native.Mathlib.Omega.{arith}
 use lib.Dec.{eqb, ltb, leb}
@@ -60,30 +59,6 @@ front-else g k n = go (decLt k g)
     go (yes l) = lt-ltb k (g + 1) (omega arith) ∙ sym (lt-ltb k g l)
     go (no m) = le-ltb k (g + 1) (omega arith) ∙ sym (le-ltb k g (omega arith))
 
--- A loop that goes through a list from its front, and stores the new word where a test of the place holds.
-module _ {A : Type 0} (w : List A) (d : A) (new old : ℕ → A) (o : ℕ) (test : ℕ → Bool) (inside : o < length w) (h : (i : ℕ) → getD w i d ≡ cond (ltb i o && test i) (new i) (old i)) where
-  front-away : (i : ℕ) → (o ≡ i → ⊥) → (ltb i (o + 1) && test i) ≡ (ltb i o && test i)
-  front-away i n = ap (λ (b : Bool). b && test i) (front-else o i n)
-
-  pub front-more : (v : A) → v ≡ new o → (i : ℕ) → getD (cond (test o) (set w o v) w) i d ≡ cond (ltb i (o + 1) && test i) (new i) (old i)
-  front-more v e i = go (test o) refl
-    where
-      go : (b : Bool) → test o ≡ b → getD (cond b (set w o v) w) i d ≡ cond (ltb i (o + 1) && test i) (new i) (old i)
-      go true t = stored-more w d new old (λ i. ltb i o && test i) (λ i. ltb i (o + 1) && test i) o inside h (ap₂ _&&_ (front-here o) t) front-away v e i
-      go false t = h i ∙ ap (λ (b : Bool). cond b (new i) (old i)) (which (ℕ-discrete o i))
-        where
-          which : Dec (o ≡ i) → (ltb i o && test i) ≡ (ltb i (o + 1) && test i)
-          which (yes q) = let f : test i ≡ false = rw q at t in rw f (and-false (ltb i o) ∙ sym (and-false (ltb i (o + 1))))
-          which (no n) = sym (front-away i n)
-
--- The word of the place that is next is not stored yet.
-pub front-next : (o : ℕ) (t : Bool) → (ltb o o && t) ≡ false
-front-next o t = ap (λ (b : Bool). b && t) (le-ltb o o (le-refl o))
-
--- Nor is any word before the first place.
-pub front-none : (i : ℕ) (t : Bool) → (ltb i 0 && t) ≡ false
-front-none i t = ap (λ (b : Bool). b && t) (le-ltb i 0 (omega arith))
-
 -- The g words from a place on.
 abbrev pub window : ℕ → ℕ → ℕ → Bool
 window at g k = leb at k && ltb k (at + g)
@@ -97,17 +72,17 @@ window-below at g k l = ap (λ (x : Bool). x && ltb k (at + g)) (lt-leb at k l)
 pub window-above : (at g k : ℕ) → at + g ≤ k → window at g k ≡ false
 window-above at g k l = ap (λ (x : Bool). leb at k && x) (le-ltb k (at + g) l) ∙ and-false (leb at k)
 
-pub window-none : (at k : ℕ) → window at 0 k ≡ false
+window-none : (at k : ℕ) → window at 0 k ≡ false
 window-none at k = go (decLt k at)
   where
     go : Dec (k < at) → window at 0 k ≡ false
     go (yes l) = window-below at 0 k l
     go (no n) = window-above at 0 k (omega arith)
 
-pub window-here : (at g : ℕ) → window at (g + 1) (at + g) ≡ true
+window-here : (at g : ℕ) → window at (g + 1) (at + g) ≡ true
 window-here at g = window-in at (g + 1) (at + g) (omega arith) (omega arith)
 
-pub window-else : (at g k : ℕ) → (at + g ≡ k → ⊥) → window at (g + 1) k ≡ window at g k
+window-else : (at g k : ℕ) → (at + g ≡ k → ⊥) → window at (g + 1) k ≡ window at g k
 window-else at g k n = ap (λ (x : Bool). leb at k && x) (sym (ap (λ (m : ℕ). ltb k m) (regroup at g)) ∙ front-else (at + g) k n)
   where
     regroup : (at g : ℕ) → (at + g) + 1 ≡ at + (g + 1)

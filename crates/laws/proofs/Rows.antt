@@ -1,17 +1,15 @@
 -- Lists of one word, bits of 16-bit words, and tables of rows: one word read or written. Assumes nothing.
 use mathlib.Core.Path.{_≡_, refl, sym, ap, ap₂, _∙_}
-use mathlib.Core.Bool.{cond, _&&_, not}
+use mathlib.Core.Bool.{_&&_, not}
 use mathlib.Core.List.{List, []}
-use Prim.Native.Nat.{ℕ, zero, suc, _/_, _%_, _^_, _<_, _≤_}
-use native.Mathlib.Nat.{mod-lt}
+use Prim.Native.Nat.{ℕ, zero, suc, _^_, _<_, _≤_}
 use native.Mathlib.Omega.{arith}
 use lib.ListN.{getD, set, replicate, length-set}
 use lib.Seq.{getD-set-same, getD-set-other}
-use lib.Dec.{eqb, lit<}
-use lib.Bits.{bitAnd, and-mask}
+use lib.Dec.{eqb}
 use lib.Count.{ones}
 use borrow.Author.Tests.{eqb-true, eqb-false}
-use Rattle.laws.specs.Below.{naturals, only, count}
+use Rattle.laws.specs.Below.{count}
 use Rattle.laws.specs.Masks.{bit, without}
 use Rattle.laws.specs.Tables.{tabulate}
 use Rattle.laws.proofs.Bools.{split}
@@ -38,16 +36,6 @@ module _ (a w : ℕ) (l : a < 16) (h : w < 2 ^ 16) where
 
   pub ones-max : ones (without a w) ≤ 16
   ones-max = omega (arith, count-without, count-le 16 (λ b. bit b w && not (eqb a b)))
-
--- The code's bit as a number, (w >> b) & 1.
-pub bit-word : (b w : ℕ) → bitAnd (w / 2 ^ b) 1 ≡ only naturals (bit b w) 1
-unfolding bit only naturals
-bit-word b w = and-mask (w / 2 ^ b) 1 ∙ low (w / 2 ^ b % 2) (mod-lt (w / 2 ^ b) (lit< tt))
-  where
-    low : (x : ℕ) → x < 2 → x ≡ cond (eqb x 1) 1 0
-    low zero l = refl
-    low (suc zero) l = refl
-    low (suc (suc x)) l = absurd (omega arith)
 
 -- A table of which one word is written anew.
 module _ {A : Type 0} where

@@ -96,10 +96,6 @@ read32-abs z h = read32 z (lt-of-le-of-lt (le-trans (mag-le z) h) (lit< tt))
 pub read-sum : {x y x′ y′ : ℤ} → mag x < 2 ^ 63 → mag y < 2 ^ 63 → x ≡ x′ → y ≡ y′ → toZ w64 (ofZ w64 x) +ℤ toZ w64 (ofZ w64 y) ≡ x′ +ℤ y′
 read-sum {x} {y} hx hy ex ey = ap₂ _+ℤ_ (read64 x hx ∙ ex) (read64 y hy ∙ ey)
 
--- It fits where both are in range.
-pub sum-fits : (x y : ℤ) (b : ℕ) → b ≤ 4_000_000_000_000_000_000 → natAbs x ≤ b → natAbs y ≤ b → mag x < 2 ^ 63 → mag y < 2 ^ 63 → SFits w64 (toZ w64 (ofZ w64 x) +ℤ toZ w64 (ofZ w64 y))
-sum-fits x y b hb hx hy mx my = fits64-as (read-sum {x = x} {y = y} mx my refl refl) (omega (arith, abs-plus x y))
-
 -- A range test as code makes it, x > l and then x >= −l, and the size.
 pub over-by : (l : ℕ) (z : ℤ) → ltZ (pos l) z ≡ true → leb (natAbs z) l ≡ false
 over-by l (pos n) e = lt-leb n l (ltb-true l n e)

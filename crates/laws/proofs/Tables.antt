@@ -139,11 +139,6 @@ module _ {A : Type 0} where
   unfolding cell
   cell-at n m l z b o lb lo = rw (lt-ltb b n lb, lt-ltb o m lo)
 
-  -- A word of a row of the table, and nothing past its columns.
-  pub cell-in-row : (n m : ℕ) (l : List A) (z : A) (b o : ℕ) → b < n → cell n m l z b o ≡ cond (ltb o m) (getD l (b * m + o) z) z
-  unfolding cell
-  cell-in-row n m l z b o lb = rw (lt-ltb b n lb)
-
   -- A table that is written as it reads.
   pub recell-cell : (n m : ℕ) (l : List A) (z : A) → n * m ≤ length l → recell n m (cell n m l z) l ≡ l
   recell-cell n m l z h = recell-same n m (cell n m l z) l z h (cell-at n m l z)

@@ -1,11 +1,11 @@
 -- The tables as inner calls are handed them hold the same job; in range the tallies that count are those that stand. Assumes nothing.
 use mathlib.Core.Path.{_≡_, refl, sym, ap, ap₂, _∙_}
-use mathlib.Core.Bool.{Bool, true, false, cond, _&&_, not}
+use mathlib.Core.Bool.{Bool, true, false, _&&_, not}
 use mathlib.Core.List.{List, [], _∷_, _++_}
 use Prim.Native.Nat.{ℕ, _≤_}
 use native.Mathlib.Omega.{arith}
 use lib.ListN.{getD, length}
-use lib.Dec.{eqb, ltb, leb}
+use lib.Dec.{ltb, leb}
 use lib.IntN.{pos}
 use borrow.Author.Tests.{eq-eqb, ltb-true, ltb-false, le-ltb, le-leb}
 use Rattle.laws.specs.Checks.{firstMet}
@@ -18,9 +18,9 @@ use Rattle.recount.specs.Recount.{loose, stands, countedTwice}
 use Rattle.model.specs.Job.{Job}
 use Rattle.model.specs.Steps.{kindOf, effect}
 use Rattle.model.specs.Words.{over, messagesOf}
-use Rattle.model.specs.Tables.{JobTables, countedOf, nobody, jobOf, jobLengths, jobShort, StateTables, view, store, StateLengths, stateLengths, stateShort, lentShort, totalsShort}
+use Rattle.model.specs.Tables.{JobTables, countedOf, nobody, jobOf, jobLengths, jobShort, StateTables, view, store, stateLengths, lentShort, totalsShort}
 use Rattle.model.specs.Ranges.{upTo, sizesInRange, jobWordsInRange, jobInRange, stateInRange, totalsInRange}
-use Rattle.model.specs.Step.{Asked, stepRules, moved, refusals, stepRefusal, stepTables}
+use Rattle.model.specs.Step.{Asked, stepRules, moved, refusals, stepRefusal}
 use Rattle.model.specs.Run.{run, runState, reported, finished, runRefusals, ran, pickedPlaces}
 use Rattle.model.specs.Handed.{handedTables, Standing, handedInRange, Handed}
 use Rattle.recount.proofs.Recount.{loose-stands}
@@ -112,11 +112,6 @@ module _ (f : JobTables) (boxes : List ℕ) (s : Standing f boxes) where
   pub handed-in : jobInRange f ≡ true → Handed (handedTables f boxes)
   handed-in ok = record { bare = refl; inside = handed-range ok }
 
-  -- The state's tables are looked at as before.
-  pub handed-state-short : (n : StateLengths) → stateShort (handedTables f boxes) n ≡ stateShort f n
-  unfolding stateShort
-  handed-state-short n = refl
-
   pub handed-state-range : (t : StateTables) → stateInRange (handedTables f boxes) t ≡ stateInRange f t
   unfolding stateInRange
   handed-state-range t = refl
@@ -138,10 +133,6 @@ module _ (f : JobTables) (boxes : List ℕ) (s : Standing f boxes) where
       ∙ ap (λ (b : Bool). firstMet (stepRules (jobOf (handedTables f boxes)) (view (jobOf (handedTables f boxes)) t .done) q
       ++ (not (b && totalsInRange (jobOf (handedTables f boxes)) (moved (handedTables f boxes) t q)), 21) ∷ []))
       (sym (handed-state-range (moved (handedTables f boxes) t q))))
-
-  pub handed-tables : (t : StateTables) (q : Asked) → stepTables f t q ≡ cond (eqb (stepRefusal f t q) 0) (moved (handedTables f boxes) t q) t
-  unfolding stepTables
-  handed-tables t q = ap (λ (u : StateTables). cond (eqb (stepRefusal f t q) 0) u t) (sym (handed-moved t q))
 
   -- The run likewise.
   pub handed-run : (t : StateTables) (cs p : List ℕ) → lentShort f t ≡ false → jobInRange f ≡ true → countedTwice (countedOf f) ≡ false →

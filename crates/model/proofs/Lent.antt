@@ -8,7 +8,7 @@ use lib.ListN.{take, take-append-drop}
 use lib.Seq.{getD-take}
 use lib.Dec.{ltb}
 use lib.IntN.{pos}
-use borrow.Author.Tests.{ltb-true, ltb-false, le-ltb}
+use borrow.Author.Tests.{ltb-true, ltb-false}
 use Rattle.laws.specs.Tables.{recell}
 use Rattle.laws.proofs.Bools.{split, or-off}
 use Rattle.laws.proofs.Checks.{none-of}
@@ -96,10 +96,6 @@ unfolding totalsShort
 totals-long j n h =
     let e = or-off (ltb (n .working) (totalsLength j)) (ltb (n .totalTransit) (totalsLength j)) h in
     record { working = le-of _ _ (e .0); totalTransit = le-of _ _ (e .1) }
-
-pub totals-whole : (j : Job) (n : StateLengths) → TotalsLong (totalsLength j) n → totalsShort j n ≡ false
-unfolding totalsShort
-totals-whole j n l = rw (le-ltb (n .working) (totalsLength j) (l .working), le-ltb (n .totalTransit) (totalsLength j) (l .totalTransit))
 
 -- The job's lent tables are short just where the lent lengths are.
 pub lent-job-short : (f : JobTables) (n : JobLengths) → jobShort f (jobLengths f) ≡ false → jobShort f (jobLengths (lentJob f n)) ≡ jobShort f n

@@ -17,7 +17,7 @@ use Rattle.model.specs.LocalLists.{chained, localGrocers, localGrocer}
 use Rattle.model.specs.PackedTotals.{isLocal}
 
 -- A word behind the first list.
-pub getD-right : {A : Type 0} (a b : List A) (i : ℕ) (z : A) → length a ≤ i → getD (a ++ b) i z ≡ getD b (i - length a) z
+getD-right : {A : Type 0} (a b : List A) (i : ℕ) (z : A) → length a ≤ i → getD (a ++ b) i z ≡ getD b (i - length a) z
 getD-right a b i z l = ap (λ (k : ℕ). getD (a ++ b) k z) (omega arith) ∙ getD-append-add a b (i - length a) z
 
 -- x stands in the list.
@@ -143,7 +143,7 @@ module _ (j : Job) (b : ℕ) where
   each-local = each-append ownedOrShared ownOnes otherOnes each-own each-other
 
   -- and stands once.
-  pub once-local : Once (localGrocers j b)
+  once-local : Once (localGrocers j b)
   unfolding localGrocers
   once-local =
       once-append (λ g. eqb (j .grocerOwner g) b) ownOnes otherOnes

@@ -71,7 +71,7 @@ module _ (j : Job) where
   unfolding totalPlace
   spot-place b i li = ap (λ (k : ℕ). totalsStart j b + k) (number-at j b i li .1)
 
-  pub rows-length : (w : ℕ → ℕ → ℤ) (n : ℕ) → length (totalRows j n w) ≡ totalsStart j n
+  rows-length : (w : ℕ → ℕ → ℤ) (n : ℕ) → length (totalRows j n w) ≡ totalsStart j n
   unfolding totalRows totalsStart sum naturals
   rows-length w zero = refl
   rows-length w (suc n) = length-append (totalRows j n w) (map (w n) (localGrocers j n)) ∙ omega (arith, rows-length w n, length-map (localGrocers j n) (w n))
@@ -118,7 +118,7 @@ module _ (j : Job) where
     pack-pack v l = ap (λ (x : List ℤ). totalRows j (j .boxes) w ++ x) (drop-at (totalRows j (j .boxes) v) (drop (totalsStart j (j .boxes)) l) (totalsStart j (j .boxes)) (rows-length v (j .boxes)))
 
     -- A word of the packed table.
-    pub pack-word : (l : List ℤ) (b i : ℕ) → b < j .boxes → i < length (localGrocers j b) → getD (packTotals j w l) (totalsStart j b + i) (pos 0) ≡ w b (getD (localGrocers j b) i 0)
+    pack-word : (l : List ℤ) (b i : ℕ) → b < j .boxes → i < length (localGrocers j b) → getD (packTotals j w l) (totalsStart j b + i) (pos 0) ≡ w b (getD (localGrocers j b) i 0)
     unfolding packTotals
     pack-word l b i lb li =
         List·getD-append (totalRows j (j .boxes) w) (drop (totalsLength j) l) (pos 0) (totalsStart j b + i) (omega (arith, rows-length w (j .boxes), within b (j .boxes) i lb li))
@@ -159,7 +159,7 @@ module _ (j : Job) where
       ∙ sym (pack-over v l)
 
   -- A word of a table, unpacked at its box and grocer.
-  pub unpack-spot : (l : List ℤ) (b i : ℕ) → b < j .boxes → i < length (localGrocers j b) → unpackTotals j l b (getD (localGrocers j b) i 0) ≡ getD l (totalsStart j b + i) (pos 0)
+  unpack-spot : (l : List ℤ) (b i : ℕ) → b < j .boxes → i < length (localGrocers j b) → unpackTotals j l b (getD (localGrocers j b) i 0) ≡ getD l (totalsStart j b + i) (pos 0)
   unfolding unpackTotals
   unpack-spot l b i lb li = rw (spot-has b i lb li, spot-place b i li)
 

@@ -261,9 +261,6 @@ unfolding inSpan
 span-past from to i l = rw (le-ltb i to l) (and-false (leb from i))
 
 module _ (j : Job) (l : List ℤ) (long : totalsLength j ≤ length l) where
-  packed-length : (w : ℕ → ℕ → ℤ) → length (packTotals j w l) ≡ length l
-  packed-length w = ap length (pack-over j w l) ∙ length-overwrite (totalsLength j) (λ i. getD (totalRows j (j .boxes) w) i (pos 0)) l long
-
   -- What is packed, told by the places.
   pub pack-places : (w : ℕ → ℕ → ℤ) (f : ℕ → ℤ) → ((c g : ℕ) → hasTotal j c g ≡ true → w c g ≡ f (totalPlace j c g)) → packTotals j w l ≡ overwrite (totalsLength j) f l
   unfolding totalsLength
@@ -277,7 +274,7 @@ module _ (j : Job) (l : List ℤ) (long : totalsLength j ≤ length l) where
       ∙ h (s .spotBox) (getD (localGrocers j (s .spotBox)) (s .number) 0) (spot-has j (s .spotBox) (s .number) (s .box-in) (s .number-in))
       ∙ ap f (spot-place j (s .spotBox) (s .number) (s .number-in) ∙ sym (s .place)))
 
-  pub pack-span : (w : ℕ → ℕ → ℤ) (from to : ℕ) (f : ℕ → ℤ) → to ≤ totalsLength j →
+  pack-span : (w : ℕ → ℕ → ℤ) (from to : ℕ) (f : ℕ → ℤ) → to ≤ totalsLength j →
       ((c g : ℕ) → hasTotal j c g ≡ true → w c g ≡ cond (inSpan from to (totalPlace j c g)) (f (totalPlace j c g)) (getD l (totalPlace j c g) (pos 0))) →
       packTotals j w l ≡ spanWritten from to f l
   unfolding spanWritten

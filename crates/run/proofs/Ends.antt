@@ -221,7 +221,7 @@ module _ (f : JobTables) (t : StateTables) (g : Begins f t) where
       run-ended p p′ e = λ i. given (finished (words-is i) (messages-is i) (steps-is i)) (tables-are i) ((e ∙ ap (λ (l : List ℕ). layOver l p) places-are) i)
 
 -- A number that is not 0 is a refusal.
-pub refused-said : (n : ℕ) (a : RunAnswer) → (n ≡ 0 → ⊥) → refused n ≡ reported n a
+refused-said : (n : ℕ) (a : RunAnswer) → (n ≡ 0 → ⊥) → refused n ≡ reported n a
 unfolding reported
 refused-said zero a h = absurd (h refl)
 refused-said (suc n) a h = refl

@@ -14,6 +14,9 @@ ghost use Rattle.step_waits.specs.Waits.{tallyLists, waitTable};
 ghost use Rattle.run_order.specs.Order.{MarksFrom, EveryJob, Ordered};
 ghost use Rattle.run.specs.Run.{answerOf, given, lengthsOf, OrderIn};
 use slices::casts::index_of;
+use slices::limits::GROCERS;
+use slices::limits::OFFERS;
+use slices::limits::TALLIES;
 use slices::sizes::Sizes;
 use step_places::PLACES;
 
@@ -52,7 +55,7 @@ fn state_short(
 fn totals_short(
     z: Sizes,
     grocer_owner: &[u16],
-    sharers: &[u16; 255],
+    sharers: &[u16; GROCERS],
     working: usize,
     total_transit: usize,
 ) -> bool
@@ -73,7 +76,7 @@ fn pick_order(
     tally_grocer: &[u16],
     standing: &[u16],
     tally_offer: &[u16],
-    needs: &[u16; 500],
+    needs: &[u16; OFFERS],
     choices: &[u16],
     done: &mut [u16],
     order: &mut [u16; PLACES],
@@ -145,7 +148,7 @@ pub fn run(
     ) {
         return Answer::Refused(20);
     }
-    let mut standing = [0u16; 1000];
+    let mut standing = [0u16; TALLIES];
     let r = job_checks::checks::job_refusal(
         boxes,
         grocers,

@@ -58,7 +58,7 @@ over-snoc [] x = omega arith
 over-snoc (y ∷ ys) x = omega (arith, over-snoc ys x)
 
 -- The count of words sent, as it is written.
-pub store-sent : (j : Job) (s : State) (t : StateTables) → getD (store j s t .sent) 0 0 ≡ s .sent
+store-sent : (j : Job) (s : State) (t : StateTables) → getD (store j s t .sent) 0 0 ≡ s .sent
 unfolding store
 store-sent j s t = getD-overwrite 1 (λ i. s .sent) (t .sent) 0 0 (omega arith)
 
@@ -170,11 +170,11 @@ module _ (f : JobTables) (t : StateTables) (needs sharers order : List ℕ) (n :
   job = jobOf f
 
   -- At the first turn the state is fresh.
-  pub first-sound : Sound job (afterOrder job 0 order)
+  first-sound : Sound job (afterOrder job 0 order)
   unfolding afterOrder stepsIn afterSteps
   first-sound = sound-fresh job
 
-  pub first-out : (t₁ : StateTables) → Holds job (fresh job) t t₁ → AllOut job t t₁ order 0 0 0
+  first-out : (t₁ : StateTables) → Holds job (fresh job) t t₁ → AllOut job t t₁ order 0 0 0
   unfolding afterOrder stepsIn afterSteps fresh over
   first-out t₁ h = record { holds = h; words-are = refl; messages-are = refl }
 
@@ -219,11 +219,11 @@ module _ (f : JobTables) (t : StateTables) (needs sharers order : List ℕ) (n :
     kind< : place / f .boxes / f .boxes < 6
     kind< = div-lt-iff-lt-mul one-box .1 (div-lt-iff-lt-mul one-box .1 place<)
 
-    pub turn-kind : isKind kind ≡ true
+    turn-kind : isKind kind ≡ true
     unfolding isKind
     turn-kind = rw ek (and-true (le-leb 1 (suc (place / f .boxes / f .boxes)) (omega arith)) (le-leb (suc (place / f .boxes / f .boxes)) 6 (omega (arith, kind<))))
 
-    pub turn-between : (1 ≤ kind) × (kind ≤ 6)
+    turn-between : (1 ≤ kind) × (kind ≤ 6)
     turn-between = (omega (arith, ek), omega (arith, ek, kind<))
 
     step-is : stepAt (f .boxes) place ≡ record { kind = kindOf kind; first = a; second = b }
@@ -234,7 +234,7 @@ module _ (f : JobTables) (t : StateTables) (needs sharers order : List ℕ) (n :
     unfolding afterOrder fresh
     s-marks = after-marks job (fresh job) (stepsIn (job .boxes) i order)
 
-    pub turn-permitted : permitted job (s .done) (kindOf kind) a b ≡ true
+    turn-permitted : permitted job (s .done) (kindOf kind) a b ≡ true
     unfolding jobOf
     turn-permitted = rw s-marks (rw step-is at (g .does .in-turn i l))
 
@@ -246,7 +246,7 @@ module _ (f : JobTables) (t : StateTables) (needs sharers order : List ℕ) (n :
         ∙ after-snoc job (fresh job) (stepsIn (f .boxes) i order) (stepAt (f .boxes) place)
         ∙ ap (effectOf job s) step-is)
 
-    pub turn-sound : Sound job (afterOrder job (i + 1) order)
+    turn-sound : Sound job (afterOrder job (i + 1) order)
     turn-sound = rw next-is at (sound-effect job (range f (g .job-in .inside)) s (kindOf kind) a b o (permit job (s .done) (kindOf kind) a b turn-permitted))
 
     module _ (t₁ : StateTables) (words messages : ℕ) (r : AllOut job t t₁ order i words messages) (olinks tlinks places heads grocers : List ℕ) (look : Looked f olinks tlinks places heads grocers) where
@@ -337,7 +337,7 @@ module _ (k m n tallies : ℕ) (price owner gowner tgrocer tbox toffer : List �
 
 -- A state written over tables that another was written over.
 module _ (f : JobTables) (r s : State) (t t₁ t₂ : StateTables) (h : Holds (jobOf f) r t t₁) where
-  pub holds-over : Holds (jobOf f) s t₁ t₂ → Holds (jobOf f) s t t₂
+  holds-over : Holds (jobOf f) s t₁ t₂ → Holds (jobOf f) s t t₂
   unfolding store
   holds-over k =
       let e = store-store (jobOf f) s r t in
@@ -350,7 +350,7 @@ module _ (f : JobTables) (r s : State) (t t₁ t₂ : StateTables) (h : Holds (j
       }
 
 -- A state that tables hold, written over them once more.
-pub holds-own : (f : JobTables) (s : State) (t t₁ : StateTables) → Holds (jobOf f) s t t₁ → Holds (jobOf f) s t₁ t₁
+holds-own : (f : JobTables) (s : State) (t t₁ : StateTables) → Holds (jobOf f) s t t₁ → Holds (jobOf f) s t₁ t₁
 unfolding store
 holds-own f s t t₁ h =
     let e = store-store (jobOf f) s s t in

@@ -56,16 +56,16 @@ permitted-fits j d kind a b k p =
 
 module _ (f : JobTables) (t : StateTables) (o : OnWay f t) where
   -- The tables are whole and in range.
-  pub way-whole : stateShort f (stateLengths t) ≡ false
+  way-whole : stateShort f (stateLengths t) ≡ false
   way-whole = ap (λ (u : StateTables). stateShort f (stateLengths u)) (o .held) ∙ whole-store f (view (jobOf f) t) t
 
-  pub way-range : stateInRange f t ≡ true
+  way-range : stateInRange f t ≡ true
   way-range = ap (stateInRange f) (o .held) ∙ ok-store f (view (jobOf f) t) t (within f (o .job-in .inside) t (view (jobOf f) t) (o .sound))
 
-  pub way-totals : totalsShort (jobOf f) (stateLengths t) ≡ false
+  way-totals : totalsShort (jobOf f) (stateLengths t) ≡ false
   way-totals = ap (λ (u : StateTables). totalsShort (jobOf f) (stateLengths u)) (o .held) ∙ whole-totals (jobOf f) (view (jobOf f) t) t
 
-  pub way-amounts : totalsInRange (jobOf f) t ≡ true
+  way-amounts : totalsInRange (jobOf f) t ≡ true
   way-amounts = ap (totalsInRange (jobOf f)) (o .held) ∙ totals-store (jobOf f) (view (jobOf f) t) t (within f (o .job-in .inside) t (view (jobOf f) t) (o .sound))
 
   -- A permitted step, asked for by its number.

@@ -18,6 +18,8 @@ use book_places::all::HEADS;
 use book_places::all::TOTALS;
 use slices::casts::index_of;
 use slices::index_at;
+use slices::limits::GROCERS;
+use slices::limits::OFFERS;
 use slices::limits::TALLIES;
 use slices::sizes::Sizes;
 use step_links::OFFER_LINKS;
@@ -81,7 +83,7 @@ fn one_step(
     tally_place: &[u16],
     tally_offer: &[u16],
     tally_count: &[i32],
-    needs: &[u16; 500],
+    needs: &[u16; OFFERS],
     offer_links: &[u16; OFFER_LINKS],
     tally_links: &[u16; TALLY_LINKS],
     heads: &[u16],
@@ -131,7 +133,7 @@ fn one_step(
 fn clear_totals(
     z: Sizes,
     grocer_owner: &[u16],
-    sharers: &[u16; 255],
+    sharers: &[u16; GROCERS],
     working: &mut [i64],
     total_transit: &mut [i64],
     statement: &mut [i64],
@@ -159,8 +161,8 @@ pub fn all_steps(
     tally_box: &[u16],
     tally_offer: &[u16],
     tally_count: &[i32],
-    needs: &[u16; 500],
-    sharers: &[u16; 255],
+    needs: &[u16; OFFERS],
+    sharers: &[u16; GROCERS],
     order: &[u16; PLACES],
     n: usize,
     known: &mut [u32],

@@ -75,5 +75,6 @@ module _ (f : JobTables) (t : StateTables) (q : Asked) {needs places : List ℕ}
           outcome accepted (stateTables (t .known) (t .priceTransit) working transit statement done sent) ≡ stepped f t q
       totals-accepted m s =
           ap (λ (u : StateTables). outcome accepted u)
-          (tables-eq _ _ refl refl (o .working-is) (o .transit-is) (o .statement-is) m (s ∙ ap (sentMore (t .sent)) (o .sent-is)) ∙ sym (totals-moved h t needs places from to grocers q facts k) ∙ handed-moved f standing (d .standing-are z) t q)
+          (tables-eq _ _ refl refl (o .working-is) (o .transit-is) (o .statement-is) m (s ∙ ap (sentMore (t .sent)) (o .sent-is)) ∙ sym (totals-moved h t needs places from to grocers q facts k)
+          ∙ handed-moved f standing (d .standing-are z) t q)
           ∙ accepted-by f t q r (d .number-is) z

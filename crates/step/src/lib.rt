@@ -8,6 +8,8 @@ ghost use Rattle.step_apply.specs.Apply.{PriceStepOut};
 ghost use Rattle.step.specs.Answer.{answerOf};
 ghost use Rattle.step.specs.Lent.{PricesLent};
 use book_places::TOTALS;
+use slices::limits::OFFERS;
+use slices::limits::TALLIES;
 use slices::sizes::Sizes;
 use step_apply::total_step;
 use step_links::OFFER_LINKS;
@@ -26,11 +28,11 @@ pub enum Answer {
 fn move_prices(
     z: Sizes,
     offer_owner: &[u16],
-    tally_place: &[u16; 1000],
-    standing: &[u16; 1000],
+    tally_place: &[u16; TALLIES],
+    standing: &[u16; TALLIES],
     tally_offer: &[u16],
     tally_count: &[i32],
-    needs: &[u16; 500],
+    needs: &[u16; OFFERS],
     known: &mut [u32],
     price_transit: &mut [u32],
     working: &mut [i64],
@@ -112,10 +114,10 @@ pub fn step(
         first,
         second,
     };
-    let mut standing = [0u16; 1000];
+    let mut standing = [0u16; TALLIES];
     if kind <= 3 {
-        let mut needs = [0u16; 500];
-        let mut places = [0u16; 1000];
+        let mut needs = [0u16; OFFERS];
+        let mut places = [0u16; TALLIES];
         let met = step_refusal::price_refusal(
             z,
             price,

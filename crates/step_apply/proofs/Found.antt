@@ -98,7 +98,7 @@ module _ (f : JobTables) (bare : f .tallyBag ≡ []) (r : InRange (jobOf f)) (fe
   start-next b = sum-suc b (λ c. length (localGrocers (jobOf f) c))
 
   -- Boxes are within the packed tables.
-  pub box-within : (b : ℕ) → b < f .boxes → totalsStart (jobOf f) (suc b) ≤ totalsLength (jobOf f)
+  box-within : (b : ℕ) → b < f .boxes → totalsStart (jobOf f) (suc b) ≤ totalsLength (jobOf f)
   unfolding totalsLength totalsStart jobOf
   box-within b lb = sum-mono (suc b) (f .boxes) (λ c. length (localGrocers (jobOf f) c)) lb
 
@@ -113,7 +113,7 @@ module _ (f : JobTables) (bare : f .tallyBag ≡ []) (r : InRange (jobOf f)) (fe
       (ef ∙ start, to-is, omega (arith, box-within a la), omega (arith, list-few (f .boxes) (f .grocers) (f .grocerOwner) words a))
 
   -- The places of its tallies are within it.
-  pub held-inside : (a i : ℕ) → a < f .boxes → i < f .tallies → heldBy (jobOf f) i a ≡ true →
+  held-inside : (a i : ℕ) → a < f .boxes → i < f .tallies → heldBy (jobOf f) i a ≡ true →
       (totalsStart (jobOf f) a ≤ tallyPlace (jobOf f) i) × (tallyPlace (jobOf f) i < totalsStart (jobOf f) (suc a))
   unfolding jobOf totalPlace hasTotal
   held-inside a i la li e =

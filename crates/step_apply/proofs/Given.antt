@@ -40,7 +40,7 @@ pub record StateWords (f : JobTables) (t : StateTables) : Type 0 where
   pub done : upTo 1 (6 * f .boxes * f .boxes) (t .done) ≡ true
   pub sent : upTo maxSent 1 (t .sent) ≡ true
 
-pub state-words : (f : JobTables) (t : StateTables) → stateInRange f t ≡ true → StateWords f t
+state-words : (f : JobTables) (t : StateTables) → stateInRange f t ≡ true → StateWords f t
 unfolding stateInRange
 state-words f t h =
     let e = each-of (
@@ -155,7 +155,7 @@ module _ (f : JobTables) (t : StateTables) (needs places : List ℕ) (from to : 
   price-transit-in = record { long = g .state-long .priceTransit; words-in = g .words-in .priceTransit }
 
   -- Each tally's place is one of the working totals, in range.
-  pub working-in : 2 ≤ q .kind → q .kind ≤ 3 → PlacesIn (f .tallies) places (t .working)
+  working-in : 2 ≤ q .kind → q .kind ≤ 3 → PlacesIn (f .tallies) places (t .working)
   unfolding stateLengths
   working-in more few = record {
     long = g .places-are more few .long;
@@ -190,7 +190,7 @@ module _ (f : JobTables) (t : StateTables) (needs places : List ℕ) (from to : 
       cond-either (λ (x : ℕ). x ≤ f .boxes) (eqb (q .kind) 4) (suc (q .second)) (cond (eqb (q .kind) 5) 0 (suc (q .first))) (g .second-in)
       (cond-either (λ (x : ℕ). x ≤ f .boxes) (eqb (q .kind) 5) 0 (suc (q .first)) (omega arith) (g .first-in))
 
-  pub span-in : 4 ≤ q .kind → (from ≤ to) × (to ≤ from + 255) × (to ≤ totalsLength (jobOf f))
+  span-in : 4 ≤ q .kind → (from ≤ to) × (to ≤ from + 255) × (to ≤ totalsLength (jobOf f))
   span-in many =
       let z = g .span-is many in
       let b = span-bounds f (g .in-range) (g .grocers-in) (spanBox (q .kind) (q .first) (q .second)) (spanGroup (q .kind) (q .first) (q .second)) box-in group-in in

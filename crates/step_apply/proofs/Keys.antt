@@ -33,13 +33,6 @@ module _ (f : JobTables) (ok : Handed f) (whole : jobShort f (jobLengths f) ≡ 
       boxes-keyed (f .offers) 500 (f .offerOwner) links (words .offers≤) (omega arith) e (job-long f (jobLengths f) whole .offerOwner)
       (λ i l. omega (arith, words .boxes≤, under-at (f .boxes) (f .offers) (f .offerOwner) i (words .offerOwner) l))
 
-  -- Grocers by owner.
-  pub grocers-keyed : length links ≡ 272 → Keyed (f .grocers) (f .grocerOwner) links
-  unfolding jobLengths
-  grocers-keyed e =
-      boxes-keyed (f .grocers) 255 (f .grocerOwner) links (words .grocers≤) (omega arith) e (job-long f (jobLengths f) whole .grocerOwner)
-      (λ i l. omega (arith, words .boxes≤, under-at (f .boxes) (f .grocers) (f .grocerOwner) i (words .grocerOwner) l))
-
   -- Tallies by box, which is 16 for superseded ones, and the owner of their offer.
   pub tallies-keyed : length links ≡ 1_272 → PairsKeyed (f .tallies) (f .tallyBox) (f .tallyOffer) (f .offerOwner) links
   unfolding jobLengths

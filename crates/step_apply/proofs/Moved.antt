@@ -29,7 +29,7 @@ use Rattle.step_apply.proofs.Sides.{prices-sent-out, own-multiplied-out
 use Rattle.step_prices.proofs.Effect as price-laws
 
 -- The marks with the step's, and all tables as a step leaves them, told from what it leaves on its side.
-abbrev pub marksLeft : JobTables → StateTables → Asked → List ℕ
+abbrev marksLeft : JobTables → StateTables → Asked → List ℕ
 marksLeft f t q = marked (f .boxes) (kindOf (q .kind)) (q .first) (q .second) (t .done)
 
 abbrev pub pricesLeft : JobTables → StateTables → List ℕ → List ℕ → Asked → StateTables

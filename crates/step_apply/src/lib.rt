@@ -6,6 +6,7 @@ ghost use Rattle.step_links.specs.Links.{LinkedPairs, Some};
 ghost use Rattle.step_totals.specs.Row.{tallies};
 ghost use Rattle.step_apply.specs.Apply.{PriceStepIn, PriceStepOut, TotalStepIn, TotalStepOut, spanBox, spanGroup};
 use slices::casts::index_of;
+use slices::limits::OFFERS;
 use slices::sizes::Sizes;
 use step_links::OFFER_LINKS;
 use step_links::TALLY_LINKS;
@@ -18,7 +19,7 @@ pub fn price_step(
     tally_place: &[u16],
     tally_offer: &[u16],
     tally_count: &[i32],
-    needs: &[u16; 500],
+    needs: &[u16; OFFERS],
     offer_links: &[u16; OFFER_LINKS],
     tally_links: &[u16; TALLY_LINKS],
     known: &mut [u32],

@@ -44,7 +44,7 @@ as-asked true false = refl
 as-asked false s = refl
 
 -- Kinds up to 3 are those of prices, the others those of totals.
-pub price-side : (n : ℕ) → n ≤ 3 → kindNumber (kindOf n) ≤ 3
+price-side : (n : ℕ) → n ≤ 3 → kindNumber (kindOf n) ≤ 3
 unfolding kindNumber kindOf
 price-side zero h = omega arith
 price-side (suc zero) h = omega arith
@@ -52,7 +52,7 @@ price-side (suc (suc zero)) h = omega arith
 price-side (suc (suc (suc zero))) h = omega arith
 price-side (suc (suc (suc (suc n)))) h = absurd (omega arith)
 
-pub total-side : (n : ℕ) → 4 ≤ n → 4 ≤ kindNumber (kindOf n)
+total-side : (n : ℕ) → 4 ≤ n → 4 ≤ kindNumber (kindOf n)
 unfolding kindNumber kindOf
 total-side zero h = absurd (omega arith)
 total-side (suc zero) h = absurd (omega arith)
@@ -63,11 +63,11 @@ total-side (suc (suc (suc (suc (suc zero))))) h = omega arith
 total-side (suc (suc (suc (suc (suc (suc n)))))) h = omega arith
 
 -- Boxes that fit are below k.
-pub first-in : (k : ℕ) (q : Kind) (a b : ℕ) → boxesFitBy k q a b ≡ true → a < k
+first-in : (k : ℕ) (q : Kind) (a b : ℕ) → boxesFitBy k q a b ≡ true → a < k
 unfolding boxesFitBy
 first-in k q a b h = ltb-true a k (and-l (ltb a k) _ h)
 
-pub second-in : (k : ℕ) (q : Kind) (a b : ℕ) → boxesFitBy k q a b ≡ true → b < k
+second-in : (k : ℕ) (q : Kind) (a b : ℕ) → boxesFitBy k q a b ≡ true → b < k
 unfolding boxesFitBy
 second-in k q a b h = ltb-true b k (and-l (ltb b k) _ (and-r (ltb a k) _ h))
 

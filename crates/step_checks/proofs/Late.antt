@@ -68,7 +68,7 @@ span-range m n from to f l long hf h =
     ∙ le-leb _ m (cond-either (λ (z : ℤ). natAbs z ≤ m) (inSpan from to i) (f i) (getD l i (pos 0)) (hf i q) (around-at m n l i h q)))
 
 -- All tables of a state are in range.
-abbrev pub bothInRange : JobTables → StateTables → Bool
+abbrev bothInRange : JobTables → StateTables → Bool
 bothInRange f t = stateInRange f t && totalsInRange (jobOf f) t
 
 -- The range of tables in which all lists are in range but the working totals, the statements or the count of words sent.

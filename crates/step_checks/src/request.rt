@@ -7,6 +7,7 @@ ghost use Rattle.model.specs.Steps.{kindOf, oneBox};
 ghost use Rattle.model.specs.Step.{asked, isKind};
 ghost use Rattle.model.specs.Tables.{stepsDone};
 ghost use Rattle.step_checks.specs.Request.{boxesFitBy, rulesBy};
+use slices::limits::BOXES;
 use step_rules::marks::is_done;
 use step_rules::ready::fits;
 use step_rules::ready::is_ready;
@@ -41,8 +42,8 @@ pub fn request_refusal(
     kind: u16,
     a: u16,
     b: u16,
-    receivers: &[u16; 16],
-    waits: &[[u16; 16]; 16],
+    receivers: &[u16; BOXES],
+    waits: &[[u16; BOXES]; BOXES],
     done: &[u16],
 ) -> u16
     requires { ⌜ (k ≤ 16) × (6 * k * k ≤ length (now done)) ⌝ }

@@ -15,15 +15,15 @@ use Rattle.step_links.specs.Links.{SkipsBy, LinkedBy, Skips, Linked}
 
 module _ (n : ℕ) (key : ℕ → ℕ) (v : ℕ) where
   -- From the end on there is none.
-  pub skips-end : SkipsBy n key v n n
+  skips-end : SkipsBy n key v n n
   skips-end = record { from = omega arith; to = omega arith; none = λ x l m e. omega arith; hits = λ l. absurd (omega arith) }
 
   -- A place of the key is the first from itself on.
-  pub skips-here : (i : ℕ) → i < n → key i ≡ v → SkipsBy n key v i i
+  skips-here : (i : ℕ) → i < n → key i ≡ v → SkipsBy n key v i i
   skips-here i l e = record { from = omega arith; to = omega arith; none = λ x m k q. omega arith; hits = λ _. e }
 
   -- A place of another key is passed over.
-  pub skips-back : (i j : ℕ) → (key i ≡ v → ⊥) → SkipsBy n key v (i + 1) j → SkipsBy n key v i j
+  skips-back : (i j : ℕ) → (key i ≡ v → ⊥) → SkipsBy n key v (i + 1) j → SkipsBy n key v i j
   skips-back i j ne s = record { from = omega (arith, s .from); to = s .to; none = λ x l m. go x l m (ℕ-discrete i x); hits = s .hits }
     where
       go : (x : ℕ) → i ≤ x → x < j → Dec (i ≡ x) → key x ≡ v → ⊥
@@ -95,7 +95,7 @@ goes-on n keys links v i = goes-by 17 n (λ x. getD keys x 0) links v i
 
 -- Where a test holds of entries of key v alone, it fails at each entry passed over; so these are not counted, and nothing is stored for them.
 module _ (n : ℕ) (keys : List ℕ) (v i j : ℕ) (s : Skips n keys v i j) (test : ℕ → Bool) (keyed : (x : ℕ) → test x ≡ true → getD keys x 0 ≡ v) where
-  pub test-passed : (x : ℕ) → i ≤ x → x < j → test x ≡ false
+  test-passed : (x : ℕ) → i ≤ x → x < j → test x ≡ false
   test-passed x l m = no-true (test x) (λ t. s .none x l m (keyed x t))
 
   count-up : (d m : ℕ) → m ≡ i + d → m ≤ j → count m test ≡ count i test

@@ -1,4 +1,4 @@
--- Entries linked by key, so that a walk over the entries of one key passes over the others: an offer by its owner, a grocer by its owner,
+-- Entries linked by key, so that a walk over the entries of one key passes over the others: an offer by its owner,
 -- a tally by its box and the owner of its offer.
 use mathlib.Core.Path.{_≡_}
 use mathlib.Core.List.{List}

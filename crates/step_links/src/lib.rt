@@ -4,7 +4,6 @@ ghost use Prim.Native.Nat.{ℕ, _+_, _≤_, _<_};
 ghost use lib.ListN.{length, getD, set, replicate};
 ghost use Rattle.step_links.specs.Links.{pairKey, Keyed, Linked, PairsKeyed, LinkedPairs};
 use slices::limits::BOXES;
-use slices::limits::GROCERS;
 use slices::limits::OFFERS;
 use slices::limits::TALLIES;
 
@@ -16,9 +15,6 @@ pub const PAIR_HEADS: usize = HEADS * BOXES;
 
 // The words of the links of offers: first places, and one link for each of the most offers, 517.
 pub const OFFER_LINKS: usize = HEADS + OFFERS;
-
-// The words of the links of grocers, likewise for the most grocers, 272.
-pub const GROCER_LINKS: usize = HEADS + GROCERS;
 
 // The words of the links of tallies: first places of pairs, and one link for each of the most tallies, 1272.
 pub const TALLY_LINKS: usize = PAIR_HEADS + TALLIES;
@@ -90,16 +86,6 @@ pub fn offer_links(offers: u16, offer_owner: &[u16]) -> [u16; OFFER_LINKS]
 {
     let mut links = [0u16; OFFER_LINKS];
     link(offers as usize, offer_owner, &mut links);
-    links
-}
-
-// The links of grocers by owner, likewise.
-pub fn grocer_links(grocers: u16, grocer_owner: &[u16]) -> [u16; GROCER_LINKS]
-    requires { ⌜ Keyed grocers (now «grocer_owner») (replicate 272 0) ⌝ }
-    ensures { λ r. ⌜ Linked grocers (now («grocer_owner» .entry)) r ⌝ }
-{
-    let mut links = [0u16; GROCER_LINKS];
-    link(grocers as usize, grocer_owner, &mut links);
     links
 }
 

@@ -11,7 +11,7 @@ use Rattle.laws.specs.Tables.{tabulate}
 use Rattle.laws.proofs.Bools.{and-l}
 use Rattle.laws.proofs.Masks.{bit-mask}
 use Rattle.laws.proofs.Tables.{getD-tabulate, word-in}
-use Rattle.model.specs.Job.{needs, shares, needWord, sharerWord, priceWord, totalWord}
+use Rattle.model.specs.Job.{needs, needWord, priceWord}
 use Rattle.model.specs.Tables.{JobTables, jobOf}
 use Rattle.step_places.specs.Message.{inMessage, wordIn}
 
@@ -20,11 +20,6 @@ module _ (f : JobTables) (masks : List ℕ) (a b i : ℕ) (h : b < 16) where
   pub price-word : i < f .offers → f .offers ≤ 500 → masks ≡ tabulate 500 (needWord (jobOf f)) → wordIn (f .offerOwner) masks a b i ≡ priceWord (jobOf f) a b i
   unfolding wordIn inMessage priceWord needWord jobOf
   price-word l n e = rw (e, getD-tabulate 500 (needWord (jobOf f)) i 0 (omega arith), bit-mask 16 b (needs (jobOf f) i) h, word-in (f .offers) (f .offerOwner) 0 i l)
-
-  -- Totals: the owner a of grocer i, and another box b that has a part total of it.
-  pub total-word : i < f .grocers → f .grocers ≤ 255 → masks ≡ tabulate 255 (sharerWord (jobOf f)) → wordIn (f .grocerOwner) masks a b i ≡ totalWord (jobOf f) b a i
-  unfolding wordIn inMessage totalWord sharerWord jobOf
-  total-word l n e = rw (e, getD-tabulate 255 (sharerWord (jobOf f)) i 0 (omega arith), bit-mask 16 b (shares (jobOf f) i) h, word-in (f .grocers) (f .grocerOwner) 0 i l)
 
 -- A word of a message is of its owner.
 pub word-owner : (owners masks : List ℕ) (a b i : ℕ) → wordIn owners masks a b i ≡ true → getD owners i 0 ≡ a

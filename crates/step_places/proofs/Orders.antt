@@ -49,7 +49,7 @@ steps-put k n i order l =
     ∙ ap₂ (λ (xs : List Step) (x : ℕ). xs ++ (stepAt k x ∷ [])) (steps-before k n n i order (omega arith)) (getD-set-same order n i 0 l)
 
 -- The place of the step at a place is this place.
-pub place-back : (k i : ℕ) → 1 ≤ k → i < 6 * k * k → stepPlace k (kindNumber (stepAt k i .kind)) (stepAt k i .first) (stepAt k i .second) ≡ i
+place-back : (k i : ℕ) → 1 ≤ k → i < 6 * k * k → stepPlace k (kindNumber (stepAt k i .kind)) (stepAt k i .first) (stepAt k i .second) ≡ i
 unfolding stepAt
 place-back k i some l =
     ap (λ (q : ℕ). ((q - 1) * k + i / k % k) * k + i % k) (number-place (i / k / k) (div-lt-iff-lt-mul {k = k} some .1 (div-lt-iff-lt-mul {k = k} some .1 l)))

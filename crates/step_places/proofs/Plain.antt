@@ -265,7 +265,7 @@ module _ (j : Job) (r : InRange j) where
       (λ e. walk-past i (walk-to i (omega arith)) e)
 
   -- Without choices the steps of a run are those that the job has, by kind, first box, second box.
-  pub plain-run : run j [] ≡ listOf (j .boxes) (hasStep j)
+  plain-run : run j [] ≡ listOf (j .boxes) (hasStep j)
   unfolding stepsBefore listOf
   plain-run =
       let w = walk-to (places (j .boxes)) (omega arith) in

@@ -2,7 +2,7 @@
 ghost use mathlib.Core.Path.{_≡_};
 ghost use Prim.Native.Nat.{_<_};
 ghost use Rattle.step_places.specs.Message.{inMessage, reaches};
-pub use slices::bits::has_bit;
+use slices::bits::has_bit;
 
 // Whether a word of this owner and mask stands in the message that box a, its owner, exchanges with box b.
 pub fn in_message(owner: u16, mask: u16, a: u16, b: u16) -> bool

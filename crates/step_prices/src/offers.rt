@@ -3,6 +3,7 @@ ghost use mathlib.Core.Path.{_≡_};
 ghost use Prim.Native.Nat.{_+_, _<_};
 ghost use lib.ListN.{length, getD};
 ghost use Rattle.step_places.specs.Message.{wordIn};
+use slices::limits::OFFERS;
 use step_links::HEADS;
 use step_links::OFFER_LINKS;
 
@@ -23,7 +24,7 @@ pub fn after(o: usize, links: &[u16; OFFER_LINKS]) -> usize
 }
 
 // Whether the price of offer o stands in the message from box a, its owner, to box b.
-pub fn due(owner: &[u16], needs: &[u16; 500], a: u16, b: u16, o: usize) -> bool
+pub fn due(owner: &[u16], needs: &[u16; OFFERS], a: u16, b: u16, o: usize) -> bool
     requires { ⌜ (b < 16) × (o < 500) × (o < length (now owner)) ⌝ }
     ensures { λ r. ⌜ r ≡ wordIn (now (owner .entry)) (now (needs .entry)) a b o ⌝ }
 {

@@ -10,6 +10,7 @@ use crate::offers::after;
 use crate::offers::due;
 use crate::offers::first;
 use slices::amounts::row_start;
+use slices::limits::OFFERS;
 use step_links::OFFER_LINKS;
 
 // Takes the price of offer o out of transit, in the row of box a, if a is to have it from box b.
@@ -17,7 +18,7 @@ fn receive_one(
     known: &mut [u32],
     transit: &mut [u32],
     owner: &[u16],
-    needs: &[u16; 500],
+    needs: &[u16; OFFERS],
     row: usize,
     a: u16,
     b: u16,
@@ -43,7 +44,7 @@ pub fn receive_prices(
     a: u16,
     b: u16,
     owner: &[u16],
-    needs: &[u16; 500],
+    needs: &[u16; OFFERS],
     links: &[u16; OFFER_LINKS],
     known: &mut [u32],
     transit: &mut [u32],

@@ -11,6 +11,7 @@ use crate::offers::after;
 use crate::offers::due;
 use crate::offers::first;
 use slices::amounts::row_start;
+use slices::limits::OFFERS;
 use step_links::OFFER_LINKS;
 
 // Sends the price of offer o, from row `from` to row `to`, if box b is to have it from box a: 1 where it is, else 0.
@@ -18,7 +19,7 @@ fn send_one(
     transit: &mut [u32],
     known: &[u32],
     owner: &[u16],
-    needs: &[u16; 500],
+    needs: &[u16; OFFERS],
     from: usize,
     to: usize,
     a: u16,
@@ -43,7 +44,7 @@ pub fn send_prices(
     a: u16,
     b: u16,
     owner: &[u16],
-    needs: &[u16; 500],
+    needs: &[u16; OFFERS],
     links: &[u16; OFFER_LINKS],
     known: &[u32],
     transit: &mut [u32],

@@ -17,7 +17,7 @@ met-first (r ∷ rs) ss h =
     (λ e. rw e (met-first rs ss (λ z. h (rw e z))))
 
 -- Every number of a list is more than 0.
-abbrev pub Numbered : List (Bool × ℕ) → Type 0
+abbrev Numbered : List (Bool × ℕ) → Type 0
 Numbered [] = Unit {0}
 Numbered (r ∷ rs) = (0 < r .1) × Numbered rs
 

@@ -139,7 +139,7 @@ module _ (f : JobTables) (t : StateTables) (z : firstMet (earlyRules f t) ≡ 0)
   unfolding earlyRules firstMet
   off = none (lentShort f t) (jobInRange f && stateInRange f t) (countedTwice (countedOf f)) z
 
-  pub job-ranged : jobInRange f ≡ true
+  job-ranged : jobInRange f ≡ true
   job-ranged = and-l (jobInRange f) (stateInRange f t) (off .1)
 
   pub job-handed : Handed (handedTables f standing)

@@ -24,6 +24,10 @@ use job_checks::checks::job_in_range;
 use job_checks::checks::job_short;
 use job_masks::masks::by_owner;
 use slices::casts::index_of;
+use slices::limits::BOXES;
+use slices::limits::GROCERS;
+use slices::limits::OFFERS;
+use slices::limits::TALLIES;
 use slices::sizes::Sizes;
 use step_apply::span_box;
 use step_apply::span_group;
@@ -36,8 +40,13 @@ use step_packed::total_fits;
 use step_places::Step;
 use step_waits::waits;
 
+<<<<<<< HEAD
 // The first of the conditions 20, 21 and 9 that is met on all else than the packed tables, or 0. Where none is, `standing` has the box of each
 // tally that stands, and 16 for the others.
+=======
+// The first of the conditions 20, 21 and 9 that is met on all else than the packed tables, or 0. Where none is, `standing` has the box of each tally
+// that stands, and 16 for the others.
+>>>>>>> r11clean
 fn early_refusal(
     z: Sizes,
     price: &[u32],
@@ -54,7 +63,7 @@ fn early_refusal(
     statement: &[i64],
     done: &[u16],
     sent: &[u32],
-    standing: &mut [u16; 1000],
+    standing: &mut [u16; TALLIES],
 ) -> u16
     ensures { λ r. ⌜ ((working totals : List ℤ) → Early
         (bagTables (z .boxes) (z .grocers) (z .offers) (z .tallies) (now (price .entry)) (now («offer_owner» .entry)) (now («grocer_owner» .entry))
@@ -148,8 +157,8 @@ fn tables_refusal(
     statement: &[i64],
     done: &[u16],
     sent: &[u32],
-    standing: &mut [u16; 1000],
-    sharers: &mut [u16; 255],
+    standing: &mut [u16; TALLIES],
+    sharers: &mut [u16; GROCERS],
 ) -> u16
     ensures { λ r. ⌜ Tested
         (bagTables (z .boxes) (z .grocers) (z .offers) (z .tallies) (now (price .entry)) (now («offer_owner» .entry)) (now («grocer_owner» .entry))
@@ -186,15 +195,15 @@ fn tables_refusal(
 }
 
 // Kinds 1 to 3: the first of the conditions 22 to 26 that is met, or 0, with the need words.
-fn prices_asked(z: Sizes, offer_owner: &[u16], needs: &[u16; 500], done: &[u16], x: Step) -> u16
+fn prices_asked(z: Sizes, offer_owner: &[u16], needs: &[u16; OFFERS], done: &[u16], x: Step) -> u16
     requires { ⌜ Owned (z .offers) (now «offer_owner») (now needs) ⌝ }
     requires { ⌜ (z .boxes ≤ 16) × (6 * z .boxes * z .boxes ≤ length (now done)) ⌝ }
     ensures { λ r. ⌜ r ≡ firstMet (rulesBy (z .boxes) (byOwner (z .offers) (now («offer_owner» .entry)) (now (needs .entry)))
         (replicate 16 (replicate 16 0)) (stepsDone (z .boxes) (now (done .entry))) (asked (x .kind) (x .first) (x .second))) ⌝ }
 {
     let to = by_owner(z.offers, offer_owner, needs);
-    let row = [0u16; 16];
-    let none = [row; 16];
+    let row = [0u16; BOXES];
+    let none = [row; BOXES];
     request_refusal(z.boxes, x.kind, x.first, x.second, &to, &none, done)
 }
 
@@ -225,7 +234,7 @@ fn totals_asked(
         tally_box,
         tally_offer,
     );
-    let none = [0u16; 16];
+    let none = [0u16; BOXES];
     request_refusal(z.boxes, x.kind, x.first, x.second, &none, &from, done)
 }
 
@@ -243,10 +252,10 @@ fn late(fits: bool) -> u16
 fn own_places(
     z: Sizes,
     grocer_owner: &[u16],
-    sharers: &[u16; 255],
+    sharers: &[u16; GROCERS],
     tally_grocer: &[u16],
-    standing: &[u16; 1000],
-    places: &mut [u16; 1000],
+    standing: &[u16; TALLIES],
+    places: &mut [u16; TALLIES],
     x: Step,
 ) -> Span
     requires { ⌜ BoxIn (z .boxes) (z .grocers) (x .first) (now «grocer_owner») (now sharers) ⌝ }
@@ -290,9 +299,9 @@ pub fn price_refusal(
     statement: &[i64],
     done: &[u16],
     sent: &[u32],
-    needs: &mut [u16; 500],
-    places: &mut [u16; 1000],
-    standing: &mut [u16; 1000],
+    needs: &mut [u16; OFFERS],
+    places: &mut [u16; TALLIES],
+    standing: &mut [u16; TALLIES],
     x: Step,
 ) -> u16
     requires { ⌜ x .kind ≤ 3 ⌝ }
@@ -304,7 +313,7 @@ pub fn price_refusal(
         (now (statement .entry)) (now (done .entry)) (now (sent .entry)))
         (asked (x .kind) (x .first) (x .second)) (now (needs .exit)) (now (places .exit)) 0 0 [] (now (standing .exit)) r ⌝ }
 {
-    let mut sharers = [0u16; 255];
+    let mut sharers = [0u16; GROCERS];
     let tested = tables_refusal(
         z,
         price,
@@ -392,7 +401,7 @@ pub fn total_refusal(
     done: &[u16],
     sent: &[u32],
     grocers: &mut [u16],
-    standing: &mut [u16; 1000],
+    standing: &mut [u16; TALLIES],
     x: Step,
 ) -> Judged
     requires { ⌜ (4 ≤ x .kind) × (1_255 ≤ length (now grocers)) ⌝ }
@@ -404,7 +413,7 @@ pub fn total_refusal(
         (now (statement .entry)) (now (done .entry)) (now (sent .entry)))
         (asked (x .kind) (x .first) (x .second)) [] [] (r .from) (r .to) (now (grocers .exit)) (now (standing .exit)) (r .met) ⌝ }
 {
-    let mut sharers = [0u16; 255];
+    let mut sharers = [0u16; GROCERS];
     let tested = tables_refusal(
         z,
         price,

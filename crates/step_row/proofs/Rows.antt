@@ -42,7 +42,7 @@ module _ (start len : ℕ) (l : List ℤ) where
 
 -- A table to which tallies are added.
 module _ (place : List ℕ) (brought : ℕ → ℤ) (l : List ℤ) where
-  pub length-placed : (t : ℕ) → length (placed t place brought l) ≡ length l
+  length-placed : (t : ℕ) → length (placed t place brought l) ≡ length l
   unfolding placed
   length-placed t = length-tabulate (length l) _
 

@@ -15,7 +15,7 @@ use Rattle.laws.proofs.Tables.{length-tabulate, getD-tabulate, is-tabulate}
 use Rattle.model.specs.Spans.{inSpan, spanWritten}
 use Rattle.step_spans.specs.Credit.{creditSpan, CreditIn}
 
-pub length-span : (from to : ℕ) (f : ℕ → ℤ) (l : List ℤ) → length (spanWritten from to f l) ≡ length l
+length-span : (from to : ℕ) (f : ℕ → ℤ) (l : List ℤ) → length (spanWritten from to f l) ≡ length l
 unfolding spanWritten
 length-span from to f l = length-tabulate (length l) (λ i. cond (inSpan from to i) (f i) (getD l i (pos 0)))
 

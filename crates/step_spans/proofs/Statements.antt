@@ -63,7 +63,7 @@ unfolding view
 read-word j t g l = word-in (j .grocers) (t .statement) (pos 0) g l
 
 -- The statements to which a span is added: those of its grocers are raised, and no other.
-pub credit-is : (m from to : ℕ) (grocers : List ℕ) (source statement : List ℤ) (f : ℕ → ℤ) → m ≤ length statement →
+credit-is : (m from to : ℕ) (grocers : List ℕ) (source statement : List ℤ) (f : ℕ → ℤ) → m ≤ length statement →
     ((i : ℕ) → inSpan from to i ≡ true → getD grocers i 0 < m) →
     ((i k : ℕ) → inSpan from to i ≡ true → inSpan from to k ≡ true → getD grocers i 0 ≡ getD grocers k 0 → i ≡ k) →
     ((i : ℕ) → inSpan from to i ≡ true → f (getD grocers i 0) ≡ getD statement (getD grocers i 0) (pos 0) +ℤ getD source i (pos 0)) →

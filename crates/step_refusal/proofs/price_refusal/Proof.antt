@@ -168,7 +168,8 @@ spanned : (c : tie.After-own-places) → 2 ≤ ask (entry (passed (put c))) .kin
 spanned c two =
     let e = passed (put c) in
     let j = in-hand e .job-in in
-    let b = box-found (handed e) (j .bare) (range (handed e) (j .inside)) (job-in (handed e) (j .inside) .grocers≤) (sharers e) (sharers-are e) _ _ _ (first-in (put c)) (c .own-places .ensures two .from-is) (c .own-places .ensures two .to-is) in
+    let b = box-found (handed e) (j .bare) (range (handed e) (j .inside)) (job-in (handed e) (j .inside) .grocers≤) (sharers e) (sharers-are e) _ _ _ (first-in (put c))
+    (c .own-places .ensures two .from-is) (c .own-places .ensures two .to-is) in
     record { from-is = b .0; to-is = b .1 }
 
 applied : (c : tie.After-own-places) (from to : ℕ) (grocers : List ℕ) → let e = passed (put c) in Applies (handed e) (state (entry e)) (needs-asked (put c .before) .needs .result) (places c) from to grocers (ask (entry e))

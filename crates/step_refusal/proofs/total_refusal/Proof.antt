@@ -139,7 +139,7 @@ few-grocers : (e : tie.Else1) → entry e .args .z .grocers ≤ 255
 few-grocers e = job-in (handed e) (in-hand e .job-in .inside) .grocers≤
 
 -- The box and the group of the span.
-box-is : (c : tie.After-span-group) → c .before .span-box .result ≡ spanBox (ask (entry (passed (c .before .before .before .before))) .kind) (ask (entry (passed (c .before .before .before .before))) .first) (ask (entry (passed (c .before .before .before .before))) .second)
+box-is : (c : tie.After-span-group) → let q = ask (entry (passed (c .before .before .before .before))) in c .before .span-box .result ≡ spanBox (q .kind) (q .first) (q .second)
 box-is c = c .before .span-box .ensures
 
 box-span-requires : tie.Need-box-span-requires
