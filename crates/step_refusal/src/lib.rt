@@ -40,13 +40,8 @@ use step_packed::total_fits;
 use step_places::Step;
 use step_waits::waits;
 
-<<<<<<< HEAD
 // The first of the conditions 20, 21 and 9 that is met on all else than the packed tables, or 0. Where none is, `standing` has the box of each
 // tally that stands, and 16 for the others.
-=======
-// The first of the conditions 20, 21 and 9 that is met on all else than the packed tables, or 0. Where none is, `standing` has the box of each tally
-// that stands, and 16 for the others.
->>>>>>> r11clean
 fn early_refusal(
     z: Sizes,
     price: &[u32],
