@@ -20,7 +20,7 @@ use Rattle.model.specs.Spans.{inSpan}
 use Rattle.book_sort.specs.Sort.{at, keyCount, begin, inFront}
 use Rattle.book_keys.specs.Keys.{classOf, OwnersIn}
 use Rattle.book_places.specs.Spots.{classBy, listBy, totalBy, countBy, startBy, groupBy, putAt}
-use Rattle.book_places.specs.Boxes.{placeAt, BoxesTold, BoxRoom, NumbersIn, AllPlaces}
+use Rattle.book_places.specs.Boxes.{placeAt, HeadsTold, BoxesTold, BoxRoom, HalfPlaces, NumbersIn, AllPlaces}
 use Rattle.book_sort.proofs.Placing.{begin-le}
 use Rattle.book_keys.proofs.Keys.{class-own, class-held, class-none}
 use Rattle.book_places.proofs.Modelled.{length-is, list-once}
@@ -110,12 +110,12 @@ module _ (k m : ℕ) (owners words : List ℕ) (b h g t : ℕ) (room : BoxRoom k
         word i li = ap (λ (s : List ℕ). at s i) el ∙ at-front (listBy k m owners words b) (replicate 255 0) i li
 
     module _ (heads grocers table heads′ grocers′ table′ starts : List ℕ) (start l : ℕ) (es : start ≡ startBy m owners words b) (n : l ≡ length (listBy k m owners words b))
-        (told : BoxesTold k m owners words b heads grocers table) (long : startBy m owners words k ≤ length grocers) where
+        (first : ℕ) (lf : first ≤ b) (told : BoxesTold k m owners words first b heads grocers table) (long : startBy m owners words k ≤ length grocers) where
       pub one-more : starts ≡ overwrite (k + 2) (begin (classBy k b owners words) m) (replicate 18 0) →
           ((d : ℕ) → d < 18 → at heads′ (b * 18 + d) ≡ start + at starts d) → ((i : ℕ) → i < b * 18 → at heads′ i ≡ at heads i) →
           grocers′ ≡ putAt list l start grocers →
-          ((i : ℕ) → i < l → at table′ (b * 255 + at list i) ≡ start + i) → ((x : ℕ) → x < b * 255 → at table′ x ≡ at table x) →
-          BoxesTold k m owners words (b + 1) heads′ grocers′ table′
+          ((i : ℕ) → i < l → at table′ ((b - first) * 255 + at list i) ≡ start + i) → ((x : ℕ) → x < (b - first) * 255 → at table′ x ≡ at table x) →
+          BoxesTold k m owners words first (b + 1) heads′ grocers′ table′
       unfolding groupBy
       one-more ebegin eh kh eg et kt = record {
         heads-are = λ c d lc ld. split (eqb c b)
@@ -124,10 +124,10 @@ module _ (k m : ℕ) (owners words : List ℕ) (b h g t : ℕ) (room : BoxRoom k
         grocers-are = λ c i lc li. split (eqb c b)
             (λ q. grocers-here c i (eqb-true c b q) li)
             (λ q. let ne = eqb-false c b q in grocers-before c i (omega arith) li);
-        table-is = λ c i lc li. split (eqb c b)
+        table-is = λ c i fc lc li. split (eqb c b)
             (λ q. table-here c i (eqb-true c b q) li)
             (λ q. let ne = eqb-false c b q in
-            kt (c * 255 + at (listBy k m owners words c) i) (omega (arith, list-below k m owners words c i li, room .m-in)) ∙ told .table-is c i (omega arith) li);
+            kt ((c - first) * 255 + at (listBy k m owners words c) i) (omega (arith, list-below k m owners words c i li, room .m-in)) ∙ told .table-is c i fc (omega arith) li);
       }
         where
           put : grocers′ ≡ putAt (listBy k m owners words b) (length (listBy k m owners words b)) (startBy m owners words b) grocers
@@ -147,9 +147,9 @@ module _ (k m : ℕ) (owners words : List ℕ) (b h g t : ℕ) (room : BoxRoom k
               (omega (arith, start-before k m owners words c b (room .owners-in) lc)) (omega (arith, room-for))
               ∙ told .grocers-are c i lc li
 
-          table-here : (c i : ℕ) → c ≡ b → i < length (listBy k m owners words c) → at table′ (c * 255 + at (listBy k m owners words c) i) ≡ startBy m owners words c + i
+          table-here : (c i : ℕ) → c ≡ b → i < length (listBy k m owners words c) → at table′ ((c - first) * 255 + at (listBy k m owners words c) i) ≡ startBy m owners words c + i
           table-here c i e li =
-              rw e (ap (λ (x : ℕ). at table′ (b * 255 + x)) (sym (ap (λ (s : List ℕ). at s i) el ∙ at-front (listBy k m owners words b) (replicate 255 0) i (rw e at li)))
+              rw e (ap (λ (x : ℕ). at table′ ((b - first) * 255 + x)) (sym (ap (λ (s : List ℕ). at s i) el ∙ at-front (listBy k m owners words b) (replicate 255 0) i (rw e at li)))
               ∙ et i (rw (sym n) at (rw e at li)) ∙ ap (λ (x : ℕ). x + i) es)
 
 -- ---- What the calls require
@@ -166,25 +166,59 @@ pub start-few : (k m : ℕ) (owners words : List ℕ) (b : ℕ) → m ≤ 255 �
 unfolding startBy countBy
 start-few k m owners words b few lb = omega (arith, sum-max b 255 (countBy m owners words) (λ c l. omega (arith, count-le m (totalBy owners words c))))
 
--- Nothing is told at first.
-pub told-none : (k m : ℕ) (owners words heads grocers table : List ℕ) → BoxesTold k m owners words 0 heads grocers table
-told-none k m owners words heads grocers table = record { heads-are = λ c d l. absurd (omega arith); grocers-are = λ c i l. absurd (omega arith); table-is = λ c i l. absurd (omega arith) }
+-- Nothing is told at first,
+pub told-none : (k m : ℕ) (owners words heads grocers : List ℕ) → HeadsTold k m owners words 0 heads grocers
+told-none k m owners words heads grocers = record { heads-are = λ c d l. absurd (omega arith); grocers-are = λ c i l. absurd (omega arith) }
 
 pub start-none : (m : ℕ) (owners words : List ℕ) → 0 ≡ startBy m owners words 0
 unfolding startBy naturals
 start-none m owners words = sym (sum-start naturals (countBy m owners words))
 
--- All boxes are told, and the places of the tallies put by box and grocer.
-pub all-told : (k m n : ℕ) (owners words boxes items heads grocers table old places : List ℕ) → BoxesTold k m owners words k heads grocers table →
-    places ≡ overwrite n (λ t. placeAt k table (at boxes t) (at items t)) old → AllPlaces k m n owners words boxes items heads grocers places
+-- and by box and grocer nothing before the first box of a half.
+pub told-first : (k m : ℕ) (owners words : List ℕ) (first : ℕ) (heads grocers table : List ℕ) → HeadsTold k m owners words first heads grocers →
+    BoxesTold k m owners words first first heads grocers table
+told-first k m owners words first heads grocers table h = record { heads-are = h .heads-are; grocers-are = h .grocers-are; table-is = λ c i f l. absurd (omega arith) }
+
+pub told-heads : (k m : ℕ) (owners words : List ℕ) (first n : ℕ) (heads grocers table : List ℕ) → BoxesTold k m owners words first n heads grocers table →
+    HeadsTold k m owners words n heads grocers
+told-heads k m owners words first n heads grocers table h = record { heads-are = h .heads-are; grocers-are = h .grocers-are }
+
+-- ---- The places of the tallies
+
+-- What is looked up, by where the box is.
+pub place-before : (first last : ℕ) (table : List ℕ) (b g old : ℕ) → b < first → placeAt first last table b g old ≡ old
 unfolding placeAt
-all-told k m n owners words boxes items heads grocers table old places told e = record {
-  heads-are = told .heads-are;
-  grocers-are = told .grocers-are;
-  places-are = λ t i lt lb li ei. word t lt ∙ ap (λ (u : Bool). cond u (at table (at boxes t * 255 + at items t)) 0) (lt-ltb (at boxes t) k lb)
-      ∙ ap (λ (g : ℕ). at table (at boxes t * 255 + g)) (sym ei) ∙ told .table-is (at boxes t) i lb li;
-  others-none = λ t lt lb. word t lt ∙ ap (λ (u : Bool). cond u (at table (at boxes t * 255 + at items t)) 0) (le-ltb (at boxes t) k lb);
+place-before first last table b g old l = rw (lt-ltb b first l)
+
+pub place-in : (first last : ℕ) (table : List ℕ) (b g old : ℕ) → first ≤ b → b < last → placeAt first last table b g old ≡ at table ((b - first) * 255 + g)
+unfolding placeAt
+place-in first last table b g old f l = rw (le-ltb b first f, lt-ltb b last l)
+
+pub place-behind : (first last : ℕ) (table : List ℕ) (b g old : ℕ) → first ≤ b → last ≤ b → placeAt first last table b g old ≡ 0
+unfolding placeAt
+place-behind first last table b g old f l = rw (le-ltb b first f, le-ltb b last l)
+
+-- Half the boxes are told, and the places of their tallies put by box and grocer.
+pub half-told : (k m first last n : ℕ) (owners words boxes items heads grocers table old places : List ℕ) → first ≤ last → BoxesTold k m owners words first last heads grocers table →
+    places ≡ overwrite n (λ t. placeAt first last table (at boxes t) (at items t) (at old t)) old → HalfPlaces k m first last n owners words boxes items old places
+half-told k m first last n owners words boxes items heads grocers table old places lf told e = record {
+  places-are = λ t i lt lb ll li ei. word t lt ∙ place-in first last table (at boxes t) (at items t) (at old t) lb ll
+      ∙ ap (λ (g : ℕ). at table ((at boxes t - first) * 255 + g)) (sym ei) ∙ told .table-is (at boxes t) i lb ll li;
+  before-kept = λ t lt lb. word t lt ∙ place-before first last table (at boxes t) (at items t) (at old t) lb;
+  behind-none = λ t lt lb. word t lt ∙ place-behind first last table (at boxes t) (at items t) (at old t) (omega arith) lb;
 }
   where
-    word : (t : ℕ) → t < n → at places t ≡ cond (ltb (at boxes t) k) (at table (at boxes t * 255 + at items t)) 0
-    word t lt = ap (λ (s : List ℕ). at s t) e ∙ getD-overwrite n (λ t. placeAt k table (at boxes t) (at items t)) old t 0 lt
+    word : (t : ℕ) → t < n → at places t ≡ placeAt first last table (at boxes t) (at items t) (at old t)
+    word t lt = ap (λ (s : List ℕ). at s t) e ∙ getD-overwrite n (λ t. placeAt first last table (at boxes t) (at items t) (at old t)) old t 0 lt
+
+-- Both halves are all.
+pub all-told : (k m half n : ℕ) (owners words boxes items heads grocers old mid places : List ℕ) → HeadsTold k m owners words k heads grocers →
+    HalfPlaces k m 0 half n owners words boxes items old mid → HalfPlaces k m half k n owners words boxes items mid places → AllPlaces k m n owners words boxes items heads grocers places
+all-told k m half n owners words boxes items heads grocers old mid places told one two = record {
+  heads-are = told .heads-are;
+  grocers-are = told .grocers-are;
+  places-are = λ t i lt lb li ei. split (ltb (at boxes t) half)
+      (λ q. two .before-kept t lt (ltb-true (at boxes t) half q) ∙ one .places-are t i lt (omega arith) (ltb-true (at boxes t) half q) li ei)
+      (λ q. two .places-are t i lt (ltb-false (at boxes t) half q) lb li ei);
+  others-none = λ t lt lb. two .behind-none t lt lb;
+}

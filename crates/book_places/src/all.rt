@@ -1,13 +1,13 @@
 // The places of all boxes at once, for a run: told from the boxes' local lists, each of them made once.
 ghost use mathlib.Core.Path.{_≡_};
 ghost use mathlib.Core.Bool.{cond};
-ghost use Prim.Native.Nat.{ℕ, _+_, _*_, _≤_, _<_};
+ghost use Prim.Native.Nat.{ℕ, _+_, _-_, _*_, _≤_, _<_};
 ghost use lib.Dec.{ltb};
 ghost use lib.ListN.{length};
 ghost use Rattle.laws.specs.Tables.{overwrite};
 ghost use Rattle.book_sort.specs.Sort.{at};
 ghost use Rattle.book_places.specs.Spots.{startBy};
-ghost use Rattle.book_places.specs.Boxes.{placeAt, BoxesTold, BoxRoom, NumbersIn, AllIn, AllPlaces};
+ghost use Rattle.book_places.specs.Boxes.{placeAt, HeadsTold, BoxesTold, BoxRoom, HalfIn, HalfPlaces, NumbersIn, AllIn, AllPlaces};
 use crate::CLASSES;
 use crate::box_list;
 use crate::put_list;
@@ -19,10 +19,10 @@ use slices::limits::GROCERS;
 use slices::limits::TALLIES;
 use slices::u16_at;
 
-// The most words by box and group, by box and grocer, and by place: at most M + T totals.
+// The most words by box and group, by box and grocer of half the boxes, and by place: at most M + T totals.
 pub const HEADS: usize = 288;
 
-const BOX_GROCERS: usize = 4_080;
+const HALF_GROCERS: usize = 2_040;
 
 pub const TOTALS: usize = 1_255;
 
@@ -51,12 +51,13 @@ fn put_numbers(list: &[u16], l: usize, from: usize, start: u16, table: &mut [u16
     }
 }
 
-// One box more: where its groups begin, its grocers by place, and their places by box and grocer. Where the next box begins.
+// One box more: where its groups begin, its grocers by place, and their places by box and grocer, from a first box on. Where the next box begins.
 fn put_box(
     k: u16,
     m: usize,
     owners: &[u16],
     words: &[u16],
+    first: u16,
     b: u16,
     start: u16,
     heads: &mut [u16],
@@ -64,9 +65,10 @@ fn put_box(
     table: &mut [u16],
 ) -> u16
     requires { ⌜ BoxRoom k m (now owners) (now words) (length (now heads)) (length (now grocers)) (length (now table)) ⌝ }
-    requires { ⌜ (b < k) × ((start ≡ startBy m (now owners) (now words) b) × BoxesTold k m (now owners) (now words) b (now heads) (now grocers) (now table)) ⌝ }
+    requires { ⌜ (b < k) × ((start ≡ startBy m (now owners) (now words) b) × (((first ≤ b) × (b < first + 8))
+        × BoxesTold k m (now owners) (now words) first b (now heads) (now grocers) (now table))) ⌝ }
     ensures { λ r. ⌜ (r ≡ startBy m (now (owners .entry)) (now (words .entry)) (b + 1))
-        × BoxesTold k m (now (owners .entry)) (now (words .entry)) (b + 1) (now (heads .exit)) (now (grocers .exit)) (now (table .exit)) ⌝ }
+        × BoxesTold k m (now (owners .entry)) (now (words .entry)) first (b + 1) (now (heads .exit)) (now (grocers .exit)) (now (table .exit)) ⌝ }
 {
     let mut starts = [0u16; CLASSES];
     let mut list = [0u16; GROCERS];
@@ -75,56 +77,105 @@ fn put_box(
     let row = index_of(b);
     put_heads(&starts, row * CLASSES, start, heads);
     put_list(&list, n, index_of(start), grocers);
-    put_numbers(&list, n, row * GROCERS, start, table);
+    let turn = index_of(b - first);
+    put_numbers(&list, n, turn * GROCERS, start, table);
     start + l
 }
 
-// All boxes, one after the other.
+// The boxes from a first up to a last, one after the other. Where the next box begins.
 fn put_boxes(
     k: u16,
     m: usize,
     owners: &[u16],
     words: &[u16],
+    first: u16,
+    last: u16,
+    start: u16,
     heads: &mut [u16],
     grocers: &mut [u16],
     table: &mut [u16],
-)
+) -> u16
     requires { ⌜ BoxRoom k m (now owners) (now words) (length (now heads)) (length (now grocers)) (length (now table)) ⌝ }
-    ensures { λ _. ⌜ BoxesTold k m (now (owners .entry)) (now (words .entry)) k (now (heads .exit)) (now (grocers .exit)) (now (table .exit)) ⌝ }
+    requires { ⌜ HalfIn k first last × ((start ≡ startBy m (now owners) (now words) first)
+        × HeadsTold k m (now owners) (now words) first (now heads) (now grocers)) ⌝ }
+    ensures { λ r. ⌜ (r ≡ startBy m (now (owners .entry)) (now (words .entry)) last)
+        × BoxesTold k m (now (owners .entry)) (now (words .entry)) first last (now (heads .exit)) (now (grocers .exit)) (now (table .exit)) ⌝ }
 {
-    let mut start: u16 = 0;
-    for b in 0..k {
-        start = put_box(k, m, owners, words, b, start, heads, grocers, table);
+    let mut next = start;
+    for b in first..last {
+        next = put_box(k, m, owners, words, first, b, next, heads, grocers, table);
     }
+    next
 }
 
-// The place of a tally of box b and grocer g; 0 where b is no box.
-fn place_at(k: u16, b: u16, g: usize, table: &[u16]) -> u16
-    requires { ⌜ (k ≤ 16) × ((g < 255) × (4_080 ≤ length (now table))) ⌝ }
-    ensures { λ r. ⌜ r ≡ placeAt k (now (table .entry)) b g ⌝ }
+// The place of a tally of box b and grocer g: the old one for a box before the first, and 0 for a box behind the last.
+fn place_at(first: u16, last: u16, b: u16, g: usize, old: u16, table: &[u16]) -> u16
+    requires { ⌜ (last ≤ first + 8) × ((g < 255) × (2_040 ≤ length (now table))) ⌝ }
+    ensures { λ r. ⌜ r ≡ placeAt first last (now (table .entry)) b g old ⌝ }
 {
-    if b >= k {
+    if b < first {
+        return old;
+    }
+    if b >= last {
         return 0;
     }
-    let i = index_of(b) * GROCERS + g;
+    let i = index_of(b - first) * GROCERS + g;
     u16_at(table, i)
 }
 
-// Puts the place of each of n tallies.
-fn look_places(k: u16, n: usize, boxes: &[u16], items: &[u16], table: &[u16], places: &mut [u16])
-    requires { ⌜ (k ≤ 16) × ((n ≤ length (now boxes)) × ((n ≤ length (now items)) × ((4_080 ≤ length (now table)) × (n ≤ length (now places))))) ⌝ }
+// Puts the place of each of n tallies of the boxes from a first up to a last.
+fn look_places(
+    first: u16,
+    last: u16,
+    n: usize,
+    boxes: &[u16],
+    items: &[u16],
+    table: &[u16],
+    places: &mut [u16],
+)
+    requires { ⌜ (last ≤ first + 8) × ((n ≤ length (now boxes)) × ((n ≤ length (now items)) × ((2_040 ≤ length (now table)) × (n ≤ length (now places))))) ⌝ }
     requires { ⌜ ((t : ℕ) → t < n → at (now items) t < 255) ⌝ }
-    ensures { λ _. ⌜ now (places .exit) ≡ overwrite n (λ t. placeAt k (now (table .entry)) (at (now (boxes .entry)) t) (at (now (items .entry)) t))
-        (now (places .entry)) ⌝ }
+    ensures { λ _. ⌜ now (places .exit) ≡ overwrite n (λ t. placeAt first last (now (table .entry)) (at (now (boxes .entry)) t) (at (now (items .entry)) t)
+        (at (now (places .entry)) t)) (now (places .entry)) ⌝ }
 {
     for t in 0..n {
-        let place = place_at(k, u16_at(boxes, t), index_at(items, t), table);
+        let place = place_at(first, last, u16_at(boxes, t), index_at(items, t), places[t], table);
         places[t] = place;
     }
 }
 
+// Half the boxes: where their groups begin, their grocers by place, and the places of their tallies. Where the next box begins.
+fn put_half(
+    k: u16,
+    m: usize,
+    owners: &[u16],
+    words: &[u16],
+    first: u16,
+    last: u16,
+    start: u16,
+    n: usize,
+    boxes: &[u16],
+    items: &[u16],
+    heads: &mut [u16],
+    grocers: &mut [u16],
+    places: &mut [u16],
+) -> u16
+    requires { ⌜ AllIn k m n (now owners) (now words) (now boxes) (now items) (length (now heads)) (length (now grocers)) (length (now places)) ⌝ }
+    requires { ⌜ HalfIn k first last × ((start ≡ startBy m (now owners) (now words) first)
+        × HeadsTold k m (now owners) (now words) first (now heads) (now grocers)) ⌝ }
+    ensures { λ r. ⌜ (r ≡ startBy m (now (owners .entry)) (now (words .entry)) last)
+        × HeadsTold k m (now (owners .entry)) (now (words .entry)) last (now (heads .exit)) (now (grocers .exit)) ⌝ }
+    ensures { λ _. ⌜ HalfPlaces k m first last n (now (owners .entry)) (now (words .entry)) (now (boxes .entry)) (now (items .entry))
+        (now (places .entry)) (now (places .exit)) ⌝ }
+{
+    let mut table = [0u16; HALF_GROCERS];
+    let next = put_boxes(k, m, owners, words, first, last, start, heads, grocers, &mut table);
+    look_places(first, last, n, boxes, items, &table, places);
+    next
+}
+
 // What the steps of a run look up: where each group of each box begins, CLASSES words a box, the grocer of each place, and the place of each
-// tally's total; 0 for a tally of no box. Tallies are walked over once.
+// tally's total; 0 for a tally of no box. Half the boxes at a time, so that a small table by box and grocer is enough.
 pub fn all_boxes(
     k: u16,
     m: usize,
@@ -141,7 +192,7 @@ pub fn all_boxes(
     ensures { λ _. ⌜ AllPlaces k m n (now (owners .entry)) (now (words .entry)) (now (boxes .entry)) (now (items .entry)) (now (heads .exit))
         (now (grocers .exit)) (now (places .exit)) ⌝ }
 {
-    let mut table = [0u16; BOX_GROCERS];
-    put_boxes(k, m, owners, words, heads, grocers, &mut table);
-    look_places(k, n, boxes, items, &table, places);
+    let half = k / 2;
+    let next = put_half(k, m, owners, words, 0, half, 0, n, boxes, items, heads, grocers, places);
+    put_half(k, m, owners, words, half, k, next, n, boxes, items, heads, grocers, places);
 }

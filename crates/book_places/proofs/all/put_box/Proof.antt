@@ -1,6 +1,6 @@
 -- `book_places::all::put_box` meets its contract. Assumes nothing.
 use mathlib.Core.Path.{_≡_, sym, ap, ap₂, _∙_}
-use Prim.Native.Nat.{ℕ, _+_, _*_, _≤_}
+use Prim.Native.Nat.{ℕ, _+_, _-_, _*_, _≤_}
 use native.Mathlib.Omega.{arith}
 use lib.ListN.{length}
 use borrow.Author.Needs.{needs}
@@ -29,8 +29,11 @@ placed c = c .before .before .before .before
 abbrev gone : tie.After-put-list → tie.After-index-of3
 gone c = c .before .before
 
+abbrev turned : tie.After-put-numbers → tie.After-index-of4
+turned c = c .before .before .before
+
 abbrev numbered : tie.After-put-numbers → tie.After-put-list
-numbered c = c .before .before .before .before .before
+numbered c = turned c .before .before .before
 
 -- The list's length, the box, and the start, as numbers.
 long-is : (c : tie.After-index-of2) → let s = entry (listed c) in c .before .index-of .result ≡ length (listBy (s .args .k) (s .args .m) (now (s .args .owners)) (now (s .args .words)) (s .args .b))
@@ -70,11 +73,12 @@ put-list-requires c κs =
 
 put-numbers-requires : tie.Need-put-numbers-requires
 put-numbers-requires c κs =
-    let h = headed (placed (gone (c .before .before .before .before))) in
+    let f = c .before .before in
+    let h = headed (placed (gone (f .before .before .before))) in
     let t = listed h in
     let s = entry t in (
       told-numbers (s .args .k) (s .args .m) (now (s .args .owners)) (now (s .args .words)) (s .args .b) _ _ _ (s .pre .0) (s .pre .1 .0) _ (t .box-list .ensures .1 .1) _ (long-is h) (omega (arith, t .box-list .kept .1 .1 .1 .1 .1 .1 .0)),
-      (omega (arith, h .index-of2 .ensures .0, s .pre .1 .0, s .pre .0 .table-long, s .pre .0 .owners-in .k-in), (omega (arith, h .index-of2 .ensures .0, s .pre .1 .0, s .pre .0 .owners-in .k-in), omega (arith, small t))),
+      (omega (arith, f .index-of4 .ensures .0, s .pre .1 .1 .1 .0, s .pre .0 .table-long), (omega (arith, f .index-of4 .ensures .0, s .pre .1 .1 .1 .0), omega (arith, small t))),
     )
 
 -- The calls that put, from the end.
@@ -85,7 +89,7 @@ told : (c : tie.After-put-numbers) →
     let g = numbered c in
     let p = placed (gone g) in
     let s = entry (listed (headed p)) in
-    BoxesTold (s .args .k) (s .args .m) (now (s .args .owners)) (now (s .args .words)) (s .args .b + 1) (p .put-heads .last .1 .1 .1 .0) (g .put-list .last .1 .1 .1 .0) (c .put-numbers .last .1 .1 .1 .1 .0)
+    BoxesTold (s .args .k) (s .args .m) (now (s .args .owners)) (now (s .args .words)) (s .args .first) (s .args .b + 1) (p .put-heads .last .1 .1 .1 .0) (g .put-list .last .1 .1 .1 .0) (c .put-numbers .last .1 .1 .1 .1 .0)
 told c =
     let g = numbered c in
     let i = gone g in
@@ -94,13 +98,14 @@ told c =
     let t = listed h in
     let s = entry t in
     let row : h .index-of2 .result ≡ s .args .b = h .index-of2 .ensures .0 in
+    let turn : turned c .index-of4 .result ≡ s .args .b - s .args .first = turned c .index-of4 .ensures .0 in
     one-more (s .args .k) (s .args .m) (now (s .args .owners)) (now (s .args .words)) (s .args .b) _ _ _ (s .pre .0) (s .pre .1 .0) _ (t .box-list .ensures .1 .1) _ _ _ _ _ _ _ (s .args .start) _ (s .pre .1 .1 .0) (long-is h)
-    (s .pre .1 .1 .1) (s .pre .0 .grocers-long) (t .box-list .ensures .1 .0)
+    (s .args .first) (s .pre .1 .1 .1 .0 .0) (s .pre .1 .1 .1 .1) (s .pre .0 .grocers-long) (t .box-list .ensures .1 .0)
     (λ d l. ap (λ (x : ℕ). at (p .put-heads .last .1 .1 .1 .0) (x * 18 + d)) (sym (h .index-of2 .ensures .0)) ∙ p .put-heads .ensures .0 d l)
     (λ x l. p .put-heads .ensures .1 x (omega (arith, row)))
     (g .put-list .ensures ∙ ap (λ (x : ℕ). putAt (t .box-list .last .1 .1 .1 .1 .1 .1 .0) (h .before .index-of .result) x (now (s .args .grocers))) (i .index-of3 .ensures .0))
-    (λ x l. ap (λ (y : ℕ). at (c .put-numbers .last .1 .1 .1 .1 .0) (y * 255 + at (t .box-list .last .1 .1 .1 .1 .1 .1 .0) x)) (sym (h .index-of2 .ensures .0)) ∙ c .put-numbers .ensures .0 x l)
-    (λ x l. c .put-numbers .ensures .1 x (omega (arith, row)))
+    (λ x l. ap (λ (y : ℕ). at (c .put-numbers .last .1 .1 .1 .1 .0) (y * 255 + at (t .box-list .last .1 .1 .1 .1 .1 .1 .0) x)) (sym turn) ∙ c .put-numbers .ensures .0 x l)
+    (λ x l. c .put-numbers .ensures .1 x (omega (arith, turn)))
 
 returns : tie.Need-returns
 returns c =
@@ -125,8 +130,10 @@ put-box-spec =
     (λ c. search needs)
     (λ c κs. search needs)
     put-list-requires
+    (λ c. let s = entry (listed (headed (placed (gone (c .before .before))))) in omega (arith, s .pre .1 .1 .1 .0 .0))
+    (λ c κs. search needs)
     (λ c. search needs)
-    (λ c. omega (arith, headed (placed (gone (c .before .before .before))) .index-of2 .ensures .1))
+    (λ c. omega (arith, c .before .index-of4 .ensures .1))
     put-numbers-requires
     (λ c. let t = listed (headed (placed (gone (numbered (last c))))) in omega (arith, t .box-list .ensures .0, few t, small t))
     (λ c. placed (gone (numbered (last c))) .put-heads .kept .1 .1 .1 .0)
