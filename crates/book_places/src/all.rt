@@ -1,8 +1,6 @@
 // The places of all boxes at once, for a run: told from the boxes' local lists, each of them made once.
 ghost use mathlib.Core.Path.{_≡_};
-ghost use mathlib.Core.Bool.{cond};
 ghost use Prim.Native.Nat.{ℕ, _+_, _*_, _≤_, _<_};
-ghost use lib.Dec.{ltb};
 ghost use lib.ListN.{length};
 ghost use Rattle.laws.specs.Tables.{overwrite};
 ghost use Rattle.book_sort.specs.Sort.{at};
@@ -14,9 +12,7 @@ use crate::put_list;
 use slices::casts::index_of;
 use slices::casts::word_of;
 use slices::index_at;
-use slices::limits::BOXES;
 use slices::limits::GROCERS;
-use slices::limits::TALLIES;
 use slices::u16_at;
 
 // The most words by box and group, by box and grocer, and by place: at most M + T totals.
