@@ -1,8 +1,6 @@
 // The places of all boxes at once, for a run: told from the boxes' local lists, each of them made once.
 ghost use mathlib.Core.Path.{_≡_};
-ghost use mathlib.Core.Bool.{cond};
-ghost use Prim.Native.Nat.{ℕ, _+_, _-_, _*_, _≤_, _<_};
-ghost use lib.Dec.{ltb};
+ghost use Prim.Native.Nat.{ℕ, _+_, _*_, _≤_, _<_};
 ghost use lib.ListN.{length};
 ghost use Rattle.laws.specs.Tables.{overwrite};
 ghost use Rattle.book_sort.specs.Sort.{at};
@@ -16,15 +14,13 @@ use slices::casts::word_of;
 use slices::index_at;
 use slices::limits::BOXES;
 use slices::limits::GROCERS;
-use slices::limits::TALLIES;
 use slices::u16_at;
 
-// The most words by box and group, by box and grocer of half the boxes, and by place: at most M + T totals.
-pub const HEADS: usize = 288;
+// Where each group of each box begins, CLASSES words a box.
+pub const GROUP_STARTS: usize = BOXES * CLASSES;
 
-const HALF_GROCERS: usize = 2_040;
-
-pub const TOTALS: usize = 1_255;
+// The places of the totals of half the boxes, by box and grocer.
+const HALF_PLACES: usize = BOXES / 2 * GROCERS;
 
 // Puts where the groups of a box begin, from a word on: so far behind the start of the box.
 fn put_heads(starts: &[u16], from: usize, start: u16, heads: &mut [u16])
@@ -139,7 +135,14 @@ fn look_places(
         (at (now (places .entry)) t)) (now (places .entry)) ⌝ }
 {
     for t in 0..n {
-        let place = place_at(first, last, u16_at(boxes, t), index_at(items, t), places[t], table);
+        let place = place_at(
+            first,
+            last,
+            u16_at(boxes, t),
+            index_at(items, t),
+            places[t],
+            table,
+        );
         places[t] = place;
     }
 }
@@ -168,8 +171,19 @@ fn put_half(
     ensures { λ _. ⌜ HalfPlaces k m first last n (now (owners .entry)) (now (words .entry)) (now (boxes .entry)) (now (items .entry))
         (now (places .entry)) (now (places .exit)) ⌝ }
 {
-    let mut table = [0u16; HALF_GROCERS];
-    let next = put_boxes(k, m, owners, words, first, last, start, heads, grocers, &mut table);
+    let mut table = [0u16; HALF_PLACES];
+    let next = put_boxes(
+        k,
+        m,
+        owners,
+        words,
+        first,
+        last,
+        start,
+        heads,
+        grocers,
+        &mut table,
+    );
     look_places(first, last, n, boxes, items, &table, places);
     next
 }
@@ -193,6 +207,34 @@ pub fn all_boxes(
         (now (grocers .exit)) (now (places .exit)) ⌝ }
 {
     let half = k / 2;
-    let next = put_half(k, m, owners, words, 0, half, 0, n, boxes, items, heads, grocers, places);
-    put_half(k, m, owners, words, half, k, next, n, boxes, items, heads, grocers, places);
+    let next = put_half(
+        k,
+        m,
+        owners,
+        words,
+        0,
+        half,
+        0,
+        n,
+        boxes,
+        items,
+        heads,
+        grocers,
+        places,
+    );
+    put_half(
+        k,
+        m,
+        owners,
+        words,
+        half,
+        k,
+        next,
+        n,
+        boxes,
+        items,
+        heads,
+        grocers,
+        places,
+    );
 }

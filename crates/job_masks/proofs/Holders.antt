@@ -17,8 +17,8 @@ use Rattle.laws.proofs.Masks.{mask-cong, mask-none, mask-or}
 use Rattle.laws.proofs.Tables.{word-in, tabulate-cong}
 use Rattle.model.specs.Job.{heldBy, needs, shares, needWord, sharerWord}
 use Rattle.model.specs.Tables.{JobTables, jobOf}
-use Rattle.model.proofs.Handed.{bare-stands}
 use Rattle.job_masks.specs.Masks.{marked, holds, holderWord}
+use Rattle.model.proofs.Handed.{bare-stands}
 
 -- The box of a tally is b, and b is below k.
 pub held-in : (k b i : ℕ) → ltb b k ≡ true → (eqb b i && ltb i k) ≡ eqb b i

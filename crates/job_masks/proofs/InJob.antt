@@ -1,15 +1,14 @@
 -- What a job in range gives the functions that make words of its tables. Assumes nothing.
 use mathlib.Core.Path.{_≡_}
 use mathlib.Core.List.{List}
-use Prim.Native.Nat.{ℕ, _<_, _≤_}
+use Prim.Native.Nat.{ℕ, _≤_}
 use native.Mathlib.Omega.{arith}
-use lib.ListN.{getD}
 use Rattle.laws.specs.Tables.{tabulate}
 use Rattle.laws.proofs.Tables.{length-tabulate, word-in}
 use Rattle.model.specs.Tables.{JobTables, jobOf}
 use Rattle.model.specs.Handed.{Handed}
-use Rattle.model.proofs.Step.{range, limits}
 use Rattle.job_masks.specs.Masks.{Placed, Owned}
+use Rattle.model.proofs.Step.{range, limits}
 use Rattle.model.proofs.Whole.{JobWhole}
 
 -- Tables that are whole and in range are what the functions ask for.

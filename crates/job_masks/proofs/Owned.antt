@@ -20,9 +20,9 @@ use Rattle.laws.proofs.Rows.{set-tabulate}
 use Rattle.model.specs.Job.{needs, shares, needWord, sharerWord, priceWord, totalWord, pricesDue, totalsDue}
 use Rattle.model.specs.Tables.{JobTables, jobOf}
 use Rattle.model.specs.Handed.{Handed}
-use Rattle.model.proofs.Step.{range, limits}
 use Rattle.step_places.specs.Message.{reaches}
 use Rattle.job_masks.specs.Masks.{ownsFor, byOwner}
+use Rattle.model.proofs.Step.{range, limits}
 
 -- No place yet.
 pub owner-none : (owners masks : List ℕ) → replicate 16 0 ≡ byOwner 0 owners masks

@@ -18,8 +18,8 @@ use Rattle.model.specs.Tables.{jobTables, jobOf, StateTables, stateTables, stor
 use Rattle.model.specs.Step.{freshTables}
 use Rattle.model.specs.Job.{Job}
 use Rattle.model.specs.PackedTotals.{totalsLength, packTotals}
-use Rattle.model.proofs.Spans.{pack-places}
 use Rattle.run_fresh.specs.Fresh.{ownPrices}
+use Rattle.model.proofs.Spans.{pack-places}
 
 -- Own prices, one offer a turn: row b, column o of the table of known prices.
 module _ (k n : ℕ) (price owner known₀ known : List ℕ) (o : ℕ) (lo : o < n) (own : getD owner o 0 < k) (long : k * n ≤ length known)

@@ -14,8 +14,8 @@ ghost use Rattle.book_places.specs.Spots.{CountIn, startBy};
 ghost use Rattle.run_fresh.specs.Fresh.{FreshTotals};
 ghost use Rattle.run_steps.specs.All.{withoutMarks, headOf, StepIn, StepOut, AllIn, AllOut};
 use book_places::CLASSES;
-use book_places::all::HEADS;
-use book_places::all::TOTALS;
+use book_places::TOTALS;
+use book_places::all::GROUP_STARTS;
 use slices::casts::index_of;
 use slices::index_at;
 use slices::limits::GROCERS;
@@ -182,7 +182,7 @@ pub fn all_steps(
 {
     run_fresh::fresh_prices(z.boxes, z.offers, price, offer_owner, known, price_transit);
     clear_totals(z, grocer_owner, sharers, working, total_transit, statement);
-    let mut heads = [0u16; HEADS];
+    let mut heads = [0u16; GROUP_STARTS];
     let mut grocers = [0u16; TOTALS];
     let mut places = [0u16; TALLIES];
     let m = index_of(z.grocers);

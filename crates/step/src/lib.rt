@@ -1,6 +1,5 @@
 // The step: one request on the lent tables.
 ghost use mathlib.Core.Path.{_≡_};
-ghost use Prim.Native.Nat.{_≤_};
 ghost use Rattle.model.specs.Lent.{bagLent, stateBefore, stateAfter};
 ghost use Rattle.model.specs.Step.{asked, outcome, stepped};
 ghost use Rattle.step_totals.specs.Row.{tallies};

@@ -3,9 +3,9 @@ use mathlib.Core.Path.{_≡_, refl, sym, ap, _∙_, subst}
 use mathlib.Core.Bool.{Bool, true, false, cond, _&&_, _||_, not}
 use mathlib.Core.List.{List, [], _∷_}
 use Prim.Native.Nat.{ℕ, _<_}
+use native.Mathlib.Omega.{arith}
 use lib.Dec.{ltb}
 use lib.ListN.{length, getD}
-use native.Mathlib.Omega.{arith}
 use Rattle.laws.specs.Checks.{firstMet}
 use Rattle.laws.specs.Limits.{maxAmount}
 use Rattle.laws.specs.Tables.{tabulate}
@@ -18,15 +18,15 @@ use Rattle.model.specs.Tables.{JobTables, countedOf, jobOf, jobLengths, jobShor
 use Rattle.model.specs.Ranges.{around, jobInRange, stateInRange, totalsInRange}
 use Rattle.model.specs.Step.{Asked, refusals, stepRefusal}
 use Rattle.model.specs.Handed.{handedTables, Standing, Handed}
-use Rattle.model.proofs.Handed.{handed-job, handed-whole, handed-in, handed-refusal}
-use Rattle.model.proofs.Step.{JobIn, job-in, under-at}
-use Rattle.model.proofs.Whole.{JobWhole}
 use Rattle.book_keys.specs.Keys.{TalliesIn}
 use Rattle.book_places.specs.Spots.{CountIn, BoxIn}
 use Rattle.job_checks.specs.Sizes.{sizes}
 use Rattle.step_refusal.specs.Late.{earlyRules, packedRules, tableRules, laterRules, Held}
+use Rattle.model.proofs.Handed.{handed-job, handed-whole, handed-in, handed-refusal}
+use Rattle.model.proofs.Step.{JobIn, job-in, under-at}
+use Rattle.model.proofs.Whole.{JobWhole}
 use Rattle.job_checks.proofs.Sizes.{short-sizes, range-sizes}
-use Rattle.step_refusal.proofs.Extra.{met-first, Numbered, none-first}
+use Rattle.step_refusal.proofs.Extra.{met-first, none-first}
 
 -- What the tests of lengths say: job, bags and state.
 module _ (f : JobTables) (t : StateTables) (x b y : Bool) (ex : x ≡ jobShort f (jobLengths f)) (eb : b ≡ bagsShort f (jobLengths f))

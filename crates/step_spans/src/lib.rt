@@ -1,12 +1,11 @@
 // Steps 4, 5 and 6 on packed tables of totals: each touches one span of words.
 ghost use mathlib.Core.Path.{_≡_};
-ghost use Prim.Native.Nat.{_+_, _-_, _≤_, _<_};
+ghost use Prim.Native.Nat.{_-_, _≤_, _<_};
 ghost use lib.ListN.{length, getD, set};
 ghost use lib.IntN.{pos, natAbs, _+ℤ_};
 ghost use Rattle.model.specs.Spans.{spanWritten};
 ghost use Rattle.step_spans.specs.Credit.{creditSpan, CreditIn};
 use slices::amounts::raise_at;
-use slices::i64_at;
 use slices::index_at;
 
 // Step 4: the totals of a message go from the working totals to those in transit, and become 0.

@@ -1,14 +1,14 @@
 -- `book_places::put_list` meets its contract. Assumes nothing.
 use mathlib.Core.Path.{_≡_, refl, ap, _∙_}
-use Prim.Native.Nat.{ℕ, _<_, _≤_, _-_, _+_}
+use Prim.Native.Nat.{ℕ, _≤_, _-_, _+_}
 use native.Mathlib.Omega.{arith}
 use native.Mathlib.Nat.{le-antisymm}
 use lib.ListN.{length, length-set}
 use borrow.Author.Needs.{needs}
-use denote.Ref.{now}
 use Rattle.laws.proofs.Tables.{is-tabulate}
 use Rattle.book_sort.specs.Sort.{at}
 use Rattle.book_places.specs.Spots.{putAt}
+use denote.Ref.{now}
 use Rattle.book_places.proofs.Putting.{putTo, put-none, put-next}
 use Rattle.book_places.proofs.put_list.Statement.{statement}
 use Rattle.book_places.proofs.put_list.Tie as tie

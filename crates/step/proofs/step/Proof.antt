@@ -1,5 +1,5 @@
 -- `step::step` meets its contract: refused under a number, or applied on one of the two sides. Assumes nothing.
-use mathlib.Core.Path.{refl, sym, ap, _∙_}
+use mathlib.Core.Path.{refl, sym}
 use Prim.Native.Nat.{_≤_}
 use native.Mathlib.Omega.{arith}
 use Rattle.model.specs.Tables.{JobTables, bagTables, StateTables, stateTables}

@@ -1,8 +1,8 @@
 -- `step_apply::span_group` meets its contract. Assumes nothing.
 use mathlib.Core.Path.{_∙_, ap}
+use Prim.Native.Nat.{ℕ, _+_}
 use native.Mathlib.Omega.{arith}
 use native.Mathlib.Numerals.{add-one}
-use Prim.Native.Nat.{ℕ, _+_}
 use borrow.Author.Tests.{eq-eqb, ne-eqb}
 use Rattle.step_apply.specs.Apply.{spanGroup}
 use Rattle.step_apply.proofs.span_group.Statement.{statement}

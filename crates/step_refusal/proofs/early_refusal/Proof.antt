@@ -3,8 +3,8 @@ use mathlib.Core.Path.{_≡_, _∙_}
 use mathlib.Core.Bool.{true, false}
 use mathlib.Core.List.{List, []}
 use Prim.Native.Nat.{_≤_}
-use lib.IntN.{ℤ}
 use native.Mathlib.Omega.{arith}
+use lib.IntN.{ℤ}
 use Rattle.model.specs.Tables.{JobTables, bagTables, StateTables, stateTables, countedOf, jobLengths, jobShort, bagsShort}
 use Rattle.model.specs.Ranges.{jobInRange}
 use Rattle.recount.specs.Recount.{countedTwice}

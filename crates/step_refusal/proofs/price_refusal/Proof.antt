@@ -1,29 +1,27 @@
 -- `step_refusal::price_refusal` meets its contract: its number is that of the first condition met. Assumes nothing.
-use mathlib.Core.Path.{_≡_, refl, sym, ap, _∙_}
-use mathlib.Core.Bool.{Bool, _&&_, cond, not}
+use mathlib.Core.Path.{_≡_, refl, sym, _∙_}
+use mathlib.Core.Bool.{_&&_}
 use mathlib.Core.List.{List, []}
 use Prim.Native.Nat.{ℕ, _<_, _≤_}
 use native.Mathlib.Omega.{arith}
-use borrow.Author.Needs.{needs}
 use Rattle.laws.specs.Checks.{firstMet}
 use Rattle.laws.specs.Tables.{tabulate}
-use Rattle.laws.proofs.Bools.{split}
 use Rattle.model.specs.Job.{needWord, sharerWord}
-use Rattle.model.specs.Tables.{JobTables, bagTables, jobOf, StateTables, stateTables, stepsDone}
+use Rattle.model.specs.Tables.{JobTables, bagTables, jobOf, StateTables, stateTables}
 use Rattle.model.specs.Ranges.{stateInRange, totalsInRange}
 use Rattle.model.specs.Step.{Asked, asked, moved, stepRefusal}
 use Rattle.model.specs.Handed.{handedTables, Standing}
+use Rattle.step_apply.specs.Apply.{Spots, Applies}
+use Rattle.step_refusal.specs.Late.{tableRules, laterRules, Held}
+use Rattle.step_rules.specs.Rules.{ReceiversOf, WaitsOf}
+use Rattle.job_masks.specs.Masks.{byOwner}
+use Rattle.step_checks.specs.Fits.{BoxSpan}
 use Rattle.model.proofs.Step.{job-in, range}
 use Rattle.model.proofs.Whole.{JobWhole}
-use Rattle.step_apply.specs.Apply.{Spots, SpanOf, Applies}
-use Rattle.step_refusal.specs.Late.{tableRules, laterRules, Held}
 use denote.Ref.{now}
-use Rattle.step_rules.specs.Rules.{ReceiversOf, WaitsOf}
 use Rattle.step_waits.proofs.Told.{receivers-of}
-use Rattle.job_masks.specs.Masks.{byOwner}
 use Rattle.job_masks.proofs.Holders.{need-words}
 use Rattle.job_masks.proofs.InJob.{placed-offers, owned-offers}
-use Rattle.step_checks.specs.Fits.{BoxSpan}
 use Rattle.step_checks.proofs.Finished.{price-fits-in, late-prices}
 use Rattle.step_apply.proofs.Found.{spots-found, box-found}
 use Rattle.step_refusal.proofs.Refused.{answer-tested, held, answer-later, box-in, tallies-placed}

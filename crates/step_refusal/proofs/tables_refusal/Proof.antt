@@ -10,13 +10,13 @@ use Rattle.model.specs.Job.{sharerWord}
 use Rattle.model.specs.PackedTotals.{totalsLength}
 use Rattle.model.specs.Tables.{JobTables, bagTables, jobOf, StateTables, stateTables}
 use Rattle.model.specs.Handed.{handedTables, Standing, Handed}
+use Rattle.step_refusal.specs.Late.{earlyRules}
 use Rattle.model.proofs.Handed.{handed-job}
 use Rattle.model.proofs.Step.{job-in, range}
 use Rattle.model.proofs.Whole.{JobWhole, job-whole}
 use Rattle.job_masks.proofs.Holders.{sharer-words}
 use Rattle.job_masks.proofs.InJob.{placed-grocers}
 use Rattle.book_places.proofs.Joined.{length-model}
-use Rattle.step_refusal.specs.Late.{earlyRules}
 use Rattle.step_refusal.proofs.Refused.{tested-early, tested-packed, job-handed, job-whole-at, packed-told, count-in}
 use denote.Ref.{now}
 use Rattle.step_refusal.proofs.tables_refusal.Statement.{statement}

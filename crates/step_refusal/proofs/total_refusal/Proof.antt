@@ -1,30 +1,29 @@
 -- `step_refusal::total_refusal` meets its contract: its number is that of the first condition met. Assumes nothing.
 use mathlib.Core.Path.{_≡_, refl, sym, ap, ap₂, _∙_}
-use mathlib.Core.Bool.{Bool, _&&_, cond, not}
+use mathlib.Core.Bool.{_&&_}
 use mathlib.Core.List.{List, []}
 use Prim.Native.Nat.{ℕ, _+_, _<_, _≤_}
 use native.Mathlib.Omega.{arith}
 use native.Mathlib.Nat.{le-trans}
-use borrow.Author.Needs.{needs}
+use lib.ListN.{length}
 use Rattle.laws.specs.Checks.{firstMet}
 use Rattle.laws.specs.Tables.{tabulate}
 use Rattle.laws.proofs.Tables.{length-tabulate}
-use lib.ListN.{length}
-use Rattle.model.specs.Job.{needWord, sharerWord}
-use Rattle.model.specs.Tables.{JobTables, bagTables, jobOf, StateTables, stateTables, stepsDone}
+use Rattle.model.specs.Job.{sharerWord}
+use Rattle.model.specs.Tables.{JobTables, bagTables, jobOf, StateTables, stateTables}
 use Rattle.model.specs.Ranges.{stateInRange, totalsInRange}
 use Rattle.model.specs.Step.{Asked, asked, moved, stepRefusal}
 use Rattle.model.specs.Handed.{handedTables, Standing}
-use Rattle.model.proofs.Step.{job-in, range}
-use Rattle.model.proofs.Whole.{JobWhole}
-use Rattle.step_apply.specs.Apply.{spanBox, spanGroup, SpanOf, Applies}
+use Rattle.step_apply.specs.Apply.{spanBox, SpanOf, Applies}
 use Rattle.step_refusal.specs.Late.{tableRules, laterRules, Held}
-use denote.Ref.{now}
-use Rattle.model.proofs.Spans.{length-most}
 use Rattle.step_rules.specs.Rules.{ReceiversOf, WaitsOf}
-use Rattle.step_waits.proofs.Told.{waits-of, waits-in}
 use Rattle.step_waits.specs.Waits.{tallyLists, waitTable}
 use Rattle.book_places.specs.Spots.{listBy, startBy, groupBy, putAt}
+use Rattle.model.proofs.Step.{job-in, range}
+use Rattle.model.proofs.Whole.{JobWhole}
+use denote.Ref.{now}
+use Rattle.model.proofs.Spans.{length-most}
+use Rattle.step_waits.proofs.Told.{waits-of, waits-in}
 use Rattle.step_checks.proofs.Finished.{total-fits-in, late-totals}
 use Rattle.step_apply.proofs.Found.{box-found, span-found, spans-in}
 use Rattle.step_refusal.proofs.Refused.{answer-tested, held, answer-later, box-in}

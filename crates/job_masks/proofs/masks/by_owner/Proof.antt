@@ -4,9 +4,9 @@ use Prim.Native.Nat.{ℕ, _<_, _≤_, _-_}
 use native.Mathlib.Nat.{le-antisymm}
 use native.Mathlib.Omega.{arith}
 use lib.ListN.{getD}
-use denote.Ref.{now}
 use borrow.Author.Needs.{needs}
 use Rattle.job_masks.specs.Masks.{byOwner}
+use denote.Ref.{now}
 use Rattle.job_masks.proofs.Owned.{owner-none, owner-told}
 use Rattle.job_masks.proofs.masks.by_owner.Statement.{statement}
 use Rattle.job_masks.proofs.masks.by_owner.Tie as tie

@@ -3,11 +3,11 @@ use mathlib.Core.Path.{_≡_, refl, sym, ap, _∙_}
 use mathlib.Core.List.{List}
 use Prim.Native.Nat.{ℕ, _<_, _≤_, _-_}
 use native.Mathlib.Nat.{le-antisymm}
-use borrow.Author.Needs.{needs}
 use lib.ListN.{length, getD}
-use denote.Ref.{now}
+use borrow.Author.Needs.{needs}
 use Rattle.laws.proofs.Tables.{is-tabulate}
 use Rattle.job_masks.specs.Masks.{holderWord}
+use denote.Ref.{now}
 use Rattle.job_masks.proofs.Holders.{holder-none, holder-more}
 use Rattle.job_masks.proofs.masks.holders.Statement.{statement}
 use Rattle.job_masks.proofs.masks.holders.Tie as tie

@@ -3,8 +3,8 @@ use mathlib.Core.Path.{ap, _∙_}
 use Prim.Native.Nat.{ℕ}
 use native.Mathlib.Omega.{arith}
 use lib.ListN.{getD}
-use denote.Ref.{now}
 use Rattle.step_places.specs.Message.{inMessage, wordIn}
+use denote.Ref.{now}
 use Rattle.step_prices.proofs.offers.due.Statement.{statement}
 use Rattle.step_prices.proofs.offers.due.Tie as tie
 

@@ -1,8 +1,8 @@
 -- `step_prices::send::send_one` meets its contract. Assumes nothing.
 use mathlib.Core.Path.{_≡_, sym, ap, _∙_}
+use mathlib.Core.Bool.{Bool, true, false}
 use Prim.Native.Nat.{_+_, _<_}
 use lib.ListN.{length, set}
-use mathlib.Core.Bool.{Bool, true, false}
 use borrow.Author.Needs.{needs}
 use Rattle.laws.specs.Below.{naturals}
 use Rattle.laws.proofs.Bools.{cond-yes, cond-no}
