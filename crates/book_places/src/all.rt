@@ -139,7 +139,14 @@ fn look_places(
         (at (now (places .entry)) t)) (now (places .entry)) ⌝ }
 {
     for t in 0..n {
-        let place = place_at(first, last, u16_at(boxes, t), index_at(items, t), places[t], table);
+        let place = place_at(
+            first,
+            last,
+            u16_at(boxes, t),
+            index_at(items, t),
+            places[t],
+            table,
+        );
         places[t] = place;
     }
 }
@@ -169,7 +176,18 @@ fn put_half(
         (now (places .entry)) (now (places .exit)) ⌝ }
 {
     let mut table = [0u16; HALF_GROCERS];
-    let next = put_boxes(k, m, owners, words, first, last, start, heads, grocers, &mut table);
+    let next = put_boxes(
+        k,
+        m,
+        owners,
+        words,
+        first,
+        last,
+        start,
+        heads,
+        grocers,
+        &mut table,
+    );
     look_places(first, last, n, boxes, items, &table, places);
     next
 }
@@ -193,6 +211,34 @@ pub fn all_boxes(
         (now (grocers .exit)) (now (places .exit)) ⌝ }
 {
     let half = k / 2;
-    let next = put_half(k, m, owners, words, 0, half, 0, n, boxes, items, heads, grocers, places);
-    put_half(k, m, owners, words, half, k, next, n, boxes, items, heads, grocers, places);
+    let next = put_half(
+        k,
+        m,
+        owners,
+        words,
+        0,
+        half,
+        0,
+        n,
+        boxes,
+        items,
+        heads,
+        grocers,
+        places,
+    );
+    put_half(
+        k,
+        m,
+        owners,
+        words,
+        half,
+        k,
+        next,
+        n,
+        boxes,
+        items,
+        heads,
+        grocers,
+        places,
+    );
 }
