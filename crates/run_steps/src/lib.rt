@@ -200,7 +200,8 @@ pub fn all_steps(
         &mut places,
     );
     let offer_links = step_links::offer_links(z.offers, offer_owner);
-    let tally_links = step_links::tally_links(z.tallies, tally_box, tally_offer, offer_owner);
+    let mut tally_links = [0u16; TALLY_LINKS];
+    step_links::link_pairs(t, tally_box, tally_offer, offer_owner, &mut tally_links);
     let mut sent = Sent {
         words: 0,
         messages: 0,

@@ -88,24 +88,3 @@ pub fn offer_links(offers: u16, offer_owner: &[u16]) -> [u16; OFFER_LINKS]
     link(offers as usize, offer_owner, &mut links);
     links
 }
-
-// The links of tallies by their box and the owner of their offer, likewise.
-pub fn tally_links(
-    tallies: u16,
-    tally_box: &[u16],
-    tally_offer: &[u16],
-    offer_owner: &[u16],
-) -> [u16; TALLY_LINKS]
-    requires { ⌜ PairsKeyed tallies (now «tally_box») (now «tally_offer») (now «offer_owner») (replicate 1_272 0) ⌝ }
-    ensures { λ r. ⌜ LinkedPairs tallies (now («tally_box» .entry)) (now («tally_offer» .entry)) (now («offer_owner» .entry)) r ⌝ }
-{
-    let mut links = [0u16; TALLY_LINKS];
-    link_pairs(
-        tallies as usize,
-        tally_box,
-        tally_offer,
-        offer_owner,
-        &mut links,
-    );
-    links
-}

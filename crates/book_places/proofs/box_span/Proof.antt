@@ -76,6 +76,10 @@ returns c =
           (startBy (s .args .m) (now (s .args .owners)) (now (s .args .words)) (s .args .b)) (listed p .box-list .ensures .1 .1),
     )
 
+-- The start, from the list.
+abbrev listed : tie.After-list → tie.Start
+listed c = c .before .before .before .before .before .before .before
+
 pub box-span-spec : {M : Type 1} → statement M
 box-span-spec =
     tie.close
@@ -84,7 +88,7 @@ box-span-spec =
     (λ c κs. search needs)
     (λ c. search needs)
     (λ c. search needs)
-    (λ c κs. let b = c .before .before .before .before .before .before .before .pre .0 .0 in ((b .owners-in, b .words-long), (b .box-in, (omega (arith, b .owners-in .k-in), b .m-in))))
+    (λ c κs. let b = listed c .pre .0 .0 in ((b .owners-in, b .words-long), (b .box-in, (omega (arith, b .owners-in .k-in), b .m-in))))
     (λ c. search needs)
     (λ c κs. search needs)
     put-list-requires

@@ -1,6 +1,7 @@
 -- `run_steps::all_steps` meets its contract: at turn i the tables hold the state after i steps. Assumes nothing.
-use mathlib.Core.Path.{refl, sym}
-use Prim.Native.Nat.{_-_, _≤_, zero-le}
+use mathlib.Core.Path.{refl, sym, subst}
+use Prim.Native.Nat.{ℕ, _-_, _≤_, zero-le}
+use Rattle.step_links.specs.Links.{PairsKeyed, LinkedPairs}
 use native.Mathlib.Omega.{arith}
 use lib.ListN.{replicate}
 use borrow.Author.Count.{falls}
@@ -56,7 +57,10 @@ abbrev start : tie.After-index-of2 Inv-loop μ-loop → tie.Start Inv-loop μ-lo
 start c = entry (priced (cleared c .before) .before)
 
 abbrev linked : tie.At-loop Inv-loop μ-loop → tie.After-places2 Inv-loop μ-loop
-linked c = c .before .before .before
+linked c = c .before .before .before .before .before
+
+abbrev looking : tie.After-heads3 Inv-loop μ-loop → tie.At-loop Inv-loop μ-loop
+looking c = c .before .before .before .before .before .before
 
 abbrev found : tie.After-one-step-arg5 Inv-loop μ-loop → tie.After-step-at Inv-loop μ-loop
 found c = c .before .before .before .before .before .before .before .before .before .before
@@ -116,20 +120,25 @@ all-boxes-requires c κs =
 offers-require : tie.Need-offer-links-requires Inv-loop μ-loop
 offers-require c κs = let s = start (numbered (told c .before)) in offers-keyed (job s) (s .pre .job-in) (s .pre .job-long) (replicate 517 0) refl
 
-tallies-require : tie.Need-tally-links-requires Inv-loop μ-loop
-tallies-require c κs = let s = start (numbered (told (c .before) .before)) in tallies-keyed (job s) (s .pre .job-in) (s .pre .job-long) (replicate 1_272 0) refl
+tallies-require : tie.Need-link-pairs-requires Inv-loop μ-loop
+tallies-require c κs =
+    let i = numbered (told (c .before .before) .before) in
+    let s = start i in
+    subst (λ (n : ℕ). PairsKeyed n (now (s .args .tally-box)) (now (s .args .tally-offer)) (now (s .args .offer-owner)) (replicate 1_272 0)) (sym (i .index-of2 .ensures .0))
+    (tallies-keyed (job s) (s .pre .job-in) (s .pre .job-long) (replicate 1_272 0) refl)
 
 loop-holds : tie.Need-loop-holds Inv-loop μ-loop
 loop-holds c =
-    let a = told (c .before .before) in
+    let a = told (c .before .before .before .before) in
     let i = numbered (a .before) in
-    let s = start i in (
+    let s = start i in
+    let l = subst (λ (n : ℕ). LinkedPairs n (now (s .args .tally-box)) (now (s .args .tally-offer)) (now (s .args .offer-owner)) (c .before .link-pairs .last .1 .1 .1 .1 .0)) (i .index-of2 .ensures .0) (c .before .link-pairs .ensures) in (
       zero-le,
       turning-first (job s) (lent s) _ _ _ _ _ (s .pre) (fresh-are (cleared i)),
       looked (job s) (s .pre .job-in) (s .pre .job-long) (now (s .args .sharers)) (s .pre .sharers-are) _ _ _ _
           (a .all-boxes .last .1 .1 .1 .1 .1 .1 .1 .1 .1 .0) (a .all-boxes .last .1 .1 .1 .1 .1 .1 .1 .0) (a .all-boxes .last .1 .1 .1 .1 .1 .1 .1 .1 .0)
           (i .before .index-of .ensures .0) (i .index-of2 .ensures .0) (a .all-boxes .kept .1 .1 .1 .1 .1 .1 .1 .0) (a .all-boxes .kept .1 .1 .1 .1 .1 .1 .1 .1 .0) (a .all-boxes .kept .1 .1 .1 .1 .1 .1 .1 .1 .1 .0)
-          (a .all-boxes .ensures) (c .before .offer-links .ensures) (c .tally-links .ensures),
+          (a .all-boxes .ensures) (c .before .before .before .offer-links .ensures) l,
     )
 
 step-at-requires : tie.Need-step-at-requires Inv-loop μ-loop
@@ -219,12 +228,13 @@ all-steps-spec =
     (λ c. refl)
     all-boxes-requires
     offers-require
+    (λ c. refl)
     tallies-require
     loop-holds
     step-at-requires
     (λ c. sym (told (linked (c .before .before .before)) .all-boxes .kept .1 .1 .1 .1 .1 .1 .1 .1 .1 .0))
-    (λ c. sym (told (linked (c .before .before .before .before .before .before)) .all-boxes .kept .1 .1 .1 .1 .1 .1 .1 .0))
-    (λ c. sym (told (linked (c .before .before .before .before .before .before .before)) .all-boxes .kept .1 .1 .1 .1 .1 .1 .1 .1 .0))
+    (λ c. sym (told (linked (looking c)) .all-boxes .kept .1 .1 .1 .1 .1 .1 .1 .0))
+    (λ c. sym (told (linked (looking (c .before))) .all-boxes .kept .1 .1 .1 .1 .1 .1 .1 .1 .0))
     one-step-requires
     sent-more-requires
     add-i

@@ -36,9 +36,13 @@ credit-one-requires c κs =
       (rw at (s .pre .source-in (b .loop .i) (b .loop .inv .0) (omega arith)), omega (arith, few, s .pre .few)),
     )
 
+-- The loop, from the end of a turn.
+abbrev turn : tie.After-statement Inv-loop μ-loop → tie.At-loop Inv-loop μ-loop
+turn c = c .before .before .before .before .before .before
+
 loop-again : tie.Need-loop-again Inv-loop μ-loop
 loop-again c =
-    let b = c .before .before .before .before .before .before in
+    let b = turn c in
     let s = b .before .before in
     let e = c .before .before .credit-one .ensures in
     let at : getD (b .loop .source) (b .loop .i) (pos 0) ≡ getD (now (s .args .source)) (b .loop .i) (pos 0) = span-next _ (b .loop .i) _ _ _ (b .loop .inv .4) (omega (arith, s .pre .source-long)) in (

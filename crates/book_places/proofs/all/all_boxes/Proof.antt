@@ -15,9 +15,13 @@ one c = c .before .before .before .before .before .before .before .before .befor
 abbrev two : tie.After-slice-known9 → tie.After-put-half2
 two c = c .before .before .before .before .before .before
 
+-- The start, from the first half.
+abbrev begun : tie.After-put-half-arg3 → tie.Start
+begun c = c .before .before .before .before .before .before .before .before .before .before
+
 put-half-requires : tie.Need-put-half-requires
 put-half-requires c κs =
-    let s = c .before .before .before .before .before .before .before .before .before .before in
+    let s = begun c in
     (s .pre, (record { ordered = omega arith; few = omega (arith, s .pre .room .owners-in .k-in); last-in = omega arith }, (start-none _ _ _, told-none _ _ _ _ _ _)))
 
 put-half-requires-2 : tie.Need-put-half-requires-2

@@ -57,6 +57,10 @@ returns c =
     let s = b .before .before .before .before .before in
     fill-end _ (b .loop .t) (s .args .n) (now (s .args .places)) (b .loop .places) (b .loop .inv .1) (b .loop .inv .0) (c .loop-test .left)
 
+-- The start, from the end of the walk.
+abbrev ended : tie.After-loop Inv-loop μ-loop → tie.Start Inv-loop μ-loop
+ended c = c .before .before .before .before .before .before
+
 pub look-places-spec : {M : Type 1} → statement M
 look-places-spec =
     tie.close
@@ -74,5 +78,5 @@ look-places-spec =
     (λ c. search needs)
     (λ c. search needs)
     loop-again
-    (λ c. let s = c .before .before .before .before .before .before in ap length (returns c) ∙ length-overwrite (s .args .n) _ (now (s .args .places)) (s .pre .0 .1 .1 .1 .1))
+    (λ c. let s = ended c in ap length (returns c) ∙ length-overwrite (s .args .n) _ (now (s .args .places)) (s .pre .0 .1 .1 .1 .1))
     returns)

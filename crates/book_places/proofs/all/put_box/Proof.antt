@@ -115,13 +115,17 @@ returns c =
       told (last c),
     )
 
+-- The start, from the list.
+abbrev listed : tie.After-list → tie.Start
+listed c = c .before .before .before .before .before .before .before
+
 pub put-box-spec : {M : Type 1} → statement M
 put-box-spec =
     tie.close
     (tie.spec
     (λ c. search needs)
     (λ c. search needs)
-    (λ c κs. let s = c .before .before .before .before .before .before .before in ((s .pre .0 .owners-in, s .pre .0 .words-long), (s .pre .1 .0, (omega (arith, s .pre .0 .owners-in .k-in), s .pre .0 .m-in))))
+    (λ c κs. let s = listed c in ((s .pre .0 .owners-in, s .pre .0 .words-long), (s .pre .1 .0, (omega (arith, s .pre .0 .owners-in .k-in), s .pre .0 .m-in))))
     (λ c κs. search needs)
     (λ c κs. search needs)
     (λ c. search needs)

@@ -34,12 +34,16 @@ returns c =
           (s .pre .1 .0 .ordered) (p .put-boxes .ensures .1) (l .look-places .ensures),
     )
 
+-- The start, from the table.
+abbrev tabled : tie.After-table → tie.Start
+tabled c = c .before .before .before .before .before .before .before .before .before .before
+
 pub put-half-spec : {M : Type 1} → statement M
 put-half-spec =
     tie.close
     (tie.spec
     (λ c. search needs)
-    (λ c κs. let s = c .before .before .before .before .before .before .before .before .before .before in (s .pre .0 .room, s .pre .1))
+    (λ c κs. let s = tabled c in (s .pre .0 .room, s .pre .1))
     (λ c. search needs)
     look-places-requires
     (λ c. told (looked c .before) .put-boxes .kept .1 .1 .1 .1 .1 .1 .1 .0)
