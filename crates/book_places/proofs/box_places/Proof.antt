@@ -63,8 +63,8 @@ returns c =
     )
 
 -- The start, from the list.
-abbrev listed : tie.After-list → tie.Start
-listed c = c .before .before .before .before .before .before .before .before
+abbrev asked : tie.After-list → tie.Start
+asked c = c .before .before .before .before .before .before .before .before
 
 pub box-places-spec : {M : Type 1} → statement M
 box-places-spec =
@@ -73,7 +73,7 @@ box-places-spec =
     (λ c κs. count-in _ _ _ _ _ (c .before .before .before .before .before .pre .0))
     (λ c. search needs)
     (λ c. search needs)
-    (λ c κs. let b = listed c .pre .0 in ((b .owners-in, b .words-long), (b .box-in, (omega (arith, b .owners-in .k-in), b .m-in))))
+    (λ c κs. let b = asked c .pre .0 in ((b .owners-in, b .words-long), (b .box-in, (omega (arith, b .owners-in .k-in), b .m-in))))
     (λ c. search needs)
     numbers-requires
     put-places-requires

@@ -77,8 +77,8 @@ returns c =
     )
 
 -- The start, from the list.
-abbrev listed : tie.After-list → tie.Start
-listed c = c .before .before .before .before .before .before .before
+abbrev asked : tie.After-list → tie.Start
+asked c = c .before .before .before .before .before .before .before
 
 pub box-span-spec : {M : Type 1} → statement M
 box-span-spec =
@@ -88,7 +88,7 @@ box-span-spec =
     (λ c κs. search needs)
     (λ c. search needs)
     (λ c. search needs)
-    (λ c κs. let b = listed c .pre .0 .0 in ((b .owners-in, b .words-long), (b .box-in, (omega (arith, b .owners-in .k-in), b .m-in))))
+    (λ c κs. let b = asked c .pre .0 .0 in ((b .owners-in, b .words-long), (b .box-in, (omega (arith, b .owners-in .k-in), b .m-in))))
     (λ c. search needs)
     (λ c κs. search needs)
     put-list-requires

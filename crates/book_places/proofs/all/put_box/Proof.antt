@@ -116,8 +116,8 @@ returns c =
     )
 
 -- The start, from the list.
-abbrev listed : tie.After-list → tie.Start
-listed c = c .before .before .before .before .before .before .before
+abbrev asked : tie.After-list → tie.Start
+asked c = c .before .before .before .before .before .before .before
 
 pub put-box-spec : {M : Type 1} → statement M
 put-box-spec =
@@ -125,7 +125,7 @@ put-box-spec =
     (tie.spec
     (λ c. search needs)
     (λ c. search needs)
-    (λ c κs. let s = listed c in ((s .pre .0 .owners-in, s .pre .0 .words-long), (s .pre .1 .0, (omega (arith, s .pre .0 .owners-in .k-in), s .pre .0 .m-in))))
+    (λ c κs. let s = asked c in ((s .pre .0 .owners-in, s .pre .0 .words-long), (s .pre .1 .0, (omega (arith, s .pre .0 .owners-in .k-in), s .pre .0 .m-in))))
     (λ c κs. search needs)
     (λ c κs. search needs)
     (λ c. search needs)
