@@ -7,7 +7,7 @@ use native.Mathlib.Numerals.{add-one}
 use lib.Dec.{eqb}
 use lib.ListN.{getD}
 use borrow.Author.Tests.{ne-eqb}
-use Rattle.laws.specs.Below.{naturals, sum, only, count}
+use Rattle.laws.specs.Below.{naturals, only, count}
 use Rattle.laws.proofs.Bools.{split}
 use Rattle.laws.proofs.Sums.{sum-cong}
 use Rattle.laws.proofs.Below.{count-start, count-suc, count-lt, count-where, counts-one, counts-none}
