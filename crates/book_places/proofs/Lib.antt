@@ -1,5 +1,7 @@
 -- Laws of local lists and of places.
+pub mod Gathered
 pub mod Listing
+pub mod Local
 pub mod Modelled
 pub mod Groups
 pub mod Starts

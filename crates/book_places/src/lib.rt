@@ -1,6 +1,6 @@
 // Places of packed totals: a box's local grocers in order, where each group of them begins, and the place of each tally's total.
 ghost use mathlib.Core.Path.{_≡_};
-ghost use mathlib.Core.Bool.{_||_};
+ghost use mathlib.Core.Bool.{true, _||_};
 ghost use Prim.Native.Nat.{ℕ, _+_, _-_, _^_, _≤_, _<_};
 ghost use lib.Dec.{eqb};
 ghost use lib.ListN.{length};
@@ -9,7 +9,7 @@ ghost use Rattle.laws.specs.Masks.{bit};
 ghost use Rattle.laws.specs.Tables.{overwrite};
 ghost use Rattle.book_sort.specs.Sort.{at, begin, inFront};
 ghost use Rattle.book_keys.specs.Keys.{TalliesIn, OwnersIn};
-ghost use Rattle.book_places.specs.Spots.{classBy, listBy, startBy, placeBy, spotBy, groupBy, putAt, CountIn, BoxIn};
+ghost use Rattle.book_places.specs.Spots.{classBy, listBy, totalBy, startBy, placeBy, spotBy, groupBy, putAt, CountIn, BoxIn};
 
 pub mod all;
 
@@ -18,6 +18,7 @@ use book_keys::if_same;
 use book_keys::numbers;
 use book_sort::sort;
 use slices::casts::index_of;
+use slices::casts::word_of;
 use slices::index_at;
 use slices::limits::GROCERS;
 use slices::limits::MAX_BOXES;
@@ -30,6 +31,41 @@ pub const CLASSES: usize = 18;
 
 // The most totals of all boxes: an own one of each grocer, and one for each tally.
 pub const TOTALS: usize = GROCERS + TALLIES;
+
+// Whether box b has what this owner owns and the boxes of this word hold.
+fn is_local(owner: u16, word: u16, b: u16) -> bool
+    requires { ⌜ b < 16 ⌝ }
+    ensures { λ r. ⌜ r ≡ (eqb owner b || bit b word) ⌝ }
+{
+    (owner == b) | slices::bits::has_bit(word, b)
+}
+
+// The numbers below n that box b has, ascending, are the first words of the list. How many. A number that it does not have is written over.
+fn gather(n: usize, owners: &[u16], words: &[u16], b: u16, list: &mut [u16]) -> usize
+    requires { ⌜ (n ≤ 500) × ((n ≤ length (now owners)) × (n ≤ length (now words))) ⌝ }
+    requires { ⌜ (b < 16) × (n ≤ length (now list)) ⌝ }
+    ensures { λ r. ⌜ r ≡ count n (totalBy (now (owners .entry)) (now (words .entry)) b) ⌝ }
+    ensures { λ _. ⌜ ((x : ℕ) → x < n → totalBy (now (owners .entry)) (now (words .entry)) b x ≡ true →
+        at (now (list .exit)) (count x (totalBy (now (owners .entry)) (now (words .entry)) b)) ≡ x) ⌝ }
+{
+    let mut l: usize = 0;
+    for x in 0..n {
+        list[l] = word_of(x);
+        l += is_local(u16_at(owners, x), u16_at(words, x), b) as usize;
+    }
+    l
+}
+
+// The first l words of a list are places in a table: each is replaced by the word at its place.
+fn look_up(table: &[u16], l: usize, list: &mut [u16])
+    requires { ⌜ (l ≤ length (now list)) × ((i : ℕ) → i < l → at (now list) i < length (now table)) ⌝ }
+    ensures { λ _. ⌜ now (list .exit) ≡ overwrite l (λ i. at (now (table .entry)) (at (now (list .entry)) i)) (now (list .entry)) ⌝ }
+{
+    for i in 0..l {
+        let place = index_at(list, i);
+        list[i] = u16_at(table, place);
+    }
+}
 
 // The local list of box b, of n numbers with these owners and words of holders, and where each class of it begins. Its length.
 pub fn box_list(
@@ -47,10 +83,14 @@ pub fn box_list(
     ensures { λ _. ⌜ now (starts .exit) ≡ overwrite (k + 2) (begin (classBy k b (now (owners .entry)) (now (words .entry))) n) (now (starts .entry)) ⌝ }
     ensures { λ _. ⌜ now (out .exit) ≡ inFront (listBy k n (now (owners .entry)) (now (words .entry)) b) (now (out .entry)) ⌝ }
 {
-    let keys = classes(owners, words, n, k, b);
+    let mut list = [0u16; OFFERS];
+    let l = gather(n, owners, words, b, &mut list);
+    let keys = classes(owners, b, &list, l);
     let m = index_of(k) + 1;
-    sort(&keys, n, m, starts, out);
-    starts[m]
+    sort(&keys, l, m, starts, out);
+    let all = starts[m];
+    look_up(&list, index_of(all), out);
+    all
 }
 
 // The word of the boxes below b.
