@@ -1,6 +1,6 @@
 // The places of all boxes at once, for a run: told from the boxes' local lists, each of them made once.
 ghost use mathlib.Core.Path.{_≡_};
-ghost use Prim.Native.Nat.{ℕ, _+_, _*_, _≤_, _<_};
+ghost use Prim.Native.Nat.{ℕ, _+_, _-_, _*_, _≤_, _<_};
 ghost use lib.ListN.{length};
 ghost use Rattle.laws.specs.Tables.{overwrite};
 ghost use Rattle.book_sort.specs.Sort.{at};
@@ -104,19 +104,32 @@ fn put_boxes(
     next
 }
 
-// The place of a tally of box b and grocer g: the old one for a box before the first, and 0 for a box behind the last.
+// The row of box b in the table of a half, and some row for a box of the other half or of none.
+fn row_of(first: u16, last: u16, b: u16) -> u16
+    requires { ⌜ last ≤ first + 8 ⌝ }
+    ensures { λ r. ⌜ (first ≤ b → b < last → r ≡ b - first) × (r < 8) ⌝ }
+{
+    if (b < first) | (b >= last) {
+        return 0;
+    }
+    b - first
+}
+
+// The place of a tally of box b and grocer g: the old one for a box before the first, and 0 for a box behind the last. The table is read in either
+// case, so that no branch has to be foretold.
 fn place_at(first: u16, last: u16, b: u16, g: usize, old: u16, table: &[u16]) -> u16
     requires { ⌜ (last ≤ first + 8) × ((g < 255) × (2_040 ≤ length (now table))) ⌝ }
     ensures { λ r. ⌜ r ≡ placeAt first last (now (table .entry)) b g old ⌝ }
 {
+    let row = index_of(row_of(first, last, b));
+    let told = u16_at(table, row * GROCERS + g);
     if b < first {
         return old;
     }
     if b >= last {
         return 0;
     }
-    let i = index_of(b - first) * GROCERS + g;
-    u16_at(table, i)
+    told
 }
 
 // Puts the place of each of n tallies of the boxes from a first up to a last.
