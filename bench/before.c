@@ -1,40 +1,72 @@
-/* The build of an earlier revision beside the present one, in one run: first that reader and writer of both give the
-   same on good and damaged files and tables, then how long each takes on the longest file.
+/* The build of an earlier revision beside the present one, in one run: first that both give the same, reader and writer on
+   good and damaged files and tables, steps and runs on their jobs, then how long each takes on the largest job.
    before               100,000 files, and the table of times
-   before --agree N     N files, and no times */
+   before --agree N     N files, and no times
+   bench/run makes earlier.h: the calls of the earlier build under the names earlier_read and so on, and
+     EARLIER_LISTS  the price lists after the first that its calls take; 0 where they take no number of lists
+     EARLIER_STEPS  1 where its steps and runs are lent the same tables as the present ones, else 0
+     EARLIER_SIZES, EARLIER_FILE  the words of its `sizes`, the bytes of its longest file */
+#include "earlier.h"
 #include "rounds.h"
+#include "works.h"
 #include <stdio.h>
 #include <stdlib.h>
 #include <string.h>
 
-read_call before_read;
-write_call before_write;
+#if EARLIER_LISTS
+#define LISTS , w->lists
+#else
+#define LISTS
+#endif
 
-static const struct calls before = { before_read, before_write, NULL, NULL, NULL };
-static const struct calls present = { settlement_read, entries_write, NULL, NULL, NULL };
+/* A call of the earlier build, with one price list where it knows no other. */
+static size_t call_earlier(const struct work *w, struct buffers *b)
+{
+    switch (w->operation) {
+    case READ: return earlier_read(READER_TABLES);
+    case WRITE: return earlier_write(SIZES, w->cycle LISTS, WRITER_TABLES);
+#if EARLIER_STEPS
+    case STEP: return earlier_step(SIZES LISTS, STEP_TABLES, REQUEST);
+    case RUN: return earlier_run(SIZES LISTS, STEP_TABLES, CHOICES);
+#endif
+    default: return 0;
+    }
+}
+
+static const struct calls before = { NULL, NULL, NULL, NULL, NULL, call_earlier };
+static const struct calls present = { settlement_read, entries_write, settlement_step, settlement_run, NULL, NULL };
 
 /* ---- both give the same ---- */
 
-/* The tables of reader and writer, by their place in the structs. */
+/* The words of `sizes` and the bytes of a file that both builds have. */
+enum {
+    BOTH_SIZES = EARLIER_SIZES < SETTLEMENT_SIZES ? EARLIER_SIZES : SETTLEMENT_SIZES,
+    BOTH_FILE = EARLIER_FILE < FILE_BYTES ? EARLIER_FILE : FILE_BYTES
+};
+
+/* The tables, by their place in the structs. */
 struct table {
     const char *name;
-    size_t words, word_bytes, at, length_at;
+    size_t entries, most, word_bytes, at, length_at;
 };
 
 static const struct table tables[] = {
-#define TABLE(type, name, words)                                                                                      \
-    { #name, (words) + MORE, sizeof(type), offsetof(struct buffers, name), offsetof(struct lengths, name) },
-    FILE_TABLES(TABLE)
+#define TABLE(type, name, entries, most)                                                                              \
+    { #name, entries, most, sizeof(type), offsetof(struct buffers, name), offsetof(struct lengths, name) },
+    ALL_TABLES(TABLE)
 #undef TABLE
 };
+#define TABLE(type, name, entries, most) +1
 enum {
-    LENT_TABLES = sizeof tables / sizeof *tables,
-    LENT_BYTES = offsetof(struct buffers, known), /* of all of them: they stand in front */
-    ANSWERS = 21
+    TABLES = sizeof tables / sizeof *tables,
+    TABLES_OF_FILES = 0 FILE_TABLES(TABLE), /* those of reader and writer stand in front, */
+    BYTES_OF_FILES = offsetof(struct buffers, known), /* in so many bytes */
+    ANSWERS = 27
 };
+#undef TABLE
 
 static struct buffers room[2];
-static unsigned long files, answers[2][ANSWERS];
+static unsigned long files, answers[OPERATIONS][ANSWERS];
 
 /* Says what is wrong, in which file or in tables read from it, and ends. */
 static void stop(const char *what, const char *wrong)
@@ -43,47 +75,83 @@ static void stop(const char *what, const char *wrong)
     exit(1);
 }
 
-static void same_words(const char *what)
+static bool of_files(const struct work *w) { return w->operation == READ || w->operation == WRITE; }
+
+/* The words that a work starts from, and whether both builds have left the same. */
+static void copy_start(struct buffers *b, const struct work *w)
 {
-    for (unsigned i = 0; i < LENT_TABLES; i++) {
-        const uint8_t *a = (const uint8_t *)&room[0] + tables[i].at, *b = (const uint8_t *)&room[1] + tables[i].at;
-        size_t size = tables[i].word_bytes, k = 0;
-        while (k < tables[i].words && !memcmp(a + k * size, b + k * size, size))
+    if (of_files(w))
+        memcpy(b, &w->start, BYTES_OF_FILES);
+    else
+        copy_words(b, &w->start, width_of(w));
+}
+
+static bool left_same(const struct work *w)
+{
+    return of_files(w) ? !memcmp(&room[0], &room[1], BYTES_OF_FILES) : same_words(&room[0], &room[1], width_of(w));
+}
+
+/* Tells the first word that differs, and ends. */
+static void tell_word(const struct work *w, const char *what)
+{
+    size_t width = of_files(w) ? WIDEST : width_of(w);
+    for (const struct table *t = tables; t < tables + TABLES; t++) {
+        const uint8_t *a = (const uint8_t *)&room[0] + t->at, *b = (const uint8_t *)&room[1] + t->at;
+        size_t size = t->word_bytes, words = t->entries * (t->most < width ? t->most : width) + MORE, k = 0;
+        while (k < words && !memcmp(a + k * size, b + k * size, size))
             k++;
-        if (k < tables[i].words) {
+        if (k < words) {
             char wrong[80];
-            snprintf(wrong, sizeof wrong, "the builds differ in word %zu of %s", k, tables[i].name);
+            snprintf(wrong, sizeof wrong, "the builds differ in word %zu of %s", k, t->name);
             stop(what, wrong);
         }
     }
 }
 
+/* Where the earlier reader knows no price lists, the present one has read that there is one. */
+static void pass_over_lists(const char *what)
+{
+    if (room[1].sizes[SETTLEMENT_SIZES - 1])
+        stop(what, "the present build reads several price lists");
+    room[0].sizes[SETTLEMENT_SIZES - 1] = 0;
+}
+
 /* Calls both builds on the same words: answers and words must be the same. The answer; both rooms have the words. */
 static size_t both(const struct work *w, const char *what)
 {
-    memcpy(&room[0], &w->start, LENT_BYTES);
-    memcpy(&room[1], &w->start, LENT_BYTES);
+    copy_start(&room[0], w);
+    copy_start(&room[1], w);
     size_t a = call(&before, w, &room[0]), b = call(&present, w, &room[1]);
     if (a != b) {
         char wrong[80];
         snprintf(wrong, sizeof wrong, "the builds differ in the answer, %zu before and %zu now", a, b);
         stop(what, wrong);
     }
-    if (memcmp(&room[0], &room[1], LENT_BYTES))
-        same_words(what);
+    if (!EARLIER_LISTS && w->operation == READ && a == 0)
+        pass_over_lists(what);
+    if (!left_same(w))
+        tell_word(w, what);
     size_t number = w->operation == WRITE && a >= BLOCK ? 0 : a;
     if (number >= ANSWERS)
         stop(what, "both builds give an answer that there is not");
-    answers[w->operation == WRITE][number]++;
+    answers[w->operation][number]++;
     return a;
 }
 
-/* Some table is lent with fewer words, down to none. */
-static void lend_short(struct lengths *lent)
+/* The words of a table that either build asks for the largest job. */
+static size_t words_asked(const struct table *t)
 {
-    const struct table *t = &tables[below(LENT_TABLES)];
-    size_t *length = (size_t *)((uint8_t *)lent + t->length_at);
-    *length = below(3) ? t->words - MORE - 1 : below((unsigned)t->words);
+    if (t->length_at == offsetof(struct lengths, sizes))
+        return BOTH_SIZES;
+    return t->entries * (t->most > 1 ? EARLIER_LISTS + 1 : 1);
+}
+
+/* One of the first so many tables is lent with fewer words, down to none. */
+static void lend_short(struct lengths *lent, unsigned among)
+{
+    const struct table *t = &tables[below(among)];
+    size_t *length = (size_t *)((uint8_t *)lent + t->length_at), words = words_asked(t);
+    *length = below(3) ? words - 1 : below((unsigned)words);
 }
 
 static void fill_at_random(void *words, size_t bytes)
@@ -134,6 +202,7 @@ static void make_any(struct work *w, unsigned number)
         give_issuers(w, number % 3 == 1 ? 3 : 65536);
     if (number % 4)
         give_bags(w, number % 2, number % 4 == 2 ? 3 : 65535);
+    give_lists(w, number % 5 > 1 ? below(EARLIER_LISTS + 1) : 0);
 }
 
 /* ---- files ---- */
@@ -142,10 +211,10 @@ static void make_any(struct work *w, unsigned number)
 struct file {
     uint8_t bytes[FILE_BYTES + MORE];
     size_t len;
-    unsigned offers, tallies;
+    unsigned offers, tallies, lists;
 };
 
-enum { RECORDS = 21, RECORD = 24 };
+enum { RECORDS = 21, RECORD = 24, PRICES_PER_BLOCK = 126 };
 
 static uint8_t *record(struct file *f, unsigned block, unsigned i)
 {
@@ -157,9 +226,24 @@ static uint8_t *offer_record(struct file *f, unsigned i)
     return record(f, 1, i);
 }
 
+/* The first block of a list after the first. */
+static unsigned list_block(const struct file *f, unsigned list)
+{
+    return 2 + (f->offers + RECORDS - 1) / RECORDS + list * ((f->offers + PRICES_PER_BLOCK - 1) / PRICES_PER_BLOCK);
+}
+
 static uint8_t *tally_record(struct file *f, unsigned i)
 {
-    return record(f, 2 + (f->offers + RECORDS - 1) / RECORDS, i);
+    return record(f, list_block(f, f->lists), i);
+}
+
+/* The price of an offer on some list. */
+static uint8_t *some_price(struct file *f)
+{
+    unsigned o = below(f->offers), list = below(f->lists + 1);
+    if (!list)
+        return offer_record(f, o);
+    return f->bytes + (list_block(f, list - 1) + o / PRICES_PER_BLOCK) * BLOCK + 4 + o % PRICES_PER_BLOCK * 4;
 }
 
 /* The code of some offer or tally. */
@@ -191,7 +275,7 @@ static void leading_zeros(struct file *f)
 static void other_fields(struct file *f)
 {
     unsigned price = below(10000000);
-    uint8_t *p = offer_record(f, below(f->offers));
+    uint8_t *p = some_price(f);
     p[0] = (uint8_t)price, p[1] = (uint8_t)(price >> 8), p[2] = (uint8_t)(price >> 16);
     f->bytes[12] = (uint8_t)below(256), f->bytes[13] = (uint8_t)below(256);
     if (f->tallies)
@@ -263,6 +347,11 @@ static void bag_twice(struct file *f)
         from[20] = to[20] = 1;
 }
 
+static void price_too_high(struct file *f)
+{
+    some_price(f)[3] = (uint8_t)below(256);
+}
+
 static void header_byte(struct file *f)
 {
     f->bytes[4 + below(below(2) ? 8 : 14)] = (uint8_t)below(below(2) ? 20 : 256);
@@ -270,7 +359,7 @@ static void header_byte(struct file *f)
 
 static void block_start(struct file *f)
 {
-    some_block(f)[below(4)] = (uint8_t)below(below(2) ? 4 : 256);
+    some_block(f)[below(4)] = (uint8_t)below(below(2) ? 5 : 256);
 }
 
 static void spare_byte(struct file *f)
@@ -287,8 +376,8 @@ static void cut(struct file *f)
 static void lengthen(struct file *f)
 {
     size_t len = f->len + (below(2) ? BLOCK : 1 + below(BLOCK));
-    if (len > sizeof f->bytes)
-        len = sizeof f->bytes;
+    if (len > BOTH_FILE + MORE)
+        len = BOTH_FILE + MORE;
     for (size_t i = f->len; i < len; i++)
         f->bytes[i] = f->bytes[i - BLOCK];
     f->len = len;
@@ -311,6 +400,7 @@ static const struct edit edits[] = {
     { "a shared number", shared_number },
     { "an unknown name", unknown_name },
     { "a bag twice", bag_twice },
+    { "a price that may be too high", price_too_high },
     { "a byte of the header", header_byte },
     { "kind, record count or number of a block", block_start },
     { "a spare byte", spare_byte },
@@ -319,13 +409,16 @@ static const struct edit edits[] = {
 };
 enum { EDITS = sizeof edits / sizeof *edits, GOOD_EDITS = 2 };
 
-/* One edit, or two, and the sums repaired as a rule. What the edit is. */
+/* One edit, or two, and the sums repaired as a rule. The number of price lists stays 0 where it was a spare byte before. What
+   the edit is. */
 static const char *edit(struct file *f)
 {
     const struct edit *e = &edits[below(3) ? below(EDITS) : below(GOOD_EDITS)];
     e->make(f);
     for (unsigned more = !below(8); more && f->len >= BLOCK; more--)
         edits[below(EDITS)].make(f);
+    if (!EARLIER_LISTS)
+        f->bytes[14] = 0;
     if (below(8))
         for (size_t at = 0; at + BLOCK <= f->len; at += BLOCK)
             store_sums(f->bytes + at);
@@ -334,10 +427,11 @@ static const char *edit(struct file *f)
 
 /* ---- tables of the writer ---- */
 
-/* K, M, N and T or the cycle becomes another number. */
+/* K, M, N and T, the cycle or the number of price lists becomes another number. */
 static void wrong_size(struct work *w)
 {
-    switch (below(5)) {
+    switch (below(EARLIER_LISTS ? 6 : 5)) {
+    case 5: w->lists = (uint16_t)(below(4) ? below(WIDEST + 1) : below(65536)); break;
     case 0: w->boxes = (uint16_t)below(20); break;
     case 1: w->grocers = (uint16_t)below(GROCERS + MORE); break;
     case 2: w->offers = (uint16_t)below(OFFERS + MORE); break;
@@ -375,12 +469,13 @@ static void wrong_name(struct buffers *b, unsigned o, unsigned from, unsigned t)
 /* Some word of offer o, grocer g or tally t, in its range or just outside, or any. */
 static void wrong_word(struct buffers *b, unsigned o, unsigned g, unsigned t)
 {
-    switch (below(6)) {
+    switch (below(7)) {
     case 0: b->price[o] = below(2) ? 9999998 + below(4) : below(4294967295u); break;
     case 1: b->offer_owner[o] = (uint16_t)below(20); break;
     case 2: b->grocer_owner[g] = (uint16_t)below(20); break;
     case 3: b->tally_count[t] = below(2) ? (int32_t)below(200004) - 100002 : (int32_t)below(4294967295u); break;
     case 4: b->tally_box[t] = (uint16_t)below(20); break;
+    case 5: b->tally_offer[t] = (uint16_t)below(OFFERS + 2); break;
     default: b->tally_grocer[t] = (uint16_t)below(GROCERS + 2); break;
     }
 }
@@ -391,7 +486,7 @@ static void wrong_table(struct work *w)
     struct buffers *b = &w->start;
     unsigned o = below(w->offers), t = w->tallies ? below(w->tallies) : 0;
     switch (below(8)) {
-    case 0: lend_short(&w->lent); break;
+    case 0: lend_short(&w->lent, TABLES_OF_FILES); break;
     case 1: wrong_size(w); break;
     case 2: wrong_word(b, o, below(w->grocers), t); break;
     case 3:
@@ -405,9 +500,9 @@ static void wrong_table(struct work *w)
 static void lend_to_writer(struct work *w, const struct buffers *b)
 {
     w->operation = WRITE;
-    memcpy(&w->start, b, LENT_BYTES);
+    memcpy(&w->start, b, BYTES_OF_FILES);
     w->boxes = b->sizes[0], w->grocers = b->sizes[1], w->offers = b->sizes[2], w->tallies = b->sizes[3];
-    w->cycle = b->sizes[4];
+    w->cycle = b->sizes[4], w->lists = b->sizes[5];
     lend_all(&w->lent);
 }
 
@@ -415,7 +510,7 @@ static void lend_to_writer(struct work *w, const struct buffers *b)
 static void write_back(struct work *w, const struct file *f)
 {
     static struct buffers was_read;
-    memcpy(&was_read, &room[1], LENT_BYTES);
+    memcpy(&was_read, &room[1], BYTES_OF_FILES);
     memset(was_read.file, (int)below(256), sizeof was_read.file);
     lend_to_writer(w, &was_read);
     if (both(w, "written back") != f->len || memcmp(room[1].file, f->bytes, f->len))
@@ -427,18 +522,80 @@ static void write_back(struct work *w, const struct file *f)
     }
 }
 
+/* ---- steps and runs ---- */
+
+static const struct agreement builds = { both, &room[1], EARLIER_LISTS };
+
+/* A step and a run of a job with a wrong word, a wrong size, a bag counted twice or a table that is lent short. */
+static void wrong_job(struct work *w)
+{
+    static struct work wrong;
+    wrong = *w;
+    unsigned t = w->tallies ? below(w->tallies) : 0, from = below(t + 1);
+    switch (below(4)) {
+    case 0: lend_short(&wrong.lent, TABLES); break;
+    case 1: wrong_size(&wrong); break;
+    case 2: wrong_word(&wrong.start, below(w->offers), below(w->grocers), t); break;
+    default:
+        wrong.start.tally_bag[from] |= 1;
+        count_again(&wrong.start, t, from);
+        wrong.start.tally_revision[t] = wrong.start.tally_revision[from];
+        break;
+    }
+    wrong.kind = (uint16_t)(1 + below(6)), wrong.first = (uint16_t)below(w->boxes), wrong.second = (uint16_t)below(w->boxes);
+    wrong.operation = STEP;
+    both(&wrong, "a step of a wrong job");
+    wrong.operation = RUN;
+    both(&wrong, "a run of a wrong job");
+}
+
+/* From a fresh state the steps that a run with choices has picked, and other requests between them. */
+static void repeat_run(struct work *w)
+{
+    static uint16_t picked[SETTLEMENT_MAX_STEPS];
+    unsigned steps, k = w->boxes;
+    w->operation = RUN;
+    w->choices_len = below(TALLIES + 1);
+    for (unsigned c = 0; c < w->choices_len; c++)
+        w->choices[c] = (uint16_t)below(65536);
+    w->lent.picked = SETTLEMENT_MAX_STEPS;
+    if (both(w, "run"))
+        stop("run", "both builds refuse it");
+    steps = room[1].report[2];
+    memcpy(picked, room[1].picked, sizeof picked);
+    for (unsigned i = 0; i < steps; i++) {
+        w->operation = STEP;
+        w->kind = (uint16_t)(picked[i] / (k * k) + 1), w->first = (uint16_t)(picked[i] / k % k);
+        w->second = (uint16_t)(picked[i] % k);
+        if (both(w, "step") == 0)
+            copy_words(&w->start, &room[1], width_of(w));
+        if (!below(32))
+            request_list(w, &builds, 8);
+    }
+}
+
+static void agree_on_steps(struct work *w)
+{
+    if (!run_some(w, &builds))
+        stop("run", "the statements are not the plain sums");
+    make_fresh(w);
+    wrong_job(w);
+    wrong_job(w);
+    repeat_run(w);
+}
+
 /* ---- all of it ---- */
 
 /* Both builds read a file into tables that hold the old words, some of them short. */
 static void read_file(struct work *w, const struct buffers *old, const struct file *f, const char *what)
 {
     w->operation = READ;
-    memcpy(&w->start, old, LENT_BYTES);
+    memcpy(&w->start, old, BYTES_OF_FILES);
     memcpy(w->start.file, f->bytes, sizeof f->bytes);
     w->file_len = f->len;
     lend_all(&w->lent);
     if (!below(24))
-        lend_short(&w->lent);
+        lend_short(&w->lent, TABLES_OF_FILES);
     files++;
     if (both(w, what) == 0)
         write_back(w, f);
@@ -456,13 +613,16 @@ static void agree_on_files(unsigned long wanted)
         memcpy(good.bytes, job.start.file, sizeof good.bytes);
         good.offers = job.offers;
         good.tallies = job.tallies;
-        fill_at_random(&old, LENT_BYTES);
+        good.lists = job.lists;
+        fill_at_random(&old, BYTES_OF_FILES);
         read_file(&lent, &old, &good, "as written");
         for (unsigned i = 0; i < 39 && files < wanted; i++) {
             edited = good;
             const char *what = edit(&edited);
             read_file(&lent, &old, &edited, what);
         }
+        if (EARLIER_STEPS)
+            agree_on_steps(&job);
     }
 }
 
@@ -486,9 +646,13 @@ static void agree(unsigned long wanted)
 {
     seed = 20260105;
     agree_on_files(wanted);
-    printf("before and now: the same answers and words of %lu files\n", files);
-    bool all = tell_answers("reader", answers[0], " 1 2 3 4 5 6 7 8 9 20 ");
-    all = tell_answers("writer", answers[1], " 4 6 7 8 9 20 ") && all;
+    printf("before and now: the same answers and words of %lu files%s\n", files, EARLIER_STEPS ? " and their jobs" : "");
+    bool all = tell_answers("reader", answers[READ], " 1 2 3 4 5 6 7 8 9 20 ");
+    all = tell_answers("writer", answers[WRITE], " 4 6 7 8 9 20 ") && all;
+    if (EARLIER_STEPS) {
+        all = tell_answers("step", answers[STEP], " 9 20 21 22 23 24 25 26 ") && all;
+        all = tell_answers("run", answers[RUN], " 9 20 21 ") && all;
+    }
     if (!all) {
         puts("before: some answer was not met");
         exit(1);
@@ -497,17 +661,21 @@ static void agree(unsigned long wanted)
 
 /* ---- time ---- */
 
-static const struct {
-    const char *what;
-    enum operation operation;
-    unsigned issuers, bags;
-} items[] = {
-    { "reader, the longest file", READ, 1, 0 },
-    { "reader, many issuers", READ, 65536, 0 },
-    { "reader, tallies in bags", READ, 1, 65535 },
-    { "writer, the same job", WRITE, 1, 0 },
-    { "writer, tallies in bags", WRITE, 1, 65535 },
-};
+/* Whether both builds have this call, with these price lists. */
+static bool both_have(const struct item *item)
+{
+    bool steps = item->operation == STEP || item->operation == RUN;
+    return item->operation != RECONCILE && (EARLIER_STEPS || !steps) && item->shape.lists <= EARLIER_LISTS;
+}
+
+static void prepare_job(struct work *w, const struct item *item, unsigned number)
+{
+    if (!prepare(w, item, true, number, &present, &room[0]))
+        stop("measured", "no step of this kind is permitted");
+    size_t answer = both(w, "measured");
+    if (item->operation == WRITE ? answer < BLOCK : answer)
+        stop("measured", "the largest job is refused");
+}
 
 static void table(void)
 {
@@ -515,18 +683,14 @@ static void table(void)
     static double t[2][ROUNDS];
     const struct side sides[2] = { { &before, works }, { &present, works } };
     printf("%-31s | %10s | %10s | %10s\n", "what", "before, us", "now, us", "now/before");
-    for (unsigned i = 0; i < sizeof items / sizeof *items; i++) {
-        for (unsigned k = 0; k < JOBS; k++) {
-            make_measured(&works[k], true, items[i].issuers, items[i].bags, k);
-            works[k].operation = WRITE;
-            works[k].file_len = call(&present, &works[k], &works[k].start);
-            works[k].operation = items[i].operation;
-            if (both(&works[k], "measured") != (items[i].operation == READ ? 0 : works[k].file_len))
-                stop("measured", "the longest file is refused");
-        }
+    for (const struct item *item = items; item < items + items_number; item++) {
+        if (!both_have(item))
+            continue;
+        for (unsigned k = 0; k < JOBS; k++)
+            prepare_job(&works[k], item, k);
         unsigned n = rounds(sides, 2, room, t);
         double ratio = median_ratio(t[1], t[0], n), a = median(t[0], n) / 1000, b = median(t[1], n) / 1000;
-        printf("%-31s | %10.1f | %10.1f | %10.2f\n", items[i].what, a, b, ratio);
+        printf("%-31s | %10.1f | %10.1f | %10.2f\n", item->what, a, b, ratio);
         fflush(stdout);
     }
 }

@@ -5,44 +5,54 @@
 
 /* ---- the calls ---- */
 
-#define LENT(table) b->table, w->lent.table
-#define WORDS(x) (x), sizeof(x) / sizeof *(x)
-#define SIZES w->boxes, w->grocers, w->offers, w->tallies
-#define TABLES                                                                                                        \
-    SIZES, WORDS(b->price), WORDS(b->offer_owner), WORDS(b->grocer_owner), WORDS(b->tally_grocer),                    \
-        WORDS(b->tally_box), WORDS(b->tally_offer), WORDS(b->tally_count), WORDS(b->tally_bag),                       \
-        WORDS(b->tally_revision), WORDS(b->known), WORDS(b->price_transit), b->working, w->working_len,               \
-        b->total_transit, w->total_transit_len, WORDS(b->statement), WORDS(b->done), WORDS(b->sent)
-
 size_t call(const struct calls *c, const struct work *w, struct buffers *b)
 {
+    if (c->other)
+        return c->other(w, b);
     switch (w->operation) {
     case READ:
-        return c->read(b->file, w->file_len, LENT(price), LENT(offer_owner), LENT(offer_code),
-                       LENT(offer_issuer), LENT(grocer_owner), LENT(tally_grocer), LENT(tally_box),
-                       LENT(tally_code), LENT(tally_count), LENT(tally_issuer), LENT(tally_bag),
-                       LENT(tally_revision), LENT(tally_offer), LENT(sizes));
+        return c->read(READER_TABLES);
     case WRITE:
-        return c->write(SIZES, w->cycle, LENT(price), LENT(offer_owner), LENT(offer_code),
-                        LENT(offer_issuer), LENT(grocer_owner), LENT(tally_grocer), LENT(tally_box),
-                        LENT(tally_code), LENT(tally_count), LENT(tally_issuer), LENT(tally_bag),
-                        LENT(tally_revision), LENT(file));
+        return c->write(SIZES, w->cycle, w->lists, WRITER_TABLES);
     case STEP:
-        return c->step(TABLES, w->kind, w->first, w->second);
+        return c->step(SIZES, w->lists, STEP_TABLES, REQUEST);
     case RUN:
-        return c->run(TABLES, w->choices, w->choices_len, b->picked, w->picked_len, WORDS(b->report));
+        return c->run(SIZES, w->lists, STEP_TABLES, CHOICES);
     case RECONCILE:
         return c->reconcile(b->tally_grocer, w->tallies, b->tally_box, w->tallies, b->tally_offer, w->tallies,
                             b->tally_count, w->tallies, b->tally_bag, w->tallies, b->tally_revision, w->tallies,
-                            WORDS(b->price), w->grocers, w->offers, w->wanted, WORDS(b->owed));
+                            LENT(price), w->grocers, w->offers, w->wanted, LENT(owed));
     }
     return 0;
 }
 
 void lend_all(struct lengths *lent)
 {
-#define TABLE(type, name, words) lent->name = (words) + MORE;
-    FILE_TABLES(TABLE)
+#define TABLE(type, name, entries, most) lent->name = (entries) * (most) + MORE;
+    ALL_TABLES(TABLE)
+#undef TABLE
+}
+
+/* ---- their words ---- */
+
+static unsigned minimum(unsigned a, unsigned b) { return a < b ? a : b; }
+
+unsigned width_of(const struct work *w) { return minimum(w->lists, WIDEST - 1) + 1; }
+
+/* The bytes of a table. */
+#define BYTES(type, entries, most) (((entries) * (size_t)minimum(most, width) + MORE) * sizeof(type))
+
+void copy_words(struct buffers *to, const struct buffers *from, unsigned width)
+{
+#define TABLE(type, name, entries, most) memcpy(to->name, from->name, BYTES(type, entries, most));
+    ALL_TABLES(TABLE)
+#undef TABLE
+}
+
+bool same_words(const struct buffers *a, const struct buffers *b, unsigned width)
+{
+#define TABLE(type, name, entries, most) &&!memcmp(a->name, b->name, BYTES(type, entries, most))
+    return true ALL_TABLES(TABLE);
 #undef TABLE
 }
 
@@ -88,7 +98,7 @@ void make_job(struct work *w, unsigned k, unsigned m, unsigned n, unsigned t)
     struct buffers *b = &w->start;
     memset(w, 0, sizeof *w);
     lend_all(&w->lent);
-    w->working_len = w->total_transit_len = TOTALS + MORE;
+    w->lent.picked = 0;
     w->boxes = (uint16_t)k;
     w->grocers = (uint16_t)m;
     w->offers = (uint16_t)n;
@@ -172,17 +182,25 @@ void give_bags(struct work *w, unsigned least, unsigned bags)
     }
 }
 
-void make_measured(struct work *w, bool whole, unsigned issuers, unsigned bags, unsigned number)
+void give_lists(struct work *w, unsigned lists)
+{
+    w->lists = (uint16_t)lists;
+    for (unsigned i = w->offers; i < w->offers * (lists + 1); i++)
+        w->start.price[i] = below(10000000);
+}
+
+void make_measured(struct work *w, bool whole, struct shape shape, unsigned number)
 {
     seed = 977 + number;
     if (whole)
         make_job(w, BOXES, GROCERS, OFFERS, TALLIES);
     else
         make_job(w, BOXES, GROCERS / 10, OFFERS / 10, TALLIES / 10);
-    if (issuers > 1)
-        give_issuers(w, issuers);
-    if (bags)
-        give_bags(w, 1, bags);
+    if (shape.issuers > 1)
+        give_issuers(w, shape.issuers);
+    if (shape.bags)
+        give_bags(w, 1, shape.bags);
+    give_lists(w, shape.lists);
 }
 
 void store_sums(uint8_t *block)

@@ -13,7 +13,7 @@ static double now(void)
 
 static double timed(const struct calls *c, const struct work *w, struct buffers *b)
 {
-    *b = w->start;
+    copy_words(b, &w->start, width_of(w));
     double start = now();
     call(c, w, b);
     return now() - start;

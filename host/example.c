@@ -64,12 +64,21 @@ static uint16_t settle_by_run(const struct settlement_job *j, struct settlement_
     return settlement_run_job(j, s, NULL, 0, NULL, 0, report);
 }
 
+/* A grocer's line: its amount on each list, those of additional lists after the first. */
+static void print_grocer(size_t grocer, uint16_t lists, const int64_t *amounts)
+{
+    printf("%zu", grocer);
+    for (size_t q = 0; q <= lists; q++)
+        printf(" %" PRId64, amounts[q]);
+    putchar('\n');
+}
+
 static void print_settlement(const char *title, const struct settlement_job *j, const struct settlement_state *s,
                              const uint32_t *report)
 {
     printf("%s, amounts in tenths of a cent\n", title);
     for (size_t g = 0; g < j->grocers; g++)
-        printf("%zu %" PRId64 "\n", g, s->statement[g]);
+        print_grocer(g, j->lists, &s->statement[g * (j->lists + 1u)]);
     printf("words %" PRIu32 "\n", report[SENT]);
     printf("messages %" PRIu32 "\n", report[MESSAGES]);
     printf("steps %" PRIu32 "\n", report[STEPS]);
@@ -97,7 +106,8 @@ static int settle(const uint8_t *file, size_t length)
         return refused(answer);
     print_settlement("by steps", &job, &by_steps, steps_report);
     print_settlement("by a run", &job, &by_run, run_report);
-    int alike = memcmp(by_steps.statement, by_run.statement, job.grocers * sizeof by_run.statement[0]) == 0 &&
+    size_t words = job.grocers * (job.lists + 1u);
+    int alike = memcmp(by_steps.statement, by_run.statement, words * sizeof by_run.statement[0]) == 0 &&
                 memcmp(steps_report, run_report, sizeof run_report) == 0;
     puts(alike ? "equal" : "different");
     return alike ? 0 : 1;

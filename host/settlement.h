@@ -21,16 +21,25 @@
  *
  * ANSWERS
  * 0: accepted. Any other number is a refusal, the first condition met in the order that stands at each call;
- * a refused call has changed no word of any buffer. Every input has an answer: K, M, N, T, the request and all words
- * may be anything, as long as the buffers are as above. The numbers have names below, SETTLEMENT_ACCEPTED and so on.
+ * a refused call has changed no word of any buffer. Every input has an answer: K, M, N, T, lists, the request and all
+ * words may be anything, as long as the buffers are as above. The numbers have names below, SETTLEMENT_ACCEPTED and so
+ * on.
  *
  * NUMBERS
  * Boxes, grocers, offers, tallies and places are numbered from 0. K boxes 1 to 16, M grocers 1 to 255, N offers 1 to
  * 500, T tallies 0 to 1,000. Owners and boxes are below K, tally_grocer below M, tally_offer below N. A price is 0 to
  * 9,999,999 tenths of a cent, a count -99,999 to 99,999, an amount within +-10^15 tenths of a cent.
  *
+ * PRICE LISTS
+ * One evening may be settled under several price lists at once. `lists` is the number of ADDITIONAL ones, 0 to 7: 0 for
+ * one list. L below is lists + 1, the number of all of them, and lists are numbered from 0: list 0 is the first, which
+ * every evening has. Tallies, owners, steps and messages are the same for all; each list has its own prices, totals and
+ * statements, and they are those of an evening that had this list alone. A message has for each price or total one word
+ * of each list, in the order of lists.
+ *
  * TABLES OF A JOB              words  word i
- *   price          uint32_t    N      price of offer i, in tenths of a cent
+ *   price          uint32_t    N L    list after list: word q N + i is the price of offer i on list q, in tenths of a
+ *                                     cent
  *   offer_owner    uint16_t    N      box that owns offer i
  *   grocer_owner   uint16_t    M      box that owns grocer i
  *   tally_grocer   uint16_t    T      grocer of tally i
@@ -57,27 +66,31 @@
  * refused (9), also under a higher revision. Files of before have 0 in both fields and settle as before.
  *
  * TABLES OF A STATE            words  what stands where
- *   known          uint32_t    K N    price of offer o that box b knows, in tenths of a cent: word b N + o
- *   price_transit  uint32_t    K N    price of offer o sent to box b and not yet received, in tenths: word b N + o
- *   working        int64_t     packed working total of a box and grocer, in tenths: see PACKED TOTALS
+ *   known          uint32_t    K N L  price of offer o on list q that box b knows, in tenths of a cent: word
+ *                                     (b N + o) L + q
+ *   price_transit  uint32_t    K N L  price of offer o on list q sent to box b and not yet received: likewise
+ *   working        int64_t     packed working total of a box and grocer on a list, in tenths: see PACKED TOTALS
  *   total_transit  int64_t     packed total of a grocer sent by a box and not yet received, in tenths: likewise
- *   statement      int64_t     M      statement of grocer g, what it is owed, in tenths of a cent: word g
+ *   statement      int64_t     M L    statement of grocer g on list q, what it is owed, in tenths: word g L + q
  *   done           uint16_t    6 K K  1 where the step of kind, first and second is done, else 0: word
  *                                     ((kind - 1) K + first) K + second
- *   sent           uint32_t    1      words sent so far, 0 to 1,000,000
- * A fresh state has the price of each offer known in the box that owns it (word offer_owner[o] N + o of known), and 0
- * in every other word.
+ *   sent           uint32_t    1      words sent so far, 0 to 1,000,000; each price or total sent counts L words
+ * So the lists of an offer or grocer stand side by side in a state, where a job's prices have list after list. A fresh
+ * state has the prices of each offer known in the box that owns it (word (offer_owner[o] N + o) L + q of known is word
+ * q N + o of price), and 0 in every other word. With one list, L is 1: known has word b N + o, statement word g, and a
+ * host of one list lends tables as short as that.
  *
  * PACKED TOTALS
- * working has a word for each local grocer of each box, and for no other. The local grocers of a box are those it owns,
- * ascending, whether or not anyone holds a tally of them; then those of other boxes of which it holds a tally that
- * stands, by owner and then by number. That is the order of its local book. Several tallies of one grocer in one box
- * make one word, and a superseded tally makes none. The words of box 0 come first, then those of box 1, and so on.
+ * working has a place for each local grocer of each box, and for no other; at a place stand L words, one of each list,
+ * so place p has on list q word p L + q. The local grocers of a box are those it owns, ascending, whether or not anyone
+ * holds a tally of them; then those of other boxes of which it holds a tally that stands, by owner and then by number.
+ * That is the order of its local book. Several tallies of one grocer in one box make one place, and a superseded tally
+ * makes none. The places of box 0 come first, then those of box 1, and so on.
  * total_transit has the same places: a total that box b has sent stands where box b's working total of that grocer has
  * its place, whichever box is to receive it.
  *
  * In the small evening of docs/EVENING.md box 0 owns grocer 1 and holds tallies of grocers 0 and 1; box 1 owns grocer 0
- * and holds tallies of it alone. So each of the two tables has three words:
+ * and holds tallies of it alone. So each of the two tables has three places, and with one list as many words:
  *
  *     word        0            1            2
  *           +------------+------------+------------+
@@ -86,17 +99,26 @@
  *           |  own       |  of box 1  |  own       |
  *           |--------- box 0 ---------|--- box 1 --|
  *
- * How many words there are goes by the owners of grocers and the tallies that stand, not by K, M, N and T alone: one
+ * The same evening with a second list: each place has two words, those of list 0 and of list 1.
+ *
+ *     word     0      1      2      3      4      5
+ *           +------+------+------+------+------+------+
+ *           |list 0|list 1|list 0|list 1|list 0|list 1|
+ *           +------+------+------+------+------+------+
+ *           |  grocer 1   |  grocer 0   |  grocer 0   |
+ *           |---------- box 0 ----------|--- box 1 ---|
+ *
+ * How many places there are goes by the owners of grocers and the tallies that stand, not by K, M, N and T alone: one
  * for each grocer, in the box that owns it, and one for each other box that holds a standing tally of it. A host need
- * not count them: M + T words are always enough, and SETTLEMENT_MAX_WORKING for every job. Words past those that the
- * job has are not looked at.
+ * not count them: (M + T) L words are always enough, and SETTLEMENT_MAX_WORKING for every job. Words past those that
+ * the job has are not looked at.
  *
  * A SETTLEMENT BY STEPS
  * It starts from a fresh state of a job in range that does not meet 9, and from then on only settlement_step writes the
  * state. The job has 2 K + 2 x (messages) steps. Each is accepted once, in any order in which it is ready; a refused
  * request changes nothing and may be made again later. The settlement is finished when every step that the job has is
- * done: then statement has the plain sums over the tallies that stand, and working, price_transit and total_transit
- * have 0 alone. Until then some step is ready. So a host knows that it is finished
+ * done: then statement has the plain sums over the tallies that stand, list by list, and working, price_transit and
+ * total_transit have 0 alone. Until then some step is ready. So a host knows that it is finished
  * - by asking: it has asked for every kind 1 to 6 with every first and second below K, no table lent short, and none
  *   was accepted. Each was then answered 23, 24 or 25, and none 26.
  * - or by counting: as many requests were accepted as settlement_run says in report[2] for the same job, whatever its
@@ -115,28 +137,34 @@
 /* The version of this interface. It is raised by one whenever a call's list of arguments, a struct's layout, the value
  * of a constant or the meaning of a word changes: a host is then compiled anew, with the header and the archive of one
  * build, after it has read docs/CHANGES.md. A host that needs a certain version says so:
- *     _Static_assert(SETTLEMENT_VERSION == 2, "read what has changed");
+ *     _Static_assert(SETTLEMENT_VERSION == 3, "read what has changed");
+ * 3: several price lists. A step and a run take `lists` after tallies, sizes has a sixth word, and a job file of up to
+ *    102 blocks may hold up to seven lists more. With lists 0 every word stands where it stood.
  * 2: working and total_transit are packed, where 1 had K M words of each, word b M + g for box b and grocer g; and a
  *    step and a run look for 20 on them, and a step for 21, after 9.
  */
-#define SETTLEMENT_VERSION 2
+#define SETTLEMENT_VERSION 3
 
-/* The largest job. */
+/* The largest job; lists are additional ones. */
 #define SETTLEMENT_MAX_BOXES 16
 #define SETTLEMENT_MAX_GROCERS 255
 #define SETTLEMENT_MAX_OFFERS 500
 #define SETTLEMENT_MAX_TALLIES 1000
+#define SETTLEMENT_MAX_LISTS 7
 
-/* Bytes of the longest job file (74 blocks of 512), and of a code in its table. */
-#define SETTLEMENT_MAX_FILE 37888
+/* Bytes of the longest job file (102 blocks of 512), and of a code in its table. */
+#define SETTLEMENT_MAX_FILE 52224
 #define SETTLEMENT_CODE 11
 
 /* Words of the tables that the largest job needs and that are not one for each grocer, offer or tally. For working and
- * total_transit: the most that any job needs, a word for each grocer and one for each tally. */
+ * total_transit: the most that any job needs, a place for each grocer and one for each tally, a word of each list. */
+#define SETTLEMENT_MAX_WIDTH (SETTLEMENT_MAX_LISTS + 1)
+#define SETTLEMENT_MAX_PRICES (SETTLEMENT_MAX_OFFERS * SETTLEMENT_MAX_WIDTH)
 #define SETTLEMENT_MAX_OFFER_CODES (SETTLEMENT_MAX_OFFERS * SETTLEMENT_CODE)
 #define SETTLEMENT_MAX_TALLY_CODES (SETTLEMENT_MAX_TALLIES * SETTLEMENT_CODE)
-#define SETTLEMENT_MAX_KNOWN (SETTLEMENT_MAX_BOXES * SETTLEMENT_MAX_OFFERS)
-#define SETTLEMENT_MAX_WORKING (SETTLEMENT_MAX_GROCERS + SETTLEMENT_MAX_TALLIES)
+#define SETTLEMENT_MAX_KNOWN (SETTLEMENT_MAX_BOXES * SETTLEMENT_MAX_PRICES)
+#define SETTLEMENT_MAX_WORKING ((SETTLEMENT_MAX_GROCERS + SETTLEMENT_MAX_TALLIES) * SETTLEMENT_MAX_WIDTH)
+#define SETTLEMENT_MAX_STATEMENT (SETTLEMENT_MAX_GROCERS * SETTLEMENT_MAX_WIDTH)
 #define SETTLEMENT_MAX_DONE (6 * SETTLEMENT_MAX_BOXES * SETTLEMENT_MAX_BOXES)
 #define SETTLEMENT_SENT 1
 
@@ -145,8 +173,8 @@
 #define SETTLEMENT_MAX_MESSAGES (2 * SETTLEMENT_MAX_BOXES * (SETTLEMENT_MAX_BOXES - 1))
 #define SETTLEMENT_MAX_STEPS (2 * SETTLEMENT_MAX_BOXES + 2 * SETTLEMENT_MAX_MESSAGES)
 
-/* Words of `sizes` (K, M, N, T and the settlement cycle) and of `report` (words sent, messages, steps). */
-#define SETTLEMENT_SIZES 5
+/* Words of `sizes` (K, M, N, T, the settlement cycle and lists) and of `report` (words sent, messages, steps). */
+#define SETTLEMENT_SIZES 6
 #define SETTLEMENT_REPORT 3
 
 /* Answers: accepted, or what is refused. */
@@ -154,14 +182,14 @@
 #define SETTLEMENT_BAD_LENGTH 1     /* of the file: empty, not of whole blocks, too long, or not as its header says */
 #define SETTLEMENT_DAMAGED 2        /* the sums of a block differ from those stored */
 #define SETTLEMENT_NOT_DUE 3        /* kind, block number or record count of a block */
-#define SETTLEMENT_BAD_HEADER 4     /* byte 5, K, M, N or T of the header */
+#define SETTLEMENT_BAD_HEADER 4     /* byte 5, K, M, N, T or lists of the header */
 #define SETTLEMENT_SPARE_BYTE 5     /* a spare byte is not 0 */
 #define SETTLEMENT_BAD_FIELD 6      /* of a record */
 #define SETTLEMENT_SHARED_NUMBER 7  /* of two offers, under one issuer */
 #define SETTLEMENT_UNKNOWN_CODE 8   /* of a tally, under its issuer */
 #define SETTLEMENT_COUNTED_TWICE 9  /* one bag and revision, for a grocer and offer */
 #define SETTLEMENT_SHORT 20         /* a lent table */
-#define SETTLEMENT_OUT_OF_RANGE 21  /* K, M, N, T or a word of a table, or a word that the step would leave */
+#define SETTLEMENT_OUT_OF_RANGE 21  /* K, M, N, T, lists or a word of a table, or a word that the step would leave */
 #define SETTLEMENT_BAD_KIND 22      /* not 1 to 6 */
 #define SETTLEMENT_BAD_BOXES 23     /* not below K, or equal where they must differ, or the reverse */
 #define SETTLEMENT_EMPTY_MESSAGE 24 /* the job has no such step */
@@ -180,21 +208,22 @@
 extern "C" {
 #endif
 
-/* Reads the bytes of a job file into the tables of a job, K, M, N and T into sizes[0] to sizes[3], and the settlement
- * cycle into sizes[4]. The cycle is any number of 16 bits, 0 included: none is refused, and no other call is lent it.
+/* Reads the bytes of a job file into the tables of a job, K, M, N and T into sizes[0] to sizes[3], the settlement cycle
+ * into sizes[4], and the number of additional price lists into sizes[5]. The cycle is any number of 16 bits, 0
+ * included: none is refused, and no other call is lent it.
  *
- * Needed lengths do not depend on the file: price, offer_owner, offer_issuer 500; offer_code 5,500; grocer_owner 255;
- * tally_grocer, tally_box, tally_count, tally_issuer, tally_bag, tally_revision, tally_offer 1,000; tally_code 11,000;
- * sizes 5. An accepted file writes the first M, N or T entries of each table, as above, superseded tallies too, and no
- * others.
+ * Needed lengths do not depend on the file: price 4,000; offer_owner, offer_issuer 500; offer_code 5,500; grocer_owner
+ * 255; tally_grocer, tally_box, tally_count, tally_issuer, tally_bag, tally_revision, tally_offer 1,000; tally_code
+ * 11,000; sizes 6. An accepted file writes the first words of each table that the job has, as above, superseded tallies
+ * too, and no others.
  *
  * Refusals, in the order in which they are looked for: 20, then 1; then of the header 2, 3, 4, 5 and 1 (the block
  * count); then of each other block, ascending, 2, 3, 5, 6; then 7, 8, 9.
  *   20  a table shorter than said above
- *    1  length 0, not a multiple of 512, over 74 blocks, or not the block count that the header's sizes make
+ *    1  length 0, not a multiple of 512, over 102 blocks, or not the block count that the header's sizes make
  *    2  the sums of a block differ from those stored
  *    3  kind, block number or record count of a block not as due
- *    4  byte 5, K, M, N or T of the header outside its values
+ *    4  byte 5, byte 14 (lists), K, M, N or T of the header outside its values
  *    5  a spare byte not 0
  *    6  a record with a field outside its range, an owner, box or grocer too large, a bad digit, or a byte after the
  *       digits not 0
@@ -239,15 +268,17 @@ uint16_t settlement_read(
  * 4 or 5 may come before 2, and 5 is ready from the start where the box holds no tally of its own grocers.
  *
  * An accepted step writes what its line says, and no other word: its word of done becomes 1; 1 puts the prices into
- * price_transit, 4 the totals into total_transit, and both raise sent by the number of words in the message; 3 puts the
- * prices into known; 3 and 6 set the words that they receive to 0 in price_transit or total_transit.
+ * price_transit, 4 the totals into total_transit, and both raise sent by the number of words in the message, L for each
+ * price or total; 3 puts the prices into known; 3 and 6 set the words that they receive to 0 in price_transit or
+ * total_transit.
  *
- * Needed lengths are the words of the tables above, from K, M, N and T as given; sent 1. Those of working and
- * total_transit go by the job's words (PACKED TOTALS), so they are looked at once these are known to be in range.
+ * Needed lengths are the words of the tables above, from K, M, N, T and lists as given (65,535 lists ask for 65,536 N
+ * prices); sent 1. Those of working and total_transit go by the job's words (PACKED TOTALS), so they are looked at once
+ * these are known to be in range.
  *
  * Refusals, in the order in which they are looked for:
  *   20  a table other than working and total_transit shorter than needed
- *   21  K, M, N, T or a needed word of such a table outside its range, a done mark not 0 or 1
+ *   21  K, M, N, T, lists or a needed word of such a table outside its range, a done mark not 0 or 1
  *    9  one bag and revision twice for a grocer and offer, the bag not 0
  *   20  working or total_transit shorter than needed
  *   21  a needed word of working or total_transit outside its range
@@ -256,10 +287,10 @@ uint16_t settlement_read(
  *   24  an empty message: the job has no such step
  *   25  already done
  *   26  not ready
- *   21  again: a word that the step would leave is outside its range
+ *   21  again: a word that the step would leave, on any list, is outside its range
  */
 uint16_t settlement_step(
-    uint16_t boxes, uint16_t grocers, uint16_t offers, uint16_t tallies,
+    uint16_t boxes, uint16_t grocers, uint16_t offers, uint16_t tallies, uint16_t lists,
     const uint32_t *price, size_t price_len,
     const uint16_t *offer_owner, size_t offer_owner_len,
     const uint16_t *grocer_owner, size_t grocer_owner_len,
@@ -287,19 +318,20 @@ uint16_t settlement_step(
  * word 10 is kind 3, first 1 and second 0, since ((3 - 1) x 2 + 1) x 2 + 0 = 10; back from a place p, kind is
  * p / (K K) + 1, first p / K % K and second p % K. Words of picked past the steps stay as they were. Where the order is
  * not asked for, lend any object and 0; SETTLEMENT_MAX_STEPS words hold the steps of every job.
- * report[0] is the number of words sent, report[1] of messages sent, report[2] of steps.
+ * report[0] is the number of words sent, L for each price or total; report[1] of messages sent, report[2] of steps.
  *
- * Needed lengths are the words of the tables above, from K, M, N and T as given; sent 1, report 3; those of working and
- * total_transit go by the job's words (PACKED TOTALS). choices and picked need none, and no length of them is refused.
+ * Needed lengths are the words of the tables above, from K, M, N, T and lists as given; sent 1, report 3; those of
+ * working and total_transit go by the job's words (PACKED TOTALS). choices and picked need none, and no length of them
+ * is refused.
  *
  * Refusals, in the order in which they are looked for:
  *   20  a table other than working and total_transit, or the report, shorter than needed
- *   21  K, M, N, T or a needed word of a table of the job outside its range
+ *   21  K, M, N, T, lists or a needed word of a table of the job outside its range
  *    9  one bag and revision twice for a grocer and offer, the bag not 0
  *   20  working or total_transit shorter than needed
  */
 uint16_t settlement_run(
-    uint16_t boxes, uint16_t grocers, uint16_t offers, uint16_t tallies,
+    uint16_t boxes, uint16_t grocers, uint16_t offers, uint16_t tallies, uint16_t lists,
     const uint32_t *price, size_t price_len,
     const uint16_t *offer_owner, size_t offer_owner_len,
     const uint16_t *grocer_owner, size_t grocer_owner_len,
@@ -328,14 +360,16 @@ uint16_t settlement_run(
  * Two structs with the tables of the largest job, and the three calls on them: each table stands in its place once,
  * here, and is lent whole. A host need not use any of this. It is plain C, which nothing proves.
  *
- * A job has about 37,000 bytes and a state 89,000: they belong in static memory or on the heap, not on a small stack.
- * SETTLEMENT_READ_INTO and SETTLEMENT_LENT take other structs as well, with more members or, for a step and a run, with
- * smaller tables, as long as these are arrays with the names below, and not pointers.
+ * A job has about 51,000 bytes and a state, with room for eight lists, 692,000: they belong in static memory or on the
+ * heap, not on a small stack. SETTLEMENT_READ_INTO and SETTLEMENT_LENT take other structs as well, with more members
+ * or, for a step and a run, with smaller tables, as long as these are arrays with the names below, and not pointers: a
+ * state of one list needs no more than 89,000 bytes.
  */
 struct settlement_job {
     uint16_t boxes, grocers, offers, tallies; /* K, M, N, T */
     uint16_t cycle;
-    uint32_t price[SETTLEMENT_MAX_OFFERS]; /* tenths of a cent */
+    uint16_t lists; /* additional price lists */
+    uint32_t price[SETTLEMENT_MAX_PRICES]; /* tenths of a cent, list after list */
     uint16_t offer_owner[SETTLEMENT_MAX_OFFERS];
     uint8_t offer_code[SETTLEMENT_MAX_OFFER_CODES];
     uint16_t offer_issuer[SETTLEMENT_MAX_OFFERS];
@@ -355,7 +389,7 @@ struct settlement_state {
     uint32_t price_transit[SETTLEMENT_MAX_KNOWN];   /* tenths of a cent */
     int64_t working[SETTLEMENT_MAX_WORKING];        /* tenths of a cent, packed */
     int64_t total_transit[SETTLEMENT_MAX_WORKING];  /* tenths of a cent, packed */
-    int64_t statement[SETTLEMENT_MAX_GROCERS];      /* tenths of a cent */
+    int64_t statement[SETTLEMENT_MAX_STATEMENT];    /* tenths of a cent */
     uint16_t done[SETTLEMENT_MAX_DONE];
     uint32_t sent[SETTLEMENT_SENT];
 };
@@ -373,7 +407,7 @@ struct settlement_state {
 
 /* The arguments that settlement_step and settlement_run begin with; j points to a job, s to a state. */
 #define SETTLEMENT_LENT(j, s)                                                                                          \
-    (j)->boxes, (j)->grocers, (j)->offers, (j)->tallies,                                                               \
+    (j)->boxes, (j)->grocers, (j)->offers, (j)->tallies, (j)->lists,                                                   \
     SETTLEMENT_TABLE((j)->price), SETTLEMENT_TABLE((j)->offer_owner), SETTLEMENT_TABLE((j)->grocer_owner),             \
     SETTLEMENT_TABLE((j)->tally_grocer), SETTLEMENT_TABLE((j)->tally_box), SETTLEMENT_TABLE((j)->tally_offer),         \
     SETTLEMENT_TABLE((j)->tally_count), SETTLEMENT_TABLE((j)->tally_bag), SETTLEMENT_TABLE((j)->tally_revision),       \
@@ -381,8 +415,8 @@ struct settlement_state {
     SETTLEMENT_TABLE((s)->total_transit), SETTLEMENT_TABLE((s)->statement), SETTLEMENT_TABLE((s)->done),               \
     SETTLEMENT_TABLE((s)->sent)
 
-/* settlement_read into a job, its sizes and its cycle too; a refusal leaves the job as it was. A file of no bytes may
- * be NULL: an object of our own is lent in its place. */
+/* settlement_read into a job, its sizes, cycle and lists too; a refusal leaves the job as it was. A file of no bytes
+ * may be NULL: an object of our own is lent in its place. */
 static inline uint16_t settlement_read_job(const uint8_t *file, size_t file_len, struct settlement_job *job)
 {
     const uint8_t nothing = 0;
@@ -395,25 +429,30 @@ static inline uint16_t settlement_read_job(const uint8_t *file, size_t file_len,
         job->offers = sizes[2];
         job->tallies = sizes[3];
         job->cycle = sizes[4];
+        job->lists = sizes[5];
     }
     return answer;
 }
 
 /* The fresh state of a job: own prices known, all else 0. Whatever the job holds, no word outside the state is written:
- * where K, M, N or T is out of range, or an owner of an offer is not below K, it is SETTLEMENT_OUT_OF_RANGE, and the
- * state stays as it was. */
+ * where K, M, N, T or lists is out of range, or an owner of an offer is not below K, it is SETTLEMENT_OUT_OF_RANGE, and
+ * the state stays as it was. */
 static inline uint16_t settlement_make_fresh(const struct settlement_job *job, struct settlement_state *state)
 {
+    const size_t width = (size_t)job->lists + 1;
     if (job->boxes < 1 || job->boxes > SETTLEMENT_MAX_BOXES || job->grocers < 1 ||
         job->grocers > SETTLEMENT_MAX_GROCERS || job->offers < 1 || job->offers > SETTLEMENT_MAX_OFFERS ||
-        job->tallies > SETTLEMENT_MAX_TALLIES)
+        job->tallies > SETTLEMENT_MAX_TALLIES || job->lists > SETTLEMENT_MAX_LISTS)
         return SETTLEMENT_OUT_OF_RANGE;
     for (size_t o = 0; o < job->offers; o++)
         if (job->offer_owner[o] >= job->boxes)
             return SETTLEMENT_OUT_OF_RANGE;
     memset(state, 0, sizeof *state);
-    for (size_t o = 0; o < job->offers; o++)
-        state->known[(size_t)job->offer_owner[o] * job->offers + o] = job->price[o];
+    for (size_t o = 0; o < job->offers; o++) {
+        uint32_t *word = &state->known[((size_t)job->offer_owner[o] * job->offers + o) * width];
+        for (size_t q = 0; q < width; q++)
+            word[q] = job->price[q * job->offers + o];
+    }
     return SETTLEMENT_ACCEPTED;
 }
 

@@ -21,8 +21,8 @@ gives() { # gives STATUS OUTPUT ERRORS COMMAND..: whether a command ends so and 
     cmp "$output" $out/output && cmp "$errors" $out/errors && [ $status -eq "$due" ]
 }
 
-# In front of a command: it runs with 32 KiB of stack in all.
-small_stack=(bash -c 'ulimit -s 32 && exec env -i LD_BIND_NOW=1 "$@"' -)
+# In front of a command: it runs with 40 KiB of stack in all, 32 for a call of the library and 8 for the start of a program.
+small_stack=(bash -c 'ulimit -s 40 && exec env -i LD_BIND_NOW=1 "$@"' -)
 
 add_result() { # add_result TEXT LOG STATUS: add the last line of a test's log
     local line

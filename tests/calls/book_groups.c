@@ -26,12 +26,12 @@ struct book_case {
 };
 
 static const struct book_case books[] = {
-    {{2, 2, 2, 4}, 0, {2, 2, 2}, {0, 1}, {1, 0}, {0, 1, 2}, {1, 0}, {3, 2}},
-    {{2, 2, 2, 4}, 1, {2, 1, 2}, {1, 0}, {0}, {0, 1, 2}, {0, 0}, {-1, 4}},
-    {{2, 2, 2, 0}, 0, {1, 1, 0}, {0}, {1}, {0, 0}, {0}, {0}},
-    {{2, 2, 2, 1}, 1, {1, 1, 0}, {1}, {0}, {0, 0}, {0}, {0}},
-    {{2, 1, 2, 1}, 0, {1, 1, 1}, {0}, {0}, {0, 1}, {0}, {3}},
-    {{3, 2, 2, 4}, 2, {0, 0, 0}, {0}, {0}, {0}, {0}, {0}},
+    {{2, 2, 2, 4, 0}, 0, {2, 2, 2}, {0, 1}, {1, 0}, {0, 1, 2}, {1, 0}, {3, 2}},
+    {{2, 2, 2, 4, 0}, 1, {2, 1, 2}, {1, 0}, {0}, {0, 1, 2}, {0, 0}, {-1, 4}},
+    {{2, 2, 2, 0, 0}, 0, {1, 1, 0}, {0}, {1}, {0, 0}, {0}, {0}},
+    {{2, 2, 2, 1, 0}, 1, {1, 1, 0}, {1}, {0}, {0, 0}, {0}, {0}},
+    {{2, 1, 2, 1, 0}, 0, {1, 1, 1}, {0}, {0}, {0, 1}, {0}, {3}},
+    {{3, 2, 2, 4, 0}, 2, {0, 0, 0}, {0}, {0}, {0}, {0}, {0}},
 };
 
 static void books_of_sample(void)
@@ -47,6 +47,29 @@ static void books_of_sample(void)
         expect_words(&calling, STARTS, c->starts, (size_t)c->numbers[0] + 1);
         expect_words(&calling, PACKED_GROCERS, c->packed_grocers, (size_t)c->numbers[2]);
         expect_words(&calling, PACKED_COUNTS, c->packed_counts, (size_t)c->numbers[2]);
+        close_calling(&calling);
+    }
+}
+
+/* With any number of lists the book is the same, for it counts entries: a price out of range is refused on each. */
+static void any_lists(void)
+{
+    for (uint16_t lists = 0; lists <= MOST_LISTS; lists++) {
+        sample_with_lists(&calling.job, lists);
+        open_calling(&calling, SPARE);
+        at_case("E with %u lists more", lists);
+        expect_book(calling.job.sizes, 0, 0);
+        expect_words(&calling, NUMBERS, (const int64_t[]){2, 2, 2}, 3);
+        expect_words(&calling, LOCAL_GROCERS, (const int64_t[]){1, 0}, 2);
+        expect_words(&calling, PACKED_COUNTS, (const int64_t[]){3, 2}, 2);
+        for (size_t place = 0; place < 2u * (lists + 1u); place++) {
+            int64_t kept = word_of(&calling, PRICE, place);
+            put_both(&calling.lending, PRICE, place, MOST_PRICE + 1);
+            expect_book(calling.job.sizes, 0, 21);
+            put_both(&calling.lending, PRICE, place, kept);
+        }
+        make_fault(&calling, PRICE, SHORT);
+        expect_book(calling.job.sizes, 0, 20);
         close_calling(&calling);
     }
 }
@@ -82,15 +105,15 @@ static void boxes_and_sizes(void)
         struct sizes sizes;
         uint16_t box, due;
     } tried[] = {
-        {{2, 2, 2, 4}, 2, 23}, {{2, 2, 2, 4}, 65535, 23}, {{2, 3, 2, 4}, 0, 20},
-        {{2, 2, 3, 4}, 0, 20}, {{2, 2, 2, 5}, 0, 20},     {{0, 2, 2, 4}, 0, 21},
-        {{2, 0, 2, 4}, 0, 21}, {{2, 2, 0, 4}, 0, 21},     {{1, 2, 2, 4}, 0, 21},
+        {{2, 2, 2, 4, 0}, 2, 23}, {{2, 2, 2, 4, 0}, 65535, 23}, {{2, 3, 2, 4, 0}, 0, 20},
+        {{2, 2, 3, 4, 0}, 0, 20}, {{2, 2, 2, 5, 0}, 0, 20},     {{0, 2, 2, 4, 0}, 0, 21},
+        {{2, 2, 2, 4, 1}, 0, 20}, {{2, 2, 2, 4, 65535}, 9, 20}, {{2, 0, 2, 4, 0}, 0, 21}, {{2, 2, 0, 4, 0}, 0, 21},     {{1, 2, 2, 4, 0}, 0, 21},
     };
     for (size_t i = 0; i < sizeof tried / sizeof tried[0]; i++) {
         struct sizes sizes = tried[i].sizes;
         open_sample(0);
-        at_case("K %u, M %u, N %u, T %u, box %u", sizes.boxes, sizes.grocers, sizes.offers, sizes.tallies,
-                tried[i].box);
+        at_case("K %u, M %u, N %u, T %u, lists %u, box %u", sizes.boxes, sizes.grocers, sizes.offers, sizes.tallies,
+                sizes.lists, tried[i].box);
         expect_book(sizes, tried[i].box, tried[i].due);
         close_calling(&calling);
     }
@@ -133,20 +156,25 @@ static void sizes_out_of_range(void)
         uint16_t box, due;
         int64_t numbers[3];
     } tried[] = {
-        {{17, 1, 1, 0}, 0, 21, {0}},
-        {{1, 256, 1, 0}, 0, 21, {0}},
-        {{1, 1, 501, 0}, 0, 21, {0}},
-        {{1, 1, 1, 1001}, 0, 21, {0}},
-        {{1, 1, 1, 0}, 0, 0, {1, 1, 0}},
-        {{16, 255, 500, 1000}, 0, 0, {500, 255, 1000}},
-        {{16, 255, 500, 1000}, 15, 0, {0, 0, 0}},
-        {{16, 255, 500, 1000}, 16, 23, {0}},
+        {{17, 1, 1, 0, 0}, 0, 21, {0}},
+        {{1, 256, 1, 0, 0}, 0, 21, {0}},
+        {{1, 1, 501, 0, 0}, 0, 21, {0}},
+        {{1, 1, 1, 1001, 0}, 0, 21, {0}},
+        {{1, 1, 1, 0, 8}, 0, 21, {0}},
+        {{1, 1, 1, 0, 8}, 9, 21, {0}},
+        {{1, 1, 1, 0, 7}, 0, 0, {1, 1, 0}},
+        {{1, 1, 1, 0, 65535}, 0, 20, {0}},
+        {{16, 255, 500, 1000, 7}, 0, 0, {500, 255, 1000}},
+        {{1, 1, 1, 0, 0}, 0, 0, {1, 1, 0}},
+        {{16, 255, 500, 1000, 0}, 0, 0, {500, 255, 1000}},
+        {{16, 255, 500, 1000, 0}, 15, 0, {0, 0, 0}},
+        {{16, 255, 500, 1000, 0}, 16, 23, {0}},
     };
     for (size_t i = 0; i < sizeof tried / sizeof tried[0]; i++) {
         struct sizes sizes = tried[i].sizes;
-        open_zeros(&calling, (struct sizes){17, 256, 501, 1001});
-        at_case("K %u, M %u, N %u, T %u, box %u", sizes.boxes, sizes.grocers, sizes.offers, sizes.tallies,
-                tried[i].box);
+        open_zeros(&calling, (struct sizes){17, 256, 501, 1001, 8});
+        at_case("K %u, M %u, N %u, T %u, lists %u, box %u", sizes.boxes, sizes.grocers, sizes.offers, sizes.tallies,
+                sizes.lists, tried[i].box);
         expect_book(sizes, tried[i].box, tried[i].due);
         if (!tried[i].due) expect_words(&calling, NUMBERS, tried[i].numbers, 3);
         close_calling(&calling);
@@ -265,6 +293,7 @@ static void random_jobs(void)
         ask_book(&calling, sizes, (uint16_t)below(sizes.boxes + 1u));
         sizes.tallies = (uint16_t)below(sizes.tallies + 2u);
         if (one_in(4)) sizes.boxes = wild_number(sizes.boxes);
+        if (one_in(4)) sizes.lists = wild_number(sizes.lists);
         ask_book(&calling, sizes, wild_number(sizes.boxes));
         close_calling(&calling);
     }
@@ -273,11 +302,12 @@ static void random_jobs(void)
 void check_books(void)
 {
     run_group("book: E's boxes, word by word", books_of_sample);
+    run_group("book: any number of price lists", any_lists);
     run_group("book: the order inside an offer's list", order_in_lists);
     run_group("book: boxes and sizes that E does not have", boxes_and_sizes);
     run_group("book: each buffer short", short_buffers);
     run_group("book: each table of the job with a word beyond its range", words_out_of_range);
-    run_group("book: K, M, N and T at and beyond their values", sizes_out_of_range);
+    run_group("book: K, M, N, T and lists at and beyond their values", sizes_out_of_range);
     run_group("book: every box of the largest job", largest_job);
     run_group("book: bags", bags);
     run_group("book: one bag in two boxes, and what the first loses", first_box_loses);

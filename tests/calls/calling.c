@@ -108,7 +108,7 @@ size_t ask_write(struct calling *calling, struct sizes sizes)
     if (!refusal) memcpy(calling->lending.twin[OUT].words, file, length);
     hand_over(&calling->lending, lent);
     size_t answer = entries_write(sizes.boxes, sizes.grocers, sizes.offers, sizes.tallies, calling->job.cycle,
-                                  SLICE(const uint32_t, PRICE), SLICE(const uint16_t, OFFER_OWNER),
+                                  sizes.lists, SLICE(const uint32_t, PRICE), SLICE(const uint16_t, OFFER_OWNER),
                                   SLICE(const uint8_t, OFFER_CODE), SLICE(const uint16_t, OFFER_ISSUER),
                                   SLICE(const uint16_t, GROCER_OWNER), SLICE(const uint16_t, TALLY_GROCER),
                                   SLICE(const uint16_t, TALLY_BOX), SLICE(const uint8_t, TALLY_CODE),
@@ -162,7 +162,7 @@ uint16_t ask_book(struct calling *calling, struct sizes sizes, uint16_t box)
 uint16_t ask_desk(struct calling *calling, struct question question)
 {
     struct table tables[ALL_TABLES], lent[ALL_TABLES];
-    const struct sizes sizes = {MOST_BOXES, question.grocers, question.offers, 0};
+    const struct sizes sizes = {MOST_BOXES, question.grocers, question.offers, 0, 0};
     twins_as_lent(&calling->lending, tables);
     uint16_t due = desk_refusal(sizes, question.wanted, tables);
     if (!due) put_word(tables[OWED], 0, serial_amount(question.wanted, tables));

@@ -111,7 +111,7 @@ static void put_bag(size_t place, uint16_t bag, uint16_t revision)
 static void open_records(const struct desk_case *c)
 {
     size_t room = (c->records < 4 ? 4 : c->records) + 2;
-    open_zeros(&calling, (struct sizes){1, 255, 502, (uint16_t)room});
+    open_zeros(&calling, (struct sizes){1, 255, 502, (uint16_t)room, 0});
     for (size_t i = 0; i < room; i++) put_record(i, c->which == ALL ? c->other : i < 4 ? sample[i] : odd);
     for (size_t i = c->records; i < room; i++) put_bag(i, 7, 1);
     if (c->which == FIRST || c->which == SECOND) put_record(c->which == SECOND, c->other);
@@ -240,6 +240,16 @@ static void one_bag(void)
     close_calling(&calling);
 }
 
+/* The desk has one list: lent the prices of another one, it answers the amount on that. */
+static void ask_on_list(uint16_t wanted, size_t list)
+{
+    struct sizes sizes = calling.job.sizes;
+    for (size_t o = 0; o < sizes.offers; o++) put_both(&calling.lending, PRICE, o, price_on(&calling.job, o, list));
+    lend_records(&calling, sizes.tallies);
+    expect(ask_desk(&calling, (struct question){sizes.grocers, sizes.offers, wanted}) == 0, "the desk refused");
+    expect_owed(wanted, plain_sum(&calling.job, wanted, list), false);
+}
+
 static void random_lists(void)
 {
     for (unsigned long i = 0; i < job_count; i++) {
@@ -252,8 +262,9 @@ static void random_lists(void)
             lend_records(&calling, sizes.tallies);
             uint16_t answer = ask_desk(&calling, (struct question){sizes.grocers, sizes.offers, wanted});
             expect(answer == 0, "the desk refused with %u", answer);
-            expect_owed(wanted, plain_sum(&calling.job, wanted), false);
+            expect_owed(wanted, plain_sum(&calling.job, wanted, 0), false);
         }
+        ask_on_list((uint16_t)below(sizes.grocers), below(sizes.lists + 1u));
         near_bags(&calling);
         ask_desk(&calling, (struct question){sizes.grocers, sizes.offers, (uint16_t)below(sizes.grocers)});
         ask_desk(&calling, (struct question){wild_number(sizes.grocers), wild_number(sizes.offers), wild_number(3)});

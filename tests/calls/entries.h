@@ -10,23 +10,26 @@
 /* Counts of a table of messages, and numbers of a book. */
 enum { ENTRIES_TABLE = 256, ENTRIES_NUMBERS = 3 };
 
-/* K, M, N, T and the tables of a job. */
+/* K, M, N, T, the number of additional price lists and the tables of a job. */
 #define ENTRIES_JOB                                                                                                    \
-    uint16_t boxes, uint16_t grocers, uint16_t offers, uint16_t tallies, const uint32_t *price, size_t price_len,      \
-        const uint16_t *offer_owner, size_t offer_owner_len, const uint16_t *grocer_owner, size_t grocer_owner_len,    \
-        const uint16_t *tally_grocer, size_t tally_grocer_len, const uint16_t *tally_box, size_t tally_box_len,        \
-        const uint16_t *tally_offer, size_t tally_offer_len, const int32_t *tally_count, size_t tally_count_len,       \
-        const uint16_t *tally_bag, size_t tally_bag_len, const uint16_t *tally_revision, size_t tally_revision_len
-
-/* Writes the job file of this cycle into `out`: the answer is the file's length, or the number of the refusal. */
-#define ENTRIES_WRITE                                                                                                  \
-    uint16_t boxes, uint16_t grocers, uint16_t offers, uint16_t tallies, uint16_t cycle, const uint32_t *price,        \
-        size_t price_len, const uint16_t *offer_owner, size_t offer_owner_len, const uint8_t *offer_code,              \
-        size_t offer_code_len, const uint16_t *offer_issuer, size_t offer_issuer_len, const uint16_t *grocer_owner,    \
+    uint16_t boxes, uint16_t grocers, uint16_t offers, uint16_t tallies, uint16_t lists, const uint32_t *price,        \
+        size_t price_len, const uint16_t *offer_owner, size_t offer_owner_len, const uint16_t *grocer_owner,           \
         size_t grocer_owner_len, const uint16_t *tally_grocer, size_t tally_grocer_len, const uint16_t *tally_box,     \
-        size_t tally_box_len, const uint8_t *tally_code, size_t tally_code_len, const int32_t *tally_count,            \
-        size_t tally_count_len, const uint16_t *tally_issuer, size_t tally_issuer_len, const uint16_t *tally_bag,      \
-        size_t tally_bag_len, const uint16_t *tally_revision, size_t tally_revision_len, uint8_t *out, size_t out_len
+        size_t tally_box_len, const uint16_t *tally_offer, size_t tally_offer_len, const int32_t *tally_count,         \
+        size_t tally_count_len, const uint16_t *tally_bag, size_t tally_bag_len, const uint16_t *tally_revision,       \
+        size_t tally_revision_len
+
+/* Writes the job file of this cycle and these price lists into `out`: the answer is the file's length, or the number of
+   the refusal. */
+#define ENTRIES_WRITE                                                                                                  \
+    uint16_t boxes, uint16_t grocers, uint16_t offers, uint16_t tallies, uint16_t cycle, uint16_t lists,               \
+        const uint32_t *price, size_t price_len, const uint16_t *offer_owner, size_t offer_owner_len,                  \
+        const uint8_t *offer_code, size_t offer_code_len, const uint16_t *offer_issuer, size_t offer_issuer_len,       \
+        const uint16_t *grocer_owner, size_t grocer_owner_len, const uint16_t *tally_grocer, size_t tally_grocer_len,  \
+        const uint16_t *tally_box, size_t tally_box_len, const uint8_t *tally_code, size_t tally_code_len,             \
+        const int32_t *tally_count, size_t tally_count_len, const uint16_t *tally_issuer, size_t tally_issuer_len,     \
+        const uint16_t *tally_bag, size_t tally_bag_len, const uint16_t *tally_revision, size_t tally_revision_len,    \
+        uint8_t *out, size_t out_len
 size_t entries_write(ENTRIES_WRITE);
 
 /* What the grocer wanted is owed, into owed[0], by the records that stand within their list. The fields of the records
@@ -40,8 +43,8 @@ size_t entries_write(ENTRIES_WRITE);
         size_t owed_len
 uint16_t entries_reconcile(ENTRIES_RECONCILE);
 
-/* The words of prices and of totals from each box to each other box: word 16 a + b from box a to box b; and the words
-   of the job into job_words[0]. 20 also where a buffer is shorter than 256 words, 256 words and 1 word. */
+/* How many prices and totals each box sends to each other box, whatever the number of lists: word 16 a + b from box a to
+   box b; and those of the job into job_words[0]. 20 also where a buffer is shorter than 256 words, 256 words and 1 word. */
 #define ENTRIES_MESSAGE_TABLES                                                                                         \
     ENTRIES_JOB, uint16_t *price_words, size_t price_words_len, uint16_t *total_words, size_t total_words_len,         \
         uint32_t *job_words, size_t job_words_len

@@ -37,8 +37,9 @@ static void read_file_words(struct job *job, struct sizes sizes, const struct ta
 {
     job->sizes = sizes;
     for (size_t o = 0; o < sizes.offers; o++)
-        job->offer[o] = (struct offer){(uint32_t)word_at(tables[PRICE], o), (uint16_t)word_at(tables[OFFER_OWNER], o),
+        job->offer[o] = (struct offer){0, (uint16_t)word_at(tables[OFFER_OWNER], o),
                                        name_at(tables[OFFER_ISSUER], tables[OFFER_CODE], o)};
+    read_prices(job, tables[PRICE]);
     for (size_t g = 0; g < sizes.grocers; g++) job->grocer_owner[g] = (uint16_t)word_at(tables[GROCER_OWNER], g);
     for (size_t t = 0; t < sizes.tallies; t++)
         job->tally[t] = (struct tally){.grocer = (uint16_t)word_at(tables[TALLY_GROCER], t),
@@ -96,7 +97,7 @@ void write_messages(const struct job *job, const struct table tables[ALL_TABLES]
             put_word(tables[PRICE_WORDS], MOST_BOXES * a + b, price_words(job, a, b));
             put_word(tables[TOTAL_WORDS], MOST_BOXES * a + b, total_words(job, a, b));
         }
-    put_word(tables[JOB_WORDS], 0, words_of_job(job));
+    put_word(tables[JOB_WORDS], 0, entries_of_job(job));
 }
 
 /* The local book */

@@ -8,7 +8,7 @@
 uint16_t model_write(struct sizes sizes, uint16_t cycle, const struct table tables[ALL_TABLES],
                      uint8_t file[MOST_FILE], size_t *length);
 
-/* The words between two boxes: prices from an owner to a holder, totals from a holder to an owner. */
+/* The entries between two boxes: prices from an owner to a holder, totals from a holder to an owner. */
 uint16_t price_words(const struct job *job, size_t sender, size_t receiver);
 uint16_t total_words(const struct job *job, size_t sender, size_t receiver);
 

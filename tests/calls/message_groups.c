@@ -61,6 +61,29 @@ static void tables_of_sample(void)
     close_calling(&calling);
 }
 
+/* With any number of lists the tables are the same, for they count entries: a price out of range is refused on each. */
+static void any_lists(void)
+{
+    for (uint16_t lists = 0; lists <= MOST_LISTS; lists++) {
+        sample_with_lists(&calling.job, lists);
+        open_calling(&calling, SPARE);
+        at_case("E with %u lists more", lists);
+        expect_messages(calling.job.sizes, 0);
+        expect_words(&calling, PRICE_WORDS, (const int64_t[]){0, 1}, 2);
+        expect_words(&calling, TOTAL_WORDS, (const int64_t[]){0, 1}, 2);
+        expect_words_of_job(3);
+        for (size_t place = 0; place < 2u * (lists + 1u); place++) {
+            int64_t kept = word_of(&calling, PRICE, place);
+            put_both(&calling.lending, PRICE, place, MOST_PRICE + 1);
+            expect_messages(calling.job.sizes, 21);
+            put_both(&calling.lending, PRICE, place, kept);
+        }
+        make_fault(&calling, PRICE, SHORT);
+        expect_messages(calling.job.sizes, 20);
+        close_calling(&calling);
+    }
+}
+
 static void other_sizes(void)
 {
     static const struct {
@@ -68,9 +91,9 @@ static void other_sizes(void)
         uint16_t due;
         int64_t words;
     } tried[] = {
-        {{2, 2, 2, 0}, 0, 0},  {{3, 2, 2, 4}, 0, 3},  {{2, 3, 2, 4}, 20, 0},
-        {{2, 2, 3, 4}, 20, 0}, {{2, 2, 2, 5}, 20, 0}, {{0, 2, 2, 4}, 21, 0},
-        {{2, 0, 2, 4}, 21, 0}, {{2, 2, 0, 4}, 21, 0}, {{1, 2, 2, 4}, 21, 0},
+        {{2, 2, 2, 0, 0}, 0, 0},  {{3, 2, 2, 4, 0}, 0, 3},  {{2, 3, 2, 4, 0}, 20, 0},
+        {{2, 2, 3, 4, 0}, 20, 0}, {{2, 2, 2, 5, 0}, 20, 0}, {{0, 2, 2, 4, 0}, 21, 0},
+        {{2, 2, 2, 4, 1}, 20, 0}, {{2, 2, 2, 4, 65535}, 20, 0}, {{2, 0, 2, 4, 0}, 21, 0}, {{2, 2, 0, 4, 0}, 21, 0}, {{1, 2, 2, 4, 0}, 21, 0},
     };
     for (size_t i = 0; i < sizeof tried / sizeof tried[0]; i++) {
         struct sizes sizes = tried[i].sizes;
@@ -110,13 +133,15 @@ static void words_out_of_range(void)
 /* Tables of zeros, long enough for sizes that are a little out of range. */
 static void sizes_out_of_range(void)
 {
-    static const struct sizes tried[] = {{17, 1, 1, 0},   {1, 256, 1, 0}, {1, 1, 501, 0},
-                                         {1, 1, 1, 1001}, {1, 1, 1, 0},   {16, 255, 500, 1000}};
-    open_zeros(&calling, (struct sizes){17, 256, 501, 1001});
+    static const struct sizes tried[] = {
+        {17, 1, 1, 0, 0}, {1, 256, 1, 0, 0},      {1, 1, 501, 0, 0}, {1, 1, 1, 1001, 0},     {1, 1, 1, 0, 8},
+        {1, 1, 1, 0, 0},  {16, 255, 500, 1000, 0}, {1, 1, 1, 0, 7},  {16, 255, 500, 1000, 7}};
+    open_zeros(&calling, (struct sizes){17, 256, 501, 1001, 8});
     for (size_t i = 0; i < sizeof tried / sizeof tried[0]; i++) {
-        at_case("K %u, M %u, N %u, T %u", tried[i].boxes, tried[i].grocers, tried[i].offers, tried[i].tallies);
-        expect_messages(tried[i], i < 4 ? 21 : 0);
-        if (i >= 4) expect_words_of_job(0);
+        at_case("K %u, M %u, N %u, T %u, lists %u", tried[i].boxes, tried[i].grocers, tried[i].offers, tried[i].tallies,
+                tried[i].lists);
+        expect_messages(tried[i], i < 5 ? 21 : 0);
+        if (i >= 5) expect_words_of_job(0);
     }
     close_calling(&calling);
 }
@@ -225,6 +250,7 @@ static void random_jobs(void)
         ask_messages(&calling, sizes);
         sizes.boxes = wild_number(sizes.boxes);
         if (one_in(2)) sizes.grocers = wild_number(sizes.grocers);
+        if (one_in(2)) sizes.lists = wild_number(sizes.lists);
         ask_messages(&calling, sizes);
         close_calling(&calling);
     }
@@ -233,10 +259,11 @@ static void random_jobs(void)
 void check_messages(void)
 {
     run_group("tables of messages: E's", tables_of_sample);
+    run_group("tables of messages: any number of price lists", any_lists);
     run_group("tables of messages: E with other sizes", other_sizes);
     run_group("tables of messages: each buffer short", short_buffers);
     run_group("tables of messages: each table of the job with a word beyond its range", words_out_of_range);
-    run_group("tables of messages: K, M, N and T at and beyond their values", sizes_out_of_range);
+    run_group("tables of messages: K, M, N, T and lists at and beyond their values", sizes_out_of_range);
     run_group("tables of messages: the largest job", largest_job);
     run_group("tables of messages: bags", bags);
     run_group("tables of messages: the largest job in bags", largest_in_bags);

@@ -32,7 +32,8 @@ ENTRY size_t entries_write(ENTRIES_WRITE)
                                              [TALLY_ISSUER] = {TALLY_ISSUER, tally_issuer_len, (void *)tally_issuer},
                                              [OUT] = {OUT, out_len, out}};
     size_t length = 0;
-    uint16_t refusal = model_write((struct sizes){boxes, grocers, offers, tallies}, cycle, tables, file, &length);
+    const struct sizes sizes = {boxes, grocers, offers, tallies, lists};
+    uint16_t refusal = model_write(sizes, cycle, tables, file, &length);
     if (refusal) return refusal;
     memcpy(out, file, length);
     return length;
@@ -43,7 +44,7 @@ ENTRY uint16_t entries_reconcile(ENTRIES_RECONCILE)
     const uint16_t *offer_owner = NULL, *grocer_owner = NULL;
     const size_t offer_owner_len = 0, grocer_owner_len = 0;
     const struct table tables[ALL_TABLES] = {JOB_OF, [OWED] = {OWED, owed_len, owed}};
-    uint16_t refusal = desk_refusal((struct sizes){MOST_BOXES, grocers, offers, 0}, wanted, tables);
+    uint16_t refusal = desk_refusal((struct sizes){MOST_BOXES, grocers, offers, 0, 0}, wanted, tables);
     if (refusal) return refusal;
     owed[0] = serial_amount(wanted, tables);
     return 0;
@@ -54,7 +55,7 @@ ENTRY uint16_t entries_message_tables(ENTRIES_MESSAGE_TABLES)
     const struct table tables[ALL_TABLES] = {JOB_OF, [PRICE_WORDS] = {PRICE_WORDS, price_words_len, price_words},
                                              [TOTAL_WORDS] = {TOTAL_WORDS, total_words_len, total_words},
                                              [JOB_WORDS] = {JOB_WORDS, job_words_len, job_words}};
-    const struct sizes sizes = {boxes, grocers, offers, tallies};
+    const struct sizes sizes = {boxes, grocers, offers, tallies, lists};
     uint16_t refusal = messages_refusal(sizes, tables);
     if (refusal) return refusal;
     read_job_words(&job, sizes, tables);
@@ -72,7 +73,7 @@ ENTRY uint16_t entries_book(ENTRIES_BOOK)
                                              [PACKED_GROCERS] = {PACKED_GROCERS, packed_grocers_len, packed_grocers},
                                              [PACKED_COUNTS] = {PACKED_COUNTS, packed_counts_len, packed_counts},
                                              [NUMBERS] = {NUMBERS, numbers_len, numbers}};
-    const struct sizes sizes = {boxes, grocers, offers, tallies};
+    const struct sizes sizes = {boxes, grocers, offers, tallies, lists};
     uint16_t refusal = book_refusal(sizes, tables, book_box);
     if (refusal) return refusal;
     read_job_words(&job, sizes, tables);

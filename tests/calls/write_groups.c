@@ -39,13 +39,15 @@ enum { WHOLE = 4 * BLOCK, NO_TALLIES = 3 * BLOCK };
 
 static const struct write_case cases[] = {
     {.what = "E", .due = WHOLE},
-    {.what = "0 boxes", .due = 4, .sizes = {0, 2, 2, 4}},
-    {.what = "16 boxes", .due = WHOLE, .sizes = {16, 2, 2, 4}},
-    {.what = "17 boxes", .due = 4, .sizes = {17, 2, 2, 4}},
-    {.what = "0 grocers", .due = 4, .sizes = {2, 0, 2, 4}},
-    {.what = "0 offers", .due = 4, .sizes = {2, 2, 0, 4}},
-    {.what = "0 tallies", .due = NO_TALLIES, .sizes = {2, 2, 2, 0}},
-    {.what = "65535 of each", .due = 20, .sizes = {65535, 65535, 65535, 65535}},
+    {.what = "0 boxes", .due = 4, .sizes = {0, 2, 2, 4, 0}},
+    {.what = "16 boxes", .due = WHOLE, .sizes = {16, 2, 2, 4, 0}},
+    {.what = "17 boxes", .due = 4, .sizes = {17, 2, 2, 4, 0}},
+    {.what = "0 grocers", .due = 4, .sizes = {2, 0, 2, 4, 0}},
+    {.what = "0 offers", .due = 4, .sizes = {2, 2, 0, 4, 0}},
+    {.what = "0 tallies", .due = NO_TALLIES, .sizes = {2, 2, 2, 0, 0}},
+    {.what = "more lists than are lent", .due = 20, .sizes = {2, 2, 2, 4, 4}},
+    {.what = "65535 lists more", .due = 20, .sizes = {2, 2, 2, 4, 65535}},
+    {.what = "65535 of each", .due = 20, .sizes = {65535, 65535, 65535, 65535, 0}},
     {.what = "price 9999999", .due = WHOLE, .changes = {{PRICE, 0, 9999999}}},
     {.what = "price 10000000", .due = 6, .changes = {{PRICE, 0, 10000000}}},
     {.what = "owners 1 and 1", .due = WHOLE, .changes = {{OFFER_OWNER, 0, 1}, {GROCER_OWNER, 0, 1}}},
@@ -83,7 +85,7 @@ static const struct write_case cases[] = {
     {.what = "offer 412 of issuer 1, its tallies old", .due = 8, .changes = {{OFFER_ISSUER, 0, 1}}},
     {.what = "tally 412 of issuer 1", .due = 8, .changes = {{TALLY_ISSUER, 0, 1}}},
     {.what = "tally 412 of issuer 256", .due = 8, .changes = {{TALLY_ISSUER, 0, 256}}},
-    {.what = "4 before 6", .due = 4, .sizes = {17, 2, 2, 4}, .changes = {{PRICE, 1, 10000000}}},
+    {.what = "4 before 6", .due = 4, .sizes = {17, 2, 2, 4, 0}, .changes = {{PRICE, 1, 10000000}}},
     {.what = "6 before 7", .due = 6, .changes = {{TALLY_COUNT, 3, 100000}}, .offers = {"00412", "0412"}},
     {.what = "7 before 8", .due = 7, .changes = {{TALLY_COUNT, 3, 4}}, .offers = {"00412", "0412"}},
     {.what = "bad count with unknown code", .due = 6, .changes = {{TALLY_COUNT, 0, 100000}}, .tally = "413"},
@@ -105,10 +107,10 @@ static const struct write_case cases[] = {
      .due = 8,
      .changes = {{TALLY_BAG, 0, 1}, {TALLY_BAG, 3, 1}},
      .tally = "413"},
-    {.what = "4 before 9", .due = 4, .sizes = {17, 2, 2, 4}, .changes = {{TALLY_BAG, 0, 1}, {TALLY_BAG, 3, 1}}},
+    {.what = "4 before 9", .due = 4, .sizes = {17, 2, 2, 4, 0}, .changes = {{TALLY_BAG, 0, 1}, {TALLY_BAG, 3, 1}}},
     {.what = "a bag and revision twice, one of them behind T",
      .due = WHOLE,
-     .sizes = {2, 2, 2, 3},
+     .sizes = {2, 2, 2, 3, 0},
      .changes = {{TALLY_BAG, 0, 1}, {TALLY_BAG, 3, 1}}},
 };
 
@@ -157,13 +159,13 @@ static void short_buffers(void)
         open_sample();
         make_fault(&calling, lent_words[i], SHORT);
         expect_write(calling.job.sizes, 20);
-        expect_write((struct sizes){17, 2, 2, 4}, 20);
+        expect_write((struct sizes){17, 2, 2, 4, 0}, 20);
         put_both(&calling.lending, PRICE, 0, 10000000);
         expect_write(calling.job.sizes, 20);
         close_calling(&calling);
     }
-    static const struct sizes more[] = {{2, 3, 2, 4}, {2, 2, 3, 4}, {2, 2, 2, 5}};
-    for (size_t i = 0; i < 3; i++) {
+    static const struct sizes more[] = {{2, 3, 2, 4, 0}, {2, 2, 3, 4, 0}, {2, 2, 2, 5, 0}, {2, 2, 2, 4, 1}};
+    for (size_t i = 0; i < 4; i++) {
         sample_job(&calling.job);
         open_calling(&calling, 0);
         at_case("sizes %zu for which a table is short", i);
@@ -176,11 +178,13 @@ static void short_buffers(void)
 static void largest_sizes(void)
 {
     static const struct sizes tried[] = {
-        {1, 255, 500, 1000}, {1, 256, 500, 1000}, {1, 255, 501, 1000}, {1, 255, 500, 1001}};
-    open_zeros(&calling, (struct sizes){1, 256, 501, 1001});
-    for (size_t i = 0; i < 4; i++) {
-        at_case("M %u, N %u, T %u", tried[i].grocers, tried[i].offers, tried[i].tallies);
-        expect_write(tried[i], i == 0 ? 6 : 4);
+        {1, 255, 500, 1000, 7}, {1, 255, 500, 1000, 0}, {1, 256, 500, 1000, 0}, {1, 255, 501, 1000, 0},
+        {1, 255, 500, 1001, 0}, {1, 255, 500, 1000, 8}, {1, 255, 501, 1000, 7}};
+    open_zeros(&calling, (struct sizes){1, 256, 501, 1001, 8});
+    for (size_t i = 0; i < sizeof tried / sizeof tried[0]; i++) {
+        at_case("M %u, N %u, T %u, lists %u", tried[i].grocers, tried[i].offers, tried[i].tallies, tried[i].lists);
+        calling.lending.lend[OUT] = BLOCK * blocks_of(tried[i]);
+        expect_write(tried[i], i < 2 ? 6 : 4);
     }
     close_calling(&calling);
 }
@@ -196,7 +200,7 @@ static struct code code_with(uint64_t number, size_t digits)
 static void largest_job(struct job *job)
 {
     memset(job, 0, sizeof *job);
-    job->sizes = LARGEST;
+    job->sizes = LARGEST_OF_ONE_LIST;
     for (size_t o = 0; o < MOST_OFFERS; o++) {
         uint64_t number = o % 2 ? o * 19999999 : o;
         size_t digits = o % 2 ? 10 : 3 + o / 2 % 8;
@@ -222,10 +226,10 @@ static struct name issued_name(uint32_t offer)
     return (struct name){(uint16_t)(65535 - offer % 4 * 16411), code_with(offer / 4 * UINT64_C(80645161), 10)};
 }
 
-static void expect_sums(uint64_t bytes, uint64_t sums)
+static void expect_sums(size_t length, uint64_t bytes, uint64_t sums)
 {
     uint64_t first = 0, second = 0;
-    for (size_t i = 0; i < MOST_FILE; i++) second += first += (uint64_t)word_of(&calling, OUT, i);
+    for (size_t i = 0; i < length; i++) second += first += (uint64_t)word_of(&calling, OUT, i);
     expect(first == bytes && second == sums, "sum of bytes %llu, sum of sums %llu", (unsigned long long)first,
            (unsigned long long)second);
 }
@@ -250,28 +254,68 @@ static void read_and_write_again(size_t length)
     close_calling(&again);
 }
 
+/* The largest job as it stands, written, read and written again. */
+static void write_largest(const char *what, size_t length)
+{
+    at_case("%s", what);
+    open_calling(&calling, SPARE);
+    expect_write(calling.job.sizes, length);
+    read_and_write_again(length);
+    close_calling(&calling);
+}
+
 static void longest_file(void)
 {
-    at_case("the longest file");
+    enum { ONE_LIST = 74 * BLOCK };
+    at_case("the longest file of one list");
     largest_job(&calling.job);
     open_calling(&calling, SPARE);
-    expect_write(LARGEST, MOST_FILE);
-    expect_sums(1511826, 27851930147);
-    read_and_write_again(MOST_FILE);
+    expect_write(LARGEST_OF_ONE_LIST, ONE_LIST);
+    expect_sums(ONE_LIST, 1511826, 27851930147);
     close_calling(&calling);
-    at_case("the longest file, its names of four issuers");
+    write_largest("the longest file of one list, read", ONE_LIST);
+    give_lists(&calling.job, MOST_LISTS);
+    write_largest("the longest file", MOST_FILE);
     for (uint32_t o = 0; o < MOST_OFFERS; o++) calling.job.offer[o].name = issued_name(o);
     for (size_t t = 0; t < MOST_TALLIES; t++) calling.job.tally[t].name = issued_name(calling.job.tally[t].place);
-    open_calling(&calling, SPARE);
-    expect_write(LARGEST, MOST_FILE);
-    read_and_write_again(MOST_FILE);
-    close_calling(&calling);
-    at_case("the longest file, its tallies in bags");
+    write_largest("the longest file, its names of four issuers", MOST_FILE);
     give_bags(&calling.job);
-    open_calling(&calling, SPARE);
-    expect_write(LARGEST, MOST_FILE);
-    read_and_write_again(MOST_FILE);
-    close_calling(&calling);
+    write_largest("the longest file, its tallies in bags", MOST_FILE);
+}
+
+/* The price of an offer in the block of a list of E, which has one block of each other kind. */
+static int64_t price_bytes(size_t list, size_t offer)
+{
+    int64_t price = 0;
+    for (size_t i = 4; i-- > 0;) price = 256 * price + word_of(&calling, OUT, (2 + list) * BLOCK + 4 + 4 * offer + i);
+    return price;
+}
+
+/* E with lists: their number stands in byte 14, and each list more in a block of its own behind the grocers. */
+static void price_lists(void)
+{
+    for (uint16_t lists = 0; lists <= MOST_LISTS; lists++) {
+        at_case("E with %u lists more", lists);
+        sample_with_lists(&calling.job, lists);
+        open_calling(&calling, SPARE);
+        struct sizes sizes = calling.job.sizes;
+        expect_write(sizes, WHOLE + lists * BLOCK);
+        expect(word_of(&calling, OUT, 14) == lists, "byte 14 is not the number of lists");
+        for (size_t q = 1; q <= lists; q++) {
+            expect(word_of(&calling, OUT, (2 + q) * BLOCK) == 4, "a block of prices is not of kind 4");
+            for (size_t o = 0; o < 2; o++)
+                expect(price_bytes(q, o) == price_on(&calling.job, o, q), "a price of list %zu differs", q);
+        }
+        read_and_write_again(WHOLE + lists * BLOCK);
+        put_both(&calling.lending, PRICE, 2 * lists + 1u, MOST_PRICE + 1);
+        expect_write(sizes, 6);
+        make_fault(&calling, PRICE, SHORT);
+        expect_write(sizes, 20);
+        lend_whole(&calling.lending);
+        make_fault(&calling, OUT, SHORT);
+        expect_write(sizes, 20);
+        close_calling(&calling);
+    }
 }
 
 static void read_again(void)
@@ -397,6 +441,7 @@ static void random_jobs(void)
         for (uint32_t changes = below(4); changes > 0; changes--) change_some_word();
         if (one_in(8)) sizes.boxes = wild_number(sizes.boxes);
         if (one_in(8)) sizes.tallies = wild_number(sizes.tallies);
+        if (one_in(8)) sizes.lists = wild_number(sizes.lists);
         if (one_in(8)) calling.lending.lend[lent_words[below(LENT_WORDS)]] = below(8);
         ask_write(&calling, sizes);
         close_calling(&calling);
@@ -409,6 +454,7 @@ void check_writer(void)
     run_group("writer: each buffer short", short_buffers);
     run_group("writer: sizes at and beyond their values", largest_sizes);
     run_group("writer: the longest file, read and written again", longest_file);
+    run_group("writer: price lists, read and written again", price_lists);
     run_group("writer: files that are read and written again", read_again);
     run_group("writer: any settlement cycle, read and written again", cycles);
     run_group("writer: any issuer, read and written again", any_issuers);

@@ -45,7 +45,7 @@ static struct round go_round(uint32_t start, uint32_t stride)
 static int nothing_left(void)
 {
     int64_t left = 0;
-    for (size_t i = 0; i < (size_t)job.boxes * job.offers; i++)
+    for (size_t i = 0; i < (size_t)job.boxes * job.offers * (job.lists + 1u); i++)
         left |= state.price_transit[i];
     for (size_t i = 0; i < SETTLEMENT_MAX_WORKING; i++)
         left |= state.working[i] | state.total_transit[i];

@@ -38,7 +38,7 @@ static void expect_job(const uint32_t *price, size_t price_len, const uint16_t *
                        size_t tally_count_len, const uint16_t *tally_bag, size_t tally_bag_len,
                        const uint16_t *tally_revision, size_t tally_revision_len)
 {
-    IS_LENT(job, price, 500);
+    IS_LENT(job, price, 8 * 500);
     IS_LENT(job, offer_owner, 500);
     IS_LENT(job, grocer_owner, 255);
     IS_LENT(job, tally_grocer, 1000);
@@ -54,11 +54,11 @@ static void expect_state(uint32_t *known, size_t known_len, uint32_t *price_tran
                          int64_t *statement, size_t statement_len, uint16_t *done, size_t done_len, uint32_t *sent,
                          size_t sent_len)
 {
-    IS_LENT(state, known, 16 * 500);
-    IS_LENT(state, price_transit, 16 * 500);
-    IS_LENT(state, working, 255 + 1000);
-    IS_LENT(state, total_transit, 255 + 1000);
-    IS_LENT(state, statement, 255);
+    IS_LENT(state, known, 8 * 16 * 500);
+    IS_LENT(state, price_transit, 8 * 16 * 500);
+    IS_LENT(state, working, 8 * (255 + 1000));
+    IS_LENT(state, total_transit, 8 * (255 + 1000));
+    IS_LENT(state, statement, 8 * 255);
     IS_LENT(state, done, 6 * 16 * 16);
     IS_LENT(state, sent, 1);
 }
@@ -91,15 +91,15 @@ uint16_t settlement_read(
     IS_LENT(job, offer_issuer, 500);
     IS_LENT(job, tally_code, 11 * 1000);
     IS_LENT(job, tally_issuer, 1000);
-    EXPECT(sizes_len == 5);
+    EXPECT(sizes_len == 6);
     if (next_answer == SETTLEMENT_ACCEPTED)
-        for (uint16_t i = 0; i < 5; i++)
+        for (uint16_t i = 0; i < 6; i++)
             sizes[i] = (uint16_t)(i + 11);
     return next_answer;
 }
 
 uint16_t settlement_step(
-    uint16_t boxes, uint16_t grocers, uint16_t offers, uint16_t tallies,
+    uint16_t boxes, uint16_t grocers, uint16_t offers, uint16_t tallies, uint16_t lists,
     const uint32_t *price, size_t price_len,
     const uint16_t *offer_owner, size_t offer_owner_len,
     const uint16_t *grocer_owner, size_t grocer_owner_len,
@@ -118,7 +118,7 @@ uint16_t settlement_step(
     uint32_t *sent, size_t sent_len,
     uint16_t kind, uint16_t first, uint16_t second)
 {
-    EXPECT(boxes == 11 && grocers == 12 && offers == 13 && tallies == 14);
+    EXPECT(boxes == 11 && grocers == 12 && offers == 13 && tallies == 14 && lists == 16);
     expect_job(price, price_len, offer_owner, offer_owner_len, grocer_owner, grocer_owner_len, tally_grocer,
                tally_grocer_len, tally_box, tally_box_len, tally_offer, tally_offer_len, tally_count, tally_count_len,
                tally_bag, tally_bag_len, tally_revision, tally_revision_len);
@@ -129,7 +129,7 @@ uint16_t settlement_step(
 }
 
 uint16_t settlement_run(
-    uint16_t boxes, uint16_t grocers, uint16_t offers, uint16_t tallies,
+    uint16_t boxes, uint16_t grocers, uint16_t offers, uint16_t tallies, uint16_t lists,
     const uint32_t *price, size_t price_len,
     const uint16_t *offer_owner, size_t offer_owner_len,
     const uint16_t *grocer_owner, size_t grocer_owner_len,
@@ -150,7 +150,7 @@ uint16_t settlement_run(
     uint16_t *picked_, size_t picked_len,
     uint32_t *report_, size_t report_len)
 {
-    EXPECT(boxes == 11 && grocers == 12 && offers == 13 && tallies == 14);
+    EXPECT(boxes == 11 && grocers == 12 && offers == 13 && tallies == 14 && lists == 16);
     expect_job(price, price_len, offer_owner, offer_owner_len, grocer_owner, grocer_owner_len, tally_grocer,
                tally_grocer_len, tally_box, tally_box_len, tally_offer, tally_offer_len, tally_count, tally_count_len,
                tally_bag, tally_bag_len, tally_revision, tally_revision_len);
@@ -195,9 +195,9 @@ static void fresh_states(void)
     no_fresh("an owner that is no box");
     job.offer_owner[2] = 65535;
     no_fresh("an owner far beyond the boxes");
-    uint16_t *sizes[] = {&job.boxes, &job.grocers, &job.offers, &job.tallies};
-    static const uint16_t over[] = {17, 256, 501, 1001};
-    for (size_t i = 0; i < 4; i++) {
+    uint16_t *sizes[] = {&job.boxes, &job.grocers, &job.offers, &job.tallies, &job.lists};
+    static const uint16_t over[] = {17, 256, 501, 1001, 8};
+    for (size_t i = 0; i < 5; i++) {
         job_in_range();
         *sizes[i] = over[i];
         no_fresh("a size over its range");
@@ -211,6 +211,21 @@ static void fresh_states(void)
     for (size_t o = 0; o < 500; o++)
         job.offer_owner[o] = 15, job.price[o] = 1;
     EXPECT(settlement_make_fresh(&job, &state) == SETTLEMENT_ACCEPTED && state.known[7999] == 1 && state.known[0] == 0);
+    job.lists = 7;
+    job.price[3999] = 9;
+    EXPECT(settlement_make_fresh(&job, &state) == SETTLEMENT_ACCEPTED && state.known[63999] == 9 && state.known[0] == 0);
+}
+
+/* Two lists: in a job one after the other, in a state an offer's side by side. */
+static void fresh_lists(void)
+{
+    static const uint32_t due[] = {10, 20, 0, 0, 12, 22, 0, 0, 11, 21, 0, 0, 0};
+    job_in_range();
+    job.lists = 1;
+    for (uint32_t o = 0; o < 3; o++)
+        job.price[3 + o] = 20 + o;
+    EXPECT(settlement_make_fresh(&job, &state) == SETTLEMENT_ACCEPTED);
+    EXPECT(memcmp(state.known, due, sizeof due) == 0);
 }
 
 /* Every answer has a text of its own, and no other number has one. */
@@ -233,10 +248,12 @@ int main(void)
 {
     next_answer = SETTLEMENT_DAMAGED;
     EXPECT(settlement_read_job(file, sizeof file, &job) == SETTLEMENT_DAMAGED);
-    EXPECT(job.boxes == 0 && job.grocers == 0 && job.offers == 0 && job.tallies == 0 && job.cycle == 0);
+    EXPECT(job.boxes == 0 && job.grocers == 0 && job.offers == 0 && job.tallies == 0 && job.cycle == 0 &&
+           job.lists == 0);
     next_answer = SETTLEMENT_ACCEPTED;
     EXPECT(settlement_read_job(file, sizeof file, &job) == SETTLEMENT_ACCEPTED);
-    EXPECT(job.boxes == 11 && job.grocers == 12 && job.offers == 13 && job.tallies == 14 && job.cycle == 15);
+    EXPECT(job.boxes == 11 && job.grocers == 12 && job.offers == 13 && job.tallies == 14 && job.cycle == 15 &&
+           job.lists == 16);
     next_answer = SETTLEMENT_NOT_READY;
     EXPECT(settlement_step_job(&job, &state, 3, 1, 2) == SETTLEMENT_NOT_READY);
     next_answer = SETTLEMENT_OUT_OF_RANGE;
@@ -246,6 +263,7 @@ int main(void)
     EXPECT(settlement_read_job(NULL, 0, &job) == SETTLEMENT_BAD_LENGTH);
     EXPECT(settlement_run_job(&job, &state, NULL, 0, NULL, 0, report) == SETTLEMENT_BAD_LENGTH);
     fresh_states();
+    fresh_lists();
     texts();
     printf("%u passed, %u failed\n", passed, failed);
     return failed != 0;

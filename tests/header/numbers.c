@@ -1,8 +1,8 @@
 /* The numbers of host/settlement.h are those of the specification. Nothing is run: it compiles, or a number differs. */
 #include "settlement.h"
 
-/* This test is of the version that has packed totals. */
-_Static_assert(SETTLEMENT_VERSION == 2, "read what has changed");
+/* This test is of the version that has several price lists. */
+_Static_assert(SETTLEMENT_VERSION == 3, "read what has changed");
 
 #define IS(name, number) _Static_assert(SETTLEMENT_##name == (number), #name)
 
@@ -10,10 +10,15 @@ IS(MAX_BOXES, 16);
 IS(MAX_GROCERS, 255);
 IS(MAX_OFFERS, 500);
 IS(MAX_TALLIES, 1000);
-IS(MAX_FILE, 74 * 512);
+IS(MAX_LISTS, 7);
+IS(MAX_WIDTH, 8);
+IS(MAX_FILE, 102 * 512);
 IS(CODE, 1 + 10);
-IS(MAX_WORKING, 255 + 1000);
-IS(SIZES, 5);
+IS(MAX_PRICES, 8 * 500);
+IS(MAX_KNOWN, 8 * 16 * 500);
+IS(MAX_WORKING, 8 * (255 + 1000));
+IS(MAX_STATEMENT, 8 * 255);
+IS(SIZES, 6);
 IS(REPORT, 3);
 IS(MAX_MESSAGES, 480);
 IS(MAX_STEPS, 992);

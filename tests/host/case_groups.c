@@ -287,12 +287,12 @@ static void other_sizes(void)
         uint16_t choices, due;
         int64_t report[3], statements[2];
     } tried[] = {
-        {{2, 2, 2, 0}, 0, 0, {0, 0, 4}, {0, 0}}, {{2, 2, 2, 1}, 1, 0, {1, 1, 6}, {1500, 0}},
-        {{2, 1, 2, 1}, 0, 0, {1, 1, 6}, {1500}}, {{3, 2, 2, 4}, 0, 20, {0}, {0}},
-        {{2, 3, 2, 4}, 0, 20, {0}, {0}},         {{2, 2, 3, 4}, 0, 20, {0}, {0}},
-        {{2, 2, 2, 5}, 0, 20, {0}, {0}},         {{0, 2, 2, 4}, 0, 21, {0}, {0}},
-        {{2, 0, 2, 4}, 0, 21, {0}, {0}},         {{2, 2, 0, 4}, 0, 21, {0}, {0}},
-        {{1, 2, 2, 4}, 0, 21, {0}, {0}},
+        {{2, 2, 2, 0, 0}, 0, 0, {0, 0, 4}, {0, 0}}, {{2, 2, 2, 1, 0}, 1, 0, {1, 1, 6}, {1500, 0}},
+        {{2, 1, 2, 1, 0}, 0, 0, {1, 1, 6}, {1500}}, {{3, 2, 2, 4, 0}, 0, 20, {0}, {0}},
+        {{2, 3, 2, 4, 0}, 0, 20, {0}, {0}},         {{2, 2, 3, 4, 0}, 0, 20, {0}, {0}},
+        {{2, 2, 2, 5, 0}, 0, 20, {0}, {0}},         {{0, 2, 2, 4, 0}, 0, 21, {0}, {0}},
+        {{2, 0, 2, 4, 0}, 0, 21, {0}, {0}},         {{2, 2, 0, 4, 0}, 0, 21, {0}, {0}},
+        {{1, 2, 2, 4, 0}, 0, 21, {0}, {0}},
     };
     for (size_t i = 0; i < sizeof tried / sizeof tried[0]; i++) {
         struct sizes sizes = tried[i].sizes;
@@ -312,12 +312,12 @@ static void other_sizes(void)
 /* Tables of zeros, long enough for sizes that are a little out of range. */
 static void sizes_on_zeros(void)
 {
-    static const struct sizes tried[] = {{17, 1, 1, 0},   {1, 256, 1, 0}, {1, 1, 501, 0},
-                                         {1, 1, 1, 1001}, {1, 1, 1, 0},   {16, 255, 500, 1000}};
+    static const struct sizes tried[] = {{17, 1, 1, 0, 0},   {1, 256, 1, 0, 0}, {1, 1, 501, 0, 0},
+                                         {1, 1, 1, 1001, 0}, {1, 1, 1, 0, 0},   {16, 255, 500, 1000, 0}};
     size_t lengths[ALL_TABLES];
     for (size_t i = 0; i < sizeof tried / sizeof tried[0]; i++) {
         for (unsigned name = 0; name < ALL_TABLES; name++)
-            lengths[name] = enough(name, (struct sizes){17, 256, 501, 1001});
+            lengths[name] = enough(name, (struct sizes){17, 256, 501, 1001, 0});
         lengths[PICKED] = 20;
         open_lending(&settlement.lending, lengths);
         for (unsigned name = 0; name < STEP_TABLES; name++)
@@ -336,7 +336,10 @@ static void sizes_on_zeros(void)
 static void open_ruled(struct sizes sizes, struct rules rules, size_t choices)
 {
     ruled_job(&settlement.job, sizes, rules);
-    for (size_t o = 0; o < sizes.offers; o++) settlement.job.offer[o].price = (uint32_t)(9990999 + o);
+    for (size_t o = 0; o < sizes.offers; o++) {
+        settlement.job.offer[o].price = (uint32_t)(9990999 + o);
+        for (size_t q = 0; q < sizes.lists; q++) settlement.job.more_price[q][o] = (uint32_t)(9990999 + o);
+    }
     for (size_t t = 0; t < sizes.tallies; t++) settlement.job.tally[t].count = -1;
     open_settlement(&settlement, SPARE, choices);
     for (size_t i = 0; i < choices; i++) put_both(&settlement.lending, CHOICES, i, 65535);
@@ -357,7 +360,7 @@ static void every_pair(void)
 {
     for (size_t choices = 0; choices <= 1000; choices += 1000) {
         at_case("every pair, %zu choices", choices);
-        open_ruled((struct sizes){16, 16, 16, 256}, (struct rules){{1, 16}, {1, 16}, {1, 16}, {16, 16}, {1, 16}},
+        open_ruled((struct sizes){16, 16, 16, 256, 0}, (struct rules){{1, 16}, {1, 16}, {1, 16}, {16, 16}, {1, 16}},
                    choices);
         lend_whole(&settlement.lending);
         expect_run(settlement.job.sizes, 0);
@@ -371,16 +374,22 @@ static void every_pair(void)
     }
 }
 
+/* Of one list, and of eight with the same prices. */
 static void largest_by_rules(void)
 {
-    at_case("16 boxes, 255 grocers, 500 offers, 1,000 tallies");
-    open_ruled(LARGEST, (struct rules){{7, 16}, {1, 16}, {1, 255}, {3, 16}, {1, 500}}, 0);
-    expect_run(LARGEST, 0);
-    expect_report((const int64_t[]){1869, 286, 604});
-    expect(lent_word(&settlement, STATEMENT, 0) == -39964526, "the first statement differs");
-    expect(lent_word(&settlement, STATEMENT, 254) == -29973524, "the last statement differs");
-    expect_plain_sums(&settlement);
-    close_settlement(&settlement);
+    for (uint16_t lists = 0; lists <= MOST_LISTS; lists += MOST_LISTS) {
+        struct sizes sizes = {16, 255, 500, 1000, lists};
+        at_case("16 boxes, 255 grocers, 500 offers, 1,000 tallies, %u lists more", lists);
+        open_ruled(sizes, (struct rules){{7, 16}, {1, 16}, {1, 255}, {3, 16}, {1, 500}}, 0);
+        expect_run(sizes, 0);
+        expect_report((const int64_t[]){1869 * (lists + 1), 286, 604});
+        for (size_t q = 0; q <= lists; q++) {
+            expect(lent_on(&settlement, STATEMENT, 0, q) == -39964526, "the first statement differs");
+            expect(lent_on(&settlement, STATEMENT, 254, q) == -29973524, "the last statement differs");
+        }
+        expect_plain_sums(&settlement);
+        close_settlement(&settlement);
+    }
 }
 
 void check_cases(void)

@@ -17,7 +17,7 @@ static void expect_end_of_run(void)
     keep_state(&settlement, &by_steps);
     expect(ask_run(&settlement, settlement.job.sizes, &picks) == 0, "the run was refused");
     keep_state(&settlement, &by_run);
-    expect(memcmp(&by_steps, &by_run, sizeof by_run) == 0, "the steps and the run leave different words");
+    expect(same_state(&by_steps, &by_run), "the steps and the run leave different words");
     expect(lent_word(&settlement, REPORT, 0) == lent_word(&settlement, SENT, 0), "the run reports other words sent");
     expect(lent_word(&settlement, REPORT, 0) == words_of_job(&settlement.job), "words sent are not those of the job");
 }
@@ -194,7 +194,7 @@ static void scene_job(const struct scene *scene)
     struct job *job = &settlement.job;
     uint32_t price = 100;
     memset(job, 0, sizeof *job);
-    job->sizes = (struct sizes){scene->boxes, scene->boxes, scene->boxes, scene->tallies};
+    job->sizes = (struct sizes){scene->boxes, scene->boxes, scene->boxes, scene->tallies, 0};
     for (uint16_t i = 0; i < scene->boxes; i++, price *= 11) {
         job->offer[i] = (struct offer){price, i, {0, code_of_number(i, 0)}};
         job->grocer_owner[i] = scene->all_of_last ? (uint16_t)(scene->boxes - 1) : i;
@@ -215,6 +215,7 @@ static void scenes_to_their_end(void)
     for (size_t i = 0; i < 8 * SCENES; i++) {
         const struct scene *scene = &scenes[i % SCENES];
         scene_job(scene);
+        give_lists(&settlement.job, (uint16_t)(i / SCENES % 3));
         open_settlement(&settlement, SPARE, 0);
         for (size_t r = 0; r < 16 && scene->requests[r].step.kind; r++) {
             struct step step = scene->requests[r].step;
@@ -277,12 +278,12 @@ static void walk_on(size_t depth, unsigned set)
 {
     uint16_t boxes = settlement.job.sizes.boxes;
     bool any = false;
-    walked.machine[depth] = settlement.machine;
+    copy_state(&walked.machine[depth], &settlement.machine);
     for (size_t mark = 0; mark < needed(DONE, settlement.job.sizes); mark++) {
         size_t pair = mark % ((size_t)boxes * boxes);
         struct step step = {(uint16_t)(mark / ((size_t)boxes * boxes) + 1), (uint16_t)(pair / boxes),
                             (uint16_t)(pair % boxes)};
-        settlement.machine = walked.machine[depth];
+        copy_state(&settlement.machine, &walked.machine[depth]);
         lend_state(&settlement);
         if (ask(&settlement, step) != 0) continue;
         any = true;
@@ -315,9 +316,11 @@ static void walk(size_t states)
    and 2 before step 5 of box 1 seven ways with it. */
 static void every_state(void)
 {
-    at_case("E");
-    sample_job(&settlement.job);
-    walk(4 * 4 * 7);
+    for (uint16_t lists = 0; lists < 2; lists++) {
+        at_case("E with %u lists more", lists);
+        sample_with_lists(&settlement.job, lists);
+        walk(4 * 4 * 7);
+    }
     for (size_t i = 0; i < SCENES; i++) {
         if (scenes[i].states == 0) continue;
         at_case("%s", scenes[i].what);

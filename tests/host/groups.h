@@ -14,5 +14,6 @@ void check_cases(void);
 void check_bags(void);
 void check_early(void);
 void check_packed(void);
+void check_price_lists(void);
 
 #endif

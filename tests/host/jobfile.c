@@ -4,23 +4,28 @@
 
 #include "model.h"
 
-enum { HEADER, OFFER_BLOCKS, GROCER_BLOCKS, TALLY_BLOCKS };
+enum { HEADER, OFFER_BLOCKS, GROCER_BLOCKS, TALLY_BLOCKS, PRICE_BLOCKS, BLOCK_KINDS };
 enum { RECORDS_FROM = 4, SUMS_FROM = 508, MODULUS = 65521 };
 
 /* The places of a kind's records: bytes of a record, of them in named fields, records of a full block. */
 static const struct {
     size_t size, fields, full;
 } layout[] = {
-    [HEADER] = {10, 10, 1},
+    [HEADER] = {11, 11, 1},
     [OFFER_BLOCKS] = {24, 18, 21},
     [GROCER_BLOCKS] = {1, 1, 255},
     [TALLY_BLOCKS] = {24, 24, 21},
+    [PRICE_BLOCKS] = {4, 4, 126},
 };
 
-/* What a block of the file has to be: its kind, its number of records, the number of its first one. */
+/* The order in which kinds stand in a file; prices once for each additional list. */
+static const uint8_t kinds_in_order[BLOCK_KINDS] = {HEADER, OFFER_BLOCKS, GROCER_BLOCKS, PRICE_BLOCKS, TALLY_BLOCKS};
+
+/* What a block of the file has to be: its kind, its number of records, the number of its first one, and of a block of
+   prices which additional list it is of. */
 struct due {
     uint8_t kind;
-    size_t records, first;
+    size_t records, first, list;
 };
 
 static uint32_t get_number(const uint8_t *bytes, size_t width)
@@ -64,29 +69,41 @@ static bool sums_agree(const uint8_t *block)
 
 static size_t records_of_kind(struct sizes sizes, unsigned kind)
 {
-    size_t records[] = {1, sizes.offers, sizes.grocers, sizes.tallies};
+    size_t records[] = {1, sizes.offers, sizes.grocers, sizes.tallies, sizes.offers};
     return records[kind];
 }
 
+/* Of a kind, and of prices those of one list. */
 static size_t blocks_of_kind(struct sizes sizes, unsigned kind)
 {
     return (records_of_kind(sizes, kind) + layout[kind].full - 1) / layout[kind].full;
 }
 
+static size_t times_of_kind(struct sizes sizes, unsigned kind) { return kind == PRICE_BLOCKS ? sizes.lists : 1; }
+
 size_t blocks_of(struct sizes sizes)
 {
     size_t blocks = 0;
-    for (unsigned kind = HEADER; kind <= TALLY_BLOCKS; kind++) blocks += blocks_of_kind(sizes, kind);
+    for (unsigned kind = HEADER; kind < BLOCK_KINDS; kind++)
+        blocks += times_of_kind(sizes, kind) * blocks_of_kind(sizes, kind);
     return blocks;
+}
+
+/* The block of this number among those of a kind. */
+static struct due due_of_kind(struct sizes sizes, uint8_t kind, size_t number)
+{
+    size_t blocks = blocks_of_kind(sizes, kind), all = records_of_kind(sizes, kind);
+    struct due due = {kind, layout[kind].full, number % blocks * layout[kind].full, number / blocks};
+    if (due.first + due.records > all) due.records = all - due.first;
+    return due;
 }
 
 static struct due due_block(struct sizes sizes, size_t number)
 {
-    uint8_t kind = HEADER;
-    while (number >= blocks_of_kind(sizes, kind)) number -= blocks_of_kind(sizes, kind++);
-    struct due due = {kind, layout[kind].full, number * layout[kind].full};
-    if (due.first + due.records > records_of_kind(sizes, kind)) due.records = records_of_kind(sizes, kind) - due.first;
-    return due;
+    const uint8_t *kind = kinds_in_order;
+    for (size_t blocks; number >= (blocks = times_of_kind(sizes, *kind) * blocks_of_kind(sizes, *kind)); kind++)
+        number -= blocks;
+    return due_of_kind(sizes, *kind, number);
 }
 
 static bool is_as_due(const uint8_t *block, struct due due, size_t number)
@@ -150,11 +167,18 @@ static bool read_tally(const uint8_t *record, struct job *job, size_t place)
            tally->box < job->sizes.boxes && tally->count >= -MOST_COUNT && tally->count <= MOST_COUNT;
 }
 
-static bool read_record(const uint8_t *record, struct job *job, unsigned kind, size_t place)
+static bool read_price(const uint8_t *record, struct job *job, size_t list, size_t place)
 {
-    switch (kind) {
+    job->more_price[list][place] = get_number(record, 4);
+    return job->more_price[list][place] <= MOST_PRICE;
+}
+
+static bool read_record(const uint8_t *record, struct job *job, struct due due, size_t place)
+{
+    switch (due.kind) {
     case OFFER_BLOCKS: return read_offer(record, job, place);
     case GROCER_BLOCKS: return read_grocer(record, job, place);
+    case PRICE_BLOCKS: return read_price(record, job, due.list, place);
     default: return read_tally(record, job, place);
     }
 }
@@ -162,7 +186,7 @@ static bool read_record(const uint8_t *record, struct job *job, unsigned kind, s
 static bool read_records(const uint8_t *block, struct due due, struct job *job)
 {
     for (size_t i = 0; i < due.records; i++)
-        if (!read_record(block + RECORDS_FROM + i * layout[due.kind].size, job, due.kind, due.first + i)) return false;
+        if (!read_record(block + RECORDS_FROM + i * layout[due.kind].size, job, due, due.first + i)) return false;
     return true;
 }
 
@@ -170,7 +194,7 @@ static bool read_records(const uint8_t *block, struct due due, struct job *job)
 
 static uint16_t read_header(const uint8_t *block, struct job *job)
 {
-    struct due due = {HEADER, 1, 0};
+    struct due due = {HEADER, 1, 0, 0};
     struct sizes *sizes = &job->sizes;
     if (!sums_agree(block)) return 2;
     if (!is_as_due(block, due, 0)) return 3;
@@ -179,6 +203,7 @@ static uint16_t read_header(const uint8_t *block, struct job *job)
     sizes->offers = (uint16_t)get_number(block + 8, 2);
     sizes->tallies = (uint16_t)get_number(block + 10, 2);
     job->cycle = (uint16_t)get_number(block + 12, 2);
+    sizes->lists = block[14];
     if (block[5] != 1 || !sizes_in_range(*sizes)) return 4;
     return spare_is_zero(block, due) ? 0 : 5;
 }
@@ -261,6 +286,7 @@ static void write_header(uint8_t *record, const struct job *job)
     set_number(record + 4, 2, job->sizes.offers);
     set_number(record + 6, 2, job->sizes.tallies);
     set_number(record + 8, 2, job->cycle);
+    record[10] = (uint8_t)job->sizes.lists;
 }
 
 static void write_offer(uint8_t *record, const struct offer *offer)
@@ -282,12 +308,13 @@ static void write_tally(uint8_t *record, const struct tally *tally)
     set_number(record + 22, 2, tally->revision);
 }
 
-static void write_record(uint8_t *record, const struct job *job, unsigned kind, size_t place)
+static void write_record(uint8_t *record, const struct job *job, struct due due, size_t place)
 {
-    switch (kind) {
+    switch (due.kind) {
     case HEADER: write_header(record, job); break;
     case OFFER_BLOCKS: write_offer(record, &job->offer[place]); break;
     case GROCER_BLOCKS: record[0] = (uint8_t)job->grocer_owner[place]; break;
+    case PRICE_BLOCKS: set_number(record, 4, job->more_price[due.list][place]); break;
     default: write_tally(record, &job->tally[place]); break;
     }
 }
@@ -300,7 +327,7 @@ static void write_block(uint8_t *block, const struct job *job, size_t number)
     block[1] = (uint8_t)due.records;
     set_number(block + 2, 2, (uint32_t)number);
     for (size_t i = 0; i < due.records; i++)
-        write_record(block + RECORDS_FROM + i * layout[due.kind].size, job, due.kind, due.first + i);
+        write_record(block + RECORDS_FROM + i * layout[due.kind].size, job, due, due.first + i);
     write_sums(block);
 }
 

@@ -2,8 +2,10 @@
 
 #include <string.h>
 
-const struct sizes TINY = {3, 4, 4, 8}, SMALL = {5, 8, 12, 30}, MEDIUM = {16, 60, 90, 250},
-                   LARGEST = {MOST_BOXES, MOST_GROCERS, MOST_OFFERS, MOST_TALLIES};
+const struct sizes TINY = {3, 4, 4, 8, MOST_LISTS}, SMALL = {5, 8, 12, 30, MOST_LISTS},
+                   MEDIUM = {16, 60, 90, 250, MOST_LISTS},
+                   LARGEST = {MOST_BOXES, MOST_GROCERS, MOST_OFFERS, MOST_TALLIES, MOST_LISTS},
+                   LARGEST_OF_ONE_LIST = {MOST_BOXES, MOST_GROCERS, MOST_OFFERS, MOST_TALLIES, 0};
 
 static uint64_t source;
 
@@ -70,8 +72,10 @@ static uint16_t random_size(uint16_t least, uint16_t most)
 
 struct sizes random_sizes(struct sizes most)
 {
-    return (struct sizes){random_size(1, most.boxes), random_size(1, most.grocers), random_size(1, most.offers),
-                          random_size(0, most.tallies)};
+    struct sizes sizes = {random_size(1, most.boxes), random_size(1, most.grocers), random_size(1, most.offers),
+                          random_size(0, most.tallies), 0};
+    if (most.lists > 0 && one_in(2)) sizes.lists = random_size(1, most.lists);
+    return sizes;
 }
 
 struct sizes sizes_with_tallies(struct sizes most)
@@ -119,6 +123,16 @@ static void random_tally(struct tally *tally, struct sizes few)
                             .count = (int32_t)random_in(-MOST_COUNT, MOST_COUNT)};
 }
 
+void give_lists(struct job *job, uint16_t lists)
+{
+    job->sizes.lists = lists;
+    for (size_t q = 1; q <= lists; q++) {
+        bool same = one_in(8);
+        for (size_t o = 0; o < job->sizes.offers; o++)
+            job->more_price[q - 1][o] = same ? price_on(job, o, q - 1) : (uint32_t)random_in(0, MOST_PRICE);
+    }
+}
+
 void random_old_job(struct job *job, struct sizes sizes)
 {
     uint64_t number[MOST_OFFERS];
@@ -139,6 +153,7 @@ void random_old_job(struct job *job, struct sizes sizes)
         job->tally[t].name.code = random_code(number[job->tally[t].place]);
     }
     job->cycle = one_in(2) ? 0 : wild_number(500);
+    give_lists(job, sizes.lists);
 }
 
 /* An issuer and a number for each of N offers, no two offers with both the same: any; or of few issuers, three at
@@ -235,7 +250,7 @@ void random_job(struct job *job, struct sizes sizes)
 void sample_job(struct job *job)
 {
     memset(job, 0, sizeof *job);
-    job->sizes = (struct sizes){2, 2, 2, 4};
+    job->sizes = (struct sizes){2, 2, 2, 4, 0};
     job->offer[0] = (struct offer){500, 0, {0, code_of("00412")}};
     job->offer[1] = (struct offer){1250, 1, {0, code_of("77")}};
     job->grocer_owner[0] = 1;
@@ -243,6 +258,16 @@ void sample_job(struct job *job)
     job->tally[1] = (struct tally){1, 0, 1, 2, {0, code_of("077")}, 0, 0};
     job->tally[2] = (struct tally){0, 1, 1, -1, {0, code_of("77")}, 0, 0};
     job->tally[3] = (struct tally){0, 1, 0, 4, {0, code_of("0412")}, 0, 0};
+}
+
+void sample_with_lists(struct job *job, uint16_t lists)
+{
+    sample_job(job);
+    job->sizes.lists = lists;
+    for (uint32_t q = 0; q < lists; q++) {
+        job->more_price[q][0] = 100 + q;
+        job->more_price[q][1] = 200 + 20 * q;
+    }
 }
 
 void one_tally_job(struct job *job, struct sizes sizes, uint32_t price, struct tally tally)
@@ -319,7 +344,7 @@ const struct named named[] = {
 void named_job(struct job *job, const struct named *named)
 {
     memset(job, 0, sizeof *job);
-    job->sizes = (struct sizes){2, 2, 2, 2};
+    job->sizes = (struct sizes){2, 2, 2, 2, 0};
     for (uint16_t i = 0; i < 2; i++) {
         struct name offer = {named->offers[i].issuer, code_of(named->offers[i].digits)};
         struct name tally = {named->tallies[i].issuer, code_of(named->tallies[i].digits)};
@@ -468,7 +493,7 @@ const struct bagged bagged[] = {
 void bagged_job(struct job *job, const struct bagged *bagged)
 {
     memset(job, 0, sizeof *job);
-    job->sizes = (struct sizes){3, 2, 3, 0};
+    job->sizes = (struct sizes){3, 2, 3, 0, 0};
     job->offer[0] = (struct offer){1000, 0, {0, code_of("0412")}};
     job->offer[1] = (struct offer){100, 1, {0, code_of("77")}};
     job->offer[2] = (struct offer){1, 2, {9, code_of("077")}};

@@ -17,10 +17,11 @@ uint16_t wild_number(uint16_t near);
 struct code code_of(const char *digits);
 struct code code_of_number(uint64_t number, size_t zeros);
 
-/* Sizes within the given ones, each from its least on; and such with two boxes and a tally at least. */
+/* Sizes within the given ones, each from its least on, half of the time with one price list; and such with two boxes
+   and a tally at least. The largest job has eight lists, and the longest file of before one. */
 struct sizes random_sizes(struct sizes most);
 struct sizes sizes_with_tallies(struct sizes most);
-extern const struct sizes TINY, SMALL, MEDIUM, LARGEST;
+extern const struct sizes TINY, SMALL, MEDIUM, LARGEST, LARGEST_OF_ONE_LIST;
 
 /* An accepted job of these sizes, of cycle 0 or any other: of old offers and loose coupons alone; and half of the time
    of issuers too, and half of the time with bags. */
@@ -34,13 +35,19 @@ void give_bags(struct job *job);
 /* The tallies in another order. */
 void shuffle_tallies(struct job *job);
 
-/* E of the specification. */
+/* E of the specification; and with additional lists, of which the first is 100 for its first offer and 200 for its
+   second, and each further one is 1 and 20 more. */
 void sample_job(struct job *job);
+void sample_with_lists(struct job *job, uint16_t lists);
+
+/* Random prices on so many additional lists, now and then those of the list before. */
+void give_lists(struct job *job, uint16_t lists);
 
 /* A job with one offer, one grocer and tallies alike, each with its own owner. */
 void one_tally_job(struct job *job, struct sizes sizes, uint32_t price, struct tally tally);
 
-/* A job of these sizes whose words go by rules: word i is i / by modulo the given number. Prices and counts are 0. */
+/* A job of these sizes whose words go by rules: word i is i / by modulo the given number. Prices and counts are 0, on
+   every list. */
 struct rule {
     size_t by, modulo;
 };

@@ -40,9 +40,9 @@ uint16_t hand_back(struct lending *lending, struct table lent[ALL_TABLES], enum 
 /* A slice as C hands it over: where its words are, and how many. */
 #define SLICE(type, name) (type *)lent[name].words, lent[name].length
 
-/* K, M, N, T and the tables of a job. */
+/* K, M, N, T, lists and the tables of a job. */
 #define SIZES_AND_JOB                                                                                                  \
-    sizes.boxes, sizes.grocers, sizes.offers, sizes.tallies, SLICE(const uint32_t, PRICE),                             \
+    sizes.boxes, sizes.grocers, sizes.offers, sizes.tallies, sizes.lists, SLICE(const uint32_t, PRICE),                \
         SLICE(const uint16_t, OFFER_OWNER), SLICE(const uint16_t, GROCER_OWNER), SLICE(const uint16_t, TALLY_GROCER),  \
         SLICE(const uint16_t, TALLY_BOX), SLICE(const uint16_t, TALLY_OFFER), SLICE(const int32_t, TALLY_COUNT),       \
         SLICE(const uint16_t, TALLY_BAG), SLICE(const uint16_t, TALLY_REVISION)

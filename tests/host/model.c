@@ -28,6 +28,28 @@ bool counted_twice(const struct tally tally[], size_t tallies)
     return false;
 }
 
+/* Price lists */
+
+uint32_t price_on(const struct job *job, size_t offer, size_t list)
+{
+    return list == 0 ? job->offer[offer].price : job->more_price[list - 1][offer];
+}
+
+static void set_price(struct job *job, size_t offer, size_t list, uint32_t price)
+{
+    if (list == 0)
+        job->offer[offer].price = price;
+    else
+        job->more_price[list - 1][offer] = price;
+}
+
+void take_list(struct job *only, const struct job *job, size_t list)
+{
+    *only = *job;
+    only->sizes.lists = 0;
+    for (size_t o = 0; o < job->sizes.offers; o++) set_price(only, o, 0, price_on(job, o, list));
+}
+
 /* Who holds what */
 
 bool holds(const struct job *job, size_t box, size_t t)
@@ -75,7 +97,7 @@ static void note_places(struct machine *machine)
     }
 }
 
-size_t packed_length(const struct job *job)
+size_t packed_places(const struct job *job)
 {
     static struct machine machine;
     machine.job = job;
@@ -207,33 +229,43 @@ static struct envelope *find_envelope(struct post *post, uint16_t sender, uint16
     return NULL;
 }
 
-static void post_word(struct post *post, const struct message *message, uint16_t number, int64_t word)
+/* The envelope of an offer or grocer, empty where there was none. */
+static struct envelope *post_entry(struct post *post, const struct message *message, uint16_t number)
 {
     struct envelope *e = find_envelope(post, message->sender, message->receiver, number);
     if (!e) e = &post->envelope[post->length++];
-    *e = (struct envelope){message->sender, message->receiver, number, word};
+    *e = (struct envelope){message->sender, message->receiver, number, {0}};
+    return e;
 }
 
-/* The word of an envelope, which is gone afterwards; 0 where nothing is under way. */
-static int64_t take_word(struct post *post, const struct message *message, uint16_t number)
+/* The envelope of an offer or grocer, which is gone afterwards; with words 0 where nothing is under way. */
+static struct envelope take_entry(struct post *post, const struct message *message, uint16_t number)
 {
+    struct envelope taken = {message->sender, message->receiver, number, {0}};
     struct envelope *e = find_envelope(post, message->sender, message->receiver, number);
-    if (!e) return 0;
-    int64_t word = e->word;
+    if (!e) return taken;
+    taken = *e;
     *e = post->envelope[--post->length];
-    return word;
+    return taken;
 }
 
 /* What each step does */
 
-/* Adds the box's tallies of the offers that one box owns, at the prices the box knows. */
+/* Adds a tally to its box's working totals, on each list at the price the box knows. */
+static void add_tally(struct machine *machine, const struct tally *tally)
+{
+    const uint32_t *known = machine->known[tally->box][tally->place];
+    for (size_t q = 0; q <= machine->job->sizes.lists; q++)
+        machine->working[tally->box][tally->grocer][q] += tally->count * (int64_t)known[q];
+}
+
+/* Adds the box's tallies of the offers that one box owns. */
 static void add_tallies(struct machine *machine, uint16_t box, uint16_t owner)
 {
     const struct job *job = machine->job;
     for (size_t t = 0; t < job->sizes.tallies; t++) {
         const struct tally *tally = &job->tally[t];
-        if (job->offer[tally->place].owner == owner && holds(job, box, t))
-            machine->working[box][tally->grocer] += tally->count * (int64_t)machine->known[box][tally->place];
+        if (job->offer[tally->place].owner == owner && holds(job, box, t)) add_tally(machine, tally);
     }
 }
 
@@ -241,8 +273,11 @@ static void send_prices(struct machine *machine, const struct message *message)
 {
     for (size_t i = 0; i < message->length; i++) {
         uint16_t offer = message->number[i];
-        post_word(&machine->prices, message, offer, machine->known[message->sender][offer]);
-        machine->sent++;
+        struct envelope *e = post_entry(&machine->prices, message, offer);
+        for (size_t q = 0; q <= machine->job->sizes.lists; q++) {
+            e->word[q] = machine->known[message->sender][offer][q];
+            machine->sent++;
+        }
     }
 }
 
@@ -250,7 +285,9 @@ static void receive_prices(struct machine *machine, const struct message *messag
 {
     for (size_t i = 0; i < message->length; i++) {
         uint16_t offer = message->number[i];
-        machine->known[message->receiver][offer] = (uint32_t)take_word(&machine->prices, message, offer);
+        struct envelope e = take_entry(&machine->prices, message, offer);
+        for (size_t q = 0; q <= machine->job->sizes.lists; q++)
+            machine->known[message->receiver][offer][q] = (uint32_t)e.word[q];
     }
     add_tallies(machine, message->receiver, message->sender);
 }
@@ -259,9 +296,12 @@ static void send_totals(struct machine *machine, const struct message *message)
 {
     for (size_t i = 0; i < message->length; i++) {
         uint16_t grocer = message->number[i];
-        post_word(&machine->totals, message, grocer, machine->working[message->sender][grocer]);
-        machine->working[message->sender][grocer] = 0;
-        machine->sent++;
+        struct envelope *e = post_entry(&machine->totals, message, grocer);
+        for (size_t q = 0; q <= machine->job->sizes.lists; q++) {
+            e->word[q] = machine->working[message->sender][grocer][q];
+            machine->working[message->sender][grocer][q] = 0;
+            machine->sent++;
+        }
     }
 }
 
@@ -269,17 +309,20 @@ static void receive_totals(struct machine *machine, const struct message *messag
 {
     for (size_t i = 0; i < message->length; i++) {
         uint16_t grocer = message->number[i];
-        machine->statement[grocer] += take_word(&machine->totals, message, grocer);
+        struct envelope e = take_entry(&machine->totals, message, grocer);
+        for (size_t q = 0; q <= machine->job->sizes.lists; q++) machine->statement[grocer][q] += e.word[q];
     }
 }
 
 static void add_own(struct machine *machine, uint16_t box)
 {
-    for (uint16_t g = 0; g < machine->job->sizes.grocers; g++)
-        if (machine->job->grocer_owner[g] == box) {
-            machine->statement[g] += machine->working[box][g];
-            machine->working[box][g] = 0;
+    for (uint16_t g = 0; g < machine->job->sizes.grocers; g++) {
+        if (machine->job->grocer_owner[g] != box) continue;
+        for (size_t q = 0; q <= machine->job->sizes.lists; q++) {
+            machine->statement[g][q] += machine->working[box][g][q];
+            machine->working[box][g][q] = 0;
         }
+    }
 }
 
 static void act(struct machine *machine, struct step step)
@@ -300,13 +343,20 @@ static void act(struct machine *machine, struct step step)
 
 static bool is_amount(int64_t word) { return -MOST_AMOUNT <= word && word <= MOST_AMOUNT; }
 
+static bool are_amounts(const int64_t words[MOST_WIDTH], size_t lists)
+{
+    for (size_t q = 0; q <= lists; q++)
+        if (!is_amount(words[q])) return false;
+    return true;
+}
+
 static bool result_in_range(const struct machine *machine)
 {
     struct sizes sizes = machine->job->sizes;
     for (size_t g = 0; g < sizes.grocers; g++) {
-        if (!is_amount(machine->statement[g])) return false;
+        if (!are_amounts(machine->statement[g], sizes.lists)) return false;
         for (size_t b = 0; b < sizes.boxes; b++)
-            if (!is_amount(machine->working[b][g])) return false;
+            if (!are_amounts(machine->working[b][g], sizes.lists)) return false;
     }
     return machine->sent <= MOST_SENT;
 }
@@ -317,13 +367,15 @@ static void copy_post(struct post *to, const struct post *from)
     memcpy(to->envelope, from->envelope, from->length * sizeof from->envelope[0]);
 }
 
-static void copy_state(struct machine *to, const struct machine *from)
+void copy_state(struct machine *to, const struct machine *from)
 {
-    size_t boxes = from->job->sizes.boxes;
+    struct sizes sizes = from->job->sizes;
     memcpy(to, from, offsetof(struct machine, known));
-    memcpy(to->known, from->known, boxes * sizeof from->known[0]);
-    memcpy(to->working, from->working, boxes * sizeof from->working[0]);
-    memcpy(to->statement, from->statement, sizeof from->statement);
+    for (size_t b = 0; b < sizes.boxes; b++) {
+        memcpy(to->known[b], from->known[b], sizes.offers * sizeof from->known[b][0]);
+        memcpy(to->working[b], from->working[b], sizes.grocers * sizeof from->working[b][0]);
+    }
+    memcpy(to->statement, from->statement, sizes.grocers * sizeof from->statement[0]);
     copy_post(&to->prices, &from->prices);
     copy_post(&to->totals, &from->totals);
     to->sent = from->sent;
@@ -356,7 +408,13 @@ uint16_t request(struct machine *machine, struct step step)
 /* A state with nothing in it */
 static void start_empty(struct machine *machine, const struct job *job)
 {
-    memset(machine, 0, offsetof(struct machine, prices));
+    struct sizes sizes = job->sizes;
+    memset(machine, 0, offsetof(struct machine, known));
+    for (size_t b = 0; b < sizes.boxes; b++) {
+        memset(machine->known[b], 0, sizes.offers * sizeof machine->known[b][0]);
+        memset(machine->working[b], 0, sizes.grocers * sizeof machine->working[b][0]);
+    }
+    memset(machine->statement, 0, sizes.grocers * sizeof machine->statement[0]);
     machine->job = job;
     machine->prices.length = machine->totals.length = 0;
     machine->sent = 0;
@@ -368,7 +426,8 @@ static void start_empty(struct machine *machine, const struct job *job)
 void start_fresh(struct machine *machine, const struct job *job)
 {
     start_empty(machine, job);
-    for (size_t o = 0; o < job->sizes.offers; o++) machine->known[job->offer[o].owner][o] = job->offer[o].price;
+    for (size_t o = 0; o < job->sizes.offers; o++)
+        for (size_t q = 0; q <= job->sizes.lists; q++) machine->known[job->offer[o].owner][o][q] = price_on(job, o, q);
 }
 
 struct report run_all(struct machine *machine, const struct job *job, struct table choices,
@@ -427,7 +486,7 @@ static size_t packed_words(struct sizes sizes, const struct table tables[])
 {
     static struct job job;
     read_job_words(&job, sizes, tables);
-    return packed_length(&job);
+    return packed_places(&job) * width_of_entry(sizes);
 }
 
 static bool packed_short(const struct table tables[], size_t words)
@@ -462,12 +521,25 @@ uint16_t run_tables_refusal(struct sizes sizes, const struct table tables[ALL_TA
     return packed_short(tables, packed_words(sizes, tables)) ? 20 : 0;
 }
 
+/* One list after the other. */
+static void write_prices(const struct job *job, struct table price)
+{
+    size_t place = 0;
+    for (size_t q = 0; q <= job->sizes.lists; q++)
+        for (size_t o = 0; o < job->sizes.offers; o++) put_word(price, place++, price_on(job, o, q));
+}
+
+void read_prices(struct job *job, struct table price)
+{
+    size_t place = 0;
+    for (size_t q = 0; q <= job->sizes.lists; q++)
+        for (size_t o = 0; o < job->sizes.offers; o++) set_price(job, o, q, (uint32_t)word_at(price, place++));
+}
+
 void write_job_words(const struct job *job, const struct table tables[ALL_TABLES])
 {
-    for (size_t o = 0; o < job->sizes.offers; o++) {
-        put_word(tables[PRICE], o, job->offer[o].price);
-        put_word(tables[OFFER_OWNER], o, job->offer[o].owner);
-    }
+    write_prices(job, tables[PRICE]);
+    for (size_t o = 0; o < job->sizes.offers; o++) put_word(tables[OFFER_OWNER], o, job->offer[o].owner);
     for (size_t g = 0; g < job->sizes.grocers; g++) put_word(tables[GROCER_OWNER], g, job->grocer_owner[g]);
     for (size_t t = 0; t < job->sizes.tallies; t++) {
         put_word(tables[TALLY_GROCER], t, job->tally[t].grocer);
@@ -500,9 +572,8 @@ void write_reader_words(const struct job *job, const struct table tables[ALL_TAB
     put_word(tables[SIZES], 2, job->sizes.offers);
     put_word(tables[SIZES], 3, job->sizes.tallies);
     put_word(tables[SIZES], 4, job->cycle);
+    put_word(tables[SIZES], 5, job->sizes.lists);
 }
-
-static void clear_words(struct table table, size_t words) { memset(table.words, 0, words * width_of(table.name)); }
 
 static size_t mark_place(uint16_t boxes, unsigned kind, size_t a, size_t b)
 {
@@ -525,32 +596,78 @@ void write_picked_words(const struct job *job, const struct step picked[], size_
     }
 }
 
+/* The entries of a table of the state, an offer or a grocer each, and of each the words of all lists: they stand in the
+   table one entry after the other, and in an entry list by list. */
+static int64_t entry[MOST_BOXES * MOST_OFFERS][MOST_WIDTH];
+
+static void clear_entries(size_t entries) { memset(entry, 0, entries * sizeof entry[0]); }
+
+static void write_entries(struct table table, size_t entries, size_t lists)
+{
+    size_t place = 0;
+    for (size_t e = 0; e < entries; e++)
+        for (size_t q = 0; q <= lists; q++) put_word(table, place++, entry[e][q]);
+}
+
+static void read_entries(struct table table, size_t entries, size_t lists)
+{
+    size_t place = 0;
+    clear_entries(entries);
+    for (size_t e = 0; e < entries; e++)
+        for (size_t q = 0; q <= lists; q++) entry[e][q] = word_at(table, place++);
+}
+
 /* Prices under way stand by receiver, totals by sender. */
 static void write_post(const struct machine *machine, const struct table tables[])
 {
     struct sizes sizes = machine->job->sizes;
-    clear_words(tables[PRICE_TRANSIT], needed(PRICE_TRANSIT, sizes));
-    clear_words(tables[TOTAL_TRANSIT], machine->packed);
+    size_t offers = (size_t)sizes.boxes * sizes.offers;
+    clear_entries(offers);
     for (size_t i = 0; i < machine->prices.length; i++) {
         const struct envelope *e = &machine->prices.envelope[i];
-        put_word(tables[PRICE_TRANSIT], (size_t)e->receiver * sizes.offers + e->number, e->word);
+        memcpy(entry[e->receiver * sizes.offers + e->number], e->word, sizeof e->word);
     }
+    write_entries(tables[PRICE_TRANSIT], offers, sizes.lists);
+    clear_entries(machine->packed);
     for (size_t i = 0; i < machine->totals.length; i++) {
         const struct envelope *e = &machine->totals.envelope[i];
-        put_word(tables[TOTAL_TRANSIT], machine->place[e->sender][e->number], e->word);
+        memcpy(entry[machine->place[e->sender][e->number]], e->word, sizeof e->word);
     }
+    write_entries(tables[TOTAL_TRANSIT], machine->packed, sizes.lists);
+}
+
+static void write_known(const struct machine *machine, struct table known)
+{
+    struct sizes sizes = machine->job->sizes;
+    size_t place = 0;
+    for (size_t b = 0; b < sizes.boxes; b++)
+        for (size_t o = 0; o < sizes.offers; o++)
+            for (size_t q = 0; q <= sizes.lists; q++) put_word(known, place++, machine->known[b][o][q]);
+}
+
+static void write_working(const struct machine *machine, struct table working)
+{
+    struct sizes sizes = machine->job->sizes;
+    clear_entries(machine->packed);
+    for (size_t b = 0; b < sizes.boxes; b++)
+        for (size_t g = 0; g < sizes.grocers; g++)
+            if (machine->place[b][g] != NO_PLACE)
+                memcpy(entry[machine->place[b][g]], machine->working[b][g], sizeof machine->working[b][g]);
+    write_entries(working, machine->packed, sizes.lists);
+}
+
+static void write_statements(const struct machine *machine, struct table statement)
+{
+    size_t place = 0;
+    for (size_t g = 0; g < machine->job->sizes.grocers; g++)
+        for (size_t q = 0; q <= machine->job->sizes.lists; q++) put_word(statement, place++, machine->statement[g][q]);
 }
 
 void write_state_words(const struct machine *machine, const struct table tables[ALL_TABLES])
 {
-    struct sizes sizes = machine->job->sizes;
-    for (size_t b = 0; b < sizes.boxes; b++) {
-        for (size_t o = 0; o < sizes.offers; o++) put_word(tables[KNOWN], b * sizes.offers + o, machine->known[b][o]);
-        for (size_t g = 0; g < sizes.grocers; g++)
-            if (machine->place[b][g] != NO_PLACE)
-                put_word(tables[WORKING], machine->place[b][g], machine->working[b][g]);
-    }
-    for (size_t g = 0; g < sizes.grocers; g++) put_word(tables[STATEMENT], g, machine->statement[g]);
+    write_known(machine, tables[KNOWN]);
+    write_working(machine, tables[WORKING]);
+    write_statements(machine, tables[STATEMENT]);
     write_post(machine, tables);
     write_marks(machine, tables[DONE]);
     put_word(tables[SENT], 0, machine->sent);
@@ -559,10 +676,8 @@ void write_state_words(const struct machine *machine, const struct table tables[
 void read_job_words(struct job *job, struct sizes sizes, const struct table tables[ALL_TABLES])
 {
     job->sizes = sizes;
-    for (size_t o = 0; o < sizes.offers; o++) {
-        job->offer[o].price = (uint32_t)word_at(tables[PRICE], o);
-        job->offer[o].owner = (uint16_t)word_at(tables[OFFER_OWNER], o);
-    }
+    read_prices(job, tables[PRICE]);
+    for (size_t o = 0; o < sizes.offers; o++) job->offer[o].owner = (uint16_t)word_at(tables[OFFER_OWNER], o);
     for (size_t g = 0; g < sizes.grocers; g++) job->grocer_owner[g] = (uint16_t)word_at(tables[GROCER_OWNER], g);
     for (size_t t = 0; t < sizes.tallies; t++) {
         job->tally[t].grocer = (uint16_t)word_at(tables[TALLY_GROCER], t);
@@ -574,9 +689,14 @@ void read_job_words(struct job *job, struct sizes sizes, const struct table tabl
     }
 }
 
-static void read_envelope(struct post *post, struct envelope envelope)
+/* What is under way of an entry, where a word of it is not 0. */
+static void read_envelope(struct post *post, uint16_t sender, uint16_t receiver, uint16_t number, const int64_t word[])
 {
-    if (envelope.word != 0) post->envelope[post->length++] = envelope;
+    static const int64_t nothing[MOST_WIDTH];
+    if (memcmp(word, nothing, sizeof nothing) == 0) return;
+    struct envelope *e = &post->envelope[post->length++];
+    *e = (struct envelope){sender, receiver, number, {0}};
+    memcpy(e->word, word, sizeof e->word);
 }
 
 /* The other end of a word under way is the owner of its offer or grocer. */
@@ -584,17 +704,41 @@ static void read_post(struct machine *machine, const struct table tables[])
 {
     const struct job *job = machine->job;
     struct sizes sizes = job->sizes;
-    for (uint16_t b = 0; b < sizes.boxes; b++) {
+    read_entries(tables[PRICE_TRANSIT], (size_t)sizes.boxes * sizes.offers, sizes.lists);
+    for (uint16_t b = 0; b < sizes.boxes; b++)
         for (uint16_t o = 0; o < sizes.offers; o++)
-            read_envelope(&machine->prices,
-                          (struct envelope){job->offer[o].owner, b, o,
-                                            word_at(tables[PRICE_TRANSIT], (size_t)b * sizes.offers + o)});
+            read_envelope(&machine->prices, job->offer[o].owner, b, o, entry[b * sizes.offers + o]);
+    read_entries(tables[TOTAL_TRANSIT], machine->packed, sizes.lists);
+    for (uint16_t b = 0; b < sizes.boxes; b++)
         for (uint16_t g = 0; g < sizes.grocers; g++)
             if (machine->place[b][g] != NO_PLACE)
-                read_envelope(&machine->totals,
-                              (struct envelope){b, job->grocer_owner[g], g,
-                                                word_at(tables[TOTAL_TRANSIT], machine->place[b][g])});
-    }
+                read_envelope(&machine->totals, b, job->grocer_owner[g], g, entry[machine->place[b][g]]);
+}
+
+static void read_known(struct machine *machine, struct table known)
+{
+    struct sizes sizes = machine->job->sizes;
+    size_t place = 0;
+    for (size_t b = 0; b < sizes.boxes; b++)
+        for (size_t o = 0; o < sizes.offers; o++)
+            for (size_t q = 0; q <= sizes.lists; q++) machine->known[b][o][q] = (uint32_t)word_at(known, place++);
+}
+
+static void read_working(struct machine *machine, struct table working)
+{
+    struct sizes sizes = machine->job->sizes;
+    read_entries(working, machine->packed, sizes.lists);
+    for (size_t b = 0; b < sizes.boxes; b++)
+        for (size_t g = 0; g < sizes.grocers; g++)
+            if (machine->place[b][g] != NO_PLACE)
+                memcpy(machine->working[b][g], entry[machine->place[b][g]], sizeof machine->working[b][g]);
+}
+
+static void read_statements(struct machine *machine, struct table statement)
+{
+    size_t place = 0;
+    for (size_t g = 0; g < machine->job->sizes.grocers; g++)
+        for (size_t q = 0; q <= machine->job->sizes.lists; q++) machine->statement[g][q] = word_at(statement, place++);
 }
 
 static void read_marks(struct machine *machine, struct table done)
@@ -608,16 +752,10 @@ static void read_marks(struct machine *machine, struct table done)
 
 void read_state_words(struct machine *machine, const struct job *job, const struct table tables[ALL_TABLES])
 {
-    struct sizes sizes = job->sizes;
     start_empty(machine, job);
-    for (size_t b = 0; b < sizes.boxes; b++) {
-        for (size_t o = 0; o < sizes.offers; o++)
-            machine->known[b][o] = (uint32_t)word_at(tables[KNOWN], b * sizes.offers + o);
-        for (size_t g = 0; g < sizes.grocers; g++)
-            if (machine->place[b][g] != NO_PLACE)
-                machine->working[b][g] = word_at(tables[WORKING], machine->place[b][g]);
-    }
-    for (size_t g = 0; g < sizes.grocers; g++) machine->statement[g] = word_at(tables[STATEMENT], g);
+    read_known(machine, tables[KNOWN]);
+    read_working(machine, tables[WORKING]);
+    read_statements(machine, tables[STATEMENT]);
     read_post(machine, tables);
     read_marks(machine, tables[DONE]);
     machine->sent = word_at(tables[SENT], 0);
@@ -625,12 +763,12 @@ void read_state_words(struct machine *machine, const struct job *job, const stru
 
 /* Sums straight from the tallies */
 
-int64_t plain_sum(const struct job *job, uint16_t grocer)
+int64_t plain_sum(const struct job *job, uint16_t grocer, size_t list)
 {
     int64_t sum = 0;
     for (size_t t = 0; t < job->sizes.tallies; t++)
         if (job->tally[t].grocer == grocer && stands(job->tally, job->sizes.tallies, t))
-            sum += (int64_t)job->tally[t].count * job->offer[job->tally[t].place].price;
+            sum += (int64_t)job->tally[t].count * price_on(job, job->tally[t].place, list);
     return sum;
 }
 
@@ -648,12 +786,14 @@ bool holds_grocer(const struct job *job, size_t box, size_t grocer)
     return false;
 }
 
-uint32_t words_of_job(const struct job *job)
+uint32_t entries_of_job(const struct job *job)
 {
-    uint32_t words = 0;
+    uint32_t entries = 0;
     for (size_t b = 0; b < job->sizes.boxes; b++) {
-        for (size_t o = 0; o < job->sizes.offers; o++) words += job->offer[o].owner != b && holds_offer(job, b, o);
-        for (size_t g = 0; g < job->sizes.grocers; g++) words += job->grocer_owner[g] != b && holds_grocer(job, b, g);
+        for (size_t o = 0; o < job->sizes.offers; o++) entries += job->offer[o].owner != b && holds_offer(job, b, o);
+        for (size_t g = 0; g < job->sizes.grocers; g++) entries += job->grocer_owner[g] != b && holds_grocer(job, b, g);
     }
-    return words;
+    return entries;
 }
+
+uint32_t words_of_job(const struct job *job) { return entries_of_job(job) * (uint32_t)width_of_entry(job->sizes); }

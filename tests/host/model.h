@@ -5,7 +5,7 @@
 
 #include "tables.h"
 
-enum { BLOCK = 512, MOST_BLOCKS = 74, MOST_FILE = BLOCK * MOST_BLOCKS, FIELD = 10 };
+enum { BLOCK = 512, MOST_BLOCKS = 102, MOST_FILE = BLOCK * MOST_BLOCKS, FIELD = 10 };
 enum { SEND_PRICES = 1, MULTIPLY_OWN, RECEIVE_PRICES, SEND_TOTALS, ADD_OWN, RECEIVE_TOTALS, KINDS };
 enum { MOST_STEPS = 6 * MOST_BOXES * MOST_BOXES };
 
@@ -32,10 +32,12 @@ struct tally {
     uint16_t bag, revision;
 };
 
+/* An offer has its price on the first list. */
 struct job {
     struct sizes sizes;
     uint16_t cycle;
     struct offer offer[MOST_OFFERS];
+    uint32_t more_price[MOST_LISTS][MOST_OFFERS]; /* of each offer on each additional list */
     uint16_t grocer_owner[MOST_GROCERS];
     struct tally tally[MOST_TALLIES];
 };
@@ -44,10 +46,10 @@ struct step {
     uint16_t kind, first, second;
 };
 
-/* One word under way: the price of an offer, or the part total of a grocer. */
+/* What is under way of one offer, its price on each list, or of one grocer, the part total on each list. */
 struct envelope {
     uint16_t sender, receiver, number;
-    int64_t word;
+    int64_t word[MOST_WIDTH];
 };
 
 struct post {
@@ -55,15 +57,15 @@ struct post {
     struct envelope envelope[MOST_BOXES * MOST_OFFERS];
 };
 
-/* The boxes in the middle of a settlement: of totals it has full rows, one word for each box and grocer. Packed tables
-   have some of these words, each at its place. */
+/* The boxes in the middle of a settlement: of totals it has full rows, the lists' words of each box and grocer. Packed
+   tables have some of these, each at its place. The last index is the list. */
 struct machine {
     const struct job *job;
     uint16_t needs[MOST_OFFERS], sharers[MOST_GROCERS];
     uint16_t place[MOST_BOXES][MOST_GROCERS], packed; /* of each total in packed tables, and how many there are */
     bool has[KINDS][MOST_BOXES][MOST_BOXES], done[KINDS][MOST_BOXES][MOST_BOXES];
-    uint32_t known[MOST_BOXES][MOST_OFFERS];
-    int64_t working[MOST_BOXES][MOST_GROCERS], statement[MOST_GROCERS];
+    uint32_t known[MOST_BOXES][MOST_OFFERS][MOST_WIDTH];
+    int64_t working[MOST_BOXES][MOST_GROCERS][MOST_WIDTH], statement[MOST_GROCERS][MOST_WIDTH];
     struct post prices, totals;
     int64_t sent;
 };
@@ -81,8 +83,17 @@ bool counted_twice(const struct tally tally[], size_t tallies);
 /* The place of a total that packed tables have no word for. */
 enum { NO_PLACE = 65535 };
 
-/* The words that working totals of a job need, and totals in transit as many. */
-size_t packed_length(const struct job *job);
+/* The places that working totals of a job have, and totals in transit as many. */
+size_t packed_places(const struct job *job);
+
+/* The price of an offer on a list, 0 for the first. */
+uint32_t price_on(const struct job *job, size_t offer, size_t list);
+
+/* The job with one list of its lists alone. */
+void take_list(struct job *only, const struct job *job, size_t list);
+
+/* A state copied to another machine, as far as its job reaches. */
+void copy_state(struct machine *to, const struct machine *from);
 
 /* A fresh state of the job, which must stay where it is. */
 void start_fresh(struct machine *machine, const struct job *job);
@@ -103,23 +114,26 @@ uint16_t step_tables_refusal(struct sizes sizes, const struct table tables[ALL_T
 uint16_t run_tables_refusal(struct sizes sizes, const struct table tables[ALL_TABLES]);
 
 /* Words as they should stand in tables: of a job, those that the reader alone gives, of a state, and of the steps
-   picked, as far as their table reaches; and back. */
+   picked, as far as their table reaches; and back, of a job with its sizes its prices alone too. */
 void write_job_words(const struct job *job, const struct table tables[ALL_TABLES]);
 void write_reader_words(const struct job *job, const struct table tables[ALL_TABLES]);
 void write_state_words(const struct machine *machine, const struct table tables[ALL_TABLES]);
 void write_picked_words(const struct job *job, const struct step picked[], size_t steps, struct table table);
 void read_job_words(struct job *job, struct sizes sizes, const struct table tables[ALL_TABLES]);
+void read_prices(struct job *job, struct table price);
 void read_state_words(struct machine *machine, const struct job *job, const struct table tables[ALL_TABLES]);
 
-/* The plain sum of count x price of one grocer, over the tallies that stand. */
-int64_t plain_sum(const struct job *job, uint16_t grocer);
+/* The plain sum of count x price of one grocer on a list, over the tallies that stand. */
+int64_t plain_sum(const struct job *job, uint16_t grocer, size_t list);
 
 /* Whether a box holds a tally that stands, and one of an offer, or of a grocer. */
 bool holds(const struct job *job, size_t box, size_t t);
 bool holds_offer(const struct job *job, size_t box, size_t offer);
 bool holds_grocer(const struct job *job, size_t box, size_t grocer);
 
-/* The words that a whole settlement sends, counted pair by pair from the owners and tallies. */
+/* The prices and totals that a whole settlement sends, counted pair by pair from the owners and tallies; and its words,
+   one of each list for each of them. */
+uint32_t entries_of_job(const struct job *job);
 uint32_t words_of_job(const struct job *job);
 
 /* The job file: its refusal, or 0 and the job; a job as a file, and its length; a block's two sums. */

@@ -47,8 +47,9 @@ static void try_lengths(size_t words)
     lend_whole(&settlement.lending);
 }
 
-/* Jobs that are written out: one offer, of box 0 and at 7; which box owns each grocer; tallies, of which the first is
-   of 1, the next of 10 and so on; and the box and grocer of every packed word, in order. Box 9 ends a list. */
+/* Jobs that are written out: one offer, of box 0 and at 7, on each further list at 1 more; which box owns each grocer;
+   tallies, of which the first is of 1, the next of 10 and so on; and the box and grocer of every packed place, in order.
+   Box 9 ends a list. */
 
 enum { END = 9, MOST_WRITTEN = 12 };
 struct written {
@@ -121,35 +122,36 @@ static const struct written written[] = {
 };
 enum { WRITTEN = sizeof written / sizeof written[0] };
 
-static size_t written_words(const struct written *c)
+static size_t written_totals(const struct written *c)
 {
-    size_t words = 0;
-    while (c->total[words].box != END) words++;
-    return words;
+    size_t totals = 0;
+    while (c->total[totals].box != END) totals++;
+    return totals;
 }
 
-static void open_written(const struct written *c)
+static void open_written(const struct written *c, uint16_t lists)
 {
     struct job *job = &settlement.job;
     int32_t count = 1;
     memset(job, 0, sizeof *job);
-    job->sizes = (struct sizes){c->boxes, (uint16_t)strlen(c->owners), 1, 0};
+    job->sizes = (struct sizes){c->boxes, (uint16_t)strlen(c->owners), 1, 0, lists};
+    for (uint16_t q = 0; q < lists; q++) job->more_price[q][0] = 8u + q;
     job->offer[0] = (struct offer){7, 0, {0, code_of("1")}};
     for (size_t g = 0; g < job->sizes.grocers; g++) job->grocer_owner[g] = (uint16_t)(c->owners[g] - '0');
     for (size_t t = 0; c->tally[t].box != END; t++, count *= 10)
         job->tally[job->sizes.tallies++] = (struct tally){
             c->tally[t].grocer, c->tally[t].box, 0, count, {0, code_of("1")}, c->tally[t].bag, c->tally[t].revision};
-    at_case("%s", c->what);
+    at_case("%s, %u lists more", c->what, lists);
     open_settlement(&settlement, SPARE, 0);
 }
 
-/* What a box adds of a grocer: the counts of its tallies that stand, at 7 each. */
-static int64_t part_of(size_t box, size_t grocer)
+/* What a box adds of a grocer on a list: the counts of its tallies that stand, at 7 each, or 1 more for each list. */
+static int64_t part_of(size_t box, size_t grocer, size_t list)
 {
     int64_t part = 0;
     for (size_t t = 0; t < settlement.job.sizes.tallies; t++)
         if (settlement.stands[t] && settlement.job.tally[t].box == box && settlement.job.tally[t].grocer == grocer)
-            part += 7 * settlement.job.tally[t].count;
+            part += (7 + (int64_t)list) * settlement.job.tally[t].count;
     return part;
 }
 
@@ -163,13 +165,14 @@ static void make_all(uint16_t kind)
                 expect(ask(&settlement, (struct step){kind, first, second}) == 0, "a step was refused");
 }
 
-/* Each packed word: the part of its box and grocer, of those grocers that the box owns, or does not, or none. */
+/* Each packed word: the part of its box, grocer and list, of those grocers that the box owns, or does not, or none. */
 static void expect_parts(const struct written *c, enum table_name name, bool own, bool others)
 {
-    for (size_t place = 0; place < written_words(c); place++) {
+    for (size_t place = 0; place < written_totals(c); place++) {
         size_t box = c->total[place].box, grocer = c->total[place].grocer;
         bool there = settlement.job.grocer_owner[grocer] == box ? own : others;
-        expect_word(name, place, there ? part_of(box, grocer) : 0);
+        for (size_t q = 0; q <= settlement.job.sizes.lists; q++)
+            expect_word(name, word_place(&settlement, place, q), there ? part_of(box, grocer, q) : 0);
     }
 }
 
@@ -193,20 +196,24 @@ static void written_by_steps(const struct written *c)
     expect_plain_sums(&settlement);
 }
 
+static void written_with(const struct written *c, uint16_t lists)
+{
+    size_t totals = written_totals(c);
+    open_written(c, lists);
+    expect(settlement.machine.packed == totals, "the model has %u places, the case %zu", settlement.machine.packed,
+           totals);
+    for (size_t place = 0; place < totals; place++)
+        expect(settlement.machine.place[c->total[place].box][c->total[place].grocer] == place,
+               "the model has place %zu elsewhere", place);
+    try_lengths(totals * width_of_entry(settlement.job.sizes));
+    written_by_steps(c);
+    close_settlement(&settlement);
+}
+
 static void written_places(void)
 {
-    for (size_t i = 0; i < WRITTEN; i++) {
-        const struct written *c = &written[i];
-        open_written(c);
-        expect(settlement.machine.packed == written_words(c), "the model has %u words, the case %zu",
-               settlement.machine.packed, written_words(c));
-        for (size_t place = 0; place < written_words(c); place++)
-            expect(settlement.machine.place[c->total[place].box][c->total[place].grocer] == place,
-                   "the model has word %zu elsewhere", place);
-        try_lengths(written_words(c));
-        written_by_steps(c);
-        close_settlement(&settlement);
-    }
+    for (size_t i = 0; i < WRITTEN; i++)
+        for (uint16_t lists = 0; lists <= MOST_LISTS; lists += lists ? 6 : 1) written_with(&written[i], lists);
 }
 
 /* Two boxes send totals of one grocer, each its word in its own place; the owner's own total stays when they come. */
@@ -225,7 +232,7 @@ static void by_sender(void)
         {{6, 2, 1}, {0, 0, 700}, {7, 0, 0}, 70}, {{6, 2, 0}, {0, 0, 700}, {0, 0, 0}, 77},
         {{5, 2, 2}, {0, 0, 0}, {0, 0, 0}, 777},
     };
-    open_written(&c);
+    open_written(&c, 0);
     make_all(SEND_PRICES);
     make_all(MULTIPLY_OWN);
     make_all(RECEIVE_PRICES);
@@ -241,7 +248,8 @@ static void by_sender(void)
     close_settlement(&settlement);
 }
 
-/* Where 20 and 21 on packed tables come: every set of faults on E. A word past the length is no fault. */
+/* Where 20 and 21 on packed tables come: every set of faults on E, with one list and with two. A word past the length is
+   no fault. */
 
 enum fault { OTHER_SHORT, JOB_WILD, STATE_WILD, TWICE, PACKED_SHORT, PACKED_WILD, PAST_WILD, FAULTS };
 
@@ -271,24 +279,28 @@ static int64_t wild_amount(void)
     return amounts[below(4)];
 }
 
-/* E with these faults, those of packed tables in one of them. Its packed tables need 3 words and have 8. */
-static void open_faults(unsigned set, enum table_name packed)
+/* The packed words that E needs, and five more that are lent. */
+static size_t words_of_sample(void) { return 3 * width_of_entry(settlement.job.sizes); }
+static size_t room_of_sample(void) { return words_of_sample() + 5; }
+
+/* E with these faults, those of packed tables in one of them. */
+static void open_faults(unsigned set, enum table_name packed, uint16_t lists)
 {
     static const enum table_name others[] = {PRICE, GROCER_OWNER, TALLY_COUNT, TALLY_BAG, KNOWN, STATEMENT, DONE};
     static const enum table_name jobs[] = {PRICE, OFFER_OWNER, GROCER_OWNER, TALLY_GROCER, TALLY_BOX, TALLY_OFFER};
     static const enum table_name states[] = {KNOWN, PRICE_TRANSIT, STATEMENT, DONE, SENT};
     size_t lengths[ALL_TABLES] = {0};
     struct lending *lending = &settlement.lending;
-    sample_job(&settlement.job);
+    sample_with_lists(&settlement.job, lists);
     start_fresh(&settlement.machine, &settlement.job);
     for (unsigned name = 0; name < STEP_TABLES; name++)
-        lengths[name] = is_packed(name) ? 8 : needed(name, settlement.job.sizes);
+        lengths[name] = is_packed(name) ? room_of_sample() : needed(name, settlement.job.sizes);
     lengths[REPORT] = 3;
     lengths[PICKED] = 10;
     open_lending(lending, lengths);
     write_job_words(&settlement.job, lending->twin);
     lend_state(&settlement);
-    for (size_t place = 3; place < 8; place++)
+    for (size_t place = words_of_sample(); place < room_of_sample(); place++)
         for (unsigned name = WORKING; name <= TOTAL_TRANSIT; name++)
             put_both(lending, name, place, is_among(set, PAST_WILD) ? wild_amount() : 0);
     for (size_t t = 0; t < 4 && is_among(set, TWICE); t += 3) put_both(lending, TALLY_BAG, t, 500);
@@ -296,8 +308,8 @@ static void open_faults(unsigned set, enum table_name packed)
     enum table_name job = jobs[below(6)], state = states[below(5)], other = others[below(7)];
     if (is_among(set, JOB_WILD)) put_both(lending, job, 1, range_of(job, settlement.job.sizes).most + 1);
     if (is_among(set, STATE_WILD)) put_both(lending, state, 0, range_of(state, settlement.job.sizes).most + 1);
-    if (is_among(set, PACKED_WILD)) put_both(lending, packed, below(2), wild_amount());
-    if (is_among(set, PACKED_SHORT)) lending->lend[packed] = below(3);
+    if (is_among(set, PACKED_WILD)) put_both(lending, packed, below((uint32_t)words_of_sample() - 1), wild_amount());
+    if (is_among(set, PACKED_SHORT)) lending->lend[packed] = below((uint32_t)words_of_sample());
     if (is_among(set, OTHER_SHORT)) lending->lend[other] = needed(other, settlement.job.sizes) - 1;
 }
 
@@ -310,10 +322,10 @@ static const struct {
 
 static void sets_of_faults(void)
 {
-    for (unsigned set = 0; set < 1u << FAULTS; set++)
+    for (unsigned set = 0; set < 2u << FAULTS; set++)
         for (unsigned packed = WORKING; packed <= TOTAL_TRANSIT; packed++) {
             at_case("faults %x, of %s", set, table_text(packed));
-            open_faults(set, packed);
+            open_faults(set, packed, is_among(set, FAULTS));
             for (size_t i = sizeof requests / sizeof requests[0]; i-- > 0;)
                 expect_step(&settlement, requests[i].step, due_of_step(set, requests[i].due));
             expect_run(due_of_run(set));
@@ -325,15 +337,17 @@ static void sets_of_faults(void)
 static void late_behind_short(void)
 {
     for (unsigned packed = WORKING; packed <= TOTAL_TRANSIT; packed++)
-        for (unsigned large = 0; large < 2; large++) {
+        for (unsigned way = 0; way < 4; way++) {
+            bool large = way & 1;
+            uint16_t lists = way / 2;
             at_case("%s, %s short", large ? "a working total too large" : "a step done", table_text(packed));
-            open_faults(0, packed);
-            put_both(&settlement.lending, WORKING, 1, MOST_AMOUNT);
+            open_faults(0, packed, lists);
+            put_on(&settlement, WORKING, 1, lists, MOST_AMOUNT);
             if (!large) set_mark(&settlement, (struct step){2, 0, 0});
             expect_step(&settlement, (struct step){2, 0, 0}, large ? 21 : 25);
-            settlement.lending.lend[packed] = 2;
+            settlement.lending.lend[packed] = words_of_sample() - 1;
             expect_step(&settlement, (struct step){2, 0, 0}, 20);
-            settlement.lending.lend[packed] = 3;
+            settlement.lending.lend[packed] = words_of_sample();
             expect_step(&settlement, (struct step){2, 0, 0}, large ? 21 : 25);
             close_settlement(&settlement);
         }
@@ -345,8 +359,8 @@ static void each_word(void)
 {
     for (size_t i = 0; i < WRITTEN; i++)
         for (unsigned name = WORKING; name <= TOTAL_TRANSIT; name++) {
-            open_written(&written[i]);
-            size_t length = settlement.lending.table[name].length, words = written_words(&written[i]);
+            open_written(&written[i], (uint16_t)(i % 3));
+            size_t length = settlement.lending.table[name].length, words = words_needed(&settlement, name);
             for (size_t place = 0; place < length; place++) {
                 int64_t kept = lent_word(&settlement, name, place), wild = wild_amount();
                 at_case("%s, %s[%zu] of %zu", written[i].what, table_text(name), place, words);
@@ -385,45 +399,47 @@ static void settle_exactly(size_t words)
     }
 }
 
-static void large_job(const char *what, size_t words)
+static void large_job(const char *what, size_t places)
 {
     struct job *job = &settlement.job;
+    size_t words = places * width_of_entry(job->sizes);
     at_case("%s, %zu packed words", what, words);
+    give_lists(job, job->sizes.lists);
     for (size_t o = 0; o < job->sizes.offers; o++) job->offer[o].price = (uint32_t)(9990999 + o);
     for (size_t t = 0; t < job->sizes.tallies; t++) job->tally[t].count = (int32_t)t - 400;
     open_settlement(&settlement, SPARE, 0);
-    expect(settlement.machine.packed == words, "the model has %u words", settlement.machine.packed);
+    expect(settlement.machine.packed == places, "the model has %u places", settlement.machine.packed);
     try_lengths(words);
     settle_exactly(words);
     close_settlement(&settlement);
 }
 
 /* Every box shares every grocer: 62 grocers in 16 boxes, 992 pairs, each with a tally and some with two. And the most
-   words that there can be, M + T: each tally of a box and grocer of its own, in a box that does not own the grocer. And
-   as many grocers as can be in one box, and without a tally. */
+   words that there can be, (M + T) L: each tally of a box and grocer of its own, in a box that does not own the grocer.
+   And as many grocers as can be in one box, and without a tally. */
 static void large_jobs(void)
 {
     struct job *job = &settlement.job;
-    ruled_job(job, (struct sizes){16, 62, 20, 1000}, (struct rules){{1, 16}, {3, 16}, {16, 62}, {1, 16}, {3, 20}});
+    ruled_job(job, (struct sizes){16, 62, 20, 1000, 2}, (struct rules){{1, 16}, {3, 16}, {16, 62}, {1, 16}, {3, 20}});
     large_job("every box shares every grocer", 992);
     ruled_job(job, LARGEST, (struct rules){{7, 16}, {1, 16}, {1, 255}, {1, 16}, {1, 500}});
     for (size_t t = 0; t < 1000; t++)
         job->tally[t].box = (uint16_t)((job->grocer_owner[job->tally[t].grocer] + 1 + t / 255) % 16);
-    large_job("M + T words", 1255);
-    ruled_job(job, (struct sizes){2, 255, 2, 1000}, (struct rules){{1, 2}, {1, 1}, {1, 255}, {300, 2}, {1, 2}});
+    large_job("(M + T) L words", 1255);
+    ruled_job(job, (struct sizes){2, 255, 2, 1000, 0}, (struct rules){{1, 2}, {1, 1}, {1, 255}, {300, 2}, {1, 2}});
     large_job("both boxes have every grocer", 510);
-    ruled_job(job, (struct sizes){16, 255, 1, 0}, (struct rules){{1, 1}, {1, 16}, {1, 1}, {1, 1}, {1, 1}});
+    ruled_job(job, (struct sizes){16, 255, 1, 0, 0}, (struct rules){{1, 1}, {1, 16}, {1, 1}, {1, 1}, {1, 1}});
     large_job("no tallies", 255);
-    ruled_job(job, (struct sizes){1, 255, 3, 1000}, (struct rules){{1, 1}, {1, 1}, {1, 255}, {1, 1}, {1, 3}});
+    ruled_job(job, (struct sizes){1, 255, 3, 1000, 0}, (struct rules){{1, 1}, {1, 1}, {1, 255}, {1, 1}, {1, 3}});
     large_job("one box", 255);
-    ruled_job(job, (struct sizes){16, 1, 500, 1000}, (struct rules){{7, 16}, {1, 1}, {1, 1}, {1, 16}, {1, 500}});
+    ruled_job(job, (struct sizes){16, 1, 500, 1000, 0}, (struct rules){{7, 16}, {1, 1}, {1, 1}, {1, 16}, {1, 500}});
     job->grocer_owner[0] = 15;
     large_job("one grocer in 16 boxes", 16);
 }
 
-/* Full rows: one word for each box and grocer. What the library leaves in packed tables is unpacked, with 0 for all
-   other grocers, by places that are found in another way than the model's: each local pair of a box and a grocer has
-   its number among all of them, in order. */
+/* Full rows: the words of each box and grocer, one of each list. What the library leaves in packed tables is unpacked,
+   with 0 for all other grocers, by places that are found in another way than the model's: each local pair of a box and a
+   grocer has its number among all of them, in order. */
 
 struct pair {
     uint16_t box, owner, grocer;
@@ -437,8 +453,17 @@ static struct {
 
 /* Working totals and totals in transit in full rows. */
 struct rows {
-    int64_t working[MOST_BOXES][MOST_GROCERS], transit[MOST_BOXES][MOST_GROCERS];
+    int64_t working[MOST_BOXES][MOST_GROCERS][MOST_WIDTH], transit[MOST_BOXES][MOST_GROCERS][MOST_WIDTH];
 };
+
+/* Full rows of 0, as far as the job reaches. */
+static void clear_rows(struct rows *rows)
+{
+    for (size_t b = 0; b < settlement.job.sizes.boxes; b++) {
+        memset(rows->working[b], 0, settlement.job.sizes.grocers * sizeof rows->working[b][0]);
+        memset(rows->transit[b], 0, settlement.job.sizes.grocers * sizeof rows->transit[b][0]);
+    }
+}
 
 static int difference(unsigned a, unsigned b) { return (a > b) - (a < b); }
 
@@ -468,61 +493,83 @@ static void note_pairs(void)
         if (settlement.stands[t]) add_pair(noted, job->tally[t].box, job->tally[t].grocer);
     for (uint16_t g = 0; g < job->sizes.grocers; g++) add_pair(noted, job->grocer_owner[g], g);
     qsort(pairs.pair, pairs.length, sizeof pairs.pair[0], in_order);
-    expect(pairs.length == settlement.machine.packed, "%zu local pairs, and %u packed words", pairs.length,
+    expect(pairs.length == settlement.machine.packed, "%zu local pairs, and %u packed places", pairs.length,
            settlement.machine.packed);
 }
 
 static void unpack(struct rows *rows)
 {
-    memset(rows, 0, sizeof *rows);
-    for (size_t i = 0; i < pairs.length; i++) {
-        rows->working[pairs.pair[i].box][pairs.pair[i].grocer] = lent_word(&settlement, WORKING, i);
-        rows->transit[pairs.pair[i].box][pairs.pair[i].grocer] = lent_word(&settlement, TOTAL_TRANSIT, i);
-    }
+    clear_rows(rows);
+    for (size_t i = 0; i < pairs.length; i++)
+        for (size_t q = 0; q <= settlement.job.sizes.lists; q++) {
+            rows->working[pairs.pair[i].box][pairs.pair[i].grocer][q] = lent_on(&settlement, WORKING, i, q);
+            rows->transit[pairs.pair[i].box][pairs.pair[i].grocer][q] = lent_on(&settlement, TOTAL_TRANSIT, i, q);
+        }
 }
 
 /* A state of the model as full rows, and full rows put into one. */
 static void rows_of(const struct machine *machine, struct rows *rows)
 {
-    memset(rows, 0, sizeof *rows);
-    memcpy(rows->working, machine->working, sizeof rows->working);
+    struct sizes sizes = machine->job->sizes;
+    clear_rows(rows);
+    for (size_t b = 0; b < sizes.boxes; b++)
+        memcpy(rows->working[b], machine->working[b], sizes.grocers * sizeof rows->working[b][0]);
     for (size_t i = 0; i < machine->totals.length; i++) {
         const struct envelope *e = &machine->totals.envelope[i];
-        rows->transit[e->sender][e->number] = e->word;
+        memcpy(rows->transit[e->sender][e->number], e->word, sizeof e->word);
     }
+}
+
+static bool is_nothing(const int64_t words[MOST_WIDTH])
+{
+    for (size_t q = 0; q < MOST_WIDTH; q++)
+        if (words[q] != 0) return false;
+    return true;
 }
 
 static void put_rows(struct machine *machine, const struct rows *rows)
 {
     const struct job *job = machine->job;
-    memcpy(machine->working, rows->working, sizeof rows->working);
     machine->totals.length = 0;
-    for (uint16_t b = 0; b < job->sizes.boxes; b++)
-        for (uint16_t g = 0; g < job->sizes.grocers; g++)
-            if (rows->transit[b][g] != 0)
-                machine->totals.envelope[machine->totals.length++] =
-                    (struct envelope){b, job->grocer_owner[g], g, rows->transit[b][g]};
+    for (uint16_t b = 0; b < job->sizes.boxes; b++) {
+        memcpy(machine->working[b], rows->working[b], job->sizes.grocers * sizeof rows->working[b][0]);
+        for (uint16_t g = 0; g < job->sizes.grocers; g++) {
+            if (is_nothing(rows->transit[b][g])) continue;
+            struct envelope *e = &machine->totals.envelope[machine->totals.length++];
+            *e = (struct envelope){b, job->grocer_owner[g], g, {0}};
+            memcpy(e->word, rows->transit[b][g], sizeof e->word);
+        }
+    }
 }
 
 /* The evening on full rows, which reads no packed table. */
 static struct machine evening;
 
+/* The words of one box and grocer: what the library left, unpacked, or where no packed table has them, those before. */
+static void expect_same_total(const struct rows *left, const struct rows *due, size_t b, size_t g)
+{
+    for (size_t q = 0; q <= settlement.job.sizes.lists; q++) {
+        int64_t working = left->working[b][g][q], transit = left->transit[b][g][q];
+        if (working == due->working[b][g][q] && transit == due->transit[b][g][q]) continue;
+        expect(false, "box %zu, grocer %zu, list %zu: %lld and %lld, on full rows %lld and %lld", b, g, q,
+               (long long)working, (long long)transit, (long long)due->working[b][g][q],
+               (long long)due->transit[b][g][q]);
+    }
+}
+
 /* What the library left, unpacked, and the words of the evening; of totals that no packed table has, those before. */
 static void expect_same_rows(const struct rows *others)
 {
     static struct rows left, due;
+    struct sizes sizes = settlement.job.sizes;
     unpack(&left);
     rows_of(&evening, &due);
-    for (size_t b = 0; b < settlement.job.sizes.boxes; b++)
-        for (size_t g = 0; g < settlement.job.sizes.grocers; g++) {
-            bool local = has_total(&settlement, b, g);
-            int64_t working = local ? left.working[b][g] : others->working[b][g];
-            int64_t transit = local ? left.transit[b][g] : others->transit[b][g];
-            if (working == due.working[b][g] && transit == due.transit[b][g]) continue;
-            expect(false, "box %zu, grocer %zu: %lld and %lld, on full rows %lld and %lld", b, g, (long long)working,
-                   (long long)transit, (long long)due.working[b][g], (long long)due.transit[b][g]);
-        }
-    for (size_t g = 0; g < settlement.job.sizes.grocers; g++) expect_word(STATEMENT, g, evening.statement[g]);
+    for (size_t b = 0; b < sizes.boxes; b++)
+        for (size_t g = 0; g < sizes.grocers; g++)
+            expect_same_total(has_total(&settlement, b, g) ? &left : others, &due, b, g);
+    for (size_t g = 0; g < sizes.grocers; g++)
+        for (size_t q = 0; q <= sizes.lists; q++)
+            expect_word(STATEMENT, word_place(&settlement, g, q), evening.statement[g][q]);
     expect_word(SENT, 0, evening.sent);
 }
 
@@ -575,23 +622,37 @@ static int64_t some_amount(uint32_t manner)
     }
 }
 
+/* Any amounts in range on every list of a total. */
+static void random_amounts(int64_t words[MOST_WIDTH], uint32_t manner)
+{
+    for (size_t q = 0; q <= settlement.job.sizes.lists; q++) words[q] = some_amount(manner);
+}
+
+static void put_amounts(enum table_name name, size_t entry, const int64_t words[MOST_WIDTH])
+{
+    for (size_t q = 0; q <= settlement.job.sizes.lists; q++) put_on(&settlement, name, entry, q, words[q]);
+}
+
 /* Any amounts in range, in packed tables and in the full rows' words of all other grocers. */
 static void random_rows(struct rows *rows, bool others)
 {
     uint32_t manner = below(4);
-    memset(rows, 0, sizeof *rows);
+    int64_t statement[MOST_WIDTH];
+    clear_rows(rows);
     for (size_t b = 0; b < settlement.job.sizes.boxes; b++)
         for (size_t g = 0; g < settlement.job.sizes.grocers; g++) {
             if (!others && !has_total(&settlement, b, g)) continue;
-            rows->working[b][g] = some_amount(manner);
-            rows->transit[b][g] = some_amount(manner);
+            random_amounts(rows->working[b][g], manner);
+            random_amounts(rows->transit[b][g], manner);
         }
     for (size_t i = 0; i < pairs.length; i++) {
-        put_both(&settlement.lending, WORKING, i, rows->working[pairs.pair[i].box][pairs.pair[i].grocer]);
-        put_both(&settlement.lending, TOTAL_TRANSIT, i, rows->transit[pairs.pair[i].box][pairs.pair[i].grocer]);
+        put_amounts(WORKING, i, rows->working[pairs.pair[i].box][pairs.pair[i].grocer]);
+        put_amounts(TOTAL_TRANSIT, i, rows->transit[pairs.pair[i].box][pairs.pair[i].grocer]);
     }
-    for (size_t g = 0; g < settlement.job.sizes.grocers; g++)
-        put_both(&settlement.lending, STATEMENT, g, some_amount(manner));
+    for (size_t g = 0; g < settlement.job.sizes.grocers; g++) {
+        random_amounts(statement, manner);
+        put_amounts(STATEMENT, g, statement);
+    }
 }
 
 /* Marks that make many steps ready. */
@@ -678,7 +739,7 @@ static void recounts(void)
                 keep_state(&settlement, superseded ? &with : &without);
                 close_settlement(&settlement);
             }
-            expect(memcmp(&with, &without, sizeof with) == 0, "superseded tallies matter after %zu steps", steps);
+            expect(same_state(&with, &without), "superseded tallies matter after %zu steps", steps);
         }
     }
 }

@@ -8,7 +8,7 @@ static struct job job;
 static struct lending lending;
 
 /* Room for the longest file and what may stand behind it. */
-enum { ROOM = 41000 };
+enum { ROOM = 56000 };
 static uint8_t file[ROOM];
 
 static void (*body)(void);
@@ -69,10 +69,13 @@ static const struct edit edits[] = {
     {"0 offers", 4, 0, 8, 2, {0, 0}},
     {"501 offers", 4, 0, 8, 2, {0xF5, 1}},
     {"1,001 tallies", 4, 0, 10, 2, {0xE9, 3}},
-    {"first spare byte of the header", 5, 0, 14, 1, {1}},
+    {"8 additional lists", 4, 0, 14, 1, {8}},
+    {"255 additional lists", 4, 0, 14, 1, {255}},
+    {"first spare byte of the header", 5, 0, 15, 1, {1}},
     {"last spare byte of the header", 5, 0, 507, 1, {255}},
     {"22 tallies need one block more", 1, 0, 10, 2, {22, 0}},
     {"no tallies need one block less", 1, 0, 10, 2, {0, 0}},
+    {"two additional lists need two blocks more", 1, 0, 14, 1, {2}},
     {"first sum of the offers", 2, 1, 509, 1, {99}},
     {"second sum of the offers", 2, 1, 511, 1, {99}},
     {"kind of the offers", 3, 1, 0, 1, {2}},
@@ -121,6 +124,35 @@ static const struct edit edits[] = {
 };
 enum { EDITS = sizeof edits / sizeof edits[0] };
 
+/* Edits of E's file with two lists more, in order: blocks 3 and 4 are those of prices, 5 is that of tallies. */
+static const struct edit list_edits[] = {
+    {"8 additional lists", 4, 0, 14, 1, {8}},
+    {"a spare byte of the header", 5, 0, 15, 1, {1}},
+    {"one additional list, two in the file", 1, 0, 14, 1, {1}},
+    {"kind of the grocers", 3, 2, 0, 1, {4}},
+    {"first sum of the first list", 2, 3, 508, 1, {99}},
+    {"second sum of the first list", 2, 3, 510, 1, {99}},
+    {"the first list as a block of tallies", 3, 3, 0, 1, {3}},
+    {"record count of the first list", 3, 3, 1, 1, {3}},
+    {"the first list with 126 records", 3, 3, 1, 1, {126}},
+    {"block number of the first list", 3, 3, 2, 1, {2}},
+    {"first byte after the first list", 5, 3, 12, 1, {1}},
+    {"last byte after the first list", 5, 3, 507, 1, {1}},
+    {"price 10,000,000 on the first list", 6, 3, 4, 4, {0x80, 0x96, 0x98, 0}},
+    {"price 4,294,967,295 on the first list", 6, 3, 8, 4, {255, 255, 255, 255}},
+    {"second sum of the second list", 2, 4, 511, 1, {99}},
+    {"the second list as a block of offers", 3, 4, 0, 1, {1}},
+    {"record count of the second list", 3, 4, 1, 1, {1}},
+    {"block number of the second list", 3, 4, 2, 1, {3}},
+    {"first byte after the second list", 5, 4, 12, 1, {255}},
+    {"price 10,000,000 on the second list", 6, 4, 8, 4, {0x80, 0x96, 0x98, 0}},
+    {"the tallies as a block of prices", 3, 5, 0, 1, {4}},
+    {"grocer of a tally is 2", 6, 5, 4, 1, {2}},
+    {"two offers with number 412", 7, 1, 33, 4, {3, '4', '1', '2'}},
+    {"a tally of the last one's bag and revision", 9, 5, 24, 1, {1}},
+};
+enum { LIST_EDITS = sizeof list_edits / sizeof list_edits[0], LISTS_MORE = 2 };
+
 /* Other edits, in no order: at and beside the ends of ranges, and other wrong bytes. */
 static const struct edit others[] = {
     {"2 records in the header", 3, 0, 1, 1, {2}},
@@ -128,8 +160,11 @@ static const struct edit others[] = {
     {"cycle 1", 0, 0, 12, 2, {1, 0}},
     {"cycle 256", 0, 0, 12, 2, {0, 1}},
     {"cycle 65,535", 0, 0, 12, 2, {255, 255}},
-    {"cycle 65,535 and a spare byte", 5, 0, 12, 3, {255, 255, 1}},
-    {"second spare byte of the header", 5, 0, 15, 1, {1}},
+    {"cycle 65,535 and a spare byte", 5, 0, 12, 4, {255, 255, 0, 1}},
+    {"second spare byte of the header", 5, 0, 16, 1, {1}},
+    {"7 additional lists, and no blocks of them", 1, 0, 14, 1, {7}},
+    {"8 additional lists and a spare byte", 4, 0, 14, 2, {8, 1}},
+    {"7 additional lists and a spare byte", 5, 0, 14, 2, {7, 1}},
     {"3 grocers, 2 in the block", 3, 0, 6, 1, {3}},
     {"3 tallies, 4 in the block", 3, 0, 10, 1, {3}},
     {"offer block with 1 record", 3, 1, 1, 1, {1}},
@@ -179,10 +214,11 @@ static void apply(const struct edit *edit)
     memcpy(file + edit->block * BLOCK + edit->place, edit->bytes, edit->length);
 }
 
-/* E's file with two edits, the earlier one last; the sums are right except where an edit is about them. */
-static size_t edit_sample_job(const struct edit *earlier, const struct edit *later)
+/* E's file, with so many lists more, with two edits, the earlier one last; the sums are right except where an edit is
+   about them. */
+static size_t edit_lists(uint16_t lists, const struct edit *earlier, const struct edit *later)
 {
-    sample_job(&job);
+    sample_with_lists(&job, lists);
     job.tally[3].bag = 1;
     size_t length = write_file(&job, file);
     if (!breaks_sums(later)) apply(later);
@@ -191,6 +227,11 @@ static size_t edit_sample_job(const struct edit *earlier, const struct edit *lat
     if (breaks_sums(later)) apply(later);
     if (breaks_sums(earlier)) apply(earlier);
     return length;
+}
+
+static size_t edit_sample_job(const struct edit *earlier, const struct edit *later)
+{
+    return edit_lists(0, earlier, later);
 }
 
 static void each_refusal(void)
@@ -224,6 +265,52 @@ static void order_of_refusals(void)
         }
 }
 
+/* One or two bytes of one block: always 2. */
+static void change_and_ask(size_t length, size_t place)
+{
+    size_t block = place / BLOCK * BLOCK, other = block + below(BLOCK);
+    uint8_t one = file[place], two = file[other];
+    change_byte(file + place);
+    if (other != place && one_in(2)) change_byte(file + other);
+    at_case("bytes %zu and %zu of %zu changed", place, other, length);
+    expect_answer(length, 2);
+    file[other] = two;
+    file[place] = one;
+}
+
+/* Each refusal by an edit of E with two lists more, and of two faults the earlier. */
+static void list_refusals(void)
+{
+    for (size_t j = 0; j < LIST_EDITS; j++)
+        for (size_t i = 0; i <= j; i++) {
+            if (i < j && same_bytes(&list_edits[i], &list_edits[j])) continue;
+            at_case("%s, and %s", list_edits[i].what, list_edits[j].what);
+            expect_answer(edit_lists(LISTS_MORE, &list_edits[i], &list_edits[j]), list_edits[i].number);
+        }
+}
+
+/* One or two bytes of a block of prices, its sums not made right: always 2. And its blocks exchanged: 3. */
+static void changed_lists(void)
+{
+    sample_with_lists(&job, LISTS_MORE);
+    size_t length = write_file(&job, file);
+    for (size_t place = 3 * BLOCK; place < 5 * BLOCK; place++) change_and_ask(length, place);
+    expect_answer(length, 0);
+    for (size_t block = 2; block < 5; block++) {
+        uint8_t kept[BLOCK];
+        at_case("blocks %zu and %zu exchanged", block, block + 1);
+        length = write_file(&job, file);
+        memcpy(kept, file + block * BLOCK, BLOCK);
+        memcpy(file + block * BLOCK, file + (block + 1) * BLOCK, BLOCK);
+        memcpy(file + (block + 1) * BLOCK, kept, BLOCK);
+        for (size_t b = block; b <= block + 1; b++) {
+            file[b * BLOCK + 2] = (uint8_t)b;
+            write_sums(file + b * BLOCK);
+        }
+        expect_answer(length, block == 3 ? 0 : 3);
+    }
+}
+
 static void lengths(void)
 {
     size_t whole = write_sample_job();
@@ -250,8 +337,8 @@ static void block_count_in_order(void)
         expect_answer(length + BLOCK, before ? edits[i].number : 1);
         at_case("%s, and a byte too many", edits[i].what);
         expect_answer(length + 1, 1);
-        at_case("%s, and 75 blocks", edits[i].what);
-        expect_answer(75 * BLOCK, 1);
+        at_case("%s, and 103 blocks", edits[i].what);
+        expect_answer(103 * BLOCK, 1);
     }
 }
 
@@ -267,13 +354,13 @@ static void cycles(void)
         expect(file[12] + 256 * file[13] == tried[i], "the cycle does not stand in bytes 12 and 13");
         expect_answer(length, 0);
         expect(word_at(lending.table[SIZES], 4) == tried[i], "sizes[4] is not the cycle");
-        at_case("cycle %u, four words for sizes", tried[i]);
+        at_case("cycle %u, five words for sizes", tried[i]);
         put_both(&lending, SIZES, 4, 12345);
-        lending.lend[SIZES] = 4;
+        lending.lend[SIZES] = 5;
         expect_answer(length, 20);
         lend_whole(&lending);
-        at_case("cycle %u, byte 14 not 0", tried[i]);
-        file[14] = 1;
+        at_case("cycle %u, byte 15 not 0", tried[i]);
+        file[15] = 1;
         write_sums(file);
         expect_answer(length, 5);
         expect(word_at(lending.table[SIZES], 4) == 12345, "a refused reader wrote sizes[4]");
@@ -477,19 +564,6 @@ static void random_files(void)
     }
 }
 
-/* One or two bytes of one block: always 2. */
-static void change_and_ask(size_t length, size_t place)
-{
-    size_t block = place / BLOCK * BLOCK, other = block + below(BLOCK);
-    uint8_t one = file[place], two = file[other];
-    change_byte(file + place);
-    if (other != place && one_in(2)) change_byte(file + other);
-    at_case("bytes %zu and %zu of %zu changed", place, other, length);
-    expect_answer(length, 2);
-    file[other] = two;
-    file[place] = one;
-}
-
 static void changed_bytes(void)
 {
     size_t length = write_sample_job();
@@ -520,7 +594,7 @@ static void fill_randomly(size_t from, size_t to)
     for (size_t place = from; place < to; place++) file[place] = (uint8_t)random_word();
 }
 
-/* Files of random bytes, with wrong sums and with right ones, of random lengths, and E's with a random tally; 74 blocks
+/* Files of random bytes, with wrong sums and with right ones, of random lengths, and E's with a random tally; 102 blocks
  * of 0. */
 static void random_bytes(void)
 {
@@ -537,7 +611,7 @@ static void random_bytes(void)
         write_sums(file + 3 * BLOCK);
         expect_answer(length, 6);
     }
-    at_case("74 blocks of zeros");
+    at_case("102 blocks of zeros");
     memset(file, 0, MOST_FILE);
     expect_answer(MOST_FILE, 3);
 }
@@ -603,7 +677,7 @@ static void each_byte(void)
     unsigned stride = job_count < 1000 ? 10 : 1;
     for (uint16_t records = 1; records <= 21; records = (uint16_t)(records + stride)) {
         uint16_t grocers = (uint16_t)(12 * records + records % 4);
-        random_job(&job, (struct sizes){3, grocers, records, (uint16_t)(22 - records)});
+        random_job(&job, (struct sizes){3, grocers, records, (uint16_t)(22 - records), records % 3});
         each_byte_of(write_file(&job, file));
     }
 }
@@ -619,7 +693,7 @@ static void each_code(void)
         code.digits = (uint8_t)digits;
         code.field[place] = bytes[at / 13 / FIELD];
         at_case("%u digits, byte %u is %u", digits, place, code.field[place]);
-        one_tally_job(&job, (struct sizes){1, 1, 1, 1}, 1, (struct tally){0});
+        one_tally_job(&job, (struct sizes){1, 1, 1, 1, 0}, 1, (struct tally){0});
         job.offer[0].name.code = code;
         ask_read(&lending, file, write_file(&job, file));
         job.tally[0].name.code = code;
@@ -697,14 +771,14 @@ static void cases_of_files(void)
     struct tally tally = {.count = 1};
     for (size_t i = 0; i < sizeof edges / sizeof edges[0]; i++) {
         tally.count = edges[i].count;
-        one_tally_job(&job, (struct sizes){1, 1, 1, 1}, edges[i].price, tally);
+        one_tally_job(&job, (struct sizes){1, 1, 1, 1, 0}, edges[i].price, tally);
         job.offer[0].name.code = code_of(edges[i].offer);
         job.tally[0].name.code = code_of(edges[i].tally);
         at_case("%s", edges[i].what);
         expect_answer(write_file(&job, file), edges[i].due);
     }
     at_case("16 boxes");
-    one_tally_job(&job, (struct sizes){16, 255, 21, 21}, 1, tally);
+    one_tally_job(&job, (struct sizes){16, 255, 21, 21, 0}, 1, tally);
     size_t length = write_file(&job, file);
     expect(length == 4 * BLOCK, "21 offers and 21 tallies fill one block each, the file has %zu bytes", length);
     expect_answer(length, 0);
@@ -731,6 +805,8 @@ void check_reader(void)
     group("reader: each refusal by an edit of E", each_refusal);
     group("reader: other edits of E", other_edits);
     group("reader: of two faults the earlier is refused", order_of_refusals);
+    group("reader: edits of E with two lists more, and of two faults the earlier", list_refusals);
+    group("reader: bytes of price lists changed, and blocks exchanged", changed_lists);
     group("reader: the block count in its place", block_count_in_order);
     group("reader: files cut, longer and empty", lengths);
     group("reader: any settlement cycle", cycles);

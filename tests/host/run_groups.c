@@ -52,7 +52,7 @@ static void expect_statement(uint16_t grocer, int64_t amount)
 
 static void one_tally_case(const char *what, uint16_t tallies, uint32_t price, int32_t count, int64_t amount)
 {
-    one_tally_job(&settlement.job, (struct sizes){2, 1, 1, tallies}, price, (struct tally){.box = 1, .count = count});
+    one_tally_job(&settlement.job, (struct sizes){2, 1, 1, tallies, 0}, price, (struct tally){.box = 1, .count = count});
     run_case(what, 1, 1, 6);
     expect_statement(0, amount);
     close_settlement(&settlement);
@@ -66,7 +66,7 @@ static void cases(void)
     expect_statement(1, 2500);
     close_settlement(&settlement);
     for (uint16_t boxes = 1; boxes <= MOST_BOXES; boxes++) {
-        one_tally_job(&settlement.job, (struct sizes){boxes, 3, 3, 0}, 1, (struct tally){0});
+        one_tally_job(&settlement.job, (struct sizes){boxes, 3, 3, 0, 0}, 1, (struct tally){0});
         run_case("no tallies", 0, 0, 2u * boxes);
         close_settlement(&settlement);
     }
@@ -148,20 +148,22 @@ static void expect_for_sizes(const struct sizes tried[], size_t count, uint16_t 
 {
     for (size_t i = 0; i < count; i++) {
         settlement.job.sizes = tried[i];
-        at_case("K %u, M %u, N %u, T %u", tried[i].boxes, tried[i].grocers, tried[i].offers, tried[i].tallies);
+        at_case("K %u, M %u, N %u, T %u, lists %u", tried[i].boxes, tried[i].grocers, tried[i].offers, tried[i].tallies,
+                tried[i].lists);
         expect_run(due);
     }
 }
 
 static void sizes_out_of_range(void)
 {
-    static const struct sizes none[] = {{0, 2, 2, 4}, {2, 0, 2, 4}, {2, 2, 0, 4}, {0, 0, 0, 0}};
-    static const struct sizes more[] = {{17, 2, 2, 4},   {2, 256, 2, 4},   {2, 2, 501, 4},
-                                        {2, 2, 2, 1001}, {16, 2, 4096, 4}, {65535, 65535, 65535, 65535}};
+    static const struct sizes none[] = {{0, 2, 2, 4, 0}, {2, 0, 2, 4, 0}, {2, 2, 0, 4, 0}, {0, 0, 0, 0, 0}};
+    static const struct sizes more[] = {{17, 2, 2, 4, 0},   {2, 256, 2, 4, 0},   {2, 2, 501, 4, 0},
+                                        {2, 2, 2, 1001, 0}, {16, 2, 4096, 4, 0}, {65535, 65535, 65535, 65535, 0},
+                                        {2, 2, 2, 4, 8},    {2, 2, 2, 4, 65535}};
     sample_job(&settlement.job);
     open_run(3);
     expect_for_sizes(none, 4, 21);
-    expect_for_sizes(more, 6, 20);
+    expect_for_sizes(more, sizeof more / sizeof more[0], 20);
     close_settlement(&settlement);
 }
 
@@ -276,7 +278,8 @@ static void read_and_run(void)
     static uint8_t file[MOST_FILE];
     expect(ask_read(&settlement.lending, file, write_file(&settlement.job, file)) == 0, "the file was refused");
     struct sizes read = {(uint16_t)lent_word(&settlement, SIZES, 0), (uint16_t)lent_word(&settlement, SIZES, 1),
-                         (uint16_t)lent_word(&settlement, SIZES, 2), (uint16_t)lent_word(&settlement, SIZES, 3)};
+                         (uint16_t)lent_word(&settlement, SIZES, 2), (uint16_t)lent_word(&settlement, SIZES, 3),
+                         (uint16_t)lent_word(&settlement, SIZES, 5)};
     expect(ask_run(&settlement, read, &picks) == 0, "the run was refused");
     expect_plain_sums(&settlement);
 }
@@ -332,7 +335,7 @@ void check_run(void)
     run_group("run: the cases of the specification", cases);
     run_group("run: each buffer short", short_buffers);
     run_group("run: each table of the job with a word beyond its range", words_out_of_range);
-    run_group("run: K, M, N and T out of range", sizes_out_of_range);
+    run_group("run: K, M, N, T and lists out of range", sizes_out_of_range);
     run_group("run: the steps picked, in a buffer of any length", lengths_of_picked);
     run_group("run: random runs, and lists of the steps picked that end alike", random_runs);
     run_group("run: the largest jobs", largest_runs);

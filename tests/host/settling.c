@@ -22,15 +22,16 @@ static size_t some_length(size_t steps, size_t whole)
 
 size_t words_needed(const struct settlement *settlement, enum table_name name)
 {
-    return is_packed(name) ? settlement->machine.packed : needed(name, settlement->job.sizes);
+    struct sizes sizes = settlement->job.sizes;
+    return is_packed(name) ? settlement->machine.packed * width_of_entry(sizes) : needed(name, sizes);
 }
 
 /* A length of a packed table: as for all others; or enough for every job of these sizes; or full rows. */
 static size_t packed_room(const struct settlement *settlement, uint32_t spare)
 {
     struct sizes sizes = settlement->job.sizes;
-    size_t rooms[] = {settlement->machine.packed + spare_words(spare), enough(WORKING, sizes),
-                      (size_t)sizes.boxes * sizes.grocers};
+    size_t rooms[] = {words_needed(settlement, WORKING) + spare_words(spare), enough(WORKING, sizes),
+                      sizes.boxes * sizes.grocers * width_of_entry(sizes)};
     return rooms[spare == 0 || one_in(2) ? 0 : below(3)];
 }
 
@@ -66,29 +67,52 @@ int64_t lent_word(const struct settlement *settlement, enum table_name name, siz
     return word_at(settlement->lending.table[name], place);
 }
 
+size_t word_place(const struct settlement *settlement, size_t entry, size_t list)
+{
+    return entry * width_of_entry(settlement->job.sizes) + list;
+}
+
+int64_t lent_on(const struct settlement *settlement, enum table_name name, size_t entry, size_t list)
+{
+    return lent_word(settlement, name, word_place(settlement, entry, list));
+}
+
+void put_on(struct settlement *settlement, enum table_name name, size_t entry, size_t list, int64_t word)
+{
+    put_both(&settlement->lending, name, word_place(settlement, entry, list), word);
+}
+
+void put_on_all(struct settlement *settlement, enum table_name name, size_t entry, int64_t word)
+{
+    for (size_t q = 0; q <= settlement->job.sizes.lists; q++) put_on(settlement, name, entry, q, word);
+}
+
 bool has_total(const struct settlement *settlement, size_t box, size_t grocer)
 {
     return settlement->machine.place[box][grocer] != NO_PLACE;
 }
 
-int64_t lent_total(const struct settlement *settlement, enum table_name name, size_t box, size_t grocer)
+int64_t lent_total(const struct settlement *settlement, enum table_name name, size_t box, size_t grocer, size_t list)
 {
     if (!has_total(settlement, box, grocer)) return 0;
-    return lent_word(settlement, name, settlement->machine.place[box][grocer]);
+    return lent_on(settlement, name, settlement->machine.place[box][grocer], list);
 }
 
-void put_total(struct settlement *settlement, enum table_name name, size_t box, size_t grocer, int64_t word)
+void put_total(struct settlement *settlement, enum table_name name, size_t box, size_t grocer, size_t list,
+               int64_t word)
 {
     if (has_total(settlement, box, grocer))
-        put_both(&settlement->lending, name, settlement->machine.place[box][grocer], word);
+        put_on(settlement, name, settlement->machine.place[box][grocer], list, word);
 }
 
 void expect_plain_sums(const struct settlement *settlement)
 {
-    for (uint16_t g = 0; g < settlement->job.sizes.grocers; g++) {
-        int64_t statement = lent_word(settlement, STATEMENT, g), sum = plain_sum(&settlement->job, g);
-        expect(statement == sum, "statement %u is %lld, the plain sum %lld", g, (long long)statement, (long long)sum);
-    }
+    for (uint16_t g = 0; g < settlement->job.sizes.grocers; g++)
+        for (size_t q = 0; q <= settlement->job.sizes.lists; q++) {
+            int64_t statement = lent_on(settlement, STATEMENT, g, q), sum = plain_sum(&settlement->job, g, q);
+            expect(statement == sum, "statement %u on list %zu is %lld, the plain sum %lld", g, q,
+                   (long long)statement, (long long)sum);
+        }
 }
 
 static bool is_marked(const struct settlement *settlement, uint16_t kind, uint16_t first, uint16_t second)
@@ -103,30 +127,47 @@ static bool is_added(const struct settlement *settlement, const struct tally *ta
     return is_marked(settlement, RECEIVE_PRICES, tally->box, owner);
 }
 
+/* What the state has of a grocer on a list. */
+static int64_t total_of(const struct settlement *settlement, size_t grocer, size_t list)
+{
+    int64_t have = lent_on(settlement, STATEMENT, grocer, list);
+    for (size_t b = 0; b < settlement->job.sizes.boxes; b++)
+        have += lent_total(settlement, WORKING, b, grocer, list) + lent_total(settlement, TOTAL_TRANSIT, b, grocer, list);
+    return have;
+}
+
 void expect_running_sum(const struct settlement *settlement)
 {
     const struct job *job = &settlement->job;
-    int64_t sum[MOST_GROCERS] = {0};
+    int64_t sum[MOST_GROCERS][MOST_WIDTH];
+    memset(sum, 0, job->sizes.grocers * sizeof sum[0]);
     for (size_t t = 0; t < job->sizes.tallies; t++) {
         const struct tally *tally = &job->tally[t];
-        if (settlement->stands[t] && is_added(settlement, tally))
-            sum[tally->grocer] += (int64_t)tally->count * job->offer[tally->place].price;
+        if (!settlement->stands[t] || !is_added(settlement, tally)) continue;
+        for (size_t q = 0; q <= job->sizes.lists; q++)
+            sum[tally->grocer][q] += (int64_t)tally->count * price_on(job, tally->place, q);
     }
-    for (size_t g = 0; g < job->sizes.grocers; g++) {
-        int64_t have = lent_word(settlement, STATEMENT, g);
-        for (size_t b = 0; b < job->sizes.boxes; b++)
-            have += lent_total(settlement, WORKING, b, g) + lent_total(settlement, TOTAL_TRANSIT, b, g);
-        expect(have == sum[g], "running sum of grocer %zu is %lld, should be %lld", g, (long long)have,
-               (long long)sum[g]);
-    }
+    for (size_t g = 0; g < job->sizes.grocers; g++)
+        for (size_t q = 0; q <= job->sizes.lists; q++) {
+            int64_t have = total_of(settlement, g, q);
+            expect(have == sum[g][q], "running sum of grocer %zu on list %zu is %lld, should be %lld", g, q,
+                   (long long)have, (long long)sum[g][q]);
+        }
 }
 
 void keep_state(const struct settlement *settlement, struct state_words *kept)
 {
-    memset(kept, 0, sizeof *kept);
-    for (unsigned name = JOB_TABLES; name < STEP_TABLES; name++)
-        memcpy(kept->table[name - JOB_TABLES], settlement->lending.table[name].words,
-               words_needed(settlement, name) * width_of(name));
+    kept->length = 0;
+    for (unsigned name = JOB_TABLES; name < STEP_TABLES; name++) {
+        size_t bytes = words_needed(settlement, name) * width_of(name);
+        memcpy(kept->bytes + kept->length, settlement->lending.table[name].words, bytes);
+        kept->length += bytes;
+    }
+}
+
+bool same_state(const struct state_words *one, const struct state_words *other)
+{
+    return one->length == other->length && memcmp(one->bytes, other->bytes, one->length) == 0;
 }
 
 static uint16_t compare_step(struct settlement *settlement, struct sizes sizes, struct step step, uint16_t due)

@@ -30,27 +30,39 @@ void lend_state(struct settlement *settlement);
 /* The words that a table needs, of the job as it was opened. */
 size_t words_needed(const struct settlement *settlement, enum table_name name);
 
-/* Whether packed tables have a word for a box's total of a grocer; it, as the library left it, or 0; and it put into a
-   buffer and its twin, where there is one. */
+/* The word of an entry on a list in a table of the state: the entry is an offer of a box, a grocer, or a packed place. */
+size_t word_place(const struct settlement *settlement, size_t entry, size_t list);
+
+/* Whether packed tables have a place for a box's total of a grocer; its word on a list, as the library left it, or 0;
+   and it put into a buffer and its twin, where there is one. */
 bool has_total(const struct settlement *settlement, size_t box, size_t grocer);
-int64_t lent_total(const struct settlement *settlement, enum table_name name, size_t box, size_t grocer);
-void put_total(struct settlement *settlement, enum table_name name, size_t box, size_t grocer, int64_t word);
+int64_t lent_total(const struct settlement *settlement, enum table_name name, size_t box, size_t grocer, size_t list);
+void put_total(struct settlement *settlement, enum table_name name, size_t box, size_t grocer, size_t list,
+               int64_t word);
 
-/* A word as the library left it. */
+/* A word as the library left it, and that of an entry on a list. */
 int64_t lent_word(const struct settlement *settlement, enum table_name name, size_t place);
+int64_t lent_on(const struct settlement *settlement, enum table_name name, size_t entry, size_t list);
 
-/* Checks that every statement is the plain sum of its grocer. */
+/* A word of an entry put into a buffer and its twin, on a list or on every list. */
+void put_on(struct settlement *settlement, enum table_name name, size_t entry, size_t list, int64_t word);
+void put_on_all(struct settlement *settlement, enum table_name name, size_t entry, int64_t word);
+
+/* Checks that every statement is the plain sum of its grocer, on every list. */
 void expect_plain_sums(const struct settlement *settlement);
 
 /* Checks that statements, working totals and totals in transit are together the sum over the standing tallies already
-   added, grocer by grocer. */
+   added, grocer by grocer and list by list. */
 void expect_running_sum(const struct settlement *settlement);
 
-/* Every word of a state as the library left it, 0 behind those of each table. */
+/* Every word of a state as the library left it, one table after the other. */
+enum { MOST_STATE = 8 * MOST_WIDTH * (MOST_BOXES * MOST_OFFERS + 2 * MOST_TOTALS + MOST_GROCERS) + 2 * MOST_STEPS + 4 };
 struct state_words {
-    uint8_t table[STEP_TABLES - JOB_TABLES][MOST_BOXES * MOST_OFFERS * 4]; /* known is the longest */
+    size_t length;
+    uint8_t bytes[MOST_STATE];
 };
 void keep_state(const struct settlement *settlement, struct state_words *kept);
+bool same_state(const struct state_words *one, const struct state_words *other);
 
 /* One request of the list: the answer, which is also the model's unless a difference was found. */
 uint16_t ask(struct settlement *settlement, struct step step);

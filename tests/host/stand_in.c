@@ -6,12 +6,13 @@
 #define ENTRY __attribute__((visibility("default"))) uint16_t
 
 #define SIZES_AND_TABLES                                                                                               \
-    uint16_t k, uint16_t m, uint16_t n, uint16_t t, const uint32_t *price, size_t l0, const uint16_t *offer_owner,     \
-        size_t l1, const uint16_t *grocer_owner, size_t l2, const uint16_t *tally_grocer, size_t l3,                   \
-        const uint16_t *tally_box, size_t l4, const uint16_t *tally_offer, size_t l5, const int32_t *tally_count,      \
-        size_t l6, const uint16_t *tally_bag, size_t l7, const uint16_t *tally_revision, size_t l8, uint32_t *known,   \
-        size_t l9, uint32_t *price_transit, size_t l10, int64_t *working, size_t l11, int64_t *total_transit,          \
-        size_t l12, int64_t *statement, size_t l13, uint16_t *done, size_t l14, uint32_t *sent, size_t l15
+    uint16_t k, uint16_t m, uint16_t n, uint16_t t, uint16_t lists, const uint32_t *price, size_t l0,                  \
+        const uint16_t *offer_owner, size_t l1, const uint16_t *grocer_owner, size_t l2,                               \
+        const uint16_t *tally_grocer, size_t l3, const uint16_t *tally_box, size_t l4, const uint16_t *tally_offer,    \
+        size_t l5, const int32_t *tally_count, size_t l6, const uint16_t *tally_bag, size_t l7,                        \
+        const uint16_t *tally_revision, size_t l8, uint32_t *known, size_t l9, uint32_t *price_transit, size_t l10,    \
+        int64_t *working, size_t l11, int64_t *total_transit, size_t l12, int64_t *statement, size_t l13,              \
+        uint16_t *done, size_t l14, uint32_t *sent, size_t l15
 
 #define GATHERED                                                                                                       \
     {                                                                                                                  \
@@ -28,7 +29,7 @@ static struct machine machine;
 
 static uint16_t read_into(const struct table tables[ALL_TABLES])
 {
-    static const struct sizes largest = {MOST_BOXES, MOST_GROCERS, MOST_OFFERS, MOST_TALLIES};
+    static const struct sizes largest = {MOST_BOXES, MOST_GROCERS, MOST_OFFERS, MOST_TALLIES, MOST_LISTS};
     for (unsigned name = 0; name < ALL_TABLES; name++)
         if (tables[name].words && is_short(tables[name], largest)) return 20;
     uint16_t refusal = read_file(tables[FILE_BYTES].words, tables[FILE_BYTES].length, &job);
@@ -68,7 +69,7 @@ ENTRY settlement_read(const uint8_t *file, size_t l0, uint32_t *price, size_t l1
 ENTRY settlement_step(SIZES_AND_TABLES, uint16_t kind, uint16_t first, uint16_t second)
 {
     const struct table tables[ALL_TABLES] = GATHERED;
-    const struct sizes sizes = {k, m, n, t};
+    const struct sizes sizes = {k, m, n, t, lists};
     uint16_t refusal = step_tables_refusal(sizes, tables);
     if (refusal) return refusal;
     read_job_words(&job, sizes, tables);
@@ -83,7 +84,7 @@ ENTRY settlement_run(SIZES_AND_TABLES, const uint16_t *choices, size_t l16, uint
                      uint32_t *report, size_t l18)
 {
     struct table tables[ALL_TABLES] = GATHERED;
-    const struct sizes sizes = {k, m, n, t};
+    const struct sizes sizes = {k, m, n, t, lists};
     struct step order[MOST_STEPS];
     tables[CHOICES] = (struct table){CHOICES, l16, (void *)choices};
     tables[PICKED] = (struct table){PICKED, l17, picked};

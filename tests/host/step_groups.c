@@ -111,25 +111,30 @@ static const struct plight plights[] = {
 };
 enum { PLIGHTS = sizeof plights / sizeof plights[0] };
 
-/* Every amount and the count at the end of its range, prices above 0: no step that adds stays within. */
+/* Every amount of the last list and the count at the end of its range, prices above 0: no step that adds stays
+   within. */
 static void make_large(void)
 {
-    struct lending *lending = &settlement.lending;
+    uint16_t last = settlement.job.sizes.lists;
     for (size_t place = 0; place < 4; place++) {
-        put_both(lending, KNOWN, place, 1);
-        put_both(lending, PRICE_TRANSIT, place, 1);
-        put_total(&settlement, WORKING, place / 2, place % 2, MOST_AMOUNT);
-        put_total(&settlement, TOTAL_TRANSIT, place / 2, place % 2, MOST_AMOUNT);
+        put_on_all(&settlement, KNOWN, place, 1);
+        put_on_all(&settlement, PRICE_TRANSIT, place, 1);
+        put_total(&settlement, WORKING, place / 2, place % 2, last, MOST_AMOUNT);
+        put_total(&settlement, TOTAL_TRANSIT, place / 2, place % 2, last, MOST_AMOUNT);
     }
-    for (size_t grocer = 0; grocer < 2; grocer++) put_both(lending, STATEMENT, grocer, MOST_AMOUNT);
-    put_both(lending, SENT, 0, MOST_SENT);
+    for (size_t grocer = 0; grocer < 2; grocer++) put_on(&settlement, STATEMENT, grocer, last, MOST_AMOUNT);
+    put_both(&settlement.lending, SENT, 0, MOST_SENT);
 }
 
-static void open_plight(const struct plight *plight, const char *and)
+/* Numbers of additional lists that E is tried with. */
+static const uint16_t some_lists[] = {0, 1, MOST_LISTS};
+enum { SOME_LISTS = sizeof some_lists / sizeof some_lists[0] };
+
+static void open_plight(const struct plight *plight, uint16_t lists, const char *and)
 {
-    sample_job(&settlement.job);
+    sample_with_lists(&settlement.job, lists);
     open_settlement(&settlement, SPARE, 0);
-    at_case("%s%s", plight->what, and);
+    at_case("%s, %u lists more%s", plight->what, lists, and);
     for (unsigned i = 0; i < 3; i++)
         if (plight->done[i].kind) set_mark(&settlement, plight->done[i]);
     if (plight->marked) set_mark(&settlement, plight->step);
@@ -138,11 +143,12 @@ static void open_plight(const struct plight *plight, const char *and)
 
 static void each_plight(void)
 {
-    for (size_t i = 0; i < PLIGHTS; i++) {
-        open_plight(&plights[i], "");
-        expect_step(&settlement, plights[i].step, plights[i].number);
-        close_settlement(&settlement);
-    }
+    for (size_t i = 0; i < PLIGHTS; i++)
+        for (size_t l = 0; l < SOME_LISTS; l++) {
+            open_plight(&plights[i], some_lists[l], "");
+            expect_step(&settlement, plights[i].step, plights[i].number);
+            close_settlement(&settlement);
+        }
 }
 
 /* Each plight with a word out of range, with a short buffer, and with both. */
@@ -151,7 +157,7 @@ static void plights_with_earlier_faults(void)
     for (size_t i = 0; i < PLIGHTS; i++)
         for (unsigned name = 0; name < STEP_TABLES; name++) {
             struct lending *lending = &settlement.lending;
-            open_plight(&plights[i], ", and an earlier fault");
+            open_plight(&plights[i], some_lists[(i + name) % SOME_LISTS], ", and an earlier fault");
             size_t need = words_needed(&settlement, name);
             lending->lend[name] = need - 1;
             expect_step(&settlement, plights[i].step, 20);
@@ -172,7 +178,7 @@ static void plights_counted_twice(void)
     for (size_t i = 0; i < PLIGHTS; i++)
         for (unsigned name = 0; name < STEP_TABLES; name++) {
             struct lending *lending = &settlement.lending;
-            open_plight(&plights[i], ", and a bag and revision twice");
+            open_plight(&plights[i], some_lists[(i + name) % SOME_LISTS], ", and a bag and revision twice");
             size_t need = words_needed(&settlement, name);
             for (size_t t = 0; t < 4; t += 3) {
                 put_both(lending, TALLY_BAG, t, 500);
@@ -196,8 +202,8 @@ struct late {
     const char *what;
     struct step step;
     enum table_name name;
-    size_t place;      /* of working totals, the box: there is one grocer */
-    int64_t just_fits; /* the word of the table with which the result is the last within the range */
+    size_t entry;      /* of working totals, the box: there is one grocer */
+    int64_t just_fits; /* the word with which the result is the last within the range; of words sent, with one list */
 };
 
 /* Count 7, price 3; offer of box 0, grocer of box 1; amounts of 100 under way and at work. */
@@ -211,16 +217,19 @@ static const struct late lates[] = {
 };
 
 /* One tally in the box that the step is about, or one in each box. */
-static void open_late(struct step step, int sign, uint16_t tallies)
+static void open_late(struct step step, int sign, uint16_t tallies, uint16_t lists)
 {
     uint16_t box = step.kind == SEND_PRICES || step.kind == RECEIVE_PRICES;
-    one_tally_job(&settlement.job, (struct sizes){2, 1, 1, tallies}, 3, (struct tally){.box = box, .count = 7 * sign});
+    one_tally_job(&settlement.job, (struct sizes){2, 1, 1, tallies, lists}, 3,
+                  (struct tally){.box = box, .count = 7 * sign});
     settlement.job.tally[1].box = !box;
     open_settlement(&settlement, SPARE, 0);
-    put_both(&settlement.lending, PRICE_TRANSIT, 1, 3);
-    put_total(&settlement, WORKING, 1, 0, 100 * sign);
-    put_total(&settlement, TOTAL_TRANSIT, 0, 0, 100 * sign);
-    put_both(&settlement.lending, KNOWN, 0, 3);
+    put_on_all(&settlement, PRICE_TRANSIT, 1, 3);
+    put_on_all(&settlement, KNOWN, 0, 3);
+    for (size_t q = 0; q <= lists; q++) {
+        put_total(&settlement, WORKING, 1, 0, q, 100 * sign);
+        put_total(&settlement, TOTAL_TRANSIT, 0, 0, q, 100 * sign);
+    }
 }
 
 /* Every mark of two boxes but one, so that this step is ready. */
@@ -231,17 +240,23 @@ static void mark_all_but(struct step step)
     put_both(&settlement.lending, DONE, mark_place(&settlement, step), 0);
 }
 
-static void late_case(const struct late *late, int sign, uint16_t tallies, bool beyond)
+/* With so many lists more, and the word of one list at the end of its range. */
+static void late_case(const struct late *late, unsigned way, uint16_t lists, size_t list)
 {
-    if (late->name == SENT) sign = 1;
-    at_case("%s, %s, sign %d, %u tallies", late->what, beyond ? "beyond" : "just fits", sign, tallies);
-    open_late(late->step, sign, tallies);
+    int sign = way & 1 || late->name == SENT ? 1 : -1;
+    uint16_t tallies = way & 2 ? 1 : 2;
+    bool beyond = way & 4;
+    at_case("%s, %s, sign %d, %u tallies, list %zu of %u more", late->what, beyond ? "beyond" : "just fits", sign,
+            tallies, list, lists);
+    open_late(late->step, sign, tallies, lists);
     mark_all_but(late->step);
     int64_t word = sign * (late->just_fits + beyond);
-    if (late->name == WORKING)
-        put_total(&settlement, WORKING, late->place, 0, word);
+    if (late->name == SENT)
+        put_both(&settlement.lending, SENT, 0, word - lists);
+    else if (late->name == WORKING)
+        put_total(&settlement, WORKING, late->entry, 0, list, word);
     else
-        put_both(&settlement.lending, late->name, late->place, word);
+        put_on(&settlement, late->name, late->entry, list, word);
     expect_step(&settlement, late->step, beyond ? 21 : 0);
     close_settlement(&settlement);
 }
@@ -249,14 +264,16 @@ static void late_case(const struct late *late, int sign, uint16_t tallies, bool 
 static void late_refusals(void)
 {
     for (unsigned i = 0; i < sizeof lates / sizeof lates[0]; i++)
-        for (unsigned way = 0; way < 8; way++) late_case(&lates[i], way & 1 ? 1 : -1, way & 2 ? 1 : 2, way & 4);
+        for (unsigned way = 0; way < 8; way++)
+            for (size_t l = 0; l < SOME_LISTS; l++)
+                for (size_t list = 0; list <= some_lists[l]; list++) late_case(&lates[i], way, some_lists[l], list);
 }
 
 /* Sums that leave the range on the way and come back are no fault; a fault in the last word leaves the first alone. */
 static void sums_on_the_way(void)
 {
     at_case("a sum beyond the range on the way");
-    one_tally_job(&settlement.job, (struct sizes){1, 1, 1, 1000}, MOST_PRICE, (struct tally){.count = MOST_COUNT});
+    one_tally_job(&settlement.job, (struct sizes){1, 1, 1, 1000, 0}, MOST_PRICE, (struct tally){.count = MOST_COUNT});
     for (size_t t = 500; t < 1000; t++) settlement.job.tally[t].count = -MOST_COUNT;
     open_settlement(&settlement, SPARE, 0);
     put_both(&settlement.lending, WORKING, 0, MOST_AMOUNT);
@@ -264,7 +281,7 @@ static void sums_on_the_way(void)
     close_settlement(&settlement);
 
     at_case("the last of 255 statements beyond its range");
-    one_tally_job(&settlement.job, (struct sizes){1, 255, 1, 0}, 1, (struct tally){0});
+    one_tally_job(&settlement.job, (struct sizes){1, 255, 1, 0, 0}, 1, (struct tally){0});
     open_settlement(&settlement, SPARE, 0);
     for (size_t g = 0; g < 255; g++) {
         put_both(&settlement.lending, WORKING, g, -1);
@@ -279,19 +296,21 @@ static void sums_on_the_way(void)
 }
 
 /* Two boxes hold a tally of offer 0 and grocer 0; box 0 owns the offers, box 1 the grocers. */
-static void open_beside(struct step step, int sign)
+static void open_beside(struct step step, int sign, uint16_t lists)
 {
-    one_tally_job(&settlement.job, (struct sizes){2, 3, 3, 2}, 5, (struct tally){.count = sign});
+    one_tally_job(&settlement.job, (struct sizes){2, 3, 3, 2, lists}, 5, (struct tally){.count = sign});
     settlement.job.tally[1].box = 1;
     open_settlement(&settlement, SPARE, 0);
     mark_all_but(step);
     for (size_t place = 0; place < 6; place++) {
         int64_t amount = place % 3 == 0 ? 0 : sign * MOST_AMOUNT;
-        put_both(&settlement.lending, KNOWN, place, MOST_PRICE);
-        put_both(&settlement.lending, PRICE_TRANSIT, place, MOST_PRICE);
-        put_total(&settlement, WORKING, place / 3, place % 3, amount);
-        put_total(&settlement, TOTAL_TRANSIT, place / 3, place % 3, amount);
-        if (place < 3) put_both(&settlement.lending, STATEMENT, place, amount);
+        put_on_all(&settlement, KNOWN, place, MOST_PRICE);
+        put_on_all(&settlement, PRICE_TRANSIT, place, MOST_PRICE);
+        for (size_t q = 0; q <= lists; q++) {
+            put_total(&settlement, WORKING, place / 3, place % 3, q, amount);
+            put_total(&settlement, TOTAL_TRANSIT, place / 3, place % 3, q, amount);
+        }
+        if (place < 3) put_on_all(&settlement, STATEMENT, place, amount);
     }
 }
 
@@ -299,11 +318,11 @@ static void open_beside(struct step step, int sign)
 static void words_outside_messages(void)
 {
     static const struct step steps[] = {{1, 0, 1}, {2, 0, 0}, {3, 1, 0}, {4, 0, 1}, {5, 0, 0}, {6, 1, 0}};
-    for (unsigned i = 0; i < 6; i++)
+    for (unsigned i = 0; i < 6 * SOME_LISTS; i++)
         for (int sign = -1; sign <= 1; sign += 2) {
-            at_case("step %u beside words of %d x 10^15", steps[i].kind, sign);
-            open_beside(steps[i], sign);
-            expect_step(&settlement, steps[i], 0);
+            at_case("step %u beside words of %d x 10^15", steps[i % 6].kind, sign);
+            open_beside(steps[i % 6], sign, some_lists[i / 6]);
+            expect_step(&settlement, steps[i % 6], 0);
             close_settlement(&settlement);
         }
 }

@@ -1,4 +1,4 @@
-/* One step on tables that are short or hold words out of range, and on K, M, N and T that do not fit them. */
+/* One step on tables that are short or hold words out of range, and on K, M, N, T and lists that do not fit them. */
 #include "groups.h"
 #include "settling.h"
 
@@ -92,7 +92,8 @@ static void expect_for_sizes(const struct sizes tried[], size_t count, uint16_t 
 {
     for (size_t i = 0; i < count; i++) {
         settlement.job.sizes = tried[i];
-        at_case("K %u, M %u, N %u, T %u", tried[i].boxes, tried[i].grocers, tried[i].offers, tried[i].tallies);
+        at_case("K %u, M %u, N %u, T %u, lists %u", tried[i].boxes, tried[i].grocers, tried[i].offers, tried[i].tallies,
+                tried[i].lists);
         expect_step(&settlement, (struct step){2, 0, 0}, due);
     }
 }
@@ -101,11 +102,12 @@ static void expect_for_sizes(const struct sizes tried[], size_t count, uint16_t 
 static void sizes_out_of_range(void)
 {
     static const struct sizes tried[] = {
-        {0, 2, 2, 4},         {17, 2, 2, 4},        {2, 0, 2, 4},        {2, 256, 2, 4},       {2, 2, 0, 4},
-        {2, 2, 501, 4},       {2, 2, 2, 1001},      {0, 0, 0, 0},        {17, 256, 501, 1001}, {16, 255, 500, 1001},
-        {16, 255, 501, 1000}, {16, 256, 500, 1000}, {17, 255, 500, 1000}};
+        {0, 2, 2, 4, 0}, {17, 2, 2, 4, 0}, {2, 0, 2, 4, 0}, {2, 256, 2, 4, 0}, {2, 2, 0, 4, 0}, {2, 2, 501, 4, 0},
+        {2, 2, 2, 1001, 0}, {0, 0, 0, 0, 0}, {17, 256, 501, 1001, 0}, {16, 255, 500, 1001, 0},
+        {16, 255, 501, 1000, 0}, {16, 256, 500, 1000, 0}, {17, 255, 500, 1000, 0}, {2, 2, 2, 4, 8}, {1, 1, 1, 0, 9},
+        {16, 255, 500, 1000, 8}};
     size_t lengths[ALL_TABLES];
-    for (unsigned name = 0; name < ALL_TABLES; name++) lengths[name] = enough(name, (struct sizes){17, 256, 501, 1001});
+    for (unsigned name = 0; name < ALL_TABLES; name++) lengths[name] = enough(name, (struct sizes){17, 256, 501, 1001, 9});
     open_lending(&settlement.lending, lengths);
     expect_for_sizes(tried, sizeof tried / sizeof tried[0], 21);
     close_settlement(&settlement);
@@ -116,12 +118,15 @@ static void sizes_out_of_range(void)
 static void lengths_that_wrap(void)
 {
     static const struct sizes tried[] = {
-        {16, 2, 4096, 4}, {2, 2, 32768, 4}, {256, 1, 1, 0},   {128, 1, 1, 0},   {32768, 1, 1, 0},
-        {26755, 1, 1, 0}, {65535, 1, 1, 0}, {257, 255, 2, 4}, {2, 2, 65535, 4}, {65535, 65535, 65535, 65535}};
-    static const struct sizes grocers[] = {{16, 4096, 2, 4}, {2, 32768, 2, 4}, {2, 65535, 2, 4}, {2, 65535, 2, 65535}};
+        {16, 2, 4096, 4, 0}, {2, 2, 32768, 4, 0}, {256, 1, 1, 0, 0}, {128, 1, 1, 0, 0}, {32768, 1, 1, 0, 0},
+        {26755, 1, 1, 0, 0}, {65535, 1, 1, 0, 0}, {257, 255, 2, 4, 0}, {2, 2, 65535, 4, 0},
+        {65535, 65535, 65535, 65535, 0}, {1, 1, 1, 0, 65535}, {2, 2, 2, 4, 32767}, {1, 1, 8192, 0, 7},
+        {1, 8192, 1, 0, 7}, {65535, 1, 65535, 0, 65535}, {4, 1, 2048, 0, 7}};
+    static const struct sizes grocers[] = {
+        {16, 4096, 2, 4, 0}, {2, 32768, 2, 4, 0}, {2, 65535, 2, 4, 0}, {2, 65535, 2, 65535, 0}};
     size_t lengths[ALL_TABLES];
     for (unsigned name = 0; name < ALL_TABLES; name++)
-        lengths[name] = needed(name, (struct sizes){0, 65535, 65535, 65535}) ? 65535 : 40000;
+        lengths[name] = needed(name, (struct sizes){0, 65535, 65535, 65535, 0}) ? 65535 : 40000;
     open_lending(&settlement.lending, lengths);
     expect_for_sizes(tried, sizeof tried / sizeof tried[0], 20);
     expect_for_sizes(grocers, sizeof grocers / sizeof grocers[0], 21);
@@ -139,7 +144,9 @@ static void arbitrary_sizes(void)
         if (one_in(2)) sizes.grocers = wild_number(sizes.grocers);
         if (one_in(2)) sizes.offers = wild_number(sizes.offers);
         if (one_in(2)) sizes.tallies = wild_number(sizes.tallies);
-        at_case("K %u, M %u, N %u, T %u", sizes.boxes, sizes.grocers, sizes.offers, sizes.tallies);
+        if (one_in(2)) sizes.lists = one_in(4) ? (uint16_t)below(10) : wild_number(sizes.lists);
+        at_case("K %u, M %u, N %u, T %u, lists %u", sizes.boxes, sizes.grocers, sizes.offers, sizes.tallies,
+                sizes.lists);
         ask_on_words(&settlement, sizes, some_ready_step(&settlement));
         close_settlement(&settlement);
     }
@@ -149,7 +156,7 @@ void check_step_tables(void)
 {
     run_group("step: each buffer short", short_buffers);
     run_group("step: each table with a word at and beyond its range", words_out_of_range);
-    run_group("step: K, M, N and T out of range", sizes_out_of_range);
-    run_group("step: K, M, N and T whose lengths wrap round", lengths_that_wrap);
-    run_group("step: K, M, N and T beside their tables", arbitrary_sizes);
+    run_group("step: K, M, N, T and lists out of range", sizes_out_of_range);
+    run_group("step: K, M, N, T and lists whose lengths wrap round", lengths_that_wrap);
+    run_group("step: K, M, N, T and lists beside their tables", arbitrary_sizes);
 }

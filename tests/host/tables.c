@@ -49,17 +49,19 @@ const char *table_text(enum table_name name) { return kinds[name].text; }
 size_t width_of(enum table_name name) { return kinds[name].width; }
 bool is_signed(enum table_name name) { return kinds[name].is_signed; }
 
+size_t width_of_entry(struct sizes sizes) { return (size_t)sizes.lists + 1; }
+
 uint64_t needed(enum table_name name, struct sizes sizes)
 {
-    uint64_t k = sizes.boxes, m = sizes.grocers, n = sizes.offers, t = sizes.tallies;
+    uint64_t k = sizes.boxes, m = sizes.grocers, n = sizes.offers, t = sizes.tallies, l = width_of_entry(sizes);
     switch (name) {
-    case PRICE:
+    case PRICE: return n * l;
     case LOCAL_OFFERS:
     case OFFER_ISSUER:
     case OFFER_OWNER: return n;
     case GROCER_OWNER:
-    case LOCAL_GROCERS:
-    case STATEMENT: return m;
+    case LOCAL_GROCERS: return m;
+    case STATEMENT: return m * l;
     case TALLY_GROCER:
     case TALLY_BOX:
     case TALLY_OFFER:
@@ -71,14 +73,14 @@ uint64_t needed(enum table_name name, struct sizes sizes)
     case TALLY_COUNT: return t;
     case STARTS: return n + 1;
     case KNOWN:
-    case PRICE_TRANSIT: return k * n;
+    case PRICE_TRANSIT: return k * n * l;
     case DONE: return 6 * k * k;
     case JOB_WORDS:
     case OWED:
     case SENT: return 1;
     case OFFER_CODE: return 11 * n;
     case TALLY_CODE: return 11 * t;
-    case SIZES: return 5;
+    case SIZES: return 6;
     case NUMBERS:
     case REPORT: return 3;
     case PRICE_WORDS:
@@ -91,7 +93,8 @@ bool is_packed(enum table_name name) { return name == WORKING || name == TOTAL_T
 
 uint64_t enough(enum table_name name, struct sizes sizes)
 {
-    return is_packed(name) ? (uint64_t)sizes.grocers + sizes.tallies : needed(name, sizes);
+    uint64_t places = (uint64_t)sizes.grocers + sizes.tallies;
+    return is_packed(name) ? places * width_of_entry(sizes) : needed(name, sizes);
 }
 
 struct range width_range(enum table_name name)
@@ -125,14 +128,15 @@ struct range range_of(enum table_name name, struct sizes sizes)
 
 bool has_range(enum table_name name)
 {
-    struct sizes least = {1, 1, 1, 0};
+    struct sizes least = {1, 1, 1, 0, 0};
     return range_of(name, least).most < width_range(name).most;
 }
 
 bool sizes_in_range(struct sizes sizes)
 {
     return sizes.boxes >= 1 && sizes.boxes <= MOST_BOXES && sizes.grocers >= 1 && sizes.grocers <= MOST_GROCERS &&
-           sizes.offers >= 1 && sizes.offers <= MOST_OFFERS && sizes.tallies <= MOST_TALLIES;
+           sizes.offers >= 1 && sizes.offers <= MOST_OFFERS && sizes.tallies <= MOST_TALLIES &&
+           sizes.lists <= MOST_LISTS;
 }
 
 static unsigned char *place_of(struct table table, size_t place)

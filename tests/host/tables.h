@@ -7,13 +7,14 @@
 #include <stdint.h>
 
 enum { MOST_BOXES = 16, MOST_GROCERS = 255, MOST_OFFERS = 500, MOST_TALLIES = 1000 };
+enum { MOST_LISTS = 7, MOST_WIDTH = MOST_LISTS + 1 }; /* additional price lists, and all of them */
 enum { MOST_TOTALS = MOST_GROCERS + MOST_TALLIES };
 enum { MOST_PRICE = 9999999, MOST_COUNT = 99999, MOST_SENT = 1000000 };
 #define MOST_AMOUNT INT64_C(1000000000000000)
 
-/* K, M, N and T, as given. */
+/* K, M, N, T and the number of additional price lists, as given. */
 struct sizes {
-    uint16_t boxes, grocers, offers, tallies;
+    uint16_t boxes, grocers, offers, tallies, lists;
 };
 
 enum table_name {
@@ -74,11 +75,14 @@ const char *table_text(enum table_name name);
 size_t width_of(enum table_name name);
 bool is_signed(enum table_name name);
 
-/* Whether a table has a word for each local grocer of each box, and no other: working totals and totals in transit. How
+/* Whether a table has a place for each local grocer of each box, and no other: working totals and totals in transit. How
    many that are goes by the job's owners and tallies (model.h), not by K, M, N and T alone. */
 bool is_packed(enum table_name name);
 
-/* The words that a table needs for K, M, N and T as given; 0 for those of any length: a file, choices, steps picked;
+/* The words of an entry: one of each list, the first included. */
+size_t width_of_entry(struct sizes sizes);
+
+/* The words that a table needs for K, M, N, T and lists as given; 0 for those of any length: a file, choices, steps picked;
    and 0 for packed ones. */
 uint64_t needed(enum table_name name, struct sizes sizes);
 

@@ -12,6 +12,7 @@ static void all_groups(void)
     check_bags();
     check_early();
     check_packed();
+    check_price_lists();
 }
 
 int main(int argc, char **argv) { return run_tests(argc, argv, all_groups); }

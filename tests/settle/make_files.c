@@ -9,7 +9,8 @@
 #include "jobs.h"
 #include "model.h"
 
-enum { ROOM = 40000 };
+/* Room for the longest file and what may stand behind it; and as it was with one list. */
+enum { ROOM = 54400, ROOM_OF_ONE_LIST = 40000, LONGEST_OF_ONE_LIST = 74 * BLOCK };
 
 static struct job job;
 static uint8_t file[ROOM];
@@ -38,15 +39,15 @@ static size_t last_cycle(void)
     return write_file(&job, file);
 }
 
-static size_t longest(void) { return random_file(1, LARGEST); }
-static size_t no_tallies(void) { return random_file(2, (struct sizes){5, 3, 4, 0}); }
-static size_t one_box(void) { return random_file(3, (struct sizes){1, 7, 9, 30}); }
-static size_t one_grocer(void) { return random_file(34, (struct sizes){4, 1, 6, 25}); }
-static size_t full_blocks(void) { return random_file(5, (struct sizes){6, 255, 42, 63}); }
+static size_t longest(void) { return random_file(1, LARGEST_OF_ONE_LIST); }
+static size_t no_tallies(void) { return random_file(2, (struct sizes){5, 3, 4, 0, 0}); }
+static size_t one_box(void) { return random_file(3, (struct sizes){1, 7, 9, 30, 0}); }
+static size_t one_grocer(void) { return random_file(34, (struct sizes){4, 1, 6, 25, 0}); }
+static size_t full_blocks(void) { return random_file(5, (struct sizes){6, 255, 42, 63, 0}); }
 
 static size_t negative(void)
 {
-    random_file(36, (struct sizes){3, 5, 5, 40});
+    random_file(36, (struct sizes){3, 5, 5, 40, 0});
     for (size_t t = 0; t < job.sizes.tallies; t++) job.tally[t].count = -1 - abs(job.tally[t].count) / 2;
     return write_file(&job, file);
 }
@@ -55,7 +56,7 @@ static size_t negative(void)
 static size_t every_pair(void)
 {
     const uint16_t boxes = MOST_BOXES;
-    struct sizes sizes = {boxes, boxes, boxes, (uint16_t)(boxes * boxes)};
+    struct sizes sizes = {boxes, boxes, boxes, (uint16_t)(boxes * boxes), 0};
     one_tally_job(&job, sizes, 1000, (struct tally){0});
     for (uint16_t b = 0; b < boxes; b++) {
         job.offer[b].price += b;
@@ -71,7 +72,7 @@ static size_t every_pair(void)
 /* 1,000 tallies at the highest price and count, all of one grocer. */
 static size_t largest_amounts(void)
 {
-    one_tally_job(&job, (struct sizes){16, 1, 1, MOST_TALLIES}, MOST_PRICE, (struct tally){.count = MOST_COUNT});
+    one_tally_job(&job, (struct sizes){16, 1, 1, MOST_TALLIES, 0}, MOST_PRICE, (struct tally){.count = MOST_COUNT});
     for (size_t t = 0; t < MOST_TALLIES; t++) job.tally[t].box = t % 16;
     return write_file(&job, file);
 }
@@ -88,7 +89,7 @@ static size_t halves(void)
 {
     static const int32_t amounts[] = {25, 24, 26, -25, -24, -26, 0, 1, 4, 5, 6, -1, -4, -5, -6, 15, -15, 35, 95, -95, 99999, -99999};
     const uint16_t grocers = sizeof amounts / sizeof amounts[0];
-    one_tally_job(&job, (struct sizes){2, grocers, 1, grocers}, 1, (struct tally){0});
+    one_tally_job(&job, (struct sizes){2, grocers, 1, grocers, 0}, 1, (struct tally){0});
     for (uint16_t t = 0; t < grocers; t++) {
         job.tally[t].grocer = t;
         job.tally[t].box = t % 2;
@@ -100,7 +101,7 @@ static size_t halves(void)
 /* Every amount from -127 to 127 tenths, in a cycle: halves of both signs, to even and to odd cents. */
 static size_t tenths_in(uint16_t cycle)
 {
-    one_tally_job(&job, (struct sizes){2, MOST_GROCERS, 1, MOST_GROCERS}, 1, (struct tally){0});
+    one_tally_job(&job, (struct sizes){2, MOST_GROCERS, 1, MOST_GROCERS, 0}, 1, (struct tally){0});
     for (uint16_t t = 0; t < MOST_GROCERS; t++) {
         job.tally[t].grocer = t;
         job.tally[t].box = t % 2;
@@ -121,7 +122,7 @@ static size_t tenths_last(void) { return tenths_in(UINT16_MAX); }
 static size_t issuers(void)
 {
     memset(&job, 0, sizeof job);
-    job.sizes = (struct sizes){2, 2, 3, 6};
+    job.sizes = (struct sizes){2, 2, 3, 6, 0};
     job.offer[0] = (struct offer){1250, 0, {1, code_of("5521")}};
     job.offer[1] = (struct offer){399, 1, {2, code_of("5521")}};
     job.offer[2] = (struct offer){80, 1, {0, code_of("05521")}};
@@ -142,7 +143,7 @@ static size_t issuers(void)
 static size_t recount_two_boxes(void)
 {
     memset(&job, 0, sizeof job);
-    job.sizes = (struct sizes){2, 2, 2, 3};
+    job.sizes = (struct sizes){2, 2, 2, 3, 0};
     job.offer[0] = (struct offer){500, 0, {0, code_of("00412")}};
     job.offer[1] = (struct offer){1250, 1, {0, code_of("77")}};
     job.grocer_owner[1] = 1;
@@ -165,7 +166,7 @@ static size_t loose_twice(void)
 /* 90 tallies, most of them in bags that were counted several times; and the same records in another order. */
 static size_t recount(void)
 {
-    random_file(70, (struct sizes){5, 12, 20, 90});
+    random_file(70, (struct sizes){5, 12, 20, 90, 0});
     give_bags(&job);
     return write_file(&job, file);
 }
@@ -179,7 +180,7 @@ static size_t recount_permuted(void)
 
 static size_t longest_in_bags(void)
 {
-    random_file(61, LARGEST);
+    random_file(61, LARGEST_OF_ONE_LIST);
     give_bags(&job);
     return write_file(&job, file);
 }
@@ -187,7 +188,7 @@ static size_t longest_in_bags(void)
 /* 1,000 counts of one bag, by all boxes: tally 781, of revision 999, has 281, at 3 tenths each. */
 static size_t one_bag(void)
 {
-    one_tally_job(&job, (struct sizes){16, 1, 1, MOST_TALLIES}, 3, (struct tally){.bag = 5});
+    one_tally_job(&job, (struct sizes){16, 1, 1, MOST_TALLIES, 0}, 3, (struct tally){.bag = 5});
     for (size_t t = 0; t < MOST_TALLIES; t++) {
         job.tally[t].box = t % 16;
         job.tally[t].count = (int32_t)t - 500;
@@ -196,16 +197,62 @@ static size_t one_bag(void)
     return write_file(&job, file);
 }
 
+/* E with a second list, 100 and 200: grocer 0 is owed 500 on it, in cents 50, and grocer 1 400, in cents 40. Each of the
+   3 prices and totals sent is 2 words: 6 words, and messages and steps of E. */
+static size_t e_two_lists(void)
+{
+    sample_with_lists(&job, 1);
+    return write_file(&job, file);
+}
+
+static size_t e_eight_lists(void)
+{
+    sample_with_lists(&job, MOST_LISTS);
+    return write_file(&job, file);
+}
+
+/* Seven lists more of so many offers: one full block each; two, the second with one price; four. */
+static size_t lists_126(void) { return random_file(91, (struct sizes){3, 4, 126, 20, MOST_LISTS}); }
+static size_t lists_127(void) { return random_file(92, (struct sizes){3, 4, 127, 20, MOST_LISTS}); }
+static size_t lists_500(void) { return random_file(93, (struct sizes){5, 9, 500, 60, MOST_LISTS}); }
+static size_t lists_no_tallies(void) { return random_file(94, (struct sizes){2, 3, 2, 0, 3}); }
+static size_t longest_of_lists(void) { return random_file(95, LARGEST); }
+
+/* Halves and what is around zero on list 0, at a price of 1; at 0 on list 1, at 5 on list 2 and at 2 on list 3. */
+static size_t halves_on_lists(void)
+{
+    halves();
+    job.cycle = 500;
+    job.sizes.lists = 3;
+    job.more_price[1][0] = 5;
+    job.more_price[2][0] = 2;
+    return write_file(&job, file);
+}
+
+/* Every grocer with three or four tallies of the largest negative amount, on every list: the longest lines. */
+static size_t long_lines(void)
+{
+    one_tally_job(&job, (struct sizes){16, MOST_GROCERS, 1, MOST_TALLIES, MOST_LISTS}, MOST_PRICE,
+                  (struct tally){.count = -MOST_COUNT});
+    for (size_t q = 0; q < MOST_LISTS; q++) job.more_price[q][0] = (uint32_t)(MOST_PRICE - q);
+    for (uint16_t t = 0; t < MOST_TALLIES; t++) {
+        job.tally[t].grocer = t % MOST_GROCERS;
+        job.tally[t].box = t % 16;
+    }
+    return write_file(&job, file);
+}
+
 /* Files that are refused */
 
-/* A byte of E's file, with the sums of its block made right. */
-static size_t e_with(size_t block, size_t place, uint8_t byte)
+/* A byte of the file, with the sums of its block made right. */
+static size_t with_byte(size_t length, size_t block, size_t place, uint8_t byte)
 {
-    size_t length = e();
     file[block * BLOCK + place] = byte;
     write_sums(file + block * BLOCK);
     return length;
 }
+
+static size_t e_with(size_t block, size_t place, uint8_t byte) { return with_byte(e(), block, place, byte); }
 
 static size_t longer(size_t length, size_t more)
 {
@@ -221,15 +268,52 @@ static size_t block_short(void) { return e() - BLOCK; }
 static size_t block_too_long(void) { return longer(e(), BLOCK); }
 static size_t longest_and_a_byte(void) { return longer(longest(), 1); }
 static size_t longest_and_a_block(void) { return longer(longest(), BLOCK); }
-static size_t over_longest(void) { return longer(longest(), ROOM - MOST_FILE); }
+static size_t over_longest(void) { return longer(longest(), ROOM_OF_ONE_LIST - LONGEST_OF_ONE_LIST); }
 static size_t kind_not_due(void) { return e_with(2, 0, 3); }
 static size_t block_number_not_due(void) { return e_with(3, 2, 2); }
 static size_t boxes_17(void) { return e_with(0, 4, 17); }
 static size_t spare_byte(void) { return e_with(1, 507, 1); }
+/* Byte 14 says that there is a list more, and there is no block of it. */
 static size_t byte_behind_cycle(void) { return e_with(0, 14, 1); }
 static size_t owner_too_large(void) { return e_with(2, 5, 2); }
 static size_t bad_digit(void) { return e_with(3, 8, ':'); }
 static size_t unknown_code(void) { return e_with(3, 10, '3'); }
+
+static size_t eight_lists_more(void) { return e_with(0, 14, 8); }
+static size_t lists_spare_byte(void) { return with_byte(e_two_lists(), 3, 12, 1); }
+static size_t lists_record_count(void) { return with_byte(e_two_lists(), 3, 1, 126); }
+static size_t lists_block_short(void) { return e_two_lists() - BLOCK; }
+static size_t longest_of_lists_and_a_byte(void) { return longer(longest_of_lists(), 1); }
+static size_t longest_of_lists_and_a_block(void) { return longer(longest_of_lists(), BLOCK); }
+static size_t over_longest_of_lists(void) { return longer(longest_of_lists(), ROOM - MOST_FILE); }
+
+/* The block of prices behind that of tallies, and each with the number due there. */
+static size_t lists_behind_tallies(void)
+{
+    uint8_t prices[BLOCK];
+    size_t length = e_two_lists();
+    memcpy(prices, file + 3 * BLOCK, BLOCK);
+    memcpy(file + 3 * BLOCK, file + 4 * BLOCK, BLOCK);
+    memcpy(file + 4 * BLOCK, prices, BLOCK);
+    with_byte(length, 3, 2, 3);
+    return with_byte(length, 4, 2, 4);
+}
+
+/* Two bytes of a block of prices. */
+static size_t lists_changed_bytes(void)
+{
+    size_t length = e_two_lists();
+    file[3 * BLOCK + 4]++;
+    file[3 * BLOCK + 8]--;
+    return length;
+}
+
+static size_t lists_price_too_large(void)
+{
+    sample_with_lists(&job, MOST_LISTS);
+    job.more_price[MOST_LISTS - 1][1] = MOST_PRICE + 1;
+    return write_file(&job, file);
+}
 
 static size_t changed_byte(void)
 {
@@ -327,6 +411,15 @@ static const struct sample {
     {"recount_permuted", recount_permuted, 0},
     {"longest_in_bags", longest_in_bags, 0},
     {"one_bag", one_bag, 0},
+    {"e_two_lists", e_two_lists, 0},
+    {"e_eight_lists", e_eight_lists, 0},
+    {"lists_126", lists_126, 0},
+    {"lists_127", lists_127, 0},
+    {"lists_500", lists_500, 0},
+    {"lists_no_tallies", lists_no_tallies, 0},
+    {"longest_of_lists", longest_of_lists, 0},
+    {"halves_on_lists", halves_on_lists, 0},
+    {"long_lines", long_lines, 0},
     {"empty", empty, 1},
     {"one_byte", one_byte, 1},
     {"byte_short", byte_short, 1},
@@ -336,15 +429,25 @@ static const struct sample {
     {"longest_and_a_byte", longest_and_a_byte, 1},
     {"longest_and_a_block", longest_and_a_block, 1},
     {"over_longest", over_longest, 1},
+    {"byte_behind_cycle", byte_behind_cycle, 1},
+    {"lists_block_short", lists_block_short, 1},
+    {"longest_of_lists_and_a_byte", longest_of_lists_and_a_byte, 1},
+    {"longest_of_lists_and_a_block", longest_of_lists_and_a_block, 1},
+    {"over_longest_of_lists", over_longest_of_lists, 1},
     {"changed_byte", changed_byte, 2},
+    {"lists_changed_bytes", lists_changed_bytes, 2},
     {"kind_not_due", kind_not_due, 3},
+    {"lists_record_count", lists_record_count, 3},
+    {"lists_behind_tallies", lists_behind_tallies, 3},
     {"block_number_not_due", block_number_not_due, 3},
     {"boxes_17", boxes_17, 4},
+    {"eight_lists_more", eight_lists_more, 4},
     {"spare_byte", spare_byte, 5},
-    {"byte_behind_cycle", byte_behind_cycle, 5},
+    {"lists_spare_byte", lists_spare_byte, 5},
     {"owner_too_large", owner_too_large, 6},
     {"bad_digit", bad_digit, 6},
     {"price_too_large", price_too_large, 6},
+    {"lists_price_too_large", lists_price_too_large, 6},
     {"bad_count_unknown_code", bad_count_unknown_code, 6},
     {"shared_number", shared_number, 7},
     {"shared_number_one_issuer", shared_number_one_issuer, 7},
@@ -392,8 +495,12 @@ static void print_statements(FILE *stream, int64_t (*unit)(int64_t))
     struct step picked[MOST_STEPS];
     struct report report = run_all(&machine, &job, (struct table){CHOICES, 0, NULL}, picked);
     for (uint16_t g = 0; g < job.sizes.grocers; g++) {
-        if (machine.statement[g] != plain_sum(&job, g)) exit(3);
-        fprintf(stream, "%u %" PRId64 "\n", g, unit(machine.statement[g]));
+        fprintf(stream, "%u", g);
+        for (size_t q = 0; q <= job.sizes.lists; q++) {
+            if (machine.statement[g][q] != plain_sum(&job, g, q)) exit(3);
+            fprintf(stream, " %" PRId64, unit(machine.statement[g][q]));
+        }
+        fputc('\n', stream);
     }
     if (report.words != words_of_job(&job)) exit(3);
     fprintf(stream, "words %u\nmessages %u\nsteps %u\n", report.words, report.messages, report.steps);

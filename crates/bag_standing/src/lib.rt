@@ -8,7 +8,7 @@ ghost use Rattle.index.specs.Bags.{KeysOf, Struck};
 ghost use Rattle.bag_standing.specs.Columns.{Columns, anyBag};
 use bag_keys::count_key;
 use index::bags::counted_twice;
-use index::bags::strike;
+use index::bags::strike_from;
 use index::sort::copy;
 use slices::u16_at;
 
@@ -52,21 +52,22 @@ fn fill_keys(
     }
 }
 
-// 9 in tables of n tallies, by their keys; where it is not so, the boxes of superseded tallies become 16.
+// 9 in tables of n tallies, by their keys; where it is not so, `boxes` has the box of each tally that stands, and 16 for the others.
 fn strike_columns(
     n: usize,
     tally_grocer: &[u16],
     tally_offer: &[u16],
     tally_bag: &[u16],
     tally_revision: &[u16],
+    tally_box: &[u16],
     boxes: &mut [u16],
 ) -> bool
     requires { ⌜ Columns n (now «tally_grocer») (now «tally_offer») (now «tally_bag») (now «tally_revision») ⌝ }
-    requires { ⌜ n ≤ length (now boxes) ⌝ }
+    requires { ⌜ (n ≤ length (now «tally_box»)) × (n ≤ length (now boxes)) ⌝ }
     ensures { λ r. ⌜ r ≡ countedTwice (columns n (now («tally_grocer» .entry)) (now («tally_offer» .entry)) (now («tally_bag» .entry))
         (now («tally_revision» .entry))) ⌝ }
     ensures { λ r. ⌜ (r ≡ false → Struck (columns n (now («tally_grocer» .entry)) (now («tally_offer» .entry)) (now («tally_bag» .entry))
-        (now («tally_revision» .entry))) n (now (boxes .entry)) (now (boxes .exit))) ⌝ }
+        (now («tally_revision» .entry))) n (now («tally_box» .entry)) (now (boxes .exit))) ⌝ }
 {
     let mut keys = [0u64; 1000];
     fill_keys(
@@ -77,7 +78,7 @@ fn strike_columns(
         tally_revision,
         &mut keys,
     );
-    strike(&keys, n, boxes)
+    strike_from(&keys, n, tally_box, boxes)
 }
 
 // 9 in tables of n tallies; where it is not so, `boxes` has the box of each tally that stands, and 16 for the others.
@@ -97,7 +98,6 @@ pub fn standing_boxes(
     ensures { λ r. ⌜ (r ≡ false → Struck (columns n (now («tally_grocer» .entry)) (now («tally_offer» .entry)) (now («tally_bag» .entry))
         (now («tally_revision» .entry))) n (now («tally_box» .entry)) (now (boxes .exit))) ⌝ }
 {
-    copy(tally_box, boxes, n);
     if any_bag(tally_bag, n) {
         return strike_columns(
             n,
@@ -105,9 +105,11 @@ pub fn standing_boxes(
             tally_offer,
             tally_bag,
             tally_revision,
+            tally_box,
             boxes,
         );
     }
+    copy(tally_box, boxes, n);
     false
 }
 

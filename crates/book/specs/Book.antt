@@ -62,7 +62,7 @@ bookAfter offers grocers starts packedGrocers packedCounts =
 
 -- M, N and T alone.
 abbrev pub bookSizes : ℕ → ℕ → ℕ → JobTables
-bookSizes m n t = jobTables 0 m n t [] [] [] [] [] [] []
+bookSizes m n t = jobTables 0 m n t 0 [] [] [] [] [] [] []
 
 -- The lengths of these tables, as a contract names them.
 abbrev pub lengths : ℕ → ℕ → ℕ → ℕ → ℕ → BookLengths

@@ -12,6 +12,7 @@ mod pack;
 use crate::lists::list;
 use crate::pack::pack;
 use job_checks::checks::job_refusal;
+use slices::sizes::Sizes;
 
 // How many local offers, local grocers and tallies the box has; or the number of the refusal, and no lent word is changed.
 pub enum Answer {
@@ -71,6 +72,7 @@ pub fn book(
     grocers: u16,
     offers: u16,
     tallies: u16,
+    lists: u16,
     price: &[u32],
     offer_owner: &[u16],
     grocer_owner: &[u16],
@@ -88,7 +90,7 @@ pub fn book(
     packed_counts: &mut [i32],
 ) -> Answer
     ensures { λ r. ⌜ given (said r) (bookAfter «local_offers» «local_grocers» starts «packed_grocers» «packed_counts») ≡ booked
-        (bagLent boxes grocers offers tallies price «offer_owner» «grocer_owner» «tally_grocer» «tally_box» «tally_offer» «tally_count»
+        (bagLent boxes grocers offers tallies lists price «offer_owner» «grocer_owner» «tally_grocer» «tally_box» «tally_offer» «tally_count»
         «tally_bag» «tally_revision») b
         (bookBefore «local_offers» «local_grocers» starts «packed_grocers» «packed_counts») ⌝ }
 {
@@ -103,11 +105,15 @@ pub fn book(
         packed_counts.len(),
     );
     let mut standing = [0u16; 1000];
+    let z = Sizes {
+        boxes: boxes,
+        grocers: grocers,
+        offers: offers,
+        tallies: tallies,
+        lists: lists,
+    };
     let met = job_refusal(
-        boxes,
-        grocers,
-        offers,
-        tallies,
+        z,
         price,
         offer_owner,
         grocer_owner,

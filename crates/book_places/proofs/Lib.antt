@@ -7,4 +7,6 @@ pub mod Groups
 pub mod Starts
 pub mod Putting
 pub mod Joined
+pub mod Taking
 pub mod Boxes
+pub mod Messages

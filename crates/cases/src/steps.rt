@@ -36,6 +36,7 @@ fn request(name: &[u8], s: State, kind: u16, first: u16, second: u16) -> State {
         1,
         1,
         1,
+        0,
         &[500],
         zero,
         one,

@@ -1,7 +1,7 @@
 -- The fields of a file's records where they stand, and the room that a whole file has for them. Assumes nothing.
 use mathlib.Core.Path.{_≡_, ap, ap₂, _∙_}
 use mathlib.Core.List.{List}
-use Prim.Native.Nat.{ℕ, _+_, _*_, _≤_, _<_}
+use Prim.Native.Nat.{ℕ, _+_, _*_, _/_, _≤_, _<_}
 use native.Mathlib.Omega.{arith}
 use lib.ListN.{length, getD}
 use mir.Syntax.{w32}
@@ -9,14 +9,19 @@ use mir.Val.{toZ}
 use Rattle.format.specs.Bytes.{from, after, word16, word32}
 use Rattle.format.specs.Codes.{Code, readCode, nameOf, nameNumber}
 use Rattle.format.specs.Job.{Head, offerName, tallyName}
-use Rattle.format.specs.Blocks.{offersAt, grocersAt, talliesAt}
-use Rattle.format.specs.File.{readOffer, readTally, recordAt, decode}
+use Rattle.format.specs.Blocks.{offersAt, grocersAt, listAt, talliesAt}
+use Rattle.format.specs.File.{readOffer, readTally, recordAt, priceAt, decode}
 use Rattle.file_blocks.specs.Fills.{Whole}
+use Rattle.format.proofs.Plan.{prices-in}
 
 module _ {f : List ℕ} {h : Head} (w : Whole f h) where
   -- Each offer's record is in the file,
   pub offer-room : (i : ℕ) → i < h .offers → recordAt offersAt i + 24 ≤ length f
   offer-room i l = omega (arith, w .long)
+
+  -- each price of an additional list,
+  pub price-room : (q i : ℕ) → q < h .lists → i < h .offers → priceAt (listAt h q) i + 4 ≤ length f
+  price-room q i l m = omega (arith, w .long, prices-in h q (i / 126) l (omega arith))
 
   -- each tally's,
   pub tally-room : (i : ℕ) → i < h .tallies → recordAt (talliesAt h) i + 24 ≤ length f
@@ -97,3 +102,8 @@ module _ (f : List ℕ) {h : Head} (i : ℕ) {at : ℕ} (w : Whole f h) (e : at 
 pub grocer-owner : (f : List ℕ) {h : Head} (i : ℕ) {at : ℕ} → Whole f h → at ≡ 512 * grocersAt h + 4 → getD f (at + i) 0 ≡ decode f .grocerOwner i
 unfolding decode
 grocer-owner f i w e = ap (λ (p : ℕ). getD f (p + i) 0) (e ∙ ap (λ (x : Head). 512 * grocersAt x + 4) (w .says))
+
+-- The price of offer i on additional list q, whose first block is `first`.
+pub list-price : (f : List ℕ) {h : Head} (q i : ℕ) {first : ℕ} → Whole f h → first ≡ listAt h q → word32 (from f (priceAt first i)) ≡ decode f .listPrice q i
+unfolding decode
+list-price f q i w e = ap (λ (k : ℕ). word32 (from f (priceAt k i))) (e ∙ ap (λ (x : Head). listAt x q) (w .says))

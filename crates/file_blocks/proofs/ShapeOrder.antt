@@ -24,14 +24,14 @@ use Rattle.format.proofs.Accept.{even}
 use Rattle.format.proofs.Plan.{kind-offers, kind-tallies}
 use Rattle.format.proofs.Range.{SizesIn, OfferIn, TallyIn, sizes-in, offer-in, tally-in}
 
--- A length that is not refused: at least one block, and at most 74.
-pub length-in : (f : List ℕ) → badLength f ≡ false → (512 ≤ length f) × (length f ≤ 37888)
+-- A length that is not refused: at least one block, and at most 102.
+pub length-in : (f : List ℕ) → badLength f ≡ false → (512 ≤ length f) × (length f ≤ 52224)
 unfolding badLength
 length-in f h =
-    let r = none-of (eqb (length f) 0 ∷ not (eqb (length f % 512) 0) ∷ ltb (512 * 74) (length f) ∷ []) h in
+    let r = none-of (eqb (length f) 0 ∷ not (eqb (length f % 512) 0) ∷ ltb (512 * 102) (length f) ∷ []) h in
     let z = eqb-false (length f) 0 (r .0) in
     let m = even (length f % 512) 0 (r .1 .0) in
-    let t = ltb-false (512 * 74) (length f) (r .1 .1 .0) in
+    let t = ltb-false (512 * 102) (length f) (r .1 .1 .0) in
     (omega (arith, z), omega arith)
 
 -- A header that is not refused has sizes within their values.

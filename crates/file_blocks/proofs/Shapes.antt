@@ -28,7 +28,7 @@ sound f ok =
     record {
       whole = record {
         says = refl;
-        most = record { boxes = z .boxes-most; grocers = z .grocers-most; offers = z .offers-most; tallies = z .tallies-most };
+        most = record { boxes = z .boxes-most; grocers = z .grocers-most; offers = z .offers-most; tallies = z .tallies-most; lists = z .lists-most };
         long = form.shape-long f ok;
       };
       offer = λ i h. form.shape-offer f ok i h .code;
@@ -36,7 +36,7 @@ sound f ok =
     }
 
 -- A sound file has its header.
-pub has-header : {f : List ℕ} {h : Head} → Sound f h → 14 ≤ length f
+pub has-header : {f : List ℕ} {h : Head} → Sound f h → 15 ≤ length f
 has-header s = omega (arith, s .whole .long)
 
 -- What is known of the numbers that the header says is known of those that were read.

@@ -2,4 +2,5 @@
 pub mod Due
 pub mod Shape
 pub mod Fills
+pub mod Copied
 pub mod Sound

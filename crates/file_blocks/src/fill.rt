@@ -1,21 +1,26 @@
 // Tables, each filled with one field of the records of a file; words past those are not touched.
 ghost use mathlib.Core.Path.{_≡_};
 ghost use mathlib.Core.Bool.{true};
-ghost use Prim.Native.Nat.{ℕ, _+_, _≤_, _<_};
+ghost use Prim.Native.Nat.{ℕ, suc, _+_, _≤_, _<_};
 ghost use lib.ListN.{length, getD};
-ghost use Rattle.laws.specs.Tables.{overwrite};
+ghost use Rattle.laws.specs.Lists.{listWords};
+ghost use Rattle.laws.specs.Tables.{overwrite, recell};
 ghost use Rattle.format.specs.Codes.{isCode, nameNumber};
 ghost use mir.Syntax.{w32};
 ghost use mir.Val.{toZ};
 ghost use Rattle.format.specs.Bytes.{from, after, word16, word32};
-ghost use Rattle.format.specs.Job.{offerName};
+ghost use Rattle.format.specs.Job.{offerName, priceOn};
 ghost use Rattle.format.specs.Blocks.{offersAt};
-ghost use Rattle.format.specs.File.{recordAt, decode};
+ghost use Rattle.format.specs.File.{recordAt, priceAt, decode};
 ghost use Rattle.file_blocks.specs.Due.{asHead};
 ghost use Rattle.file_blocks.specs.Fills.{Whole};
+ghost use Rattle.file_blocks.specs.Copied.{Copied};
+use crate::place::price_at;
 use crate::place::record_at;
 use crate::plan::Head;
 use crate::plan::grocers_at;
+use crate::plan::list_blocks;
+use crate::plan::prices_at;
 use file_bytes::byte16;
 use file_bytes::count32;
 use file_bytes::narrow16;
@@ -78,7 +83,7 @@ pub fn fill_bytes(f: &[u8], first: usize, n: usize, at: usize, words: &mut [u16]
     }
 }
 
-// The prices of the first n offers.
+// The prices of the first n offers on the first list.
 pub fn fill_prices(f: &[u8], n: usize, price: &mut [u32])
     requires { ⌜ (n ≤ 500) × (n ≤ length (now price)) ⌝ }
     requires { ⌜ ((i : ℕ) → i < n → recordAt offersAt i + 24 ≤ length (now f)) ⌝ }
@@ -88,6 +93,40 @@ pub fn fill_prices(f: &[u8], n: usize, price: &mut [u32])
     while i < n {
         price[i] = word32(f, record_at(1, i));
         i += 1;
+    }
+}
+
+// The prices of the first n offers on the list whose first block is `first`, from word `to` on.
+fn fill_list(f: &[u8], first: usize, n: usize, to: usize, price: &mut [u32])
+    requires { ⌜ (first ≤ 100) × (n ≤ 500) × (to ≤ 3500) × (to + n ≤ length (now price)) ⌝ }
+    requires { ⌜ ((i : ℕ) → i < n → priceAt first i + 4 ≤ length (now f)) ⌝ }
+    ensures { λ _. ⌜ Copied (λ i. word32 (from (now (f .entry)) (priceAt first i))) to n (now (price .entry)) (now (price .exit)) ⌝ }
+{
+    let mut i: usize = 0;
+    while i < n {
+        price[to + i] = word32(f, price_at(first, i));
+        i += 1;
+    }
+}
+
+// The prices of all lists, list after list.
+pub fn fill_lists(f: &[u8], head: Head, price: &mut [u32])
+    requires { ⌜ Whole (now f) (asHead head) × (listWords (head .sizes .lists) (head .sizes .offers) ≤ length (now price)) ⌝ }
+    ensures { λ _. ⌜ now (price .exit) ≡ recell (suc (head .sizes .lists)) (head .sizes .offers)
+        (priceOn (decode (now (f .entry)) .offer) (decode (now (f .entry)) .listPrice)) (now (price .entry)) ⌝ }
+{
+    let n = head.sizes.offers as usize;
+    let lists = head.sizes.lists as usize;
+    let blocks = list_blocks(n);
+    let mut first = prices_at(head);
+    fill_prices(f, n, price);
+    let mut to = n;
+    let mut q: usize = 0;
+    while q < lists {
+        fill_list(f, first, n, to, price);
+        first += blocks;
+        to += n;
+        q += 1;
     }
 }
 

@@ -7,8 +7,8 @@ ghost use lib.ListN.{length, getD};
 ghost use mir.Syntax.{w32};
 ghost use mir.Val.{toZ};
 ghost use Rattle.laws.specs.Below.{any};
-ghost use Rattle.format.specs.Bytes.{from};
-ghost use Rattle.format.specs.Job.{badOffer, badOwner, badTally};
+ghost use Rattle.format.specs.Bytes.{from, word32};
+ghost use Rattle.format.specs.Job.{badOffer, badOwner, badPrice, badTally};
 ghost use Rattle.format.specs.Blocks.{kindAt};
 ghost use Rattle.format.specs.File.{readOffer, readTally, decode};
 ghost use Rattle.format.specs.Refusals.{badRecord};
@@ -79,6 +79,20 @@ fn bad_owners(f: &[u8], at: usize, count: usize, head: Head) -> bool
     found
 }
 
+// Whether one of the prices at a place is bad.
+fn bad_prices(f: &[u8], at: usize, count: usize) -> bool
+    requires { ⌜ (at + 504 ≤ length (now f)) × (count ≤ 126) ⌝ }
+    ensures { λ r. ⌜ r ≡ any count (λ i. badPrice (word32 (from (now (f .entry)) (at + 4 * i)))) ⌝ }
+{
+    let mut found = false;
+    let mut i: usize = 0;
+    while i < count {
+        found = found | (MAX_PRICE < word32(f, at + 4 * i));
+        i += 1;
+    }
+    found
+}
+
 // Whether one of the tallies at a place is bad.
 fn bad_tallies(f: &[u8], at: usize, count: usize, head: Head) -> bool
     requires { ⌜ (at + 504 ≤ length (now f)) × (count ≤ 21) ⌝ }
@@ -105,6 +119,9 @@ pub fn bad_records(f: &[u8], k: usize, kind: usize, count: usize, head: Head) ->
     }
     if kind == 2 {
         return bad_owners(f, at, count, head);
+    }
+    if kind == 4 {
+        return bad_prices(f, at, count);
     }
     bad_tallies(f, at, count, head)
 }

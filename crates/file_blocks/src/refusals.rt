@@ -22,12 +22,12 @@ use crate::spares::spare_used;
 use file_sums::sums_differ;
 use slices::byte_at;
 
-// Whether the length is 0, not a multiple of 512, or over 74 blocks.
+// Whether the length is 0, not a multiple of 512, or over 102 blocks.
 fn bad_length(f: &[u8]) -> bool
     ensures { λ r. ⌜ r ≡ badLength (now (f .entry)) ⌝ }
 {
     let n = f.len();
-    ((n == 0) | (n % 512 != 0)) | (37888 < n)
+    ((n == 0) | (n % 512 != 0)) | (52224 < n)
 }
 
 // Whether byte 5 or a size of the header is outside its values.
@@ -61,7 +61,7 @@ pub fn header_refusal(f: &[u8]) -> u16
 
 // The refusal of block k, which is not the header: 2, 3, 5, 6.
 pub fn block_refusal(f: &[u8], k: usize, head: Head) -> u16
-    requires { ⌜ (512 * k + 512 ≤ length (now f)) × (1 ≤ k) × (k ≤ 73) ⌝ }
+    requires { ⌜ (512 * k + 512 ≤ length (now f)) × (1 ≤ k) × (k ≤ 101) ⌝ }
     requires { ⌜ (asHead head ≡ decode (now f) .head) × Most (asHead head) ⌝ }
     ensures { λ r. ⌜ r ≡ blockRefusal (now (f .entry)) k ⌝ }
 {
@@ -81,7 +81,7 @@ pub fn block_refusal(f: &[u8], k: usize, head: Head) -> u16
 
 // The refusal of the first of the other blocks that is refused.
 pub fn blocks_refusal(f: &[u8], head: Head, n: usize) -> u16
-    requires { ⌜ (512 * n ≤ length (now f)) × (n ≤ 74) × (n ≡ blocks (decode (now f))) ⌝ }
+    requires { ⌜ (512 * n ≤ length (now f)) × (n ≤ 102) × (n ≡ blocks (decode (now f))) ⌝ }
     requires { ⌜ (asHead head ≡ decode (now f) .head) × Most (asHead head) ⌝ }
     ensures { λ r. ⌜ r ≡ firstBelow (blocks (decode (now (f .entry))) - 1) (λ k. blockRefusal (now (f .entry)) (1 + k)) ⌝ }
 {

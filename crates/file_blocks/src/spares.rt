@@ -46,7 +46,7 @@ pub fn header_spare_used(f: &[u8]) -> bool
     requires { ⌜ 512 ≤ length (now f) ⌝ }
     ensures { λ r. ⌜ r ≡ spareUsed (decode (now (f .entry)) .head) 0 (from (now (f .entry)) 0) ⌝ }
 {
-    spare_in(f, 4, 1, 504, 10)
+    spare_in(f, 4, 1, 504, 11)
 }
 
 // The same of block k, which is not the header.
@@ -61,6 +61,9 @@ pub fn spare_used(f: &[u8], k: usize, kind: usize, count: usize) -> bool
     }
     if kind == 2 {
         return spare_in(f, at, count, 1, 1);
+    }
+    if kind == 4 {
+        return spare_in(f, at, count, 4, 4);
     }
     spare_in(f, at, count, 24, 24)
 }

@@ -3,32 +3,14 @@ use mathlib.Core.Path.{_≡_, refl, sym, ap, _∙_, subst}
 use mathlib.Core.List.{List}
 use Prim.Native.Nat.{ℕ, _+_, _*_, _≤_, _<_}
 use native.Mathlib.Nat.{le-antisymm}
-use native.Mathlib.Decide.{ℕ-discrete}
 use native.Mathlib.Omega.{arith}
 use lib.ListN.{length, getD, set}
-use lib.Seq.{getD-set-same, getD-set-other}
 use Rattle.laws.specs.Tables.{tabulate, recell}
-use Rattle.laws.proofs.Tables.{is-recell, getD-past, getD-tabulate, getD-recell, fill-none}
+use Rattle.laws.proofs.Tables.{getD-tabulate, fill-none}
 use Rattle.format.specs.Codes.{Code, readCode, codeBytes}
 use Rattle.format.specs.Tables.{storeCodes}
-use Rattle.file_codes.specs.Copied.{Copied}
-
--- Nothing is copied yet.
-pub copied-none : (g : ℕ → ℕ) (to : ℕ) (l : List ℕ) → Copied g to 0 l l
-copied-none g to l = record { inside = λ k h. absurd (omega arith); before = λ k h. refl; past = λ k h. refl }
-
--- One byte more.
-pub copied-more : {g : ℕ → ℕ} {to k : ℕ} {l l′ : List ℕ} (v : ℕ) → Copied g to k l l′ → to + k < length l′ → v ≡ g k → Copied g to (k + 1) l (set l′ (to + k) v)
-copied-more {g} {to} {k} {l} {l′} v c h q =
-    record {
-      inside = λ i m.
-          elim (ℕ-discrete i k) [
-            | yes p ↦ subst (λ (j : ℕ). getD (set l′ (to + k) v) (to + j) 0 ≡ g j) (sym p) (getD-set-same l′ (to + k) v 0 h ∙ q)
-            | no p ↦ getD-set-other l′ (to + k) (to + i) v 0 (λ e. p (omega arith)) ∙ c .inside i (omega (arith, p))
-          ];
-      before = λ i m. getD-set-other l′ (to + k) i v 0 (λ e. omega arith) ∙ c .before i m;
-      past = λ i m. getD-set-other l′ (to + k) i v 0 (λ e. omega arith) ∙ c .past i (omega arith);
-    }
+use Rattle.file_blocks.specs.Copied.{Copied}
+use Rattle.file_blocks.proofs.Copies.{copied-none, copied-more, rows-more}
 
 -- The first byte.
 pub copied-first : {g : ℕ → ℕ} {to : ℕ} {l : List ℕ} (v : ℕ) → to < length l → v ≡ g 0 → Copied g to 1 l (set l to v)
@@ -53,16 +35,7 @@ pub codes-more : (c : ℕ → Code) (i : ℕ) (l m l′ : List ℕ) (g : ℕ →
     Copied g (i * 11) 11 m l′ → readCode g ≡ c i → l′ ≡ storeCodes (i + 1) c l
 unfolding storeCodes
 codes-more c i l m l′ g e h long w q =
-    is-recell (i + 1) 11 _ l l′ 0 h long (λ b o lb lo.
-    elim (ℕ-discrete b i) [
-      | yes p ↦
-          subst (λ (j : ℕ). getD l′ (j * 11 + o) 0 ≡ getD (codeBytes (c j)) o 0) (sym p)
-          (w .inside o lo ∙ sym (code-byte g o lo) ∙ ap (λ (x : Code). getD (codeBytes x) o 0) q)
-      | no p ↦
-          w .before (b * 11 + o) (omega (arith, p)) ∙ ap (λ (x : List ℕ). getD x (b * 11 + o) 0) e
-          ∙ getD-recell i 11 (λ i p. getD (codeBytes (c i)) p 0) l b o 0 (omega (arith, p)) lo
-    ])
-    (λ k p. w .past k (omega arith) ∙ ap (λ (x : List ℕ). getD x k 0) e ∙ unfold recell in getD-past (i * 11) _ l k 0 (omega arith))
+    rows-more i 11 (λ i p. getD (codeBytes (c i)) p 0) g l m l′ e h long refl w (λ o lo. sym (code-byte g o lo) ∙ ap (λ (x : Code). getD (codeBytes x) o 0) q)
 
 -- All n codes are stored.
 pub codes-end : (c : ℕ → Code) (i n : ℕ) (l l′ : List ℕ) → l′ ≡ storeCodes i c l → i ≤ n → n ≤ i → l′ ≡ storeCodes n c l

@@ -6,7 +6,7 @@ ghost use Rattle.format.specs.Bytes.{from, after};
 ghost use Rattle.format.specs.Codes.{readCode};
 ghost use Rattle.format.specs.File.{recordAt};
 ghost use Rattle.format.specs.Tables.{storeCodes};
-ghost use Rattle.file_codes.specs.Copied.{Copied};
+ghost use Rattle.file_blocks.specs.Copied.{Copied};
 use file_blocks::codes::CODE_BYTES;
 use file_blocks::place::record_at;
 

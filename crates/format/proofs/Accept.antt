@@ -16,12 +16,12 @@ use Rattle.recount.specs.Recount.{countedTwice}
 use Rattle.format.specs.First.{firstBelow}
 use Rattle.format.specs.Bytes.{from, after, word16}
 use Rattle.format.specs.Job.{badSizes, shared, unnamed, countedTallies}
-use Rattle.format.specs.Blocks.{BlockKind, offerBlock, grocerBlock, tallyBlock, blocks, offersAt, grocersAt, talliesAt, kindAt, blockKindNumber, records, spare, firstSum, secondSum}
+use Rattle.format.specs.Blocks.{BlockKind, offerBlock, grocerBlock, priceBlock, tallyBlock, listBlocks, blocks, offersAt, grocersAt, pricesAt, talliesAt, kindAt, blockKindNumber, records, spare, firstSum, secondSum}
 use Rattle.format.specs.File.{encode, decode}
 use Rattle.format.specs.Refusals.{badLength, badCount, sumsDiffer, notDue, badHeader, spareUsed, badRecord, headerRefusal, blockRefusal, fileRefusal, jobRefusal}
 use Rattle.format.proofs.Firsts.{each, below-at}
 use Rattle.format.proofs.Order.{shared-refused, unnamed-refused, twice-refused}
-use Rattle.format.proofs.Plan.{kind-offers, kind-grocers, kind-tallies}
+use Rattle.format.proofs.Plan.{kind-offers, kind-grocers, kind-prices, prices-in, kind-tallies}
 use Rattle.format.proofs.Read.{Clean, file-read}
 use Rattle.format.proofs.Range.{Fine, fine-job, InRange, in-range}
 
@@ -129,6 +129,11 @@ module _ (f : List ℕ) (ok : fileRefusal f ≡ 0) where
             let e : 21 * (i / 21) + i % 21 ≡ i = omega arith in
             rw e at (inner (offersAt + i / 21) (offerBlock (i / 21)) (omega arith) (omega arith) (kind-offers n (i / 21) (omega arith)) (i % 21) (omega arith));
         grocerOwner = λ i h. inner (grocersAt n) grocerBlock (omega arith) (omega arith) (kind-grocers n) i h;
+        listPrice = λ q i m h.
+            let e : 126 * (i / 126) + i % 126 ≡ i = omega arith in
+            let c : i / 126 < listBlocks (n .offers) = omega arith in
+            rw e at (inner (pricesAt n + (q * listBlocks (n .offers) + i / 126)) (priceBlock q (i / 126)) (omega arith) (omega (arith, prices-in n q (i / 126) m c))
+            (kind-prices n q (i / 126) m c) (i % 126) (omega arith));
         tally = λ i h.
             let e : 21 * (i / 21) + i % 21 ≡ i = omega arith in
             rw e at (inner (talliesAt n + i / 21) (tallyBlock (i / 21)) (omega arith) (omega arith) (kind-tallies n (i / 21)) (i % 21) (omega arith));

@@ -13,13 +13,13 @@ use Rattle.laws.specs.Checks.{firstMet}
 use Rattle.laws.proofs.Below.{any-cong}
 use Rattle.format.specs.First.{firstOf, firstBelow}
 use Rattle.format.specs.Bytes.{from, after, word16}
-use Rattle.format.specs.Job.{Head}
-use Rattle.format.specs.Blocks.{BlockKind, header, offerBlock, grocerBlock, tallyBlock, blockCount, blocks, offersAt, grocersAt, talliesAt, kindAt, records, firstSum, secondSum}
-use Rattle.format.specs.File.{readOffer, readTally, recordAt, readHead, decode}
+use Rattle.format.specs.Job.{Head, badPrice}
+use Rattle.format.specs.Blocks.{BlockKind, header, offerBlock, grocerBlock, priceBlock, tallyBlock, listBlocks, blockCount, blocks, offersAt, grocersAt, pricesAt, talliesAt, kindAt, records, firstSum, secondSum, listAt}
+use Rattle.format.specs.File.{readOffer, readTally, recordAt, priceAt, readHead, decode}
 use Rattle.format.specs.Refusals.{badLength, badCount, sumsDiffer, notDue, badHeader, spareUsed, badRecord, headerRefusal, blockRefusal, fileRefusal}
 use Rattle.format.proofs.Firsts.{each, below-none, below-hit}
 use Rattle.format.proofs.Words.{first-cong, second-cong}
-use Rattle.format.proofs.Plan.{At, at-header, at-offers, at-grocers, at-tallies, kind-at}
+use Rattle.format.proofs.Plan.{At, at-header, at-offers, at-grocers, at-prices, at-tallies, kind-at}
 use Rattle.format.proofs.Accept.{long, top, below, clean-all, accepted-range}
 use Rattle.format.specs.Same.{OfferWords, TallyWords}
 use Rattle.format.proofs.Same.{offer-same, tally-same}
@@ -49,7 +49,7 @@ module _ (f f′ : List ℕ) (k : ℕ) (k₀ : 0 < k) (same : (p : ℕ) → p < 
   same-head : decode f′ .head ≡ decode f .head
   unfolding decode readHead
   same-head =
-      rw (same 4 (omega arith), same 6 (omega arith), same 7 (omega arith), same 8 (omega arith), same 9 (omega arith), same 10 (omega arith), same 11 (omega arith), same 12 (omega arith), same 13 (omega arith))
+      rw (same 4 (omega arith), same 6 (omega arith), same 7 (omega arith), same 8 (omega arith), same 9 (omega arith), same 10 (omega arith), same 11 (omega arith), same 12 (omega arith), same 13 (omega arith), same 14 (omega arith))
 
   same-block : (m q : ℕ) → m < k → q < 512 → from f′ (512 * m) q ≡ from f (512 * m) q
   same-block m q hm hq = same (512 * m + q) (omega arith)
@@ -100,11 +100,19 @@ module _ (f f′ : List ℕ) (k : ℕ) (k₀ : 0 < k) (same : (p : ℕ) → p < 
   unfolding decode
   owner-word i h l = rw same-head (same (512 * grocersAt (decode f .head) + 4 + i) (omega arith))
 
+  price-word : (q i : ℕ) → pricesAt (decode f .head) + (q * listBlocks (decode f .head .offers) + i / 126) < k → decode f′ .listPrice q i ≡ decode f .listPrice q i
+  unfolding decode
+  price-word q i h = rw same-head (rw (at 0 (omega arith), at 1 (omega arith), at 2 (omega arith), at 3 (omega arith)))
+    where
+      at : (c : ℕ) → c < 4 → from f′ (priceAt (listAt (decode f .head) q) i) c ≡ from f (priceAt (listAt (decode f .head) q) i) c
+      at c l = same (priceAt (listAt (decode f .head) q) i + c) (omega arith)
+
   same-record : (m r : ℕ) (z : BlockKind) → m < k → At (decode f .head) m z → r < records (decode f .head) z → decode f .head .grocers ≤ 504 → badRecord (decode f′) z r ≡ badRecord (decode f) z r
   unfolding badRecord
   same-record m r header h (at-header e) l s = refl
   same-record m r (offerBlock b) h (at-offers _ e _) l s = rw same-head (offer-same (decode f .head) _ _ (offer-words (21 * b + r) (omega arith)))
   same-record m r grocerBlock h (at-grocers e) l s = rw (same-head, owner-word r (omega arith) (omega arith))
+  same-record m r (priceBlock q b) h (at-prices _ _ e u v) l s = ap badPrice (price-word q (126 * b + r) (omega arith))
   same-record m r (tallyBlock b) h (at-tallies _ e) l s = rw same-head (tally-same (decode f .head) _ _ (tally-words (21 * b + r) (omega arith)))
 
 -- ---- an accepted file, and another whose first difference is in the sums of block k

@@ -9,10 +9,12 @@ use Rattle.laws.proofs.Bools.{split}
 use Rattle.laws.proofs.Tables.{tabulate-cong}
 use Rattle.format.specs.Codes.{Code, codeBytes}
 use Rattle.format.specs.Job.{Head, FileJob, Offer, Tally}
-use Rattle.format.specs.Blocks.{BlockKind, header, offerBlock, grocerBlock, tallyBlock, blockCount, blocks, kindAt, records, recordSize, headerBytes, offerBytes, tallyBytes, recordBytes, spare}
+use Rattle.format.specs.Blocks.{BlockKind, header, offerBlock, grocerBlock, priceBlock, tallyBlock, blockCount, blocks, kindAt, records, recordSize, headerBytes, offerBytes, tallyBytes, recordBytes, spare}
 use Rattle.format.specs.File.{recordByte, bodyByte, blockByte, encode}
+use Rattle.format.specs.Bytes.{bytes32}
 use Rattle.format.proofs.Words.{first-cong, second-cong}
 use Rattle.format.proofs.Read.{in-field}
+use Rattle.format.proofs.Plan.{At, at-prices, kind-at}
 use Rattle.format.specs.Same.{SameCode, OfferWords, TallyWords, SameWords}
 
 -- Codes with the same digits have the same eleven bytes.
@@ -29,25 +31,26 @@ unfolding tallyBytes
 tally-bytes a b s = rw (s .grocer, s .box, s .count, s .issuer, s .bag, s .revision, code-bytes (a .code) (b .code) (s .code))
 
 module _ (a b : FileJob) (s : SameWords a b) where
-  record-bytes : (z : BlockKind) (r : ℕ) → r < records (b .head) z → recordBytes a z r ≡ recordBytes b z r
+  record-bytes : (n : ℕ) (z : BlockKind) → At (b .head) n z → (r : ℕ) → r < records (b .head) z → recordBytes a z r ≡ recordBytes b z r
   unfolding recordBytes
-  record-bytes header r h = ap headerBytes (s .head)
-  record-bytes (offerBlock k) r h = offer-bytes _ _ (s .offer (21 * k + r) (omega arith))
-  record-bytes grocerBlock r h = ap (λ (x : ℕ). x ∷ []) (s .grocerOwner r h)
-  record-bytes (tallyBlock k) r h = tally-bytes _ _ (s .tally (21 * k + r) (omega arith))
+  record-bytes n header at r h = ap headerBytes (s .head)
+  record-bytes n (offerBlock k) at r h = offer-bytes _ _ (s .offer (21 * k + r) (omega arith))
+  record-bytes n grocerBlock at r h = ap (λ (x : ℕ). x ∷ []) (s .grocerOwner r h)
+  record-bytes n (priceBlock q k) (at-prices _ _ e l m) r h = ap bytes32 (s .listPrice q (126 * k + r) l (omega arith))
+  record-bytes n (tallyBlock k) at r h = tally-bytes _ _ (s .tally (21 * k + r) (omega arith))
 
-  record-byte : (z : BlockKind) (p : ℕ) → recordByte a z p ≡ recordByte b z p
+  record-byte : (n : ℕ) (z : BlockKind) → At (b .head) n z → (p : ℕ) → recordByte a z p ≡ recordByte b z p
   unfolding recordByte
-  record-byte z p =
+  record-byte n z at p =
       rw (ap (λ (h : Head). spare h z p) (s .head))
       (split (spare (b .head) z p)
       (λ e. rw e)
-      (λ e. rw e (ap (λ (l : List ℕ). getD l (p % recordSize z) 0) (record-bytes z (p / recordSize z) (in-field (b .head) z p e .0)))))
+      (λ e. rw e (ap (λ (l : List ℕ). getD l (p % recordSize z) 0) (record-bytes n z at (p / recordSize z) (in-field (b .head) z p e .0)))))
 
   body-byte : (k p : ℕ) → bodyByte a k p ≡ bodyByte b k p
   unfolding bodyByte
   body-byte k p =
-      rw (record-byte (kindAt (a .head) k) (p - 4), s .head)
+      rw (record-byte k (kindAt (a .head) k) (rw (s .head) (kind-at (b .head) k)) (p - 4), s .head)
 
   block-byte : (k p : ℕ) → blockByte (bodyByte a k) p ≡ blockByte (bodyByte b k) p
   unfolding blockByte

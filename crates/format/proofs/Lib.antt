@@ -16,3 +16,4 @@ pub mod Tables
 pub mod Prime
 pub mod Detect
 pub mod Damage
+pub mod PlanCases

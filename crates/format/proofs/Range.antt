@@ -14,7 +14,7 @@ use Rattle.laws.proofs.Below.{any-at, any-none, find-passes, find-none, any-fal
 use Rattle.laws.proofs.Checks.{none-of, unmet, none-met}
 use Rattle.recount.specs.Recount.{countedTwice}
 use Rattle.format.specs.Codes.{isCode, sameOffer}
-use Rattle.format.specs.Job.{Head, FileJob, Offer, Tally, badSizes, badOffer, badOwner, badTally, badRecords, offerName, tallyName, names, placeOf, shared, unnamed, countedTallies}
+use Rattle.format.specs.Job.{Head, FileJob, Offer, Tally, badSizes, badOffer, badOwner, badPrice, badTally, badRecords, offerName, tallyName, names, placeOf, shared, unnamed, countedTallies}
 use Rattle.format.specs.Refusals.{jobRefusal}
 use Rattle.format.specs.Rearranged.{Named}
 use Rattle.format.proofs.Codes.{same-trans}
@@ -28,6 +28,7 @@ pub record SizesIn (h : Head) : Type 0 where
   pub offers-some : 1 ≤ h .offers
   pub offers-most : h .offers ≤ 500
   pub tallies-most : h .tallies ≤ 1000
+  pub lists-most : h .lists ≤ 7
 
 -- An offer's fields within their ranges.
 pub record OfferIn (h : Head) (o : Offer) : Type 0 where
@@ -48,6 +49,7 @@ pub record InRange (j : FileJob) : Type 0 where
   pub sizes : SizesIn (j .head)
   pub offer : (i : ℕ) → i < j .head .offers → OfferIn (j .head) (j .offer i)
   pub grocerOwner : (i : ℕ) → i < j .head .grocers → j .grocerOwner i < j .head .boxes
+  pub listPrice : (q i : ℕ) → q < j .head .lists → i < j .head .offers → j .listPrice q i ≤ 9999999
   pub tally : (t : ℕ) → t < j .head .tallies → TallyIn (j .head) (j .tally t)
   pub apart : (i k : ℕ) → k < i → i < j .head .offers → sameOffer (offerName j k) (offerName j i) ≡ false
   pub place : (t : ℕ) → t < j .head .tallies → placeOf j t < j .head .offers
@@ -58,7 +60,7 @@ pub record InRange (j : FileJob) : Type 0 where
 pub sizes-in : (h : Head) → badSizes h ≡ false → SizesIn h
 unfolding badSizes
 sizes-in h e =
-    let r = none-of (ltb (h .boxes) 1 ∷ ltb 16 (h .boxes) ∷ ltb (h .grocers) 1 ∷ ltb 255 (h .grocers) ∷ ltb (h .offers) 1 ∷ ltb 500 (h .offers) ∷ ltb 1000 (h .tallies) ∷ []) e in
+    let r = none-of (ltb (h .boxes) 1 ∷ ltb 16 (h .boxes) ∷ ltb (h .grocers) 1 ∷ ltb 255 (h .grocers) ∷ ltb (h .offers) 1 ∷ ltb 500 (h .offers) ∷ ltb 1000 (h .tallies) ∷ ltb 7 (h .lists) ∷ []) e in
     record {
       boxes-some = ltb-false _ _ (r .0);
       boxes-most = ltb-false _ _ (r .1 .0);
@@ -67,6 +69,7 @@ sizes-in h e =
       offers-some = ltb-false _ _ (r .1 .1 .1 .1 .0);
       offers-most = ltb-false _ _ (r .1 .1 .1 .1 .1 .0);
       tallies-most = ltb-false _ _ (r .1 .1 .1 .1 .1 .1 .0);
+      lists-most = ltb-false _ _ (r .1 .1 .1 .1 .1 .1 .1 .0);
     }
 
 -- What 6 of an offer says where it is not met.
@@ -89,6 +92,7 @@ tally-in h t e =
 pub record FineRecords (j : FileJob) : Type 0 where
   pub offer : (i : ℕ) → i < j .head .offers → badOffer (j .head) (j .offer i) ≡ false
   pub grocerOwner : (i : ℕ) → i < j .head .grocers → badOwner (j .head) (j .grocerOwner i) ≡ false
+  pub listPrice : (q i : ℕ) → q < j .head .lists → i < j .head .offers → badPrice (j .listPrice q i) ≡ false
   pub tally : (t : ℕ) → t < j .head .tallies → badTally (j .head) (j .tally t) ≡ false
 
 -- A job that does not meet 6.
@@ -98,11 +102,15 @@ fine-records j e =
     let p = any (j .head .offers) (λ i. badOffer (j .head) (j .offer i)) in
     let q = any (j .head .grocers) (λ i. badOwner (j .head) (j .grocerOwner i)) in
     let s = any (j .head .tallies) (λ i. badTally (j .head) (j .tally i)) in
-    let b = or-off (p || q) s e in
-    let a = or-off p q (b .0) in
+    let v = any (j .head .lists) (λ q. any (j .head .offers) (λ i. badPrice (j .listPrice q i))) in
+    let b = or-off (p || q || v) s e in
+    let c = or-off (p || q) v (b .0) in
+    let a = or-off p q (c .0) in
     record {
       offer = λ i h. any-none (j .head .offers) (λ i. badOffer (j .head) (j .offer i)) i h (a .0);
       grocerOwner = λ i h. any-none (j .head .grocers) (λ i. badOwner (j .head) (j .grocerOwner i)) i h (a .1);
+      listPrice = λ q i m h. any-none (j .head .offers) (λ i. badPrice (j .listPrice q i)) i h
+          (any-none (j .head .lists) (λ q. any (j .head .offers) (λ i. badPrice (j .listPrice q i))) q m (c .1));
       tally = λ i h. any-none (j .head .tallies) (λ i. badTally (j .head) (j .tally i)) i h (b .1);
     }
 
@@ -111,6 +119,7 @@ pub record Fine (j : FileJob) : Type 0 where
   pub sizes : badSizes (j .head) ≡ false
   pub offer : (i : ℕ) → i < j .head .offers → badOffer (j .head) (j .offer i) ≡ false
   pub grocerOwner : (i : ℕ) → i < j .head .grocers → badOwner (j .head) (j .grocerOwner i) ≡ false
+  pub listPrice : (q i : ℕ) → q < j .head .lists → i < j .head .offers → badPrice (j .listPrice q i) ≡ false
   pub tally : (t : ℕ) → t < j .head .tallies → badTally (j .head) (j .tally t) ≡ false
   pub shared : shared j ≡ false
   pub unnamed : unnamed j ≡ false
@@ -132,6 +141,7 @@ fine j e =
       sizes = r .0;
       offer = f .offer;
       grocerOwner = f .grocerOwner;
+      listPrice = f .listPrice;
       tally = f .tally;
       shared = n .apart;
       unnamed = n .named;
@@ -145,7 +155,12 @@ fine-job j f =
     none-met _ (
       f .sizes,
       (
-        rw (any-false _ (λ i. badOffer (j .head) (j .offer i)) (f .offer), any-false _ (λ i. badOwner (j .head) (j .grocerOwner i)) (f .grocerOwner), any-false _ (λ i. badTally (j .head) (j .tally i)) (f .tally)),
+        rw (
+          any-false _ (λ i. badOffer (j .head) (j .offer i)) (f .offer),
+          any-false _ (λ i. badOwner (j .head) (j .grocerOwner i)) (f .grocerOwner),
+          any-false _ (λ q. any (j .head .offers) (λ i. badPrice (j .listPrice q i))) (λ q m. any-false _ (λ i. badPrice (j .listPrice q i)) (λ i h. f .listPrice q i m h)),
+          any-false _ (λ i. badTally (j .head) (j .tally i)) (f .tally),
+        ),
         (f .shared, (f .unnamed, (f .once, tt))),
       ),
     )
@@ -192,7 +207,7 @@ module _ (j : FileJob) (t : ℕ) where
 
 -- A job that is not refused is in range.
 pub in-range : (j : FileJob) → jobRefusal j ≡ 0 → InRange j
-unfolding unnamed badOwner
+unfolding unnamed badOwner badPrice
 in-range j e =
     let f = fine j e in
     let n : (t : ℕ) → t < j .head .tallies → any (j .head .offers) (names j t) ≡ true =
@@ -201,6 +216,7 @@ in-range j e =
       sizes = sizes-in (j .head) (f .sizes);
       offer = λ i h. offer-in (j .head) (j .offer i) (f .offer i h);
       grocerOwner = λ i h. leb-false _ _ (f .grocerOwner i h);
+      listPrice = λ q i m h. ltb-false _ _ (f .listPrice q i m h);
       tally = λ t h. tally-in (j .head) (j .tally t) (f .tally t h);
       apart = apart j (f .shared);
       place = λ t h. named-place j t (n t h) .0;

@@ -19,11 +19,11 @@ use Rattle.laws.proofs.Tables.{getD-tabulate, length-tabulate}
 use Rattle.format.specs.Bytes.{from, after, word16, word32, bytes16, bytes32}
 use Rattle.format.specs.Codes.{codeBytes}
 use Rattle.format.specs.Job.{Head}
-use Rattle.format.specs.Blocks.{BlockKind, header, offerBlock, grocerBlock, tallyBlock, blocks, offersAt, talliesAt, kindAt, blockKindNumber}
-use Rattle.format.specs.Blocks.{records, recordSize, fieldSize, headerBytes, offerBytes, tallyBytes, recordBytes, spare, firstSum, secondSum}
-use Rattle.format.specs.File.{recordByte, bodyByte, blockByte, encode, readOffer, readTally, recordAt, readHead, decode}
+use Rattle.format.specs.Blocks.{BlockKind, header, offerBlock, grocerBlock, priceBlock, tallyBlock, blocks, offersAt, talliesAt, kindAt, blockKindNumber, records, recordSize, fieldSize, headerBytes, offerBytes, tallyBytes, listAt}
+use Rattle.format.specs.Blocks.{recordBytes, spare, firstSum, secondSum}
+use Rattle.format.specs.File.{recordByte, bodyByte, blockByte, encode, readOffer, readTally, recordAt, priceAt, readHead, decode}
 use Rattle.format.proofs.Words.{bytes-word16, bytes-word32, first-cong, second-cong}
-use Rattle.format.proofs.Plan.{At, at-header, at-offers, at-grocers, at-tallies, kind-at}
+use Rattle.format.proofs.Plan.{At, at-header, at-offers, at-grocers, at-prices, at-tallies, kind-at}
 
 -- Bytes, each below 256.
 abbrev pub Bytes : (ℕ → ℕ) → Type 0
@@ -37,6 +37,11 @@ unfolding offerBytes readOffer codeBytes tabulate
 offer-bytes g b =
     ap (λ (l : List ℕ). l ++ (g 4 ∷ g 5 ∷ tabulate 10 (after g 6)) ++ bytes16 (word16 (after g 16))) (bytes-word32 (g 0) (g 1) (g 2) (g 3) (b 0) (b 1) (b 2)) ∙
     ap (λ (l : List ℕ). (g 0 ∷ g 1 ∷ g 2 ∷ g 3 ∷ []) ++ (g 4 ∷ g 5 ∷ tabulate 10 (after g 6)) ++ l) (bytes-word16 (g 16) (g 17) (b 16))
+
+-- A price.
+pub price-bytes : (g : ℕ → ℕ) → Bytes g → bytes32 (word32 g) ≡ tabulate 4 g
+unfolding tabulate
+price-bytes g b = bytes-word32 (g 0) (g 1) (g 2) (g 3) (b 0) (b 1) (b 2)
 
 -- A tally's fields.
 pub tally-bytes : (g : ℕ → ℕ) → Bytes g → tallyBytes (readTally g) ≡ tabulate 24 g
@@ -86,7 +91,7 @@ module _ (f : List ℕ) (bytes : (p : ℕ) → getD f p 0 < 256) (mark : getD f 
   anywhere : (at : ℕ) → Bytes (from f at)
   anywhere at k = bytes (at + k)
 
-  header-bytes : headerBytes (decode f .head) ≡ tabulate 10 (from f 4)
+  header-bytes : headerBytes (decode f .head) ≡ tabulate 11 (from f 4)
   unfolding headerBytes decode readHead tabulate
   header-bytes =
       let m₀ : word16 (from f 6) % 256 ≡ getD f 6 0 = omega (arith, bytes 6) in
@@ -102,11 +107,13 @@ module _ (f : List ℕ) (bytes : (p : ℕ) → getD f p 0 < 256) (mark : getD f 
   -- A byte of a field.
   field-at : (b : BlockKind) (k s : ℕ) → At (decode f .head) k b → s < 504 → s % recordSize b < fieldSize b → getD (recordBytes (decode f) b (s / recordSize b)) (s % recordSize b) 0 ≡ from f (512 * k) (4 + s)
   unfolding recordBytes decode
-  field-at header k s (at-header e) hs h = field-read f _ 10 4 (s % 504) header-bytes h _ (omega arith)
+  field-at header k s (at-header e) hs h = field-read f _ 11 4 (s % 504) header-bytes h _ (omega arith)
   field-at (offerBlock b) k s (at-offers _ e _) hs h = field-read f _ 18 (recordAt offersAt (21 * b + s / 24)) (s % 24) (offer-bytes _ (anywhere (recordAt offersAt (21 * b + s / 24)))) h _ (omega arith)
   field-at grocerBlock k s (at-grocers e) hs h =
       let z : s % 1 ≡ 0 = omega arith in
       rw z (ap (λ (p : ℕ). getD f p 0) (omega arith))
+  field-at (priceBlock q b) k s (at-prices _ _ e l m) hs h = field-read f _ 4 (priceAt (listAt (decode f .head) q) (126 * b + s / 4)) (s % 4)
+      (price-bytes _ (anywhere (priceAt (listAt (decode f .head) q) (126 * b + s / 4)))) h _ (omega arith)
   field-at (tallyBlock b) k s (at-tallies _ e) hs h = field-read f _ 24 (recordAt (talliesAt (decode f .head)) (21 * b + s / 24)) (s % 24)
       (tally-bytes _ (anywhere (recordAt (talliesAt (decode f .head)) (21 * b + s / 24)))) h _ (omega arith)
 

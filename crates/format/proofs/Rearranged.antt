@@ -9,7 +9,7 @@ use Rattle.laws.proofs.Bools.{same-test}
 use Rattle.laws.proofs.Below.{any-cong, any-none, any-moved, pairs-moved}
 use Rattle.recount.specs.Recount.{stands, countedTwice, Reordered}
 use Rattle.format.specs.Codes.{sameOffer}
-use Rattle.format.specs.Job.{FileJob, badSizes, badOffer, badTally, badRecords, offerName, names, placeOf, shared, unnamed, countedTallies}
+use Rattle.format.specs.Job.{FileJob, badSizes, badOffer, badPrice, badTally, badRecords, offerName, names, placeOf, shared, unnamed, countedTallies}
 use Rattle.format.specs.Rearranged.{inOrder, Rearranged, Named}
 use Rattle.format.specs.File.{encode, decode}
 use Rattle.format.specs.Refusals.{jobRefusal}
@@ -31,6 +31,8 @@ module _ (j : FileJob) (p q r s : ℕ → ℕ) (tallies : Order (j .head .tallie
   records-moved =
       rw (
         any-moved (j .head .offers) r s offers (λ i. badOffer (j .head) (j .offer i)),
+        any-cong (j .head .lists) (λ q. any (j .head .offers) (λ i. badPrice (j .listPrice q (r i)))) (λ q. any (j .head .offers) (λ i. badPrice (j .listPrice q i)))
+            (λ q l. any-moved (j .head .offers) r s offers (λ i. badPrice (j .listPrice q i))),
         any-moved (j .head .tallies) p q tallies (λ t. badTally (j .head) (j .tally t)),
       )
 
@@ -154,6 +156,7 @@ module _ (j j′ : FileJob) (p q r s : ℕ → ℕ) (x : Rearranged j j′ p q r
               head = back .head;
               offer = λ i l. back .offer (r i) (x .offers .inside i l);
               grocerOwner = back .grocerOwner;
+              listPrice = λ q i m l. back .listPrice q (r i) m (x .offers .inside i l);
               tally = λ t l. back .tally (p t) (x .tallies .inside t l);
             })));
       }

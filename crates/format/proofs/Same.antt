@@ -9,7 +9,7 @@ use Rattle.laws.proofs.Bools.{split}
 use Rattle.laws.proofs.Below.{any-cong, find-cong}
 use Rattle.recount.specs.Recount.{Counted, stands, countedTwice, Reordered}
 use Rattle.format.specs.Codes.{Code, Name, isCode, codeNumber, sameOffer}
-use Rattle.format.specs.Job.{Head, FileJob, Offer, Tally, badSizes, badOffer, badOwner, badTally, badRecords, offerName, tallyName, names, placeOf, shared, unnamed, countedTallies}
+use Rattle.format.specs.Job.{Head, FileJob, Offer, Tally, badSizes, badOffer, badOwner, badPrice, badTally, badRecords, offerName, tallyName, names, placeOf, shared, unnamed, countedTallies}
 use Rattle.format.specs.Same.{SameCode, OfferWords, TallyWords, SameWords}
 use Rattle.format.specs.Rearranged.{Named}
 use Rattle.format.specs.Refusals.{jobRefusal}
@@ -27,6 +27,7 @@ words-back a b s = record {
   offer = λ i l. let o = s .offer i (rw (s .head) at l) in
       record { price = sym (o .price); owner = sym (o .owner); code = code-back _ _ (o .code); issuer = sym (o .issuer) };
   grocerOwner = λ i l. sym (s .grocerOwner i (rw (s .head) at l));
+  listPrice = λ q i m l. sym (s .listPrice q i (rw (s .head) at m) (rw (s .head) at l));
   tally = λ i l. let t = s .tally i (rw (s .head) at l) in record {
     grocer = sym (t .grocer);
     box = sym (t .box);
@@ -50,6 +51,7 @@ words-on a b c s r = record {
       let y = r .offer i l in
       record { price = x .price ∙ y .price; owner = x .owner ∙ y .owner; code = code-on _ _ _ (x .code) (y .code); issuer = x .issuer ∙ y .issuer };
   grocerOwner = λ i l. s .grocerOwner i (rw (r .head) l) ∙ r .grocerOwner i l;
+  listPrice = λ q i m l. s .listPrice q i (rw (r .head) m) (rw (r .head) l) ∙ r .listPrice q i m l;
   tally = λ i l.
       let x = s .tally i (rw (r .head) l) in
       let y = r .tally i l in
@@ -110,10 +112,14 @@ refused-alike a b four six seven eight nine =
 pub records-same : (a b : FileJob) → SameWords a b → badRecords a ≡ badRecords b
 unfolding badRecords
 records-same a b s =
-    ap (λ (h : Head). any (h .offers) (λ i. badOffer h (a .offer i)) || any (h .grocers) (λ i. badOwner h (a .grocerOwner i)) || any (h .tallies) (λ i. badTally h (a .tally i))) (s .head)
+    ap (λ (h : Head).
+    any (h .offers) (λ i. badOffer h (a .offer i)) || any (h .grocers) (λ i. badOwner h (a .grocerOwner i))
+    || any (h .lists) (λ q. any (h .offers) (λ i. badPrice (a .listPrice q i))) || any (h .tallies) (λ i. badTally h (a .tally i))) (s .head)
     ∙ rw (
       any-cong (b .head .offers) (λ i. badOffer (b .head) (a .offer i)) (λ i. badOffer (b .head) (b .offer i)) (λ i l. offer-same (b .head) (a .offer i) (b .offer i) (s .offer i l)),
       any-cong (b .head .grocers) (λ i. badOwner (b .head) (a .grocerOwner i)) (λ i. badOwner (b .head) (b .grocerOwner i)) (λ i l. ap (badOwner (b .head)) (s .grocerOwner i l)),
+      any-cong (b .head .lists) (λ q. any (b .head .offers) (λ i. badPrice (a .listPrice q i))) (λ q. any (b .head .offers) (λ i. badPrice (b .listPrice q i)))
+          (λ q m. any-cong (b .head .offers) (λ i. badPrice (a .listPrice q i)) (λ i. badPrice (b .listPrice q i)) (λ i l. ap badPrice (s .listPrice q i m l))),
       any-cong (b .head .tallies) (λ i. badTally (b .head) (a .tally i)) (λ i. badTally (b .head) (b .tally i)) (λ i l. tally-same (b .head) (a .tally i) (b .tally i) (s .tally i l)),
     )
 

@@ -4,6 +4,7 @@ use mathlib.Core.Bool.{true}
 use mathlib.Core.List.{List, [], _∷_, _++_}
 use Prim.Native.Nat.{ℕ, zero, suc, _+_, _*_, _-_, _/_, _%_, _≤_, _<_}
 use native.Mathlib.Omega.{arith}
+use native.Mathlib.Nat.{mul-le-mul}
 use native.Mathlib.Decide.{decLt}
 use lib.Dec.{ltb}
 use lib.ListN.{getD, List·getD-eq-default}
@@ -16,11 +17,12 @@ use Rattle.laws.proofs.Tables.{getD-tabulate, length-tabulate}
 use Rattle.format.specs.Bytes.{bytes16, bytes32}
 use Rattle.format.specs.Codes.{Code, isCode, codeBytes}
 use Rattle.format.specs.Job.{FileJob, Words16}
-use Rattle.format.specs.Blocks.{BlockKind, header, offerBlock, grocerBlock, tallyBlock, blocks, kindAt, blockKindNumber, records, recordSize, headerBytes, offerBytes, tallyBytes, recordBytes, spare, firstSum, secondSum}
+use Rattle.format.specs.Blocks.{BlockKind, header, offerBlock, grocerBlock, priceBlock, tallyBlock, blocks, kindAt, blockKindNumber, records, recordSize, headerBytes, offerBytes, tallyBytes, recordBytes, spare, firstSum, secondSum}
 use Rattle.format.specs.File.{recordByte, bodyByte, blockByte, encode}
 use Rattle.format.specs.Refusals.{jobRefusal}
 use Rattle.format.proofs.Codes.{code-is}
 use Rattle.format.proofs.Read.{in-field}
+use Rattle.format.proofs.Plan.{At, at-prices, kind-at, list-few}
 use Rattle.format.proofs.Range.{InRange, in-range}
 
 -- Each byte of a list is below 256.
@@ -90,19 +92,20 @@ module _ (j : FileJob) (ok : jobRefusal j ≡ 0) (words : Words16 j) where
       let m = small16 (j .head .grocers) (omega arith) in
       let n = small16 (j .head .offers) (omega arith) in
       let t = small16 (j .head .tallies) (omega arith) in
-      cons (omega arith) (cons (omega arith) (append (append (append m n) t) (small16 (j .head .cycle) (words .cycle))))
+      cons (omega arith) (cons (omega arith) (append (append (append (append m n) t) (small16 (j .head .cycle) (words .cycle))) (cons (omega arith) nil)))
 
-  small-record : (b : BlockKind) (r : ℕ) → r < records (j .head) b → Small (recordBytes j b r)
+  small-record : (n : ℕ) (b : BlockKind) → At (j .head) n b → (r : ℕ) → r < records (j .head) b → Small (recordBytes j b r)
   unfolding recordBytes offerBytes tallyBytes
-  small-record header r h = small-header
-  small-record (offerBlock b) r h =
+  small-record n header at r h = small-header
+  small-record n (offerBlock b) at r h =
       let o = range .offer (21 * b + r) (omega arith) in
       let i = words .offerIssuer (21 * b + r) (omega arith) in
       append
       (append (small32 (j .offer (21 * b + r) .price) (omega arith)) (cons (omega (arith, range .sizes .boxes-most)) (small-code _ (o .code))))
       (small16 (j .offer (21 * b + r) .issuer) i)
-  small-record grocerBlock r h = cons (omega (arith, range .grocerOwner r h, range .sizes .boxes-most)) nil
-  small-record (tallyBlock b) r h =
+  small-record n (priceBlock q b) (at-prices _ _ e l m) r h = small32 (j .listPrice q (126 * b + r)) (omega (arith, range .listPrice q (126 * b + r) l (omega arith)))
+  small-record n grocerBlock at r h = cons (omega (arith, range .grocerOwner r h, range .sizes .boxes-most)) nil
+  small-record n (tallyBlock b) at r h =
       let t = range .tally (21 * b + r) (omega arith) in
       let s = range .sizes in
       let i = words .tallyIssuer (21 * b + r) (omega arith) in
@@ -116,23 +119,25 @@ module _ (j : FileJob) (ok : jobRefusal j ≡ 0) (words : Words16 j) where
       (small16 (j .tally (21 * b + r) .bag) (words .tallyBag (21 * b + r) (omega arith))))
       (small16 (j .tally (21 * b + r) .revision) (words .tallyRevision (21 * b + r) (omega arith)))
 
-  record-small : (b : BlockKind) (s : ℕ) → recordByte j b s < 256
+  record-small : (n : ℕ) (b : BlockKind) → At (j .head) n b → (s : ℕ) → recordByte j b s < 256
   unfolding recordByte
-  record-small b s =
+  record-small n b at s =
       split (spare (j .head) b s)
       (λ e. rw e (omega arith))
-      (λ e. rw e (small-record b (s / recordSize b) (in-field (j .head) b s e .0) .at (s % recordSize b)))
+      (λ e. rw e (small-record n b at (s / recordSize b) (in-field (j .head) b s e .0) .at (s % recordSize b)))
 
   count-small : (b : BlockKind) → records (j .head) b < 256
   count-small header = omega arith
   count-small (offerBlock b) = omega arith
   count-small grocerBlock = omega (arith, range .sizes .grocers-most)
+  count-small (priceBlock q b) = omega arith
   count-small (tallyBlock b) = omega arith
 
   kind-small : (b : BlockKind) → blockKindNumber b < 256
   kind-small header = omega arith
   kind-small (offerBlock b) = omega arith
   kind-small grocerBlock = omega arith
+  kind-small (priceBlock q b) = omega arith
   kind-small (tallyBlock b) = omega arith
 
   body-small : (k q : ℕ) → k < blocks j → bodyByte j k q < 256
@@ -141,8 +146,8 @@ module _ (j : FileJob) (ok : jobRefusal j ≡ 0) (words : Words16 j) where
       let b = kindAt (j .head) k in
       let s = range .sizes in
       split (ltb q 4)
-      (λ e. rw e (cons (kind-small b) (cons (count-small b) (small16 k (omega arith))) .at q))
-      (λ e. rw e (record-small b (q - 4)))
+      (λ e. rw e (cons (kind-small b) (cons (count-small b) (small16 k (omega (arith, mul-le-mul (s .lists-most) (list-few (s .offers-most)))))) .at q))
+      (λ e. rw e (record-small k b (kind-at (j .head) k) (q - 4)))
 
   block-small : (k q : ℕ) → k < blocks j → blockByte (bodyByte j k) q < 256
   unfolding blockByte firstSum secondSum

@@ -2,7 +2,8 @@
 use mathlib.Core.Path.{_≡_, refl, sym, _∙_, ap}
 use mathlib.Core.Bool.{false}
 use mathlib.Core.List.{List, [], _∷_, _++_}
-use Prim.Native.Nat.{ℕ, suc, _+_, _*_, _≤_, _<_}
+use Prim.Native.Nat.{ℕ, zero, suc, _+_, _*_, _/_, _%_, _≤_, _<_}
+use native.Mathlib.Nat.{mul-comm}
 use native.Mathlib.Omega.{arith}
 use native.Mathlib.Decide.{ℕ-discrete}
 use lib.Dec.{ltb}
@@ -16,12 +17,12 @@ use Rattle.laws.proofs.Checks.{none-of, unmet}
 use Rattle.laws.proofs.Bools.{or-off}
 use Rattle.format.specs.Bytes.{from}
 use Rattle.format.specs.Codes.{Code, codeBytes, readCode}
-use Rattle.format.specs.Job.{Head, FileJob, Offer, Tally, Words16, placeOf}
+use Rattle.format.specs.Job.{Head, FileJob, Offer, Tally, Words16, priceOn, placeOf}
 use Rattle.format.specs.Blocks.{blockCount}
 use Rattle.format.specs.File.{encode, decode}
 use Rattle.format.specs.Refusals.{fileRefusal, jobRefusal}
-use Rattle.format.specs.Tables.{OfferTables, TallyTables, FileTables, ReaderTables, shortOffers, shortTallies, shortTables, LongOffers, LongTallies, Long, offerOf, tallyOf, storeOffers, storeTallies}
-use Rattle.format.specs.Tables.{fileJobOf, storeCodes, store, storeRead, sizes, refused, ReadOutcome, shortReader, readRefusal, readResult, wrote, notWritten, shortWriter, writeRefusal, writeResult}
+use Rattle.format.specs.Tables.{OfferTables, TallyTables, FileTables, ReaderTables, shortOffers, shortTallies, shortTables, LongOffers, LongTallies, Long, offerOf, tallyOf, storeOffers, storeTallies, fileJobOf, storeCodes}
+use Rattle.format.specs.Tables.{store, storeRead, sizes, refused, ReadOutcome, shortReader, readRefusal, readResult, wrote, notWritten, shortWriter, writeRefusal, writeResult}
 use Rattle.format.proofs.Firsts.{each}
 use Rattle.format.proofs.Order.{reader-file, writer-job}
 use Rattle.format.proofs.Range.{InRange, in-range}
@@ -65,48 +66,66 @@ codes-own n l h = recell-same n 11 _ l 0 h (λ i p q r. ap (λ (x : List ℕ). g
 
 -- ---- a job stored into tables
 
-module _ (n : ℕ) (l : OfferTables) where
-  -- Offers that were stored are read back.
-  offers-stored : (offer : ℕ → Offer) (i : ℕ) → i < n → OfferWords (offerOf (storeOffers n offer l) i) (offer i)
+module _ (v n : ℕ) (l : OfferTables) where
+  -- Prices that were stored are read back, of each list,
+  prices-stored : (price : ℕ → ℕ → ℕ) (offer : ℕ → Offer) (q i : ℕ) → q < suc v → i < n → getD (storeOffers v n price offer l .price) (q * n + i) 0 ≡ price q i
   unfolding storeOffers
-  offers-stored offer i h =
-      record { price = getD-overwrite _ _ _ i 0 h; owner = getD-overwrite _ _ _ i 0 h; code = code-stored _ _ _ i h; issuer = getD-overwrite _ _ _ i 0 h }
+  prices-stored price offer q i h k = getD-recell (suc v) n price (l .price) q i 0 h k
+
+  -- Offers that were stored are read back.
+  offers-stored : (price : ℕ → ℕ → ℕ) (offer : ℕ → Offer) → ((i : ℕ) → i < n → price 0 i ≡ offer i .price) → (i : ℕ) → i < n →
+      OfferWords (offerOf (storeOffers v n price offer l) i) (offer i)
+  unfolding storeOffers
+  offers-stored price offer first i h =
+      record {
+        price = ap (λ (p : ℕ). getD (recell (suc v) n price (l .price)) p 0) (omega arith) ∙ getD-recell (suc v) n price (l .price) 0 i 0 (omega arith) h ∙ first i h;
+        owner = getD-overwrite _ _ _ i 0 h;
+        code = code-stored _ _ _ i h;
+        issuer = getD-overwrite _ _ _ i 0 h;
+      }
 
   -- Offers with the same words are stored alike.
-  offers-same : (p q : ℕ → Offer) → ((i : ℕ) → i < n → OfferWords (p i) (q i)) → storeOffers n p l ≡ storeOffers n q l
+  offers-same : (a b : ℕ → ℕ → ℕ) (p q : ℕ → Offer) → ((x i : ℕ) → x < suc v → i < n → a x i ≡ b x i) → ((i : ℕ) → i < n → OfferWords (p i) (q i)) →
+      storeOffers v n a p l ≡ storeOffers v n b q l
   unfolding storeOffers
-  offers-same p q w =
-      let e₀ = overwrite-cong n (λ i. p i .price) (λ i. q i .price) (l .price) (λ i h. w i h .price) in
+  offers-same a b p q same w =
+      let e₀ = recell-as (suc v) (suc v) n a b (l .price) refl same in
       let e₁ = overwrite-cong n (λ i. p i .owner) (λ i. q i .owner) (l .owner) (λ i h. w i h .owner) in
       let e₂ = codes-same n (λ i. p i .code) (λ i. q i .code) (l .code) (λ i h. w i h .code) in
       let e₃ = overwrite-cong n (λ i. p i .issuer) (λ i. q i .issuer) (l .issuer) (λ i h. w i h .issuer) in
       λ i. record { price = e₀ i; owner = e₁ i; code = e₂ i; issuer = e₃ i }
 
   -- Their tables are long enough for them,
-  offers-long : (offer : ℕ → Offer) → LongOffers n (storeOffers n offer l)
+  offers-long : (price : ℕ → ℕ → ℕ) (offer : ℕ → Offer) → LongOffers v n (storeOffers v n price offer l)
   unfolding storeOffers storeCodes recell
-  offers-long offer =
-      record { price = long-overwrite _ _ (l .price); owner = long-overwrite _ _ (l .owner); code = long-overwrite _ _ (l .code); issuer = long-overwrite _ _ (l .issuer) }
+  offers-long price offer =
+      record {
+        price = omega (arith, mul-comm n (suc v), long-overwrite (suc v * n) (λ i. price (i / n) (i % n)) (l .price));
+        owner = long-overwrite _ _ (l .owner);
+        code = long-overwrite _ _ (l .code);
+        issuer = long-overwrite _ _ (l .issuer);
+      }
 
   -- and stored where they were read, they change no word.
-  offers-own : LongOffers n l → storeOffers n (offerOf l) l ≡ l
+  offers-own : (price : ℕ → ℕ → ℕ) → ((q i : ℕ) → q < suc v → i < n → price q i ≡ getD (l .price) (q * n + i) 0) → LongOffers v n l →
+      storeOffers v n price (offerOf l) l ≡ l
   unfolding storeOffers
-  offers-own h =
-      let e₀ = overwrite-same n (λ i. getD (l .price) i 0) (l .price) 0 (h .price) (λ i q. refl) in
+  offers-own price same h =
+      let e₀ = recell-same (suc v) n price (l .price) 0 (omega (arith, mul-comm n (suc v), h .price)) same in
       let e₁ = overwrite-same n (λ i. getD (l .owner) i 0) (l .owner) 0 (h .owner) (λ i q. refl) in
       let e₂ = codes-own n (l .code) (h .code) in
       let e₃ = overwrite-same n (λ i. getD (l .issuer) i 0) (l .issuer) 0 (h .issuer) (λ i q. refl) in
       λ i. record { price = e₀ i; owner = e₁ i; code = e₂ i; issuer = e₃ i }
 
   -- No table of theirs is short,
-  long-offers : shortOffers n l ≡ false → LongOffers n l
+  long-offers : shortOffers v n l ≡ false → LongOffers v n l
   unfolding shortOffers
   long-offers e =
-      let r = none-of (ltb (length (l .price)) n ∷ ltb (length (l .owner)) n ∷ ltb (length (l .code)) (n * 11) ∷ ltb (length (l .issuer)) n ∷ []) e in
+      let r = none-of (ltb (length (l .price)) (n * suc v) ∷ ltb (length (l .owner)) n ∷ ltb (length (l .code)) (n * 11) ∷ ltb (length (l .issuer)) n ∷ []) e in
       record { price = ltb-false _ _ (r .0); owner = ltb-false _ _ (r .1 .0); code = ltb-false _ _ (r .1 .1 .0); issuer = ltb-false _ _ (r .1 .1 .1 .0) }
 
   -- and the other way round.
-  pub enough-offers : LongOffers n l → shortOffers n l ≡ false
+  pub enough-offers : LongOffers v n l → shortOffers v n l ≡ false
   unfolding shortOffers
   enough-offers h = rw (le-ltb _ _ (h .price), le-ltb _ _ (h .owner), le-ltb _ _ (h .code), le-ltb _ _ (h .issuer))
 
@@ -187,21 +206,27 @@ module _ (t : ℕ) (l : TallyTables) where
 module _ (j : FileJob) (l : FileTables) where
   -- The job that tables hold once a job is stored there is that job, digits as written.
   pub store-job : SameWords (fileJobOf (j .head) (store j l)) j
-  unfolding fileJobOf store
+  unfolding fileJobOf store priceOn
   store-job =
       record {
         head = refl;
-        offer = offers-stored _ (l .offers) (j .offer);
+        offer = offers-stored (j .head .lists) (j .head .offers) (l .offers) (priceOn (j .offer) (j .listPrice)) (j .offer) (λ i h. refl);
         grocerOwner = λ i h. getD-overwrite _ _ _ i 0 h;
+        listPrice = λ q i m h. prices-stored (j .head .lists) (j .head .offers) (l .offers) (priceOn (j .offer) (j .listPrice)) (j .offer) (suc q) i (omega arith) h;
         tally = tallies-stored _ (l .tallies) (j .tally);
       }
 
 module _ (a b : FileJob) (s : SameWords a b) where
+  pub price-same : (q i : ℕ) → q < suc (b .head .lists) → i < b .head .offers → priceOn (a .offer) (a .listPrice) q i ≡ priceOn (b .offer) (b .listPrice) q i
+  unfolding priceOn
+  price-same zero i m h = s .offer i h .price
+  price-same (suc q) i m h = s .listPrice q i (omega arith) h
+
   -- Jobs with the same words: the same tables come of both,
   pub store-same : (l : FileTables) → store a l ≡ store b l
   unfolding store
   store-same l =
-      let e₀ = offers-same (b .head .offers) (l .offers) (a .offer) (b .offer) (s .offer) in
+      let e₀ = offers-same (b .head .lists) (b .head .offers) (l .offers) (priceOn (a .offer) (a .listPrice)) (priceOn (b .offer) (b .listPrice)) (a .offer) (b .offer) price-same (s .offer) in
       let e₁ = overwrite-cong (b .head .grocers) (a .grocerOwner) (b .grocerOwner) (l .grocerOwner) (s .grocerOwner) in
       let e₂ = tallies-same (b .head .tallies) (l .tallies) (a .tally) (b .tally) (s .tally) in
       rw (s .head) (λ i. record { offers = e₀ i; grocerOwner = e₁ i; tallies = e₂ i })
@@ -254,25 +279,30 @@ module _ (h : Head) (l : FileTables) where
   pub long-tables : shortTables h l ≡ false → Long h l
   unfolding shortTables
   long-tables e =
-      let r = none-of (shortOffers (h .offers) (l .offers) ∷ ltb (length (l .grocerOwner)) (h .grocers) ∷ shortTallies (h .tallies) (l .tallies) ∷ []) e in
-      record { offers = long-offers _ _ (r .0); grocerOwner = ltb-false _ _ (r .1 .0); tallies = long-tallies _ _ (r .1 .1 .0) }
+      let r = none-of (shortOffers (h .lists) (h .offers) (l .offers) ∷ ltb (length (l .grocerOwner)) (h .grocers) ∷ shortTallies (h .tallies) (l .tallies) ∷ []) e in
+      record { offers = long-offers _ _ _ (r .0); grocerOwner = ltb-false _ _ (r .1 .0); tallies = long-tallies _ _ (r .1 .1 .0) }
 
   -- And the other way round.
   pub tables-long : Long h l → shortTables h l ≡ false
   unfolding shortTables
-  tables-long e = rw (enough-offers _ _ (e .offers), le-ltb _ _ (e .grocerOwner), enough-tallies _ _ (e .tallies))
+  tables-long e = rw (enough-offers _ _ _ (e .offers), le-ltb _ _ (e .grocerOwner), enough-tallies _ _ (e .tallies))
 
 -- Tables that a job was stored into are long enough for it.
 stored-long : (j : FileJob) (l : FileTables) → Long (j .head) (store j l)
 unfolding store
 stored-long j l =
-    record { offers = offers-long _ (l .offers) (j .offer); grocerOwner = long-overwrite _ _ (l .grocerOwner); tallies = tallies-long _ (l .tallies) (j .tally) }
+    record { offers = offers-long _ _ (l .offers) (priceOn (j .offer) (j .listPrice)) (j .offer); grocerOwner = long-overwrite _ _ (l .grocerOwner); tallies = tallies-long _ (l .tallies) (j .tally) }
 
 -- Tables that are long enough stay as they are where the job that they hold is stored into them.
+own-prices : (h : Head) (l : FileTables) (q i : ℕ) → priceOn (fileJobOf h l .offer) (fileJobOf h l .listPrice) q i ≡ getD (l .offers .price) (q * h .offers + i) 0
+unfolding priceOn fileJobOf
+own-prices h l zero i = ap (λ (p : ℕ). getD (l .offers .price) p 0) (omega arith)
+own-prices h l (suc q) i = refl
+
 pub store-own : (h : Head) (l : FileTables) → Long h l → store (fileJobOf h l) l ≡ l
 unfolding store fileJobOf
 store-own h l e =
-    let e₀ = offers-own (h .offers) (l .offers) (e .offers) in
+    let e₀ = offers-own (h .lists) (h .offers) (l .offers) (priceOn (fileJobOf h l .offer) (fileJobOf h l .listPrice)) (λ q i m k. own-prices h l q i) (e .offers) in
     let e₁ = overwrite-same (h .grocers) (λ i. getD (l .grocerOwner) i 0) (l .grocerOwner) 0 (e .grocerOwner) (λ i q. refl) in
     let e₂ = tallies-own (h .tallies) (l .tallies) (e .tallies) in
     λ i. record { offers = e₀ i; grocerOwner = e₁ i; tallies = e₂ i }

@@ -4,6 +4,7 @@ use mathlib.Core.Bool.{false, not, _&&_}
 use mathlib.Core.List.{List, [], _∷_, _++_}
 use Prim.Native.Nat.{ℕ, _+_, _*_, _-_, _/_, _%_, _≤_, _<_}
 use native.Mathlib.Omega.{arith}
+use native.Mathlib.Nat.{mul-le-mul}
 use lib.Dec.{eqb}
 use lib.ListN.{getD, length, length-append, List·getD-append}
 use lib.Seq.{getD-append-add}
@@ -18,17 +19,17 @@ use Rattle.laws.proofs.Tables.{getD-tabulate, length-tabulate}
 use Rattle.laws.proofs.Checks.{none-met}
 use Rattle.laws.proofs.Below.{any-false}
 use Rattle.format.specs.First.{firstBelow}
-use Rattle.format.specs.Bytes.{from, after, word16, bytes16, bytes32}
+use Rattle.format.specs.Bytes.{from, after, word16, word32, bytes16, bytes32}
 use Rattle.format.specs.Codes.{codeBytes}
 use Rattle.format.specs.Job.{Head, FileJob, Offer, Tally}
-use Rattle.format.specs.Blocks.{BlockKind, header, offerBlock, grocerBlock, tallyBlock, blockCount, blocks, offersAt, grocersAt, talliesAt, kindAt}
-use Rattle.format.specs.Blocks.{blockKindNumber, records, recordSize, fieldSize, headerBytes, offerBytes, tallyBytes, recordBytes, spare, firstSum, secondSum}
-use Rattle.format.specs.File.{recordByte, bodyByte, blockByte, encode, readOffer, readTally, recordAt, readHead, decode}
+use Rattle.format.specs.Blocks.{BlockKind, header, offerBlock, grocerBlock, priceBlock, tallyBlock, listBlocks, blockCount, blocks, offersAt, grocersAt, pricesAt, talliesAt, kindAt, blockKindNumber, records, recordSize, listAt}
+use Rattle.format.specs.Blocks.{fieldSize, headerBytes, offerBytes, tallyBytes, recordBytes, spare, firstSum, secondSum}
+use Rattle.format.specs.File.{recordByte, bodyByte, blockByte, encode, readOffer, readTally, recordAt, priceAt, readHead, decode}
 use Rattle.format.specs.Refusals.{badLength, badCount, sumsDiffer, notDue, badHeader, spareUsed, badRecord, headerRefusal, blockRefusal, fileRefusal, jobRefusal}
 use Rattle.format.proofs.Firsts.{below-none}
 use Rattle.format.proofs.Order.{file-accepted}
 use Rattle.format.proofs.Words.{word-bytes16, word-bytes32, first-cong, second-cong}
-use Rattle.format.proofs.Plan.{kind-header, kind-offers, kind-grocers, kind-tallies}
+use Rattle.format.proofs.Plan.{At, at-prices, kind-at, kind-header, kind-offers, kind-grocers, kind-prices, prices-in, kind-tallies, list-few}
 use Rattle.format.proofs.Range.{Fine, fine, in-range}
 use Rattle.format.specs.Same.{OfferWords, TallyWords, SameWords}
 use Rattle.format.proofs.Same.{same-fine}
@@ -38,6 +39,7 @@ pub fields-fit : (b : BlockKind) → fieldSize b ≤ recordSize b
 fields-fit header = omega arith
 fields-fit (offerBlock b) = omega arith
 fields-fit grocerBlock = omega arith
+fields-fit (priceBlock q b) = omega arith
 fields-fit (tallyBlock b) = omega arith
 
 -- A byte of a record's field is not spare.
@@ -79,7 +81,7 @@ module _ (j : FileJob) where
       record-at k (r * recordSize b + c) hk h ∙ rw (e, not-spare (j .head) b r c hr hc, digits-div r l, digits-mod r l)
 
   -- The bytes of each kind of record, where the reader looks for them.
-  header-at : (c : ℕ) → c < 10 → from (encode j) 4 c ≡ getD (headerBytes (j .head)) c 0
+  header-at : (c : ℕ) → c < 11 → from (encode j) 4 c ≡ getD (headerBytes (j .head)) c 0
   unfolding recordBytes
   header-at c h = ap (λ (p : ℕ). getD (encode j) p 0) (omega arith) ∙ field-at 0 header 0 c (omega arith) (kind-header (j .head)) (omega arith) h (omega arith)
 
@@ -90,6 +92,16 @@ module _ (j : FileJob) where
       ap (λ (p : ℕ). getD (encode j) p 0) (omega arith) ∙
       field-at (offersAt + i / 21) (offerBlock (i / 21)) (i % 21) c (omega arith) (kind-offers (j .head) (i / 21) (omega arith)) (omega arith) hc (omega arith) ∙
       ap (λ (n : ℕ). getD (offerBytes (j .offer n)) c 0) e
+
+  price-at : (q i : ℕ) → q < j .head .lists → i < j .head .offers → (c : ℕ) → c < 4 → from (encode j) (priceAt (listAt (j .head) q) i) c ≡ getD (bytes32 (j .listPrice q i)) c 0
+  unfolding recordBytes
+  price-at q i hq hi c hc =
+      let e : 126 * (i / 126) + i % 126 ≡ i = omega arith in
+      let m : i / 126 < listBlocks (j .head .offers) = omega arith in
+      ap (λ (p : ℕ). getD (encode j) p 0) (omega arith) ∙
+      field-at (pricesAt (j .head) + (q * listBlocks (j .head .offers) + i / 126)) (priceBlock q (i / 126)) (i % 126) c (omega (arith, prices-in (j .head) q (i / 126) hq m))
+      (kind-prices (j .head) q (i / 126) hq m) (omega arith) hc (omega arith) ∙
+      ap (λ (n : ℕ). getD (bytes32 (j .listPrice q n)) c 0) e
 
   tally-at : (i : ℕ) → i < j .head .tallies → (c : ℕ) → c < 24 → from (encode j) (recordAt (talliesAt (j .head)) i) c ≡ getD (tallyBytes (j .tally i)) c 0
   unfolding recordBytes
@@ -163,6 +175,11 @@ module _ (j : FileJob) (ok : jobRefusal j ≡ 0) where
         issuer = rw (at 16 (omega arith), at 17 (omega arith)) (word-bytes16 (o .issuer));
       }
 
+  price-read : (q i : ℕ) → q < j .head .lists → i < j .head .offers → word32 (from (encode j) (priceAt (listAt (j .head) q) i)) ≡ j .listPrice q i
+  price-read q i hq hi =
+      let at = price-at j q i hq hi in
+      rw (at 0 (omega arith), at 1 (omega arith), at 2 (omega arith), at 3 (omega arith)) (word-bytes32 (j .listPrice q i))
+
   tally-read : (i : ℕ) → i < j .head .tallies → TallyWords (readTally (from (encode j) (recordAt (talliesAt (j .head)) i))) (j .tally i)
   unfolding readTally tallyBytes codeBytes tabulate
   tally-read i h =
@@ -184,7 +201,8 @@ module _ (j : FileJob) (ok : jobRefusal j ≡ 0) where
   unfolding readHead headerBytes
   head-read =
       let b = header-at j 0 (omega arith) in
-      λ i. record { boxes = b i; grocers = size-grocers i; offers = size-offers i; tallies = size-tallies i; cycle = size-cycle i }
+      let l = header-at j 10 (omega arith) in
+      λ i. record { boxes = b i; grocers = size-grocers i; offers = size-offers i; tallies = size-tallies i; cycle = size-cycle i; lists = l i }
 
   -- The job that a written job's file says has the job's words, digits as written.
   pub read-back : SameWords (decode (encode j)) j
@@ -194,6 +212,7 @@ module _ (j : FileJob) (ok : jobRefusal j ≡ 0) where
         head = head-read;
         offer = offer-read;
         grocerOwner = λ i h. rw head-read (owner-at j (in-range j ok .sizes .grocers-most) i h);
+        listPrice = λ q i m h. rw head-read (price-read q i m h);
         tally = λ i h. rw head-read (tally-read i h);
       }
 
@@ -248,17 +267,18 @@ module _ (j : FileJob) (ok : jobRefusal j ≡ 0) where
   read-fine : Fine (decode (encode j))
   read-fine = fine (decode (encode j)) (same-fine (decode (encode j)) j read-back ok)
 
-  record-fine : (b : BlockKind) (r : ℕ) → r < records (decode (encode j) .head) b → badRecord (decode (encode j)) b r ≡ false
+  record-fine : (n : ℕ) (b : BlockKind) → At (decode (encode j) .head) n b → (r : ℕ) → r < records (decode (encode j) .head) b → badRecord (decode (encode j)) b r ≡ false
   unfolding badRecord
-  record-fine header r h = refl
-  record-fine (offerBlock b) r h = read-fine .offer (21 * b + r) (omega arith)
-  record-fine grocerBlock r h = read-fine .grocerOwner r h
-  record-fine (tallyBlock b) r h = read-fine .tally (21 * b + r) (omega arith)
+  record-fine n header at r h = refl
+  record-fine n (offerBlock b) at r h = read-fine .offer (21 * b + r) (omega arith)
+  record-fine n grocerBlock at r h = read-fine .grocerOwner r h
+  record-fine n (priceBlock q b) (at-prices _ _ e l m) r h = read-fine .listPrice q (126 * b + r) l (omega arith)
+  record-fine n (tallyBlock b) at r h = read-fine .tally (21 * b + r) (omega arith)
 
   block-fine : (k : ℕ) → k < blocks j → blockRefusal (encode j) k ≡ 0
   unfolding blockRefusal
   block-fine k h =
-      none-met _ (sums-fine k h, (due-fine k h, (spare-fine k h, (any-false _ _ (record-fine (kindAt (decode (encode j) .head) k)), tt))))
+      none-met _ (sums-fine k h, (due-fine k h, (spare-fine k h, (any-false _ _ (record-fine k (kindAt (decode (encode j) .head) k) (kind-at (decode (encode j) .head) k)), tt))))
 
   mark-is : getD (encode j) 5 0 ≡ 1
   unfolding headerBytes
@@ -279,7 +299,7 @@ module _ (j : FileJob) (ok : jobRefusal j ≡ 0) where
       let l = long-is in
       let s = in-range j ok .sizes in
       let z : length (encode j) % 512 ≡ 0 = omega arith in
-      rw (ne-eqb (length (encode j)) 0 (omega arith), z, le-ltb (512 * 74) (length (encode j)) (omega arith))
+      rw (ne-eqb (length (encode j)) 0 (omega arith), z, le-ltb (512 * 102) (length (encode j)) (omega (arith, mul-le-mul (s .lists-most) (list-few (s .offers-most)))))
 
   blocks-is : blocks (decode (encode j)) ≡ blocks j
   blocks-is = ap blockCount head-is

@@ -10,8 +10,8 @@ use Rattle.laws.specs.Tables.{tabulate}
 use Rattle.format.specs.Bytes.{from, after, word16, word32, bytes16}
 use Rattle.format.specs.Codes.{readCode}
 use Rattle.format.specs.Job.{Head, FileJob, Offer, Tally}
-use Rattle.format.specs.Blocks.{BlockKind, blocks, offersAt, grocersAt, talliesAt, kindAt}
-use Rattle.format.specs.Blocks.{blockKindNumber, records, recordSize, recordBytes, spare, firstSum, secondSum}
+use Rattle.format.specs.Blocks.{BlockKind, blocks, offersAt, grocersAt, listAt, talliesAt, kindAt, blockKindNumber, records}
+use Rattle.format.specs.Blocks.{recordSize, recordBytes, spare, firstSum, secondSum}
 
 -- Byte 4 + s of a block: a byte of a record's field, or a spare 0.
 unfoldable pub recordByte : FileJob → BlockKind → ℕ → ℕ
@@ -52,6 +52,10 @@ readTally g =
 abbrev pub recordAt : ℕ → ℕ → ℕ
 recordAt k i = 512 * (k + i / 21) + 4 + 24 * (i % 21)
 
+-- Where the price of offer i stands, of the list whose first block is block k.
+abbrev pub priceAt : ℕ → ℕ → ℕ
+priceAt k i = 512 * (k + i / 126) + 4 + 4 * (i % 126)
+
 -- The numbers that a file's header says: headerBytes the other way round.
 unfoldable pub readHead : List ℕ → Head
 readHead f =
@@ -61,6 +65,7 @@ readHead f =
       offers = word16 (from f 8);
       tallies = word16 (from f 10);
       cycle = word16 (from f 12);
+      lists = getD f 14 0;
     }
 
 -- The job that a file says, whatever its bytes are.
@@ -71,5 +76,6 @@ decode f =
       head = h;
       offer = λ i. readOffer (from f (recordAt offersAt i));
       grocerOwner = from f (512 * grocersAt h + 4);
+      listPrice = λ q i. word32 (from f (priceAt (listAt h q) i));
       tally = λ i. readTally (from f (recordAt (talliesAt h) i));
     }

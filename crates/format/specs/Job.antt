@@ -1,12 +1,12 @@
 -- A job as its file says it, and conditions 4 and 6 to 9 on it: the same for the reader and the writer.
 use mathlib.Core.Bool.{Bool, not, _||_}
 use mathlib.Core.List.{[], _∷_}
-use Prim.Native.Nat.{ℕ, _<_}
+use Prim.Native.Nat.{ℕ, zero, suc, _<_}
 use lib.Dec.{leb, ltb}
 use lib.IntN.{ℤ, natAbs}
 use Rattle.laws.specs.Below.{any, find}
 use Rattle.laws.specs.Checks.{anyOf}
-use Rattle.laws.specs.Limits.{maxBoxes, maxGrocers, maxOffers, maxTallies, maxPrice, maxCount}
+use Rattle.laws.specs.Limits.{maxBoxes, maxGrocers, maxOffers, maxTallies, maxLists, maxPrice, maxCount}
 use Rattle.recount.specs.Recount.{Counted}
 use Rattle.format.specs.Codes.{Code, Name, nameOf, isCode, sameOffer}
 
@@ -28,33 +28,36 @@ pub record Tally : Type 0 where
   pub bag : ℕ
   pub revision : ℕ
 
--- The numbers of the header: boxes K, grocers M, offers N and tallies T, and the settlement cycle, any 16-bit number.
+-- The numbers of the header: boxes K, grocers M, offers N and tallies T, the settlement cycle, any 16-bit number, and the number of additional
+-- price lists (02 §9).
 pub record Head : Type 0 where
   pub boxes : ℕ
   pub grocers : ℕ
   pub offers : ℕ
   pub tallies : ℕ
   pub cycle : ℕ
+  pub lists : ℕ
 
 -- The same, as a contract names them.
-abbrev pub headOf : (boxes grocers offers tallies cycle : ℕ) → Head
-headOf k m n t c = record { boxes = k; grocers = m; offers = n; tallies = t; cycle = c }
+abbrev pub headOf : (boxes grocers offers tallies cycle lists : ℕ) → Head
+headOf k m n t c l = record { boxes = k; grocers = m; offers = n; tallies = t; cycle = c; lists = l }
 
--- A job: its head, and the tables of which the first N, M and T entries count.
+-- A job: its head, and the tables of which the first N, M and T entries count. An offer has the price of the first list.
 pub record FileJob : Type 0 where
   pub head : Head
   pub offer : ℕ → Offer
   pub grocerOwner : ℕ → ℕ
+  pub listPrice : ℕ → ℕ → ℕ  -- of an additional list, from 0, the price of an offer
   pub tally : ℕ → Tally
 
--- 4: "Boxes K: 1 to 16. Grocers M: 1 to 255. Offers N: 1 to 500. Tallies T: 0 to 1,000."
+-- 4: "Boxes K: 1 to 16. Grocers M: 1 to 255. Offers N: 1 to 500. Tallies T: 0 to 1,000"; "byte 14 above 7 is condition 4" (02 §9).
 unfoldable pub badSizes : Head → Bool
 badSizes h =
     anyOf (
     ltb (h .boxes) 1 ∷ ltb maxBoxes (h .boxes) ∷
     ltb (h .grocers) 1 ∷ ltb maxGrocers (h .grocers) ∷
     ltb (h .offers) 1 ∷ ltb maxOffers (h .offers) ∷
-    ltb maxTallies (h .tallies) ∷ [])
+    ltb maxTallies (h .tallies) ∷ ltb maxLists (h .lists) ∷ [])
 
 -- 6 of an offer: "Price: 0 to 9,999,999", its owner below K, its code a code.
 unfoldable pub badOffer : Head → Offer → Bool
@@ -71,12 +74,22 @@ badTally h t =
     leb (h .grocers) (t .grocer) ∷ leb (h .boxes) (t .box) ∷ not (isCode (t .code)) ∷
     ltb maxCount (natAbs (t .count)) ∷ [])
 
+-- 6 of a price of an additional list.
+unfoldable pub badPrice : ℕ → Bool
+badPrice p = ltb maxPrice p
+
 -- 6 of the whole job: one of its records.
 unfoldable pub badRecords : FileJob → Bool
 badRecords j =
     any (j .head .offers) (λ i. badOffer (j .head) (j .offer i)) ||
     any (j .head .grocers) (λ i. badOwner (j .head) (j .grocerOwner i)) ||
+    any (j .head .lists) (λ q. any (j .head .offers) (λ i. badPrice (j .listPrice q i))) ||
     any (j .head .tallies) (λ i. badTally (j .head) (j .tally i))
+
+-- The price of offer i on list q: on the first the offer's own, then those of the additional lists.
+unfoldable pub priceOn : (ℕ → Offer) → (ℕ → ℕ → ℕ) → ℕ → ℕ → ℕ
+priceOn offer more zero i = offer i .price
+priceOn offer more (suc q) i = more q i
 
 -- The name of offer i.
 abbrev pub offerName : FileJob → ℕ → Name

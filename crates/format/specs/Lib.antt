@@ -11,3 +11,4 @@ pub mod Same
 pub mod Rearranged
 pub mod Tables
 pub mod Lent
+pub mod PlanCases

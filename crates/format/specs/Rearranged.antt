@@ -6,9 +6,17 @@ use Rattle.laws.specs.Below.{Order}
 use Rattle.format.specs.Job.{FileJob, badRecords, shared, unnamed}
 use Rattle.format.specs.Same.{SameWords}
 
--- A job with its records in another order: tally t is its tally p t, and offer i its offer r i. Grocers are told by their places, so they stay.
+-- A job with its records in another order: tally t is its tally p t, and offer i, with its price on each list, its offer r i.
+-- Grocers are told by their places, so they stay.
 abbrev pub inOrder : (p r : ℕ → ℕ) → FileJob → FileJob
-inOrder p r j = record { head = j .head; offer = λ i. j .offer (r i); grocerOwner = j .grocerOwner; tally = λ t. j .tally (p t) }
+inOrder p r j =
+    record {
+      head = j .head;
+      offer = λ i. j .offer (r i);
+      grocerOwner = j .grocerOwner;
+      listPrice = λ q i. j .listPrice q (r i);
+      tally = λ t. j .tally (p t);
+    }
 
 -- j′ has the records of j, each once, in another order.
 pub record Rearranged (j j′ : FileJob) (p q r s : ℕ → ℕ) : Type 0 where

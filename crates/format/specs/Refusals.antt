@@ -9,14 +9,14 @@ use Rattle.laws.specs.Checks.{anyOf, firstMet}
 use Rattle.recount.specs.Recount.{countedTwice}
 use Rattle.format.specs.First.{firstOf, firstBelow}
 use Rattle.format.specs.Bytes.{from, after, word16}
-use Rattle.format.specs.Job.{Head, FileJob, badSizes, badOffer, badOwner, badTally, badRecords, shared, unnamed, countedTallies}
-use Rattle.format.specs.Blocks.{BlockKind, header, offerBlock, grocerBlock, tallyBlock, blocks}
-use Rattle.format.specs.Blocks.{kindAt, blockKindNumber, records, spare, firstSum, secondSum}
+use Rattle.format.specs.Job.{Head, FileJob, badSizes, badOffer, badOwner, badPrice, badTally, badRecords, shared, unnamed, countedTallies}
+use Rattle.format.specs.Blocks.{BlockKind, header, offerBlock, grocerBlock, priceBlock, tallyBlock, blocks, kindAt, blockKindNumber, records}
+use Rattle.format.specs.Blocks.{spare, firstSum, secondSum}
 use Rattle.format.specs.File.{decode}
 
--- 1: "length 0, not a multiple of 512, over 74 blocks".
+-- 1: "length 0, not a multiple of 512", over 102 blocks: "The longest file now has 102 blocks" (02 §9).
 unfoldable pub badLength : List ℕ → Bool
-badLength f = anyOf (eqb (length f) 0 ∷ not (eqb (length f % 512) 0) ∷ ltb (512 * 74) (length f) ∷ [])
+badLength f = anyOf (eqb (length f) 0 ∷ not (eqb (length f % 512) 0) ∷ ltb (512 * 102) (length f) ∷ [])
 
 -- 1: "(after 5 on the header) not the header's block count".
 unfoldable pub badCount : List ℕ → Bool
@@ -32,7 +32,7 @@ notDue h k g =
     let b = kindAt h k in
     anyOf (not (eqb (g 0) (blockKindNumber b)) ∷ not (eqb (word16 (after g 2)) k) ∷ not (eqb (g 1) (records h b)) ∷ [])
 
--- 4: "byte 5, K, M, N or T outside its values".
+-- 4: "byte 5, K, M, N or T outside its values", and byte 14.
 unfoldable pub badHeader : List ℕ → Bool
 badHeader f = not (eqb (getD f 5 0) 1) || badSizes (decode f .head)
 
@@ -45,6 +45,7 @@ unfoldable pub badRecord : FileJob → BlockKind → ℕ → Bool
 badRecord j header r = false
 badRecord j (offerBlock b) r = badOffer (j .head) (j .offer (21 * b + r))
 badRecord j grocerBlock r = badOwner (j .head) (j .grocerOwner r)
+badRecord j (priceBlock q b) r = badPrice (j .listPrice q (126 * b + r))
 badRecord j (tallyBlock b) r = badTally (j .head) (j .tally (21 * b + r))
 
 -- The header's refusal: 2, 3, 4, 5.

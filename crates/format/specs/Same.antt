@@ -31,4 +31,5 @@ pub record SameWords (a b : FileJob) : Type 0 where
   pub head : a .head ≡ b .head
   pub offer : (i : ℕ) → i < b .head .offers → OfferWords (a .offer i) (b .offer i)
   pub grocerOwner : (i : ℕ) → i < b .head .grocers → a .grocerOwner i ≡ b .grocerOwner i
+  pub listPrice : (q i : ℕ) → q < b .head .lists → i < b .head .offers → a .listPrice q i ≡ b .listPrice q i
   pub tally : (i : ℕ) → i < b .head .tallies → TallyWords (a .tally i) (b .tally i)

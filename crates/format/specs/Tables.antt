@@ -1,22 +1,23 @@
 -- The lent tables of the reader and of the writer, and what each call gives: answer and tables, for every input.
 use mathlib.Core.Bool.{Bool, cond, _||_}
 use mathlib.Core.List.{List, [], _∷_, _++_}
-use Prim.Native.Nat.{ℕ, _*_, _≤_}
+use Prim.Native.Nat.{ℕ, suc, _+_, _*_, _≤_}
 use lib.Dec.{ltb, eqb}
 use lib.IntN.{ℤ, pos}
 use lib.ListN.{getD, length, drop}
 use Rattle.laws.specs.Checks.{anyOf, firstMet}
 use Rattle.laws.specs.Tables.{overwrite, recell}
+use Rattle.laws.specs.Lists.{listWords}
+use Rattle.laws.specs.Limits.{maxBoxes, maxGrocers, maxOffers, maxTallies, maxLists}
 use Rattle.format.specs.First.{firstOf}
 use Rattle.format.specs.Bytes.{from}
 use Rattle.format.specs.Codes.{Code, Name, nameOf, readCode, codeBytes}
-use Rattle.laws.specs.Limits.{maxBoxes, maxGrocers, maxOffers, maxTallies}
-use Rattle.format.specs.Job.{Head, headOf, FileJob, Offer, Tally, placeOf}
+use Rattle.format.specs.Job.{Head, headOf, FileJob, Offer, Tally, priceOn, placeOf}
 use Rattle.format.specs.Blocks.{blockCount}
 use Rattle.format.specs.File.{encode, decode}
 use Rattle.format.specs.Refusals.{fileRefusal, jobRefusal}
 
--- The offers' tables; a code takes eleven bytes, as in the file.
+-- The offers' tables: prices list after list, N words each; a code takes eleven bytes, as in the file.
 pub record OfferTables : Type 0 where
   pub price : List ℕ
   pub owner : List ℕ
@@ -60,11 +61,11 @@ fileTables o g t = record { offers = o; grocerOwner = g; tallies = t }
 abbrev pub readerTables : FileTables → (tallyOffer : List ℕ) → ReaderTables
 readerTables j p = record { job = j; tallyOffer = p }
 
--- 20 of the tables of n offers: one is shorter than they need.
-unfoldable pub shortOffers : ℕ → OfferTables → Bool
-shortOffers n l =
+-- 20 of the tables of n offers, with additional price lists: one is shorter than they need.
+unfoldable pub shortOffers : (lists n : ℕ) → OfferTables → Bool
+shortOffers q n l =
     anyOf (
-    ltb (length (l .price)) n ∷ ltb (length (l .owner)) n ∷ ltb (length (l .code)) (n * 11) ∷ ltb (length (l .issuer)) n ∷ [])
+    ltb (length (l .price)) (listWords q n) ∷ ltb (length (l .owner)) n ∷ ltb (length (l .code)) (n * 11) ∷ ltb (length (l .issuer)) n ∷ [])
 
 -- 20 of the tables of t tallies.
 unfoldable pub shortTallies : ℕ → TallyTables → Bool
@@ -73,15 +74,15 @@ shortTallies t l =
     ltb (length (l .grocer)) t ∷ ltb (length (l .box)) t ∷ ltb (length (l .code)) (t * 11) ∷
     ltb (length (l .count)) t ∷ ltb (length (l .issuer)) t ∷ ltb (length (l .bag)) t ∷ ltb (length (l .revision)) t ∷ [])
 
--- 20: a table "shorter than K, M, N and T as given need".
+-- 20: a table "shorter than K, M, N and T as given need", "The number of lists joins K, M, N and T" (02 §9).
 unfoldable pub shortTables : Head → FileTables → Bool
 shortTables h l =
     anyOf (
-    shortOffers (h .offers) (l .offers) ∷ ltb (length (l .grocerOwner)) (h .grocers) ∷ shortTallies (h .tallies) (l .tallies) ∷ [])
+    shortOffers (h .lists) (h .offers) (l .offers) ∷ ltb (length (l .grocerOwner)) (h .grocers) ∷ shortTallies (h .tallies) (l .tallies) ∷ [])
 
--- Each of the offers' tables has the words that n offers need.
-pub record LongOffers (n : ℕ) (l : OfferTables) : Type 0 where
-  pub price : n ≤ length (l .price)
+-- Each of the offers' tables has the words that n offers with additional price lists need.
+pub record LongOffers (q n : ℕ) (l : OfferTables) : Type 0 where
+  pub price : listWords q n ≤ length (l .price)
   pub owner : n ≤ length (l .owner)
   pub code : n * 11 ≤ length (l .code)
   pub issuer : n ≤ length (l .issuer)
@@ -98,7 +99,7 @@ pub record LongTallies (t : ℕ) (l : TallyTables) : Type 0 where
 
 -- Each table has the words that K, M, N and T need.
 pub record Long (h : Head) (l : FileTables) : Type 0 where
-  pub offers : LongOffers (h .offers) (l .offers)
+  pub offers : LongOffers (h .lists) (h .offers) (l .offers)
   pub grocerOwner : h .grocers ≤ length (l .grocerOwner)
   pub tallies : LongTallies (h .tallies) (l .tallies)
 
@@ -131,17 +132,23 @@ tallyOf l i =
 -- The job that tables hold, for K, M, N and T as given: digits as written, "and not the place".
 unfoldable pub fileJobOf : Head → FileTables → FileJob
 fileJobOf h l =
-    record { head = h; offer = offerOf (l .offers); grocerOwner = λ i. getD (l .grocerOwner) i 0; tally = tallyOf (l .tallies) }
+    record {
+      head = h;
+      offer = offerOf (l .offers);
+      grocerOwner = λ i. getD (l .grocerOwner) i 0;
+      listPrice = λ q i. getD (l .offers .price) (suc q * h .offers + i) 0;
+      tally = tallyOf (l .tallies);
+    }
 
 -- n codes written into a table of eleven bytes each.
 unfoldable pub storeCodes : ℕ → (ℕ → Code) → List ℕ → List ℕ
 storeCodes n code l = recell n 11 (λ i p. getD (codeBytes (code i)) p 0) l
 
--- n offers written into their tables.
-unfoldable pub storeOffers : ℕ → (ℕ → Offer) → OfferTables → OfferTables
-storeOffers n offer l =
+-- n offers written into their tables, with the prices of all lists, list after list.
+unfoldable pub storeOffers : (lists n : ℕ) → (ℕ → ℕ → ℕ) → (ℕ → Offer) → OfferTables → OfferTables
+storeOffers q n price offer l =
     record {
-      price = overwrite n (λ i. offer i .price) (l .price);
+      price = recell (suc q) n price (l .price);
       owner = overwrite n (λ i. offer i .owner) (l .owner);
       code = storeCodes n (λ i. offer i .code) (l .code);
       issuer = overwrite n (λ i. offer i .issuer) (l .issuer);
@@ -164,7 +171,7 @@ storeTallies t tally l =
 unfoldable pub store : FileJob → FileTables → FileTables
 store j l =
     record {
-      offers = storeOffers (j .head .offers) (j .offer) (l .offers);
+      offers = storeOffers (j .head .lists) (j .head .offers) (priceOn (j .offer) (j .listPrice)) (j .offer) (l .offers);
       grocerOwner = overwrite (j .head .grocers) (j .grocerOwner) (l .grocerOwner);
       tallies = storeTallies (j .head .tallies) (j .tally) (l .tallies);
     }
@@ -173,7 +180,7 @@ store j l =
 unfoldable pub storeRead : FileJob → ReaderTables → ReaderTables
 storeRead j l = record { job = store j (l .job); tallyOffer = overwrite (j .head .tallies) (placeOf j) (l .tallyOffer) }
 
--- What the reader answers: K, M, N and T with the cycle, or a refusal's number.
+-- What the reader answers: K, M, N and T with the cycle and the number of additional lists, or a refusal's number.
 pub data ReadAnswer : Type 0 where
   sizes : (head : Head) → ReadAnswer
   refused : (number : ℕ) → ReadAnswer
@@ -183,9 +190,9 @@ pub record ReadOutcome : Type 0 where
   pub answer : ReadAnswer
   pub tables : ReaderTables
 
--- The head of the largest job: 16 boxes, 255 grocers, 500 offers and 1,000 tallies. No table goes by the cycle.
+-- The head of the largest job: 16 boxes, 255 grocers, 500 offers, 1,000 tallies and 7 additional lists. No table goes by the cycle.
 abbrev pub largest : Head
-largest = headOf maxBoxes maxGrocers maxOffers maxTallies 0
+largest = headOf maxBoxes maxGrocers maxOffers maxTallies 0 maxLists
 
 -- 20 of the reader: a table "shorter than the largest job needs".
 unfoldable pub shortReader : ReaderTables → Bool

@@ -12,7 +12,7 @@ use Rattle.laws.proofs.Bools.{split, or-true}
 use Rattle.model.specs.Run.{RunAnswer, finished, refused}
 use Rattle.format.specs.Tables.{ReadAnswer, sizes, refused as notRead, readResult}
 use Rattle.printing.specs.Cents.{Half, halfOf, cents}
-use Rattle.printing.specs.Printed.{digitsOf, decimal, signedDecimal, line, grocerLines, wordsName, messagesName, stepsName, refusedName, settledText, refusedText, blankJob, runText, jobText, readText, printed}
+use Rattle.printing.specs.Printed.{digitsOf, decimal, signedDecimal, line, amountsText, grocerLines, amountIn, wordsName, messagesName, stepsName, refusedName, settledText, refusedText, blankJob, runText, jobText, readText, printed}
 use Rattle.guarantees.specs.Settle.{isPrinted}
 
 -- Every byte of a text is one that is printed, as a tuple.
@@ -54,20 +54,25 @@ lined : (name value : List ℕ) → Plain name → Plain value → Plain (line n
 unfolding line isPrinted
 lined name value a b = both (name ++ (32 ∷ value)) (10 ∷ []) (both name (32 ∷ value) a (refl, b)) (refl, tt)
 
-grocers : (h : Half) (m : ℕ) (owed : ℕ → ℤ) → Plain (grocerLines h m owed)
+amounts : (h : Half) (l : ℕ) (owed : ℕ → ℤ) → Plain (amountsText h l owed)
+unfolding amountsText isPrinted
+amounts h zero owed = amount (cents h (owed 0))
+amounts h (suc l) owed = both (amountsText h l owed) (32 ∷ signedDecimal (cents h (owed (suc l)))) (amounts h l owed) (refl, amount (cents h (owed (suc l))))
+
+grocers : (h : Half) (l m : ℕ) (owed : ℕ → ℕ → ℤ) → Plain (grocerLines h l m owed)
 unfolding grocerLines
-grocers h zero owed = tt
-grocers h (suc m) owed =
-    both (grocerLines h m owed) (line (decimal m) (signedDecimal (cents h (owed m)))) (grocers h m owed)
-    (lined (decimal m) (signedDecimal (cents h (owed m))) (number m) (amount (cents h (owed m))))
+grocers h l zero owed = tt
+grocers h l (suc m) owed =
+    both (grocerLines h l m owed) (line (decimal m) (amountsText h l (owed m))) (grocers h l m owed)
+    (lined (decimal m) (amountsText h l (owed m)) (number m) (amounts h l (owed m)))
 
 -- A settled job,
-settled : (cycle m : ℕ) (owed : ℕ → ℤ) (words messages steps : ℕ) → Plain (settledText cycle m owed words messages steps)
+settled : (cycle l m : ℕ) (owed : ℕ → ℕ → ℤ) (words messages steps : ℕ) → Plain (settledText cycle l m owed words messages steps)
 unfolding settledText isPrinted
-settled cycle m owed words messages steps =
-    both (grocerLines (halfOf cycle) m owed ++ line wordsName (decimal words) ++ line messagesName (decimal messages)) (line stepsName (decimal steps))
-    (both (grocerLines (halfOf cycle) m owed ++ line wordsName (decimal words)) (line messagesName (decimal messages))
-    (both (grocerLines (halfOf cycle) m owed) (line wordsName (decimal words)) (grocers (halfOf cycle) m owed)
+settled cycle l m owed words messages steps =
+    both (grocerLines (halfOf cycle) l m owed ++ line wordsName (decimal words) ++ line messagesName (decimal messages)) (line stepsName (decimal steps))
+    (both (grocerLines (halfOf cycle) l m owed ++ line wordsName (decimal words)) (line messagesName (decimal messages))
+    (both (grocerLines (halfOf cycle) l m owed) (line wordsName (decimal words)) (grocers (halfOf cycle) l m owed)
     (lined wordsName (decimal words) (refl, (refl, (refl, (refl, (refl, tt))))) (number words)))
     (lined messagesName (decimal messages) (refl, (refl, (refl, (refl, (refl, (refl, (refl, (refl, tt)))))))) (number messages)))
     (lined stepsName (decimal steps) (refl, (refl, (refl, (refl, (refl, tt))))) (number steps))
@@ -77,14 +82,14 @@ no-job : (n : ℕ) → Plain (refusedText n)
 unfolding refusedText isPrinted
 no-job n = lined refusedName (decimal n) (refl, (refl, (refl, (refl, (refl, (refl, (refl, tt))))))) (number n)
 
-of-run : (cycle m : ℕ) (a : RunAnswer) (statement : List ℤ) → Plain (runText cycle m a statement)
+of-run : (cycle l m : ℕ) (a : RunAnswer) (statement : List ℤ) → Plain (runText cycle l m a statement)
 unfolding runText
-of-run cycle m (finished words messages steps) statement = settled cycle m (λ g. getD statement g (pos 0)) words messages steps
-of-run cycle m (refused n) statement = no-job n
+of-run cycle l m (finished words messages steps) statement = settled cycle l m (amountIn l statement) words messages steps
+of-run cycle l m (refused n) statement = no-job n
 
 of-answer : (file : List ℕ) (a : ReadAnswer) → Plain (readText file a)
 unfolding readText jobText
-of-answer file (sizes head) = of-run _ _ _ _
+of-answer file (sizes head) = of-run _ _ _ _ _
 of-answer file (notRead n) = no-job n
 
 pub printed-ascii : (file : List ℕ) (p : ℕ) → p < length (printed file) → isPrinted (getD (printed file) p 0) ≡ true

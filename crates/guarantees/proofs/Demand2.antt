@@ -12,7 +12,7 @@ use Rattle.laws.proofs.Below.{any-cong, any-false, find-cong}
 use Rattle.laws.proofs.Bools.{no-true}
 use Rattle.recount.specs.Recount.{loose, stands, countedTwice}
 use Rattle.model.specs.Steps.{effectOf}
-use Rattle.model.specs.Tables.{JobTables, StateTables, jobOf, view, store}
+use Rattle.model.specs.Tables.{JobTables, StateTables, eveningOf, view, store}
 use Rattle.model.specs.Step.{Asked, stepOf, accepted, stepAnswer, isAccepted, stepped, stepRefusal, stepTables, moved}
 use Rattle.format.specs.Job.{Head, FileJob, badSizes, badOffer, badOwner, badTally, badRecords, names, placeOf, shared, unnamed, countedTallies, Words16}
 use Rattle.format.specs.Rearranged.{Rearranged}
@@ -40,7 +40,7 @@ step-zero : (n : ℕ) → stepAnswer n ≡ accepted → eqb n 0 ≡ true
 unfolding isAccepted
 step-zero n h = sym (accepted-zero n) ∙ ap isAccepted h
 
-step-does : (f : JobTables) (t : StateTables) (q : Asked) → stepped f t q .answer ≡ accepted → stepped f t q .tables ≡ store (jobOf f) (effectOf (jobOf f) (view (jobOf f) t) (stepOf q)) t
+step-does : (f : JobTables) (t : StateTables) (q : Asked) → stepped f t q .answer ≡ accepted → stepped f t q .tables ≡ store (eveningOf f) (effectOf (eveningOf f) (view (eveningOf f) t) (stepOf q)) t
 unfolding stepped stepTables moved stepOf
 step-does f t q h = rw (step-zero (stepRefusal f t q) h)
 

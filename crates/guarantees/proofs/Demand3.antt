@@ -5,7 +5,7 @@ use Rattle.model.proofs.Early.{early-totals}
 use Rattle.model.proofs.Listed.{steps-counted}
 use Rattle.model.proofs.Demand3.{demand3, demand3-run}
 use Rattle.printing.proofs.Accepted.{range-ok, once-ok, settles-ok, stands-ok, sums-ok, accepted}
-use Rattle.printing.proofs.OneJob.{one-job}
+use Rattle.printing.proofs.OneJob.{one-job, same-evening}
 
 pub demand3-holds : Demand3Holds
 demand3-holds = record {
@@ -18,6 +18,7 @@ demand3-holds = record {
   anyStanding = stands-ok;
   anySums = sums-ok;
   oneJob = one-job;
+  oneEvening = same-evening;
   counts = standing-count;
   stepsCounted = steps-counted;
   early = early-totals;

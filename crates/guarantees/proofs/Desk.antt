@@ -4,14 +4,17 @@ use mathlib.Core.List.{List, [], _∷_}
 use mathlib.Core.Bool.{true, false, _&&_}
 use Prim.Native.Nat.{ℕ, zero, suc, _<_, _≤_}
 use native.Mathlib.Omega.{arith}
+use native.Mathlib.Nat.{le-refl, mul-le-mul}
 use lib.ListN.{getD, length}
 use lib.Dec.{ltb, leb}
 use lib.IntN.{pos, natAbs}
 use borrow.Author.Tests.{lt-ltb, le-ltb, le-leb}
 use Rattle.laws.specs.Checks.{firstMet}
+use Rattle.laws.specs.Lists.{listWords}
 use Rattle.laws.specs.Tables.{tabulate}
-use Rattle.laws.specs.Limits.{maxBoxes, maxGrocers, maxOffers, maxTallies, maxPrice, maxCount}
+use Rattle.laws.specs.Limits.{maxBoxes, maxGrocers, maxOffers, maxTallies, maxLists, maxPrice, maxCount}
 use Rattle.laws.proofs.Bools.{and-true, and-l}
+use Rattle.laws.proofs.Below.{all-of}
 use Rattle.laws.proofs.Checks.{Each, each-of, all-each}
 use Rattle.laws.proofs.Tables.{length-tabulate, getD-tabulate}
 use Rattle.recount.specs.Recount.{countedTwice}
@@ -19,7 +22,7 @@ use Rattle.model.specs.Job.{plainSum}
 use Rattle.model.specs.Tables.{JobTables, countedOf, jobOf}
 use Rattle.model.specs.Ranges.{upTo, sizesInRange, jobWordsInRange, jobInRange}
 use Rattle.model.specs.Reconcile.{TallyRecord, owed, recordInRange, recordsInRange, recordIn, deskRefusals, deskAnswer, reconciled}
-use Rattle.model.proofs.Step.{JobIn, job-in, in-handed, boxes-under, under-at, around-at}
+use Rattle.model.proofs.Step.{JobIn, job-in, in-handed, boxes-under, under-at, around-at, up-at}
 use Rattle.model.proofs.Desk.{OwnRecords, own-counted, own-sum}
 use Rattle.desk.specs.Records.{tallyRecord}
 use Rattle.guarantees.specs.Calls.{jobRecords}
@@ -53,6 +56,17 @@ module _ (f : JobTables) (ok : jobInRange f ≡ true) where
         ),
       )
 
+  -- The prices of the first list are in range.
+  first-prices : upTo maxPrice (f .offers) (f .price) ≡ true
+  unfolding upTo
+  first-prices =
+      all-of (f .offers) (λ o. leb (getD (f .price) o 0) maxPrice) (λ o l.
+      le-leb (getD (f .price) o 0) maxPrice (up-at maxPrice (listWords (f .lists) (f .offers)) (f .price) o (words .price)
+      (omega (arith, l, mul-le-mul {n₂ = f .offers} {m₂ = suc (f .lists)} (le-refl (f .offers)) (one-list (f .lists))))))
+    where
+      one-list : (l : ℕ) → 1 ≤ suc l
+      one-list l = omega arith
+
   -- The record at each place is the tally.
   record-is : (t : ℕ) → t < f .tallies → recordIn (jobRecords f) t ≡ tally t
   unfolding recordIn jobRecords
@@ -75,13 +89,14 @@ module _ (f : JobTables) (ok : jobInRange f ≡ true) where
     unfolding jobRecords jobInRange sizesInRange
     in-range =
         let sizes = each-of (
-        (leb 1 (f .boxes) && leb (f .boxes) maxBoxes)
+        leb (f .lists) maxLists
+        ∷ (leb 1 (f .boxes) && leb (f .boxes) maxBoxes)
         ∷ (leb 1 (f .grocers) && leb (f .grocers) maxGrocers)
         ∷ (leb 1 (f .offers) && leb (f .offers) maxOffers)
         ∷ leb (f .tallies) maxTallies
         ∷ []) (and-l (sizesInRange f) (jobWordsInRange f) ok) in
-        let few : leb (length (tabulate (f .tallies) tally)) maxTallies ≡ true = rw (length-tabulate (f .tallies) tally) (sizes .1 .1 .1 .0) in
-        (sizes .1 .0, (sizes .1 .1 .0, (words .price, (few, (each-in-range (f .grocers) (f .offers) (f .tallies) tally tally-in-range, (lt-ltb g (f .grocers) l, tt))))))
+        let few : leb (length (tabulate (f .tallies) tally)) maxTallies ≡ true = rw (length-tabulate (f .tallies) tally) (sizes .1 .1 .1 .1 .0) in
+        (sizes .1 .1 .0, (sizes .1 .1 .1 .0, (first-prices, (few, (each-in-range (f .grocers) (f .offers) (f .tallies) tally tally-in-range, (lt-ltb g (f .grocers) l, tt))))))
 
     none-met : firstMet (deskRefusals (f .grocers) (f .offers) g (f .price) (jobRecords f)) ≡ 0
     unfolding firstMet deskRefusals

@@ -21,7 +21,7 @@ use Rattle.guarantees.specs.Demand1.{hostReadChecks, hostRunRefusals}
 pub read-refused : (file : List ℕ) (l : ReaderTables) (s : List ℕ) → (readByHost file l s .answer ≡ 0 → ⊥) → readByHost file l s ≡ hostRead (readByHost file l s .answer) l s
 unfolding readByHost readAs readResult
 read-refused file l s =
-    split (ltb (length s) 5)
+    split (ltb (length s) 6)
     (λ e. rw e (λ n. refl))
     (λ e. rw e (split (eqb (readRefusal file l) 0) (λ q. rw q (λ n. absurd (n refl))) (λ q. rw q (λ n. refl))))
 
@@ -65,7 +65,7 @@ first-last (suc n) = refl
 pub first-read : (file : List ℕ) (l : ReaderTables) (s : List ℕ) → readByHost file l s .answer ≡ firstOf (hostReadChecks file l s)
 unfolding readByHost readAs readResult hostReadChecks firstOf
 first-read file l s =
-    split (ltb (length s) 5)
+    split (ltb (length s) 6)
     (λ e. rw e)
     (λ e. rw e (split (eqb (readRefusal file l) 0)
     (λ q. rw (q, eqb-true (readRefusal file l) 0 q))

@@ -9,6 +9,7 @@ pub mod Demand2
 pub mod Demand3
 pub mod Packed
 pub mod Calls
+pub mod Lists
 pub mod Ascii
 pub mod Settle
 pub mod Cases

@@ -4,7 +4,7 @@ use mathlib.Core.Bool.{false}
 use mathlib.Core.List.{List, [], _∷_, _++_}
 use Prim.Native.Nat.{ℕ, zero, suc, _+_, _-_, _*_, _/_, _%_, _^_, _<_, _≤_}
 use native.Mathlib.Omega.{arith}
-use native.Mathlib.Nat.{pow-suc}
+use native.Mathlib.Nat.{pow-suc, mul-one}
 use lib.Dec.{eqb, ltb}
 use lib.IntN.{ℤ, pos, negsuc, negℤ, natAbs}
 use lib.ListN.{getD, length, take, drop}
@@ -14,20 +14,25 @@ use Rattle.laws.proofs.Bools.{split}
 use Rattle.model.specs.Words.{ownerWords, messageCount, stepCount}
 use Rattle.model.specs.Tables.{JobTables, jobOf, lentShort, anyShort}
 use Rattle.model.specs.Run.{RunAnswer, finished, reported, ran}
+use Rattle.format.specs.Job.{Head, headOf}
+use Rattle.format.specs.Blocks.{blockCount}
 use Rattle.format.specs.File.{readHead, decode}
 use Rattle.format.specs.Refusals.{fileRefusal}
 use Rattle.format.specs.Tables.{readRefusal}
 use Rattle.printing.specs.Accepted.{owedByFile, Accepted}
 use Rattle.printing.specs.Cents.{Half, halfOf, cents}
-use Rattle.printing.specs.Printed.{jobRead, digitsOf, decimal, signedDecimal, line, grocerLines, settledText, blankJob, blankState, runText, jobText, printed}
-use Rattle.guarantees.specs.Settle.{valueOf, amountOf, Settle}
+use Rattle.printing.specs.Printed.{jobRead, digitsOf, decimal, signedDecimal, line, amountsText, grocerLines, amountIn, settledText, blankJob, blankState, runText, jobText, printed}
+use Rattle.guarantees.specs.Settle.{valueOf, amountOf, linesBefore, textBefore, Settle}
 use Rattle.guarantees.proofs.Ascii.{printed-ascii}
 use Rattle.printing.proofs.Blank.{blank-state, blank-totals, read-by-file, printed-refusal, printed-job}
 use Rattle.printing.proofs.Long.{long-printed, cut-printed}
 use Rattle.printing.proofs.Rounding.{none-below, rounding}
 use Rattle.printing.proofs.Digits.{below-power}
 use Rattle.format.proofs.Accept.{long, accepted-range}
+use Rattle.laws.proofs.Tables.{cell-in}
+use Rattle.model.proofs.PriceLists.{same-steps}
 use Rattle.model.proofs.Demand3.{demand3-run}
+use Rattle.printing.proofs.ListText.{list-text}
 use Rattle.printing.proofs.Accepted.{accepted}
 
 -- ---- a printed number is the number
@@ -114,16 +119,32 @@ no-cent h z l = rw (none-below h z l)
 
 -- ---- the lines
 
--- The first m amounts alone count.
-lines-cong : (r : Half) (m : ℕ) (a b : ℕ → ℤ) → ((g : ℕ) → g < m → a g ≡ b g) → grocerLines r m a ≡ grocerLines r m b
-unfolding grocerLines
-lines-cong r zero a b h = refl
-lines-cong r (suc m) a b h =
-    ap₂ (λ (x : List ℕ) (z : ℤ). x ++ line (decimal m) (signedDecimal (cents r z))) (lines-cong r m a b (λ g l. h g (omega arith))) (h m (omega arith))
+-- The amounts of the lists and of the first m grocers alone count.
+amounts-cong : (r : Half) (l : ℕ) (a b : ℕ → ℤ) → ((q : ℕ) → q < suc l → a q ≡ b q) → amountsText r l a ≡ amountsText r l b
+unfolding amountsText
+amounts-cong r zero a b h = ap (λ (z : ℤ). signedDecimal (cents r z)) (h 0 (omega arith))
+amounts-cong r (suc l) a b h =
+    ap₂ (λ (x : List ℕ) (z : ℤ). x ++ (32 ∷ signedDecimal (cents r z))) (amounts-cong r l a b (λ q k. h q (omega arith))) (h (suc l) (omega arith))
 
-text-cong : (y m : ℕ) (a b : ℕ → ℤ) (w c n : ℕ) → ((g : ℕ) → g < m → a g ≡ b g) → settledText y m a w c n ≡ settledText y m b w c n
+lines-cong : (r : Half) (l m : ℕ) (a b : ℕ → ℕ → ℤ) → ((g q : ℕ) → g < m → q < suc l → a g q ≡ b g q) → grocerLines r l m a ≡ grocerLines r l m b
+unfolding grocerLines
+lines-cong r l zero a b h = refl
+lines-cong r l (suc m) a b h =
+    ap₂ (λ (x y : List ℕ). x ++ line (decimal m) y) (lines-cong r l m a b (λ g q k. h g q (omega arith))) (amounts-cong r l (a m) (b m) (λ q. h m q (omega arith)))
+
+pub text-cong : (y l m : ℕ) (a b : ℕ → ℕ → ℤ) (w c n : ℕ) → ((g q : ℕ) → g < m → q < suc l → a g q ≡ b g q) → settledText y l m a w c n ≡ settledText y l m b w c n
 unfolding settledText
-text-cong y m a b w c n h = rw (lines-cong (halfOf y) m a b h)
+text-cong y l m a b w c n h = rw (lines-cong (halfOf y) l m a b h)
+
+-- With one list they are those of before.
+lines-before : (r : Half) (m : ℕ) (a : ℕ → ℕ → ℤ) → grocerLines r 0 m a ≡ linesBefore r m (λ g. a g 0)
+unfolding grocerLines linesBefore amountsText
+lines-before r zero a = refl
+lines-before r (suc m) a = rw (lines-before r m a)
+
+text-before : (y l m : ℕ) (a : ℕ → ℕ → ℤ) (w c n : ℕ) → l ≡ 0 → settledText y l m a (w * suc l) c n ≡ textBefore y m (λ g. a g 0) w c n
+unfolding settledText textBefore
+text-before y l m a w c n e = ap (λ (x : ℕ). settledText y x m a (w * suc x) c n) e ∙ rw (lines-before (halfOf y) m a, mul-one w)
 
 module _ (file : List ℕ) (ok : fileRefusal file ≡ 0) where
   read-ok : readRefusal file blankJob ≡ 0
@@ -139,25 +160,39 @@ module _ (file : List ℕ) (ok : fileRefusal file ≡ 0) where
   unfolding anyShort lentShort jobRead
   lent-ok =
       let s = accepted-range file ok .sizes in
-      rw (given .settles .whole, given .settles .bags, blank-state job (s .boxes-most) (s .grocers-most) (s .offers-most), blank-totals job (given .settles .inRange))
+      rw (given .settles .whole, given .settles .bags, blank-state job (s .boxes-most) (s .grocers-most) (s .offers-most) (s .lists-most), blank-totals job (given .settles .inRange))
 
-  -- The run is not refused: its answer is the job's words, messages and steps,
-  answer-is : ran job blankState [] [] .answer ≡ finished (ownerWords (jobOf job)) (messageCount (jobOf job)) (stepCount (jobOf job))
+  -- The run is not refused: its answer is the words of the job's entries, one for each list, its messages and its steps,
+  answer-is : ran job blankState [] [] .answer ≡ finished (ownerWords (jobOf job) * suc (job .lists)) (messageCount (jobOf job)) (stepCount (jobOf job))
   unfolding reported
-  answer-is = given .run blankState [] [] .answer ∙ rw lent-ok
+  answer-is =
+      let same = same-steps job in
+      given .run blankState [] [] .answer ∙ rw lent-ok (λ i. finished (same .allWords i) (same .messages i) (same .steps i))
 
   -- and each statement is what the file says is owed.
-  amount-is : (g : ℕ) → g < decode file .head .grocers → getD (ran job blankState [] [] .tables .statement) g (pos 0) ≡ owedByFile (decode file) g
-  unfolding jobRead
-  amount-is g h = demand3-run job (given .settles) blankState [] [] .statements lent-ok g h ∙ given .sums g
+  amount-is : (g q : ℕ) → g < decode file .head .grocers → q < suc (decode file .head .lists) →
+      amountIn (decode file .head .lists) (ran job blankState [] [] .tables .statement) g q ≡ owedByFile (decode file) g q
+  unfolding jobRead amountIn
+  amount-is g q h m =
+      demand3-run job (given .settles) blankState [] [] .statements lent-ok (g * suc (decode file .head .lists) + q) (cell-in g (decode file .head .grocers) (suc (decode file .head .lists)) q h m)
+      ∙ given .sums g q m
 
-  settled-is : printed file ≡ settledText (decode file .head .cycle) (decode file .head .grocers) (owedByFile (decode file)) (ownerWords (jobOf job)) (messageCount (jobOf job)) (stepCount (jobOf job))
+  settled-is : printed file ≡ settledText (decode file .head .cycle) (decode file .head .lists) (decode file .head .grocers) (owedByFile (decode file))
+      (ownerWords (jobOf job) * suc (decode file .head .lists)) (messageCount (jobOf job)) (stepCount (jobOf job))
   unfolding jobText runText jobRead
   settled-is =
+      let h = decode file .head in
       printed-job file ok
-      ∙ ap (λ (a : RunAnswer). runText (decode file .head .cycle) (decode file .head .grocers) a (ran job blankState [] [] .tables .statement)) answer-is
-      ∙ text-cong (decode file .head .cycle) (decode file .head .grocers) (λ g. getD (ran job blankState [] [] .tables .statement) g (pos 0)) (owedByFile (decode file))
-      (ownerWords (jobOf job)) (messageCount (jobOf job)) (stepCount (jobOf job)) amount-is
+      ∙ ap (λ (a : RunAnswer). runText (h .cycle) (h .lists) (h .grocers) a (ran job blankState [] [] .tables .statement)) answer-is
+      ∙ text-cong (h .cycle) (h .lists) (h .grocers) (amountIn (h .lists) (ran job blankState [] [] .tables .statement)) (owedByFile (decode file))
+      (ownerWords (jobOf job) * suc (h .lists)) (messageCount (jobOf job)) (stepCount (jobOf job)) amount-is
+
+  before-is : getD file 14 0 ≡ 0 → printed file ≡ textBefore (decode file .head .cycle) (decode file .head .grocers) (λ g. owedByFile (decode file) g 0)
+      (ownerWords (jobOf job)) (messageCount (jobOf job)) (stepCount (jobOf job))
+  before-is e =
+      settled-is
+      ∙ text-before (decode file .head .cycle) (decode file .head .lists) (decode file .head .grocers) (owedByFile (decode file)) (ownerWords (jobOf job)) (messageCount (jobOf job)) (stepCount (jobOf job))
+      (unfold decode readHead in e)
 
 -- The first n bytes of a file say the file's length, if they are a file.
 cut-is : (file : List ℕ) (n : ℕ) → fileRefusal file ≡ 0 → n < length file → fileRefusal (take n file) ≡ 0 → ⊥
@@ -166,16 +201,22 @@ cut-is file n ok h cut =
     let whole = long file ok in
     let part = long (take n file) cut in
     let size = length-take-le n file (omega arith) in
-    let same : (i : ℕ) → i < 12 → getD (take n file) i 0 ≡ getD file i 0 = λ i l. getD-take n file i 0 (omega arith) in
-    omega (arith, same 8 (omega arith), same 9 (omega arith), same 10 (omega arith), same 11 (omega arith))
+    let same : (i : ℕ) → i < 15 → getD (take n file) i 0 ≡ getD file i 0 = λ i l. getD-take n file i 0 (omega arith) in
+    let w : (p : ℕ) → p < 14 → getD (take n file) p 0 + 256 * getD (take n file) (p + 1) 0 ≡ getD file p 0 + 256 * getD file (p + 1) 0 =
+    λ p l. ap₂ (λ (a b : ℕ). a + 256 * b) (same p (omega arith)) (same (p + 1) (omega arith)) in
+    let heads : decode (take n file) .head ≡ decode file .head =
+    λ i. headOf (same 4 (omega arith) i) (w 6 (omega arith) i) (w 8 (omega arith) i) (w 10 (omega arith) i) (w 12 (omega arith) i) (same 14 (omega arith) i) in
+    omega (arith, part ∙ ap (λ (x : Head). 512 * blockCount x) heads ∙ sym whole, size, h)
 
 pub settle : Settle
 settle = record {
   accepted = settled-is;
+  lines = list-text;
+  oneList = before-is;
   refused = printed-refusal;
   cut = cut-is;
   tooLong = long-printed;
-  enough = λ file. cut-printed file 37_889 (omega arith);
+  enough = λ file. cut-printed file 52_225 (omega arith);
   ascii = printed-ascii;
   reads = number-reads;
   readsAmount = λ h z. amount-reads (cents h z);

@@ -33,7 +33,7 @@ IsFirstOf (m ∷ ms) n = ((m ≡ 0 → ⊥) × (n ≡ m)) ⊎ ((m ≡ 0) × IsFi
 
 -- The checks of `settlement_read`, one after the other, each by its number or 0: the buffer for sizes, then the reader's.
 unfoldable pub hostReadChecks : List ℕ → ReaderTables → List ℕ → List ℕ
-hostReadChecks file l s = cond (ltb (length s) 5) 20 0 ∷ readRefusal file l ∷ []
+hostReadChecks file l s = cond (ltb (length s) 6) 20 0 ∷ readRefusal file l ∷ []
 
 -- The refusals of `settlement_run`: the report, then the run's.
 unfoldable pub hostRunRefusals : JobTables → StateTables → List ℕ → List (Bool × ℕ)

@@ -3,14 +3,14 @@ use mathlib.Core.Path.{_≡_}
 use mathlib.Core.List.{List, _++_}
 use mathlib.Core.Bool.{Bool, true, false, not}
 use mathlib.Core.Logic.{_↔_}
-use Prim.Native.Nat.{ℕ, _+_, _*_, _<_, _≤_}
+use Prim.Native.Nat.{ℕ, suc, _+_, _*_, _<_, _≤_}
 use lib.Dec.{eqb}
 use lib.ListN.{length, getD, drop, take}
 use Rattle.laws.specs.Below.{any, find}
 use Rattle.laws.specs.Tables.{overwrite}
 use Rattle.recount.specs.Recount.{stands, countedTwice, RecountLaws}
 use Rattle.model.specs.Steps.{effectOf}
-use Rattle.model.specs.Tables.{JobTables, StateTables, jobOf, view, store}
+use Rattle.model.specs.Tables.{JobTables, StateTables, eveningOf, view, store}
 use Rattle.model.specs.Step.{Asked, stepOf, accepted, stepped}
 use Rattle.format.specs.Codes.{Code, isCode, codeNumber, written, dropZeros, Name, sameOffer}
 use Rattle.format.specs.Job.{Head, headOf, FileJob, badSizes, badRecords, placeOf, shared, unnamed, countedTallies, Words16}
@@ -53,18 +53,20 @@ pub record NoBags (j : FileJob) : Type 0 where
 -- The job in settlement cycle c.
 abbrev pub inCycle : (c : ℕ) → FileJob → FileJob
 inCycle c j = record {
-  head = headOf (j .head .boxes) (j .head .grocers) (j .head .offers) (j .head .tallies) c;
+  head = headOf (j .head .boxes) (j .head .grocers) (j .head .offers) (j .head .tallies) c (j .head .lists);
   offer = j .offer;
   grocerOwner = j .grocerOwner;
+  listPrice = j .listPrice;
   tally = j .tally;
 }
 
 -- The job with other words where any 16 bits may stand: its cycle, its issuers, bags and revisions.
 abbrev pub withWords : (cycle : ℕ) (offerIssuer tallyIssuer bag revision : ℕ → ℕ) → FileJob → FileJob
 withWords cycle offerIssuer tallyIssuer bag revision j = record {
-  head = headOf (j .head .boxes) (j .head .grocers) (j .head .offers) (j .head .tallies) cycle;
+  head = headOf (j .head .boxes) (j .head .grocers) (j .head .offers) (j .head .tallies) cycle (j .head .lists);
   offer = λ i. record { price = j .offer i .price; owner = j .offer i .owner; code = j .offer i .code; issuer = offerIssuer i };
   grocerOwner = j .grocerOwner;
+  listPrice = j .listPrice;
   tally = λ t. record {
     grocer = j .tally t .grocer;
     box = j .tally t .box;
@@ -85,8 +87,8 @@ pub record SameInOrder (j j′ : FileJob) (p : ℕ → ℕ) : Type 0 where
   pub nine : Named j → countedTwice (countedTallies j′) ≡ countedTwice (countedTallies j)
   -- The same tallies stand,
   pub standing : Named j → (t : ℕ) → t < j .head .tallies → stands (countedTallies j′) t ≡ stands (countedTallies j) (p t)
-  -- and each grocer is owed the same.
-  pub owed : Named j → (g : ℕ) → owedByFile j′ g ≡ owedByFile j g
+  -- and each grocer is owed the same on every price list.
+  pub owed : Named j → (g q : ℕ) → q < suc (j .head .lists) → owedByFile j′ g q ≡ owedByFile j g q
   -- So the first of 4, 6, 7, 8 and 9 that is met, if any, is the same, and where none is both files are accepted.
   pub refusal : jobRefusal j′ ≡ jobRefusal j
   pub files : jobRefusal j ≡ 0 → (fileRefusal (encode j) ≡ 0) × (fileRefusal (encode j′) ≡ 0)
@@ -100,8 +102,8 @@ pub record Demand2 : Type 0 where
   -- Each job has one file: two accepted files that read alike are equal.
   pub oneFile : (f f′ : List ℕ) (l : ReaderTables) → Bytes f → Bytes f′ → readRefusal f l ≡ 0 → readRefusal f′ l ≡ 0 →
       readResult f l ≡ readResult f′ l → f ≡ f′
-  -- Reading what was written gives K, M, N, T and the cycle and, in whatever tables, the words of the job that was written, digits as written;
-  -- beside them the places.
+  -- Reading what was written gives K, M, N, T, the cycle and the number of additional lists and, in whatever tables, the words of the job that was
+  -- written, digits as written; beside them the places.
   pub readWrite : (h : Head) (l : FileTables) (out : List ℕ) → writeRefusal h l out ≡ 0 → (r : ReaderTables) → shortReader r ≡ false →
       readResult (take (512 * blockCount h) (writeResult h l out .out)) r
       ≡ record { answer = sizes h; tables = storeRead (fileJobOf h l) r }
@@ -148,4 +150,4 @@ pub record Demand2 : Type 0 where
       readResult f′ l ≡ record { answer = refused 2; tables = l }
   -- An accepted step, in whatever state, leaves what its line says, written into the tables; words past the needed length stay.
   pub step : (f : JobTables) (t : StateTables) (q : Asked) → stepped f t q .answer ≡ accepted →
-      stepped f t q .tables ≡ store (jobOf f) (effectOf (jobOf f) (view (jobOf f) t) (stepOf q)) t
+      stepped f t q .tables ≡ store (eveningOf f) (effectOf (eveningOf f) (view (eveningOf f) t) (stepOf q)) t

@@ -5,5 +5,6 @@ pub mod Demand2
 pub mod Demand3
 pub mod Packed
 pub mod Calls
+pub mod Lists
 pub mod Settle
 pub mod Cases

@@ -16,7 +16,7 @@ use Rattle.run.specs.Run.{answerOf as runAnswer}
 use Rattle.run.specs.declared.Answer.{Answer as RunnerAnswer}
 use Rattle.run.specs.declared.Answer.the-variants.{Finished, Refused as NotRun}
 use Rattle.host.specs.Host.{hostRead, readAs, readByHost, hostRun, runAs, ranByHost, hostStep, stepNumber, steppedByHost}
-use Rattle.host.proofs.Put.{put-three, put-five}
+use Rattle.host.proofs.Put.{put-three, put-six}
 
 -- The number of what the step gave.
 pub step-told : (f : JobTables) (u : StateTables) (q : Asked) (a : StepAnswer) (r : ℕ) (t : StateTables) → r ≡ stepNumber a → outcome a t ≡ stepped f u q →
@@ -25,10 +25,10 @@ unfolding steppedByHost
 step-told f u q a r t e h = rw e (ap (λ (o : Outcome). hostStep (stepNumber (o .answer)) (o .tables)) h)
 
 -- The sizes of an accepted file, told.
-pub told-sizes : (a : ReaderAnswer) (k m n t c : ℕ) (s : List ℕ) → 5 ≤ length s → a ≡ Job k m n t c → (l : ReaderTables) →
-    hostRead 0 l (set (set (set (set (set s 0 k) 1 m) 2 n) 3 t) 4 c) ≡ readAs (readAnswer a) l s
+pub told-sizes : (a : ReaderAnswer) (k m n t c q : ℕ) (s : List ℕ) → 6 ≤ length s → a ≡ Job k m n t c q → (l : ReaderTables) →
+    hostRead 0 l (set (set (set (set (set (set s 0 k) 1 m) 2 n) 3 t) 4 c) 5 q) ≡ readAs (readAnswer a) l s
 unfolding readAs
-told-sizes a k m n t c s h e l = rw e (ap (hostRead 0 l) (put-five s k m n t c h))
+told-sizes a k m n t c q s h e l = rw e (ap (hostRead 0 l) (put-six s k m n t c q h))
 
 -- A refusal of the reader, told.
 pub told-refused : (a : ReaderAnswer) (n : ℕ) (s : List ℕ) → a ≡ NotRead n → (l : ReaderTables) → hostRead n l s ≡ readAs (readAnswer a) l s
@@ -48,12 +48,12 @@ told-not-run a n p e t k = rw e
 
 module _ (file : List ℕ) (l : ReaderTables) (s : List ℕ) where
   -- 20: the buffer for sizes is short.
-  pub read-short : length s < 5 → hostRead 20 l s ≡ readByHost file l s
+  pub read-short : length s < 6 → hostRead 20 l s ≡ readByHost file l s
   unfolding readByHost
   read-short h = sym (cond-yes _ _ _ (lt-ltb _ _ h))
 
   -- What the reader gave, and its answer told.
-  pub read-told : (a : ReadAnswer) (l′ : ReaderTables) (r : ℕ) (s′ : List ℕ) → 5 ≤ length s → record { answer = a; tables = l′ } ≡ readResult file l →
+  pub read-told : (a : ReadAnswer) (l′ : ReaderTables) (r : ℕ) (s′ : List ℕ) → 6 ≤ length s → record { answer = a; tables = l′ } ≡ readResult file l →
       ((k : ReaderTables) → hostRead r k s′ ≡ readAs a k s) → hostRead r l′ s′ ≡ readByHost file l s
   unfolding readByHost
   read-told a l′ r s′ h e told = told l′ ∙ ap (λ (o : ReadOutcome). readAs (o .answer) (o .tables) s) e ∙ sym (cond-no _ _ _ (le-ltb _ _ h))

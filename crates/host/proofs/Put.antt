@@ -21,11 +21,12 @@ put-three (x ∷ []) a b c h = absurd (omega (arith, h))
 put-three (x ∷ y ∷ []) a b c h = absurd (omega (arith, h))
 put-three (x ∷ y ∷ z ∷ l) a b c h = refl
 
--- Five words.
-pub put-five : (l : List ℕ) (a b c d e : ℕ) → 5 ≤ length l → set (set (set (set (set l 0 a) 1 b) 2 c) 3 d) 4 e ≡ put (a ∷ b ∷ c ∷ d ∷ e ∷ []) l
-put-five [] a b c d e h = absurd (omega (arith, h))
-put-five (x ∷ []) a b c d e h = absurd (omega (arith, h))
-put-five (x ∷ y ∷ []) a b c d e h = absurd (omega (arith, h))
-put-five (x ∷ y ∷ z ∷ []) a b c d e h = absurd (omega (arith, h))
-put-five (x ∷ y ∷ z ∷ w ∷ []) a b c d e h = absurd (omega (arith, h))
-put-five (x ∷ y ∷ z ∷ w ∷ v ∷ l) a b c d e h = refl
+-- Six words.
+pub put-six : (l : List ℕ) (a b c d e f : ℕ) → 6 ≤ length l → set (set (set (set (set (set l 0 a) 1 b) 2 c) 3 d) 4 e) 5 f ≡ put (a ∷ b ∷ c ∷ d ∷ e ∷ f ∷ []) l
+put-six [] a b c d e f h = absurd (omega (arith, h))
+put-six (x ∷ []) a b c d e f h = absurd (omega (arith, h))
+put-six (x ∷ y ∷ []) a b c d e f h = absurd (omega (arith, h))
+put-six (x ∷ y ∷ z ∷ []) a b c d e f h = absurd (omega (arith, h))
+put-six (x ∷ y ∷ z ∷ w ∷ []) a b c d e f h = absurd (omega (arith, h))
+put-six (x ∷ y ∷ z ∷ w ∷ v ∷ []) a b c d e f h = absurd (omega (arith, h))
+put-six (x ∷ y ∷ z ∷ w ∷ v ∷ u ∷ l) a b c d e f h = refl

@@ -13,7 +13,7 @@ use Rattle.format.specs.Tables.{ReadAnswer, sizes, refused as notRead, ReaderTa
 abbrev pub put : List ℕ → List ℕ → List ℕ
 put xs l = xs ++ drop (length xs) l
 
--- What `settlement_read` gives: the number, the tables, and the buffer for K, M, N, T and the cycle.
+-- What `settlement_read` gives: the number, the tables, and the buffer for K, M, N, T, the cycle and the number of additional lists.
 pub record HostRead : Type 0 where
   pub answer : ℕ
   pub tables : ReaderTables
@@ -23,14 +23,14 @@ pub record HostRead : Type 0 where
 abbrev pub hostRead : ℕ → ReaderTables → List ℕ → HostRead
 hostRead n l s = record { answer = n; tables = l; sizes = s }
 
--- The reader's answer as a number; K, M, N, T and the cycle go into the buffer for sizes.
+-- The reader's answer as a number; K, M, N, T, the cycle and the number of additional lists go into the buffer for sizes.
 unfoldable pub readAs : ReadAnswer → ReaderTables → List ℕ → HostRead
-readAs (sizes h) l s = hostRead 0 l (put (h .boxes ∷ h .grocers ∷ h .offers ∷ h .tallies ∷ h .cycle ∷ []) s)
+readAs (sizes h) l s = hostRead 0 l (put (h .boxes ∷ h .grocers ∷ h .offers ∷ h .tallies ∷ h .cycle ∷ h .lists ∷ []) s)
 readAs (notRead number) l s = hostRead number l s
 
--- The host's reader: 20 also where the buffer for sizes is shorter than five words.
+-- The host's reader: 20 also where the buffer for sizes is shorter than six words.
 unfoldable pub readByHost : List ℕ → ReaderTables → List ℕ → HostRead
-readByHost file l s = cond (ltb (length s) 5) (hostRead 20 l s) (readAs (readResult file l .answer) (readResult file l .tables) s)
+readByHost file l s = cond (ltb (length s) 6) (hostRead 20 l s) (readAs (readResult file l .answer) (readResult file l .tables) s)
 
 -- What `settlement_run` gives: the number, the state's tables, the buffer for the places of the steps picked, and the one for the report.
 pub record HostRun : Type 0 where

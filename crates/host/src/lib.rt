@@ -13,9 +13,9 @@ ghost use Rattle.step.specs.Answer.{answerOf as stepAnswer};
 ghost use Rattle.run.specs.Run.{answerOf as runAnswer};
 ghost use Rattle.host.specs.Host.{hostRead, readAs, readByHost, hostRun, runAs, ranByHost, hostStep, stepNumber, steppedByHost};
 
-// The number of the reader's answer; K, M, N, T and the cycle of an accepted file go in front of the buffer.
+// The number of the reader's answer; K, M, N, T, the cycle and the number of additional lists of an accepted file go in front of the buffer.
 fn tell_sizes(a: reader::Answer, sizes: &mut [u16]) -> u16
-    requires { ⌜ 5 ≤ length (now sizes) ⌝ }
+    requires { ⌜ 6 ≤ length (now sizes) ⌝ }
     ensures { λ r. ⌜ ((l : ReaderTables) → hostRead r l (now (sizes .exit)) ≡ readAs (readAnswer a) l (now (sizes .entry))) ⌝ }
 {
     match a {
@@ -25,12 +25,14 @@ fn tell_sizes(a: reader::Answer, sizes: &mut [u16]) -> u16
             offers,
             tallies,
             cycle,
+            lists,
         } => {
             sizes[0] = boxes;
             sizes[1] = grocers;
             sizes[2] = offers;
             sizes[3] = tallies;
             sizes[4] = cycle;
+            sizes[5] = lists;
             0
         }
         reader::Answer::Refused(n) => n,
@@ -67,7 +69,8 @@ fn step_number(a: step::Answer) -> u16
     }
 }
 
-// Reads a job file into the lent tables, and its K, M, N, T and cycle into the buffer for sizes. A refusal leaves every word as it was.
+// Reads a job file into the lent tables, and its K, M, N, T, cycle and number of additional lists into the buffer for sizes. A refusal leaves every
+// word as it was.
 #[no_mangle]
 pub extern "C" fn settlement_read(
     file: &[u8],
@@ -93,7 +96,7 @@ pub extern "C" fn settlement_read(
         (readerBefore price «offer_owner» «offer_code» «offer_issuer» «grocer_owner» «tally_grocer» «tally_box» «tally_code» «tally_count» «tally_issuer»
         «tally_bag» «tally_revision» «tally_offer») (now (sizes .entry)) ⌝ }
 {
-    if sizes.len() < 5 {
+    if sizes.len() < 6 {
         return 20;
     }
     let a = reader::read(
@@ -122,6 +125,7 @@ pub extern "C" fn settlement_step(
     grocers: u16,
     offers: u16,
     tallies: u16,
+    lists: u16,
     price: &[u32],
     offer_owner: &[u16],
     grocer_owner: &[u16],
@@ -145,7 +149,7 @@ pub extern "C" fn settlement_step(
     ensures { λ r. ⌜ hostStep r
         (stateAfter known «price_transit» working «total_transit» statement done sent)
         ≡ steppedByHost
-        (bagLent boxes grocers offers tallies price «offer_owner» «grocer_owner» «tally_grocer» «tally_box» «tally_offer» «tally_count»
+        (bagLent boxes grocers offers tallies lists price «offer_owner» «grocer_owner» «tally_grocer» «tally_box» «tally_offer» «tally_count»
         «tally_bag» «tally_revision»)
         (stateBefore known «price_transit» working «total_transit» statement done sent)
         (asked kind first second) ⌝ }
@@ -155,6 +159,7 @@ pub extern "C" fn settlement_step(
         grocers,
         offers,
         tallies,
+        lists,
         price,
         offer_owner,
         grocer_owner,
@@ -186,6 +191,7 @@ pub extern "C" fn settlement_run(
     grocers: u16,
     offers: u16,
     tallies: u16,
+    lists: u16,
     price: &[u32],
     offer_owner: &[u16],
     grocer_owner: &[u16],
@@ -211,7 +217,7 @@ pub extern "C" fn settlement_run(
         (now (picked .exit))
         (now (report .exit))
         ≡ ranByHost
-        (bagLent boxes grocers offers tallies price «offer_owner» «grocer_owner» «tally_grocer» «tally_box» «tally_offer» «tally_count»
+        (bagLent boxes grocers offers tallies lists price «offer_owner» «grocer_owner» «tally_grocer» «tally_box» «tally_offer» «tally_count»
         «tally_bag» «tally_revision»)
         (stateBefore known «price_transit» working «total_transit» statement done sent)
         (now (choices .entry))
@@ -226,6 +232,7 @@ pub extern "C" fn settlement_run(
         grocers,
         offers,
         tallies,
+        lists,
         price,
         offer_owner,
         grocer_owner,

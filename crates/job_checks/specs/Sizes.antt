@@ -3,6 +3,6 @@ use mathlib.Core.List.{[]}
 use Prim.Native.Nat.{ℕ}
 use Rattle.model.specs.Tables.{JobTables, jobTables}
 
--- K, M and N alone.
-abbrev pub sizes : ℕ → ℕ → ℕ → JobTables
-sizes k m n = jobTables k m n 0 [] [] [] [] [] [] []
+-- K, M, N and the number of additional price lists alone.
+abbrev pub sizes : ℕ → ℕ → ℕ → ℕ → JobTables
+sizes k m n l = jobTables k m n 0 l [] [] [] [] [] [] []

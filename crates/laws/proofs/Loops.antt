@@ -72,17 +72,17 @@ window-below at g k l = ap (λ (x : Bool). x && ltb k (at + g)) (lt-leb at k l)
 pub window-above : (at g k : ℕ) → at + g ≤ k → window at g k ≡ false
 window-above at g k l = ap (λ (x : Bool). leb at k && x) (le-ltb k (at + g) l) ∙ and-false (leb at k)
 
-window-none : (at k : ℕ) → window at 0 k ≡ false
+pub window-none : (at k : ℕ) → window at 0 k ≡ false
 window-none at k = go (decLt k at)
   where
     go : Dec (k < at) → window at 0 k ≡ false
     go (yes l) = window-below at 0 k l
     go (no n) = window-above at 0 k (omega arith)
 
-window-here : (at g : ℕ) → window at (g + 1) (at + g) ≡ true
+pub window-here : (at g : ℕ) → window at (g + 1) (at + g) ≡ true
 window-here at g = window-in at (g + 1) (at + g) (omega arith) (omega arith)
 
-window-else : (at g k : ℕ) → (at + g ≡ k → ⊥) → window at (g + 1) k ≡ window at g k
+pub window-else : (at g k : ℕ) → (at + g ≡ k → ⊥) → window at (g + 1) k ≡ window at g k
 window-else at g k n = ap (λ (x : Bool). leb at k && x) (sym (ap (λ (m : ℕ). ltb k m) (regroup at g)) ∙ front-else (at + g) k n)
   where
     regroup : (at g : ℕ) → (at + g) + 1 ≡ at + (g + 1)

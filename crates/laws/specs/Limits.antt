@@ -17,6 +17,10 @@ maxOffers = 500
 abbrev pub maxTallies : ℕ
 maxTallies = 1_000
 
+-- Additional price lists: 0 to 7 (02 §9).
+abbrev pub maxLists : ℕ
+maxLists = 7
+
 -- A price, in tenths of a cent.
 abbrev pub maxPrice : ℕ
 maxPrice = 9_999_999

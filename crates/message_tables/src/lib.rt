@@ -7,6 +7,7 @@ use job_masks::masks::needs;
 use job_masks::masks::sharers;
 use message_words::price_table;
 use message_words::total_table;
+use slices::sizes::Sizes;
 
 pub mod sums;
 pub mod words;
@@ -25,6 +26,7 @@ pub fn message_tables(
     grocers: u16,
     offers: u16,
     tallies: u16,
+    lists: u16,
     price: &[u32],
     offer_owner: &[u16],
     grocer_owner: &[u16],
@@ -38,15 +40,19 @@ pub fn message_tables(
     totals: &mut [[u16; 16]; 16],
 ) -> Answer
     ensures { λ r. ⌜ tablesGiven (said r) (now (prices .exit)) (now (totals .exit))
-        ≡ messageTables (bagLent boxes grocers offers tallies price «offer_owner» «grocer_owner» «tally_grocer» «tally_box» «tally_offer» «tally_count»
+        ≡ messageTables (bagLent boxes grocers offers tallies lists price «offer_owner» «grocer_owner» «tally_grocer» «tally_box» «tally_offer» «tally_count»
         «tally_bag» «tally_revision») (now (prices .entry)) (now (totals .entry)) ⌝ }
 {
     let mut standing = [0u16; 1000];
+    let z = Sizes {
+        boxes: boxes,
+        grocers: grocers,
+        offers: offers,
+        tallies: tallies,
+        lists: lists,
+    };
     let r = job_refusal(
-        boxes,
-        grocers,
-        offers,
-        tallies,
+        z,
         price,
         offer_owner,
         grocer_owner,

@@ -11,7 +11,7 @@ use Rattle.model.specs.LocalLists.{chained, localOffers, localGrocers, l
 use Rattle.model.specs.Local.{ofOffer, start, starts, packed, packedGrocers, packedCounts, priceTable, totalTable, bookShort, bookRefusals, jobRefusals}
 use Rattle.model.specs.Reconcile.{recordInRange, recordsInRange, recordIn, countedRecords, standingRecords, serialAmount, deskRefusals, deskAnswer, reconciled}
 use Rattle.model.specs.Job.{heldBy, held, needs, shares, needWord, sharerWord, priceWord, totalWord, pricesDue, totalsDue, amount, plainSum}
-use Rattle.model.specs.Tables.{countedOf, jobOf, stepsDone, marksOf, view, store, jobLengths, stateLengths, jobShort, bagsShort, stateShort, lentShort, totalsShort}
+use Rattle.model.specs.Tables.{countedOf, jobOf, withLists, stepsDone, marksOf, view, store, jobLengths, stateLengths, jobShort, bagsShort, stateShort, lentShort, totalsShort}
 use Rattle.model.specs.Run.{readySteps, readyCount, pick, picks, afterSteps, run, pickedPlaces, reported, runRefusals, runState, ran}
 use Rattle.model.specs.Ranges.{upTo, under, around, sizesInRange, jobWordsInRange, jobInRange, stateInRange, totalsInRange}
 use Rattle.model.specs.Step.{isKind, stepOf, boxesFit, stepRules, moved, refusals, stepRefusal, stepTables, freshTables, stepAnswer, stepped}
@@ -20,10 +20,12 @@ use Rattle.model.specs.Demand3.{wholeRequest}
 use Rattle.model.specs.Words.{over, ownerWords, messageCount, stepCount, messagesOf}
 use Rattle.model.specs.Boxes.{knows, priceOnWay, gone, arrived, partOf, paid, sentOf, stateByRules}
 use Rattle.model.specs.Steps.{doneBy, added, kindNumber, kindOf, mark, oneBox, fits, hasStep, allAdded, ready, permitted, fresh, products, received, effect, stepAt, listOf}
-use Rattle.model.specs.PackedTotals.{isLocal, hasTotal, totalsStart, totalsLength, totalPlace, totalRows, packTotals, unpackTotals}
+use Rattle.model.specs.PackedTotals.{isLocal, hasTotal, totalsStart, totalsLength, totalPlace, totalRows, packTotals, unpackTotals, spread}
 use Rattle.model.specs.Spans.{groupStart, placeGrocers}
 use Rattle.model.specs.FullRows.{fullView, fullStore, rowsShort, rowsInRange, unpacked, fullMoved, fullRefusals, fullRefusal, fullStepped}
 use Rattle.model.specs.Cases.{Cases, Examples}
+use Rattle.model.specs.PriceLists.{onlyList}
+use Rattle.model.specs.ListCases.{ListExamples}
 
 -- What a case is computed with. To unfold this is to unfold every name of its line.
 unfoldable pub computed : Bool
@@ -35,7 +37,7 @@ unfolding wholeRequest stepOf tablesAfter answersIn serveAll answersFrom answerT
     localGrocers ofOffer start starts localGrocer packed packedGrocers packedCounts priceTable totalTable reconciled deskAnswer deskRefusals recordsInRange recordInRange recordIn countedRecords
     standingRecords serialAmount ones lib.Count.onesIn layOver pickedPlaces bookShort bookRefusals jobRefusals
     totalsShort totalsInRange packTotals unpackTotals totalRows totalsStart totalsLength
-    totalPlace hasTotal isLocal unpacked fullView fullStore rowsShort rowsInRange fullMoved fullRefusals fullRefusal fullStepped groupStart placeGrocers
+    totalPlace hasTotal isLocal unpacked fullView fullStore rowsShort rowsInRange fullMoved fullRefusals fullRefusal fullStepped groupStart placeGrocers withLists spread onlyList
 computed = true
 
 pub cases : Cases
@@ -159,4 +161,48 @@ examples = record {
   packed-grocers = refl;
   rows-stay = refl;
   rows-21 = refl;
+}
+
+pub list-examples : ListExamples
+unfolding computed
+list-examples = record {
+  leaves = refl;
+  report = refl;
+  picked = refl;
+  words = refl;
+  entries = refl;
+  messages = refl;
+  steps = refl;
+  second = refl;
+  second-sum = refl;
+  fresh = refl;
+  sends = refl;
+  sent = refl;
+  totals = refl;
+  book = refl;
+  table = refl;
+  short = refl;
+  short-state = refl;
+  longer-state = refl;
+  eight = refl;
+  seven = refl;
+  dear = refl;
+  desk = refl;
+  packed-length = refl;
+  packed-starts = refl;
+  packed-places = refl;
+  packed-none = refl;
+  packed-groups = refl;
+  packed-grocers = refl;
+  packed-working = refl;
+  packed-enough = refl;
+  packed-short = refl;
+  packed-one-list = refl;
+  packed-past = refl;
+  packed-21 = refl;
+  packed-late = refl;
+  packed-eight = refl;
+  packed-seven = refl;
+  unpacked-rows = refl;
+  full-rows = refl;
 }

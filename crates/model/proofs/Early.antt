@@ -1,6 +1,6 @@
 -- Steps 4 and 5 are ready just where the standing tallies of the grocers concerned are added, and 26 follows. Assumes nothing.
-use mathlib.Core.Path.{_≡_, refl, _∙_}
-use mathlib.Core.Bool.{true, _&&_, _||_, not}
+use mathlib.Core.Path.{_≡_, refl, sym, ap, _∙_}
+use mathlib.Core.Bool.{Bool, true, _&&_, _||_, not}
 use Prim.Native.Nat.{ℕ, _<_}
 use lib.ListN.{getD}
 use lib.Dec.{eqb}
@@ -10,14 +10,15 @@ use Rattle.laws.proofs.Below.{all-at, all-of}
 use Rattle.laws.proofs.Tables.{word-in}
 use Rattle.recount.specs.Recount.{stands}
 use Rattle.model.specs.Job.{heldBy}
-use Rattle.model.specs.Steps.{kindOf, Steps, added, allAdded, ready}
-use Rattle.model.specs.Tables.{JobTables, countedOf, jobOf}
+use Rattle.model.specs.Steps.{Kind, sendTotals, addOwn, kindOf, Steps, added, allAdded, ready}
+use Rattle.model.specs.Tables.{JobTables, countedOf, jobOf, eveningOf}
 use Rattle.model.specs.Ranges.{jobInRange}
 use Rattle.model.specs.Step.{asked, isKind}
 use Rattle.model.specs.Early.{StandingFor, StandingAdded, EarlyTotals}
 use Rattle.model.proofs.Refusal.{rules-wait}
 use Rattle.model.proofs.Standing.{standing-count}
 use Rattle.model.proofs.Step.{job-in, in-handed, under-at}
+use Rattle.model.proofs.PriceLists.{same-steps}
 
 -- Tables in range.
 module _ (f : JobTables) (ok : jobInRange f ≡ true) where
@@ -56,14 +57,18 @@ module _ (f : JobTables) (ok : jobInRange f ≡ true) where
         let owned : eqb (jobOf f .grocerOwner (jobOf f .tallyGrocer t)) b ≡ true = rw (owner-word t (s .inside), s .grocerOwner) (eqb-same b) in
         rw (held, owned) at (all-at (f .tallies) (λ t. not (heldBy (jobOf f) t a && eqb (jobOf f .grocerOwner (jobOf f .tallyGrocer t)) b) || added (jobOf f) d t) t (s .inside) h)
 
+  -- Steps are ready in the evening's job just where they are in the job of the entries.
+  ready-as : (d : Steps) (k : Kind) (a b : ℕ) → ready (eveningOf f) d k a b ≡ ready (jobOf f) d k a b
+  ready-as d k a b = ap (λ (r : Steps → Kind → ℕ → ℕ → Bool). r d k a b) (same-steps f .makesReady)
+
   pub early-totals : (d : Steps) → EarlyTotals f d
   unfolding ready StandingAdded isKind kindOf
   early-totals d = record {
-    sends = all-standing d;
-    sendsOnly = standing-all d;
-    adds = λ a. all-standing d a a;
-    addsOnly = λ a. standing-all d a a;
-    fromStart = λ a none. all-standing d a a (λ t s. absurd (none t s));
-    sendRefusal = λ a b. rules-wait (jobOf f) d (asked 4 a b) refl;
-    addRefusal = λ a. rules-wait (jobOf f) d (asked 5 a a) refl;
+    sends = λ a b h. ready-as d sendTotals a b ∙ all-standing d a b h;
+    sendsOnly = λ a b h. standing-all d a b (sym (ready-as d sendTotals a b) ∙ h);
+    adds = λ a h. ready-as d addOwn a a ∙ all-standing d a a h;
+    addsOnly = λ a h. standing-all d a a (sym (ready-as d addOwn a a) ∙ h);
+    fromStart = λ a none. ready-as d addOwn a a ∙ all-standing d a a (λ t s. absurd (none t s));
+    sendRefusal = λ a b. rules-wait (eveningOf f) d (asked 4 a b) refl;
+    addRefusal = λ a. rules-wait (eveningOf f) d (asked 5 a a) refl;
   }

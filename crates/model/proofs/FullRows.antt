@@ -18,15 +18,15 @@ use Rattle.recount.specs.Recount.{countedTwice}
 use Rattle.model.specs.Job.{Job}
 use Rattle.model.specs.Steps.{State, fresh, kindOf, effect}
 use Rattle.model.specs.PackedTotals.{hasTotal, totalsLength, totalRows, packTotals, unpackTotals}
-use Rattle.model.specs.Tables.{JobTables, countedOf, jobOf, StateTables, view, store, stateLengths, stateShort, lentShort, totalsShort}
+use Rattle.model.specs.Tables.{JobTables, countedOf, eveningOf, StateTables, view, store, stateLengths, stateShort, lentShort, totalsShort}
 use Rattle.model.specs.Ranges.{around, jobInRange, stateInRange, totalsInRange}
 use Rattle.model.specs.Step.{Asked, stepRules, moved, refusals, stepRefusal, stepTables, stepAnswer, stepped, freshTables}
 use Rattle.model.specs.Run.{runState, runRefusals, ran}
-use Rattle.model.specs.FullRows.{fullView, fullStore, rowsShort, rowsInRange, unpacked, repacked, fullMoved, fullRefusals, fullRefusal, fullStepped, fullRan, TotalsIn, SameStep, answersBy, tablesBy, SameSteps, SameFresh, SameRun}
+use Rattle.model.specs.FullRows.{fullView, fullStore, rowsShort, rowsInRange, unpacked, repacked, fullMoved, fullRefusals, fullRefusal, fullStepped, fullRan, TotalsIn, SameStep, answersBy, tablesBy, SameRequests, SameFresh, SameRun}
 use Rattle.model.specs.FullRows.{FromRows}
 use Rattle.model.proofs.Core.{state-eq}
 use Rattle.model.proofs.Range.{InRange}
-use Rattle.model.proofs.Step.{range, in-handed, around-over, around-at, whole-totals}
+use Rattle.model.proofs.Step.{evening-range, in-handed, around-over, around-at, whole-totals}
 use Rattle.model.proofs.PackedTotals.{total-inside, unpack-pack, unpack-out, pack-over, pack-cong, pack-pack, pack-long, pack-unpack, rows-each, around-rows}
 use Rattle.model.proofs.LocalTotals.{atLocal, effect-local, working-stays, transit-stays, form-local}
 use Rattle.model.proofs.Lent.{totals-long}
@@ -126,55 +126,55 @@ module _ (f : JobTables) (j : Job) (t : StateTables) where
 
 -- Where the job is in range.
 module _ (f : JobTables) (ok : jobInRange f ≡ true) where
-  in-range : InRange (jobOf f)
-  in-range = range f (in-handed f ok)
+  in-range : InRange (eveningOf f)
+  in-range = evening-range f (in-handed f ok)
 
   module _ (t : StateTables) (q : Asked) where
-    moved-local : atLocal (jobOf f) (effect (jobOf f) (view (jobOf f) t) (kindOf (q .kind)) (q .first) (q .second))
-        ≡ effect (jobOf f) (view (jobOf f) t) (kindOf (q .kind)) (q .first) (q .second)
+    moved-local : atLocal (eveningOf f) (effect (eveningOf f) (view (eveningOf f) t) (kindOf (q .kind)) (q .first) (q .second))
+        ≡ effect (eveningOf f) (view (eveningOf f) t) (kindOf (q .kind)) (q .first) (q .second)
     moved-local =
-        sym (effect-local (jobOf f) in-range (view (jobOf f) t) (view-inside (jobOf f) t) (kindOf (q .kind)) (q .first) (q .second))
-        ∙ ap (λ (s : State). effect (jobOf f) s (kindOf (q .kind)) (q .first) (q .second)) (view-local (jobOf f) t)
+        sym (effect-local (eveningOf f) in-range (view (eveningOf f) t) (view-inside (eveningOf f) t) (kindOf (q .kind)) (q .first) (q .second))
+        ∙ ap (λ (s : State). effect (eveningOf f) s (kindOf (q .kind)) (q .first) (q .second)) (view-local (eveningOf f) t)
 
     -- What the step leaves, unpacked.
-    moved-same : unpacked (jobOf f) (moved f t q) ≡ fullMoved f (unpacked (jobOf f) t) q
+    moved-same : unpacked (eveningOf f) (moved f t q) ≡ fullMoved f (unpacked (eveningOf f) t) q
     unfolding moved fullMoved
     moved-same =
-        unpack-store (jobOf f) (effect (jobOf f) (view (jobOf f) t) (kindOf (q .kind)) (q .first) (q .second)) t moved-local
-        ∙ ap (λ (s : State). fullStore (jobOf f) (effect (jobOf f) s (kindOf (q .kind)) (q .first) (q .second)) (unpacked (jobOf f) t)) (sym (view-full (jobOf f) t))
+        unpack-store (eveningOf f) (effect (eveningOf f) (view (eveningOf f) t) (kindOf (q .kind)) (q .first) (q .second)) t moved-local
+        ∙ ap (λ (s : State). fullStore (eveningOf f) (effect (eveningOf f) s (kindOf (q .kind)) (q .first) (q .second)) (unpacked (eveningOf f) t)) (sym (view-full (eveningOf f) t))
 
-    late-same : (stateInRange f (fullMoved f (unpacked (jobOf f) t) q) && rowsInRange (jobOf f) (fullMoved f (unpacked (jobOf f) t) q))
-        ≡ (stateInRange f (moved f t q) && totalsInRange (jobOf f) (moved f t q))
+    late-same : (stateInRange f (fullMoved f (unpacked (eveningOf f) t) q) && rowsInRange (eveningOf f) (fullMoved f (unpacked (eveningOf f) t) q))
+        ≡ (stateInRange f (moved f t q) && totalsInRange (eveningOf f) (moved f t q))
     late-same =
-        ap (λ (v : StateTables). stateInRange f v && rowsInRange (jobOf f) v) (sym moved-same)
-        ∙ ap₂ _&&_ (else-same f (jobOf f) (moved f t q)) (sym (totals-rows (jobOf f) (moved f t q)))
+        ap (λ (v : StateTables). stateInRange f v && rowsInRange (eveningOf f) v) (sym moved-same)
+        ∙ ap₂ _&&_ (else-same f (eveningOf f) (moved f t q)) (sym (totals-rows (eveningOf f) (moved f t q)))
 
 -- The number of the refusal.
-module _ (f : JobTables) (t : StateTables) (q : Asked) (x : TotalsIn (jobOf f) t) where
-  rows-ok : rowsInRange (jobOf f) (unpacked (jobOf f) t) ≡ true
-  rows-ok = sym (totals-rows (jobOf f) t) ∙ x .inRange
+module _ (f : JobTables) (t : StateTables) (q : Asked) (x : TotalsIn (eveningOf f) t) where
+  rows-ok : rowsInRange (eveningOf f) (unpacked (eveningOf f) t) ≡ true
+  rows-ok = sym (totals-rows (eveningOf f) t) ∙ x .inRange
 
-  number-in : jobInRange f ≡ true → stepRefusal f t q ≡ fullRefusal f (unpacked (jobOf f) t) q
+  number-in : jobInRange f ≡ true → stepRefusal f t q ≡ fullRefusal f (unpacked (eveningOf f) t) q
   unfolding stepRefusal refusals fullRefusal fullRefusals firstMet
   number-in ok =
       rw (
         x .long,
         x .inRange,
-        lent-same f (jobOf f) t,
-        rows-whole (jobOf f) t,
+        lent-same f (eveningOf f) t,
+        rows-whole (eveningOf f) t,
         or-false (lentShort f t),
-        else-same f (jobOf f) t,
+        else-same f (eveningOf f) t,
         rows-ok,
         and-one (stateInRange f t),
-        view-full (jobOf f) t,
+        view-full (eveningOf f) t,
         late-same f ok t q,
       )
 
-  number-out : jobInRange f ≡ false → (stepRefusal f t q ≡ cond (lentShort f t) 20 21) × (fullRefusal f (unpacked (jobOf f) t) q ≡ cond (lentShort f t) 20 21)
+  number-out : jobInRange f ≡ false → (stepRefusal f t q ≡ cond (lentShort f t) 20 21) × (fullRefusal f (unpacked (eveningOf f) t) q ≡ cond (lentShort f t) 20 21)
   unfolding stepRefusal refusals fullRefusal fullRefusals firstMet
-  number-out e = (rw e, rw (e, lent-same f (jobOf f) t, rows-whole (jobOf f) t, or-false (lentShort f t)))
+  number-out e = (rw e, rw (e, lent-same f (eveningOf f) t, rows-whole (eveningOf f) t, or-false (lentShort f t)))
 
-  number-same : stepRefusal f t q ≡ fullRefusal f (unpacked (jobOf f) t) q
+  number-same : stepRefusal f t q ≡ fullRefusal f (unpacked (eveningOf f) t) q
   number-same = split (jobInRange f) (λ e. number-in e) (λ e. number-out e .0 ∙ sym (number-out e .1))
 
   -- An accepted step had a job in range,
@@ -186,36 +186,36 @@ module _ (f : JobTables) (t : StateTables) (q : Asked) (x : TotalsIn (jobOf f) t
       refused false e = omega arith
 
   -- and leaves totals in range.
-  zero-late : stepRefusal f t q ≡ 0 → totalsInRange (jobOf f) (moved f t q) ≡ true
+  zero-late : stepRefusal f t q ≡ 0 → totalsInRange (eveningOf f) (moved f t q) ≡ true
   unfolding stepRefusal refusals firstMet
   zero-late e =
       let a = none-met (lentShort f t) 20 _ (λ z. omega arith) e in
       let b = none-met (not (jobInRange f && stateInRange f t)) 21 _ (λ z. omega arith) a in
       let c = none-met (countedTwice (countedOf f)) 9 _ (λ z. omega arith) b in
-      let d = none-met (totalsShort (jobOf f) (stateLengths t)) 20 _ (λ z. omega arith) c in
-      let r = none-met (not (totalsInRange (jobOf f) t)) 21 _ (λ z. omega arith) d in
-      let late = not (stateInRange f (moved f t q) && totalsInRange (jobOf f) (moved f t q)) in
-      let rules = firstMet (stepRules (jobOf f) (view (jobOf f) t .done) q) in
-      let w : cond (eqb rules 0) (cond late 21 0) rules ≡ 0 = sym (rules-then (jobOf f) (view (jobOf f) t .done) q late) ∙ r in
+      let d = none-met (totalsShort (eveningOf f) (stateLengths t)) 20 _ (λ z. omega arith) c in
+      let r = none-met (not (totalsInRange (eveningOf f) t)) 21 _ (λ z. omega arith) d in
+      let late = not (stateInRange f (moved f t q) && totalsInRange (eveningOf f) (moved f t q)) in
+      let rules = firstMet (stepRules (eveningOf f) (view (eveningOf f) t .done) q) in
+      let w : cond (eqb rules 0) (cond late 21 0) rules ≡ 0 = sym (rules-then (eveningOf f) (view (eveningOf f) t .done) q late) ∙ r in
       and-r (stateInRange f (moved f t q)) _ (not-not _ (last rules late w))
     where
       last : (n : ℕ) (c : Bool) → cond (eqb n 0) (cond c 21 0) n ≡ 0 → c ≡ false
       last zero c e = not-met c 21 (λ z. omega arith) e
       last (suc n) c e = let z : suc n ≡ 0 = rw (ne-eqb (suc n) 0 (λ z. omega arith)) at e in absurd (omega arith)
 
-  words-same : unpacked (jobOf f) (stepTables f t q) ≡ cond (eqb (fullRefusal f (unpacked (jobOf f) t) q) 0) (fullMoved f (unpacked (jobOf f) t) q) (unpacked (jobOf f) t)
+  words-same : unpacked (eveningOf f) (stepTables f t q) ≡ cond (eqb (fullRefusal f (unpacked (eveningOf f) t) q) 0) (fullMoved f (unpacked (eveningOf f) t) q) (unpacked (eveningOf f) t)
   unfolding stepTables
   words-same =
       split (eqb (stepRefusal f t q) 0)
       (λ e. rw (← number-same, e) (moved-same f (zero-in (eqb-true (stepRefusal f t q) 0 e)) t q))
       (λ e. rw (← number-same, e))
 
-  again-in : TotalsIn (jobOf f) (stepTables f t q)
+  again-in : TotalsIn (eveningOf f) (stepTables f t q)
   unfolding stepTables moved
   again-in =
       split (eqb (stepRefusal f t q) 0)
       (λ e. rw e (record {
-        long = whole-totals (jobOf f) (effect (jobOf f) (view (jobOf f) t) (kindOf (q .kind)) (q .first) (q .second)) t;
+        long = whole-totals (eveningOf f) (effect (eveningOf f) (view (eveningOf f) t) (kindOf (q .kind)) (q .first) (q .second)) t;
         inRange = zero-late (eqb-true (stepRefusal f t q) 0 e);
       }))
       (λ e. rw e x)
@@ -253,39 +253,39 @@ module _ (j : Job) where
   }
 
 module _ (f : JobTables) where
-  repack-step : (t : StateTables) (q : Asked) → totalsShort (jobOf f) (stateLengths t) ≡ false → repacked (jobOf f) (unpacked (jobOf f) (stepTables f t q)) t ≡ stepTables f t q
+  repack-step : (t : StateTables) (q : Asked) → totalsShort (eveningOf f) (stateLengths t) ≡ false → repacked (eveningOf f) (unpacked (eveningOf f) (stepTables f t q)) t ≡ stepTables f t q
   unfolding stepTables moved
   repack-step t q h =
       split (eqb (stepRefusal f t q) 0)
-      (λ e. rw e (repack-store (jobOf f) (effect (jobOf f) (view (jobOf f) t) (kindOf (q .kind)) (q .first) (q .second)) t))
-      (λ e. rw e (repack-same (jobOf f) t h))
+      (λ e. rw e (repack-store (eveningOf f) (effect (eveningOf f) (view (eveningOf f) t) (kindOf (q .kind)) (q .first) (q .second)) t))
+      (λ e. rw e (repack-same (eveningOf f) t h))
 
   -- Each step on packed tables is the step on full rows.
-  pub same-step : (t : StateTables) (q : Asked) → TotalsIn (jobOf f) t → SameStep f t q
+  pub same-step : (t : StateTables) (q : Asked) → TotalsIn (eveningOf f) t → SameStep f t q
   unfolding stepped fullStepped
   same-step t q x = record {
     answer = ap stepAnswer (number-same f t q x);
     words = words-same f t q x;
-    packed = sym (repack-step t q (x .long)) ∙ ap (λ (v : StateTables). repacked (jobOf f) v t) (words-same f t q x);
+    packed = sym (repack-step t q (x .long)) ∙ ap (λ (v : StateTables). repacked (eveningOf f) v t) (words-same f t q x);
     again = again-in f t q x;
   }
 
-  answers-same : (t : StateTables) (qs : List Asked) → TotalsIn (jobOf f) t → answersBy (stepped f) t qs ≡ answersBy (fullStepped f) (unpacked (jobOf f) t) qs
+  answers-same : (t : StateTables) (qs : List Asked) → TotalsIn (eveningOf f) t → answersBy (stepped f) t qs ≡ answersBy (fullStepped f) (unpacked (eveningOf f) t) qs
   unfolding answersBy
   answers-same t [] x = refl
   answers-same t (q ∷ qs) x =
       ap₂ _∷_ (same-step t q x .answer)
       (answers-same (stepped f t q .tables) qs (same-step t q x .again) ∙ ap (λ (v : StateTables). answersBy (fullStepped f) v qs) (same-step t q x .words))
 
-  tables-same : (t : StateTables) (qs : List Asked) → TotalsIn (jobOf f) t → unpacked (jobOf f) (tablesBy (stepped f) t qs) ≡ tablesBy (fullStepped f) (unpacked (jobOf f) t) qs
+  tables-same : (t : StateTables) (qs : List Asked) → TotalsIn (eveningOf f) t → unpacked (eveningOf f) (tablesBy (stepped f) t qs) ≡ tablesBy (fullStepped f) (unpacked (eveningOf f) t) qs
   unfolding tablesBy
   tables-same t [] x = refl
   tables-same t (q ∷ qs) x =
       tables-same (stepped f t q .tables) qs (same-step t q x .again) ∙ ap (λ (v : StateTables). tablesBy (fullStepped f) v qs) (same-step t q x .words)
 
   -- So is every list of steps.
-  pub same-steps : (t : StateTables) (qs : List Asked) → TotalsIn (jobOf f) t → SameSteps f t qs
-  same-steps t qs x = record { answers = answers-same t qs x; words = tables-same t qs x }
+  pub same-requests : (t : StateTables) (qs : List Asked) → TotalsIn (eveningOf f) t → SameRequests f t qs
+  same-requests t qs x = record { answers = answers-same t qs x; words = tables-same t qs x }
 
 -- A fresh state.
 module _ (j : Job) (t : StateTables) where
@@ -307,16 +307,16 @@ module _ (j : Job) (t : StateTables) where
 pub same-fresh : (f : JobTables) (t : StateTables) → SameFresh f t
 unfolding freshTables
 same-fresh f t = record {
-  words = unpack-store (jobOf f) (fresh (jobOf f)) t (fresh-local (jobOf f) t);
-  inside = record { long = whole-totals (jobOf f) (fresh (jobOf f)) t; inRange = fresh-in (jobOf f) t };
+  words = unpack-store (eveningOf f) (fresh (eveningOf f)) t (fresh-local (eveningOf f) t);
+  inside = record { long = whole-totals (eveningOf f) (fresh (eveningOf f)) t; inRange = fresh-in (eveningOf f) t };
 }
 
 -- The run.
-module _ (f : JobTables) (t : StateTables) (cs p : List ℕ) (x : totalsShort (jobOf f) (stateLengths t) ≡ false) where
+module _ (f : JobTables) (t : StateTables) (cs p : List ℕ) (x : totalsShort (eveningOf f) (stateLengths t) ≡ false) where
   run-met : firstMet (runRefusals f t)
-      ≡ firstMet ((lentShort f (unpacked (jobOf f) t) || rowsShort (jobOf f) (stateLengths (unpacked (jobOf f) t)), 20) ∷ (not (jobInRange f), 21) ∷ (countedTwice (countedOf f), 9) ∷ [])
+      ≡ firstMet ((lentShort f (unpacked (eveningOf f) t) || rowsShort (eveningOf f) (stateLengths (unpacked (eveningOf f) t)), 20) ∷ (not (jobInRange f), 21) ∷ (countedTwice (countedOf f), 9) ∷ [])
   unfolding runRefusals firstMet
-  run-met = rw (x, lent-same f (jobOf f) t, rows-whole (jobOf f) t, or-false (lentShort f t))
+  run-met = rw (x, lent-same f (eveningOf f) t, rows-whole (eveningOf f) t, or-false (lentShort f t))
 
   run-in : firstMet (runRefusals f t) ≡ 0 → jobInRange f ≡ true
   unfolding runRefusals firstMet
@@ -327,10 +327,10 @@ module _ (f : JobTables) (t : StateTables) (cs p : List ℕ) (x : totalsShort (j
       refused : _≡_ {A = ℕ} 21 0 → ⊥
       refused z = omega arith
 
-  run-local : jobInRange f ≡ true → atLocal (jobOf f) (runState (jobOf f) cs) ≡ runState (jobOf f) cs
+  run-local : jobInRange f ≡ true → atLocal (eveningOf f) (runState (eveningOf f) cs) ≡ runState (eveningOf f) cs
   run-local ok =
-      ap (atLocal (jobOf f)) (run-all f (in-handed f ok) cs)
-      ∙ form-local (jobOf f) (range f (in-handed f ok)) _
+      ap (atLocal (eveningOf f)) (run-all f (in-handed f ok) cs)
+      ∙ form-local (eveningOf f) (evening-range f (in-handed f ok)) _
       ∙ sym (run-all f (in-handed f ok) cs)
 
   -- A run on packed tables is the run on full rows.
@@ -340,7 +340,7 @@ module _ (f : JobTables) (t : StateTables) (cs p : List ℕ) (x : totalsShort (j
     answer = rw run-met;
     words =
         split (eqb (firstMet (runRefusals f t)) 0)
-        (λ e. rw (← run-met, e) (unpack-store (jobOf f) (runState (jobOf f) cs) t (run-local (run-in (eqb-true (firstMet (runRefusals f t)) 0 e)))))
+        (λ e. rw (← run-met, e) (unpack-store (eveningOf f) (runState (eveningOf f) cs) t (run-local (run-in (eqb-true (firstMet (runRefusals f t)) 0 e)))))
         (λ e. rw (← run-met, e));
     picked = rw run-met;
   }
@@ -386,119 +386,120 @@ module _ (j : Job) where
           (λ e. rw (e, same b g e))
           (λ e. rw (e, le-leb (natAbs (w b g)) m (out b g e)) (le-leb 0 m (omega arith))))
 
-module _ (f : JobTables) (u t : StateTables) (q : Asked) (long : rowsShort (jobOf f) (stateLengths u) ≡ false) (inside : rowsInRange (jobOf f) u ≡ true) where
-  working-range : (b g : ℕ) → natAbs (cell (jobOf f .boxes) (jobOf f .grocers) (u .working) (pos 0) b g) ≤ maxAmount
+module _ (f : JobTables) (u t : StateTables) (q : Asked) (long : rowsShort (eveningOf f) (stateLengths u) ≡ false) (inside : rowsInRange (eveningOf f) u ≡ true) where
+  working-range : (b g : ℕ) → natAbs (cell (eveningOf f .boxes) (eveningOf f .grocers) (u .working) (pos 0) b g) ≤ maxAmount
   unfolding rowsInRange
-  working-range = cell-range (jobOf f) maxAmount (u .working) (and-l (around maxAmount (jobOf f .boxes * jobOf f .grocers) (u .working)) _ inside)
+  working-range = cell-range (eveningOf f) maxAmount (u .working) (and-l (around maxAmount (eveningOf f .boxes * eveningOf f .grocers) (u .working)) _ inside)
 
-  transit-range : (b g : ℕ) → natAbs (cell (jobOf f .boxes) (jobOf f .grocers) (u .totalTransit) (pos 0) b g) ≤ maxAmount
+  transit-range : (b g : ℕ) → natAbs (cell (eveningOf f .boxes) (eveningOf f .grocers) (u .totalTransit) (pos 0) b g) ≤ maxAmount
   unfolding rowsInRange
-  transit-range = cell-range (jobOf f) maxAmount (u .totalTransit) (and-r (around maxAmount (jobOf f .boxes * jobOf f .grocers) (u .working)) _ inside)
+  transit-range = cell-range (eveningOf f) maxAmount (u .totalTransit) (and-r (around maxAmount (eveningOf f .boxes * eveningOf f .grocers) (u .working)) _ inside)
 
-  full-inside : (b g : ℕ) → (ltb b (jobOf f .boxes) && ltb g (jobOf f .grocers)) ≡ false → fullView (jobOf f) u .working b g ≡ pos 0
+  full-inside : (b g : ℕ) → (ltb b (eveningOf f .boxes) && ltb g (eveningOf f .grocers)) ≡ false → fullView (eveningOf f) u .working b g ≡ pos 0
   unfolding fullView
-  full-inside b g e = cell-out (jobOf f) (u .working) b g e
+  full-inside b g e = cell-out (eveningOf f) (u .working) b g e
 
   -- What the packed tables hold.
-  read-packed : view (jobOf f) (repacked (jobOf f) u t) ≡ atLocal (jobOf f) (fullView (jobOf f) u)
+  read-packed : view (eveningOf f) (repacked (eveningOf f) u t) ≡ atLocal (eveningOf f) (fullView (eveningOf f) u)
   unfolding view repacked fullView atLocal
   read-packed =
-      state-eq (view (jobOf f) (repacked (jobOf f) u t)) (atLocal (jobOf f) (fullView (jobOf f) u))
+      state-eq (view (eveningOf f) (repacked (eveningOf f) u t)) (atLocal (eveningOf f) (fullView (eveningOf f) u))
       (λ b o. refl) (λ b o. refl)
-      (unpack-pack (jobOf f) (cell (jobOf f .boxes) (jobOf f .grocers) (u .working) (pos 0)) (t .working))
-      (unpack-pack (jobOf f) (cell (jobOf f .boxes) (jobOf f .grocers) (u .totalTransit) (pos 0)) (t .totalTransit))
+      (unpack-pack (eveningOf f) (cell (eveningOf f .boxes) (eveningOf f .grocers) (u .working) (pos 0)) (t .working))
+      (unpack-pack (eveningOf f) (cell (eveningOf f .boxes) (eveningOf f .grocers) (u .totalTransit) (pos 0)) (t .totalTransit))
       (λ g. refl) refl refl
 
-  done-packed : view (jobOf f) (repacked (jobOf f) u t) .done ≡ fullView (jobOf f) u .done
+  done-packed : view (eveningOf f) (repacked (eveningOf f) u t) .done ≡ fullView (eveningOf f) u .done
   unfolding view repacked fullView
   done-packed = refl
 
-  packed-long : totalsShort (jobOf f) (stateLengths (repacked (jobOf f) u t)) ≡ false
+  packed-long : totalsShort (eveningOf f) (stateLengths (repacked (eveningOf f) u t)) ≡ false
   unfolding totalsShort stateLengths repacked
   packed-long =
       rw (
-        le-ltb _ _ (pack-long (jobOf f) (cell (jobOf f .boxes) (jobOf f .grocers) (u .working) (pos 0)) (t .working)),
-        le-ltb _ _ (pack-long (jobOf f) (cell (jobOf f .boxes) (jobOf f .grocers) (u .totalTransit) (pos 0)) (t .totalTransit)),
+        le-ltb _ _ (pack-long (eveningOf f) (cell (eveningOf f .boxes) (eveningOf f .grocers) (u .working) (pos 0)) (t .working)),
+        le-ltb _ _ (pack-long (eveningOf f) (cell (eveningOf f .boxes) (eveningOf f .grocers) (u .totalTransit) (pos 0)) (t .totalTransit)),
       )
 
-  packed-in : totalsInRange (jobOf f) (repacked (jobOf f) u t) ≡ true
+  packed-in : totalsInRange (eveningOf f) (repacked (eveningOf f) u t) ≡ true
   unfolding totalsInRange repacked
   packed-in = and-true (one (u .working) (t .working) working-range) (one (u .totalTransit) (t .totalTransit) transit-range)
     where
-      one : (l l′ : List ℤ) → ((b g : ℕ) → natAbs (cell (jobOf f .boxes) (jobOf f .grocers) l (pos 0) b g) ≤ maxAmount) →
-          around maxAmount (totalsLength (jobOf f)) (packTotals (jobOf f) (cell (jobOf f .boxes) (jobOf f .grocers) l (pos 0)) l′) ≡ true
+      one : (l l′ : List ℤ) → ((b g : ℕ) → natAbs (cell (eveningOf f .boxes) (eveningOf f .grocers) l (pos 0) b g) ≤ maxAmount) →
+          around maxAmount (totalsLength (eveningOf f)) (packTotals (eveningOf f) (cell (eveningOf f .boxes) (eveningOf f .grocers) l (pos 0)) l′) ≡ true
       one l l′ h =
-          rw (pack-over (jobOf f) (cell (jobOf f .boxes) (jobOf f .grocers) l (pos 0)) l′)
-          (around-over maxAmount (totalsLength (jobOf f)) (λ i. getD (totalRows (jobOf f) (jobOf f .boxes) (cell (jobOf f .boxes) (jobOf f .grocers) l (pos 0))) i (pos 0)) l′
-          (rows-each (jobOf f) (cell (jobOf f .boxes) (jobOf f .grocers) l (pos 0)) (λ (z : ℤ). natAbs z ≤ maxAmount) (omega arith) h))
+          rw (pack-over (eveningOf f) (cell (eveningOf f .boxes) (eveningOf f .grocers) l (pos 0)) l′)
+          (around-over maxAmount (totalsLength (eveningOf f)) (λ i. getD (totalRows (eveningOf f) (eveningOf f .boxes) (cell (eveningOf f .boxes) (eveningOf f .grocers) l (pos 0))) i (pos 0)) l′
+          (rows-each (eveningOf f) (cell (eveningOf f .boxes) (eveningOf f .grocers) l (pos 0)) (λ (z : ℤ). natAbs z ≤ maxAmount) (omega arith) h))
 
-  lent-packed : lentShort f (repacked (jobOf f) u t) ≡ lentShort f u
+  lent-packed : lentShort f (repacked (eveningOf f) u t) ≡ lentShort f u
   unfolding lentShort stateShort stateLengths repacked
   lent-packed = refl
 
-  else-packed : (v : StateTables) → stateInRange f (repacked (jobOf f) v t) ≡ stateInRange f v
+  else-packed : (v : StateTables) → stateInRange f (repacked (eveningOf f) v t) ≡ stateInRange f v
   unfolding stateInRange repacked
   else-packed v = refl
 
   -- What the step leaves, where the job is in range.
   module _ (ok : jobInRange f ≡ true) where
     abbrev end : State
-    end = effect (jobOf f) (fullView (jobOf f) u) (kindOf (q .kind)) (q .first) (q .second)
+    end = effect (eveningOf f) (fullView (eveningOf f) u) (kindOf (q .kind)) (q .first) (q .second)
 
-    end-packed : effect (jobOf f) (view (jobOf f) (repacked (jobOf f) u t)) (kindOf (q .kind)) (q .first) (q .second) ≡ atLocal (jobOf f) end
+    end-packed : effect (eveningOf f) (view (eveningOf f) (repacked (eveningOf f) u t)) (kindOf (q .kind)) (q .first) (q .second) ≡ atLocal (eveningOf f) end
     end-packed =
-        ap (λ (s : State). effect (jobOf f) s (kindOf (q .kind)) (q .first) (q .second)) read-packed
-        ∙ effect-local (jobOf f) (in-range f ok) (fullView (jobOf f) u) full-inside (kindOf (q .kind)) (q .first) (q .second)
+        ap (λ (s : State). effect (eveningOf f) s (kindOf (q .kind)) (q .first) (q .second)) read-packed
+        ∙ effect-local (eveningOf f) (in-range f ok) (fullView (eveningOf f) u) full-inside (kindOf (q .kind)) (q .first) (q .second)
 
     one-packed : (w : ℕ → ℕ → ℤ) (l l′ : List ℤ) (v : ℕ → ℕ → ℤ) →
-        packTotals (jobOf f) (λ b g. cond (hasTotal (jobOf f) b g) (w b g) (pos 0)) (packTotals (jobOf f) v l′)
-        ≡ packTotals (jobOf f) (cell (jobOf f .boxes) (jobOf f .grocers) (recell (jobOf f .boxes) (jobOf f .grocers) w l) (pos 0)) l′
+        packTotals (eveningOf f) (λ b g. cond (hasTotal (eveningOf f) b g) (w b g) (pos 0)) (packTotals (eveningOf f) v l′)
+        ≡ packTotals (eveningOf f) (cell (eveningOf f .boxes) (eveningOf f .grocers) (recell (eveningOf f .boxes) (eveningOf f .grocers) w l) (pos 0)) l′
     one-packed w l l′ v =
-        pack-pack (jobOf f) (λ b g. cond (hasTotal (jobOf f) b g) (w b g) (pos 0)) v l′
-        ∙ pack-cong (jobOf f) (λ b g. cond (hasTotal (jobOf f) b g) (w b g) (pos 0)) (cell (jobOf f .boxes) (jobOf f .grocers) (recell (jobOf f .boxes) (jobOf f .grocers) w l) (pos 0)) l′
-        (λ b g h. rw (h, cell-recell (jobOf f .boxes) (jobOf f .grocers) w l (pos 0) b g, total-inside (jobOf f) b g h))
+        pack-pack (eveningOf f) (λ b g. cond (hasTotal (eveningOf f) b g) (w b g) (pos 0)) v l′
+        ∙ pack-cong (eveningOf f) (λ b g. cond (hasTotal (eveningOf f) b g) (w b g) (pos 0)) (cell (eveningOf f .boxes) (eveningOf f .grocers) (recell (eveningOf f .boxes) (eveningOf f .grocers) w l) (pos 0)) l′
+        (λ b g h. rw (h, cell-recell (eveningOf f .boxes) (eveningOf f .grocers) w l (pos 0) b g, total-inside (eveningOf f) b g h))
 
-    store-packed : store (jobOf f) (atLocal (jobOf f) end) (repacked (jobOf f) u t) ≡ repacked (jobOf f) (fullStore (jobOf f) end u) t
+    store-packed : store (eveningOf f) (atLocal (eveningOf f) end) (repacked (eveningOf f) u t) ≡ repacked (eveningOf f) (fullStore (eveningOf f) end u) t
     unfolding store atLocal repacked fullStore
     store-packed = λ i. record {
-      known = store (jobOf f) end u .known;
-      priceTransit = store (jobOf f) end u .priceTransit;
-      working = one-packed (end .working) (u .working) (t .working) (cell (jobOf f .boxes) (jobOf f .grocers) (u .working) (pos 0)) i;
-      totalTransit = one-packed (end .totalTransit) (u .totalTransit) (t .totalTransit) (cell (jobOf f .boxes) (jobOf f .grocers) (u .totalTransit) (pos 0)) i;
-      statement = store (jobOf f) end u .statement;
-      done = store (jobOf f) end u .done;
-      sent = store (jobOf f) end u .sent;
+      known = store (eveningOf f) end u .known;
+      priceTransit = store (eveningOf f) end u .priceTransit;
+      working = one-packed (end .working) (u .working) (t .working) (cell (eveningOf f .boxes) (eveningOf f .grocers) (u .working) (pos 0)) i;
+      totalTransit = one-packed (end .totalTransit) (u .totalTransit) (t .totalTransit) (cell (eveningOf f .boxes) (eveningOf f .grocers) (u .totalTransit) (pos 0)) i;
+      statement = store (eveningOf f) end u .statement;
+      done = store (eveningOf f) end u .done;
+      sent = store (eveningOf f) end u .sent;
     }
 
-    moved-packed : moved f (repacked (jobOf f) u t) q ≡ repacked (jobOf f) (fullMoved f u q) t
+    moved-packed : moved f (repacked (eveningOf f) u t) q ≡ repacked (eveningOf f) (fullMoved f u q) t
     unfolding moved fullMoved
-    moved-packed = ap (λ (s : State). store (jobOf f) s (repacked (jobOf f) u t)) end-packed ∙ store-packed
+    moved-packed = ap (λ (s : State). store (eveningOf f) s (repacked (eveningOf f) u t)) end-packed ∙ store-packed
 
     -- Other words of full rows stay.
-    working-end : (b g : ℕ) → hasTotal (jobOf f) b g ≡ false → end .working b g ≡ fullView (jobOf f) u .working b g
-    working-end b g h = working-stays (jobOf f) (in-range f ok) (fullView (jobOf f) u) full-inside (kindOf (q .kind)) (q .first) (q .second) b g h
+    working-end : (b g : ℕ) → hasTotal (eveningOf f) b g ≡ false → end .working b g ≡ fullView (eveningOf f) u .working b g
+    working-end b g h = working-stays (eveningOf f) (in-range f ok) (fullView (eveningOf f) u) full-inside (kindOf (q .kind)) (q .first) (q .second) b g h
 
-    transit-end : (b g : ℕ) → hasTotal (jobOf f) b g ≡ false → end .totalTransit b g ≡ fullView (jobOf f) u .totalTransit b g
-    transit-end b g h = transit-stays (jobOf f) (in-range f ok) (fullView (jobOf f) u) full-inside (kindOf (q .kind)) (q .first) (q .second) b g h
+    transit-end : (b g : ℕ) → hasTotal (eveningOf f) b g ≡ false → end .totalTransit b g ≡ fullView (eveningOf f) u .totalTransit b g
+    transit-end b g h = transit-stays (eveningOf f) (in-range f ok) (fullView (eveningOf f) u) full-inside (kindOf (q .kind)) (q .first) (q .second) b g h
 
-    range-packed : totalsInRange (jobOf f) (repacked (jobOf f) (fullMoved f u q) t) ≡ rowsInRange (jobOf f) (fullMoved f u q)
+    range-packed : totalsInRange (eveningOf f) (repacked (eveningOf f) (fullMoved f u q) t) ≡ rowsInRange (eveningOf f) (fullMoved f u q)
     unfolding totalsInRange rowsInRange repacked fullMoved fullStore fullView
     range-packed =
         ap₂ _&&_
-        (around-packed (jobOf f) maxAmount (end .working) (cell (jobOf f .boxes) (jobOf f .grocers) (recell (jobOf f .boxes) (jobOf f .grocers) (end .working) (u .working)) (pos 0)) (u .working) (t .working)
-        (λ b g h. rw (cell-recell (jobOf f .boxes) (jobOf f .grocers) (end .working) (u .working) (pos 0) b g, total-inside (jobOf f) b g h))
+        (around-packed (eveningOf f) maxAmount (end .working) (cell (eveningOf f .boxes) (eveningOf f .grocers) (recell (eveningOf f .boxes) (eveningOf f .grocers) (end .working) (u .working)) (pos 0)) (u .working) (t .working)
+        (λ b g h. rw (cell-recell (eveningOf f .boxes) (eveningOf f .grocers) (end .working) (u .working) (pos 0) b g, total-inside (eveningOf f) b g h))
         (λ b g h. rw (working-end b g h) (working-range b g)))
-        (around-packed (jobOf f) maxAmount (end .totalTransit) (cell (jobOf f .boxes) (jobOf f .grocers) (recell (jobOf f .boxes) (jobOf f .grocers) (end .totalTransit) (u .totalTransit)) (pos 0)) (u .totalTransit) (t .totalTransit)
-        (λ b g h. rw (cell-recell (jobOf f .boxes) (jobOf f .grocers) (end .totalTransit) (u .totalTransit) (pos 0) b g, total-inside (jobOf f) b g h))
+        (around-packed (eveningOf f) maxAmount (end .totalTransit) (cell (eveningOf f .boxes) (eveningOf f .grocers) (recell (eveningOf f .boxes) (eveningOf f .grocers) (end .totalTransit) (u .totalTransit)) (pos 0))
+        (u .totalTransit) (t .totalTransit)
+        (λ b g h. rw (cell-recell (eveningOf f .boxes) (eveningOf f .grocers) (end .totalTransit) (u .totalTransit) (pos 0) b g, total-inside (eveningOf f) b g h))
         (λ b g h. rw (transit-end b g h) (transit-range b g)))
 
-    late-packed : (stateInRange f (moved f (repacked (jobOf f) u t) q) && totalsInRange (jobOf f) (moved f (repacked (jobOf f) u t) q))
-        ≡ (stateInRange f (fullMoved f u q) && rowsInRange (jobOf f) (fullMoved f u q))
+    late-packed : (stateInRange f (moved f (repacked (eveningOf f) u t) q) && totalsInRange (eveningOf f) (moved f (repacked (eveningOf f) u t) q))
+        ≡ (stateInRange f (fullMoved f u q) && rowsInRange (eveningOf f) (fullMoved f u q))
     late-packed =
-        ap (λ (v : StateTables). stateInRange f v && totalsInRange (jobOf f) v) moved-packed
+        ap (λ (v : StateTables). stateInRange f v && totalsInRange (eveningOf f) v) moved-packed
         ∙ ap₂ _&&_ (else-packed (fullMoved f u q)) range-packed
 
-    number-packed : stepRefusal f (repacked (jobOf f) u t) q ≡ fullRefusal f u q
+    number-packed : stepRefusal f (repacked (eveningOf f) u t) q ≡ fullRefusal f u q
     unfolding stepRefusal refusals fullRefusal fullRefusals firstMet
     number-packed =
         rw (
@@ -515,28 +516,28 @@ module _ (f : JobTables) (u t : StateTables) (q : Asked) (long : rowsShort (jobO
         )
 
     -- Words that the step leaves at grocers that are not local.
-    left-working : (b g : ℕ) → hasTotal (jobOf f) b g ≡ false → fullView (jobOf f) (fullMoved f u q) .working b g ≡ fullView (jobOf f) u .working b g
+    left-working : (b g : ℕ) → hasTotal (eveningOf f) b g ≡ false → fullView (eveningOf f) (fullMoved f u q) .working b g ≡ fullView (eveningOf f) u .working b g
     unfolding fullView fullMoved fullStore
     left-working b g h =
-        cell-recell (jobOf f .boxes) (jobOf f .grocers) (end .working) (u .working) (pos 0) b g
-        ∙ split (ltb b (jobOf f .boxes) && ltb g (jobOf f .grocers))
+        cell-recell (eveningOf f .boxes) (eveningOf f .grocers) (end .working) (u .working) (pos 0) b g
+        ∙ split (ltb b (eveningOf f .boxes) && ltb g (eveningOf f .grocers))
         (λ e. rw e (working-end b g h))
-        (λ e. rw e (sym (cell-out (jobOf f) (u .working) b g e)))
+        (λ e. rw e (sym (cell-out (eveningOf f) (u .working) b g e)))
 
-    left-transit : (b g : ℕ) → hasTotal (jobOf f) b g ≡ false → fullView (jobOf f) (fullMoved f u q) .totalTransit b g ≡ fullView (jobOf f) u .totalTransit b g
+    left-transit : (b g : ℕ) → hasTotal (eveningOf f) b g ≡ false → fullView (eveningOf f) (fullMoved f u q) .totalTransit b g ≡ fullView (eveningOf f) u .totalTransit b g
     unfolding fullView fullMoved fullStore
     left-transit b g h =
-        cell-recell (jobOf f .boxes) (jobOf f .grocers) (end .totalTransit) (u .totalTransit) (pos 0) b g
-        ∙ split (ltb b (jobOf f .boxes) && ltb g (jobOf f .grocers))
+        cell-recell (eveningOf f .boxes) (eveningOf f .grocers) (end .totalTransit) (u .totalTransit) (pos 0) b g
+        ∙ split (ltb b (eveningOf f .boxes) && ltb g (eveningOf f .grocers))
         (λ e. rw e (transit-end b g h))
-        (λ e. rw e (sym (cell-out (jobOf f) (u .totalTransit) b g e)))
+        (λ e. rw e (sym (cell-out (eveningOf f) (u .totalTransit) b g e)))
 
   -- Where the job is not in range both are refused.
-  number-off : jobInRange f ≡ false → (stepRefusal f (repacked (jobOf f) u t) q ≡ cond (lentShort f u) 20 21) × (fullRefusal f u q ≡ cond (lentShort f u) 20 21)
+  number-off : jobInRange f ≡ false → (stepRefusal f (repacked (eveningOf f) u t) q ≡ cond (lentShort f u) 20 21) × (fullRefusal f u q ≡ cond (lentShort f u) 20 21)
   unfolding stepRefusal refusals fullRefusal fullRefusals firstMet
   number-off e = (rw (e, lent-packed), rw (e, long, or-false (lentShort f u)))
 
-  number-all : stepRefusal f (repacked (jobOf f) u t) q ≡ fullRefusal f u q
+  number-all : stepRefusal f (repacked (eveningOf f) u t) q ≡ fullRefusal f u q
   number-all = split (jobInRange f) (λ e. number-packed e) (λ e. number-off e .0 ∙ sym (number-off e .1))
 
   full-zero : fullRefusal f u q ≡ 0 → jobInRange f ≡ true

@@ -2,14 +2,14 @@
 use mathlib.Core.Path.{_≡_, refl, sym, ap, ap₂, _∙_}
 use mathlib.Core.Bool.{Bool, true, false, _&&_, not}
 use mathlib.Core.List.{List, [], _∷_, _++_}
-use Prim.Native.Nat.{ℕ, _≤_}
+use Prim.Native.Nat.{ℕ, suc, _/_, _%_, _≤_}
 use native.Mathlib.Omega.{arith}
 use lib.ListN.{getD, length}
 use lib.Dec.{ltb, leb}
 use lib.IntN.{pos}
 use borrow.Author.Tests.{eq-eqb, ltb-true, ltb-false, le-ltb, le-leb}
 use Rattle.laws.specs.Checks.{firstMet}
-use Rattle.laws.specs.Tables.{word, layOver}
+use Rattle.laws.specs.Tables.{word, cell, layOver}
 use Rattle.laws.proofs.Bools.{split, and-true, and-l, cond-same, cond-either}
 use Rattle.laws.proofs.Below.{all-of}
 use Rattle.laws.proofs.Checks.{any-each, all-each}
@@ -18,7 +18,8 @@ use Rattle.recount.specs.Recount.{loose, stands, countedTwice}
 use Rattle.model.specs.Job.{Job}
 use Rattle.model.specs.Steps.{kindOf, effect}
 use Rattle.model.specs.Words.{over, messagesOf}
-use Rattle.model.specs.Tables.{JobTables, countedOf, nobody, jobOf, jobLengths, jobShort, StateTables, view, store, stateLengths, lentShort, totalsShort}
+use Rattle.model.specs.PackedTotals.{spread}
+use Rattle.model.specs.Tables.{JobTables, countedOf, nobody, jobOf, withLists, eveningOf, jobLengths, jobShort, StateTables, view, store, stateLengths, lentShort, totalsShort}
 use Rattle.model.specs.Ranges.{upTo, sizesInRange, jobWordsInRange, jobInRange, stateInRange, totalsInRange}
 use Rattle.model.specs.Step.{Asked, stepRules, moved, refusals, stepRefusal}
 use Rattle.model.specs.Run.{run, runState, reported, finished, runRefusals, ran, pickedPlaces}
@@ -77,6 +78,14 @@ module _ (f : JobTables) (boxes : List ℕ) (s : Standing f boxes) where
     tallyCount = word (f .tallies) (f .tallyCount) (pos 0);
   }
 
+  -- and so for all price lists,
+  handed-lists : (q : ℕ) → withLists q (handedTables f boxes) ≡ withLists q f
+  unfolding withLists
+  handed-lists q = λ i. spread (suc q) (λ o. cell (suc q) (f .offers) (f .price) 0 (o % suc q) (o / suc q)) (handed-job i)
+
+  pub handed-evening : eveningOf (handedTables f boxes) ≡ eveningOf f
+  handed-evening = handed-lists (f .lists)
+
   -- are whole,
   pub handed-whole : jobShort f (jobLengths f) ≡ false → jobShort (handedTables f boxes) (jobLengths (handedTables f boxes)) ≡ false
   unfolding jobShort jobLengths
@@ -119,29 +128,29 @@ module _ (f : JobTables) (boxes : List ℕ) (s : Standing f boxes) where
   -- The step as inner calls do it, on the tables as handed.
   pub handed-moved : (t : StateTables) (q : Asked) → moved (handedTables f boxes) t q ≡ moved f t q
   unfolding moved
-  handed-moved t q = ap (λ (j : Job). store j (effect j (view j t) (kindOf (q .kind)) (q .first) (q .second)) t) handed-job
+  handed-moved t q = ap (λ (j : Job). store j (effect j (view j t) (kindOf (q .kind)) (q .first) (q .second)) t) handed-evening
 
   -- Where 20, 21 and 9 are not met, the number of the refusal is that of 22 to 26 and the late 21 on the tables as handed.
   pub handed-refusal : (t : StateTables) (q : Asked) → lentShort f t ≡ false → (jobInRange f && stateInRange f t) ≡ true → countedTwice (countedOf f) ≡ false →
-      totalsShort (jobOf f) (stateLengths t) ≡ false → totalsInRange (jobOf f) t ≡ true →
-      stepRefusal f t q ≡ firstMet (stepRules (jobOf (handedTables f boxes)) (view (jobOf (handedTables f boxes)) t .done) q
-      ++ (not (stateInRange (handedTables f boxes) (moved (handedTables f boxes) t q) && totalsInRange (jobOf (handedTables f boxes)) (moved (handedTables f boxes) t q)), 21) ∷ [])
+      totalsShort (eveningOf f) (stateLengths t) ≡ false → totalsInRange (eveningOf f) t ≡ true →
+      stepRefusal f t q ≡ firstMet (stepRules (eveningOf (handedTables f boxes)) (view (eveningOf (handedTables f boxes)) t .done) q
+      ++ (not (stateInRange (handedTables f boxes) (moved (handedTables f boxes) t q) && totalsInRange (eveningOf (handedTables f boxes)) (moved (handedTables f boxes) t q)), 21) ∷ [])
   unfolding stepRefusal refusals firstMet
   handed-refusal t q short inside once packed amounts =
       rw (short, inside, once, packed, amounts)
-      (ap₂ (λ (j : Job) (u : StateTables). firstMet (stepRules j (view j t .done) q ++ (not (stateInRange f u && totalsInRange j u), 21) ∷ [])) (sym handed-job) (sym (handed-moved t q))
-      ∙ ap (λ (b : Bool). firstMet (stepRules (jobOf (handedTables f boxes)) (view (jobOf (handedTables f boxes)) t .done) q
-      ++ (not (b && totalsInRange (jobOf (handedTables f boxes)) (moved (handedTables f boxes) t q)), 21) ∷ []))
+      (ap₂ (λ (j : Job) (u : StateTables). firstMet (stepRules j (view j t .done) q ++ (not (stateInRange f u && totalsInRange j u), 21) ∷ [])) (sym handed-evening) (sym (handed-moved t q))
+      ∙ ap (λ (b : Bool). firstMet (stepRules (eveningOf (handedTables f boxes)) (view (eveningOf (handedTables f boxes)) t .done) q
+      ++ (not (b && totalsInRange (eveningOf (handedTables f boxes)) (moved (handedTables f boxes) t q)), 21) ∷ []))
       (sym (handed-state-range (moved (handedTables f boxes) t q))))
 
   -- The run likewise.
   pub handed-run : (t : StateTables) (cs p : List ℕ) → lentShort f t ≡ false → jobInRange f ≡ true → countedTwice (countedOf f) ≡ false →
-      totalsShort (jobOf f) (stateLengths t) ≡ false →
+      totalsShort (eveningOf f) (stateLengths t) ≡ false →
       ran f t cs p ≡ record {
-        answer = finished (runState (jobOf (handedTables f boxes)) cs .sent) (over messagesOf (run (jobOf (handedTables f boxes)) cs))
-            (length (run (jobOf (handedTables f boxes)) cs));
-        tables = store (jobOf (handedTables f boxes)) (runState (jobOf (handedTables f boxes)) cs) t;
-        picked = layOver (pickedPlaces (jobOf (handedTables f boxes)) cs) p;
+        answer = finished (runState (eveningOf (handedTables f boxes)) cs .sent) (over messagesOf (run (eveningOf (handedTables f boxes)) cs))
+            (length (run (eveningOf (handedTables f boxes)) cs));
+        tables = store (eveningOf (handedTables f boxes)) (runState (eveningOf (handedTables f boxes)) cs) t;
+        picked = layOver (pickedPlaces (eveningOf (handedTables f boxes)) cs) p;
       }
   unfolding ran runRefusals firstMet reported
   handed-run t cs p short inside once packed =
@@ -150,7 +159,7 @@ module _ (f : JobTables) (boxes : List ℕ) (s : Standing f boxes) where
         answer = finished (runState j cs .sent) (over messagesOf (run j cs)) (length (run j cs));
         tables = store j (runState j cs) t;
         picked = layOver (pickedPlaces j cs) p;
-      }) (sym handed-job))
+      }) (sym handed-evening))
 
 -- Without bags the checks of the other tables are the same.
 pub bare-short : (f : JobTables) → jobShort (handedTables f (f .tallyBox)) (jobLengths (handedTables f (f .tallyBox))) ≡ jobShort f (jobLengths f)

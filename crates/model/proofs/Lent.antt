@@ -1,8 +1,8 @@
 -- Parts of tables that are lent: long enough, they hold what the whole holds, and what is written into them is written into the whole. Assumes nothing.
-use mathlib.Core.Path.{_≡_}
+use mathlib.Core.Path.{_≡_, sym, _∙_}
 use mathlib.Core.Bool.{false, cond}
 use mathlib.Core.List.{List, [], _∷_}
-use Prim.Native.Nat.{ℕ, _*_, _/_, _%_, _≤_}
+use Prim.Native.Nat.{ℕ, suc, _*_, _/_, _%_, _≤_}
 use native.Mathlib.Omega.{arith}
 use lib.ListN.{take, take-append-drop}
 use lib.Seq.{getD-take}
@@ -10,19 +10,21 @@ use lib.Dec.{ltb}
 use lib.IntN.{pos}
 use borrow.Author.Tests.{ltb-true, ltb-false}
 use Rattle.laws.specs.Tables.{recell}
+use Rattle.laws.specs.Lists.{listWords}
 use Rattle.laws.proofs.Bools.{split, or-off}
 use Rattle.laws.proofs.Checks.{none-of}
 use Rattle.laws.proofs.Tables.{over-over, word-take, cell-take, overwrite-take, long-take}
 use Rattle.recount.specs.Recount.{stands}
 use Rattle.model.specs.Job.{Job}
 use Rattle.model.specs.Requests.{lentJob, lentState, returned}
-use Rattle.model.specs.Tables.{JobTables, jobOf, StateTables, stepsDone, marksOf, view, store, JobLengths, StateLengths, jobLengths, stateLengths, jobShort, bagsShort, stateShort, totalsShort, countedOf, nobody}
-use Rattle.model.specs.PackedTotals.{totalsLength}
+use Rattle.model.specs.Tables.{JobTables, jobOf, withLists, eveningOf, StateTables, stepsDone, marksOf, view, store, JobLengths, StateLengths, jobLengths, stateLengths, jobShort, bagsShort, stateShort, totalsShort, countedOf, nobody}
+use Rattle.model.specs.PackedTotals.{totalsLength, spread}
 use Rattle.model.specs.Ranges.{sizesInRange, jobWordsInRange, jobInRange, stateInRange, totalsInRange}
 use Rattle.model.specs.Steps.{Kind, kindNumber, stepPlace, atPlace, State}
 use Rattle.model.proofs.PackedTotals.{unpack-take, pack-take, pack-pack}
 use Rattle.model.proofs.Step.{up-take, under-take, around-take}
 use Rattle.model.proofs.Core.{state-eq}
+use Rattle.model.proofs.EveningJob.{at-sizes}
 use Rattle.model.proofs.Tables.{place-in, kind-six}
 
 -- What a length test of a lent part says.
@@ -30,8 +32,8 @@ le-of : (m n : ℕ) → ltb n m ≡ false → m ≤ n
 le-of m n h = ltb-false n m h
 
 -- Lent lengths that are long enough, one by one.
-pub record JobLong (m o t : ℕ) (n : JobLengths) : Type 0 where
-  pub price : o ≤ n .price
+pub record JobLong (m o t l : ℕ) (n : JobLengths) : Type 0 where
+  pub price : listWords l o ≤ n .price
   pub offerOwner : o ≤ n .offerOwner
   pub grocerOwner : m ≤ n .grocerOwner
   pub tallyGrocer : t ≤ n .tallyGrocer
@@ -39,11 +41,11 @@ pub record JobLong (m o t : ℕ) (n : JobLengths) : Type 0 where
   pub tallyOffer : t ≤ n .tallyOffer
   pub tallyCount : t ≤ n .tallyCount
 
-pub job-long : (f : JobTables) (n : JobLengths) → jobShort f n ≡ false → JobLong (f .grocers) (f .offers) (f .tallies) n
+pub job-long : (f : JobTables) (n : JobLengths) → jobShort f n ≡ false → JobLong (f .grocers) (f .offers) (f .tallies) (f .lists) n
 unfolding jobShort
 job-long f n h =
     let e = none-of (
-    ltb (n .price) (f .offers)
+    ltb (n .price) (listWords (f .lists) (f .offers))
     ∷ ltb (n .offerOwner) (f .offers)
     ∷ ltb (n .grocerOwner) (f .grocers)
     ∷ ltb (n .tallyGrocer) (f .tallies)
@@ -68,13 +70,13 @@ pub record StateLong (k m o : ℕ) (n : StateLengths) : Type 0 where
   pub done : 6 * k * k ≤ n .done
   pub sent : 1 ≤ n .sent
 
-pub state-long : (f : JobTables) (n : StateLengths) → stateShort f n ≡ false → StateLong (f .boxes) (f .grocers) (f .offers) n
+pub state-long : (f : JobTables) (n : StateLengths) → stateShort f n ≡ false → StateLong (f .boxes) (listWords (f .lists) (f .grocers)) (listWords (f .lists) (f .offers)) n
 unfolding stateShort
 state-long f n h =
     let e = none-of (
-    ltb (n .known) (f .boxes * f .offers)
-    ∷ ltb (n .priceTransit) (f .boxes * f .offers)
-    ∷ ltb (n .statement) (f .grocers)
+    ltb (n .known) (f .boxes * listWords (f .lists) (f .offers))
+    ∷ ltb (n .priceTransit) (f .boxes * listWords (f .lists) (f .offers))
+    ∷ ltb (n .statement) (listWords (f .lists) (f .grocers))
     ∷ ltb (n .done) (6 * f .boxes * f .boxes)
     ∷ ltb (n .sent) 1
     ∷ []) h in
@@ -85,6 +87,10 @@ state-long f n h =
       done = le-of _ _ (e .1 .1 .1 .0);
       sent = le-of _ _ (e .1 .1 .1 .1 .0);
     }
+
+-- The same as the evening's job says it.
+pub evening-long : (f : JobTables) (n : StateLengths) → stateShort f n ≡ false → StateLong (eveningOf f .boxes) (eveningOf f .grocers) (eveningOf f .offers) n
+evening-long f n h = at-sizes (f .lists) f (λ k m o. StateLong k m o n) (state-long f n h)
 
 -- The packed tables likewise.
 pub record TotalsLong (length : ℕ) (n : StateLengths) : Type 0 where
@@ -103,7 +109,7 @@ unfolding jobShort jobLengths lentJob
 lent-job-short f n h =
     let l = job-long f (jobLengths f) h in
     rw (
-      long-take (f .offers) (n .price) (f .price) (l .price),
+      long-take (listWords (f .lists) (f .offers)) (n .price) (f .price) (l .price),
       long-take (f .offers) (n .offerOwner) (f .offerOwner) (l .offerOwner),
       long-take (f .grocers) (n .grocerOwner) (f .grocerOwner) (l .grocerOwner),
       long-take (f .tallies) (n .tallyGrocer) (f .tallyGrocer) (l .tallyGrocer),
@@ -133,7 +139,7 @@ lent-bags-short f n h =
     )
 
 -- The job that lent tables hold, where they are long enough.
-module _ (f : JobTables) (n : JobLengths) (l : JobLong (f .grocers) (f .offers) (f .tallies) n) (b : BagsLong (f .tallies) n) where
+module _ (f : JobTables) (n : JobLengths) (l : JobLong (f .grocers) (f .offers) (f .tallies) (f .lists) n) (b : BagsLong (f .tallies) n) where
   -- What the recount rule looks at is the same.
   pub lent-counted : countedOf (lentJob f n) ≡ countedOf f
   unfolding countedOf lentJob
@@ -152,7 +158,7 @@ module _ (f : JobTables) (n : JobLengths) (l : JobLong (f .grocers) (f .offers) 
     grocers = f .grocers;
     offers = f .offers;
     tallies = f .tallies;
-    price = λ o. word-take (f .offers) (n .price) (f .price) 0 o (l .price) i;
+    price = λ o. word-take (f .offers) (n .price) (f .price) 0 o (omega (arith, l .price)) i;
     offerOwner = λ o. word-take (f .offers) (n .offerOwner) (f .offerOwner) 0 o (l .offerOwner) i;
     grocerOwner = λ g. word-take (f .grocers) (n .grocerOwner) (f .grocerOwner) 0 g (l .grocerOwner) i;
     tallyGrocer = λ t. word-take (f .tallies) (n .tallyGrocer) (f .tallyGrocer) 0 t (l .tallyGrocer) i;
@@ -161,11 +167,20 @@ module _ (f : JobTables) (n : JobLengths) (l : JobLong (f .grocers) (f .offers) 
     tallyCount = λ t. word-take (f .tallies) (n .tallyCount) (f .tallyCount) (pos 0) t (l .tallyCount) i;
   }
 
+  -- and so for all price lists,
+  lent-lists : (q : ℕ) → suc q * f .offers ≤ n .price → withLists q (lentJob f n) ≡ withLists q f
+  unfolding withLists lentJob
+  lent-lists q h = λ i. spread (suc q) (λ o. cell-take (suc q) (f .offers) (n .price) (f .price) 0 (o % suc q) (o / suc q) h i) (lent-job i)
+
+  pub lent-evening : eveningOf (lentJob f n) ≡ eveningOf f
+  unfolding lentJob
+  lent-evening = lent-lists (f .lists) (omega (arith, l .price))
+
   pub lent-job-range : jobInRange (lentJob f n) ≡ jobInRange f
   unfolding jobInRange sizesInRange jobWordsInRange lentJob
   lent-job-range =
       rw (
-        up-take 9_999_999 (f .offers) (n .price) (f .price) (l .price),
+        up-take 9_999_999 (listWords (f .lists) (f .offers)) (n .price) (f .price) (l .price),
         under-take (f .boxes) (f .offers) (n .offerOwner) (f .offerOwner) (l .offerOwner),
         under-take (f .boxes) (f .grocers) (n .grocerOwner) (f .grocerOwner) (l .grocerOwner),
         under-take (f .grocers) (f .tallies) (n .tallyGrocer) (f .tallyGrocer) (l .tallyGrocer),
@@ -180,9 +195,9 @@ unfolding stateShort stateLengths lentState
 lent-state-short f t n h =
     let l = state-long f (stateLengths t) h in
     rw (
-      long-take (f .boxes * f .offers) (n .known) (t .known) (l .known),
-      long-take (f .boxes * f .offers) (n .priceTransit) (t .priceTransit) (l .priceTransit),
-      long-take (f .grocers) (n .statement) (t .statement) (l .statement),
+      long-take (f .boxes * listWords (f .lists) (f .offers)) (n .known) (t .known) (l .known),
+      long-take (f .boxes * listWords (f .lists) (f .offers)) (n .priceTransit) (t .priceTransit) (l .priceTransit),
+      long-take (listWords (f .lists) (f .grocers)) (n .statement) (t .statement) (l .statement),
       long-take (6 * f .boxes * f .boxes) (n .done) (t .done) (l .done),
       long-take 1 (n .sent) (t .sent) (l .sent),
     )
@@ -235,14 +250,14 @@ module _ (j : Job) (t : StateTables) (n : StateLengths) (l : StateLong (j .boxes
   }
 
 -- The ranges of lent tables are those of the whole.
-pub lent-state-range : (f : JobTables) (n′ : JobLengths) (t : StateTables) (n : StateLengths) → StateLong (f .boxes) (f .grocers) (f .offers) n →
+pub lent-state-range : (f : JobTables) (n′ : JobLengths) (t : StateTables) (n : StateLengths) → StateLong (f .boxes) (listWords (f .lists) (f .grocers)) (listWords (f .lists) (f .offers)) n →
     stateInRange (lentJob f n′) (lentState t n) ≡ stateInRange f t
 unfolding stateInRange lentJob lentState
 lent-state-range f n′ t n l =
     rw (
-      up-take 9_999_999 (f .boxes * f .offers) (n .known) (t .known) (l .known),
-      up-take 9_999_999 (f .boxes * f .offers) (n .priceTransit) (t .priceTransit) (l .priceTransit),
-      around-take 1_000_000_000_000_000 (f .grocers) (n .statement) (t .statement) (l .statement),
+      up-take 9_999_999 (f .boxes * listWords (f .lists) (f .offers)) (n .known) (t .known) (l .known),
+      up-take 9_999_999 (f .boxes * listWords (f .lists) (f .offers)) (n .priceTransit) (t .priceTransit) (l .priceTransit),
+      around-take 1_000_000_000_000_000 (listWords (f .lists) (f .grocers)) (n .statement) (t .statement) (l .statement),
       up-take 1 (6 * f .boxes * f .boxes) (n .done) (t .done) (l .done),
       up-take 1_000_000 1 (n .sent) (t .sent) (l .sent),
     )

@@ -9,6 +9,7 @@ pub mod Sent
 pub mod Core
 pub mod LocalLists
 pub mod PackedTotals
+pub mod SideBySide
 pub mod Reach
 pub mod Trace
 pub mod Progress
@@ -25,6 +26,7 @@ pub mod Spans
 pub mod Run
 pub mod Ranges
 pub mod Refusal
+pub mod EveningJob
 pub mod Step
 pub mod Lent
 pub mod Whole
@@ -40,3 +42,5 @@ pub mod Cases
 pub mod Edges
 pub mod Cursor
 pub mod Evening
+pub mod ListTotals
+pub mod PriceLists

@@ -1,7 +1,7 @@
 -- The closed form of a job in range is within the ranges of a state. Assumes nothing.
 use mathlib.Core.Path.{_≡_, refl, sym, _∙_}
 use mathlib.Core.Bool.{Bool, true, false, _&&_, not}
-use Prim.Native.Nat.{ℕ, _≤_}
+use Prim.Native.Nat.{ℕ, _+_, _*_, _≤_}
 use native.Mathlib.Omega.{arith}
 use native.Mathlib.Nat.{mul-le-mul}
 use lib.Dec.{eqb}
@@ -10,11 +10,11 @@ use Rattle.laws.specs.Below.{integers, sum, only, count}
 use Rattle.laws.proofs.Bools.{split, cond-either, and-false}
 use Rattle.laws.proofs.Sums.{sum-cong}
 use Rattle.laws.proofs.Signed.{abs-times, sum-abs-count, only-abs}
+use Rattle.laws.specs.Limits.{maxGrocers, maxOffers, maxTallies, maxPrice, maxCount, maxAmount, maxSent}
 use Rattle.model.specs.Job.{heldBy, Job, amount, held}
 use Rattle.model.specs.Steps.{Steps, added, State}
-use Rattle.laws.specs.Limits.{maxGrocers, maxOffers, maxTallies, maxPrice, maxCount, maxAmount, maxSent}
-use Rattle.model.proofs.Range.{InRange, held-box}
 use Rattle.model.specs.Boxes.{knows, priceOnWay, gone, arrived, partOf, paid, stateByRules}
+use Rattle.model.proofs.Range.{InRange, held-box}
 use Rattle.model.proofs.Parts.{part-zero, part-same}
 use Rattle.model.proofs.Running.{by-box}
 use Rattle.model.proofs.Words.{sent-most, owner-most}
@@ -28,6 +28,13 @@ pub record Limits (j : Job) : Type 0 where
   pub price≤ : (o : ℕ) → j .price o ≤ maxPrice
   pub count≤ : (t : ℕ) → natAbs (j .tallyCount t) ≤ maxCount
 
+-- What bounds the words of a state: the words that offers and grocers can have sent, the tallies of one grocer, prices and counts.
+pub record Bounds (j : Job) : Type 0 where
+  pub words≤ : 15 * (j .offers + j .grocers) ≤ maxSent
+  pub ofGrocer≤ : (g : ℕ) → count (j .tallies) (λ t. eqb (j .tallyGrocer t) g) ≤ maxTallies
+  pub price≤ : (o : ℕ) → j .price o ≤ maxPrice
+  pub count≤ : (t : ℕ) → natAbs (j .tallyCount t) ≤ maxCount
+
 -- A state within its ranges.
 pub record Within (s : State) : Type 0 where
   pub known≤ : (b o : ℕ) → s .known b o ≤ maxPrice
@@ -38,7 +45,7 @@ pub record Within (s : State) : Type 0 where
   pub sent≤ : s .sent ≤ maxSent
 
 -- The bounds, each once: the amount of a tally, the amounts of one grocer, the words sent.
-module _ (j : Job) (v : Limits j) where
+module _ (j : Job) (v : Bounds j) where
   abbrev maxProduct : ℕ
   maxProduct = 999_989_900_001
 
@@ -62,7 +69,7 @@ module _ (j : Job) (v : Limits j) where
 
   -- No list sends more words than the owner tables have.
   words-most : InRange j → (d : Steps) → stateByRules j d .sent ≤ maxSent
-  words-most r d = omega (arith, sent-most j r d, owner-most j r, v .offers≤, v .grocers≤)
+  words-most r d = omega (arith, sent-most j r d, owner-most j r, v .words≤)
 
   part-abs : (p : ℕ → Bool) (b g : ℕ) → natAbs (partOf j p b g) ≤ maxAmount
   unfolding partOf

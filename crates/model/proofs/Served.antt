@@ -10,7 +10,7 @@ use Rattle.laws.proofs.Bools.{or-off, split, and-true, and-r}
 use Rattle.recount.specs.Recount.{countedTwice}
 use Rattle.model.specs.Job.{Job}
 use Rattle.model.specs.Requests.{Request, lentJob, lentState, lendsShort, answerTo, serve}
-use Rattle.model.specs.Tables.{JobTables, countedOf, jobOf, StateTables, view, store, JobLengths, StateLengths, jobLengths, stateLengths, jobShort, bagsShort, stateShort, lentShort, totalsShort}
+use Rattle.model.specs.Tables.{JobTables, countedOf, eveningOf, StateTables, view, store, JobLengths, StateLengths, jobLengths, stateLengths, jobShort, bagsShort, stateShort, lentShort, totalsShort}
 use Rattle.model.specs.PackedTotals.{totalsLength}
 use Rattle.model.specs.Ranges.{jobInRange, Settles, stateInRange, totalsInRange}
 use Rattle.model.specs.Handed.{handedInRange}
@@ -20,10 +20,10 @@ use Rattle.model.specs.Demand3.{refusalOf}
 use Rattle.model.specs.Boxes.{Sound}
 use Rattle.model.proofs.Tables.{view-store, held-form}
 use Rattle.model.proofs.Ranges.{Within, form-within}
-use Rattle.model.proofs.Step.{range, limits, in-handed, ok-store, totals-store, whole-store, whole-totals}
+use Rattle.model.proofs.Step.{evening-range, evening-bounds, in-handed, ok-store, totals-store, whole-store, whole-totals}
 use Rattle.model.proofs.Core.{permit}
-use Rattle.model.proofs.Lent.{TotalsLong, totals-long, lent-totals-short, lent-totals-range, job-long, bags-long, state-long, lent-job-short, lent-bags-short, lent-counted, lent-job, lent-job-range, lent-state-short, lent-view}
-use Rattle.model.proofs.Lent.{lent-store, lent-state-range, lent-back, store-store}
+use Rattle.model.proofs.Lent.{TotalsLong, totals-long, lent-totals-short, lent-totals-range, job-long, bags-long, state-long, evening-long, lent-job-short, lent-bags-short, lent-counted, lent-evening, lent-job-range}
+use Rattle.model.proofs.Lent.{lent-state-short, lent-view, lent-store, lent-state-range, lent-back, store-store}
 use Rattle.model.proofs.Refusal.{rules-zero}
 use Rattle.model.proofs.Reach.{sound-effect}
 
@@ -51,7 +51,7 @@ allowed j s q = isKind (q .kind) && permitted j (s .done) (kindOf (q .kind)) (q 
 
 -- A step on tables u that hold the state s of the job j, where nothing is short and all is in range.
 module _ (f : JobTables) (u : StateTables) (j : Job) (s : State) (q : Asked)
-    (job : jobOf f ≡ j) (holds : view j u ≡ s) (short : lentShort f u ≡ false) (inside : (jobInRange f && stateInRange f u) ≡ true) (once : countedTwice (countedOf f) ≡ false)
+    (job : eveningOf f ≡ j) (holds : view j u ≡ s) (short : lentShort f u ≡ false) (inside : (jobInRange f && stateInRange f u) ≡ true) (once : countedTwice (countedOf f) ≡ false)
     (packed : totalsShort j (stateLengths u) ≡ false) (amounts : totalsInRange j u ≡ true)
     (late : allowed j s q ≡ true →
     (stateInRange f (store j (effect j s (kindOf (q .kind)) (q .first) (q .second)) u) && totalsInRange j (store j (effect j s (kindOf (q .kind)) (q .first) (q .second)) u)) ≡ true) where
@@ -78,12 +78,12 @@ module _ (f : JobTables) (u : StateTables) (j : Job) (s : State) (q : Asked)
   after-is = rw (answer-is, zero-is, moved-is)
 
 module _ (f : JobTables) (ok : handedInRange f ≡ true) (t : StateTables) where
-  pub within : (s : State) → Sound (jobOf f) s → Within s
-  within s o = rw (o .form) (form-within (jobOf f) (limits f ok) (range f ok) (s .done))
+  pub within : (s : State) → Sound (eveningOf f) s → Within s
+  within s o = rw (o .form) (form-within (eveningOf f) (evening-bounds f ok) (evening-range f ok) (s .done))
 
   -- Tables that hold a state that a list can leave.
-  pub view-is : (s : State) → Sound (jobOf f) s → view (jobOf f) (store (jobOf f) s t) ≡ s
-  view-is s o = view-store (jobOf f) s t ∙ held-form (jobOf f) (range f ok) s o
+  pub view-is : (s : State) → Sound (eveningOf f) s → view (eveningOf f) (store (eveningOf f) s t) ≡ s
+  view-is s o = view-store (eveningOf f) s t ∙ held-form (eveningOf f) (evening-range f ok) s o
 
 -- A job that demand 3 speaks of.
 pub settles-in : (f : JobTables) → Settles f → handedInRange f ≡ true
@@ -91,11 +91,11 @@ settles-in f z = in-handed f (z .inRange)
 
 -- The same, and the buffers of its state.
 module _ (f : JobTables) (z : Settles f) (t : StateTables) where
-  sound-allowed : (s : State) (q : Asked) → Sound (jobOf f) s → allowed (jobOf f) s q ≡ true → Sound (jobOf f) (effect (jobOf f) s (kindOf (q .kind)) (q .first) (q .second))
+  sound-allowed : (s : State) (q : Asked) → Sound (eveningOf f) s → allowed (eveningOf f) s q ≡ true → Sound (eveningOf f) (effect (eveningOf f) s (kindOf (q .kind)) (q .first) (q .second))
   unfolding allowed
   sound-allowed s q o e =
-      sound-effect (jobOf f) (range f (settles-in f z)) s (kindOf (q .kind)) (q .first) (q .second) o
-      (permit (jobOf f) (s .done) (kindOf (q .kind)) (q .first) (q .second) (and-r (isKind (q .kind)) _ e))
+      sound-effect (eveningOf f) (evening-range f (settles-in f z)) s (kindOf (q .kind)) (q .first) (q .second) o
+      (permit (eveningOf f) (s .done) (kindOf (q .kind)) (q .first) (q .second) (and-r (isKind (q .kind)) _ e))
 
   same-sizes : (n m : JobLengths) → jobShort (lentJob f n) m ≡ jobShort f m
   unfolding jobShort lentJob
@@ -113,30 +113,30 @@ module _ (f : JobTables) (z : Settles f) (t : StateTables) where
   unfoldable elseShort : Request → Bool
   elseShort r = jobShort f (r .job) || bagsShort f (r .job) || stateShort f (r .state)
 
-  lends-is : (r : Request) → lendsShort f r ≡ (elseShort r || totalsShort (jobOf f) (r .state))
+  lends-is : (r : Request) → lendsShort f r ≡ (elseShort r || totalsShort (eveningOf f) (r .state))
   unfolding lendsShort elseShort
   lends-is r = refl
 
-  short-is : (s : State) (r : Request) → lentShort (lentJob f (r .job)) (lentState (store (jobOf f) s t) (r .state)) ≡ elseShort r
+  short-is : (s : State) (r : Request) → lentShort (lentJob f (r .job)) (lentState (store (eveningOf f) s t) (r .state)) ≡ elseShort r
   unfolding lentShort elseShort
   short-is s r =
       rw (
         same-sizes (r .job) (jobLengths (lentJob f (r .job))),
         same-bags (r .job) (jobLengths (lentJob f (r .job))),
-        same-sizes′ (r .job) (stateLengths (lentState (store (jobOf f) s t) (r .state))),
+        same-sizes′ (r .job) (stateLengths (lentState (store (eveningOf f) s t) (r .state))),
         lent-job-short f (r .job) (z .whole),
         lent-bags-short f (r .job) (z .bags),
-        lent-state-short f (store (jobOf f) s t) (r .state) (whole-store f s t),
+        lent-state-short f (store (eveningOf f) s t) (r .state) (whole-store f s t),
       )
 
   -- A request that lends such a table short.
-  else-answer : (s : State) (r : Request) → elseShort r ≡ true → stepRefusal (lentJob f (r .job)) (lentState (store (jobOf f) s t) (r .state)) (r .asked) ≡ 20
+  else-answer : (s : State) (r : Request) → elseShort r ≡ true → stepRefusal (lentJob f (r .job)) (lentState (store (eveningOf f) s t) (r .state)) (r .asked) ≡ 20
   unfolding stepRefusal refusals firstMet
   else-answer s r y = rw (short-is s r, y)
 
   -- A request that lends enough of these tables.
-  module _ (s : State) (o : Sound (jobOf f) s) (r : Request) (y : elseShort r ≡ false) where
-    no-short : lentShort (lentJob f (r .job)) (lentState (store (jobOf f) s t) (r .state)) ≡ false
+  module _ (s : State) (o : Sound (eveningOf f) s) (r : Request) (y : elseShort r ≡ false) where
+    no-short : lentShort (lentJob f (r .job)) (lentState (store (eveningOf f) s t) (r .state)) ≡ false
     no-short = short-is s r ∙ y
 
     job-enough : jobShort f (r .job) ≡ false
@@ -151,8 +151,8 @@ module _ (f : JobTables) (z : Settles f) (t : StateTables) where
     unfolding elseShort
     state-enough = or-off (jobShort f (r .job) || bagsShort f (r .job)) (stateShort f (r .state)) y .1
 
-    job-is : jobOf (lentJob f (r .job)) ≡ jobOf f
-    job-is = lent-job f (r .job) (job-long f (r .job) job-enough) (bags-long f (r .job) bags-enough)
+    job-is : eveningOf (lentJob f (r .job)) ≡ eveningOf f
+    job-is = lent-evening f (r .job) (job-long f (r .job) job-enough) (bags-long f (r .job) bags-enough)
 
     once-is : countedTwice (countedOf (lentJob f (r .job))) ≡ false
     once-is = ap countedTwice (lent-counted f (r .job) (job-long f (r .job) job-enough) (bags-long f (r .job) bags-enough)) ∙ z .once
@@ -160,92 +160,91 @@ module _ (f : JobTables) (z : Settles f) (t : StateTables) where
     range-is : jobInRange (lentJob f (r .job)) ≡ true
     range-is = lent-job-range f (r .job) (job-long f (r .job) job-enough) (bags-long f (r .job) bags-enough) ∙ z .inRange
 
-    states-is : stateInRange (lentJob f (r .job)) (lentState (store (jobOf f) s t) (r .state)) ≡ true
-    states-is = lent-state-range f (r .job) (store (jobOf f) s t) (r .state) (state-long f (r .state) state-enough) ∙ ok-store f s t (within f (settles-in f z) t s o)
+    states-is : stateInRange (lentJob f (r .job)) (lentState (store (eveningOf f) s t) (r .state)) ≡ true
+    states-is = lent-state-range f (r .job) (store (eveningOf f) s t) (r .state) (state-long f (r .state) state-enough) ∙ ok-store f s t (within f (settles-in f z) t s o)
 
     same-range : (u : StateTables) → stateInRange (lentJob f (r .job)) u ≡ stateInRange f u
     unfolding stateInRange lentJob
     same-range u = refl
 
-    packed-is : totalsShort (jobOf f) (stateLengths (lentState (store (jobOf f) s t) (r .state))) ≡ totalsShort (jobOf f) (r .state)
-    packed-is = lent-totals-short (jobOf f) (store (jobOf f) s t) (r .state) (whole-totals (jobOf f) s t)
+    packed-is : totalsShort (eveningOf f) (stateLengths (lentState (store (eveningOf f) s t) (r .state))) ≡ totalsShort (eveningOf f) (r .state)
+    packed-is = lent-totals-short (eveningOf f) (store (eveningOf f) s t) (r .state) (whole-totals (eveningOf f) s t)
 
     -- It lends a packed table short.
-    totals-answer : totalsShort (jobOf f) (r .state) ≡ true → stepRefusal (lentJob f (r .job)) (lentState (store (jobOf f) s t) (r .state)) (r .asked) ≡ 20
+    totals-answer : totalsShort (eveningOf f) (r .state) ≡ true → stepRefusal (lentJob f (r .job)) (lentState (store (eveningOf f) s t) (r .state)) (r .asked) ≡ 20
     unfolding stepRefusal refusals firstMet
     totals-answer e = rw (no-short, range-is, states-is, once-is, job-is, packed-is, e)
 
     -- It lends enough of these too.
-    module _ (e : totalsShort (jobOf f) (r .state) ≡ false) where
-      packed-long : TotalsLong (totalsLength (jobOf f)) (r .state)
-      packed-long = totals-long (jobOf f) (r .state) e
+    module _ (e : totalsShort (eveningOf f) (r .state) ≡ false) where
+      packed-long : TotalsLong (totalsLength (eveningOf f)) (r .state)
+      packed-long = totals-long (eveningOf f) (r .state) e
 
-      lent-is : view (jobOf f) (lentState (store (jobOf f) s t) (r .state)) ≡ s
-      unfolding jobOf
-      lent-is = lent-view (jobOf f) (store (jobOf f) s t) (r .state) (state-long f (r .state) state-enough) packed-long ∙ view-is f (settles-in f z) t s o
+      lent-is : view (eveningOf f) (lentState (store (eveningOf f) s t) (r .state)) ≡ s
+      lent-is = lent-view (eveningOf f) (store (eveningOf f) s t) (r .state) (evening-long f (r .state) state-enough) packed-long ∙ view-is f (settles-in f z) t s o
 
-      amounts-is : totalsInRange (jobOf f) (lentState (store (jobOf f) s t) (r .state)) ≡ true
-      amounts-is = lent-totals-range (jobOf f) (store (jobOf f) s t) (r .state) packed-long ∙ totals-store (jobOf f) s t (within f (settles-in f z) t s o)
+      amounts-is : totalsInRange (eveningOf f) (lentState (store (eveningOf f) s t) (r .state)) ≡ true
+      amounts-is = lent-totals-range (eveningOf f) (store (eveningOf f) s t) (r .state) packed-long ∙ totals-store (eveningOf f) s t (within f (settles-in f z) t s o)
 
-      late-is : allowed (jobOf f) s (r .asked) ≡ true →
-          (stateInRange (lentJob f (r .job)) (store (jobOf f) (effect (jobOf f) s (kindOf (r .asked .kind)) (r .asked .first) (r .asked .second)) (lentState (store (jobOf f) s t) (r .state)))
-          && totalsInRange (jobOf f) (store (jobOf f) (effect (jobOf f) s (kindOf (r .asked .kind)) (r .asked .first) (r .asked .second)) (lentState (store (jobOf f) s t) (r .state)))) ≡ true
+      late-is : allowed (eveningOf f) s (r .asked) ≡ true →
+          (stateInRange (lentJob f (r .job)) (store (eveningOf f) (effect (eveningOf f) s (kindOf (r .asked .kind)) (r .asked .first) (r .asked .second)) (lentState (store (eveningOf f) s t) (r .state)))
+          && totalsInRange (eveningOf f) (store (eveningOf f) (effect (eveningOf f) s (kindOf (r .asked .kind)) (r .asked .first) (r .asked .second)) (lentState (store (eveningOf f) s t) (r .state)))) ≡ true
       late-is e =
           and-true (same-range _ ∙ ok-store f _ _ (within f (settles-in f z) t _ (sound-allowed s (r .asked) o e)))
-          (totals-store (jobOf f) _ _ (within f (settles-in f z) t _ (sound-allowed s (r .asked) o e)))
+          (totals-store (eveningOf f) _ _ (within f (settles-in f z) t _ (sound-allowed s (r .asked) o e)))
 
-      whole-answer : stepRefusal (lentJob f (r .job)) (lentState (store (jobOf f) s t) (r .state)) (r .asked) ≡ firstMet (stepRules (jobOf f) (s .done) (r .asked))
+      whole-answer : stepRefusal (lentJob f (r .job)) (lentState (store (eveningOf f) s t) (r .state)) (r .asked) ≡ firstMet (stepRules (eveningOf f) (s .done) (r .asked))
       whole-answer =
-          answer-is (lentJob f (r .job)) (lentState (store (jobOf f) s t) (r .state)) (jobOf f) s (r .asked) job-is lent-is no-short (and-true range-is states-is) once-is
+          answer-is (lentJob f (r .job)) (lentState (store (eveningOf f) s t) (r .state)) (eveningOf f) s (r .asked) job-is lent-is no-short (and-true range-is states-is) once-is
           (packed-is ∙ e) amounts-is late-is
 
-      whole-after : stepTables (lentJob f (r .job)) (lentState (store (jobOf f) s t) (r .state)) (r .asked)
-          ≡ cond (allowed (jobOf f) s (r .asked)) (store (jobOf f) (effect (jobOf f) s (kindOf (r .asked .kind)) (r .asked .first) (r .asked .second)) (lentState (store (jobOf f) s t) (r .state)))
-          (lentState (store (jobOf f) s t) (r .state))
+      whole-after : stepTables (lentJob f (r .job)) (lentState (store (eveningOf f) s t) (r .state)) (r .asked)
+          ≡ cond (allowed (eveningOf f) s (r .asked)) (store (eveningOf f) (effect (eveningOf f) s (kindOf (r .asked .kind)) (r .asked .first) (r .asked .second)) (lentState (store (eveningOf f) s t) (r .state)))
+          (lentState (store (eveningOf f) s t) (r .state))
       whole-after =
-          after-is (lentJob f (r .job)) (lentState (store (jobOf f) s t) (r .state)) (jobOf f) s (r .asked) job-is lent-is no-short (and-true range-is states-is) once-is
+          after-is (lentJob f (r .job)) (lentState (store (eveningOf f) s t) (r .state)) (eveningOf f) s (r .asked) job-is lent-is no-short (and-true range-is states-is) once-is
           (packed-is ∙ e) amounts-is late-is
 
   -- A request that lends a table short.
-  module _ (s : State) (o : Sound (jobOf f) s) (r : Request) where
-    short-answer : lendsShort f r ≡ true → stepRefusal (lentJob f (r .job)) (lentState (store (jobOf f) s t) (r .state)) (r .asked) ≡ 20
+  module _ (s : State) (o : Sound (eveningOf f) s) (r : Request) where
+    short-answer : lendsShort f r ≡ true → stepRefusal (lentJob f (r .job)) (lentState (store (eveningOf f) s t) (r .state)) (r .asked) ≡ 20
     short-answer y =
         split (elseShort r)
         (λ e. else-answer s r e)
         (λ e. totals-answer s o r e (rw e at (sym (lends-is r) ∙ y)))
 
-    short-after : lendsShort f r ≡ true → stepTables (lentJob f (r .job)) (lentState (store (jobOf f) s t) (r .state)) (r .asked) ≡ lentState (store (jobOf f) s t) (r .state)
+    short-after : lendsShort f r ≡ true → stepTables (lentJob f (r .job)) (lentState (store (eveningOf f) s t) (r .state)) (r .asked) ≡ lentState (store (eveningOf f) s t) (r .state)
     unfolding stepTables
     short-after y = rw (short-answer y)
 
     -- One that does not lends enough of both.
-    enough : lendsShort f r ≡ false → (elseShort r ≡ false) × (totalsShort (jobOf f) (r .state) ≡ false)
-    enough y = or-off (elseShort r) (totalsShort (jobOf f) (r .state)) (sym (lends-is r) ∙ y)
+    enough : lendsShort f r ≡ false → (elseShort r ≡ false) × (totalsShort (eveningOf f) (r .state) ≡ false)
+    enough y = or-off (elseShort r) (totalsShort (eveningOf f) (r .state)) (sym (lends-is r) ∙ y)
 
   -- What a request does to the state.
   unfoldable pub next : State → Request → State
-  next s r = cond (not (lendsShort f r) && allowed (jobOf f) s (r .asked)) (effect (jobOf f) s (kindOf (r .asked .kind)) (r .asked .first) (r .asked .second)) s
+  next s r = cond (not (lendsShort f r) && allowed (eveningOf f) s (r .asked)) (effect (eveningOf f) s (kindOf (r .asked .kind)) (r .asked .first) (r .asked .second)) s
 
-  pub one-answer : (s : State) → Sound (jobOf f) s → (r : Request) → answerTo f (store (jobOf f) s t) r ≡ stepAnswer (refusalOf f (s .done) r)
+  pub one-answer : (s : State) → Sound (eveningOf f) s → (r : Request) → answerTo f (store (eveningOf f) s t) r ≡ stepAnswer (refusalOf f (s .done) r)
   unfolding answerTo stepped refusalOf
   one-answer s o r =
       ap stepAnswer (split (lendsShort f r)
       (λ e. short-answer s o r e ∙ rw e)
       (λ e. whole-answer s o r (enough s o r e .0) (enough s o r e .1) ∙ rw e))
 
-  pub one-serve : (s : State) → Sound (jobOf f) s → (r : Request) → serve f (store (jobOf f) s t) r ≡ store (jobOf f) (next s r) t
-  unfolding serve stepped next jobOf
+  pub one-serve : (s : State) → Sound (eveningOf f) s → (r : Request) → serve f (store (eveningOf f) s t) r ≡ store (eveningOf f) (next s r) t
+  unfolding serve stepped next
   one-serve s o r =
       split (lendsShort f r)
-      (λ e. rw (short-after s o r e, e) (lent-back (store (jobOf f) s t) (r .state)))
-      (λ e. rw (whole-after s o r (enough s o r e .0) (enough s o r e .1), e) (split (allowed (jobOf f) s (r .asked))
-      (λ a. rw a (lent-store (jobOf f) (store (jobOf f) s t) (r .state) (state-long f (r .state) (state-enough s o r (enough s o r e .0)))
-      (packed-long s o r (enough s o r e .0) (enough s o r e .1)) _ ∙ store-store (jobOf f) _ s t))
-      (λ a. rw a (lent-back (store (jobOf f) s t) (r .state)))))
+      (λ e. rw (short-after s o r e, e) (lent-back (store (eveningOf f) s t) (r .state)))
+      (λ e. rw (whole-after s o r (enough s o r e .0) (enough s o r e .1), e) (split (allowed (eveningOf f) s (r .asked))
+      (λ a. rw a (lent-store (eveningOf f) (store (eveningOf f) s t) (r .state) (evening-long f (r .state) (state-enough s o r (enough s o r e .0)))
+      (packed-long s o r (enough s o r e .0) (enough s o r e .1)) _ ∙ store-store (eveningOf f) _ s t))
+      (λ a. rw a (lent-back (store (eveningOf f) s t) (r .state)))))
 
-  pub one-sound : (s : State) → Sound (jobOf f) s → (r : Request) → Sound (jobOf f) (next s r)
+  pub one-sound : (s : State) → Sound (eveningOf f) s → (r : Request) → Sound (eveningOf f) (next s r)
   unfolding next
   one-sound s o r =
-      split (not (lendsShort f r) && allowed (jobOf f) s (r .asked))
+      split (not (lendsShort f r) && allowed (eveningOf f) s (r .asked))
       (λ e. rw e (sound-allowed s (r .asked) o (and-r (not (lendsShort f r)) _ e)))
       (λ e. rw e o)

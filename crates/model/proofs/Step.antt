@@ -2,28 +2,33 @@
 use mathlib.Core.Path.{_≡_}
 use mathlib.Core.Bool.{true, false, cond, _&&_}
 use mathlib.Core.List.{List, [], _∷_}
-use Prim.Native.Nat.{ℕ, _*_, _/_, _%_, _<_, _≤_}
+use Prim.Native.Nat.{ℕ, suc, _+_, _*_, _/_, _%_, _<_, _≤_, suc-le-suc}
 use native.Mathlib.Omega.{arith}
+use native.Mathlib.Nat.{mul-le-mul}
 use lib.Dec.{eqb, ltb, leb}
 use lib.Seq.{getD-take}
-use lib.ListN.{getD, take}
+use lib.ListN.{getD, take, length}
 use lib.IntN.{ℤ, pos, natAbs}
 use borrow.Author.Tests.{le-ltb, ltb-true, ltb-false, le-leb, leb-true}
-use Rattle.laws.specs.Tables.{overwrite, recell, word}
-use Rattle.laws.specs.Limits.{maxBoxes, maxGrocers, maxOffers, maxTallies, maxPrice, maxCount}
+use Rattle.laws.specs.Tables.{overwrite, recell, word, cell}
+use Rattle.laws.specs.Lists.{listWords}
+use Rattle.laws.specs.Limits.{maxBoxes, maxGrocers, maxOffers, maxTallies, maxLists, maxPrice, maxCount}
+use Rattle.laws.proofs.Entries.{entry-in, list-in, div-past, cell-past, few-of}
+use Rattle.laws.specs.Checks.{anyOf}
 use Rattle.laws.proofs.Checks.{any-each, each-of, all-each}
 use Rattle.laws.proofs.Bools.{split, and-true, and-l, and-r, cond-either}
 use Rattle.laws.proofs.Below.{all-at, all-of, all-cong, count-le}
-use Rattle.laws.proofs.Tables.{getD-overwrite, long-overwrite, word-in, word-past}
-use Rattle.model.specs.Tables.{JobTables, nobody, jobOf, StateTables, store, marksOf, stateLengths, stateShort, totalsShort}
+use Rattle.laws.proofs.Tables.{getD-overwrite, long-overwrite, word-in, word-past, cell-in, cell-at}
+use Rattle.model.specs.Tables.{JobTables, nobody, jobOf, withLists, eveningOf, StateTables, store, marksOf, stateLengths, stateShort, totalsShort}
 use Rattle.model.specs.Job.{Job}
-use Rattle.model.specs.PackedTotals.{totalsLength, totalRows, packTotals}
+use Rattle.model.specs.PackedTotals.{totalsLength, totalRows, packTotals, spread}
 use Rattle.model.specs.Ranges.{upTo, under, around, sizesInRange, jobWordsInRange, jobInRange, stateInRange, totalsInRange}
 use Rattle.model.specs.Handed.{handedInRange}
 use Rattle.model.specs.Steps.{places, Steps, atPlace, State}
 use Rattle.model.proofs.PackedTotals.{pack-over, pack-long, rows-each}
 use Rattle.model.proofs.Range.{InRange}
-use Rattle.model.proofs.Ranges.{Limits, Within}
+use Rattle.model.proofs.Ranges.{Limits, Bounds, Within}
+use Rattle.model.proofs.EveningJob.{at-sizes}
 
 -- What the tests of a table say of its words.
 pub up-at : (m n : ℕ) (l : List ℕ) (i : ℕ) → upTo m n l ≡ true → i < n → getD l i 0 ≤ m
@@ -65,7 +70,8 @@ pub record JobIn (f : JobTables) : Type 0 where
   pub grocers≤ : f .grocers ≤ maxGrocers
   pub offers≤ : f .offers ≤ maxOffers
   pub tallies≤ : f .tallies ≤ maxTallies
-  pub price : upTo maxPrice (f .offers) (f .price) ≡ true
+  pub lists≤ : f .lists ≤ maxLists
+  pub price : upTo maxPrice (listWords (f .lists) (f .offers)) (f .price) ≡ true
   pub offerOwner : under (f .boxes) (f .offers) (f .offerOwner) ≡ true
   pub grocerOwner : under (f .boxes) (f .grocers) (f .grocerOwner) ≡ true
   pub tallyGrocer : under (f .grocers) (f .tallies) (f .tallyGrocer) ≡ true
@@ -79,13 +85,14 @@ module _ (f : JobTables) (ok : handedInRange f ≡ true) where
   unfolding handedInRange sizesInRange
   job-in =
       let s = each-of (
-      (leb 1 (f .boxes) && leb (f .boxes) maxBoxes)
+      leb (f .lists) maxLists
+      ∷ (leb 1 (f .boxes) && leb (f .boxes) maxBoxes)
       ∷ (leb 1 (f .grocers) && leb (f .grocers) maxGrocers)
       ∷ (leb 1 (f .offers) && leb (f .offers) maxOffers)
       ∷ leb (f .tallies) maxTallies
       ∷ []) (and-l (sizesInRange f) _ ok) in
       let e = each-of (
-      upTo maxPrice (f .offers) (f .price)
+      upTo maxPrice (listWords (f .lists) (f .offers)) (f .price)
       ∷ under (f .boxes) (f .offers) (f .offerOwner)
       ∷ under (f .boxes) (f .grocers) (f .grocerOwner)
       ∷ under (f .grocers) (f .tallies) (f .tallyGrocer)
@@ -94,10 +101,11 @@ module _ (f : JobTables) (ok : handedInRange f ≡ true) where
       ∷ around maxCount (f .tallies) (f .tallyCount)
       ∷ []) (and-r (sizesInRange f) _ ok) in
       record {
-        boxes≤ = leb-true (f .boxes) maxBoxes (and-r (leb 1 (f .boxes)) _ (s .0));
-        grocers≤ = leb-true (f .grocers) maxGrocers (and-r (leb 1 (f .grocers)) _ (s .1 .0));
-        offers≤ = leb-true (f .offers) maxOffers (and-r (leb 1 (f .offers)) _ (s .1 .1 .0));
-        tallies≤ = leb-true (f .tallies) maxTallies (s .1 .1 .1 .0);
+        boxes≤ = leb-true (f .boxes) maxBoxes (and-r (leb 1 (f .boxes)) _ (s .1 .0));
+        grocers≤ = leb-true (f .grocers) maxGrocers (and-r (leb 1 (f .grocers)) _ (s .1 .1 .0));
+        offers≤ = leb-true (f .offers) maxOffers (and-r (leb 1 (f .offers)) _ (s .1 .1 .1 .0));
+        tallies≤ = leb-true (f .tallies) maxTallies (s .1 .1 .1 .1 .0);
+        lists≤ = leb-true (f .lists) maxLists (s .0);
         price = e .0;
         offerOwner = e .1 .0;
         grocerOwner = e .1 .1 .0;
@@ -126,12 +134,49 @@ module _ (f : JobTables) (ok : handedInRange f ≡ true) where
     tallies≤ = job-in .tallies≤;
     ofGrocer≤ = λ g. omega (arith, count-le (f .tallies) (λ t. eqb (word (f .tallies) (f .tallyGrocer) 0 t) g), job-in .tallies≤);
     price≤ = λ o. split (ltb o (f .offers))
-        (λ e. rw (word-in (f .offers) (f .price) 0 o (ltb-true o (f .offers) e)) (up-at maxPrice (f .offers) (f .price) o (job-in .price) (ltb-true o (f .offers) e)))
+        (λ e. rw (word-in (f .offers) (f .price) 0 o (ltb-true o (f .offers) e)) (up-at maxPrice (listWords (f .lists) (f .offers)) (f .price) o (job-in .price)
+        (omega (arith, ltb-true o (f .offers) e))))
         (λ e. rw (word-past (f .offers) (f .price) 0 o (ltb-false o (f .offers) e)) (omega arith));
     count≤ = λ t. split (ltb t (f .tallies))
         (λ e. rw (word-in (f .tallies) (f .tallyCount) (pos 0) t (ltb-true t (f .tallies) e)) (around-at maxCount (f .tallies) (f .tallyCount) t (job-in .tallyCount) (ltb-true t (f .tallies) e)))
         (λ e. rw (word-past (f .tallies) (f .tallyCount) (pos 0) t (ltb-false t (f .tallies) e)) (omega arith));
   }
+
+  -- The evening's job likewise.
+  pub lists-range : (l : ℕ) → InRange (withLists l f)
+  unfolding withLists spread jobOf
+  lists-range l = record {
+    owner< = λ o h. range .owner< (o / suc l) (entry-in l (f .offers) o h);
+    grocerOwner< = λ g h. range .grocerOwner< (g / suc l) (entry-in l (f .grocers) g h);
+    grocer< = λ t h. cell-in (jobOf f .tallyGrocer (t / suc l)) (f .grocers) (suc l) (t % suc l) (range .grocer< (t / suc l) (entry-in l (f .tallies) t h)) (list-in l t);
+    offer< = λ t h. cell-in (jobOf f .tallyOffer (t / suc l)) (f .offers) (suc l) (t % suc l) (range .offer< (t / suc l) (entry-in l (f .tallies) t h)) (list-in l t);
+    noPrice = λ o h. cell-past (suc l) (f .offers) (f .price) 0 (o % suc l) (o / suc l) (div-past l (f .offers) o h);
+    boxes≤ = job-in .boxes≤;
+  }
+
+  pub evening-range : InRange (eveningOf f)
+  evening-range = lists-range (f .lists)
+
+  -- "90,600 at most": seven hundred and fifty-five entries of fifteen boxes and eight lists.
+  pub evening-bounds : Bounds (eveningOf f)
+  unfolding withLists spread jobOf
+  evening-bounds = record {
+    words≤ = words-few;
+    ofGrocer≤ = λ g. omega (arith, few-of (f .lists) (jobOf f .tallyGrocer) g (f .tallies), job-in .tallies≤);
+    price≤ = λ o. price-few o;
+    count≤ = λ t. limits .count≤ (t / suc (f .lists));
+  }
+    where
+      words-few : 15 * (f .offers * suc (f .lists) + f .grocers * suc (f .lists)) ≤ 1_000_000
+      words-few = omega (arith, mul-le-mul (job-in .offers≤) (suc-le-suc (job-in .lists≤)), mul-le-mul (job-in .grocers≤) (suc-le-suc (job-in .lists≤)))
+
+      price-few : (o : ℕ) → cell (suc (f .lists)) (f .offers) (f .price) 0 (o % suc (f .lists)) (o / suc (f .lists)) ≤ maxPrice
+      price-few o =
+          split (ltb (o / suc (f .lists)) (f .offers))
+          (λ e. rw (cell-at (suc (f .lists)) (f .offers) (f .price) 0 (o % suc (f .lists)) (o / suc (f .lists)) (list-in (f .lists) o) (ltb-true _ _ e))
+          (up-at maxPrice (listWords (f .lists) (f .offers)) (f .price) (o % suc (f .lists) * f .offers + o / suc (f .lists)) (job-in .price)
+          (omega (arith, cell-in (o % suc (f .lists)) (suc (f .lists)) (f .offers) (o / suc (f .lists)) (list-in (f .lists) o) (ltb-true _ _ e)))))
+          (λ e. rw (cell-past (suc (f .lists)) (f .offers) (f .price) 0 (o % suc (f .lists)) (o / suc (f .lists)) (ltb-false _ _ e)) (omega arith))
 
 -- The boxes as lent are below K.
 pub boxes-under : (f : JobTables) → jobInRange f ≡ true → under (f .boxes) (f .tallies) (f .tallyBox) ≡ true
@@ -149,7 +194,7 @@ unfolding jobInRange jobWordsInRange handedInRange sizesInRange
 in-handed f ok =
     let sizes = and-l (sizesInRange f) (jobWordsInRange f) ok in
     let e = each-of (
-    upTo maxPrice (f .offers) (f .price)
+    upTo maxPrice (listWords (f .lists) (f .offers)) (f .price)
     ∷ under (f .boxes) (f .offers) (f .offerOwner)
     ∷ under (f .boxes) (f .grocers) (f .grocerOwner)
     ∷ under (f .grocers) (f .tallies) (f .tallyGrocer)
@@ -168,15 +213,21 @@ marks-bits k d marks =
     up-over 1 (places k) (λ i. cond (atPlace k d i) 1 0) marks (λ i. cond-either (λ (n : ℕ). n ≤ 1) (atPlace k d i) 1 0 (omega arith) (omega arith))
 
 -- What a state within its ranges is written to is in range.
-pub ok-store : (f : JobTables) (s : State) (t : StateTables) → Within s → stateInRange f (store (jobOf f) s t) ≡ true
-unfolding stateInRange store recell jobOf
+pub ok-store : (f : JobTables) (s : State) (t : StateTables) → Within s → stateInRange f (store (eveningOf f) s t) ≡ true
+unfolding stateInRange store recell
 ok-store f s t w =
-    and-true (and-true (and-true (and-true
-    (up-over 9_999_999 (f .boxes * f .offers) (λ i. s .known (i / f .offers) (i % f .offers)) (t .known) (λ i. w .known≤ (i / f .offers) (i % f .offers)))
-    (up-over 9_999_999 (f .boxes * f .offers) (λ i. s .priceTransit (i / f .offers) (i % f .offers)) (t .priceTransit) (λ i. w .priceTransit≤ (i / f .offers) (i % f .offers))))
-    (around-over 1_000_000_000_000_000 (f .grocers) (s .statement) (t .statement) (w .statement≤)))
+    at-sizes (f .lists) f (λ k m n. (
+    upTo 9_999_999 (f .boxes * listWords (f .lists) (f .offers)) (overwrite (k * n) (λ i. s .known (i / n) (i % n)) (t .known))
+    && upTo 9_999_999 (f .boxes * listWords (f .lists) (f .offers)) (overwrite (k * n) (λ i. s .priceTransit (i / n) (i % n)) (t .priceTransit))
+    && around 1_000_000_000_000_000 (listWords (f .lists) (f .grocers)) (overwrite m (s .statement) (t .statement))
+    && upTo 1 (6 * f .boxes * f .boxes) (marksOf k (s .done) (t .done))
+    && upTo 1_000_000 1 (overwrite 1 (λ i. s .sent) (t .sent))) ≡ true)
+    (and-true (and-true (and-true (and-true
+    (up-over 9_999_999 _ _ (t .known) (λ i. w .known≤ (i / listWords (f .lists) (f .offers)) (i % listWords (f .lists) (f .offers))))
+    (up-over 9_999_999 _ _ (t .priceTransit) (λ i. w .priceTransit≤ (i / listWords (f .lists) (f .offers)) (i % listWords (f .lists) (f .offers)))))
+    (around-over 1_000_000_000_000_000 _ (s .statement) (t .statement) (w .statement≤)))
     (marks-bits (f .boxes) (s .done) (t .done)))
-    (up-over 1_000_000 1 (λ i. s .sent) (t .sent) (λ i. w .sent≤))
+    (up-over 1_000_000 1 (λ i. s .sent) (t .sent) (λ i. w .sent≤)))
 
 -- The packed tables likewise, of any job.
 pub totals-store : (j : Job) (s : State) (t : StateTables) → Within s → totalsInRange j (store j s t) ≡ true
@@ -190,19 +241,26 @@ totals-store j s t w =
         (rows-each j v (λ (z : ℤ). natAbs z ≤ 1_000_000_000_000_000) (omega arith) h))
 
 -- The tables that hold a written state are whole.
-pub whole-store : (f : JobTables) (s : State) (t : StateTables) → stateShort f (stateLengths (store (jobOf f) s t)) ≡ false
-unfolding stateShort stateLengths store recell marksOf jobOf
+pub whole-store : (f : JobTables) (s : State) (t : StateTables) → stateShort f (stateLengths (store (eveningOf f) s t)) ≡ false
+unfolding stateShort stateLengths store recell marksOf
 whole-store f s t =
-    any-each (_ ∷ _ ∷ _ ∷ _ ∷ _ ∷ []) (
-      le-ltb _ _ (long-overwrite (f .boxes * f .offers) _ (t .known)),
+    at-sizes (f .lists) f (λ k m n. anyOf (
+    ltb (length (overwrite (k * n) (λ i. s .known (i / n) (i % n)) (t .known))) (f .boxes * listWords (f .lists) (f .offers))
+    ∷ ltb (length (overwrite (k * n) (λ i. s .priceTransit (i / n) (i % n)) (t .priceTransit))) (f .boxes * listWords (f .lists) (f .offers))
+    ∷ ltb (length (overwrite m (s .statement) (t .statement))) (listWords (f .lists) (f .grocers))
+    ∷ ltb (length (overwrite (6 * k * k) (λ i. cond (atPlace k (s .done) i) 1 0) (t .done))) (6 * f .boxes * f .boxes)
+    ∷ ltb (length (overwrite 1 (λ i. s .sent) (t .sent))) 1
+    ∷ []) ≡ false)
+    (any-each (_ ∷ _ ∷ _ ∷ _ ∷ _ ∷ []) (
+      le-ltb _ _ (long-overwrite _ _ (t .known)),
       (
-        le-ltb _ _ (long-overwrite (f .boxes * f .offers) _ (t .priceTransit)),
+        le-ltb _ _ (long-overwrite _ _ (t .priceTransit)),
         (
-          le-ltb _ _ (long-overwrite (f .grocers) _ (t .statement)),
+          le-ltb _ _ (long-overwrite _ _ (t .statement)),
           (le-ltb _ _ (long-overwrite (6 * f .boxes * f .boxes) _ (t .done)), (le-ltb _ _ (long-overwrite 1 _ (t .sent)), tt)),
         ),
       ),
-    )
+    ))
 
 pub whole-totals : (j : Job) (s : State) (t : StateTables) → totalsShort j (stateLengths (store j s t)) ≡ false
 unfolding totalsShort stateLengths store

@@ -3,12 +3,13 @@ use mathlib.Core.Path.{_≡_}
 use mathlib.Core.Bool.{false}
 use Prim.Native.Nat.{ℕ, _*_, _≤_}
 use lib.ListN.{length}
+use Rattle.laws.specs.Lists.{listWords}
 use Rattle.model.specs.Tables.{JobTables, jobLengths, jobShort, StateTables, stateLengths, stateShort}
 use Rattle.model.proofs.Lent.{job-long, state-long}
 
--- Every table of the job is as long as M, N and T need.
+-- Every table of the job is as long as M, N, T and the number of lists need.
 pub record JobWhole (f : JobTables) : Type 0 where
-  pub price : f .offers ≤ length (f .price)
+  pub price : listWords (f .lists) (f .offers) ≤ length (f .price)
   pub offerOwner : f .offers ≤ length (f .offerOwner)
   pub grocerOwner : f .grocers ≤ length (f .grocerOwner)
   pub tallyGrocer : f .tallies ≤ length (f .tallyGrocer)
@@ -30,7 +31,7 @@ job-whole f h =
       tallyCount = l .tallyCount;
     }
 
--- Every table of the state is as long as K, M and N need.
+-- Every table of the state is as long as k boxes, m words of grocers and n of offers need.
 pub record StateWhole (k m n : ℕ) (t : StateTables) : Type 0 where
   pub known : k * n ≤ length (t .known)
   pub priceTransit : k * n ≤ length (t .priceTransit)
@@ -38,7 +39,7 @@ pub record StateWhole (k m n : ℕ) (t : StateTables) : Type 0 where
   pub done : 6 * k * k ≤ length (t .done)
   pub sent : 1 ≤ length (t .sent)
 
-pub state-whole : (f : JobTables) (t : StateTables) → stateShort f (stateLengths t) ≡ false → StateWhole (f .boxes) (f .grocers) (f .offers) t
+pub state-whole : (f : JobTables) (t : StateTables) → stateShort f (stateLengths t) ≡ false → StateWhole (f .boxes) (listWords (f .lists) (f .grocers)) (listWords (f .lists) (f .offers)) t
 unfolding stateLengths
 state-whole f t h =
     let l = state-long f (stateLengths t) h in

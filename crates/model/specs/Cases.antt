@@ -26,7 +26,7 @@ use Rattle.model.specs.Reconcile.{TallyRecord, owed, refused as notOwed,
 -- Tables in which every coupon is loose: bags and revisions are 0.
 abbrev pub looseTables : ℕ → ℕ → ℕ → ℕ → List ℕ → List ℕ → List ℕ → List ℕ → List ℕ → List ℕ → List ℤ → JobTables
 looseTables k m n t price owner grocers tallyGrocer tallyBox tallyOffer tallyCount =
-    bagTables k m n t price owner grocers tallyGrocer tallyBox tallyOffer tallyCount (tabulate t (λ i. 0)) (tabulate t (λ i. 0))
+    bagTables k m n t 0 price owner grocers tallyGrocer tallyBox tallyOffer tallyCount (tabulate t (λ i. 0)) (tabulate t (λ i. 0))
 
 -- E, "Settling one small evening".
 abbrev pub jobE : JobTables
@@ -112,7 +112,7 @@ handed =
 -- Counts of grocer 0's coupons of offer 0, whose price is 10: boxes, counts, bags and revisions. Offer and grocer are box 1's.
 abbrev pub recounted : ℕ → List ℕ → List ℤ → List ℕ → List ℕ → JobTables
 recounted t boxes counts bags revisions =
-    bagTables 2 1 1 t (10 ∷ []) (1 ∷ []) (1 ∷ []) (tabulate t (λ i. 0)) boxes (tabulate t (λ i. 0)) counts bags revisions
+    bagTables 2 1 1 t 0 (10 ∷ []) (1 ∷ []) (1 ∷ []) (tabulate t (λ i. 0)) boxes (tabulate t (λ i. 0)) counts bags revisions
 
 -- Bag 7, counted by box 0 and again, as revision 1, by box 1.
 abbrev pub recount : JobTables
@@ -161,7 +161,7 @@ twoWays = looseTables 3 2 2 2 (10 ∷ 20 ∷ []) (0 ∷ 2 ∷ []) (1 ∷ 2 ∷ [
 -- Box 0 holds two counts of box 1's grocer: of its own offer, and in a bag of box 1's offer. Box 1 counts a bag of this offer as revision 1.
 abbrev pub bagMoved : (first second : ℕ) → JobTables
 bagMoved x y =
-    bagTables 2 1 2 3 (10 ∷ 20 ∷ []) (0 ∷ 1 ∷ []) (1 ∷ []) (0 ∷ 0 ∷ 0 ∷ []) (0 ∷ 0 ∷ 1 ∷ []) (0 ∷ 1 ∷ 1 ∷ [])
+    bagTables 2 1 2 3 0 (10 ∷ 20 ∷ []) (0 ∷ 1 ∷ []) (1 ∷ []) (0 ∷ 0 ∷ 0 ∷ []) (0 ∷ 0 ∷ 1 ∷ []) (0 ∷ 1 ∷ 1 ∷ [])
     (pos 3 ∷ pos 5 ∷ pos 4 ∷ []) (0 ∷ x ∷ y ∷ []) (0 ∷ 0 ∷ 1 ∷ [])
 
 -- Packed tables of E with these words, in a fresh state.

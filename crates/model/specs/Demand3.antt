@@ -8,11 +8,12 @@ use lib.Dec.{eqb}
 use lib.IntN.{ℤ, pos, _+ℤ_}
 use Rattle.laws.specs.Below.{sum, only, integers, naturals}
 use Rattle.laws.specs.Checks.{firstMet}
+use Rattle.laws.specs.Lists.{listWords}
 use Rattle.model.specs.Job.{Job, held, needs, shares, amount, plainSum}
 use Rattle.model.specs.Steps.{Kind, Steps, Step, State, kindNumber, mark, hasStep, permitted, added, effectOf}
 use Rattle.model.specs.Boxes.{stateByRules}
 use Rattle.model.specs.Words.{over, wordsOf, priceTo, totalFrom, messagesOf, ownerWords, messageCount, stepCount}
-use Rattle.model.specs.Tables.{JobTables, jobOf, StateTables, view, store, anyShort}
+use Rattle.model.specs.Tables.{JobTables, eveningOf, StateTables, view, store, anyShort}
 use Rattle.model.specs.Ranges.{stateInRange, totalsInRange}
 use Rattle.model.specs.PackedTotals.{totalsLength}
 use Rattle.model.specs.Step.{isKind, stepOf, stepRules, StepAnswer, stepAnswer, isAccepted}
@@ -49,11 +50,11 @@ module _ (f : JobTables) where
   unfoldable pub permittedRequest : Steps → Request → Bool
   permittedRequest d r =
       let q = stepOf (r .asked) in
-      not (lendsShort f r) && (isKind (r .asked .kind) && permitted (jobOf f) d (q .kind) (q .first) (q .second))
+      not (lendsShort f r) && (isKind (r .asked .kind) && permitted (eveningOf f) d (q .kind) (q .first) (q .second))
 
   -- What refuses a request where the steps of d are done: 20, 22 to 26 in this order, and never 9 or 21.
   unfoldable pub refusalOf : Steps → Request → ℕ
-  refusalOf d r = cond (lendsShort f r) 20 (firstMet (stepRules (jobOf f) d (r .asked)))
+  refusalOf d r = cond (lendsShort f r) 20 (firstMet (stepRules (eveningOf f) d (r .asked)))
 
   -- The answers to the requests of a list by the rules alone, where the steps of d are done: a permitted request adds its step.
   unfoldable pub answersByRules : Steps → List Request → List StepAnswer
@@ -74,7 +75,7 @@ pub record Finished (j : Job) (s : State) : Type 0 where
   pub wordsSent : s .sent ≡ ownerWords j
 
 -- What holds after the list rs of requests on the job tables f, from a fresh state of the job in the buffers t, where
--- job is what the tables f hold, accepted are the steps accepted in the list, done is the set of them,
+-- job is the evening's job, what the tables f hold for all price lists, accepted are the steps accepted in the list, done is the set of them,
 -- tables are the state's tables that the list leaves, and state is what they hold. `Demand3` below fills these in.
 pub record AfterList (f : JobTables) (t : StateTables) (rs : List Request)
     (job : Job) (accepted : List Step) (done : Steps) (tables : StateTables) (state : State) : Type 0 where
@@ -132,14 +133,14 @@ pub record AfterList (f : JobTables) (t : StateTables) (rs : List Request)
 
 -- Demand 3: what holds after the list rs of requests on the job tables f, from a fresh state in the buffers t.
 abbrev pub Demand3 : JobTables → StateTables → List Request → Type 0
-Demand3 f t rs = AfterList f t rs (jobOf f) (acceptedIn f t rs) (doneIn f t rs) (tablesAfter f t rs) (view (jobOf f) (tablesAfter f t rs))
+Demand3 f t rs = AfterList f t rs (eveningOf f) (acceptedIn f t rs) (doneIn f t rs) (tablesAfter f t rs) (view (eveningOf f) (tablesAfter f t rs))
 
 -- The request for a step that lends of each table what it needs.
 unfoldable pub wholeRequest : JobTables → Step → Request
 wholeRequest f x = record {
   asked = record { kind = kindNumber (x .kind); first = x .first; second = x .second };
   job = record {
-    price = f .offers;
+    price = listWords (f .lists) (f .offers);
     offerOwner = f .offers;
     grocerOwner = f .grocers;
     tallyGrocer = f .tallies;
@@ -150,11 +151,11 @@ wholeRequest f x = record {
     tallyRevision = f .tallies;
   };
   state = record {
-    known = f .boxes * f .offers;
-    priceTransit = f .boxes * f .offers;
-    working = totalsLength (jobOf f);
-    totalTransit = totalsLength (jobOf f);
-    statement = f .grocers;
+    known = f .boxes * listWords (f .lists) (f .offers);
+    priceTransit = f .boxes * listWords (f .lists) (f .offers);
+    working = totalsLength (eveningOf f);
+    totalTransit = totalsLength (eveningOf f);
+    statement = listWords (f .lists) (f .grocers);
     done = 6 * f .boxes * f .boxes;
     sent = 1;
   };
@@ -164,17 +165,18 @@ wholeRequest f x = record {
 pub record RunIsList (f : JobTables) (t : StateTables) (choices picked : List ℕ) : Type 0 where
   -- Only 20 refuses it; else it reports the words of the owner tables, the messages and the steps of the job.
   pub answer : ran f t choices picked .answer
-      ≡ reported (cond (anyShort f t) 20 0) (finished (ownerWords (jobOf f)) (messageCount (jobOf f)) (stepCount (jobOf f)))
+      ≡ reported (cond (anyShort f t) 20 0) (finished (ownerWords (eveningOf f)) (messageCount (eveningOf f)) (stepCount (eveningOf f)))
   -- Requests for its steps are all accepted, do all steps, and leave its tables.
-  pub accepted : acceptedIn f t (map (wholeRequest f) (run (jobOf f) choices)) ≡ run (jobOf f) choices
-  pub allDone : AllDone (jobOf f) (doneIn f t (map (wholeRequest f) (run (jobOf f) choices)))
-  pub tables : anyShort f t ≡ false → ran f t choices picked .tables ≡ tablesAfter f t (map (wholeRequest f) (run (jobOf f) choices))
-  -- It leaves every grocer's plain sum in the statements.
-  pub statements : anyShort f t ≡ false → (g : ℕ) → g < f .grocers → getD (ran f t choices picked .tables .statement) g (pos 0) ≡ plainSum (jobOf f) g
+  pub accepted : acceptedIn f t (map (wholeRequest f) (run (eveningOf f) choices)) ≡ run (eveningOf f) choices
+  pub allDone : AllDone (eveningOf f) (doneIn f t (map (wholeRequest f) (run (eveningOf f) choices)))
+  pub tables : anyShort f t ≡ false → ran f t choices picked .tables ≡ tablesAfter f t (map (wholeRequest f) (run (eveningOf f) choices))
+  -- It leaves every grocer's plain sum in the statements, of each price list.
+  pub statements : anyShort f t ≡ false → (g : ℕ) → g < listWords (f .lists) (f .grocers) →
+      getD (ran f t choices picked .tables .statement) g (pos 0) ≡ plainSum (eveningOf f) g
   -- Which steps it picked shows in the lent buffer: word i is the place of its step i, as far as the buffer reaches,
-  pub places : anyShort f t ≡ false → (i : ℕ) → i < stepCount (jobOf f) → i < length picked →
-      getD (ran f t choices picked .picked) i 0 ≡ getD (pickedPlaces (jobOf f) choices) i 0
+  pub places : anyShort f t ≡ false → (i : ℕ) → i < stepCount (eveningOf f) → i < length picked →
+      getD (ran f t choices picked .picked) i 0 ≡ getD (pickedPlaces (eveningOf f) choices) i 0
   -- and the words past the steps stay.
-  pub past : anyShort f t ≡ false → (i : ℕ) → stepCount (jobOf f) ≤ i → getD (ran f t choices picked .picked) i 0 ≡ getD picked i 0
+  pub past : anyShort f t ≡ false → (i : ℕ) → stepCount (eveningOf f) ≤ i → getD (ran f t choices picked .picked) i 0 ≡ getD picked i 0
   -- A refusal changes no word.
   pub keeps : anyShort f t ≡ true → (ran f t choices picked .tables ≡ t) × (ran f t choices picked .picked ≡ picked)

@@ -124,7 +124,7 @@ shortStateE i = lentState (doneE 24 0) (record {
 
 -- K, M, N and T, and tables without a word.
 abbrev pub ofSizes : ℕ → ℕ → ℕ → ℕ → JobTables
-ofSizes k m n t = jobTables k m n t [] [] [] [] [] [] []
+ofSizes k m n t = jobTables k m n t 0 [] [] [] [] [] [] []
 
 -- K 1, M 2, N 3, T 4: of each table the last word as told, and 0 before it.
 abbrev pub lastWords : (price owner grocerOwner grocer box offer : ℕ) → ℤ → JobTables
@@ -139,7 +139,7 @@ runOf f = ran f (doneE 24 0) [] [] .answer
 -- A bag counted twice as one revision, so 9; and a price out of range, so 21. K 2, M 1, N 1, T 2.
 abbrev pub twicePriced : JobTables
 twicePriced =
-    bagTables 2 1 1 2 (10_000_000 ∷ []) (1 ∷ []) (1 ∷ []) (0 ∷ 0 ∷ []) (0 ∷ 1 ∷ []) (0 ∷ 0 ∷ []) (pos 5 ∷ pos 4 ∷ []) (7 ∷ 7 ∷ []) (3 ∷ 3 ∷ [])
+    bagTables 2 1 1 2 0 (10_000_000 ∷ []) (1 ∷ []) (1 ∷ []) (0 ∷ 0 ∷ []) (0 ∷ 1 ∷ []) (0 ∷ 0 ∷ []) (pos 5 ∷ pos 4 ∷ []) (7 ∷ 7 ∷ []) (3 ∷ 3 ∷ [])
 
 -- The lengths of a local book's five tables.
 abbrev pub bookLengths : (localOffers localGrocers starts packedGrocers packedCounts : ℕ) → BookLengths
@@ -350,7 +350,7 @@ pub record Edges : Type 0 where
   -- 9 before 23.
   pub book-9-23 : bookRefusal lowTwice (bookLengths 1 1 2 3 3) 2 ≡ 9
   -- Message tables: 20 before 21,
-  pub messages-20-21 : firstMet (jobRefusals (bagTables 2 1 1 2 (10_000_000 ∷ []) (1 ∷ []) [] (0 ∷ 0 ∷ []) (0 ∷ 1 ∷ []) (0 ∷ 0 ∷ []) (pos 5 ∷ []) [] [])) ≡ 20
+  pub messages-20-21 : firstMet (jobRefusals (bagTables 2 1 1 2 0 (10_000_000 ∷ []) (1 ∷ []) [] (0 ∷ 0 ∷ []) (0 ∷ 1 ∷ []) (0 ∷ 0 ∷ []) (pos 5 ∷ []) [] [])) ≡ 20
   -- 21 before 9,
   pub messages-21-9 : firstMet (jobRefusals twicePriced) ≡ 21
   -- and 9.

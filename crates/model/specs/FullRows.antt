@@ -1,4 +1,4 @@
--- 02 §11: the step and the run on full rows of totals, K × M words by box and grocer, and that those on packed tables do the same.
+-- 02 §11: the step and the run on full rows of totals, K × M words by box and grocer for each price list, and that those on packed tables do the same.
 use mathlib.Core.Path.{_≡_}
 use mathlib.Core.List.{List, [], _∷_, _++_}
 use mathlib.Core.Bool.{Bool, true, false, cond, _&&_, _||_, not}
@@ -14,7 +14,7 @@ use Rattle.model.specs.Job.{Job}
 use Rattle.model.specs.Steps.{State, kindOf, fresh, effect}
 use Rattle.model.specs.Words.{over, messagesOf}
 use Rattle.model.specs.PackedTotals.{hasTotal, packTotals, unpackTotals}
-use Rattle.model.specs.Tables.{JobTables, countedOf, jobOf, StateTables, StateLengths, stateLengths, view, store, lentShort, totalsShort}
+use Rattle.model.specs.Tables.{JobTables, countedOf, eveningOf, StateTables, StateLengths, stateLengths, view, store, lentShort, totalsShort}
 use Rattle.model.specs.Ranges.{around, jobInRange, stateInRange, totalsInRange}
 use Rattle.model.specs.Step.{Asked, stepRules, StepAnswer, stepAnswer, Outcome, outcome, stepped, freshTables}
 use Rattle.model.specs.Run.{run, runState, pickedPlaces, finished, reported, RunOutcome, ran}
@@ -79,16 +79,16 @@ module _ (j : Job) where
 module _ (f : JobTables) (t : StateTables) where
   -- The tables with the effect of the step that is asked for, on full rows.
   unfoldable pub fullMoved : Asked → StateTables
-  fullMoved q = fullStore (jobOf f) (effect (jobOf f) (fullView (jobOf f) t) (kindOf (q .kind)) (q .first) (q .second)) t
+  fullMoved q = fullStore (eveningOf f) (effect (eveningOf f) (fullView (eveningOf f) t) (kindOf (q .kind)) (q .first) (q .second)) t
 
   -- The refusals of a step on full rows, by number, and the late 21.
   unfoldable pub fullRefusals : Asked → List (Bool × ℕ)
   fullRefusals q =
-      (lentShort f t || rowsShort (jobOf f) (stateLengths t), 20)
-      ∷ (not (jobInRange f && (stateInRange f t && rowsInRange (jobOf f) t)), 21)
+      (lentShort f t || rowsShort (eveningOf f) (stateLengths t), 20)
+      ∷ (not (jobInRange f && (stateInRange f t && rowsInRange (eveningOf f) t)), 21)
       ∷ (countedTwice (countedOf f), 9)
-      ∷ stepRules (jobOf f) (fullView (jobOf f) t .done) q
-      ++ (not (stateInRange f (fullMoved q) && rowsInRange (jobOf f) (fullMoved q)), 21)
+      ∷ stepRules (eveningOf f) (fullView (eveningOf f) t .done) q
+      ++ (not (stateInRange f (fullMoved q) && rowsInRange (eveningOf f) (fullMoved q)), 21)
       ∷ []
 
   -- The number of the first that is met, or 0.
@@ -102,11 +102,11 @@ module _ (f : JobTables) (t : StateTables) where
 -- The run on full rows.
 unfoldable pub fullRan : JobTables → StateTables → List ℕ → List ℕ → RunOutcome
 fullRan f t cs p =
-    let n = firstMet ((lentShort f t || rowsShort (jobOf f) (stateLengths t), 20) ∷ (not (jobInRange f), 21) ∷ (countedTwice (countedOf f), 9) ∷ []) in
+    let n = firstMet ((lentShort f t || rowsShort (eveningOf f) (stateLengths t), 20) ∷ (not (jobInRange f), 21) ∷ (countedTwice (countedOf f), 9) ∷ []) in
     record {
-      answer = reported n (finished (runState (jobOf f) cs .sent) (over messagesOf (run (jobOf f) cs)) (length (run (jobOf f) cs)));
-      tables = cond (eqb n 0) (fullStore (jobOf f) (runState (jobOf f) cs) t) t;
-      picked = cond (eqb n 0) (layOver (pickedPlaces (jobOf f) cs) p) p;
+      answer = reported n (finished (runState (eveningOf f) cs .sent) (over messagesOf (run (eveningOf f) cs)) (length (run (eveningOf f) cs)));
+      tables = cond (eqb n 0) (fullStore (eveningOf f) (runState (eveningOf f) cs) t) t;
+      picked = cond (eqb n 0) (layOver (pickedPlaces (eveningOf f) cs) p) p;
     }
 
 -- "Where buffers are long enough and totals in range": the packed tables are, whatever else the tables hold.
@@ -117,12 +117,12 @@ pub record TotalsIn (j : Job) (t : StateTables) : Type 0 where
 -- "Each step on the packed tables gives the same answer and, unpacked with 0 for all other grocers, the same words as on full rows":
 -- whatever the job's tables f, the state's tables t and the request q.
 pub record SameStep (f : JobTables) (t : StateTables) (q : Asked) : Type 0 where
-  pub answer : stepped f t q .answer ≡ fullStepped f (unpacked (jobOf f) t) q .answer
-  pub words : unpacked (jobOf f) (stepped f t q .tables) ≡ fullStepped f (unpacked (jobOf f) t) q .tables
+  pub answer : stepped f t q .answer ≡ fullStepped f (unpacked (eveningOf f) t) q .answer
+  pub words : unpacked (eveningOf f) (stepped f t q .tables) ≡ fullStepped f (unpacked (eveningOf f) t) q .tables
   -- So what it leaves, to the last word, is what the step on full rows leaves, packed: words past the packed length stay.
-  pub packed : stepped f t q .tables ≡ repacked (jobOf f) (fullStepped f (unpacked (jobOf f) t) q .tables) t
+  pub packed : stepped f t q .tables ≡ repacked (eveningOf f) (fullStepped f (unpacked (eveningOf f) t) q .tables) t
   -- What it leaves is long enough and in range again.
-  pub again : TotalsIn (jobOf f) (stepped f t q .tables)
+  pub again : TotalsIn (eveningOf f) (stepped f t q .tables)
 
 -- The answers of steps, one after the other on whole tables,
 unfoldable pub answersBy : (StateTables → Asked → Outcome) → StateTables → List Asked → List StepAnswer
@@ -135,29 +135,30 @@ tablesBy step t [] = t
 tablesBy step t (q ∷ qs) = tablesBy step (step t q .tables) qs
 
 -- The same of every list of steps, accepted and refused ones.
-pub record SameSteps (f : JobTables) (t : StateTables) (qs : List Asked) : Type 0 where
-  pub answers : answersBy (stepped f) t qs ≡ answersBy (fullStepped f) (unpacked (jobOf f) t) qs
-  pub words : unpacked (jobOf f) (tablesBy (stepped f) t qs) ≡ tablesBy (fullStepped f) (unpacked (jobOf f) t) qs
+pub record SameRequests (f : JobTables) (t : StateTables) (qs : List Asked) : Type 0 where
+  pub answers : answersBy (stepped f) t qs ≡ answersBy (fullStepped f) (unpacked (eveningOf f) t) qs
+  pub words : unpacked (eveningOf f) (tablesBy (stepped f) t qs) ≡ tablesBy (fullStepped f) (unpacked (eveningOf f) t) qs
 
 -- A fresh state is the same in both, and its totals are long enough and in range, whatever the buffers held:
 -- so the same is said of every list of steps that begins fresh, one that a trial takes too.
 pub record SameFresh (f : JobTables) (t : StateTables) : Type 0 where
-  pub words : unpacked (jobOf f) (freshTables f t) ≡ fullStore (jobOf f) (fresh (jobOf f)) (unpacked (jobOf f) t)
-  pub inside : TotalsIn (jobOf f) (freshTables f t)
+  pub words : unpacked (eveningOf f) (freshTables f t) ≡ fullStore (eveningOf f) (fresh (eveningOf f)) (unpacked (eveningOf f) t)
+  pub inside : TotalsIn (eveningOf f) (freshTables f t)
 
 -- The same of a run: of the packed tables it asks that they are long enough, and nothing of their old words.
 pub record SameRun (f : JobTables) (t : StateTables) (cs p : List ℕ) : Type 0 where
-  pub answer : ran f t cs p .answer ≡ fullRan f (unpacked (jobOf f) t) cs p .answer
-  pub words : unpacked (jobOf f) (ran f t cs p .tables) ≡ fullRan f (unpacked (jobOf f) t) cs p .tables
+  pub answer : ran f t cs p .answer ≡ fullRan f (unpacked (eveningOf f) t) cs p .answer
+  pub words : unpacked (eveningOf f) (ran f t cs p .tables) ≡ fullRan f (unpacked (eveningOf f) t) cs p .tables
   -- It picks the same steps.
-  pub picked : ran f t cs p .picked ≡ fullRan f (unpacked (jobOf f) t) cs p .picked
+  pub picked : ran f t cs p .picked ≡ fullRan f (unpacked (eveningOf f) t) cs p .picked
 
 -- Full rows u, long enough and in range, may hold other words than 0 for grocers that are not local, which no list of requests leaves there.
 -- No step reads or writes them: packed, the tables give the same answer and words. Buffers t are those that they are packed into.
 pub record FromRows (f : JobTables) (u t : StateTables) (q : Asked) : Type 0 where
-  pub answer : stepped f (repacked (jobOf f) u t) q .answer ≡ fullStepped f u q .answer
-  pub words : stepped f (repacked (jobOf f) u t) q .tables ≡ repacked (jobOf f) (fullStepped f u q .tables) t
+  pub answer : stepped f (repacked (eveningOf f) u t) q .answer ≡ fullStepped f u q .answer
+  pub words : stepped f (repacked (eveningOf f) u t) q .tables ≡ repacked (eveningOf f) (fullStepped f u q .tables) t
   -- The other words stay as they are.
-  pub working : (b g : ℕ) → hasTotal (jobOf f) b g ≡ false → fullView (jobOf f) (fullStepped f u q .tables) .working b g ≡ fullView (jobOf f) u .working b g
-  pub totalTransit : (b g : ℕ) → hasTotal (jobOf f) b g ≡ false →
-      fullView (jobOf f) (fullStepped f u q .tables) .totalTransit b g ≡ fullView (jobOf f) u .totalTransit b g
+  pub working : (b g : ℕ) → hasTotal (eveningOf f) b g ≡ false →
+      fullView (eveningOf f) (fullStepped f u q .tables) .working b g ≡ fullView (eveningOf f) u .working b g
+  pub totalTransit : (b g : ℕ) → hasTotal (eveningOf f) b g ≡ false →
+      fullView (eveningOf f) (fullStepped f u q .tables) .totalTransit b g ≡ fullView (eveningOf f) u .totalTransit b g

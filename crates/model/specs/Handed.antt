@@ -5,6 +5,7 @@ use mathlib.Core.List.{List, [], _∷_}
 use Prim.Native.Nat.{ℕ, _<_, _≤_}
 use lib.ListN.{getD, length}
 use Rattle.laws.specs.Checks.{allOf}
+use Rattle.laws.specs.Lists.{listWords}
 use Rattle.laws.specs.Limits.{maxPrice, maxCount}
 use Rattle.recount.specs.Recount.{stands}
 use Rattle.model.specs.Tables.{JobTables, jobTables, countedOf, nobody}
@@ -13,7 +14,7 @@ use Rattle.model.specs.Ranges.{upTo, under, around, sizesInRange}
 -- The job's tables with other boxes, without bags.
 abbrev pub handedTables : JobTables → List ℕ → JobTables
 handedTables f boxes =
-    jobTables (f .boxes) (f .grocers) (f .offers) (f .tallies) (f .price) (f .offerOwner) (f .grocerOwner)
+    jobTables (f .boxes) (f .grocers) (f .offers) (f .tallies) (f .lists) (f .price) (f .offerOwner) (f .grocerOwner)
     (f .tallyGrocer) boxes (f .tallyOffer) (f .tallyCount)
 
 -- The boxes that inner calls are handed: as lent where the tally stands, else `nobody`.
@@ -26,7 +27,7 @@ unfoldable pub handedInRange : JobTables → Bool
 handedInRange f =
     sizesInRange f
     && allOf (
-    upTo maxPrice (f .offers) (f .price)
+    upTo maxPrice (listWords (f .lists) (f .offers)) (f .price)
     ∷ under (f .boxes) (f .offers) (f .offerOwner)
     ∷ under (f .boxes) (f .grocers) (f .grocerOwner)
     ∷ under (f .grocers) (f .tallies) (f .tallyGrocer)

@@ -1,20 +1,20 @@
 -- The tables of a job and of a state as a contract names them: lent slices, at the call's begin and at its end.
 use Prim.Native.Nat.{ℕ}
-use denote.Ref.{now}
 use Rattle.laws.specs.Lent.{Words, SignedWords}
 use Rattle.model.specs.Tables.{JobTables, jobTables, bagTables, StateTables, stateTables}
+use denote.Ref.{now}
 
--- The job's tables: K, M, N and T, and what the nine slices hold when the call begins. No call writes them.
-abbrev pub bagLent : (k m n t : ℕ) (price offerOwner grocerOwner tallyGrocer tallyBox tallyOffer : Words) (tallyCount : SignedWords)
+-- The job's tables: K, M, N, T and the number of additional lists, and what the nine slices hold when the call begins. No call writes them.
+abbrev pub bagLent : (k m n t lists : ℕ) (price offerOwner grocerOwner tallyGrocer tallyBox tallyOffer : Words) (tallyCount : SignedWords)
     (tallyBag tallyRevision : Words) → JobTables
-bagLent k m n t price offerOwner grocerOwner tallyGrocer tallyBox tallyOffer tallyCount tallyBag tallyRevision =
-    bagTables k m n t (now (price .entry)) (now (offerOwner .entry)) (now (grocerOwner .entry))
+bagLent k m n t lists price offerOwner grocerOwner tallyGrocer tallyBox tallyOffer tallyCount tallyBag tallyRevision =
+    bagTables k m n t lists (now (price .entry)) (now (offerOwner .entry)) (now (grocerOwner .entry))
     (now (tallyGrocer .entry)) (now (tallyBox .entry)) (now (tallyOffer .entry)) (now (tallyCount .entry)) (now (tallyBag .entry)) (now (tallyRevision .entry))
 
 -- The same without bags and revisions, as inner calls are handed it.
-abbrev pub jobLent : (k m n t : ℕ) (price offerOwner grocerOwner tallyGrocer tallyBox tallyOffer : Words) (tallyCount : SignedWords) → JobTables
-jobLent k m n t price offerOwner grocerOwner tallyGrocer tallyBox tallyOffer tallyCount =
-    jobTables k m n t (now (price .entry)) (now (offerOwner .entry)) (now (grocerOwner .entry))
+abbrev pub jobLent : (k m n t lists : ℕ) (price offerOwner grocerOwner tallyGrocer tallyBox tallyOffer : Words) (tallyCount : SignedWords) → JobTables
+jobLent k m n t lists price offerOwner grocerOwner tallyGrocer tallyBox tallyOffer tallyCount =
+    jobTables k m n t lists (now (price .entry)) (now (offerOwner .entry)) (now (grocerOwner .entry))
     (now (tallyGrocer .entry)) (now (tallyBox .entry)) (now (tallyOffer .entry)) (now (tallyCount .entry))
 
 -- The state's tables: what the seven slices hold when the call begins,

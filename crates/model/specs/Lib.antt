@@ -19,6 +19,8 @@ pub mod Reconcile
 pub mod Requests
 pub mod Demand3
 pub mod FullRows
+pub mod PriceLists
 pub mod Cases
 pub mod Edges
 pub mod Evening
+pub mod ListCases

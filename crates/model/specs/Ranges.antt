@@ -6,9 +6,10 @@ use Prim.Native.Nat.{ℕ, _*_}
 use lib.ListN.{getD}
 use lib.Dec.{ltb, leb}
 use lib.IntN.{ℤ, pos, natAbs}
-use Rattle.laws.specs.Limits.{maxBoxes, maxGrocers, maxOffers, maxTallies, maxPrice, maxCount, maxAmount, maxSent}
+use Rattle.laws.specs.Limits.{maxBoxes, maxGrocers, maxOffers, maxTallies, maxLists, maxPrice, maxCount, maxAmount, maxSent}
 use Rattle.laws.specs.Below.{all}
 use Rattle.laws.specs.Checks.{allOf}
+use Rattle.laws.specs.Lists.{listWords}
 use Rattle.recount.specs.Recount.{countedTwice}
 use Rattle.model.specs.Job.{Job}
 use Rattle.model.specs.PackedTotals.{totalsLength}
@@ -26,11 +27,12 @@ under m n l = all n (λ i. ltb (getD l i 0) m)
 unfoldable pub around : ℕ → ℕ → List ℤ → Bool
 around m n l = all n (λ i. leb (natAbs (getD l i (pos 0))) m)
 
--- K, M, N and T are in range.
+-- K, M, N, T and the number of additional price lists are in range.
 unfoldable pub sizesInRange : JobTables → Bool
 sizesInRange f =
     allOf (
-    (leb 1 (f .boxes) && leb (f .boxes) maxBoxes)
+    leb (f .lists) maxLists
+    ∷ (leb 1 (f .boxes) && leb (f .boxes) maxBoxes)
     ∷ (leb 1 (f .grocers) && leb (f .grocers) maxGrocers)
     ∷ (leb 1 (f .offers) && leb (f .offers) maxOffers)
     ∷ leb (f .tallies) maxTallies
@@ -40,7 +42,7 @@ sizesInRange f =
 unfoldable pub jobWordsInRange : JobTables → Bool
 jobWordsInRange f =
     allOf (
-    upTo maxPrice (f .offers) (f .price)
+    upTo maxPrice (listWords (f .lists) (f .offers)) (f .price)
     ∷ under (f .boxes) (f .offers) (f .offerOwner)
     ∷ under (f .boxes) (f .grocers) (f .grocerOwner)
     ∷ under (f .grocers) (f .tallies) (f .tallyGrocer)
@@ -64,9 +66,9 @@ pub record Settles (f : JobTables) : Type 0 where
 unfoldable pub stateInRange : JobTables → StateTables → Bool
 stateInRange f t =
     allOf (
-    upTo maxPrice (f .boxes * f .offers) (t .known)
-    ∷ upTo maxPrice (f .boxes * f .offers) (t .priceTransit)
-    ∷ around maxAmount (f .grocers) (t .statement)
+    upTo maxPrice (f .boxes * listWords (f .lists) (f .offers)) (t .known)
+    ∷ upTo maxPrice (f .boxes * listWords (f .lists) (f .offers)) (t .priceTransit)
+    ∷ around maxAmount (listWords (f .lists) (f .grocers)) (t .statement)
     ∷ upTo 1 (6 * f .boxes * f .boxes) (t .done)
     ∷ upTo maxSent 1 (t .sent)
     ∷ [])

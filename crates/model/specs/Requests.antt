@@ -3,7 +3,7 @@ use mathlib.Core.List.{List, [], _∷_, _++_}
 use mathlib.Core.Bool.{Bool, cond, _||_}
 use lib.ListN.{take, drop}
 use Rattle.model.specs.Steps.{Step, Steps, doneBy}
-use Rattle.model.specs.Tables.{JobTables, jobOf, StateTables, JobLengths, StateLengths, jobShort, bagsShort, stateShort, totalsShort}
+use Rattle.model.specs.Tables.{JobTables, eveningOf, StateTables, JobLengths, StateLengths, jobShort, bagsShort, stateShort, totalsShort}
 use Rattle.model.specs.Step.{Asked, stepOf, StepAnswer, isAccepted, stepped, freshTables}
 
 -- A request: what it asks for, and how many words it lends of each of the sixteen tables.
@@ -19,6 +19,7 @@ lentJob f n = record {
   grocers = f .grocers;
   offers = f .offers;
   tallies = f .tallies;
+  lists = f .lists;
   price = take (n .price) (f .price);
   offerOwner = take (n .offerOwner) (f .offerOwner);
   grocerOwner = take (n .grocerOwner) (f .grocerOwner);
@@ -56,7 +57,7 @@ returned t n lent = record {
 
 -- A buffer is lent shorter than its table: condition 20.
 unfoldable pub lendsShort : JobTables → Request → Bool
-lendsShort f r = jobShort f (r .job) || bagsShort f (r .job) || stateShort f (r .state) || totalsShort (jobOf f) (r .state)
+lendsShort f r = jobShort f (r .job) || bagsShort f (r .job) || stateShort f (r .state) || totalsShort (eveningOf f) (r .state)
 
 module _ (f : JobTables) where
   -- The answer to a request: the step's, on the tables as lent.

@@ -10,7 +10,7 @@ use Rattle.recount.specs.Recount.{countedTwice}
 use Rattle.model.specs.Job.{Job}
 use Rattle.model.specs.Steps.{Steps, Step, kindNumber, stepPlace, stepAt, atPlace, listOf, State, permitted, fresh, effectOf}
 use Rattle.model.specs.Words.{over, messagesOf, stepCount}
-use Rattle.model.specs.Tables.{JobTables, countedOf, jobOf, StateTables, store, stateLengths, lentShort, totalsShort}
+use Rattle.model.specs.Tables.{JobTables, countedOf, eveningOf, StateTables, store, stateLengths, lentShort, totalsShort}
 use Rattle.model.specs.Ranges.{jobInRange}
 
 module _ (j : Job) where
@@ -73,7 +73,7 @@ pub record RunOutcome : Type 0 where
 -- The refusals of a run. What its state buffers held before is not examined.
 unfoldable pub runRefusals : JobTables → StateTables → List (Bool × ℕ)
 runRefusals f t =
-    (lentShort f t, 20) ∷ (not (jobInRange f), 21) ∷ (countedTwice (countedOf f), 9) ∷ (totalsShort (jobOf f) (stateLengths t), 20) ∷ []
+    (lentShort f t, 20) ∷ (not (jobInRange f), 21) ∷ (countedTwice (countedOf f), 9) ∷ (totalsShort (eveningOf f) (stateLengths t), 20) ∷ []
 
 -- The state that a run's steps leave.
 unfoldable pub runState : Job → List ℕ → State
@@ -85,7 +85,7 @@ unfoldable pub ran : JobTables → StateTables → List ℕ → List ℕ → Run
 ran f t cs p =
     let n = firstMet (runRefusals f t) in
     record {
-      answer = reported n (finished (runState (jobOf f) cs .sent) (over messagesOf (run (jobOf f) cs)) (length (run (jobOf f) cs)));
-      tables = cond (eqb n 0) (store (jobOf f) (runState (jobOf f) cs) t) t;
-      picked = cond (eqb n 0) (layOver (pickedPlaces (jobOf f) cs) p) p;
+      answer = reported n (finished (runState (eveningOf f) cs .sent) (over messagesOf (run (eveningOf f) cs)) (length (run (eveningOf f) cs)));
+      tables = cond (eqb n 0) (store (eveningOf f) (runState (eveningOf f) cs) t) t;
+      picked = cond (eqb n 0) (layOver (pickedPlaces (eveningOf f) cs) p) p;
     }

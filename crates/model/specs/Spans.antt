@@ -2,8 +2,8 @@
 -- So steps 4, 5 and 6 each touch one span of words. What code that works on the packed tables goes by.
 use mathlib.Core.Path.{_≡_}
 use mathlib.Core.Bool.{Bool, true, cond, _&&_, _||_}
-use mathlib.Core.List.{List}
-use Prim.Native.Nat.{ℕ, zero, suc, _+_, _<_, _≤_}
+use mathlib.Core.List.{List, [], _∷_, _++_}
+use Prim.Native.Nat.{ℕ, zero, suc, _+_, _*_, _<_, _≤_}
 use lib.Count.{ones}
 use lib.Dec.{eqb, ltb, leb}
 use lib.IntN.{ℤ, pos, _+ℤ_}
@@ -15,7 +15,7 @@ use Rattle.model.specs.Job.{Job, heldBy, shares, sharerWord, priceWord, 
 use Rattle.model.specs.Steps.{multiplyOwn, receivePrices, sendTotals, addOwn, receiveTotals, received, effect}
 use Rattle.model.specs.LocalLists.{chained, localGrocers}
 use Rattle.model.specs.PackedTotals.{totalsStart, totalsLength, totalPlace}
-use Rattle.model.specs.Tables.{StateTables, view, store}
+use Rattle.model.specs.Tables.{JobTables, jobOf, eveningOf, StateTables, view, store}
 
 module _ (j : Job) where
   -- Where a group of box a's totals begins: group 0 is of its own grocers, group c + 1 of those of box c, which a message to c sends.
@@ -89,3 +89,23 @@ pub record BySpans (j : Job) (t : StateTables) : Type 0 where
   pub receivedOther : (a b g : ℕ) → a < j .boxes → b < j .boxes → g < j .grocers →
       ((i : ℕ) → inSpan (groupStart j b (suc a)) (groupStart j b (suc (suc a))) i ≡ true → getD (placeGrocers j) i 0 ≡ g → ⊥) →
       effect j (view j t) receiveTotals a b .statement g ≡ view j t .statement g
+
+-- The numbers x × n + q of every word x of a list, q below n, side by side.
+unfoldable pub beside : ℕ → List ℕ → List ℕ
+beside n [] = []
+beside n (x ∷ xs) = tabulate n (λ q. x * n + q) ++ beside n xs
+
+-- Of tables in range, whatever the number of lists: spans, grocers and tallies of the evening's job, told from those of the entries. L is the number of lists.
+pub record ListSpans (f : JobTables) : Type 0 where
+  -- A group begins at L times the place at which it does among the entries.
+  pub groups : (a c : ℕ) → groupStart (eveningOf f) a c ≡ groupStart (jobOf f) a c * suc (f .lists)
+  -- The grocers of places are those of the entries, each with its lists side by side: place i × L + q is of list q of the grocer of place i,
+  pub grocers : placeGrocers (eveningOf f) ≡ beside (suc (f .lists)) (placeGrocers (jobOf f))
+  -- a tally that counts adds there for list q,
+  pub tallies : (t a q : ℕ) → t < f .tallies → heldBy (jobOf f) t a ≡ true → q < suc (f .lists) →
+      tallyPlace (eveningOf f) (t * suc (f .lists) + q) ≡ tallyPlace (jobOf f) t * suc (f .lists) + q
+  -- and what steps 2 and 3 add there is count × price of this list over the entries' tallies.
+  pub added : (know : ℕ → ℕ) (p : ℕ → Bool) (a i q : ℕ) → q < suc (f .lists) → addedAt (eveningOf f) know p a (i * suc (f .lists) + q)
+      ≡ sum integers (f .tallies) (λ t.
+      only integers (heldBy (jobOf f) t a && eqb (tallyPlace (jobOf f) t) i && p (jobOf f .tallyOffer t * suc (f .lists) + q))
+      (amount (jobOf f) (know (jobOf f .tallyOffer t * suc (f .lists) + q)) t))

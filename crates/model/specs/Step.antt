@@ -7,7 +7,7 @@ use Rattle.laws.specs.Checks.{firstMet}
 use Rattle.recount.specs.Recount.{countedTwice}
 use Rattle.model.specs.Job.{Job}
 use Rattle.model.specs.Steps.{Kind, kindOf, Steps, Step, oneBox, fits, ready, fresh, effect}
-use Rattle.model.specs.Tables.{JobTables, countedOf, jobOf, StateTables, view, store, stateLengths, lentShort, totalsShort}
+use Rattle.model.specs.Tables.{JobTables, countedOf, eveningOf, StateTables, view, store, stateLengths, lentShort, totalsShort}
 use Rattle.model.specs.Ranges.{jobInRange, stateInRange, totalsInRange}
 
 -- What a request asks for, as three numbers: kind, first box, second box.
@@ -46,7 +46,7 @@ stepRules j d q =
 module _ (f : JobTables) (t : StateTables) where
   -- The tables with the effect of the step that is asked for.
   unfoldable pub moved : Asked → StateTables
-  moved q = store (jobOf f) (effect (jobOf f) (view (jobOf f) t) (kindOf (q .kind)) (q .first) (q .second)) t
+  moved q = store (eveningOf f) (effect (eveningOf f) (view (eveningOf f) t) (kindOf (q .kind)) (q .first) (q .second)) t
 
   -- The refusals of a step. By number, but that 20 on the packed tables and then 21 on their words come straight after 21 on all else and 9;
   -- the first condition met is always the one refused.
@@ -56,10 +56,10 @@ module _ (f : JobTables) (t : StateTables) where
       (lentShort f t, 20)
       ∷ (not (jobInRange f && stateInRange f t), 21)
       ∷ (countedTwice (countedOf f), 9)
-      ∷ (totalsShort (jobOf f) (stateLengths t), 20)
-      ∷ (not (totalsInRange (jobOf f) t), 21)
-      ∷ stepRules (jobOf f) (view (jobOf f) t .done) q
-      ++ (not (stateInRange f (moved q) && totalsInRange (jobOf f) (moved q)), 21)
+      ∷ (totalsShort (eveningOf f) (stateLengths t), 20)
+      ∷ (not (totalsInRange (eveningOf f) t), 21)
+      ∷ stepRules (eveningOf f) (view (eveningOf f) t .done) q
+      ++ (not (stateInRange f (moved q) && totalsInRange (eveningOf f) (moved q)), 21)
       ∷ []
 
   -- The number of the first condition met, or 0 where none is.
@@ -72,7 +72,7 @@ module _ (f : JobTables) (t : StateTables) where
 
 -- A fresh state of the job, written into the tables t.
 unfoldable pub freshTables : JobTables → StateTables → StateTables
-freshTables f t = store (jobOf f) (fresh (jobOf f)) t
+freshTables f t = store (eveningOf f) (fresh (eveningOf f)) t
 
 -- What a step answers: the request is accepted, or refused under a number.
 pub data StepAnswer : Type 0 where

@@ -1,24 +1,26 @@
 -- The tables as they are lent, the job and the state that they hold, and how long each must be.
 use mathlib.Core.List.{List, [], _∷_}
 use mathlib.Core.Bool.{Bool, cond, _&&_, _||_}
-use Prim.Native.Nat.{ℕ, _*_}
+use Prim.Native.Nat.{ℕ, suc, _*_, _/_, _%_}
 use lib.ListN.{getD, length}
 use lib.Dec.{eqb, ltb}
 use lib.IntN.{ℤ, pos}
 use Rattle.laws.specs.Tables.{overwrite, word, cell, recell}
 use Rattle.laws.specs.Checks.{anyOf}
+use Rattle.laws.specs.Lists.{listWords}
 use Rattle.recount.specs.Recount.{Counted, columns, stands}
 use Rattle.model.specs.Job.{Job}
-use Rattle.model.specs.PackedTotals.{totalsLength, packTotals, unpackTotals}
+use Rattle.model.specs.PackedTotals.{totalsLength, packTotals, unpackTotals, spread}
 use Rattle.model.specs.Steps.{kindNumber, stepPlace, places, Steps, atPlace, State}
 
--- The job's tables: K, M, N and T as given, and nine lent slices.
+-- The job's tables: K, M, N, T and the number of additional price lists as given, and nine lent slices.
 pub record JobTables : Type 0 where
   pub boxes : ℕ
   pub grocers : ℕ
   pub offers : ℕ
   pub tallies : ℕ
-  pub price : List ℕ  -- N words
+  pub lists : ℕ  -- additional price lists
+  pub price : List ℕ  -- N words for each price list, list after list
   pub offerOwner : List ℕ  -- N
   pub grocerOwner : List ℕ  -- M
   pub tallyGrocer : List ℕ  -- T
@@ -29,12 +31,13 @@ pub record JobTables : Type 0 where
   pub tallyRevision : List ℕ  -- T
 
 -- The job's tables as a contract names them: all nine.
-abbrev pub bagTables : ℕ → ℕ → ℕ → ℕ → List ℕ → List ℕ → List ℕ → List ℕ → List ℕ → List ℕ → List ℤ → List ℕ → List ℕ → JobTables
-bagTables k m n t price owner grocers tallyGrocer tallyBox tallyOffer tallyCount bag revision = record {
+abbrev pub bagTables : ℕ → ℕ → ℕ → ℕ → ℕ → List ℕ → List ℕ → List ℕ → List ℕ → List ℕ → List ℕ → List ℤ → List ℕ → List ℕ → JobTables
+bagTables k m n t lists price owner grocers tallyGrocer tallyBox tallyOffer tallyCount bag revision = record {
   boxes = k;
   grocers = m;
   offers = n;
   tallies = t;
+  lists = lists;
   price = price;
   offerOwner = owner;
   grocerOwner = grocers;
@@ -47,9 +50,9 @@ bagTables k m n t price owner grocers tallyGrocer tallyBox tallyOffer tallyCount
 }
 
 -- Tables without bags and revisions: every tally is loose. Inner calls are handed the job so, a superseded tally with the box `nobody`.
-abbrev pub jobTables : ℕ → ℕ → ℕ → ℕ → List ℕ → List ℕ → List ℕ → List ℕ → List ℕ → List ℕ → List ℤ → JobTables
-jobTables k m n t price owner grocers tallyGrocer tallyBox tallyOffer tallyCount =
-    bagTables k m n t price owner grocers tallyGrocer tallyBox tallyOffer tallyCount [] []
+abbrev pub jobTables : ℕ → ℕ → ℕ → ℕ → ℕ → List ℕ → List ℕ → List ℕ → List ℕ → List ℕ → List ℕ → List ℤ → JobTables
+jobTables k m n t lists price owner grocers tallyGrocer tallyBox tallyOffer tallyCount =
+    bagTables k m n t lists price owner grocers tallyGrocer tallyBox tallyOffer tallyCount [] []
 
 -- What the recount rule looks at in the tables. Words past the T that are needed are not read.
 unfoldable pub countedOf : JobTables → Counted
@@ -59,7 +62,8 @@ countedOf f = columns (f .tallies) (f .tallyGrocer) (f .tallyOffer) (f .tallyBag
 abbrev pub nobody : ℕ
 nobody = 16
 
--- The job that the tables hold. Words past the needed length are not read.
+-- The job that the tables hold, with the first price list. Needs, sharers, local books, messages and steps are told from its entries: offers,
+-- grocers and tallies. Words past the needed length are not read.
 unfoldable pub jobOf : JobTables → Job
 jobOf f = record {
   boxes = f .boxes;
@@ -75,13 +79,22 @@ jobOf f = record {
   tallyCount = word (f .tallies) (f .tallyCount) (pos 0);
 }
 
--- The state's tables: seven lent slices.
+-- "Several price lists in one evening" (02 §9): the job in which every offer, grocer and tally stands once for each of suc l price lists, side by
+-- side. Entry e is, for list q, number e × suc l + q: so "one word per list, the first included, in list order". Prices are lent list after list.
+unfoldable pub withLists : ℕ → JobTables → Job
+withLists l f = spread (suc l) (λ o. cell (suc l) (f .offers) (f .price) 0 (o % suc l) (o / suc l)) (jobOf f)
+
+-- The evening's job: what step and run settle, list by list. `EachList` says what it comes to.
+abbrev pub eveningOf : JobTables → Job
+eveningOf f = withLists (f .lists) f
+
+-- The state's tables: seven lent slices. L is the number of price lists; the words of an entry, one for each list, stand side by side.
 pub record StateTables : Type 0 where
-  pub known : List ℕ  -- K × N words, by box
-  pub priceTransit : List ℕ  -- K × N, by receiving box
-  pub working : List ℤ  -- packed, by box and local grocer: `totalsLength`
+  pub known : List ℕ  -- K × N × L words, by box
+  pub priceTransit : List ℕ  -- K × N × L, by receiving box
+  pub working : List ℤ  -- packed, by box and local grocer: `totalsLength` of the evening's job
   pub totalTransit : List ℤ  -- the same, by sending box and its local grocer
-  pub statement : List ℤ  -- M
+  pub statement : List ℤ  -- M × L
   pub done : List ℕ  -- 6 × K × K marks, by kind, first box and second box
   pub sent : List ℕ  -- 1
 
@@ -178,11 +191,11 @@ stateLengths t = record {
   sent = length (t .sent);
 }
 
--- 20 on the job's tables but bags and revisions: a lent buffer shorter than M, N and T as given need.
+-- 20 on the job's tables but bags and revisions: a lent buffer shorter than M, N, T and the number of lists as given need.
 unfoldable pub jobShort : JobTables → JobLengths → Bool
 jobShort f n =
     anyOf (
-    ltb (n .price) (f .offers)
+    ltb (n .price) (listWords (f .lists) (f .offers))
     ∷ ltb (n .offerOwner) (f .offers)
     ∷ ltb (n .grocerOwner) (f .grocers)
     ∷ ltb (n .tallyGrocer) (f .tallies)
@@ -195,13 +208,13 @@ jobShort f n =
 unfoldable pub bagsShort : JobTables → JobLengths → Bool
 bagsShort f n = ltb (n .tallyBag) (f .tallies) || ltb (n .tallyRevision) (f .tallies)
 
--- 20 on the state's tables but the packed ones: a lent buffer shorter than K, M and N as given need.
+-- 20 on the state's tables but the packed ones: a lent buffer shorter than K, M, N and the number of lists as given need.
 unfoldable pub stateShort : JobTables → StateLengths → Bool
 stateShort f n =
     anyOf (
-    ltb (n .known) (f .boxes * f .offers)
-    ∷ ltb (n .priceTransit) (f .boxes * f .offers)
-    ∷ ltb (n .statement) (f .grocers)
+    ltb (n .known) (f .boxes * listWords (f .lists) (f .offers))
+    ∷ ltb (n .priceTransit) (f .boxes * listWords (f .lists) (f .offers))
+    ∷ ltb (n .statement) (listWords (f .lists) (f .grocers))
     ∷ ltb (n .done) (6 * f .boxes * f .boxes)
     ∷ ltb (n .sent) 1
     ∷ [])
@@ -216,4 +229,4 @@ totalsShort j n = ltb (n .working) (totalsLength j) || ltb (n .totalTransit) (to
 
 -- One of the sixteen tables is lent short.
 unfoldable pub anyShort : JobTables → StateTables → Bool
-anyShort f t = lentShort f t || totalsShort (jobOf f) (stateLengths t)
+anyShort f t = lentShort f t || totalsShort (eveningOf f) (stateLengths t)

@@ -2,8 +2,9 @@
 use mathlib.Core.Path.{_≡_, refl, ap, _∙_, sym}
 use mathlib.Core.List.{List}
 use mathlib.Core.Bool.{true, false}
-use Prim.Native.Nat.{ℕ, _<_, _≤_}
+use Prim.Native.Nat.{ℕ, zero, suc, _+_, _*_, _/_, _%_, _<_, _≤_}
 use native.Mathlib.Omega.{arith}
+use native.Mathlib.Nat.{mul-comm, div-lt-iff-lt-mul, mod-lt, div-add-mod'}
 use native.Mathlib.Decide.{ℕ-discrete, decLt}
 use lib.Dec.{ltb, leb}
 use lib.ListN.{length, getD}
@@ -16,9 +17,9 @@ use Rattle.laws.proofs.Below.{all-of}
 use Rattle.laws.proofs.Tables.{word-in, long-overwrite, getD-overwrite}
 use Rattle.recount.specs.Recount.{stands, countedTwice, Reordered}
 use Rattle.model.specs.Job.{plainSum}
-use Rattle.model.specs.Tables.{countedOf, jobOf, jobLengths, jobShort, bagsShort, JobTables}
+use Rattle.model.specs.Tables.{countedOf, jobOf, eveningOf, jobLengths, jobShort, bagsShort, JobTables}
 use Rattle.model.specs.Ranges.{upTo, under, around, sizesInRange, jobWordsInRange, jobInRange, Settles}
-use Rattle.format.specs.Job.{FileJob, names, placeOf, countedTallies, offerName}
+use Rattle.format.specs.Job.{FileJob, priceOn, names, placeOf, countedTallies, offerName}
 use Rattle.format.specs.File.{decode}
 use Rattle.format.specs.Refusals.{fileRefusal}
 use Rattle.format.specs.Tables.{FileTables, ReaderTables, ReadOutcome, Long, fileJobOf, readRefusal, readResult, storeRead}
@@ -33,6 +34,7 @@ use Rattle.format.proofs.Range.{InRange, fine, only-place}
 use Rattle.format.proofs.Accept.{job-accepted, accepted-range}
 use Rattle.format.proofs.Tables.{read-file, long-tables, read-long, read-range, read-place, read-job, read-accepted}
 use Rattle.format.proofs.Codes.{same-turn}
+use Rattle.printing.proofs.OneJob.{price-held}
 use Rattle.printing.proofs.Owed.{owed-at}
 
 up-all : (m n : ℕ) (l : List ℕ) → ((i : ℕ) → i < n → getD l i 0 ≤ m) → upTo m n l ≡ true
@@ -68,9 +70,25 @@ module _ (file : List ℕ) (ok : fileRefusal file ≡ 0) (f : JobTables) (h : Ho
   tally-of t l = omega (arith, h .tallies)
 
   -- The words of the tables are the file's.
-  price-at : (o : ℕ) → o < f .offers → getD (f .price) o 0 ≡ job .offer o .price
-  unfolding jobOf
-  price-at o l = sym (word-in (f .offers) (f .price) 0 o l) ∙ h .price o (offer-in o l)
+  price-at : (q o : ℕ) → q < suc (job .head .lists) → o < f .offers → getD (f .price) (q * f .offers + o) 0 ≡ priceOn (job .offer) (job .listPrice) q o
+  price-at q o m l = price-held job f h q o m (offer-in o l)
+
+  -- Those of every list are in range, one after the other.
+  price-most : (q o : ℕ) → q < suc (job .head .lists) → o < job .head .offers → priceOn (job .offer) (job .listPrice) q o ≤ 9_999_999
+  unfolding priceOn
+  price-most zero o m l = in-file .offer o l .price
+  price-most (suc q) o m l = in-file .listPrice q o (omega arith) l
+
+  price-few : (i : ℕ) → i < f .offers * suc (f .lists) → getD (f .price) i 0 ≤ 9_999_999
+  price-few i l =
+      let some : 1 ≤ f .offers = omega (arith, h .offers, in-file .sizes .offers-some) in
+      let m : i / f .offers < suc (f .lists) = div-lt-iff-lt-mul some .1 (omega (arith, mul-comm (f .offers) (suc (f .lists)))) in
+      let o : i % f .offers < f .offers = mod-lt i some in
+      let v : i / f .offers < suc (job .head .lists) = omega (arith, m, h .lists) in
+      rw (
+        ← (div-add-mod' i (f .offers)),
+        price-at (i / f .offers) (i % f .offers) v o,
+      ) (price-most (i / f .offers) (i % f .offers) v (offer-in (i % f .offers) o))
 
   owner-at : (o : ℕ) → o < f .offers → getD (f .offerOwner) o 0 ≡ job .offer o .owner
   unfolding jobOf
@@ -99,8 +117,8 @@ module _ (file : List ℕ) (ok : fileRefusal file ≡ 0) (f : JobTables) (h : Ho
   unfolding sizesInRange
   sizes-ok =
       let s = in-file .sizes in
-      and-true (and-true (and-true
-      (and-true (le-leb 1 (f .boxes) (omega (arith, h .boxes, s .boxes-some))) (le-leb (f .boxes) 16 (omega (arith, h .boxes, s .boxes-most))))
+      and-true (and-true (and-true (and-true (le-leb (f .lists) 7 (omega (arith, h .lists, s .lists-most)))
+      (and-true (le-leb 1 (f .boxes) (omega (arith, h .boxes, s .boxes-some))) (le-leb (f .boxes) 16 (omega (arith, h .boxes, s .boxes-most)))))
       (and-true (le-leb 1 (f .grocers) (omega (arith, h .grocers, s .grocers-some))) (le-leb (f .grocers) 255 (omega (arith, h .grocers, s .grocers-most)))))
       (and-true (le-leb 1 (f .offers) (omega (arith, h .offers, s .offers-some))) (le-leb (f .offers) 500 (omega (arith, h .offers, s .offers-most)))))
       (le-leb (f .tallies) 1000 (omega (arith, h .tallies, s .tallies-most)))
@@ -109,7 +127,7 @@ module _ (file : List ℕ) (ok : fileRefusal file ≡ 0) (f : JobTables) (h : Ho
   unfolding jobWordsInRange
   words-ok =
       and-true (and-true (and-true (and-true (and-true (and-true
-      (up-all 9_999_999 (f .offers) (f .price) (λ o l. omega (arith, price-at o l, in-file .offer o (offer-in o l) .price)))
+      (up-all 9_999_999 (f .offers * suc (f .lists)) (f .price) price-few)
       (under-all (f .boxes) (f .offers) (f .offerOwner) (λ o l. omega (arith, h .boxes, owner-at o l, in-file .offer o (offer-in o l) .owner))))
       (under-all (f .boxes) (f .grocers) (f .grocerOwner) (λ g l. omega (arith, h .boxes, grocer-owner-at g l, in-file .grocerOwner g (grocer-in g l)))))
       (under-all (f .grocers) (f .tallies) (f .tallyGrocer) (λ t l. omega (arith, h .grocers, grocer-at t l, in-file .tally t (tally-in t l) .grocer))))
@@ -141,18 +159,20 @@ module _ (file : List ℕ) (ok : fileRefusal file ≡ 0) (f : JobTables) (h : Ho
   pub settles-ok : jobShort f (jobLengths f) ≡ false → bagsShort f (jobLengths f) ≡ false → Settles f
   settles-ok whole bags = record { whole = whole; bags = bags; inRange = range-ok; once = once-ok }
 
-  -- The price of a tally is that of the offer its code names.
-  price-named : (t : ℕ) → t < f .tallies → getD (f .price) (getD (f .tallyOffer) t 0) 0 ≡ job .offer (placeOf job t) .price
-  price-named t l =
+  -- The price of a tally on a list is that of the offer its code names.
+  price-named : (q t : ℕ) → q < suc (job .head .lists) → t < f .tallies →
+      getD (f .price) (q * f .offers + getD (f .tallyOffer) t 0) 0 ≡ priceOn (job .offer) (job .listPrice) q (placeOf job t)
+  price-named q t m l =
       let p : placeOf job t < job .head .offers = in-file .place t (tally-in t l) in
-      ap (λ (o : ℕ). getD (f .price) o 0) (place-at t l) ∙ price-at (placeOf job t) (omega (arith, p, h .offers))
+      ap (λ (o : ℕ). getD (f .price) (q * f .offers + o) 0) (place-at t l) ∙ price-at q (placeOf job t) m (omega (arith, p, h .offers))
 
-  pub sums-ok : (g : ℕ) → plainSum (jobOf f) g ≡ owedByFile job g
+  pub sums-ok : (g q : ℕ) → q < suc (job .head .lists) → plainSum (eveningOf f) (g * suc (job .head .lists) + q) ≡ owedByFile job g q
   unfolding owedByFile
-  sums-ok g =
-      standing-count f range-ok .sums g
-      ∙ sum-cong integers (f .tallies) _ (owed-at job g) (λ t l. rw (stands-ok t (tally-in t l), grocer-at t l, count-at t l, price-named t l))
-      ∙ ap (λ (n : ℕ). sum integers n (owed-at job g)) (h .tallies)
+  sums-ok g q m =
+      ap (λ (l : ℕ). plainSum (eveningOf f) (g * suc l + q)) (sym (h .lists))
+      ∙ standing-count f range-ok .listSums g q (omega (arith, m, h .lists))
+      ∙ sum-cong integers (f .tallies) _ (owed-at job g q) (λ t l. rw (stands-ok t (tally-in t l), grocer-at t l, count-at t l, price-named q t m l))
+      ∙ ap (λ (n : ℕ). sum integers n (owed-at job g q)) (h .tallies)
 
 module _ (f : List ℕ) (l : ReaderTables) (ok : readRefusal f l ≡ 0) where
   -- The tables that the reader leaves, and the job that they hold.
@@ -180,7 +200,7 @@ module _ (f : List ℕ) (l : ReaderTables) (ok : readRefusal f l ≡ 0) where
   unfolding jobShort jobLengths jobRead
   whole-ok =
       rw (
-        le-ltb (length (tables .offers .price)) (decode f .head .offers) (long .offers .price),
+        le-ltb (length (tables .offers .price)) (decode f .head .offers * suc (decode f .head .lists)) (long .offers .price),
         le-ltb (length (tables .offers .owner)) (decode f .head .offers) (long .offers .owner),
         le-ltb (length (tables .grocerOwner)) (decode f .head .grocers) (long .grocerOwner),
         le-ltb (length (tables .tallies .grocer)) (decode f .head .tallies) (long .tallies .grocer),
@@ -232,6 +252,11 @@ module _ (f : List ℕ) (l : ReaderTables) (ok : readRefusal f l ≡ 0) where
   unfolding jobOf jobRead fileJobOf
   its-price o h = word-in (decode f .head .offers) (tables .offers .price) 0 o h ∙ same .offer o h .price
 
+  list-price : (q o : ℕ) → q < decode f .head .lists → o < decode f .head .offers →
+      getD (jobRead f l .price) (suc q * decode f .head .offers + o) 0 ≡ decode f .listPrice q o
+  unfolding jobRead fileJobOf
+  list-price q o m h = same .listPrice q o m h
+
   its-owner : (o : ℕ) → o < decode f .head .offers → jobOf (jobRead f l) .offerOwner o ≡ decode f .offer o .owner
   unfolding jobOf jobRead fileJobOf
   its-owner o h = word-in (decode f .head .offers) (tables .offers .owner) 0 o h ∙ same .offer o h .owner
@@ -247,7 +272,9 @@ module _ (f : List ℕ) (l : ReaderTables) (ok : readRefusal f l ≡ 0) where
     grocers = refl;
     offers = refl;
     tallies = refl;
+    lists = refl;
     price = its-price;
+    listPrice = list-price;
     offerOwner = its-owner;
     grocerOwner = grocer-owner;
     tallyGrocer = its-grocer;

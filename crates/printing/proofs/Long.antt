@@ -14,16 +14,16 @@ use Rattle.printing.specs.Printed.{refusedText, printed}
 use Rattle.format.proofs.Order.{length-refused}
 use Rattle.printing.proofs.Blank.{printed-refusal}
 
-long-refused : (file : List ℕ) → 37_888 < length file → fileRefusal file ≡ 1
+long-refused : (file : List ℕ) → 52_224 < length file → fileRefusal file ≡ 1
 unfolding badLength
-long-refused file h = length-refused file (rw (lt-ltb 37_888 (length file) h) (or-true (eqb (length file) 0 || not (eqb (length file % 512) 0))))
+long-refused file h = length-refused file (rw (lt-ltb 52_224 (length file) h) (or-true (eqb (length file) 0 || not (eqb (length file % 512) 0))))
 
-pub long-printed : (file : List ℕ) → 37_888 < length file → printed file ≡ refusedText 1
+pub long-printed : (file : List ℕ) → 52_224 < length file → printed file ≡ refusedText 1
 long-printed file h =
     printed-refusal file (λ e. let z = sym (long-refused file h) ∙ e in omega (arith, z)) ∙ ap refusedText (long-refused file h)
 
 -- The first m bytes are enough, where those are more than a file has.
-pub cut-printed : (file : List ℕ) (m : ℕ) → 37_888 < m → printed (take m file) ≡ printed file
+pub cut-printed : (file : List ℕ) (m : ℕ) → 52_224 < m → printed (take m file) ≡ printed file
 cut-printed file m h =
     split (ltb (length file) m)
     (λ e. let l = ltb-true (length file) m e in ap printed (take-all m file (omega arith)))

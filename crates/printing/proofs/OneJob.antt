@@ -1,19 +1,20 @@
 -- Tables that hold what one file says hold one job, whatever stands past their needed lengths. Assumes nothing.
-use mathlib.Core.Path.{_≡_, ap, _∙_, sym}
+use mathlib.Core.Path.{_≡_, ap, ap₂, _∙_, sym}
 use mathlib.Core.List.{List}
-use mathlib.Core.Bool.{cond}
-use Prim.Native.Nat.{ℕ, _<_}
+use mathlib.Core.Bool.{cond, _&&_}
+use Prim.Native.Nat.{ℕ, zero, suc, _+_, _*_, _/_, _%_, _<_}
 use native.Mathlib.Omega.{arith}
 use lib.Dec.{ltb}
 use lib.ListN.{getD}
 use lib.IntN.{pos}
 use borrow.Author.Tests.{ltb-true, ltb-false}
-use Rattle.laws.specs.Tables.{word}
-use Rattle.laws.proofs.Bools.{split}
-use Rattle.laws.proofs.Tables.{word-in, word-past}
+use Rattle.laws.specs.Tables.{word, cell}
+use Rattle.laws.proofs.Bools.{split, and-l, and-r}
+use Rattle.laws.proofs.Tables.{word-in, word-past, cell-at}
 use Rattle.recount.specs.Recount.{stands}
-use Rattle.model.specs.Tables.{countedOf, jobOf, JobTables, nobody}
-use Rattle.format.specs.Job.{Head, FileJob, placeOf}
+use Rattle.model.specs.PackedTotals.{spread}
+use Rattle.model.specs.Tables.{countedOf, jobOf, withLists, eveningOf, JobTables, nobody}
+use Rattle.format.specs.Job.{Head, FileJob, priceOn, placeOf}
 use Rattle.format.specs.Same.{SameWords}
 use Rattle.printing.specs.Accepted.{Holds}
 
@@ -24,7 +25,10 @@ holds-same j k s place f h = record {
   grocers = h .grocers ∙ ap (λ (x : Head). x .grocers) (s .head);
   offers = h .offers ∙ ap (λ (x : Head). x .offers) (s .head);
   tallies = h .tallies ∙ ap (λ (x : Head). x .tallies) (s .head);
+  lists = h .lists ∙ ap (λ (x : Head). x .lists) (s .head);
   price = λ o l. h .price o (rw (s .head) l) ∙ s .offer o l .price;
+  listPrice = λ q o m l.
+      ap (λ (x : Head). getD (f .price) (suc q * x .offers + o) 0) (sym (s .head)) ∙ h .listPrice q o (rw (s .head) m) (rw (s .head) l) ∙ s .listPrice q o m l;
   offerOwner = λ o l. h .offerOwner o (rw (s .head) l) ∙ s .offer o l .owner;
   grocerOwner = λ g l. h .grocerOwner g (rw (s .head) l) ∙ s .grocerOwner g l;
   tallyGrocer = λ t l. h .tallyGrocer t (rw (s .head) l) ∙ s .tally t l .grocer;
@@ -35,6 +39,17 @@ holds-same j k s place f h = record {
   tallyOffer = λ t l. h .tallyOffer t (rw (s .head) l) ∙ place t l;
 }
 
+-- The price of an offer on each list, as tables that hold a job have it: list after list.
+module _ (j : FileJob) (f : JobTables) (h : Holds j f) where
+  pub price-held : (q o : ℕ) → q < suc (j .head .lists) → o < j .head .offers → getD (f .price) (q * f .offers + o) 0 ≡ priceOn (j .offer) (j .listPrice) q o
+  unfolding priceOn jobOf
+  price-held zero o m l =
+      ap (λ (k : ℕ). getD (f .price) k 0) (omega arith) ∙ sym (word-in (f .offers) (f .price) 0 o (omega (arith, h .offers))) ∙ h .price o l
+  price-held (suc q) o m l = ap (λ (n : ℕ). getD (f .price) (suc q * n + o) 0) (h .offers) ∙ h .listPrice q o (omega arith) l
+
+  cell-held : (q o : ℕ) → q < suc (j .head .lists) → o < j .head .offers → cell (suc (f .lists)) (f .offers) (f .price) 0 q o ≡ priceOn (j .offer) (j .listPrice) q o
+  cell-held q o m l = cell-at (suc (f .lists)) (f .offers) (f .price) 0 q o (omega (arith, h .lists)) (omega (arith, h .offers)) ∙ price-held q o m l
+
 -- Two tables with the same words as far as they are needed.
 word-same : {A : Type 0} (n n′ : ℕ) (l l′ : List A) (z : A) → n ≡ n′ → ((i : ℕ) → i < n → word n l z i ≡ word n′ l′ z i) → (i : ℕ) → word n l z i ≡ word n′ l′ z i
 word-same n n′ l l′ z e h i =
@@ -43,7 +58,10 @@ word-same n n′ l l′ z e h i =
     (λ q. let b = ltb-false i n q in word-past n l z i b ∙ sym (word-past n′ l′ z i (omega (arith, b, e))))
 
 module _ (j : FileJob) (f f′ : JobTables) (h : Holds j f) (h′ : Holds j f′) where
-  -- The four numbers,
+  -- The five numbers,
+  lists-same : f .lists ≡ f′ .lists
+  lists-same = h .lists ∙ sym (h′ .lists)
+
   offers-same : f .offers ≡ f′ .offers
   offers-same = h .offers ∙ sym (h′ .offers)
 
@@ -126,7 +144,7 @@ module _ (j : FileJob) (f f′ : JobTables) (h : Holds j f) (h′ : Holds j f′
     revision = λ t. revision-same t i;
   }
 
-  -- and the whole job.
+  -- the whole job with the first price list,
   pub one-job : jobOf f ≡ jobOf f′
   unfolding jobOf
   one-job = λ i. record {
@@ -142,3 +160,21 @@ module _ (j : FileJob) (f f′ : JobTables) (h : Holds j f) (h′ : Holds j f′
     tallyOffer = λ t. place-same t i;
     tallyCount = λ t. count-same t i;
   }
+
+  -- the prices of every list,
+  list-at : (q o : ℕ) → q < suc (j .head .lists) → o < j .head .offers →
+      cell (suc (f .lists)) (f .offers) (f .price) 0 q o ≡ cell (suc (f′ .lists)) (f′ .offers) (f′ .price) 0 q o
+  list-at q o m l = cell-held j f h q o m l ∙ sym (cell-held j f′ h′ q o m l)
+
+  list-same : (q o : ℕ) → cell (suc (f .lists)) (f .offers) (f .price) 0 q o ≡ cell (suc (f′ .lists)) (f′ .offers) (f′ .price) 0 q o
+  unfolding cell
+  list-same q o =
+      split (ltb q (suc (f .lists)) && ltb o (f .offers))
+      (λ e. list-at q o (omega (arith, ltb-true q _ (and-l _ _ e), h .lists)) (omega (arith, ltb-true o _ (and-r (ltb q (suc (f .lists))) _ e), h .offers)))
+      (λ e. rw (e, sym (ap₂ (λ (a b : ℕ). ltb q (suc a) && ltb o b) lists-same offers-same) ∙ e))
+
+  -- and the evening's job.
+  pub same-evening : eveningOf f ≡ eveningOf f′
+  unfolding withLists
+  same-evening =
+      λ i. spread (suc (lists-same i)) (λ o. list-same (o % suc (lists-same i)) (o / suc (lists-same i)) i) (one-job i)

@@ -2,28 +2,29 @@
 use mathlib.Core.Path.{_≡_}
 use mathlib.Core.List.{List}
 use mathlib.Core.Bool.{true, false, _&&_}
-use Prim.Native.Nat.{ℕ, _<_}
+use Prim.Native.Nat.{ℕ, suc, _+_, _*_, _<_}
 use lib.Dec.{eqb}
 use lib.IntN.{ℤ, pos, _*ℤ_}
 use lib.ListN.{getD}
 use Rattle.laws.specs.Below.{sum, only, integers}
 use Rattle.model.specs.Job.{plainSum}
-use Rattle.model.specs.Tables.{JobTables, StateTables, countedOf, jobOf}
+use Rattle.model.specs.Tables.{JobTables, StateTables, countedOf, jobOf, eveningOf}
 use Rattle.model.specs.Ranges.{Settles}
 use Rattle.model.specs.Requests.{Request}
 use Rattle.model.specs.Demand3.{Demand3, RunIsList}
 use Rattle.recount.specs.Recount.{stands, countedTwice}
 use Rattle.format.specs.Codes.{isCode, sameOffer}
-use Rattle.format.specs.Job.{FileJob, offerName, names, placeOf, countedTallies}
+use Rattle.format.specs.Job.{FileJob, priceOn, offerName, names, placeOf, countedTallies}
 use Rattle.format.specs.File.{decode}
 use Rattle.printing.specs.Printed.{jobRead}
 use Rattle.format.specs.Tables.{ReaderTables, sizes, readResult}
 
--- What grocer g is owed by a file's job: count × price over its standing tallies, each at the price of the offer that it names.
-unfoldable pub owedByFile : FileJob → ℕ → ℤ
-owedByFile j g =
+-- What grocer g is owed by a file's job on price list q: count × price over its standing tallies, each at the price on that list of the offer
+-- that it names.
+unfoldable pub owedByFile : FileJob → (g q : ℕ) → ℤ
+owedByFile j g q =
     sum integers (j .head .tallies) (λ t. only integers (stands (countedTallies j) t && eqb (j .tally t .grocer) g)
-    (j .tally t .count *ℤ pos (j .offer (placeOf j t) .price)))
+    (j .tally t .count *ℤ pos (priceOn (j .offer) (j .listPrice) q (placeOf j t))))
 
 -- A job's tables hold what its file says.
 pub record Holds (j : FileJob) (f : JobTables) : Type 0 where
@@ -31,8 +32,10 @@ pub record Holds (j : FileJob) (f : JobTables) : Type 0 where
   pub grocers : f .grocers ≡ j .head .grocers
   pub offers : f .offers ≡ j .head .offers
   pub tallies : f .tallies ≡ j .head .tallies
-  -- Prices and owners.
+  pub lists : f .lists ≡ j .head .lists
+  -- Prices, of the first list and of the additional ones behind it, and owners.
   pub price : (o : ℕ) → o < j .head .offers → jobOf f .price o ≡ j .offer o .price
+  pub listPrice : (q o : ℕ) → q < j .head .lists → o < j .head .offers → getD (f .price) (suc q * j .head .offers + o) 0 ≡ j .listPrice q o
   pub offerOwner : (o : ℕ) → o < j .head .offers → jobOf f .offerOwner o ≡ j .offer o .owner
   pub grocerOwner : (g : ℕ) → g < j .head .grocers → jobOf f .grocerOwner g ≡ j .grocerOwner g
   -- Each tally's grocer, box, count, bag and revision, superseded tallies among them,
@@ -59,7 +62,7 @@ pub record Accepted (file : List ℕ) (l : ReaderTables) : Type 0 where
   pub tallyCode : (t : ℕ) → t < decode file .head .tallies → isCode (decode file .tally t .code) ≡ true
   -- No bag and revision is there twice for a grocer and offer.
   pub once : countedTwice (countedTallies (decode file)) ≡ false
-  -- The reader answers K, M, N and T.
+  -- The reader answers K, M, N and T, the cycle and the number of additional lists.
   pub answer : readResult file l .answer ≡ sizes (decode file .head)
   -- Every word is in range, every table is as long as it must be, and no bag is counted twice as one revision.
   pub settles : Settles (jobRead file l)
@@ -68,5 +71,6 @@ pub record Accepted (file : List ℕ) (l : ReaderTables) : Type 0 where
   pub run : (t : StateTables) (choices picked : List ℕ) → RunIsList (jobRead file l) t choices picked
   -- The tallies that stand in its tables are those that stand in the file,
   pub standing : (t : ℕ) → t < decode file .head .tallies → stands (countedOf (jobRead file l)) t ≡ stands (countedTallies (decode file)) t
-  -- and the plain sum, over these, is what the file says is owed.
-  pub sums : (g : ℕ) → plainSum (jobOf (jobRead file l)) g ≡ owedByFile (decode file) g
+  -- and the plain sum, over these, is on each price list what the file says is owed.
+  pub sums : (g q : ℕ) → q < suc (decode file .head .lists) →
+      plainSum (eveningOf (jobRead file l)) (g * suc (decode file .head .lists) + q) ≡ owedByFile (decode file) g q

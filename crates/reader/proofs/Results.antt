@@ -2,17 +2,18 @@
 use mathlib.Core.Path.{_≡_, sym, ap, _∙_, subst}
 use mathlib.Core.Bool.{Bool, true, false}
 use mathlib.Core.List.{List, [], _∷_}
-use Prim.Native.Nat.{ℕ, _≤_}
+use Prim.Native.Nat.{ℕ, suc, _≤_}
+use native.Mathlib.Nat.{mul-le-mul}
 use native.Mathlib.Omega.{arith}
 use lib.Dec.{ltb}
 use lib.ListN.{length}
 use borrow.Author.Tests.{ltb-false}
 use Rattle.laws.specs.Checks.{firstMet}
-use Rattle.laws.specs.Tables.{overwrite}
+use Rattle.laws.specs.Tables.{overwrite, recell}
 use Rattle.laws.proofs.Bools.{or-off}
 use Rattle.laws.proofs.Checks.{one-met, one-off}
 use Rattle.format.specs.First.{firstOf}
-use Rattle.format.specs.Job.{Head, placeOf}
+use Rattle.format.specs.Job.{Head, priceOn, placeOf}
 use Rattle.format.specs.File.{decode}
 use Rattle.format.specs.Tables.{ReaderTables, storeCodes, storeOffers, storeTallies, store, storeRead, ReadAnswer, sizes, refused, largest, shortTables, shortReader, Long, readRefusal, readResult}
 use Rattle.file_blocks.specs.Due.{Most}
@@ -29,7 +30,7 @@ file-decides short r n h e = e ∙ sym (rw (one-off short 20 h, next) (alone n))
 
 -- The tables where each is filled from the file, for the numbers that its header says.
 pub record Filled (f : List ℕ) (h : Head) (l l′ : ReaderTables) : Type 0 where
-  pub price : l′ .job .offers .price ≡ overwrite (h .offers) (λ i. decode f .offer i .price) (l .job .offers .price)
+  pub price : l′ .job .offers .price ≡ recell (suc (h .lists)) (h .offers) (priceOn (decode f .offer) (decode f .listPrice)) (l .job .offers .price)
   pub owner : l′ .job .offers .owner ≡ overwrite (h .offers) (λ i. decode f .offer i .owner) (l .job .offers .owner)
   pub code : l′ .job .offers .code ≡ storeCodes (h .offers) (λ i. decode f .offer i .code) (l .job .offers .code)
   pub issuer : l′ .job .offers .issuer ≡ overwrite (h .offers) (λ i. decode f .offer i .issuer) (l .job .offers .issuer)
@@ -87,10 +88,11 @@ unfolding shortReader
 room h l m s =
     let o = or-off (shortTables largest (l .job)) (ltb (length (l .tallyOffer)) 1_000) s in
     let r = long-tables largest (l .job) (o .0) in
+    let lists-in : suc (h .lists) ≤ 8 = omega (arith, m .lists) in
     record {
       tables = record {
         offers = record {
-          price = omega (arith, m .offers, r .offers .price);
+          price = omega (arith, mul-le-mul {n₂ = 500} {m₂ = 8} (m .offers) lists-in, r .offers .price);
           owner = omega (arith, m .offers, r .offers .owner);
           code = omega (arith, m .offers, r .offers .code);
           issuer = omega (arith, m .offers, r .offers .issuer);

@@ -4,9 +4,9 @@ use Rattle.format.specs.Tables.{ReadAnswer, sizes, refused, ReadOutcome, Reader
 use Rattle.reader.specs.declared.Answer.{Answer}
 use Rattle.reader.specs.declared.Answer.the-variants.{Job, Refused}
 
--- `Job` is K, M, N and T with the cycle of an accepted file, `Refused` a refusal's number.
+-- `Job` is K, M, N and T with the cycle and the number of additional lists of an accepted file, `Refused` a refusal's number.
 abbrev pub answerOf : Answer → ReadAnswer
-answerOf (Job boxes grocers offers tallies cycle) = sizes (headOf boxes grocers offers tallies cycle)
+answerOf (Job boxes grocers offers tallies cycle lists) = sizes (headOf boxes grocers offers tallies cycle lists)
 answerOf (Refused number) = refused number
 
 -- An answer, and the tables as they are afterwards.

@@ -24,6 +24,7 @@ use file_blocks::tables::fill_offers;
 use file_blocks::tables::fill_tallies;
 use file_codes::fill_codes;
 use slices::limits::GROCERS;
+use slices::limits::MAX_LISTS;
 use slices::limits::OFFERS;
 use slices::limits::TALLIES;
 
@@ -35,9 +36,13 @@ pub enum Answer {
         offers: u16,
         tallies: u16,
         cycle: u16,
+        lists: u16,
     },
     Refused(u16),
 }
+
+// The prices of the most offers on the most lists.
+const PRICES: usize = OFFERS * (MAX_LISTS as usize + 1);
 
 // The bytes of the codes of the most offers and of the most tallies.
 const OFFER_CODES: usize = OFFERS * CODE_BYTES;
@@ -46,9 +51,9 @@ const TALLY_CODES: usize = TALLIES * CODE_BYTES;
 
 // Whether one of the offers' tables is shorter than the most offers need, by their lengths.
 fn short_offers(price: usize, offer_owner: usize, offer_code: usize, offer_issuer: usize) -> bool
-    ensures { λ r. ⌜ r ≡ anyOf (ltb price 500 ∷ ltb «offer_owner» 500 ∷ ltb «offer_code» 5500 ∷ ltb «offer_issuer» 500 ∷ []) ⌝ }
+    ensures { λ r. ⌜ r ≡ anyOf (ltb price 4000 ∷ ltb «offer_owner» 500 ∷ ltb «offer_code» 5500 ∷ ltb «offer_issuer» 500 ∷ []) ⌝ }
 {
-    (price < OFFERS) | (offer_owner < OFFERS) | (offer_code < OFFER_CODES) | (offer_issuer < OFFERS)
+    (price < PRICES) | (offer_owner < OFFERS) | (offer_code < OFFER_CODES) | (offer_issuer < OFFERS)
 }
 
 // Whether a table is shorter than the largest job needs: one of the offers', or one of the others by their lengths.
@@ -101,6 +106,7 @@ fn job_of(head: Head) -> Answer
         offers: z.offers,
         tallies: z.tallies,
         cycle: head.cycle,
+        lists: z.lists,
     }
 }
 

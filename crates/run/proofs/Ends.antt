@@ -2,7 +2,7 @@
 use mathlib.Core.Path.{_≡_, refl, sym, ap, _∙_}
 use mathlib.Core.Bool.{Bool, true, false, cond, not, _||_}
 use mathlib.Core.List.{List, [], _∷_, map}
-use Prim.Native.Nat.{ℕ, zero, suc, _≤_}
+use Prim.Native.Nat.{ℕ, zero, suc, _*_, _≤_}
 use native.Mathlib.Omega.{arith}
 use native.Mathlib.Nat.{mul-le-mul}
 use lib.Dec.{eqb, ltb}
@@ -17,7 +17,7 @@ use Rattle.laws.proofs.Below.{count-le}
 use Rattle.laws.proofs.Tables.{overwrite-one}
 use Rattle.model.specs.Job.{Job, pricesDue, totalsDue, needWord, sharerWord}
 use Rattle.model.specs.Steps.{Steps, Step, State, fresh, effectOf}
-use Rattle.model.specs.Tables.{JobTables, jobOf, StateTables, store, stepsDone, marksOf, jobLengths, stateLengths, jobShort, bagsShort, stateShort, lentShort, totalsShort, countedOf}
+use Rattle.model.specs.Tables.{JobTables, jobOf, withLists, eveningOf, StateTables, store, stepsDone, marksOf, jobLengths, stateLengths, jobShort, bagsShort, stateShort, lentShort, totalsShort, countedOf}
 use Rattle.recount.specs.Recount.{countedTwice}
 use Rattle.model.specs.Ranges.{Settles, jobInRange}
 use Rattle.model.specs.Local.{jobRefusals}
@@ -28,14 +28,16 @@ use Rattle.job_masks.specs.Masks.{holderWord, Placed, Owned, byOwner}
 use Rattle.step_waits.specs.Waits.{TallyLists, tallyLists, waitTable, WaitsIn}
 use Rattle.job_checks.specs.Sizes.{sizes}
 use Rattle.run_ready.specs.Walk.{WalkIn}
-use Rattle.step_places.specs.Order.{markAll, noSteps}
+use Rattle.step_places.specs.Order.{stepsIn, markAll, noSteps}
 use Rattle.run_order.specs.Order.{OfJob, SomeJob, EveryJob, MarksFrom, Ordered}
 use Rattle.run.specs.declared.Answer.the-variants.{Finished, Refused}
 use Rattle.run_steps.specs.All.{withoutMarks, AllIn, AllOut, afterOrder}
 use Rattle.run.specs.Run.{Begins, answerOf, given, OrderIn}
 use Rattle.book_places.specs.Spots.{CountIn, startBy}
-use Rattle.model.proofs.Handed.{handed-whole, handed-in, handed-job, handed-run}
+use Rattle.model.specs.PackedTotals.{spread}
+use Rattle.model.proofs.Handed.{handed-whole, handed-in, handed-evening, handed-run}
 use Rattle.job_checks.proofs.Refusals.{accepted}
+use Rattle.model.proofs.PriceLists.{same-steps}
 use Rattle.model.proofs.Step.{range}
 use Rattle.model.proofs.Lent.{state-long, totals-long}
 use Rattle.job_checks.proofs.Sizes.{short-sizes}
@@ -112,11 +114,14 @@ module _ (f : JobTables) (t : StateTables) (g : Begins f t) where
     pub sharers-of : sharers ≡ tabulate 255 (sharerWord (jobOf f))
     sharers-of = es ∙ sharer-words f (g .job-in .bare)
 
-    pub totals-count : (CountIn (f .grocers) (f .grocerOwner) sharers) × (f .boxes ≤ 16)
+    pub totals-count : (CountIn (f .grocers) (f .grocerOwner) sharers) × ((f .boxes ≤ 16) × (f .lists ≤ 7))
     totals-count = count-ready f (g .job-in) (g .job-long) sharers sharers-of
 
-    pub totals-told : (x : Bool) → x ≡ (ltb (length (t .working)) (startBy (f .grocers) (f .grocerOwner) sharers (f .boxes)) || ltb (length (t .totalTransit)) (startBy (f .grocers) (f .grocerOwner) sharers (f .boxes))) →
-        x ≡ totalsShort (jobOf f) (stateLengths t)
+    -- The words of the packed tables, by the sharer words.
+    abbrev packed-by : ℕ
+    packed-by = startBy (f .grocers) (f .grocerOwner) sharers (f .boxes) * suc (f .lists)
+
+    pub totals-told : (x : Bool) → x ≡ (ltb (length (t .working)) packed-by || ltb (length (t .totalTransit)) packed-by) → x ≡ totalsShort (eveningOf f) (stateLengths t)
     unfolding totalsShort stateLengths
     totals-told x e = e ∙ ap (λ (n : ℕ). ltb (length (t .working)) n || ltb (length (t .totalTransit)) n) (packed-words f (g .job-in) (g .job-long) sharers sharers-of)
 
@@ -148,13 +153,13 @@ module _ (f : JobTables) (t : StateTables) (g : Begins f t) where
   sent-room = state-long f (stateLengths t) (g .state-long) .sent
 
   -- All steps of the order may be done.
-  module _ (packed : totalsShort (jobOf f) (stateLengths t) ≡ false) (needs sharers cs done order : List ℕ) (n : ℕ)
+  module _ (packed : totalsShort (eveningOf f) (stateLengths t) ≡ false) (needs sharers cs done order : List ℕ) (n : ℕ)
       (en : needs ≡ tabulate 500 (needWord (jobOf f))) (es : sharers ≡ tabulate 255 (sharerWord (jobOf f))) (w : Ordered (jobOf f) cs done order n) where
     pub all-in : AllIn f (withoutMarks (t .known) (t .priceTransit) (t .working) (t .totalTransit) (t .statement)) needs sharers order n
     unfolding stateLengths
     all-in =
         let l = state-long f (stateLengths t) (g .state-long) in
-        let k = totals-long (jobOf f) (stateLengths t) packed in
+        let k = totals-long (eveningOf f) (stateLengths t) packed in
         record {
           job-in = g .job-in;
           job-long = g .job-long;
@@ -170,53 +175,58 @@ module _ (f : JobTables) (t : StateTables) (g : Begins f t) where
 
     -- Where they are done the run has ended.
     module _ (t′ : StateTables) (words messages : ℕ)
-        (r : AllOut (jobOf f) (withoutMarks (t .known) (t .priceTransit) (t .working) (t .totalTransit) (t .statement)) (withoutMarks (t′ .known) (t′ .priceTransit) (t′ .working) (t′ .totalTransit) (t′ .statement)) order n words messages)
+        (r : AllOut (eveningOf f) (withoutMarks (t .known) (t .priceTransit) (t .working) (t .totalTransit) (t .statement))
+        (withoutMarks (t′ .known) (t′ .priceTransit) (t′ .working) (t′ .totalTransit) (t′ .statement)) order n words messages)
         (m : MarksFrom (f .boxes) (t .done) done) (ed : t′ .done ≡ done) (es′ : t′ .sent ≡ set (t .sent) 0 words) where
       -- The state at the end.
       abbrev end : State
-      end = runState (jobOf f) cs
+      end = runState (eveningOf f) cs
 
-      end-is : afterOrder (jobOf f) n order ≡ end
-      unfolding afterOrder runState
-      end-is = ap (afterSteps (jobOf f) (fresh (jobOf f))) (w .steps-are)
+      -- The steps of the order are those of the run on every price list.
+      steps-of : stepsIn (f .boxes) n order ≡ run (eveningOf f) cs
+      unfolding jobOf
+      steps-of = w .steps-are ∙ sym (same-steps f .picks cs)
+
+      end-is : afterOrder (eveningOf f) n order ≡ end
+      unfolding afterOrder runState withLists spread jobOf
+      end-is = ap (afterSteps (eveningOf f) (fresh (eveningOf f))) steps-of
 
       end-marks : stepsDone (f .boxes) done ≡ end .done
       unfolding runState fresh jobOf
-      end-marks = w .picked .marks-are ∙ ap (markAll noSteps) (w .steps-are) ∙ sym (after-marks (jobOf f) (fresh (jobOf f)) (run (jobOf f) cs))
+      end-marks = w .picked .marks-are ∙ ap (markAll noSteps) steps-of ∙ sym (after-marks (eveningOf f) (fresh (eveningOf f)) (run (eveningOf f) cs))
 
-      done-is : t′ .done ≡ store (jobOf f) end t .done
-      unfolding store MarksFrom jobOf
+      done-is : t′ .done ≡ store (eveningOf f) end t .done
+      unfolding store MarksFrom withLists spread jobOf
       done-is = ed ∙ m ∙ ap (λ (d : Steps). marksOf (f .boxes) d (t .done)) end-marks
 
       words-is : words ≡ end .sent
       words-is = r .words-are ∙ ap (λ (s : State). s .sent) end-is
 
-      sent-is : t′ .sent ≡ store (jobOf f) end t .sent
+      sent-is : t′ .sent ≡ store (eveningOf f) end t .sent
       unfolding store stateLengths
       sent-is = es′ ∙ ap (set (t .sent) 0) words-is ∙ sym (overwrite-one (end .sent) (t .sent) (state-long f (stateLengths t) (g .state-long) .sent))
 
-      pub tables-are : t′ ≡ store (jobOf f) end t
+      pub tables-are : t′ ≡ store (eveningOf f) end t
       unfolding store
       tables-are =
           let h = rw end-is at (r .holds) in
-          tables-eq t′ (store (jobOf f) end t) (h .known) (h .priceTransit) (h .working) (h .totalTransit) (h .statement) done-is sent-is
+          tables-eq t′ (store (eveningOf f) end t) (h .known) (h .priceTransit) (h .working) (h .totalTransit) (h .statement) done-is sent-is
 
-      messages-is : messages ≡ over messagesOf (run (jobOf f) cs)
-      unfolding jobOf
-      messages-is = r .messages-are ∙ ap (over messagesOf) (w .steps-are)
+      messages-is : messages ≡ over messagesOf (run (eveningOf f) cs)
+      unfolding withLists spread jobOf
+      messages-is = r .messages-are ∙ ap (over messagesOf) steps-of
 
-      steps-is : n ≡ length (run (jobOf f) cs)
-      unfolding jobOf
-      steps-is = sym (steps-length (f .boxes) n order (rw (w .picked .long) (w .picked .in-order))) ∙ ap length (w .steps-are)
+      steps-is : n ≡ length (run (eveningOf f) cs)
+      steps-is = sym (steps-length (f .boxes) n order (rw (w .picked .long) (w .picked .in-order))) ∙ ap length steps-of
 
       -- The words of the order are the places of the steps picked.
-      places-are : take n order ≡ pickedPlaces (jobOf f) cs
-      unfolding pickedPlaces jobOf
-      places-are = sym (places-back (f .boxes) n order (some-box f (g .job-in)) (w .picked .places-in)) ∙ ap (map (placed (jobOf f))) (w .steps-are)
+      places-are : take n order ≡ pickedPlaces (eveningOf f) cs
+      unfolding pickedPlaces withLists spread jobOf
+      places-are = sym (places-back (f .boxes) n order (some-box f (g .job-in)) (w .picked .places-in)) ∙ ap (map (placed (eveningOf f))) steps-of
 
       -- What is answered, the tables, and the places of the steps picked.
       pub run-ended : (p p′ : List ℕ) → p′ ≡ layOver (take n order) p → given (answerOf (Finished words messages n)) t′ p′
-          ≡ given (finished (end .sent) (over messagesOf (run (jobOf f) cs)) (length (run (jobOf f) cs))) (store (jobOf f) end t) (layOver (pickedPlaces (jobOf f) cs) p)
+          ≡ given (finished (end .sent) (over messagesOf (run (eveningOf f) cs)) (length (run (eveningOf f) cs))) (store (eveningOf f) end t) (layOver (pickedPlaces (eveningOf f) cs) p)
       unfolding answerOf
       run-ended p p′ e = λ i. given (finished (words-is i) (messages-is i) (steps-is i)) (tables-are i) ((e ∙ ap (λ (l : List ℕ). layOver l p) places-are) i)
 
@@ -242,7 +252,7 @@ met-last false false true d e h = absurd (omega (arith, e))
 met-last false false false d e h = rw h
 
 -- The refusals of a run: 20 on the state's tables, those of the job's, and 20 on the packed tables.
-module _ (f : JobTables) (t : StateTables) (c : Bool) (e : c ≡ stateShort (sizes (f .boxes) (f .grocers) (f .offers)) (stateLengths t)) where
+module _ (f : JobTables) (t : StateTables) (c : Bool) (e : c ≡ stateShort (sizes (f .boxes) (f .grocers) (f .offers) (f .lists)) (stateLengths t)) where
   state-is : c ≡ stateShort f (stateLengths t)
   state-is = e ∙ short-sizes f (stateLengths t)
 
@@ -265,7 +275,7 @@ module _ (f : JobTables) (t : StateTables) (c : Bool) (e : c ≡ stateShort (siz
     pub run-refused : (cs p : List ℕ) (n : ℕ) → n ≡ firstMet (jobRefusals f) → (n ≡ 0 → ⊥) → given (answerOf (Refused n)) t p ≡ ran f t cs p
     unfolding runRefusals jobRefusals
     run-refused cs p n q k =
-        said cs p n (rw else-is (met-before (jobShort f (jobLengths f) || bagsShort f (jobLengths f)) (not (jobInRange f)) (countedTwice (countedOf f)) (totalsShort (jobOf f) (stateLengths t)) n q k)) k
+        said cs p n (rw else-is (met-before (jobShort f (jobLengths f) || bagsShort f (jobLengths f)) (not (jobInRange f)) (countedTwice (countedOf f)) (totalsShort (eveningOf f) (stateLengths t)) n q k)) k
 
     -- No refusal of the job's tables: with the boxes of the tallies that stand the run may begin.
     module _ (z : firstMet (jobRefusals f) ≡ 0) (standing : List ℕ) (s : Standing f standing) where
@@ -281,20 +291,20 @@ module _ (f : JobTables) (t : StateTables) (c : Bool) (e : c ≡ stateShort (siz
       }
 
       -- The packed tables of the job as handed are those of the tables as lent.
-      packed-is : (x : Bool) → x ≡ totalsShort (jobOf (handedTables f standing)) (stateLengths t) → x ≡ totalsShort (jobOf f) (stateLengths t)
-      packed-is x q = q ∙ ap (λ (j : Job). totalsShort j (stateLengths t)) (handed-job f standing s)
+      packed-is : (x : Bool) → x ≡ totalsShort (eveningOf (handedTables f standing)) (stateLengths t) → x ≡ totalsShort (eveningOf f) (stateLengths t)
+      packed-is x q = q ∙ ap (λ (j : Job). totalsShort j (stateLengths t)) (handed-evening f standing s)
 
-      pub run-packed : (cs p : List ℕ) (x : Bool) → x ≡ totalsShort (jobOf (handedTables f standing)) (stateLengths t) → x ≡ true → given (answerOf (Refused 20)) t p ≡ ran f t cs p
+      pub run-packed : (cs p : List ℕ) (x : Bool) → x ≡ totalsShort (eveningOf (handedTables f standing)) (stateLengths t) → x ≡ true → given (answerOf (Refused 20)) t p ≡ ran f t cs p
       unfolding runRefusals jobRefusals
       run-packed cs p x q k =
-          said cs p 20 (rw else-is (met-last (jobShort f (jobLengths f) || bagsShort f (jobLengths f)) (not (jobInRange f)) (countedTwice (countedOf f)) (totalsShort (jobOf f) (stateLengths t)) z (sym (packed-is x q) ∙ k)))
+          said cs p 20 (rw else-is (met-last (jobShort f (jobLengths f) || bagsShort f (jobLengths f)) (not (jobInRange f)) (countedTwice (countedOf f)) (totalsShort (eveningOf f) (stateLengths t)) z (sym (packed-is x q) ∙ k)))
           (λ q. omega arith)
 
       -- Nor is a packed table short: what the run comes to is the run of the tables as lent.
-      pub run-finished : (cs p : List ℕ) → totalsShort (jobOf (handedTables f standing)) (stateLengths t) ≡ false →
-          given (finished (runState (jobOf (handedTables f standing)) cs .sent) (over messagesOf (run (jobOf (handedTables f standing)) cs)) (length (run (jobOf (handedTables f standing)) cs)))
-          (store (jobOf (handedTables f standing)) (runState (jobOf (handedTables f standing)) cs) t)
-          (layOver (pickedPlaces (jobOf (handedTables f standing)) cs) p) ≡ ran f t cs p
+      pub run-finished : (cs p : List ℕ) → totalsShort (eveningOf (handedTables f standing)) (stateLengths t) ≡ false →
+          given (finished (runState (eveningOf (handedTables f standing)) cs .sent) (over messagesOf (run (eveningOf (handedTables f standing)) cs)) (length (run (eveningOf (handedTables f standing)) cs)))
+          (store (eveningOf (handedTables f standing)) (runState (eveningOf (handedTables f standing)) cs) t)
+          (layOver (pickedPlaces (eveningOf (handedTables f standing)) cs) p) ≡ ran f t cs p
       unfolding lentShort
       run-finished cs p k =
-          sym (handed-run f standing s t cs p (rw (settled .whole, settled .bags, sym state-is ∙ h)) (settled .inRange) (settled .once) (sym (packed-is (totalsShort (jobOf (handedTables f standing)) (stateLengths t)) refl) ∙ k))
+          sym (handed-run f standing s t cs p (rw (settled .whole, settled .bags, sym state-is ∙ h)) (settled .inRange) (settled .once) (sym (packed-is (totalsShort (eveningOf (handedTables f standing)) (stateLengths t)) refl) ∙ k))

@@ -1,7 +1,7 @@
 // The run: it starts fresh, picks steps until all are done, and reports the words sent, the messages and the steps.
 ghost use mathlib.Core.Path.{_≡_};
 ghost use mathlib.Core.Bool.{_||_};
-ghost use Prim.Native.Nat.{ℕ, _≤_};
+ghost use Prim.Native.Nat.{ℕ, suc, _*_, _≤_};
 ghost use lib.Dec.{ltb};
 ghost use lib.ListN.{length};
 ghost use Rattle.model.specs.Lent.{bagLent, stateBefore, stateAfter};
@@ -17,6 +17,10 @@ use slices::casts::index_of;
 use slices::limits::GROCERS;
 use slices::limits::OFFERS;
 use slices::limits::TALLIES;
+use slices::lists::box_words;
+use slices::lists::list_words;
+use slices::lists::width_of;
+use slices::lists::words_at;
 use slices::sizes::Sizes;
 use step_places::PLACES;
 
@@ -30,7 +34,8 @@ pub enum Answer {
     Refused(u16),
 }
 
-// 20: whether a table of the state but the packed totals, by the words that are lent of each, is shorter than K, M and N as given need.
+// 20: whether a table of the state but the packed totals, by the words that are lent of each, is shorter than K, M, N and the number of
+// lists as given need.
 fn state_short(
     z: Sizes,
     known: usize,
@@ -39,19 +44,17 @@ fn state_short(
     done: usize,
     sent: usize,
 ) -> bool
-    ensures { λ r. ⌜ ((working totals : ℕ) → r ≡ stateShort (sizes (z .boxes) (z .grocers) (z .offers)) (lengthsOf known «price_transit» working totals
-        statement done sent)) ⌝ }
+    ensures { λ r. ⌜ ((working totals : ℕ) → r ≡ stateShort (sizes (z .boxes) (z .grocers) (z .offers) (z .lists)) (lengthsOf known «price_transit»
+        working totals statement done sent)) ⌝ }
 {
-    let kn = slices::bits::words(z.boxes, z.offers);
+    let kn = box_words(z.boxes, z.lists, z.offers);
+    let m = list_words(z.lists, z.grocers);
     let kk = slices::bits::marks(z.boxes);
-    (known < kn)
-        | (price_transit < kn)
-        | (statement < z.grocers as usize)
-        | (done < kk)
-        | (sent < 1)
+    (known < kn) | (price_transit < kn) | (statement < m) | (done < kk) | (sent < 1)
 }
 
-// 20: whether a table of packed totals, by the words that are lent of each, is shorter than all boxes have totals.
+// 20: whether a table of packed totals, by the words that are lent of each, is shorter than all boxes have totals, on
+// every list.
 fn totals_short(
     z: Sizes,
     grocer_owner: &[u16],
@@ -59,12 +62,13 @@ fn totals_short(
     working: usize,
     total_transit: usize,
 ) -> bool
-    requires { ⌜ CountIn (z .grocers) (now «grocer_owner») (now sharers) × (z .boxes ≤ 16) ⌝ }
-    ensures { λ r. ⌜ r ≡ (ltb working (startBy (z .grocers) (now («grocer_owner» .entry)) (now (sharers .entry)) (z .boxes))
-        || ltb «total_transit» (startBy (z .grocers) (now («grocer_owner» .entry)) (now (sharers .entry)) (z .boxes))) ⌝ }
+    requires { ⌜ CountIn (z .grocers) (now «grocer_owner») (now sharers) × ((z .boxes ≤ 16) × (z .lists ≤ 7)) ⌝ }
+    ensures { λ r. ⌜ r ≡ (ltb working (startBy (z .grocers) (now («grocer_owner» .entry)) (now (sharers .entry)) (z .boxes) * suc (z .lists))
+        || ltb «total_transit» (startBy (z .grocers) (now («grocer_owner» .entry)) (now (sharers .entry)) (z .boxes) * suc (z .lists))) ⌝ }
 {
     let m = index_of(z.grocers);
-    let words = index_of(book_places::box_start(m, grocer_owner, sharers, z.boxes));
+    let places = index_of(book_places::box_start(m, grocer_owner, sharers, z.boxes));
+    let words = words_at(places, width_of(z.lists));
     (working < words) | (total_transit < words)
 }
 
@@ -108,6 +112,7 @@ pub fn run(
     grocers: u16,
     offers: u16,
     tallies: u16,
+    lists: u16,
     price: &[u32],
     offer_owner: &[u16],
     grocer_owner: &[u16],
@@ -128,7 +133,7 @@ pub fn run(
     picked: &mut [u16],
 ) -> Answer
     ensures { λ r. ⌜ given (answerOf r) (stateAfter known «price_transit» working «total_transit» statement done sent) (now (picked .exit)) ≡ ran
-        (bagLent boxes grocers offers tallies price «offer_owner» «grocer_owner» «tally_grocer» «tally_box» «tally_offer» «tally_count»
+        (bagLent boxes grocers offers tallies lists price «offer_owner» «grocer_owner» «tally_grocer» «tally_box» «tally_offer» «tally_count»
         «tally_bag» «tally_revision»)
         (stateBefore known «price_transit» working «total_transit» statement done sent) (now (choices .entry)) (now (picked .entry)) ⌝ }
 {
@@ -137,6 +142,7 @@ pub fn run(
         grocers: grocers,
         offers: offers,
         tallies: tallies,
+        lists: lists,
     };
     if state_short(
         z,
@@ -150,10 +156,7 @@ pub fn run(
     }
     let mut standing = [0u16; TALLIES];
     let r = job_checks::checks::job_refusal(
-        boxes,
-        grocers,
-        offers,
-        tallies,
+        z,
         price,
         offer_owner,
         grocer_owner,

@@ -1,92 +1,124 @@
 -- Laws of the tables of a fresh state. Assumes nothing.
 use mathlib.Core.Path.{_≡_, refl, sym, ap, _∙_}
 use mathlib.Core.List.{List}
-use mathlib.Core.Bool.{cond, _&&_}
-use Prim.Native.Nat.{ℕ, _+_, _*_, _/_, _%_, _≤_, _<_}
+use mathlib.Core.Bool.{Bool, false, cond, _&&_}
+use Prim.Native.Nat.{ℕ, suc, _+_, _-_, _*_, _/_, _%_, _≤_, _<_}
+use native.Mathlib.Decide.{decLt}
+use native.Mathlib.Nat.{mul-assoc}
 use native.Mathlib.Omega.{arith}
 use lib.Arith.{digits-div, digits-mod}
 use lib.Dec.{eqb, ltb}
-use lib.ListN.{length, getD, set}
-use lib.Seq.{getD-set-same, getD-set-other}
+use lib.ListN.{length, getD}
 use lib.IntN.{ℤ, pos}
-use borrow.Author.Tests.{eqb-true, eqb-false, ne-eqb, lt-ltb, le-ltb, ltb-true, ltb-false}
-use Rattle.laws.specs.Tables.{overwrite, recell, word}
+use borrow.Author.Tests.{eqb-true, eqb-false, ne-eqb, lt-ltb, le-ltb}
+use Rattle.laws.specs.Tables.{overwrite, recell}
 use Rattle.laws.proofs.Bools.{split, and-false, eqb-same}
-use Rattle.laws.proofs.Tables.{over-over, recell-cong, word-in, cell-in}
+use Rattle.laws.proofs.Entries.{entry-in, list-in, both}
+use Rattle.laws.proofs.Loops.{window, window-in, window-below, window-above, front-else}
+use Rattle.laws.proofs.Tables.{recell-cong, word-in, cell-in, cell-at, row-in}
 use Rattle.model.specs.Steps.{fresh}
-use Rattle.model.specs.Tables.{jobTables, jobOf, StateTables, stateTables, store, marksOf}
+use Rattle.model.specs.Tables.{JobTables, jobOf, withLists, eveningOf, StateTables, stateTables, store, marksOf}
 use Rattle.model.specs.Step.{freshTables}
-use Rattle.model.specs.Job.{Job}
-use Rattle.model.specs.PackedTotals.{totalsLength, packTotals}
+use Rattle.model.specs.PackedTotals.{totalsLength, packTotals, spread}
 use Rattle.run_fresh.specs.Fresh.{ownPrices}
 use Rattle.model.proofs.Spans.{pack-places}
 
--- Own prices, one offer a turn: row b, column o of the table of known prices.
-module _ (k n : ℕ) (price owner known₀ known : List ℕ) (o : ℕ) (lo : o < n) (own : getD owner o 0 < k) (long : k * n ≤ length known)
-    (h : (b p : ℕ) → b < k → p < n → getD known (b * n + p) 0 ≡ cond (ltb p o && eqb (getD owner p 0) b) (getD price p 0) 0) where
+-- The words of offer o lie in the table.
+pub own-in : (k n l o own : ℕ) → o < n → own < k → (own * n + o) * suc l + suc l ≤ k * (n * suc l)
+own-in k n l o own lo lown = omega (arith, row-in (own * n + o) (k * n) (suc l) (cell-in own k n o lown lo), mul-assoc k n (suc l))
+
+-- Own prices, one offer a turn: row b, word w of the table of known prices.
+module _ (k n l : ℕ) (price owner known known′ : List ℕ) (o : ℕ) (lo : o < n) (own : getD owner o 0 < k)
+    (h′ : (i : ℕ) → getD known′ i 0
+    ≡ cond (window ((getD owner o 0 * n + o) * suc l) (suc l) i) (getD price ((i - (getD owner o 0 * n + o) * suc l) * n + o) 0) (getD known i 0)) where
+  -- The place of the offer in its owner's row, and where its words begin.
+  abbrev spot : ℕ
+  spot = getD owner o 0 * n + o
+
   abbrev here : ℕ
-  here = getD owner o 0 * n + o
+  here = spot * suc l
 
-  inside : here < length known
-  inside = omega (arith, cell-in (getD owner o 0) k n o own lo)
+  -- Word w of row b, by its entry and its list.
+  place-of : (b w : ℕ) → b * (n * suc l) + w ≡ (b * n + w / suc l) * suc l + w % suc l
+  place-of b w = omega (arith, both l w, mul-assoc b n (suc l))
 
-  same-place : (b p : ℕ) → p < n → b * n + p ≡ here → (b ≡ getD owner o 0) × (p ≡ o)
-  same-place b p l e =
-      (sym (digits-div b l) ∙ ap (λ (i : ℕ). i / n) e ∙ digits-div (getD owner o 0) lo, sym (digits-mod b l) ∙ ap (λ (i : ℕ). i % n) e ∙ digits-mod (getD owner o 0) lo)
+  -- Another entry's words lie elsewhere.
+  apart : (x q : ℕ) → q < suc l → (x ≡ spot → ⊥) → window here (suc l) (x * suc l + q) ≡ false
+  apart x q lq ne = go (decLt x spot)
+    where
+      go : Dec (x < spot) → window here (suc l) (x * suc l + q) ≡ false
+      go (yes a) = window-below here (suc l) (x * suc l + q) (omega (arith, lq, row-in x spot (suc l) a))
+      go (no a) = let b : spot < x = omega (arith, a, ne) in window-above here (suc l) (x * suc l + q) (omega (arith, row-in spot x (suc l) b))
 
-  ltb-more : (p : ℕ) → (p ≡ o → ⊥) → ltb p (o + 1) ≡ ltb p o
-  ltb-more p ne =
-      split (ltb p o)
-      (λ e. let l : p < o = ltb-true p o e in lt-ltb p (o + 1) (omega arith) ∙ sym e)
-      (λ e. let l : o ≤ p = ltb-false p o e in le-ltb p (o + 1) (omega arith) ∙ sym e)
+  same-place : (b e : ℕ) → e < n → b * n + e ≡ spot → (b ≡ getD owner o 0) × (e ≡ o)
+  same-place b e le q =
+      (sym (digits-div b le) ∙ ap (λ (i : ℕ). i / n) q ∙ digits-div (getD owner o 0) lo, sym (digits-mod b le) ∙ ap (λ (i : ℕ). i % n) q ∙ digits-mod (getD owner o 0) lo)
 
-  pub own-more : (b p : ℕ) → b < k → p < n → getD (set known here (getD price o 0)) (b * n + p) 0 ≡ cond (ltb p (o + 1) && eqb (getD owner p 0) b) (getD price p 0) 0
-  own-more b p lb lp =
-      split (eqb (b * n + p) here)
-      (λ e. let q = eqb-true (b * n + p) here e in
-      let s = same-place b p lp q in
-      ap (λ (i : ℕ). getD (set known here (getD price o 0)) i 0) q
-      ∙ getD-set-same known here (getD price o 0) 0 inside
-      ∙ sym (rw (s .0, s .1, lt-ltb o (o + 1) (omega arith), eqb-same (getD owner o 0))))
-      (λ e. let ne : b * n + p ≡ here → ⊥ = eqb-false (b * n + p) here e in
-      getD-set-other known here (b * n + p) (getD price o 0) 0 ne ∙ h b p lb lp
-      ∙ split (eqb p o)
-      (λ f. let r : p ≡ o = eqb-true p o f in
-      rw (r, le-ltb o o (omega arith), ne-eqb (getD owner o 0) b (λ z. ne (rw (r, z)))) (sym (rw (and-false (ltb o (o + 1))))))
-      (λ f. rw (ltb-more p (eqb-false p o f))))
+  -- The words of the offers below o are written, and then those of offer o.
+  own-entry : (b e q : ℕ) → e < n → q < suc l →
+      getD known ((b * n + e) * suc l + q) 0 ≡ cond (ltb e o && eqb (getD owner e 0) b) (getD price (q * n + e) 0) 0 →
+      getD known′ ((b * n + e) * suc l + q) 0 ≡ cond (ltb e (o + 1) && eqb (getD owner e 0) b) (getD price (q * n + e) 0) 0
+  own-entry b e q le lq h =
+      split (eqb (b * n + e) spot)
+      (λ t. let p = eqb-true (b * n + e) spot t in
+      let s = same-place b e le p in
+      h′ ((b * n + e) * suc l + q)
+      ∙ rw (p, window-in here (suc l) (here + q) (omega arith) (omega (arith, lq)), s .0, s .1, lt-ltb o (o + 1) (omega arith), eqb-same (getD owner o 0))
+      (ap (λ (x : ℕ). getD price (x * n + o) 0) (omega arith)))
+      (λ t. let ne : b * n + e ≡ spot → ⊥ = eqb-false (b * n + e) spot t in
+      h′ ((b * n + e) * suc l + q) ∙ ap (λ (x : Bool). cond x (getD price (((b * n + e) * suc l + q - here) * n + o) 0) (getD known ((b * n + e) * suc l + q) 0)) (apart (b * n + e) q lq ne)
+      ∙ h ∙ ap (λ (x : Bool). cond x (getD price (q * n + e) 0) 0)
+      (split (eqb e o)
+      (λ f. let r : e ≡ o = eqb-true e o f in
+      rw (r, le-ltb o o (omega arith), ne-eqb (getD owner o 0) b (λ z. ne (rw (r, z)))) (sym (and-false (ltb o (o + 1)))))
+      (λ f. ap (λ (x : Bool). x && eqb (getD owner e 0) b) (sym (front-else o e (λ z. eqb-false e o f (sym z)))))))
+
+  pub own-more : (b w : ℕ) → w < n * suc l →
+      getD known (b * (n * suc l) + w) 0 ≡ cond (ltb (w / suc l) o && eqb (getD owner (w / suc l) 0) b) (getD price (w % suc l * n + w / suc l) 0) 0 →
+      getD known′ (b * (n * suc l) + w) 0 ≡ cond (ltb (w / suc l) (o + 1) && eqb (getD owner (w / suc l) 0) b) (getD price (w % suc l * n + w / suc l) 0) 0
+  own-more b w lw h =
+      ap (λ (i : ℕ). getD known′ i 0) (place-of b w)
+      ∙ own-entry b (w / suc l) (w % suc l) (entry-in l n w lw) (list-in l w) (ap (λ (i : ℕ). getD known i 0) (sym (place-of b w)) ∙ h)
 
   -- Words past the table stay.
-  pub own-past : (i : ℕ) → k * n ≤ i → getD known i 0 ≡ getD known₀ i 0 → getD (set known here (getD price o 0)) i 0 ≡ getD known₀ i 0
-  own-past i l e = getD-set-other known here i (getD price o 0) 0 (λ q. omega (arith, cell-in (getD owner o 0) k n o own lo)) ∙ e
-
-recell-over : {A : Type 0} (k n : ℕ) (f : ℕ → ℕ → A) (g : ℕ → A) (l : List A) → recell k n f (overwrite (k * n) g l) ≡ recell k n f l
-unfolding recell
-recell-over k n f g l = over-over (k * n) (λ i. f (i / n) (i % n)) g l
+  pub own-past : (i : ℕ) → k * (n * suc l) ≤ i → getD known′ i 0 ≡ getD known i 0
+  own-past i p = h′ i ∙ ap (λ (x : Bool). cond x (getD price ((i - here) * n + o) 0) (getD known i 0)) (window-above here (suc l) i (omega (arith, p, own-in k n l o (getD owner o 0) lo own)))
 
 -- The tables of a fresh state, one by one.
-module _ (k m n : ℕ) (price owner : List ℕ) (t : StateTables) (tallies : ℕ) (gowner tgrocer tbox toffer : List ℕ) (tcount : List ℤ) where
-  fresh-known : ownPrices k n price owner (overwrite (k * n) (λ i. 0) (t .known)) ≡ freshTables (jobTables k m n tallies price owner gowner tgrocer tbox toffer tcount) t .known
-  unfolding ownPrices freshTables store fresh jobOf
+module _ (f : JobTables) (t : StateTables) where
+  -- The words of a row of prices.
+  abbrev words : ℕ
+  words = f .offers * suc (f .lists)
+
+  fresh-known : ownPrices (f .boxes) (f .offers) (f .lists) (f .price) (f .offerOwner) (t .known) ≡ freshTables f t .known
+  unfolding ownPrices freshTables store fresh withLists spread jobOf
   fresh-known =
-      over-recell
-      ∙ recell-cong k n (λ b o. cond (eqb (getD owner o 0) b) (getD price o 0) 0) (λ b o. cond (eqb (word n owner 0 o) b) (word n price 0 o) 0) (t .known)
-      (λ b o lb lo. sym (rw (word-in n owner 0 o lo, word-in n price 0 o lo)))
-    where
-      over-recell : recell k n (λ b o. cond (eqb (getD owner o 0) b) (getD price o 0) 0) (overwrite (k * n) (λ i. 0) (t .known)) ≡ recell k n (λ b o. cond (eqb (getD owner o 0) b) (getD price o 0) 0) (t .known)
-      over-recell = recell-over k n (λ b o. cond (eqb (getD owner o 0) b) (getD price o 0) 0) (λ i. 0) (t .known)
+      recell-cong (f .boxes) words _ _ (t .known) (λ b w lb lw.
+      sym (rw (
+        word-in (f .offers) (f .offerOwner) 0 (w / suc (f .lists)) (entry-in (f .lists) (f .offers) w lw),
+        cell-at (suc (f .lists)) (f .offers) (f .price) 0 (w % suc (f .lists)) (w / suc (f .lists)) (list-in (f .lists) w) (entry-in (f .lists) (f .offers) w lw),
+      )))
 
-  -- The job, and packed tables of zeros.
-  abbrev job : Job
-  job = jobOf (jobTables k m n tallies price owner gowner tgrocer tbox toffer tcount)
+  packed-none : (l : List ℤ) → totalsLength (eveningOf f) ≤ length l → overwrite (totalsLength (eveningOf f)) (λ i. pos 0) l ≡ packTotals (eveningOf f) (λ b g. pos 0) l
+  packed-none l long = sym (pack-places (eveningOf f) l long (λ b g. pos 0) (λ i. pos 0) (λ c g h. refl))
 
-  packed-none : (l : List ℤ) → totalsLength job ≤ length l → overwrite (totalsLength job) (λ i. pos 0) l ≡ packTotals job (λ b g. pos 0) l
-  packed-none l long = sym (pack-places job l long (λ b g. pos 0) (λ i. pos 0) (λ c g h. refl))
-
-  pub fresh-is : totalsLength job ≤ length (t .working) → totalsLength job ≤ length (t .totalTransit) →
-      stateTables (ownPrices k n price owner (overwrite (k * n) (λ i. 0) (t .known))) (overwrite (k * n) (λ i. 0) (t .priceTransit))
-      (overwrite (totalsLength job) (λ i. pos 0) (t .working)) (overwrite (totalsLength job) (λ i. pos 0) (t .totalTransit)) (overwrite m (λ i. pos 0) (t .statement))
-      (overwrite (6 * k * k) (λ i. 0) (t .done)) (overwrite 1 (λ i. 0) (t .sent))
-      ≡ freshTables (jobTables k m n tallies price owner gowner tgrocer tbox toffer tcount) t
-  unfolding freshTables store fresh jobOf recell marksOf
-  fresh-is lw lt = λ i. stateTables (fresh-known i) (overwrite (k * n) (λ i. 0) (t .priceTransit)) (packed-none (t .working) lw i) (packed-none (t .totalTransit) lt i) (overwrite m (λ i. pos 0) (t .statement))
-      (overwrite (6 * k * k) (λ i. 0) (t .done)) (overwrite 1 (λ i. 0) (t .sent))
+  -- All tables, where the packed ones are long enough.
+  pub fresh-is : totalsLength (eveningOf f) ≤ length (t .working) → totalsLength (eveningOf f) ≤ length (t .totalTransit) →
+      stateTables
+      (ownPrices (f .boxes) (f .offers) (f .lists) (f .price) (f .offerOwner) (t .known))
+      (overwrite (f .boxes * words) (λ i. 0) (t .priceTransit))
+      (overwrite (totalsLength (eveningOf f)) (λ i. pos 0) (t .working))
+      (overwrite (totalsLength (eveningOf f)) (λ i. pos 0) (t .totalTransit))
+      (overwrite (f .grocers * suc (f .lists)) (λ i. pos 0) (t .statement))
+      (overwrite (6 * f .boxes * f .boxes) (λ i. 0) (t .done))
+      (overwrite 1 (λ i. 0) (t .sent))
+      ≡ freshTables f t
+  unfolding freshTables store fresh withLists spread jobOf recell marksOf
+  fresh-is lw lt = λ i. stateTables
+      (fresh-known i)
+      (overwrite (f .boxes * words) (λ i. 0) (t .priceTransit))
+      (packed-none (t .working) lw i)
+      (packed-none (t .totalTransit) lt i)
+      (overwrite (f .grocers * suc (f .lists)) (λ i. pos 0) (t .statement))
+      (overwrite (6 * f .boxes * f .boxes) (λ i. 0) (t .done))
+      (overwrite 1 (λ i. 0) (t .sent))

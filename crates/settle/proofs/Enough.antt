@@ -7,6 +7,6 @@ use Rattle.printing.specs.Printed.{printed}
 use Rattle.settle.specs.Input.{BytesRead}
 use Rattle.printing.proofs.Long.{cut-printed}
 
-pub read-printed : (input buffer : List ℕ) (n : ℕ) → 37_888 < length buffer → BytesRead input buffer n → printed (take n buffer) ≡ printed input
+pub read-printed : (input buffer : List ℕ) (n : ℕ) → 52_224 < length buffer → BytesRead input buffer n → printed (take n buffer) ≡ printed input
 unfolding BytesRead
 read-printed input buffer n room e = ap printed e ∙ cut-printed input (length buffer) room

@@ -1,23 +1,28 @@
 -- The run without choices over the tables of a job: its order is the steps that the job has, and what they leave. Assumes nothing.
 use mathlib.Core.Path.{_≡_, refl, sym, ap, _∙_}
 use mathlib.Core.List.{List, []}
-use Prim.Native.Nat.{ℕ, _*_, _/_, _%_, _≤_, _<_}
+use Prim.Native.Nat.{ℕ, suc, _*_, _/_, _%_, _≤_, _<_}
 use native.Mathlib.Omega.{arith}
 use native.Mathlib.Nat.{mod-lt, mul-le-mul}
 use lib.IntN.{ℤ}
 use lib.ListN.{length, take}
 use borrow.Author.Tests.{lt-ltb}
 use Rattle.laws.specs.Below.{ascending}
+use Rattle.laws.specs.Lists.{listWords}
 use Rattle.laws.specs.Tables.{tabulate}
 use Rattle.laws.proofs.Ascending.{ascending-cong}
 use Rattle.model.specs.Job.{Job, needWord, sharerWord}
-use Rattle.model.specs.Steps.{Kind, sendPrices, multiplyOwn, receivePrices, sendTotals, addOwn, receiveTotals, State, stepAt, atPlace, fits, hasStep, fresh}
+use Rattle.model.specs.Steps.{Kind, sendPrices, multiplyOwn, receivePrices, sendTotals, addOwn, receiveTotals, State, Step, stepAt, atPlace, fits, hasStep, fresh}
 use Rattle.model.specs.Words.{over, messagesOf}
-use Rattle.model.specs.Tables.{JobTables, jobOf, StateTables, store}
+use Rattle.model.specs.PackedTotals.{spread, totalsLength}
+use Rattle.model.specs.Tables.{JobTables, jobOf, withLists, eveningOf, StateTables, store}
 use Rattle.model.specs.Run.{afterSteps, run, runState}
+use Rattle.model.proofs.PriceLists.{same-steps}
+use Rattle.model.proofs.ListTotals.{list-totals}
 use Rattle.model.proofs.Spans.{length-most}
-use Rattle.model.proofs.Step.{range, limits}
+use Rattle.model.proofs.Step.{job-in, range, limits}
 use Rattle.model.proofs.Whole.{JobWhole, job-whole}
+use Rattle.step_places.specs.Order.{stepsIn}
 use Rattle.step_places.proofs.Plain.{Plain, plain-order}
 use Rattle.job_masks.specs.Masks.{Placed, Owned, holderWord, byOwner}
 use Rattle.job_masks.proofs.Holders.{need-words, sharer-words}
@@ -30,6 +35,10 @@ use Rattle.settle.specs.Due.{dueBy, dueAt, DueIn, DueOut}
 module _ (f : JobTables) (g : DueIn f) where
   abbrev job : Job
   job = jobOf f
+
+  -- The same with all price lists.
+  abbrev evening : Job
+  evening = eveningOf f
 
   parts : JobWhole f
   parts = job-whole f (g .job-long)
@@ -47,6 +56,20 @@ module _ (f : JobTables) (g : DueIn f) where
   few-boxes : f .boxes ≤ 16
   unfolding jobOf
   few-boxes = range f (g .job-in .inside) .boxes≤
+
+  -- The most words of prices in all boxes, and of totals.
+  width-most : suc (f .lists) ≤ 8
+  width-most = omega (arith, job-in f (g .job-in .inside) .lists≤)
+
+  prices-most : f .boxes * listWords (f .lists) (f .offers) ≤ 64_000
+  prices-most = mul-le-mul {n₂ = 16} {m₂ = 4_000} few-boxes (mul-le-mul {n₂ = 500} {m₂ = 8} (job-in f (g .job-in .inside) .offers≤) width-most)
+
+  totals-most : totalsLength evening ≤ 10_040
+  unfolding jobOf
+  totals-most =
+      let l = limits f (g .job-in .inside) in
+      let entries : totalsLength (jobOf f) ≤ 1_255 = omega (arith, length-most (jobOf f) (range f (g .job-in .inside)), l .grocers≤, l .tallies≤) in
+      omega (arith, list-totals f .packedLength, mul-le-mul {n₂ = 1_255} {m₂ = 8} entries width-most)
 
   -- With the words of needs and sharers made of these tables.
   module _ (needs sharers : List ℕ) (en : needs ≡ tabulate 500 (holderWord (f .boxes) (f .tallies) (f .tallyBox) (f .tallyOffer)))
@@ -94,36 +117,39 @@ module _ (f : JobTables) (g : DueIn f) where
       plain = plain-order job (range f (g .job-in .inside)) order n (rw long few) (eo ∙ ascending-cong (6 * f .boxes * f .boxes) _ _ (λ i l. due-is i))
 
       -- All of them may be done.
-      pub all-in : (known transit : List ℕ) (working totals statement : List ℤ) → length known ≡ 8000 → length transit ≡ 8000 →
-          length working ≡ 1255 → length totals ≡ 1255 → length statement ≡ 255 → AllIn f (withoutMarks known transit working totals statement) needs sharers order n
-      unfolding jobOf
+      pub all-in : (known transit : List ℕ) (working totals statement : List ℤ) → length known ≡ 64_000 → length transit ≡ 64_000 →
+          length working ≡ 10_040 → length totals ≡ 10_040 → listWords (f .lists) (f .grocers) ≤ length statement →
+          AllIn f (withoutMarks known transit working totals statement) needs sharers order n
       all-in known transit working totals statement lk lt lw lm ls =
-          let offers : f .boxes * f .offers ≤ 8000 = mul-le-mul {n₂ = 16} {m₂ = 500} few-boxes (limits f (g .job-in .inside) .offers≤) in
-          let l = limits f (g .job-in .inside) in
-          let most = length-most (jobOf f) (range f (g .job-in .inside)) in
+          let prices = prices-most in
+          let most = totals-most in
           record {
             job-in = g .job-in;
             job-long = g .job-long;
-            known-long = omega (arith, offers, lk);
-            transit-long = omega (arith, offers, lt);
-            working-long = omega (arith, most, l .grocers≤, l .tallies≤, lw);
-            totals-long = omega (arith, most, l .grocers≤, l .tallies≤, lm);
-            statement-long = omega (arith, limits f (g .job-in .inside) .grocers≤, ls);
+            known-long = omega (arith, prices, lk);
+            transit-long = omega (arith, prices, lt);
+            working-long = omega (arith, most, lw);
+            totals-long = omega (arith, most, lm);
+            statement-long = ls;
             needs-are = needs-of;
             sharers-are = sharers-of;
             does = record { long = rw long few; few = few; places-in = plain .places-in; in-turn = plain .in-turn };
           }
 
-      -- Where they are done the run has ended.
-      end-is : afterOrder job n order ≡ runState job []
-      unfolding afterOrder runState
-      end-is = ap (afterSteps job (fresh job)) (plain .steps-are)
+      -- Where they are done the run has ended: it picks with all price lists the steps of the entries.
+      steps-run : stepsIn (f .boxes) n order ≡ run evening []
+      unfolding jobOf
+      steps-run = plain .steps-are ∙ sym (same-steps f .picks [])
 
-      pub due-out : (t t′ : StateTables) (words messages : ℕ) → AllOut job t t′ order n words messages → DueOut job (t .statement) (t′ .statement) words messages n
-      unfolding store jobOf
+      end-is : afterOrder evening n order ≡ runState evening []
+      unfolding afterOrder runState withLists spread jobOf
+      end-is = ap (afterSteps evening (fresh evening)) steps-run
+
+      pub due-out : (t t′ : StateTables) (words messages : ℕ) → AllOut evening t t′ order n words messages → DueOut evening (t .statement) (t′ .statement) words messages n
+      unfolding store withLists spread jobOf
       due-out t t′ words messages r = record {
-        statement-is = r .holds .statement ∙ ap (λ (s : State). store job s t .statement) end-is;
+        statement-is = r .holds .statement ∙ ap (λ (s : State). store evening s t .statement) end-is;
         words-are = r .words-are ∙ ap (λ (s : State). s .sent) end-is;
-        messages-are = r .messages-are ∙ ap (over messagesOf) (plain .steps-are);
-        steps-are = plain .count-is;
+        messages-are = r .messages-are ∙ ap (over messagesOf) steps-run;
+        steps-are = plain .count-is ∙ ap (λ (xs : List Step). length xs) (sym (same-steps f .picks []));
       }

@@ -2,21 +2,21 @@
 use mathlib.Core.Path.{_≡_, sym, ap, _∙_, subst}
 use mathlib.Core.Bool.{Bool, false, cond}
 use mathlib.Core.List.{List, []}
-use Prim.Native.Nat.{ℕ, _≤_, _<_}
+use Prim.Native.Nat.{ℕ, suc, _<_}
 use native.Mathlib.Omega.{arith}
 use lib.IntN.{ℤ, pos}
-use lib.ListN.{getD, length, replicate}
-use Rattle.laws.specs.Tables.{overwrite}
+use lib.ListN.{getD, replicate}
+use Rattle.laws.specs.Tables.{overwrite, recell}
 use Rattle.recount.specs.Recount.{stands, countedTwice}
-use Rattle.model.specs.Tables.{JobTables, jobTables, bagTables, jobOf, countedOf, store, lentShort}
+use Rattle.model.specs.Tables.{JobTables, jobTables, bagTables, eveningOf, countedOf, store, lentShort}
 use Rattle.model.specs.Ranges.{Settles}
 use Rattle.model.specs.Handed.{handedTables, Standing}
 use Rattle.model.specs.Run.{RunOutcome}
-use Rattle.format.specs.Job.{Head, placeOf, countedTallies}
+use Rattle.format.specs.Job.{Head, priceOn, placeOf, countedTallies}
 use Rattle.format.specs.File.{decode}
 use Rattle.format.specs.Refusals.{fileRefusal}
-use Rattle.format.specs.Tables.{ReadOutcome, storeRead, store as storeFile, storeOffers, storeTallies, shortOffers, shortTallies, shortTables, shortReader, readRefusal, readResult}
-use Rattle.printing.specs.Printed.{jobRead, blankJob, blankState, settledText, refusedText, runText, jobText, readText, printed}
+use Rattle.format.specs.Tables.{storeRead, store as storeFile, storeOffers, storeTallies, readRefusal}
+use Rattle.printing.specs.Printed.{jobRead, blankJob, blankState, amountIn, settledText, runText, jobText, printed}
 use Rattle.settle.specs.Due.{DueIn, DueOut}
 use Rattle.index.specs.Bags.{Struck}
 use Rattle.model.proofs.Step.{job-in, in-handed}
@@ -40,15 +40,15 @@ module _ (f : JobTables) (s : Settles f) (standing : List ℕ) (st : Standing f 
   unfolding lentShort
   lent-ok =
       let w = job-in f (in-handed f (s .inRange)) in
-      rw (s .whole, s .bags, blank-state f (w .boxes≤) (w .grocers≤) (w .offers≤))
+      rw (s .whole, s .bags, blank-state f (w .boxes≤) (w .grocers≤) (w .offers≤) (w .lists≤))
 
   -- What its run without choices comes to is printed of it.
-  pub due-text : (cycle : ℕ) (statement : List ℤ) (words messages steps : ℕ) → DueOut (jobOf handed) (replicate 255 (pos 0)) statement words messages steps →
-      settledText cycle (f .grocers) (λ g. getD statement g (pos 0)) words messages steps ≡ jobText cycle f
+  pub due-text : (cycle : ℕ) (statement : List ℤ) (words messages steps : ℕ) → DueOut (eveningOf handed) (replicate 2_040 (pos 0)) statement words messages steps →
+      settledText cycle (f .lists) (f .grocers) (amountIn (f .lists) statement) words messages steps ≡ jobText cycle f
   unfolding jobText runText blankState store
   due-text cycle statement words messages steps r =
-      (λ i. settledText cycle (f .grocers) (λ g. getD (r .statement-is i) g (pos 0)) (r .words-are i) (r .messages-are i) (r .steps-are i))
-      ∙ sym (ap (λ (o : RunOutcome). runText cycle (f .grocers) (o .answer) (o .tables .statement)) (handed-run f standing st blankState [] [] lent-ok (s .inRange) (s .once) (blank-totals f (s .inRange))))
+      (λ i. settledText cycle (f .lists) (f .grocers) (amountIn (f .lists) (r .statement-is i)) (r .words-are i) (r .messages-are i) (r .steps-are i))
+      ∙ sym (ap (λ (o : RunOutcome). runText cycle (f .lists) (f .grocers) (o .answer) (o .tables .statement)) (handed-run f standing st blankState [] [] lent-ok (s .inRange) (s .once) (blank-totals f (s .inRange))))
 
 -- ---- An accepted file
 
@@ -63,14 +63,14 @@ module _ (file : List ℕ) (ok : fileRefusal file ≡ 0) where
   -- The job's tables, for the numbers that the header says; boxes, bags and revisions are the file's.
   abbrev jobIn : Head → (price offerOwner grocerOwner tallyGrocer tallyOffer : List ℕ) → List ℤ → JobTables
   jobIn h price offerOwner grocerOwner tallyGrocer tallyOffer tallyCount =
-      bagTables (h .boxes) (h .grocers) (h .offers) (h .tallies) price offerOwner grocerOwner tallyGrocer
+      bagTables (h .boxes) (h .grocers) (h .offers) (h .tallies) (h .lists) price offerOwner grocerOwner tallyGrocer
       (overwrite (h .tallies) (λ i. decode file .tally i .box) (replicate 1_000 0)) tallyOffer tallyCount
       (overwrite (h .tallies) (λ i. decode file .tally i .bag) (replicate 1_000 0)) (overwrite (h .tallies) (λ i. decode file .tally i .revision) (replicate 1_000 0))
 
   -- All tables are filled from the file.
   abbrev fields : Head → JobTables
   fields h =
-      jobIn h (overwrite (h .offers) (λ i. decode file .offer i .price) (replicate 500 0)) (overwrite (h .offers) (λ i. decode file .offer i .owner) (replicate 500 0))
+      jobIn h (recell (suc (h .lists)) (h .offers) (priceOn (decode file .offer) (decode file .listPrice)) (replicate 4_000 0)) (overwrite (h .offers) (λ i. decode file .offer i .owner) (replicate 500 0))
       (overwrite (h .grocers) (decode file .grocerOwner) (replicate 255 0)) (overwrite (h .tallies) (λ i. decode file .tally i .grocer) (replicate 1_000 0))
       (overwrite (h .tallies) (placeOf (decode file)) (replicate 1_000 0)) (overwrite (h .tallies) (λ i. decode file .tally i .count) (replicate 1_000 (pos 0)))
 
@@ -80,7 +80,7 @@ module _ (file : List ℕ) (ok : fileRefusal file ≡ 0) where
 
   -- Tables that are so filled are those that the reader leaves in blank ones.
   module _ (h : Head) (says : h ≡ decode file .head) (price offerOwner grocerOwner tallyGrocer tallyOffer : List ℕ) (tallyCount : List ℤ)
-      (prices : price ≡ overwrite (h .offers) (λ i. decode file .offer i .price) (replicate 500 0))
+      (prices : price ≡ recell (suc (h .lists)) (h .offers) (priceOn (decode file .offer) (decode file .listPrice)) (replicate 4_000 0))
       (offerOwners : offerOwner ≡ overwrite (h .offers) (λ i. decode file .offer i .owner) (replicate 500 0))
       (grocerOwners : grocerOwner ≡ overwrite (h .grocers) (decode file .grocerOwner) (replicate 255 0))
       (tallyGrocers : tallyGrocer ≡ overwrite (h .tallies) (λ i. decode file .tally i .grocer) (replicate 1_000 0))
@@ -111,14 +111,14 @@ module _ (file : List ℕ) (ok : fileRefusal file ≡ 0) where
 
       -- So the job may be run, and what the run comes to is printed of the file.
       abbrev ran : JobTables
-      ran = jobTables (h .boxes) (h .grocers) (h .offers) (h .tallies) price offerOwner grocerOwner tallyGrocer boxes tallyOffer tallyCount
+      ran = jobTables (h .boxes) (h .grocers) (h .offers) (h .tallies) (h .lists) price offerOwner grocerOwner tallyGrocer boxes tallyOffer tallyCount
 
       pub may-run : DueIn ran
       may-run = due-in job job-settles boxes standing
 
       pub run-text : (statement : List ℤ) (words messages steps : ℕ) →
-          DueOut (jobOf ran) (replicate 255 (pos 0)) statement words messages steps →
-          settledText (h .cycle) (h .grocers) (λ g. getD statement g (pos 0)) words messages steps ≡ printed file
+          DueOut (eveningOf ran) (replicate 2_040 (pos 0)) statement words messages steps →
+          settledText (h .cycle) (h .lists) (h .grocers) (amountIn (h .lists) statement) words messages steps ≡ printed file
       run-text statement words messages steps r =
           due-text job job-settles boxes standing (h .cycle) statement words messages steps r
           ∙ (λ i. jobText (says i .cycle) (job-is i)) ∙ sym (printed-job file ok)

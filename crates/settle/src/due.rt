@@ -3,15 +3,32 @@ ghost use mathlib.Core.Path.{_≡_};
 ghost use Prim.Native.Nat.{_*_, _≤_, _<_};
 ghost use lib.ListN.{take, length};
 ghost use Rattle.laws.specs.Below.{ascending};
+ghost use Rattle.laws.specs.Lists.{listWords};
 ghost use Rattle.model.specs.Steps.{kindOf};
-ghost use Rattle.model.specs.Tables.{jobTables, jobOf};
+ghost use Rattle.model.specs.Tables.{jobTables, eveningOf};
 ghost use Rattle.job_masks.specs.Masks.{Owned, byOwner};
 ghost use Rattle.settle.specs.Due.{dueBy, dueAt, DueIn, DueOut};
 use book_places::TOTALS;
+use slices::limits::BOXES;
+use slices::limits::GROCERS;
+use slices::limits::MAX_LISTS;
+use slices::limits::OFFERS;
 use slices::sizes::Sizes;
 use step_places::PLACES;
 use step_places::Step;
 use step_places::words::reaches;
+
+// The most price lists: the first and the additional ones.
+pub const WIDTH: usize = MAX_LISTS as usize + 1;
+
+// The most words of prices in all boxes,
+const BOX_PRICES: usize = BOXES * OFFERS * WIDTH;
+
+// of totals in all boxes,
+const BOX_TOTALS: usize = TOTALS * WIDTH;
+
+// and of statements.
+pub const STATEMENTS: usize = GROCERS * WIDTH;
 
 // What a run reports: words sent, messages and steps.
 pub struct Report {
@@ -92,11 +109,11 @@ pub fn due_run(
     tally_box: &[u16],
     tally_offer: &[u16],
     tally_count: &[i32],
-    statement: &mut [i64; 255],
+    statement: &mut [i64],
 ) -> Report
-    requires { ⌜ DueIn (jobTables (z .boxes) (z .grocers) (z .offers) (z .tallies) (now price) (now «offer_owner») (now «grocer_owner»)
-        (now «tally_grocer») (now «tally_box») (now «tally_offer») (now «tally_count»)) × (length (now statement) ≡ 255) ⌝ }
-    ensures { λ r. ⌜ DueOut (jobOf (jobTables (z .boxes) (z .grocers) (z .offers) (z .tallies) (now (price .entry)) (now («offer_owner» .entry))
+    requires { ⌜ DueIn (jobTables (z .boxes) (z .grocers) (z .offers) (z .tallies) (z .lists) (now price) (now «offer_owner») (now «grocer_owner»)
+        (now «tally_grocer») (now «tally_box») (now «tally_offer») (now «tally_count»)) × (listWords (z .lists) (z .grocers) ≤ length (now statement)) ⌝ }
+    ensures { λ r. ⌜ DueOut (eveningOf (jobTables (z .boxes) (z .grocers) (z .offers) (z .tallies) (z .lists) (now (price .entry)) (now («offer_owner» .entry))
         (now («grocer_owner» .entry)) (now («tally_grocer» .entry)) (now («tally_box» .entry)) (now («tally_offer» .entry))
         (now («tally_count» .entry)))) (now (statement .entry)) (now (statement .exit)) (r .words) (r .messages) (r .steps) ⌝ }
 {
@@ -104,10 +121,10 @@ pub fn due_run(
     let sharers = job_masks::masks::sharers(z.boxes, z.tallies, tally_box, tally_grocer);
     let mut order = [0u16; PLACES];
     let n = due_order(z, offer_owner, grocer_owner, &needs, &sharers, &mut order);
-    let mut known = [0u32; 8000];
-    let mut price_transit = [0u32; 8000];
-    let mut working = [0i64; TOTALS];
-    let mut total_transit = [0i64; TOTALS];
+    let mut known = [0u32; BOX_PRICES];
+    let mut price_transit = [0u32; BOX_PRICES];
+    let mut working = [0i64; BOX_TOTALS];
+    let mut total_transit = [0i64; BOX_TOTALS];
     let all = run_steps::all_steps(
         z,
         price,

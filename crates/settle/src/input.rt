@@ -7,9 +7,10 @@ ghost use Rattle.io.specs.Counts.{Counts};
 ghost use Rattle.printing.specs.Printed.{printed};
 ghost use Rattle.settle.specs.Input.{BytesRead};
 use crate::statements::settled;
+use settle_text::lines::TEXT;
 
-// One byte more than the longest file has, 74 blocks of 512: of a longer input this much is read, and it is refused.
-pub const INPUT: usize = 37889;
+// One byte more than the longest file has, 102 blocks of 512: of a longer input this much is read, and it is refused.
+pub const INPUT: usize = 52_225;
 
 // How many bytes were read, and whether each read went well.
 pub struct Reading {
@@ -53,7 +54,7 @@ pub fn read_input(fd: i32, buffer: &mut [u8]) -> Reading
 }
 
 // Puts what settle prints for an input, of which n bytes of the buffer were read, at the start of `out`, and answers how many bytes that is.
-pub fn settled_input(buffer: &[u8; INPUT], n: usize, out: &mut [u8; 8192]) -> usize
+pub fn settled_input(buffer: &[u8; INPUT], n: usize, out: &mut [u8; TEXT]) -> usize
     requires { ⌜ Counts n (now buffer) ⌝ }
     ensures { λ r. ⌜ Counts r (now (out .exit)) ⌝ }
     ensures { λ r. ⌜ ((input : List ℕ) → BytesRead input (now (buffer .entry)) n → take r (now (out .exit)) ≡ printed input) ⌝ }

@@ -2,6 +2,7 @@
 use crate::input::INPUT;
 use crate::input::read_input;
 use crate::input::settled_input;
+use settle_text::lines::TEXT;
 
 mod due;
 mod input;
@@ -28,7 +29,7 @@ fn settle(fd: i32, name: &[u8]) {
         tell(name);
         return;
     }
-    let mut out = [0u8; 8192];
+    let mut out = [0u8; TEXT];
     let k = settled_input(&buffer, read.count, &mut out);
     print(&out[..k]);
 }

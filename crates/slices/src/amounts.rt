@@ -10,7 +10,7 @@ use crate::casts::index_of;
 
 // Where row a of a table begins, whose rows have m words.
 pub fn row_start(m: usize, a: u16) -> usize
-    requires { ⌜ (m ≤ 500) × (a < 16) ⌝ }
+    requires { ⌜ (m ≤ 4_000) × (a < 16) ⌝ }
     ensures { λ r. ⌜ r ≡ a * m ⌝ }
 {
     index_of(a) * m

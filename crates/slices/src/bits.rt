@@ -28,13 +28,6 @@ pub fn clear_bit(word: u16, b: u16) -> u16
     word & !(1 << b)
 }
 
-// The words of a table of a rows and b columns.
-pub fn words(a: u16, b: u16) -> usize
-    ensures { λ r. ⌜ r ≡ a * b ⌝ }
-{
-    (a as usize) * (b as usize)
-}
-
 // The done marks of k boxes.
 pub fn marks(k: u16) -> usize
     ensures { λ r. ⌜ r ≡ 6 * k * k ⌝ }

@@ -8,6 +8,7 @@ pub mod amounts;
 pub mod bits;
 pub mod casts;
 pub mod limits;
+pub mod lists;
 pub mod sizes;
 
 use crate::casts::byte_size;

@@ -12,6 +12,9 @@ pub const MAX_OFFERS: u16 = 500;
 // Tallies, T: 0 to 1,000.
 pub const MAX_TALLIES: u16 = 1_000;
 
+// Additional price lists: 0 to 7.
+pub const MAX_LISTS: u16 = 7;
+
 // Prices, in tenths of a cent: 0 to 9,999,999.
 pub const MAX_PRICE: u32 = 9_999_999;
 

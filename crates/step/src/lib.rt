@@ -1,5 +1,8 @@
 // The step: one request on the lent tables.
 ghost use mathlib.Core.Path.{_≡_};
+ghost use mathlib.Core.Bool.{Bool};
+ghost use Prim.Native.Nat.{ℕ, suc};
+ghost use Rattle.laws.specs.Listed.{Listed};
 ghost use Rattle.model.specs.Lent.{bagLent, stateBefore, stateAfter};
 ghost use Rattle.model.specs.Step.{asked, outcome, stepped};
 ghost use Rattle.step_totals.specs.Row.{tallies};
@@ -9,9 +12,9 @@ ghost use Rattle.step.specs.Lent.{PricesLent};
 use book_places::TOTALS;
 use slices::limits::OFFERS;
 use slices::limits::TALLIES;
+use slices::lists::width_of;
 use slices::sizes::Sizes;
 use step_apply::total_step;
-use step_links::OFFER_LINKS;
 use step_links::TALLY_LINKS;
 use step_places::Step;
 use step_sent::raise;
@@ -22,31 +25,33 @@ pub enum Answer {
     Refused(u16),
 }
 
-// A step of kind 1, 2 or 3: offers are linked by owner, and tallies by the box that counts them, 16 for superseded ones, and the owner of their
-// offer; and the step is applied. The words sent.
+// A step of kind 1, 2 or 3, on the offers listed: tallies are linked by the box that counts them, 16 for superseded ones, and the owner of their offer,
+// and the step is applied. The words sent.
 fn move_prices(
     z: Sizes,
+    from: usize,
+    to: usize,
+    offers: &[u16],
     offer_owner: &[u16],
     tally_place: &[u16; TALLIES],
     standing: &[u16; TALLIES],
     tally_offer: &[u16],
     tally_count: &[i32],
-    needs: &[u16; OFFERS],
     known: &mut [u32],
     price_transit: &mut [u32],
     working: &mut [i64],
     x: Step,
 ) -> u32
     requires { ⌜ PricesLent (tallies (z .boxes) (z .offers) (z .tallies) (now «offer_owner») (now «tally_place») (now standing)
-        (now «tally_offer») (now «tally_count»)) (now known) (now «price_transit») (now working) (x .kind) (x .first) (x .second) ⌝ }
-    ensures { λ r. ⌜ PriceStepOut (tallies (z .boxes) (z .offers) (z .tallies) (now («offer_owner» .entry)) (now («tally_place» .entry))
-        (now (standing .entry)) (now («tally_offer» .entry)) (now («tally_count» .entry))) (now (needs .entry)) (now (known .entry))
+        (now «tally_offer») (now «tally_count»)) (suc (z .lists)) from to (now offers) (now known) (now «price_transit») (now working)
+        (x .kind) (x .first) (x .second) ⌝ }
+    ensures { λ r. ⌜ ((passes : ℕ → Bool) → ((x .kind ≡ 2 → ⊥) → Listed (z .offers) passes from to (now (offers .entry))) →
+        PriceStepOut (tallies (z .boxes) (z .offers) (z .tallies) (now («offer_owner» .entry)) (now («tally_place» .entry))
+        (now (standing .entry)) (now («tally_offer» .entry)) (now («tally_count» .entry))) (suc (z .lists)) from to passes (now (known .entry))
         (now («price_transit» .entry)) (now (working .entry)) (x .kind) (x .first) (x .second)
-        (now (known .exit)) (now («price_transit» .exit)) (now (working .exit)) r ⌝ }
+        (now (known .exit)) (now («price_transit» .exit)) (now (working .exit)) r) ⌝ }
 {
-    let mut offer_links = [0u16; OFFER_LINKS];
     let mut tally_links = [0u16; TALLY_LINKS];
-    step_links::link(z.offers as usize, offer_owner, &mut offer_links);
     step_links::link_pairs(
         z.tallies as usize,
         standing,
@@ -56,12 +61,12 @@ fn move_prices(
     );
     step_apply::price_step(
         z,
-        offer_owner,
+        from,
+        to,
+        offers,
         tally_place,
         tally_offer,
         tally_count,
-        needs,
-        &offer_links,
         &tally_links,
         known,
         price_transit,
@@ -70,13 +75,14 @@ fn move_prices(
     )
 }
 
-// One step request. K, M, N and T and the three numbers of the request may be anything, and so may every lent word.
+// One step request. K, M, N, T, the number of lists and the three numbers of the request may be anything, and so may every lent word.
 // The tables of the state are left as the step's line says, or, where it is refused, as they were.
 pub fn step(
     boxes: u16,
     grocers: u16,
     offers: u16,
     tallies: u16,
+    lists: u16,
     price: &[u32],
     offer_owner: &[u16],
     grocer_owner: &[u16],
@@ -98,7 +104,7 @@ pub fn step(
     second: u16,
 ) -> Answer
     ensures { λ r. ⌜ outcome (answerOf r) (stateAfter known «price_transit» working «total_transit» statement done sent) ≡ stepped
-        (bagLent boxes grocers offers tallies price «offer_owner» «grocer_owner» «tally_grocer» «tally_box» «tally_offer» «tally_count»
+        (bagLent boxes grocers offers tallies lists price «offer_owner» «grocer_owner» «tally_grocer» «tally_box» «tally_offer» «tally_count»
         «tally_bag» «tally_revision»)
         (stateBefore known «price_transit» working «total_transit» statement done sent) (asked kind first second) ⌝ }
 {
@@ -107,6 +113,7 @@ pub fn step(
         grocers,
         offers,
         tallies,
+        lists,
     };
     let x = Step {
         kind,
@@ -115,9 +122,9 @@ pub fn step(
     };
     let mut standing = [0u16; TALLIES];
     if kind <= 3 {
-        let mut needs = [0u16; OFFERS];
+        let mut listed = [0u16; OFFERS];
         let mut places = [0u16; TALLIES];
-        let met = step_refusal::price_refusal(
+        let judged = step_refusal::price_refusal(
             z,
             price,
             offer_owner,
@@ -135,23 +142,25 @@ pub fn step(
             statement,
             done,
             sent,
-            &mut needs,
+            &mut listed,
             &mut places,
             &mut standing,
             x,
         );
-        if met != 0 {
-            return Answer::Refused(met);
+        if judged.met != 0 {
+            return Answer::Refused(judged.met);
         }
         step_rules::marks::mark(boxes, kind, first, second, done);
         let more = move_prices(
             z,
+            judged.from,
+            judged.to,
+            &listed,
             offer_owner,
             &places,
             &standing,
             tally_offer,
             tally_count,
-            &needs,
             known,
             price_transit,
             working,
@@ -191,6 +200,7 @@ pub fn step(
         kind,
         judged.from,
         judged.to,
+        width_of(lists),
         &grocers,
         working,
         total_transit,

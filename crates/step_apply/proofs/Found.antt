@@ -1,6 +1,6 @@
 -- The places and the span that `book_places` finds are those that a step asks for. Assumes nothing.
 use mathlib.Core.Path.{_≡_, refl, sym, ap, ap₂, _∙_, subst}
-use mathlib.Core.Bool.{Bool, true, false, cond}
+use mathlib.Core.Bool.{Bool, true, false, cond, _||_}
 use mathlib.Core.List.{List, []}
 use Prim.Native.Nat.{ℕ, zero, suc, _+_, _-_, _*_, _<_, _≤_}
 use native.Mathlib.Omega.{arith}
@@ -32,8 +32,9 @@ use Rattle.book_places.proofs.Modelled.{held-word}
 pub spans-in : (f : JobTables) (kind a b : ℕ) → a < f .boxes → b < f .boxes → (spanBox kind a b < f .boxes) × (spanGroup kind a b ≤ f .boxes)
 unfolding spanBox spanGroup
 spans-in f kind a b la lb = (
-  cond-either (λ (x : ℕ). x < f .boxes) (eqb kind 6) b a lb la,
-  cond-either (λ (x : ℕ). x ≤ f .boxes) (eqb kind 4) (suc b) (cond (eqb kind 5) 0 (suc a)) lb (cond-either (λ (x : ℕ). x ≤ f .boxes) (eqb kind 5) 0 (suc a) (omega arith) la),
+  cond-either (λ (x : ℕ). x < f .boxes) (eqb kind 1 || eqb kind 6) b a lb la,
+  cond-either (λ (x : ℕ). x ≤ f .boxes) (eqb kind 1 || eqb kind 6) (suc a) (cond (eqb kind 2 || eqb kind 5) 0 (suc b)) la
+      (cond-either (λ (x : ℕ). x ≤ f .boxes) (eqb kind 2 || eqb kind 5) 0 (suc b) (omega arith) lb),
 )
 
 module _ (f : JobTables) (bare : f .tallyBag ≡ []) (r : InRange (jobOf f)) (few : f .grocers ≤ 255) (words : List ℕ) (ew : words ≡ tabulate 255 (sharerWord (jobOf f))) where

@@ -6,32 +6,15 @@ use Prim.Native.Nat.{ℕ, _+_, _<_, _≤_}
 use native.Mathlib.Nat.{le-trans}
 use native.Mathlib.Omega.{arith}
 use lib.ListN.{getD, length}
-use Rattle.step_links.specs.Links.{Keyed, PairsKeyed}
+use Rattle.step_links.specs.Links.{PairsKeyed}
 use Rattle.model.specs.Tables.{JobTables, nobody, jobLengths, jobShort}
 use Rattle.model.specs.Handed.{Handed}
 use Rattle.model.proofs.Lent.{job-long}
 use Rattle.model.proofs.Step.{JobIn, job-in, under-at, up-at}
 
--- A table of boxes below 17 is one of keys.
-boxes-keyed : (n room : ℕ) (keys links : List ℕ) → n ≤ room → room ≤ 1_000 → length links ≡ 17 + room → n ≤ length keys →
-    ((i : ℕ) → i < n → getD keys i 0 ≤ 16) → Keyed n keys links
-boxes-keyed n room keys links fit small e long h = record {
-  few = omega arith;
-  keys-long = long;
-  links-long = omega arith;
-  key-in = λ i l. omega (arith, h i l);
-}
-
 module _ (f : JobTables) (ok : Handed f) (whole : jobShort f (jobLengths f) ≡ false) (links : List ℕ) where
   words : JobIn f
   words = job-in f (ok .inside)
-
-  -- Offers by owner.
-  pub offers-keyed : length links ≡ 517 → Keyed (f .offers) (f .offerOwner) links
-  unfolding jobLengths
-  offers-keyed e =
-      boxes-keyed (f .offers) 500 (f .offerOwner) links (words .offers≤) (omega arith) e (job-long f (jobLengths f) whole .offerOwner)
-      (λ i l. omega (arith, words .boxes≤, under-at (f .boxes) (f .offers) (f .offerOwner) i (words .offerOwner) l))
 
   -- Tallies by box, which is 16 for superseded ones, and the owner of their offer.
   pub tallies-keyed : length links ≡ 1_272 → PairsKeyed (f .tallies) (f .tallyBox) (f .tallyOffer) (f .offerOwner) links

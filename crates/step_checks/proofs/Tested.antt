@@ -10,6 +10,7 @@ use lib.ListN.{getD}
 use borrow.Author.Tests.{ltb-true, ltb-false, le-leb, lt-leb}
 use Rattle.laws.specs.Limits.{maxPrice, maxAmount, maxSent}
 use Rattle.laws.specs.Checks.{allOf}
+use Rattle.laws.specs.Lists.{listWords}
 use Rattle.laws.proofs.Bools.{split}
 use Rattle.laws.proofs.Below.{all-cong}
 use Rattle.model.specs.Tables.{StateTables}
@@ -24,11 +25,10 @@ under-two n l =
     (λ e. e ∙ sym (le-leb (getD l i 0) 1 (omega (arith, ltb-true (getD l i 0) 2 e))))
     (λ e. e ∙ sym (lt-leb (getD l i 0) 1 (ltb-false (getD l i 0) 2 e))))
 
--- The tests of the state's tables, at lengths that are the products of K, M and N.
-
-pub words-tested : (k m n : ℕ) (t : StateTables) (kn kk : ℕ) → kn ≡ k * n → kk ≡ 6 * k * k → (a b e g h : Bool) →
-    a ≡ upTo maxPrice kn (t .known) → b ≡ upTo maxPrice kn (t .priceTransit) → e ≡ around maxAmount m (t .statement) → g ≡ under 2 kk (t .done) → h ≡ upTo maxSent 1 (t .sent) →
-    allOf (a ∷ b ∷ e ∷ g ∷ h ∷ []) ≡ stateInRange (sizes k m n) t
+-- The tests of the state's tables, at lengths that are the products of K, M, N and the number of lists.
+pub words-tested : (k m n l : ℕ) (t : StateTables) (kn ml kk : ℕ) → kn ≡ k * listWords l n → ml ≡ listWords l m → kk ≡ 6 * k * k → (a b e g h : Bool) →
+    a ≡ upTo maxPrice kn (t .known) → b ≡ upTo maxPrice kn (t .priceTransit) → e ≡ around maxAmount ml (t .statement) → g ≡ under 2 kk (t .done) → h ≡ upTo maxSent 1 (t .sent) →
+    allOf (a ∷ b ∷ e ∷ g ∷ h ∷ []) ≡ stateInRange (sizes k m n l) t
 unfolding stateInRange
-words-tested k m n t kn kk kn-is kk-is a b e g h a-is b-is e-is g-is h-is =
-    rw (a-is, b-is, e-is, g-is, h-is, kn-is, kk-is, under-two (6 * k * k) (t .done))
+words-tested k m n l t kn ml kk kn-is ml-is kk-is a b e g h a-is b-is e-is g-is h-is =
+    rw (a-is, b-is, e-is, g-is, h-is, kn-is, ml-is, kk-is, under-two (6 * k * k) (t .done))

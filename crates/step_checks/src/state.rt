@@ -9,57 +9,57 @@ ghost use Rattle.job_checks.specs.Sizes.{sizes};
 use job_ranges::under16;
 use job_ranges::upto32;
 use slices::bits::marks;
-use slices::bits::words;
 use slices::limits::MAX_PRICE;
 use slices::limits::MAX_SENT;
+use slices::lists::box_words;
+use slices::lists::list_words;
+use slices::sizes::Sizes;
 use step_packed::in_range::around64;
 
-// 20: whether a table of the state but the packed totals is shorter than K, M and N as given need.
+// 20: whether a table of the state but the packed totals is shorter than K, M, N and the number of lists as given need.
 pub fn state_short(
-    boxes: u16,
-    grocers: u16,
-    offers: u16,
+    z: Sizes,
     known: &[u32],
     price_transit: &[u32],
     statement: &[i64],
     done: &[u16],
     sent: &[u32],
 ) -> bool
-    ensures { λ r. ⌜ ((working totals : List ℤ) → r ≡ stateShort (sizes boxes grocers offers)
+    ensures { λ r. ⌜ ((working totals : List ℤ) → r ≡ stateShort (sizes (z .boxes) (z .grocers) (z .offers) (z .lists))
         (stateLengths (stateTables (now (known .entry)) (now («price_transit» .entry)) working totals (now (statement .entry))
         (now (done .entry)) (now (sent .entry))))) ⌝ }
 {
-    let kn = words(boxes, offers);
-    let kk = marks(boxes);
+    let kn = box_words(z.boxes, z.lists, z.offers);
+    let m = list_words(z.lists, z.grocers);
+    let kk = marks(z.boxes);
     (known.len() < kn)
         | (price_transit.len() < kn)
-        | (statement.len() < grocers as usize)
+        | (statement.len() < m)
         | (done.len() < kk)
         | (sent.len() < 1)
 }
 
 // 21: whether every word of the state's tables but the packed totals is in range.
 pub fn state_in_range(
-    boxes: u16,
-    grocers: u16,
-    offers: u16,
+    z: Sizes,
     known: &[u32],
     price_transit: &[u32],
     statement: &[i64],
     done: &[u16],
     sent: &[u32],
 ) -> bool
-    requires { ⌜ stateShort (sizes boxes grocers offers)
+    requires { ⌜ stateShort (sizes (z .boxes) (z .grocers) (z .offers) (z .lists))
         (stateLengths (stateTables (now known) (now «price_transit») [] [] (now statement) (now done) (now sent))) ≡ false ⌝ }
-    ensures { λ r. ⌜ ((working totals : List ℤ) → r ≡ stateInRange (sizes boxes grocers offers)
+    ensures { λ r. ⌜ ((working totals : List ℤ) → r ≡ stateInRange (sizes (z .boxes) (z .grocers) (z .offers) (z .lists))
         (stateTables (now (known .entry)) (now («price_transit» .entry)) working totals (now (statement .entry)) (now (done .entry))
         (now (sent .entry)))) ⌝ }
 {
-    let kn = words(boxes, offers);
-    let kk = marks(boxes);
+    let kn = box_words(z.boxes, z.lists, z.offers);
+    let m = list_words(z.lists, z.grocers);
+    let kk = marks(z.boxes);
     upto32(known, kn, MAX_PRICE)
         & upto32(price_transit, kn, MAX_PRICE)
-        & around64(statement, grocers as usize)
+        & around64(statement, m)
         & under16(done, kk, 2)
         & upto32(sent, 1, MAX_SENT)
 }

@@ -1,17 +1,12 @@
 -- Laws of walks over entries linked by key. Assumes nothing.
 use mathlib.Core.Path.{_≡_, refl, sym, ap, _∙_, subst}
-use mathlib.Core.Bool.{Bool, true, false}
 use mathlib.Core.List.{List}
 use Prim.Native.Nat.{ℕ, zero, suc, _+_, _-_, _≤_, _<_}
 use native.Mathlib.Decide.{ℕ-discrete, decLt}
 use native.Mathlib.Omega.{arith}
 use lib.ListN.{length, getD, set, length-set}
 use lib.Seq.{getD-set-same, getD-set-other}
-use Rattle.laws.specs.Below.{naturals, only, count}
-use Rattle.laws.proofs.Bools.{no-true, and-false}
-use Rattle.laws.proofs.Below.{count-suc, counts-none}
-use Rattle.laws.proofs.Loops.{window, window-in, window-below, window-above, guarded}
-use Rattle.step_links.specs.Links.{SkipsBy, LinkedBy, Skips, Linked}
+use Rattle.step_links.specs.Links.{SkipsBy, LinkedBy}
 
 module _ (n : ℕ) (key : ℕ → ℕ) (v : ℕ) where
   -- From the end on there is none.
@@ -89,32 +84,3 @@ module _ (heads n : ℕ) (key : ℕ → ℕ) (links : List ℕ) where
 -- A step of a walk over key v: from a place of the key to the next of it.
 pub goes-by : (heads n : ℕ) (key : ℕ → ℕ) (links : List ℕ) (v i : ℕ) → LinkedBy heads n key links → i < n → key i ≡ v → SkipsBy n key v (i + 1) (getD links (heads + i) 0)
 goes-by heads n key links v i h l e = subst (λ (y : ℕ). SkipsBy n key y (i + 1) (getD links (heads + i) 0)) e (h .goes i l)
-
-pub goes-on : (n : ℕ) (keys links : List ℕ) (v i : ℕ) → Linked n keys links → i < n → getD keys i 0 ≡ v → Skips n keys v (i + 1) (getD links (17 + i) 0)
-goes-on n keys links v i = goes-by 17 n (λ x. getD keys x 0) links v i
-
--- Where a test holds of entries of key v alone, it fails at each entry passed over; so these are not counted, and nothing is stored for them.
-module _ (n : ℕ) (keys : List ℕ) (v i j : ℕ) (s : Skips n keys v i j) (test : ℕ → Bool) (keyed : (x : ℕ) → test x ≡ true → getD keys x 0 ≡ v) where
-  test-passed : (x : ℕ) → i ≤ x → x < j → test x ≡ false
-  test-passed x l m = no-true (test x) (λ t. s .none x l m (keyed x t))
-
-  count-up : (d m : ℕ) → m ≡ i + d → m ≤ j → count m test ≡ count i test
-  count-up zero m e l = ap (λ (y : ℕ). count y test) (omega arith)
-  count-up (suc d) m e l =
-      let p : m ≡ suc (i + d) = omega arith in
-      ap (λ (y : ℕ). count y test) p ∙ count-suc (i + d) test ∙ fall (test-passed (i + d) (omega arith) (omega arith)) ∙ count-up d (i + d) refl (omega arith)
-    where
-      fall : test (i + d) ≡ false → count (i + d) test + only naturals (test (i + d)) 1 ≡ count (i + d) test
-      fall t = ap (λ (y : ℕ). count (i + d) test + y) (counts-none t) ∙ omega arith
-
-  pub count-passed : count j test ≡ count i test
-  count-passed = count-up (j - i) j (omega (arith, s .from)) (omega arith)
-
-  pub guarded-passed : (at k : ℕ) → guarded at j test k ≡ guarded at i test k
-  guarded-passed at k = go (decLt k at) (decLt k (at + i)) (decLt k (at + j))
-    where
-      go : Dec (k < at) → Dec (k < at + i) → Dec (k < at + j) → guarded at j test k ≡ guarded at i test k
-      go (yes b) _ _ = rw (window-below at j k b, window-below at i k b)
-      go (no b) (yes l) _ = rw (window-in at j k (omega arith) (omega (arith, s .from)), window-in at i k (omega arith) l)
-      go (no b) (no l) (yes m) = rw (window-above at i k (omega arith), test-passed (k - at) (omega arith) (omega arith)) (and-false (window at j k))
-      go (no b) (no l) (no m) = rw (window-above at j k (omega arith), window-above at i k (omega arith))

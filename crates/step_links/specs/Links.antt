@@ -1,5 +1,4 @@
--- Entries linked by key, so that a walk over the entries of one key passes over the others: an offer by its owner,
--- a tally by its box and the owner of its offer.
+-- Entries linked by key, so that a walk over the entries of one key passes over the others: a tally by its box and the owner of its offer.
 use mathlib.Core.Path.{_≡_}
 use mathlib.Core.List.{List}
 use Prim.Native.Nat.{ℕ, _+_, _*_, _≤_, _<_}
@@ -16,14 +15,6 @@ pub record SkipsBy (n : ℕ) (key : ℕ → ℕ) (v i j : ℕ) : Type 0 where
 pub record LinkedBy (heads n : ℕ) (key : ℕ → ℕ) (links : List ℕ) : Type 0 where
   pub begins : (v : ℕ) → v < heads → SkipsBy n key v 0 (getD links v 0)
   pub goes : (i : ℕ) → i < n → SkipsBy n key (key i) (i + 1) (getD links (heads + i) 0)
-
--- `SkipsBy` with the words of a table for keys.
-abbrev pub Skips : ℕ → List ℕ → ℕ → ℕ → ℕ → Type 0
-Skips n keys v i j = SkipsBy n (λ x. getD keys x 0) v i j
-
--- `LinkedBy` with the words of a table for keys, 0 to 16.
-abbrev pub Linked : ℕ → List ℕ → List ℕ → Type 0
-Linked n keys links = LinkedBy 17 n (λ x. getD keys x 0) links
 
 -- The key of a pair of boxes, 0 to 16 and 0 to 15. A pair has it alone; from 256 on the first of the two is nobody.
 abbrev pub pairKey : ℕ → ℕ → ℕ
@@ -42,14 +33,7 @@ pub record Some (p : List ℕ → Type 0) : Type 0 where
   pub list : List ℕ
   pub passes : p list
 
--- What linking requires: at most 1,000 places, tables as long as they need, and keys up to 16.
-pub record Keyed (n : ℕ) (keys links : List ℕ) : Type 0 where
-  pub few : n ≤ 1_000
-  pub keys-long : n ≤ length keys
-  pub links-long : 17 + n ≤ length links
-  pub key-in : (i : ℕ) → i < n → getD keys i 0 ≤ 16
-
--- What linking by pairs requires, likewise: boxes up to 16, places inside the table of owners, and owners below 16.
+-- What linking requires: at most 1,000 places, tables as long as they need, boxes up to 16, places inside the table of owners, and owners below 16.
 pub record PairsKeyed (n : ℕ) (boxes places owners links : List ℕ) : Type 0 where
   pub few : n ≤ 1_000
   pub boxes-long : n ≤ length boxes

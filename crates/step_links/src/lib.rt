@@ -1,20 +1,13 @@
 // Entries linked by key.
 ghost use mathlib.Core.Path.{_≡_};
 ghost use Prim.Native.Nat.{ℕ, _+_, _≤_, _<_};
-ghost use lib.ListN.{length, getD, set, replicate};
-ghost use Rattle.step_links.specs.Links.{pairKey, Keyed, Linked, PairsKeyed, LinkedPairs};
+ghost use lib.ListN.{length, getD, set};
+ghost use Rattle.step_links.specs.Links.{pairKey, PairsKeyed, LinkedPairs};
 use slices::limits::BOXES;
-use slices::limits::OFFERS;
 use slices::limits::TALLIES;
 
-// Keys are 0 to 16, and their first places stand in front of the links.
-pub const HEADS: usize = BOXES + 1;
-
-// Keys of pairs are 0 to 271, likewise: one of 17 numbers, and one of the 16 boxes.
-pub const PAIR_HEADS: usize = HEADS * BOXES;
-
-// The words of the links of offers: first places, and one link for each of the most offers, 517.
-pub const OFFER_LINKS: usize = HEADS + OFFERS;
+// Keys are pairs, 0 to 271: one of 17 numbers, 16 for no box, and one of the 16 boxes. Their first places stand in front of the links.
+pub const PAIR_HEADS: usize = (BOXES + 1) * BOXES;
 
 // The words of the links of tallies: first places of pairs, and one link for each of the most tallies, 1272.
 pub const TALLY_LINKS: usize = PAIR_HEADS + TALLIES;
@@ -39,19 +32,6 @@ fn put_first(heads: usize, v: usize, i: usize, links: &mut [u16])
     links[v] = i as u16;
 }
 
-// Links n entries, the last one first: each goes in front of those of its key.
-pub fn link(n: usize, keys: &[u16], links: &mut [u16])
-    requires { ⌜ Keyed n (now keys) (now links) ⌝ }
-    ensures { λ _. ⌜ Linked n (now (keys .entry)) (now (links .exit)) ⌝ }
-{
-    no_places(HEADS, n as u16, links);
-    let mut i = n;
-    while i > 0 {
-        i -= 1;
-        put_first(HEADS, slices::index_at(keys, i), i, links);
-    }
-}
-
 // The key of a pair of boxes.
 pub fn pair(a: u16, b: u16) -> usize
     requires { ⌜ (a ≤ 16) × (b < 16) ⌝ }
@@ -60,7 +40,7 @@ pub fn pair(a: u16, b: u16) -> usize
     a as usize * 16 + b as usize
 }
 
-// Links n entries by pairs, likewise: by the box of each, and the owner at its place.
+// Links n entries, the last one first: each goes in front of those of its key, the box of the entry and the owner at its place.
 pub fn link_pairs(n: usize, boxes: &[u16], places: &[u16], owners: &[u16], links: &mut [u16])
     requires { ⌜ PairsKeyed n (now boxes) (now places) (now owners) (now links) ⌝ }
     ensures { λ _. ⌜ LinkedPairs n (now (boxes .entry)) (now (places .entry)) (now (owners .entry)) (now (links .exit)) ⌝ }
@@ -77,14 +57,4 @@ pub fn link_pairs(n: usize, boxes: &[u16], places: &[u16], owners: &[u16], links
             links,
         );
     }
-}
-
-// The links of offers by owner: first places, and for each offer the next of its owner.
-pub fn offer_links(offers: u16, offer_owner: &[u16]) -> [u16; OFFER_LINKS]
-    requires { ⌜ Keyed offers (now «offer_owner») (replicate 517 0) ⌝ }
-    ensures { λ r. ⌜ Linked offers (now («offer_owner» .entry)) r ⌝ }
-{
-    let mut links = [0u16; OFFER_LINKS];
-    link(offers as usize, offer_owner, &mut links);
-    links
 }

@@ -2,15 +2,17 @@
 ghost use mathlib.Core.Path.{_≡_};
 ghost use mathlib.Core.List.{[], _∷_};
 ghost use mathlib.Core.Bool.{not, _&&_, _||_};
-ghost use Prim.Native.Nat.{_≤_, _<_};
+ghost use Prim.Native.Nat.{_*_, _≤_, _<_};
 ghost use lib.Dec.{leb, ltb};
 ghost use lib.ListN.{length, getD};
 ghost use lib.IntN.{pos, natAbs, _+ℤ_};
+ghost use Rattle.laws.specs.Below.{all};
 ghost use Rattle.laws.specs.Checks.{firstMet};
 ghost use Rattle.laws.specs.Limits.{maxAmount};
 ghost use Rattle.model.specs.Ranges.{around};
-ghost use Rattle.step_spans.specs.Credit.{CreditIn};
-ghost use Rattle.step_packed.specs.Fits.{spanFits, totalFits, TotalFitsIn};
+ghost use Rattle.model.specs.Spans.{beside};
+ghost use Rattle.step_spans.specs.Credit.{PlaceIn, SpanIn};
+ghost use Rattle.step_packed.specs.Fits.{wordFits, spanFits, totalFits, TotalFitsIn};
 use crate::in_range::around64;
 use crate::in_range::is_amount;
 use slices::amounts::plus;
@@ -35,26 +37,44 @@ pub fn packed_refusal(words: usize, working: &[i64], total_transit: &[i64]) -> u
     0
 }
 
-// Whether the statement of the grocer of place i stays within ±10^15 with the total there.
-fn word_fits(i: usize, grocers: &[u16], source: &[i64], statement: &[i64]) -> bool
-    requires { ⌜ (i < length (now grocers)) × (i < length (now source)) × (getD (now grocers) i 0 < length (now statement)) ⌝ }
-    requires { ⌜ (natAbs (getD (now source) i (pos 0)) ≤ 1_000_000_000_000_000) ×
-        (natAbs (getD (now statement) (getD (now grocers) i 0) (pos 0)) ≤ 1_000_000_000_000_000) ⌝ }
-    ensures { λ r. ⌜ r ≡ leb (natAbs (getD (now (statement .entry)) (getD (now (grocers .entry)) i 0) (pos 0) +ℤ getD (now (source .entry)) i (pos 0)))
-        maxAmount ⌝ }
+// Whether word g of the statements stays within ±10^15 with word w of the totals.
+fn word_fits(w: usize, g: usize, source: &[i64], statement: &[i64]) -> bool
+    requires { ⌜ (w < length (now source)) × (g < length (now statement)) ⌝ }
+    requires { ⌜ (natAbs (getD (now source) w (pos 0)) ≤ 1_000_000_000_000_000) × (natAbs (getD (now statement) g (pos 0)) ≤ 1_000_000_000_000_000) ⌝ }
+    ensures { λ r. ⌜ r ≡ leb (natAbs (getD (now (statement .entry)) g (pos 0) +ℤ getD (now (source .entry)) w (pos 0))) maxAmount ⌝ }
 {
-    let g = index_at(grocers, i);
-    is_amount(plus(i64_at(statement, g), i64_at(source, i)))
+    is_amount(plus(i64_at(statement, g), i64_at(source, w)))
 }
 
-// Whether the statements stay within ±10^15 once the totals of a span are added.
-pub fn span_fits(from: usize, to: usize, grocers: &[u16], source: &[i64], statement: &[i64]) -> bool
-    requires { ⌜ CreditIn from to (now grocers) (now source) (now statement) ⌝ }
-    ensures { λ r. ⌜ r ≡ spanFits from to (now (grocers .entry)) (now (source .entry)) (now (statement .entry)) ⌝ }
+// Whether the statement of the grocer of place i stays within ±10^15 with the totals there, one for each price list.
+fn place_fits(i: usize, width: usize, grocers: &[u16], source: &[i64], statement: &[i64]) -> bool
+    requires { ⌜ PlaceIn 1_000_000_000_000_000 i width (now grocers) (now source) (now statement) ⌝ }
+    ensures { λ r. ⌜ r ≡ all width (wordFits (i * width) (beside width (now (grocers .entry))) (now (source .entry)) (now (statement .entry))) ⌝ }
 {
-    let n = to - from;
-    for i in 0..n {
-        if !word_fits(from + i, grocers, source, statement) {
+    let w = i * width;
+    let g = index_at(grocers, i) * width;
+    for q in 0..width {
+        if !word_fits(w + q, g + q, source, statement) {
+            return false;
+        }
+    }
+    true
+}
+
+// Whether the statements stay within ±10^15 once the totals of a span of places are added. A place has a word for each price list.
+pub fn span_fits(
+    from: usize,
+    to: usize,
+    width: usize,
+    grocers: &[u16],
+    source: &[i64],
+    statement: &[i64],
+) -> bool
+    requires { ⌜ SpanIn from to width (now grocers) (now source) (now statement) ⌝ }
+    ensures { λ r. ⌜ r ≡ spanFits from to width (now (grocers .entry)) (now (source .entry)) (now (statement .entry)) ⌝ }
+{
+    for i in from..to {
+        if !place_fits(i, width, grocers, source, statement) {
             return false;
         }
     }
@@ -66,22 +86,23 @@ pub fn total_fits(
     kind: u16,
     from: usize,
     to: usize,
+    width: usize,
     grocers: &[u16],
     working: &[i64],
     total_transit: &[i64],
     statement: &[i64],
     sent: &[u32],
 ) -> bool
-    requires { ⌜ TotalFitsIn from to (now grocers) (now working) (now «total_transit») (now statement) (now sent) kind ⌝ }
-    ensures { λ r. ⌜ r ≡ totalFits from to (now (grocers .entry)) (now (working .entry)) (now («total_transit» .entry)) (now (statement .entry))
+    requires { ⌜ TotalFitsIn from to width (now grocers) (now working) (now «total_transit») (now statement) (now sent) kind ⌝ }
+    ensures { λ r. ⌜ r ≡ totalFits from to width (now (grocers .entry)) (now (working .entry)) (now («total_transit» .entry)) (now (statement .entry))
         (now (sent .entry)) kind ⌝ }
 {
     if kind == 4 {
-        let more = (to - from) as u32;
+        let more = ((to - from) * width) as u32;
         return u32_at(sent, 0) + more <= MAX_SENT;
     }
     if kind == 5 {
-        return span_fits(from, to, grocers, working, statement);
+        return span_fits(from, to, width, grocers, working, statement);
     }
-    span_fits(from, to, grocers, total_transit, statement)
+    span_fits(from, to, width, grocers, total_transit, statement)
 }

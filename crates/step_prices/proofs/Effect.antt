@@ -1,21 +1,24 @@
 -- The lists that the calls leave are the model's: the tables with the effect of step 1 or 3 written into them. Assumes nothing.
-use mathlib.Core.Path.{_≡_, refl, ap, _∙_}
+use mathlib.Core.Path.{_≡_, refl, sym, ap, _∙_}
+use mathlib.Core.Bool.{Bool}
 use mathlib.Core.List.{List}
-use Prim.Native.Nat.{ℕ, _+_, _<_, _≤_}
+use Prim.Native.Nat.{ℕ, suc, _+_, _*_, _/_, _<_, _≤_}
 use native.Mathlib.Omega.{arith}
 use lib.IntN.{ℤ, pos}
-use lib.ListN.{getD, set}
+use lib.ListN.{getD}
 use Rattle.laws.specs.Below.{count}
 use Rattle.laws.specs.Tables.{tabulate, overwrite, recell}
 use Rattle.laws.proofs.Below.{count-cong}
-use Rattle.laws.proofs.Tables.{recell-cong, word-in, recell-cell, overwrite-same, overwrite-one}
+use Rattle.laws.proofs.Tables.{recell-cong, word-in, recell-cell, overwrite-same}
+use Rattle.laws.proofs.Entries.{entry-in}
 use Rattle.model.specs.Job.{Job, needWord, priceWord}
 use Rattle.model.specs.Steps.{Kind, State, effect, received, sendPrices, multiplyOwn, receivePrices, sendTotals, addOwn, receiveTotals}
-use Rattle.model.specs.Tables.{JobTables, jobOf, StateTables, stateTables, stateLengths, view, store, stepsDone}
+use Rattle.model.specs.Tables.{JobTables, jobOf, withLists, eveningOf, StateTables, stateLengths, view, store, stepsDone}
 use Rattle.step_places.specs.Message.{wordIn}
 use Rattle.step_prices.specs.Prices.{sentTransit, receivedKnown, receivedTransit}
 use Rattle.step_places.specs.Marks.{marked}
-use Rattle.model.specs.PackedTotals.{totalsLength, packTotals}
+use Rattle.model.specs.PackedTotals.{totalsLength, packTotals, spread}
+use Rattle.model.proofs.EveningJob.{price-entry, price-words}
 use Rattle.model.proofs.PackedTotals.{pack-unpack}
 use Rattle.model.proofs.Lent.{StateLong, TotalsLong}
 use Rattle.step_places.proofs.Message.{price-word}
@@ -79,79 +82,65 @@ pub steps-done : (j : Job) (t : StateTables) → view j t .done ≡ stepsDone (j
 unfolding view stepsDone
 steps-done j t = refl
 
-module _ (f : JobTables) (t : StateTables) (masks : List ℕ) (a b : ℕ) (la : a < f .boxes) (lb : b < f .boxes)
-    (lk : f .boxes ≤ 16) (ln : f .offers ≤ 500) (e : masks ≡ tabulate 500 (needWord (jobOf f))) where
-  -- The words of the message of prices, told from owners and masks.
-  due : (x y o : ℕ) → y < f .boxes → o < f .offers → wordIn (f .offerOwner) masks x y o ≡ priceWord (jobOf f) x y o
-  due x y o ly lo = price-word f masks x y o (omega arith) lo ln e
+-- Steps 1 and 3 of any job.
+module _ (j : Job) (t : StateTables) (a b : ℕ) where
+  -- Step 1: what is in transit,
+  pub transit-sent : store j (effect j (view j t) sendPrices a b) t .priceTransit ≡ sentTransit (j .boxes) (j .offers) a b (priceWord j a b) (t .known) (t .priceTransit)
+  unfolding store effect view sentTransit
+  transit-sent = refl
 
-  -- Step 1: what is in transit.
-  pub sent-transit : store (jobOf f) (effect (jobOf f) (view (jobOf f) t) sendPrices a b) t .priceTransit
-      ≡ sentTransit (f .boxes) (f .offers) a b (f .offerOwner) masks (t .known) (t .priceTransit)
-  unfolding store effect view sentTransit jobOf
-  sent-transit = recell-cong (f .boxes) (f .offers) _ _ (t .priceTransit) (λ c o lc lo. rw (due a b o lb lo))
-
-  -- How many words are sent, and the count of all words sent.
-  pub words-sent : count (f .offers) (wordIn (f .offerOwner) masks a b) ≡ count (f .offers) (priceWord (jobOf f) a b)
-  words-sent = count-cong (f .offers) (wordIn (f .offerOwner) masks a b) (priceWord (jobOf f) a b) (λ o lo. due a b o lb lo)
-
-  pub sent-more : store (jobOf f) (effect (jobOf f) (view (jobOf f) t) sendPrices a b) t .sent
-      ≡ overwrite 1 (λ i. getD (t .sent) 0 0 + count (f .offers) (wordIn (f .offerOwner) masks a b)) (t .sent)
-  unfolding store effect view jobOf
-  sent-more = rw (words-sent, word-in 1 (t .sent) 0 0 (omega arith))
+  -- and the count of all words sent.
+  pub more-sent : store j (effect j (view j t) sendPrices a b) t .sent ≡ overwrite 1 (λ i. getD (t .sent) 0 0 + count (j .offers) (priceWord j a b)) (t .sent)
+  unfolding store effect view
+  more-sent = rw (word-in 1 (t .sent) 0 0 (omega arith))
 
   -- Step 3: what is known, and what is in transit.
-  pub received-known : store (jobOf f) (effect (jobOf f) (view (jobOf f) t) receivePrices a b) t .known
-      ≡ receivedKnown (f .boxes) (f .offers) a b (f .offerOwner) masks (t .known) (t .priceTransit)
-  unfolding store effect view received receivedKnown jobOf
-  received-known = recell-cong (f .boxes) (f .offers) _ _ (t .known) (λ c o lc lo. rw (due b a o la lo))
+  pub known-received : store j (effect j (view j t) receivePrices a b) t .known ≡ receivedKnown (j .boxes) (j .offers) a (priceWord j b a) (t .known) (t .priceTransit)
+  unfolding store effect view received receivedKnown
+  known-received = refl
 
-  pub received-transit : store (jobOf f) (effect (jobOf f) (view (jobOf f) t) receivePrices a b) t .priceTransit
-      ≡ receivedTransit (f .boxes) (f .offers) a b (f .offerOwner) masks (t .known) (t .priceTransit)
-  unfolding store effect view receivedTransit jobOf
-  received-transit = recell-cong (f .boxes) (f .offers) _ _ (t .priceTransit) (λ c o lc lo. rw (due b a o la lo))
+  pub transit-received : store j (effect j (view j t) receivePrices a b) t .priceTransit ≡ receivedTransit (j .boxes) (j .offers) a (priceWord j b a) (t .priceTransit)
+  unfolding store effect view receivedTransit
+  transit-received = refl
 
-  module _ (l : StateLong (f .boxes) (f .grocers) (f .offers) (stateLengths t)) (m : TotalsLong (totalsLength (jobOf f)) (stateLengths t)) where
-    -- All tables after step 1: prices in transit, the mark and the count.
-    pub prices-sent : store (jobOf f) (effect (jobOf f) (view (jobOf f) t) sendPrices a b) t
-        ≡ stateTables
-        (t .known)
-        (sentTransit (f .boxes) (f .offers) a b (f .offerOwner) masks (t .known) (t .priceTransit))
-        (t .working)
-        (t .totalTransit)
-        (t .statement)
-        (marked (f .boxes) sendPrices a b (t .done))
-        (set (t .sent) 0 (getD (t .sent) 0 0 + count (f .offers) (wordIn (f .offerOwner) masks a b)))
-    unfolding effect stateLengths jobOf
-    prices-sent =
-        let s = effect (jobOf f) (view (jobOf f) t) sendPrices a b in
-        tables-eq (store (jobOf f) s t) _
-        (known-stays (jobOf f) s t l refl)
-        sent-transit
-        (working-stays (jobOf f) s t l m refl)
-        (total-transit-stays (jobOf f) s t l m refl)
-        (statement-stays (jobOf f) s t l refl)
-        (step-marked (jobOf f) t sendPrices a b)
-        (sent-more ∙ overwrite-one _ (t .sent) (l .sent))
+-- Offers stand in the message from box a to box b, told from owners and need words.
+pub prices-due : (f : JobTables) (masks : List ℕ) (a b : ℕ) → b < f .boxes → f .boxes ≤ 16 → f .offers ≤ 500 → masks ≡ tabulate 500 (needWord (jobOf f)) →
+    (o : ℕ) → o < f .offers → wordIn (f .offerOwner) masks a b o ≡ priceWord (jobOf f) a b o
+prices-due f masks a b lb lk ln e o lo = price-word f masks a b o (omega arith) lo ln e
 
-    -- All tables after step 3: prices known and no longer in transit, the working totals as the step makes them, and the mark.
-    pub prices-received : store (jobOf f) (effect (jobOf f) (view (jobOf f) t) receivePrices a b) t
-        ≡ stateTables
-        (receivedKnown (f .boxes) (f .offers) a b (f .offerOwner) masks (t .known) (t .priceTransit))
-        (receivedTransit (f .boxes) (f .offers) a b (f .offerOwner) masks (t .known) (t .priceTransit))
-        (store (jobOf f) (effect (jobOf f) (view (jobOf f) t) receivePrices a b) t .working)
-        (t .totalTransit)
-        (t .statement)
-        (marked (f .boxes) receivePrices a b (t .done))
-        (t .sent)
-    unfolding effect stateLengths jobOf
-    prices-received =
-        let s = effect (jobOf f) (view (jobOf f) t) receivePrices a b in
-        tables-eq (store (jobOf f) s t) _
-        received-known
-        received-transit
-        refl
-        (total-transit-stays (jobOf f) s t l m refl)
-        (statement-stays (jobOf f) s t l refl)
-        (step-marked (jobOf f) t receivePrices a b)
-        (sent-stays (jobOf f) s t l refl)
+-- Steps 1 and 3 of the evening's job: `passes` says which offers stand in the message, and each of their words does.
+module _ (f : JobTables) (t : StateTables) (a b : ℕ) (passes : ℕ → Bool) where
+  -- The words of a row.
+  abbrev words : ℕ
+  words = f .offers * suc (f .lists)
+
+  word-due : (x y : ℕ) → ((o : ℕ) → o < f .offers → passes o ≡ priceWord (jobOf f) x y o) → (w : ℕ) → w < words → priceWord (eveningOf f) x y w ≡ passes (w / suc (f .lists))
+  word-due x y e w l = price-entry (f .lists) f x y w ∙ sym (e (w / suc (f .lists)) (entry-in (f .lists) (f .offers) w l))
+
+  -- The message from box a to box b: step 1.
+  module _ (e : (o : ℕ) → o < f .offers → passes o ≡ priceWord (jobOf f) a b o) where
+    pub sent-transit : store (eveningOf f) (effect (eveningOf f) (view (eveningOf f) t) sendPrices a b) t .priceTransit
+        ≡ sentTransit (f .boxes) words a b (λ w. passes (w / suc (f .lists))) (t .known) (t .priceTransit)
+    unfolding sentTransit withLists spread jobOf
+    sent-transit = transit-sent (eveningOf f) t a b ∙ recell-cong (f .boxes) words _ _ (t .priceTransit) (λ c w lc lw. rw (word-due a b e w lw))
+
+    -- Each offer sends a word for each list.
+    pub words-sent : count (eveningOf f .offers) (priceWord (eveningOf f) a b) ≡ count (f .offers) passes * suc (f .lists)
+    unfolding jobOf
+    words-sent = price-words (f .lists) f a b ∙ ap (λ (x : ℕ). x * suc (f .lists)) (sym (count-cong (f .offers) passes (priceWord (jobOf f) a b) e))
+
+    pub sent-more : store (eveningOf f) (effect (eveningOf f) (view (eveningOf f) t) sendPrices a b) t .sent
+        ≡ overwrite 1 (λ i. getD (t .sent) 0 0 + count (f .offers) passes * suc (f .lists)) (t .sent)
+    sent-more = more-sent (eveningOf f) t a b ∙ ap (λ (x : ℕ). overwrite 1 (λ i. getD (t .sent) 0 0 + x) (t .sent)) words-sent
+
+  -- The message from box b to box a: step 3.
+  module _ (e : (o : ℕ) → o < f .offers → passes o ≡ priceWord (jobOf f) b a o) where
+    pub received-known : store (eveningOf f) (effect (eveningOf f) (view (eveningOf f) t) receivePrices a b) t .known
+        ≡ receivedKnown (f .boxes) words a (λ w. passes (w / suc (f .lists))) (t .known) (t .priceTransit)
+    unfolding receivedKnown withLists spread jobOf
+    received-known = known-received (eveningOf f) t a b ∙ recell-cong (f .boxes) words _ _ (t .known) (λ c w lc lw. rw (word-due b a e w lw))
+
+    pub received-transit : store (eveningOf f) (effect (eveningOf f) (view (eveningOf f) t) receivePrices a b) t .priceTransit
+        ≡ receivedTransit (f .boxes) words a (λ w. passes (w / suc (f .lists))) (t .priceTransit)
+    unfolding receivedTransit withLists spread jobOf
+    received-transit = transit-received (eveningOf f) t a b ∙ recell-cong (f .boxes) words _ _ (t .priceTransit) (λ c w lc lw. rw (word-due b a e w lw))

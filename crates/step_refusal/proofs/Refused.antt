@@ -14,7 +14,7 @@ use Rattle.laws.proofs.Bools.{and-l, and-r, or-off}
 use Rattle.recount.specs.Recount.{countedTwice}
 use Rattle.model.specs.Job.{Job, sharerWord}
 use Rattle.model.specs.PackedTotals.{totalsLength}
-use Rattle.model.specs.Tables.{JobTables, countedOf, jobOf, jobLengths, jobShort, bagsShort, StateTables, stateLengths, stateShort, lentShort, totalsShort}
+use Rattle.model.specs.Tables.{JobTables, countedOf, jobOf, eveningOf, jobLengths, jobShort, bagsShort, StateTables, stateLengths, stateShort, lentShort, totalsShort}
 use Rattle.model.specs.Ranges.{around, jobInRange, stateInRange, totalsInRange}
 use Rattle.model.specs.Step.{Asked, refusals, stepRefusal}
 use Rattle.model.specs.Handed.{handedTables, Standing, Handed}
@@ -22,7 +22,7 @@ use Rattle.book_keys.specs.Keys.{TalliesIn}
 use Rattle.book_places.specs.Spots.{CountIn, BoxIn}
 use Rattle.job_checks.specs.Sizes.{sizes}
 use Rattle.step_refusal.specs.Late.{earlyRules, packedRules, tableRules, laterRules, Held}
-use Rattle.model.proofs.Handed.{handed-job, handed-whole, handed-in, handed-refusal}
+use Rattle.model.proofs.Handed.{handed-evening, handed-whole, handed-in, handed-refusal}
 use Rattle.model.proofs.Step.{JobIn, job-in, under-at}
 use Rattle.model.proofs.Whole.{JobWhole}
 use Rattle.job_checks.proofs.Sizes.{short-sizes, range-sizes}
@@ -30,7 +30,7 @@ use Rattle.step_refusal.proofs.Extra.{met-first, none-first}
 
 -- What the tests of lengths say: job, bags and state.
 module _ (f : JobTables) (t : StateTables) (x b y : Bool) (ex : x ≡ jobShort f (jobLengths f)) (eb : b ≡ bagsShort f (jobLengths f))
-    (ey : y ≡ stateShort (sizes (f .boxes) (f .grocers) (f .offers)) (stateLengths t)) where
+    (ey : y ≡ stateShort (sizes (f .boxes) (f .grocers) (f .offers) (f .lists)) (stateLengths t)) where
   short-is : ((x || b) || y) ≡ lentShort f t
   unfolding lentShort
   short-is = rw (ex, eb, ey ∙ short-sizes f (stateLengths t))
@@ -47,10 +47,10 @@ module _ (f : JobTables) (t : StateTables) (x b y : Bool) (ex : x ≡ jobShort f
     pub bags-long : bagsShort f (jobLengths f) ≡ false
     bags-long = sym eb ∙ or-off x b (or-off (x || b) y h .0) .1
 
-    pub state-long : stateShort (sizes (f .boxes) (f .grocers) (f .offers)) (stateLengths t) ≡ false
+    pub state-long : stateShort (sizes (f .boxes) (f .grocers) (f .offers) (f .lists)) (stateLengths t) ≡ false
     state-long = sym ey ∙ or-off (x || b) y h .1
 
-    module _ (u v : Bool) (eu : u ≡ jobInRange f) (ev : v ≡ stateInRange (sizes (f .boxes) (f .grocers) (f .offers)) t) where
+    module _ (u v : Bool) (eu : u ≡ jobInRange f) (ev : v ≡ stateInRange (sizes (f .boxes) (f .grocers) (f .offers) (f .lists)) t) where
       range-is : (u && v) ≡ (jobInRange f && stateInRange f t)
       range-is = rw (eu, ev ∙ range-sizes f t)
 
@@ -83,11 +83,11 @@ module _ (f : JobTables) (t : StateTables) where
   -- One of the first three is met, or none: then 20 and 21 on the packed tables decide.
   pub tested-early : (r : ℕ) → r ≡ firstMet (earlyRules f t) → (r ≡ 0 → ⊥) → r ≡ firstMet (tableRules f t)
   unfolding tableRules
-  tested-early r e n = e ∙ sym (met-first (earlyRules f t) (packedRules (jobOf f) t) (λ z. n (e ∙ z)))
+  tested-early r e n = e ∙ sym (met-first (earlyRules f t) (packedRules (eveningOf f) t) (λ z. n (e ∙ z)))
 
-  pub tested-packed : firstMet (earlyRules f t) ≡ 0 → firstMet (tableRules f t) ≡ firstMet (packedRules (jobOf f) t)
+  pub tested-packed : firstMet (earlyRules f t) ≡ 0 → firstMet (tableRules f t) ≡ firstMet (packedRules (eveningOf f) t)
   unfolding tableRules earlyRules
-  tested-packed z = none-first (earlyRules f t) (packedRules (jobOf f) t) (omega arith, (omega arith, (omega arith, tt))) z
+  tested-packed z = none-first (earlyRules f t) (packedRules (eveningOf f) t) (omega arith, (omega arith, (omega arith, tt))) z
 
   -- One of the conditions on the tables is met: it is the answer.
   pub answer-tested : (q : Asked) (r : ℕ) → r ≡ firstMet (tableRules f t) → (r ≡ 0 → ⊥) → r ≡ stepRefusal f t q
@@ -106,15 +106,15 @@ module _ (f : JobTables) (t : StateTables) where
   -- None is met: the tables with the boxes of the tallies that stand are whole and in range, and the later conditions decide.
   module _ (z : firstMet (tableRules f t) ≡ 0) (standing : List ℕ) (s : Standing f standing) where
     all-off : (lentShort f t ≡ false) × (((jobInRange f && stateInRange f t) ≡ true) × ((countedTwice (countedOf f) ≡ false)
-        × ((totalsShort (jobOf f) (stateLengths t) ≡ false) × (totalsInRange (jobOf f) t ≡ true))))
+        × ((totalsShort (eveningOf f) (stateLengths t) ≡ false) × (totalsInRange (eveningOf f) t ≡ true))))
     unfolding tableRules earlyRules packedRules firstMet
-    all-off = neither (lentShort f t) (jobInRange f && stateInRange f t) (countedTwice (countedOf f)) (totalsShort (jobOf f) (stateLengths t)) (totalsInRange (jobOf f) t) z
+    all-off = neither (lentShort f t) (jobInRange f && stateInRange f t) (countedTwice (countedOf f)) (totalsShort (eveningOf f) (stateLengths t)) (totalsInRange (eveningOf f) t) z
 
     pub held : Held (handedTables f standing) t
     unfolding lentShort stateShort stateInRange
     held =
         let l = or-off (jobShort f (jobLengths f) || bagsShort f (jobLengths f)) (stateShort f (stateLengths t)) (all-off .0) in
-        let j = sym (handed-job f standing s) in
+        let j = sym (handed-evening f standing s) in
         record {
           job-long = handed-whole f standing s (or-off (jobShort f (jobLengths f)) (bagsShort f (jobLengths f)) (l .0) .0);
           state-long = l .1;

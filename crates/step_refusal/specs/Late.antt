@@ -8,7 +8,8 @@ use Rattle.laws.specs.Checks.{firstMet}
 use Rattle.laws.specs.Tables.{tabulate, overwrite}
 use Rattle.recount.specs.Recount.{countedTwice}
 use Rattle.model.specs.Job.{Job, sharerWord}
-use Rattle.model.specs.Tables.{JobTables, countedOf, jobOf, jobLengths, jobShort, StateTables, stateLengths, stateShort, lentShort, totalsShort, view}
+use Rattle.model.specs.Tables.{JobTables, countedOf, jobOf, eveningOf, jobLengths, jobShort}
+use Rattle.model.specs.Tables.{StateTables, stateLengths, stateShort, lentShort, totalsShort, view}
 use Rattle.model.specs.Ranges.{jobInRange, stateInRange, totalsInRange}
 use Rattle.model.specs.Handed.{handedTables, Standing, Handed}
 use Rattle.model.specs.Step.{Asked, stepRules, moved, stepRefusal}
@@ -25,12 +26,14 @@ packedRules j t = (totalsShort j (stateLengths t), 20) ∷ (not (totalsInRange j
 
 -- The conditions on the tables, in their order.
 unfoldable pub tableRules : JobTables → StateTables → List (Bool × ℕ)
-tableRules f t = earlyRules f t ++ packedRules (jobOf f) t
+tableRules f t = earlyRules f t ++ packedRules (eveningOf f) t
 
 -- Conditions 22 to 26, and the late 21.
 unfoldable pub laterRules : JobTables → StateTables → Asked → List (Bool × ℕ)
 laterRules f t q =
-    stepRules (jobOf f) (view (jobOf f) t .done) q ++ (not (stateInRange f (moved f t q) && totalsInRange (jobOf f) (moved f t q)), 21) ∷ []
+    stepRules (eveningOf f) (view (eveningOf f) t .done) q
+    ++ (not (stateInRange f (moved f t q) && totalsInRange (eveningOf f) (moved f t q)), 21)
+    ∷ []
 
 -- What the first tell: their number, and where it is 0, the boxes of the tallies that stand.
 pub record Early (f : JobTables) (t : StateTables) (standing : List ℕ) (r : ℕ) : Type 0 where
@@ -49,15 +52,15 @@ pub record Held (f : JobTables) (t : StateTables) : Type 0 where
   pub state-long : stateShort f (stateLengths t) ≡ false
   pub job-in : Handed f
   pub state-in : stateInRange f t ≡ true
-  pub totals-long : totalsShort (jobOf f) (stateLengths t) ≡ false
-  pub totals-in : totalsInRange (jobOf f) t ≡ true
+  pub totals-long : totalsShort (eveningOf f) (stateLengths t) ≡ false
+  pub totals-in : totalsInRange (eveningOf f) t ≡ true
 
 -- What the refusal of a step tells: the model's number, and where that is 0, the boxes of the tallies that stand, and that the step may be
 -- applied to the tables with these boxes.
-pub record Decided (f : JobTables) (t : StateTables) (q : Asked) (needs places : List ℕ) (from to : ℕ) (grocers standing : List ℕ) (r : ℕ) : Type 0 where
+pub record Decided (f : JobTables) (t : StateTables) (q : Asked) (places : List ℕ) (from to : ℕ) (listed standing : List ℕ) (r : ℕ) : Type 0 where
   pub number-is : r ≡ stepRefusal f t q
   pub standing-are : r ≡ 0 → Standing f standing
-  pub applies : r ≡ 0 → Applies (handedTables f standing) t needs places from to grocers q
+  pub applies : r ≡ 0 → Applies (handedTables f standing) t places from to listed q
 
 -- The places of the totals of box b's tallies put into a table, and the span of all its totals, by the owners of the grocers and the sharer words.
 pub record OwnPlaces (k m : ℕ) (owners words : List ℕ) (b n : ℕ) (boxes items before : List ℕ) (from to : ℕ) (after : List ℕ) : Type 0 where

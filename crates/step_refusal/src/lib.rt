@@ -3,14 +3,16 @@ ghost use mathlib.Core.Path.{_≡_};
 ghost use mathlib.Core.Bool.{cond};
 ghost use mathlib.Core.List.{List, []};
 ghost use lib.IntN.{ℤ};
-ghost use Prim.Native.Nat.{_*_, _≤_};
+ghost use Prim.Native.Nat.{_*_, _≤_, _<_};
 ghost use lib.ListN.{length, replicate};
 ghost use Rattle.laws.specs.Checks.{firstMet};
+ghost use Rattle.laws.specs.Listed.{Listed};
 ghost use Rattle.model.specs.Tables.{bagTables, stateTables, stepsDone};
 ghost use Rattle.model.specs.Step.{asked};
 ghost use Rattle.job_masks.specs.Masks.{Owned, byOwner};
 ghost use Rattle.step_waits.specs.Waits.{tallyLists, WaitsIn, waitTable};
 ghost use Rattle.step_checks.specs.Request.{rulesBy};
+ghost use Rattle.step_places.specs.Message.{wordIn};
 ghost use Rattle.book_keys.specs.Keys.{TalliesIn};
 ghost use Rattle.book_places.specs.Spots.{BoxIn};
 ghost use Rattle.step_refusal.specs.Late.{Early, Tested, Decided, OwnPlaces};
@@ -28,6 +30,8 @@ use slices::limits::BOXES;
 use slices::limits::GROCERS;
 use slices::limits::OFFERS;
 use slices::limits::TALLIES;
+use slices::lists::width_of;
+use slices::lists::words_at;
 use slices::sizes::Sizes;
 use step_apply::span_box;
 use step_apply::span_group;
@@ -38,6 +42,7 @@ use step_checks::state::state_short;
 use step_packed::packed_refusal;
 use step_packed::total_fits;
 use step_places::Step;
+use step_prices::list::list_message;
 use step_waits::waits;
 
 // The first of the conditions 20, 21 and 9 that is met on all else than the packed tables, or 0. Where none is, `standing` has the box of each
@@ -61,16 +66,14 @@ fn early_refusal(
     standing: &mut [u16; TALLIES],
 ) -> u16
     ensures { λ r. ⌜ ((working totals : List ℤ) → Early
-        (bagTables (z .boxes) (z .grocers) (z .offers) (z .tallies) (now (price .entry)) (now («offer_owner» .entry)) (now («grocer_owner» .entry))
-        (now («tally_grocer» .entry)) (now («tally_box» .entry)) (now («tally_offer» .entry)) (now («tally_count» .entry))
+        (bagTables (z .boxes) (z .grocers) (z .offers) (z .tallies) (z .lists) (now (price .entry)) (now («offer_owner» .entry))
+        (now («grocer_owner» .entry)) (now («tally_grocer» .entry)) (now («tally_box» .entry)) (now («tally_offer» .entry)) (now («tally_count» .entry))
         (now («tally_bag» .entry)) (now («tally_revision» .entry)))
         (stateTables (now (known .entry)) (now («price_transit» .entry)) working totals
         (now (statement .entry)) (now (done .entry)) (now (sent .entry))) (now (standing .exit)) r) ⌝ }
 {
     if job_short(
-        z.grocers,
-        z.offers,
-        z.tallies,
+        z,
         price,
         offer_owner,
         grocer_owner,
@@ -80,24 +83,12 @@ fn early_refusal(
         tally_count,
     )
         | bags_short(z.tallies, tally_bag, tally_revision)
-        | state_short(
-            z.boxes,
-            z.grocers,
-            z.offers,
-            known,
-            price_transit,
-            statement,
-            done,
-            sent,
-        )
+        | state_short(z, known, price_transit, statement, done, sent)
     {
         return 20;
     }
     if !(job_in_range(
-        z.boxes,
-        z.grocers,
-        z.offers,
-        z.tallies,
+        z,
         price,
         offer_owner,
         grocer_owner,
@@ -106,16 +97,7 @@ fn early_refusal(
         tally_offer,
         tally_count,
     )
-        & state_in_range(
-            z.boxes,
-            z.grocers,
-            z.offers,
-            known,
-            price_transit,
-            statement,
-            done,
-            sent,
-        )) {
+        & state_in_range(z, known, price_transit, statement, done, sent)) {
         return 21;
     }
     if standing_boxes(
@@ -156,8 +138,8 @@ fn tables_refusal(
     sharers: &mut [u16; GROCERS],
 ) -> u16
     ensures { λ r. ⌜ Tested
-        (bagTables (z .boxes) (z .grocers) (z .offers) (z .tallies) (now (price .entry)) (now («offer_owner» .entry)) (now («grocer_owner» .entry))
-        (now («tally_grocer» .entry)) (now («tally_box» .entry)) (now («tally_offer» .entry)) (now («tally_count» .entry))
+        (bagTables (z .boxes) (z .grocers) (z .offers) (z .tallies) (z .lists) (now (price .entry)) (now («offer_owner» .entry))
+        (now («grocer_owner» .entry)) (now («tally_grocer» .entry)) (now («tally_box» .entry)) (now («tally_offer» .entry)) (now («tally_count» .entry))
         (now («tally_bag» .entry)) (now («tally_revision» .entry)))
         (stateTables (now (known .entry)) (now («price_transit» .entry)) (now (working .entry)) (now («total_transit» .entry))
         (now (statement .entry)) (now (done .entry)) (now (sent .entry))) (now (standing .exit)) (now (sharers .exit)) r ⌝ }
@@ -185,8 +167,9 @@ fn tables_refusal(
     }
     let sharing = job_masks::masks::sharers(z.boxes, z.tallies, standing, tally_grocer);
     *sharers = sharing;
-    let words = box_start(z.grocers as usize, grocer_owner, &sharing, z.boxes);
-    packed_refusal(index_of(words), working, total_transit)
+    let places = box_start(z.grocers as usize, grocer_owner, &sharing, z.boxes);
+    let words = words_at(index_of(places), width_of(z.lists));
+    packed_refusal(words, working, total_transit)
 }
 
 // Kinds 1 to 3: the first of the conditions 22 to 26 that is met, or 0, with the need words.
@@ -274,8 +257,52 @@ fn own_places(
     )
 }
 
+// The number of the first condition that is met, or 0, and from where up to where the step's offers or grocers are listed.
+pub struct Judged {
+    pub met: u16,
+    pub from: usize,
+    pub to: usize,
+}
+
+// A number that is met, and nothing listed.
+fn nothing_listed(met: u16) -> Judged
+    ensures { λ r. ⌜ r .met ≡ met ⌝ }
+{
+    Judged {
+        met,
+        from: 0,
+        to: 0,
+    }
+}
+
+// Kinds 1 and 3: lists the offers of the step's message. How many. Kind 2 needs none.
+fn message_offers(
+    z: Sizes,
+    offer_owner: &[u16],
+    needs: &[u16; OFFERS],
+    offers: &mut [u16],
+    x: Step,
+) -> usize
+    requires { ⌜ (z .offers ≤ 500) × ((z .offers ≤ length (now «offer_owner»)) × (z .offers ≤ length (now offers))) ⌝ }
+    requires { ⌜ (x .first < 16) × (x .second < 16) ⌝ }
+    ensures { λ r. ⌜ (x .kind ≡ 1 → Listed (z .offers) (wordIn (now («offer_owner» .entry)) (now (needs .entry)) (x .first) (x .second)) 0 r
+        (now (offers .exit))) ⌝ }
+    ensures { λ r. ⌜ (x .kind ≡ 3 → Listed (z .offers) (wordIn (now («offer_owner» .entry)) (now (needs .entry)) (x .second) (x .first)) 0 r
+        (now (offers .exit))) ⌝ }
+    ensures { λ r. ⌜ r ≤ z .offers ⌝ }
+{
+    let n = index_of(z.offers);
+    if x.kind == 1 {
+        return list_message(n, offer_owner, needs, x.first, x.second, offers);
+    }
+    if x.kind == 3 {
+        return list_message(n, offer_owner, needs, x.second, x.first, offers);
+    }
+    0
+}
+
 // Kinds 1 to 3: the number of the first condition that is met, or 0. Where none is, `standing` has the boxes of the tallies that stand, with 16 for
-// the others, `needs` the need words and, for kinds 2 and 3, `places` the places of the first box's tallies.
+// the others, `offers` those of the step's message for kinds 1 and 3, and `places` the places of the first box's tallies for kinds 2 and 3.
 pub fn price_refusal(
     z: Sizes,
     price: &[u32],
@@ -294,19 +321,19 @@ pub fn price_refusal(
     statement: &[i64],
     done: &[u16],
     sent: &[u32],
-    needs: &mut [u16; OFFERS],
+    offers: &mut [u16],
     places: &mut [u16; TALLIES],
     standing: &mut [u16; TALLIES],
     x: Step,
-) -> u16
-    requires { ⌜ x .kind ≤ 3 ⌝ }
+) -> Judged
+    requires { ⌜ (x .kind ≤ 3) × (500 ≤ length (now offers)) ⌝ }
     ensures { λ r. ⌜ Decided
-        (bagTables (z .boxes) (z .grocers) (z .offers) (z .tallies) (now (price .entry)) (now («offer_owner» .entry)) (now («grocer_owner» .entry))
-        (now («tally_grocer» .entry)) (now («tally_box» .entry)) (now («tally_offer» .entry)) (now («tally_count» .entry))
+        (bagTables (z .boxes) (z .grocers) (z .offers) (z .tallies) (z .lists) (now (price .entry)) (now («offer_owner» .entry))
+        (now («grocer_owner» .entry)) (now («tally_grocer» .entry)) (now («tally_box» .entry)) (now («tally_offer» .entry)) (now («tally_count» .entry))
         (now («tally_bag» .entry)) (now («tally_revision» .entry)))
         (stateTables (now (known .entry)) (now («price_transit» .entry)) (now (working .entry)) (now («total_transit» .entry))
         (now (statement .entry)) (now (done .entry)) (now (sent .entry)))
-        (asked (x .kind) (x .first) (x .second)) (now (needs .exit)) (now (places .exit)) 0 0 [] (now (standing .exit)) r ⌝ }
+        (asked (x .kind) (x .first) (x .second)) (now (places .exit)) (r .from) (r .to) (now (offers .exit)) (now (standing .exit)) (r .met) ⌝ }
 {
     let mut sharers = [0u16; GROCERS];
     let tested = tables_refusal(
@@ -331,49 +358,32 @@ pub fn price_refusal(
         &mut sharers,
     );
     if tested != 0 {
-        return tested;
+        return nothing_listed(tested);
     }
     let needing = job_masks::masks::needs(z.boxes, z.tallies, standing, tally_offer);
-    *needs = needing;
     let r = prices_asked(z, offer_owner, &needing, done, x);
     if r != 0 {
-        return r;
+        return nothing_listed(r);
     }
     let own = own_places(z, grocer_owner, &sharers, tally_grocer, standing, places, x);
-    late(price_fits(
+    let to = message_offers(z, offer_owner, &needing, offers, x);
+    let met = late(price_fits(
         z,
         own.from,
         own.to,
+        to,
         offer_owner,
         places,
         standing,
         tally_offer,
         tally_count,
-        &needing,
         known,
         price_transit,
         working,
         sent,
         x,
-    ))
-}
-
-// The number of the first condition that is met, or 0, and the span of the step's totals.
-pub struct Judged {
-    pub met: u16,
-    pub from: usize,
-    pub to: usize,
-}
-
-// A number that is met, and no span.
-fn no_span(met: u16) -> Judged
-    ensures { λ r. ⌜ r .met ≡ met ⌝ }
-{
-    Judged {
-        met,
-        from: 0,
-        to: 0,
-    }
+    ));
+    Judged { met, from: 0, to }
 }
 
 // Kinds 4 to 6, likewise. Where no condition is met, `grocers` has the grocer of each place of the step's span.
@@ -401,12 +411,12 @@ pub fn total_refusal(
 ) -> Judged
     requires { ⌜ (4 ≤ x .kind) × (1_255 ≤ length (now grocers)) ⌝ }
     ensures { λ r. ⌜ Decided
-        (bagTables (z .boxes) (z .grocers) (z .offers) (z .tallies) (now (price .entry)) (now («offer_owner» .entry)) (now («grocer_owner» .entry))
-        (now («tally_grocer» .entry)) (now («tally_box» .entry)) (now («tally_offer» .entry)) (now («tally_count» .entry))
+        (bagTables (z .boxes) (z .grocers) (z .offers) (z .tallies) (z .lists) (now (price .entry)) (now («offer_owner» .entry))
+        (now («grocer_owner» .entry)) (now («tally_grocer» .entry)) (now («tally_box» .entry)) (now («tally_offer» .entry)) (now («tally_count» .entry))
         (now («tally_bag» .entry)) (now («tally_revision» .entry)))
         (stateTables (now (known .entry)) (now («price_transit» .entry)) (now (working .entry)) (now («total_transit» .entry))
         (now (statement .entry)) (now (done .entry)) (now (sent .entry)))
-        (asked (x .kind) (x .first) (x .second)) [] [] (r .from) (r .to) (now (grocers .exit)) (now (standing .exit)) (r .met) ⌝ }
+        (asked (x .kind) (x .first) (x .second)) [] (r .from) (r .to) (now (grocers .exit)) (now (standing .exit)) (r .met) ⌝ }
 {
     let mut sharers = [0u16; GROCERS];
     let tested = tables_refusal(
@@ -431,7 +441,7 @@ pub fn total_refusal(
         &mut sharers,
     );
     if tested != 0 {
-        return no_span(tested);
+        return nothing_listed(tested);
     }
     let r = totals_asked(
         z,
@@ -444,7 +454,7 @@ pub fn total_refusal(
         x,
     );
     if r != 0 {
-        return no_span(r);
+        return nothing_listed(r);
     }
     let span = box_span(
         z.boxes,
@@ -459,6 +469,7 @@ pub fn total_refusal(
         x.kind,
         span.from,
         span.to,
+        width_of(z.lists),
         grocers,
         working,
         total_transit,

@@ -15,7 +15,7 @@ use Rattle.laws.proofs.Tables.{length-tabulate, getD-tabulate, is-tabulate}
 use Rattle.model.specs.Spans.{inSpan, spanWritten}
 use Rattle.step_spans.specs.Credit.{creditSpan, CreditIn}
 
-length-span : (from to : ℕ) (f : ℕ → ℤ) (l : List ℤ) → length (spanWritten from to f l) ≡ length l
+pub length-span : (from to : ℕ) (f : ℕ → ℤ) (l : List ℤ) → length (spanWritten from to f l) ≡ length l
 unfolding spanWritten
 length-span from to f l = length-tabulate (length l) (λ i. cond (inSpan from to i) (f i) (getD l i (pos 0)))
 
@@ -86,50 +86,84 @@ length-credit zero from grocers source statement = refl
 length-credit (suc n) from grocers source statement =
     length-set (creditSpan n from grocers source statement) (getD grocers (from + n) 0) _ ∙ length-credit n from grocers source statement
 
--- A statement stays within so many amounts.
-pub credit-most : (n from to : ℕ) (grocers : List ℕ) (source statement : List ℤ) → CreditIn from to grocers source statement → from + n ≤ to →
-    (g : ℕ) → natAbs (getD statement g (pos 0)) ≤ 1_000_000_000_000_000 → natAbs (getD (creditSpan n from grocers source statement) g (pos 0)) ≤ (n + 1) * 1_000_000_000_000_000
+-- The size of a word of a list, by other names for both.
+pub size-as : (l l′ : List ℤ) (g g′ most : ℕ) → l′ ≡ l → g′ ≡ g → natAbs (getD l g (pos 0)) ≤ most → natAbs (getD l′ g′ (pos 0)) ≤ most
+size-as l l′ g g′ most e k h = rw (e, k) h
+
+-- A statement grows by at most so many amounts.
+pub credit-most : (n from most : ℕ) (grocers : List ℕ) (source statement : List ℤ) →
+    ((i : ℕ) → i < n → getD grocers (from + i) 0 < length statement) → ((i : ℕ) → i < n → natAbs (getD source (from + i) (pos 0)) ≤ 1_000_000_000_000_000) →
+    (g : ℕ) → natAbs (getD statement g (pos 0)) ≤ most → natAbs (getD (creditSpan n from grocers source statement) g (pos 0)) ≤ most + n * 1_000_000_000_000_000
 unfolding creditSpan
-credit-most zero from to grocers source statement c l g h = omega arith
-credit-most (suc n) from to grocers source statement c l g h =
-    let at = getD grocers (from + n) 0 in
-    let now = creditSpan n from grocers source statement in
-    let small : getD grocers (from + n) 0 < length (creditSpan n from grocers source statement) = omega (arith, length-credit n from grocers source statement, c .grocer-in (from + n) (omega arith) (omega arith)) in
+credit-most zero from most grocers source statement inside small g h = omega arith
+credit-most (suc n) from most grocers source statement inside small g h =
+    let before : natAbs (getD (creditSpan n from grocers source statement) g (pos 0)) ≤ most + n * 1_000_000_000_000_000 =
+    credit-most n from most grocers source statement (λ i l. inside i (omega arith)) (λ i l. small i (omega arith)) g h in
     split (eqb g (getD grocers (from + n) 0))
-    (λ e. rw (
-      eqb-true g (getD grocers (from + n) 0) e,
-      getD-set-same (creditSpan n from grocers source statement) (getD grocers (from + n) 0)
-          (getD (creditSpan n from grocers source statement) (getD grocers (from + n) 0) (pos 0) +ℤ getD source (from + n) (pos 0)) (pos 0) small,
+    (λ e. let same : getD grocers (from + n) 0 ≡ g = sym (eqb-true g (getD grocers (from + n) 0) e) in
+    rw (
+      same,
+      getD-set-same (creditSpan n from grocers source statement) g (getD (creditSpan n from grocers source statement) g (pos 0) +ℤ getD source (from + n) (pos 0)) (pos 0)
+          (omega (arith, length-credit n from grocers source statement, inside n (omega arith), same)),
     )
-    (omega (
-      arith,
-      abs-plus (getD (creditSpan n from grocers source statement) (getD grocers (from + n) 0) (pos 0)) (getD source (from + n) (pos 0)),
-      credit-most n from to grocers source statement c (omega arith) (getD grocers (from + n) 0) (c .statement-in (from + n) (omega arith) (omega arith)),
-      c .source-in (from + n) (omega arith) (omega arith),
-    )))
+    (omega (arith, abs-plus (getD (creditSpan n from grocers source statement) g (pos 0)) (getD source (from + n) (pos 0)), before, small n (omega arith))))
     (λ e. rw (getD-set-other (creditSpan n from grocers source statement) (getD grocers (from + n) 0) g
     (getD (creditSpan n from grocers source statement) (getD grocers (from + n) 0) (pos 0) +ℤ getD source (from + n) (pos 0)) (pos 0) (eqb-false g (getD grocers (from + n) 0) e))
-    (omega (arith, credit-most n from to grocers source statement c (omega arith) g h)))
+    (omega (arith, before)))
 
--- One place more.
-pub credit-more : (from i : ℕ) (grocers : List ℕ) (source statement : List ℤ) → from ≤ i →
-    creditSpan (i + 1 - from) from grocers source statement
-    ≡ set (creditSpan (i - from) from grocers source statement) (getD grocers i 0) (getD (creditSpan (i - from) from grocers source statement) (getD grocers i 0) (pos 0) +ℤ getD source i (pos 0))
+-- One word more.
+pub credit-next : (n from w g : ℕ) (grocers : List ℕ) (source statement : List ℤ) → from + n ≡ w → getD grocers w 0 ≡ g →
+    set (creditSpan n from grocers source statement) g (getD (creditSpan n from grocers source statement) g (pos 0) +ℤ getD source w (pos 0)) ≡ creditSpan (n + 1) from grocers source statement
 unfolding creditSpan
-credit-more from i grocers source statement l =
-    ap (λ (n : ℕ). creditSpan n from grocers source statement) (next from i l)
-    ∙ ap (λ (k : ℕ). set (creditSpan (i - from) from grocers source statement) (getD grocers k 0) (getD (creditSpan (i - from) from grocers source statement) (getD grocers k 0) (pos 0) +ℤ getD source k (pos 0))) (here from i l)
+credit-next n from w g grocers source statement e k =
+    ap₂ (λ (x y : ℕ). set (creditSpan n from grocers source statement) x (getD (creditSpan n from grocers source statement) x (pos 0) +ℤ getD source y (pos 0)))
+    (sym k ∙ ap (λ (y : ℕ). getD grocers y 0) (sym e)) (sym e)
+    ∙ ap (λ (m : ℕ). creditSpan m from grocers source statement) (next n)
   where
-    next : (from i : ℕ) → from ≤ i → i + 1 - from ≡ suc (i - from)
-    next from i l = omega arith
+    next : (n : ℕ) → suc n ≡ n + 1
+    next n = omega arith
 
-    here : (from i : ℕ) → from ≤ i → from + (i - from) ≡ i
-    here from i l = omega arith
+-- A span and the one behind it, whose totals are as they were.
+pub credit-join : (m n from : ℕ) (grocers : List ℕ) (source source′ statement : List ℤ) → ((i : ℕ) → i < n → getD source′ (from + m + i) (pos 0) ≡ getD source (from + m + i) (pos 0)) →
+    creditSpan n (from + m) grocers source′ (creditSpan m from grocers source statement) ≡ creditSpan (m + n) from grocers source statement
+unfolding creditSpan
+credit-join m zero from grocers source source′ statement same = ap (λ (k : ℕ). creditSpan k from grocers source statement) (none m)
+  where
+    none : (m : ℕ) → m ≡ m + 0
+    none m = omega arith
+credit-join m (suc n) from grocers source source′ statement same =
+    ap₂ (λ (x : List ℤ) (z : ℤ). set x (getD grocers (from + m + n) 0) (getD x (getD grocers (from + m + n) 0) (pos 0) +ℤ z))
+    (credit-join m n from grocers source source′ statement (λ i l. same i (omega arith))) (same n (omega arith))
+    ∙ ap (λ (k : ℕ). set (creditSpan (m + n) from grocers source statement) (getD grocers k 0) (getD (creditSpan (m + n) from grocers source statement) (getD grocers k 0) (pos 0) +ℤ getD source k (pos 0))) (at from m n)
+    ∙ ap (λ (k : ℕ). creditSpan k from grocers source statement) (next m n)
+  where
+    at : (from m n : ℕ) → from + m + n ≡ from + (m + n)
+    at from m n = omega arith
+
+    next : (m n : ℕ) → suc (m + n) ≡ m + suc n
+    next m n = omega arith
 
 -- No place yet.
-pub credit-none : (from : ℕ) (grocers : List ℕ) (source statement : List ℤ) → statement ≡ creditSpan (from - from) from grocers source statement
+pub credit-none : (n from : ℕ) (grocers : List ℕ) (source statement : List ℤ) → n ≡ 0 → statement ≡ creditSpan n from grocers source statement
 unfolding creditSpan
-credit-none from grocers source statement = ap (λ (n : ℕ). creditSpan n from grocers source statement) (none from)
-  where
-    none : (from : ℕ) → 0 ≡ from - from
-    none from = omega arith
+credit-none n from grocers source statement e = rw e
+
+-- ---- Places
+
+either : (a b c : ℕ) (x y : ℤ) (i : ℕ) → a ≤ b → b ≤ c → cond (inSpan b c i) x (cond (inSpan a b i) x y) ≡ cond (inSpan a c i) x y
+unfolding inSpan
+either a b c x y i h k =
+    split (ltb i b)
+    (λ e. let lt = ltb-true i b e in rw (e, lt-leb b i lt, lt-ltb i c (omega arith)))
+    (λ e. let le = ltb-false i b e in rw (e, le-leb b i le, le-leb a i (omega arith)))
+
+-- A span and the one behind it.
+pub span-join : (a b c : ℕ) (f : ℕ → ℤ) (l : List ℤ) → a ≤ b → b ≤ c → spanWritten b c f (spanWritten a b f l) ≡ spanWritten a c f l
+span-join a b c f l h k =
+    ext-getD (pos 0) (spanWritten b c f (spanWritten a b f l)) (spanWritten a c f l) (length-span b c f (spanWritten a b f l) ∙ length-span a b f l ∙ sym (length-span a c f l)) (λ i q.
+    let inside : i < length l = omega (arith, length-span b c f (spanWritten a b f l), length-span a b f l) in
+    span-word b c f (spanWritten a b f l) i (omega (arith, length-span a b f l)) ∙ rw (span-word a b f l i inside, span-word a c f l i inside) (either a b c (f i) (getD l i (pos 0)) i h k))
+
+-- A word behind the span.
+pub span-past : (from i k : ℕ) (f : ℕ → ℤ) (l l′ : List ℤ) → l′ ≡ spanWritten from i f l → i ≤ k → k < length l → getD l′ k (pos 0) ≡ getD l k (pos 0)
+span-past from i k f l l′ e h q = ap (λ (x : List ℤ). getD x k (pos 0)) e ∙ span-word from i f l k q ∙ rw (before from i k h)

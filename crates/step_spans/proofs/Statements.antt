@@ -2,24 +2,28 @@
 use mathlib.Core.Path.{_≡_, refl, sym, ap, _∙_}
 use mathlib.Core.Bool.{true}
 use mathlib.Core.List.{List}
-use Prim.Native.Nat.{ℕ, zero, suc, _+_, _-_, _<_, _≤_}
+use Prim.Native.Nat.{ℕ, zero, suc, _+_, _-_, _*_, _/_, _%_, _<_, _≤_}
+use native.Mathlib.Nat.{mul-le-mul, add-mul, le-trans, mod-lt, div-lt-iff-lt-mul, le-div-iff-mul-le, div-add-mod'}
 use native.Mathlib.Omega.{arith}
 use lib.Dec.{eqb, ltb, leb}
 use lib.IntN.{ℤ, pos, natAbs, _+ℤ_}
-use lib.ListN.{length, getD}
+use lib.ListN.{length, length-append, getD}
 use lib.Seq.{getD-set-same, getD-set-other}
 use borrow.Author.Tests.{eqb-true, eqb-false, eq-eqb, ltb-true, lt-ltb, le-leb, leb-true}
-use Rattle.laws.specs.Below.{any, all}
+use Rattle.laws.specs.Below.{naturals, sum, any, all}
 use Rattle.laws.specs.Tables.{overwrite}
 use Rattle.laws.proofs.Bools.{split, clash, and-true, and-l, and-r, same-test}
 use Rattle.laws.proofs.Below.{any-at, any-find, all-at, all-of}
-use Rattle.laws.proofs.Tables.{is-overwrite, word-in}
+use Rattle.laws.proofs.Tables.{is-overwrite, word-in, pos-right, cell-in}
 use Rattle.model.specs.Job.{Job}
 use Rattle.model.specs.Ranges.{around}
 use Rattle.model.specs.Steps.{effect, addOwn, receiveTotals}
-use Rattle.model.specs.Tables.{StateTables, view, store}
-use Rattle.model.specs.Spans.{groupStart, placeGrocers, inSpan, BySpans}
-use Rattle.step_spans.specs.Credit.{creditSpan}
+use Rattle.model.specs.LocalLists.{chained, localGrocers}
+use Rattle.model.specs.PackedTotals.{spread, totalsStart, totalsLength}
+use Rattle.model.specs.Tables.{JobTables, jobOf, withLists, eveningOf, StateTables, view, store}
+use Rattle.model.specs.Spans.{groupStart, placeGrocers, inSpan, BySpans, beside, ListSpans}
+use Rattle.model.proofs.SideBySide.{length-beside, getD-beside}
+use Rattle.step_spans.specs.Credit.{creditSpan, SpanIn}
 use Rattle.step_spans.proofs.Laws.{length-credit}
 
 module _ (from : ℕ) (grocers : List ℕ) (source statement : List ℤ) where
@@ -134,3 +138,73 @@ module _ (j : Job) (t : StateTables) (z : BySpans j t) (grocers : List ℕ) (lon
       (λ i h. ap (effect j (view j t) receiveTotals a b .statement) (at i h .0) ∙ z .receivedEach a b i la lb h
       ∙ ap (λ (y : ℤ). y +ℤ getD (t .totalTransit) i (pos 0)) (ap (view j t .statement) (sym (at i h .0)) ∙ read-word j t (getD grocers i 0) (at i h .1)))
       (λ g l none. z .receivedOther a b g la lb l (λ i h q. none i h (at i h .0 ∙ q)) ∙ read-word j t g l)
+
+-- ---- Places with a word for each price list
+
+-- The number at word w of a list with n words for each entry.
+beside-word : (n : ℕ) (l : List ℕ) (w : ℕ) → w < length l * n → getD (beside n l) w 0 ≡ getD l (w / n) 0 * n + w % n
+beside-word n l w h =
+    let some : 0 < n = pos-right (length l) n w h in
+    ap (λ (k : ℕ). getD (beside n l) k 0) (sym (div-add-mod' w n)) ∙ getD-beside n l (w / n) (w % n) (div-lt-iff-lt-mul some .1 h) (mod-lt w some)
+
+-- The place of a word of a span of places lies in it.
+place-of : (n from to w : ℕ) → from * n ≤ w → w < to * n → (from ≤ w / n) × (w / n < to)
+place-of n from to w l h =
+    let some : 0 < n = pos-right to n w h in
+    (le-div-iff-mul-le some .1 l, div-lt-iff-lt-mul some .1 h)
+
+-- A word of the statements is one of m entries.
+number-in : (n m from to : ℕ) (grocers : List ℕ) → to ≤ length grocers → ((i : ℕ) → from ≤ i → i < to → getD grocers i 0 < m) → (w : ℕ) → from * n ≤ w → w < to * n → getD (beside n grocers) w 0 < m * n
+number-in n m from to grocers long each w l h =
+    let at = place-of n from to w l h in
+    let some : 0 < n = pos-right to n w h in
+    rw (beside-word n grocers w (le-trans h (mul-le-mul long (omega arith)))) (cell-in (getD grocers (w / n) 0) m n (w % n) (each (w / n) (at .0) (at .1)) (mod-lt w some))
+
+-- What adding a span of at most 255 places requires, of tables in range: m statements of so many words each.
+pub span-in : (from to width m : ℕ) (grocers : List ℕ) (source statement : List ℤ) → from ≤ to → to ≤ from + 255 → width ≤ 8 → to ≤ length grocers →
+    to * width ≤ length source → m * width ≤ length statement → ((i : ℕ) → from ≤ i → i < to → getD grocers i 0 < m) →
+    ((w : ℕ) → w < to * width → natAbs (getD source w (pos 0)) ≤ 1_000_000_000_000_000) → ((w : ℕ) → w < m * width → natAbs (getD statement w (pos 0)) ≤ 1_000_000_000_000_000) →
+    SpanIn from to width grocers source statement
+span-in from to width m grocers source statement order few lists long source-long statement-long each source-in statement-in = record {
+  order = order;
+  width-in = lists;
+  grocers-long = long;
+  words-in = record {
+    order = mul-le-mul order (omega arith);
+    few = let wide : to * width ≤ (from + 255) * width = mul-le-mul few (omega arith) in omega (arith, wide, add-mul from 255 width);
+    grocers-long = rw (length-beside width grocers) (mul-le-mul long (omega arith));
+    source-long = source-long;
+    grocer-in = λ w l h. le-trans (number-in width m from to grocers long each w l h) statement-long;
+    source-in = λ w l h. source-in w h;
+    statement-in = λ w l h. statement-in (getD (beside width grocers) w 0) (number-in width m from to grocers long each w l h);
+  };
+}
+
+length-chained : (n : ℕ) (f : ℕ → List ℕ) → length (chained n f) ≡ sum naturals n (λ c. length (f c))
+unfolding sum naturals chained
+length-chained zero f = refl
+length-chained (suc n) f = length-append (chained n f) (f n) ∙ ap (λ (k : ℕ). k + length (f n)) (length-chained n f)
+
+-- Each place has a grocer.
+length-places : (j : Job) → length (placeGrocers j) ≡ totalsLength j
+unfolding placeGrocers totalsLength totalsStart
+length-places j = length-chained (j .boxes) (localGrocers j)
+
+-- Where `grocers` has the grocer of each place of a span, its numbers side by side are those of the evening's places.
+pub evening-grocers : (f : JobTables) → ListSpans f → (from to : ℕ) (grocers : List ℕ) → to ≤ length grocers → to ≤ totalsLength (jobOf f) →
+    ((i : ℕ) → inSpan from to i ≡ true → (getD grocers i 0 ≡ getD (placeGrocers (jobOf f)) i 0) × (getD grocers i 0 < f .grocers)) →
+    (w : ℕ) → inSpan (from * suc (f .lists)) (to * suc (f .lists)) w ≡ true →
+    (getD (beside (suc (f .lists)) grocers) w 0 ≡ getD (placeGrocers (eveningOf f)) w 0) × (getD (beside (suc (f .lists)) grocers) w 0 < eveningOf f .grocers)
+unfolding inSpan withLists spread jobOf
+evening-grocers f s from to grocers long places each w e =
+    let n = suc (f .lists) in
+    let l = leb-true (from * suc (f .lists)) w (and-l _ _ e) in
+    let h = ltb-true w (to * suc (f .lists)) (and-r (leb (from * suc (f .lists)) w) _ e) in
+    let at = place-of n from to w l h in
+    let same = each (w / n) (and-true (le-leb from (w / n) (at .0)) (lt-ltb (w / n) to (at .1))) .0 in (
+      beside-word n grocers w (le-trans h (mul-le-mul long (omega arith)))
+          ∙ ap (λ (g : ℕ). g * n + w % n) same
+          ∙ sym (beside-word n (placeGrocers (jobOf f)) w (le-trans h (mul-le-mul (rw (length-places (jobOf f)) places) (omega arith))))
+          ∙ ap (λ (x : List ℕ). getD x w 0) (sym (s .grocers)),
+      number-in n (f .grocers) from to grocers long (λ i l h. each i (and-true (le-leb from i l) (lt-ltb i to h)) .1) w l h,
+    )

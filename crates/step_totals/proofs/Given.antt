@@ -11,7 +11,7 @@ use Rattle.model.proofs.Step.{job-in}
 use Rattle.step_totals.proofs.Effect.{talliesOf}
 
 -- The tables of tallies of a job that is lent whole and in range, with the places of their totals.
-pub tallies-given : (f : JobTables) (places : List ℕ) → JobLong (f .grocers) (f .offers) (f .tallies) (jobLengths f) → handedInRange f ≡ true → TalliesIn (talliesOf f places)
+pub tallies-given : (f : JobTables) (places : List ℕ) → JobLong (f .grocers) (f .offers) (f .tallies) (f .lists) (jobLengths f) → handedInRange f ≡ true → TalliesIn (talliesOf f places)
 unfolding jobLengths
 tallies-given f places l ok =
     let w = job-in f ok in

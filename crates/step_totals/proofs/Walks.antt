@@ -28,10 +28,10 @@ pair-taken owner holder offer a from i lf lo e =
     and-true (eq-eqb (getD holder i 0) a mine) (eq-eqb (getD owner (getD offer i 0) 0) from theirs)
 
 -- A tally of another pair of boxes brings nothing to the row of box a, at any grocer.
-pub other-share : (owner holder offer : List ℕ) (counts : List ℤ) (prices : List ℕ) (place : ℕ → ℕ) (a from at g i : ℕ) → (pairAt holder offer owner i ≡ pairKey a from → ⊥) →
-    share place (brings owner holder offer counts prices a from at) g i ≡ pos 0
+pub other-share : (owner holder offer : List ℕ) (counts : List ℤ) (prices : List ℕ) (place : ℕ → ℕ) (a from at width q g i : ℕ) → (pairAt holder offer owner i ≡ pairKey a from → ⊥) →
+    share place (brings owner holder offer counts prices a from at width q) g i ≡ pos 0
 unfolding only integers
-other-share owner holder offer counts prices place a from at g i n = rw (no-true (isTaken owner holder offer a from i) other) (nothing (eqb (place i) g))
+other-share owner holder offer counts prices place a from at width q g i n = rw (no-true (isTaken owner holder offer a from i) other) (nothing (eqb (place i) g))
   where
     other : isTaken owner holder offer a from i ≡ true → ⊥
     other t =

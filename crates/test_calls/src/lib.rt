@@ -37,6 +37,7 @@ pub extern "C" fn entries_write(
     offers: u16,
     tallies: u16,
     cycle: u16,
+    lists: u16,
     price: &[u32],
     offer_owner: &[u16],
     offer_code: &[u8],
@@ -51,8 +52,8 @@ pub extern "C" fn entries_write(
     tally_revision: &[u16],
     out: &mut [u8],
 ) -> usize
-    ensures { λ r. ⌜ written r (now (out .exit)) ≡ writtenAs (writeResult (headOf boxes grocers offers tallies cycle) (fileLent price «offer_owner» «offer_code»
-        «offer_issuer» «grocer_owner» «tally_grocer» «tally_box» «tally_code» «tally_count» «tally_issuer» «tally_bag»
+    ensures { λ r. ⌜ written r (now (out .exit)) ≡ writtenAs (writeResult (headOf boxes grocers offers tallies cycle lists) (fileLent price
+        «offer_owner» «offer_code» «offer_issuer» «grocer_owner» «tally_grocer» «tally_box» «tally_code» «tally_count» «tally_issuer» «tally_bag»
         «tally_revision») (now (out .entry))) ⌝ }
 {
     let a = writer::write(
@@ -61,6 +62,7 @@ pub extern "C" fn entries_write(
         offers,
         tallies,
         cycle,
+        lists,
         price,
         offer_owner,
         offer_code,
@@ -253,6 +255,7 @@ pub extern "C" fn entries_message_tables(
     grocers: u16,
     offers: u16,
     tallies: u16,
+    lists: u16,
     price: &[u32],
     offer_owner: &[u16],
     grocer_owner: &[u16],
@@ -268,7 +271,7 @@ pub extern "C" fn entries_message_tables(
 ) -> u16
     ensures { λ r. ⌜ messagesTold r (now («price_words» .exit)) (now («total_words» .exit)) (now («job_words» .exit))
         ≡ messagesBy
-        (bagLent boxes grocers offers tallies price «offer_owner» «grocer_owner» «tally_grocer» «tally_box» «tally_offer» «tally_count»
+        (bagLent boxes grocers offers tallies lists price «offer_owner» «grocer_owner» «tally_grocer» «tally_box» «tally_offer» «tally_count»
         «tally_bag» «tally_revision»)
         (now («price_words» .entry)) (now («total_words» .entry)) (now («job_words» .entry)) ⌝ }
 {
@@ -283,6 +286,7 @@ pub extern "C" fn entries_message_tables(
         grocers,
         offers,
         tallies,
+        lists,
         price,
         offer_owner,
         grocer_owner,
@@ -325,6 +329,7 @@ pub extern "C" fn entries_book(
     grocers: u16,
     offers: u16,
     tallies: u16,
+    lists: u16,
     price: &[u32],
     offer_owner: &[u16],
     grocer_owner: &[u16],
@@ -343,7 +348,7 @@ pub extern "C" fn entries_book(
     numbers: &mut [u16],
 ) -> u16
     ensures { λ r. ⌜ bookTold r (bookAfter «local_offers» «local_grocers» starts «packed_grocers» «packed_counts») (now (numbers .exit)) ≡ bookedBy
-        (bagLent boxes grocers offers tallies price «offer_owner» «grocer_owner» «tally_grocer» «tally_box» «tally_offer» «tally_count»
+        (bagLent boxes grocers offers tallies lists price «offer_owner» «grocer_owner» «tally_grocer» «tally_box» «tally_offer» «tally_count»
         «tally_bag» «tally_revision»)
         «book_box» (bookBefore «local_offers» «local_grocers» starts «packed_grocers» «packed_counts») (now (numbers .entry)) ⌝ }
 {
@@ -355,6 +360,7 @@ pub extern "C" fn entries_book(
         grocers,
         offers,
         tallies,
+        lists,
         price,
         offer_owner,
         grocer_owner,

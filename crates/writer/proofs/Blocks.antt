@@ -13,7 +13,7 @@ use borrow.Author.Tests.{lt-ltb, le-ltb, ltb-true, le-leb, lt-leb, leb-true}
 use Rattle.laws.proofs.Bools.{split}
 use Rattle.format.specs.Bytes.{from, bytes16}
 use Rattle.format.specs.Job.{FileJob}
-use Rattle.format.specs.Blocks.{BlockKind, header, offerBlock, grocerBlock, tallyBlock, kindAt, blockKindNumber, records, recordSize, fieldSize, recordBytes, spare, firstSum, secondSum}
+use Rattle.format.specs.Blocks.{BlockKind, header, offerBlock, grocerBlock, priceBlock, tallyBlock, kindAt, blockKindNumber, records, recordSize, fieldSize, recordBytes, spare, firstSum, secondSum}
 use Rattle.format.specs.File.{recordByte, bodyByte, blockByte}
 use Rattle.writer_bytes.specs.Puts.{put, bytesOf}
 use Rattle.writer.specs.Bodies.{rowsOf, bodyOf, keepOf, blocksOf}
@@ -27,6 +27,7 @@ some-bytes : (b : BlockKind) → 0 < recordSize b
 some-bytes header = omega arith
 some-bytes (offerBlock b) = omega arith
 some-bytes grocerBlock = omega arith
+some-bytes (priceBlock q b) = omega arith
 some-bytes (tallyBlock b) = omega arith
 
 -- A record's bytes past its fields are 0, as are those past the block's records.

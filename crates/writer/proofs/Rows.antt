@@ -13,7 +13,7 @@ use Rattle.format.specs.Bytes.{bytes16, bytes32}
 use Rattle.format.specs.Codes.{codeBytes, readCode}
 use Rattle.format.specs.Job.{Offer, Tally}
 use Rattle.format.specs.Blocks.{offerBytes, tallyBytes}
-use Rattle.file_codes.specs.Copied.{Copied}
+use Rattle.file_blocks.specs.Copied.{Copied}
 use Rattle.writer_bytes.specs.Puts.{put, bytesOf}
 use Rattle.file_codes.proofs.Codes.{code-byte}
 use Rattle.writer_bytes.proofs.Puts.{length-put, is-put, put-cong, put-next, store-next}

@@ -1,10 +1,11 @@
 -- A block as its head, its records and the zeros behind them.
-use Prim.Native.Nat.{ℕ, _+_, _-_, _*_, _/_, _%_, _<_, min}
 use mathlib.Core.Bool.{cond}
 use mathlib.Core.List.{List, _∷_}
+use Prim.Native.Nat.{ℕ, suc, _+_, _-_, _*_, _/_, _%_, _<_, min}
 use lib.Dec.{ltb}
 use lib.ListN.{getD}
-use Rattle.format.specs.Bytes.{bytes16}
+use Rattle.format.specs.Bytes.{bytes16, bytes32}
+use Rattle.format.specs.Blocks.{listBlocks}
 use Rattle.format.specs.File.{blockByte}
 use Rattle.writer_bytes.specs.Puts.{bytesOf}
 
@@ -26,6 +27,17 @@ abbrev pub recordBody : ℕ → ℕ → ℕ → (ℕ → List ℕ) → ℕ → �
 recordBody kind first n fields b =
     let count = min 21 (n - 21 * b) in
     bodyOf (kind ∷ count ∷ bytes16 (first + b)) 24 count (λ r. bytesOf (fields (21 * b + r)))
+
+-- Price block b of a list of n prices, four bytes each, which is block `number` of the file.
+abbrev pub priceBody : (number n : ℕ) → (ℕ → ℕ) → ℕ → ℕ → ℕ
+priceBody number n price b =
+    let count = min 126 (n - 126 * b) in
+    bodyOf (4 ∷ count ∷ bytes16 number) 4 count (λ r. bytesOf (bytes32 (price (126 * b + r))))
+
+-- Price block x of the additional lists, from block `first` of the file on; the prices of n offers stand list after list, the first list's in front.
+abbrev pub listBody : (first n : ℕ) → List ℕ → ℕ → ℕ → ℕ
+listBody first n price x =
+    priceBody (first + x) n (λ i. getD price (suc (x / listBlocks n) * n + i) 0) (x % listBlocks n)
 
 -- Blocks one after the other, each with its sums behind its first 508 bytes.
 abbrev pub blocksOf : (ℕ → ℕ → ℕ) → ℕ → ℕ

@@ -8,9 +8,10 @@ use Rattle.format.specs.Tables.{FileTables, Long}
 use Rattle.file_blocks.specs.Due.{Most}
 use Rattle.writer.specs.Bodies.{Small}
 
--- K, M, N and T are in range, each table and the buffer are long enough, and each word that takes one byte fits it.
+-- K, M, N, T and the number of additional lists are in range, each table and the buffer are long enough, and each word that takes one byte fits it.
 pub record Ready (h : Head) (l : FileTables) (out : List ℕ) : Type 0 where
   pub most : Most h
+  pub offers : 1 ≤ h .offers
   pub long : Long h l
   pub room : 512 * blockCount h ≤ length out
   pub offerOwner : Small (l .offers .owner) (h .offers)

@@ -10,13 +10,15 @@ ghost use Rattle.format.specs.Tables.{offerTables, tallyTables, LongOffers, Lon
 ghost use Rattle.format.specs.Lent.{offersLent, talliesLent};
 ghost use Rattle.file_blocks.specs.Due.{asHead, Most};
 ghost use Rattle.writer_bytes.specs.Puts.{put, bytesOf};
-ghost use Rattle.writer.specs.Bodies.{bodyOf, keepOf, recordBody, Small};
+ghost use Rattle.writer.specs.Bodies.{bodyOf, keepOf, recordBody, priceBody, Small};
 use crate::records::put_offers;
 use crate::records::put_owners;
+use crate::records::put_prices;
 use crate::records::put_tallies;
 use file_blocks::plan::Head;
 use file_sums::sums;
 use slices::casts::index_of;
+use writer_bytes::put_byte;
 use writer_bytes::put_four;
 use writer_bytes::put_words;
 use writer_bytes::put_zeros;
@@ -33,22 +35,22 @@ fn close_block(out: &mut [u8], at: usize, used: usize)
     put16(out, at + 510, s.second as usize);
 }
 
-// How many of n records the block has whose first record is `first`.
-fn part_of(n: usize, first: usize) -> usize
+// How many of n records the block of at most so many has whose first record is `first`.
+fn part_of(n: usize, first: usize, most: usize) -> usize
     requires { ⌜ first ≤ n ⌝ }
-    ensures { λ r. ⌜ r ≡ min 21 (n - first) ⌝ }
+    ensures { λ r. ⌜ r ≡ min most (n - first) ⌝ }
 {
     let rest = n - first;
-    if rest < 21 {
+    if rest < most {
         return rest;
     }
-    21
+    most
 }
 
-// The header's record: K, 1, M, N, T and the cycle.
+// The header's record: K, 1, M, N, T, the cycle and the number of additional price lists.
 fn put_sizes(out: &mut [u8], head: Head)
-    requires { ⌜ (14 ≤ length (now out)) × Most (asHead head) ⌝ }
-    ensures { λ _. ⌜ now (out .exit) ≡ put 4 10 (bytesOf (headerBytes (asHead head))) (now (out .entry)) ⌝ }
+    requires { ⌜ (15 ≤ length (now out)) × Most (asHead head) ⌝ }
+    ensures { λ _. ⌜ now (out .exit) ≡ put 4 11 (bytesOf (headerBytes (asHead head))) (now (out .entry)) ⌝ }
 {
     let k = head.sizes.boxes as usize;
     let m = head.sizes.grocers as usize;
@@ -56,6 +58,7 @@ fn put_sizes(out: &mut [u8], head: Head)
     let t = head.sizes.tallies as usize;
     put_four(out, 4, k, 1, m);
     put_words(out, 8, n, t, index_of(head.cycle));
+    put_byte(out, 14, index_of(head.sizes.lists));
 }
 
 // The header block.
@@ -66,7 +69,7 @@ pub fn put_header(out: &mut [u8], head: Head)
 {
     put_four(out, 0, 0, 1, 0);
     put_sizes(out, head);
-    close_block(out, 0, 14);
+    close_block(out, 0, 15);
 }
 
 // Offer block b, of n offers.
@@ -80,7 +83,7 @@ pub fn put_offer_block(
     offer_issuer: &[u16],
 )
     requires { ⌜ (n ≤ 500) × ((21 * b < n) × (512 * (2 + b) ≤ length (now out))) ⌝ }
-    requires { ⌜ LongOffers n (offerTables (now price) (now «offer_owner») (now «offer_code») (now «offer_issuer»)) ⌝ }
+    requires { ⌜ LongOffers 0 n (offerTables (now price) (now «offer_owner») (now «offer_code») (now «offer_issuer»)) ⌝ }
     requires { ⌜ Small (now «offer_owner») n ⌝ }
     ensures { λ _. ⌜ now (out .exit) ≡ put (512 * (1 + b)) 512 (blockByte
         (recordBody 1 1 n (λ i. offerBytes (offerOf (offersLent price «offer_owner» «offer_code» «offer_issuer») i)) b)) (now (out .entry)) ⌝ }
@@ -88,7 +91,7 @@ pub fn put_offer_block(
     let number = 1 + b;
     let at = 512 * number;
     let first = 21 * b;
-    let count = part_of(n, first);
+    let count = part_of(n, first, 21);
     put_four(out, at, 1, count, number);
     put_offers(
         out,
@@ -114,6 +117,28 @@ pub fn put_grocer_block(out: &mut [u8], k: usize, m: usize, grocer_owner: &[u16]
     put_four(out, at, 2, m, k);
     put_owners(out, at + 4, m, grocer_owner);
     close_block(out, at, 4 + m);
+}
+
+// Block `number` of the file: price block b of a list, whose n prices begin at `from`.
+pub fn put_price_block(
+    out: &mut [u8],
+    number: usize,
+    b: usize,
+    n: usize,
+    price: &[u32],
+    from: usize,
+)
+    requires { ⌜ (n ≤ 500) × ((126 * b < n) × ((number ≤ 200) × (512 * (number + 1) ≤ length (now out)))) ⌝ }
+    requires { ⌜ (from ≤ 100_000) × (from + n ≤ length (now price)) ⌝ }
+    ensures { λ _. ⌜ now (out .exit) ≡ put (512 * number) 512 (blockByte (priceBody number n (λ i. getD (now (price .entry)) (from + i) 0) b))
+        (now (out .entry)) ⌝ }
+{
+    let at = 512 * number;
+    let first = 126 * b;
+    let count = part_of(n, first, 126);
+    put_four(out, at, 4, count, number);
+    put_prices(out, at + 4, from + first, count, price);
+    close_block(out, at, 4 + count * 4);
 }
 
 // Tally block b, of t tallies whose first block is block k.
@@ -142,7 +167,7 @@ pub fn put_tally_block(
     let number = k + b;
     let at = 512 * number;
     let first = 21 * b;
-    let count = part_of(t, first);
+    let count = part_of(t, first, 21);
     put_four(out, at, 3, count, number);
     put_tallies(
         out,

@@ -1,23 +1,27 @@
 // The whole file put into the buffer.
 ghost use mathlib.Core.Path.{_≡_};
 ghost use mathlib.Core.List.{_++_};
-ghost use Prim.Native.Nat.{_+_, _*_, _≤_};
+ghost use Prim.Native.Nat.{suc, _+_, _*_, _≤_};
 ghost use lib.ListN.{length, drop};
-ghost use Rattle.format.specs.Blocks.{blocksFor, offerBytes, tallyBytes};
+ghost use Rattle.laws.specs.Lists.{listWords};
+ghost use Rattle.format.specs.Blocks.{blocksFor, listBlocks, offerBytes, tallyBytes};
 ghost use Rattle.format.specs.File.{encode};
 ghost use Rattle.format.specs.Tables.{offerTables, tallyTables, fileTables, LongOffers, LongTallies, offerOf, tallyOf, fileJobOf};
 ghost use Rattle.format.specs.Lent.{offersLent, talliesLent, fileLent};
 ghost use Rattle.file_blocks.specs.Due.{asHead};
 ghost use Rattle.writer_bytes.specs.Puts.{put};
-ghost use Rattle.writer.specs.Bodies.{recordBody, blocksOf, Small};
+ghost use Rattle.writer.specs.Bodies.{recordBody, listBody, blocksOf, Small};
 ghost use Rattle.writer.specs.Ready.{Ready};
 use crate::block::put_grocer_block;
 use crate::block::put_header;
 use crate::block::put_offer_block;
+use crate::block::put_price_block;
 use crate::block::put_tally_block;
 use file_blocks::plan::Head;
 use file_blocks::plan::blocks_for;
 use file_blocks::plan::grocers_at;
+use file_blocks::plan::list_blocks;
+use file_blocks::plan::tallies_at;
 
 // All offer blocks, of n offers.
 fn put_offer_blocks(
@@ -29,7 +33,7 @@ fn put_offer_blocks(
     offer_issuer: &[u16],
 )
     requires { ⌜ (n ≤ 500) × (512 * (1 + blocksFor n) ≤ length (now out)) ⌝ }
-    requires { ⌜ LongOffers n (offerTables (now price) (now «offer_owner») (now «offer_code») (now «offer_issuer»)) ⌝ }
+    requires { ⌜ LongOffers 0 n (offerTables (now price) (now «offer_owner») (now «offer_code») (now «offer_issuer»)) ⌝ }
     requires { ⌜ Small (now «offer_owner») n ⌝ }
     ensures { λ _. ⌜ now (out .exit) ≡ put 512 (blocksFor n * 512) (blocksOf
         (recordBody 1 1 n (λ i. offerBytes (offerOf (offersLent price «offer_owner» «offer_code» «offer_issuer») i))))
@@ -40,6 +44,29 @@ fn put_offer_blocks(
     while b < blocks {
         put_offer_block(out, b, n, price, offer_owner, offer_code, offer_issuer);
         b += 1;
+    }
+}
+
+// Where the prices of n offers on an additional list begin, of lists from 0: behind those of the first list.
+fn list_start(q: usize, n: usize) -> usize
+    requires { ⌜ (q ≤ 100) × (n ≤ 500) ⌝ }
+    ensures { λ r. ⌜ (r ≡ suc q * n) × (r ≤ 100_000) ⌝ }
+{
+    (q + 1) * n
+}
+
+// All price blocks of the additional lists, of n offers, from block k on.
+fn put_price_blocks(out: &mut [u8], k: usize, lists: usize, n: usize, price: &[u32])
+    requires { ⌜ ((1 ≤ n) × (n ≤ 500)) × ((lists ≤ 7) × ((k ≤ 100) × (512 * (k + lists * listBlocks n) ≤ length (now out)))) ⌝ }
+    requires { ⌜ listWords lists n ≤ length (now price) ⌝ }
+    ensures { λ _. ⌜ now (out .exit) ≡ put (512 * k) (lists * listBlocks n * 512) (blocksOf (listBody k n (now (price .entry)))) (now (out .entry)) ⌝ }
+{
+    let each = list_blocks(n);
+    let blocks = lists * each;
+    let mut x: usize = 0;
+    while x < blocks {
+        put_price_block(out, k + x, x % each, n, price, list_start(x / each, n));
+        x += 1;
     }
 }
 
@@ -85,7 +112,7 @@ fn put_tally_blocks(
     }
 }
 
-// The file of a job that is not refused: the header, then offer, grocer and tally blocks.
+// The file of a job that is not refused: the header, then offer, grocer, price and tally blocks.
 pub fn put_file(
     head: Head,
     price: &[u32],
@@ -113,13 +140,15 @@ pub fn put_file(
     let m = head.sizes.grocers as usize;
     let n = head.sizes.offers as usize;
     let t = head.sizes.tallies as usize;
+    let lists = head.sizes.lists as usize;
     let k = grocers_at(head);
     put_header(out, head);
     put_offer_blocks(out, n, price, offer_owner, offer_code, offer_issuer);
     put_grocer_block(out, k, m, grocer_owner);
+    put_price_blocks(out, k + 1, lists, n, price);
     put_tally_blocks(
         out,
-        k + 1,
+        tallies_at(head),
         t,
         tally_grocer,
         tally_box,

@@ -27,6 +27,7 @@ pub fn write(
     offers: u16,
     tallies: u16,
     cycle: u16,
+    lists: u16,
     price: &[u32],
     offer_owner: &[u16],
     offer_code: &[u8],
@@ -41,11 +42,11 @@ pub fn write(
     tally_revision: &[u16],
     out: &mut [u8],
 ) -> Answer
-    ensures { λ r. ⌜ outcomeOf r (now (out .exit)) ≡ writeResult (headOf boxes grocers offers tallies cycle)
+    ensures { λ r. ⌜ outcomeOf r (now (out .exit)) ≡ writeResult (headOf boxes grocers offers tallies cycle lists)
         (fileLent price «offer_owner» «offer_code» «offer_issuer» «grocer_owner» «tally_grocer» «tally_box»
         «tally_code» «tally_count» «tally_issuer» «tally_bag» «tally_revision») (now (out .entry)) ⌝ }
 {
-    let head = head_of(boxes, grocers, offers, tallies, cycle);
+    let head = head_of(boxes, grocers, offers, tallies, cycle, lists);
     let refusal = write_refusal(
         head,
         price,

@@ -2,6 +2,7 @@
 ghost use mathlib.Core.Path.{_≡_};
 ghost use Prim.Native.Nat.{_+_, _*_, _≤_, _<_};
 ghost use lib.ListN.{length, getD};
+ghost use Rattle.format.specs.Bytes.{bytes32};
 ghost use Rattle.format.specs.Blocks.{offerBytes, tallyBytes};
 ghost use Rattle.format.specs.Tables.{offerOf, tallyOf};
 ghost use Rattle.format.specs.Lent.{offersLent, talliesLent};
@@ -160,5 +161,17 @@ pub fn put_owners(out: &mut [u8], at: usize, m: usize, grocer_owner: &[u16])
     while i < m {
         out[at + i] = grocer_owner[i] as u8;
         i += 1;
+    }
+}
+
+// N prices from `first` on, four bytes each.
+pub fn put_prices(out: &mut [u8], at: usize, first: usize, n: usize, price: &[u32])
+    requires { ⌜ (n ≤ 126) × (at + n * 4 ≤ length (now out)) × (first + n ≤ length (now price)) ⌝ }
+    ensures { λ _. ⌜ now (out .exit) ≡ put at (n * 4) (rowsOf 4 (λ r. bytesOf (bytes32 (getD (now (price .entry)) (first + r) 0)))) (now (out .entry)) ⌝ }
+{
+    let mut r: usize = 0;
+    while r < n {
+        put32(out, at + r * 4, u32_at(price, first + r));
+        r += 1;
     }
 }

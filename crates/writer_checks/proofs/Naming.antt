@@ -61,6 +61,7 @@ places-below h code issuer tcode tissuer places m found t l =
       head = h;
       offer = offerOf (offerTables [] [] code issuer);
       grocerOwner = λ i. 0;
+      listPrice = λ q i. 0;
       tally = tallyOf (tallyTables [] [] tcode [] tissuer [] []);
     }
 

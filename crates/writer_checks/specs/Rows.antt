@@ -10,6 +10,13 @@ use Rattle.format.specs.Job.{Head, FileJob, offerName, tallyName, placeOf, shar
 use Rattle.format.specs.Tables.{codeOf, nameIn}
 use Rattle.file_blocks.specs.Due.{Most}
 
+-- The numbers of a header as they are given: each fits 16 bits.
+pub record Fits (h : Head) : Type 0 where
+  pub grocers : h .grocers ≤ 65535
+  pub offers : h .offers ≤ 65535
+  pub tallies : h .tallies ≤ 65535
+  pub lists : h .lists ≤ 65535
+
 -- The first n entries of a table hold codes.
 pub record Codes (l : List ℕ) (n : ℕ) : Type 0 where
   pub code : (i : ℕ) → i < n → isCode (codeOf l i) ≡ true

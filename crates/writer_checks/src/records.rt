@@ -1,12 +1,13 @@
 // 6: each record of the tables.
 ghost use mathlib.Core.Path.{_≡_};
 ghost use mathlib.Core.List.{List};
-ghost use Prim.Native.Nat.{ℕ, _+_, _*_, _≤_, _<_};
+ghost use Prim.Native.Nat.{ℕ, suc, _+_, _*_, _≤_, _<_};
 ghost use lib.Dec.{ltb};
 ghost use lib.IntN.{natAbs};
 ghost use lib.ListN.{length, getD};
 ghost use Rattle.laws.specs.Below.{any};
-ghost use Rattle.format.specs.Job.{badOffer, badOwner, badTally, badRecords};
+ghost use Rattle.laws.specs.Lists.{listWords};
+ghost use Rattle.format.specs.Job.{badOffer, badOwner, badPrice, badTally, badRecords};
 ghost use Rattle.format.specs.Tables.{offerTables, tallyTables, fileTables, offerOf, tallyOf, fileJobOf};
 ghost use Rattle.file_blocks.specs.Due.{asHead};
 use file_blocks::codes::CODE_BYTES;
@@ -90,6 +91,39 @@ fn bad_owners(head: Head, grocer_owner: &[u16]) -> bool
     bad
 }
 
+// Whether one of the n prices of a list, which begin at `from`, is outside its range.
+fn bad_list(price: &[u32], from: usize, n: usize) -> bool
+    requires { ⌜ from + n ≤ length (now price) ⌝ }
+    ensures { λ r. ⌜ r ≡ any n (λ i. badPrice (getD (now (price .entry)) (from + i) 0)) ⌝ }
+{
+    let mut bad = false;
+    let mut i: usize = 0;
+    while i < n {
+        bad = bad | (MAX_PRICE < u32_at(price, from + i));
+        i += 1;
+    }
+    bad
+}
+
+// Whether one of the prices of the additional lists is.
+fn bad_prices(head: Head, price: &[u32]) -> bool
+    requires { ⌜ listWords (head .sizes .lists) (head .sizes .offers) ≤ length (now price) ⌝ }
+    ensures { λ r. ⌜ r ≡ any (head .sizes .lists) (λ q. any (head .sizes .offers) (λ i. badPrice
+        (getD (now (price .entry)) (suc q * head .sizes .offers + i) 0))) ⌝ }
+{
+    let n = head.sizes.offers as usize;
+    let lists = head.sizes.lists as usize;
+    let mut bad = false;
+    let mut from = n;
+    let mut q: usize = 0;
+    while q < lists {
+        bad = bad | bad_list(price, from, n);
+        from += n;
+        q += 1;
+    }
+    bad
+}
+
 // Whether one of the tallies is outside its range.
 fn bad_tallies(
     head: Head,
@@ -125,7 +159,7 @@ pub fn bad_records(
     tally_code: &[u8],
     tally_count: &[i32],
 ) -> bool
-    requires { ⌜ (head .sizes .offers ≤ length (now price)) × (head .sizes .offers ≤ length (now «offer_owner»)) ×
+    requires { ⌜ (listWords (head .sizes .lists) (head .sizes .offers) ≤ length (now price)) × (head .sizes .offers ≤ length (now «offer_owner»)) ×
         (head .sizes .offers * 11 ≤ length (now «offer_code»)) ⌝ }
     requires { ⌜ head .sizes .grocers ≤ length (now «grocer_owner») ⌝ }
     requires { ⌜ (head .sizes .tallies ≤ length (now «tally_grocer»)) × (head .sizes .tallies ≤ length (now «tally_box»)) ⌝ }
@@ -136,5 +170,6 @@ pub fn bad_records(
 {
     bad_offers(head, price, offer_owner, offer_code)
         | bad_owners(head, grocer_owner)
+        | bad_prices(head, price)
         | bad_tallies(head, tally_grocer, tally_box, tally_code, tally_count)
 }

@@ -1,25 +1,28 @@
-// 20: lengths, by K, M, N and T as they are given.
+// 20: lengths, by K, M, N, T and the number of additional price lists as they are given.
 ghost use mathlib.Core.Path.{_≡_};
 ghost use Prim.Native.Nat.{_*_, _≤_};
+ghost use Rattle.laws.specs.Lists.{listWords};
 ghost use Rattle.format.specs.Job.{headOf};
 ghost use Rattle.format.specs.Blocks.{blockCount};
 ghost use Rattle.format.specs.Tables.{shortOffers, shortTallies, shortWriter};
 ghost use Rattle.format.specs.Lent.{offersLent, talliesLent, fileLent};
-ghost use Rattle.file_blocks.specs.Due.{asHead, Fits};
+ghost use Rattle.file_blocks.specs.Due.{asHead};
+ghost use Rattle.writer_checks.specs.Rows.{Fits};
 use file_blocks::codes::CODE_BYTES;
 use file_blocks::plan::Head;
 use file_blocks::plan::block_count;
 use slices::sizes::Sizes;
 
-// K, M, N and T as given, and the cycle.
-pub fn head_of(boxes: u16, grocers: u16, offers: u16, tallies: u16, cycle: u16) -> Head
-    ensures { λ r. ⌜ (asHead r ≡ headOf boxes grocers offers tallies cycle) × Fits (asHead r) ⌝ }
+// K, M, N and T as given, the cycle, and the number of additional price lists as given.
+pub fn head_of(boxes: u16, grocers: u16, offers: u16, tallies: u16, cycle: u16, lists: u16) -> Head
+    ensures { λ r. ⌜ (asHead r ≡ headOf boxes grocers offers tallies cycle lists) × Fits (asHead r) ⌝ }
 {
     let sizes = Sizes {
         boxes: boxes,
         grocers: grocers,
         offers: offers,
         tallies: tallies,
+        lists: lists,
     };
     Head {
         sizes: sizes,
@@ -35,18 +38,27 @@ pub fn file_length(head: Head) -> usize
     512 * block_count(head)
 }
 
-// 20 of the tables of n offers.
+// How many prices n offers have, on the first list and on the additional ones.
+fn price_words(lists: usize, n: usize) -> usize
+    requires { ⌜ (lists ≤ 65535) × (n ≤ 65535) ⌝ }
+    ensures { λ r. ⌜ r ≡ listWords lists n ⌝ }
+{
+    n * (lists + 1)
+}
+
+// 20 of the tables of n offers with additional price lists.
 fn short_offers(
+    lists: usize,
     n: usize,
     price: &[u32],
     offer_owner: &[u16],
     offer_code: &[u8],
     offer_issuer: &[u16],
 ) -> bool
-    requires { ⌜ n ≤ 65535 ⌝ }
-    ensures { λ r. ⌜ r ≡ shortOffers n (offersLent price «offer_owner» «offer_code» «offer_issuer») ⌝ }
+    requires { ⌜ (lists ≤ 65535) × (n ≤ 65535) ⌝ }
+    ensures { λ r. ⌜ r ≡ shortOffers lists n (offersLent price «offer_owner» «offer_code» «offer_issuer») ⌝ }
 {
-    (price.len() < n)
+    (price.len() < price_words(lists, n))
         | (offer_owner.len() < n)
         | (offer_code.len() < n * CODE_BYTES)
         | (offer_issuer.len() < n)
@@ -75,7 +87,7 @@ fn short_tallies(
         | (tally_revision.len() < t)
 }
 
-// 20: whether a table, or the buffer for the file, is shorter than K, M, N and T as given need.
+// 20: whether a table, or the buffer for the file, is shorter than K, M, N, T and the lists as given need.
 pub fn short_writer(
     head: Head,
     price: &[u32],
@@ -99,7 +111,8 @@ pub fn short_writer(
     let m = head.sizes.grocers as usize;
     let n = head.sizes.offers as usize;
     let t = head.sizes.tallies as usize;
-    let offers = short_offers(n, price, offer_owner, offer_code, offer_issuer);
+    let lists = head.sizes.lists as usize;
+    let offers = short_offers(lists, n, price, offer_owner, offer_code, offer_issuer);
     let tallies = short_tallies(
         t,
         tally_grocer,

@@ -19,8 +19,8 @@ use Rattle.book.proofs.book.Statement.{statement}
 use Rattle.book.proofs.book.Tie as tie
 
 abbrev job : tie.Start → JobTables
-job s = bagTables (s .args .boxes) (s .args .grocers) (s .args .offers) (s .args .tallies) (now (s .args .price)) (now (s .args .offer-owner)) (now (s .args .grocer-owner)) (now (s .args .tally-grocer))
-    (now (s .args .tally-box)) (now (s .args .tally-offer)) (now (s .args .tally-count)) (now (s .args .tally-bag)) (now (s .args .tally-revision))
+job s = bagTables (s .args .boxes) (s .args .grocers) (s .args .offers) (s .args .tallies) (s .args .lists) (now (s .args .price)) (now (s .args .offer-owner)) (now (s .args .grocer-owner))
+    (now (s .args .tally-grocer)) (now (s .args .tally-box)) (now (s .args .tally-offer)) (now (s .args .tally-count)) (now (s .args .tally-bag)) (now (s .args .tally-revision))
 
 -- The tables as they are lent.
 abbrev lent : tie.Start → BookTables
@@ -53,10 +53,10 @@ accepted c = sym (refusal-is (c .before)) ∙ c .if1 .left
 
 -- The standing boxes.
 abbrev boxes : tie.Else1 → List ℕ
-boxes c = looked (c .before) .job-refusal .last .1 .1 .1 .1 .1 .1 .1 .1 .1 .1 .1 .1 .1 .0
+boxes c = looked (c .before) .job-refusal .last .1 .1 .1 .1 .1 .1 .1 .1 .1 .1 .0
 
 long-boxes : (c : tie.Else1) → length (boxes c) ≡ 1_000
-long-boxes c = looked (c .before) .job-refusal .kept .1 .1 .1 .1 .1 .1 .1 .1 .1 .1 .1 .1 .1 .0
+long-boxes c = looked (c .before) .job-refusal .kept .1 .1 .1 .1 .1 .1 .1 .1 .1 .1 .0
 
 stand : (c : tie.Else1) → Standing (job (entry c)) (boxes c)
 stand c =

@@ -1,11 +1,12 @@
 -- `file_codes::copy_code` meets its contract: eleven bytes are put, one after the other. Assumes nothing.
-use mathlib.Core.Path.{_≡_, refl, ap}
-use Prim.Native.Nat.{ℕ, _≤_}
+use mathlib.Core.Path.{refl, ap}
+use Prim.Native.Nat.{ℕ}
 use native.Mathlib.Omega.{arith}
-use lib.ListN.{length, length-set, getD}
+use lib.ListN.{length-set, getD}
 use borrow.Author.Needs.{needs}
 use denote.Ref.{now}
-use Rattle.file_codes.proofs.Codes.{copied-first, copied-more}
+use Rattle.file_blocks.proofs.Copies.{copied-more}
+use Rattle.file_codes.proofs.Codes.{copied-first}
 use Rattle.file_codes.proofs.copy_code.Statement.{statement}
 use Rattle.file_codes.proofs.copy_code.Tie as tie
 

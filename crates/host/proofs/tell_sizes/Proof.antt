@@ -23,8 +23,13 @@ slice-write-sizes-5 c =
     let s = c .before .before .before .args .sizes .now in
     set-set-in (set (set s 0 _) 1 _) 2 _ 3 _ 4 (set-set-in s 0 _ 1 _ 4 (omega (arith, c .before .before .before .pre)))
 
+slice-write-sizes-6 : tie.Need-slice-write-sizes-6
+slice-write-sizes-6 c =
+    let s = c .before .before .before .args .sizes .now in
+    set-in (set (set (set (set s 0 _) 1 _) 2 _) 3 _) 4 _ 5 (set-set-in (set (set s 0 _) 1 _) 2 _ 3 _ 5 (set-set-in s 0 _ 1 _ 5 (omega (arith, c .before .before .before .pre))))
+
 returns : tie.Need-returns
-returns c = told-sizes _ _ _ _ _ _ (c .before .before .before .args .sizes .now) (c .before .before .before .pre) (c .before .a .given .1)
+returns c = told-sizes _ _ _ _ _ _ _ (c .before .before .before .args .sizes .now) (c .before .before .before .pre) (c .before .a .given .1)
 
 returns-2 : tie.Need-returns-2
 returns-2 c = told-refused _ _ _ (c .before .a2 .given .1)
@@ -39,6 +44,7 @@ tell-sizes-spec =
     slice-write-sizes-3
     slice-write-sizes-4
     slice-write-sizes-5
+    slice-write-sizes-6
     (λ c. search needs)
     (λ c. search needs)
     returns

@@ -25,8 +25,8 @@ use Rattle.message_tables.proofs.message_tables.Statement.{statement}
 use Rattle.message_tables.proofs.message_tables.Tie as tie
 
 abbrev job : tie.Start → JobTables
-job s = bagTables (s .args .boxes) (s .args .grocers) (s .args .offers) (s .args .tallies) (now (s .args .price)) (now (s .args .offer-owner)) (now (s .args .grocer-owner)) (now (s .args .tally-grocer))
-    (now (s .args .tally-box)) (now (s .args .tally-offer)) (now (s .args .tally-count)) (now (s .args .tally-bag)) (now (s .args .tally-revision))
+job s = bagTables (s .args .boxes) (s .args .grocers) (s .args .offers) (s .args .tallies) (s .args .lists) (now (s .args .price)) (now (s .args .offer-owner)) (now (s .args .grocer-owner))
+    (now (s .args .tally-grocer)) (now (s .args .tally-box)) (now (s .args .tally-offer)) (now (s .args .tally-count)) (now (s .args .tally-bag)) (now (s .args .tally-revision))
 
 -- The places of the function: its start, where nothing is refused, and where the need and sharer words and each table are made.
 abbrev start : tie.After-job-refusal → tie.Start
@@ -55,10 +55,10 @@ totalled c = c .before .before
 
 -- Where nothing is refused the boxes are the standing ones, and the job is handed with them.
 abbrev boxes : tie.Else1 → List ℕ
-boxes c = refusal c .job-refusal .last .1 .1 .1 .1 .1 .1 .1 .1 .1 .1 .1 .1 .1 .0
+boxes c = refusal c .job-refusal .last .1 .1 .1 .1 .1 .1 .1 .1 .1 .1 .0
 
 long : (c : tie.Else1) → length (boxes c) ≡ 1_000
-long c = refusal c .job-refusal .kept .1 .1 .1 .1 .1 .1 .1 .1 .1 .1 .1 .1 .1 .0
+long c = refusal c .job-refusal .kept .1 .1 .1 .1 .1 .1 .1 .1 .1 .1 .0
 
 abbrev handed : tie.Else1 → JobTables
 handed c = handedTables (job (entry c)) (boxes c)

@@ -9,6 +9,7 @@ use Rattle.format.specs.File.{recordAt, decode}
 use Rattle.format.specs.Tables.{ReaderTables, offerTables, tallyTables, fileTables, readerTables, shortOffers, shortTallies, shortTables, shortReader, readRefusal}
 use Rattle.file_blocks.specs.Due.{asHead}
 use Rattle.file_blocks.specs.Sound.{Kept, Sound}
+use Rattle.file_blocks.proofs.PlanBounds.{tallies-low}
 use Rattle.file_blocks.proofs.RecordWords.{offer-room, tally-room}
 use Rattle.file_blocks.proofs.Fields.{offer-codes, offer-issuers, tally-boxes, tally-codes, tally-issuers, tally-bags, tally-revisions}
 use Rattle.file_blocks.proofs.Shapes.{has-header, sound-read, placed-read}
@@ -174,7 +175,7 @@ few-offers c = omega (arith, known c .whole .most .offers)
 
 -- and so is the first block of the tallies,
 low : (c : tie.After-tallies-at) → c .tallies-at .result ≤ 100
-low c = omega (arith, c .tallies-at .ensures, known (headed c) .whole .most .offers)
+low c = omega (arith, c .tallies-at .ensures, tallies-low _ (known (headed c) .whole .most))
 
 -- whose records are in the file.
 inside : (c : tie.After-tallies-at) → (i : ℕ) → i < headed c .read-head .result .sizes .tallies → recordAt (c .tallies-at .result) i + 24 ≤ length (entry (headed c .before) .args .file .now)
@@ -218,7 +219,7 @@ fill-tallies-requires c κs =
     ((w, placed-read (h .read-head .ensures) (kept (h .before)), omega (arith, places-long p, w .most .tallies)), (r .grocer, free h .tallyOffer, r .count))
 
 tallies-at-requires : tie.Need-tallies-at-requires
-tallies-at-requires c κs = let h = head-tallies (tallies-back (c .before .before)) in omega (arith, known h .whole .most .offers)
+tallies-at-requires c κs = let m = known (head-tallies (tallies-back (c .before .before))) .whole .most in (omega (arith, m .offers), omega (arith, m .lists))
 
 fill-bytes-requires : tie.Need-fill-bytes-requires
 fill-bytes-requires c κs =

@@ -7,7 +7,7 @@ use native.Mathlib.Omega.{arith}
 use lib.ListN.{length, length-set}
 use borrow.Author.Needs.{needs}
 use Rattle.laws.specs.Checks.{firstMet}
-use Rattle.model.specs.Tables.{JobTables, bagTables, jobOf, StateTables, stateTables, stateLengths, totalsShort}
+use Rattle.model.specs.Tables.{JobTables, bagTables, eveningOf, StateTables, stateTables, stateLengths, totalsShort}
 use Rattle.model.specs.Local.{jobRefusals}
 use Rattle.model.specs.Handed.{handedTables, Standing}
 use Rattle.run.specs.Run.{Begins, answerOf}
@@ -18,7 +18,7 @@ use Rattle.run.proofs.run.Tie as tie
 
 -- The tables of the job and of the state, as they are lent.
 abbrev job : tie.Start → JobTables
-job s = bagTables (s .args .boxes) (s .args .grocers) (s .args .offers) (s .args .tallies) (now (s .args .price)) (now (s .args .offer-owner)) (now (s .args .grocer-owner))
+job s = bagTables (s .args .boxes) (s .args .grocers) (s .args .offers) (s .args .tallies) (s .args .lists) (now (s .args .price)) (now (s .args .offer-owner)) (now (s .args .grocer-owner))
     (now (s .args .tally-grocer)) (now (s .args .tally-box)) (now (s .args .tally-offer)) (now (s .args .tally-count)) (now (s .args .tally-bag)) (now (s .args .tally-revision))
 
 abbrev lent : tie.Start → StateTables
@@ -91,7 +91,7 @@ returns-2 c =
 
 -- No refusal: the boxes of the tallies that stand, and the tables with them.
 abbrev standing : tie.Else2 → List ℕ
-standing e = looked e .job-refusal .last .1 .1 .1 .1 .1 .1 .1 .1 .1 .1 .1 .1 .1 .0
+standing e = looked e .job-refusal .last .1 .1 .1 .1 .1 .1 .1 .1 .1 .1 .0
 
 abbrev start : tie.Else2 → tie.Start
 start e = entry (whole (looked e) .before)
@@ -111,7 +111,7 @@ unfolding stateLengths
 may e = begins (job (start e)) (lent (start e)) _ (whole (looked e) .before .state-short .ensures _ _) (whole (looked e) .if1 .left) (none-met e) (standing e) (stand e)
 
 standing-lent : tie.Need-slice-aggregate-boxes-standing
-standing-lent c = sym (looked (c .before) .job-refusal .kept .1 .1 .1 .1 .1 .1 .1 .1 .1 .1 .1 .1 .1 .0)
+standing-lent c = sym (looked (c .before) .job-refusal .kept .1 .1 .1 .1 .1 .1 .1 .1 .1 .1 .0)
 
 sharers-requires : tie.Need-sharers-requires
 sharers-requires c κs = begins-sharers _ _ (may (c .before))
@@ -120,7 +120,7 @@ totals-short-requires : tie.Need-totals-short-requires
 totals-short-requires c κs = let h = c .before in totals-count _ _ (may (stood h)) _ (h .sharers .ensures)
 
 -- The packed tables are short just where the test says so.
-packed-told : (c : tie.After-totals-short) → let e = stood (shared-out c) in c .totals-short .result ≡ totalsShort (jobOf (handed e)) (stateLengths (lent (start e)))
+packed-told : (c : tie.After-totals-short) → let e = stood (shared-out c) in c .totals-short .result ≡ totalsShort (eveningOf (handed e)) (stateLengths (lent (start e)))
 packed-told c = let h = shared-out c in totals-told (handed (stood h)) (lent (start (stood h))) (may (stood h)) _ (h .sharers .ensures) _ (c .totals-short .ensures)
 
 returns-3 : tie.Need-returns-3
@@ -132,7 +132,7 @@ returns-3 c =
     (c .before .totals-short .result) (packed-told (c .before)) (c .if3 .taken)
 
 -- None is.
-packed-long : (c : tie.Else3) → let e = stood (shared-out (c .before)) in totalsShort (jobOf (handed e)) (stateLengths (lent (start e))) ≡ false
+packed-long : (c : tie.Else3) → let e = stood (shared-out (c .before)) in totalsShort (eveningOf (handed e)) (stateLengths (lent (start e))) ≡ false
 packed-long c = sym (packed-told (c .before)) ∙ c .if3 .left
 
 needs-requires : tie.Need-needs-requires
@@ -162,7 +162,7 @@ all-steps-requires c κs =
 write-sent : tie.Need-slice-write-sent
 write-sent c = omega (arith, sent-room _ _ (may (of-needs (worded (picked (done c .before))))))
 
-cast-steps : tie.Need-cast-t68
+cast-steps : tie.Need-cast-t69
 cast-steps c =
     let o = picked (done c .before) in
     let w = worded o in

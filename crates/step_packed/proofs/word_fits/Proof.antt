@@ -1,6 +1,5 @@
 -- `step_packed::word_fits` meets its contract. Assumes nothing.
 use mathlib.Core.Path.{_≡_, ap, ap₂, _∙_}
-use Prim.Native.Nat.{ℕ}
 use native.Mathlib.Omega.{arith}
 use lib.Dec.{leb}
 use lib.ListN.{getD}
@@ -14,25 +13,23 @@ use denote.Ref.{now}
 use Rattle.step_packed.proofs.word_fits.Statement.{statement}
 use Rattle.step_packed.proofs.word_fits.Tie as tie
 
--- The start, from where the grocer is read.
-abbrev entry : tie.After-index-at → tie.Start
-entry c = c .before .before
-
 abbrev old : tie.Start → ℤ
-old s = getD (now (s .args .statement)) (getD (now (s .args .grocers)) (s .args .i) 0) (pos 0)
+old s = getD (now (s .args .statement)) (s .args .g) (pos 0)
 
 abbrev total : tie.Start → ℤ
-total s = getD (now (s .args .source)) (s .args .i) (pos 0)
+total s = getD (now (s .args .source)) (s .args .w) (pos 0)
+
+-- The start, from where the statement is read.
+abbrev entry : tie.After-i64-at → tie.Start
+entry c = c .before
 
 -- The sum.
-sum-is : (c : tie.After-i64-at2) → toZ w64 (ofZ w64 (c .before .i64-at .result)) +ℤ toZ w64 (ofZ w64 (c .i64-at2 .result)) ≡ old (entry (c .before .before)) +ℤ total (entry (c .before .before))
+sum-is : (c : tie.After-i64-at2) → toZ w64 (ofZ w64 (c .before .i64-at .result)) +ℤ toZ w64 (ofZ w64 (c .i64-at2 .result)) ≡ old (entry (c .before)) +ℤ total (entry (c .before))
 sum-is c =
-    let g = c .before .before in
-    ap₂ _+ℤ_ (read64 (c .before .i64-at .result) (c .before .i64-at .ok) ∙ c .before .i64-at .ensures ∙ ap (λ (x : ℕ). getD (now (entry g .args .statement)) x (pos 0)) (g .index-at .ensures .0))
-    (read64 (c .i64-at2 .result) (c .i64-at2 .ok) ∙ c .i64-at2 .ensures)
+    ap₂ _+ℤ_ (read64 (c .before .i64-at .result) (c .before .i64-at .ok) ∙ c .before .i64-at .ensures) (read64 (c .i64-at2 .result) (c .i64-at2 .ok) ∙ c .i64-at2 .ensures)
 
 plus-requires : tie.Need-plus-requires
-plus-requires c κs = let s = entry (c .before .before) in fits64-as (sum-is c) (omega (arith, abs-plus (old s) (total s), s .pre .1 .0, s .pre .1 .1))
+plus-requires c κs = let s = entry (c .before) in fits64-as (sum-is c) (omega (arith, abs-plus (old s) (total s), s .pre .1 .0, s .pre .1 .1))
 
 returns : tie.Need-returns
 returns c =
@@ -44,7 +41,6 @@ word-fits-spec =
     tie.close
     (tie.spec
     (λ c κs. search needs)
-    (λ c κs. omega (arith, c .index-at .ensures .0, entry c .pre .0 .2))
     (λ c κs. search needs)
     plus-requires
     (λ c κs. search needs)

@@ -19,8 +19,8 @@ use Rattle.step_refusal.proofs.early_refusal.Tie as tie
 
 -- The job's and the state's tables.
 abbrev job : tie.Start → JobTables
-job s = bagTables (s .args .z .boxes) (s .args .z .grocers) (s .args .z .offers) (s .args .z .tallies) (now (s .args .price)) (now (s .args .offer-owner)) (now (s .args .grocer-owner))
-    (now (s .args .tally-grocer)) (now (s .args .tally-box)) (now (s .args .tally-offer)) (now (s .args .tally-count)) (now (s .args .tally-bag)) (now (s .args .tally-revision))
+job s = bagTables (s .args .z .boxes) (s .args .z .grocers) (s .args .z .offers) (s .args .z .tallies) (s .args .z .lists) (now (s .args .price)) (now (s .args .offer-owner))
+    (now (s .args .grocer-owner)) (now (s .args .tally-grocer)) (now (s .args .tally-box)) (now (s .args .tally-offer)) (now (s .args .tally-count)) (now (s .args .tally-bag)) (now (s .args .tally-revision))
 
 -- Whatever the packed totals are.
 abbrev state : (working totals : List ℤ) → tie.Start → StateTables
@@ -45,7 +45,7 @@ entry c = start (c .before)
 -- What the three tests say.
 job-told : (c : tie.After-state-short) → told c .job-short .result ≡ jobShort (job (start c)) (jobLengths (job (start c)))
 unfolding jobShort jobLengths
-job-told c = told c .job-short .ensures (start c .args .z .boxes)
+job-told c = told c .job-short .ensures
 
 bags-told : (c : tie.After-state-short) → c .before .bags-short .result ≡ bagsShort (job (start c)) (jobLengths (job (start c)))
 unfolding bagsShort jobLengths

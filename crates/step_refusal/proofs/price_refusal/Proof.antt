@@ -1,18 +1,26 @@
 -- `step_refusal::price_refusal` meets its contract: its number is that of the first condition met. Assumes nothing.
 use mathlib.Core.Path.{_≡_, refl, sym, _∙_}
-use mathlib.Core.Bool.{_&&_}
-use mathlib.Core.List.{List, []}
+use mathlib.Core.Bool.{Bool, cond, _&&_}
+use mathlib.Core.List.{List}
 use Prim.Native.Nat.{ℕ, _<_, _≤_}
+use native.Mathlib.Decide.{ℕ-discrete}
+use native.Mathlib.Nat.{le-trans}
 use native.Mathlib.Omega.{arith}
+use lib.Dec.{eqb, leb}
+use borrow.Author.Tests.{leb-true, eq-eqb, ne-eqb}
 use Rattle.laws.specs.Checks.{firstMet}
+use Rattle.laws.specs.Listed.{Listed}
 use Rattle.laws.specs.Tables.{tabulate}
-use Rattle.model.specs.Job.{needWord, sharerWord}
-use Rattle.model.specs.Tables.{JobTables, bagTables, jobOf, StateTables, stateTables}
+use Rattle.laws.proofs.Bools.{and-l}
+use Rattle.laws.proofs.Listed.{listed-as}
+use Rattle.model.specs.Job.{needWord, sharerWord, priceWord}
+use Rattle.model.specs.Tables.{JobTables, bagTables, jobOf, eveningOf, StateTables, stateTables}
 use Rattle.model.specs.Ranges.{stateInRange, totalsInRange}
-use Rattle.model.specs.Step.{Asked, asked, moved, stepRefusal}
+use Rattle.model.specs.Step.{Asked, asked, isKind, moved, stepRefusal}
 use Rattle.model.specs.Handed.{handedTables, Standing}
-use Rattle.step_apply.specs.Apply.{Spots, Applies}
+use Rattle.step_apply.specs.Apply.{Spots, Applies, pricesOf}
 use Rattle.step_refusal.specs.Late.{tableRules, laterRules, Held}
+use Rattle.step_places.specs.Message.{wordIn}
 use Rattle.step_rules.specs.Rules.{ReceiversOf, WaitsOf}
 use Rattle.job_masks.specs.Masks.{byOwner}
 use Rattle.step_checks.specs.Fits.{BoxSpan}
@@ -25,14 +33,15 @@ use Rattle.job_masks.proofs.InJob.{placed-offers, owned-offers}
 use Rattle.step_checks.proofs.Finished.{price-fits-in, late-prices}
 use Rattle.step_apply.proofs.Found.{spots-found, box-found}
 use Rattle.step_refusal.proofs.Refused.{answer-tested, held, answer-later, box-in, tallies-placed}
-use Rattle.step_refusal.proofs.Later.{whole, whole-state, few-boxes, boxes-below, later-met, applies, verdict}
+use Rattle.step_refusal.proofs.Later.{whole, whole-state, few-boxes, kind-boxes, boxes-below, later-met, applies, verdict}
+use Rattle.step_prices.proofs.Effect.{prices-due}
 use Rattle.step_refusal.proofs.price_refusal.Statement.{statement}
 use Rattle.step_refusal.proofs.price_refusal.Tie as tie
 
 -- The lent tables and what is asked.
 abbrev job : tie.Start → JobTables
-job s = bagTables (s .args .z .boxes) (s .args .z .grocers) (s .args .z .offers) (s .args .z .tallies) (now (s .args .price)) (now (s .args .offer-owner)) (now (s .args .grocer-owner))
-    (now (s .args .tally-grocer)) (now (s .args .tally-box)) (now (s .args .tally-offer)) (now (s .args .tally-count)) (now (s .args .tally-bag)) (now (s .args .tally-revision))
+job s = bagTables (s .args .z .boxes) (s .args .z .grocers) (s .args .z .offers) (s .args .z .tallies) (s .args .z .lists) (now (s .args .price)) (now (s .args .offer-owner))
+    (now (s .args .grocer-owner)) (now (s .args .tally-grocer)) (now (s .args .tally-box)) (now (s .args .tally-offer)) (now (s .args .tally-count)) (now (s .args .tally-bag)) (now (s .args .tally-revision))
 
 abbrev state : tie.Start → StateTables
 state s = stateTables (now (s .args .known)) (now (s .args .price-transit)) (now (s .args .working)) (now (s .args .total-transit)) (now (s .args .statement)) (now (s .args .done)) (now (s .args .sent))
@@ -48,7 +57,7 @@ abbrev known : tie.After-shared-slice-known12 → tie.Start
 known c = lent (c .before .before .before .before .before .before)
 
 abbrev start : tie.After-tables-refusal → tie.Start
-start c = known (c .before .before .before)
+start c = known (c .before .before .before .before)
 
 abbrev entry : tie.Else1 → tie.Start
 entry e = start (e .before)
@@ -82,14 +91,18 @@ by-later : (e : tie.Else1) (n : ℕ) → n ≡ firstMet (laterRules (handed e) (
 by-later e n l = answer-later (job (entry e)) (state (entry e)) (none-tested e) (standing e) (stand e) (ask (entry e)) n l
 
 returns : tie.Need-returns
-returns c = let s = start (c .before) in record {
-  number-is = answer-tested (job s) (state s) (ask s) _ (c .before .tables-refusal .ensures .number-is) (c .if1 .taken);
-  standing-are = λ z. absurd (c .if1 .taken z);
-  applies = λ z. absurd (c .if1 .taken z);
-}
+returns c =
+    let t = c .before .before in
+    let s = start t in
+    let n = c .nothing-listed .ensures in
+    record {
+      number-is = n ∙ answer-tested (job s) (state s) (ask s) _ (t .tables-refusal .ensures .number-is) (c .before .if1 .taken);
+      standing-are = λ z. absurd (c .before .if1 .taken (sym n ∙ z));
+      applies = λ z. absurd (c .before .if1 .taken (sym n ∙ z));
+    }
 
 few : (e : tie.Else1) → ask (entry e) .kind ≤ 3
-few e = entry e .pre
+few e = entry e .pre .0
 
 -- The need words that are made are the job's, and so are the words of receivers.
 needs-requires : tie.Need-needs-requires
@@ -124,24 +137,37 @@ no-waits e from m = absurd (omega (arith, few e, m))
 
 returns-2 : tie.Need-returns-2
 returns-2 c =
-    let r = c .before in
+    let r = c .before .before in
     let n = needs-asked r in
     let e = needs-for n in
+    let m = c .nothing-listed2 .ensures in
     record {
-      number-is = by-later e _ (later-met (handed e) (state (entry e)) (in-hand e) _ _ (ask (entry e)) (λ _. receivers-are n) (no-waits e _) _ (r .prices-asked .ensures) (c .if2 .taken));
-      standing-are = λ z. absurd (c .if2 .taken z);
-      applies = λ z. absurd (c .if2 .taken z);
+      number-is = m ∙ by-later e _ (later-met (handed e) (state (entry e)) (in-hand e) _ _ (ask (entry e)) (λ _. receivers-are n) (no-waits e _) _ (r .prices-asked .ensures) (c .before .if2 .taken));
+      standing-are = λ z. absurd (c .before .if2 .taken (sym m ∙ z));
+      applies = λ z. absurd (c .before .if2 .taken (sym m ∙ z));
     }
 
 -- None of them is met: the boxes fit.
 abbrev passed : tie.Else2 → tie.Else1
 passed i = needs-for (needs-asked (i .before))
 
-first-in : (i : tie.Else2) → ask (entry (passed i)) .first < handed (passed i) .boxes
-first-in i =
+below : (i : tie.Else2) → (ask (entry (passed i)) .first < handed (passed i) .boxes) × (ask (entry (passed i)) .second < handed (passed i) .boxes)
+below i =
     let n = needs-asked (i .before) in
     let e = passed i in
-    boxes-below (handed e) (state (entry e)) (in-hand e) _ _ (ask (entry e)) (λ _. receivers-are n) (no-waits e _) _ (i .before .prices-asked .ensures) (i .if2 .left) .0
+    boxes-below (handed e) (state (entry e)) (in-hand e) _ _ (ask (entry e)) (λ _. receivers-are n) (no-waits e _) _ (i .before .prices-asked .ensures) (i .if2 .left)
+
+first-in : (i : tie.Else2) → ask (entry (passed i)) .first < handed (passed i) .boxes
+first-in i = below i .0
+
+kind-from : (i : tie.Else2) → 1 ≤ ask (entry (passed i)) .kind
+unfolding isKind
+kind-from i =
+    let n = needs-asked (i .before) in
+    let e = passed i in
+    let k = ask (entry e) .kind in
+    leb-true 1 k (and-l (leb 1 k) (leb k 6)
+    (kind-boxes (handed e) (state (entry e)) (in-hand e) _ _ (ask (entry e)) (λ _. receivers-are n) (no-waits e _) _ (i .before .prices-asked .ensures) (i .if2 .left) .0))
 
 own-places-requires : tie.Need-own-places-requires
 own-places-requires c κs =
@@ -170,41 +196,92 @@ spanned c two =
     (c .own-places .ensures two .from-is) (c .own-places .ensures two .to-is) in
     record { from-is = b .0; to-is = b .1 }
 
-applied : (c : tie.After-own-places) (from to : ℕ) (grocers : List ℕ) → let e = passed (put c) in Applies (handed e) (state (entry e)) (needs-asked (put c .before) .needs .result) (places c) from to grocers (ask (entry e))
-applied c from to grocers =
-    let i = put c in
+-- The offers of the message are listed.
+abbrev chosen : tie.After-message-offers → tie.After-own-places
+chosen c = c .before .before .before
+
+message-offers-requires : tie.Need-message-offers-requires
+message-offers-requires c κs =
+    let i = put (c .before .before) in
+    let e = passed i in
+    let w = job-in (handed e) (in-hand e .job-in .inside) in (
+      (w .offers≤, (whole-job e .offerOwner, le-trans (w .offers≤) (entry e .pre .1))),
+      (le-trans (below i .0) (w .boxes≤), le-trans (below i .1) (w .boxes≤)),
+    )
+
+abbrev offers : tie.After-message-offers → List ℕ
+offers c = c .message-offers .last .1 .1 .1 .0
+
+-- The need words tell which offers stand in a message.
+due : (i : tie.Else2) (a b : ℕ) → b < handed (passed i) .boxes → (o : ℕ) → o < handed (passed i) .offers →
+    wordIn (now (entry (passed i) .args .offer-owner)) (needs-asked (i .before) .needs .result) a b o ≡ priceWord (jobOf (handed (passed i))) a b o
+due i a b l =
+    let e = passed i in
+    let w = job-in (handed e) (in-hand e .job-in .inside) in
+    let n = needs-asked (i .before) in
+    prices-due (handed e) (n .needs .result) a b l (w .boxes≤) (w .offers≤) (needs-are n)
+
+-- Kind 1 lists by one test, kind 3 by another.
+by-kind : (k : ℕ) (u v : ℕ → Bool) (m t : ℕ) (l : List ℕ) → Dec (k ≡ 1) → (k ≡ 1 → Listed m u 0 t l) → ((k ≡ 1 → ⊥) → Listed m v 0 t l) → Listed m (cond (eqb k 1) u v) 0 t l
+by-kind k u v m t l (yes z) f g = rw (eq-eqb k 1 z) (f z)
+by-kind k u v m t l (no z) f g = rw (ne-eqb k 1 z) (g z)
+
+offers-are : (c : tie.After-message-offers) →
+    let e = passed (put (chosen c)) in
+    (ask (entry e) .kind ≡ 2 → ⊥) → Listed (handed e .offers) (pricesOf (jobOf (handed e)) (ask (entry e) .kind) (ask (entry e) .first) (ask (entry e) .second)) 0 (c .message-offers .result) (offers c)
+unfolding pricesOf
+offers-are c other =
+    let i = put (chosen c) in
+    let e = passed i in
+    let q = ask (entry e) in
+    by-kind (q .kind) _ _ _ _ _ (ℕ-discrete (q .kind) 1)
+    (λ z. listed-as _ _ _ 0 _ (offers c) (due i (q .first) (q .second) (below i .1)) (c .message-offers .ensures .0 z))
+    (λ z. listed-as _ _ _ 0 _ (offers c) (due i (q .second) (q .first) (below i .0)) (c .message-offers .ensures .1 .0 (omega (arith, z, kind-from i, few e, other))))
+
+applied : (c : tie.After-message-offers) →
+    let e = passed (put (chosen c)) in
+    Applies (handed e) (state (entry e)) (places (chosen c)) 0 (c .message-offers .result) (offers c) (ask (entry e))
+applied c =
+    let o = chosen c in
+    let i = put o in
     let n = needs-asked (i .before) in
     let e = passed i in
-    applies (handed e) (state (entry e)) (in-hand e) _ _ (ask (entry e)) (λ _. receivers-are n) (no-waits e _) _ (i .before .prices-asked .ensures) (i .if2 .left) _ _ from to grocers
-    (λ _. needs-are n) (λ two _. spots c two) (λ m. absurd (omega (arith, few e, m)))
+    applies (handed e) (state (entry e)) (in-hand e) _ _ (ask (entry e)) (λ _. receivers-are n) (no-waits e _) _ (i .before .prices-asked .ensures) (i .if2 .left) _ _ _ _
+    (λ _. offers-are c) (λ two _. spots o two) (λ m. absurd (omega (arith, few e, m)))
 
-abbrev fitted : tie.After-price-fits → tie.After-own-places
-fitted c = c .before .before .before .before .before .before
+-- Whether what the step leaves is in range, from the listed offers.
+abbrev lists : tie.After-price-fits-arg → tie.After-message-offers
+lists c = c .before .before .before
+
+abbrev fitted : tie.After-price-fits → tie.After-message-offers
+fitted c = lists (c .before .before .before .before)
 
 price-fits-requires : tie.Need-price-fits-requires
 price-fits-requires c κs =
-    let o = c .before .before .before .before .before in
+    let m = lists (c .before .before .before) in
+    let o = chosen m in
     let e = passed (put o) in
-    price-fits-in (handed e) (state (entry e)) _ _ _ _ [] (ask (entry e)) (applied o _ _ []) (few e) (spanned o)
+    price-fits-in (handed e) (state (entry e)) _ _ _ _ (ask (entry e)) (applied m) _ _ _ (few e) (spanned o) (m .message-offers .ensures .1 .1)
 
 in-order : (c : tie.After-price-fits) →
-    let e = passed (put (fitted c)) in
-    c .price-fits .result ≡ (stateInRange (handed e) (moved (handed e) (state (entry e)) (ask (entry e))) && totalsInRange (jobOf (handed e)) (moved (handed e) (state (entry e)) (ask (entry e))))
+    let e = passed (put (chosen (fitted c))) in
+    c .price-fits .result ≡ (stateInRange (handed e) (moved (handed e) (state (entry e)) (ask (entry e))) && totalsInRange (eveningOf (handed e)) (moved (handed e) (state (entry e)) (ask (entry e))))
 in-order c =
-    let o = fitted c in
+    let m = fitted c in
+    let o = chosen m in
     let e = passed (put o) in
-    c .price-fits .ensures ∙ late-prices (handed e) (state (entry e)) _ _ _ _ [] (ask (entry e)) (applied o _ _ []) (few e) (spanned o)
+    c .price-fits .ensures ∙ late-prices (handed e) (state (entry e)) _ _ _ _ (ask (entry e)) (applied m) _ _ _ (few e) (spanned o) (omega arith)
 
 returns-3 : tie.Need-returns-3
 returns-3 c =
-    let o = fitted (c .before) in
-    let i = put o in
+    let m = fitted (c .before) in
+    let i = put (chosen m) in
     let n = needs-asked (i .before) in
     let e = passed i in
     record {
       number-is = c .late .ensures ∙ by-later e _ (verdict (handed e) (state (entry e)) (in-hand e) _ _ (ask (entry e)) (λ _. receivers-are n) (no-waits e _) _ (i .before .prices-asked .ensures) (i .if2 .left) _ (in-order (c .before)));
       standing-are = λ _. stand e;
-      applies = λ _. applied o 0 0 [];
+      applies = λ _. applied m;
     }
 
 pub price-refusal-spec : {M : Type 1} → statement M
@@ -212,11 +289,15 @@ price-refusal-spec =
     tie.close
     (tie.spec
     (λ c κs. tt)
+    (λ c κs. tt)
     returns
     needs-requires
     prices-asked-requires
+    (λ c κs. tt)
     returns-2
     own-places-requires
+    message-offers-requires
     price-fits-requires
     (λ c κs. tt)
+    (λ c. fitted (c .before) .message-offers .kept .1 .1 .1 .0)
     returns-3)

@@ -1,17 +1,18 @@
 -- `step_refusal::tables_refusal` meets its contract: each number is that of the first condition that is met. Assumes nothing.
-use mathlib.Core.Path.{_≡_, refl, sym, ap, _∙_}
+use mathlib.Core.Path.{_≡_, refl, sym, ap, ap₂, _∙_}
 use mathlib.Core.List.{List}
-use Prim.Native.Nat.{ℕ, _≤_}
+use Prim.Native.Nat.{ℕ, _*_, _≤_}
 use native.Mathlib.Omega.{arith}
 use borrow.Author.Needs.{needs}
 use Rattle.laws.specs.Checks.{firstMet}
 use Rattle.laws.specs.Tables.{tabulate}
 use Rattle.model.specs.Job.{sharerWord}
 use Rattle.model.specs.PackedTotals.{totalsLength}
-use Rattle.model.specs.Tables.{JobTables, bagTables, jobOf, StateTables, stateTables}
+use Rattle.model.specs.Tables.{JobTables, bagTables, jobOf, eveningOf, StateTables, stateTables}
 use Rattle.model.specs.Handed.{handedTables, Standing, Handed}
 use Rattle.step_refusal.specs.Late.{earlyRules}
-use Rattle.model.proofs.Handed.{handed-job}
+use Rattle.model.proofs.Handed.{handed-evening}
+use Rattle.model.proofs.ListTotals.{list-totals}
 use Rattle.model.proofs.Step.{job-in, range}
 use Rattle.model.proofs.Whole.{JobWhole, job-whole}
 use Rattle.job_masks.proofs.Holders.{sharer-words}
@@ -24,8 +25,8 @@ use Rattle.step_refusal.proofs.tables_refusal.Tie as tie
 
 -- The lent tables.
 abbrev job : tie.Start → JobTables
-job s = bagTables (s .args .z .boxes) (s .args .z .grocers) (s .args .z .offers) (s .args .z .tallies) (now (s .args .price)) (now (s .args .offer-owner)) (now (s .args .grocer-owner))
-    (now (s .args .tally-grocer)) (now (s .args .tally-box)) (now (s .args .tally-offer)) (now (s .args .tally-count)) (now (s .args .tally-bag)) (now (s .args .tally-revision))
+job s = bagTables (s .args .z .boxes) (s .args .z .grocers) (s .args .z .offers) (s .args .z .tallies) (s .args .z .lists) (now (s .args .price)) (now (s .args .offer-owner))
+    (now (s .args .grocer-owner)) (now (s .args .tally-grocer)) (now (s .args .tally-box)) (now (s .args .tally-offer)) (now (s .args .tally-count)) (now (s .args .tally-bag)) (now (s .args .tally-revision))
 
 abbrev state : tie.Start → StateTables
 state s = stateTables (now (s .args .known)) (now (s .args .price-transit)) (now (s .args .working)) (now (s .args .total-transit)) (now (s .args .statement)) (now (s .args .done)) (now (s .args .sent))
@@ -87,25 +88,39 @@ box-start-requires c κs =
     let e = left s in
     (count-in (handed e) (in-hand e) (whole e) (s .sharers .result) (sharers-are s), job-in (handed e) (in-hand e .inside) .boxes≤)
 
--- The packed length is the job's.
+-- The packed length is the evening's.
 abbrev asked : tie.After-packed-refusal → tie.After-sharers
-asked c = c .before .before .before .before .before
+asked c = c .before .before .before .before .before .before .before
 
-length-is : (c : tie.After-packed-refusal) → c .before .index-of .result ≡ totalsLength (jobOf (job (entry (left (asked c)))))
-length-is c =
-    let s = asked c in
+places-are : (c : tie.After-index-of) → c .index-of .result ≡ totalsLength (jobOf (handed (left (c .before .before .before .before))))
+places-are c =
+    let s = c .before .before .before .before in
     let e = left s in
-    c .before .index-of .ensures .0
-    ∙ c .before .before .box-start .ensures .0
+    c .index-of .ensures .0
+    ∙ c .before .box-start .ensures .0
     ∙ length-model (handed e) (in-hand e .bare) (range (handed e) (in-hand e .inside)) (few e) (s .sharers .result) (sharers-are s)
-    ∙ ap totalsLength (handed-job (job (entry e)) (standing e) (stand e))
+
+length-is : (c : tie.After-packed-refusal) → c .before .words-at .result ≡ totalsLength (eveningOf (job (entry (left (asked c)))))
+length-is c =
+    let w = c .before .before in
+    let e = left (asked c) in
+    c .before .words-at .ensures .0
+    ∙ ap₂ (λ (x y : ℕ). x * y) (places-are (w .before)) (w .width-of .ensures .0)
+    ∙ sym (list-totals (handed e) .packedLength)
+    ∙ ap totalsLength (handed-evening (job (entry e)) (standing e) (stand e))
+
+width-of-requires : tie.Need-width-of-requires
+width-of-requires c κs = let e = left (c .before .before .before .before) in job-in (handed e) (in-hand e .inside) .lists≤
+
+words-at-requires : tie.Need-words-at-requires
+words-at-requires c κs = (omega (arith, c .before .index-of .ensures .0, c .before .before .box-start .ensures .1), c .width-of .ensures .1)
 
 returns-2 : tie.Need-returns-2
 returns-2 c =
     let e = left (asked c) in
     let s = entry e in
     record {
-      number-is = c .packed-refusal .ensures ∙ packed-told (jobOf (job s)) (state s) _ (length-is c) ∙ sym (tested-packed (job s) (state s) (none-early e));
+      number-is = c .packed-refusal .ensures ∙ packed-told (eveningOf (job s)) (state s) _ (length-is c) ∙ sym (tested-packed (job s) (state s) (none-early e));
       standing-are = λ _. stand e;
       sharers-are = λ _. sharers-are (asked c);
     }
@@ -121,5 +136,7 @@ tables-refusal-spec =
     (λ c. search needs)
     box-start-requires
     (λ c κs. tt)
+    width-of-requires
+    words-at-requires
     (λ c κs. tt)
     returns-2)

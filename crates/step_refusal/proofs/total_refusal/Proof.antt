@@ -1,5 +1,5 @@
 -- `step_refusal::total_refusal` meets its contract: its number is that of the first condition met. Assumes nothing.
-use mathlib.Core.Path.{_≡_, refl, sym, ap, ap₂, _∙_}
+use mathlib.Core.Path.{_≡_, refl, sym, ap, ap₂, _∙_, subst}
 use mathlib.Core.Bool.{_&&_}
 use mathlib.Core.List.{List, []}
 use Prim.Native.Nat.{ℕ, _+_, _<_, _≤_}
@@ -10,11 +10,12 @@ use Rattle.laws.specs.Checks.{firstMet}
 use Rattle.laws.specs.Tables.{tabulate}
 use Rattle.laws.proofs.Tables.{length-tabulate}
 use Rattle.model.specs.Job.{sharerWord}
-use Rattle.model.specs.Tables.{JobTables, bagTables, jobOf, StateTables, stateTables}
+use Rattle.model.specs.Tables.{JobTables, bagTables, jobOf, eveningOf, StateTables, stateTables}
 use Rattle.model.specs.Ranges.{stateInRange, totalsInRange}
 use Rattle.model.specs.Step.{Asked, asked, moved, stepRefusal}
 use Rattle.model.specs.Handed.{handedTables, Standing}
 use Rattle.step_apply.specs.Apply.{spanBox, SpanOf, Applies}
+use Rattle.step_packed.specs.Fits.{totalFits, TotalFitsIn}
 use Rattle.step_refusal.specs.Late.{tableRules, laterRules, Held}
 use Rattle.step_rules.specs.Rules.{ReceiversOf, WaitsOf}
 use Rattle.step_waits.specs.Waits.{tallyLists, waitTable}
@@ -33,8 +34,8 @@ use Rattle.step_refusal.proofs.total_refusal.Tie as tie
 
 -- The lent tables and what is asked.
 abbrev job : tie.Start → JobTables
-job s = bagTables (s .args .z .boxes) (s .args .z .grocers) (s .args .z .offers) (s .args .z .tallies) (now (s .args .price)) (now (s .args .offer-owner)) (now (s .args .grocer-owner))
-    (now (s .args .tally-grocer)) (now (s .args .tally-box)) (now (s .args .tally-offer)) (now (s .args .tally-count)) (now (s .args .tally-bag)) (now (s .args .tally-revision))
+job s = bagTables (s .args .z .boxes) (s .args .z .grocers) (s .args .z .offers) (s .args .z .tallies) (s .args .z .lists) (now (s .args .price)) (now (s .args .offer-owner))
+    (now (s .args .grocer-owner)) (now (s .args .tally-grocer)) (now (s .args .tally-box)) (now (s .args .tally-offer)) (now (s .args .tally-count)) (now (s .args .tally-bag)) (now (s .args .tally-revision))
 
 abbrev state : tie.Start → StateTables
 state s = stateTables (now (s .args .known)) (now (s .args .price-transit)) (now (s .args .working)) (now (s .args .total-transit)) (now (s .args .statement)) (now (s .args .done)) (now (s .args .sent))
@@ -87,7 +88,7 @@ returns : tie.Need-returns
 returns c =
     let t = c .before .before in
     let s = start t in
-    let n = c .no-span .ensures in
+    let n = c .nothing-listed .ensures in
     record {
       number-is = n ∙ answer-tested (job s) (state s) (ask s) _ (t .tables-refusal .ensures .number-is) (c .before .if1 .taken);
       standing-are = λ z. absurd (c .before .if1 .taken (sym n ∙ z));
@@ -120,7 +121,7 @@ returns-2 : tie.Need-returns-2
 returns-2 c =
     let r = c .before .before in
     let e = asked-at r in
-    let n = c .no-span2 .ensures in
+    let n = c .nothing-listed2 .ensures in
     record {
       number-is = n ∙ by-later e _ (later-met (handed e) (state (entry e)) (in-hand e) _ _ (ask (entry e)) (no-receivers e _) (λ _. waits-are e) _ (r .totals-asked .ensures) (c .before .if2 .taken));
       standing-are = λ z. absurd (c .before .if2 .taken (sym n ∙ z));
@@ -190,28 +191,43 @@ span-is c =
 
 applied : (c : tie.After-box-span) →
     let e = passed (found c) in
-    Applies (handed e) (state (entry e)) [] [] (c .box-span .result .from) (c .box-span .result .to) (grocers c) (ask (entry e))
+    Applies (handed e) (state (entry e)) [] (c .box-span .result .from) (c .box-span .result .to) (grocers c) (ask (entry e))
 applied c =
     let i = found c in
     let e = passed i in
-    applies (handed e) (state (entry e)) (in-hand e) _ _ (ask (entry e)) (no-receivers e _) (λ _. waits-are e) _ (i .before .totals-asked .ensures) (i .if2 .left) [] [] _ _ _
-    (λ m. absurd (omega (arith, many e, m))) (λ _ m. absurd (omega (arith, many e, m))) (λ _. span-is c)
+    applies (handed e) (state (entry e)) (in-hand e) _ _ (ask (entry e)) (no-receivers e _) (λ _. waits-are e) _ (i .before .totals-asked .ensures) (i .if2 .left) [] _ _ _
+    (λ m _. absurd (omega (arith, many e, m))) (λ _ m. absurd (omega (arith, many e, m))) (λ _. span-is c)
+
+-- The width is the number of lists.
+abbrev wide : tie.After-width-of → tie.After-box-span
+wide c = c .before .before .before
+
+width-of-requires : tie.Need-width-of-requires
+width-of-requires c κs = let e = passed (found (c .before .before)) in job-in (handed e) (in-hand e .job-in .inside) .lists≤
 
 total-fits-requires : tie.Need-total-fits-requires
 total-fits-requires c κs =
-    let b = c .before .before .before in
+    let w = c .before in
+    let b = wide w in
     let e = passed (found b) in
-    total-fits-in (handed e) (state (entry e)) _ _ _ _ _ (ask (entry e)) (applied b) (many e)
+    let t = state (entry e) in
+    subst (λ (n : ℕ). TotalFitsIn (b .box-span .result .from) (b .box-span .result .to) n (grocers b) (t .working) (t .totalTransit) (t .statement) (t .sent) (ask (entry e) .kind)) (sym (w .width-of .ensures .0))
+    (total-fits-in (handed e) t _ _ _ _ (ask (entry e)) (applied b) (many e))
 
 abbrev fitted : tie.After-total-fits → tie.After-box-span
-fitted c = c .before .before .before .before
+fitted c = wide (c .before .before)
 
 in-order : (c : tie.After-total-fits) →
     let e = passed (found (fitted c)) in
-    c .total-fits .result ≡ (stateInRange (handed e) (moved (handed e) (state (entry e)) (ask (entry e))) && totalsInRange (jobOf (handed e)) (moved (handed e) (state (entry e)) (ask (entry e))))
+    c .total-fits .result ≡ (stateInRange (handed e) (moved (handed e) (state (entry e)) (ask (entry e))) && totalsInRange (eveningOf (handed e)) (moved (handed e) (state (entry e)) (ask (entry e))))
 in-order c =
-    let e = passed (found (fitted c)) in
-    c .total-fits .ensures ∙ late-totals (handed e) (state (entry e)) _ _ _ _ _ (ask (entry e)) (applied (fitted c)) (many e)
+    let w = c .before .before in
+    let b = fitted c in
+    let e = passed (found b) in
+    let t = state (entry e) in
+    c .total-fits .ensures
+    ∙ ap (λ (n : ℕ). totalFits (b .box-span .result .from) (b .box-span .result .to) n (grocers b) (t .working) (t .totalTransit) (t .statement) (t .sent) (ask (entry e) .kind)) (w .width-of .ensures .0)
+    ∙ late-totals (handed e) t _ _ _ _ (ask (entry e)) (applied b) (many e)
 
 returns-3 : tie.Need-returns-3
 returns-3 c =
@@ -240,6 +256,7 @@ total-refusal-spec =
     (λ c κs. tt)
     (λ c κs. tt)
     box-span-requires
+    width-of-requires
     total-fits-requires
     (λ c κs. tt)
     (λ c. fitted (c .before) .box-span .kept .1 .1 .1 .1 .1 .1 .0)

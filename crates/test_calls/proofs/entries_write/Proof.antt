@@ -13,4 +13,4 @@ unfolding writtenAs
 returns c = rw (sym (c .before .before .before .write .ensures), c .number .ensures)
 
 pub entries-write-spec : {M : Type 1} → statement M
-entries-write-spec = tie.close (tie.spec (λ c κs. tt) (λ c κs. tt) (λ c. c .before .before .before .write .kept .1 .1 .1 .1 .1 .1 .1 .1 .1 .1 .1 .1 .1 .1 .1 .1 .1 .0) returns)
+entries-write-spec = tie.close (tie.spec (λ c κs. tt) (λ c κs. tt) (λ c. c .before .before .before .write .kept .1 .1 .1 .1 .1 .1 .1 .1 .1 .1 .1 .1 .1 .1 .1 .1 .1 .1 .0) returns)

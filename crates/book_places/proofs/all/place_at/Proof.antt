@@ -4,7 +4,7 @@ use Prim.Native.Nat.{ℕ, _+_, _*_, _<_, _≤_}
 use native.Mathlib.Omega.{arith}
 use Rattle.book_sort.specs.Sort.{at}
 use denote.Ref.{now}
-use Rattle.book_places.proofs.Boxes.{place-before, place-in, place-behind}
+use Rattle.book_places.proofs.Boxes.{place-before, place-in-half, place-behind}
 use Rattle.book_places.proofs.all.place_at.Statement.{statement}
 use Rattle.book_places.proofs.all.place_at.Tie as tie
 
@@ -31,7 +31,7 @@ returns-3 c =
     let to : s .args .b < s .args .last = omega (arith, c .if2 .left) in
     u .u16-at .ensures
     ∙ ap (λ (x : ℕ). at (now (s .args .table)) (x * 255 + s .args .g)) (i .index-of .ensures .0 ∙ i .before .row-of .ensures .0 from to)
-    ∙ sym (place-in (s .args .first) (s .args .last) (now (s .args .table)) (s .args .b) (s .args .g) (s .args .old) from to)
+    ∙ sym (place-in-half (s .args .first) (s .args .last) (now (s .args .table)) (s .args .b) (s .args .g) (s .args .old) from to)
 
 -- The row is one of eight.
 row-in : (c : tie.After-index-of) → c .index-of .result < 8

@@ -10,6 +10,7 @@ use Rattle.format.specs.Blocks.{talliesAt}
 use Rattle.format.specs.File.{recordAt, decode}
 use Rattle.file_blocks.specs.Due.{asHead}
 use Rattle.index.specs.Index.{placeOf}
+use Rattle.file_blocks.proofs.PlanBounds.{tallies-low}
 use Rattle.file_blocks.proofs.RecordWords.{tally-room, tally-code, tally-name}
 use Rattle.file_blocks.proofs.Naming.{place-is}
 use Rattle.file_blocks.proofs.look.find_place.Statement.{statement}
@@ -31,7 +32,7 @@ record-at-requires : tie.Need-record-at-requires
 record-at-requires c κs =
     let s = c .before .before .before .before in
     let m = s .pre .0 .sound .whole .most in
-    (omega (arith, s .pre .1 .0, m .offers), omega (arith, s .pre .1 .1, m .tallies))
+    (omega (arith, s .pre .1 .0, tallies-low _ m), omega (arith, s .pre .1 .1, m .tallies))
 
 name-at-requires : tie.Need-name-at-requires
 name-at-requires c κs =

@@ -33,7 +33,7 @@ tallies-is : (s : tie.Start Inv-loop μ-loop) → s .args .head .sizes .tallies 
 tallies-is s = ap (λ (h : Head). h .tallies) (s .pre .0 .sound .whole .says)
 
 tallies-at-requires : tie.Need-tallies-at-requires Inv-loop μ-loop
-tallies-at-requires c κs = omega (arith, start c .pre .0 .sound .whole .most .offers)
+tallies-at-requires c κs = let m = start c .pre .0 .sound .whole .most in (omega (arith, m .offers), omega (arith, m .lists))
 
 loop-holds : tie.Need-loop-holds Inv-loop μ-loop
 loop-holds c = (omega arith, refl, none-yet _, placed-none _ _)

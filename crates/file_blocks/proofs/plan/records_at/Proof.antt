@@ -10,12 +10,13 @@ use Rattle.file_blocks.proofs.plan.records_at.Statement.{statement}
 use Rattle.file_blocks.proofs.plan.records_at.Tie as tie
 
 -- A block past the header that is of neither other kind.
-rest : (c : tie.Else2) →
-    let a = c .before .before .args in
+rest : (c : tie.Else3) →
+    let a = c .before .before .before .args in
     (kindAt (asHead (a .head)) (a .k) ≡ tallyBlock (a .k - talliesAt (asHead (a .head)))) × (talliesAt (asHead (a .head)) ≤ a .k)
 rest c =
-    let s = c .before .before in
-    three-is (asHead (s .args .head)) (s .args .k) (s .pre .1 .0) (λ e. c .before .if1 .left (s .pre .1 .1 ∙ e)) (λ e. c .if2 .left (s .pre .1 .1 ∙ e))
+    let b = c .before .before in
+    let s = b .before in
+    three-is (asHead (s .args .head)) (s .args .k) (s .pre .1 .0) (λ e. b .if1 .left (s .pre .1 .1 ∙ e)) (λ e. c .before .if2 .left (s .pre .1 .1 ∙ e)) (λ e. c .if3 .left (s .pre .1 .1 ∙ e))
 
 returns : tie.Need-returns
 returns c =
@@ -31,13 +32,21 @@ returns-2 c =
     let e = two-is h (s .args .k) (sym (s .pre .1 .1) ∙ c .before .if2 .taken) in
     (sym (ap (records h) (e .0)), omega (arith, s .pre .0 .1 .grocers))
 
+prices-in-requires : tie.Need-prices-in-requires
+prices-in-requires c κs =
+    let s = c .before .before .before in
+    (s .pre .0 .0, s .pre .0 .1, sym (s .pre .1 .1) ∙ c .if3 .taken)
+
 sub-part-2 : tie.Need-sub-part-2
 sub-part-2 c = omega (arith, rest (c .before .before) .1)
 
-returns-3 : tie.Need-returns-3
-returns-3 c =
+mul-part-2 : tie.Need-mul-part-2
+mul-part-2 c = omega (arith, rest (c .before .before) .1, c .before .before .before .before .before .pre .0 .0)
+
+returns-4 : tie.Need-returns-4
+returns-4 c =
     let b = c .before .before in
-    let s = b .before .before .before in
+    let s = b .before .before .before .before in
     let h = asHead (s .args .head) in
     let k = s .args .k in
     (c .part2 .ensures ∙ ap (λ (x : ℕ). min 21 (h .tallies - 21 * (k - x))) (b .tallies-at .ensures) ∙ sym (ap (records h) (rest (b .before) .0)), omega arith)
@@ -48,12 +57,16 @@ records-at-spec =
     (tie.spec
     (λ c. search needs)
     (λ c. search needs)
-    (λ c κs. search needs)
+    (λ c. search needs)
+    (λ c κs. tt)
     returns
     (λ c. search needs)
     returns-2
-    (λ c κs. search needs)
+    prices-in-requires
+    (λ c. (c .prices-in .ensures .0, omega (arith, c .prices-in .ensures .1)))
+    (λ c κs. let m = c .before .before .before .pre .0 .1 in (omega (arith, m .offers), omega (arith, m .lists)))
     (λ c. search needs)
     sub-part-2
-    (λ c κs. search needs)
-    returns-3)
+    mul-part-2
+    (λ c κs. tt)
+    returns-4)

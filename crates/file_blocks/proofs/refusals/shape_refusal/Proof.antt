@@ -7,6 +7,7 @@ use Rattle.format.specs.Blocks.{blocks, blockCount}
 use Rattle.format.specs.File.{decode}
 use Rattle.format.specs.Refusals.{badLength, headerRefusal}
 use Rattle.file_blocks.specs.Due.{asHead, Most}
+use Rattle.file_blocks.proofs.PlanBounds.{blocks-few}
 use Rattle.file_blocks.proofs.ShapeOrder.{length-in, header-sizes, count-off, count-on, shape-length, shape-header, shape-count, shape-blocks}
 use borrow.Author.Needs.{needs}
 use Rattle.file_blocks.proofs.refusals.shape_refusal.Statement.{statement}
@@ -24,7 +25,7 @@ top c = sym (c .before .header-refusal .ensures) ∙ c .if2 .left
 most : (c : tie.After-read-head) → Most (asHead (c .read-head .result))
 most c =
     let z = header-sizes _ (top (c .before)) in
-    subst Most (sym (c .read-head .ensures)) (record { boxes = z .boxes-most; grocers = z .grocers-most; offers = z .offers-most; tallies = z .tallies-most })
+    subst Most (sym (c .read-head .ensures)) (record { boxes = z .boxes-most; grocers = z .grocers-most; offers = z .offers-most; tallies = z .tallies-most; lists = z .lists-most })
 
 -- The entry, from where the header is read.
 abbrev entry : tie.After-read-head → tie.Start
@@ -47,10 +48,10 @@ read-head-requires : tie.Need-read-head-requires
 read-head-requires c κs = omega (arith, length-in _ (right (c .before .before)) .0)
 
 block-count-requires : tie.Need-block-count-requires
-block-count-requires c κs = let m = most c in (omega (arith, m .offers), omega (arith, m .tallies))
+block-count-requires c κs = let m = most c in (omega (arith, m .offers), omega (arith, m .tallies), omega (arith, m .lists))
 
 mul-if3 : tie.Need-mul-if3
-mul-if3 c = let m = most (c .before) in omega (arith, m .offers, m .tallies)
+mul-if3 c = omega (arith, c .block-count .ensures, blocks-few _ (most (c .before)))
 
 returns-3 : tie.Need-returns-3
 returns-3 c =

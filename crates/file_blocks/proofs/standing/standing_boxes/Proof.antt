@@ -14,6 +14,7 @@ use Rattle.format.specs.File.{decode}
 use Rattle.index.specs.Bags.{Struck}
 use Rattle.index.proofs.Loose.{loose-struck}
 use borrow.Author.Needs.{needs}
+use Rattle.file_blocks.proofs.PlanBounds.{tallies-low}
 use Rattle.file_blocks.proofs.RecordWords.{tally-room}
 use Rattle.file_blocks.proofs.Fields.{tally-boxes}
 use Rattle.file_blocks.proofs.Last.{all-loose}
@@ -35,7 +36,7 @@ fill-bytes-requires c κs =
     let t = c .before in
     let s = entry t in
     let w = s .pre .0 .0 in
-    ((omega (arith, w .most .offers, t .tallies-at .ensures), w .most .tallies, omega arith, s .pre .1 .0 .1), λ i l. omega (arith, t .tallies-at .ensures, tally-room w i l))
+    ((omega (arith, tallies-low _ (w .most), t .tallies-at .ensures), w .most .tallies, omega arith, s .pre .1 .0 .1), λ i l. omega (arith, t .tallies-at .ensures, tally-room w i l))
 
 strike-keys-requires : tie.Need-strike-keys-requires
 strike-keys-requires c κs =
@@ -75,7 +76,7 @@ standing-boxes-spec =
     tie.close
     (tie.spec
     (λ c. search needs)
-    (λ c κs. omega (arith, c .before .before .before .before .pre .0 .0 .most .offers))
+    (λ c κs. let m = c .before .before .before .before .pre .0 .0 .most in (omega (arith, m .offers), omega (arith, m .lists)))
     fill-bytes-requires
     (λ c κs. start (c .before .before) .pre .0 .0)
     strike-keys-requires

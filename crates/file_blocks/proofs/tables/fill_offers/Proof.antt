@@ -7,10 +7,10 @@ use Rattle.file_blocks.proofs.tables.fill_offers.Statement.{statement}
 use Rattle.file_blocks.proofs.tables.fill_offers.Tie as tie
 
 -- The entry, and each call from the next one.
-abbrev start : tie.After-fill-prices-arg → tie.Start
+abbrev start : tie.After-fill-lists-arg → tie.Start
 start c = c .before .before .before .before .before .before
 
-abbrev priced : tie.After-fill-bytes-arg → tie.After-fill-prices
+abbrev priced : tie.After-fill-bytes-arg → tie.After-fill-lists
 priced c = c .before .before .before
 
 abbrev owned : tie.After-fill-owners-arg → tie.After-fill-bytes
@@ -19,10 +19,8 @@ owned c = c .before .before .before
 abbrev grocers-owned : tie.After-slice-known6 → tie.After-fill-owners
 grocers-owned c = c .before .before
 
-fill-prices-requires : tie.Need-fill-prices-requires
-fill-prices-requires c κs =
-    let s = start c in
-    ((s .pre .0 .most .offers, s .pre .1 .0), offer-room (s .pre .0))
+fill-lists-requires : tie.Need-fill-lists-requires
+fill-lists-requires c κs = let s = start c in (s .pre .0, s .pre .1 .0)
 
 fill-bytes-requires : tie.Need-fill-bytes-requires
 fill-bytes-requires c κs =
@@ -37,17 +35,17 @@ returns c =
     let g = grocers-owned c in
     let o = owned (g .before) in
     let p = priced (o .before) in
-    (p .fill-prices .ensures, (offer-owners (start (p .before) .args .f .now) _ _ (o .fill-bytes .ensures), g .fill-owners .ensures))
+    (p .fill-lists .ensures, (offer-owners (start (p .before) .args .f .now) _ _ (o .fill-bytes .ensures), g .fill-owners .ensures))
 
 pub fill-offers-spec : {M : Type 1} → statement M
 fill-offers-spec =
     tie.close
     (tie.spec
     (λ c. search needs)
-    fill-prices-requires
+    fill-lists-requires
     fill-bytes-requires
     fill-owners-requires
-    (λ c. priced (owned (grocers-owned c .before) .before) .fill-prices .kept .1 .1 .0)
+    (λ c. priced (owned (grocers-owned c .before) .before) .fill-lists .kept .1 .1 .0)
     (λ c. owned (grocers-owned c .before) .fill-bytes .kept .1 .1 .1 .1 .0)
     (λ c. grocers-owned c .fill-owners .kept .1 .1 .0)
     returns)

@@ -4,6 +4,7 @@ use native.Mathlib.Omega.{arith}
 use Rattle.format.specs.Blocks.{talliesAt}
 use Rattle.format.specs.File.{decode}
 use borrow.Author.Needs.{needs}
+use Rattle.file_blocks.proofs.PlanBounds.{tallies-low}
 use Rattle.file_blocks.proofs.RecordWords.{tally-room}
 use Rattle.file_blocks.proofs.Fields.{tally-grocers, tally-counts}
 use Rattle.file_blocks.proofs.Looked.{places-stored}
@@ -29,7 +30,7 @@ fill-words-requires c κs =
     let e = t .tallies-at .ensures in
     let s = start t in
     let w = s .pre .0 .0 in
-    ((omega (arith, w .most .offers, e), w .most .tallies, omega arith, s .pre .1 .0), λ i l. omega (arith, e, tally-room w i l))
+    ((omega (arith, tallies-low _ (w .most), e), w .most .tallies, omega arith, s .pre .1 .0), λ i l. omega (arith, e, tally-room w i l))
 
 copy-requires : tie.Need-copy-requires
 copy-requires c κs = let s = start (first (worded c)) in (s .pre .0 .2, s .pre .1 .1)
@@ -40,7 +41,7 @@ fill-counts-requires c κs =
     let e = t .tallies-at .ensures in
     let s = start t in
     let w = s .pre .0 .0 in
-    ((omega (arith, w .most .offers, e), w .most .tallies, s .pre .1 .2), λ i l. omega (arith, e, tally-room w i l))
+    ((omega (arith, tallies-low _ (w .most), e), w .most .tallies, s .pre .1 .2), λ i l. omega (arith, e, tally-room w i l))
 
 -- The block is the one that the file says.
 placed : (c : tie.After-tallies-at) → c .tallies-at .result ≡ talliesAt (decode (start c .args .f .now) .head)
@@ -61,7 +62,7 @@ fill-tallies-spec =
     tie.close
     (tie.spec
     (λ c. search needs)
-    (λ c κs. omega (arith, c .before .before .before .before .before .pre .0 .0 .most .offers))
+    (λ c κs. let m = c .before .before .before .before .before .pre .0 .0 .most in (omega (arith, m .offers), omega (arith, m .lists)))
     fill-words-requires
     copy-requires
     fill-counts-requires

@@ -11,6 +11,7 @@ use Rattle.laws.proofs.Below.{any-more, any-end}
 use Rattle.format.specs.Blocks.{talliesAt}
 use Rattle.format.specs.File.{recordAt, decode}
 use Rattle.file_blocks.specs.Due.{asHead}
+use Rattle.file_blocks.proofs.PlanBounds.{tallies-low}
 use Rattle.file_blocks.proofs.RecordWords.{tally-room, tally-bag}
 use Rattle.file_blocks.proofs.twice.any_bag.Statement.{statement}
 use Rattle.file_blocks.proofs.twice.any_bag.Tie as tie
@@ -32,7 +33,7 @@ loop-holds c = (omega arith, refl)
 record-at-requires : tie.Need-record-at-requires Inv-loop μ-loop
 record-at-requires c κs =
     let m = entry (c .before) .pre .most in
-    (omega (arith, m .offers, c .before .before .tallies-at .ensures), omega (arith, m .tallies))
+    (omega (arith, tallies-low _ m, c .before .before .tallies-at .ensures), omega (arith, m .tallies))
 
 -- Where the record stands,
 stands : (c : tie.After-record-at Inv-loop μ-loop) → c .record-at .result ≡ recordAt (talliesAt (asHead (entry (c .before .before) .args .head))) (c .before .before .loop .i)
@@ -57,7 +58,7 @@ any-bag-spec =
     Inv-loop
     μ-loop
     (λ c. search needs)
-    (λ c κs. omega (arith, c .before .before .pre .most .offers))
+    (λ c κs. let m = c .before .before .pre .most in (omega (arith, m .offers), omega (arith, m .lists)))
     loop-holds
     record-at-requires
     (λ c. omega (arith, room c))

@@ -11,6 +11,7 @@ use Rattle.format.specs.Blocks.{talliesAt}
 use Rattle.format.specs.File.{recordAt, decode}
 use Rattle.file_blocks.specs.Due.{asHead}
 use borrow.Author.Needs.{needs}
+use Rattle.file_blocks.proofs.PlanBounds.{tallies-low}
 use Rattle.file_blocks.proofs.RecordWords.{tally-room}
 use Rattle.file_blocks.proofs.Last.{key-at, keys-of}
 use Rattle.file_blocks.proofs.twice.fill_keys.Statement.{statement}
@@ -35,7 +36,7 @@ loop-holds c = (omega arith, refl, fill-none _ _)
 record-at-requires : tie.Need-record-at-requires Inv-loop μ-loop
 record-at-requires c κs =
     let m = entry (c .before) .pre .0 .0 .most in
-    (omega (arith, m .offers, c .before .before .tallies-at .ensures), omega (arith, m .tallies))
+    (omega (arith, tallies-low _ m, c .before .before .tallies-at .ensures), omega (arith, m .tallies))
 
 -- Where the record stands,
 stands : (c : tie.After-record-at Inv-loop μ-loop) → c .record-at .result ≡ recordAt (talliesAt (asHead (entry (c .before .before) .args .head))) (c .before .before .loop .i)
@@ -74,7 +75,7 @@ fill-keys-spec =
     Inv-loop
     μ-loop
     (λ c. search needs)
-    (λ c κs. omega (arith, c .before .before .before .before .pre .0 .0 .most .offers))
+    (λ c κs. let m = c .before .before .before .before .pre .0 .0 .most in (omega (arith, m .offers), omega (arith, m .lists)))
     loop-holds
     record-at-requires
     (λ c κs. omega (arith, entry (c .before .before) .pre .1 .0, c .before .loop-test .taken))

@@ -16,8 +16,8 @@ use Rattle.job_checks.proofs.checks.job_refusal.Statement.{statement}
 use Rattle.job_checks.proofs.checks.job_refusal.Tie as tie
 
 abbrev job : tie.Start → JobTables
-job s = bagTables (s .args .boxes) (s .args .grocers) (s .args .offers) (s .args .tallies) (now (s .args .price)) (now (s .args .offer-owner)) (now (s .args .grocer-owner))
-    (now (s .args .tally-grocer)) (now (s .args .tally-box)) (now (s .args .tally-offer)) (now (s .args .tally-count)) (now (s .args .tally-bag)) (now (s .args .tally-revision))
+job s = bagTables (s .args .z .boxes) (s .args .z .grocers) (s .args .z .offers) (s .args .z .tallies) (s .args .z .lists) (now (s .args .price)) (now (s .args .offer-owner))
+    (now (s .args .grocer-owner)) (now (s .args .tally-grocer)) (now (s .args .tally-box)) (now (s .args .tally-offer)) (now (s .args .tally-count)) (now (s .args .tally-bag)) (now (s .args .tally-revision))
 
 -- Where the tables are compared with their lengths, and where they are long enough.
 abbrev entry : tie.After-job-short → tie.Start
@@ -27,11 +27,11 @@ abbrev long : tie.After-job-in-range → tie.After-job-short
 long c = c .before .before
 
 abbrev ranged : tie.After-standing-boxes → tie.After-job-in-range
-ranged c = c .before .before .before
+ranged c = c .before .before .before .before
 
 -- What each test says of the job's tables.
 job-is : (c : tie.After-job-short) → c .job-short .result ≡ jobShort (job (entry c)) (jobLengths (job (entry c)))
-job-is c = c .job-short .ensures (entry c .args .boxes) ∙ bare-short (job (entry c))
+job-is c = c .job-short .ensures ∙ bare-short (job (entry c))
 
 bags-is : (c : tie.After-job-short) → c .before .bags-short .result ≡ bagsShort (job (entry c)) (jobLengths (job (entry c)))
 unfolding bagsShort jobLengths
@@ -48,7 +48,7 @@ returns : tie.Need-returns
 returns c = let d = c .before in (met-20 (job (entry d)) (d .job-short .result) (d .before .bags-short .result) (job-is d) (bags-is d) (c .if1 .taken), λ e. absurd (omega arith))
 
 job-in-range-requires : tie.Need-job-in-range-requires
-job-in-range-requires c κs = let d = c .before in sym (d .job-short .ensures (entry d .args .boxes)) ∙ or-off (d .job-short .result) (d .before .bags-short .result) (c .if1 .left) .0
+job-in-range-requires c κs = let d = c .before in sym (d .job-short .ensures) ∙ or-off (d .job-short .result) (d .before .bags-short .result) (c .if1 .left) .0
 
 returns-2 : tie.Need-returns-2
 returns-2 c =
@@ -60,12 +60,12 @@ returns-2 c =
 
 standing-boxes-requires : tie.Need-standing-boxes-requires
 standing-boxes-requires c κs =
-    let i = c .before .before in
+    let i = c .before .before .before in
     let d = long i in
     let f = job (entry d) in
     let e = or-off (d .job-short .result) (d .before .bags-short .result) (i .before .if1 .left) in
     let whole = sym (job-is d) ∙ e .0 in
-    let inside = sym (range-is i) ∙ not-off (i .job-in-range .result) (c .before .if2 .left) in
+    let inside = sym (range-is i) ∙ not-off (i .job-in-range .result) (c .before .before .if2 .left) in
     let columns = columns-in f whole (sym (bags-is d) ∙ e .1) inside in
     (columns, (job-whole f whole .tallyBox, le-trans (columns .few) (entry d .pre)))
 
@@ -74,7 +74,7 @@ returns-3 c =
     let w = c .before .before .before in
     let i = ranged w in
     let d = long i in (
-      met-9 (job (entry d)) (d .job-short .result) (d .before .bags-short .result) (job-is d) (bags-is d) (i .before .if1 .left) (i .job-in-range .result) (range-is i) (w .before .before .if2 .left)
+      met-9 (job (entry d)) (d .job-short .result) (d .before .bags-short .result) (job-is d) (bags-is d) (i .before .if1 .left) (i .job-in-range .result) (range-is i) (w .before .before .before .if2 .left)
           (w .standing-boxes .result) (twice-is w) (c .if3 .taken),
       λ e. absurd (omega arith),
     )
@@ -85,7 +85,7 @@ returns-4 c =
     let w = c .before .before .before in
     let i = ranged w in
     let d = long i in (
-      met-none (job (entry d)) (d .job-short .result) (d .before .bags-short .result) (job-is d) (bags-is d) (i .before .if1 .left) (i .job-in-range .result) (range-is i) (w .before .before .if2 .left)
+      met-none (job (entry d)) (d .job-short .result) (d .before .bags-short .result) (job-is d) (bags-is d) (i .before .if1 .left) (i .job-in-range .result) (range-is i) (w .before .before .before .if2 .left)
           (w .standing-boxes .result) (twice-is w) (c .if3 .left),
       λ e. standing-boxes (job (entry d)) _ (w .standing-boxes .ensures .1 (c .if3 .left)),
     )
@@ -99,6 +99,7 @@ job-refusal-spec =
     returns
     job-in-range-requires
     returns-2
+    (λ c. search needs)
     standing-boxes-requires
     (λ c. c .before .before .before .standing-boxes .kept .1 .1 .1 .1 .1 .1 .0)
     returns-3

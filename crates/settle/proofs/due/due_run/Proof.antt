@@ -12,7 +12,7 @@ use Rattle.settle.proofs.due.due_run.Tie as tie
 
 -- The tables of the job, as they are lent.
 abbrev job : tie.Start → JobTables
-job s = jobTables (s .args .z .boxes) (s .args .z .grocers) (s .args .z .offers) (s .args .z .tallies) (now (s .args .price)) (now (s .args .offer-owner))
+job s = jobTables (s .args .z .boxes) (s .args .z .grocers) (s .args .z .offers) (s .args .z .tallies) (s .args .z .lists) (now (s .args .price)) (now (s .args .offer-owner))
     (now (s .args .grocer-owner)) (now (s .args .tally-grocer)) (now (s .args .tally-box)) (now (s .args .tally-offer)) (now (s .args .tally-count))
 
 -- Places: the start, from the first words; the words, the order and the steps done.
@@ -31,8 +31,8 @@ ordered c = c .before .before .before .before
 abbrev blank : tie.After-all-steps-arg → tie.After-known
 blank c = c .before .before .before .before
 
-abbrev done : tie.After-total-transit2 → tie.After-all-steps
-done c = c .before .before .before .before
+abbrev done : tie.After-statement → tie.After-all-steps
+done c = c .before .before .before .before .before
 
 may : (c : tie.After-sharers) → DueIn (job (entry (c .before)))
 may c = entry (c .before) .pre .0
@@ -56,6 +56,9 @@ all-steps-requires c κs =
 cast-steps : tie.Need-cast-t37
 cast-steps c = omega (arith, ordered (blank (done c .before)) .due-order .ensures .0)
 
+same-length : tie.Need-same-length
+same-length c = done c .all-steps .kept .1 .1 .1 .1 .1 .1 .1 .1 .1 .1 .1 .1 .1 .1 .1 .1 .0
+
 returns : tie.Need-returns
 returns c =
     let a = done c in
@@ -77,4 +80,5 @@ due-run-spec =
     (λ c. search needs)
     all-steps-requires
     cast-steps
+    same-length
     returns)

@@ -1,6 +1,9 @@
 -- `settle::statements::put_job` meets its contract: the tables are those that the reader leaves, and the run is the one of `run` without choices. Assumes nothing.
 use mathlib.Core.Path.{refl, sym}
+use Prim.Native.Nat.{_≤_, suc-le-suc}
+use native.Mathlib.Nat.{mul-le-mul}
 use native.Mathlib.Omega.{arith}
+use Rattle.laws.specs.Lists.{listWords}
 use Rattle.format.specs.File.{decode}
 use Rattle.file_blocks.specs.Due.{asHead}
 use Rattle.file_blocks.specs.Fills.{Whole, Placed}
@@ -52,10 +55,17 @@ whole s = sound-read (s .pre .0) (s .pre .1 .1 .sound) .whole
 kept : (s : tie.Start) → Placed (decode (now (s .args .file))) (now (s .args .places)) (s .args .head .sizes .tallies)
 kept s = placed-read (s .pre .0) (s .pre .1 .1)
 
+-- Prices and statements are no more than the buffers have words.
+prices-most : (s : tie.Start) → listWords (s .args .head .sizes .lists) (s .args .head .sizes .offers) ≤ 4_000
+prices-most s = let m = whole s .most in mul-le-mul {n₂ = 500} {m₂ = 8} (m .offers) (suc-le-suc (m .lists))
+
+amounts-most : (s : tie.Start) → listWords (s .args .head .sizes .lists) (s .args .head .sizes .grocers) ≤ 2_040
+amounts-most s = let m = whole s .most in mul-le-mul {n₂ = 255} {m₂ = 8} (m .grocers) (suc-le-suc (m .lists))
+
 fill-offers-requires : tie.Need-fill-offers-requires
 fill-offers-requires c κs =
     let w = whole (start c) in
-    (w, (omega (arith, w .most .offers), omega (arith, w .most .offers), omega (arith, w .most .grocers)))
+    (w, (omega (arith, prices-most (start c)), omega (arith, w .most .offers), omega (arith, w .most .grocers)))
 
 fill-tallies-requires : tie.Need-fill-tallies-requires
 fill-tallies-requires c κs =
@@ -78,12 +88,23 @@ due-run-requires c κs =
     let t = tallies-of z .fill-tallies .ensures in (
       may-run (now (s .args .file)) (s .pre .1 .0) (asHead (s .args .head)) (s .pre .0) _ _ _ _ _ _ (o .0) (o .1 .0) (o .1 .1) (t .0) (t .1 .0) (t .1 .1)
           _ (boxed z .standing-boxes .ensures),
-      refl,
+      amounts-most s,
     )
+
+-- The run, from where its statements are lent to the text.
+abbrev ran : tie.After-statement3 → tie.After-due-run
+ran c = c .before .before .before
+
+put-settled-requires : tie.Need-put-settled-requires
+put-settled-requires c κs =
+    let d = ran c in
+    let s = entry (ended (d .before)) in
+    let m = whole s .most in
+    (m .lists, m .grocers, omega (arith, amounts-most s, d .due-run .kept .1 .1 .1 .1 .1 .1 .1 .1 .0))
 
 returns : tie.Need-returns
 returns c =
-    let d = c .before .before .before in
+    let d = ran (c .before) in
     let z = ended (d .before) in
     let s = entry z in
     let o = offers-of z .fill-offers .ensures in
@@ -115,6 +136,8 @@ put-job-spec =
     (λ c. sym (boxed (lent (c .before)) .standing-boxes .kept .1 .1 .1 .0))
     (λ c. sym (tallies-of (lent (c .before .before)) .fill-tallies .kept .1 .1 .1 .1 .0))
     (λ c. sym (tallies-of (lent (c .before .before .before)) .fill-tallies .kept .1 .1 .1 .1 .1 .0))
+    (λ c. refl)
     due-run-requires
-    (λ c κs. whole (entry (ended (c .before .before .before))) .most .grocers)
+    (λ c. sym (ran c .due-run .kept .1 .1 .1 .1 .1 .1 .1 .1 .0))
+    put-settled-requires
     returns)

@@ -2,6 +2,7 @@
 use mathlib.Core.List.{List, []}
 use lib.IntN.{ℤ}
 use borrow.Author.Needs.{needs}
+use Rattle.laws.specs.Lists.{listWords}
 use Rattle.model.specs.Tables.{StateTables, stateTables}
 use Rattle.job_checks.specs.Sizes.{sizes}
 use denote.Ref.{now}
@@ -18,20 +19,22 @@ state s working totals = stateTables (now (s .args .known)) (now (s .args .price
 abbrev entry : tie.After-shared-slice-known4 → tie.Start
 entry c = c .before .before .before .before
 
-whole : (c : tie.After-shared-slice-known4) → StateWhole (entry c .args .boxes) (entry c .args .grocers) (entry c .args .offers) (state (entry c) [] [])
-whole c = let s = entry c in state-whole (sizes (s .args .boxes) (s .args .grocers) (s .args .offers)) (state s [] []) (s .pre)
+whole : (c : tie.After-shared-slice-known4) → let z = entry c .args .z in StateWhole (z .boxes) (listWords (z .lists) (z .grocers)) (listWords (z .lists) (z .offers)) (state (entry c) [] [])
+whole c = let s = entry c in let z = s .args .z in state-whole (sizes (z .boxes) (z .grocers) (z .offers) (z .lists)) (state s [] []) (s .pre)
 
 -- The products that the tables' lengths are compared with.
-abbrev sized : tie.After-upto322 → tie.After-marks
-sized c = c .before .before
+abbrev sized : tie.After-upto32 → tie.After-marks
+sized c = c .before
 
 returns : tie.Need-returns
 returns c working totals =
     let a = c .before .before in
     let u = a .before in
-    let p = sized u in
-    let s = entry (p .before .before) in
-    words-tested (s .args .boxes) (s .args .grocers) (s .args .offers) (state s working totals) (p .before .words .result) (p .marks .result) (p .before .words .ensures) (p .marks .ensures)
+    let p = sized (u .before) in
+    let m = p .before in
+    let s = entry (m .before .before) in
+    words-tested (s .args .z .boxes) (s .args .z .grocers) (s .args .z .offers) (s .args .z .lists) (state s working totals) (m .before .box-words .result) (m .list-words .result) (p .marks .result)
+    (m .before .box-words .ensures) (m .list-words .ensures .0) (p .marks .ensures)
     (u .before .upto32 .result) (u .upto322 .result) (a .around64 .result) (c .before .under16 .result) (c .upto323 .result)
     (u .before .upto32 .ensures) (u .upto322 .ensures) (a .around64 .ensures) (c .before .under16 .ensures) (c .upto323 .ensures)
 
@@ -41,9 +44,10 @@ state-in-range-spec =
     (tie.spec
     (λ c κs. search needs)
     (λ c κs. search needs)
-    (λ c κs. let w = c .before in rw (w .words .ensures) (whole (w .before) .known))
-    (λ c κs. let w = c .before .before in rw (w .words .ensures) (whole (w .before) .priceTransit))
-    (λ c κs. whole (sized c .before .before) .statement)
-    (λ c κs. let m = sized (c .before) in rw (m .marks .ensures) (whole (m .before .before) .done))
-    (λ c κs. whole (sized (c .before .before) .before .before) .sent)
+    (λ c κs. search needs)
+    (λ c κs. let w = c .before .before in rw (w .box-words .ensures) (whole (w .before) .known))
+    (λ c κs. let w = sized c .before .before in rw (w .box-words .ensures) (whole (w .before) .priceTransit))
+    (λ c κs. let m = sized (c .before) .before in rw (m .list-words .ensures .0) (whole (m .before .before) .statement))
+    (λ c κs. let m = sized (c .before .before) in rw (m .marks .ensures) (whole (m .before .before .before) .done))
+    (λ c κs. whole (sized (c .before .before .before) .before .before .before) .sent)
     returns)

@@ -1,170 +1,162 @@
--- `step_prices::receive::receive_prices` meets its contract. The invariant: of the offers below the one walked to, the prices that are due are known, and no longer in transit. Assumes nothing.
-use mathlib.Core.Path.{_≡_, refl, sym, ap, _∙_, subst}
-use mathlib.Core.Bool.{Bool, true, false, cond}
-use mathlib.Core.List.{List}
-use Prim.Native.Nat.{ℕ, _<_, _≤_, _+_, _-_}
+-- `step_prices::receive::receive_prices` meets its contract. The invariant: the words of the offers before place i of the list are known, and no longer in transit. Assumes nothing.
+use mathlib.Core.Path.{_≡_, refl, sym, ap, _∙_}
+use mathlib.Core.Bool.{Bool, cond}
+use Prim.Native.Nat.{ℕ, _<_, _≤_, _+_, _-_, _*_}
 use native.Mathlib.Omega.{arith}
 use native.Mathlib.Nat.{le-antisymm}
 use lib.ListN.{length, getD}
 use borrow.Author.Needs.{needs}
+use Rattle.laws.specs.Listed.{Listed}
 use Rattle.laws.specs.Tables.{cell}
+use Rattle.laws.proofs.Loops.{window}
 use Rattle.laws.proofs.Tables.{cell-at}
-use Rattle.laws.proofs.Loops.{guarded, guarded-more, guarded-next, guarded-none, row-stored}
 use Rattle.laws.proofs.Bools.{cond-no}
-use Rattle.step_links.specs.Links.{Skips}
-use Rattle.step_places.specs.Message.{wordIn}
+use Rattle.model.specs.Spans.{inSpan}
 use Rattle.step_prices.specs.Prices.{receivedKnown, receivedTransit}
 use denote.Ref.{now}
-use Rattle.step_links.proofs.Walks.{goes-on, guarded-passed}
-use Rattle.step_places.proofs.Message.{word-owner}
+use Rattle.step_prices.proofs.Words.{words-in, row-small, stored, stored-none, stored-next, stored-row, still}
 use Rattle.step_prices.proofs.receive.receive_prices.Statement.{statement}
 use Rattle.step_prices.proofs.receive.receive_prices.Tie as tie
 
 abbrev Inv-loop : tie.InvT-loop
-Inv-loop n a b owner needs links known₀ transit₀ row o₀ known transit o =
-    (o ≤ n)
+Inv-loop n width a from to offers known₀ transit₀ row i₀ known transit i =
+    (from ≤ i)
+    × (i ≤ to)
     × (length known ≡ length known₀)
     × (length transit ≡ length transit₀)
-    × ((i : ℕ) → getD known i 0 ≡ cond (guarded row o (wordIn owner needs b a) i) (getD transit₀ i 0) (getD known₀ i 0))
-    × ((i : ℕ) → getD transit i 0 ≡ cond (guarded row o (wordIn owner needs b a) i) 0 (getD transit₀ i 0))
-    × (o < n → getD owner o 0 ≡ b)
+    × ((passes : ℕ → Bool) → Listed n passes from to offers → (k : ℕ) → getD known k 0 ≡ cond (stored n width passes from row i k) (getD transit₀ k 0) (getD known₀ k 0))
+    × ((passes : ℕ → Bool) → Listed n passes from to offers → (k : ℕ) → getD transit k 0 ≡ cond (stored n width passes from row i k) 0 (getD transit₀ k 0))
 
 abbrev μ-loop : tie.MeasureT-loop
-μ-loop n a b owner needs links known₀ transit₀ row o₀ known transit o = n - o
+μ-loop n width a from to offers known₀ transit₀ row i₀ known transit i = to - i
 
 abbrev Start : Type 0
 Start = tie.Start Inv-loop μ-loop
 
--- Offer o stands in the message.
-abbrev due : Start → ℕ → Bool
-due s = wordIn (now (s .args .owner)) (now (s .args .needs)) (s .args .b) (s .args .a)
-
--- The words at place i when the call begins.
-abbrev knew : Start → ℕ → ℕ
-knew s i = getD (now (s .args .known)) i 0
-
-abbrev came : Start → ℕ → ℕ
-came s i = getD (now (s .args .transit)) i 0
-
 -- The entry of the call, from the row of box a; that row, from a turn of the loop; and where it begins.
 abbrev begun : tie.After-row-start Inv-loop μ-loop → Start
-begun c = c .before .before .before .before
+begun r = r .before .before .before .before .before
 
 abbrev lent : tie.In-loop Inv-loop μ-loop → tie.After-row-start Inv-loop μ-loop
-lent e = e .before .before .before
+lent e = e .before .before
 
 abbrev entry : tie.In-loop Inv-loop μ-loop → Start
 entry e = begun (lent e)
 
 abbrev row : tie.After-row-start Inv-loop μ-loop → ℕ
-row c = c .row-start .result
+row r = r .row-start .result
 
--- The turn, and what is received in it, from what follows it.
-abbrev turn : tie.After-receive-one Inv-loop μ-loop → tie.In-loop Inv-loop μ-loop
-turn c = c .before .before .before
+row-is : (r : tie.After-row-start Inv-loop μ-loop) → row r ≡ begun r .args .a * (begun r .args .n * begun r .args .width)
+row-is r = r .row-start .ensures ∙ ap (λ (x : ℕ). begun r .args .a * x) (r .before .words-at .ensures .0)
 
-abbrev received : tie.After-slice-known4 Inv-loop μ-loop → tie.After-receive-one Inv-loop μ-loop
-received c = c .before .before .before .before
+-- The turn, from the place of its words, and that place from the end of the turn.
+abbrev turn : tie.After-take-words-arg2 Inv-loop μ-loop → tie.In-loop Inv-loop μ-loop
+turn c = c .before .before .before .before
 
-abbrev turned : tie.After-after Inv-loop μ-loop → tie.In-loop Inv-loop μ-loop
-turned c = turn (received (c .before))
+abbrev taken : tie.After-slice-known4 Inv-loop μ-loop → tie.After-take-words Inv-loop μ-loop
+taken c = c .before .before .before .before
 
--- Offers in the message are of box b.
-due-theirs : (s : Start) (x : ℕ) → due s x ≡ true → getD (now (s .args .owner)) x 0 ≡ s .args .b
-due-theirs s x = word-owner (now (s .args .owner)) (now (s .args .needs)) (s .args .b) (s .args .a) x
+-- The words at place k when the call begins.
+abbrev knew : Start → ℕ → ℕ
+knew s k = getD (now (s .args .known)) k 0
 
--- The first offer of box b, and the next after one of them.
-starts : (c : tie.After-first Inv-loop μ-loop) → let s = begun (c .before) in Skips (s .args .n) (now (s .args .owner)) (s .args .b) 0 (c .first .result)
-starts c =
-    let s = begun (c .before) in
-    subst (λ (j : ℕ). Skips (s .args .n) (now (s .args .owner)) (s .args .b) 0 j) (sym (c .first .ensures)) (s .pre .1 .begins (s .args .b) (omega (arith, s .pre .0 .b-in)))
+abbrev came : Start → ℕ → ℕ
+came s k = getD (now (s .args .transit)) k 0
 
-walks : (c : tie.After-after Inv-loop μ-loop) → let s = entry (turned c) in Skips (s .args .n) (now (s .args .owner)) (s .args .b) (turned c .before .loop .o + 1) (c .after .result)
-walks c =
-    let e = turned c in
+-- The offer of a turn is below n, and its words have this place in the row.
+abbrev offer : tie.In-loop Inv-loop μ-loop → ℕ
+offer e = getD (now (entry e .args .offers)) (e .before .loop .i) 0
+
+offer-in : (e : tie.In-loop Inv-loop μ-loop) → offer e < entry e .args .n
+offer-in e = entry e .pre .listed-in (e .before .loop .i) (e .before .loop .inv .0) (e .loop-test .taken)
+
+place-is : (c : tie.After-take-words-arg2 Inv-loop μ-loop) → c .before .before .words-at2 .result ≡ offer (turn c) * entry (turn c) .args .width
+place-is c = c .before .before .words-at2 .ensures .0 ∙ ap (λ (x : ℕ). x * entry (turn c) .args .width) (c .before .before .before .index-at .ensures .0)
+
+known-in : (c : tie.After-take-words-arg2 Inv-loop μ-loop) → let e = turn c in
+    row (lent e) + c .before .before .words-at2 .result + entry e .args .width ≤ length (e .before .loop .known)
+known-in c =
+    let e = turn c in
     let s = entry e in
-    let o = e .before .loop .o in
-    let l = e .loop-test .taken in
-    subst (λ (j : ℕ). Skips (s .args .n) (now (s .args .owner)) (s .args .b) (o + 1) j) (sym (c .after .ensures))
-    (goes-on (s .args .n) (now (s .args .owner)) (now (s .args .links)) (s .args .b) o (s .pre .1) l (e .before .loop .inv .5 l))
+    words-in (s .args .n) (s .args .width) (s .args .a) _ _ _ _ (row-is (lent e)) (place-is c) (offer-in e) (omega (arith, s .pre .known-long, e .before .loop .inv .2))
+
+transit-in : (c : tie.After-take-words-arg2 Inv-loop μ-loop) → let e = turn c in
+    row (lent e) + c .before .before .words-at2 .result + entry e .args .width ≤ length (e .before .loop .transit)
+transit-in c =
+    let e = turn c in
+    let s = entry e in
+    words-in (s .args .n) (s .args .width) (s .args .a) _ _ _ _ (row-is (lent e)) (place-is c) (offer-in e) (omega (arith, s .pre .transit-long, e .before .loop .inv .3))
 
 loop-holds : tie.Need-loop-holds Inv-loop μ-loop
 loop-holds c =
-    let r = c .before in
-    let s = begun r in
-    let j = c .first .result in
-    let none : (i : ℕ) → guarded (row r) j (due s) i ≡ false =
-    λ i. guarded-passed (s .args .n) (now (s .args .owner)) (s .args .b) 0 j (starts c) (due s) (due-theirs s) (row r) i ∙ guarded-none (row r) (due s) i in (
-      starts c .to,
+    let s = begun c in (
+      omega arith,
+      s .pre .ordered,
       refl,
       refl,
-      λ i. sym (cond-no _ (came s i) (knew s i) (none i)),
-      λ i. sym (cond-no _ 0 (came s i) (none i)),
-      starts c .hits,
+      λ p l k. sym (cond-no _ (came s k) (knew s k) (stored-none (s .args .n) (s .args .width) p (s .args .from) (row c) k)),
+      λ p l k. sym (cond-no _ 0 (came s k) (stored-none (s .args .n) (s .args .width) p (s .args .from) (row c) k)),
     )
 
-receive-one-requires : tie.Need-receive-one-requires Inv-loop μ-loop
-receive-one-requires c κs =
-    let e = c .before .before in
-    let s = entry e in
-    let o = e .before .loop .o in
-    let l = e .loop-test .taken in (
-      s .pre .0 .a-in,
-      (
-        omega (arith, l, s .pre .0 .offers-in),
-        (
-          omega (arith, l, s .pre .0 .owner-long),
-          (omega (arith, l, s .pre .0 .known-long, e .before .loop .inv .1, lent e .row-start .ensures), omega (arith, l, s .pre .0 .transit-long, e .before .loop .inv .2, lent e .row-start .ensures)),
-        ),
-      ),
-    )
+-- The words taken in a turn, told by their place in the row: what comes is in transit,
+taken-known : (c : tie.After-take-words Inv-loop μ-loop) (k : ℕ) → let e = turn (c .before) in
+    getD (c .take-words .last .0) k 0
+    ≡ cond (window (row (lent e) + offer e * entry e .args .width) (entry e .args .width) k) (getD (e .before .loop .transit) k 0) (getD (e .before .loop .known) k 0)
+unfolding inSpan
+taken-known c k =
+    let e = turn (c .before) in
+    c .take-words .ensures .0 k
+    ∙ ap (λ (p : ℕ). cond (window (row (lent e) + p) (entry e .args .width) k) (getD (e .before .loop .transit) k 0) (getD (e .before .loop .known) k 0)) (place-is (c .before))
 
-loop-less : tie.Need-loop-less Inv-loop μ-loop
-loop-less c = omega (arith, walks c .from, turned c .loop-test .taken)
+-- and stays there no longer.
+taken-transit : (c : tie.After-take-words Inv-loop μ-loop) (k : ℕ) → let e = turn (c .before) in
+    getD (c .take-words .last .1 .0) k 0
+    ≡ cond (window (row (lent e) + offer e * entry e .args .width) (entry e .args .width) k) 0 (getD (e .before .loop .transit) k 0)
+unfolding inSpan
+taken-transit c k =
+    let e = turn (c .before) in
+    c .take-words .ensures .1 k
+    ∙ ap (λ (p : ℕ). cond (window (row (lent e) + p) (entry e .args .width) k) 0 (getD (e .before .loop .transit) k 0)) (place-is (c .before))
 
 loop-again : tie.Need-loop-again Inv-loop μ-loop
 loop-again c =
-    let e = turned c in
-    let r = lent e in
+    let w = taken c in
+    let e = turn (w .before) in
     let s = entry e in
-    let o = e .before .loop .o in
-    let j = c .after .result in
-    let l = e .loop-test .taken in
-    let inv = e .before .loop .inv in
-    let past : (i : ℕ) → guarded (row r) (o + 1) (due s) i ≡ guarded (row r) j (due s) i =
-    λ i. sym (guarded-passed (s .args .n) (now (s .args .owner)) (s .args .b) (o + 1) j (walks c) (due s) (due-theirs s) (row r) i) in
-    let call = received (c .before) .receive-one in (
-      walks c .to,
-      call .kept .0 ∙ inv .1,
-      call .kept .1 .0 ∙ inv .2,
-      λ i. ap (λ (t : List ℕ). getD t i 0) (call .ensures .0)
-          ∙ guarded-more (e .before .loop .known) 0 (came s) (knew s) (row r) o (due s) (omega (arith, l, s .pre .0 .known-long, inv .1, r .row-start .ensures)) (inv .3) _
-          (inv .4 (row r + o) ∙ cond-no _ 0 (came s (row r + o)) (guarded-next (row r) o (due s))) i
-          ∙ ap (λ (t : Bool). cond t (came s i) (knew s i)) (past i),
-      λ i. ap (λ (t : List ℕ). getD t i 0) (call .ensures .1)
-          ∙ guarded-more (e .before .loop .transit) 0 (λ x. 0) (came s) (row r) o (due s) (omega (arith, l, s .pre .0 .transit-long, inv .2, r .row-start .ensures)) (inv .4) 0 refl i
-          ∙ ap (λ (t : Bool). cond t 0 (came s i)) (past i),
-      walks c .hits,
+    let at = row (lent e) in
+    let v = e .before .loop in
+    let h = e .loop-test .taken in
+    let some = s .pre .width-some in
+    let list = now (s .args .offers) in (
+      omega (arith, v .inv .0),
+      omega (arith, h),
+      w .take-words .kept .0 ∙ v .inv .2,
+      w .take-words .kept .1 .0 ∙ v .inv .3,
+      λ p l. stored-next (s .args .n) (s .args .width) some p (s .args .from) (s .args .to) list l at (v .i) (v .inv .0) h
+          (came s) (knew s) (v .known) (w .take-words .last .0) 0 (v .inv .4 p l) (λ k. taken-known w k
+          ∙ still (s .args .n) (s .args .width) some p (s .args .from) (s .args .to) list l at (v .i) (v .inv .0) h 0 (came s) (v .transit) 0 (v .inv .5 p l) k (getD (v .known) k 0)),
+      λ p l. stored-next (s .args .n) (s .args .width) some p (s .args .from) (s .args .to) list l at (v .i) (v .inv .0) h
+          (λ k. 0) (came s) (v .transit) (w .take-words .last .1 .0) 0 (v .inv .5 p l) (taken-transit w),
     )
-
-same-length : tie.Need-same-length Inv-loop μ-loop
-same-length c = c .before .loop .inv .1
-
-same-length-2 : tie.Need-same-length-2 Inv-loop μ-loop
-same-length-2 c = c .before .loop .inv .2
 
 returns : tie.Need-returns Inv-loop μ-loop
 unfolding receivedKnown receivedTransit
-returns c k h =
-    let r = c .before .before .before in
+returns c k p h l =
+    let r = c .before .before in
     let s = begun r in
-    let inv = c .before .loop .inv in
-    let end : c .before .loop .o ≡ s .args .n = le-antisymm (inv .0) (c .loop-test .left) in (
-      row-stored k (s .args .n) (s .args .a) (row r) (c .before .loop .o) (now (s .args .known)) (c .before .loop .known) 0
-          (due s) (came s) (cell k (s .args .n) (now (s .args .transit)) 0 (s .args .a)) (h .a-in) (h .known-long) (r .row-start .ensures) end (inv .1) (inv .3)
-          (λ o l. sym (cell-at k (s .args .n) (now (s .args .transit)) 0 (s .args .a) o (h .a-in) l)),
-      row-stored k (s .args .n) (s .args .a) (row r) (c .before .loop .o) (now (s .args .transit)) (c .before .loop .transit) 0
-          (due s) (λ i. 0) (λ o. 0) (h .a-in) (h .transit-long) (r .row-start .ensures) end (inv .2) (inv .4) (λ o l. refl),
+    let v = c .before .loop in
+    let m = s .args .n * s .args .width in
+    let some = s .pre .width-some in
+    let list = now (s .args .offers) in
+    let end : v .i ≡ s .args .to = le-antisymm (v .inv .1) (c .loop-test .left) in (
+      stored-row (s .args .n) (s .args .width) some p (s .args .from) (s .args .to) list l k (s .args .a) (row r) (now (s .args .known)) (v .known) 0
+          (came s) (cell k m (now (s .args .transit)) 0 (s .args .a)) (h .a-in) (h .known-long) (row-is r) (v .inv .2)
+          (λ i. v .inv .4 p l i ∙ ap (λ (x : ℕ). cond (stored (s .args .n) (s .args .width) p (s .args .from) (row r) x i) (came s i) (knew s i)) end)
+          (λ w lw. sym (cell-at k m (now (s .args .transit)) 0 (s .args .a) w (h .a-in) lw)),
+      stored-row (s .args .n) (s .args .width) some p (s .args .from) (s .args .to) list l k (s .args .a) (row r) (now (s .args .transit)) (v .transit) 0
+          (λ i. 0) (λ w. 0) (h .a-in) (h .transit-long) (row-is r) (v .inv .3)
+          (λ i. v .inv .5 p l i ∙ ap (λ (x : ℕ). cond (stored (s .args .n) (s .args .width) p (s .args .from) (row r) x i) 0 (came s i)) end)
+          (λ w lw. refl),
     )
 
 pub receive-prices-spec : {M : Type 1} → statement M
@@ -173,13 +165,16 @@ receive-prices-spec =
     (tie.spec
     Inv-loop
     μ-loop
-    (λ c κs. let p = c .before .before .before .pre .0 in (p .offers-in, p .a-in))
-    (λ c κs. begun c .pre .0 .b-in)
+    (λ c κs. let p = c .before .before .before .pre in (omega (arith, p .offers-in), p .width-in))
+    (λ c κs. let s = c .before .before .before .before in (row-small (s .args .n) (s .args .width) _ (c .words-at .ensures .0) (s .pre .offers-in) (s .pre .width-in), s .pre .a-in))
     loop-holds
-    receive-one-requires
-    (λ c κs. let e = turn (received c) in omega (arith, e .loop-test .taken, entry e .pre .0 .offers-in))
-    loop-less
+    (λ c κs. omega (arith, c .loop-test .taken, entry c .pre .list-long))
+    (λ c κs. let e = c .before in (omega (arith, c .index-at .ensures .0, offer-in e, entry e .pre .offers-in), entry e .pre .width-in))
+    (λ c. omega (arith, known-in c))
+    (λ c κs. (known-in c, transit-in c))
+    (λ c. search needs)
+    (λ c. search needs)
     loop-again
-    same-length
-    same-length-2
+    (λ c. c .before .loop .inv .2)
+    (λ c. c .before .loop .inv .3)
     returns)

@@ -1,173 +1,145 @@
--- `step_prices::send::send_prices` meets its contract. The invariant: of the offers below the one walked to, the prices that are due are in transit, and counted. Assumes nothing.
-use mathlib.Core.Path.{_≡_, refl, sym, ap, ap₂, _∙_, subst}
-use mathlib.Core.Bool.{Bool, true, cond}
-use mathlib.Core.List.{List}
+-- `step_prices::send::send_prices` meets its contract. The invariant: the words of the offers before place i of the list are in transit. Assumes nothing.
+use mathlib.Core.Path.{_≡_, refl, sym, ap, _∙_}
+use mathlib.Core.Bool.{Bool, cond}
 use Prim.Native.Nat.{ℕ, _<_, _≤_, _+_, _-_, _*_}
 use native.Mathlib.Omega.{arith}
 use native.Mathlib.Nat.{le-antisymm}
 use lib.ListN.{length, getD}
-use Rattle.laws.specs.Below.{count}
+use borrow.Author.Needs.{needs}
+use Rattle.laws.specs.Listed.{Listed}
 use Rattle.laws.specs.Tables.{cell}
-use Rattle.laws.proofs.Below.{count-next, count-le, only-le, count-start}
+use Rattle.laws.proofs.Loops.{window}
 use Rattle.laws.proofs.Tables.{cell-at}
-use Rattle.laws.proofs.Loops.{guarded, guarded-more, guarded-none, row-stored}
 use Rattle.laws.proofs.Bools.{cond-no}
-use Rattle.step_links.specs.Links.{Skips}
-use Rattle.step_places.specs.Message.{wordIn}
+use Rattle.model.specs.Spans.{inSpan}
 use Rattle.step_prices.specs.Prices.{sentTransit}
 use denote.Ref.{now}
-use Rattle.step_links.proofs.Walks.{goes-on, count-passed, guarded-passed}
-use Rattle.step_places.proofs.Message.{word-owner}
+use Rattle.step_prices.proofs.Words.{words-in, row-small, told, stored, stored-none, stored-next, stored-row}
 use Rattle.step_prices.proofs.send.send_prices.Statement.{statement}
 use Rattle.step_prices.proofs.send.send_prices.Tie as tie
 
 abbrev Inv-loop : tie.InvT-loop
-Inv-loop n a b owner needs links known transit₀ from to sent₀ o₀ transit sent o =
-    (o ≤ n)
-    × (sent ≡ count o (wordIn owner needs a b))
+Inv-loop n width a b from to offers known transit₀ words sender receiver i₀ transit i =
+    (from ≤ i)
+    × (i ≤ to)
     × (length transit ≡ length transit₀)
-    × ((i : ℕ) → getD transit i 0 ≡ cond (guarded to o (wordIn owner needs a b) i) (getD known (from + (i - to)) 0) (getD transit₀ i 0))
-    × (o < n → getD owner o 0 ≡ a)
+    × ((passes : ℕ → Bool) → Listed n passes from to offers → (k : ℕ) →
+    getD transit k 0 ≡ cond (stored n width passes from receiver i k) (getD known (sender + (k - receiver)) 0) (getD transit₀ k 0))
 
 abbrev μ-loop : tie.MeasureT-loop
-μ-loop n a b owner needs links known transit₀ from to sent₀ o₀ transit sent o = n - o
+μ-loop n width a b from to offers known transit₀ words sender receiver i₀ transit i = to - i
 
 abbrev Start : Type 0
 Start = tie.Start Inv-loop μ-loop
 
--- Offer o stands in the message.
-abbrev due : Start → ℕ → Bool
-due s = wordIn (now (s .args .owner)) (now (s .args .needs)) (s .args .a) (s .args .b)
+-- The words of a row, from the rows of the two boxes; the entry of the call before it; and the rows, from a turn of the loop.
+abbrev counted : tie.After-row-start2 Inv-loop μ-loop → tie.After-words-at Inv-loop μ-loop
+counted r = r .before .before
 
--- The entry of the call, from the rows of the two boxes; and the rows, from a turn of the loop.
 abbrev begun : tie.After-row-start2 Inv-loop μ-loop → Start
-begun c = c .before .before .before .before .before
+begun r = counted r .before .before .before .before
 
 abbrev rows : tie.In-loop Inv-loop μ-loop → tie.After-row-start2 Inv-loop μ-loop
-rows e = e .before .before .before
+rows e = e .before .before
 
 abbrev entry : tie.In-loop Inv-loop μ-loop → Start
 entry e = begun (rows e)
 
--- Where these rows begin.
-abbrev from : tie.After-row-start2 Inv-loop μ-loop → ℕ
-from c = c .before .row-start .result
+-- The turn, from the place of its words, and that place from the end of the turn.
+abbrev turn : tie.After-copy-words-arg Inv-loop μ-loop → tie.In-loop Inv-loop μ-loop
+turn c = c .before .before .before
 
-abbrev to : tie.After-row-start2 Inv-loop μ-loop → ℕ
-to c = c .row-start2 .result
+abbrev copied : tie.After-slice-known2 Inv-loop μ-loop → tie.After-copy-words-arg Inv-loop μ-loop
+copied c = c .before .before .before
 
--- The new word at place i, and the old one.
+-- Where the rows begin.
+abbrev sender : tie.After-row-start2 Inv-loop μ-loop → ℕ
+sender r = r .before .row-start .result
+
+abbrev receiver : tie.After-row-start2 Inv-loop μ-loop → ℕ
+receiver r = r .row-start2 .result
+
+sender-is : (r : tie.After-row-start2 Inv-loop μ-loop) → sender r ≡ begun r .args .a * (begun r .args .n * begun r .args .width)
+sender-is r = r .before .row-start .ensures ∙ ap (λ (x : ℕ). begun r .args .a * x) (counted r .words-at .ensures .0)
+
+receiver-is : (r : tie.After-row-start2 Inv-loop μ-loop) → receiver r ≡ begun r .args .b * (begun r .args .n * begun r .args .width)
+receiver-is r = r .row-start2 .ensures ∙ ap (λ (x : ℕ). begun r .args .b * x) (counted r .words-at .ensures .0)
+
+-- The new word at place k, and the old one.
 abbrev new : tie.After-row-start2 Inv-loop μ-loop → ℕ → ℕ
-new c i = getD (now (begun c .args .known)) (from c + (i - to c)) 0
+new r k = getD (now (begun r .args .known)) (sender r + (k - receiver r)) 0
 
 abbrev old : Start → ℕ → ℕ
-old s i = getD (now (s .args .transit)) i 0
+old s k = getD (now (s .args .transit)) k 0
 
--- Offers in the message are of box a.
-due-own : (s : Start) (x : ℕ) → due s x ≡ true → getD (now (s .args .owner)) x 0 ≡ s .args .a
-due-own s x = word-owner (now (s .args .owner)) (now (s .args .needs)) (s .args .a) (s .args .b) x
+-- The offer of a turn is below n, and its words have this place in each row.
+offer-in : (e : tie.In-loop Inv-loop μ-loop) → getD (now (entry e .args .offers)) (e .before .loop .i) 0 < entry e .args .n
+offer-in e = entry e .pre .listed-in (e .before .loop .i) (e .before .loop .inv .0) (e .loop-test .taken)
 
--- The first offer of box a, and the next after one of them.
-starts : (c : tie.After-first Inv-loop μ-loop) → let s = begun (c .before) in Skips (s .args .n) (now (s .args .owner)) (s .args .a) 0 (c .first .result)
-starts c =
-    let s = begun (c .before) in
-    subst (λ (j : ℕ). Skips (s .args .n) (now (s .args .owner)) (s .args .a) 0 j) (sym (c .first .ensures)) (s .pre .1 .begins (s .args .a) (omega (arith, s .pre .0 .a-in)))
+place-is : (c : tie.After-copy-words-arg Inv-loop μ-loop) → let e = turn c in
+    c .before .words-at2 .result ≡ getD (now (entry e .args .offers)) (e .before .loop .i) 0 * entry e .args .width
+place-is c = c .before .words-at2 .ensures .0 ∙ ap (λ (x : ℕ). x * entry (turn c) .args .width) (c .before .before .index-at .ensures .0)
 
--- The turn, from its end.
-abbrev turn : tie.After-after Inv-loop μ-loop → tie.In-loop Inv-loop μ-loop
-turn c = c .before .before .before .before .before
+sender-in : (c : tie.After-copy-words-arg Inv-loop μ-loop) → let e = turn c in
+    sender (rows e) + c .before .words-at2 .result + entry e .args .width ≤ length (now (entry e .args .known))
+sender-in c = let e = turn c in let s = entry e in words-in (s .args .n) (s .args .width) (s .args .a) _ _ _ _ (sender-is (rows e)) (place-is c) (offer-in e) (s .pre .known-long)
 
-walks : (c : tie.After-after Inv-loop μ-loop) → let s = entry (turn c) in Skips (s .args .n) (now (s .args .owner)) (s .args .a) (turn c .before .loop .o + 1) (c .after .result)
-walks c =
+receiver-in : (c : tie.After-copy-words-arg Inv-loop μ-loop) → let e = turn c in
+    receiver (rows e) + c .before .words-at2 .result + entry e .args .width ≤ length (e .before .loop .transit)
+receiver-in c =
     let e = turn c in
     let s = entry e in
-    let o = e .before .loop .o in
-    let l = e .loop-test .taken in
-    subst (λ (j : ℕ). Skips (s .args .n) (now (s .args .owner)) (s .args .a) (o + 1) j) (sym (c .after .ensures))
-    (goes-on (s .args .n) (now (s .args .owner)) (now (s .args .links)) (s .args .a) o (s .pre .1) l (e .before .loop .inv .4 l))
+    words-in (s .args .n) (s .args .width) (s .args .b) _ _ _ _ (receiver-is (rows e)) (place-is c) (offer-in e) (omega (arith, s .pre .transit-long, e .before .loop .inv .2))
 
 loop-holds : tie.Need-loop-holds Inv-loop μ-loop
 loop-holds c =
-    let r = c .before in
-    let s = begun r in
-    let j = c .first .result in
-    let own = now (s .args .owner) in (
-      starts c .to,
-      sym (count-passed (s .args .n) own (s .args .a) 0 j (starts c) (due s) (due-own s) ∙ count-start (due s)),
-      refl,
-      λ i. sym (cond-no _ (new r i) (old s i) (guarded-passed (s .args .n) own (s .args .a) 0 j (starts c) (due s) (due-own s) (to r) i ∙ guarded-none (to r) (due s) i)),
-      starts c .hits,
-    )
+    let s = begun c in
+    (omega arith, s .pre .ordered, refl, λ p l k. sym (cond-no _ (new c k) (old s k) (stored-none (s .args .n) (s .args .width) p (s .args .from) (receiver c) k)))
 
-send-one-requires : tie.Need-send-one-requires Inv-loop μ-loop
-send-one-requires c κs =
-    let e = c .before in
+-- The words copied in a turn, told by their places in the row.
+written : (c : tie.After-slice-known2 Inv-loop μ-loop) (k : ℕ) → let e = turn (copied c) in
+    getD (c .before .before .copy-words .last .0) k 0
+    ≡ cond (window (receiver (rows e) + getD (now (entry e .args .offers)) (e .before .loop .i) 0 * entry e .args .width) (entry e .args .width) k) (new (rows e) k) (getD (e .before .loop .transit) k 0)
+unfolding inSpan
+written c k =
+    let e = turn (copied c) in
+    let r = rows e in
     let s = entry e in
-    let o = e .before .loop .o in
-    let l = e .loop-test .taken in (
-      s .pre .0 .b-in,
-      (
-        omega (arith, l, s .pre .0 .offers-in),
-        (
-          omega (arith, l, s .pre .0 .owner-long),
-          (omega (arith, l, s .pre .0 .known-long, rows e .before .row-start .ensures), omega (arith, l, s .pre .0 .transit-long, e .before .loop .inv .2, rows e .row-start2 .ensures)),
-        ),
-      ),
-    )
-
-add-sent : tie.Need-add-sent Inv-loop μ-loop
-add-sent c =
-    let e = c .before .before .before .before in
-    let s = entry e in
-    let o = e .before .loop .o in
-    omega (arith, count-le o (due s), e .before .loop .inv .1, only-le (due s o) 1, c .before .before .send-one .ensures .0, s .pre .0 .offers-in, e .loop-test .taken)
-
-loop-less : tie.Need-loop-less Inv-loop μ-loop
-loop-less c = omega (arith, walks c .from, turn c .loop-test .taken)
+    c .before .before .copy-words .ensures k
+    ∙ told (sender r) (receiver r) (copied c .before .words-at2 .result) (s .args .width) k (now (s .args .known)) (getD (e .before .loop .transit) k 0)
+    ∙ ap (λ (p : ℕ). cond (window (receiver r + p) (s .args .width) k) (new r k) (getD (e .before .loop .transit) k 0)) (place-is (copied c))
 
 loop-again : tie.Need-loop-again Inv-loop μ-loop
 loop-again c =
-    let e = turn c in
-    let r = rows e in
+    let e = turn (copied c) in
     let s = entry e in
-    let o = e .before .loop .o in
-    let j = c .after .result in
-    let own = now (s .args .owner) in
-    let l = e .loop-test .taken in
-    let inv = e .before .loop .inv in
-    let call = c .before .before .before .send-one in (
-      walks c .to,
-      ap₂ _+_ (inv .1) (call .ensures .0) ∙ sym (count-next o (due s)) ∙ sym (count-passed (s .args .n) own (s .args .a) (o + 1) j (walks c) (due s) (due-own s)),
-      call .kept .0 ∙ inv .2,
-      λ i. ap (λ (t : List ℕ). getD t i 0) (call .ensures .1)
-          ∙ guarded-more (e .before .loop .transit) 0 (new r) (old s) (to r) o (due s) (omega (arith, l, s .pre .0 .transit-long, inv .2, r .row-start2 .ensures)) (inv .3) _
-          (ap (λ (x : ℕ). getD (now (s .args .known)) (from r + x) 0) (omega arith)) i
-          ∙ ap (λ (t : Bool). cond t (new r i) (old s i)) (sym (guarded-passed (s .args .n) own (s .args .a) (o + 1) j (walks c) (due s) (due-own s) (to r) i)),
-      walks c .hits,
+    let v = e .before .loop in (
+      omega (arith, v .inv .0),
+      omega (arith, e .loop-test .taken),
+      c .before .before .copy-words .kept .0 ∙ v .inv .2,
+      λ p l. stored-next (s .args .n) (s .args .width) (s .pre .width-some) p (s .args .from) (s .args .to) (now (s .args .offers)) l (receiver (rows e)) (v .i) (v .inv .0) (e .loop-test .taken)
+          (new (rows e)) (old s) (v .transit) (c .before .before .copy-words .last .0) 0 (v .inv .3 p l) (written c),
     )
 
-same-length : tie.Need-same-length Inv-loop μ-loop
-same-length c = c .before .loop .inv .2
-
--- The new word of column o is the sender's.
-row-word : (r : tie.After-row-start2 Inv-loop μ-loop) (k : ℕ) → let s = begun r in s .args .a < k → (o : ℕ) → o < s .args .n →
-    new r (s .args .b * s .args .n + o) ≡ cell k (s .args .n) (now (s .args .known)) 0 (s .args .a) o
-row-word r k la o l =
+-- The new word of column w is the sender's.
+row-word : (r : tie.After-row-start2 Inv-loop μ-loop) (k : ℕ) → let s = begun r in s .args .a < k → (w : ℕ) → w < s .args .n * s .args .width →
+    new r (s .args .b * (s .args .n * s .args .width) + w) ≡ cell k (s .args .n * s .args .width) (now (s .args .known)) 0 (s .args .a) w
+row-word r k la w l =
     let s = begun r in
-    ap (λ (x : ℕ). getD (now (s .args .known)) x 0) (omega (arith, r .before .row-start .ensures, r .row-start2 .ensures))
-    ∙ sym (cell-at k (s .args .n) (now (s .args .known)) 0 (s .args .a) o la l)
+    ap (λ (x : ℕ). getD (now (s .args .known)) x 0) (omega (arith, sender-is r, receiver-is r))
+    ∙ sym (cell-at k (s .args .n * s .args .width) (now (s .args .known)) 0 (s .args .a) w la l)
 
 returns : tie.Need-returns Inv-loop μ-loop
 unfolding sentTransit
-returns c =
-    let r = c .before .before .before in
+returns c k p h l =
+    let r = c .before .before in
     let s = begun r in
-    let inv = c .before .loop .inv in
-    let end : c .before .loop .o ≡ s .args .n = le-antisymm (inv .0) (c .loop-test .left) in (
-      (λ k h. row-stored k (s .args .n) (s .args .b) (to r) (c .before .loop .o) (now (s .args .transit)) (c .before .loop .transit) 0
-          (due s) (new r) (cell k (s .args .n) (now (s .args .known)) 0 (s .args .a)) (h .b-in) (h .transit-long) (r .row-start2 .ensures) end (inv .2) (inv .3) (row-word r k (h .a-in))),
-      inv .1 ∙ ap (λ (m : ℕ). count m (due s)) end,
-    )
+    let v = c .before .loop in
+    let end : v .i ≡ s .args .to = le-antisymm (v .inv .1) (c .loop-test .left) in
+    stored-row (s .args .n) (s .args .width) (s .pre .width-some) p (s .args .from) (s .args .to) (now (s .args .offers)) l k (s .args .b) (receiver r) (now (s .args .transit)) (v .transit) 0
+    (new r) (cell k (s .args .n * s .args .width) (now (s .args .known)) 0 (s .args .a)) (h .c-in) (h .transit-long) (receiver-is r) (v .inv .2)
+    (λ i. v .inv .3 p l i ∙ ap (λ (x : ℕ). cond (stored (s .args .n) (s .args .width) p (s .args .from) (receiver r) x i) (new r i) (old s i)) end)
+    (row-word r k (h .a-in))
 
 pub send-prices-spec : {M : Type 1} → statement M
 send-prices-spec =
@@ -175,14 +147,17 @@ send-prices-spec =
     (tie.spec
     Inv-loop
     μ-loop
-    (λ c κs. let p = c .before .before .before .pre .0 in (p .offers-in, p .a-in))
-    (λ c κs. let p = c .before .before .before .before .pre .0 in (p .offers-in, p .b-in))
-    (λ c κs. begun c .pre .0 .a-in)
+    (λ c κs. let p = c .before .before .before .pre in (omega (arith, p .offers-in), p .width-in))
+    (λ c κs. let s = c .before .before .before .before in (row-small (s .args .n) (s .args .width) _ (c .words-at .ensures .0) (s .pre .offers-in) (s .pre .width-in), s .pre .a-in))
+    (λ c κs. let s = c .before .before .before .before .before in (row-small (s .args .n) (s .args .width) _ (c .before .words-at .ensures .0) (s .pre .offers-in) (s .pre .width-in), s .pre .c-in))
     loop-holds
-    send-one-requires
-    add-sent
-    (λ c κs. let e = c .before .before .before .before in omega (arith, e .loop-test .taken, entry e .pre .0 .offers-in))
-    loop-less
+    (λ c κs. omega (arith, c .loop-test .taken, entry c .pre .list-long))
+    (λ c κs. let e = c .before in (omega (arith, c .index-at .ensures .0, offer-in e, entry e .pre .offers-in), entry e .pre .width-in))
+    (λ c. omega (arith, receiver-in c))
+    (λ c. omega (arith, sender-in c))
+    (λ c κs. (receiver-in c, sender-in c))
+    (λ c. search needs)
+    (λ c. search needs)
     loop-again
-    same-length
+    (λ c. c .before .loop .inv .2)
     returns)

@@ -1,36 +1,37 @@
 -- `step_totals::row::add_placed` meets its contract. The invariant: each word is the word at entry with the tallies passed
 -- added, and the next tally is of the pair, by any two lists that the links link. A tally passed over is of another pair,
 -- and brings nothing. Assumes nothing.
-use mathlib.Core.Path.{_≡_, refl, sym, ap, _∙_, subst}
+use mathlib.Core.Path.{_≡_, refl, sym, ap, ap₂, _∙_, subst}
 use mathlib.Core.Bool.{true}
 use mathlib.Core.List.{List}
-use Prim.Native.Nat.{ℕ, _≤_, _<_, _+_, _-_, _*_}
-use native.Mathlib.Nat.{le-antisymm}
+use Prim.Native.Nat.{ℕ, _≤_, _<_, _+_, _-_, _*_, _/_, _%_}
+use native.Mathlib.Nat.{le-antisymm, mul-le-mul}
 use native.Mathlib.Omega.{arith}
+use lib.Arith.{digits-div, digits-mod}
 use lib.ListN.{length, getD}
 use lib.IntN.{ℤ, pos, natAbs, _+ℤ_, +ℤ-idr}
 use Rattle.laws.specs.Below.{integers, sum}
-use Rattle.laws.proofs.Loops.{share, pile-more}
+use Rattle.laws.proofs.Loops.{share}
 use Rattle.laws.proofs.Sums.{sum-start, sum-over}
 use Rattle.step_links.specs.Links.{SkipsBy, pairKey, pairAt}
-use Rattle.step_totals.specs.Row.{TallyIn, TalliesLinked, isTaken, productAt, brings, raised}
+use Rattle.step_totals.specs.Row.{TallyIn, TalliesLinked, isTaken, productAt, brings, raised, placed}
 use denote.Ref.{now}
 use Rattle.step_totals.proofs.Rows.{raised-by}
-use Rattle.step_totals.proofs.Placed.{placed-still, placed-is}
+use Rattle.step_totals.proofs.Placed.{shares, placed-still, placed-more, placed-is}
 use Rattle.step_totals.proofs.Walks.{goes-to, pair-taken, other-share}
 use Rattle.step_totals.proofs.row.add_placed.Statement.{statement}
 use Rattle.step_totals.proofs.row.add_placed.Tie as tie
 
 abbrev Inv-loop : tie.InvT-loop
-Inv-loop n t a from links spots offer counts prices working₀ at i₀ working i =
+Inv-loop n width t a from links spots offer counts prices working₀ at i₀ working i =
     (i ≤ t)
     × (length working ≡ length working₀)
     × ((owner holder : List ℕ) → TalliesLinked t owner holder offer links →
-    ((p : ℕ) → getD working p (pos 0) ≡ getD working₀ p (pos 0) +ℤ sum integers i (share (λ j. getD spots j 0) (brings owner holder offer counts prices a from at) p))
+    ((p : ℕ) → p < length working₀ → getD working p (pos 0) ≡ getD working₀ p (pos 0) +ℤ sum integers i (shares width spots (brings owner holder offer counts prices a from at width) working₀ p))
     × (i < t → pairAt holder offer owner i ≡ pairKey a from))
 
 abbrev μ-loop : tie.MeasureT-loop
-μ-loop n t a from links spots offer counts prices working₀ at i₀ working i = t - i
+μ-loop n width t a from links spots offer counts prices working₀ at i₀ working i = t - i
 
 abbrev Start : Type 0
 Start = tie.Start Inv-loop μ-loop
@@ -48,11 +49,15 @@ holders s = s .pre .1 .1 .passes .list
 some : (s : Start) → linked s (owners s) (holders s)
 some s = s .pre .1 .1 .passes .passes
 
-abbrev brought : Start → List ℕ → List ℕ → ℕ → ℕ → ℤ
-brought s owner holder at = brings owner holder (now (s .args .tally-offer)) (now (s .args .tally-count)) (now (s .args .prices)) (s .args .a) (s .args .from) at
+abbrev brought : Start → List ℕ → List ℕ → ℕ → ℕ → ℕ → ℤ
+brought s owner holder at = brings owner holder (now (s .args .tally-offer)) (now (s .args .tally-count)) (now (s .args .prices)) (s .args .a) (s .args .from) at (s .args .width)
 
-abbrev product : Start → ℕ → ℕ → ℤ
-product s at i = productAt (now (s .args .tally-offer)) (now (s .args .tally-count)) (now (s .args .prices)) at i
+-- What the tallies bring to a word.
+abbrev piled : Start → List ℕ → List ℕ → ℕ → ℕ → ℕ → ℤ
+piled s owner holder at = shares (s .args .width) (now (s .args .tally-place)) (brought s owner holder at) (now (s .args .working))
+
+abbrev product : Start → ℕ → ℕ → ℕ → ℤ
+product s at i q = productAt (now (s .args .tally-offer)) (now (s .args .tally-count)) (now (s .args .prices)) at (s .args .width) q i
 
 abbrev place : Start → ℕ → ℕ
 place s i = getD (now (s .args .tally-place)) i 0
@@ -79,42 +84,43 @@ at-of c = c .row-start .result
 
 -- A tally of another pair adds nothing to any word.
 none : (s : Start) (owner holder : List ℕ) (at p i j : ℕ) → SkipsBy (s .args .t) (key s owner holder) (walked s) i j →
-    (x : ℕ) → i ≤ x → x < j → share (place s) (brought s owner holder at) p x ≡ integers .none
+    (x : ℕ) → i ≤ x → x < j → piled s owner holder at p x ≡ integers .none
 unfolding integers
 none s owner holder at p i j k x l q =
-    other-share owner holder (now (s .args .tally-offer)) (now (s .args .tally-count)) (now (s .args .prices)) (place s) (s .args .a) (s .args .from) at p x (k .none x l q)
+    other-share owner holder (now (s .args .tally-offer)) (now (s .args .tally-count)) (now (s .args .prices)) (place s) (s .args .a) (s .args .from) at (s .args .width) (p % s .args .width) (p / s .args .width) x (k .none x l q)
 
 -- A tally of the pair is taken.
 taken : (s : Start) (owner holder : List ℕ) → linked s owner holder → (i : ℕ) → i < s .args .t → key s owner holder i ≡ walked s →
     isTaken owner holder (now (s .args .tally-offer)) (s .args .a) (s .args .from) i ≡ true
 taken s owner holder h i l e = pair-taken owner holder (now (s .args .tally-offer)) (s .args .a) (s .args .from) i (s .pre .1 .0) (h .owner-in i l) e
 
--- The place of a tally's total is within the table, and its word small enough to add to.
-inside : (c : tie.In-loop Inv-loop μ-loop) → let s = entry (rows (c .before .before)) in place s (c .before .loop .i) < length (now (s .args .working))
-inside c = let s = entry (rows (c .before .before)) in omega (arith, s .pre .0 .place-in (c .before .loop .i) (c .loop-test .taken))
+-- The words of a tally's total are within the table.
+inside : (s : Start) (i q : ℕ) → i < s .args .t → q < s .args .width → place s i * s .args .width + q < length (now (s .args .working))
+inside s i q l m = omega (arith, s .pre .0 .places-in .place-in i l)
 
 -- A tally, with the prices from the place where row a begins.
 tally : (c : tie.After-row-start Inv-loop μ-loop) → let s = entry c in
-    (i : ℕ) → i < s .args .t → TallyIn (now (s .args .tally-place)) (now (s .args .tally-offer)) (now (s .args .tally-count)) (now (s .args .prices)) (at-of c) i
+    (i : ℕ) → i < s .args .t → TallyIn (s .args .width) (now (s .args .tally-place)) (now (s .args .tally-offer)) (now (s .args .tally-count)) (now (s .args .prices)) (at-of c) i
 tally c i l =
     let s = entry c in
-    subst (λ (x : ℕ). TallyIn (now (s .args .tally-place)) (now (s .args .tally-offer)) (now (s .args .tally-count)) (now (s .args .prices)) x i) (sym (c .row-start .ensures)) (s .pre .0 .tally-in i l)
+    subst (λ (x : ℕ). TallyIn (s .args .width) (now (s .args .tally-place)) (now (s .args .tally-offer)) (now (s .args .tally-count)) (now (s .args .prices)) x i) (sym (c .row-start .ensures)) (s .pre .0 .tally-in i l)
 
-small : (c : tie.In-loop Inv-loop μ-loop) → let s = entry (rows (c .before .before)) in natAbs (getD (c .before .loop .working) (place s (c .before .loop .i)) (pos 0)) ≤ 2_000_000_000_000_000
-small c =
+-- They are small enough to add to.
+small : (c : tie.In-loop Inv-loop μ-loop) → let s = entry (rows (c .before .before)) in
+    (q : ℕ) → q < s .args .width → natAbs (getD (c .before .loop .working) (place s (c .before .loop .i) * s .args .width + q) (pos 0)) ≤ 2_000_000_000_000_000
+small c q m =
     let r = rows (c .before .before) in
     let s = entry r in
     let i = c .before .loop .i in
-    placed-still (s .args .t) (s .args .a) (owners s) (now (s .args .tally-place)) (holders s) (now (s .args .tally-offer)) (now (s .args .tally-count))
-    (now (s .args .prices)) (now (s .args .working)) (s .args .from) (at-of r) (s .pre .0 .tallies-in) (tally r) (c .before .loop .working) i (place s i) (c .loop-test .taken)
-    (s .pre .0 .word-in i (c .loop-test .taken)) (c .before .loop .inv .2 (owners s) (holders s) (some s) .0 (place s i))
-
--- A row that begins at place 0 is the whole table.
-from-0 : (n : ℕ) → n - 0 ≡ n
-from-0 n = omega arith
+    let p = place s i * s .args .width + q in
+    let word = c .before .loop .inv .2 (owners s) (holders s) (some s) .0 p (inside s i q (c .loop-test .taken) m) in
+    placed-still (s .args .t) (s .args .a) (s .args .width) (owners s) (now (s .args .tally-place)) (holders s) (now (s .args .tally-offer)) (now (s .args .tally-count))
+    (now (s .args .prices)) (s .args .from) (at-of r) (s .pre .0 .tallies-in) (tally r) (getD (now (s .args .working)) p (pos 0)) (getD (c .before .loop .working) p (pos 0)) i q (place s i) (c .loop-test .taken) m
+    (s .pre .0 .places-in .word-in i q (c .loop-test .taken) m)
+    (word ∙ ap₂ (λ (x e : ℕ). getD (now (s .args .working)) p (pos 0) +ℤ sum integers i (share (place s) (brought s (owners s) (holders s) (at-of r) x) e)) (digits-mod (place s i) m) (digits-div (place s i) m))
 
 row-start-requires : tie.Need-row-start-requires Inv-loop μ-loop
-row-start-requires c κs = let s = lent c in (s .pre .0 .offers-in, s .pre .0 .box-in)
+row-start-requires c κs = let s = lent c in (mul-le-mul (s .pre .0 .offers-in) (s .pre .0 .width-in), s .pre .0 .box-in)
 
 begin-pair-requires : tie.Need-begin-pair-requires Inv-loop μ-loop
 begin-pair-requires c κs = let s = entry c in (omega (arith, s .pre .0 .box-in, s .pre .1 .0), omega (arith, s .pre .0 .box-in, s .pre .1 .0))
@@ -138,8 +144,8 @@ loop-holds c =
       refl,
       λ owner holder l.
           let k = first-of c owner holder l in
-          let piled : ℕ → ℕ → ℤ = share (place s) (brought s owner holder (at-of r)) in (
-            (λ p. sym (ap (λ (z : ℤ). getD (now (s .args .working)) p (pos 0) +ℤ z) (sum-over integers 0 i (piled p) (k .from) (none s owner holder (at-of r) p 0 i k) ∙ sum-start integers (piled p))
+          let adds = piled s owner holder (at-of r) in (
+            (λ p h. sym (ap (λ (z : ℤ). getD (now (s .args .working)) p (pos 0) +ℤ z) (sum-over integers 0 i (adds p) (k .from) (none s owner holder (at-of r) p 0 i k) ∙ sum-start integers (adds p))
                 ∙ +ℤ-idr (getD (now (s .args .working)) p (pos 0)))),
             k .hits,
           ),
@@ -152,7 +158,7 @@ add-tally-requires c κs =
     let s = entry r in
     let i = e .before .loop .i in (
       tally r i (e .loop-test .taken),
-      (omega arith, omega (arith, inside e, e .before .loop .inv .1), rw (from-0 (place s i)) (small e)),
+      λ q m. (omega (arith, inside s i q (e .loop-test .taken) m, e .before .loop .inv .1), small e q m),
     )
 
 -- The turn, from the next link.
@@ -199,11 +205,11 @@ loop-again c =
       λ owner holder l.
           let k = link c owner holder l in
           let before = inv .2 owner holder l in (
-            (λ p. ap (λ (l : List ℤ). getD l p (pos 0)) (call .ensures
-                ∙ ap (λ (x : ℕ). raised w x (product s at i)) (from-0 (place s i)) ∙ raised-by w (place s i) _ _ (taken s owner holder l i (e .loop-test .taken) (before .1 (e .loop-test .taken))))
-                ∙ pile-more (now (s .args .working)) w (place s) (brought s owner holder at) i (before .0) (omega (arith, inside e, inv .1)) p
+            (λ p m. ap (λ (l : List ℤ). getD l p (pos 0)) (call .ensures
+                ∙ raised-by (s .args .width) w (place s i) _ (product s at i) (taken s owner holder l i (e .loop-test .taken) (before .1 (e .loop-test .taken))))
+                ∙ placed-more (s .args .width) (now (s .args .tally-place)) (brought s owner holder at) (now (s .args .working)) w i p (inv .1) m (before .0 p m)
                 ∙ ap (λ (z : ℤ). getD (now (s .args .working)) p (pos 0) +ℤ z)
-                (sym (sum-over integers (i + 1) h (share (place s) (brought s owner holder at) p) (k .from) (none s owner holder at p (i + 1) h k)))),
+                (sym (sum-over integers (i + 1) h (piled s owner holder at p) (k .from) (none s owner holder at p (i + 1) h k)))),
             k .hits,
           ),
     )
@@ -216,10 +222,10 @@ returns c owner holder l =
     let r = rows (c .before .before) in
     let s = entry r in
     let inv = c .before .loop .inv in
-    placed-is (s .args .t) (now (s .args .tally-place)) (brought s owner holder (at-of r)) (brought s owner holder (s .args .a * s .args .n)) (now (s .args .working)) (c .before .loop .working) (inv .1)
-    (ap (brought s owner holder) (r .row-start .ensures))
-    (λ p. inv .2 owner holder l .0 p
-    ∙ ap (λ (n : ℕ). getD (now (s .args .working)) p (pos 0) +ℤ sum integers n (share (place s) (brought s owner holder (at-of r)) p)) (le-antisymm (inv .0) (c .loop-test .left)))
+    placed-is (s .args .width) (now (s .args .tally-place)) (brought s owner holder (at-of r)) (now (s .args .working)) (s .args .t) (c .before .loop .working) (inv .1)
+    (λ p m. inv .2 owner holder l .0 p m
+    ∙ ap (λ (n : ℕ). getD (now (s .args .working)) p (pos 0) +ℤ sum integers n (piled s owner holder (at-of r) p)) (le-antisymm (inv .0) (c .loop-test .left)))
+    ∙ ap (λ (at : ℕ). placed (s .args .t) (s .args .width) (now (s .args .tally-place)) (brought s owner holder at) (now (s .args .working))) (r .row-start .ensures)
 
 pub add-placed-spec : {M : Type 1} → statement M
 add-placed-spec =
@@ -227,6 +233,7 @@ add-placed-spec =
     (tie.spec
     Inv-loop
     μ-loop
+    (λ c. let s = lent c in omega (arith, mul-le-mul (s .pre .0 .offers-in) (s .pre .0 .width-in)))
     row-start-requires
     begin-pair-requires
     loop-holds

@@ -31,7 +31,7 @@ put-offers-requires c κs =
     let m = part-in (s .args .n) (s .args .b) _ (s .pre .0 .1 .0) (parted h .part-of .ensures) in (
       (omega (arith, parted h .part-of .ensures), omega (arith, parted h .part-of .ensures, h .put-four .kept .0, s .pre .0)),
       (
-        (le-trans m (l .price), le-trans m (l .owner)),
+        (omega (arith, m, l .price), le-trans m (l .owner)),
         ((omega (arith, m, l .code), le-trans m (l .issuer)), record { small = λ i h. s .pre .1 .1 .small i (lt-of-lt-of-le h m) }),
       ),
     )

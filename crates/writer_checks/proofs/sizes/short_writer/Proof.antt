@@ -5,8 +5,8 @@ use Rattle.writer_checks.proofs.sizes.short_writer.Statement.{statement
 use Rattle.writer_checks.proofs.sizes.short_writer.Tie as tie
 
 -- The entry, from the first call.
-abbrev entry : tie.After-struct-known3 → tie.Start
-entry c = c .before .before .before .before .before .before .before .before .before .before .before .before .before .before .before
+abbrev entry : tie.After-struct-known4 → tie.Start
+entry c = c .before .before .before .before .before .before .before .before .before .before .before .before .before .before .before .before
 
 returns : tie.Need-returns
 unfolding shortWriter shortTables
@@ -21,7 +21,8 @@ short-writer-spec =
     (λ c. search needs)
     (λ c. search needs)
     (λ c. search needs)
-    (λ c κs. entry c .pre .offers)
+    (λ c. search needs)
+    (λ c κs. (entry c .pre .lists, entry c .pre .offers))
     (λ c κs. entry (c .before) .pre .tallies)
     (λ c κs. entry (c .before .before) .pre)
     returns)

@@ -1,2 +1,0 @@
--- Definitions of bytes that are copied.
-pub mod Copied

@@ -1,7 +1,0 @@
--- `step_links::offer_links` meets its contract. Assumes nothing.
-use mathlib.Core.Path.{refl}
-use Rattle.step_links.proofs.offer_links.Statement.{statement}
-use Rattle.step_links.proofs.offer_links.Tie as tie
-
-pub offer-links-spec : {M : Type 1} → statement M
-offer-links-spec = tie.close (tie.spec (λ c. refl) (λ c κs. c .before .before .pre) (λ c. c .before .link .ensures))

@@ -1,2 +1,0 @@
--- What the proof of the loop uses.
-pub mod Counting

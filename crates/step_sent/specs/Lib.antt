@@ -1,2 +1,0 @@
--- The definition that the contracts of this crate cite.
-pub mod Sent
