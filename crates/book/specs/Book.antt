@@ -2,7 +2,7 @@
 use Rattle.std.specs.Prelude.{cond, List, [], ℕ, zero, suc, eqb, length, get_or, ℤ, pos}
 use Rattle.laws.specs.Tables.{overwrite}
 use Rattle.laws.specs.Checks.{first_met}
-use Rattle.laws.specs.Lent.{Words, SignedWords}
+use Rattle.laws.specs.Lent.{MutWords, MutSignedWords}
 use Rattle.model.specs.Job.{Job}
 use Rattle.model.specs.Tables.{JobTables, job_tables, job_of}
 use Rattle.model.specs.LocalLists.{local_offers, local_grocers}
@@ -45,12 +45,12 @@ book_tables offers grocers starts packed_grocers packed_counts = record {
 }
 
 -- What they hold when the call begins,
-abbrev pub book_before : (offers grocers starts packed_grocers : Words) (packed_counts : SignedWords) → BookTables
+abbrev pub book_before : (offers grocers starts packed_grocers : MutWords) (packed_counts : MutSignedWords) → BookTables
 book_before offers grocers starts packed_grocers packed_counts =
     book_tables offers.entry.now grocers.entry.now starts.entry.now packed_grocers.entry.now packed_counts.entry.now
 
 -- and when it ends.
-abbrev pub book_after : (offers grocers starts packed_grocers : Words) (packed_counts : SignedWords) → BookTables
+abbrev pub book_after : (offers grocers starts packed_grocers : MutWords) (packed_counts : MutSignedWords) → BookTables
 book_after offers grocers starts packed_grocers packed_counts =
     book_tables offers.exit.now grocers.exit.now starts.exit.now packed_grocers.exit.now packed_counts.exit.now
 

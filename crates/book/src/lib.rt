@@ -17,7 +17,7 @@ use job_checks::checks::job_refusal;
 use slices::sizes::Sizes;
 
 // How many local offers, local grocers and tallies the box has; or the number of the refusal, and no lent word is changed.
-#[derive(Drop)]
+#[derive(Clone, Copy)]
 pub enum Answer {
     Book {
         offers: u16,

@@ -89,7 +89,12 @@ list_few k m owners words b = list_le k m (at owners) (λ x. bit b (at words x))
 pub list_ready : (k m : ℕ) (owners words : List ℕ) (b : ℕ) (list : List ℕ) (l : ℕ) → m ≤ 255 → list ≡ in_front (list_by k m owners words b) (replicate 255 0) → l ≡ length (list_by k m owners words b) → PlacesIn list l
 list_ready k m owners words b list l few e el = record {
   l_in = omega (arith, list_few k m owners words b);
-  list_long = omega (arith, list_few k m owners words b, ap length e ∙ length_front (list_by k m owners words b) (replicate 255 0) (omega (arith, list_few k m owners words b, length-replicate {A = ℕ} 255 0)), length-replicate {A = ℕ} 255 0);
+  list_long = omega (
+    arith,
+    list_few k m owners words b,
+    ap length e ∙ length_front (list_by k m owners words b) (replicate 255 0) (omega (arith, list_few k m owners words b, length-replicate {A = ℕ} 255 0)),
+    length-replicate {A = ℕ} 255 0,
+  );
   place_in = λ i h. omega (arith, ap (λ (s : List ℕ). at s i) e ∙ at_front (list_by k m owners words b) (replicate 255 0) i (omega arith), list_below k m owners words b i (omega arith));
 }
 

@@ -59,7 +59,7 @@ fn take(
 }
 
 // The numbers of one owner: so many of a list, from a place on.
-#[derive(Drop)]
+#[derive(Clone, Copy)]
 struct Part {
     from: usize,
     size: usize,

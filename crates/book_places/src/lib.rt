@@ -150,7 +150,7 @@ pub fn put_list(list: &[u16], l: usize, start: usize, out: &mut [u16])
 }
 
 // A span of places: from one up to another.
-#[derive(Drop)]
+#[derive(Clone, Copy)]
 pub struct Span {
     pub from: usize,
     pub to: usize,

@@ -9,12 +9,14 @@ mod steps;
 mod sums;
 mod words;
 
-fn main() {
-    evening::sample();
-    sums::plain_sums();
-    files::codes();
-    files::fields();
-    steps::requests();
-    desk_lists::long_lists();
-    words::sums();
+use std::io;
+
+fn main(rt: HostRuntime) -> io::Result<()> {
+    evening::sample(&rt)?;
+    sums::plain_sums(&rt)?;
+    files::codes(&rt)?;
+    files::fields(&rt)?;
+    steps::requests(&rt)?;
+    desk_lists::long_lists(&rt)?;
+    words::sums(&rt)
 }

@@ -1,55 +1,56 @@
 // Lines of text: what is written is compared with what should be.
+use std::io;
 
 // Bytes as they are.
-pub fn text(s: &[u8]) {
-    io::write_all(1, s);
+pub fn text(rt: &impl Print, s: &[u8]) -> io::Result<()> {
+    rt.write_all(s)
 }
 
 // A number in decimal.
-pub fn number(n: u64) {
-    io::print_decimal(1, n);
+pub fn number(rt: &impl Print, n: u64) -> io::Result<()> {
+    rt.print(n)
 }
 
 // A space and a number.
-pub fn next(n: u64) {
-    text(b" ");
-    number(n);
+pub fn next(rt: &impl Print, n: u64) -> io::Result<()> {
+    text(rt, b" ")?;
+    number(rt, n)
 }
 
 // A space and a 16-bit word.
-fn next16(n: u16) {
-    next(n as u64);
+fn next16(rt: &impl Print, n: u16) -> io::Result<()> {
+    next(rt, n as u64)
 }
 
 // A space and a 32-bit word.
-pub fn next32(n: u32) {
-    next(n as u64);
+pub fn next32(rt: &impl Print, n: u32) -> io::Result<()> {
+    next(rt, n as u64)
 }
 
 // The end of a line.
-pub fn end() {
-    text(b"\n");
+pub fn end(rt: &impl Print) -> io::Result<()> {
+    text(rt, b"\n")
 }
 
 // The end of a line that was refused.
-pub fn refused(n: u16) {
-    text(b": refused");
-    next16(n);
-    end();
+pub fn refused(rt: &impl Print, n: u16) -> io::Result<()> {
+    text(rt, b": refused")?;
+    next16(rt, n)?;
+    end(rt)
 }
 
 // The end of a line that was accepted, or refused.
-pub fn judged(n: u16) {
+pub fn judged(rt: &impl Print, n: u16) -> io::Result<()> {
     if n != 0 {
-        refused(n);
+        refused(rt, n)
     } else {
-        text(b": accepted\n");
+        text(rt, b": accepted\n")
     }
 }
 
 // The line of a name and a number.
-pub fn count_line(name: &[u8], n: u32) {
-    text(name);
-    next32(n);
-    end();
+pub fn count_line(rt: &impl Print, name: &[u8], n: u32) -> io::Result<()> {
+    text(rt, name)?;
+    next32(rt, n)?;
+    end(rt)
 }

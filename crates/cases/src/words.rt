@@ -2,34 +2,35 @@
 use crate::show::{end, next32, text};
 use message_tables::message_tables;
 use message_tables::sums::{column_sum, row_sum, table_sum};
+use std::io;
 
 // What boxes 0, 1 and 16 send.
-fn row_sums(table: [[u16; 16]; 16]) {
-    next32(row_sum(table, 0));
-    next32(row_sum(table, 1));
-    next32(row_sum(table, 16));
+fn row_sums(rt: &impl Print, table: [[u16; 16]; 16]) -> io::Result<()> {
+    next32(rt, row_sum(table, 0))?;
+    next32(rt, row_sum(table, 1))?;
+    next32(rt, row_sum(table, 16))
 }
 
 // What boxes 0, 1 and 16 receive.
-fn column_sums(table: [[u16; 16]; 16]) {
-    next32(column_sum(table, 0));
-    next32(column_sum(table, 1));
-    next32(column_sum(table, 16));
+fn column_sums(rt: &impl Print, table: [[u16; 16]; 16]) -> io::Result<()> {
+    next32(rt, column_sum(table, 0))?;
+    next32(rt, column_sum(table, 1))?;
+    next32(rt, column_sum(table, 16))
 }
 
 // What is sent and received, and the whole table.
-fn sum_line(name: &[u8], table: [[u16; 16]; 16]) {
-    text(name);
-    row_sums(table);
-    text(b" columns");
-    column_sums(table);
-    text(b" words");
-    next32(table_sum(table));
-    end();
+fn sum_line(rt: &impl Print, name: &[u8], table: [[u16; 16]; 16]) -> io::Result<()> {
+    text(rt, name)?;
+    row_sums(rt, table)?;
+    text(rt, b" columns")?;
+    column_sums(rt, table)?;
+    text(rt, b" words")?;
+    next32(rt, table_sum(table))?;
+    end(rt)
 }
 
 // Both tables of E.
-pub fn sums() {
+pub fn sums(rt: &impl Print) -> io::Result<()> {
     let none: &[u16] = &[0, 0, 0, 0];
     let row = [0u16; 16];
     let mut prices = [row; 16];
@@ -52,6 +53,6 @@ pub fn sums() {
         &mut prices,
         &mut totals,
     );
-    sum_line(b"prices: rows", prices);
-    sum_line(b"totals: rows", totals);
+    sum_line(rt, b"prices: rows", prices)?;
+    sum_line(rt, b"totals: rows", totals)
 }

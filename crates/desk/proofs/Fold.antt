@@ -284,7 +284,8 @@ module _ (ts : List Tally) (ps : List ℕ) (m n g : ℕ) where
         ∙ in_order (ltb (length ps) n) ((leb 1 m && leb m max_grocers) && (leb 1 n && leb n max_offers) && up_to max_price n ps && leb (length ts) max_tallies) (ltb g m)
         (records_in_range m n (records_of ts)) k (counted_records (records_of ts)) shares (serial_amount ps g (standing_records (records_of ts)))
         (t.number ∙ ap (λ (l : List Tally). number_of (head_refusal m n g ps (length ts)) (records_in_range m n (records_of l))) all_taken_lem) stands_sum
-        ∙ ap (λ (x : ℕ). desk_answer (cond (ltb (length ps) n) 20 (cond (not (((leb 1 m && leb m max_grocers) && (leb 1 n && leb n max_offers) && up_to max_price n ps && leb x max_tallies) && records_in_range m n (records_of ts) && ltb g m)) 21
+        ∙ ap (λ (x : ℕ). desk_answer (cond (ltb (length ps) n) 20
+        (cond (not (((leb 1 m && leb m max_grocers) && (leb 1 n && leb n max_offers) && up_to max_price n ps && leb x max_tallies) && records_in_range m n (records_of ts) && ltb g m)) 21
         (cond (counted_twice (counted_records (records_of ts))) 9 0))) (serial_amount ps g (standing_records (records_of ts)))) (sym (length-records ts))
 
 -- ---- an amount that is owed is in range

@@ -1,5 +1,3 @@
--- The records taken one by one, the answer from them, and what the walks by hand share.
-pub mod Cut
+-- The records taken one by one, and the answer from them.
 pub mod Fold
 pub mod Settling
-pub mod Walk

@@ -12,7 +12,7 @@ use desk_records::{head_refusal, standing_sum, take_record};
 use index::bags::strike;
 
 // A tally record: the place is that of its offer.
-#[derive(Drop)]
+#[derive(Clone, Copy)]
 pub struct Tally {
     pub grocer: u16,
     pub tally_box: u16,
@@ -23,7 +23,7 @@ pub struct Tally {
 }
 
 // The amount owed in tenths of a cent, or the number of the refusal.
-#[derive(Drop)]
+#[derive(Clone, Copy)]
 pub enum Answer {
     Owed(i64),
     Refused(u16),

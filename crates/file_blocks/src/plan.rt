@@ -13,7 +13,7 @@ use slices::limits::{MAX_BOXES, MAX_GROCERS, MAX_LISTS, MAX_OFFERS, MAX_TALLIES}
 use slices::sizes::Sizes;
 
 // The numbers of a header: how many boxes, grocers, offers, tallies and additional price lists, and the settlement cycle.
-#[derive(Drop)]
+#[derive(Clone, Copy)]
 pub struct Head {
     pub sizes: Sizes,
     pub cycle: u16,

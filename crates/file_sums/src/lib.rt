@@ -11,7 +11,7 @@ use file_bytes::word16;
 use slices::byte_at;
 
 // The first and the second sum of some bytes.
-#[derive(Drop)]
+#[derive(Clone, Copy)]
 pub struct TwoSums {
     pub first: usize,
     pub second: usize,

@@ -11,7 +11,8 @@ use Rattle.laws.specs.Tables.{tabulate}
 use Rattle.laws.proofs.Tables.{pos_right, cell_in}
 use Rattle.format.specs.Codes.{code_bytes}
 use Rattle.format.specs.Job.{Head, FileJob}
-use Rattle.format.specs.Blocks.{BlockKind, header, offer_block, grocer_block, price_block, tally_block, blocks_for, list_blocks, offers_at, grocers_at, prices_at, tallies_at, kind_at, field_size, header_bytes, offer_bytes, tally_bytes, record_bytes}
+use Rattle.format.specs.Blocks.{BlockKind, header, offer_block, grocer_block, price_block, tally_block, blocks_for, list_blocks, offers_at}
+use Rattle.format.specs.Blocks.{grocers_at, prices_at, tallies_at, kind_at, field_size, header_bytes, offer_bytes, tally_bytes, record_bytes}
 
 -- Where a block of a kind stands.
 pub data At (h : Head) (k : ℕ) : BlockKind → Type 0 where

@@ -19,7 +19,8 @@ use Rattle.laws.proofs.Tables.{get_d_tabulate, length_tabulate}
 use Rattle.format.specs.Bytes.{from, after, word16, word32, bytes16, bytes32}
 use Rattle.format.specs.Codes.{code_bytes}
 use Rattle.format.specs.Job.{Head}
-use Rattle.format.specs.Blocks.{BlockKind, header, offer_block, grocer_block, price_block, tally_block, blocks, offers_at, tallies_at, kind_at, block_kind_number, records, record_size, field_size, header_bytes, offer_bytes, tally_bytes, list_at}
+use Rattle.format.specs.Blocks.{BlockKind, header, offer_block, grocer_block, price_block, tally_block, blocks, offers_at, tallies_at}
+use Rattle.format.specs.Blocks.{kind_at, block_kind_number, records, record_size, field_size, header_bytes, offer_bytes, tally_bytes, list_at}
 use Rattle.format.specs.Blocks.{record_bytes, spare, first_sum, second_sum}
 use Rattle.format.specs.File.{record_byte, body_byte, block_byte, encode, read_offer, read_tally, record_at, price_at, read_head, decode}
 use Rattle.format.proofs.Words.{bytes_word16, bytes_word32, first_cong, second_cong}

@@ -17,7 +17,8 @@ use Rattle.laws.proofs.Tables.{get_d_tabulate, length_tabulate}
 use Rattle.format.specs.Bytes.{bytes16, bytes32}
 use Rattle.format.specs.Codes.{Code, is_code, code_bytes}
 use Rattle.format.specs.Job.{FileJob, Words16}
-use Rattle.format.specs.Blocks.{BlockKind, header, offer_block, grocer_block, price_block, tally_block, blocks, kind_at, block_kind_number, records, record_size, header_bytes, offer_bytes, tally_bytes, record_bytes, spare, first_sum, second_sum}
+use Rattle.format.specs.Blocks.{BlockKind, header, offer_block, grocer_block, price_block, tally_block, blocks, kind_at, block_kind_number}
+use Rattle.format.specs.Blocks.{records, record_size, header_bytes, offer_bytes, tally_bytes, record_bytes, spare, first_sum, second_sum}
 use Rattle.format.specs.File.{record_byte, body_byte, block_byte, encode}
 use Rattle.format.specs.Refusals.{job_refusal}
 use Rattle.format.proofs.Codes.{code_is}

@@ -22,7 +22,8 @@ use Rattle.format.specs.First.{first_below}
 use Rattle.format.specs.Bytes.{from, after, word16, word32, bytes16, bytes32}
 use Rattle.format.specs.Codes.{code_bytes}
 use Rattle.format.specs.Job.{Head, FileJob, Offer, Tally}
-use Rattle.format.specs.Blocks.{BlockKind, header, offer_block, grocer_block, price_block, tally_block, list_blocks, block_count, blocks, offers_at, grocers_at, prices_at, tallies_at, kind_at, block_kind_number, records, record_size, list_at}
+use Rattle.format.specs.Blocks.{BlockKind, header, offer_block, grocer_block, price_block, tally_block, list_blocks, block_count, blocks}
+use Rattle.format.specs.Blocks.{offers_at, grocers_at, prices_at, tallies_at, kind_at, block_kind_number, records, record_size, list_at}
 use Rattle.format.specs.Blocks.{field_size, header_bytes, offer_bytes, tally_bytes, record_bytes, spare, first_sum, second_sum}
 use Rattle.format.specs.File.{record_byte, body_byte, block_byte, encode, read_offer, read_tally, record_at, price_at, read_head, decode}
 use Rattle.format.specs.Refusals.{bad_length, bad_count, sums_differ, not_due, bad_header, spare_used, bad_record, header_refusal, block_refusal, file_refusal, job_refusal}

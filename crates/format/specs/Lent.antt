@@ -1,5 +1,5 @@
 -- The tables of a job with its codes as a contract names them: lent slices, at the call's begin and at its end.
-use Rattle.laws.specs.Lent.{Words, SignedWords}
+use Rattle.laws.specs.Lent.{Words, SignedWords, MutWords, MutSignedWords}
 use Rattle.format.specs.Tables.{OfferTables, offer_tables, TallyTables, tally_tables, FileTables, file_tables, ReaderTables, reader_tables}
 
 -- The offers' tables when the call begins,
@@ -22,18 +22,24 @@ file_lent price offer_owner offer_code offer_issuer grocer_owner tally_grocer ta
 
 -- The reader's tables when the call begins
 abbrev pub reader_before :
-    (price offer_owner offer_code offer_issuer grocer_owner tally_grocer tally_box tally_code : Words) (tally_count : SignedWords)
-    (tally_issuer tally_bag tally_revision tally_offer : Words) → ReaderTables
-reader_before price offer_owner offer_code offer_issuer grocer_owner tally_grocer tally_box tally_code tally_count tally_issuer tally_bag tally_revision tally_offer =
+    (price offer_owner offer_code offer_issuer grocer_owner tally_grocer tally_box tally_code : MutWords) (tally_count : MutSignedWords)
+    (tally_issuer tally_bag tally_revision tally_offer : MutWords) → ReaderTables
+reader_before price offer_owner offer_code offer_issuer grocer_owner tally_grocer tally_box tally_code tally_count tally_issuer tally_bag tally_revision
+    tally_offer =
     reader_tables
-    (file_lent price offer_owner offer_code offer_issuer grocer_owner tally_grocer tally_box tally_code tally_count tally_issuer tally_bag tally_revision)
+    (file_tables
+    (offer_tables price.entry.now offer_owner.entry.now offer_code.entry.now offer_issuer.entry.now)
+    grocer_owner.entry.now
+    (tally_tables tally_grocer.entry.now tally_box.entry.now tally_code.entry.now tally_count.entry.now tally_issuer.entry.now
+    tally_bag.entry.now tally_revision.entry.now))
     tally_offer.entry.now
 
 -- and when it ends.
 abbrev pub reader_after :
-    (price offer_owner offer_code offer_issuer grocer_owner tally_grocer tally_box tally_code : Words) (tally_count : SignedWords)
-    (tally_issuer tally_bag tally_revision tally_offer : Words) → ReaderTables
-reader_after price offer_owner offer_code offer_issuer grocer_owner tally_grocer tally_box tally_code tally_count tally_issuer tally_bag tally_revision tally_offer =
+    (price offer_owner offer_code offer_issuer grocer_owner tally_grocer tally_box tally_code : MutWords) (tally_count : MutSignedWords)
+    (tally_issuer tally_bag tally_revision tally_offer : MutWords) → ReaderTables
+reader_after price offer_owner offer_code offer_issuer grocer_owner tally_grocer tally_box tally_code tally_count tally_issuer tally_bag tally_revision
+    tally_offer =
     reader_tables
     (file_tables
     (offer_tables price.exit.now offer_owner.exit.now offer_code.exit.now offer_issuer.exit.now)

@@ -1,4 +1,4 @@
-// The three calls of a C host, on numbers and lent words. Each answers 0, or the number of the refusal.
+// The three calls of a host, on numbers and lent words. Each answers 0, or the number of the refusal. `host_c` has them for C.
 #![tactic(auto)]
 
 ghost use Rattle.std.specs.Prelude.{◌≡◌, List, ℕ, ◌≤◌, length};
@@ -70,8 +70,7 @@ fn step_number(a: step::Answer) -> u16
 
 // Reads a job file into the lent tables, and its K, M, N, T, cycle and number of additional lists into the buffer for sizes. A refusal leaves every
 // word as it was.
-#[unsafe(no_mangle)]
-pub extern "C" fn settlement_read(
+pub fn settlement_read(
     file: &[u8],
     price: &mut [u32],
     offer_owner: &mut [u16],
@@ -118,8 +117,7 @@ pub extern "C" fn settlement_read(
 }
 
 // One step request on the lent tables. A refusal leaves every word as it was.
-#[unsafe(no_mangle)]
-pub extern "C" fn settlement_step(
+pub fn settlement_step(
     boxes: u16,
     grocers: u16,
     offers: u16,
@@ -184,8 +182,7 @@ pub extern "C" fn settlement_step(
 
 // The run of a job from a fresh state; the places of the steps picked go into one buffer, as far as it reaches, and what it reports into
 // another. A refusal leaves every word as it was.
-#[unsafe(no_mangle)]
-pub extern "C" fn settlement_run(
+pub fn settlement_run(
     boxes: u16,
     grocers: u16,
     offers: u16,

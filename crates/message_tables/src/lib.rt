@@ -14,7 +14,7 @@ pub mod sums;
 pub mod words;
 
 // What `message_tables` answers: both tables are made, and the job has so many words; or the number of the condition that refuses it.
-#[derive(Drop)]
+#[derive(Clone, Copy)]
 pub enum Answer {
     Made(u32),
     Refused(u16),

@@ -22,7 +22,8 @@ use Rattle.model.specs.Tables.{JobTables, counted_of, evening_of, StateTables, v
 use Rattle.model.specs.Ranges.{around, job_in_range, state_in_range, totals_in_range}
 use Rattle.model.specs.Step.{Asked, step_rules, moved, refusals, step_refusal, step_tables, step_answer, stepped, fresh_tables}
 use Rattle.model.specs.Run.{run_state, run_refusals, ran}
-use Rattle.model.specs.FullRows.{full_view, full_store, rows_short, rows_in_range, unpacked, repacked, full_moved, full_refusals, full_refusal, full_stepped, full_ran, TotalsIn, SameStep, answers_by, tables_by, SameRequests, SameFresh, SameRun}
+use Rattle.model.specs.FullRows.{full_view, full_store, rows_short, rows_in_range, unpacked, repacked, full_moved, full_refusals, full_refusal}
+use Rattle.model.specs.FullRows.{full_stepped, full_ran, TotalsIn, SameStep, answers_by, tables_by, SameRequests, SameFresh, SameRun}
 use Rattle.model.specs.FullRows.{FromRows}
 use Rattle.model.proofs.Core.{state_eq}
 use Rattle.model.proofs.Range.{InRange}

@@ -17,7 +17,8 @@ use Rattle.laws.proofs.Tables.{over-over, word_take, cell_take, overwrite_take, 
 use Rattle.recount.specs.Recount.{stands}
 use Rattle.model.specs.Job.{Job}
 use Rattle.model.specs.Requests.{lent_job, lent_state, returned}
-use Rattle.model.specs.Tables.{JobTables, job_of, with_lists, evening_of, StateTables, steps_done, marks_of, view, store, JobLengths, StateLengths, job_lengths, state_lengths, job_short, bags_short, state_short, totals_short, counted_of, nobody}
+use Rattle.model.specs.Tables.{JobTables, job_of, with_lists, evening_of, StateTables, steps_done, marks_of, view, store}
+use Rattle.model.specs.Tables.{JobLengths, StateLengths, job_lengths, state_lengths, job_short, bags_short, state_short, totals_short, counted_of, nobody}
 use Rattle.model.specs.PackedTotals.{totals_length, spread}
 use Rattle.model.specs.Ranges.{sizes_in_range, job_words_in_range, job_in_range, state_in_range, totals_in_range}
 use Rattle.model.specs.Steps.{Kind, kind_number, step_place, at_place, State}

@@ -435,4 +435,5 @@ module _ (f : JobTables) (z : Settles f) (q : ℕ) (in-lists : q < suc f.lists) 
       ∙ ap (λ (u : Bool). only naturals u 1) (total_share g b)
 
   pub each_list_lem : EachList f q
-  each_list_lem = record { settles = alone_settles; sums = sums_is; holds = holds_is; one_price = one_price_lem; one_total = one_total_lem; evenings = evenings_is; working_words = working_words_lem; transit_words = transit_words_lem; runs = runs_is }
+  each_list_lem = record
+      { settles = alone_settles; sums = sums_is; holds = holds_is; one_price = one_price_lem; one_total = one_total_lem; evenings = evenings_is; working_words = working_words_lem; transit_words = transit_words_lem; runs = runs_is }

@@ -205,7 +205,8 @@ pub record Examples : Type 0 where
   pub one_message : message_count (job_of two_offers) ≡ 1
   pub two_report : (ran two_offers (fresh_tables two_offers empty) [] []).answer ≡ finished 2 1 6
   -- The ready steps of a fresh state of E: both messages of prices, and step 2 of both boxes. Choice 6 picks the one that 2 picks.
-  pub e_ready : ready_steps (job_of job_e) (done_by []) ≡ of_kind send_prices 0 1 ∷ of_kind send_prices 1 0 ∷ of_kind multiply_own 0 0 ∷ of_kind multiply_own 1 1 ∷ []
+  pub e_ready : ready_steps (job_of job_e) (done_by []) ≡ of_kind send_prices 0 1 ∷ of_kind send_prices 1 0 ∷ of_kind multiply_own 0 0
+      ∷ of_kind multiply_own 1 1 ∷ []
   pub e_pick : pick (job_of job_e) (done_by []) 6 ≡ of_kind multiply_own 0 0
   -- What E's boxes hold once box 0 has multiplied its own and sent its prices: 3 × 500 worked, 500 on its way to box 1, which does not know it yet.
   pub e_working : (state_by_rules (job_of job_e) begun_e).working 0 0 ≡ pos 1500

@@ -344,7 +344,8 @@ pub record Edges : Type 0 where
   -- 9 before 23.
   pub book_9_23 : book_refusal low_twice (book_lengths 1 1 2 3 3) 2 ≡ 9
   -- Message tables: 20 before 21,
-  pub messages_20_21 : first_met (job_refusals (bag_tables 2 1 1 2 0 (10_000_000 ∷ []) (1 ∷ []) [] (0 ∷ 0 ∷ []) (0 ∷ 1 ∷ []) (0 ∷ 0 ∷ []) (pos 5 ∷ []) [] [])) ≡ 20
+  pub messages_20_21 : first_met (job_refusals (bag_tables 2 1 1 2 0 (10_000_000 ∷ []) (1 ∷ []) [] (0 ∷ 0 ∷ []) (0 ∷ 1 ∷ []) (0 ∷ 0 ∷ []) (pos 5 ∷ []) [] []))
+      ≡ 20
   -- 21 before 9,
   pub messages_21_9 : first_met (job_refusals twice_priced) ≡ 21
   -- and 9.

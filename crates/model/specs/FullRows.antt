@@ -96,7 +96,8 @@ module _ (f : JobTables) (t : StateTables) where
 -- The run on full rows.
 unfoldable pub full_ran : JobTables → StateTables → List ℕ → List ℕ → RunOutcome
 full_ran f t cs p =
-    let n = first_met ((lent_short f t || rows_short (evening_of f) (state_lengths t), 20) ∷ (not (job_in_range f), 21) ∷ (counted_twice (counted_of f), 9) ∷ []) in
+    let n = first_met ((lent_short f t || rows_short (evening_of f) (state_lengths t), 20) ∷ (not (job_in_range f), 21) ∷ (counted_twice (counted_of f), 9)
+    ∷ []) in
     record {
       answer = reported n (finished (run_state (evening_of f) cs).sent (over messages_of (run (evening_of f) cs)) (length (run (evening_of f) cs)));
       tables = cond (eqb n 0) (full_store (evening_of f) (run_state (evening_of f) cs) t) t;

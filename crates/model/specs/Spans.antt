@@ -1,6 +1,7 @@
 -- Spans of packed totals: a box's totals of its own grocers stand first, then those of each other box's grocers, as its messages go.
 -- So steps 4, 5 and 6 each touch one span of words. What code that works on the packed tables goes by.
-use Rattle.std.specs.Prelude.{◌≡◌, Bool, true, cond, ◌&&◌, ◌||◌, List, [], ◌∷◌, ◌++◌, ℕ, zero, suc, ◌+◌, ◌*◌, ◌<◌, ◌≤◌, eqb, ltb, leb, ℤ, pos, ◌+ℤ◌, get_or, length}
+use Rattle.std.specs.Prelude.{◌≡◌, Bool, true, cond, ◌&&◌, ◌||◌, List, [], ◌∷◌, ◌++◌, ℕ, zero}
+use Rattle.std.specs.Prelude.{suc, ◌+◌, ◌*◌, ◌<◌, ◌≤◌, eqb, ltb, leb, ℤ, pos, ◌+ℤ◌, get_or, length}
 use Rattle.std.specs.Int.Count.{ones}
 use Rattle.laws.specs.Below.{naturals, integers, sum, only, count}
 use Rattle.laws.specs.Masks.{without}
@@ -67,12 +68,14 @@ pub record BySpans (j : Job) (t : StateTables) : Type 0 where
       ≡ span_written (group_start j b (suc a)) (group_start j b (suc (suc a))) (λ i. pos 0) t.total_transit
   -- the word at each place of the span goes to the statement of the grocer of the place,
   pub added_each : (a b i : ℕ) → a < j.boxes → in_span (group_start j a 0) (group_start j a 1) i ≡ true →
-      (effect j (view j t) add_own a b).statement (get_or (place_grocers j) i 0) ≡ (view j t).statement (get_or (place_grocers j) i 0) +ℤ get_or t.working i (pos 0)
+      (effect j (view j t) add_own a b).statement (get_or (place_grocers j) i 0) ≡ (view j t).statement (get_or (place_grocers j) i 0) +ℤ get_or t.working i
+      (pos 0)
   pub received_each : (a b i : ℕ) → a < j.boxes → b < j.boxes → in_span (group_start j b (suc a)) (group_start j b (suc (suc a))) i ≡ true →
       (effect j (view j t) receive_totals a b).statement (get_or (place_grocers j) i 0)
       ≡ (view j t).statement (get_or (place_grocers j) i 0) +ℤ get_or t.total_transit i (pos 0)
   -- one place for each grocer of the span,
-  pub own_once : (a i k : ℕ) → a < j.boxes → in_span (group_start j a 0) (group_start j a 1) i ≡ true → in_span (group_start j a 0) (group_start j a 1) k ≡ true →
+  pub own_once : (a i k : ℕ) → a < j.boxes → in_span (group_start j a 0) (group_start j a 1) i ≡ true → in_span (group_start j a 0) (group_start j a 1) k
+      ≡ true →
       get_or (place_grocers j) i 0 ≡ get_or (place_grocers j) k 0 → i ≡ k
   pub message_once : (a b i k : ℕ) → a < j.boxes → b < j.boxes → in_span (group_start j a (suc b)) (group_start j a (suc (suc b))) i ≡ true →
       in_span (group_start j a (suc b)) (group_start j a (suc (suc b))) k ≡ true → get_or (place_grocers j) i 0 ≡ get_or (place_grocers j) k 0 → i ≡ k

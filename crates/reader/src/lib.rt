@@ -20,7 +20,7 @@ use file_codes::fill_codes;
 use slices::limits::{GROCERS, MAX_LISTS, OFFERS, TALLIES};
 
 // What the reader answers: the numbers of the job that it read, or why it refused the file.
-#[derive(Drop)]
+#[derive(Clone, Copy)]
 pub enum Answer {
     Job {
         boxes: u16,

@@ -1,66 +1,55 @@
 -- What a run begins with, and what it comes to. Assumes nothing.
 use mathlib.Core.Path.{◌≡◌, refl, sym, ap, ◌∙◌}
 use mathlib.Core.Bool.{Bool, true, false, cond, not, ◌||◌}
-use mathlib.Core.List.{List, [], ◌∷◌, map}
+use mathlib.Core.List.{List, [], ◌∷◌}
 use Prim.Native.Nat.{ℕ, zero, suc, ◌*◌, ◌≤◌}
 use native.Mathlib.Omega.{arith}
-use native.Mathlib.Nat.{mul-le-mul}
 use lib.Dec.{eqb, ltb}
 use lib.ListN.{length, get_or, set, take, drop}
 use borrow.Author.Tests.{ne_eqb}
-use Rattle.laws.specs.Below.{count}
 use Rattle.laws.specs.Tables.{tabulate, lay_over}
 use Rattle.laws.specs.Checks.{first_met}
 use Rattle.laws.proofs.Bools.{or_true, or_false}
-use Rattle.laws.proofs.Sums.{sum_max}
-use Rattle.laws.proofs.Below.{count_le}
-use Rattle.laws.proofs.Tables.{overwrite_one}
-use Rattle.model.specs.Job.{Job, prices_due, totals_due, need_word, sharer_word}
-use Rattle.model.specs.Steps.{Steps, Step, State, fresh, effect_of}
-use Rattle.model.specs.Tables.{JobTables, job_of, with_lists, evening_of, StateTables, store, steps_done, marks_of, job_lengths, state_lengths, job_short, bags_short, state_short, lent_short, totals_short, counted_of}
+use Rattle.laws.proofs.Checks.{one_met}
+use Rattle.model.specs.Job.{Job, need_word, sharer_word}
+use Rattle.model.specs.Steps.{Step, State, fresh, effect_of}
+use Rattle.model.specs.Tables.{JobTables, job_of, evening_of, StateTables, store, job_lengths, state_lengths, job_short, bags_short, state_short, lent_short, totals_short, counted_of}
 use Rattle.recount.specs.Recount.{counted_twice}
 use Rattle.model.specs.Ranges.{Settles, job_in_range}
 use Rattle.model.specs.Local.{job_refusals}
 use Rattle.model.specs.Handed.{handed_tables, Standing}
 use Rattle.model.specs.Words.{over, messages_of, message_count, step_count}
-use Rattle.model.specs.Run.{ready_count, pick, picks, run, placed, picked_places, run_state, after_steps, RunAnswer, finished, refused, reported, run_refusals, ran}
+use Rattle.model.specs.Run.{ready_count, pick, picks, run, picked_places, run_state, RunAnswer, finished, refused, reported, run_refusals, ran}
 use Rattle.job_masks.specs.Masks.{holder_word, Placed, Owned, by_owner}
 use Rattle.step_waits.specs.Waits.{TallyLists, tally_lists, wait_table, WaitsIn}
 use Rattle.job_checks.specs.Sizes.{sizes}
 use Rattle.run_ready.specs.Walk.{WalkIn}
-use Rattle.step_places.specs.Order.{steps_in, mark_all, no_steps}
-use Rattle.run_order.specs.Order.{OfJob, SomeJob, EveryJob, MarksFrom, Ordered}
+use Rattle.step_places.specs.Order.{steps_in}
+use Rattle.run_order.specs.Order.{OfJob, SomeJob, EveryJob, MarksFrom, SoFar, Ordered}
 use Rattle.run.specs.declared.Answer.TheVariants.{Finished, Refused}
-use Rattle.run_steps.specs.All.{without_marks, AllIn, AllOut, after_order}
+use Rattle.run_steps.specs.All.{without_marks, AllIn, AllOut}
 use Rattle.run.specs.Run.{Begins, answer_of, given, OrderIn}
 use Rattle.book_places.specs.Spots.{CountIn, start_by}
-use Rattle.model.specs.PackedTotals.{spread}
 use Rattle.model.proofs.Handed.{handed-whole, handed_in, handed_evening, handed_run}
 use Rattle.job_checks.proofs.Refusals.{accepted}
 use Rattle.model.proofs.PriceLists.{same_steps_lem}
 use Rattle.model.proofs.Step.{range}
-use Rattle.model.proofs.Lent.{state_long, totals_long}
+use Rattle.model.proofs.Lent.{state_long}
 use Rattle.job_checks.proofs.Sizes.{short_sizes}
 use Rattle.model.proofs.Whole.{JobWhole, job_whole}
 use Rattle.job_masks.proofs.Holders.{need_words, sharer_words}
 use Rattle.job_masks.proofs.InJob.{placed_offers, placed_grocers, owned_offers}
 use Rattle.step_waits.proofs.Told.{receivers_of, waits_of, waits_in}
-use Rattle.step_prices.proofs.Effect.{tables_eq}
-use Rattle.step_places.proofs.Orders.{steps_length, places_back}
 use Rattle.run_steps.proofs.Way.{some_box}
+use Rattle.run_order.proofs.Few.{messages_few as few_messages}
+use Rattle.run_order.proofs.SoFar.{picked_so_far}
+use Rattle.run.proofs.Behind.{met_before as met_first, met_behind}
+use Rattle.run.proofs.Done.{steps_may, words_done, tables_done, messages_done, number_done, places_done}
 use Rattle.run_steps.proofs.Looking.{count_ready, packed_words}
-use Rattle.run_steps.proofs.Turns.{after_marks}
 
 -- At most 16 boxes have at most 512 messages.
 messages_few : (j : Job) → j.boxes ≤ 16 → message_count j ≤ 512
-unfolding message_count
-messages_few j l =
-    omega (
-      arith,
-      sum_max j.boxes j.boxes (λ a. count j.boxes (λ b. prices_due j a b)) (λ a l. count_le j.boxes (λ b. prices_due j a b)),
-      sum_max j.boxes j.boxes (λ a. count j.boxes (λ b. totals_due j a b)) (λ a l. count_le j.boxes (λ b. totals_due j a b)),
-      mul-le-mul l l,
-    )
+messages_few j l = few_messages j l
 
 -- No more steps are picked than there is room for.
 picks_few : (j : Job) (n : ℕ) (s : State) (cs : List ℕ) → length (picks j n s cs) ≤ n
@@ -156,22 +145,7 @@ module _ (f : JobTables) (t : StateTables) (g : Begins f t) where
   module _ (packed : totals_short (evening_of f) (state_lengths t) ≡ false) (needs sharers cs done order : List ℕ) (n : ℕ)
       (en : needs ≡ tabulate 500 (need_word (job_of f))) (es : sharers ≡ tabulate 255 (sharer_word (job_of f))) (w : Ordered (job_of f) cs done order n) where
     pub all_in : AllIn f (without_marks t.known t.price_transit t.working t.total_transit t.statement) needs sharers order n
-    unfolding state_lengths
-    all_in =
-        let l = state_long f (state_lengths t) g.state_long in
-        let k = totals_long (evening_of f) (state_lengths t) packed in
-        record {
-          job_in_lem = g.job_in_lem;
-          job_long = g.job_long;
-          known_long_lem = l.known;
-          transit_long_lem = l.price_transit;
-          working_long_lem = k.working;
-          totals_long = k.total_transit;
-          statement_long_lem = l.statement;
-          needs_are = en;
-          sharers_are = es;
-          does = record { long = rw w.picked.long w.picked.in_order; few = w.picked.in_order; places_in = w.picked.places_in; in_turn_lem = w.picked.in_turn_lem };
-        }
+    all_in = steps_may f t g packed needs sharers done order n en es (picked_so_far (job_of f) done order n [] w.picked)
 
     -- Where they are done the run has ended.
     module _ (t' : StateTables) (words messages : ℕ)
@@ -187,42 +161,28 @@ module _ (f : JobTables) (t : StateTables) (g : Begins f t) where
       unfolding job_of
       steps_of = w.steps_are ∙ sym ((same_steps_lem f).picks cs)
 
-      end_is : after_order (evening_of f) n order ≡ end
-      unfolding after_order run_state with_lists spread job_of
-      end_is = ap (after_steps (evening_of f) (fresh (evening_of f))) steps_of
-
-      end_marks : steps_done f.boxes done ≡ end.done
-      unfolding run_state fresh job_of
-      end_marks = w.picked.marks_are ∙ ap (mark_all no_steps) steps_of ∙ sym (after_marks (evening_of f) (fresh (evening_of f)) (run (evening_of f) cs))
-
-      done_is : t'.done ≡ (store (evening_of f) end t).done
-      unfolding store MarksFrom with_lists spread job_of
-      done_is = ed ∙ m ∙ ap (λ (d : Steps). marks_of f.boxes d t.done) end_marks
+      -- What doing its steps comes to.
+      abbrev so_far : SoFar (job_of f) done order n
+      so_far = picked_so_far (job_of f) done order n [] w.picked
 
       words_is : words ≡ end.sent
-      words_is = r.words_are ∙ ap (λ (s : State). s.sent) end_is
-
-      sent_is : t'.sent ≡ (store (evening_of f) end t).sent
-      unfolding store state_lengths
-      sent_is = es' ∙ ap (set t.sent 0) words_is ∙ sym (overwrite_one end.sent t.sent (state_long f (state_lengths t) g.state_long).sent)
+      unfolding run_state
+      words_is = words_done f t g packed needs sharers done order n en es so_far (run (evening_of f) cs) steps_of t' words messages r m ed es'
 
       pub tables_are : t' ≡ store (evening_of f) end t
-      unfolding store
-      tables_are =
-          let h = rw end_is at r.holds in
-          tables_eq t' (store (evening_of f) end t) h.known h.price_transit h.working h.total_transit h.statement done_is sent_is
+      unfolding run_state
+      tables_are = tables_done f t g packed needs sharers done order n en es so_far (run (evening_of f) cs) steps_of t' words messages r m ed es'
 
       messages_is : messages ≡ over messages_of (run (evening_of f) cs)
-      unfolding with_lists spread job_of
-      messages_is = r.messages_are ∙ ap (over messages_of) steps_of
+      messages_is = messages_done f t g packed needs sharers done order n en es so_far (run (evening_of f) cs) steps_of t' words messages r m ed es'
 
       steps_is : n ≡ length (run (evening_of f) cs)
-      steps_is = sym (steps_length f.boxes n order (rw w.picked.long w.picked.in_order)) ∙ ap length steps_of
+      steps_is = number_done f t g packed needs sharers done order n en es so_far (run (evening_of f) cs) steps_of t' words messages r m ed es'
 
       -- The words of the order are the places of the steps picked.
       places_are : take n order ≡ picked_places (evening_of f) cs
-      unfolding picked_places with_lists spread job_of
-      places_are = sym (places_back f.boxes n order (some_box f g.job_in_lem) w.picked.places_in) ∙ ap (map (placed (evening_of f))) steps_of
+      unfolding picked_places
+      places_are = places_done f t g packed needs sharers done order n en es so_far (run (evening_of f) cs) steps_of t' words messages r m ed es'
 
       -- What is answered, the tables, and the places of the steps picked.
       pub run_ended : (p p' : List ℕ) → p' ≡ lay_over (take n order) p → given (answer_of (Finished words messages n)) t' p'
@@ -238,22 +198,14 @@ refused_said (suc n) a h = refl
 
 -- Behind the refusals of the job's tables stands one more: it is met where those are not.
 met_before : (a b c d : Bool) (n : ℕ) → n ≡ first_met ((a, 20) ∷ (b, 21) ∷ (c, 9) ∷ []) → (n ≡ 0 → ⊥) → first_met ((a, 20) ∷ (b, 21) ∷ (c, 9) ∷ (d, 20) ∷ []) ≡ n
-unfolding first_met
-met_before true b c d n e h = sym e
-met_before false true c d n e h = sym e
-met_before false false true d n e h = sym e
-met_before false false false d n e h = absurd (h e)
+met_before a b c d n e h = met_first a b c ((d, 20) ∷ []) n e h
 
 met_last : (a b c d : Bool) → first_met ((a, 20) ∷ (b, 21) ∷ (c, 9) ∷ []) ≡ 0 → d ≡ true → first_met ((a, 20) ∷ (b, 21) ∷ (c, 9) ∷ (d, 20) ∷ []) ≡ 20
-unfolding first_met
-met_last true b c d e h = refl
-met_last false true c d e h = absurd (omega (arith, e))
-met_last false false true d e h = absurd (omega (arith, e))
-met_last false false false d e h = rw h
+met_last a b c d e h = met_behind a b c ((d, 20) ∷ []) e ∙ one_met d 20 h
 
 -- The refusals of a run: 20 on the state's tables, those of the job's, and 20 on the packed tables.
 module _ (f : JobTables) (t : StateTables) (c : Bool) (e : c ≡ state_short (sizes f.boxes f.grocers f.offers f.lists) (state_lengths t)) where
-  state_is : c ≡ state_short f (state_lengths t)
+  pub state_is : c ≡ state_short f (state_lengths t)
   state_is = e ∙ short_sizes f (state_lengths t)
 
   -- A table of the state is short: no word is changed.
@@ -291,7 +243,7 @@ module _ (f : JobTables) (t : StateTables) (c : Bool) (e : c ≡ state_short (si
       }
 
       -- The packed tables of the job as handed are those of the tables as lent.
-      packed_is : (x : Bool) → x ≡ totals_short (evening_of (handed_tables f standing)) (state_lengths t) → x ≡ totals_short (evening_of f) (state_lengths t)
+      pub packed_is : (x : Bool) → x ≡ totals_short (evening_of (handed_tables f standing)) (state_lengths t) → x ≡ totals_short (evening_of f) (state_lengths t)
       packed_is x q = q ∙ ap (λ (j : Job). totals_short j (state_lengths t)) (handed_evening f standing s)
 
       pub run_packed : (cs p : List ℕ) (x : Bool) → x ≡ totals_short (evening_of (handed_tables f standing)) (state_lengths t) → x ≡ true → given (answer_of (Refused 20)) t p ≡ ran f t cs p

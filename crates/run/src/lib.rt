@@ -19,7 +19,7 @@ use slices::sizes::Sizes;
 use step_places::PLACES;
 
 // What a run answers: words sent, messages and steps; or the number of the condition that refuses it.
-#[derive(Drop)]
+#[derive(Clone, Copy)]
 pub enum Answer {
     Finished {
         words: u32,

@@ -1,25 +1,22 @@
 -- Where an order begins: no step is marked, and the whole order is the run. Assumes nothing.
-use mathlib.Core.Path.{◌≡◌, refl, sym, ap, ◌∙◌, subst}
+use mathlib.Core.Path.{◌≡◌, sym, ap, ◌∙◌, subst}
 use mathlib.Core.Bool.{Bool, ◌&&◌}
 use mathlib.Core.List.{List}
 use Prim.Native.Nat.{ℕ, ◌*◌, ◌≤◌}
-use native.Mathlib.Omega.{arith}
 use lib.Dec.{ltb}
 use lib.ListN.{length}
-use Rattle.laws.specs.Below.{all}
 use Rattle.laws.specs.Tables.{overwrite}
 use Rattle.laws.proofs.Bools.{and_false}
 use Rattle.model.specs.Job.{Job}
 use Rattle.model.specs.Steps.{Steps, fresh}
 use Rattle.model.specs.Tables.{steps_done, marks_of}
-use Rattle.model.specs.Ranges.{under}
 use Rattle.model.specs.Words.{step_count}
 use Rattle.model.specs.Run.{run}
-use Rattle.step_places.specs.Order.{steps_in, mark_all, no_steps, picks_from, steps_left}
+use Rattle.step_places.specs.Order.{steps_in, no_steps, picks_from, steps_left}
 use Rattle.run_order.specs.Order.{whole_order, OfJob, MarksFrom, Picked}
 use Rattle.model.proofs.Tables.{marks_back}
-use Rattle.model.proofs.Reach.{closed_none}
 use Rattle.step_places.proofs.Left.{picks_from_lem}
+use Rattle.run_order.proofs.SoFar.{so_far_picked, none_so_far}
 
 -- Marks that are all 0 say that no step is done.
 module _ (k : ℕ) (done done' : List ℕ) (e : done' ≡ overwrite (6 * k * k) (λ i. 0) done) where
@@ -44,13 +41,4 @@ module _ (j : Job) (done order cs : List ℕ) (e : steps_done j.boxes done ≡ n
   whole_run = ap (λ (d : Steps). picks_from j (step_count j) d cs) e ∙ sym (picks_from_lem j (step_count j) (fresh j) cs)
 
   pub none_picked : length order ≡ 1536 → length (run j cs) ≤ 1536 → Picked j done order 0 cs
-  unfolding steps_in mark_all under all
-  none_picked l few = record {
-    closed = rw e (closed_none j);
-    marks_are = e;
-    places_in = refl;
-    in_turn_lem = λ i h. absurd (omega arith);
-    long = l;
-    in_order = omega arith;
-    few = rw whole_run few;
-  }
+  none_picked l few = so_far_picked j done order 0 cs (none_so_far j done order e l) (rw whole_run few)

@@ -2,3 +2,5 @@
 pub mod Pick
 pub mod Found
 pub mod Begun
+pub mod SoFar
+pub mod Few

@@ -41,6 +41,15 @@ pub record Picked (j : Job) (done order : List ℕ) (n : ℕ) (cs : List ℕ) : 
   pub in_order : n ≤ 1536
   pub few : length (whole_order j done order n cs) ≤ 1536
 
+-- The same of an order alone, whatever is picked after it.
+pub record SoFar (j : Job) (done order : List ℕ) (n : ℕ) : Type 0 where
+  pub closed : Closed j (steps_done j.boxes done)
+  pub marks_are : steps_done j.boxes done ≡ mark_all no_steps (steps_in j.boxes n order)
+  pub places_in : under (6 * j.boxes * j.boxes) n order ≡ true
+  pub in_turn_lem : (i : ℕ) → i < n → permitted_at j (mark_all no_steps (steps_in j.boxes i order)) (get_or order i 0) ≡ true
+  pub long : length order ≡ 1536
+  pub in_order : n ≤ 1536
+
 -- A part of the picking goes from done, order, n and the choices cs to those with a mark: the whole order is the same.
 pub record Kept (j : Job) (done order : List ℕ) (n : ℕ) (cs done' order' : List ℕ) (n' : ℕ) (cs' : List ℕ) : Type 0 where
   pub picked : Picked j done' order' n' cs'

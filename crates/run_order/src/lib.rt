@@ -26,6 +26,16 @@ fn zero16(s: &mut [u16], n: usize)
     }
 }
 
+// The first n words become v.
+pub fn fill16(s: &mut [u16], n: usize, v: u16)
+    requires { n ≤ length s.old }
+    ensures { s.new ≡ overwrite n (λ i. v) s.old }
+{
+    for i in 0..n {
+        s[i] = v;
+    }
+}
+
 // The step of a place is word n of the order, and it is marked as done.
 pub fn put_step(k: u16, p: Step, n: usize, done: &mut [u16], order: &mut [u16; PLACES])
     requires { PlaceIn k p.kind p.first p.second × MarksFrom k done.old done.old × (n < 1536) }

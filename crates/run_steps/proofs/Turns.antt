@@ -148,7 +148,7 @@ module _ (f : JobTables) (ok : Handed f) (long : job_short f (job_lengths f) ≡
         price_holds =
             let w = out.price_side small in
             record {
-              known = (rw (h.known, h.price_transit) at w.0.Known-is) ∙ sym (ap (λ (u : StateTables). u.known) prices_left_lem);
+              known = (rw (h.known, h.price_transit) at w.0.known_is) ∙ sym (ap (λ (u : StateTables). u.known) prices_left_lem);
               price_transit = (rw (h.known, h.price_transit) at w.0.transit_is) ∙ sym (ap (λ (u : StateTables). u.price_transit) prices_left_lem);
               working = (rw (h.known, h.price_transit, h.working) at w.0.working_is) ∙ sym (ap (λ (u : StateTables). u.working) prices_left_lem);
               total_transit = w.1 ∙ h.total_transit ∙ sym (ap (λ (u : StateTables). u.total_transit) prices_left_lem);

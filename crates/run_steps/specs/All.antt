@@ -45,7 +45,8 @@ pub record StepIn (e : Tallies) (lists : ℕ) (tlinks offer_heads offers heads g
   pub offer_head_in : head_of kind a b + 1 < length offer_heads
   pub total_head_in : head_of kind a b + 1 < length heads
   pub price_side : kind ≤ 3 →
-      PriceStepIn e (suc lists) (get_or offer_heads (head_of kind a b) 0) (get_or offer_heads (head_of kind a b + 1) 0) offers tlinks known transit working kind a b
+      PriceStepIn e (suc lists) (get_or offer_heads (head_of kind a b) 0)
+      (get_or offer_heads (head_of kind a b + 1) 0) offers tlinks known transit working kind a b
   pub total_side : 3 < kind →
       TotalStepIn (get_or heads (head_of kind a b) 0) (get_or heads (head_of kind a b + 1) 0) (suc lists) grocers working totals statement kind
 

@@ -28,7 +28,7 @@ use step_places::{PLACES, Step};
 const LISTED_OFFERS: usize = OFFERS + TALLIES;
 
 // Words and messages sent, counted as steps are done.
-#[derive(Drop)]
+#[derive(Clone, Copy)]
 pub struct Sent {
     pub words: u32,
     pub messages: u32,
@@ -168,7 +168,8 @@ fn clear_totals(
 }
 
 // From a fresh state, whatever the tables held before, the first n steps of an order: offers and grocers are listed by boxes, places told, and tallies
-// linked, once.
+// linked, once. It is not put into its callers, whose checks would then run above its tables: a call has less than 32 KiB of stack (host/settlement.h).
+#[inline(never)]
 pub fn all_steps(
     z: Sizes,
     price: &[u32],

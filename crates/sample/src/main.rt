@@ -1,7 +1,8 @@
 // Writes E's job file to standard output.
 #![tactic(auto)]
 
-fn main() {
-    let f = sample_job::small_file();
-    io::write_all(1, &f);
+use std::io;
+
+fn main(rt: HostRuntime) -> io::Result<()> {
+    rt.write_all(&sample_job::small_file())
 }

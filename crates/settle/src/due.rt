@@ -26,7 +26,7 @@ const BOX_TOTALS: usize = TOTALS * WIDTH;
 pub const STATEMENTS: usize = GROCERS * WIDTH;
 
 // What a run reports: words sent, messages and steps.
-#[derive(Drop)]
+#[derive(Clone, Copy)]
 pub struct Report {
     pub words: u32,
     pub messages: u32,

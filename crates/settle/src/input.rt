@@ -1,54 +1,64 @@
 // The input: its first bytes are read into a buffer, and what settle prints for them is what it prints for the whole input.
-ghost use Rattle.std.specs.Prelude.{◌≡◌, List, ℕ, ◌+◌, ◌≤◌, length, take};
+ghost use Rattle.std.specs.Prelude.{◌≡◌, List, ℕ, ◌+◌, ◌≤◌, ◌<◌, length, take, drop, IsNone, IfSome, IfErr, OnOk};
+ghost use Rattle.std.specs.Io.KnownBytes.{Consumes, IsAtEnd, Appends};
 ghost use Rattle.io.specs.Counts.{IsPrefixLen};
 ghost use Rattle.printing.specs.Printed.{printed};
-ghost use Rattle.settle.specs.Input.{BytesRead};
+ghost use Rattle.settle.specs.Input.{BytesRead, KeepsIfUnread};
 
 use crate::statements::settled;
 use settle_text::lines::TEXT;
+use std::io;
+use std::io::{Read, Write};
 
 // One byte more than the longest file has, 102 blocks of 512: of a longer input this much is read, and it is refused.
 pub const INPUT: usize = 52_225;
 
-// How many bytes were read, and whether each read went well.
-#[derive(Drop)]
+// How many bytes were read, and why a read failed, if one did.
+#[derive(Clone, Copy)]
 pub struct Reading {
     pub count: usize,
-    pub ok: bool,
+    pub error: Option<io::Error>,
 }
 
 // One read behind the buffer's first `done` bytes, which stay.
-fn read_behind(fd: i32, buffer: &mut [u8], done: usize) -> Reading
+fn read_behind<R: Read>(input: &mut R, buffer: &mut [u8], done: usize) -> Reading
     requires { done ≤ length buffer.old }
     ensures count_in_bounds { done + result.count ≤ length buffer.old }
     ensures buffer_unchanged { take done buffer.new ≡ take done buffer.old }
+    ensures bytes_read { Consumes (R.remaining input.old) (R.remaining input.new)
+        (take result.count (drop done buffer.new)) }
+    ensures at_end { IsNone result.error → result.count ≡ 0 → done < length buffer.old
+        → IsAtEnd (R.remaining input.new) }
 {
-    let part = &mut buffer[done..];
-    let got = libc::read(fd, part);
-    Reading {
-        count: io::count(got, part),
-        ok: got >= 0,
+    match input.read(&mut buffer[done..]) {
+        Ok(count) => Reading { count, error: None },
+        Err(error) => Reading {
+            count: 0,
+            error: Some(error),
+        },
     }
 }
 
 // Reads until the buffer is full, the input ends or a read fails.
-pub fn read_input(fd: i32, buffer: &mut [u8]) -> Reading
-    ensures { IsPrefixLen result.count buffer.new }
+pub fn read_input<R: Read>(input: &mut R, buffer: &mut [u8]) -> Reading
+    ensures count { IsPrefixLen result.count buffer.new }
+    ensures first_bytes { IsNone result.error
+        → IfSome (R.remaining input.old) (λ bytes. BytesRead bytes buffer.new result.count) }
 {
     let mut done: usize = 0;
     while done < buffer.len() {
-        let read = read_behind(fd, buffer, done);
+        let read = read_behind(input, buffer, done);
         if read.count == 0 {
             return Reading {
                 count: done,
-                ok: read.ok,
+                error: read.error,
             };
         }
         done += read.count;
     }
     Reading {
         count: done,
-        ok: true,
+        error: None,
     }
 }
 
@@ -60,4 +70,28 @@ pub fn settled_input(buffer: &[u8; INPUT], n: usize, out: &mut [u8; TEXT]) -> us
 {
     let bytes: &[u8] = buffer;
     settled(&bytes[..n], out)
+}
+
+// Why nothing was printed, or not all of it.
+#[derive(Clone, Copy)]
+pub enum Failure {
+    Unread(io::Error),
+    Unwritten(io::Error),
+}
+
+// Reads an input and writes what settle prints for it. Of an input that cannot be read nothing is written.
+pub fn settle_input<R: Read, W: Write>(input: &mut R, output: &mut W) -> Result<(), Failure>
+    ensures written { OnOk result (IfSome (R.remaining input.old)
+        (λ bytes. Appends (W.contents output.old) (W.contents output.new) (printed bytes))) }
+    ensures unread { IfErr result
+        (λ failure. KeepsIfUnread failure (W.contents output.old) (W.contents output.new)) }
+{
+    let mut buffer = [0u8; INPUT];
+    let read = read_input(input, &mut buffer);
+    if let Some(error) = read.error {
+        return Err(Failure::Unread(error));
+    }
+    let mut out = [0u8; TEXT];
+    let n = settled_input(&buffer, read.count, &mut out);
+    output.write_all(&out[..n]).map_err(Failure::Unwritten)
 }

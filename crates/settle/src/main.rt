@@ -1,74 +1,84 @@
 // Reads a job file, of an argument's name or from standard input, runs it with no choices and prints the statements.
 #![tactic(auto)]
 
-use crate::input::{INPUT, read_input, settled_input};
-use settle_text::lines::TEXT;
+use crate::input::{Failure, settle_input};
+use std::env::FillError;
+use std::fmt::InlineText;
+use std::io::Read;
+use std::rt::{Env, Files};
+use std::{fs, io, str};
 
 mod due;
 mod input;
 mod statements;
 
-// Writes the lines. Where they cannot be written, it says so on standard error.
-fn print(lines: &[u8]) {
-    if !io::write_all(1, lines) {
-        io::write_all(2, b"settle: the output cannot be written\n");
+// As many bytes as the longest name has.
+const NAME: usize = 4_096;
+
+// The text of an error of the system, without the number that std puts behind it.
+fn reason(text: &str) -> &str {
+    match text.split_once(" (os error ") {
+        Some((words, _)) => words,
+        None => text,
     }
 }
 
-// Says on standard error what failed, and why: by the error of the last call.
-fn tell(what: &[u8]) {
-    io::write_all(2, b"settle: ");
-    os::fail(what);
+// Says on standard error what failed, and why.
+fn tell(rt: &impl Eprint, what: &str, error: io::Error) {
+    let text = InlineText::<256>::of(error);
+    let why = reason(text.as_str());
+    let _ = eprintln!(rt; "settle: {what}: {why}");
 }
 
-// Settles what a descriptor brings. Where it cannot be read nothing is printed.
-fn settle(fd: i32, name: &[u8]) {
-    let mut buffer = [0u8; INPUT];
-    let read = read_input(fd, &mut buffer);
-    if !read.ok {
-        tell(name);
-        return;
+// Settles what a reader brings, and says on standard error what failed. Where it cannot be read nothing is printed.
+fn settle(rt: &(impl Print + Eprint), input: &mut impl Read, name: &str) {
+    match settle_input(input, &mut io::writer(rt)) {
+        Ok(()) => {}
+        Err(Failure::Unread(error)) => tell(rt, name, error),
+        Err(Failure::Unwritten(_)) => {
+            let _ = eprintln!(rt; "settle: the output cannot be written");
+        }
     }
-    let mut out = [0u8; TEXT];
-    let k = settled_input(&buffer, read.count, &mut out);
-    print(&out[..k]);
 }
 
 // Settles the file of this name.
-fn settle_file(name: &[u8]) {
-    let fd = os::open_read(name);
-    if fd < 0 {
-        tell(name);
-        return;
+fn settle_file(rt: &(impl Files + Print + Eprint), name: &str) {
+    match fs::open(rt, name) {
+        Ok(mut file) => settle(rt, &mut file, name),
+        Err(error) => tell(rt, name, error),
     }
-    settle(fd, name);
-    libc::close(fd);
 }
 
 // Settles the file that the argument names.
-fn settle_argument() {
-    let mut name = io::buffer();
-    let n = os::arg(1, &mut name);
-    if os::errno() != 0 {
-        tell(b"the file's name");
+fn settle_argument(rt: &(impl Env + Files + Print + Eprint)) {
+    let mut name = [0u8; NAME];
+    let Ok(n) = rt.arg(1, &mut name) else {
+        let _ = eprintln!(rt; "settle: the file's name: File name too long");
         return;
-    }
+    };
     if n == 0 {
-        io::write_all(2, b"settle: the file's name is empty\n");
+        let _ = eprintln!(rt; "settle: the file's name is empty");
         return;
     }
-    settle_file(&name[..n]);
+    match str::from_utf8(&name[..n]) {
+        Ok(text) => settle_file(rt, text),
+        Err(_) => {
+            let _ = eprintln!(rt; "settle: the file's name is not UTF-8");
+        }
+    }
 }
 
-fn main() {
-    let arguments = os::arg_count();
-    if arguments > 2 {
-        io::write_all(2, b"usage: settle [FILE]\n");
-        return;
+// Whether the program was given so many arguments.
+fn is_given(rt: &impl Env, arguments: usize) -> bool {
+    !matches!(rt.arg(arguments, &mut []), Err(FillError::NotPresent))
+}
+
+fn main(rt: HostRuntime) {
+    if is_given(&rt, 2) {
+        let _ = eprintln!(rt; "usage: settle [FILE]");
+    } else if is_given(&rt, 1) {
+        settle_argument(&rt);
+    } else {
+        settle(&rt, &mut rt.stdin(), "standard input");
     }
-    if arguments == 2 {
-        settle_argument();
-        return;
-    }
-    settle(0, b"standard input");
 }

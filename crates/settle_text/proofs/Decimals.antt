@@ -1,10 +1,8 @@
 -- Numbers in decimal: the digits that are made are those that are said, and there are few. Assumes nothing.
-use mathlib.Core.Path.{◌≡◌, refl, sym, ap, ap₂, ◌∙◌}
+use mathlib.Core.Path.{◌≡◌, ap, ap₂, ◌∙◌}
 use mathlib.Core.List.{List, [], ◌∷◌, ◌++◌, append_assoc}
-use mathlib.Core.Bool.{true, false, cond}
-use Prim.Native.Nat.{ℕ, zero, suc, ◌+◌, ◌-◌, ◌*◌, ◌/◌, ◌%◌, ◌^◌, ◌≤◌, ◌<◌}
+use Prim.Native.Nat.{ℕ, zero, suc, ◌+◌, ◌-◌, ◌/◌, ◌%◌, ◌^◌, ◌≤◌, ◌<◌}
 use native.Mathlib.Omega.{arith}
-use native.Mathlib.Numerals.{add-one}
 use native.Mathlib.Nat.{pow-suc, mod-eq_of_lt}
 use lib.Dec.{ltb}
 use lib.IntN.{ℤ, pos, negsuc, nat_abs}
@@ -16,7 +14,7 @@ use Rattle.io.specs.Digits.{last_digits, hex_digit_ascii, IsDigitCount}
 use Rattle.laws.proofs.Bools.{split}
 use Rattle.printing.specs.Printed.{digits_of, decimal, signed_decimal, line}
 use Rattle.printing.proofs.Digits.{below_power}
-use Rattle.settle_text.specs.Puts.{put, Put}
+use Rattle.settle_text.specs.Puts.{Put}
 use Rattle.settle_text.proofs.Puts.{behind, reworded}
 
 -- A last digit.

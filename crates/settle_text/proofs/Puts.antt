@@ -1,12 +1,12 @@
 -- Laws of text that is put into a buffer. Assumes nothing.
-use mathlib.Core.Path.{◌≡◌, refl, sym, ap, ◌∙◌}
+use mathlib.Core.Path.{◌≡◌, sym, ap, ◌∙◌}
 use mathlib.Core.List.{List, [], ◌∷◌, ◌++◌}
 use Prim.Native.Nat.{ℕ, suc, ◌+◌, ◌≤◌, ◌<◌}
 use native.Mathlib.Omega.{arith}
 use native.Mathlib.Nat.{add-zero}
 use native.Mathlib.Numerals.{add-one}
 use lib.ListN.{length, get_or, take, drop, set, length-append}
-use lib.Seq.{sets, sets-eq, length-sets, length-take-le, take-suc, take-length, take-append_seam, drop-append_seam}
+use lib.Seq.{sets, sets-eq, length-sets, length-take-le, take-suc, take-append_seam, drop-append_seam}
 use Rattle.io.specs.Counts.{IsPrefixLen}
 use Rattle.settle_text.specs.Puts.{put, Put}
 

@@ -1,7 +1,7 @@
 // K, M, N, T and the number of additional price lists of a job.
 
 // How many boxes, grocers, offers and tallies a job has, K, M, N and T, and how many additional price lists.
-#[derive(Drop)]
+#[derive(Clone, Copy)]
 pub struct Sizes {
     pub boxes: u16,
     pub grocers: u16,

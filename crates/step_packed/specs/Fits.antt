@@ -7,7 +7,8 @@ use Rattle.step_spans.specs.Credit.{SpanIn}
 
 -- The statement word of word i of a span of totals stays in range with it.
 abbrev pub word_fits : ℕ → List ℕ → List ℤ → List ℤ → ℕ → Bool
-word_fits from numbers source statement i = leb (nat_abs (get_or statement (get_or numbers (from + i) 0) (pos 0) +ℤ get_or source (from + i) (pos 0))) max_amount
+word_fits from numbers source statement i = leb
+    (nat_abs (get_or statement (get_or numbers (from + i) 0) (pos 0) +ℤ get_or source (from + i) (pos 0))) max_amount
 
 -- The statements stay in range once the totals of a span of places are added, a word for each price list.
 abbrev pub span_fits : ℕ → ℕ → ℕ → List ℕ → List ℤ → List ℤ → Bool

@@ -17,7 +17,7 @@ pub const KINDS: usize = 6;
 pub const PLACES: usize = KINDS * BOXES * BOXES;
 
 // A step: its kind, first box and second box. By these it has a place among the steps.
-#[derive(Drop)]
+#[derive(Clone, Copy)]
 pub struct Step {
     pub kind: u16,
     pub first: u16,

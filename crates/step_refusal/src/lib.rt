@@ -243,7 +243,7 @@ fn own_places(
 }
 
 // The number of the first condition that is met, or 0, and from where up to where the step's offers or grocers are listed.
-#[derive(Drop)]
+#[derive(Clone, Copy)]
 pub struct Judged {
     pub met: u16,
     pub from: usize,

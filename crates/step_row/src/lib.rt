@@ -109,7 +109,7 @@ fn add_taken(
 }
 
 // The words of a box on each price list: so many places from one on, of so many words a place.
-#[derive(Drop)]
+#[derive(Clone, Copy)]
 struct Part {
     start: usize,
     len: usize,

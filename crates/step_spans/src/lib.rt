@@ -24,7 +24,8 @@ pub fn move_span(from: usize, to: usize, working: &mut [i64], transit: &mut [i64
 // Adds word w of the totals to word g of the statements, and puts 0 in its place.
 fn credit_word(w: usize, g: usize, source: &mut [i64], statement: &mut [i64])
     requires w_in_bounds { (w < length source.old) × (g < length statement.old) }
-    requires pos_bound { (nat_abs (get_or source.old w (pos 0)) ≤ 1_000_000_000_000_000) × (nat_abs (get_or statement.old g (pos 0)) ≤ 4_000_000_000_000_000_000) }
+    requires pos_bound { (nat_abs (get_or source.old w (pos 0)) ≤ 1_000_000_000_000_000) ×
+        (nat_abs (get_or statement.old g (pos 0)) ≤ 4_000_000_000_000_000_000) }
     ensures { (source.new ≡ set source.old w (pos 0)) × (statement.new ≡ set statement.old g
         (get_or statement.old g (pos 0) +ℤ get_or source.old w (pos 0))) }
 {

@@ -16,7 +16,7 @@ use writer_checks::refusal::write_refusal;
 use writer_checks::sizes::{file_length, head_of};
 
 // What the writer answers: the file's length, or a refusal's number.
-#[derive(Drop)]
+#[derive(Clone, Copy)]
 pub enum Answer {
     Wrote(usize),
     Refused(u16),

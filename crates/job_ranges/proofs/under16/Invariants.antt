@@ -1,0 +1,15 @@
+-- `job_ranges::under16` meets its contract: at word i those before it are tested. Assumes nothing.
+use mathlib.Core.Path.{◌≡◌}
+use Prim.Native.Nat.{◌≤◌, ◌-◌}
+use lib.ListN.{get_or}
+use lib.Dec.{ltb}
+use Rattle.laws.specs.Below.{all}
+use Rattle.job_ranges.proofs.under16.Given as goal
+
+abbrev pub invariant-loop-i : goal.invariant-loop-i
+invariant-loop-i l =
+    (l.i ≤ l.n) × (l.all ≡ all l.i (λ k. ltb (get_or l.s k 0) l.m))
+
+abbrev pub decreases-loop-i : goal.decreases-loop-i
+decreases-loop-i l =
+    l.n - l.i

@@ -1,0 +1,27 @@
+-- `run_fresh::zero64` meets its contract. The invariant: the first i words are 0, and the others are as they were. Assumes nothing.
+use mathlib.Core.Path.{refl, ◌∙◌}
+use native.Mathlib.Omega.{arith}
+use lib.IntN.{pos}
+use lib.ListN.{length-set}
+use borrow.Author.Rules.{rules}
+use Rattle.laws.proofs.Tables.{fill_none, fill_more, fill_end}
+use Rattle.run_fresh.proofs.zero64.Goals as goal
+
+pub loop-i-init : goal.loop-i-init
+loop-i-init c =
+    (search rules, refl, fill_none _ _)
+
+pub loop-i-preserved : goal.loop-i-preserved
+loop-i-preserved c = (
+  omega arith,
+  length-set c.loop-i.s c.loop-i.i (pos 0) ∙ c.loop-i.invariant.1,
+  fill_more (λ k. pos 0) c.loop-i.i _ _ _ c.loop-i.invariant.2 (omega (arith, c.loop-i.invariant.1)) refl,
+)
+
+pub shape_of-s : goal.shape_of-s
+shape_of-s c =
+    c.loop-i.invariant.1
+
+pub returns : goal.returns
+returns c =
+    fill_end _ c.loop-i.i _ _ _ c.loop-i.invariant.2 c.loop-i.invariant.0 (omega arith)

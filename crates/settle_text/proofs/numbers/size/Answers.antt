@@ -1,0 +1,47 @@
+-- `settle_text::numbers::size` meets its contract. Assumes nothing.
+use Prim.Native.Nat.{ℕ, ◌^◌, ◌<◌}
+use mathlib.Core.Path.{◌≡◌, ap}
+use native.Mathlib.Omega.{arith}
+use lib.IntN.{pos, negsuc, nat_abs}
+use mir.Syntax.{w64}
+use mir.Facts.{to_z-of_z}
+use Rattle.laws.proofs.Signs.{below_zero, from_zero, sfits_pos, turned}
+use Rattle.settle_text.proofs.numbers.size.Goals as goal
+
+pub overflow_sub-low : goal.overflow_sub-low
+overflow_sub-low c =
+    let neg : (n : ℕ) × (c.args.z ≡ negsuc n) × (n < 2 ^ 63) =
+    below_zero {w = w64} c.args.z c.ranges.z c.if-z-lt0.true in
+    let r = neg in rw (turned w64 _ r.0 r.1 r.2) (sfits_pos r.0 r.2)
+
+pub overflow_cast-low : goal.overflow_cast-low
+overflow_cast-low c =
+    let neg : (n : ℕ) × (c.args.z ≡ negsuc n) × (n < 2 ^ 63) =
+    below_zero {w = w64} c.args.z c.ranges.z c.if-z-lt0.true in
+    let r = neg in rw (turned w64 _ r.0 r.1 r.2, to_z-of_z (sfits_pos r.0 r.2)) (tt, omega arith)
+
+pub overflow_add-result : goal.overflow_add-result
+overflow_add-result c =
+    let neg : (n : ℕ) × (c.args.z ≡ negsuc n) × (n < 2 ^ 63) =
+    below_zero {w = w64} c.args.z c.ranges.z c.if-z-lt0.true in
+    let r = neg in rw (turned w64 _ r.0 r.1 r.2, to_z-of_z (sfits_pos r.0 r.2)) (omega arith)
+
+pub overflow_cast-result : goal.overflow_cast-result
+overflow_cast-result c =
+    let non : (n : ℕ) × (c.args.z ≡ pos n) × (n < 2 ^ 63) =
+    from_zero {w = w64} c.args.z c.ranges.z c.if-z-lt0.false in
+    let r = non in rw (r.1, to_z-of_z (sfits_pos r.0 r.2)) (tt, omega arith)
+
+pub returns-then-z-lt0 : goal.returns-then-z-lt0
+returns-then-z-lt0 c =
+    let neg : (n : ℕ) × (c.args.z ≡ negsuc n) × (n < 2 ^ 63) =
+    below_zero {w = w64} c.args.z c.ranges.z c.if-z-lt0.true in
+    let r = neg in
+    let e = ap nat_abs r.1 in
+    rw (turned w64 _ r.0 r.1 r.2, to_z-of_z (sfits_pos r.0 r.2)) (omega arith)
+
+pub returns-else-z-lt0 : goal.returns-else-z-lt0
+returns-else-z-lt0 c =
+    let non : (n : ℕ) × (c.args.z ≡ pos n) × (n < 2 ^ 63) =
+    from_zero {w = w64} c.args.z c.ranges.z c.if-z-lt0.false in
+    let r = non in rw (r.1, to_z-of_z (sfits_pos r.0 r.2))
