@@ -20,7 +20,8 @@ use Rattle.laws.proofs.Signed.{sum_abs}
 use Rattle.laws.proofs.Sums.{sum_cong, sum_none, only_no}
 use Rattle.laws.proofs.Tables.{cell_recell, cell_at, word_overwrite, word_in_lem, get_d_overwrite, cell_in, length_tabulate, get_d_tabulate}
 use Rattle.model.specs.Ranges.{around}
-use Rattle.cycle_history.specs.Store.{cycles, max_held, max_kept, max_next, Store, Given, next_of, held_of, sum_of, gap, amount_of, leaving, held_after, sum_after, store_after, store_short, store_in_range, store_refusals, store_refusal, stored}
+use Rattle.cycle_history.specs.Store.{cycles, max_held, max_kept, max_next, Store, Given, next_of, held_of, sum_of, gap}
+use Rattle.cycle_history.specs.Store.{amount_of, leaving, held_after, sum_after, store_after, store_short, store_in_range, store_refusals, store_refusal, stored}
 use Rattle.cycle_history.specs.History.{Empty, blank, fit16, latest, after, history, in_history, afresh, refusal_of, ThirteenCycles}
 use Rattle.cycle_history.proofs.Ages.{kept_up, aged}
 

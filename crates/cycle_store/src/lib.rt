@@ -11,7 +11,7 @@ pub mod rows;
 pub mod sums;
 
 // A cycle is stored, or refused under the number of the first condition met.
-#[derive(Drop)]
+#[derive(Clone, Copy)]
 pub enum Answer {
     Kept,
     Refused(u16),

@@ -1,6 +1,6 @@
 -- The tables that an accepted step leaves, from what its parts leave. Assumes nothing.
 use mathlib.Core.Path.{◌≡◌, refl, sym, ap, ◌∙◌}
-use mathlib.Core.Bool.{Bool, true, false, cond, ◌&&◌, ◌||◌, not}
+use mathlib.Core.Bool.{true, cond, ◌&&◌, not}
 use mathlib.Core.List.{List}
 use Prim.Native.Nat.{ℕ, ◌+◌, ◌*◌, ◌<◌, ◌≤◌}
 use native.Mathlib.Decide.{ℕ_discrete}
@@ -23,7 +23,7 @@ use Rattle.step_places.specs.Marks.{MarksIn, marked}
 use Rattle.step_places.specs.Message.{word_in}
 use Rattle.forecast_rules.specs.Doubles.{zero+}
 use Rattle.forecast_rules.specs.Lines.{part_at}
-use Rattle.forecast_rules.specs.Steps.{Kind, send_values, receive_values, add_lines, send_parts, receive_parts, sum_own, kind_number, kind_of, Steps, State, mark, summed, effect}
+use Rattle.forecast_rules.specs.Steps.{kind_number, kind_of, mark, summed, effect}
 use Rattle.forecast_rules.specs.Tables.{ForecastTables, forecast_of, StateTables, state_tables, from_marks, to_marks, view, store}
 use Rattle.forecast_rules.specs.Step.{step_refusal, step_tables, moved, outcome, stepped}
 use Rattle.forecast_rules.proofs.Served.{WordsIn, words_in}
@@ -34,7 +34,7 @@ use Rattle.forecast_doubles.specs.Parts.{summed_word}
 use Rattle.forecast_doubles.proofs.Told.{row_is}
 use Rattle.forecast_doubles.proofs.Effects.{sent_values, received_values, taken_values, sent_parts, left_parts, received_parts, taken_parts, summed_forecasts, summed_word_lem, summed_parts}
 use Rattle.forecast_moves.specs.Steps.{MessageIn, ValuesMoved, PartsMoved, held_summed, held_after}
-use Rattle.forecast_checks.specs.Decided.{Decided, message_words}
+use Rattle.forecast_checks.specs.Decided.{Decided}
 use Rattle.forecast_checks.proofs.Tested.{LinesWhole, lines_whole, StateWhole, state_whole}
 use Rattle.forecast_checks.proofs.Asked.{by_kind, kind_from, kind_to}
 use Rattle.forecast_checks.proofs.Late.{few, sent_is}

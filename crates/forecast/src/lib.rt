@@ -22,7 +22,7 @@ use step_rules::marks::mark;
 use step_sent::raise;
 
 // A request is accepted, or refused under the number of the first condition met.
-#[derive(Drop)]
+#[derive(Clone, Copy)]
 pub enum Answer {
     Accepted,
     Refused(u16),

@@ -1,30 +1,26 @@
 -- The late 21 as the code tests it is the forecast's. Assumes nothing.
 use mathlib.Core.Path.{◌≡◌, refl, sym, ap, ◌∙◌}
-use mathlib.Core.Bool.{Bool, true, false, cond, ◌||◌, not}
+use mathlib.Core.Bool.{true, ◌||◌, not}
 use mathlib.Core.List.{List}
-use Prim.Native.Nat.{ℕ, ◌+◌, ◌*◌, ◌<◌, ◌≤◌}
+use Prim.Native.Nat.{ℕ, ◌+◌, ◌<◌, ◌≤◌}
 use native.Mathlib.Nat.{add-zero}
 use native.Mathlib.Omega.{arith}
 use lib.Dec.{eqb, leb}
 use lib.ListN.{get_or}
 use borrow.Author.Tests.{le-leb}
-use Rattle.laws.specs.Below.{all, count}
 use Rattle.laws.specs.Limits.{max_sent}
 use Rattle.laws.specs.Tables.{tabulate, word}
 use Rattle.laws.proofs.Below.{all_cong, count_cong, count_le}
 use Rattle.laws.proofs.Bools.{split}
 use Rattle.laws.proofs.Tables.{get_d_tabulate, word_in_lem}
-use Rattle.model.specs.Job.{need_word, sharer_word, shares, price_word, total_word}
-use Rattle.model.specs.Step.{Asked}
+use Rattle.model.specs.Job.{need_word, sharer_word}
 use Rattle.step_places.specs.Message.{word_in}
-use Rattle.forecast_rules.specs.Doubles.{zero+, is_sum, add_up}
-use Rattle.forecast_rules.specs.Steps.{Kind, send_values, receive_values, add_lines, send_parts, receive_parts, sum_own, kind_of, part_here, effect}
+use Rattle.forecast_rules.specs.Doubles.{is_sum}
+use Rattle.forecast_rules.specs.Steps.{Kind, send_values, receive_values, add_lines, send_parts, receive_parts, sum_own, kind_of, effect}
 use Rattle.forecast_rules.specs.Tables.{ForecastTables, forecast_of, StateTables, view, store}
 use Rattle.forecast_rules.specs.Ranges.{state_in_range}
-use Rattle.forecast_rules.specs.Step.{moved}
 use Rattle.forecast_rules.proofs.Served.{WordsIn}
 use Rattle.forecast_rules.proofs.Ranges.{Good}
-use Rattle.forecast_rules.proofs.InRange.{Fits}
 use Rattle.forecast_rules.proofs.Late.{view_fits, few_sent, late_sent, late_sums}
 use Rattle.forecast_doubles.specs.Parts.{owner_sum, sums_fit}
 use Rattle.forecast_doubles.proofs.Told.{owner_is}

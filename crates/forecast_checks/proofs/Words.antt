@@ -1,11 +1,8 @@
 -- Need words, sharer words and the messages that they tell, of a forecast whose tables are whole and in range. Assumes nothing.
-use mathlib.Core.Path.{◌≡◌, refl, sym, ap, ◌∙◌}
+use mathlib.Core.Path.{◌≡◌, sym, ◌∙◌}
 use mathlib.Core.List.{List}
-use mathlib.Core.Bool.{Bool, ◌&&◌}
-use Prim.Native.Nat.{ℕ, ◌<◌, ◌≤◌}
+use Prim.Native.Nat.{ℕ, ◌<◌}
 use native.Mathlib.Omega.{arith}
-use lib.Dec.{eqb, ltb}
-use lib.ListN.{get_or, length}
 use Rattle.laws.specs.Tables.{tabulate}
 use Rattle.laws.proofs.Below.{any_cong}
 use Rattle.laws.proofs.Masks.{mask_cong}

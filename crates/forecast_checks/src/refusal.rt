@@ -8,7 +8,7 @@ ghost use Rattle.step_places.specs.Message.{word_in};
 ghost use Rattle.job_masks.specs.Masks.{Owned, by_owner};
 ghost use Rattle.forecast_rules.specs.Steps.{kind_of};
 ghost use Rattle.forecast_rules.specs.Tables.{from_marks};
-ghost use Rattle.forecast_rules.specs.Lent.{forecast_lent, state_before};
+ghost use Rattle.forecast_rules.specs.Lent.{forecast_lent, state_lent};
 ghost use Rattle.forecast_rules.specs.Step.{fresh_refusals};
 ghost use Rattle.forecast_checks.specs.Rules.{rules_by};
 ghost use Rattle.forecast_checks.specs.Decided.{table_refusals, message_words, late_fits, Decided};
@@ -47,7 +47,7 @@ pub fn fresh_refusal(
     ensures { result ≡ first_met (fresh_refusals
         (forecast_lent z.boxes z.grocers z.offers z.lines offer_owner grocer_owner line_grocer line_offer line_box
         line_rate line_value)
-        (state_before known value_transit part part_transit held forecast done sent)) }
+        (state_lent known value_transit part part_transit held forecast done sent)) }
 {
     if forecast_short(
         z,
@@ -109,7 +109,7 @@ fn table_refusal(
     ensures { result ≡ first_met (table_refusals
         (forecast_lent z.boxes z.grocers z.offers z.lines offer_owner grocer_owner line_grocer line_offer line_box
         line_rate line_value)
-        (state_before known value_transit part part_transit held forecast done sent)) }
+        (state_lent known value_transit part part_transit held forecast done sent)) }
 {
     let met = fresh_refusal(
         z,
@@ -244,7 +244,7 @@ fn late(fits: bool) -> u16
 }
 
 // The number of the first condition that is met, or 0, and the words of the step's message.
-#[derive(Drop)]
+#[derive(Clone, Copy)]
 pub struct Judged {
     pub met: u16,
     pub words: u32,
@@ -282,7 +282,7 @@ pub fn step_refusal(
     ensures { Decided
         (forecast_lent z.boxes z.grocers z.offers z.lines offer_owner grocer_owner line_grocer line_offer line_box
         line_rate line_value)
-        (state_before known value_transit part part_transit held forecast done sent) (asked x.kind x.first x.second)
+        (state_lent known value_transit part part_transit held forecast done sent) (asked x.kind x.first x.second)
         needs.new sharers.new result.met result.words }
 {
     let tested = table_refusal(

@@ -2,7 +2,7 @@
 ghost use Rattle.std.specs.Prelude.{◌≡◌, false, List, Float};
 ghost use Rattle.forecast_rules.specs.Tables.{forecast_tables, state_tables, forecast_lengths, state_lengths, forecast_short, state_short};
 ghost use Rattle.forecast_rules.specs.Ranges.{forecast_in_range, state_in_range};
-ghost use Rattle.forecast_rules.specs.Lent.{forecast_lent, state_before};
+ghost use Rattle.forecast_rules.specs.Lent.{forecast_lent, state_lent};
 ghost use Rattle.forecast_checks.specs.Sizes.{sizes, LinesLong};
 
 use forecast_doubles::values::{all_sums, all_values, table_words};
@@ -11,7 +11,7 @@ use slices::bits::marks;
 use slices::limits::{MAX_BOXES, MAX_GROCERS, MAX_OFFERS, MAX_SENT, MAX_TALLIES};
 
 // K, M, N and the number of lines of a forecast.
-#[derive(Drop)]
+#[derive(Clone, Copy)]
 pub struct Sizes {
     pub boxes: u16,
     pub grocers: u16,
@@ -58,7 +58,7 @@ pub fn state_short(
     sent: &[u32],
 ) -> bool
     ensures { result ≡ state_short (sizes z.boxes z.grocers z.offers z.lines)
-        (state_lengths (state_before known value_transit part part_transit held forecast done sent)) }
+        (state_lengths (state_lent known value_transit part part_transit held forecast done sent)) }
 {
     let kn = table_words(z.boxes, z.offers);
     let km = table_words(z.boxes, z.grocers);
@@ -118,7 +118,7 @@ pub fn state_in_range(
     requires { state_short (sizes z.boxes z.grocers z.offers z.lines) (state_lengths (state_tables known.now value_transit.now
         part.now part_transit.now held.now forecast.now done.now sent.now)) ≡ false }
     ensures { result ≡ state_in_range (sizes z.boxes z.grocers z.offers z.lines)
-        (state_before known value_transit part part_transit held forecast done sent) }
+        (state_lent known value_transit part part_transit held forecast done sent) }
 {
     let kn = table_words(z.boxes, z.offers);
     let km = table_words(z.boxes, z.grocers);

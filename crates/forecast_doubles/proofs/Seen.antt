@@ -143,7 +143,8 @@ module _ (offer : List ℕ) (rate value : List Float) where
       sym (rw (any_false n (outside rate value) y.range) (any_false n (λ i. any i (λ h. pair_bad offer value h i)) (λ i l. any_false i (λ h. pair_bad offer value h i) (λ h k. apart h i l k))))
     where
       apart : (h i : ℕ) → i < n → h < i → pair_bad offer value h i ≡ false
-      apart h i l k = no_true (pair_bad offer value h i) (λ q. clash (agree (eqb-true (get_or offer h 0) (get_or offer i 0) (and_l (eqb (get_or offer h 0) (get_or offer i 0)) _ q))) (not-true (same_bits (get_or value h zero+) (get_or value i zero+))
+      apart h i l k = no_true (pair_bad offer value h i)
+          (λ q. clash (agree (eqb-true (get_or offer h 0) (get_or offer i 0) (and_l (eqb (get_or offer h 0) (get_or offer i 0)) _ q))) (not-true (same_bits (get_or value h zero+) (get_or value i zero+))
           (and_r (eqb (get_or offer h 0) (get_or offer i 0)) _ q)))
         where
           agree : get_or offer h 0 ≡ get_or offer i 0 → same_bits (get_or value h zero+) (get_or value i zero+) ≡ true

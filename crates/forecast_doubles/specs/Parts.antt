@@ -14,4 +14,5 @@ sums_fit k m a owner sharers part held n = all n (λ g. not (eqb (get_or owner g
 
 -- The forecast of grocer g after step 6 of box a: its sum where a owns it, and else as it was.
 unfoldable pub summed_word : ℕ → ℕ → ℕ → List ℕ → List ℕ → List Float → List Float → List Float → ℕ → Float
-summed_word k m a owner sharers part held forecast g = cond (eqb (get_or owner g 0) a) (owner_sum k m g a (get_or sharers g 0) part held) (get_or forecast g zero+)
+summed_word k m a owner sharers part held forecast g = cond (eqb (get_or owner g 0) a) (owner_sum k m g a (get_or sharers g 0) part held)
+    (get_or forecast g zero+)

@@ -10,7 +10,7 @@ use slices::amounts::row_start;
 use slices::u16_at;
 
 // A forecast line: a rate and a value, joined with their grocer, offer and box.
-#[derive(Drop)]
+#[derive(Clone, Copy)]
 pub struct Line {
     pub grocer: u16,
     pub offer: u16,

@@ -1,6 +1,6 @@
 -- Own values written one line after the other. Assumes nothing.
 use mathlib.Core.Path.{◌≡◌, refl, sym, ap, ◌∙◌}
-use mathlib.Core.Bool.{Bool, true, false, cond, ◌&&◌}
+use mathlib.Core.Bool.{Bool, true, false, cond}
 use mathlib.Core.List.{List}
 use Prim.Native.Nat.{ℕ, ◌+◌, ◌*◌, ◌≤◌, ◌<◌}
 use native.Mathlib.Decide.{ℕ_discrete}
@@ -13,13 +13,10 @@ use lib.Seq.{get_or-set_same, get_or-set_other}
 use lib.Ieee.{Float}
 use borrow.Author.Tests.{eq-eqb, ne_eqb}
 use Rattle.laws.specs.Tables.{overwrite, recell}
-use Rattle.laws.proofs.Bools.{split}
 use Rattle.laws.proofs.Tables.{cell_in, get_d_overwrite, is_recell, over-over}
-use Rattle.model.specs.Ranges.{under}
-use Rattle.model.proofs.Step.{under_at}
 use Rattle.forecast_rules.specs.Doubles.{zero+}
 use Rattle.forecast_doubles.proofs.MovedRows.{apart}
-use Rattle.forecast_moves.specs.Fresh.{FreshIn, last_value, own_values}
+use Rattle.forecast_moves.specs.Fresh.{last_value, own_values}
 
 -- Own values by the first i lines, and all else of k rows of n words +0.0.
 pub record OwnTo (k n i : ℕ) (owner offer : List ℕ) (value known known' : List Float) : Type 0 where

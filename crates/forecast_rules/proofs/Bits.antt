@@ -1,7 +1,7 @@
 -- Where 34 takes the lines, the value of an offer is that of each of its lines: equal bits are equal doubles. Assumes nothing.
 use mathlib.Core.Path.{◌≡◌, refl, sym, ap, ◌∙◌}
 use mathlib.Core.Bool.{Bool, true, false, cond, not, ◌&&◌}
-use Prim.Native.Nat.{ℕ, suc, ◌≤◌, ◌<◌}
+use Prim.Native.Nat.{ℕ, zero, suc, ◌≤◌, ◌<◌}
 use native.Mathlib.Nat.{le_refl}
 use native.Mathlib.Omega.{arith}
 use native.Mathlib.Decide.{ℕ_discrete}
@@ -38,6 +38,7 @@ module _ (f : Forecast) (fit : (i : ℕ) → T (fits binary64 (f.value i))) (ok 
 
   value_of : (n i : ℕ) → i < n → n ≤ f.job.tallies → value_in f n (f.job.tally_offer i) ≡ f.value i
   unfolding value_in
+  value_of zero i l m = absurd (omega arith)
   value_of (suc n) i l m = go (ℕ_discrete i n) (λ h k. value_of n i h k)
     where
       go : Dec (i ≡ n) → (i < n → n ≤ f.job.tallies → value_in f n (f.job.tally_offer i) ≡ f.value i) → cond (eqb (f.job.tally_offer n) (f.job.tally_offer i)) (f.value n) (value_in f n (f.job.tally_offer i)) ≡ f.value i

@@ -1,8 +1,8 @@
 -- What a step on tables in range leaves is in range, but for the words sent and the sums of step 6: the late 21. Assumes nothing.
-use mathlib.Core.Path.{◌≡◌, refl, ap, ap₂, ◌∙◌}
-use mathlib.Core.Bool.{Bool, true, false, cond, ◌&&◌, not}
+use mathlib.Core.Path.{◌≡◌, ap, ◌∙◌}
+use mathlib.Core.Bool.{Bool, true, cond, ◌&&◌, not}
 use mathlib.Core.List.{List, [], ◌∷◌}
-use Prim.Native.Nat.{ℕ, ◌+◌, ◌*◌, ◌/◌, ◌%◌, ◌<◌, ◌≤◌}
+use Prim.Native.Nat.{ℕ, ◌+◌, ◌*◌, ◌/◌, ◌%◌, ◌≤◌}
 use native.Mathlib.Omega.{arith}
 use lib.Dec.{eqb, ltb, leb}
 use lib.ListN.{get_or}
@@ -10,12 +10,11 @@ use lib.Ieee.{Float}
 use borrow.Author.Tests.{ltb-true}
 use Rattle.laws.specs.Below.{all}
 use Rattle.laws.specs.Limits.{max_sent}
-use Rattle.laws.specs.Checks.{all_of}
 use Rattle.laws.specs.Tables.{overwrite, recell, word, cell}
 use Rattle.laws.proofs.Below.{all_at, all_of_lem, all_cong}
 use Rattle.laws.proofs.Bools.{split, and_l, and_r, and_one, cond_either}
 use Rattle.laws.proofs.Checks.{Each, each_of}
-use Rattle.laws.proofs.Tables.{cell_in, get_d_overwrite, word_in_lem}
+use Rattle.laws.proofs.Tables.{cell_in, get_d_overwrite}
 use Rattle.model.specs.Ranges.{up_to}
 use Rattle.model.specs.Job.{price_word, total_word}
 use Rattle.model.proofs.Step.{marks_bits, up_at}

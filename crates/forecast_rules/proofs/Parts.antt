@@ -79,7 +79,7 @@ module _ (f : Forecast) where
         (λ z. simp (z, eqb_same, and_false))
         (λ z. split (shares f.job g a)
         (λ s. simp (z, s, eqb_same) (never (d add_lines a a) (part_sum f a g)))
-        (λ s. simp (z, s, eqb_same, part_none a g s, cond_same) (never (d add_lines a a) zero+)))))
+        (λ s. simp (z, s, eqb_same, part_none a g s, cond_same)))))
         (λ y. simp (y, and_false)))
         (λ e. simp e)
 
@@ -135,7 +135,7 @@ module _ (f : Forecast) where
         (λ y. rw (eqb-true c a e)
         (split (shares f.job g a)
         (λ s. simp (y, s, eqb_same) (never (d add_lines a a) (part_sum f a g)))
-        (λ s. simp (y, s, eqb_same, part_none a g s, cond_same) (never (d add_lines a a) zero+))))
+        (λ s. simp (y, s, eqb_same, part_none a g s, cond_same))))
         (λ y. rw (eqb-true c a e) (simp (y, eqb_same))))
         (λ e. simp e)
 

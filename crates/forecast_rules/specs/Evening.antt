@@ -84,7 +84,8 @@ pub record AfterRequests (f : ForecastTables) (t : StateTables) (rs : List Reque
   -- All done: the forecast is finished, with the sums of the definition.
   pub finish : AllDone forecast done → Finished forecast state
   -- Every permitted order ends in the same bits: another list that does all steps, in whatever buffers, leaves the same state.
-  pub same_state : AllDone forecast done → (u : StateTables) (ps : List Request) → AllDone forecast (done_in f u ps) → view forecast (tables_after f u ps) ≡ state
+  pub same_state : AllDone forecast done → (u : StateTables) (ps : List Request) → AllDone forecast (done_in f u ps) → view forecast (tables_after f u ps)
+      ≡ state
 
 -- The evening of forecasting: what holds after the list rs of requests on the tables f, from a fresh state in the buffers t.
 abbrev pub Evening : ForecastTables → StateTables → List Request → Type 0

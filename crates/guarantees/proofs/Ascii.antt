@@ -12,7 +12,8 @@ use Rattle.laws.proofs.Bools.{split, or_true}
 use Rattle.model.specs.Run.{RunAnswer, finished, refused}
 use Rattle.format.specs.Tables.{ReadAnswer, sizes, refused as not_read, read_result}
 use Rattle.printing.specs.Cents.{Half, half_of, cents}
-use Rattle.printing.specs.Printed.{digits_of, decimal, signed_decimal, line, amounts_text, grocer_lines, amount_in, words_name, messages_name, steps_name, refused_name, settled_text, refused_text, blank_job, run_text, job_text, read_text, printed}
+use Rattle.printing.specs.Printed.{digits_of, decimal, signed_decimal, line, amounts_text, grocer_lines, amount_in, words_name, messages_name}
+use Rattle.printing.specs.Printed.{steps_name, refused_name, settled_text, refused_text, blank_job, run_text, job_text, read_text, printed}
 use Rattle.guarantees.specs.Settle.{is_printed}
 
 -- Every byte of a text is one that is printed, as a tuple.

@@ -39,7 +39,8 @@ pub record ForecastHolds : Type 0 where
       AllDone (forecast_of f) (done_in f buffers requests) → (g : ℕ) → g < f.grocers →
       to_bits binary64 (get_or (tables_after f buffers requests).forecast g zero+) ≡ to_bits binary64 (forecast_sum (forecast_of f) g)
   -- "sums are finite within ±10^15": no list of requests leaves a sum that is not, in any table,
-  pub in_range : (f : ForecastTables) → Forecasts f → (buffers : StateTables) (requests : List Request) → state_in_range f (tables_after f buffers requests) ≡ true
+  pub in_range : (f : ForecastTables) → Forecasts f → (buffers : StateTables) (requests : List Request) → state_in_range f (tables_after f buffers requests)
+      ≡ true
   -- nor is the definition's.
   pub sum_in_range : (f : ForecastTables) → Forecasts f → (g : ℕ) → is_sum (forecast_sum (forecast_of f) g) ≡ true
   -- "A grocer without lines gets +0.0."

@@ -1,5 +1,6 @@
 -- What `settle` prints for a job file are the amounts owed, in whole cents.
-use Rattle.std.specs.Prelude.{◌≡◌, Bool, true, cond, ◌&&◌, List, [], ◌∷◌, ◌++◌, ℕ, zero, suc, ◌+◌, ◌-◌, ◌*◌, ◌≤◌, ◌<◌, eqb, leb, ℤ, pos, neg_ℤ, nat_abs, get_or, length, take}
+use Rattle.std.specs.Prelude.{◌≡◌, Bool, true, cond, ◌&&◌, List, [], ◌∷◌, ◌++◌, ℕ, zero, suc, ◌+◌}
+use Rattle.std.specs.Prelude.{◌-◌, ◌*◌, ◌≤◌, ◌<◌, eqb, leb, ℤ, pos, neg_ℤ, nat_abs, get_or, length, take}
 use Rattle.laws.specs.Checks.{any_of}
 use Rattle.model.specs.Words.{owner_words, message_count, step_count}
 use Rattle.model.specs.Tables.{job_of}

@@ -1,10 +1,9 @@
 -- What the calls leave: the tables edited column by column, and the run of the edited job. Assumes nothing.
 use mathlib.Core.Path.{◌≡◌, refl, sym, ap, ap₂, ◌∙◌}
-use mathlib.Core.Bool.{false}
 use mathlib.Core.List.{List, []}
-use Prim.Native.Nat.{ℕ, zero, suc, ◌+◌, ◌-◌, ◌*◌, ◌<◌, ◌≤◌}
+use Prim.Native.Nat.{ℕ, zero, suc, ◌+◌, ◌-◌, ◌<◌, ◌≤◌}
 use native.Mathlib.Omega.{arith}
-use lib.IntN.{ℤ, pos}
+use lib.IntN.{pos}
 use lib.ListN.{get_or, length, replicate}
 use borrow.Author.Tests.{ltb-false, ne_eqb}
 use Rattle.laws.specs.Checks.{first_met}
@@ -16,7 +15,7 @@ use Rattle.format.specs.Job.{Head, Tally}
 use Rattle.format.specs.Tables.{TallyTables, tally_tables, LongTallies, file_tables, ReaderTables, reader_tables}
 use Rattle.run.specs.Run.{given}
 use Rattle.late_rules.specs.Edit.{Entry, freed, job_in, place_found, added_head, added_tables, withdrawn_head, withdrawn_tables}
-use Rattle.late_rules.specs.Late.{LateAnswer, late_answer, LateOutcome, late_outcome, refused, late_result, add_rules, withdraw_rules, bag_added, bag_withdrawn}
+use Rattle.late_rules.specs.Late.{LateAnswer, late_answer, late_outcome, refused, late_result, add_rules, withdraw_rules, bag_added, bag_withdrawn}
 use Rattle.late_edits.specs.Columns.{edit_entries, edit_tallies, edit_tables}
 use Rattle.format.proofs.Tables.{long_tables}
 use Rattle.model.proofs.Step.{job_in_lem, in_handed}

@@ -1,6 +1,6 @@
 -- The calls of 02 §7 as their contracts name them: the answer, the tables when the call ends, and the added tally.
 use Rattle.std.specs.Prelude.{List, ℕ, ℤ}
-use Rattle.laws.specs.Lent.{Words, SignedWords}
+use Rattle.laws.specs.Lent.{Words, MutWords, MutSignedWords}
 use Rattle.format.specs.Bytes.{from}
 use Rattle.format.specs.Codes.{read_code}
 use Rattle.format.specs.Job.{Tally}
@@ -15,11 +15,24 @@ unfoldable pub late_answer_of : Answer → LateAnswer
 late_answer_of (Edited tallies words messages steps) = edited tallies words messages steps
 late_answer_of (Refused number) = refused number
 
--- The job's tables when the call ends: those of the tallies are written, the others are only read.
+-- The job's tables when the call begins: those of the offers and the grocers are lent to be read, those of the tallies to be written;
+abbrev pub reader_first :
+    (price offer_owner offer_code offer_issuer grocer_owner : Words) (tally_grocer tally_box tally_code : MutWords) (tally_count : MutSignedWords)
+    (tally_issuer tally_bag tally_revision tally_offer : MutWords) → ReaderTables
+reader_first price offer_owner offer_code offer_issuer grocer_owner tally_grocer tally_box tally_code tally_count tally_issuer tally_bag tally_revision
+    tally_offer =
+    reader_tables
+    (file_tables (offers_lent price offer_owner offer_code offer_issuer) grocer_owner.entry.now
+    (tally_tables tally_grocer.entry.now tally_box.entry.now tally_code.entry.now tally_count.entry.now tally_issuer.entry.now
+    tally_bag.entry.now tally_revision.entry.now))
+    tally_offer.entry.now
+
+-- and when it ends: those of the tallies are written, the others are only read.
 abbrev pub reader_then :
-    (price offer_owner offer_code offer_issuer grocer_owner tally_grocer tally_box tally_code : Words) (tally_count : SignedWords)
-    (tally_issuer tally_bag tally_revision tally_offer : Words) → ReaderTables
-reader_then price offer_owner offer_code offer_issuer grocer_owner tally_grocer tally_box tally_code tally_count tally_issuer tally_bag tally_revision tally_offer =
+    (price offer_owner offer_code offer_issuer grocer_owner : Words) (tally_grocer tally_box tally_code : MutWords) (tally_count : MutSignedWords)
+    (tally_issuer tally_bag tally_revision tally_offer : MutWords) → ReaderTables
+reader_then price offer_owner offer_code offer_issuer grocer_owner tally_grocer tally_box tally_code tally_count tally_issuer tally_bag tally_revision
+    tally_offer =
     reader_tables
     (file_tables (offers_lent price offer_owner offer_code offer_issuer) grocer_owner.entry.now
     (tally_tables tally_grocer.exit.now tally_box.exit.now tally_code.exit.now tally_count.exit.now tally_issuer.exit.now

@@ -3,11 +3,10 @@
 
 ghost use Rattle.std.specs.Prelude.{◌≡◌};
 ghost use Rattle.format.specs.Job.{head_of};
-ghost use Rattle.format.specs.Lent.{reader_before};
 ghost use Rattle.model.specs.Lent.{state_before, state_after};
 ghost use Rattle.run.specs.Run.{answer_of};
 ghost use Rattle.late_rules.specs.Late.{late_answer, late_outcome, bag_added, bag_withdrawn};
-ghost use Rattle.late.specs.Calls.{late_answer_of, reader_then, tally_by};
+ghost use Rattle.late.specs.Calls.{late_answer_of, reader_first, reader_then, tally_by};
 
 use crate::refusal::{add_refusal, withdraw_refusal};
 use late_checks::judge::Tally;
@@ -18,7 +17,7 @@ use slices::sizes::Sizes;
 pub mod refusal;
 
 // What both calls answer: T as it is now, with the words, messages and steps of a run of the edited job; or the number of the condition that refuses.
-#[derive(Drop)]
+#[derive(Clone, Copy)]
 pub enum Answer {
     Edited {
         tallies: u16,
@@ -86,7 +85,7 @@ pub fn add(
 ) -> Answer
     ensures { late_outcome (late_answer_of result) (reader_then price offer_owner offer_code offer_issuer grocer_owner tally_grocer
         tally_box tally_code tally_count tally_issuer tally_bag tally_revision tally_offer) (state_after known price_transit working
-        total_transit statement done sent) ≡ bag_added (head_of boxes grocers offers tallies 0 lists) (reader_before price offer_owner offer_code
+        total_transit statement done sent) ≡ bag_added (head_of boxes grocers offers tallies 0 lists) (reader_first price offer_owner offer_code
         offer_issuer grocer_owner tally_grocer tally_box tally_code tally_count tally_issuer tally_bag tally_revision tally_offer)
         (state_before known price_transit working total_transit statement done sent) (tally_by grocer holder code.now count issuer bag
         revision) }
@@ -204,7 +203,7 @@ pub fn withdraw(
 ) -> Answer
     ensures { late_outcome (late_answer_of result) (reader_then price offer_owner offer_code offer_issuer grocer_owner tally_grocer
         tally_box tally_code tally_count tally_issuer tally_bag tally_revision tally_offer) (state_after known price_transit working
-        total_transit statement done sent) ≡ bag_withdrawn (head_of boxes grocers offers tallies 0 lists) (reader_before price offer_owner offer_code
+        total_transit statement done sent) ≡ bag_withdrawn (head_of boxes grocers offers tallies 0 lists) (reader_first price offer_owner offer_code
         offer_issuer grocer_owner tally_grocer tally_box tally_code tally_count tally_issuer tally_bag tally_revision tally_offer)
         (state_before known price_transit working total_transit statement done sent) place }
 {

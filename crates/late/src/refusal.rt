@@ -2,10 +2,9 @@
 ghost use Rattle.std.specs.Prelude.{◌≡◌};
 ghost use Rattle.laws.specs.Checks.{first_met};
 ghost use Rattle.format.specs.Job.{head_of};
-ghost use Rattle.format.specs.Lent.{reader_before};
-ghost use Rattle.model.specs.Lent.{state_before};
 ghost use Rattle.late_rules.specs.Edit.{place_found};
 ghost use Rattle.late_rules.specs.Late.{add_rules, withdraw_rules};
+ghost use Rattle.late_rules.specs.Lent.{reader_lent, state_lent};
 ghost use Rattle.late_checks.specs.Judged.{tally_with};
 
 use late_checks::decide::{added_job, withdrawn_job};
@@ -42,10 +41,10 @@ pub fn add_refusal(
     x: Tally,
     code: &[u8; 11],
 ) -> Edit
-    ensures met_value { result.met ≡ first_met (add_rules (head_of z.boxes z.grocers z.offers z.tallies 0 z.lists) (reader_before price
+    ensures met_value { result.met ≡ first_met (add_rules (head_of z.boxes z.grocers z.offers z.tallies 0 z.lists) (reader_lent price
         offer_owner offer_code offer_issuer grocer_owner tally_grocer tally_box tally_code tally_count tally_issuer tally_bag
-        tally_revision tally_offer) (state_before known price_transit working total_transit statement done sent) (tally_with x code.entry.now)) }
-    ensures place_value { result.met ≡ 0 → result.place ≡ place_found (head_of z.boxes z.grocers z.offers z.tallies 0 z.lists) (reader_before price
+        tally_revision tally_offer) (state_lent known price_transit working total_transit statement done sent) (tally_with x code.entry.now)) }
+    ensures place_value { result.met ≡ 0 → result.place ≡ place_found (head_of z.boxes z.grocers z.offers z.tallies 0 z.lists) (reader_lent price
         offer_owner offer_code offer_issuer grocer_owner tally_grocer tally_box tally_code tally_count tally_issuer tally_bag
         tally_revision tally_offer) (tally_with x code.now) }
 {
@@ -143,9 +142,9 @@ pub fn withdraw_refusal(
     sent: &[u32],
     place: u16,
 ) -> u16
-    ensures { result ≡ first_met (withdraw_rules (head_of z.boxes z.grocers z.offers z.tallies 0 z.lists) (reader_before price
+    ensures { result ≡ first_met (withdraw_rules (head_of z.boxes z.grocers z.offers z.tallies 0 z.lists) (reader_lent price
         offer_owner offer_code offer_issuer grocer_owner tally_grocer tally_box tally_code tally_count tally_issuer tally_bag
-        tally_revision tally_offer) (state_before known price_transit working total_transit statement done sent) place) }
+        tally_revision tally_offer) (state_lent known price_transit working total_transit statement done sent) place) }
 {
     let mut standing = [0u16; TALLIES];
     let first = present_refusal(

@@ -1,6 +1,5 @@
 -- The edited job that code tells of: what is asked of the present tables, and what is told.
-use Rattle.std.specs.Prelude.{◌≡◌, true, false, cond, List, ℕ, suc, ◌≤◌, eqb, pos}
-use Rattle.laws.specs.Checks.{first_met}
+use Rattle.std.specs.Prelude.{◌≡◌, true, false, cond, List, ℕ, suc, ◌≤◌, pos}
 use Rattle.recount.specs.Recount.{counted_twice}
 use Rattle.model.specs.PackedTotals.{totals_length}
 use Rattle.model.specs.Ranges.{job_in_range}

@@ -13,7 +13,7 @@ use slices::limits::TALLIES;
 pub const CODES: usize = TALLIES * CODE_BYTES;
 
 // How a list is edited: how many tallies it has, the place that is left out, and the place of the entry behind the others.
-#[derive(Drop)]
+#[derive(Clone, Copy)]
 pub struct Shape {
     pub present: usize,
     pub place: usize,

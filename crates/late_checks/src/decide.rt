@@ -1,10 +1,10 @@
 // Adding a tally and withdrawing one, decided before a word is written: 31 and 32, and the packed length of the edited job.
 ghost use Rattle.std.specs.Prelude.{◌≡◌};
 ghost use Rattle.format.specs.Job.{head_of};
-ghost use Rattle.format.specs.Lent.{reader_before};
 ghost use Rattle.format.specs.Tables.{offer_tables, tally_tables, file_tables, reader_tables};
 ghost use Rattle.late_rules.specs.Edit.{place_found, added_head, added_tables, withdrawn_head, withdrawn_tables};
 ghost use Rattle.late_rules.specs.Late.{room, add_faults, withdraw_faults};
+ghost use Rattle.late_rules.specs.Lent.{reader_lent};
 ghost use Rattle.late_checks.specs.Judged.{tally_with};
 ghost use Rattle.late_checks.specs.Decided.{PresentIn, Told};
 
@@ -37,14 +37,14 @@ pub fn added_job(
         (offer_tables price.now offer_owner.now offer_code.now offer_issuer.now) grocer_owner.now
         (tally_tables tally_grocer.now tally_box.now tally_code.now tally_count.now tally_issuer.now tally_bag.now
         tally_revision.now)) tally_offer.now) }
-    ensures told { Told (add_faults (head_of z.boxes z.grocers z.offers z.tallies 0 z.lists) (reader_before price offer_owner offer_code
+    ensures told { Told (add_faults (head_of z.boxes z.grocers z.offers z.tallies 0 z.lists) (reader_lent price offer_owner offer_code
         offer_issuer grocer_owner tally_grocer tally_box tally_code tally_count tally_issuer tally_bag tally_revision tally_offer)
         (tally_with x code.now)) (added_head (head_of z.boxes z.grocers z.offers z.tallies 0 z.lists))
-        (added_tables (head_of z.boxes z.grocers z.offers z.tallies 0 z.lists) (reader_before price offer_owner offer_code
+        (added_tables (head_of z.boxes z.grocers z.offers z.tallies 0 z.lists) (reader_lent price offer_owner offer_code
         offer_issuer grocer_owner tally_grocer tally_box tally_code tally_count tally_issuer tally_bag tally_revision tally_offer)
         (tally_with x code.now)) result }
     ensures place_value { result.met ≡ 0 → result.place ≡ place_found (head_of z.boxes z.grocers z.offers z.tallies 0 z.lists)
-        (reader_before price offer_owner offer_code offer_issuer grocer_owner tally_grocer tally_box tally_code tally_count
+        (reader_lent price offer_owner offer_code offer_issuer grocer_owner tally_grocer tally_box tally_code tally_count
         tally_issuer tally_bag tally_revision tally_offer) (tally_with x code.now) }
 {
     if MAX_TALLIES <= z.tallies {
@@ -124,10 +124,10 @@ pub fn withdrawn_job(
         (offer_tables price.now offer_owner.now offer_code.now offer_issuer.now) grocer_owner.now
         (tally_tables tally_grocer.now tally_box.now tally_code.now tally_count.now tally_issuer.now tally_bag.now
         tally_revision.now)) tally_offer.now) }
-    ensures { Told (withdraw_faults (head_of z.boxes z.grocers z.offers z.tallies 0 z.lists) (reader_before price offer_owner offer_code
+    ensures { Told (withdraw_faults (head_of z.boxes z.grocers z.offers z.tallies 0 z.lists) (reader_lent price offer_owner offer_code
         offer_issuer grocer_owner tally_grocer tally_box tally_code tally_count tally_issuer tally_bag tally_revision tally_offer)
         place) (withdrawn_head (head_of z.boxes z.grocers z.offers z.tallies 0 z.lists))
-        (withdrawn_tables (head_of z.boxes z.grocers z.offers z.tallies 0 z.lists) (reader_before price offer_owner offer_code
+        (withdrawn_tables (head_of z.boxes z.grocers z.offers z.tallies 0 z.lists) (reader_lent price offer_owner offer_code
         offer_issuer grocer_owner tally_grocer tally_box tally_code tally_count tally_issuer tally_bag tally_revision tally_offer)
         place) result }
 {

@@ -17,7 +17,7 @@ use slices::sizes::Sizes;
 use writer_checks::refusal::job_refusal;
 
 // A tally that is put behind the others, but for its code: its grocer, the box that holds it, its count, its offer's issuer, its bag and revision.
-#[derive(Drop)]
+#[derive(Clone, Copy)]
 pub struct Tally {
     pub grocer: u16,
     pub holder: u16,
@@ -28,7 +28,7 @@ pub struct Tally {
 }
 
 // An edit: K, M, N, T and the lists of the edited job, how its list is edited, and the tally behind the others.
-#[derive(Drop)]
+#[derive(Clone, Copy)]
 pub struct Wanted {
     pub sizes: Sizes,
     pub shape: Shape,
@@ -37,7 +37,7 @@ pub struct Wanted {
 
 // What is told of an edit: the number of the condition that refuses it, or 0; the place of the added tally's offer; and the packed length of
 // the edited job.
-#[derive(Drop)]
+#[derive(Clone, Copy)]
 pub struct Edit {
     pub met: u16,
     pub place: u16,

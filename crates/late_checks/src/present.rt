@@ -1,9 +1,9 @@
 // What both calls of late bags look at first, of the job as it is lent: 20, 21 and 9 on all but the packed totals.
 ghost use Rattle.std.specs.Prelude.{◌≡◌, List, ◌≤◌, ℤ};
 ghost use Rattle.format.specs.Job.{head_of};
-ghost use Rattle.format.specs.Lent.{reader_before};
 ghost use Rattle.model.specs.Tables.{state_tables};
 ghost use Rattle.late_rules.specs.Late.{room, late_short};
+ghost use Rattle.late_rules.specs.Lent.{reader_lent};
 ghost use Rattle.late_checks.specs.Present.{FirstTold};
 
 use slices::casts::index_of;
@@ -49,7 +49,7 @@ fn late_short(
 ) -> bool
     requires { t ≤ 65535 }
     ensures { (working totals : List ℤ) → result ≡ late_short t (head_of z.boxes z.grocers z.offers z.tallies 0 z.lists)
-        (reader_before price offer_owner offer_code offer_issuer grocer_owner tally_grocer tally_box tally_code tally_count
+        (reader_lent price offer_owner offer_code offer_issuer grocer_owner tally_grocer tally_box tally_code tally_count
         tally_issuer tally_bag tally_revision tally_offer) (state_tables known.now price_transit.now working totals
         statement.now done.now sent.now) }
 {
@@ -98,7 +98,7 @@ pub fn present_refusal(
 ) -> u16
     requires { (z.tallies ≤ t) × (t ≤ 65535) }
     ensures { (working totals : List ℤ) → FirstTold t (head_of z.boxes z.grocers z.offers z.tallies 0 z.lists)
-        (reader_before price offer_owner offer_code offer_issuer grocer_owner tally_grocer tally_box tally_code tally_count
+        (reader_lent price offer_owner offer_code offer_issuer grocer_owner tally_grocer tally_box tally_code tally_count
         tally_issuer tally_bag tally_revision tally_offer) (state_tables known.now price_transit.now working totals
         statement.now done.now sent.now) standing.new result }
 {

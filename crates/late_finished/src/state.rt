@@ -1,7 +1,7 @@
 // What the calls of late bags ask of the state once 20, 21 and 9 are not met on all else: 20 and 21 of the packed totals, and 30.
 ghost use Rattle.std.specs.Prelude.{◌≡◌, List, ℕ, suc, ◌*◌, ◌≤◌};
 ghost use Rattle.laws.specs.Checks.{first_met};
-ghost use Rattle.model.specs.Lent.{state_before};
+ghost use Rattle.late_rules.specs.Lent.{state_lent};
 ghost use Rattle.model.specs.Tables.{bag_tables, state_tables};
 ghost use Rattle.book_places.specs.Spots.{CountIn, start_by};
 ghost use Rattle.step_links.specs.Links.{Some};
@@ -62,11 +62,11 @@ pub fn state_refusal(
     ensures { (holder bag revision : List ℕ) → PresentState (bag_tables z.boxes z.grocers z.offers z.tallies z.lists
         price.now offer_owner.now grocer_owner.now tally_grocer.now holder
         tally_offer.now tally_count.now bag revision)
-        (state_before known price_transit working total_transit statement done sent) standing.now →
+        (state_lent known price_transit working total_transit statement done sent) standing.now →
         result ≡ first_met (state_rules (bag_tables z.boxes z.grocers z.offers z.tallies z.lists
         price.now offer_owner.now grocer_owner.now tally_grocer.now holder
         tally_offer.now tally_count.now bag revision) edited
-        (state_before known price_transit working total_transit statement done sent)) }
+        (state_lent known price_transit working total_transit statement done sent)) }
 {
     let sharers = job_masks::masks::sharers(z.boxes, z.tallies, standing, tally_grocer);
     let own = packed_length(z, grocer_owner, &sharers);

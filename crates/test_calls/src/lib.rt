@@ -6,7 +6,7 @@ ghost use Rattle.laws.specs.Tables.{recell, cell_at, tabulate};
 ghost use Rattle.model.specs.Lent.{bag_lent, state_before, state_after};
 ghost use Rattle.format.specs.Job.{head_of};
 ghost use Rattle.format.specs.Tables.{write_result};
-ghost use Rattle.format.specs.Lent.{file_lent, reader_before};
+ghost use Rattle.format.specs.Lent.{file_lent};
 ghost use Rattle.message_tables.specs.Answers.{said as said_messages, tables_given};
 ghost use Rattle.book.specs.Book.{said as said_book, book_before, book_after};
 ghost use Rattle.writer.specs.Outcome.{answer_of};
@@ -21,7 +21,7 @@ ghost use Rattle.trial_rules.specs.Trial.{tried_on};
 ghost use Rattle.trial.specs.Trial.{answer_of as trial_answer_of};
 ghost use Rattle.test_calls.specs.EntryTrial.{rounds_number, trial_told, trial_told_as};
 ghost use Rattle.format.specs.Bytes.{from};
-ghost use Rattle.late.specs.Calls.{late_answer_of, reader_then};
+ghost use Rattle.late.specs.Calls.{late_answer_of, reader_first, reader_then};
 ghost use Rattle.test_calls.specs.EntryEdits.{report_told, report_as, edit_told, added_by, withdrawn_by};
 
 pub mod forecasts;
@@ -565,7 +565,7 @@ pub extern "C" fn entries_add(
 ) -> u16
     ensures { edit_told result (reader_then price offer_owner offer_code offer_issuer grocer_owner tally_grocer tally_box tally_code
         tally_count tally_issuer tally_bag tally_revision tally_offer) (state_after known price_transit working total_transit statement
-        done sent) edited.new ≡ added_by (head_of boxes grocers offers tallies 0 lists) (reader_before price offer_owner offer_code
+        done sent) edited.new ≡ added_by (head_of boxes grocers offers tallies 0 lists) (reader_first price offer_owner offer_code
         offer_issuer grocer_owner tally_grocer tally_box tally_code tally_count tally_issuer tally_bag tally_revision
         tally_offer) (state_before known price_transit working total_transit statement done sent) grocer box_of code.now count
         issuer bag revision edited.old }
@@ -644,7 +644,7 @@ pub extern "C" fn entries_withdraw(
 ) -> u16
     ensures { edit_told result (reader_then price offer_owner offer_code offer_issuer grocer_owner tally_grocer tally_box tally_code
         tally_count tally_issuer tally_bag tally_revision tally_offer) (state_after known price_transit working total_transit statement
-        done sent) edited.new ≡ withdrawn_by (head_of boxes grocers offers tallies 0 lists) (reader_before price offer_owner offer_code
+        done sent) edited.new ≡ withdrawn_by (head_of boxes grocers offers tallies 0 lists) (reader_first price offer_owner offer_code
         offer_issuer grocer_owner tally_grocer tally_box tally_code tally_count tally_issuer tally_bag tally_revision
         tally_offer) (state_before known price_transit working total_transit statement done sent) place edited.old }
 {

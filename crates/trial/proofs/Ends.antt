@@ -31,8 +31,10 @@ use Rattle.trial.specs.declared.Answer.TheVariants.{Tried, Refused}
 use Rattle.model.proofs.Handed.{handed_evening}
 use Rattle.model.proofs.Step.{evening_range}
 use Rattle.job_masks.proofs.InJob.{some_box}
-use Rattle.run_order.proofs.Few.{steps_few as job-few}
-use Rattle.run.proofs.Ends.{tables_are, places_are, met_before, met-behind, state_is, packed_is}
+use Rattle.run_order.proofs.Few.{steps_few as job_few}
+use Rattle.run.proofs.Done.{tables_done, places_done}
+use Rattle.run.proofs.Behind.{met_before, met_behind}
+use Rattle.run.proofs.Ends.{state_is, packed_is}
 use Rattle.trial_rules.proofs.Rounds.{every_kind, trial_is}
 use Rattle.trial.proofs.Rounds.{evening_rounds}
 
@@ -61,7 +63,7 @@ module _ (f : JobTables) (t : StateTables) (g : Begins f t) (list : List ℕ) (i
 
     pub rounds_few : r ≤ 1056
     unfolding with_lists spread job_of
-    rounds_few = omega (arith, rounds_of_lem, ends.at_most, job-few (evening_of f) (evening_range f g.job_in_lem.inside).boxes≤)
+    rounds_few = omega (arith, rounds_of_lem, ends.at_most, job_few (evening_of f) (evening_range f g.job_in_lem.inside).boxes≤)
 
     idle_is : (idle idle' : List ℕ) → idle' ≡ overwrite f.boxes (λ b. r - of_box b (steps_in f.boxes n order)) idle → idle' ≡ overwrite (evening_of f).boxes (λ b. idle_rounds b (trial (evening_of f) list)) idle
     unfolding with_lists spread job_of
@@ -77,9 +79,9 @@ module _ (f : JobTables) (t : StateTables) (g : Begins f t) (list : List ℕ) (i
         trial_outcome (answer_of (Tried r)) t' idle' p' ≡ tried_all (evening_of f) t list idle p
     unfolding answer_of tried_all trial_state taken_places
     trial_ended packed needs sharers en es t' words messages a m ed es' idle idle' ei p p' ep =
-        let tables = tables_are f t g packed needs sharers done order n en es w.so_far (taken_steps (trial (evening_of f) list)) steps_of t' words messages a m ed es' in
+        let tables = tables_done f t g packed needs sharers done order n en es w.so_far (taken_steps (trial (evening_of f) list)) steps_of t' words messages a m ed es' in
         let places = ep ∙ ap (λ (l : List ℕ). lay_over l p)
-        (places_are f t g packed needs sharers done order n en es w.so_far (taken_steps (trial (evening_of f) list)) steps_of t' words messages a m ed es') in
+        (places_done f t g packed needs sharers done order n en es w.so_far (taken_steps (trial (evening_of f) list)) steps_of t' words messages a m ed es') in
         λ i. trial_outcome (tried (rounds_of_lem i)) (tables i) (idle_is idle idle' ei i) (places i)
 
 -- The refusals of a trial: 20 on the state's tables, the preference list and idle rounds; those of the job's tables; 20 on the packed tables; 33.
@@ -132,7 +134,7 @@ module _ (f : JobTables) (t : StateTables) (c : Bool) (e : c ≡ state_short (si
     module _ (z : first_met (job_refusals f) ≡ 0) where
       behind_is : first_met (trial_refusals f t list idle) ≡ first_met behind
       unfolding trial_refusals job_refusals
-      behind_is = rw short_is (met-behind (job_short f (job_lengths f) || bags_short f (job_lengths f)) (not (job_in_range f)) (counted_twice (counted_of f)) behind z)
+      behind_is = rw short_is (met_behind (job_short f (job_lengths f) || bags_short f (job_lengths f)) (not (job_in_range f)) (counted_twice (counted_of f)) behind z)
 
       module _ (standing : List ℕ) (s : Standing f standing) where
         -- The packed tables of the job as handed are those of the tables as lent.

@@ -18,7 +18,7 @@ use step_places::{KINDS, PLACES};
 use trial_rounds::Rounds;
 
 // What a trial answers: its rounds; or the number of the condition that refuses it.
-#[derive(Drop)]
+#[derive(Clone, Copy)]
 pub enum Answer {
     Tried { rounds: u32 },
     Refused(u16),

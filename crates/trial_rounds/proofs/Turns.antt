@@ -27,7 +27,7 @@ use Rattle.step_places.proofs.Left.{and_step, Open}
 use Rattle.step_rules.proofs.InModel.{permitted_is}
 use Rattle.run_ready.proofs.InModel.{listed_at}
 use Rattle.run_order.proofs.Found.{marked_steps, place-below}
-use Rattle.run_order.proofs.Pick.{put-so-far, steps-more}
+use Rattle.run_order.proofs.SoFar.{put_so_far, steps_more}
 use Rattle.trial_rules.proofs.Preferences.{kind_in}
 use Rattle.trial_rules.proofs.Rounds.{still}
 use Rattle.trial_rounds.proofs.Marks.{mark_append, round_yes, round_no, later, more, open_room}
@@ -116,8 +116,8 @@ module _ (j : Job) (receivers : List ℕ) (waits : List (List ℕ)) (hr : Receiv
           rw (ed, step_here j kind a second it.place_in) (marked_steps j.boxes (kind_of kind) a second done la it.place_in.b_in) in
           let below = place-below j.boxes kind a second it.place_in in
           record {
-            so_far = put-so-far j done order n p.so_far has_room (here j.boxes kind a second) below open_here done' marks order' eo;
-            steps = steps-more j done order n p.so_far has_room (here j.boxes kind a second) below open_here done' marks order' eo
+            so_far = put_so_far j done order n p.so_far has_room (here j.boxes kind a second) below open_here done' marks order' eo;
+            steps = steps_more j done order n p.so_far has_room (here j.boxes kind a second) below open_here done' marks order' eo
                 ∙ rw (p.steps, round_yes j list d₀ a acts_now, choice_here) (append_assoc (steps_in j.boxes n₀ order₀) (round j list d₀ a) (x ∷ []));
           }
 

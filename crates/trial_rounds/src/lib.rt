@@ -120,7 +120,7 @@ fn one_round(
 }
 
 // What a trial's rounds come to: how many steps the order has, and in how many rounds they are taken.
-#[derive(Drop)]
+#[derive(Clone, Copy)]
 pub struct Rounds {
     pub steps: usize,
     pub rounds: u16,

@@ -95,7 +95,8 @@ pub record TrialCases : Type 0 where
       ≡ trial_outcome (tried 5) (state_tables (10 ∷ 20 ∷ 10 ∷ 20 ∷ []) (0 ∷ 0 ∷ 0 ∷ 0 ∷ []) (pos 0 ∷ pos 0 ∷ []) (pos 0 ∷ pos 0 ∷ []) (pos 30 ∷ pos 60 ∷ [])
       marks_away (2 ∷ [])) (2 ∷ 2 ∷ []) []
   -- 33 changes no word; it comes after 21, 9 and 20 on the packed tables.
-  pub call_33 : tried_on once_away (buffers (pos 7 ∷ [])) twice (9 ∷ 9 ∷ []) (99 ∷ []) ≡ trial_outcome (refused 33) (buffers (pos 7 ∷ [])) (9 ∷ 9 ∷ []) (99 ∷ [])
+  pub call_33 : tried_on once_away (buffers (pos 7 ∷ [])) twice (9 ∷ 9 ∷ []) (99 ∷ []) ≡ trial_outcome (refused 33) (buffers (pos 7 ∷ [])) (9 ∷ 9 ∷ [])
+      (99 ∷ [])
   pub call_21 : (tried_on away_out (buffers []) twice (9 ∷ 9 ∷ []) []).answer ≡ refused 21
   pub call_9 : (tried_on away_twice (buffers []) twice (9 ∷ 9 ∷ []) []).answer ≡ refused 9
   pub packed_20 : (tried_on once_away (buffers []) twice (9 ∷ 9 ∷ []) []).answer ≡ refused 20

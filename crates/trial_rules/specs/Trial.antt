@@ -52,7 +52,8 @@ trial_outcome a t idle picked = record { answer = a; tables = t; idle = idle; pi
 unfoldable pub tried_all : Job → StateTables → List ℕ → List ℕ → List ℕ → TrialOutcome
 tried_all j t prefs idle picked =
     let rs = trial j prefs in
-    trial_outcome (tried (length rs)) (store j (trial_state j prefs) t) (overwrite j.boxes (λ b. idle_rounds b rs) idle) (lay_over (taken_places j prefs) picked)
+    trial_outcome (tried (length rs)) (store j (trial_state j prefs) t)
+    (overwrite j.boxes (λ b. idle_rounds b rs) idle) (lay_over (taken_places j prefs) picked)
 
 -- The trial: THE definition that its contract cites. A refusal changes no word.
 unfoldable pub tried_on : JobTables → StateTables → List ℕ → List ℕ → List ℕ → TrialOutcome

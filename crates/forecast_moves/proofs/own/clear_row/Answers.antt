@@ -1,0 +1,28 @@
+-- `forecast_moves::own::clear_row` meets its contract. Assumes nothing.
+use native.Mathlib.Omega.{arith}
+use Rattle.forecast_doubles.specs.Moves.{summed_in}
+use Rattle.forecast_moves.proofs.Cleared.{zeroed_same, zeroed_as, zeroed_at, held_other, held_own, few_words}
+use Rattle.forecast_moves.proofs.own.clear_row.Goals as goal
+
+pub row_start-requires : goal.row_start-requires
+row_start-requires c =
+    (omega (arith, c.requires.c_bound.1.0), c.requires.c_bound.0)
+
+pub zero_words-requires : goal.zero_words-requires
+zero_words-requires c =
+    record {
+      c_bound = (c.requires.c_bound.0, (omega (arith, c.requires.c_bound.1.0), (omega (arith, c.row_start.ensures, few_words c.args.c c.args.m c.requires.c_bound.0 (omega (arith, c.requires.c_bound.1.0))), c.requires.c_bound.1.1)));
+      n_in_bounds = omega (arith, c.row_start.ensures, c.requires.m_in_bounds);
+    }
+
+pub returns-then-c-a : goal.returns-then-c-a
+returns-then-c-a c =
+    let s = c.args in
+    zeroed_at c.row_start.ensures
+    (zeroed_as c.row_start.result s.m (summed_in s.owner.now s.sharers.now s.a s.c) _ s.held.now _ (held_other s.owner.now s.sharers.now s.a s.c c.if-c-a.true)
+    c.zero_words.ensures)
+
+pub returns-else-c-a : goal.returns-else-c-a
+returns-else-c-a c =
+    let s = c.args in
+    zeroed_same _ s.m _ s.held.now (held_own s.owner.now s.sharers.now s.a s.c c.if-c-a.false)

@@ -1,0 +1,6 @@
+-- `trial::lists_short` meets its contract. Assumes nothing.
+use Rattle.trial.proofs.lists_short.Goals as goal
+
+pub returns : goal.returns
+returns c =
+    rw c.index_of.ensures.0
