@@ -52,10 +52,40 @@ need_compiler() {
     need 'test -e /usr/include/stdio.h' libc6-dev
 }
 
+is_newest() { # is_newest FILE: whether it is there and no file of the crates is newer
+    [ -e "$1" ] && [ -z "$(find crates crates.txt -path 'crates/*/out' -prune -o -type f -newer "$1" -print -quit)" ]
+}
+crate_of() { # crate_of NAME: the crate whose archive libNAME.a is
+    case $1 in host) echo host_c ;; *) echo "$1" ;; esac
+}
 build_library() { # build_library NAME: target/staticlib/libNAME.a, made anew where a file of the crates is newer
-    local lib=target/staticlib/lib$1.a
-    [ -e "$lib" ] && [ -z "$(find crates crates.txt -type f -newer "$lib" -print -quit)" ] && return
-    rt staticlib "$1"
+    local lib=target/staticlib/lib$1.a crate
+    is_newest "$lib" && return
+    crate=$(crate_of "$1")
+    mkdir -p target/staticlib
+    (cd "crates/$crate" && rt lib) && cp "crates/$crate/out/lib$crate.a" "$lib"
+}
+link_library() { # link_library NAME: the same, over the libraries that stand in crates/*/out, without proving them; for where they are those of these files
+    local crate
+    crate=$(crate_of "$1")
+    [ -d "crates/$crate" ] || return
+    mkdir -p target/staticlib
+    archive_over "$crate" "$PWD/target/staticlib/lib$1.a" "$(kit_folder)/toolchain"
+}
+kit_folder() { dirname "$(rt doc)"; }
+archive_over() { # archive_over CRATE TO TOOLCHAIN: the archive of a crate, proved and compiled over the libraries that stand in crates/*/out
+    local kit words=() d
+    kit=$(kit_folder)
+    for d in std $(sed -n "s/^$1 staticlib: *//p" crates.txt); do
+        if [ -d "crates/$d" ]; then words+=(--extern "$d=$PWD/crates/$d/out/rlib/$d.rlib"); else words+=(--extern "$d=$kit/rlibs/$d.rlib"); fi
+    done
+    for d in "$PWD"/crates/*/out/rlib; do words+=(-L "dependency=$d"); done
+    (cd "crates/$1" && "$kit/bin/rattle" build --crate-name "$1" src/lib.rt "${words[@]}" -L "dependency=$kit/rlibs" --crate-type staticlib \
+        --antt-project "$kit/rattle/logic/antt-project.json" --logic-built "$kit/logic_built" --links "$1=" --toolchain "$3" --backend llvm -o "$2")
+}
+build_program() { # build_program NAME: crates/NAME/out/NAME, made anew where a file of the crates is newer; rt runs it too, on an empty input
+    is_newest "crates/$1/out/$1" && return
+    (cd "crates/$1" && rt run)
 }
 
 finish() { # the last line, and the exit status

@@ -1,11 +1,11 @@
 #!/usr/bin/env python3
 """Prints the processor seconds of checks, by crate, by part and by function: python3 tools/check_profile.py [--rows N] [CRATE..]
 
-Each crate named, or every one of crates.txt, is checked from nothing, alone and outside of target/, against the libraries
-that stand in target/rlib: run rt check on it before. A crate's line is its processor seconds and their parts:
+Each crate named, or every one of crates.txt, is checked from nothing, alone, by one job and into a folder of its own, against the
+libraries that stand in crates/*/out/rlib: run rt check in its folder before. A crate's line is its processor seconds and their parts:
   walk            the generated walk of each function
   proof           the proofs of its functions, written by hand or made
-  contract        what is generated from code and contracts
+  contract        what is generated from code and contracts, and what links them
   laws and specs  its definitions, and the lemmas of proofs/
   rest            before the first module and after the last: the code is read, libraries are loaded
 Under it stand the N dearest functions (12, or 0 for none), files of proofs/ that are no function's among them. The line of a
@@ -14,7 +14,6 @@ Other work on the machine moves the figures by up to a half: compare within one 
 import argparse
 import collections
 import os
-import platform
 import re
 import subprocess
 import sys
@@ -24,8 +23,10 @@ import time
 sys.dont_write_bytecode = True
 from crates import read_crates  # it goes to the root of the tree
 
-PARTS = {"Lts": "walk", "Tie": "walk", "Proof": "proof", "Named": "proof", "Layout": "proof", "Met": "proof"}
-CONTRACT = {"Key", "Code", "Mir", "Symbol", "Kinds", "Statement", "Reads"}
+WALK = ("Lts", "View", "Given", "Tie")
+PROOF = ("Proof", "Goals", "Answers", "Invariants", "Met", "Layout")
+PARTS = dict.fromkeys(WALK, "walk") | dict.fromkeys(PROOF, "proof")
+CONTRACT = {"Key", "Code", "Mir", "Symbol", "Kinds", "Statement", "Reads", "TheLink", "TheLinks"}
 PAUSE = 0.03
 
 
@@ -35,39 +36,41 @@ def stop(text):
 
 def kit_folder():
     try:
-        return os.path.dirname(os.path.dirname(subprocess.check_output(["rt", "doc"], text=True).strip()))
+        return os.path.dirname(subprocess.check_output(["rt", "doc"], text=True).strip())
     except OSError:
         stop("rt, the command of the Rattle kit, is not on the path")
 
 
-def library_of(name, own):
-    """The file of a library of this tree, or of the kit, whose folder is own."""
+def library_of(name, kit):
+    """The folder of a library of this tree, or of the kit."""
     if not os.path.isdir("crates/" + name):
-        return f"{own}/rlib/{name}.rlib"
-    path = f"target/rlib/{name}.rlib"
+        return f"{kit}/rlibs/{name}.rlib"
+    path = f"{os.getcwd()}/crates/{name}/out/rlib/{name}.rlib"
     if not os.path.exists(path):
-        stop(f"{path} is not there: run rt check {name}")
+        stop(f"{path} is not there: run rt check in the folder of a crate above {name}")
     return path
 
 
 def check_command(name, needs, work):
-    """The command with which rt checks a crate, over the folder work."""
+    """The command with which rt checks a crate, over the folder work; it runs in the crate's folder."""
     kit = kit_folder()
-    own = f"{kit}/on/{platform.machine()}"
-    sources = [f"crates/{name}/src/{f}.rt" for f in ("main", "lib")]
-    source = next(filter(os.path.exists, sources), sources[1])
-    words = [own + "/bin/rattle", "check", "--crate-name", name, source]
+    sources = [f for f in ("src/main.rt", "src/lib.rt") if os.path.exists(f"crates/{name}/{f}")]
+    words = [kit + "/bin/rattle", "check", "--crate-name", name, sources[0]]
     for d in ["std"] + needs[name]:
-        words += ["--extern", f"{d}={library_of(d, own)}"]
-    return words + ["-L", "dependency=target/rlib", "-L", f"dependency={own}/rlib", "--logic-built", own + "/logic-built",
-                    "--antt-project", kit + "/logic/antt-project.json", "--incremental", work]
+        words += ["--extern", f"{d}={library_of(d, kit)}"]
+    for d in needs:
+        words += ["-L", f"dependency={os.getcwd()}/crates/{d}/out/rlib"]
+    if re.search(rf"(?m)^{name} staticlib:", open("crates.txt", encoding="utf-8").read()):
+        words += ["--crate-type", "staticlib"]
+    return words + ["-L", f"dependency={kit}/rlibs", "--logic-built", kit + "/logic_built", "--links", f"{name}=",
+                    "--antt-project", kit + "/rattle/logic/antt-project.json", "--incremental", work]
 
 
 def processor_seconds(process):
-    """Of a process that runs, so far; of one that has ended but is not waited for, in all."""
+    """Of a process that runs and those that it waited for, so far; of one that has ended but is not waited for, in all."""
     with open(f"/proc/{process.pid}/stat", encoding="utf-8") as stat:
         fields = stat.read().rsplit(")", 1)[1].split()
-    return (int(fields[11]) + int(fields[12])) / os.sysconf("SC_CLK_TCK")
+    return sum(map(int, fields[11:15])) / os.sysconf("SC_CLK_TCK")
 
 
 def ended(process):
@@ -94,13 +97,13 @@ def watch(process, work):
 def checked(name, needs):
     """The events of one check and its processor seconds; what the check said, where it was not proved, ends the tool."""
     with tempfile.TemporaryDirectory() as work, tempfile.TemporaryFile() as log:
-        process = subprocess.Popen(check_command(name, needs, work), stdout=log, stderr=log)
+        process = subprocess.Popen(check_command(name, needs, work), cwd=f"crates/{name}", stdin=subprocess.DEVNULL, stdout=log, stderr=log)
         events, whole = watch(process, work)
         status = process.wait()
         log.seek(0)
         said = log.read().decode(errors="replace").strip().split("\n")[-1]
         if status != 0 or "logic=proved" not in said:
-            stop(f"{name} is not proved (status {status}), rt check {name} says why; here: {said[:300]}")
+            stop(f"{name} is not proved (status {status}), rt check in crates/{name} says why; here: {said[:300]}")
         return events, whole
 
 
@@ -113,8 +116,8 @@ def sorted_out(events, whole):
         kind = module.split(".")[-1]
         part = PARTS.get(kind, "contract" if kind in CONTRACT else "laws and specs")
         parts[part] += spent
-        if "·proofs.proofs." in module:
-            words = module.split("·proofs.proofs.")[1].split(".")
+        if "-proofs." in module:
+            words = module.split("-proofs.")[1].split(".")
             functions[".".join(w for w in words if w not in PARTS and w not in CONTRACT)][part] += spent
     parts["rest"] = whole - (last - first)
     return parts, functions

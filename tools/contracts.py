@@ -3,7 +3,8 @@
 contracts.py REV: what differs from the git revision REV, which is not checked out: functions that stand in one of both alone, or whose
 signature or contract is another, and files of definitions (crates/*/specs/*.antt) that differ in more than comments and white space.
 Private functions are told and are no difference. A revision of before the crates were renamed is read with the names of today, by the
-table "Was | Is" of docs/CHANGES.md. Exit status 1 where a public function or a file of definitions differs."""
+table "Was | Is" of docs/CHANGES.md. Of a revision in an older Rattle's spelling (docs/PORT.md) functions are compared by name, parameters and
+result alone, and neither clauses nor definitions. Exit status 1 where a public function or a file of definitions differs."""
 import difflib
 import os
 import re
@@ -12,7 +13,7 @@ import sys
 
 os.chdir(os.path.join(os.path.dirname(os.path.abspath(__file__)), ".."))
 FILES = re.compile(r"crates/(\w+)/(src/.*\.rt|specs/.*\.antt)")
-CLAUSE = re.compile(r"\s*(ghost|requires|ensures|decreases)\s*(?=\{)")
+CLAUSE = re.compile(r"\s*(ghost|requires|ensures|decreases)\*?(?: \w+)?\s*(?=\{)")
 
 
 def git(*words):
@@ -87,7 +88,7 @@ def functions(path, text):
     text = plain_code(text)
     for f in re.finditer(r"((?:\bpub )?(?:extern \"C\" )?)\bfn (\w+)(?:<[^>]*>)?(?=\()", text):
         at = block_end(text, f.end(), "(", ")")
-        head = re.compile(r"(?=\{|\b(?:ghost|requires|ensures|decreases)\s*\{)").search(text, at).start()
+        head = re.compile(r"(?=\{|\b(?:ghost|requires|ensures|decreases)\*?(?: \w+)?\s*\{)").search(text, at).start()
         lines, at = [one_line(text[f.start():head])], head
         while clause := CLAUSE.match(text, at):
             at = block_end(text, clause.end(), "{", "}")
@@ -99,7 +100,7 @@ def functions(path, text):
 
 def contracts(files):
     """The functions of all files in order: crates as in crates.txt, and in each first src/lib.rt or src/main.rt."""
-    listed = re.findall(r"(?m)^(\w+):", open("crates.txt", encoding="utf-8").read())
+    listed = re.findall(r"(?m)^(\w+)[^:#\n]*:", open("crates.txt", encoding="utf-8").read())
     place = {crate: i for i, crate in enumerate(listed)}
     found = {}
     paths = [p for p in files if p.endswith(".rt")]
@@ -126,10 +127,20 @@ def tell(name, before, after):
             print(f"    {line}")
 
 
+def is_older(files):
+    """Whether files have an older Rattle's spelling."""
+    return any(re.search(r"^(ghost )?use Rattle·", text, re.M) for text in files.values())
+
+
 def compare(then, here):
     """Tells all differences; how many there are of public functions and files of definitions."""
-    a, b = contracts(then), contracts(here)
+    older = is_older(then)
+    a, b = contracts(renamed(then)), contracts(here)
     differ = equal = files = 0
+    if older:
+        print("That revision has an older Rattle's spelling: names, parameters and results are compared, neither clauses nor definitions.")
+        a, b = ({name: (public, lines[:1]) for name, (public, lines) in of.items()} for of in (a, b))
+        then, here = ({p: text for p, text in files.items() if p.endswith(".rt")} for files in (then, here))
     for name in [*b, *(n for n in a if n not in b)]:
         before, after = a.get(name), b.get(name)
         if before == after:
@@ -138,6 +149,7 @@ def compare(then, here):
         public = any(f and f[0] for f in (before, after))
         tell(f"{'public' if public else 'private'} {name}", before and before[1], after and after[1])
         differ += public
+    then = renamed(then)
     for path in sorted(p for p in {*then, *here} if p.endswith(".antt")):
         before, after = (definitions(files[path]) if path in files else None for files in (then, here))
         if before is not None and after is not None and " ".join(before) == " ".join(after):
@@ -160,7 +172,7 @@ def main(words):
     if not commit:
         print(f"contracts.py: git knows no revision {words[0]}", file=sys.stderr)
         sys.exit(2)
-    sys.exit(1 if compare(renamed(of_revision(commit)), present()) else 0)
+    sys.exit(1 if compare(of_revision(commit), present()) else 0)
 
 
 if __name__ == "__main__":

@@ -12,5 +12,5 @@ def read_crates():
     for line in open("crates.txt", encoding="utf-8"):
         name, colon, rest = line.split("#")[0].partition(":")
         if colon:
-            needs[name.strip()] = rest.split()
+            needs[name.split()[0]] = rest.split()
     return needs

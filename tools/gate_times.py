@@ -21,15 +21,21 @@ def minutes(seconds):
     return f"{seconds // 60} min {seconds % 60} s"
 
 
-def read_times(lines):
-    """The seconds of each crate's proof, and of each crate's edits."""
-    proved, edits = {}, {}
+def read_counts(lines):
+    """The functions of each crate proved in this run, the crates kept from earlier runs, and the edits of each crate."""
+    proved, kept, edits, functions = {}, [], {}, 0
     for line in lines:
-        if m := re.fullmatch(r"rt: (\S+) proved \((\d+) s\)", line):
-            proved[m[1]] = int(m[2])
-        if m := re.fullmatch(r"rt: must-fail ([^/]+)/\S+: refused, .*; (\d+) s\)", line):
-            edits.setdefault(m[1], []).append(int(m[2]))
-    return proved, edits
+        if line.startswith("== "):
+            functions = 0
+        elif m := re.match(r"logic=proved functions=(\d+) ", line):
+            functions = int(m[1])
+        elif m := re.fullmatch(r"rt: (\w+) proved", line):
+            proved[m[1]] = functions
+        elif m := re.match(r"rt: (\w+) is kept: ", line):
+            kept.append(m[1])
+        elif m := re.match(r"rt: must-fail ([^/]+)/\S+: refused, as it must be", line):
+            edits[m[1]] = edits.get(m[1], 0) + 1
+    return proved, kept, edits
 
 
 def read_profile(paths):
@@ -49,24 +55,22 @@ def main():
         sys.exit("gate_times.py: give a log of .ci/run, and what tools/check_profile.py printed if the table is to have it")
     lines = open(sys.argv[1], encoding="utf-8").read().splitlines()
     seconds, processor, verdict = whole(lines)
-    proved, edits = read_times(lines)
+    proved, kept, edits = read_counts(lines)
     profile = read_profile(sys.argv[2:])
-    count = sum(map(len, edits.values()))
     print("# Gate times\n")
     made = "gate.log profile.log" if profile else "gate.log"
     print(f"Made by `.ci/run > gate.log` and `python3 tools/gate_times.py {made} > docs/GATE.md`"
           + (", with `python3 tools/check_profile.py > profile.log` between them.\n" if profile else ".\n"))
-    print(f"Whole: {minutes(seconds)}, {minutes(processor)} of processor; {len(proved)} crates, {count} edits that must fail; "
-          f"`{verdict}`.\n")
-    print("The table has seconds by the clock, as `rt` prints them. Crates are proved side by side, one for each processor and at")
-    print("most four, so the whole is less than the sum, and a crate takes longer beside others than alone.")
+    told = f"{len(proved)} crates proved, {len(kept)} kept from earlier runs" if kept else f"{len(proved)} crates"
+    print(f"Whole: {minutes(seconds)}, {minutes(processor)} of processor; {told}, {sum(edits.values())} edits that must fail; `{verdict}`.\n")
+    print("`rt ci` proves crates side by side, as many as there are processors and memory, and tells no crate's time.")
     print("`python3 tools/check_profile.py CRATE` prints a crate's processor seconds, by part and by function"
           + ("; the last column has them.\n" if profile else ".\n"))
-    print("| crate | proof, s | edits | edits, s |" + (" processor, s |" if profile else ""))
-    print("|---|--:|--:|--:|" + ("--:|" if profile else ""))
-    for name in sorted(proved, key=proved.get, reverse=True):
-        own = edits.get(name, [])
-        print(f"| `{name}` | {proved[name]} | {len(own)} | {sum(own)} |" + (f" {profile.get(name, '')} |" if profile else ""))
+    print("| crate | functions | edits |" + (" processor, s |" if profile else ""))
+    print("|---|--:|--:|" + ("--:|" if profile else ""))
+    order = {name: float(profile.get(name, 0)) for name in [*proved, *kept]}
+    for name in sorted(order, key=lambda it: (-order[it], -proved.get(it, 0))):
+        print(f"| `{name}` | {proved.get(name, 'kept')} | {edits.get(name, 0)} |" + (f" {profile.get(name, '')} |" if profile else ""))
 
 
 main()

@@ -3,6 +3,7 @@
 
 The two walks and the table of refusals name functions, definitions and proofs; a name that its file does not have ends the tool.
 """
+import glob
 import os
 import re
 import sys
@@ -32,7 +33,8 @@ FILE_WALK = [
 
 # The way of a step request.
 STEP_WALK = [
-    ("host", "lib.rt", ["settlement_step"], "the call for C: the answer as a number"),
+    ("host_c", "lib.rt", ["settlement_step"], "the call for C"),
+    ("host", "lib.rt", ["settlement_step"], "the answer as a number"),
     ("step", "lib.rt", ["step"], "the request on the lent tables"),
     ("step_refusal", "lib.rt", ["price_refusal", "total_refusal", "tables_refusal", "early_refusal"], "all conditions, in their order, before anything is written"),
     ("job_checks", "checks.rt", ["job_short", "job_in_range"], "20 and 21 of the job's tables"),
@@ -43,9 +45,9 @@ STEP_WALK = [
     ("step_waits", "lib.rt", ["waits"], "what each box's totals wait for"),
     ("step_checks", "request.rt", ["request_refusal"], "22 to 26"),
     ("step_rules", "ready.rt", ["fits", "is_ready"], "24 and 26: whether the job has the step, and whether it is ready"),
-    ("book_box", "lib.rt", ["box_places", "box_span"], "where the totals of the step lie"),
+    ("book_places", "lib.rt", ["box_places", "box_span"], "where the totals of the step lie"),
     ("step_refusal", "lib.rt", ["message_offers"], "kinds 1 and 3: the offers of the message"),
-    ("step_list", "lib.rt", ["list_message"], "they are listed by one pass over the offers"),
+    ("step_prices", "list.rt", ["list_message"], "they are listed by one pass over the offers"),
     ("step_checks", "finish.rt", ["price_fits"], "the late 21 of kinds 1 to 3: whether what the step would leave is in range, on every price list"),
     ("step_packed", "lib.rt", ["total_fits"], "the same of kinds 4 to 6"),
     ("step_rules", "marks.rt", ["mark"], "the step is marked as done"),
@@ -60,31 +62,31 @@ STEP_WALK = [
 
 # Who decides each refusal: numbers, what, crate, file and function, file and name of its definition.
 DECIDES = [
-    ("1", "length and block count of a file", "file_blocks", "refusals.rt", "shape_refusal", "format", "Refusals", "badLength"),
-    ("2, 3, 5", "sums, kind, number, count and spare bytes of a block", "file_blocks", "refusals.rt", "block_refusal", "format", "Refusals", "blockRefusal"),
-    ("4", "sizes of a header", "file_blocks", "plan.rt", "bad_sizes", "format", "Job", "badSizes"),
-    ("6", "fields of records", "file_blocks", "records.rt", "bad_records", "format", "Refusals", "badRecord"),
+    ("1", "length and block count of a file", "file_blocks", "refusals.rt", "shape_refusal", "format", "Refusals", "bad_length"),
+    ("2, 3, 5", "sums, kind, number, count and spare bytes of a block", "file_blocks", "refusals.rt", "block_refusal", "format", "Refusals", "block_refusal"),
+    ("4", "sizes of a header", "file_blocks", "plan.rt", "bad_sizes", "format", "Job", "bad_sizes"),
+    ("6", "fields of records", "file_blocks", "records.rt", "bad_records", "format", "Refusals", "bad_record"),
     ("7, 8", "names of offers", "file_blocks", "look.rt", "names_refusal", "format", "Job", "shared"),
-    ("4 to 9", "the writer's, on lent tables", "writer_checks", "refusal.rt", "write_refusal", "format", "Refusals", "jobRefusal"),
-    ("9", "bags counted twice, in a file", "file_blocks", "twice.rt", "job_refusal", "recount", "Recount", "countedTwice"),
-    ("9", "the same, in lent tables", "bag_standing", "lib.rt", "standing_boxes", "recount", "Recount", "countedTwice"),
-    ("20", "a job's tables lent short", "job_checks", "checks.rt", "job_short", "model", "Tables", "jobShort"),
-    ("20", "a state's tables lent short", "step_checks", "state.rt", "state_short", "model", "Tables", "stateShort"),
-    ("20", "packed totals lent short", "step_packed", "lib.rt", "packed_refusal", "model", "Tables", "totalsShort"),
-    ("21", "a job's words out of range", "job_checks", "checks.rt", "job_in_range", "model", "Ranges", "jobInRange"),
-    ("21", "a state's words out of range", "step_checks", "state.rt", "state_in_range", "model", "Ranges", "stateInRange"),
-    ("21", "packed totals out of range", "step_packed", "lib.rt", "packed_refusal", "model", "Ranges", "totalsInRange"),
-    ("22, 23", "kind and boxes of a request", "step_checks", "request.rt", "request_refusal", "model", "Step", "stepRules"),
+    ("4 to 9", "the writer's, on lent tables", "writer_checks", "refusal.rt", "write_refusal", "format", "Refusals", "job_refusal"),
+    ("9", "bags counted twice, in a file", "file_blocks", "twice.rt", "job_refusal", "recount", "Recount", "counted_twice"),
+    ("9", "the same, in lent tables", "bag_standing", "lib.rt", "standing_boxes", "recount", "Recount", "counted_twice"),
+    ("20", "a job's tables lent short", "job_checks", "checks.rt", "job_short", "model", "Tables", "job_short"),
+    ("20", "a state's tables lent short", "step_checks", "state.rt", "state_short", "model", "Tables", "state_short"),
+    ("20", "packed totals lent short", "step_packed", "lib.rt", "packed_refusal", "model", "Tables", "totals_short"),
+    ("21", "a job's words out of range", "job_checks", "checks.rt", "job_in_range", "model", "Ranges", "job_in_range"),
+    ("21", "a state's words out of range", "step_checks", "state.rt", "state_in_range", "model", "Ranges", "state_in_range"),
+    ("21", "packed totals out of range", "step_packed", "lib.rt", "packed_refusal", "model", "Ranges", "totals_in_range"),
+    ("22, 23", "kind and boxes of a request", "step_checks", "request.rt", "request_refusal", "model", "Step", "step_rules"),
     ("24", "an empty message", "step_rules", "ready.rt", "fits", "model", "Steps", "fits"),
-    ("25", "already done", "step_rules", "marks.rt", "is_done", "model", "Tables", "stepsDone"),
+    ("25", "already done", "step_rules", "marks.rt", "is_done", "model", "Tables", "steps_done"),
     ("26", "not ready", "step_rules", "ready.rt", "is_ready", "model", "Steps", "ready"),
     ("21, late", "what a step would leave is out of range", "step_checks", "finish.rt", "price_fits", "model", "Step", "refusals"),
     ("21, late", "the same, of kinds 4 to 6", "step_packed", "lib.rt", "total_fits", "model", "Step", "refusals"),
-    ("20", "late bags: tables lent short, with room for the added tally", "late_checks", "present.rt", "late_short", "late_rules", "Late", "lateShort"),
-    ("20", "late bags: packed totals short for the job or for the edited one", "late_finished", "state.rt", "totals_refusal", "late_rules", "Late", "editedShort"),
-    ("30", "a state that no finished run leaves", "late_finished", "state.rt", "state_refusal", "late_rules", "Late", "leftByRun"),
-    ("31, 32", "a tally that is not added", "late_checks", "decide.rt", "added_job", "late_rules", "Late", "addFaults"),
-    ("32", "a tally that is not withdrawn", "late_checks", "decide.rt", "withdrawn_job", "late_rules", "Late", "withdrawFaults"),
+    ("20", "late bags: tables lent short, with room for the added tally", "late_checks", "present.rt", "late_short", "late_rules", "Late", "late_short"),
+    ("20", "late bags: packed totals short for the job or for the edited one", "late_finished", "state.rt", "totals_refusal", "late_rules", "Late", "edited_short"),
+    ("30", "a state that no finished run leaves", "late_finished", "state.rt", "state_refusal", "late_rules", "Late", "left_by_run"),
+    ("31, 32", "a tally that is not added", "late_checks", "decide.rt", "added_job", "late_rules", "Late", "add_faults"),
+    ("32", "a tally that is not withdrawn", "late_checks", "decide.rt", "withdrawn_job", "late_rules", "Late", "withdraw_faults"),
 ]
 
 
@@ -105,10 +107,10 @@ def has_function(crate, file, name):
 
 
 def proof(crate, file, name):
-    """The folder of a function's proof, or the kit, which proves it by itself."""
+    """The folder with what is written of a function's proof, or that the kit proves it by itself."""
     module = "" if file in ("lib.rt", "main.rt") else file[:-3] + "/"
-    path = f"crates/{crate}/proofs/{module}{name}/Proof.antt"
-    return path if os.path.exists(path) else "(by itself)"
+    path = f"crates/{crate}/proofs/{module}{name}"
+    return path if glob.glob(f"{path}/*.antt") else "(by itself)"
 
 
 def first_line(crate):
@@ -130,7 +132,7 @@ def parts():
                 title, lines = [], []
             title.append(line.lstrip("# "))
         elif ":" in line:
-            lines.append(line.split(":")[0])
+            lines.append(line.split(":")[0].split()[0])
         elif not line and not lines:
             title = []
     out.append((" ".join(title), lines))
@@ -163,7 +165,7 @@ def main():
     needs = crates.read_crates()
     level = layers(needs)
     out = ["# Map", "", "Made by `python3 tools/map.py > docs/MAP.md` from crates.txt and the first line of each crate's code.", ""]
-    out += ["A crate that others call has the specification's word for its name. A crate under it begins with the part that it serves: `step_links` is under `step`. A crate stands only on crates of lower layers. Definitions are in specs/ of a crate, code in src/, proofs in proofs/; the proof of a function f of a module m is proofs/m/f/Proof.antt.", ""]
+    out += ["A crate that others call has the specification's word for its name. A crate under it begins with the part that it serves: `step_links` is under `step`. A crate stands only on crates of lower layers. Definitions are in specs/ of a crate, code in src/, proofs in proofs/; what is written of the proof of a function f of a module m is in proofs/m/f.", ""]
     out += ["## The way of a file's bytes to the printed lines", ""] + list(walk(FILE_WALK)) + [""]
     out += ["## The way of a step request", ""] + list(walk(STEP_WALK)) + [""]
     out += ["## Who decides a refusal", "", "| No. | What | Function | Definition | Proof |", "|--:|---|---|---|---|"]

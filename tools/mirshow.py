@@ -1,172 +1,130 @@
 #!/usr/bin/env python3
-"""The MIR of one function, readable, and the lines of a walk that follow from it:
-rt mir CRATE | python3 tools/mirshow.py CRATE::FN
+"""The MIR of functions of libraries, readable: python3 tools/mirshow.py CRATE::FN..
 
-Prints the locals with the antt text of each type, to be checked by hand, and where each stands after the allocations; the
-statements; and the lines `En`, `Fresh`, `Dies` and the allocations. No part of any proof."""
-import re
+It reads what stands in crates/CRATE/out/rlib: `rt lib` in the crate's folder makes it, and `rt check` in that of a crate above. Prints the
+locals with their types, and the statements: a check grows as their numbers, multiplied. A program leaves no MIR there. No part of any proof."""
+import json
+import os
 import sys
 
-
-def read(text):
-    """The s-expressions of a text, as nested lists of words."""
-    stack = [[]]
-    for word in re.findall(r'[()]|"[^"]*"|[^\s()]+', text):
-        if word == "(":
-            stack.append([])
-        elif word == ")":
-            done = stack.pop()
-            stack[-1].append(done)
-        else:
-            stack[-1].append(word)
-    return stack[0]
+sys.dont_write_bytecode = True
+from crates import read_crates  # it goes to the root of the tree
 
 
-def find(tree, name):
-    """The definition of a function, anywhere in a tree."""
-    if not isinstance(tree, list):
-        return None
-    if tree and tree[0] == "fn-def" and tree[1] == f'"{name}"':
-        return tree[2]
-    for part in tree:
-        if found := find(part, name):
-            return found
-    return None
+def stop(text):
+    sys.exit("mirshow.py: " + text)
 
 
-def items(chain):
-    """The elements of a list as MIR writes it."""
-    out = []
-    while isinstance(chain, list) and chain[0] in ("lcons", "tcons", "ttcons"):
-        out.append(chain[1])
-        chain = chain[2]
-    return out
+def functions(crate):
+    """The functions of a library by their names."""
+    if crate not in read_crates():
+        stop(f"crates.txt has no crate {crate}")
+    path = f"crates/{crate}/out/rlib/{crate}.rlib/toolchain/mir.json"
+    if not os.path.exists(path):
+        stop(f"{path} is not there: run rt lib in crates/{crate}")
+    with open(path, encoding="utf-8") as it:
+        return dict(json.load(it))
 
 
-def last_name(word):
-    """A declared type's own name, without its path."""
-    return word.strip('"').split("::")[-1]
-
-
-def reference(t):
-    """The antt text of a reference type."""
-    life = t[1] if isinstance(t[1], str) else f"(named {t[1][1]})"
-    if isinstance(t[3], list) and t[3][0] == "tyNamed":
-        return f"(tyRef {life} {t[2]} (pointee ({last_name(t[3][1][1])}.the-row .written)))"
-    return f"(tyRef {life} {t[2]} {type_text(t[3])})"
+def of(x):
+    """What a node is, and what it holds."""
+    return (x, None) if isinstance(x, str) else next(iter(x.items()))
 
 
 def type_text(t):
-    """The antt text of a type."""
-    if isinstance(t, str):
-        return t
-    if t[0] == "tyInt":
-        return f"(tyInt w{t[1]})"
-    if t[0] == "tyNamed":
-        return last_name(t[1][1]) + "′.mir"
-    if t[0] == "tyArray":
-        return f"(tyArray {type_text(t[1])} {t[2][1] if isinstance(t[2], list) else t[2]})"
-    if t[0] == "tyStruct" and t[1] == '"&[]"':
-        return f"(sliceTy {type_text(items(t[2])[0])})"
-    return reference(t) if t[0] == "tyRef" else str(t)
+    head, body = of(t)
+    if head == "Int":
+        return f"w{body}"
+    if head == "Ref":
+        return f"&{'mut ' if body[1] == 'Mut' else ''}{type_text(body[2])}"
+    if head == "Struct" and body[0] == "&[]":
+        return f"{type_text(body[1][0])[:-len(type_text(of(body[1][0])[1][2]))]}[{type_text(of(body[1][0])[1][2])}]"
+    if head == "Array":
+        return f"[{type_text(body[0])}; {body[1]}]"
+    return head if body is None else f"{head} {body if isinstance(body, (str, int)) else json.dumps(body)}"
 
 
 def place(x):
     """A place: a local, its fields and what it points to."""
-    text = "_" + x[1]
-    for step in items(x[2]):
-        text = f"(*{text})" if step[0] == "deref" else f"{text}.{step[1]}" if step[0] == "field" else text + str(step)
+    text = f"_{x['local']}"
+    for step in x["steps"]:
+        head, body = of(step)
+        text = f"(*{text})" if head == "Deref" else f"{text}.{body}" if head == "Field" else f"{text}.{head}"
     return text
 
 
 def operand(x):
     """An operand: a place that is read, or a number."""
-    if isinstance(x, str):
-        return x
-    if x[0] in ("copy", "move"):
-        return place(x[1])
-    return f"{x[2]}:w{x[1]}" if x[0] == "int" else str(x)
+    head, body = of(x)
+    if head in ("Copy", "Move"):
+        return place(body)
+    return f"{body['value']}:w{body['width']}" if head == "Int" else head if body is None else f"{head} {json.dumps(body)}"
+
+
+def operation(x):
+    head, body = of(x)
+    return head if body is None else f"{head} {body if isinstance(body, str) else ' '.join(map(str, body))}"
 
 
 def value(x):
     """What an assignment computes."""
-    if x[0] == "rvOpd":
-        return operand(x[1])
-    if x[0] == "op2":
-        name = x[1] if isinstance(x[1], str) else " ".join(map(str, x[1]))
-        return f"{name}({operand(x[2])}, {operand(x[3])})"
-    if x[0] == "op1":
-        return f"{x[1]}({operand(x[2])})"
-    if x[0] == "addrOf":
-        return "&" + place(x[1])
-    if x[0] == "aggregate":
-        return "{" + ", ".join(map(operand, items(x[1]))) + "}"
-    return str(x)
+    head, body = of(x)
+    if head == "Opd":
+        return operand(body)
+    if head in ("Op1", "Op2"):
+        return f"{operation(body[0])}({', '.join(map(operand, body[1:]))})"
+    if head == "AddrOf":
+        return f"&{place(body) if isinstance(body, dict) and 'local' in body else json.dumps(body)}"
+    return head if body is None else f"{head} {json.dumps(body)}"
 
 
-def show(b, depth):
-    """A statement, indented by the blocks around it."""
-    pad = "  " * depth
-    head = b if isinstance(b, str) else b[0]
-    if head == "seq":
-        show(b[1], depth)
-        show(b[2], depth)
-    elif head == "assign":
-        print(f"{pad}{place(b[1])} = {value(b[2])}")
-    elif head == "call":
-        print(f"{pad}{place(b[3])} = CALL {b[1][1][1]}({', '.join(map(operand, items(b[2])))})")
-    elif head in ("block", "loop"):
-        print(pad + head)
-        show(b[1], depth + 1)
-    elif head in ("if", "cond"):
-        print(f"{pad}if {operand(b[1])}")
-        show(b[2], depth + 1)
-        print(pad + "else")
-        show(b[3], depth + 1)
-    elif head == "exit":
-        print(f"{pad}exit {b[1]}")
-    else:
-        print(pad + str(b))
+def call(body):
+    named = body[0][0] if isinstance(body[0], list) else body[0]
+    head, of_it = of(named)
+    name = of_it[0] if head == "Fn" else operand(named)
+    return f"{place(body[2])} = CALL {name}({', '.join(map(operand, body[1]))})"
 
 
-def label(i):
-    """The name of local i's address in a walk: l with a subscript."""
-    return "l" + "".join("₀₁₂₃₄₅₆₇₈₉"[int(c)] for c in str(i))
-
-
-def bare(text):
-    """A type's text without the parentheses around it."""
-    return text[1:-1] if text.startswith("(") else text
-
-
-def lines(types):
-    """The lines of a walk that follow from the locals' types alone."""
-    n = len(types)
-    room = [f"‵ (froom {types[i]} {label(i)} 0) ∷ ‵ (fdies {types[i]} {label(i)})" for i in reversed(range(n))]
-    print("En = " + " ∷ ".join(f"({bare(t)}, {label(i)})" for i, t in enumerate(types)) + " ∷ []")
-    print("Fresh = " + " ∷ ".join(room) + " ∷ tokens ∷ owns ∷ []")
-    print("Dies = " + " ∷ ".join(f"‵ (fdies {t} {label(i)})" for i, t in enumerate(types)) + " ∷ []")
-    made = " ".join(f"alloc1 ! (λ {label(i)}." for i in range(n))
-    print(f"{made} alloc0 ! $ passed {' '.join(map(label, range(n)))}{')' * n}")
+def show(body, at, depth):
+    """The statement that begins at a place of a body, indented by the blocks around it; how many statements it is, and where the next begins."""
+    head, of_it = of(body[at])
+    pad, at, count = "  " * depth, at + 1, 1
+    parts = {"Seq": 2, "Block": 1, "Loop": 1, "If": 2}
+    if head == "Assign":
+        print(f"{pad}{place(of_it[0])} = {value(of_it[1])}")
+    elif head == "Call":
+        print(pad + call(of_it))
+    elif head == "If":
+        print(f"{pad}if {operand(of_it)}")
+    elif head == "Switch":
+        parts["Switch"] = len(of_it[1]) + of_it[2]
+        print(f"{pad}switch {operand(of_it[0])}, arms {' '.join('|'.join(map(str, arm)) for arm in of_it[1])}{' and any other' if of_it[2] else ''}")
+    elif head != "Seq":
+        print(pad + (head if of_it is None else f"{head} {of_it if isinstance(of_it, int) else json.dumps(of_it)}"))
+    for part in range(parts.get(head, 0)):
+        if head == "If" and part == 1 and of(body[at])[0] != "Skip":
+            print(pad + "else")
+        inside = depth if head == "Seq" else depth + 1
+        if of(body[at])[0] == "Skip":
+            at += 1
+            continue
+        more, at = show(body, at, inside)
+        count += more
+    return count - (head == "Seq"), at
 
 
 def main():
-    if len(sys.argv) != 2:
-        sys.exit("mirshow.py: give CRATE::FN")
-    fn = find(read(sys.stdin.read()), sys.argv[1])
-    if not fn:
-        sys.exit("mirshow.py: no function " + sys.argv[1])
-    local = [(type_text(l[1]), l[2]) for l in items(fn[4])]
-    n = len(local)
-    print(f"lifetimes {fn[1]}, parameters _1 to _{fn[3]}, {n} locals")
-    for i, (text, kind) in enumerate(local):
-        at = 2 * (n - 1 - i)
-        where = "" if kind == "valueLocal" else "  (in memory)"
-        print(f"  _{i} : {text}{where}    -- after the allocations: at {at}, and that it dies at {at + 1}")
-    print(f"  then at {2 * n} the tokens, at {2 * n + 1} what the parameters own\n")
-    show(fn[5], 0)
-    print()
-    lines([text for text, kind in local])
+    if not sys.argv[1:] or sys.argv[1] in ("-h", "--help"):
+        stop("give CRATE::FN")
+    for name in sys.argv[1:]:
+        fn = functions(name.split("::")[0]).get(name) or stop(f"no function {name}")
+        print(f"{name}: parameters _1 to _{fn['params']}, {len(fn['locals'])} locals")
+        for i, local in enumerate(fn["locals"]):
+            print(f"  _{i} : {type_text(local['ty'])}{'' if local['home'] == 'ValueLocal' else '  (in memory)'}")
+        count, end = show(fn["body"], 0, 0)
+        if end != len(fn["body"]):
+            stop(f"the statements of {name} are not read to their end: the kit writes them in another form")
+        print(f"{count} statements")
 
 
 main()

@@ -51,6 +51,9 @@ def imported():
     return found - {""}
 
 
+FOREIGN = imported()
+
+
 def declared():
     """Own names: of definitions and fields in specs/ and records, and of lemmas."""
     words, lemmas = set(), set()
@@ -136,7 +139,7 @@ def respell(f, text, turned):
         if loose and m[0] in LEMMAS and not re.match(r"use Rattle\.[^{]*$", m.string[m.string.rfind("\n", 0, m.start()) + 1 : m.end()]):
             return m[0] + "_lem"
         plain = m[0].replace("-", "_")
-        if own and plain in RUST and (m.string[m.start() - 1 : m.start()] == "." or m[0] not in turned):
+        if own and plain in RUST and m[0] not in FOREIGN and (m.string[m.start() - 1 : m.start()] == "." or m[0] not in turned):
             return plain
         return turned.get(m[0], m[0])
 

@@ -2,7 +2,8 @@
 """uses.py FILE..: write the `use` lines of antt files anew: one line for each module, names sorted as declared, unused names left out.
 With ADD=1 in the environment, also names that are used and not imported.
 Names are looked up in specs/ and proofs/ of FILE's crate and of the crates that it stands on by crates.txt (for a file of definitions in
-specs/ alone), in the repository that FILE stands in: its root is what stands before the last /crates/ of FILE's path. Names of the kit keep the module they came from. Where two crates declare one name, look at the result."""
+specs/ alone), in the repository that FILE stands in: its root is what stands before the last /crates/ of FILE's path. Names of the kit keep the module they came from. Where two crates declare one name, look at the result.
+`rt tidy` leaves out unused names of a whole proved crate; this works on one file, proved or not, and moves names to where they are declared."""
 import re, sys, os, glob
 def decls(path):
     out=[]
@@ -26,13 +27,13 @@ index={}
 places={}
 def put(n,path):
     index.setdefault(n,path); places.setdefault(n,set()).add(path)
-EXT={'lib.Dec':'eqb ltb leb','borrow.Author.Tests':'lt-ltb le-ltb ltb-true ltb-false eqb-true eqb-false ne-eqb eq-eqb le-leb lt-leb leb-true leb-false not-true not-false',
-'mathlib.Core.Path':'_≡_ refl sym ap ap₂ _∙_ subst','mathlib.Core.Bool':'Bool true false cond _&&_ _||_ not false≢true','Prim.Native.Nat':'ℕ zero suc _+_ _-_ _*_ _/_ _%_ _^_ _<_ _≤_ min',
-'lib.ListN':'length getD take drop','native.Mathlib.Omega':'arith','lib.IntN':'ℤ pos negsuc natAbs _+ℤ_ _*ℤ_ +ℤ-idl +ℤ-idr','mathlib.Core.List':'List [] _∷_ _++_ map','lib.Count':'ones'}
+EXT={'lib.Dec':'eqb ltb leb','borrow.Author.Tests':'lt-ltb le-ltb ltb-true ltb-false eqb-true eqb-false ne_eqb eq-eqb le-leb lt-leb leb-true leb-false not-true not-false',
+'mathlib.Core.Path':'◌≡◌ refl sym ap ap₂ ◌∙◌ subst','mathlib.Core.Bool':'Bool true false cond ◌&&◌ ◌||◌ not false≢true','Prim.Native.Nat':'ℕ zero suc ◌+◌ ◌-◌ ◌*◌ ◌/◌ ◌%◌ ◌^◌ ◌<◌ ◌≤◌ min',
+'lib.ListN':'length get_or take drop','native.Mathlib.Omega':'arith','lib.IntN':'ℤ pos negsuc nat_abs ◌+ℤ◌ ◌*ℤ◌ +ℤ_idl +ℤ_idr','mathlib.Core.List':'List [] ◌∷◌ ◌++◌ map','lib.Count':'ones'}
 def stands_on(root,crate):
     for line in open(f'{root}/crates.txt'):
         name,colon,rest=line.split('#')[0].partition(':')
-        if colon and name.strip()==crate: return {crate,*rest.split()}
+        if colon and name.split()[0]==crate: return {crate,*rest.split()}
     return {crate}
 def build(root,crate,kinds):
     below=stands_on(root,crate)
@@ -43,7 +44,7 @@ def build(root,crate,kinds):
         for p in glob.glob(f'{root}/crates/*/{kind}/*.antt'):
             c=p.split('/')[-3]; mod=os.path.basename(p)[:-5]
             if mod=='Lib' or c not in below: continue
-            path = f'Rattle·{c}·{kind}.{kind}.{mod}' if c==crate else f'Rattle·{c}.{kind}.{mod}'
+            path = f'Rattle.{c}.{kind}.{mod}'
             # record fields are indented `  pub x :` inside records: drop them
             inrec=False
             for line in open(p):
@@ -59,8 +60,8 @@ def build(root,crate,kinds):
                     for x in l.split(' : ')[0].split(): put(x,path)
 names_re=lambda n: re.compile(r'(?<![^\s(){};,«»←])'+re.escape(n)+r'(?![^\s(){}.;,«»])')
 def used(n,body):
-    if '_' in n and n!='_':
-        parts=[x for x in n.split('_') if x]
+    if '◌' in n:
+        parts=[x for x in n.split('◌') if x]
         return bool(names_re(n).search(body)) or all(names_re(x).search(body) for x in parts)
     if n=='[]': return '[]' in body
     for m in names_re(n).finditer(body):
@@ -94,13 +95,15 @@ def fix(path, extra=()):
         base=n.split(' as ')[-1]
         if not used(base,text): continue
         if n not in have and re.search(r'(?m)^\s*(?:unfoldable |abbrev )*(?:pub )?'+re.escape(n)+r'(?: \{[^}]*\})? :',text): continue
-        if n in index and ' as ' not in n and mod.startswith('Rattle·') and mod not in places.get(n,()): mod=index[n]
-        if mod.endswith(me) and f'Rattle·{crate}·' in mod and ('specs' in mod)==('/specs/' in path): continue
+        own=re.fullmatch(r'Rattle\.(\w+)\.(specs|proofs)\.\w+',mod) # a file; what lies deeper is made by rattle
+        own=own and own[1] in stands_on(root,crate)
+        if n in index and ' as ' not in n and own and mod not in places.get(n,()): mod=index[n]
+        if mod.endswith(me) and mod.startswith(f'Rattle.{crate}.') and ('specs' in mod)==('/specs/' in path): continue
         got.setdefault(mod,[])
         if n not in got[mod]: got[mod].append(n)
         if mod not in order: order.append(mod)
     def key(m):
-        r=['mathlib','Prim','native','lib','mir','borrow','Rattle·laws']
+        r=['Rattle.std','mathlib','Prim','native','lib','mir','borrow','Rattle.laws']
         for k,x in enumerate(r):
             if m.startswith(x): return (k,0)
         return (len(r),0 if 'specs' in m else 1)

@@ -2,12 +2,13 @@
 """Prints how large the checked files of crates are, a measure of a check's cost that load does not move:
 python3 tools/walk_sizes.py [--rows N] [--reach PROGRAM] [CRATE..]
 
-From target/rlib, so run rt check before. Each crate named, or every one of crates.txt, has a line: the MB of its checked files, of
-them those of its functions' walks, and the MB of all crates below it, which each check of it copies. Under it stand its N largest
-walks (0 where none is asked for). A walk grows as a function's MIR statements times its MIR locals, and is checked in about 1.5 s a
-MB, one with many written slices in 3 to 4.
-With --reach, the walks that the program does not reach are told, in crates that it stands on: code that could stand elsewhere."""
+From crates/NAME/out/rlib, which `rt lib` in a crate's folder makes, and `rt check` in that of a crate above it. Each crate named, or every
+library of crates.txt, has a line: the MB of its checked files, of them those of its functions' walks, and the MB of all crates below it,
+which each check of it may read. Under it stand its N largest walks (0 where none is asked for). What `rt ci` leaves there has no walks.
+With --reach, the walks that the program does not reach are told, in crates that it stands on: code that could stand elsewhere. It asks
+`rt check` in the program's folder, so the program is proved first, where it has changed."""
 import argparse
+import json
 import os
 import re
 import subprocess
@@ -16,7 +17,7 @@ import sys
 sys.dont_write_bytecode = True
 from crates import read_crates  # it goes to the root of the tree
 
-WALK = re.compile(r"·proofs\.proofs\.(.*)\.Lts\.oantt$")
+WALK = re.compile(r"-proofs\.(.*)\.Lts$")
 
 
 def stop(text):
@@ -34,14 +35,27 @@ def below(name, needs):
     return found
 
 
+def is_library(name):
+    """Whether a crate is one that others may stand on: no program, and no archive."""
+    archives = re.findall(r"(?m)^(\w+) staticlib:", open("crates.txt", encoding="utf-8").read())
+    return name not in archives and not os.path.exists(f"crates/{name}/src/main.rt")
+
+
+def of_library(name, file):
+    """What a file of a built library says."""
+    path = f"crates/{name}/out/rlib/{name}.rlib/toolchain/{file}"
+    if not os.path.exists(path):
+        stop(f"{path} is not there: run rt lib in crates/{name}")
+    with open(path, encoding="utf-8") as it:
+        return it.read()
+
+
 def checked(name):
-    """The MB of each checked file of a library; a program leaves none."""
-    folder = f"target/rlib/{name}.rlib/toolchain/checked"
-    if not os.path.isdir(folder):
-        if os.path.exists(f"crates/{name}/src/main.rt"):
-            return {}
-        stop(f"{folder} is not there: run rt check {name}")
-    return {f: os.path.getsize(f"{folder}/{f}") / 1e6 for f in os.listdir(folder)}
+    """The MB of each checked file of a library; programs and archives leave none."""
+    if not is_library(name):
+        return {}
+    rows = (json.loads(line.rstrip(",")) for line in of_library(name, "checked.json").split("\n") if line.startswith("["))
+    return {module: size / 1e6 for module, _, size in rows}
 
 
 def walks(name):
@@ -50,16 +64,38 @@ def walks(name):
     return {m.group(1).replace(".", "::"): mb for m, mb in found if m}
 
 
-def reached(program):
-    """The functions that a program reaches: rt mir prints these alone."""
-    mir = subprocess.run(["rt", "mir", program], capture_output=True, text=True)
-    if mir.returncode != 0:
-        stop(f"rt mir {program} ended with status {mir.returncode}")
-    return set(re.findall(r'\(fn-def "([^"]*)"', mir.stdout))
+def called(tree):
+    """The functions that a piece of MIR names."""
+    if isinstance(tree, dict):
+        if isinstance(tree.get("Fn"), list):
+            yield tree["Fn"][0]
+        tree = tree.values()
+    elif not isinstance(tree, list):
+        return
+    for part in tree:
+        yield from called(part)
+
+
+def reached(program, needs):
+    """The functions of crates below it that a program reaches: those that it calls, and what these call."""
+    ran = subprocess.run(["rt", "check", "--list-calls"], cwd=f"crates/{program}", stdin=subprocess.DEVNULL, capture_output=True, text=True)
+    if ran.returncode != 0:
+        stop(f"rt check in crates/{program} ended with status {ran.returncode}")
+    calls = {}
+    for name in below(program, needs):
+        calls |= {f: set(called(body)) for f, body in json.loads(of_library(name, "mir.json"))}
+    todo = [word for line in ran.stdout.split("\n") if line.startswith(" ") for word in line.split() if word in calls]
+    found = set()
+    while todo:
+        f = todo.pop()
+        if f in calls and f not in found:
+            found.add(f)
+            todo.extend(calls[f])
+    return found
 
 
 def tell_unreached(program, needs):
-    functions = reached(program)
+    functions = reached(program, needs)
     rows = [(mb, f"{c}::{f}") for c in below(program, needs) for f, mb in walks(c).items() if f"{c}::{f}" not in functions]
     print(f"{program} does not reach {len(rows)} functions of crates that it stands on, {sum(mb for mb, _ in rows):.1f} MB of walks")
     for mb, f in sorted(rows, reverse=True):
@@ -80,7 +116,7 @@ def main():
         tell_unreached(asked.reach, needs)
         return
     total = 0.0
-    for name in asked.crates or needs:
+    for name in asked.crates or filter(is_library, needs):
         own, found = sum(checked(name).values()), walks(name)
         lower = sum(sum(checked(d).values()) for d in below(name, needs))
         total += own

@@ -2,7 +2,7 @@
 """evening.py: the rows of the table of docs/EVENING.md that are not those of crates/model/specs/Evening.antt, a line each."""
 import re
 
-FIELD = re.compile(r"pub (prices|amounts)-(\d+) : .* ≡ (.*) ∷ \[\]")
+FIELD = re.compile(r"pub (prices|amounts)_(\d+) : .* ≡ (.*) ∷ \[\]")
 
 
 def word(text):

@@ -7,7 +7,8 @@ definitions as they are, every case of Edges and those that are named; then for 
 Cases, Examples or ListExamples, the first that has it. Those of Run, Step, Local and Reconcile are tried together, one of each: none of
 these files cites another, so no case computes with two of them.
 With --whole each is tried alone, every case there is is computed, and its line names all that break. With TEXT only those are tried in
-whose first line it stands. A line for each begins with `ok` or `failed`; one of `failed` says why."""
+whose first line it stands. A line for each begins with `ok` or `failed`; one of `failed` says why.
+RT_JOBS says how many are tried at once; else it is as many as there are processors, four at most."""
 import concurrent.futures
 import itertools
 import os
@@ -23,7 +24,7 @@ TABLES = {
     "Edges": (EDGES, "crates/model/proofs/Edges.antt", "edges"),
     "Cases": ("crates/model/specs/Cases.antt", CASES, "cases"),
     "Examples": ("crates/model/specs/Cases.antt", CASES, "examples"),
-    "ListExamples": ("crates/model/specs/ListCases.antt", CASES, "list-examples"),
+    "ListExamples": ("crates/model/specs/ListCases.antt", CASES, "list_examples"),
 }
 APART = [f"crates/model/specs/{name}.antt" for name in ("Run", "Step", "Local", "Reconcile")]
 
@@ -125,20 +126,22 @@ class Tree:
             texts[proof] = cut(texts[proof], f"{name} = record {{", r"^\}$", answers)
             if not held:
                 texts[proof] = texts[proof].replace(f"pub {name} : {record}\nunfolding computed\n", "")
-                texts[proof] = re.sub(rf"^(use Rattle·model·specs\.specs\.\w+\.\{{.*)\b{record}\b(, )?(.*\}})", r"\1\3", texts[proof], flags=re.M)
+                texts[proof] = re.sub(rf"^(use Rattle\.model\.specs\.\w+\.\{{.*)\b{record}\b(, )?(.*\}})", r"\1\3", texts[proof], flags=re.M)
             texts[proof] = re.sub(r"^use .*\.\{\}\n", "", texts[proof].replace(", }", "}"), flags=re.M)
         for path, text in texts.items():
             write(f"{self.folder}/{path}", text)
 
     def check(self):
         """The cases that do not compute, and what is refused elsewhere."""
-        done = subprocess.run(["rt", "check", "model"], cwd=self.folder, capture_output=True, text=True, env=dict(os.environ, RT_JOBS="1", RT_CUT="400"))
+        crate = f"{self.folder}/crates/model"
+        done = subprocess.run(["rt", "check", "--jobs", "1"], cwd=crate, stdin=subprocess.DEVNULL, capture_output=True, text=True)
         said = done.stdout + done.stderr
         broken, elsewhere = [], []
-        for path, line in re.findall(r"^(/[^:\n]*):(\d+):\d+: error", said, flags=re.M):
-            row = text_of(path).split("\n")[int(line) - 1]
-            at = re.match(r"  (\S+) = refl;", row)
-            if at and os.path.basename(os.path.dirname(path)) == "proofs":
+        for path, line in re.findall(r"^(\.?/[^:\n]*):(\d+):\d+: error", said, flags=re.M):
+            path = os.path.normpath(os.path.join(crate, path))
+            rows = text_of(path).split("\n") if os.path.exists(path) else []
+            at = re.match(r"  (\S+) = refl;", rows[int(line) - 1]) if int(line) <= len(rows) else None
+            if at and os.path.dirname(path) == f"{crate}/proofs":
                 broken.append(at[1])
             else:
                 elsewhere.append(f"{os.path.relpath(path, self.folder)}:{line}")
@@ -194,7 +197,7 @@ def main():
     whole = "--whole" in words
     texts = [word for word in words if word != "--whole"]
     wrong = wrong_definitions("tests/edges/wrong.txt")
-    workers = min(os.cpu_count() or 1, 4)
+    workers = int(os.environ.get("RT_JOBS") or min(os.cpu_count() or 1, 4))
     trees = [Tree(f"{folder}/{i}", whole) for i in range(workers)]
     named = {case for _, case, _ in wrong}
     for told, case, _ in wrong:
@@ -215,14 +218,13 @@ def main():
         trees[i].hold(named.union(edges))
         broken, elsewhere = trees[i].check() if i == 0 else ([], [])
         told = " ".join(broken + elsewhere)
-        lines = [f"failed The definitions as they are: {told}" if told else "ok The definitions as they are."] if i == 0 else []
+        if i == 0:
+            print(f"failed The definitions as they are: {told}" if told else "ok The definitions as they are.", flush=True)
         for group in groups[i::workers]:
-            lines += trees[i].lines(group)
-        return lines
+            print("\n".join(trees[i].lines(group)), flush=True)
 
     with concurrent.futures.ThreadPoolExecutor(workers) as pool:
-        for lines in pool.map(part, range(workers)):
-            print("\n".join(lines))
+        list(pool.map(part, range(workers)))
 
 
 main()
