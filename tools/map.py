@@ -16,7 +16,7 @@ FILE_WALK = [
     ("settle", "input.rt", ["read_input", "settled_input"], "reads as much as the longest file has and a byte more; what is printed is that of the whole input"),
     ("settle", "statements.rt", ["settled", "put_job"], "from the bytes to the lines, whatever the bytes are"),
     ("file_blocks", "file.rt", ["file_refusal"], "1 to 9, in their order"),
-    ("file_blocks", "refusals.rt", ["shape_refusal", "header_refusal", "blocks_refusal"], "1, then the header, then each other block"),
+    ("file_blocks", "shape.rt", ["shape_refusal", "header_refusal", "blocks_refusal"], "1, then the header, then each other block"),
     ("file_blocks", "look.rt", ["names_refusal"], "7 and 8: the offers are sorted by number, and each tally's is looked up"),
     ("file_blocks", "twice.rt", ["job_refusal"], "9: the counts of bags are sorted by their keys"),
     ("file_blocks", "tables.rt", ["fill_offers", "fill_tallies"], "the tables of a run, the prices of all lists among them, filled from the accepted file, for settle and the reader alike"),
@@ -62,8 +62,8 @@ STEP_WALK = [
 
 # Who decides each refusal: numbers, what, crate, file and function, file and name of its definition.
 DECIDES = [
-    ("1", "length and block count of a file", "file_blocks", "refusals.rt", "shape_refusal", "format", "Refusals", "bad_length"),
-    ("2, 3, 5", "sums, kind, number, count and spare bytes of a block", "file_blocks", "refusals.rt", "block_refusal", "format", "Refusals", "block_refusal"),
+    ("1", "length and block count of a file", "file_blocks", "shape.rt", "shape_refusal", "format", "Refusals", "bad_length"),
+    ("2, 3, 5", "sums, kind, number, count and spare bytes of a block", "file_blocks", "shape.rt", "block_refusal", "format", "Refusals", "block_refusal"),
     ("4", "sizes of a header", "file_blocks", "plan.rt", "bad_sizes", "format", "Job", "bad_sizes"),
     ("6", "fields of records", "file_blocks", "records.rt", "bad_records", "format", "Refusals", "bad_record"),
     ("7, 8", "names of offers", "file_blocks", "look.rt", "names_refusal", "format", "Job", "shared"),

@@ -11,13 +11,14 @@ from contracts import functions, plain_code, present  # it goes to the root of t
 CRATES = (
     "slices", "file_bytes", "file_sums", "file_digits", "file_blocks", "file_codes", "writer_names", "writer_checks", "reader", "writer_bytes", "writer", "index_lookup", "index", "bag_keys", "bag_standing",
 )
+WORD = re.compile(r"\bu(?:16|32)::from_le_bytes\(\[(?:f\[at(?: \+ [123])?\](?:, )?)+\]\)")  # a word of a file, made of its two or four bytes
 BUFFER = re.compile(r"let mut (\w+)(?:: \[(\w+); \w+\])? = \[[\d_]+(\w*); \w+\];")
 
 
 def local_buffers(name, body):
     """(function, buffer, element) of each array that a body makes; one that is not made by `let mut` with a typed 0 is told."""
     found = []
-    rest = body
+    rest = WORD.sub("", body)
     for b in BUFFER.finditer(body):
         element = b.group(3) or b.group(2)
         if not re.fullmatch(r"[ui]\d+", element or ""):
@@ -43,7 +44,7 @@ def main():
     for path, text in present().items():
         if path.split("/")[1] not in CRATES or not path.endswith(".rt"):
             continue
-        for bytes_of_own in re.findall(r"\[[^\[\]]*u8\s*;[^\]]*\]", plain_code(text)):
+        for bytes_of_own in re.findall(r"(?<!&)\[[^\[\]]*u8\s*;[^\]]*\]", plain_code(text)):  # one that is lent is no buffer
             print(f"{path}: an array of bytes, {bytes_of_own}")
         for name, _, _, body in functions(path, text):
             made += local_buffers(name, body)

@@ -22,11 +22,19 @@ use Rattle.book_places.specs.Lists.{local_list, held_of}
 use Rattle.book_order.specs.Twice.{PackLent, pack_words, packed_tallies, packed_start}
 use Rattle.book.specs.Pack.{packed_number, packed_count}
 use Rattle.book.specs.Book.{book, refused, said, book_answer, BookTables, book_tables, book_lengths, written, given, booked}
-use Rattle.book.specs.declared.Answer.TheVariants.{Book, Refused}
+use Rattle.std.specs.Prelude.{Ok, Err}
+use Rattle.refusals.specs.declared.Refusal.{Refusal}
+use Rattle.refusals.specs.Numbers.{number_of}
+use Rattle.refusals.proofs.Numbers.{number_positive}
+use Rattle.book.specs.declared.BookSizes.{BookSizes}
 use Rattle.model.proofs.Handed.{handed_job}
 use Rattle.book_places.proofs.Modelled.{offers_are, grocers_are, has_place}
 use Rattle.book.proofs.Modelled.{packed_whole_lem, starts_model, total_model, grocers_model, counts_model}
 use Rattle.book.proofs.Ready.{box_in, grocer_owners_lem, grocer_in}
+
+-- The three numbers of a book.
+abbrev pub sizes_of : ℕ → ℕ → ℕ → BookSizes
+sizes_of l g n = record { offers = l; grocers = g; tallies = n }
 
 module _ (f : JobTables) (b : ℕ) (before : BookTables) where
   -- A refusal leaves every table.
@@ -37,9 +45,9 @@ module _ (f : JobTables) (b : ℕ) (before : BookTables) where
       sym (ap (λ (t : Bool). given (refused (suc n)) (cond t (written (job_of f) b before) before)) (ne_eqb (suc n) 0 h))
       ∙ ap (λ (k : ℕ). given (book_answer k (job_of f) b) (cond (eqb k 0) (written (job_of f) b before) before)) e
 
-  pub booked_refused : (n : ℕ) → n ≡ first_met (book_refusals f (book_lengths before) b) → (n ≡ 0 → ⊥) → given (said (Refused n)) before ≡ booked f b before
+  pub booked_refused : (r : Refusal) → number_of r ≡ first_met (book_refusals f (book_lengths before) b) → given (said (Err r)) before ≡ booked f b before
   unfolding said
-  booked_refused n e h = booked_none n e h
+  booked_refused r e = booked_none (number_of r) e (λ z. omega (arith, number_positive r))
 
   -- Where nothing is refused the book is written.
   pub booked_accepted : first_met (book_refusals f (book_lengths before) b) ≡ 0 → booked f b before ≡ given (book_answer 0 (job_of f) b) (written (job_of f) b before)
@@ -102,12 +110,12 @@ module _ (f : JobTables) (b : ℕ) (before : BookTables) where
           n before.packed_counts n-is
 
       -- The local matrix is written, the answer is its numbers,
-      written-handed : given (said (Book l g n)) after ≡ given (book_answer 0 j b) (written j b before)
+      written-handed : given (said (Ok (sizes_of l g n))) after ≡ given (book_answer 0 j b) (written j b before)
       unfolding said book_answer written
       written-handed = λ i. given (book (offers_number i) (grocers_number i) (tallies_number i)) (book_tables (offers_front i) (grocers_front i) (starts_front i) (packed_front i) (counts_front i))
 
       -- and as handed the job's tables hold the same job.
-      pub booked-written : given (said (Book l g n)) after ≡ booked f b before
+      pub booked-written : given (said (Ok (sizes_of l g n))) after ≡ booked f b before
       booked-written = written-handed ∙ ap (λ (j : Job). given (book_answer 0 j b) (written j b before)) same ∙ sym (booked_accepted ok)
 
 -- The boxes that stand, as a list.

@@ -1,34 +1,31 @@
 -- The lists, starts and packed tallies of a box, from tables without bags, are the model's. Assumes nothing.
-use mathlib.Core.Path.{◌≡◌, refl, sym, ap, ap₂, ◌∙◌, subst}
-use mathlib.Core.Bool.{Bool, true, false, ◌&&◌, not}
-use mathlib.Core.List.{List, [], ◌++◌}
-use Prim.Native.Nat.{ℕ, suc, ◌+◌, ◌<◌, ◌≤◌}
+use mathlib.Core.Path.{◌≡◌, sym, ap, ◌∙◌, subst}
+use mathlib.Core.Bool.{Bool, true, false, ◌&&◌}
+use mathlib.Core.List.{List, []}
+use Prim.Native.Nat.{ℕ, suc, ◌<◌, ◌≤◌}
 use native.Mathlib.Omega.{arith}
 use lib.Dec.{eqb}
 use lib.ListN.{length, get_or, length-map}
 use lib.IntN.{ℤ, pos}
-use borrow.Author.Tests.{eqb-true, eq-eqb, ne_eqb, lt-ltb}
-use Rattle.laws.specs.Below.{naturals, any, count, find, ascending}
-use Rattle.laws.proofs.Bools.{split, clash, and_one, and_l, and_true, and_comm, eqb_same}
+use borrow.Author.Tests.{ne_eqb}
+use Rattle.laws.specs.Below.{naturals, count, find, ascending}
+use Rattle.laws.proofs.Bools.{split, and_l, and_comm}
 use Rattle.laws.proofs.Sums.{sum_cong}
-use Rattle.laws.proofs.Below.{any_at, find_only, find_passes, find_none, any_cong, find_cong}
+use Rattle.laws.proofs.Below.{find_cong}
 use Rattle.laws.specs.Tables.{overwrite}
 use Rattle.laws.proofs.Tables.{overwrite_cong, overwrite_as, length_tabulate, get_d_tabulate, word_in_lem}
 use Rattle.laws.proofs.Ascending.{ascending_cong, length-ascending}
-use Rattle.model.specs.Job.{Job, held_by, needs, shares, price_word, total_word}
+use Rattle.model.specs.Job.{Job, held_by}
 use Rattle.model.specs.Tables.{JobTables, job_of}
 use Rattle.model.specs.LocalLists.{chained, local_offers, local_grocers, local_grocer}
 use Rattle.model.specs.Local.{of_offer, start, starts, packed, packed_grocers, packed_counts}
-use Rattle.book_sort.specs.Sort.{at, in_front, begin, sorted, place}
-use Rattle.book_places.specs.Lists.{local_list, held_of}
-use Rattle.book_keys.specs.Keys.{class_of, number_in, tally_key}
+use Rattle.book_sort.specs.Sort.{at, in_front}
+use Rattle.book_places.specs.Lists.{held_of}
+use Rattle.book_keys.specs.Keys.{number_in, tally_key}
 use Rattle.book_order.specs.Twice.{PackLent, pack_words, packed_part, packed_tallies, packed_start}
 use Rattle.book.specs.Pack.{packed_number, packed_count}
-use Rattle.model.proofs.Handed.{bare_stands}
 use Rattle.book_sort.proofs.Extra.{chained_cong, length-chained, map_at, count_keys}
-use Rattle.book_sort.proofs.Sorting.{length-sorted, sorted_at, sorted_in, sorted_once, place_in}
-use Rattle.book_sort.proofs.Placing.{begin_le}
-use Rattle.book_places.proofs.Modelled.{list_once, number_is, held_word, offers_are, grocers_are, has_place}
+use Rattle.book_places.proofs.Modelled.{list_once, number_is, held_word, offers_are, has_place}
 use Rattle.book_order.proofs.Packing.{at_front}
 use Rattle.book_order.proofs.Twice.{length_packed, packed_in}
 

@@ -9,7 +9,7 @@ use lib.ListN.{length}
 use borrow.Author.Tests.{lt-ltb, le-ltb, ltb-true, ltb-false}
 use Rattle.laws.specs.Checks.{first_met}
 use Rattle.laws.proofs.Bools.{or_true, or_false, or_off}
-use Rattle.laws.proofs.Checks.{none_of, unmet, none_met}
+use Rattle.laws.proofs.Checks.{none_of, unmet}
 use Rattle.recount.specs.Recount.{counted_twice}
 use Rattle.model.specs.Tables.{JobTables, counted_of, job_lengths, job_short, bags_short}
 use Rattle.model.specs.Ranges.{job_in_range}
@@ -99,14 +99,6 @@ module _ (f : JobTables) (n : BookLengths) (b : ℕ) (h : first_met (book_refusa
       let u = unmet (book_refusals f n b) refl h in
       let e = or_off (job_short f (job_lengths f) || bags_short f (job_lengths f)) (book_short f n) u.0 in
       ((or_off (job_short f (job_lengths f)) (bags_short f (job_lengths f)) e.0).0, e.1, not_off (job_in_range f) u.1.0, not_off (ltb b f.boxes) u.1.1.1.0)
-
-  -- The job's tables meet nothing.
-  pub none_refused : first_met (job_refusals f) ≡ 0
-  unfolding book_refusals job_refusals
-  none_refused =
-      let u = unmet (book_refusals f n b) refl h in
-      let e = or_off (job_short f (job_lengths f) || bags_short f (job_lengths f)) (book_short f n) u.0 in
-      none_met (job_refusals f) (e.0, (u.1.0, (u.1.1.0, tt)))
 
   pub in_range_lem : job_in_range f ≡ true
   in_range_lem = tests.2

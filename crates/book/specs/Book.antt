@@ -1,5 +1,5 @@
 -- The local book of a box as the call gives it: its answer, and the five lent tables.
-use Rattle.std.specs.Prelude.{cond, List, [], ℕ, zero, suc, eqb, length, get_or, ℤ, pos}
+use Rattle.std.specs.Prelude.{Result, Ok, Err, cond, List, [], ℕ, zero, suc, eqb, length, get_or, ℤ, pos}
 use Rattle.laws.specs.Tables.{overwrite}
 use Rattle.laws.specs.Checks.{first_met}
 use Rattle.laws.specs.Lent.{MutWords, MutSignedWords}
@@ -8,8 +8,9 @@ use Rattle.model.specs.Tables.{JobTables, job_tables, job_of}
 use Rattle.model.specs.LocalLists.{local_offers, local_grocers}
 use Rattle.model.specs.Local.{start, starts, packed_grocers, packed_counts, BookLengths, book_refusals}
 use Rattle.book_sort.specs.Sort.{in_front}
-use Rattle.book.specs.declared.Answer.{Answer}
-use Rattle.book.specs.declared.Answer.TheVariants.{Book, Refused}
+use Rattle.refusals.specs.declared.Refusal.{Refusal}
+use Rattle.refusals.specs.Numbers.{number_of}
+use Rattle.book.specs.declared.BookSizes.{BookSizes}
 
 -- What the call says: how many local offers, local grocers and tallies the box has, or the number of a refusal.
 pub data BookAnswer : Type 0 where
@@ -17,9 +18,9 @@ pub data BookAnswer : Type 0 where
   refused : (number : ℕ) → BookAnswer
 
 -- What each case of the answer says.
-unfoldable pub said : Answer → BookAnswer
-said (Book offers grocers tallies) = book offers grocers tallies
-said (Refused number) = refused number
+unfoldable pub said : Result BookSizes Refusal → BookAnswer
+said (Ok sizes) = book sizes.offers sizes.grocers sizes.tallies
+said (Err refusal) = refused (number_of refusal)
 
 -- What is due: the first refusal that is met, or the numbers of the box.
 unfoldable pub book_answer : ℕ → Job → ℕ → BookAnswer

@@ -9,7 +9,7 @@ ghost use Rattle.book_places.specs.Boxes.{ListsIn, HalfIn, HalfPlaces, NumbersIn
 
 use crate::{CLASSES, is_local};
 use book_sort::sort;
-use slices::casts::{index_of, word_of};
+use slices::casts::word_of;
 use slices::limits::{BOXES, GROCERS, OFFERS};
 use slices::{index_at, u16_at};
 
@@ -28,37 +28,7 @@ fn put_word(out: &mut [u16], i: usize, word: u16)
     }
 }
 
-// Of so many numbers of a list, from a place on, those that box b has, put from a start on. Where the next one goes. A number that the box does not
-// have is written over; behind the last word of `out` it is not written.
-fn take(
-    list: &[u16],
-    from: usize,
-    size: usize,
-    owners: &[u16],
-    words: &[u16],
-    b: u16,
-    start: usize,
-    out: &mut [u16],
-) -> usize
-    requires take_in { TakeIn list.now from size (length owners.now) (length words.now) × ((b < 16) × (start ≤ 8_000)) }
-    requires from_in_bounds { start + count size (takes owners.now words.now b list.now from) ≤ length out.old }
-    ensures value { result ≡ start + count size (takes owners.now words.now b list.now from) }
-    ensures by_index { (i : ℕ) → i < size → takes owners.now words.now b list.now from i ≡ true →
-        at out.new (start + count i (takes owners.now words.now b list.now from))
-        ≡ at list.now (from + i) }
-    ensures by_index_2 { (i : ℕ) → i < start → at out.new i ≡ at out.old i }
-{
-    let mut next = start;
-    for i in 0..size {
-        let x = u16_at(list, from + i);
-        put_word(out, next, x);
-        let number = index_of(x);
-        next += is_local(u16_at(owners, number), u16_at(words, number), b) as usize;
-    }
-    next
-}
-
-// The numbers of one owner: so many of a list, from a place on.
+// The numbers of one owner: so many of a list, from a place on. No `Span`, since an empty part has no place where it ends, and what is taken is counted.
 #[derive(Clone, Copy)]
 struct Part {
     from: usize,
@@ -76,80 +46,96 @@ fn group_owner(b: usize, d: usize) -> usize
     d - 1
 }
 
-// The numbers of the owner of group d of box b. The group of the box among the others is empty.
-fn group_part(starts: &[u16], b: usize, d: usize) -> Part
-    requires d_bound { (d ≤ 16) × ((b < 16) × (group_owner b d + 1 < length starts.now)) }
-    requires d_bound_2 { at starts.now (group_owner b d) ≤ at starts.now (group_owner b d + 1) }
-    ensures { (result.from ≡ at starts.now (group_owner b d)) × (result.size ≡ group_size starts.now b d) }
-{
-    let owner = group_owner(b, d);
-    let from = index_at(starts, owner);
-    if d == b + 1 {
-        return Part {
+// Numbers of k boxes sorted by owner: where those of each owner begin, and the numbers; and of each number its owner and its word of holders.
+#[derive(Clone, Copy)]
+struct Sorted<'a> {
+    k: u16,
+    starts: &'a [u16],
+    list: &'a [u16],
+    owners: &'a [u16],
+    words: &'a [u16],
+    ghost by_owner: { ByOwner k (at starts.now k) owners.now words.now starts.now list.now },
+}
+
+impl<'a> Sorted<'a> {
+    // Of a part of the numbers those that box b has, put from a start on. Where the next one goes. A number that the box does not have is written over;
+    // behind the last word of `out` it is not written.
+    fn take(&self, part: Part, b: u16, start: usize, out: &mut [u16]) -> usize
+        requires take_in { TakeIn self.now.list.now part.from part.size (length self.now.owners.now) (length self.now.words.now) ×
+            ((b < 16) × (start ≤ 8_000)) }
+        requires from_in_bounds { start + count part.size (takes self.now.owners.now self.now.words.now b self.now.list.now part.from) ≤ length out.old }
+        ensures value { result ≡ start + count part.size (takes self.now.owners.now self.now.words.now b self.now.list.now part.from) }
+        ensures by_index { (i : ℕ) → i < part.size → takes self.now.owners.now self.now.words.now b self.now.list.now part.from i ≡ true →
+            at out.new (start + count i (takes self.now.owners.now self.now.words.now b self.now.list.now part.from))
+            ≡ at self.now.list.now (part.from + i) }
+        ensures by_index_2 { (i : ℕ) → i < start → at out.new i ≡ at out.old i }
+    {
+        let mut next = start;
+        for i in 0..part.size {
+            let x = u16_at(self.list, part.from + i);
+            put_word(out, next, x);
+            let number = usize::from(x);
+            next += is_local(u16_at(self.owners, number), u16_at(self.words, number), b) as usize;
+        }
+        next
+    }
+
+    // The numbers of the owner of group d of box b. The group of the box among the others is empty.
+    fn group_part(&self, b: usize, d: usize) -> Part
+        requires { (b < self.now.k) × (d ≤ self.now.k) }
+        ensures { (result.from ≡ at self.now.starts.now (group_owner b d)) × (result.size ≡ group_size self.now.starts.now b d) }
+    {
+        let owner = group_owner(b, d);
+        let from = index_at(self.starts, owner);
+        if d == b + 1 {
+            return Part {
+                from: from,
+                size: 0,
+            };
+        }
+        Part {
             from: from,
-            size: 0,
-        };
+            size: index_at(self.starts, owner + 1) - from,
+        }
     }
-    Part {
-        from: from,
-        size: index_at(starts, owner + 1) - from,
-    }
-}
 
-// One box more: where its groups begin, and its numbers. Where the next box begins.
-fn put_box(
-    k: u16,
-    starts: &[u16],
-    list: &[u16],
-    owners: &[u16],
-    words: &[u16],
-    b: u16,
-    start: usize,
-    heads: &mut [u16],
-    out: &mut [u16],
-) -> usize
-    requires by_owner { ByOwner k (at starts.now k) owners.now words.now starts.now list.now × ((b < k) × (k * 18 ≤ length heads.old)) }
-    requires start_value { (start ≡ start_by (at starts.now k) owners.now words.now b)
-        × (start_by (at starts.now k) owners.now words.now k ≤ length out.old) }
-    ensures value { (result ≡ start_by (at starts.now k) owners.now words.now (b + 1))
-        × BoxTold k (at starts.now k) owners.now words.now b heads.new out.new }
-    ensures by_index { ((i : ℕ) → i < b * 18 → at heads.new i ≡ at heads.old i)
-        × ((i : ℕ) → i < start → at out.new i ≡ at out.old i) }
-{
-    let turn = index_of(b);
-    let row = turn * CLASSES;
-    heads[row] = word_of(start);
-    let groups = index_of(k) + 1;
-    let mut next = start;
-    for d in 0..groups {
-        let part = group_part(starts, turn, d);
-        next = take(list, part.from, part.size, owners, words, b, next, out);
-        let h = row + d + 1;
-        heads[h] = word_of(next);
+    // One box more: where its groups begin, and its numbers. Where the next box begins.
+    fn put_box(&self, b: u16, start: usize, heads: &mut [u16], out: &mut [u16]) -> usize
+        requires box_in { (b < self.now.k) × (self.now.k * 18 ≤ length heads.old) }
+        requires start_value { (start ≡ start_by (at self.now.starts.now self.now.k) self.now.owners.now self.now.words.now b)
+            × (start_by (at self.now.starts.now self.now.k) self.now.owners.now self.now.words.now self.now.k ≤ length out.old) }
+        ensures value { (result ≡ start_by (at self.now.starts.now self.now.k) self.now.owners.now self.now.words.now (b + 1))
+            × BoxTold self.now.k (at self.now.starts.now self.now.k) self.now.owners.now self.now.words.now b heads.new out.new }
+        ensures by_index { ((i : ℕ) → i < b * 18 → at heads.new i ≡ at heads.old i)
+            × ((i : ℕ) → i < start → at out.new i ≡ at out.old i) }
+    {
+        let turn = usize::from(b);
+        let row = turn * CLASSES;
+        heads[row] = word_of(start);
+        let groups = usize::from(self.k) + 1;
+        let mut next = start;
+        for d in 0..groups {
+            let part = self.group_part(turn, d);
+            next = self.take(part, b, next, out);
+            let h = row + d + 1;
+            heads[h] = word_of(next);
+        }
+        next
     }
-    next
-}
 
-// All boxes, one after the other. The number of words listed.
-fn put_lists(
-    k: u16,
-    starts: &[u16],
-    list: &[u16],
-    owners: &[u16],
-    words: &[u16],
-    heads: &mut [u16],
-    out: &mut [u16],
-) -> usize
-    requires by_owner { ByOwner k (at starts.now k) owners.now words.now starts.now list.now }
-    requires k_in_bounds { (k * 18 ≤ length heads.old) × (start_by (at starts.now k) owners.now words.now k ≤ length out.old) }
-    ensures { (result ≡ start_by (at starts.now k) owners.now words.now k)
-        × HeadsTold k (at starts.now k) owners.now words.now k heads.new out.new }
-{
-    let mut next: usize = 0;
-    for b in 0..k {
-        next = put_box(k, starts, list, owners, words, b, next, heads, out);
+    // All boxes, one after the other. The number of words listed.
+    fn put_lists(&self, heads: &mut [u16], out: &mut [u16]) -> usize
+        requires { (self.now.k * 18 ≤ length heads.old)
+            × (start_by (at self.now.starts.now self.now.k) self.now.owners.now self.now.words.now self.now.k ≤ length out.old) }
+        ensures { (result ≡ start_by (at self.now.starts.now self.now.k) self.now.owners.now self.now.words.now self.now.k)
+            × HeadsTold self.now.k (at self.now.starts.now self.now.k) self.now.owners.now self.now.words.now self.now.k heads.new out.new }
+    {
+        let mut next: usize = 0;
+        for b in 0..self.k {
+            next = self.put_box(b, next, heads, out);
+        }
+        next
     }
-    next
 }
 
 // The local lists of all boxes, of n numbers with these owners and words of holders: where each group of each box begins, CLASSES words a box, and the
@@ -168,8 +154,15 @@ pub fn all_lists(
 {
     let mut starts = [0u16; CLASSES];
     let mut list = [0u16; OFFERS];
-    sort(owners, n, index_of(k), &mut starts, &mut list);
-    word_of(put_lists(k, &starts, &list, owners, words, heads, out))
+    sort(owners, n, usize::from(k), &mut starts, &mut list);
+    let sorted = Sorted {
+        k: k,
+        starts: &starts,
+        list: &list,
+        owners: owners,
+        words: words,
+    };
+    word_of(sorted.put_lists(heads, out))
 }
 
 // Puts the place of each grocer from one place of a list up to another, by grocer from a word on.
@@ -184,96 +177,94 @@ fn put_numbers(list: &[u16], from: usize, to: usize, row: usize, table: &mut [u1
     }
 }
 
-// Puts the places of the boxes from a first up to a last, by box and grocer.
-fn put_rows(k: u16, first: u16, last: u16, heads: &[u16], grocers: &[u16], table: &mut [u16])
-    requires { RowsIn k heads.now grocers.now × (HalfIn k first last × (2_040 ≤ length table.old)) }
-    ensures { RowsTold k first last heads.now grocers.now table.new }
-{
-    for b in first..last {
-        let row = index_of(b) * CLASSES;
-        let from = index_at(heads, row);
-        let to = index_at(heads, row + (index_of(k) + 1));
-        put_numbers(grocers, from, to, index_of(b - first) * GROCERS, table);
-    }
-}
-
-// The row of box b in the table of a half, and some row for a box of the other half or of none.
-fn row_of(first: u16, last: u16, b: u16) -> u16
-    requires { last ≤ first + 8 }
-    ensures { (first ≤ b → b < last → result ≡ b - first) × (result < 8) }
-{
-    if (b < first) | (b >= last) {
-        return 0;
-    }
-    b - first
-}
-
-// The place of a tally of box b and grocer g: the old one for a box before the first, and 0 for a box behind the last. The table is read in either
-// case, so that no branch has to be foretold.
-fn place_at(first: u16, last: u16, b: u16, g: usize, old: u16, table: &[u16]) -> u16
-    requires { (last ≤ first + 8) × ((g < 255) × (2_040 ≤ length table.now)) }
-    ensures { result ≡ place_at first last table.now b g old }
-{
-    let row = index_of(row_of(first, last, b));
-    let told = u16_at(table, row * GROCERS + g);
-    if b < first {
-        return old;
-    }
-    if b >= last {
-        return 0;
-    }
-    told
-}
-
-// Puts the place of each of n tallies of the boxes from a first up to a last.
-fn look_places(
+// At most 8 of the boxes: those from a first up to a last.
+#[derive(Clone, Copy)]
+struct Half {
     first: u16,
     last: u16,
-    n: usize,
-    boxes: &[u16],
-    items: &[u16],
-    table: &[u16],
-    places: &mut [u16],
-)
-    requires last_bound { (last ≤ first + 8) × ((n ≤ length boxes.now) × ((n ≤ length items.now) × ((2_040 ≤ length table.now) × (n ≤ length places.old)))) }
-    requires by_index { (t : ℕ) → t < n → at items.now t < 255 }
-    ensures { places.new ≡ overwrite n (λ t. place_at first last table.now (at boxes.now t) (at items.now t)
-        (at places.old t)) places.old }
-{
-    for t in 0..n {
-        let place = place_at(
-            first,
-            last,
-            u16_at(boxes, t),
-            index_at(items, t),
-            places[t],
-            table,
-        );
-        places[t] = place;
-    }
+    ghost few: { last ≤ first + 8 },
 }
 
-// The places of the tallies of half the boxes, from where their groups begin and their grocers by place.
-fn put_half(
-    k: u16,
-    first: u16,
-    last: u16,
-    heads: &[u16],
-    grocers: &[u16],
-    n: usize,
-    boxes: &[u16],
-    items: &[u16],
-    places: &mut [u16],
-)
-    requires rows_in { RowsIn k heads.now grocers.now × (HalfIn k first last
-        × ((n ≤ length boxes.now) × ((n ≤ length items.now) × (n ≤ length places.old)))) }
-    requires by_index { (t : ℕ) → t < n → at items.now t < 255 }
-    ensures { HalfPlaces k first last n boxes.now items.now heads.now grocers.now
-        places.old places.new }
-{
-    let mut table = [0u16; HALF_PLACES];
-    put_rows(k, first, last, heads, grocers, &mut table);
-    look_places(first, last, n, boxes, items, &table, places);
+impl Half {
+    // Puts the places of these boxes, by box and grocer.
+    fn put_rows(self, k: u16, heads: &[u16], grocers: &[u16], table: &mut [u16])
+        requires { RowsIn k heads.now grocers.now × (HalfIn k self.first self.last × (2_040 ≤ length table.old)) }
+        ensures { RowsTold k self.first self.last heads.now grocers.now table.new }
+    {
+        for b in self.first..self.last {
+            let row = usize::from(b) * CLASSES;
+            let from = index_at(heads, row);
+            let to = index_at(heads, row + (usize::from(k) + 1));
+            put_numbers(
+                grocers,
+                from,
+                to,
+                usize::from(b - self.first) * GROCERS,
+                table,
+            );
+        }
+    }
+
+    // The row of box b in the table of these boxes, and some row for a box of the other half or of none.
+    fn row_of(self, b: u16) -> u16
+        ensures { (self.first ≤ b → b < self.last → result ≡ b - self.first) × (result < 8) }
+    {
+        if (b < self.first) | (b >= self.last) {
+            return 0;
+        }
+        b - self.first
+    }
+
+    // The place of a tally of box b and grocer g: the old one for a box before the first, and 0 for a box behind the last. The table is read in either
+    // case, so that no branch has to be foretold.
+    fn place_at(self, b: u16, g: usize, old: u16, table: &[u16]) -> u16
+        requires { (g < 255) × (2_040 ≤ length table.now) }
+        ensures { result ≡ place_at self.first self.last table.now b g old }
+    {
+        let row = usize::from(self.row_of(b));
+        let told = u16_at(table, row * GROCERS + g);
+        if b < self.first {
+            return old;
+        }
+        if b >= self.last {
+            return 0;
+        }
+        told
+    }
+
+    // Puts the place of each of n tallies of these boxes.
+    fn look_places(self, n: usize, boxes: &[u16], items: &[u16], table: &[u16], places: &mut [u16])
+        requires n_in_bounds { (n ≤ length boxes.now) × ((n ≤ length items.now) × ((2_040 ≤ length table.now) × (n ≤ length places.old))) }
+        requires by_index { (t : ℕ) → t < n → at items.now t < 255 }
+        ensures { places.new ≡ overwrite n (λ t. place_at self.first self.last table.now (at boxes.now t) (at items.now t)
+            (at places.old t)) places.old }
+    {
+        for t in 0..n {
+            places[t] = self.place_at(u16_at(boxes, t), index_at(items, t), places[t], table);
+        }
+    }
+
+    // The places of the tallies of these boxes, from where their groups begin and their grocers by place.
+    fn put_half(
+        self,
+        k: u16,
+        heads: &[u16],
+        grocers: &[u16],
+        n: usize,
+        boxes: &[u16],
+        items: &[u16],
+        places: &mut [u16],
+    )
+        requires rows_in { RowsIn k heads.now grocers.now × (HalfIn k self.first self.last
+            × ((n ≤ length boxes.now) × ((n ≤ length items.now) × (n ≤ length places.old)))) }
+        requires by_index { (t : ℕ) → t < n → at items.now t < 255 }
+        ensures { HalfPlaces k self.first self.last n boxes.now items.now heads.now grocers.now
+            places.old places.new }
+    {
+        let mut table = [0u16; HALF_PLACES];
+        self.put_rows(k, heads, grocers, &mut table);
+        self.look_places(n, boxes, items, &table, places);
+    }
 }
 
 // What the steps of a run look up: where each group of each box begins, CLASSES words a box, the grocer of each place, and the place of each
@@ -296,6 +287,14 @@ pub fn all_boxes(
 {
     all_lists(k, m, owners, words, heads, grocers);
     let half = k / 2;
-    put_half(k, 0, half, heads, grocers, n, boxes, items, places);
-    put_half(k, half, k, heads, grocers, n, boxes, items, places);
+    let before = Half {
+        first: 0,
+        last: half,
+    };
+    before.put_half(k, heads, grocers, n, boxes, items, places);
+    let behind = Half {
+        first: half,
+        last: k,
+    };
+    behind.put_half(k, heads, grocers, n, boxes, items, places);
 }

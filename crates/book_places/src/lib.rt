@@ -13,7 +13,7 @@ pub mod all;
 
 use book_keys::{classes, if_same, numbers};
 use book_sort::sort;
-use slices::casts::{index_of, word_of};
+use slices::casts::word_of;
 use slices::limits::{GROCERS, MAX_BOXES, OFFERS, TALLIES};
 use slices::{index_at, u16_at};
 
@@ -31,7 +31,8 @@ fn is_local(owner: u16, word: u16, b: u16) -> bool
     (owner == b) | slices::bits::has_bit(word, b)
 }
 
-// The numbers below n that box b has, ascending, are the first words of the list. How many. A number that it does not have is written over.
+// The numbers below n that box b has, ascending, are the first words of the list. How many. A number that it does not have is written over. (`take` of
+// `all` does so with numbers that stand in a list: to share it, a list of all numbers would be made here first.)
 fn gather(n: usize, owners: &[u16], words: &[u16], b: u16, list: &mut [u16]) -> usize
     requires n_bound { (n ≤ 500) × ((n ≤ length owners.now) × (n ≤ length words.now)) }
     requires b_bound { (b < 16) × (n ≤ length list.old) }
@@ -58,7 +59,8 @@ fn look_up(table: &[u16], l: usize, list: &mut [u16])
     }
 }
 
-// The local list of box b, of n numbers with these owners and words of holders, and where each class of it begins. Its length.
+// The local list of box b, of n numbers with these owners and words of holders, and where each class of it begins. Its length. (Owners and words are
+// no struct: callers hold the ones in a job's tables and make the others themselves, so each call would put one together.)
 pub fn box_list(
     k: u16,
     n: usize,
@@ -77,10 +79,10 @@ pub fn box_list(
     let mut list = [0u16; OFFERS];
     let l = gather(n, owners, words, b, &mut list);
     let keys = classes(owners, b, &list, l);
-    let m = index_of(k) + 1;
+    let m = usize::from(k) + 1;
     sort(&keys, l, m, starts, out);
     let all = starts[m];
-    look_up(&list, index_of(all), out);
+    look_up(&list, usize::from(all), out);
     all
 }
 
@@ -143,10 +145,7 @@ pub fn put_list(list: &[u16], l: usize, start: usize, out: &mut [u16])
     requires { (l ≤ length list.now) × ((start + l ≤ length out.old) × (start + l < 65536)) }
     ensures { out.new ≡ put_at list.now l start out.old }
 {
-    for i in 0..l {
-        let at = start + i;
-        out[at] = u16_at(list, i);
-    }
+    out[start..start + l].copy_from_slice(&list[..l]);
 }
 
 // A span of places: from one up to another.
@@ -173,14 +172,14 @@ pub fn box_span(
     ensures grocers_after { grocers.new ≡ put_at (list_by k m owners.now words.now b)
         (length (list_by k m owners.now words.now b)) (start_by m owners.now words.now b) grocers.old }
 {
-    let start = index_of(box_start(m, owners, words, b));
+    let start = usize::from(box_start(m, owners, words, b));
     let mut starts = [0u16; CLASSES];
     let mut list = [0u16; GROCERS];
     let l = box_list(k, m, owners, words, b, &mut starts, &mut list);
-    put_list(&list, index_of(l), start, grocers);
+    put_list(&list, usize::from(l), start, grocers);
     let next = group + 1;
-    let first = index_of(starts[group]);
-    let last = index_of(starts[next]);
+    let first = usize::from(starts[group]);
+    let last = usize::from(starts[next]);
     Span {
         from: start + first,
         to: start + last,
@@ -213,7 +212,7 @@ pub fn box_places(
     put_places(n, boxes, items, &by_grocer, b, start, places);
     let end = start + l;
     Span {
-        from: index_of(start),
-        to: index_of(end),
+        from: usize::from(start),
+        to: usize::from(end),
     }
 }

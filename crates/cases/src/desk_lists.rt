@@ -1,6 +1,6 @@
 // The desk told of more records than a list by value has, and of one bag over and over.
 use crate::show::{end, number, refused, text};
-use desk::{Answer, Tally};
+use desk::Tally;
 use std::io;
 
 // The end of a line of an amount.
@@ -9,7 +9,7 @@ fn owed(rt: &impl Print, z: i64) -> io::Result<()> {
     if z < 0 {
         text(rt, b"-")?;
     }
-    number(rt, settle_text::numbers::size(z))?;
+    number(rt, z.unsigned_abs())?;
     end(rt)
 }
 
@@ -23,12 +23,12 @@ fn records(rt: &impl Print, len: usize, name: &[u8], bag: u16, price: &[u32]) ->
         bag,
         revision: 1,
     };
-    let a = desk::reconcile_few([one; 1024], len, price, 2, 2, 0);
+    let answer = desk::reconcile_few([one; 1024], len, price, 2, 2, 0);
     number(rt, len as u64)?;
     text(rt, name)?;
-    match a {
-        Answer::Owed(z) => owed(rt, z),
-        Answer::Refused(n) => refused(rt, n),
+    match answer {
+        Ok(z) => owed(rt, z),
+        Err(refusal) => refused(rt, refusal),
     }
 }
 

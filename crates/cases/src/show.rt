@@ -1,4 +1,5 @@
 // Lines of text: what is written is compared with what should be.
+use refusals::Refusal;
 use std::io;
 
 // Bytes as they are.
@@ -33,18 +34,17 @@ pub fn end(rt: &impl Print) -> io::Result<()> {
 }
 
 // The end of a line that was refused.
-pub fn refused(rt: &impl Print, n: u16) -> io::Result<()> {
+pub fn refused(rt: &impl Print, refusal: Refusal) -> io::Result<()> {
     text(rt, b": refused")?;
-    next16(rt, n)?;
+    next16(rt, refusal.number())?;
     end(rt)
 }
 
 // The end of a line that was accepted, or refused.
-pub fn judged(rt: &impl Print, n: u16) -> io::Result<()> {
-    if n != 0 {
-        refused(rt, n)
-    } else {
-        text(rt, b": accepted\n")
+pub fn judged(rt: &impl Print, answer: Result<(), Refusal>) -> io::Result<()> {
+    match answer {
+        Ok(()) => text(rt, b": accepted\n"),
+        Err(refusal) => refused(rt, refusal),
     }
 }
 

@@ -1,7 +1,9 @@
 // Step requests on a job of one tally, which box 1 holds, of an offer of box 0.
-use crate::show::{refused, text};
+use crate::show::{judged, text};
+use slices::sizes::Sizes;
 use std::io;
-use step::Answer;
+use step_places::Step;
+use tables::Job;
 
 // The words of a state that sending the price from box 0 to box 1 changes; the others are fresh: own prices known, all else 0.
 #[derive(Clone, Copy)]
@@ -11,12 +13,25 @@ struct State {
     sent: u32,
 }
 
-// The line of an answer.
-fn answer_line(rt: &impl Print, name: &[u8], a: Answer) -> io::Result<()> {
-    text(rt, name)?;
-    match a {
-        Answer::Accepted => text(rt, b": accepted\n"),
-        Answer::Refused(n) => refused(rt, n),
+// The job: an offer of box 0 for 500, a grocer of box 1, and three coupons that box 1 counted.
+fn job<'a>(zero: &'a [u16], one: &'a [u16], price: &'a [u32], count: &'a [i32]) -> Job<'a> {
+    Job {
+        sizes: Sizes {
+            boxes: 2,
+            grocers: 1,
+            offers: 1,
+            tallies: 1,
+            lists: 0,
+        },
+        price,
+        offer_owner: zero,
+        grocer_owner: one,
+        tally_grocer: zero,
+        tally_box: one,
+        tally_offer: zero,
+        tally_count: count,
+        tally_bag: zero,
+        tally_revision: zero,
     }
 }
 
@@ -29,8 +44,6 @@ fn request(
     first: u16,
     second: u16,
 ) -> io::Result<State> {
-    let zero: &[u16] = &[0];
-    let one: &[u16] = &[1];
     let mut known = [500u32, 0u32];
     let mut price_transit = [0u32, s.transit];
     let mut working = [0i64; 2];
@@ -39,33 +52,23 @@ fn request(
     let mut done = [0u16; 24];
     done[1] = s.mark;
     let mut sent = [s.sent];
-    let answer = step::step(
-        2,
-        1,
-        1,
-        1,
-        0,
-        &[500],
-        zero,
-        one,
-        zero,
-        one,
-        zero,
-        &[3i32],
-        zero,
-        zero,
-        &mut known,
-        &mut price_transit,
-        &mut working,
-        &mut total_transit,
-        &mut statement,
-        &mut done,
-        &mut sent,
+    let mut state = tables::State {
+        known: &mut known,
+        price_transit: &mut price_transit,
+        working: &mut working,
+        total_transit: &mut total_transit,
+        statement: &mut statement,
+        done: &mut done,
+        sent: &mut sent,
+    };
+    let request = Step {
         kind,
         first,
         second,
-    );
-    answer_line(rt, name, answer)?;
+    };
+    let answer = step::step(&job(&[0], &[1], &[500], &[3]), &mut state, request);
+    text(rt, name)?;
+    judged(rt, answer)?;
     Ok(State {
         transit: price_transit[1],
         mark: done[1],

@@ -6,10 +6,8 @@ use std::num::{wrapping_add_u64, wrapping_sub_u64};
 // A sum with a price added n times.
 fn add_times(sum: u64, price: u64, n: u64) -> u64 {
     let mut s = sum;
-    let mut i: u64 = 0;
-    while i < n {
+    for _ in 0..n {
         s = wrapping_add_u64(s, price);
-        i += 1;
     }
     s
 }

@@ -1,4 +1,5 @@
 // The tables of messages of E by value, and their sums.
+use crate::evening::evening;
 use crate::show::{end, next32, text};
 use message_tables::message_tables;
 use message_tables::sums::{column_sum, row_sum, table_sum};
@@ -31,28 +32,10 @@ fn sum_line(rt: &impl Print, name: &[u8], table: [[u16; 16]; 16]) -> io::Result<
 
 // Both tables of E.
 pub fn sums(rt: &impl Print) -> io::Result<()> {
-    let none: &[u16] = &[0, 0, 0, 0];
     let row = [0u16; 16];
     let mut prices = [row; 16];
     let mut totals = [row; 16];
-    message_tables(
-        2,
-        2,
-        2,
-        4,
-        0,
-        &[500, 1_250],
-        &[0, 1],
-        &[1, 0],
-        &[0, 1, 0, 0],
-        &[0, 0, 1, 1],
-        &[0, 1, 1, 0],
-        &[3i32, 2i32, -1i32, 4i32],
-        none,
-        none,
-        &mut prices,
-        &mut totals,
-    );
+    let _ = message_tables(&evening(&[0; 4]), &mut prices, &mut totals);
     sum_line(rt, b"prices: rows", prices)?;
     sum_line(rt, b"totals: rows", totals)
 }

@@ -22,7 +22,7 @@ use Rattle.laws.proofs.Sums.{sum_cong}
 use Rattle.laws.proofs.Tables.{get_d_overwrite, overwrite_cong, overwrite_one, word_in_lem, cell_at}
 use Rattle.model.specs.Ranges.{around}
 use Rattle.cycle_history.specs.Store.{cycles, max_held, max_kept, max_next, Store, store, Given, given, next_of, held_of, sum_of}
-use Rattle.cycle_history.specs.Store.{gap, amount_of, leaving, held_after, sum_after, store_after, store_short, store_in_range, store_refusals, store_refusal, refused, store_answer}
+use Rattle.cycle_history.specs.Store.{gap, amount_of, leaving, held_after, sum_after, store_after, store_short, store_in_range, store_refusals, store_refusal, kept, refused, store_answer, stored, store_outcome}
 use Rattle.cycle_store.specs.Moved.{rows_leaving, sum_next, word_moved}
 
 -- The limits, less one.
@@ -151,8 +151,13 @@ module _ (m cycle : ℕ) (next : List ℕ) (held sums amounts : List ℤ) where
         given_in = not-false (around max_held m amounts) u.1.1.1.0;
       }
 
--- An answer that refuses says its number.
-pub refused_is : (n : ℕ) → (n ≡ 0 → ⊥) → refused n ≡ store_answer n
-unfolding store_answer
-refused_is zero h = absurd (h refl)
-refused_is (suc n) h = refl
+-- A call that is refused says the number and leaves the store as it was,
+pub refused_stored : (m : ℕ) (s : Store) (q : Given) (n : ℕ) → 0 < n → n ≡ store_refusal m s q → store_outcome (refused n) s ≡ stored m s q
+unfolding stored store_answer
+refused_stored m s q zero some e = absurd (omega arith)
+refused_stored m s q (suc n) some e = rw (← e, ne_eqb (suc n) 0 (λ z. omega arith))
+
+-- and one that is not leaves what is due.
+pub kept_stored : (m : ℕ) (s : Store) (q : Given) → 0 ≡ store_refusal m s q → store_outcome kept (store_after m s q) ≡ stored m s q
+unfolding stored store_answer
+kept_stored m s q e = rw (← e)

@@ -27,14 +27,12 @@ pub fn is_within(x: i64, least: i64, most: i64) -> bool
     (least <= x) & (x <= most)
 }
 
-// Whether the first n words of s are. There is no branch in the loop, so that several words are tested at once.
+// Whether the first n words of s are. There is no branch from word to word, so that several are tested at once.
 pub fn all_within(s: &[i64], n: usize, least: i64, most: i64) -> bool
     requires { n ≤ length s.now }
     ensures { (k : ℕ) → least ≡ negsuc k → most ≡ pos (suc k) → result ≡ around (suc k) n s.now }
 {
-    let mut all = true;
-    for i in 0..n {
-        all = all & is_within(s[i], least, most);
-    }
-    all
+    s[..n]
+        .iter()
+        .fold(true, |all, x| all & is_within(*x, least, most))
 }

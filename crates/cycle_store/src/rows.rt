@@ -28,10 +28,7 @@ pub fn move_rows(m: usize, k: usize, amounts: &[i64], held: &mut [i64])
     ensures { held.new ≡ overwrite (13 * m) (word_moved m (k * m) amounts.now held.old) held.old }
 {
     let back = k * m;
-    let mut p = CYCLES * m;
-    while p > 0 {
-        p -= 1;
-        let x = moved_word(m, back, p, amounts, held);
-        held[p] = x;
+    for p in (0..CYCLES * m).rev() {
+        held[p] = moved_word(m, back, p, amounts, held);
     }
 }

@@ -8,6 +8,7 @@ use mathlib.Core.Bool.{Bool, true, false, cond, ◌&&◌, not}
 use Prim.Native.Nat.{ℕ, zero, suc, ◌+◌, ◌<◌, ◌≤◌}
 use native.Mathlib.Numerals.{add-one}
 use native.Mathlib.Omega.{arith}
+use Rattle.std.specs.Prelude.{Result}
 use lib.ListN.{get_or, length, take, replicate, length-set, length-replicate}
 use lib.Seq.{take-suc, take_all, get_or-set_same, get_or-set_other}
 use lib.Dec.{eqb, ltb, leb}
@@ -16,7 +17,7 @@ use borrow.Author.Tests.{leb-true, ltb-false, eqb-true, eqb-false}
 use Rattle.laws.specs.Below.{sum, only, integers}
 use Rattle.laws.specs.Checks.{first_met}
 use Rattle.laws.specs.Limits.{max_grocers, max_offers, max_tallies, max_price, max_amount}
-use Rattle.laws.proofs.Bools.{split, and_l, and_r}
+use Rattle.laws.proofs.Bools.{split, clash, and_true, and_l, and_r}
 use Rattle.laws.proofs.Checks.{each_of}
 use Rattle.laws.proofs.Sums.{sum_cong}
 use Rattle.laws.proofs.Signed.{sum_abs, only_abs}
@@ -31,8 +32,8 @@ use Rattle.desk_records.specs.Head.{head_in_range, head_refusal}
 use Rattle.desk_records.specs.Rows.{share, record_key, with_number, Takes, Kept, Took}
 use Rattle.desk_records.proofs.Taking.{place_in, count_in, share_abs}
 use Rattle.desk_records.proofs.Amounts.{product_abs}
-use Rattle.desk.specs.declared.Tally.{Tally}
-use Rattle.desk.specs.declared.Answer.{Answer}
+use Rattle.desk_records.specs.declared.Tally.{Tally}
+use Rattle.refusals.specs.declared.Refusal.{Refusal}
 use Rattle.desk.specs.Records.{record_of, records_of, answer_of}
 use Rattle.desk.specs.Serial.{settled, Summable}
 
@@ -109,6 +110,15 @@ number_was : (m n k : ℕ) (r : TallyRecord) → with_number m n k r ≡ 0 → k
 unfolding with_number
 number_was m n k r z = split (eqb k 0) (λ e. eqb-true k 0 e) (λ e. rw e at z)
 
+-- Records in range: so are the first of them.
+ranged_take : (m n i : ℕ) (ts : List Tally) → records_in_range m n (records_of ts) ≡ true → records_in_range m n (records_of (take i ts)) ≡ true
+unfolding records_in_range records_of
+ranged_take m n zero ts h = refl
+ranged_take m n (suc i) [] h = refl
+ranged_take m n (suc i) (t ∷ ts) h =
+    and_true (and_l (record_in_range m n (record_of t)) (records_in_range m n (records_of ts)) h)
+    (ranged_take m n i ts (and_r (record_in_range m n (record_of t)) (records_in_range m n (records_of ts)) h))
+
 -- What no refusal before any record says.
 record Opened (n : ℕ) (ps : List ℕ) (len : ℕ) : Type 0 where
   long : n ≤ length ps
@@ -166,18 +176,27 @@ unfolding only
 only_both true b x = refl
 only_both false b x = refl
 
--- The refusals in order, by their tests: short prices, what looks at no record (x and w), the records, and 9.
-in_order : (b x w q : Bool) (k : ℕ) (c : Counted) (shares : List ℤ) (amount : ℤ) → k ≡ number_of (cond b 20 (cond (x && w) 0 21)) q →
-    (k ≡ 0 → sum integers c.size (λ u. only integers (stands c u) (get_or shares u (pos 0))) ≡ amount) →
-    answer_of (settled k c shares) ≡ desk_answer (cond b 20 (cond (not (x && q && w)) 21 (cond (counted_twice c) 9 0))) amount
+-- The refusals in order, by their tests: short prices, what looks at no record (x and w), the records (q, and q' of those looked at), and 9.
+in_order : (b x w q : Bool) (c : Counted) (shares : List ℤ) (amount : ℤ) → 0 ≡ number_of (cond b 20 (cond (x && w) 0 21)) q →
+    sum integers c.size (λ u. only integers (stands c u) (get_or shares u (pos 0))) ≡ amount →
+    answer_of (settled c shares) ≡ desk_answer (cond b 20 (cond (not (x && q && w)) 21 (cond (counted_twice c) 9 0))) amount
 unfolding number_of settled answer_of desk_answer
-in_order true x w q k c shares amount e h = rw e
-in_order false false w q k c shares amount e h = rw e
-in_order false true false true k c shares amount e h = rw e
-in_order false true false false k c shares amount e h = rw e
-in_order false true true false k c shares amount e h = rw e
-in_order false true true true k c shares amount e h =
-    rw e (split (counted_twice c) (λ f. rw f) (λ f. rw f (ap owed (h e))))
+in_order true x w q c shares amount e h = absurd (omega arith)
+in_order false false w q c shares amount e h = absurd (omega arith)
+in_order false true false q c shares amount e h = absurd (omega arith)
+in_order false true true false c shares amount e h = absurd (omega arith)
+in_order false true true true c shares amount e h = split (counted_twice c) (λ f. rw f) (λ f. rw f (ap owed h))
+
+stopped : (b x w q q' twice : Bool) (k : ℕ) (amount : ℤ) → k ≡ number_of (cond b 20 (cond (x && w) 0 21)) q' → (q ≡ true → q' ≡ true) → 0 < k →
+    refused k ≡ desk_answer (cond b 20 (cond (not (x && q && w)) 21 (cond twice 9 0))) amount
+unfolding number_of desk_answer
+stopped true x w q q' twice k amount e h l = rw e
+stopped false false w q q' twice k amount e h l = rw e
+stopped false true false true q' twice k amount e h l = rw e
+stopped false true false false q' twice k amount e h l = rw e
+stopped false true true q true twice k amount e h l = absurd (omega arith)
+stopped false true true false false twice k amount e h l = rw e
+stopped false true true true false twice k amount e h l = absurd (clash (h refl) refl)
 
 -- ---- what the walk cites
 module _ (ts : List Tally) (ps : List ℕ) (m n g : ℕ) where
@@ -222,6 +241,15 @@ module _ (ts : List Tally) (ps : List ℕ) (m n g : ℕ) where
     rows = λ z. let z' = number_was m n k (record_of (get_or ts i none)) (sym p.number ∙ z) in
         rows_next ts ps g i keys keys' shares shares' (taken_takes i k keys shares l t z').few (t.rows z') (p.kept z);
   }
+
+  -- A refusal after i records is the model's.
+  pub taken_stopped : (i k : ℕ) (keys : List ℕ) (shares : List ℤ) → Taken i k keys shares → 0 < k → refused k ≡ reconciled m n g ps (records_of ts)
+  unfolding reconciled desk_refusals first_met head_refusal head_in_range
+  taken_stopped i k keys shares t l =
+      rw (length-records ts)
+      (stopped (ltb (length ps) n) ((leb 1 m && leb m max_grocers) && (leb 1 n && leb n max_offers) && up_to max_price n ps && leb (length ts) max_tallies) (ltb g m)
+      (records_in_range m n (records_of ts)) (records_in_range m n (records_of (take i ts))) (counted_twice (counted_records (records_of ts))) k
+      (serial_amount ps g (standing_records (records_of ts))) t.number (ranged_take m n i ts) l)
 
   module _ (i k : ℕ) (keys : List ℕ) (shares : List ℤ) (e : i + 0 ≡ length ts) (t : Taken i k keys shares) where
     all_taken_lem : take i ts ≡ ts
@@ -277,13 +305,13 @@ module _ (ts : List Tally) (ps : List ℕ) (m n g : ℕ) where
         ∙ sym (serial_standing ps g (records_of ts))
 
     -- The answer is the model's.
-    pub taken_last : (r : Answer) → r ≡ settled k (counted_records (records_of ts)) shares → answer_of r ≡ reconciled m n g ps (records_of ts)
+    pub taken_last : (r : Result ℤ Refusal) → k ≡ 0 → r ≡ settled (counted_records (records_of ts)) shares → answer_of r ≡ reconciled m n g ps (records_of ts)
     unfolding reconciled desk_refusals first_met head_refusal head_in_range
-    taken_last r said =
+    taken_last r z said =
         ap answer_of said
         ∙ in_order (ltb (length ps) n) ((leb 1 m && leb m max_grocers) && (leb 1 n && leb n max_offers) && up_to max_price n ps && leb (length ts) max_tallies) (ltb g m)
-        (records_in_range m n (records_of ts)) k (counted_records (records_of ts)) shares (serial_amount ps g (standing_records (records_of ts)))
-        (t.number ∙ ap (λ (l : List Tally). number_of (head_refusal m n g ps (length ts)) (records_in_range m n (records_of l))) all_taken_lem) stands_sum
+        (records_in_range m n (records_of ts)) (counted_records (records_of ts)) shares (serial_amount ps g (standing_records (records_of ts)))
+        (sym z ∙ t.number ∙ ap (λ (l : List Tally). number_of (head_refusal m n g ps (length ts)) (records_in_range m n (records_of l))) all_taken_lem) (stands_sum z)
         ∙ ap (λ (x : ℕ). desk_answer (cond (ltb (length ps) n) 20
         (cond (not (((leb 1 m && leb m max_grocers) && (leb 1 n && leb n max_offers) && up_to max_price n ps && leb x max_tallies) && records_in_range m n (records_of ts) && ltb g m)) 21
         (cond (counted_twice (counted_records (records_of ts))) 9 0))) (serial_amount ps g (standing_records (records_of ts)))) (sym (length-records ts))

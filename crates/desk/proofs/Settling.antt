@@ -2,35 +2,28 @@
 use mathlib.Core.Path.{◌≡◌, refl, sym, ap, ◌∙◌}
 use mathlib.Core.List.{List}
 use mathlib.Core.Bool.{Bool, true, false, cond}
-use Prim.Native.Nat.{ℕ, zero, suc, ◌<◌, ◌≤◌}
-use native.Mathlib.Omega.{arith}
+use Prim.Native.Nat.{ℕ}
 use lib.ListN.{get_or, replicate}
 use lib.Dec.{eqb}
 use lib.IntN.{ℤ, pos}
+use Rattle.std.specs.Prelude.{Ok, Err}
 use Rattle.laws.specs.Below.{sum, only, integers}
 use Rattle.laws.proofs.Loops.{get_d_zeros}
 use Rattle.laws.proofs.Sums.{sum_cong}
 use Rattle.recount.specs.Recount.{Counted, stands, counted_twice}
 use Rattle.index.specs.Bags.{Struck}
 use Rattle.desk_records.specs.Rows.{unmarked}
-use Rattle.desk.specs.declared.Answer.TheVariants.{Owed, Refused}
+use Rattle.refusals.specs.declared.Refusal.TheVariants.{CountedTwice}
 use Rattle.desk.specs.Serial.{settled}
 
-pub refused_before : (k : ℕ) (c : Counted) (shares : List ℤ) → 0 < k → Refused k ≡ settled k c shares
+pub refused_twice : (c : Counted) (shares : List ℤ) → counted_twice c ≡ true → Err CountedTwice ≡ settled c shares
 unfolding settled
-refused_before zero c shares l = absurd (omega arith)
-refused_before (suc k) c shares l = refl
+refused_twice c shares e = rw e
 
-pub refused_twice : (k : ℕ) (c : Counted) (shares : List ℤ) → k ≤ 0 → counted_twice c ≡ true → Refused 9 ≡ settled k c shares
+pub owed_sum : (c : Counted) (shares : List ℤ) (z : ℤ) → counted_twice c ≡ false →
+    z ≡ sum integers c.size (λ t. only integers (stands c t) (get_or shares t (pos 0))) → Ok z ≡ settled c shares
 unfolding settled
-refused_twice zero c shares l e = rw e
-refused_twice (suc k) c shares l e = absurd (omega arith)
-
-pub owed_sum : (k : ℕ) (c : Counted) (shares : List ℤ) (z : ℤ) → k ≤ 0 → counted_twice c ≡ false →
-    z ≡ sum integers c.size (λ t. only integers (stands c t) (get_or shares t (pos 0))) → Owed z ≡ settled k c shares
-unfolding settled
-owed_sum zero c shares z l e s = rw e (ap Owed s)
-owed_sum (suc k) c shares z l e s = absurd (omega arith)
+owed_sum c shares z e s = rw e (ap Ok s)
 
 -- Marks of 16 on superseded counts: the shares without a mark are those that stand.
 pub marks_stand : (c : Counted) (n : ℕ) (marks : List ℕ) (shares : List ℤ) → c.size ≡ n → Struck c n (replicate 1000 0) marks →

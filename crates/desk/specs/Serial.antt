@@ -1,15 +1,14 @@
 -- The answer once every record is taken.
-use Rattle.std.specs.Prelude.{◌≡◌, List, cond, ℕ, zero, suc, ◌<◌, ◌≤◌, get_or, length, ℤ, pos, nat_abs}
+use Rattle.std.specs.Prelude.{◌≡◌, List, cond, ℕ, ◌<◌, ◌≤◌, get_or, length, ℤ, pos, nat_abs, Result, Ok, Err}
 use Rattle.laws.specs.Below.{sum, only, integers}
 use Rattle.recount.specs.Recount.{Counted, stands, counted_twice}
-use Rattle.desk.specs.declared.Answer.{Answer}
-use Rattle.desk.specs.declared.Answer.TheVariants.{Owed, Refused}
+use Rattle.refusals.specs.declared.Refusal.{Refusal}
+use Rattle.refusals.specs.declared.Refusal.TheVariants.{CountedTwice}
 
--- The answer by the number of the first refusal so far: where there is none, 9, or the sum of the shares of counts that stand.
-unfoldable pub settled : ℕ → Counted → List ℤ → Answer
-settled zero c shares =
-    cond (counted_twice c) (Refused 9) (Owed (sum integers c.size (λ t. only integers (stands c t) (get_or shares t (pos 0)))))
-settled (suc k) c shares = Refused (suc k)
+-- The answer where no record is refused: 9, or the sum of the shares of counts that stand.
+unfoldable pub settled : Counted → List ℤ → Result ℤ Refusal
+settled c shares =
+    cond (counted_twice c) (Err CountedTwice) (Ok (sum integers c.size (λ t. only integers (stands c t) (get_or shares t (pos 0)))))
 
 -- What the sum asks: keys and shares of at most 1,000 records, each share one of a record in range.
 pub record Summable (len : ℕ) (keys : List ℕ) (shares : List ℤ) : Type 0 where

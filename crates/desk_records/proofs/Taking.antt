@@ -9,7 +9,7 @@ use lib.ListN.{get_or, length}
 use lib.IntN.{ℤ, pos, nat_abs, ◌+ℤ◌, ◌*ℤ◌, +ℤ_idl}
 use mir.Syntax.{w64}
 use mir.Val.{of_z, to_z}
-use borrow.Author.Tests.{leb-true, ltb-true, eq-eqb, ne_eqb}
+use borrow.Author.Tests.{leb-true, ltb-true, eq-eqb}
 use Rattle.laws.specs.Limits.{max_boxes, max_price, max_count, max_amount}
 use Rattle.laws.specs.Below.{only, integers}
 use Rattle.laws.proofs.Checks.{each_of}
@@ -78,10 +78,6 @@ unmarked_abs t marks shares few small =
 
 -- The number by the tests that led there.
 module _ (m n k : ℕ) (r : TallyRecord) where
-  pub number_stays : 0 < k → k ≡ with_number m n k r
-  unfolding with_number
-  number_stays l = rw (ne_eqb k 0 (λ e. omega arith))
-
   module _ (none : k ≤ 0) where
     nothing : eqb k 0 ≡ true
     nothing = eq-eqb k 0 (omega arith)

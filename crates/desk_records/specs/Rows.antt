@@ -4,10 +4,15 @@ use Rattle.laws.specs.Below.{only, integers, sum}
 use Rattle.laws.specs.Limits.{max_price}
 use Rattle.model.specs.Ranges.{up_to}
 use Rattle.model.specs.Reconcile.{TallyRecord, record_in_range}
+use Rattle.desk_records.specs.declared.Tally.{Tally}
 
 -- A record by its fields: grocer, box, place, count, bag and revision.
 abbrev pub tally_record : ℕ → ℕ → ℕ → ℤ → ℕ → ℕ → TallyRecord
 tally_record g b o c s v = record { grocer = g; tally_box = b; place = o; count = c; bag = s; revision = v }
+
+-- A lent record by its fields.
+abbrev pub record_of : Tally → TallyRecord
+record_of t = tally_record t.grocer t.tally_box t.place t.count t.bag t.revision
 
 -- What one record adds to the amount of grocer g.
 abbrev pub share : List ℕ → ℕ → TallyRecord → ℤ

@@ -2,28 +2,54 @@
 #![tactic(auto)]
 
 ghost use Rattle.std.specs.Prelude.{◌≡◌, ℕ, ◌≤◌, ◌<◌, length, get_or, eqb, pos, nat_abs, ◌+ℤ◌, ◌*ℤ◌};
+ghost use Rattle.refusals.specs.Numbers.{number};
 ghost use Rattle.laws.specs.Below.{only, integers};
 ghost use Rattle.laws.specs.Limits.{max_price, max_count, max_amount};
 ghost use Rattle.model.specs.Reconcile.{record_in_range};
 ghost use Rattle.desk_records.specs.Head.{head_refusal};
-ghost use Rattle.desk_records.specs.Rows.{tally_record, share, Takes, Took, unmarked};
+ghost use Rattle.desk_records.specs.Rows.{record_of, share, Takes, Took, unmarked};
 
 use bag_keys::count_key;
 use job_ranges::{is_count, upto32};
+use refusals::Refusal;
 use slices::limits::{MAX_BOXES, MAX_GROCERS, MAX_OFFERS, MAX_PRICE, TALLIES};
 
+// A tally record: the place is that of its offer.
+#[derive(Clone, Copy)]
+pub struct Tally {
+    pub grocer: u16,
+    pub tally_box: u16,
+    pub place: u16,
+    pub count: i32,
+    pub bag: u16,
+    pub revision: u16,
+}
+
+// What the desk is asked: prices, how many grocers and offers there are, and the grocer wanted.
+#[derive(Clone, Copy)]
+pub struct Asked<'a> {
+    pub price: &'a [u32],
+    pub grocers: u16,
+    pub offers: u16,
+    pub wanted: u16,
+}
+
+// What is kept of records, by their places in the list: the keys of their counts, and what each adds to the amount of the grocer wanted.
+#[derive(Drop)]
+pub struct Entries {
+    pub keys: [u64; TALLIES],
+    pub shares: [i64; TALLIES],
+}
+
 // Whether a record is in range, by its fields.
-fn record_in_range(
-    grocer: u16,
-    tally_box: u16,
-    place: u16,
-    count: i32,
-    grocers: u16,
-    offers: u16,
-) -> bool
-    ensures { (bag revision : ℕ) → result ≡ record_in_range grocers offers (tally_record grocer tally_box place count bag revision) }
+#[tactic(auto, unfolding(model::specs::Reconcile::record_in_range))]
+fn record_in_range(tally: Tally, grocers: u16, offers: u16) -> bool
+    ensures { result ≡ record_in_range grocers offers (record_of tally) }
 {
-    (grocer < grocers) & (tally_box < MAX_BOXES) & (place < offers) & is_count(count)
+    (tally.grocer < grocers)
+        & (tally.tally_box < MAX_BOXES)
+        & (tally.place < offers)
+        & is_count(tally.count)
 }
 
 // A sum with count × price added.
@@ -31,70 +57,62 @@ fn add_product(sum: i64, count: i32, price: u32) -> i64
     requires { (nat_abs sum ≤ max_amount) × (nat_abs count ≤ max_count) × (price ≤ max_price) }
     ensures { result ≡ sum +ℤ (count *ℤ pos price) }
 {
-    sum + (count as i64) * (price as i64)
+    sum + i64::from(count) * i64::from(price)
 }
 
-// The refusal before any record, by what looks at none; 0 where there is none.
-pub fn head_refusal(len: usize, price: &[u32], grocers: u16, offers: u16, wanted: u16) -> u16
-    ensures { result ≡ head_refusal grocers offers wanted price.now len }
+// The refusal before any of len records, by what looks at none.
+#[tactic(auto, unfolding(crate::specs::Head::head_refusal, crate::specs::Head::head_in_range))]
+pub fn head_refusal(len: usize, asked: &Asked) -> Result<(), Refusal>
+    ensures { number result ≡ head_refusal asked.now.grocers asked.now.offers asked.now.wanted asked.now.price.now len }
 {
-    let n = offers as usize;
-    if price.len() < n {
-        return 20;
+    let n = usize::from(asked.offers);
+    if asked.price.len() < n {
+        return Err(Refusal::LentShort);
     }
-    let sizes = ((1 <= grocers) & (grocers <= MAX_GROCERS))
-        & ((1 <= offers) & (offers <= MAX_OFFERS));
-    if sizes & upto32(price, n, MAX_PRICE) & (len <= TALLIES) & (wanted < grocers) {
-        return 0;
+    let sizes = ((1 <= asked.grocers) & (asked.grocers <= MAX_GROCERS))
+        & ((1 <= asked.offers) & (asked.offers <= MAX_OFFERS));
+    if sizes
+        & upto32(asked.price, n, MAX_PRICE)
+        & (len <= TALLIES)
+        & (asked.wanted < asked.grocers)
+    {
+        return Ok(());
     }
-    21
+    Err(Refusal::OutOfRange)
 }
 
 // What a record adds to the amount of the grocer wanted: count × price, or nothing where it is of another grocer.
-fn share_of(grocer: u16, place: u16, count: i32, price: &[u32], wanted: u16) -> i64
-    requires { (place < length price.now) × (get_or price.now place 0 ≤ max_price) × (nat_abs count ≤ max_count) }
-    ensures { (tally_box bag revision : ℕ) → result ≡ share price.now wanted (tally_record grocer tally_box place count bag revision) }
+fn share_of(tally: Tally, price: &[u32], wanted: u16) -> i64
+    requires { (tally.place < length price.now) × (get_or price.now tally.place 0 ≤ max_price) × (nat_abs tally.count ≤ max_count) }
+    ensures { result ≡ share price.now wanted (record_of tally) }
 {
-    if grocer != wanted {
+    if tally.grocer != wanted {
         return 0;
     }
-    let at = place as usize;
-    add_product(0, count, price[at])
+    add_product(0, tally.count, price[usize::from(tally.place)])
 }
 
-// Record i is looked at, if nothing is refused before it: in range its key and its share are kept, otherwise it is 21.
+// Record i is looked at: in range its key and its share are kept, otherwise it is 21.
 pub fn take_record(
-    number: u16,
     i: usize,
-    grocer: u16,
-    tally_box: u16,
-    place: u16,
-    count: i32,
-    bag: u16,
-    revision: u16,
-    price: &[u32],
-    grocers: u16,
-    offers: u16,
-    wanted: u16,
-    keys: &mut [u64; TALLIES],
-    shares: &mut [i64; TALLIES],
-) -> u16
-    requires { number ≡ 0 → Takes offers price.now i }
-    ensures { Took price.now grocers offers wanted number i (tally_record grocer tally_box place count bag revision)
-        keys.old keys.new shares.old shares.new result }
+    tally: Tally,
+    asked: &Asked,
+    entries: &mut Entries,
+) -> Result<(), Refusal>
+    requires { Takes asked.now.offers asked.now.price.now i }
+    ensures { Took asked.now.price.now asked.now.grocers asked.now.offers asked.now.wanted 0 i (record_of tally)
+        entries.old.keys entries.new.keys entries.old.shares entries.new.shares (number result) }
 {
-    if number > 0 {
-        return number;
+    if !record_in_range(tally, asked.grocers, asked.offers) {
+        return Err(Refusal::OutOfRange);
     }
-    if record_in_range(grocer, tally_box, place, count, grocers, offers) {
-        keys[i] = count_key(grocer, place, bag, revision);
-        shares[i] = share_of(grocer, place, count, price, wanted);
-        return 0;
-    }
-    21
+    entries.keys[i] = count_key(tally.grocer, tally.place, tally.bag, tally.revision);
+    entries.shares[i] = share_of(tally, asked.price, asked.wanted);
+    Ok(())
 }
 
 // A sum with a share added, unless it is marked.
+#[tactic(auto, unfolding(laws::specs::Below::only, laws::specs::Below::integers))]
 fn add_unmarked(sum: i64, share: i64, mark: u16) -> i64
     requires { (nat_abs sum ≤ max_amount) × (nat_abs share ≤ max_amount) }
     ensures { result ≡ sum +ℤ only integers (eqb mark 0) share }
@@ -105,17 +123,15 @@ fn add_unmarked(sum: i64, share: i64, mark: u16) -> i64
     sum + share
 }
 
-// The sum of the first n shares that are not marked.
+// The sum of the first n shares that are not marked. The loop goes by place, since it reads two slices.
 pub fn standing_sum(shares: &[i64], marks: &[u16], n: usize) -> i64
     requires n_bound { (n ≤ 1000) × (n ≤ length shares.now) × (n ≤ length marks.now) }
     requires by_index { (t : ℕ) → t < n → nat_abs (get_or shares.now t (pos 0)) ≤ 999_989_900_001 }
     ensures { result ≡ unmarked n marks.now shares.now }
 {
-    let mut sum: i64 = 0;
-    let mut t: usize = 0;
-    while t < n {
+    let mut sum = 0;
+    for t in 0..n {
         sum = add_unmarked(sum, shares[t], marks[t]);
-        t += 1;
     }
     sum
 }

@@ -1,14 +1,15 @@
 -- Words that are copied into a table, one by one, and rows of them. Assumes nothing.
 use mathlib.Core.Path.{◌≡◌, refl, sym, ap, ◌∙◌, subst}
-use mathlib.Core.List.{List}
+use mathlib.Core.List.{List, ◌++◌}
 use Prim.Native.Nat.{ℕ, ◌+◌, ◌*◌, ◌/◌, ◌%◌, ◌≤◌, ◌<◌}
 use native.Mathlib.Nat.{div-eq_of_lt, mod-eq_of_lt}
 use native.Mathlib.Decide.{ℕ_discrete}
 use native.Mathlib.Omega.{arith}
-use lib.ListN.{length, get_or, set}
+use lib.ListN.{length, get_or, set, take, drop}
+use Rattle.std.proofs.lemmas.List.{get_or-take, length-take}
 use lib.Seq.{get_or-set_same, get_or-set_other}
 use Rattle.laws.specs.Tables.{overwrite, recell}
-use Rattle.laws.proofs.Tables.{cell_in, row_next, length_overwrite, get_d_overwrite, overwrite_as, is_overwrite, is_recell, get_d_past, get_d_recell}
+use Rattle.laws.proofs.Tables.{cell_in, row_next, is_tabulate, length_overwrite, get_d_overwrite, overwrite_as, is_overwrite, is_recell, get_d_past, get_d_recell}
 use Rattle.file_blocks.specs.Copied.{Copied}
 
 -- Nothing is copied yet.
@@ -27,6 +28,12 @@ copied_more {g} {to} {k} {l} {l'} v c h q =
       before = λ i m. get_or-set_other l' (to + k) i v 0 (λ e. omega arith) ∙ c.before i m;
       past = λ i m. get_or-set_other l' (to + k) i v 0 (λ e. omega arith) ∙ c.past i (omega arith);
     }
+
+-- The first n words of a list in the place of a table's.
+pub copied_front : (n : ℕ) (xs l part : List ℕ) → part ≡ take n xs → n ≤ length xs → part ++ drop n l ≡ overwrite n (λ i. get_or xs i 0) l
+unfolding overwrite
+copied_front n xs l part e long =
+    ap (λ (x : List ℕ). x ++ drop n l) (e ∙ is_tabulate (take n xs) n (λ i. get_or xs i 0) 0 (length-take n xs ∙ omega arith) (λ i h. get_or-take n xs i 0 h))
 
 -- Words written over fewer words written before.
 over_fewer : (m n : ℕ) (f g : ℕ → ℕ) (l : List ℕ) → n ≤ m → m ≤ length l → overwrite m f (overwrite n g l) ≡ overwrite m f l

@@ -4,15 +4,26 @@ use mathlib.Core.Path.{◌≡◌, refl, ap}
 use native.Mathlib.Omega.{arith}
 use Rattle.format.specs.Job.{Head}
 use Rattle.format.specs.Blocks.{BlockKind, header, offer_block, grocer_block, price_block, tally_block, list_blocks, grocers_at, list_at, tallies_at, kind_at, block_kind_number}
-use Rattle.format.proofs.Plan.{At, at_header, at_offers, at_grocers, at_prices, at_tallies, kind_at_lem}
+use Rattle.format.proofs.Plan.{At, at_offers, at_grocers, at_prices, at_tallies, kind_at_lem}
+
+-- 0 is the header's.
+pub zero_is : (h : Head) (k : ℕ) → block_kind_number (kind_at h k) ≡ 0 → kind_at h k ≡ header
+zero_is h k e = go (kind_at h k) e
+  where
+    go : (b : BlockKind) → block_kind_number b ≡ 0 → b ≡ header
+    go header e = refl
+    go (offer_block b) e = absurd (omega arith)
+    go grocer_block e = absurd (omega arith)
+    go (price_block q b) e = absurd (omega arith)
+    go (tally_block b) e = absurd (omega arith)
 
 -- 1 is an offer block's.
-pub one_is : (h : Head) (k : ℕ) → block_kind_number (kind_at h k) ≡ 1 → kind_at h k ≡ offer_block (k - 1)
+pub one_is : (h : Head) (k : ℕ) → block_kind_number (kind_at h k) ≡ 1 → (kind_at h k ≡ offer_block (k - 1)) × (1 ≤ k)
 one_is h k e = go (kind_at h k) (kind_at_lem h k) e
   where
-    go : (b : BlockKind) → At h k b → block_kind_number b ≡ 1 → b ≡ offer_block (k - 1)
+    go : (b : BlockKind) → At h k b → block_kind_number b ≡ 1 → (b ≡ offer_block (k - 1)) × (1 ≤ k)
     go header a e = absurd (omega arith)
-    go (offer_block b) (at_offers _ q _) e = ap offer_block (omega arith)
+    go (offer_block b) (at_offers _ q _) e = (ap offer_block (omega arith), omega arith)
     go grocer_block a e = absurd (omega arith)
     go (price_block q b) a e = absurd (omega arith)
     go (tally_block b) a e = absurd (omega arith)
@@ -39,14 +50,13 @@ four_is h k e = go (kind_at h k) (kind_at_lem h k) e
     go (price_block q b) (at_prices _ _ p l m) e = (q, b, refl, omega (arith, p), m)
     go (tally_block b) a e = absurd (omega arith)
 
--- Any other is a tally block's, past the header.
-pub three_is : (h : Head) (k : ℕ) → 1 ≤ k → (block_kind_number (kind_at h k) ≡ 1 → ⊥) → (block_kind_number (kind_at h k) ≡ 2 → ⊥) → (block_kind_number (kind_at h k) ≡ 4 → ⊥) →
-    (kind_at h k ≡ tally_block (k - tallies_at h)) × (tallies_at h ≤ k)
-three_is h k l x y z = go (kind_at h k) (kind_at_lem h k) x y z
+-- 3 is a tally block's.
+pub three_is : (h : Head) (k : ℕ) → block_kind_number (kind_at h k) ≡ 3 → (kind_at h k ≡ tally_block (k - tallies_at h)) × (tallies_at h ≤ k)
+three_is h k e = go (kind_at h k) (kind_at_lem h k) e
   where
-    go : (b : BlockKind) → At h k b → (block_kind_number b ≡ 1 → ⊥) → (block_kind_number b ≡ 2 → ⊥) → (block_kind_number b ≡ 4 → ⊥) → (b ≡ tally_block (k - tallies_at h)) × (tallies_at h ≤ k)
-    go header (at_header q) x y z = absurd (omega arith)
-    go (offer_block b) a x y z = absurd (x refl)
-    go grocer_block a x y z = absurd (y refl)
-    go (price_block q b) a x y z = absurd (z refl)
-    go (tally_block b) (at_tallies _ q) x y z = (ap tally_block (omega arith), omega arith)
+    go : (b : BlockKind) → At h k b → block_kind_number b ≡ 3 → (b ≡ tally_block (k - tallies_at h)) × (tallies_at h ≤ k)
+    go header a e = absurd (omega arith)
+    go (offer_block b) a e = absurd (omega arith)
+    go grocer_block a e = absurd (omega arith)
+    go (price_block q b) a e = absurd (omega arith)
+    go (tally_block b) (at_tallies _ q) e = (ap tally_block (omega arith), omega arith)

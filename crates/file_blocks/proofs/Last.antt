@@ -1,11 +1,10 @@
 -- What 7, 8 and 9 come to, and 9 told from the tallies' keys. Assumes nothing.
-use mathlib.Core.Path.{◌≡◌, sym, ap, ◌∙◌}
-use mathlib.Core.Bool.{true, false, not}
+use mathlib.Core.Path.{◌≡◌, refl, sym, ap, ◌∙◌}
+use mathlib.Core.Bool.{true, false, not, cond}
 use mathlib.Core.List.{List}
-use Prim.Native.Nat.{ℕ, ◌+◌, ◌*◌, ◌<◌}
+use Prim.Native.Nat.{ℕ, ◌+◌, ◌*◌, ◌≤◌, ◌<◌}
 use native.Mathlib.Omega.{arith}
 use lib.Dec.{eqb}
-use lib.ListN.{get_or}
 use borrow.Author.Tests.{not-false}
 use Rattle.laws.specs.Below.{any}
 use Rattle.laws.specs.Checks.{first_met}
@@ -18,7 +17,7 @@ use Rattle.index.specs.Bags.{KeysOf}
 use Rattle.format.specs.Bytes.{from, word16}
 use Rattle.format.specs.Job.{Head, FileJob, place_of, shared, unnamed, counted_tallies}
 use Rattle.format.specs.Blocks.{tallies_at}
-use Rattle.format.specs.File.{read_tally, record_at, decode}
+use Rattle.format.specs.File.{record_at, decode}
 use Rattle.file_blocks.specs.Fills.{Whole}
 use Rattle.file_blocks.specs.Sound.{names_refusal, last_refusal}
 use Rattle.index.proofs.Loose.{loose_once}
@@ -33,15 +32,10 @@ pub names_7 : (j : FileJob) → shared j ≡ true → 7 ≡ names_refusal j
 unfolding names_refusal first_met
 names_7 j h = rw h
 
--- None do, and a tally names no offer: 8.
-pub names_8 : (j : FileJob) → shared j ≡ false → unnamed j ≡ true → 8 ≡ names_refusal j
+-- None do, and the tallies decide: 8 where one names no offer.
+pub names_rest : (j : FileJob) (n : ℕ) → shared j ≡ false → n ≡ cond (unnamed j) 8 0 → n ≡ names_refusal j
 unfolding names_refusal first_met
-names_8 j h u = rw (h, u)
-
--- Neither is met.
-pub names_0 : (j : FileJob) → shared j ≡ false → unnamed j ≡ false → 0 ≡ names_refusal j
-unfolding names_refusal first_met
-names_0 j h u = rw (h, u)
+names_rest j n h e = rw h e
 
 -- ---- 9
 
@@ -77,16 +71,21 @@ unfolding count_key bag_key counted_tallies
 key_at_lem f i {at} w e q = rw (tally_grocer_lem f i w e, tally_bag_lem f i w e, tally_revision_lem f i w e, q)
 
 -- All keys are there.
-pub keys_of : (f old keys : List ℕ) {h : Head} → Whole f h → ((p : ℕ) → get_or f p 0 < 256) → keys ≡ overwrite h.tallies (count_key (counted_tallies (decode f))) old →
+pub keys_of : (f old keys : List ℕ) {h : Head} → Whole f h →
+    ((i : ℕ) → i < h.tallies → let at = record_at (tallies_at h) i in (word16 (from f (at + 20)) ≤ 65_535) × (word16 (from f (at + 22)) ≤ 65_535)) →
+    keys ≡ overwrite h.tallies (count_key (counted_tallies (decode f))) old →
     KeysOf (counted_tallies (decode f)) keys h.tallies
-unfolding counted_tallies decode read_tally
-keys_of f old keys {h} w bytes e =
+unfolding counted_tallies
+keys_of f old keys {h} w fits e =
     record {
       size = ap (λ (x : Head). x.tallies) (sym w.says);
       inside = record {
         offer = λ t l. let n : h.offers ≡ (decode f).head.offers = ap (λ (x : Head). x.offers) w.says in omega (arith, place_most (decode f) t, n, w.most.offers);
-        bag = λ t l. let a = record_at (tallies_at (decode f).head) t in omega (arith, bytes (a + 20), bytes (a + 21));
-        revision = λ t l. let a = record_at (tallies_at (decode f).head) t in omega (arith, bytes (a + 22), bytes (a + 23));
+        bag = λ t l. omega (arith, (fits t (inside t l)).0, tally_bag_lem f t w refl);
+        revision = λ t l. omega (arith, (fits t (inside t l)).1, tally_revision_lem f t w refl);
       };
       key = filled_right 0 (count_key (counted_tallies (decode f))) old keys h.tallies e;
     }
+  where
+    inside : (t : ℕ) → t < (decode f).head.tallies → t < h.tallies
+    inside t l = let n : h.tallies ≡ (decode f).head.tallies = ap (λ (x : Head). x.tallies) w.says in omega arith

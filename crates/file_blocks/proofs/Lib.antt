@@ -1,4 +1,5 @@
 -- Laws that the checks of a file are proved with, and the filling of tables.
+pub mod ByPlace
 pub mod Places
 pub mod PlanBounds
 pub mod KindNumbers

@@ -1,14 +1,15 @@
 -- Records of a file by place. Assumes nothing.
 use Prim.Native.Nat.{ℕ, ◌+◌, ◌*◌, ◌-◌, ◌≤◌, ◌<◌}
-use mathlib.Core.Path.{◌≡◌, ap, ap₂}
+use mathlib.Core.Path.{◌≡◌, refl, sym, ap, ap₂}
+use mathlib.Core.Bool.{false}
 use mathlib.Core.List.{List}
 use native.Mathlib.Omega.{arith}
 use lib.ListN.{get_or}
 use Rattle.format.specs.Bytes.{from, word32}
 use Rattle.laws.specs.Below.{any}
-use Rattle.laws.proofs.Below.{any_cong}
+use Rattle.laws.proofs.Below.{any_cong, any_false}
 use Rattle.format.specs.Job.{Head, bad_offer, bad_owner, bad_price, bad_tally}
-use Rattle.format.specs.Blocks.{offer_block, grocer_block, price_block, tally_block, grocers_at, list_at, tallies_at}
+use Rattle.format.specs.Blocks.{header, offer_block, grocer_block, price_block, tally_block, grocers_at, list_at, tallies_at}
 use Rattle.format.specs.Refusals.{bad_record}
 use Rattle.format.specs.File.{read_offer, read_tally, record_at, price_at, decode}
 
@@ -19,6 +20,11 @@ record_at_lem a k i l m = omega arith
 -- Price i of block b of a list whose first block is block a.
 price_at_lem : (a b k i : ℕ) → k ≡ a + b → i < 126 → 512 * k + 4 + 4 * i ≡ price_at a (126 * b + i)
 price_at_lem a b k i e m = omega arith
+
+-- No header record is bad.
+pub header_in : (f : List ℕ) (n : ℕ) → false ≡ any n (bad_record (decode f) header)
+unfolding bad_record
+header_in f n = sym (any_false n _ (λ i l. refl))
 
 -- The prices of block k, in the job's words.
 pub prices_in : (f : List ℕ) (k n q b : ℕ) → k ≡ list_at (decode f).head q + b → n ≤ 126 →

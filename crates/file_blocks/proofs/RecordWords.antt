@@ -1,7 +1,7 @@
 -- The fields of a file's records where they stand, and the room that a whole file has for them. Assumes nothing.
 use mathlib.Core.Path.{◌≡◌, ap, ap₂, ◌∙◌}
 use mathlib.Core.List.{List}
-use Prim.Native.Nat.{ℕ, ◌+◌, ◌*◌, ◌/◌, ◌≤◌, ◌<◌}
+use Prim.Native.Nat.{ℕ, ◌+◌, ◌*◌, ◌≤◌, ◌<◌}
 use native.Mathlib.Omega.{arith}
 use lib.ListN.{length, get_or}
 use mir.Syntax.{w32}
@@ -12,24 +12,10 @@ use Rattle.format.specs.Job.{Head, offer_name, tally_name}
 use Rattle.format.specs.Blocks.{offers_at, grocers_at, list_at, tallies_at}
 use Rattle.format.specs.File.{read_offer, read_tally, record_at, price_at, decode}
 use Rattle.file_blocks.specs.Fills.{Whole}
-use Rattle.format.proofs.Plan.{prices_in}
 
-module _ {f : List ℕ} {h : Head} (w : Whole f h) where
-  -- Each offer's record is in the file,
-  pub offer_room : (i : ℕ) → i < h.offers → record_at offers_at i + 24 ≤ length f
-  offer_room i l = omega (arith, w.long)
-
-  -- each price of an additional list,
-  pub price_room : (q i : ℕ) → q < h.lists → i < h.offers → price_at (list_at h q) i + 4 ≤ length f
-  price_room q i l m = omega (arith, w.long, prices_in h q (i / 126) l (omega arith))
-
-  -- each tally's,
-  pub tally_room : (i : ℕ) → i < h.tallies → record_at (tallies_at h) i + 24 ≤ length f
-  tally_room i l = omega (arith, w.long)
-
-  -- and the owners of the grocers.
-  pub owner_room : 512 * grocers_at h + 4 + h.grocers ≤ length f
-  owner_room = omega (arith, w.long, w.most.grocers)
+-- Each tally's record is in the file.
+pub tally_room : {f : List ℕ} {h : Head} → Whole f h → (i : ℕ) → i < h.tallies → record_at (tallies_at h) i + 24 ≤ length f
+tally_room w i l = omega (arith, w.long)
 
 -- The code at a place behind another.
 pub code_shift : (f : List ℕ) (at place : ℕ) → read_code (from f (at + place)) ≡ read_code (after (from f at) place)

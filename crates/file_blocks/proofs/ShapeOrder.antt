@@ -14,10 +14,11 @@ use Rattle.laws.proofs.Checks.{none_of, unmet, one_met, one_off}
 use Rattle.laws.proofs.Bools.{or_off}
 use Rattle.recount.specs.Recount.{counted_twice}
 use Rattle.format.specs.First.{first_of, first_below}
-use Rattle.format.specs.Job.{bad_sizes, shared, unnamed, counted_tallies}
+use Rattle.format.specs.Job.{Head, bad_sizes, shared, unnamed, counted_tallies}
 use Rattle.format.specs.Blocks.{BlockKind, offer_block, tally_block, blocks, offers_at, tallies_at, kind_at, records}
 use Rattle.format.specs.File.{decode}
 use Rattle.format.specs.Refusals.{bad_length, bad_count, bad_header, bad_record, header_refusal, block_refusal, file_refusal}
+use Rattle.file_blocks.specs.Due.{Most}
 use Rattle.file_blocks.specs.Shape.{shape_refusal}
 use Rattle.format.proofs.Firsts.{each, hit, next, alone, below_at, first_split}
 use Rattle.format.proofs.Accept.{even}
@@ -38,6 +39,12 @@ length_in f h =
 pub header_sizes : (f : List ℕ) → header_refusal f ≡ 0 → SizesIn (decode f).head
 unfolding header_refusal bad_header
 header_sizes f h = sizes_in (decode f).head (or_off (not (eqb (get_or f 5 0) 1)) (bad_sizes (decode f).head) (unmet _ refl h).1.1.0).1
+
+-- No number of it is above its largest.
+pub header_most : (f : List ℕ) {h : Head} → header_refusal f ≡ 0 → h ≡ (decode f).head → Most h
+header_most f e says =
+    let z = header_sizes f e in
+    subst Most (sym says) (record { boxes = z.boxes_most; grocers = z.grocers_most; offers = z.offers_most; tallies = z.tallies_most; lists = z.lists_most })
 
 -- A length that is the header's block count, and one that is not.
 pub count_off : (f : List ℕ) → length f ≡ 512 * blocks (decode f) → bad_count f ≡ false

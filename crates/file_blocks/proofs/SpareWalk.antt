@@ -16,6 +16,7 @@ use Rattle.format.specs.Bytes.{from, after}
 use Rattle.format.specs.Job.{Head}
 use Rattle.format.specs.Blocks.{BlockKind, kind_at, records, record_size, field_size, spare}
 use Rattle.format.specs.Refusals.{spare_used}
+use Rattle.file_blocks.specs.declared.kinds.BlockKind.{BlockKind as KindWord}
 use Rattle.file_blocks.specs.Due.{Due}
 use Rattle.file_blocks.specs.Shape.{used, spare_in}
 use Rattle.file_bytes.proofs.After.{from-after}
@@ -88,7 +89,7 @@ unfolding spare_in spare_used spare
 spare-after h f k b n e c = rw (e, c)
 
 -- The spare bytes of block k, whose kind is b and which is due to have n records.
-pub spare_due : (h : Head) (f : List ℕ) (k x n : ℕ) → Due h k x n → (b : BlockKind) → kind_at h k ≡ b →
+pub spare_due : (h : Head) (f : List ℕ) (k : ℕ) (x : KindWord) (n : ℕ) → Due h k x n → (b : BlockKind) → kind_at h k ≡ b →
     spare_in n (record_size b) (field_size b) (from f (512 * k + 4)) ≡ spare_used h k (from f (512 * k))
 spare_due h f k x n d b e =
     ap (spare_in n (record_size b) (field_size b)) (from-after f (512 * k) 4) ∙ spare-after h f k b n e (d.count ∙ ap (records h) e)

@@ -4,6 +4,8 @@ use Rattle.laws.specs.Limits.{max_boxes, max_grocers, max_offers, max_tallies, m
 use Rattle.format.specs.Job.{Head, head_of}
 use Rattle.format.specs.Blocks.{kind_at, block_kind_number, records}
 use Rattle.file_blocks.specs.declared.plan.Head.{Head as HeadWords}
+use Rattle.file_blocks.specs.declared.kinds.BlockKind.{BlockKind}
+use Rattle.file_blocks.specs.Kinds.{kind_number}
 
 -- The numbers that code holds, in the format's words.
 abbrev pub as_head : HeadWords → Head
@@ -18,8 +20,8 @@ pub record Most (h : Head) : Type 0 where
   pub tallies : h.tallies ≤ max_tallies
   pub lists : h.lists ≤ max_lists
 
--- Block k is due to be of the kind with number x and to have n records, which are at most 255.
-pub record Due (h : Head) (k x n : ℕ) : Type 0 where
-  pub kind : x ≡ block_kind_number (kind_at h k)
+-- Block k is due to be of kind x and to have n records, which are at most 255.
+pub record Due (h : Head) (k : ℕ) (x : BlockKind) (n : ℕ) : Type 0 where
+  pub kind : kind_number x ≡ block_kind_number (kind_at h k)
   pub count : n ≡ records h (kind_at h k)
   pub few : n ≤ 255

@@ -6,7 +6,9 @@ use Rattle.format.specs.Codes.{is_code, name_number}
 use Rattle.format.specs.Job.{Head, FileJob, offer_name, shared, unnamed, counted_tallies}
 use Rattle.format.specs.File.{decode}
 use Rattle.file_blocks.specs.Fills.{Whole, Placed}
-use Rattle.index.specs.Index.{IsIndex, Tops, Widest, shares_number}
+use Rattle.index.specs.Index.{IsIndex, shares_number}
+use Rattle.index_lookup.specs.Digits.{TopsOf}
+use Rattle.file_blocks.specs.declared.look.OfferIndex.{OfferIndex}
 
 -- The file is as long as its header says, no number of it is above its largest, and its codes are codes.
 pub record Sound (f : List ℕ) (h : Head) : Type 0 where
@@ -21,14 +23,13 @@ pub record Indexed (f keys order : List ℕ) (h : Head) : Type 0 where
   pub right : (i : ℕ) → i < h.offers → get_or numbers i 0 ≡ name_number (offer_name (decode f) i)
 
 -- The index of a sound file's offers, no two of which share a name, and where its top digits begin.
-pub record Ready (f keys order starts : List ℕ) (shift widest : ℕ) (h : Head) : Type 0 where
+pub record Ready (f : List ℕ) (o : OfferIndex) (h : Head) : Type 0 where
   pub sound : Sound f h
-  pub keys_long : h.offers ≤ length keys
-  pub order_long : h.offers ≤ length order
-  pub indexed : Indexed f keys order h
+  pub keys_long : h.offers ≤ length o.keys.now
+  pub order_long : h.offers ≤ length o.order.now
+  pub indexed : Indexed f o.keys.now o.order.now h
   pub apart : shares_number indexed.numbers h.offers ≡ false
-  pub tops : Tops keys starts shift h.offers
-  pub wide : Widest starts widest
+  pub tops : TopsOf o.tops o.keys.now h.offers
 
 -- A file that is not refused is sound, and the place of each tally's offer is kept.
 pub record Kept (f places : List ℕ) : Type 0 where

@@ -1,4 +1,5 @@
-// Tables, each filled with one field of the records of a file; words past those are not touched.
+// Tables, each filled with one field of the records of a file; words past those are not touched. (Each is a line over `fill_by`, and has a
+// name for its clause, by which the reader and settle go.)
 ghost use Rattle.std.specs.Prelude.{◌≡◌, true, ℕ, suc, ◌+◌, ◌≤◌, ◌<◌, length, get_or};
 ghost use Rattle.laws.specs.Lists.{list_words};
 ghost use Rattle.laws.specs.Tables.{overwrite, recell};
@@ -9,42 +10,47 @@ ghost use Rattle.format.specs.Bytes.{from, after, word16, word32};
 ghost use Rattle.format.specs.Job.{offer_name, price_on};
 ghost use Rattle.format.specs.Blocks.{offers_at};
 ghost use Rattle.format.specs.File.{record_at, price_at, decode};
-ghost use Rattle.file_blocks.specs.Due.{as_head};
-ghost use Rattle.file_blocks.specs.Fills.{Whole};
+ghost use Rattle.file_blocks.specs.Said.{said};
 ghost use Rattle.file_blocks.specs.Copied.{Copied};
 
+use crate::by_place::fill_by;
+use crate::job_file::JobFile;
 use crate::place::{price_at, record_at};
-use crate::plan::{Head, grocers_at, list_blocks, prices_at};
+use crate::plan::{grocers_at, list_blocks, prices_at};
 use file_bytes::{byte16, count32, narrow16, word16, word32};
 use file_digits::name_at;
 
-// The numbers of the offers' names.
-pub fn fill_names(f: &[u8], head: Head, numbers: &mut [u64])
-    requires whole { Whole f.now (as_head head) × (head.sizes.offers ≤ length numbers.old) }
-    requires by_index { (i : ℕ) → i < head.sizes.offers → is_code ((decode f.now).offer i).code ≡ true }
-    ensures { numbers.new ≡ overwrite head.sizes.offers (λ i. name_number (offer_name (decode f.now) i)) numbers.old }
+// The number of the name of offer i.
+fn offer_number(f: &[u8], i: usize) -> u64
+    requires i_bound { (i < 500) × (record_at offers_at i + 24 ≤ length f.now) }
+    requires code { is_code ((decode f.now).offer i).code ≡ true }
+    ensures { result ≡ name_number (offer_name (decode f.now) i) }
 {
-    let n = head.sizes.offers as usize;
-    let mut i: usize = 0;
-    while i < n {
-        let at = record_at(1, i);
-        numbers[i] = name_at(f, at + 5, word16(f, at + 16));
-        i += 1;
-    }
+    let at = record_at(1, i);
+    name_at(f, at + 5, word16(f, at + 16))
+}
+
+// The numbers of the offers' names.
+pub fn fill_names(file: &JobFile, numbers: &mut [u64])
+    requires numbers_long { file.now.head.sizes.offers ≤ length numbers.old }
+    requires by_index { (i : ℕ) → i < file.now.head.sizes.offers → is_code ((said file.now).offer i).code ≡ true }
+    ensures { numbers.new ≡ overwrite file.now.head.sizes.offers (λ i. name_number (offer_name (said file.now) i)) numbers.old }
+{
+    fill_by(
+        numbers,
+        usize::from(file.head.sizes.offers),
+        |i| offer_number(file.bytes, i),
+    );
 }
 
 // The owners of the grocers.
-pub fn fill_owners(f: &[u8], head: Head, grocer_owner: &mut [u16])
-    requires { Whole f.now (as_head head) × (head.sizes.grocers ≤ length grocer_owner.old) }
-    ensures { grocer_owner.new ≡ overwrite head.sizes.grocers (decode f.now).grocer_owner grocer_owner.old }
+pub fn fill_owners(file: &JobFile, grocer_owner: &mut [u16])
+    requires { file.now.head.sizes.grocers ≤ length grocer_owner.old }
+    ensures { grocer_owner.new ≡ overwrite file.now.head.sizes.grocers (said file.now).grocer_owner grocer_owner.old }
 {
-    let m = head.sizes.grocers as usize;
-    let at = 512 * grocers_at(head) + 4;
-    let mut i: usize = 0;
-    while i < m {
-        grocer_owner[i] = byte16(f, at + i);
-        i += 1;
-    }
+    let m = usize::from(file.head.sizes.grocers);
+    let at = 512 * grocers_at(file.head) + 4;
+    fill_by(grocer_owner, m, |i| byte16(file.bytes, at + i));
 }
 
 // A table of 16-bit words: those at byte `at` of the first n records of 24 bytes whose first block is `first`.
@@ -53,11 +59,7 @@ pub fn fill_words(f: &[u8], first: usize, n: usize, at: usize, words: &mut [u16]
     requires by_index { (i : ℕ) → i < n → record_at first i + 24 ≤ length f.now }
     ensures { words.new ≡ overwrite n (λ i. word16 (after (from f.now (record_at first i)) at)) words.old }
 {
-    let mut i: usize = 0;
-    while i < n {
-        words[i] = narrow16(f, record_at(first, i) + at);
-        i += 1;
-    }
+    fill_by(words, n, |i| narrow16(f, record_at(first, i) + at));
 }
 
 // A table of 16-bit words: the bytes at byte `at` of these records.
@@ -66,11 +68,7 @@ pub fn fill_bytes(f: &[u8], first: usize, n: usize, at: usize, words: &mut [u16]
     requires by_index { (i : ℕ) → i < n → record_at first i + 24 ≤ length f.now }
     ensures { words.new ≡ overwrite n (λ i. get_or f.now (record_at first i + at) 0) words.old }
 {
-    let mut i: usize = 0;
-    while i < n {
-        words[i] = byte16(f, record_at(first, i) + at);
-        i += 1;
-    }
+    fill_by(words, n, |i| byte16(f, record_at(first, i) + at));
 }
 
 // The prices of the first n offers on the first list.
@@ -79,11 +77,7 @@ pub fn fill_prices(f: &[u8], n: usize, price: &mut [u32])
     requires by_index { (i : ℕ) → i < n → record_at offers_at i + 24 ≤ length f.now }
     ensures { price.new ≡ overwrite n (λ i. ((decode f.now).offer i).price) price.old }
 {
-    let mut i: usize = 0;
-    while i < n {
-        price[i] = word32(f, record_at(1, i));
-        i += 1;
-    }
+    fill_by(price, n, |i| word32(f, record_at(1, i)));
 }
 
 // The prices of the first n offers on the list whose first block is `first`, from word `to` on.
@@ -92,31 +86,22 @@ fn fill_list(f: &[u8], first: usize, n: usize, to: usize, price: &mut [u32])
     requires by_index { (i : ℕ) → i < n → price_at first i + 4 ≤ length f.now }
     ensures { Copied (λ i. word32 (from f.now (price_at first i))) to n price.old price.new }
 {
-    let mut i: usize = 0;
-    while i < n {
-        price[to + i] = word32(f, price_at(first, i));
-        i += 1;
-    }
+    fill_by(&mut price[to..to + n], n, |i| word32(f, price_at(first, i)));
 }
 
 // The prices of all lists, list after list.
-pub fn fill_lists(f: &[u8], head: Head, price: &mut [u32])
-    requires { Whole f.now (as_head head) × (list_words head.sizes.lists head.sizes.offers ≤ length price.old) }
-    ensures { price.new ≡ recell (suc head.sizes.lists) head.sizes.offers
-        (price_on (decode f.now).offer (decode f.now).list_price) price.old }
+pub fn fill_lists(file: &JobFile, price: &mut [u32])
+    requires { list_words file.now.head.sizes.lists file.now.head.sizes.offers ≤ length price.old }
+    ensures { price.new ≡ recell (suc file.now.head.sizes.lists) file.now.head.sizes.offers
+        (price_on (said file.now).offer (said file.now).list_price) price.old }
 {
-    let n = head.sizes.offers as usize;
-    let lists = head.sizes.lists as usize;
+    let n = usize::from(file.head.sizes.offers);
+    let lists = usize::from(file.head.sizes.lists);
     let blocks = list_blocks(n);
-    let mut first = prices_at(head);
-    fill_prices(f, n, price);
-    let mut to = n;
-    let mut q: usize = 0;
-    while q < lists {
-        fill_list(f, first, n, to, price);
-        first += blocks;
-        to += n;
-        q += 1;
+    let first = prices_at(file.head);
+    fill_prices(file.bytes, n, price);
+    for q in 0..lists {
+        fill_list(file.bytes, first + q * blocks, n, (q + 1) * n, price);
     }
 }
 
@@ -127,9 +112,5 @@ pub fn fill_counts(f: &[u8], first: usize, n: usize, tally_count: &mut [i32])
     ensures { tally_count.new ≡ overwrite n (λ i. to_z w32 (word32 (after (from f.now (record_at first i)) 14)))
         tally_count.old }
 {
-    let mut i: usize = 0;
-    while i < n {
-        tally_count[i] = count32(f, record_at(first, i) + 14);
-        i += 1;
-    }
+    fill_by(tally_count, n, |i| count32(f, record_at(first, i) + 14));
 }

@@ -5,8 +5,10 @@ ghost use Rattle.format.specs.Job.{bad_sizes};
 ghost use Rattle.format.specs.Blocks.{blocks_for, list_blocks, grocers_at, prices_at, tallies_at, block_count, kind_at, block_kind_number, records};
 ghost use Rattle.format.specs.File.{decode};
 ghost use Rattle.format.specs.Refusals.{not_due};
+ghost use Rattle.file_blocks.specs.Kinds.{kind_number};
 ghost use Rattle.file_blocks.specs.Due.{as_head, Most, Due};
 
+use crate::kinds::BlockKind;
 use file_bytes::{byte16, narrow16, word16};
 use slices::byte_at;
 use slices::limits::{MAX_BOXES, MAX_GROCERS, MAX_LISTS, MAX_OFFERS, MAX_TALLIES};
@@ -69,7 +71,7 @@ pub fn grocers_at(head: Head) -> usize
     requires { head.sizes.offers ≤ 65535 }
     ensures { result ≡ grocers_at (as_head head) }
 {
-    1 + blocks_for(head.sizes.offers as usize)
+    1 + blocks_for(usize::from(head.sizes.offers))
 }
 
 // the first price block,
@@ -85,8 +87,8 @@ pub fn tallies_at(head: Head) -> usize
     requires { (head.sizes.offers ≤ 65535) × (head.sizes.lists ≤ 65535) }
     ensures { result ≡ tallies_at (as_head head) }
 {
-    let blocks = list_blocks(head.sizes.offers as usize);
-    prices_at(head) + head.sizes.lists as usize * blocks
+    let blocks = list_blocks(usize::from(head.sizes.offers));
+    prices_at(head) + usize::from(head.sizes.lists) * blocks
 }
 
 // and how many blocks there are.
@@ -94,41 +96,35 @@ pub fn block_count(head: Head) -> usize
     requires { (head.sizes.offers ≤ 65535) × (head.sizes.tallies ≤ 65535) × (head.sizes.lists ≤ 65535) }
     ensures { result ≡ block_count (as_head head) }
 {
-    tallies_at(head) + blocks_for(head.sizes.tallies as usize)
+    tallies_at(head) + blocks_for(usize::from(head.sizes.tallies))
 }
 
-// The number of the kind of block k.
-pub fn kind_at(head: Head, k: usize) -> usize
+// The kind of block k.
+pub fn kind_at(head: Head, k: usize) -> BlockKind
     requires { (head.sizes.offers ≤ 65535) × (head.sizes.lists ≤ 65535) }
-    ensures { result ≡ block_kind_number (kind_at (as_head head) k) }
+    ensures { kind_number result ≡ block_kind_number (kind_at (as_head head) k) }
 {
     let grocers = grocers_at(head);
     if k < 1 {
-        return 0;
+        return BlockKind::Header;
     }
     if k < grocers {
-        return 1;
+        return BlockKind::Offers;
     }
     if k < grocers + 1 {
-        return 2;
+        return BlockKind::Grocers;
     }
     if k < tallies_at(head) {
-        return 4;
+        return BlockKind::Prices;
     }
-    3
+    BlockKind::Tallies
 }
 
 // How many of n records stand in a block of at most so many, behind those that stand before it.
-fn part(n: usize, before: usize, most: usize) -> usize
+fn part(n: u16, before: usize, most: usize) -> usize
     ensures { result ≡ min most (n - before) }
 {
-    if n <= before {
-        return 0;
-    }
-    if n - before < most {
-        return n - before;
-    }
-    most
+    usize::from(n).saturating_sub(before).min(most)
 }
 
 // How many records price block k has.
@@ -136,37 +132,33 @@ fn prices_in(head: Head, k: usize) -> usize
     requires { (k ≤ 101) × Most (as_head head) × (block_kind_number (kind_at (as_head head) k) ≡ 4) }
     ensures { (result ≡ records (as_head head) (kind_at (as_head head) k)) × (result ≤ 126) }
 {
-    let n = head.sizes.offers as usize;
+    let n = head.sizes.offers;
     let first = prices_at(head);
-    let b = (k - first) % list_blocks(n);
+    let b = (k - first) % list_blocks(usize::from(n));
     part(n, 126 * b, 126)
 }
 
-// How many records block k has, which is not the header.
-pub fn records_at(head: Head, k: usize, kind: usize) -> usize
+// How many records block k has.
+pub fn records_at(head: Head, k: usize, kind: BlockKind) -> usize
     requires k_bound { (k ≤ 101) × Most (as_head head) }
-    requires le_k { (1 ≤ k) × (kind ≡ block_kind_number (kind_at (as_head head) k)) }
+    requires kind_value { kind_number kind ≡ block_kind_number (kind_at (as_head head) k) }
     ensures { (result ≡ records (as_head head) (kind_at (as_head head) k)) × (result ≤ 255) }
 {
-    if kind == 1 {
-        return part(head.sizes.offers as usize, 21 * (k - 1), 21);
+    match kind {
+        BlockKind::Header => 1,
+        BlockKind::Offers => part(head.sizes.offers, 21 * (k - 1), 21),
+        BlockKind::Grocers => usize::from(head.sizes.grocers),
+        BlockKind::Tallies => part(head.sizes.tallies, 21 * (k - tallies_at(head)), 21),
+        BlockKind::Prices => prices_in(head, k),
     }
-    if kind == 2 {
-        return head.sizes.grocers as usize;
-    }
-    if kind == 4 {
-        return prices_in(head, k);
-    }
-    let first = tallies_at(head);
-    part(head.sizes.tallies as usize, 21 * (k - first), 21)
 }
 
 // Whether kind, block number or record count of block k is not as due.
-pub fn not_due(f: &[u8], k: usize, kind: usize, count: usize) -> bool
+pub fn not_due(f: &[u8], k: usize, kind: BlockKind, count: usize) -> bool
     requires k_in_bounds { 512 * k + 512 ≤ length f.now }
     requires due { Due (decode f.now).head k kind count }
     ensures { result ≡ not_due (decode f.now).head k (from f.now (512 * k)) }
 {
     let at = 512 * k;
-    (byte_at(f, at) != kind) | (word16(f, at + 2) != k) | (byte_at(f, at + 1) != count)
+    (byte_at(f, at) != kind.number()) | (word16(f, at + 2) != k) | (byte_at(f, at + 1) != count)
 }

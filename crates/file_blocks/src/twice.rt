@@ -1,43 +1,40 @@
 // Bags and revisions that stand twice: refusal 9.
-ghost use Rattle.std.specs.Prelude.{◌≡◌, not, ◌+◌, ◌*◌, ◌≤◌, eqb, length};
+ghost use Rattle.std.specs.Prelude.{◌≡◌, not, ◌+◌, ◌*◌, ◌≤◌, eqb, length, OnOk};
 ghost use Rattle.laws.specs.Below.{any};
 ghost use Rattle.recount.specs.Recount.{counted_twice};
 ghost use Rattle.format.specs.Bytes.{from, word16};
 ghost use Rattle.format.specs.Job.{counted_tallies};
-ghost use Rattle.format.specs.File.{decode};
 ghost use Rattle.index.specs.Bags.{KeysOf};
+ghost use Rattle.refusals.specs.Numbers.{number};
 ghost use Rattle.file_blocks.specs.Due.{as_head};
-ghost use Rattle.file_blocks.specs.Fills.{Whole, Placed};
+ghost use Rattle.file_blocks.specs.Fills.{Placed};
+ghost use Rattle.file_blocks.specs.Said.{said};
 ghost use Rattle.file_blocks.specs.Sound.{Sound, last_refusal};
 
+use crate::by_place::{any_by, fill_by};
+use crate::job_file::JobFile;
 use crate::look::names_refusal;
 use crate::place::record_at;
-use crate::plan::{Head, tallies_at};
+use crate::plan::tallies_at;
 use file_bytes::{narrow16, word16};
+use refusals::Refusal;
 use slices::limits::TALLIES;
-use slices::u16_at;
 
 // Whether one of the tallies has a bag other than 0.
-pub fn any_bag(f: &[u8], head: Head) -> bool
-    requires { Whole f.now (as_head head) }
-    ensures { result ≡ any head.sizes.tallies (λ t. not (eqb ((decode f.now).tally t).bag 0)) }
+pub fn any_bag(file: &JobFile) -> bool
+    ensures { result ≡ any file.now.head.sizes.tallies (λ t. not (eqb ((said file.now).tally t).bag 0)) }
 {
-    let t = head.sizes.tallies as usize;
-    let first = tallies_at(head);
-    let mut found = false;
-    let mut i: usize = 0;
-    while i < t {
-        found = found | (word16(f, record_at(first, i) + 20) != 0);
-        i += 1;
-    }
-    found
+    let t = usize::from(file.head.sizes.tallies);
+    let first = tallies_at(file.head);
+    any_by(t, |i| word16(file.bytes, record_at(first, i) + 20) != 0)
 }
 
 // The key of the tally whose record stands at a place, and whose offer is at place `offer`.
 fn tally_key(f: &[u8], at: usize, offer: u16) -> u64
     requires { at + 24 ≤ length f.now }
-    ensures { result ≡ ((word16 (from f.now at) * 512 + offer) * 65536 + word16 (from f.now (at + 20))) * 65536 +
+    ensures value { result ≡ ((word16 (from f.now at) * 512 + offer) * 65536 + word16 (from f.now (at + 20))) * 65536 +
         word16 (from f.now (at + 22)) }
+    ensures fits { (word16 (from f.now (at + 20)) ≤ 65535) × (word16 (from f.now (at + 22)) ≤ 65535) }
 {
     bag_keys::count_key(
         narrow16(f, at),
@@ -48,56 +45,50 @@ fn tally_key(f: &[u8], at: usize, offer: u16) -> u64
 }
 
 // The keys of the tallies.
-pub fn fill_keys(f: &[u8], head: Head, places: &[u16], keys: &mut [u64])
-    requires whole { Whole f.now (as_head head) × Placed (decode f.now) places.now head.sizes.tallies }
-    requires tallies_in_bounds { (head.sizes.tallies ≤ length places.now) × (head.sizes.tallies ≤ length keys.old) }
-    ensures { KeysOf (counted_tallies (decode f.now)) keys.new head.sizes.tallies }
+pub fn fill_keys(file: &JobFile, places: &[u16], keys: &mut [u64])
+    requires placed { Placed (said file.now) places.now file.now.head.sizes.tallies }
+    requires tallies_in_bounds { (file.now.head.sizes.tallies ≤ length places.now) × (file.now.head.sizes.tallies ≤ length keys.old) }
+    ensures { KeysOf (counted_tallies (said file.now)) keys.new file.now.head.sizes.tallies }
 {
-    let t = head.sizes.tallies as usize;
-    let first = tallies_at(head);
-    let mut i: usize = 0;
-    while i < t {
-        keys[i] = tally_key(f, record_at(first, i), u16_at(places, i));
-        i += 1;
-    }
+    let t = usize::from(file.head.sizes.tallies);
+    let first = tallies_at(file.head);
+    fill_by(
+        keys,
+        t,
+        |i| tally_key(file.bytes, record_at(first, i), places[i]),
+    );
 }
 
 // 9, by the keys of the tallies.
-fn keys_twice(f: &[u8], head: Head, places: &[u16]) -> bool
-    requires whole { Whole f.now (as_head head) × Placed (decode f.now) places.now head.sizes.tallies }
-    requires tallies_in_bounds { head.sizes.tallies ≤ length places.now }
-    ensures { result ≡ counted_twice (counted_tallies (decode f.now)) }
+fn keys_twice(file: &JobFile, places: &[u16]) -> bool
+    requires placed { Placed (said file.now) places.now file.now.head.sizes.tallies }
+    requires tallies_in_bounds { file.now.head.sizes.tallies ≤ length places.now }
+    ensures { result ≡ counted_twice (counted_tallies (said file.now)) }
 {
-    let t = head.sizes.tallies as usize;
+    let t = usize::from(file.head.sizes.tallies);
     let mut keys = [0u64; TALLIES];
-    fill_keys(f, head, places, &mut keys);
+    fill_keys(file, places, &mut keys);
     index::bags::counted_twice(&keys, t)
 }
 
 // 9. Where every bag is 0 no key is made, and nothing is sorted.
-fn bags_twice(f: &[u8], head: Head, places: &[u16]) -> bool
-    requires whole { Whole f.now (as_head head) × Placed (decode f.now) places.now head.sizes.tallies }
-    requires tallies_in_bounds { head.sizes.tallies ≤ length places.now }
-    ensures { result ≡ counted_twice (counted_tallies (decode f.now)) }
+fn bags_twice(file: &JobFile, places: &[u16]) -> bool
+    requires placed { Placed (said file.now) places.now file.now.head.sizes.tallies }
+    requires tallies_in_bounds { file.now.head.sizes.tallies ≤ length places.now }
+    ensures { result ≡ counted_twice (counted_tallies (said file.now)) }
 {
-    if any_bag(f, head) {
-        return keys_twice(f, head, places);
-    }
-    false
+    any_bag(file) && keys_twice(file, places)
 }
 
 // 7, 8 or 9 of a file of which nothing before them is refused, and, where none is met, the place of each tally's offer.
-pub fn job_refusal(f: &[u8], head: Head, places: &mut [u16]) -> u16
-    requires { Sound f.now (as_head head) × (head.sizes.tallies ≤ length places.old) }
-    ensures value { result ≡ last_refusal (decode f.now) }
-    ensures placed { result ≡ 0 → Placed (decode f.now) places.new head.sizes.tallies }
+pub fn job_refusal(file: &JobFile, places: &mut [u16]) -> Result<(), Refusal>
+    requires { Sound file.now.bytes.now (as_head file.now.head) × (file.now.head.sizes.tallies ≤ length places.old) }
+    ensures value { number result ≡ last_refusal (said file.now) }
+    ensures placed { OnOk result (Placed (said file.now) places.new file.now.head.sizes.tallies) }
 {
-    let r = names_refusal(f, head, places);
-    if r != 0 {
-        return r;
+    names_refusal(file, places)?;
+    if bags_twice(file, places) {
+        return Err(Refusal::CountedTwice);
     }
-    if bags_twice(f, head, places) {
-        return 9;
-    }
-    0
+    Ok(())
 }

@@ -2,7 +2,6 @@
 use mathlib.Core.Path.{◌≡◌, refl, sym, ap, ◌∙◌, subst}
 use mathlib.Core.List.{List}
 use Prim.Native.Nat.{ℕ, ◌+◌, ◌*◌, ◌≤◌, ◌<◌}
-use native.Mathlib.Nat.{le_antisymm}
 use native.Mathlib.Omega.{arith}
 use lib.ListN.{length, get_or, set}
 use Rattle.laws.specs.Tables.{tabulate, recell}
@@ -36,7 +35,3 @@ pub codes_more : (c : ℕ → Code) (i : ℕ) (l m l' : List ℕ) (g : ℕ → �
 unfolding store_codes
 codes_more c i l m l' g e h long w q =
     rows_more i 11 (λ i p. get_or (code_bytes (c i)) p 0) g l m l' e h long refl w (λ o lo. sym (code_byte g o lo) ∙ ap (λ (x : Code). get_or (code_bytes x) o 0) q)
-
--- All n codes are stored.
-pub codes_end : (c : ℕ → Code) (i n : ℕ) (l l' : List ℕ) → l' ≡ store_codes i c l → i ≤ n → n ≤ i → l' ≡ store_codes n c l
-codes_end c i n l l' e a b = e ∙ ap (λ (k : ℕ). store_codes k c l) (le_antisymm a b)

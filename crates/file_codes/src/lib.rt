@@ -11,7 +11,8 @@ ghost use Rattle.file_blocks.specs.Copied.{Copied};
 use file_blocks::codes::CODE_BYTES;
 use file_blocks::place::record_at;
 
-// Copies the eleven bytes of a code: all are read before the first is written, so that the compiler moves eight at a time.
+// Copies the eleven bytes of a code: all are read before the first is written, so that the compiler moves eight at a time. (By `copy_from_slice` it
+// asks first whether the two lie across each other: a thousand codes take 2.7 µs in place of 2.3. By an array between, or a loop, more.)
 pub fn copy_code(f: &[u8], at: usize, code: &mut [u8], to: usize)
     requires { (at + 11 ≤ length f.now) × (to + 11 ≤ length code.old) }
     ensures { Copied (from f.now at) to 11 code.old code.new }
@@ -46,9 +47,7 @@ pub fn fill_codes(f: &[u8], first: usize, n: usize, at: usize, code: &mut [u8])
     requires by_index { (i : ℕ) → i < n → record_at first i + 24 ≤ length f.now }
     ensures { code.new ≡ store_codes n (λ i. read_code (after (from f.now (record_at first i)) at)) code.old }
 {
-    let mut i: usize = 0;
-    while i < n {
+    for i in 0..n {
         copy_code(f, record_at(first, i) + at, code, i * CODE_BYTES);
-        i += 1;
     }
 }

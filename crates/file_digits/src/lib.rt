@@ -5,13 +5,11 @@ ghost use Rattle.std.specs.Prelude.{◌≡◌, true, cond, ◌+◌, ◌-◌, ◌
 ghost use Rattle.format.specs.Bytes.{from};
 ghost use Rattle.format.specs.Codes.{read_code, is_code, code_number, value, name_of, name_number};
 
-use slices::byte_at;
-
 // The low four bits of a byte: the digit that it writes, and 0 of a byte that is 0.
-fn low(x: usize) -> u64
+fn low(x: u8) -> u64
     ensures { (result ≡ x % 16) × (result ≤ 15) }
 {
-    (x % 16) as u64
+    u64::from(x % 16)
 }
 
 // The number of two bytes, by the low four bits of each.
@@ -19,7 +17,7 @@ fn two(f: &[u8], at: usize) -> u64
     requires { at + 2 ≤ length f.now }
     ensures { (result ≡ value 2 (λ k. 48 + from f.now at k % 16)) × (result ≤ 165) }
 {
-    low(byte_at(f, at)) * 10 + low(byte_at(f, at + 1))
+    low(f[at]) * 10 + low(f[at + 1])
 }
 
 // The number of four bytes likewise.
@@ -35,7 +33,7 @@ fn nine(f: &[u8], at: usize) -> u64
     requires { at + 9 ≤ length f.now }
     ensures { (result ≡ value 9 (λ k. 48 + from f.now at k % 16)) × (result ≤ 1666666665) }
 {
-    (four(f, at) * 10000 + four(f, at + 4)) * 10 + low(byte_at(f, at + 8))
+    (four(f, at) * 10000 + four(f, at + 4)) * 10 + low(f[at + 8])
 }
 
 // 2^30 over 10^(9 - n), rounded up. A product with it, over 2^30, is a division by that power of ten, of a multiple of it below 2^30.
@@ -80,9 +78,9 @@ pub fn number_at(f: &[u8], at: usize) -> u64
     requires at_value { is_code (read_code (from f.now at)) ≡ true }
     ensures { result ≡ code_number (read_code (from f.now at)) }
 {
-    let n = byte_at(f, at);
+    let n = usize::from(f[at]);
     let first = nine(f, at + 1) * share(n) / 1_073_741_824;
-    first * scale(n) + low(byte_at(f, at + 10))
+    first * scale(n) + low(f[at + 10])
 }
 
 // The number of the name of this issuer and of the code whose eleven bytes stand at `at`.

@@ -7,8 +7,7 @@ ghost use Rattle.format.specs.Bytes.{from};
 ghost use Rattle.format.specs.Blocks.{first_sum, second_sum};
 ghost use Rattle.format.specs.Refusals.{sums_differ};
 
-use file_bytes::word16;
-use slices::byte_at;
+use file_bytes::{byte16, word16};
 
 // The first and the second sum of some bytes.
 #[derive(Clone, Copy)]
@@ -17,20 +16,12 @@ pub struct TwoSums {
     pub second: usize,
 }
 
-// The byte at a place, as a word of 16 bits.
-fn word(f: &[u8], at: usize) -> u16
-    requires { at < length f.now }
-    ensures { (result ≡ get_or f.now at 0) × (result ≤ 255) }
-{
-    byte_at(f, at) as u16
-}
-
 // A byte times a weight, as 16 bits hold it.
 fn weighed(x: u16, weight: u16) -> u32
     requires { (x ≤ 255) × (weight ≤ 254) }
     ensures { (result ≡ weight * x) × (result ≤ 64770) }
 {
-    (weight * x) as u32
+    u32::from(weight * x)
 }
 
 // Both sums, as they are before a modulus, of the 254 bytes at a place: half of those of a block. 16 bits hold the first, and each term of the second.
@@ -41,17 +32,13 @@ fn half(f: &[u8], at: usize) -> TwoSums
 {
     let mut first: u16 = 0;
     let mut second: u32 = 0;
-    let mut weight: u16 = 254;
-    let mut i: usize = 0;
-    while i < 254 {
-        let b = word(f, at + i);
+    for i in 0..254 {
+        let b = byte16(f, at + i);
         first += b;
-        second += weighed(b, weight);
-        weight -= 1;
-        i += 1;
+        second += weighed(b, 254 - i as u16);
     }
     TwoSums {
-        first: first as usize,
+        first: usize::from(first),
         second: second as usize,
     }
 }

@@ -1,6 +1,8 @@
 -- The call for a fresh state: its tables, and its answer by the number of the first condition met. Assumes nothing.
 use mathlib.Core.Path.{◌≡◌, refl, sym, ap, ◌∙◌}
-use Prim.Native.Nat.{ℕ, zero, suc, ◌*◌, ◌≤◌}
+use mathlib.Core.List.{List}
+use lib.Ieee.{Float}
+use Prim.Native.Nat.{ℕ, zero, suc, ◌*◌, ◌≤◌, ◌<◌}
 use native.Mathlib.Nat.{le_refl}
 use native.Mathlib.Omega.{arith}
 use lib.ListN.{length, set}
@@ -37,58 +39,50 @@ module _ (f : ForecastTables) (t : StateTables) where
   fresh_known = recell_cong f.boxes f.offers _ _ t.known (λ b o lb lo. rw (word_in_lem f.offers f.offer_owner 0 o lo, value_is o))
 
   -- All tables.
-  pub fresh_is : 1 ≤ length t.sent →
-      state_tables
-      (own_values f.boxes f.offers f.lines f.offer_owner f.line_offer f.line_value t.known)
-      (overwrite (f.boxes * f.offers) (λ i. zero+) t.value_transit)
-      (overwrite (f.boxes * f.grocers) (λ i. zero+) t.part)
-      (overwrite (f.boxes * f.grocers) (λ i. zero+) t.part_transit)
-      (overwrite (f.boxes * f.grocers) (λ i. zero+) t.held)
-      (overwrite f.grocers (λ i. zero+) t.forecast)
-      (overwrite (6 * f.boxes * f.boxes) (λ i. 0) t.done)
-      (set t.sent 0 0)
-      ≡ fresh_tables f t
+  pub fresh_is : (known value_transit part part_transit held forecast : List Float) (done : List ℕ) →
+      known ≡ own_values f.boxes f.offers f.lines f.offer_owner f.line_offer f.line_value t.known →
+      value_transit ≡ overwrite (f.boxes * f.offers) (λ i. zero+) t.value_transit →
+      part ≡ overwrite (f.boxes * f.grocers) (λ i. zero+) t.part →
+      part_transit ≡ overwrite (f.boxes * f.grocers) (λ i. zero+) t.part_transit →
+      held ≡ overwrite (f.boxes * f.grocers) (λ i. zero+) t.held →
+      forecast ≡ overwrite f.grocers (λ i. zero+) t.forecast →
+      done ≡ overwrite (6 * f.boxes * f.boxes) (λ i. 0) t.done → 1 ≤ length t.sent →
+      state_tables known value_transit part part_transit held forecast done (set t.sent 0 0) ≡ fresh_tables f t
   unfolding fresh_tables store fresh forecast_of recell to_marks marks_of
-  fresh_is long = λ i. state_tables
-      (fresh_known i)
-      (overwrite (f.boxes * f.offers) (λ i. zero+) t.value_transit)
-      (overwrite (f.boxes * f.grocers) (λ i. zero+) t.part)
-      (overwrite (f.boxes * f.grocers) (λ i. zero+) t.part_transit)
-      (overwrite (f.boxes * f.grocers) (λ i. zero+) t.held)
-      (overwrite f.grocers (λ i. zero+) t.forecast)
-      (overwrite (6 * f.boxes * f.boxes) (λ i. 0) t.done)
-      (sym (overwrite_one 0 t.sent long) i)
+  fresh_is known value_transit part part_transit held forecast done e q r u y z x long =
+      let own = e ∙ fresh_known in
+      λ i. state_tables (own i) (q i) (r i) (u i) (y i) (z i) (x i) (sym (overwrite_one 0 t.sent long) i)
 
   -- The answer, by the number of the first condition met.
-  module _ (n : ℕ) (e : n ≡ first_met (fresh_refusals f t)) where
-    pub fresh_refused : (n ≡ 0 → ⊥) → outcome (refused n) t ≡ freshened f t
-    unfolding freshened
-    fresh_refused ne =
-        rw (ne_eqb (first_met (fresh_refusals f t)) 0 (λ z. ne (e ∙ z))) (ap (λ (a : StepAnswer). outcome a t) (sym (refused_number n ne) ∙ ap step_answer e))
+  pub fresh_refused : (n : ℕ) → n ≡ first_met (fresh_refusals f t) → 0 < n → outcome (refused n) t ≡ freshened f t
+  unfolding freshened
+  fresh_refused n e h =
+      let ne : n ≡ 0 → ⊥ = λ z. omega (arith, h, z) in
+      rw (ne_eqb (first_met (fresh_refusals f t)) 0 (λ z. ne (e ∙ z))) (ap (λ (a : StepAnswer). outcome a t) (sym (refused_number n ne) ∙ ap step_answer e))
 
-    pub fresh_accepted : n ≡ 0 → (u : StateTables) → u ≡ fresh_tables f t → outcome accepted u ≡ freshened f t
+  -- Where none is, the tables are whole, and those of the forecast in range.
+  module _ (e : 0 ≡ first_met (fresh_refusals f t)) where
+    pub fresh_accepted : (u : StateTables) → u ≡ fresh_tables f t → outcome accepted u ≡ freshened f t
     unfolding freshened step_answer
-    fresh_accepted h u eu = rw (sym e ∙ h, eu)
+    fresh_accepted u eu = rw (sym e, eu)
 
-    -- Where none is, the tables are whole, and those of the forecast in range.
-    module _ (h : n ≡ 0) where
-      pub lines : LinesWhole f
-      lines = lines_whole f (whole-told f t (fresh_none f t (sym e ∙ h)).0).0
+    pub lines : LinesWhole f
+    lines = lines_whole f (whole-told f t (fresh_none f t (sym e)).0).0
 
-      pub words : StateWhole f.boxes f.grocers f.offers t
-      words = state_whole f t (whole-told f t (fresh_none f t (sym e ∙ h)).0).1
+    pub words : StateWhole f.boxes f.grocers f.offers t
+    words = state_whole f t (whole-told f t (fresh_none f t (sym e)).0).1
 
-      inside : WordsIn f
-      inside = words_in f (fresh_none f t (sym e ∙ h)).1.0
+    inside : WordsIn f
+    inside = words_in f (fresh_none f t (sym e)).1.0
 
-      pub values_in : FreshIn f.boxes f.offers f.lines f.offer_owner f.line_offer f.line_value t.known
-      values_in = record {
-        boxes_in = inside.boxes≤;
-        offers_in = inside.offers≤;
-        owner_long_lem = lines.offer_owner;
-        offer_long_lem = lines.line_offer;
-        value_long = lines.line_value;
-        known_long_lem = words.known;
-        owners_in = inside.offer_owner;
-        offers_are = inside.line_offer;
-      }
+    pub values_in : FreshIn f.boxes f.offers f.lines f.offer_owner f.line_offer f.line_value t.known
+    values_in = record {
+      boxes_in = inside.boxes≤;
+      offers_in = inside.offers≤;
+      owner_long_lem = lines.offer_owner;
+      offer_long_lem = lines.line_offer;
+      value_long = lines.line_value;
+      known_long_lem = words.known;
+      owners_in = inside.offer_owner;
+      offers_are = inside.line_offer;
+    }

@@ -75,19 +75,21 @@ unfolding marked to_marks
 done_is k marks n a b h l = ap (λ (d : Money.Steps). marks_of k d marks) (λ i p c d. same_mark k marks n a b h l p c d i)
 
 -- The answer by the number of the first condition met.
-module _ (f : ForecastTables) (t : StateTables) (q : Asked) (r : ℕ) (e : r ≡ step_refusal f t q) where
-  pub refused_by : (r ≡ 0 → ⊥) → outcome (refused r) t ≡ stepped f t q
+module _ (f : ForecastTables) (t : StateTables) (q : Asked) where
+  pub refused_by : (r : ℕ) → r ≡ step_refusal f t q → 0 < r → outcome (refused r) t ≡ stepped f t q
   unfolding stepped step_tables
-  refused_by n = rw (ne_eqb (step_refusal f t q) 0 (λ z. n (e ∙ z))) (ap (λ (a : StepAnswer). outcome a t) (sym (refused_number r n) ∙ ap step_answer e))
+  refused_by r e h =
+      let n : r ≡ 0 → ⊥ = λ z. omega (arith, h, z) in
+      rw (ne_eqb (step_refusal f t q) 0 (λ z. n (e ∙ z))) (ap (λ (a : StepAnswer). outcome a t) (sym (refused_number r n) ∙ ap step_answer e))
 
-  pub accepted_by : r ≡ 0 → (u : StateTables) → u ≡ moved f t q → outcome accepted u ≡ stepped f t q
+  pub accepted_by : 0 ≡ step_refusal f t q → (u : StateTables) → u ≡ moved f t q → outcome accepted u ≡ stepped f t q
   unfolding stepped step_tables step_answer
-  accepted_by h u eu = rw (sym e ∙ h, eu)
+  accepted_by e u eu = rw (sym e, eu)
 
 -- An accepted step.
-module _ (f : ForecastTables) (t : StateTables) (q : Asked) (needs sharers : List ℕ) (met count : ℕ) (y : Decided f t q needs sharers met count) (z : met ≡ 0) where
+module _ (f : ForecastTables) (t : StateTables) (q : Asked) (needs sharers : List ℕ) (count : ℕ) (y : Decided f t q needs sharers 0 count) where
   abbrev none : step_refusal f t q ≡ 0
-  none = sym y.number_is ∙ z
+  none = sym y.number_is
 
   passed : Entered f t
   passed = entered f t (accepted_tables f t q none)
@@ -111,10 +113,10 @@ module _ (f : ForecastTables) (t : StateTables) (q : Asked) (needs sharers : Lis
   to = kind_to q.kind request.kind
 
   needing : needs ≡ tabulate 500 (need_word (forecast_of f).job)
-  needing = y.needs_are z
+  needing = y.needs_are refl
 
   sharing : sharers ≡ tabulate 255 (sharer_word (forecast_of f).job)
-  sharing = y.sharers_are z
+  sharing = y.sharers_are refl
 
   pub needs_long_lem : length needs ≡ 500
   needs_long_lem = rw needing (length_tabulate 500 (need_word (forecast_of f).job))
@@ -137,7 +139,7 @@ module _ (f : ForecastTables) (t : StateTables) (q : Asked) (needs sharers : Lis
 
   pub counting : ((1 ≤ length t.sent) × (get_or t.sent 0 0 ≤ max_sent)) × (count ≤ 4_000)
   counting =
-      ((long.sent, few_sent f t passed.state), omega (arith, y.words_are z, few f inside t needs sharers needing sharing (kind_of q.kind) q.first q.second))
+      ((long.sent, few_sent f t passed.state), omega (arith, y.words_are refl, few f inside t needs sharers needing sharing (kind_of q.kind) q.first q.second))
 
   -- A message between the two boxes, of n offers or grocers.
   message : (n : ℕ) (owner masks : List ℕ) (x y : List Float) → n ≤ length owner → n ≤ length masks → f.boxes * n ≤ length x → f.boxes * n ≤ length y →
@@ -176,31 +178,30 @@ module _ (f : ForecastTables) (t : StateTables) (q : Asked) (needs sharers : Lis
         ),
       )
 
-  pub lines_in : (l m n : ℕ) → l ≡ f.lines → m ≡ f.grocers → n ≡ f.offers →
-      LinesIn m n l (line_lists f.line_grocer f.line_offer f.line_box f.line_rate) × RowIn m n q.first t.part t.known
-  lines_in l m n el em en =
-      rw (el, em, en) (
-        record {
-          grocer_long_lem = lines.line_grocer;
-          offer_long_lem = lines.line_offer;
-          box_long_lem = lines.line_box;
-          rate_long = lines.line_rate;
-          grocers = inside.line_grocer;
-          offers = inside.line_offer;
-        },
-        record {
-          grocers_in = inside.grocers≤;
-          offers_in = inside.offers≤;
-          box_in = first<;
-          part_long = omega (arith, long.part, row_in q.first f.boxes f.grocers request.first<);
-          known_long_lem = omega (arith, long.known, row_in q.first f.boxes f.offers request.first<);
-        },
-      )
+  pub lines_in : LinesIn f.grocers f.offers f.lines (line_lists f.line_grocer f.line_offer f.line_box f.line_rate)
+  lines_in = record {
+    grocer_long_lem = lines.line_grocer;
+    offer_long_lem = lines.line_offer;
+    box_long_lem = lines.line_box;
+    rate_long = lines.line_rate;
+    grocers = inside.line_grocer;
+    offers = inside.line_offer;
+  }
 
-  pub own_in : (m : ℕ) → m ≡ f.grocers →
-      ((f.boxes ≤ 16) × ((m ≤ 255) × ((m ≤ length f.grocer_owner) × ((m ≤ length sharers) × (q.first < f.boxes)))))
-      × ((f.boxes * m ≤ length t.part) × ((f.boxes * m ≤ length t.held) × (m ≤ length t.forecast)))
-  own_in m e = rw e ((inside.boxes≤, (inside.grocers≤, (lines.grocer_owner, (grocers_long, request.first<)))), (long.part, (long.held, long.forecast)))
+  pub row_of : RowIn f.grocers f.offers q.first t.part t.known
+  row_of = record {
+    grocers_in = inside.grocers≤;
+    offers_in = inside.offers≤;
+    box_in = first<;
+    part_long = omega (arith, long.part, row_in q.first f.boxes f.grocers request.first<);
+    known_long_lem = omega (arith, long.known, row_in q.first f.boxes f.offers request.first<);
+  }
+
+  pub own_sizes : (f.boxes ≤ 16) × ((f.grocers ≤ 255) × ((f.grocers ≤ length f.grocer_owner) × ((f.grocers ≤ length sharers) × (q.first < f.boxes))))
+  own_sizes = (inside.boxes≤, (inside.grocers≤, (lines.grocer_owner, (grocers_long, request.first<))))
+
+  pub own_tables : (f.boxes * f.grocers ≤ length t.part) × ((f.boxes * f.grocers ≤ length t.held) × (f.grocers ≤ length t.forecast))
+  own_tables = (long.part, (long.held, long.forecast))
 
   -- Tables that a step does not touch.
   keep_known : t.known ≡ recell f.boxes f.offers (cell f.boxes f.offers t.known zero+) t.known
@@ -226,7 +227,7 @@ module _ (f : ForecastTables) (t : StateTables) (q : Asked) (needs sharers : Lis
     sent_told : sent' ≡ overwrite 1 (λ i. (effect (forecast_of f) (view (forecast_of f) t) (kind_of q.kind) q.first q.second).sent) t.sent
     sent_told =
         es
-        ∙ ap (λ (n : ℕ). set t.sent 0 (get_or t.sent 0 0 + n)) (y.words_are z)
+        ∙ ap (λ (n : ℕ). set t.sent 0 (get_or t.sent 0 0 + n)) (y.words_are refl)
         ∙ ap (λ (n : ℕ). set t.sent 0 n) (sent_is f inside t needs sharers needing sharing (kind_of q.kind) q.first q.second first< second<)
         ∙ sym (overwrite_one _ t.sent long.sent)
 
@@ -292,12 +293,12 @@ module _ (f : ForecastTables) (t : StateTables) (q : Asked) (needs sharers : Lis
             (λ e. v.others (c * f.grocers + g) (omega (arith, lg, row_in c q.first f.grocers (ltb-true c q.first e))))
             (λ e. let more : q.first < c = omega (arith, ltb-false c q.first e, ne) in v.behind (c * f.grocers + g) (omega (arith, row_in q.first c f.grocers more)))
 
-    pub lines_accepted : (part' : List Float) (l m n : ℕ) → l ≡ f.lines → m ≡ f.grocers → n ≡ f.offers → q.kind ≡ 3 → length part' ≡ length t.part →
-        Added (line_lists f.line_grocer f.line_offer f.line_box f.line_rate) m n q.first l t.known t.part part' →
+    pub lines_accepted : (part' : List Float) → q.kind ≡ 3 → length part' ≡ length t.part →
+        Added (line_lists f.line_grocer f.line_offer f.line_box f.line_rate) f.grocers f.offers q.first f.lines t.known t.part part' →
         state_tables t.known t.value_transit part' t.part_transit t.held t.forecast done' sent' ≡ moved f t q
     unfolding store effect view forecast_of kind_of
-    lines_accepted part' l m n el em en e sp v =
-        let row = row_added part' sp (rw (el, em, en) at v) in
+    lines_accepted part' e sp v =
+        let row = row_added part' sp v in
         (λ i. state_tables (keep_known i) (keep_values i) (row i) (keep_transit i) (keep_held i) (keep_forecast i) (done_as 3 e i) (sent_as 3 e i)) ∙ moved_as 3 e
 
     -- 4.
@@ -341,14 +342,15 @@ module _ (f : ForecastTables) (t : StateTables) (q : Asked) (needs sharers : Lis
         recell_cong f.boxes f.grocers _ _ t.held (λ c g lc lg.
         rw (summed_word_lem f t sharers q.first inside.boxes≤ inside.grocers≤ sharing c g (omega (arith, lc, inside.boxes≤)) lg, cell_at f.boxes f.grocers t.held zero+ c g lc lg))
 
-    pub sums_accepted : (part' held' forecast' : List Float) (m : ℕ) → m ≡ f.grocers → q.kind ≡ 6 → length part' ≡ length t.part →
-        forecast' ≡ overwrite m (summed_word f.boxes m q.first f.grocer_owner sharers t.part t.held t.forecast) t.forecast →
-        Zeroed (q.first * m) m (summed_in f.grocer_owner sharers q.first q.first) t.part part' → held' ≡ held_after f.boxes m q.first f.grocer_owner sharers t.held →
+    pub sums_accepted : (part' held' forecast' : List Float) → q.kind ≡ 6 → length part' ≡ length t.part →
+        forecast' ≡ overwrite f.grocers (summed_word f.boxes f.grocers q.first f.grocer_owner sharers t.part t.held t.forecast) t.forecast →
+        Zeroed (q.first * f.grocers) f.grocers (summed_in f.grocer_owner sharers q.first q.first) t.part part' →
+        held' ≡ held_after f.boxes f.grocers q.first f.grocer_owner sharers t.held →
         state_tables t.known t.value_transit part' t.part_transit held' forecast' done' sent' ≡ moved f t q
     unfolding store effect view forecast_of kind_of
-    sums_accepted part' held' forecast' m em e sp ef v eh =
+    sums_accepted part' held' forecast' e sp ef v eh =
         let a = q.first in
-        let sums = (rw em at ef) ∙ summed_forecasts f t sharers a inside.boxes≤ inside.grocers≤ sharing in
-        let parts = summed_parts f t sharers a inside.boxes≤ inside.grocers≤ sharing part' request.first< (rw em at v) long.part sp in
-        let others = (rw em at eh) ∙ held_summed_lem in
+        let sums = ef ∙ summed_forecasts f t sharers a inside.boxes≤ inside.grocers≤ sharing in
+        let parts = summed_parts f t sharers a inside.boxes≤ inside.grocers≤ sharing part' request.first< v long.part sp in
+        let others = eh ∙ held_summed_lem in
         (λ i. state_tables (keep_known i) (keep_values i) (parts i) (keep_transit i) (others i) (sums i) (done_as 6 e i) (sent_as 6 e i)) ∙ moved_as 6 e

@@ -1,5 +1,5 @@
 -- A request by the number of its kind, and its conditions as the forecast has them. Assumes nothing.
-use mathlib.Core.Path.{◌≡◌, refl, ap}
+use mathlib.Core.Path.{◌≡◌, refl, sym, ap, ◌∙◌}
 use mathlib.Core.Bool.{Bool, true, false, cond, ◌&&◌, ◌||◌, not}
 use mathlib.Core.List.{List}
 use Prim.Native.Nat.{ℕ, zero, suc, ◌*◌, ◌<◌, ◌≤◌}
@@ -11,7 +11,7 @@ use Rattle.laws.specs.Checks.{first_met}
 use Rattle.laws.proofs.Bools.{and_l, and_r}
 use Rattle.laws.proofs.Below.{all_cong}
 use Rattle.model.specs.Job.{prices_due, totals_due}
-use Rattle.model.specs.Step.{Asked, is_kind}
+use Rattle.model.specs.Step.{Asked, asked, is_kind}
 use Rattle.model.specs.Tables.{steps_done}
 use Rattle.model.specs.Steps as Money
 use Rattle.step_places.specs.Marks.{MarksIn}
@@ -74,6 +74,51 @@ marks_in k kind a b done t lk long e h = record {
   b_in = ltb-true b k (and_l (ltb b k) t (and_r (ltb a k) _ h));
   done_long = long;
 }
+
+-- The conditions 22 to 26 one after the other, by the tests before each.
+module _ (k : ℕ) (receivers senders done : List ℕ) (kind a b : ℕ) where
+  abbrev rules : List (Bool × ℕ)
+  rules = rules_by k receivers senders (from_marks k done) (asked kind a b)
+
+  abbrev boxed : Bool
+  boxed = ltb a k && (ltb b k && boxes_asked (kind_of kind) a b)
+
+  pub kind_met : is_kind kind ≡ false → 22 ≡ first_met rules
+  unfolding first_met rules_by
+  kind_met h = rw h
+
+  module _ (i : is_kind kind ≡ true) where
+    pub kind_in : (1 ≤ kind) × (kind ≤ 6)
+    kind_in = (kind_from kind i, kind_to kind i)
+
+    pub boxes_met : boxed ≡ false → 23 ≡ first_met rules
+    unfolding first_met rules_by
+    boxes_met h = rw (i, h)
+
+    module _ (x : boxed ≡ true) where
+      pub step_met : fits_by receivers senders (kind_of kind) a b ≡ false → 24 ≡ first_met rules
+      unfolding first_met rules_by
+      step_met h = rw (i, x, h)
+
+      module _ (lk : k ≤ 16) (long : 6 * k * k ≤ length done) where
+        pub mark_in : MarksIn k kind a b done
+        mark_in = marks_in k kind a b done (boxes_asked (kind_of kind) a b) lk long i x
+
+        pub message_in : (1 ≤ kind) × ((kind ≤ 6) × ((a < 16) × (b < 16)))
+        message_in = let m = mark_in in (m.kind_from, (m.kind_to, (omega (arith, m.a_in, lk), omega (arith, m.b_in, lk))))
+
+      module _ (f : fits_by receivers senders (kind_of kind) a b ≡ true) (d : Bool) (ed : d ≡ steps_done k done (Money.kind_of kind) a b) where
+        marked : d ≡ from_marks k done (kind_of kind) a b
+        marked = ed ∙ done_is k done a b kind kind_in.0 kind_in.1
+
+        pub done_met : d ≡ true → 25 ≡ first_met rules
+        unfolding first_met rules_by
+        done_met h = rw (i, x, f, sym marked, h)
+
+        pub ready_told : d ≡ false → (r : Bool) → ready_by k receivers senders (from_marks k done) (kind_of kind) a b ≡ r → cond r 0 26 ≡ first_met rules
+        unfolding first_met rules_by
+        ready_told h true e = rw (i, x, f, sym marked, h, e)
+        ready_told h false e = rw (i, x, f, sym marked, h, e)
 
 -- Two lists of rules that differ only where the boxes do not fit.
 same_rules : (i x f f' d r r' : Bool) → (x ≡ true → f ≡ f') → (x ≡ true → r ≡ r') →

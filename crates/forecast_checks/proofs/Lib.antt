@@ -5,3 +5,4 @@ pub mod Asked
 pub mod Words
 pub mod Late
 pub mod Refused
+pub mod Passed

@@ -2,6 +2,7 @@
 use mathlib.Core.Path.{◌≡◌, refl, sym, ap, ◌∙◌}
 use mathlib.Core.Bool.{Bool, true, false, cond, ◌&&◌, ◌||◌, not, false≢true}
 use Prim.Native.Nat.{ℕ, ◌<◌}
+use native.Mathlib.Omega.{arith}
 use lib.Dec.{eqb, ltb}
 use borrow.Author.Tests.{ne_eqb, eqb-true}
 use Rattle.laws.specs.Checks.{first_met}
@@ -14,20 +15,19 @@ use Rattle.forecast_rules.specs.Ranges.{forecast_in_range, state_in_range, Forec
 use Rattle.forecast_rules.specs.Step.{step_rules, moved, refusals, step_refusal, fresh_refusals}
 use Rattle.forecast_rules.proofs.Refusal.{rules_zero, rules_then}
 use Rattle.forecast_rules.proofs.Machine.{first<, second<}
-use Rattle.forecast_checks.specs.Decided.{table_refusals}
+use Rattle.forecast_checks.specs.Decided.{lent_refusals, table_refusals}
 
--- As for a fresh state, where one of 20 and 21 is met.
-early : (s r w b : Bool) → let n = cond {A = ℕ} s 20 (cond (not r) 21 (cond b 34 0)) in (eqb n 20 || eqb n 21) ≡ true → n ≡ cond s 20 (cond (not (r && w)) 21 (cond b 34 0))
-early true r w b h = refl
-early false false w b h = refl
-early false true w true h = absurd (false≢true h)
-early false true w false h = absurd (false≢true h)
+-- 20 and 21 alone: a number that is met is met, whatever comes after.
+either : (s r : Bool) (rest : ℕ) → let n = cond {A = ℕ} s 20 (cond (not r) 21 0) in 0 < n → n ≡ cond s 20 (cond (not r) 21 rest)
+either true r rest h = refl
+either false false rest h = refl
+either false true rest h = absurd (omega (arith, h))
 
--- Where neither is.
-later : (s r b : Bool) → let n = cond {A = ℕ} s 20 (cond (not r) 21 (cond b 34 0)) in (eqb n 20 || eqb n 21) ≡ false → (s ≡ false) × (r ≡ true)
-later true r b h = absurd (false≢true (sym h))
-later false false b h = absurd (false≢true (sym h))
-later false true b h = (refl, refl)
+-- Where neither is met.
+neither : (s r : Bool) → 0 ≡ cond {A = ℕ} s 20 (cond (not r) 21 0) → (s ≡ false) × (r ≡ true)
+neither true r h = absurd (omega (arith, h))
+neither false false h = absurd (omega (arith, h))
+neither false true h = (refl, refl)
 
 -- A number that is met on the tables is met, whatever comes after.
 first : (s r b : Bool) (rest : ℕ) → let n = cond {A = ℕ} s 20 (cond (not r) 21 (cond b 34 0)) in (n ≡ 0 → ⊥) → n ≡ cond s 20 (cond (not r) 21 (cond b 34 rest))
@@ -59,43 +59,54 @@ module _ (f : ForecastTables) (t : StateTables) where
   unfolding lent_short
   whole-told h = or_off (forecast_short f (forecast_lengths f)) (state_short f (state_lengths t)) h
 
+  -- 20 and 21 on the tables of the forecast.
+  pub lent_short_lem : lent_short f t ≡ true → 20 ≡ first_met (lent_refusals f t)
+  unfolding first_met lent_refusals
+  lent_short_lem h = rw h
+
+  pub lent_told : (v : Bool) → lent_short f t ≡ false → forecast_in_range f ≡ v → cond v 0 21 ≡ first_met (lent_refusals f t)
+  unfolding first_met lent_refusals
+  lent_told true h r = rw (h, r)
+  lent_told false h r = rw (h, r)
+
+  pub lent_none : 0 ≡ first_met (lent_refusals f t) → (lent_short f t ≡ false) × (forecast_in_range f ≡ true)
+  unfolding first_met lent_refusals
+  lent_none h = neither (lent_short f t) (forecast_in_range f) h
+
   -- The call for a fresh state.
-  pub fresh_short : lent_short f t ≡ true → 20 ≡ first_met (fresh_refusals f t)
-  unfolding first_met fresh_refusals
-  fresh_short h = rw h
+  pub fresh_lent : (n : ℕ) → n ≡ first_met (lent_refusals f t) → 0 < n → n ≡ first_met (fresh_refusals f t)
+  unfolding first_met lent_refusals fresh_refusals
+  fresh_lent n e h = e ∙ either (lent_short f t) (forecast_in_range f) _ (rw e at h)
 
-  pub fresh_range : lent_short f t ≡ false → forecast_in_range f ≡ false → 21 ≡ first_met (fresh_refusals f t)
+  pub fresh_lines : 0 ≡ first_met (lent_refusals f t) → (n : ℕ) → n ≡ cond (bad_line (forecast_of f)) 34 0 → n ≡ first_met (fresh_refusals f t)
   unfolding first_met fresh_refusals
-  fresh_range h r = rw (h, r)
-
-  pub fresh_lines : (v : Bool) → lent_short f t ≡ false → forecast_in_range f ≡ true → bad_line (forecast_of f) ≡ v → cond v 34 0 ≡ first_met (fresh_refusals f t)
-  unfolding first_met fresh_refusals
-  fresh_lines v h r b = rw (h, r, b)
+  fresh_lines h n e = let d = lent_none h in e ∙ rw (d.0, d.1)
 
   pub fresh_none : first_met (fresh_refusals f t) ≡ 0 → (lent_short f t ≡ false) × ((forecast_in_range f ≡ true) × (bad_line (forecast_of f) ≡ false))
   unfolding first_met fresh_refusals
   fresh_none h = none (lent_short f t) (forecast_in_range f) (bad_line (forecast_of f)) h
 
   -- The tables of a step.
-  module _ (n : ℕ) (e : n ≡ first_met (fresh_refusals f t)) where
-    pub table_early : (eqb n 20 || eqb n 21) ≡ true → n ≡ first_met (table_refusals f t)
-    unfolding first_met fresh_refusals table_refusals
-    table_early h = e ∙ early (lent_short f t) (forecast_in_range f) (state_in_range f t) (bad_line (forecast_of f)) (rw e at h)
+  pub table_lent : (n : ℕ) → n ≡ first_met (lent_refusals f t) → 0 < n → n ≡ first_met (table_refusals f t)
+  unfolding first_met lent_refusals table_refusals
+  table_lent n e h = e ∙ both (lent_short f t) (forecast_in_range f) (state_in_range f t) _ (rw e at h)
+    where
+      both : (s r w : Bool) (rest : ℕ) → let n = cond {A = ℕ} s 20 (cond (not r) 21 0) in 0 < n → n ≡ cond s 20 (cond (not (r && w)) 21 rest)
+      both true r w rest h = refl
+      both false false w rest h = refl
+      both false true w rest h = absurd (omega (arith, h))
 
-    table_later : (eqb n 20 || eqb n 21) ≡ false → (lent_short f t ≡ false) × (forecast_in_range f ≡ true)
-    unfolding first_met fresh_refusals
-    table_later h = later (lent_short f t) (forecast_in_range f) (bad_line (forecast_of f)) (rw e at h)
+  module _ (h : 0 ≡ first_met (lent_refusals f t)) where
+    pub state_whole_lem : state_short f (state_lengths t) ≡ false
+    state_whole_lem = (whole-told (lent_none h).0).1
 
-    pub table_whole : (eqb n 20 || eqb n 21) ≡ false → state_short f (state_lengths t) ≡ false
-    table_whole h = (whole-told (table_later h).0).1
-
-    pub table_state : (eqb n 20 || eqb n 21) ≡ false → state_in_range f t ≡ false → 21 ≡ first_met (table_refusals f t)
+    pub table_state : state_in_range f t ≡ false → 21 ≡ first_met (table_refusals f t)
     unfolding first_met table_refusals
-    table_state h r = let d = table_later h in rw (d.0, d.1, r)
+    table_state r = let d = lent_none h in rw (d.0, d.1, r)
 
-    pub table_lines : (eqb n 20 || eqb n 21) ≡ false → state_in_range f t ≡ true → n ≡ first_met (table_refusals f t)
-    unfolding first_met fresh_refusals table_refusals
-    table_lines h r = let d = table_later h in e ∙ rw (d.0, d.1, r)
+    pub table_lines : state_in_range f t ≡ true → (n : ℕ) → n ≡ cond (bad_line (forecast_of f)) 34 0 → n ≡ first_met (table_refusals f t)
+    unfolding first_met table_refusals
+    table_lines r n e = let d = lent_none h in e ∙ rw (d.0, d.1, r)
 
   -- No condition on the tables is met.
   pub record Entered : Type 0 where

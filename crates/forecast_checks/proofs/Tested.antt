@@ -16,7 +16,6 @@ use Rattle.forecast_rules.specs.Doubles.{is_value, is_sum}
 use Rattle.forecast_rules.specs.Tables.{ForecastTables, forecast_lengths, forecast_short, StateTables, state_lengths, state_short}
 use Rattle.forecast_rules.specs.Ranges.{max_lines, each, forecast_in_range, state_in_range}
 use Rattle.forecast_rules.proofs.Lent.{forecast_long, state_long}
-use Rattle.forecast_checks.specs.Sizes.{sizes}
 
 -- The tables of a forecast, lent whole.
 pub record LinesWhole (f : ForecastTables) : Type 0 where
@@ -82,20 +81,21 @@ pub under_more : (m k n : ℕ) (l : List ℕ) → m ≤ k → under m n l ≡ tr
 unfolding under
 under_more m k n l h ok = all_of_lem n _ (λ i li. lt-ltb (get_or l i 0) k (omega (arith, h, ltb-true (get_or l i 0) m (all_at n (λ i. ltb (get_or l i 0) m) i li ok))))
 
--- The tests of the forecast's tables.
-pub lines_tested : (f : ForecastTables) (a b c d e : Bool) →
-    a ≡ under f.boxes f.offers f.offer_owner → b ≡ under f.boxes f.grocers f.grocer_owner → c ≡ under f.grocers f.lines f.line_grocer →
-    d ≡ under f.offers f.lines f.line_offer → e ≡ under f.boxes f.lines f.line_box →
+-- The tests of the forecast's tables, at lengths that are M, N and the number of lines.
+pub lines_tested : (f : ForecastTables) (m n l : ℕ) → m ≡ f.grocers → n ≡ f.offers → l ≡ f.lines → (a b c d e : Bool) →
+    a ≡ under f.boxes n f.offer_owner → b ≡ under f.boxes m f.grocer_owner → c ≡ under f.grocers l f.line_grocer →
+    d ≡ under f.offers l f.line_offer → e ≡ under f.boxes l f.line_box →
     all_of ((leb 1 f.boxes && leb f.boxes max_boxes) ∷ (leb 1 f.grocers && leb f.grocers max_grocers) ∷ (leb 1 f.offers && leb f.offers max_offers)
     ∷ leb f.lines max_lines ∷ a ∷ b ∷ c ∷ d ∷ e ∷ []) ≡ forecast_in_range f
 unfolding forecast_in_range
-lines_tested f a b c d e ea eb ec ed ee = rw (ea, eb, ec, ed, ee)
+lines_tested f m n l em en el a b c d e ea eb ec ed ee = rw (ea, eb, ec, ed, ee, em, en, el)
 
 -- The tests of the state's tables, at lengths that are the products of K, M and N.
-pub words_tested : (k m n l : ℕ) (t : StateTables) (kn km kk : ℕ) → kn ≡ k * n → km ≡ k * m → kk ≡ 6 * k * k → (a b c d e g h i : Bool) →
+pub words_tested : (f : ForecastTables) (t : StateTables) (kn km m kk : ℕ) → kn ≡ f.boxes * f.offers → km ≡ f.boxes * f.grocers → m ≡ f.grocers →
+    kk ≡ 6 * f.boxes * f.boxes → (a b c d e g h i : Bool) →
     a ≡ each is_value kn t.known → b ≡ each is_value kn t.value_transit → c ≡ each is_sum km t.part → d ≡ each is_sum km t.part_transit →
     e ≡ each is_sum km t.held → g ≡ each is_sum m t.forecast → h ≡ under 2 kk t.done → i ≡ up_to max_sent 1 t.sent →
-    all_of (a ∷ b ∷ c ∷ d ∷ e ∷ g ∷ h ∷ i ∷ []) ≡ state_in_range (sizes k m n l) t
+    all_of (a ∷ b ∷ c ∷ d ∷ e ∷ g ∷ h ∷ i ∷ []) ≡ state_in_range f t
 unfolding state_in_range
-words_tested k m n l t kn km kk en em ek a b c d e g h i ea eb ec ed ee eg eh ei =
-    rw (ea, eb, ec, ed, ee, eg, eh, ei, en, em, ek, under_two (6 * k * k) t.done)
+words_tested f t kn km m kk en em eg' ek a b c d e g h i ea eb ec ed ee eg eh ei =
+    rw (ea, eb, ec, ed, ee, eg, eh, ei, en, em, eg', ek, under_two (6 * f.boxes * f.boxes) t.done)

@@ -1,5 +1,6 @@
 -- What the refusal of a step tells: its number, and for a step that is not refused the words that it needs.
-use Rattle.std.specs.Prelude.{◌≡◌, List, [], ◌∷◌, Bool, cond, ◌&&◌, not, ℕ, ◌+◌, eqb, leb, get_or, Float}
+use Rattle.std.specs.Prelude.{◌≡◌, List, [], ◌∷◌, Bool, cond, ◌&&◌, not, ℕ, ◌+◌, eqb, leb, get_or, Float, Result, Ok, Err}
+use Rattle.refusals.specs.declared.Refusal.{Refusal}
 use Rattle.laws.specs.Below.{count}
 use Rattle.laws.specs.Limits.{max_sent}
 use Rattle.laws.specs.Tables.{tabulate}
@@ -12,6 +13,10 @@ use Rattle.forecast_rules.specs.Tables.{ForecastTables, forecast_of, StateTables
 use Rattle.forecast_rules.specs.Ranges.{forecast_in_range, state_in_range}
 use Rattle.forecast_rules.specs.Step.{step_refusal}
 use Rattle.forecast_doubles.specs.Parts.{sums_fit}
+
+-- 20 on all tables, and 21 on those of the forecast.
+unfoldable pub lent_refusals : ForecastTables → StateTables → List (Bool × ℕ)
+lent_refusals f t = (lent_short f t, 20) ∷ (not (forecast_in_range f), 21) ∷ []
 
 -- The conditions on the tables: 20, 21 and 34.
 unfoldable pub table_refusals : ForecastTables → StateTables → List (Bool × ℕ)
@@ -30,6 +35,11 @@ message_words n m offer_owner grocer_owner needs sharers sum_own a b = 0
 unfoldable pub late_fits : ℕ → ℕ → List ℕ → List ℕ → List Float → List Float → List ℕ → ℕ → ℕ → ℕ → Bool
 late_fits k m owner sharers part held sent words kind a =
     cond (eqb kind 6) (sums_fit k m a owner sharers part held m) (leb (get_or sent 0 0 + words) max_sent)
+
+-- The words that an answer gives: none where it refuses.
+abbrev pub words_of : Result ℕ Refusal → ℕ
+words_of (Ok n) = n
+words_of (Err r) = 0
 
 -- The number of the first condition met, and where it is 0 the need words, the sharer words and the words of the message.
 pub record Decided (f : ForecastTables) (t : StateTables) (q : Asked) (needs sharers : List ℕ) (met words : ℕ) : Type 0 where

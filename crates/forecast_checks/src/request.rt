@@ -1,12 +1,15 @@
-// The conditions 22 to 26 of a request for a forecast's step, from the words of receivers and senders and the marks of steps done.
+// The conditions 22 to 26 of a request for a forecast's step, from the words of receivers and senders and the marks of steps done. (Kinds stay numbers:
+// a request may ask for any, and marks have their places by them.)
 ghost use Rattle.std.specs.Prelude.{◌≡◌, ◌&&◌, ◌*◌, ◌≤◌, ◌<◌, ltb, length};
 ghost use Rattle.laws.specs.Checks.{first_met};
 ghost use Rattle.model.specs.Step.{asked, is_kind};
+ghost use Rattle.refusals.specs.Numbers.{number};
 ghost use Rattle.step_places.specs.Marks.{MarksIn};
 ghost use Rattle.forecast_rules.specs.Steps.{kind_of};
 ghost use Rattle.forecast_rules.specs.Tables.{from_marks};
 ghost use Rattle.forecast_checks.specs.Rules.{boxes_asked, fits_by, due_done, all_due_by, ready_by, rules_by};
 
+use refusals::Refusal;
 use slices::limits::BOXES;
 use step_places::words::reaches;
 use step_rules::marks::is_done;
@@ -32,19 +35,13 @@ fn fits(kind: u16, a: u16, b: u16, receivers: &[u16; BOXES], senders: &[u16; BOX
     requires { (1 ≤ kind) × ((kind ≤ 6) × ((a < 16) × (b < 16))) }
     ensures { result ≡ fits_by receivers.now senders.now (kind_of kind) a b }
 {
-    if kind == 1 {
-        return reaches(receivers, a, b);
+    match kind {
+        1 => reaches(receivers, a, b),
+        2 => reaches(receivers, b, a),
+        4 => reaches(senders, b, a),
+        5 => reaches(senders, a, b),
+        _ => a == b,
     }
-    if kind == 2 {
-        return reaches(receivers, b, a);
-    }
-    if kind == 4 {
-        return reaches(senders, b, a);
-    }
-    if kind == 5 {
-        return reaches(senders, a, b);
-    }
-    a == b
 }
 
 // Whether a step that the forecast has is done, for the second box c.
@@ -96,25 +93,17 @@ fn is_ready(
     requires { MarksIn k kind a b done.now }
     ensures { result ≡ ready_by k receivers.now senders.now (from_marks k done.now) (kind_of kind) a b }
 {
-    if kind == 2 {
-        return is_done(k, 1, b, a, done);
+    match kind {
+        2 => is_done(k, 1, b, a, done),
+        3 => all_due(k, 2, a, receivers, senders, done),
+        4 => is_done(k, 3, a, a, done),
+        5 => is_done(k, 4, b, a, done),
+        6 => is_done(k, 3, a, a, done) & all_due(k, 5, a, receivers, senders, done),
+        _ => true,
     }
-    if kind == 3 {
-        return all_due(k, 2, a, receivers, senders, done);
-    }
-    if kind == 4 {
-        return is_done(k, 3, a, a, done);
-    }
-    if kind == 5 {
-        return is_done(k, 4, b, a, done);
-    }
-    if kind == 6 {
-        return is_done(k, 3, a, a, done) & all_due(k, 5, a, receivers, senders, done);
-    }
-    true
 }
 
-// The first of the conditions 22 to 26 that is met, or 0. Words and marks are looked at only where both boxes are below k.
+// The first of the conditions 22 to 26 that is met. Words and marks are looked at only where both boxes are below k.
 pub fn request_refusal(
     k: u16,
     kind: u16,
@@ -123,24 +112,24 @@ pub fn request_refusal(
     receivers: &[u16; BOXES],
     senders: &[u16; BOXES],
     done: &[u16],
-) -> u16
+) -> Result<(), Refusal>
     requires { (k ≤ 16) × (6 * k * k ≤ length done.now) }
-    ensures { result ≡ first_met (rules_by k receivers.now senders.now (from_marks k done.now) (asked kind a b)) }
+    ensures { number result ≡ first_met (rules_by k receivers.now senders.now (from_marks k done.now) (asked kind a b)) }
 {
     if !is_kind(kind) {
-        return 22;
+        return Err(Refusal::NoSuchKind);
     }
     if !boxes_fit(k, kind, a, b) {
-        return 23;
+        return Err(Refusal::NoSuchBoxes);
     }
     if !fits(kind, a, b, receivers, senders) {
-        return 24;
+        return Err(Refusal::NoSuchStep);
     }
     if is_done(k, kind, a, b, done) {
-        return 25;
+        return Err(Refusal::AlreadyDone);
     }
     if !is_ready(k, kind, a, b, receivers, senders, done) {
-        return 26;
+        return Err(Refusal::NotReady);
     }
-    0
+    Ok(())
 }

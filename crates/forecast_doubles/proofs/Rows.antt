@@ -1,12 +1,14 @@
--- A row of part sums: cleared word by word, and with one line more. Assumes nothing.
+-- A row of part sums: cleared, and with one line more. Assumes nothing.
 use mathlib.Core.Path.{◌≡◌, refl, sym, ap, ◌∙◌}
 use mathlib.Core.Bool.{true, false, cond, ◌&&◌}
 use mathlib.Core.List.{List}
-use Prim.Native.Nat.{ℕ, ◌+◌, ◌*◌, ◌≤◌, ◌<◌}
+use Prim.Native.Nat.{ℕ, ◌+◌, ◌-◌, ◌*◌, ◌≤◌, ◌<◌}
 use native.Mathlib.Omega.{arith}
 use native.Mathlib.Decide.{dec_lt, ℕ_discrete}
 use lib.Dec.{eqb, leb}
-use lib.ListN.{get_or, set, length}
+use lib.ListN.{get_or, set, length, take, drop, replicate}
+use borrow.Rule.Slice.PartMut.{put_mid, mid_of}
+use Rattle.std.proofs.lemmas.List.{length-take-le, length-drop, length-replicate, get_or_append_left, get_or-append_right, get_or-take, get_or-drop, get_or-replicate}
 use lib.Seq.{get_or-set_same, get_or-set_other}
 use lib.Ieee.{Float, binary64, add, mul}
 use borrow.Author.Tests.{eq-eqb, ne_eqb, lt-ltb, le-ltb, le-leb, lt-leb}
@@ -28,32 +30,24 @@ pub cleared_behind : (row m : ℕ) (l : List Float) (p : ℕ) → row + m ≤ p 
 unfolding cleared
 cleared_behind row m l p h = rw (le-ltb p (row + m) h, and_false (leb row p))
 
--- No word yet.
-pub cleared_none : (row : ℕ) (l : List Float) (p : ℕ) → get_or l p zero+ ≡ cleared row 0 l p
-cleared_none row l p =
-    elim (dec_lt p row) [
-      | yes k ↦ sym (cleared_before row 0 l p k)
-      | no k ↦ sym (cleared_behind row 0 l p (omega (arith, k)))
-    ]
+-- A row between two parts of a table, written with +0.0, is cleared.
+module _ (row m k : ℕ) (l : List Float) where
+  pub mid_long : k ≡ m → row + m ≤ length l → length (mid_of row k l) ≡ m
+  mid_long e long = rw e (omega (arith, length-take-le m (drop row l) (omega (arith, length-drop row l, long))))
 
--- One word more.
-pub cleared_more : (row g : ℕ) (l l' : List Float) → ((p : ℕ) → get_or l' p zero+ ≡ cleared row g l p) → row + g < length l' →
-    (p : ℕ) → get_or (set l' (row + g) zero+) p zero+ ≡ cleared row (g + 1) l p
-cleared_more row g l l' h k p =
-    elim (ℕ_discrete p (row + g)) [
-      | yes e ↦ rw e (get_or-set_same l' (row + g) zero+ zero+ k ∙ sym (cleared_in row (g + 1) l (row + g) (omega arith) (omega arith)))
-      | no e ↦ get_or-set_other l' (row + g) p zero+ zero+ e ∙ h p ∙ same e
-    ]
-  where
-    same : (p ≡ row + g → ⊥) → cleared row g l p ≡ cleared row (g + 1) l p
-    same e =
-        elim (dec_lt p row) [
-          | yes b ↦ cleared_before row g l p b ∙ sym (cleared_before row (g + 1) l p b)
-          | no b ↦ elim (dec_lt p (row + g)) [
-            | yes u ↦ cleared_in row g l p (omega (arith, b)) u ∙ sym (cleared_in row (g + 1) l p (omega (arith, b)) (omega (arith, u)))
-            | no u ↦ cleared_behind row g l p (omega (arith, u)) ∙ sym (cleared_behind row (g + 1) l p (omega (arith, u, e)))
-          ]
+  pub filled : (r : List Float) → r ≡ replicate m zero+ → k ≡ m → row + m ≤ length l → (p : ℕ) → get_or (put_mid row k l r) p zero+ ≡ cleared row m l p
+  filled r e h long p =
+      let head : length (take row l) ≡ row = length-take-le row l (omega arith) in
+      let many : length r ≡ m = rw e (length-replicate m zero+) in
+      elim (dec_lt p row) [
+        | yes b ↦ get_or_append_left (take row l) _ zero+ p (omega (arith, head, b)) ∙ get_or-take row l p zero+ b ∙ sym (cleared_before row m l p b)
+        | no b ↦ get_or-append_right (take row l) _ row p zero+ head (omega (arith, b)) ∙ elim (dec_lt p (row + m)) [
+          | yes u ↦ get_or_append_left r _ zero+ (p - row) (omega (arith, many, b, u)) ∙ rw e (get_or-replicate m (p - row) zero+ zero+ (omega (arith, b, u)))
+              ∙ sym (cleared_in row m l p (omega (arith, b)) u)
+          | no u ↦ get_or-append_right r _ m (p - row) zero+ many (omega (arith, b, u)) ∙ get_or-drop k (drop row l) (p - row - m) zero+ ∙ get_or-drop row l (k + (p - row - m)) zero+
+              ∙ ap (λ (i : ℕ). get_or l i zero+) (omega (arith, b, u, h)) ∙ sym (cleared_behind row m l p (omega (arith, u)))
         ]
+      ]
 
 module _ (t : LineLists) (m o a : ℕ) (known part : List Float) where
   -- One line more.
@@ -112,6 +106,11 @@ added_over t m o a n known part cl l h y = record {
   others = λ p k. y.others p k ∙ h p ∙ cleared_before (a * m) m part p k;
   behind = λ p k. y.behind p k ∙ h p ∙ cleared_behind (a * m) m part p k;
 }
+
+-- A cleared row, told by where it begins and its size.
+pub cleared_at : (row at m n : ℕ) (l l' : List Float) → row ≡ at → m ≡ n → ((p : ℕ) → get_or l' p zero+ ≡ cleared row m l p) →
+    (p : ℕ) → get_or l' p zero+ ≡ cleared at n l p
+cleared_at row at m n l l' e h told p = told p ∙ rw (e, h)
 
 -- A cleared row is one without lines.
 pub added_start : (t : LineLists) (m o a : ℕ) (known part cl : List Float) → ((p : ℕ) → get_or cl p zero+ ≡ cleared (a * m) m part p) → Added t m o a 0 known cl cl

@@ -24,7 +24,8 @@ fn line_bad(i: usize, last: u16, line_rate: &[f64], line_value: &[f64]) -> bool
 }
 
 // 34: whether a line's rate or value is out of range, or two lines of one offer differ in the bits of its value. Each line is held against the last one
-// of its offer before it, which is found by offer, and not against every other.
+// of its offer before it, which is found by offer, and not against every other. (A word that is 0 for none stays: an Option would double the table that
+// the loop looks into.)
 pub fn bad_lines(n: usize, line_offer: &[u16], line_rate: &[f64], line_value: &[f64]) -> bool
     requires n_bound { (n ≤ 1000) × ((n ≤ length line_offer.now) × ((n ≤ length line_rate.now) × (n ≤ length line_value.now))) }
     requires line_offer_value { under 500 n line_offer.now ≡ true }

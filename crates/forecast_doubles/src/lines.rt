@@ -5,9 +5,8 @@ ghost use Rattle.std.specs.Float.Ieee.{add, mul};
 ghost use Rattle.forecast_rules.specs.Doubles.{zero+};
 ghost use Rattle.forecast_doubles.specs.Lines.{line_lists, LinesIn, RowIn, cleared, Added};
 
-use crate::values::f64_at;
+use crate::tables::Forecast;
 use slices::amounts::row_start;
-use slices::u16_at;
 
 // A forecast line: a rate and a value, joined with their grocer, offer and box.
 #[derive(Clone, Copy)]
@@ -31,8 +30,7 @@ fn raise(sums: &mut [f64], p: usize, x: f64)
     requires { p < length sums.old }
     ensures { sums.new ≡ set sums.old p (add binary64 (get_or sums.old p zero+) x) }
 {
-    let s = sums[p] + x;
-    sums[p] = s;
+    sums[p] += x;
 }
 
 // Adds a line to the part sum of its grocer, in the row of box a, where it is a line of this box.
@@ -43,7 +41,7 @@ fn add_line(part: &mut [f64], row: usize, a: u16, line: Line)
         (add binary64 (get_or part.old (row + line.grocer) zero+) (mul binary64 line.rate line.value))) part.old }
 {
     if line.line_box == a {
-        let p = row + (line.grocer as usize);
+        let p = row + usize::from(line.grocer);
         raise(part, p, product(line));
     }
 }
@@ -53,61 +51,40 @@ fn zero_row(part: &mut [f64], row: usize, m: usize)
     requires { (row ≤ 4080) × ((m ≤ 255) × (row + m ≤ length part.old)) }
     ensures { (p : ℕ) → get_or part.new p zero+ ≡ cleared row m part.old p }
 {
-    for g in 0..m {
-        let p = row + g;
-        part[p] = 0.0;
-    }
+    part[row..row + m].fill(0.0);
 }
 
 // Line i, joined from the tables, with the value of its offer that stands in `known`, in the row that begins at `from`.
-fn line_at(
-    i: usize,
-    from: usize,
-    line_grocer: &[u16],
-    line_offer: &[u16],
-    line_box: &[u16],
-    line_rate: &[f64],
-    known: &[f64],
-) -> Line
-    requires i_in_bounds { (i < length line_grocer.now) × ((i < length line_offer.now) × ((i < length line_box.now) × (i < length line_rate.now))) }
-    requires from_bound { (from ≤ 8000) × (from + get_or line_offer.now i 0 < length known.now) }
-    ensures { (result.grocer ≡ get_or line_grocer.now i 0) × ((result.line_box ≡ get_or line_box.now i 0) ×
-        ((result.rate ≡ get_or line_rate.now i zero+) × (result.value ≡ get_or known.now (from + get_or line_offer.now i 0) zero+))) }
+fn line_at(f: &Forecast, i: usize, from: usize, known: &[f64]) -> Line
+    requires i_in_bounds { (i < length f.now.line_grocer.now) × ((i < length f.now.line_offer.now) × ((i < length f.now.line_box.now) ×
+        (i < length f.now.line_rate.now))) }
+    requires from_bound { (from ≤ 8000) × (from + get_or f.now.line_offer.now i 0 < length known.now) }
+    ensures { (result.grocer ≡ get_or f.now.line_grocer.now i 0) × ((result.line_box ≡ get_or f.now.line_box.now i 0) ×
+        ((result.rate ≡ get_or f.now.line_rate.now i zero+) × (result.value ≡ get_or known.now (from + get_or f.now.line_offer.now i 0) zero+))) }
 {
-    let o = u16_at(line_offer, i);
-    let v = f64_at(known, from + (o as usize));
+    let offer = f.line_offer[i];
     Line {
-        grocer: u16_at(line_grocer, i),
-        offer: o,
-        line_box: u16_at(line_box, i),
-        rate: f64_at(line_rate, i),
-        value: v,
+        grocer: f.line_grocer[i],
+        offer,
+        line_box: f.line_box[i],
+        rate: f.line_rate[i],
+        value: known[from + usize::from(offer)],
     }
 }
 
 // Step 3 of box a: for each grocer rate × the value known over the box's lines, from +0.0 in list order, in the box's row. One pass over the lines.
-pub fn add_lines(
-    n: usize,
-    grocers: usize,
-    offers: usize,
-    a: u16,
-    line_grocer: &[u16],
-    line_offer: &[u16],
-    line_box: &[u16],
-    line_rate: &[f64],
-    known: &[f64],
-    part: &mut [f64],
-)
-    requires lines_in { LinesIn grocers offers n (line_lists line_grocer.now line_offer.now line_box.now line_rate.now) }
-    requires row_in { RowIn grocers offers a part.old known.now }
-    ensures { Added (line_lists line_grocer.now line_offer.now line_box.now line_rate.now)
-        grocers offers a n known.now part.old part.new }
+pub fn add_lines(f: &Forecast, a: u16, known: &[f64], part: &mut [f64])
+    requires lines_in { LinesIn f.now.grocers f.now.offers f.now.lines (line_lists f.now.line_grocer.now f.now.line_offer.now f.now.line_box.now
+        f.now.line_rate.now) }
+    requires row_in { RowIn f.now.grocers f.now.offers a part.old known.now }
+    ensures { Added (line_lists f.now.line_grocer.now f.now.line_offer.now f.now.line_box.now f.now.line_rate.now)
+        f.now.grocers f.now.offers a f.now.lines known.now part.old part.new }
 {
+    let grocers = usize::from(f.grocers);
     let row = row_start(grocers, a);
-    let from = row_start(offers, a);
+    let from = row_start(usize::from(f.offers), a);
     zero_row(part, row, grocers);
-    for i in 0..n {
-        let line = line_at(i, from, line_grocer, line_offer, line_box, line_rate, known);
-        add_line(part, row, a, line);
+    for i in 0..usize::from(f.lines) {
+        add_line(part, row, a, line_at(f, i, from, known));
     }
 }

@@ -1,4 +1,5 @@
-// Words of a message, moved from one table to another: steps 2, 4 and 5.
+// Words of a message, moved from one table to another: steps 2, 4 and 5. (Its three loops differ in the tables that they write, and not in a type: one
+// with a closure would be no plainer.)
 ghost use Rattle.std.specs.Prelude.{◌≡◌, cond, ◌+◌, ◌≤◌, ◌<◌, length, get_or, set};
 ghost use Rattle.step_places.specs.Message.{word_in};
 ghost use Rattle.forecast_rules.specs.Doubles.{zero+};

@@ -1,33 +1,12 @@
 // The tables of a fresh state of a forecast.
 ghost use Rattle.std.specs.Prelude.{◌≡◌, ◌+◌, ◌*◌, ◌≤◌, length, get_or};
-ghost use Rattle.laws.specs.Tables.{overwrite};
-ghost use Rattle.forecast_rules.specs.Doubles.{zero+};
-ghost use Rattle.forecast_moves.specs.Fresh.{OwnIn, FreshIn, own_values};
+ghost use Rattle.forecast_moves.specs.Fresh.{OwnIn, FreshIn, ZerosIn, Zeros, own_values};
 
-use forecast_doubles::values::{f64_at, table_words};
+use forecast_doubles::tables::Forecast;
+use forecast_doubles::values::table_words;
 use slices::amounts::row_start;
-use slices::casts::index_of;
-use slices::{index_at, u16_at};
-
-// The first n words become +0.0.
-pub fn zero_doubles(l: &mut [f64], n: usize)
-    requires { n ≤ length l.old }
-    ensures { l.new ≡ overwrite n (λ i. zero+) l.old }
-{
-    for i in 0..n {
-        l[i] = 0.0;
-    }
-}
-
-// The first n marks become 0.
-pub fn zero_marks(done: &mut [u16], n: usize)
-    requires { n ≤ length done.old }
-    ensures { done.new ≡ overwrite n (λ i. 0) done.old }
-{
-    for i in 0..n {
-        done[i] = 0;
-    }
-}
+use slices::bits::marks;
+use slices::u16_at;
 
 // The place of offer o in the row of its owner.
 fn own_place(n: usize, o: usize, owner: &[u16]) -> usize
@@ -38,24 +17,38 @@ fn own_place(n: usize, o: usize, owner: &[u16]) -> usize
 }
 
 // Own values known, and all else +0.0, whatever the table held before: each line writes its value in the row of its offer's owner.
-pub fn fresh_values(
-    boxes: u16,
-    offers: u16,
-    lines: u16,
-    owner: &[u16],
-    line_offer: &[u16],
-    line_value: &[f64],
-    known: &mut [f64],
-)
-    requires { FreshIn boxes offers lines owner.now line_offer.now line_value.now known.old }
-    ensures { known.new ≡ own_values boxes offers lines owner.now line_offer.now line_value.now
+pub fn fresh_values(f: &Forecast, known: &mut [f64])
+    requires { FreshIn f.now.boxes f.now.offers f.now.lines f.now.offer_owner.now f.now.line_offer.now f.now.line_value.now known.old }
+    ensures { known.new ≡ own_values f.now.boxes f.now.offers f.now.lines f.now.offer_owner.now f.now.line_offer.now f.now.line_value.now
         known.old }
 {
-    let n = index_of(offers);
-    let l = index_of(lines);
-    zero_doubles(known, table_words(boxes, offers));
-    for i in 0..l {
-        let p = own_place(n, index_at(line_offer, i), owner);
-        known[p] = f64_at(line_value, i);
+    let n = usize::from(f.offers);
+    known[..table_words(f.boxes, f.offers)].fill(0.0);
+    for i in 0..usize::from(f.lines) {
+        let p = own_place(n, usize::from(f.line_offer[i]), f.offer_owner);
+        known[p] = f.line_value[i];
     }
+}
+
+// The other tables of a fresh state but for the words sent: all 0, whatever they held before.
+pub fn fresh_zeros(
+    f: &Forecast,
+    value_transit: &mut [f64],
+    part: &mut [f64],
+    part_transit: &mut [f64],
+    held: &mut [f64],
+    forecast: &mut [f64],
+    done: &mut [u16],
+)
+    requires { ZerosIn f.now.boxes f.now.grocers f.now.offers value_transit.old part.old part_transit.old held.old forecast.old done.old }
+    ensures { Zeros f.now.boxes f.now.grocers f.now.offers value_transit.old part.old part_transit.old held.old forecast.old done.old
+        value_transit.new part.new part_transit.new held.new forecast.new done.new }
+{
+    let words = table_words(f.boxes, f.grocers);
+    value_transit[..table_words(f.boxes, f.offers)].fill(0.0);
+    part[..words].fill(0.0);
+    part_transit[..words].fill(0.0);
+    held[..words].fill(0.0);
+    forecast[..usize::from(f.grocers)].fill(0.0);
+    done[..marks(f.boxes)].fill(0);
 }

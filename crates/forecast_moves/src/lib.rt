@@ -1,4 +1,4 @@
-// What a forecast's steps and its fresh state do to the tables, three written slices at most in each function.
+// What a forecast's steps and its fresh state do to the tables.
 #![tactic(auto)]
 
 pub mod fresh;

@@ -7,6 +7,7 @@ ghost use Rattle.forecast_moves.specs.Steps.{held_summed, held_after};
 
 use forecast_doubles::moves::zero_words;
 use forecast_doubles::parts::write_sums;
+use forecast_doubles::tables::Forecast;
 use slices::amounts::row_start;
 
 // The part sums of box c held by box a become +0.0 where they are summed. Its own are not among those held.
@@ -33,23 +34,26 @@ fn clear_held(k: u16, m: usize, a: u16, owner: &[u16], sharers: &[u16], held: &m
 
 // Step 6 of box a: the forecasts of its grocers are written, and the part sums that are summed become +0.0, its own and those held.
 pub fn sum_own(
-    k: u16,
-    m: usize,
+    f: &Forecast,
     a: u16,
-    owner: &[u16],
     sharers: &[u16],
     part: &mut [f64],
     held: &mut [f64],
     forecast: &mut [f64],
 )
-    requires k_bound { (k ≤ 16) × ((m ≤ 255) × ((m ≤ length owner.now) × ((m ≤ length sharers.now) × (a < k)))) }
-    requires m_in_bounds { (k * m ≤ length part.old) × ((k * m ≤ length held.old) × (m ≤ length forecast.old)) }
-    ensures forecast_after { forecast.new ≡ overwrite m
-        (summed_word k m a owner.now sharers.now part.old held.old forecast.old)
+    requires k_bound { (f.now.boxes ≤ 16) × ((f.now.grocers ≤ 255) × ((f.now.grocers ≤ length f.now.grocer_owner.now) ×
+        ((f.now.grocers ≤ length sharers.now) × (a < f.now.boxes)))) }
+    requires m_in_bounds { (f.now.boxes * f.now.grocers ≤ length part.old) × ((f.now.boxes * f.now.grocers ≤ length held.old) ×
+        (f.now.grocers ≤ length forecast.old)) }
+    ensures forecast_after { forecast.new ≡ overwrite f.now.grocers
+        (summed_word f.now.boxes f.now.grocers a f.now.grocer_owner.now sharers.now part.old held.old forecast.old)
         forecast.old }
-    ensures zeroed { Zeroed (a * m) m (summed_in owner.now sharers.now a a) part.old part.new }
-    ensures held_after { held.new ≡ held_after k m a owner.now sharers.now held.old }
+    ensures zeroed { Zeroed (a * f.now.grocers) f.now.grocers (summed_in f.now.grocer_owner.now sharers.now a a) part.old part.new }
+    ensures held_after { held.new ≡ held_after f.now.boxes f.now.grocers a f.now.grocer_owner.now sharers.now held.old }
 {
+    let k = f.boxes;
+    let m = usize::from(f.grocers);
+    let owner = f.grocer_owner;
     write_sums(k, m, a, owner, sharers, part, held, forecast);
     zero_words(m, row_start(m, a), a, a, owner, sharers, part);
     clear_held(k, m, a, owner, sharers, held);

@@ -9,9 +9,9 @@ use lib.IntN.{ℤ}
 use borrow.Author.Tests.{ne_eqb}
 use Rattle.laws.specs.Checks.{first_met}
 use Rattle.laws.proofs.Bools.{split}
-use Rattle.model.specs.Tables.{JobTables, StateTables}
+use Rattle.model.specs.Tables.{JobTables, StateTables, job_of}
 use Rattle.model.specs.Local.{book_refusals, job_refusals}
-use Rattle.message_tables.specs.Answers.{said}
+use Rattle.message_tables.specs.Answers.{refused as not_made, messages_answer, tables_given, message_tables}
 use Rattle.book.specs.Book.{book_lengths}
 use Rattle.model.specs.Step.{Asked, refused as not_done, outcome, stepped, step_refusal, step_tables, refusals}
 use Rattle.model.specs.Run.{RunAnswer, refused, reported, run_refusals, ran}
@@ -22,7 +22,7 @@ use Rattle.guarantees.specs.Demand1.{IsFirst, IsFirstOf, Demand1}
 use Rattle.model.proofs.Refusal.{refused_number}
 use Rattle.format.proofs.Firsts.{below_hit, below_none}
 use Rattle.format.proofs.Tables.{read_refused, write_refused}
-use Rattle.message_tables.proofs.Refused.{messages_refused}
+use Rattle.model.specs.Words.{owner_words}
 use Rattle.book.proofs.Booking.{booked_none}
 use Rattle.guarantees.proofs.Host as H
 
@@ -64,8 +64,16 @@ desk_refused : (m n wanted : ℕ) (prices : List ℕ) (records : List TallyRecor
 unfolding reconciled
 desk_refused m n wanted prices records h = desk_no (first_met (desk_refusals m n wanted prices records)) _ h
 
+messages_no : (n w : ℕ) → (n ≡ 0 → ⊥) → messages_answer n w ≡ not_made n
+unfolding messages_answer
+messages_no zero w h = absurd (h refl)
+messages_no (suc n) w h = refl
+
+messages_refused : (f : JobTables) (p t : List (List ℕ)) → (first_met (job_refusals f) ≡ 0 → ⊥) → message_tables f p t ≡ tables_given (not_made (first_met (job_refusals f))) p t
+unfolding message_tables
+messages_refused f p t h = rw (ne_eqb (first_met (job_refusals f)) 0 h, messages_no (first_met (job_refusals f)) (owner_words (job_of f)) h)
+
 pub demand1 : Demand1
-unfolding said
 demand1 = record {
   first = first_is;
   first_check = first_check_lem;
@@ -79,7 +87,7 @@ demand1 = record {
   add = late_laws.not_added;
   withdraw = late_laws.not_withdrawn;
   book = λ f b t h. sym (booked_none f b t (first_met (book_refusals f (book_lengths t) b)) refl h);
-  message_tables = λ f p t h. sym (messages_refused f p t (first_met (job_refusals f)) refl h);
+  message_tables = messages_refused;
   first_read = H.first_read_lem;
   first_step = H.first_step_lem;
   first_run = H.first_run_lem;

@@ -12,59 +12,41 @@ ghost use Rattle.step.specs.Answer.{answer_of as step_answer};
 ghost use Rattle.run.specs.Run.{answer_of as run_answer};
 ghost use Rattle.host.specs.Host.{host_read, read_as, read_by_host, host_run, run_as, ran_by_host, host_step, step_number, stepped_by_host};
 
+use file_blocks::plan::Head;
+use refusals::Refusal;
+use run::Finished;
+use slices::sizes::Sizes;
+use step_places::Step;
+use tables::{Job, State};
+
 // The number of the reader's answer; K, M, N, T, the cycle and the number of additional lists of an accepted file go in front of the buffer.
-fn tell_sizes(a: reader::Answer, sizes: &mut [u16]) -> u16
+fn tell_sizes(answer: Result<Head, Refusal>, sizes: &mut [u16]) -> u16
     requires { 6 ≤ length sizes.old }
-    ensures { (l : ReaderTables) → host_read result l sizes.new ≡ read_as (read_answer a) l sizes.old }
+    ensures { (l : ReaderTables) → host_read result l sizes.new ≡ read_as (read_answer answer) l sizes.old }
 {
-    match a {
-        reader::Answer::Job {
-            boxes,
-            grocers,
-            offers,
-            tallies,
-            cycle,
-            lists,
-        } => {
-            sizes[0] = boxes;
-            sizes[1] = grocers;
-            sizes[2] = offers;
-            sizes[3] = tallies;
-            sizes[4] = cycle;
-            sizes[5] = lists;
+    match answer {
+        Ok(head) => {
+            let z = head.sizes;
+            let told = [z.boxes, z.grocers, z.offers, z.tallies, head.cycle, z.lists];
+            sizes[..6].copy_from_slice(&told);
             0
         }
-        reader::Answer::Refused(n) => n,
+        Err(refusal) => refusal.number(),
     }
 }
 
 // The number of the run's answer; words sent, messages and steps of a finished run go in front of the buffer.
-fn tell_report(a: run::Answer, report: &mut [u32]) -> u16
+fn tell_report(answer: Result<Finished, Refusal>, report: &mut [u32]) -> u16
     requires { 3 ≤ length report.old }
-    ensures { (t : StateTables) (k : List ℕ) → host_run result t k report.new ≡ run_as (run_answer a) t k report.old }
+    ensures { (t : StateTables) (k : List ℕ) → host_run result t k report.new ≡ run_as (run_answer answer) t k report.old }
 {
-    match a {
-        run::Answer::Finished {
-            words,
-            messages,
-            steps,
-        } => {
-            report[0] = words;
-            report[1] = messages;
-            report[2] = steps;
+    match answer {
+        Ok(finished) => {
+            let told = [finished.words, finished.messages, finished.steps];
+            report[..3].copy_from_slice(&told);
             0
         }
-        run::Answer::Refused(n) => n,
-    }
-}
-
-// The number of the step's answer.
-fn step_number(a: step::Answer) -> u16
-    ensures { result ≡ step_number (step_answer a) }
-{
-    match a {
-        step::Answer::Accepted => 0,
-        step::Answer::Refused(n) => n,
+        Err(refusal) => refusal.number(),
     }
 }
 
@@ -95,10 +77,9 @@ pub fn settlement_read(
         tally_bag tally_revision tally_offer) sizes.old }
 {
     if sizes.len() < 6 {
-        return 20;
+        return Refusal::LentShort.number();
     }
-    let a = reader::read(
-        file,
+    let mut tables = reader::Tables {
         price,
         offer_owner,
         offer_code,
@@ -112,8 +93,9 @@ pub fn settlement_read(
         tally_bag,
         tally_revision,
         tally_offer,
-    );
-    tell_sizes(a, sizes)
+    };
+    let answer = reader::read(file, &mut tables);
+    tell_sizes(answer, sizes)
 }
 
 // One step request on the lent tables. A refusal leaves every word as it was.
@@ -151,12 +133,14 @@ pub fn settlement_step(
         (state_before known price_transit working total_transit statement done sent)
         (asked kind first second) }
 {
-    let a = step::step(
-        boxes,
-        grocers,
-        offers,
-        tallies,
-        lists,
+    let job = Job {
+        sizes: Sizes {
+            boxes,
+            grocers,
+            offers,
+            tallies,
+            lists,
+        },
         price,
         offer_owner,
         grocer_owner,
@@ -166,6 +150,8 @@ pub fn settlement_step(
         tally_count,
         tally_bag,
         tally_revision,
+    };
+    let mut state = State {
         known,
         price_transit,
         working,
@@ -173,11 +159,13 @@ pub fn settlement_step(
         statement,
         done,
         sent,
+    };
+    let request = Step {
         kind,
         first,
         second,
-    );
-    step_number(a)
+    };
+    refusals::number(step::step(&job, &mut state, request))
 }
 
 // The run of a job from a fresh state; the places of the steps picked go into one buffer, as far as it reaches, and what it reports into
@@ -221,14 +209,16 @@ pub fn settlement_run(
         report.old }
 {
     if report.len() < 3 {
-        return 20;
+        return Refusal::LentShort.number();
     }
-    let a = run::run(
-        boxes,
-        grocers,
-        offers,
-        tallies,
-        lists,
+    let job = Job {
+        sizes: Sizes {
+            boxes,
+            grocers,
+            offers,
+            tallies,
+            lists,
+        },
         price,
         offer_owner,
         grocer_owner,
@@ -238,6 +228,8 @@ pub fn settlement_run(
         tally_count,
         tally_bag,
         tally_revision,
+    };
+    let mut state = State {
         known,
         price_transit,
         working,
@@ -245,8 +237,7 @@ pub fn settlement_run(
         statement,
         done,
         sent,
-        choices,
-        picked,
-    );
-    tell_report(a, report)
+    };
+    let answer = run::run(&job, &mut state, choices, picked);
+    tell_report(answer, report)
 }

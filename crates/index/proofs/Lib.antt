@@ -4,3 +4,4 @@ pub mod Digits
 pub mod Topping
 pub mod Beside
 pub mod Loose
+pub mod Taken

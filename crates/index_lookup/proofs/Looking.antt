@@ -8,12 +8,11 @@ use native.Mathlib.Omega.{arith}
 use lib.ListN.{get_or}
 use lib.Pow.{pow_pos}
 use lib.Dec.{eqb, ltb, leb}
-use mir.Val.{bool_byte}
-use borrow.Author.Tests.{eqb-true, eqb-false, eq-eqb, ltb-true, ltb-false, leb-true, leb-false, lt-ltb, le-ltb}
+use borrow.Author.Tests.{eqb-true, eqb-false, eq-eqb, ltb-true, ltb-false, leb-true, leb-false}
 use Rattle.laws.specs.Below.{any}
 use Rattle.laws.proofs.Bools.{split, clash, eqb_same, no_true}
 use Rattle.laws.proofs.Below.{any_at, any_find, find_none, find_only, count_some, count_two}
-use Rattle.index_lookup.specs.Lookup.{times, key_at, Ascending, IsIndex, shares_number, place_of, Tops, Bracket}
+use Rattle.index_lookup.specs.Lookup.{times, key_at, Ascending, IsIndex, shares_number, place_of, Tops, Widest, Bracket}
 
 module _ {keys places numbers : List ℕ} {n : ℕ} (x : IsIndex keys places numbers n) where
   key_at_lem : (i : ℕ) → i < n → get_or keys i 0 ≡ get_or numbers (get_or places i 0) 0
@@ -83,33 +82,22 @@ module _ {keys places numbers : List ℕ} {n : ℕ} (x : IsIndex keys places num
 
   module _ (number : ℕ) (distinct : shares_number numbers n ≡ false) where
     -- A key that is the number stands beside its place.
-    pub found : (i : ℕ) → i < n → get_or keys i 0 ≡ number → get_or places i 0 ≡ place_of numbers n number
+    pub found : (i : ℕ) → i < n → get_or keys i 0 ≡ number → place_of numbers n number ≡ get_or places i 0
     unfolding place_of
     found i l e =
         let same : get_or numbers (get_or places i 0) 0 ≡ number = sym (key_at_lem i l) ∙ e in
-        sym (find_only n (λ k. eqb (get_or numbers k 0) number) (get_or places i 0) (x.place_in i l) (eq-eqb _ _ same)
+        find_only n (λ k. eqb (get_or numbers k 0) number) (get_or places i 0) (x.place_in i l) (eq-eqb _ _ same)
         (λ k q f. split (eqb k (get_or places i 0))
         (λ r. eqb-true k (get_or places i 0) r)
-        (λ r. absurd (clash (apart k (get_or places i 0) q (x.place_in i l) (eqb-false k (get_or places i 0) r) (eqb-true _ _ f ∙ sym same)) distinct))))
+        (λ r. absurd (clash (apart k (get_or places i 0) q (x.place_in i l) (eqb-false k (get_or places i 0) r) (eqb-true _ _ f ∙ sym same)) distinct)))
 
     -- Where no key is the number, no offer has it.
-    pub missing : ((i : ℕ) → i < n → get_or keys i 0 ≡ number → ⊥) → n ≡ place_of numbers n number
+    pub missing : ((i : ℕ) → i < n → get_or keys i 0 ≡ number → ⊥) → place_of numbers n number ≡ n
     unfolding place_of
-    missing d = sym (find_none n (λ k. eqb (get_or numbers k 0) number) (no_true _ (λ s.
+    missing d = find_none n (λ k. eqb (get_or numbers k 0) number) (no_true _ (λ s.
         let (k, l, f) = any_find n (λ k. eqb (get_or numbers k 0) number) s in
         let (i, q, _, e) = key_of k l in
-        d i q (e ∙ eqb-true (get_or numbers k 0) number f))))
-
--- One pair of neighbours more that differ.
-pub neighbours_more : (keys : List ℕ) (i : ℕ) → 0 < i → ((k : ℕ) → k + 1 < i → get_or keys k 0 ≡ get_or keys (k + 1) 0 → ⊥) → (get_or keys (i - 1) 0 ≡ get_or keys i 0 → ⊥)
-    → (k : ℕ) → k + 1 < i + 1 → get_or keys k 0 ≡ get_or keys (k + 1) 0 → ⊥
-neighbours_more keys i p h d k l e = split (eqb (k + 1) i)
-    (λ q. let q' : k + 1 ≡ i = eqb-true (k + 1) i q in
-    d (ap (λ (j : ℕ). get_or keys j 0) (before i k q') ∙ e ∙ ap (λ (j : ℕ). get_or keys j 0) q'))
-    (λ q. let ne : k + 1 ≡ i → ⊥ = eqb-false (k + 1) i q in h k (omega arith) e)
-  where
-    before : (i k : ℕ) → k + 1 ≡ i → i - 1 ≡ k
-    before i k q = omega arith
+        d i q (e ∙ eqb-true (get_or numbers k 0) number f)))
 
 -- ---- The halving.
 
@@ -133,18 +121,18 @@ module _ {keys starts : List ℕ} {shift n : ℕ} (x : Tops keys starts shift n)
   top_out h i l e = omega (arith, x.topped.top_in i l, ap (λ (k : ℕ). k / 2 ^ shift) e)
 
   -- Where the number's top digit and the next one begin.
-  module _ (t from to : ℕ) (l : t < 511) (e : t ≡ number / 2 ^ shift) (f : from ≡ get_or starts t 0) (g : to ≡ get_or starts (t + 1) 0) where
+  module _ {from to : ℕ} (l : number / 2 ^ shift < 511) (f : from ≡ get_or starts (number / 2 ^ shift) 0) (g : to ≡ get_or starts (number / 2 ^ shift + 1) 0) where
     -- A key of a lesser top digit is not the number,
     top_before : (i : ℕ) → i < from → get_or keys i 0 ≡ number → ⊥
-    top_before i h q = omega (arith, x.lesser t i (omega arith) (omega arith), e, ap (λ (k : ℕ). k / 2 ^ shift) q)
+    top_before i h q = omega (arith, x.lesser (number / 2 ^ shift) i (omega arith) (omega arith), ap (λ (k : ℕ). k / 2 ^ shift) q)
 
     -- and one of a larger top digit is larger.
     top_behind : (i : ℕ) → to ≤ i → i < n → number < get_or keys i 0
-    top_behind i h q = top_less number (get_or keys i 0) shift (omega (arith, x.others (t + 1) i (omega arith) (omega arith) q, e))
+    top_behind i h q = top_less number (get_or keys i 0) shift (omega (arith, x.others (number / 2 ^ shift + 1) i (omega arith) (omega arith) q))
 
     -- The next one does not begin before.
     pub top_rises : from ≤ to
-    top_rises = omega (arith, starts_rise x t l)
+    top_rises = omega (arith, starts_rise x (number / 2 ^ shift) l)
 
     -- Where there is no key of the top digit, none is the number.
     pub top_none : from ≡ to → (i : ℕ) → i < n → get_or keys i 0 ≡ number → ⊥
@@ -155,17 +143,24 @@ module _ {keys starts : List ℕ} {shift n : ℕ} (x : Tops keys starts shift n)
     -- The places of the top digit.
     pub bracket_start : Bracket keys n number from (to - from)
     bracket_start = record {
-      inside = omega (arith, top_rises, x.start_in (t + 1) (omega arith));
+      inside = omega (arith, top_rises, x.start_in (number / 2 ^ shift + 1) (omega arith));
       behind = λ a i h q. top_behind i (omega (arith, top_rises)) q;
       before = λ a i h q. absurd (top_before i h q);
     }
 
--- The code's flag.
-pub flag_is : (key number : ℕ) → bool_byte (ltb number key) ≡ cond (leb key number) 0 1
-flag_is key number = split (leb key number)
-    (λ e. rw (e, le-ltb number key (leb-true key number e)))
-    (λ e. rw (e, lt-ltb number key (leb-false key number e)))
+    -- They are no more than are told, and there are some.
+    pub bracket_most : {widest : ℕ} → Widest starts widest → (from ≡ to → ⊥) → (0 < to - from) × (to - from ≤ widest) × (from + (to - from) ≤ n)
+    bracket_most w d = (
+      omega (arith, top_rises, d),
+      omega (arith, w.within (number / 2 ^ shift) l),
+      bracket_start.inside,
+    )
 
+    -- What is left of them when they are halved, one place, is in the index.
+    pub bracket_in : {at : ℕ} → ((n : ℕ) → Bracket keys n number from (to - from) → Bracket keys n number at 1) → at < n
+    bracket_in h = omega (arith, (h n bracket_start).inside)
+
+-- The code's flag, r, is 0 where the key is not larger.
 module _ (r : ℕ) (t : Bool) (e : r ≡ cond t 0 1) where
   pub flag_le : r ≤ 1
   flag_le = rw e (split t (λ f. rw f (omega arith)) (λ f. rw f (omega arith)))

@@ -1,26 +1,30 @@
 // Questions to the index.
-ghost use Rattle.std.specs.Prelude.{◌≡◌, List, false, cond, ℕ, ◌+◌, ◌≤◌, ◌<◌, leb, length, get_or};
-ghost use Rattle.index_lookup.specs.Lookup.{IsIndex, shares_number, place_of, Tops, Widest, Bracket};
-
-use slices::casts::index_of;
+ghost use Rattle.std.specs.Prelude.{◌≡◌, List, false, cond, ℕ, ◌+◌, ◌≤◌, ◌<◌, leb, length, get_or, MatchOption};
+ghost use Rattle.index_lookup.specs.Lookup.{IsIndex, shares_number, place_of, Bracket};
+ghost use Rattle.index_lookup.specs.Digits.{TopsOf};
 
 // How many digits of 9 bits there are: the index is sorted by such digits, and looked up by the top one,
 pub const DIGITS: usize = 512;
 // which is less than this, so that where the next one begins is told too.
 pub const TOPS: usize = 511;
 
-// Whether two offers share a number.
+// The top digits of an index: where the keys of each begin, the bits of a key below its top digit, and the most keys that a top digit has.
+#[derive(Clone, Copy)]
+pub struct TopDigits {
+    pub starts: [u16; DIGITS],
+    pub shift: usize,
+    pub widest: usize,
+}
+
+// Whether two offers share a number: whether two neighbours are equal. (The proof by `windows(2)` and `any` did not close.)
 pub fn shared(keys: &[u64], n: usize) -> bool
     requires { n ≤ length keys.now }
     ensures { (places numbers : List ℕ) → IsIndex keys.now places numbers n → result ≡ shares_number numbers n }
 {
-    let mut i: usize = 1;
-    while i < n {
-        let last = i - 1;
-        if keys[last] == keys[i] {
+    for i in 1..n {
+        if keys[i - 1] == keys[i] {
             return true;
         }
-        i += 1;
     }
     false
 }
@@ -29,7 +33,7 @@ pub fn shared(keys: &[u64], n: usize) -> bool
 fn over(key: u64, number: u64) -> usize
     ensures { result ≡ cond (leb key number) 0 1 }
 {
-    (key > number) as usize
+    usize::from(key > number)
 }
 
 // Of the places at and at + half, the farther one where its key is not larger than the number. There is no branch, since none could be
@@ -44,7 +48,8 @@ fn nearer(keys: &[u64], at: usize, half: usize, number: u64) -> usize
 }
 
 // Where a number stands in the index if it does, of the places from `from` on. They are halved as often as the most places of a top digit
-// are, which is the same for every number and so foreseen: where one place is left, it stays.
+// are, which is the same for every number and so foreseen: where one place is left, it stays. (std's `partition_point` was
+// tried: it branches by what it finds, and takes half as long again, or twice as long. So the loop stays.)
 fn halve(keys: &[u64], from: usize, count: usize, widest: usize, number: u64) -> usize
     requires { (0 < count) × ((count ≤ 1000) × ((count ≤ widest) × (from + count ≤ length keys.now))) }
     ensures { (n : ℕ) → Bracket keys.now n number from count → Bracket keys.now n number result 1 }
@@ -61,33 +66,26 @@ fn halve(keys: &[u64], from: usize, count: usize, widest: usize, number: u64) ->
     at
 }
 
-// The place of the offer with this number, or n where no offer has it: it is looked for among those of its top digit.
-pub fn place(
-    keys: &[u64],
-    places: &[u16],
-    starts: &[u16; DIGITS],
-    shift: usize,
-    widest: usize,
-    n: usize,
-    number: u64,
-) -> usize
+// The place of the offer with this number, where there is one: it is looked for among those of its top digit.
+pub fn place(keys: &[u64], places: &[u16], tops: &TopDigits, n: usize, number: u64) -> Option<usize>
     requires n_bound { (n ≤ 1000) × ((n ≤ length keys.now) × (n ≤ length places.now)) }
-    requires tops { Tops keys.now starts.now shift n × Widest starts.now widest }
-    ensures { (numbers : List ℕ) → IsIndex keys.now places.now numbers n → shares_number numbers n ≡ false → result ≡ place_of
-        numbers n number }
+    requires tops { TopsOf tops.now keys.now n }
+    ensures { (numbers : List ℕ) → IsIndex keys.now places.now numbers n → shares_number numbers n ≡ false →
+        MatchOption result (place_of numbers n number ≡ n) (λ p. (place_of numbers n number ≡ p) × (p < n)) }
 {
-    let top = (number >> shift) as usize;
+    let top = (number >> tops.shift) as usize;
     if top >= TOPS {
-        return n;
+        return None;
     }
-    let from = index_of(starts[top]);
-    let to = index_of(starts[top + 1]);
+    let from = usize::from(tops.starts[top]);
+    let to = usize::from(tops.starts[top + 1]);
     if from == to {
-        return n;
+        return None;
     }
-    let at = halve(keys, from, to - from, widest, number);
+    let at = halve(keys, from, to - from, tops.widest, number);
+    prove!(at < n);
     if keys[at] == number {
-        return index_of(places[at]);
+        return Some(usize::from(places[at]));
     }
-    n
+    None
 }

@@ -13,22 +13,26 @@ fn mark(masks: &mut [u16], k: u16, b: u16, place: u16)
     ensures { masks.new ≡ marked k b place masks.old }
 {
     if b < k {
-        let p = place as usize;
-        let v = set_bit(masks[p], b);
-        masks[p] = v;
+        let p = usize::from(place);
+        masks[p] = set_bit(masks[p], b);
     }
 }
 
-// Words of zeros are made the holders' words of each place, in one pass over the tallies.
-fn holders(boxes: u16, tallies: u16, tally_box: &[u16], places: &[u16], masks: &mut [u16])
-    requires placed { Placed boxes tallies (length masks.old) tally_box.now places.now }
-    requires by_index { (p : ℕ) → get_or masks.old p 0 ≡ 0 }
-    ensures { masks.new ≡ tabulate (length masks.old) (holder_word boxes tallies tally_box.now places.now) }
+// The boxes that hold a tally of each of so many places, offers or grocers, in one pass over the tallies.
+fn holders<const SIZE: usize>(
+    boxes: u16,
+    tallies: u16,
+    tally_box: &[u16],
+    places: &[u16],
+) -> [u16; SIZE]
+    requires { Placed boxes tallies SIZE tally_box.now places.now }
+    ensures { result ≡ tabulate SIZE (holder_word boxes tallies tally_box.now places.now) }
 {
-    let n = tallies as usize;
-    for t in 0..n {
-        mark(masks, boxes, u16_at(tally_box, t), u16_at(places, t));
+    let mut masks = [0u16; SIZE];
+    for t in 0..usize::from(tallies) {
+        mark(&mut masks, boxes, u16_at(tally_box, t), u16_at(places, t));
     }
+    masks
 }
 
 // The need words of the offers: the boxes that hold a tally of each.
@@ -36,9 +40,7 @@ pub fn needs(boxes: u16, tallies: u16, tally_box: &[u16], tally_offer: &[u16]) -
     requires { Placed boxes tallies 500 tally_box.now tally_offer.now }
     ensures { result ≡ tabulate 500 (holder_word boxes tallies tally_box.now tally_offer.now) }
 {
-    let mut masks = [0u16; OFFERS];
-    holders(boxes, tallies, tally_box, tally_offer, &mut masks);
-    masks
+    holders(boxes, tallies, tally_box, tally_offer)
 }
 
 // The sharer words of the grocers, likewise.
@@ -46,9 +48,7 @@ pub fn sharers(boxes: u16, tallies: u16, tally_box: &[u16], tally_grocer: &[u16]
     requires { Placed boxes tallies 255 tally_box.now tally_grocer.now }
     ensures { result ≡ tabulate 255 (holder_word boxes tallies tally_box.now tally_grocer.now) }
 {
-    let mut masks = [0u16; GROCERS];
-    holders(boxes, tallies, tally_box, tally_grocer, &mut masks);
-    masks
+    holders(boxes, tallies, tally_box, tally_grocer)
 }
 
 // For each box the words of all that it owns together, of n offers or grocers: the boxes that need one of them, or hold a tally of one.
@@ -57,11 +57,8 @@ pub fn by_owner(n: u16, owners: &[u16], masks: &[u16]) -> [u16; BOXES]
     ensures { result ≡ by_owner n owners.now masks.now }
 {
     let mut words = [0u16; BOXES];
-    let size = n as usize;
-    for i in 0..size {
-        let a = index_at(owners, i);
-        let more = words[a] | u16_at(masks, i);
-        words[a] = more;
+    for i in 0..usize::from(n) {
+        words[index_at(owners, i)] |= u16_at(masks, i);
     }
     words
 }

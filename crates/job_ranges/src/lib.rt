@@ -7,28 +7,20 @@ ghost use Rattle.model.specs.Ranges.{up_to, under, around};
 
 use slices::limits::{MAX_COUNT, MIN_COUNT};
 
-// Whether the first n words of s are below m. There is no branch in the loop, so that several words are tested at once.
+// Whether the first n words of s are below m. There is no branch from word to word, so that several are tested at once.
 pub fn under16(s: &[u16], n: usize, m: u16) -> bool
     requires { n ≤ length s.now }
     ensures { result ≡ under m n s.now }
 {
-    let mut all = true;
-    for i in 0..n {
-        all = all & (s[i] < m);
-    }
-    all
+    s[..n].iter().fold(true, |all, x| all & (*x < m))
 }
 
-// Whether the first n words of s are at most m, likewise.
+// Whether the first n words of s are at most m, likewise: the library's fold once more, with other words and another test.
 pub fn upto32(s: &[u32], n: usize, m: u32) -> bool
     requires { n ≤ length s.now }
     ensures { result ≡ up_to m n s.now }
 {
-    let mut all = true;
-    for i in 0..n {
-        all = all & (s[i] <= m);
-    }
-    all
+    s[..n].iter().fold(true, |all, x| all & (*x <= m))
 }
 
 // Whether a count is within ±99,999.
@@ -46,10 +38,5 @@ pub fn around32(s: &[i32], n: usize) -> bool
     requires { n ≤ length s.now }
     ensures { result ≡ around max_count n s.now }
 {
-    for i in 0..n {
-        if !is_count(s[i]) {
-            return false;
-        }
-    }
-    true
+    s[..n].iter().all(|x| is_count(*x))
 }

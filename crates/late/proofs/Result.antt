@@ -1,5 +1,5 @@
 -- What the calls leave: the tables edited column by column, and the run of the edited job. Assumes nothing.
-use mathlib.Core.Path.{◌≡◌, refl, sym, ap, ap₂, ◌∙◌}
+use mathlib.Core.Path.{◌≡◌, refl, sym, ap, ◌∙◌}
 use mathlib.Core.List.{List, []}
 use Prim.Native.Nat.{ℕ, zero, suc, ◌+◌, ◌-◌, ◌<◌, ◌≤◌}
 use native.Mathlib.Omega.{arith}
@@ -12,11 +12,13 @@ use Rattle.model.specs.Tables.{JobTables, StateTables}
 use Rattle.format.specs.Bytes.{from}
 use Rattle.format.specs.Codes.{read_code, code_bytes}
 use Rattle.format.specs.Job.{Head, Tally}
-use Rattle.format.specs.Tables.{TallyTables, tally_tables, LongTallies, file_tables, ReaderTables, reader_tables}
+use Rattle.format.specs.Tables.{TallyTables, tally_tables, LongTallies, offer_tables, file_tables, ReaderTables, reader_tables}
 use Rattle.run.specs.Run.{given}
 use Rattle.late_rules.specs.Edit.{Entry, freed, job_in, place_found, added_head, added_tables, withdrawn_head, withdrawn_tables}
 use Rattle.late_rules.specs.Late.{LateAnswer, late_answer, late_outcome, refused, late_result, add_rules, withdraw_rules, bag_added, bag_withdrawn}
-use Rattle.late_edits.specs.Columns.{edit_entries, edit_tallies, edit_tables}
+use Rattle.late_edits.specs.Columns.{edit_tallies, edit_tables}
+use Rattle.late.specs.Lent.{Left, OthersKept, tallies_now, reader_now}
+use Rattle.late.specs.declared.Tables.{Tables}
 use Rattle.format.proofs.Tables.{long_tables}
 use Rattle.model.proofs.Step.{job_in_lem, in_handed}
 use Rattle.late_edits.proofs.Columns.{byte_of, edit_cong, added_is, withdrawn_is}
@@ -28,23 +30,18 @@ use Rattle.late_rules.proofs.Present.{Present}
 abbrev pub with : ReaderTables → TallyTables → List ℕ → ReaderTables
 with l x offer = reader_tables (file_tables l.job.offers l.job.grocer_owner x) offer
 
--- The eight tables of the tallies as an edit leaves them; g has the bytes of the code behind the others.
-pub record Left (p n : ℕ) (e : Entry) (g : ℕ → ℕ) (l : ReaderTables) (x : TallyTables) (offer : List ℕ) : Type 0 where
-  pub grocer : x.grocer ≡ edit_entries 1 p n 0 (λ k. e.tally.grocer) l.job.tallies.grocer
-  pub box : x.box ≡ edit_entries 1 p n 0 (λ k. e.tally.box) l.job.tallies.box
-  pub code : x.code ≡ edit_entries 11 p n 0 g l.job.tallies.code
-  pub bytes : (k : ℕ) → k < 11 → g k ≡ get_or (code_bytes e.tally.code) k 0
-  pub count : x.count ≡ edit_entries 1 p n (pos 0) (λ k. e.tally.count) l.job.tallies.count
-  pub issuer : x.issuer ≡ edit_entries 1 p n 0 (λ k. e.tally.issuer) l.job.tallies.issuer
-  pub bag : x.bag ≡ edit_entries 1 p n 0 (λ k. e.tally.bag) l.job.tallies.bag
-  pub revision : x.revision ≡ edit_entries 1 p n 0 (λ k. e.tally.revision) l.job.tallies.revision
-  pub places : offer ≡ edit_entries 1 p n 0 (λ k. e.place) l.tally_offer
-
 left_is : (p n : ℕ) (e : Entry) (g : ℕ → ℕ) (l : ReaderTables) (x : TallyTables) (offer : List ℕ) → Left p n e g l x offer → with l x offer ≡ edit_tables p n e l
 unfolding edit_tables edit_tallies
 left_is p n e g l x offer r =
     let e₂ = r.code ∙ edit_cong 11 p n 0 g (λ k. get_or (code_bytes e.tally.code) k 0) l.job.tallies.code r.bytes in
     λ i. with l (tally_tables (r.grocer i) (r.box i) (e₂ i) (r.count i) (r.issuer i) (r.bag i) (r.revision i)) (r.places i)
+
+-- The tables once edited, by what is edited and what is kept.
+pub edited_is : (before after : Tables) (p n : ℕ) (e : Entry) (g : ℕ → ℕ) → OthersKept before after → Left p n e g (reader_now before) (tallies_now after) after.tally_offer.now →
+    reader_now after ≡ edit_tables p n e (reader_now before)
+edited_is before after p n e g k r =
+    (λ i. reader_tables (file_tables (offer_tables (k.price i) (k.offer_owner i) (k.offer_code i) (k.offer_issuer i)) (k.grocer_owner i) (tallies_now after)) after.tally_offer.now)
+    ∙ left_is p n e g (reader_now before) (tallies_now after) after.tally_offer.now r
 
 -- The bytes of a code, and of no code.
 pub code_bytes_lem : (g : ℕ → ℕ) (k : ℕ) → k < 11 → g k ≡ get_or (code_bytes (read_code g)) k 0
@@ -58,6 +55,21 @@ zeros (suc n) (suc k) = zeros n k
 pub no_bytes : (k : ℕ) → k < 11 → from (replicate 11 0) 0 k ≡ get_or (code_bytes freed.tally.code) k 0
 no_bytes k q = zeros 11 (0 + k) ∙ sym (byte_of (λ i. 0) k q)
 
+-- The entry that code frees is the one that is freed.
+pub freed_is : record { tally = record { grocer = 0; box = 0; code = read_code (from (replicate 11 0) 0); count = pos 0; issuer = 0; bag = 0; revision = 0 }; place = 0 } ≡ freed
+freed_is = λ i. record {
+  tally = record {
+    grocer = 0;
+    box = 0;
+    code = record { size = zeros 11 (0 + 0) i; digit = λ k. zeros 11 (0 + (1 + k)) i };
+    count = pos 0;
+    issuer = 0;
+    bag = 0;
+    revision = 0;
+  };
+  place = 0;
+}
+
 -- A run's answer and state do not go by the buffer for the steps picked.
 ran_answer : (f : JobTables) (s : StateTables) (p : List ℕ) → (ran f s [] p).answer ≡ (ran f s [] []).answer
 ran_answer f s p = unfold ran in refl
@@ -66,7 +78,7 @@ ran_tables : (f : JobTables) (s : StateTables) (p : List ℕ) → (ran f s [] p)
 ran_tables f s p = unfold ran in refl
 
 -- What a call gives by the tables it leaves and the run of the job in them.
-outcome : (t : ℕ) (h : Head) (s : StateTables) (a : LateAnswer) (b : RunAnswer) (l l' : ReaderTables) (s' : StateTables) (p p' : List ℕ) →
+pub outcome : (t : ℕ) (h : Head) (s : StateTables) (a : LateAnswer) (b : RunAnswer) (l l' : ReaderTables) (s' : StateTables) (p p' : List ℕ) →
     a ≡ late_answer t b → l' ≡ l → given b s' p' ≡ ran (job_in h l') s [] p →
     late_outcome a l' s' ≡ late_outcome (late_answer t (ran (job_in h l) s [] []).answer) l (ran (job_in h l) s [] []).tables
 outcome t h s a b l l' s' p p' ea el er =
@@ -98,12 +110,11 @@ module _ (h : Head) (l : ReaderTables) (s : StateTables) (x : Tally) (r : ℕ) (
     pub add_places : h.tallies < length l.tally_offer
     add_places = omega (arith, ltb-false (length l.tally_offer) (h.tallies + 1) (adding.with_room h l s x ok).whole.places)
 
-    pub added : (y : TallyTables) (offer : List ℕ) (g : ℕ → ℕ) (a : LateAnswer) (b : RunAnswer) (s' : StateTables) (p p' : List ℕ) (t : ℕ) →
-        t ≡ h.tallies → Left t t (record { tally = x; place = place_found h l x }) g l y offer → a ≡ late_answer (h.tallies + 1) b →
-        given b s' p' ≡ ran (job_in (added_head h) (with l y offer)) s [] p → late_outcome a (with l y offer) s' ≡ bag_added h l s x
-    added y offer g a b s' p p' t et e ea eb =
-        outcome (h.tallies + 1) (added_head h) s a b (added_tables h l x) (with l y offer) s' p p' ea
-        (left_is t t _ g l y offer e ∙ ap (λ (m : ℕ). edit_tables m m (record { tally = x; place = place_found h l x }) l) et ∙ sym (added_is h l x)) eb
+    pub added : (y : ReaderTables) (place : ℕ) → place ≡ place_found h l x → y ≡ edit_tables h.tallies h.tallies (record { tally = x; place = place }) l →
+        late_outcome (late_answer (h.tallies + 1) (ran (job_in (added_head h) y) s [] []).answer) y (ran (job_in (added_head h) y) s [] []).tables ≡ bag_added h l s x
+    added y place ep e =
+        ap (λ (y : ReaderTables). late_outcome (late_answer (h.tallies + 1) (ran (job_in (added_head h) y) s [] []).answer) y (ran (job_in (added_head h) y) s [] []).tables)
+        (e ∙ ap (λ (n : ℕ). edit_tables h.tallies h.tallies (record { tally = x; place = n }) l) ep ∙ sym (added_is h l x))
         ∙ sym (adding.result_is h l s x ok)
 
 module _ (h : Head) (l : ReaderTables) (s : StateTables) (p : ℕ) (r : ℕ) (er : r ≡ first_met (withdraw_rules h l s p)) where
@@ -130,10 +141,11 @@ module _ (h : Head) (l : ReaderTables) (s : StateTables) (p : ℕ) (r : ℕ) (er
     pub withdraw_places : h.tallies ≤ length l.tally_offer
     withdraw_places = ltb-false (length l.tally_offer) h.tallies present.whole.places
 
-    pub withdrawn : (y : TallyTables) (offer : List ℕ) (g : ℕ → ℕ) (a : LateAnswer) (b : RunAnswer) (s' : StateTables) (q q' : List ℕ) (m n : ℕ) →
-        m ≡ p → n ≡ h.tallies - 1 → Left m n freed g l y offer → a ≡ late_answer (h.tallies - 1) b →
-        given b s' q' ≡ ran (job_in (withdrawn_head h) (with l y offer)) s [] q → late_outcome a (with l y offer) s' ≡ bag_withdrawn h l s p
-    withdrawn y offer g a b s' q q' m n em en e ea eb =
-        outcome (h.tallies - 1) (withdrawn_head h) s a b (withdrawn_tables h l p) (with l y offer) s' q q' ea
-        (left_is m n freed g l y offer e ∙ ap₂ (λ (i j : ℕ). edit_tables i j freed l) em en ∙ sym (withdrawn_is h l p withdraw_there)) eb
+    pub withdrawn : (y : ReaderTables) → y ≡ edit_tables p (h.tallies - 1) freed l →
+        late_outcome (late_answer (h.tallies - 1) (ran (job_in (withdrawn_head h) y) s [] []).answer) y (ran (job_in (withdrawn_head h) y) s [] []).tables
+        ≡ bag_withdrawn h l s p
+    withdrawn y e =
+        ap (λ (y : ReaderTables). late_outcome (late_answer (h.tallies - 1) (ran (job_in (withdrawn_head h) y) s [] []).answer) y
+        (ran (job_in (withdrawn_head h) y) s [] []).tables)
+        (e ∙ sym (withdrawn_is h l p withdraw_there))
         ∙ sym (withdrawing.result_is h l s p fine)

@@ -1,19 +1,25 @@
 -- The calls of 02 §7 as their contracts name them: the answer, the tables when the call ends, and the added tally.
-use Rattle.std.specs.Prelude.{List, ℕ, ℤ}
+use Rattle.std.specs.Prelude.{List, ℕ, ℤ, Result, Ok, Err}
 use Rattle.laws.specs.Lent.{Words, MutWords, MutSignedWords}
 use Rattle.format.specs.Bytes.{from}
 use Rattle.format.specs.Codes.{read_code}
-use Rattle.format.specs.Job.{Tally}
+use Rattle.format.specs.Job.{Head, head_of, Tally}
 use Rattle.format.specs.Lent.{offers_lent}
 use Rattle.format.specs.Tables.{tally_tables, file_tables, ReaderTables, reader_tables}
 use Rattle.late_rules.specs.Late.{LateAnswer, edited, refused}
-use Rattle.late.specs.declared.Answer.{Answer}
-use Rattle.late.specs.declared.Answer.TheVariants.{Edited, Refused}
+use Rattle.refusals.specs.declared.Refusal.{Refusal}
+use Rattle.refusals.specs.Numbers.{number_of}
+use Rattle.slices.specs.declared.sizes.Sizes.{Sizes}
+use Rattle.late.specs.declared.Edited.{Edited}
 
 -- The answer: T as it is now, words, messages and steps; or the number of the refusal.
-unfoldable pub late_answer_of : Answer → LateAnswer
-late_answer_of (Edited tallies words messages steps) = edited tallies words messages steps
-late_answer_of (Refused number) = refused number
+unfoldable pub late_answer_of : Result Edited Refusal → LateAnswer
+late_answer_of (Ok e) = edited e.tallies e.words e.messages e.steps
+late_answer_of (Err r) = refused (number_of r)
+
+-- The head of the job as a call is given it; no refusal goes by the cycle.
+abbrev pub sizes_head : Sizes → Head
+sizes_head z = head_of z.boxes z.grocers z.offers z.tallies 0 z.lists
 
 -- The job's tables when the call begins: those of the offers and the grocers are lent to be read, those of the tallies to be written;
 abbrev pub reader_first :

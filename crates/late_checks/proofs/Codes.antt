@@ -1,4 +1,9 @@
 -- The job in edited copies has the words of the edited job, so the writer refuses both or neither. Assumes nothing.
+use Rattle.std.proofs.Common.{Result, Ok, Err}
+use Rattle.std.specs.Result.{is_err}
+use Rattle.refusals.specs.declared.Refusal.{Refusal}
+use Rattle.refusals.specs.Numbers.{number_of, number}
+use Rattle.refusals.proofs.Numbers.{number_positive}
 use mathlib.Core.Path.{◌≡◌, refl, sym, ap, ◌∙◌}
 use mathlib.Core.Bool.{not}
 use mathlib.Core.List.{List}
@@ -73,3 +78,8 @@ module _ (h : Head) (p n : ℕ) (x : Tally) (g : ℕ → ℕ) (code : x.code ≡
           split (eqb (job_refusal edited) 0)
           (λ b. rw b (eq-eqb r 0 (e ∙ same_fine copied edited same_words_lem (eqb-true (job_refusal edited) 0 b))))
           (λ b. rw b (ne_eqb r 0 (λ z. eqb-false (job_refusal edited) 0 b (same_fine edited copied (words_back copied edited same_words_lem) (sym e ∙ z)))))
+
+-- An answer is an error where its number is not 0.
+pub err_is : {A : Type 0} (r : Result A Refusal) → is_err r ≡ not (eqb (number r) 0)
+err_is (Ok x) = refl
+err_is (Err e) = let some : 0 < number_of e = number_positive e in sym (ap not (ne_eqb (number_of e) 0 (λ z. omega (arith, some, z))))

@@ -21,6 +21,9 @@ use Rattle.format.specs.Codes.{is_code, name_of, name_number, read_code}
 use Rattle.format.specs.Job.{Head, head_of, Tally}
 use Rattle.format.specs.Refusals.{job_refusal}
 use Rattle.format.specs.Tables.{FileTables, file_tables, ReaderTables, Long, file_job_of}
+use Rattle.refusals.specs.declared.Refusal.{Refusal}
+use Rattle.refusals.specs.declared.Refusal.TheVariants.{NoRoom, EditRefused}
+use Rattle.std.proofs.Common.{Result, Err}
 use Rattle.slices.specs.declared.sizes.Sizes.{Sizes}
 use Rattle.late_rules.specs.Edit.{Entry, freed, with_tallies, store_entries, job_in, place_found, added_head, added_tables, withdrawn_head, withdrawn_tables}
 use Rattle.late_rules.specs.Late.{refused_job, add_faults, withdraw_faults}
@@ -106,14 +109,14 @@ module _ (h : Head) (l : ReaderTables) (t : ℕ) (some : h.tallies ≤ t) (p : P
 
 module _ (own : List (Bool × ℕ)) (h : Head) (l : ReaderTables) (alone : first_met own ≡ cond (refused_job h l) 32 0) where
   -- The writer refuses the edited job.
-  pub told_codes : (e : Edit) → not (eqb (job_refusal (file_job_of h l.job)) 0) ≡ true → e.met ≡ 32 → e.words ≡ 0 → Told own h l e
-  told_codes e r m n = record { met_is = m ∙ sym (alone ∙ rw refused); words_is = rw (alone, refused) n }
+  pub told_codes : not (eqb (job_refusal (file_job_of h l.job)) 0) ≡ true → Told own h l (Err EditRefused)
+  told_codes r = record { met_is = sym (alone ∙ rw refused); words_is = rw (alone, refused) }
     where
       refused : refused_job h l ≡ true
       refused = unfold refused_job in rw r
 
   -- It does not: what a run says is told.
-  pub told-places : (e : Edit) (place : ℕ) → job_refusal (file_job_of h l.job) ≡ 0 → ByPlaces (job_in h l) place e → Told own h l e
+  pub told-places : (e : Result Edit Refusal) (place : ℕ) → job_refusal (file_job_of h l.job) ≡ 0 → ByPlaces (job_in h l) place e → Told own h l e
   told-places e place ok b =
       split (counted_twice (counted_of (job_in h l)))
       (λ t. record { met_is = b.met_is ∙ rw t (sym (alone ∙ rw (by_run, t))); words_is = rw (alone, by_run, t) (b.words_is ∙ rw t) })
@@ -142,9 +145,9 @@ module _ (z : Sizes) (y : TallyWords) (code : List ℕ) (l : ReaderTables) where
   x = tally_with y code
 
   -- 31.
-  pub told_full : (e : Edit) → leb max_tallies z.tallies ≡ true → e.met ≡ 31 → e.words ≡ 0 →
-      Told (add_faults (head_now z) l x) (added_head (head_now z)) (added_tables (head_now z) l x) e
-  told_full e full m n = record { met_is = m ∙ sym first; words_is = rw first n }
+  pub told_full : leb max_tallies z.tallies ≡ true →
+      Told (add_faults (head_now z) l x) (added_head (head_now z)) (added_tables (head_now z) l x) (Err NoRoom)
+  told_full full = record { met_is = sym first; words_is = rw first }
     where
       first : first_met (add_faults (head_now z) l x) ≡ 31
       first = unfold add_faults first_met in rw full
@@ -241,9 +244,9 @@ freed_is = λ i. record {
 
 module _ (z : Sizes) (a : ℕ) (l : ReaderTables) where
   -- 32: no such place.
-  pub told_nowhere : (e : Edit) → ltb a z.tallies ≡ false → e.met ≡ 32 → e.words ≡ 0 →
-      Told (withdraw_faults (head_now z) l a) (withdrawn_head (head_now z)) (withdrawn_tables (head_now z) l a) e
-  told_nowhere e none m n = record { met_is = m ∙ sym first; words_is = rw first n }
+  pub told_nowhere : ltb a z.tallies ≡ false →
+      Told (withdraw_faults (head_now z) l a) (withdrawn_head (head_now z)) (withdrawn_tables (head_now z) l a) (Err EditRefused)
+  told_nowhere none = record { met_is = sym first; words_is = rw first }
     where
       first : first_met (withdraw_faults (head_now z) l a) ≡ 32
       first = unfold withdraw_faults first_met in rw none

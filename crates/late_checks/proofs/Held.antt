@@ -2,14 +2,17 @@
 use mathlib.Core.Path.{◌≡◌, sym, ap, ◌∙◌}
 use mathlib.Core.Bool.{cond}
 use mathlib.Core.List.{List}
-use Prim.Native.Nat.{ℕ, suc, ◌+◌, ◌*◌, ◌/◌, ◌%◌, ◌<◌, ◌≤◌}
+use Prim.Native.Nat.{ℕ, suc, ◌-◌, ◌+◌, ◌*◌, ◌/◌, ◌%◌, ◌<◌, ◌≤◌}
 use native.Mathlib.Nat.{div-add-mod', mod-lt, div-lt_iff_lt-mul}
 use lib.Dec.{ltb}
-use lib.ListN.{get_or, length}
+use native.Mathlib.Omega.{arith}
+use lib.ListN.{get_or, length, take, drop}
+use Rattle.std.proofs.Common.{◌++◌}
+use Rattle.std.proofs.lemmas.List.{length-take-le, length-drop, length-append, get_or_append_left, get_or-append_right, get_or-take, get_or-drop}
 use borrow.Author.Tests.{ltb-true}
 use Rattle.laws.specs.Tables.{overwrite, recell}
 use Rattle.laws.proofs.Bools.{split}
-use Rattle.laws.proofs.Tables.{get_d_recell, get_d_overwrite, cell_in, pos_right, long_overwrite}
+use Rattle.laws.proofs.Tables.{get_d_recell, get_d_overwrite, cell_in, pos_right, long_overwrite, is_overwrite}
 use Rattle.late_rules.specs.Edit.{place_before}
 use Rattle.late_edits.specs.Columns.{edit_entries}
 use Rattle.late_checks.specs.Held.{Shaped, Holds}
@@ -47,3 +50,12 @@ module _ {A : Type 0} (w p n : ℕ) (z : A) (x : ℕ → A) where
         ∙ alike t l c s (λ i h. ap (λ (y : List A). get_or y i z) e ∙ get_d_overwrite b (λ i. get_or l i z) l₀ i z (rw eb h)) (j / w) (j % w) ((div-lt_iff_lt-mul some).1 q) (mod-lt j some)
         ∙ ap (λ (i : ℕ). get_or (edit_entries w p n z x l) i z) whole;
   }
+
+-- The first n words of a table, copied over those of another.
+pub copied_part : {A : Type 0} (n : ℕ) (z : A) (l l₀ r : List A) → n ≤ length l → n ≤ length l₀ → r ≡ take n l → r ++ drop n l₀ ≡ overwrite n (λ i. get_or l i z) l₀
+copied_part n z l l₀ r long room e =
+    let many : length r ≡ n = rw e (length-take-le n l long) in
+    is_overwrite n (λ i. get_or l i z) l₀ (r ++ drop n l₀) z room
+    (omega (arith, length-append r (drop n l₀), length-drop n l₀, many))
+    (λ i h. get_or_append_left r (drop n l₀) z i (omega (arith, many, h)) ∙ rw e (get_or-take n l i z h))
+    (λ i h. get_or-append_right r (drop n l₀) n i z many h ∙ get_or-drop n l₀ (i - n) z ∙ ap (λ (j : ℕ). get_or l₀ j z) (omega (arith, h)))

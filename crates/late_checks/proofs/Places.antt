@@ -1,4 +1,6 @@
 -- The job in edited copies is the edited job, as a run sees it. Assumes nothing.
+use Rattle.late_checks.specs.declared.Tables.{Tables}
+use Rattle.late_checks.specs.declared.judge.Wanted.{Wanted}
 use mathlib.Core.Path.{◌≡◌, refl, ap, ◌∙◌}
 use mathlib.Core.Bool.{Bool, true, false, cond}
 use mathlib.Core.List.{List, [], ◌∷◌}
@@ -121,3 +123,9 @@ module _ (f : JobTables) (t : ℕ) (g b o : List ℕ) (c : List ℤ) (s v : List
   pub bags_with : t ≤ length s → t ≤ length v → bags_short columned (job_lengths columned) ≡ false
   unfolding bags_short job_lengths
   bags_with es ev = rw (le-ltb (length s) t es, le-ltb (length v) t ev)
+
+-- The present job, as its tables are lent.
+abbrev pub present_of : Wanted → Tables → JobTables
+present_of w t =
+    bag_tables w.sizes.boxes w.sizes.grocers w.sizes.offers w.shape.present w.sizes.lists t.price.now t.offer_owner.now t.grocer_owner.now t.tally_grocer.now
+    t.tally_box.now t.tally_offer.now t.tally_count.now t.tally_bag.now t.tally_revision.now

@@ -1,5 +1,7 @@
 -- The edited job that code tells of: what is asked of the present tables, and what is told.
-use Rattle.std.specs.Prelude.{◌≡◌, true, false, cond, List, ℕ, suc, ◌≤◌, pos}
+use Rattle.std.specs.Prelude.{◌≡◌, true, false, cond, List, ℕ, suc, ◌≤◌, pos, Result, Ok, Err, IfOk}
+use Rattle.refusals.specs.declared.Refusal.{Refusal}
+use Rattle.refusals.specs.Numbers.{number}
 use Rattle.recount.specs.Recount.{counted_twice}
 use Rattle.model.specs.PackedTotals.{totals_length}
 use Rattle.model.specs.Ranges.{job_in_range}
@@ -63,8 +65,13 @@ module _ (w : Wanted) where
     pub bags : bags_short f (job_lengths f) ≡ false
     pub in_range : job_in_range (job_then place f) ≡ true
 
+-- The packed length that is told of an edit: 0 where it is refused.
+abbrev pub words_of : Result Edit Refusal → ℕ
+words_of (Ok e) = e.words
+words_of (Err r) = 0
+
 -- What is told by places, of the edited job f: 32 where a run refuses it, else its packed length.
-pub record ByPlaces (f : JobTables) (place : ℕ) (e : Edit) : Type 0 where
-  pub met_is : e.met ≡ cond (counted_twice (counted_of f)) 32 0
-  pub place_is : e.met ≡ 0 → e.place ≡ place
-  pub words_is : e.words ≡ cond (counted_twice (counted_of f)) 0 (totals_length (evening_of f))
+pub record ByPlaces (f : JobTables) (place : ℕ) (e : Result Edit Refusal) : Type 0 where
+  pub met_is : number e ≡ cond (counted_twice (counted_of f)) 32 0
+  pub place_is : IfOk e (λ (x : Edit). x.place ≡ place)
+  pub words_is : words_of e ≡ cond (counted_twice (counted_of f)) 0 (totals_length (evening_of f))

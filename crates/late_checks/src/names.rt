@@ -6,7 +6,7 @@ ghost use Rattle.format.specs.Codes.{is_code, name_of, name_number, read_code};
 ghost use Rattle.late_checks.specs.Named.{is_number, NamesLent};
 
 use file_digits::name_at;
-use slices::casts::{index_of, word_of};
+use slices::casts::word_of;
 use writer_names::number_of;
 
 // The place of the first offer of n whose name has a number, or n where none has.
@@ -34,6 +34,6 @@ pub fn place_of(
     ensures { result ≡ find n (is_number offer_code.now offer_issuer.now
         (name_number (name_of issuer (read_code (from code.now 0))))) }
 {
-    let number = name_at(code, 0, index_of(issuer));
-    word_of(find_offer(offer_code, offer_issuer, index_of(n), number))
+    let number = name_at(code, 0, usize::from(issuer));
+    word_of(find_offer(offer_code, offer_issuer, usize::from(n), number))
 }

@@ -1,43 +1,29 @@
 -- Words that move up, one after the other, and the entry behind them. Assumes nothing.
 use mathlib.Core.Path.{◌≡◌, ap, ◌∙◌}
 use mathlib.Core.List.{List}
-use Prim.Native.Nat.{ℕ, suc, ◌+◌, ◌*◌, ◌<◌, ◌≤◌}
+use Prim.Native.Nat.{ℕ, suc, ◌+◌, ◌-◌, ◌*◌, ◌<◌, ◌≤◌}
 use native.Mathlib.Nat.{mul-le-mul_right}
 use native.Mathlib.Omega.{arith}
-use lib.Dec.{eqb, ltb}
+use lib.Dec.{ltb}
 use lib.ListN.{get_or, set, length, length-set}
 use lib.Seq.{get_or-set_same, get_or-set_other}
-use borrow.Author.Tests.{eqb-true, eqb-false, lt-ltb, le-ltb, ltb-true, ltb-false}
+use borrow.Author.Tests.{lt-ltb, le-ltb, ltb-true, ltb-false}
 use Rattle.laws.proofs.Bools.{split}
 use Rattle.laws.proofs.Tables.{is_recell, cell_in}
 use Rattle.late_edits.specs.Columns.{edit_entries, moving}
 use Rattle.late_rules.proofs.Counts.{before_low, before_high}
 
-module _ {A : Type 0} (a w : ℕ) (z : A) (l : List A) where
-  -- Before the first word has moved.
-  pub move_none : (k : ℕ) → get_or l k z ≡ moving a w a z l k
-  unfolding moving
-  move_none k = split (ltb k a) (λ e. rw e) (λ e. rw e)
-
-  -- A word past those moved is as it was.
-  pub move_past : (i k : ℕ) → a ≤ i → i ≤ k → moving a w i z l k ≡ get_or l k z
-  unfolding moving
-  move_past i k q r = rw (le-ltb k a (omega arith), le-ltb k i r)
-
-  -- One word more.
-  pub move_more : (s : List A) (i k : ℕ) → a ≤ i → i < length s → ((k : ℕ) → get_or s k z ≡ moving a w i z l k) →
-      get_or (set s i (get_or s (i + w) z)) k z ≡ moving a w (i + 1) z l k
-  unfolding moving
-  move_more s i k q r e =
-      split (eqb k i)
-      (λ m. let same : k ≡ i = eqb-true k i m in
-      rw (same, le-ltb i a q, lt-ltb i (i + 1) (omega arith))
-      (get_or-set_same s i (get_or s (i + w) z) z r ∙ e (i + w) ∙ move_past i (i + w) q (omega arith)))
-      (λ m. let ne = eqb-false k i m in
-      get_or-set_other s i k (get_or s (i + w) z) z ne ∙ e k
-      ∙ split (ltb k i)
-      (λ b. rw (b, lt-ltb k (i + 1) (let c = ltb-true k i b in omega arith)))
-      (λ b. rw (b, le-ltb k (i + 1) (let c = ltb-false k i b in omega arith))))
+-- What stands at each place once the words from a on, up to e, take those w behind: three parts.
+pub moved_by : {A : Type 0} (a w e : ℕ) (z : A) (l s : List A) → a ≤ e → let n = e + w - (a + w) in
+    ((k : ℕ) → a ≤ k → k < a + n → get_or s k z ≡ get_or l (a + w + (k - a)) z) → ((k : ℕ) → k < a → get_or s k z ≡ get_or l k z) →
+    ((k : ℕ) → a + n ≤ k → get_or s k z ≡ get_or l k z) → (k : ℕ) → get_or s k z ≡ moving a w e z l k
+unfolding moving
+moved_by a w e z l s h inside before past k =
+    split (ltb k a)
+    (λ b. rw b (before k (ltb-true k a b)))
+    (λ b. let lo = ltb-false k a b in split (ltb k e)
+    (λ d. let hi = ltb-true k e d in rw (b, d) (inside k lo (omega arith) ∙ ap (λ (j : ℕ). get_or l j z) (omega arith)))
+    (λ d. let hi = ltb-false k e d in rw (b, d) (past k (omega arith))))
 
 -- Entries moved up, m, and the words of x put behind them, s: the table is edited.
 pub edit_end : {A : Type 0} (w p n a e : ℕ) (z : A) (x : ℕ → A) (l m s : List A) → a ≡ p * w → e ≡ n * w → p ≤ n → n * w + w ≤ length l → length s ≡ length l →

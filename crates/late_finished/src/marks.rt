@@ -10,9 +10,9 @@ use job_masks::masks::by_owner;
 use message_tables::words::word_total;
 use slices::limits::{BOXES, GROCERS, OFFERS};
 use slices::lists::width_of;
-use slices::sizes::Sizes;
 use slices::{u16_at, u32_at};
 use step_places::Step;
+use tables::{Job, State};
 
 // Whether the done marks are those of the steps that the words of receivers and senders tell.
 fn right_marks(k: u16, receivers: &[u16; BOXES], senders: &[u16; BOXES], done: &[u16]) -> bool
@@ -45,31 +45,31 @@ fn all_sent(sent: u32, words: u32, width: usize) -> bool
 
 // Whether done marks and words sent are those of a finished run, of a job with these need words and sharer words.
 pub fn marks_finished(
-    z: Sizes,
-    offer_owner: &[u16],
-    grocer_owner: &[u16],
+    job: &Job,
     needs: &[u16; OFFERS],
     sharers: &[u16; GROCERS],
-    done: &[u16],
-    sent: &[u32],
+    state: &State,
 ) -> bool
-    requires le_boxes { (1 ≤ z.boxes) × (z.boxes ≤ 16) × (z.lists ≤ max_lists) × (6 * z.boxes * z.boxes ≤ length done.now) × (1 ≤ length sent.now) }
-    requires owned { Owned z.offers offer_owner.now needs.now × Owned z.grocers grocer_owner.now sharers.now }
-    ensures { result ≡ (right_marks z.boxes (by_owner z.offers offer_owner.now needs.now)
-        (by_owner z.grocers grocer_owner.now sharers.now) done.now
-        && eqb (get_or sent.now 0 0) ((others_sum z.offers offer_owner.now needs.now
-        + others_sum z.grocers grocer_owner.now sharers.now) * suc z.lists)) }
+    requires le_boxes { (1 ≤ job.now.sizes.boxes) × (job.now.sizes.boxes ≤ 16) × (job.now.sizes.lists ≤ max_lists) ×
+        (6 * job.now.sizes.boxes * job.now.sizes.boxes ≤ length state.now.done.now) × (1 ≤ length state.now.sent.now) }
+    requires owned { Owned job.now.sizes.offers job.now.offer_owner.now needs.now × Owned job.now.sizes.grocers job.now.grocer_owner.now sharers.now }
+    ensures { result ≡ (right_marks job.now.sizes.boxes (by_owner job.now.sizes.offers job.now.offer_owner.now needs.now)
+        (by_owner job.now.sizes.grocers job.now.grocer_owner.now sharers.now) state.now.done.now
+        && eqb (get_or state.now.sent.now 0 0) ((others_sum job.now.sizes.offers job.now.offer_owner.now needs.now
+        + others_sum job.now.sizes.grocers job.now.grocer_owner.now sharers.now) * suc job.now.sizes.lists)) }
 {
-    let receivers = by_owner(z.offers, offer_owner, needs);
-    let senders = by_owner(z.grocers, grocer_owner, sharers);
+    let z = job.sizes;
+    let receivers = by_owner(z.offers, job.offer_owner, needs);
+    let senders = by_owner(z.grocers, job.grocer_owner, sharers);
     let words = word_total(
         z.grocers,
         z.offers,
-        offer_owner,
-        grocer_owner,
+        job.offer_owner,
+        job.grocer_owner,
         needs,
         sharers,
     );
     let width = width_of(z.lists);
-    right_marks(z.boxes, &receivers, &senders, done) & all_sent(u32_at(sent, 0), words, width)
+    right_marks(z.boxes, &receivers, &senders, state.done)
+        & all_sent(u32_at(state.sent, 0), words, width)
 }

@@ -6,11 +6,10 @@ ghost use Rattle.late_finished.specs.Tests.{no_words, right_words, right_row, ri
 
 use slices::amounts::row_start;
 use slices::bits::has_bit;
-use slices::casts::index_of;
 use slices::limits::OFFERS;
 use slices::lists::{box_words, width_of, words_at};
-use slices::sizes::Sizes;
 use slices::{u16_at, u32_at};
+use tables::{Job, State};
 
 // Whether the n words from a place on are 0. There is no branch in the loop, so that several words are tested at once.
 fn no_words(s: &[u32], at: usize, n: usize) -> bool
@@ -112,21 +111,24 @@ fn right_known(
 }
 
 // Whether known prices and prices in transit are those of a finished run, of a job with these need words.
-pub fn prices_finished(
-    z: Sizes,
-    price: &[u32],
-    offer_owner: &[u16],
-    needs: &[u16; OFFERS],
-    known: &[u32],
-    price_transit: &[u32],
-) -> bool
-    requires { PricesLent z.boxes z.offers z.lists price.now offer_owner.now needs.now known.now price_transit.now }
-    ensures { result ≡ (right_known z.boxes z.offers (suc z.lists) price.now offer_owner.now needs.now
-        known.now && no_words 0 (z.boxes * (z.offers * suc z.lists)) price_transit.now) }
+pub fn prices_finished(job: &Job, needs: &[u16; OFFERS], state: &State) -> bool
+    requires { PricesLent job.now.sizes.boxes job.now.sizes.offers job.now.sizes.lists job.now.price.now job.now.offer_owner.now needs.now
+        state.now.known.now state.now.price_transit.now }
+    ensures { result ≡ (right_known job.now.sizes.boxes job.now.sizes.offers (suc job.now.sizes.lists) job.now.price.now job.now.offer_owner.now
+        needs.now state.now.known.now
+        && no_words 0 (job.now.sizes.boxes * (job.now.sizes.offers * suc job.now.sizes.lists)) state.now.price_transit.now) }
 {
-    let n = index_of(z.offers);
+    let z = job.sizes;
+    let n = usize::from(z.offers);
     let width = width_of(z.lists);
     let words = box_words(z.boxes, z.lists, z.offers);
-    right_known(z.boxes, n, width, price, offer_owner, needs, known)
-        & no_words(price_transit, 0, words)
+    right_known(
+        z.boxes,
+        n,
+        width,
+        job.price,
+        job.offer_owner,
+        needs,
+        state.known,
+    ) & no_words(state.price_transit, 0, words)
 }

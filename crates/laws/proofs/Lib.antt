@@ -5,6 +5,7 @@ pub mod Below
 pub mod Listed
 pub mod Ascending
 pub mod Tables
+pub mod Fills
 pub mod Entries
 pub mod Signed
 pub mod Signs

@@ -1,11 +1,11 @@
 -- The tables of messages as a call gives them: its answer, and both tables.
-use Rattle.std.specs.Prelude.{cond, List, ℕ, zero, suc, eqb}
+use Rattle.std.specs.Prelude.{cond, List, ℕ, zero, suc, eqb, Result, Ok, Err}
 use Rattle.laws.specs.Checks.{first_met}
 use Rattle.model.specs.Words.{owner_words}
 use Rattle.model.specs.Tables.{JobTables, job_of}
 use Rattle.model.specs.Local.{price_table, total_table, job_refusals}
-use Rattle.message_tables.specs.declared.Answer.{Answer}
-use Rattle.message_tables.specs.declared.Answer.TheVariants.{Made, Refused}
+use Rattle.refusals.specs.declared.Refusal.{Refusal}
+use Rattle.refusals.specs.Numbers.{number_of}
 
 -- What the call says: the words of the job, or the number of a refusal.
 pub data MessagesAnswer : Type 0 where
@@ -13,9 +13,9 @@ pub data MessagesAnswer : Type 0 where
   refused : (number : ℕ) → MessagesAnswer
 
 -- What each case of the answer says.
-unfoldable pub said : Answer → MessagesAnswer
-said (Made words) = made words
-said (Refused number) = refused number
+unfoldable pub said : Result ℕ Refusal → MessagesAnswer
+said (Ok words) = made words
+said (Err refusal) = refused (number_of refusal)
 
 -- What is due: the first refusal that is met, or the words of the job by the owner tables.
 unfoldable pub messages_answer : ℕ → ℕ → MessagesAnswer

@@ -6,6 +6,7 @@ ghost use Rattle.job_masks.specs.Masks.{Owned};
 ghost use Rattle.message_tables.specs.Sums.{others_sum};
 
 use slices::bits::clear_bit;
+use slices::limits::{GROCERS, OFFERS};
 use slices::u16_at;
 
 // How many boxes the word means, its owner left out.
@@ -13,7 +14,7 @@ pub fn others(word: u16, owner: u16) -> u32
     requires { owner < 16 }
     ensures { result ≡ ones (without owner word) }
 {
-    u16::count_ones(clear_bit(word, owner))
+    clear_bit(word, owner).count_ones()
 }
 
 // The ones in the first n words, each without its owner's bit.
@@ -21,9 +22,8 @@ fn others_sum(n: u16, owners: &[u16], masks: &[u16]) -> u32
     requires { Owned n owners.now masks.now }
     ensures { (result ≡ others_sum n owners.now masks.now) × (result ≤ 16 * n) }
 {
-    let m = n as usize;
-    let mut sum: u32 = 0;
-    for i in 0..m {
+    let mut sum = 0;
+    for i in 0..usize::from(n) {
         sum += others(u16_at(masks, i), u16_at(owners, i));
     }
     sum
@@ -35,8 +35,8 @@ pub fn word_total(
     offers: u16,
     offer_owner: &[u16],
     grocer_owner: &[u16],
-    needs: &[u16; 500],
-    sharers: &[u16; 255],
+    needs: &[u16; OFFERS],
+    sharers: &[u16; GROCERS],
 ) -> u32
     requires owned { Owned offers offer_owner.now needs.now }
     requires owned_2 { Owned grocers grocer_owner.now sharers.now }

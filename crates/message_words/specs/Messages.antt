@@ -1,5 +1,5 @@
 -- Tables of messages by owners and words of holders: 16 rows of 16 counts, the row is the sender.
-use Rattle.std.specs.Prelude.{Bool, cond, ◌&&◌, not, List, [], ℕ, get_or, eqb}
+use Rattle.std.specs.Prelude.{Bool, cond, ◌&&◌, not, List, ℕ, get_or, eqb}
 use Rattle.laws.specs.Below.{count}
 use Rattle.laws.specs.Masks.{bit}
 use Rattle.laws.specs.Tables.{tabulate}

@@ -1,48 +1,33 @@
 -- What the reader gives: a refusal, or the sizes with every table filled. Assumes nothing.
 use mathlib.Core.Path.{◌≡◌, sym, ap, ◌∙◌, subst}
-use mathlib.Core.Bool.{Bool, true, false}
-use mathlib.Core.List.{List, [], ◌∷◌}
+use mathlib.Core.Bool.{true, false}
+use mathlib.Core.List.{List}
 use Prim.Native.Nat.{ℕ, suc, ◌≤◌}
 use native.Mathlib.Nat.{mul-le-mul}
 use native.Mathlib.Omega.{arith}
 use lib.Dec.{ltb}
 use lib.ListN.{length}
 use borrow.Author.Tests.{ltb-false}
-use Rattle.laws.specs.Checks.{first_met}
-use Rattle.laws.specs.Tables.{overwrite, recell}
 use Rattle.laws.proofs.Bools.{or_off}
 use Rattle.laws.proofs.Checks.{one_met, one_off}
-use Rattle.format.specs.First.{first_of}
-use Rattle.format.specs.Job.{Head, price_on, place_of}
+use Rattle.format.specs.Job.{Head}
 use Rattle.format.specs.File.{decode}
-use Rattle.format.specs.Tables.{ReaderTables, store_codes, store_offers, store_tallies, store, store_read, ReadAnswer, sizes, refused, largest, short_tables, short_reader, Long, read_refusal, read_result}
+use Rattle.format.specs.Tables.{ReaderTables, store_offers, store_tallies, store, store_read, ReadAnswer, sizes, refused, largest, short_tables, short_reader, read_refusal, read_result}
+use Rattle.format.specs.Refusals.{file_refusal}
 use Rattle.file_blocks.specs.Due.{Most}
+use Rattle.reader.specs.Filled.{Room, Filled}
 use Rattle.format.proofs.Firsts.{hit, next, alone}
 use Rattle.format.proofs.Tables.{read_accepted, read_refused, long_tables}
 
--- 20 comes first.
-pub short_refused : (short : Bool) (n : ℕ) → short ≡ true → 20 ≡ first_of (first_met ((short, 20) ∷ []) ∷ n ∷ [])
-short_refused short n h = sym (rw (one_met short 20 h) (hit 20 _ (omega arith)))
+-- 20 comes first,
+pub short_refused : (f : List ℕ) (l : ReaderTables) → short_reader l ≡ true → 20 ≡ read_refusal f l
+unfolding read_refusal
+short_refused f l h = sym (rw (one_met (short_reader l) 20 h) (hit 20 _ (omega arith)))
 
--- Then the file decides.
-pub file_decides : (short : Bool) (r n : ℕ) → short ≡ false → r ≡ n → r ≡ first_of (first_met ((short, 20) ∷ []) ∷ n ∷ [])
-file_decides short r n h e = e ∙ sym (rw (one_off short 20 h, next) (alone n))
-
--- The tables where each is filled from the file, for the numbers that its header says.
-pub record Filled (f : List ℕ) (h : Head) (l l' : ReaderTables) : Type 0 where
-  pub price : l'.job.offers.price ≡ recell (suc h.lists) h.offers (price_on (decode f).offer (decode f).list_price) l.job.offers.price
-  pub owner : l'.job.offers.owner ≡ overwrite h.offers (λ i. ((decode f).offer i).owner) l.job.offers.owner
-  pub code : l'.job.offers.code ≡ store_codes h.offers (λ i. ((decode f).offer i).code) l.job.offers.code
-  pub issuer : l'.job.offers.issuer ≡ overwrite h.offers (λ i. ((decode f).offer i).issuer) l.job.offers.issuer
-  pub grocer_owner : l'.job.grocer_owner ≡ overwrite h.grocers (decode f).grocer_owner l.job.grocer_owner
-  pub tally_grocer : l'.job.tallies.grocer ≡ overwrite h.tallies (λ i. ((decode f).tally i).grocer) l.job.tallies.grocer
-  pub tally_box : l'.job.tallies.box ≡ overwrite h.tallies (λ i. ((decode f).tally i).box) l.job.tallies.box
-  pub tally_code : l'.job.tallies.code ≡ store_codes h.tallies (λ i. ((decode f).tally i).code) l.job.tallies.code
-  pub tally_count : l'.job.tallies.count ≡ overwrite h.tallies (λ i. ((decode f).tally i).count) l.job.tallies.count
-  pub tally_issuer : l'.job.tallies.issuer ≡ overwrite h.tallies (λ i. ((decode f).tally i).issuer) l.job.tallies.issuer
-  pub tally_bag : l'.job.tallies.bag ≡ overwrite h.tallies (λ i. ((decode f).tally i).bag) l.job.tallies.bag
-  pub tally_revision : l'.job.tallies.revision ≡ overwrite h.tallies (λ i. ((decode f).tally i).revision) l.job.tallies.revision
-  pub tally_offer : l'.tally_offer ≡ overwrite h.tallies (place_of (decode f)) l.tally_offer
+-- and then the file decides.
+pub file_decides : (f : List ℕ) (l : ReaderTables) (r : ℕ) → short_reader l ≡ false → r ≡ file_refusal f → r ≡ read_refusal f l
+unfolding read_refusal
+file_decides f l r h e = e ∙ sym (rw (one_off (short_reader l) 20 h, next) (alone (file_refusal f)))
 
 -- They are the tables that the format says.
 filled_stored : (f : List ℕ) (l l' : ReaderTables) → Filled f (decode f).head l l' → l' ≡ store_read (decode f) l
@@ -76,11 +61,6 @@ module _ (f : List ℕ) (l : ReaderTables) where
       let z = filled_stored f l l' (subst (λ (x : Head). Filled f x l l') e w) in
       ap (λ (x : ReadAnswer). record { answer = x; tables = l' }) ea
       ∙ (λ i. record { answer = sizes (e i); tables = z i }) ∙ sym (read_accepted f l ok)
-
--- Each table is long enough for the largest job, so for every job whose numbers are at most the largest.
-pub record Room (h : Head) (l : ReaderTables) : Type 0 where
-  pub tables : Long h l.job
-  pub tally_offer : h.tallies ≤ length l.tally_offer
 
 -- So it is where no table is short.
 pub room : (h : Head) (l : ReaderTables) → Most h → short_reader l ≡ false → Room h l

@@ -1,36 +1,43 @@
 // The reader of job files.
 #![tactic(auto)]
 
-ghost use Rattle.std.specs.Prelude.{◌≡◌, false, ◌||◌, [], ◌∷◌, ◌≤◌, ltb, length};
-ghost use Rattle.laws.specs.Checks.{any_of, first_met};
-ghost use Rattle.format.specs.First.{first_of};
-ghost use Rattle.format.specs.Refusals.{file_refusal};
-ghost use Rattle.format.specs.Tables.{sizes, read_result};
-ghost use Rattle.format.specs.Lent.{reader_before, reader_after};
+ghost use Rattle.std.specs.Prelude.{◌≡◌, false, ◌≤◌, length, OnOk};
+ghost use Rattle.format.specs.Tables.{short_reader, read_refusal, read_result};
+ghost use Rattle.refusals.specs.Numbers.{number};
 ghost use Rattle.file_blocks.specs.Due.{as_head};
-ghost use Rattle.reader.specs.Answer.{answer_of, outcome};
+ghost use Rattle.file_blocks.specs.Fills.{Placed};
+ghost use Rattle.file_blocks.specs.Said.{said};
 ghost use Rattle.file_blocks.specs.Sound.{Kept};
+ghost use Rattle.reader.specs.Answer.{outcome};
+ghost use Rattle.reader.specs.Lent.{held, SameSlices};
+ghost use Rattle.reader.specs.Filled.{Room, Filled};
 
 use file_blocks::codes::CODE_BYTES;
 use file_blocks::file::file_refusal;
 use file_blocks::fill::{fill_bytes, fill_words};
+use file_blocks::job_file::JobFile;
 use file_blocks::plan::{Head, read_head, tallies_at};
 use file_blocks::tables::{fill_offers, fill_tallies};
 use file_codes::fill_codes;
+use refusals::Refusal;
 use slices::limits::{GROCERS, MAX_LISTS, OFFERS, TALLIES};
 
-// What the reader answers: the numbers of the job that it read, or why it refused the file.
-#[derive(Clone, Copy)]
-pub enum Answer {
-    Job {
-        boxes: u16,
-        grocers: u16,
-        offers: u16,
-        tallies: u16,
-        cycle: u16,
-        lists: u16,
-    },
-    Refused(u16),
+// The tables that a job is read into: thirteen lent slices.
+#[derive(Drop)]
+pub struct Tables<'a> {
+    pub price: &'a mut [u32],
+    pub offer_owner: &'a mut [u16],
+    pub offer_code: &'a mut [u8],
+    pub offer_issuer: &'a mut [u16],
+    pub grocer_owner: &'a mut [u16],
+    pub tally_grocer: &'a mut [u16],
+    pub tally_box: &'a mut [u16],
+    pub tally_code: &'a mut [u8],
+    pub tally_count: &'a mut [i32],
+    pub tally_issuer: &'a mut [u16],
+    pub tally_bag: &'a mut [u16],
+    pub tally_revision: &'a mut [u16],
+    pub tally_offer: &'a mut [u16],
 }
 
 // The prices of the most offers on the most lists.
@@ -41,124 +48,71 @@ const OFFER_CODES: usize = OFFERS * CODE_BYTES;
 
 const TALLY_CODES: usize = TALLIES * CODE_BYTES;
 
-// Whether one of the offers' tables is shorter than the most offers need, by their lengths.
-fn short_offers(price: usize, offer_owner: usize, offer_code: usize, offer_issuer: usize) -> bool
-    ensures { result ≡ any_of (ltb price 4000 ∷ ltb offer_owner 500 ∷ ltb offer_code 5500 ∷ ltb offer_issuer 500 ∷ []) }
+// Whether a table is shorter than the largest job needs.
+fn short_tables(tables: &Tables) -> bool
+    ensures { result ≡ short_reader (held tables.now) }
 {
-    (price < PRICES) | (offer_owner < OFFERS) | (offer_code < OFFER_CODES) | (offer_issuer < OFFERS)
+    let offers = (tables.price.len() < PRICES)
+        | (tables.offer_owner.len() < OFFERS)
+        | (tables.offer_code.len() < OFFER_CODES)
+        | (tables.offer_issuer.len() < OFFERS);
+    let tallies = (tables.tally_grocer.len() < TALLIES)
+        | (tables.tally_box.len() < TALLIES)
+        | (tables.tally_code.len() < TALLY_CODES)
+        | (tables.tally_count.len() < TALLIES)
+        | (tables.tally_issuer.len() < TALLIES)
+        | (tables.tally_bag.len() < TALLIES)
+        | (tables.tally_revision.len() < TALLIES);
+    offers | (tables.grocer_owner.len() < GROCERS) | tallies | (tables.tally_offer.len() < TALLIES)
 }
 
-// Whether a table is shorter than the largest job needs: one of the offers', or one of the others by their lengths.
-fn short_tables(
-    offers: bool,
-    grocer_owner: usize,
-    tally_grocer: usize,
-    tally_box: usize,
-    tally_code: usize,
-    tally_count: usize,
-    tally_issuer: usize,
-    tally_bag: usize,
-    tally_revision: usize,
-    tally_offer: usize,
-) -> bool
-    ensures { result ≡ any_of (offers ∷ ltb grocer_owner 255 ∷ any_of (ltb tally_grocer 1000 ∷ ltb tally_box 1000 ∷ ltb tally_code 11000 ∷
-        ltb tally_count 1000 ∷ ltb tally_issuer 1000 ∷ ltb tally_bag 1000 ∷ ltb tally_revision 1000 ∷ []) ∷ []) || ltb tally_offer 1000 }
-{
-    let front = (tally_grocer < TALLIES)
-        | (tally_box < TALLIES)
-        | (tally_code < TALLY_CODES)
-        | (tally_count < TALLIES);
-    let tallies = front
-        | (tally_issuer < TALLIES)
-        | (tally_bag < TALLIES)
-        | (tally_revision < TALLIES);
-    offers | (grocer_owner < GROCERS) | tallies | (tally_offer < TALLIES)
-}
-
-// 20 where a table is short, and otherwise the refusal of the file; where it is 0, the file is sound, and each tally's place is kept.
-fn refusal(f: &[u8], short: bool, places: &mut [u16]) -> u16
+// 20 where a table is short, and otherwise the refusal of the file; where there is none, the file is sound, and each tally's place is kept.
+fn refusal(file: &[u8], tables: &Tables, places: &mut [u16]) -> Result<(), Refusal>
     requires { 1000 ≤ length places.old }
-    ensures value { result ≡ first_of (first_met ((short, 20) ∷ []) ∷ file_refusal f.now ∷ []) }
-    ensures short_value { result ≡ 0 → (short ≡ false) × Kept f.now places.new }
+    ensures value { number result ≡ read_refusal file.now (held tables.now) }
+    ensures kept { OnOk result ((short_reader (held tables.now) ≡ false) × Kept file.now places.new) }
 {
-    if short {
-        return 20;
+    if short_tables(tables) {
+        return Err(Refusal::LentShort);
     }
-    file_refusal(f, places)
+    file_refusal(file, places)
 }
 
-// The answer that says a job's numbers.
-fn job_of(head: Head) -> Answer
-    ensures { answer_of result ≡ sizes (as_head head) }
+// Fills the tables from an accepted file.
+fn fill(file: &JobFile, places: &[u16; TALLIES], tables: &mut Tables)
+    requires placed { Placed (said file.now) places.now file.now.head.sizes.tallies }
+    requires room { Room (as_head file.now.head) (held tables.old) }
+    ensures filled { Filled file.now.bytes.now (as_head file.now.head) (held tables.old) (held tables.new) }
+    ensures same_slices { SameSlices tables.old tables.new }
 {
-    let z = head.sizes;
-    Answer::Job {
-        boxes: z.boxes,
-        grocers: z.grocers,
-        offers: z.offers,
-        tallies: z.tallies,
-        cycle: head.cycle,
-        lists: z.lists,
-    }
+    let n = usize::from(file.head.sizes.offers);
+    fill_offers(file, tables.price, tables.offer_owner, tables.grocer_owner);
+    fill_codes(file.bytes, 1, n, 5, tables.offer_code);
+    fill_words(file.bytes, 1, n, 16, tables.offer_issuer);
+    fill_tallies(
+        file,
+        places,
+        tables.tally_grocer,
+        tables.tally_offer,
+        tables.tally_count,
+    );
+    let first = tallies_at(file.head);
+    let t = usize::from(file.head.sizes.tallies);
+    fill_bytes(file.bytes, first, t, 2, tables.tally_box);
+    fill_codes(file.bytes, first, t, 3, tables.tally_code);
+    fill_words(file.bytes, first, t, 18, tables.tally_issuer);
+    fill_words(file.bytes, first, t, 20, tables.tally_bag);
+    fill_words(file.bytes, first, t, 22, tables.tally_revision);
 }
 
-// Reads a job from the bytes of a file into the lent tables. A refusal leaves every word as it was.
-pub fn read(
-    file: &[u8],
-    price: &mut [u32],
-    offer_owner: &mut [u16],
-    offer_code: &mut [u8],
-    offer_issuer: &mut [u16],
-    grocer_owner: &mut [u16],
-    tally_grocer: &mut [u16],
-    tally_box: &mut [u16],
-    tally_code: &mut [u8],
-    tally_count: &mut [i32],
-    tally_issuer: &mut [u16],
-    tally_bag: &mut [u16],
-    tally_revision: &mut [u16],
-    tally_offer: &mut [u16],
-) -> Answer
-    ensures { outcome result (reader_after price offer_owner offer_code offer_issuer grocer_owner tally_grocer tally_box tally_code tally_count
-        tally_issuer tally_bag tally_revision tally_offer)
-        ≡ read_result file.now (reader_before price offer_owner offer_code offer_issuer grocer_owner tally_grocer tally_box tally_code
-        tally_count tally_issuer tally_bag tally_revision tally_offer) }
+// Reads a job from the bytes of a file into the lent tables, and answers its numbers. A refusal leaves every word as it was.
+pub fn read(file: &[u8], tables: &mut Tables) -> Result<Head, Refusal>
+    ensures answer { outcome result (held tables.new) ≡ read_result file.now (held tables.old) }
+    ensures same_slices { SameSlices tables.old tables.new }
 {
-    let offers = short_offers(
-        price.len(),
-        offer_owner.len(),
-        offer_code.len(),
-        offer_issuer.len(),
-    );
-    let short = short_tables(
-        offers,
-        grocer_owner.len(),
-        tally_grocer.len(),
-        tally_box.len(),
-        tally_code.len(),
-        tally_count.len(),
-        tally_issuer.len(),
-        tally_bag.len(),
-        tally_revision.len(),
-        tally_offer.len(),
-    );
     let mut places = [0u16; TALLIES];
-    let r = refusal(file, short, &mut places);
-    if r != 0 {
-        return Answer::Refused(r);
-    }
+    refusal(file, tables, &mut places)?;
     let head = read_head(file);
-    let n = head.sizes.offers as usize;
-    let t = head.sizes.tallies as usize;
-    fill_offers(file, head, price, offer_owner, grocer_owner);
-    fill_codes(file, 1, n, 5, offer_code);
-    fill_words(file, 1, n, 16, offer_issuer);
-    fill_tallies(file, head, &places, tally_grocer, tally_offer, tally_count);
-    let first = tallies_at(head);
-    fill_bytes(file, first, t, 2, tally_box);
-    fill_codes(file, first, t, 3, tally_code);
-    fill_words(file, first, t, 18, tally_issuer);
-    fill_words(file, first, t, 20, tally_bag);
-    fill_words(file, first, t, 22, tally_revision);
-    job_of(head)
+    fill(&JobFile { bytes: file, head }, &places, tables);
+    Ok(head)
 }

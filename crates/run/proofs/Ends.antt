@@ -26,9 +26,8 @@ use Rattle.job_checks.specs.Sizes.{sizes}
 use Rattle.run_ready.specs.Walk.{WalkIn}
 use Rattle.step_places.specs.Order.{steps_in}
 use Rattle.run_order.specs.Order.{OfJob, SomeJob, EveryJob, MarksFrom, SoFar, Ordered}
-use Rattle.run.specs.declared.Answer.TheVariants.{Finished, Refused}
 use Rattle.run_steps.specs.All.{without_marks, AllIn, AllOut}
-use Rattle.run.specs.Run.{Begins, answer_of, given, OrderIn}
+use Rattle.run.specs.Run.{Begins, given, OrderIn}
 use Rattle.book_places.specs.Spots.{CountIn, start_by}
 use Rattle.model.proofs.Handed.{handed-whole, handed_in, handed_evening, handed_run}
 use Rattle.job_checks.proofs.Refusals.{accepted}
@@ -185,9 +184,8 @@ module _ (f : JobTables) (t : StateTables) (g : Begins f t) where
       places_are = places_done f t g packed needs sharers done order n en es so_far (run (evening_of f) cs) steps_of t' words messages r m ed es'
 
       -- What is answered, the tables, and the places of the steps picked.
-      pub run_ended : (p p' : List ℕ) → p' ≡ lay_over (take n order) p → given (answer_of (Finished words messages n)) t' p'
+      pub run_ended : (p p' : List ℕ) → p' ≡ lay_over (take n order) p → given (finished words messages n) t' p'
           ≡ given (finished end.sent (over messages_of (run (evening_of f) cs)) (length (run (evening_of f) cs))) (store (evening_of f) end t) (lay_over (picked_places (evening_of f) cs) p)
-      unfolding answer_of
       run_ended p p' e = λ i. given (finished (words_is i) (messages_is i) (steps_is i)) (tables_are i) ((e ∙ ap (λ (l : List ℕ). lay_over l p) places_are) i)
 
 -- A number that is not 0 is a refusal.
@@ -209,22 +207,22 @@ module _ (f : JobTables) (t : StateTables) (c : Bool) (e : c ≡ state_short (si
   state_is = e ∙ short_sizes f (state_lengths t)
 
   -- A table of the state is short: no word is changed.
-  pub run_short : (cs p : List ℕ) → c ≡ true → given (answer_of (Refused 20)) t p ≡ ran f t cs p
-  unfolding ran answer_of run_refusals first_met lent_short
+  pub run_short : (cs p : List ℕ) → c ≡ true → given (refused 20) t p ≡ ran f t cs p
+  unfolding ran run_refusals first_met lent_short
   run_short cs p h = rw (sym state_is ∙ h, or_true (job_short f (job_lengths f) || bags_short f (job_lengths f))) (ap (λ (a : RunAnswer). given a t p) (refused_said 20 _ (λ q. omega arith)))
 
   -- None is: the refusals are those of the job's tables, and 20 on the packed tables.
   module _ (h : c ≡ false) where
     -- A number that is met is the run's refusal.
-    said : (cs p : List ℕ) (n : ℕ) → first_met (run_refusals f t) ≡ n → (n ≡ 0 → ⊥) → given (answer_of (Refused n)) t p ≡ ran f t cs p
-    unfolding ran answer_of
+    said : (cs p : List ℕ) (n : ℕ) → first_met (run_refusals f t) ≡ n → (n ≡ 0 → ⊥) → given (refused n) t p ≡ ran f t cs p
+    unfolding ran
     said cs p n q k = rw (q, ne_eqb n 0 k) (ap (λ (a : RunAnswer). given a t p) (refused_said n _ k))
 
     else_is : lent_short f t ≡ (job_short f (job_lengths f) || bags_short f (job_lengths f))
     unfolding lent_short
     else_is = rw (sym state_is ∙ h, or_false (job_short f (job_lengths f) || bags_short f (job_lengths f)))
 
-    pub run_refused : (cs p : List ℕ) (n : ℕ) → n ≡ first_met (job_refusals f) → (n ≡ 0 → ⊥) → given (answer_of (Refused n)) t p ≡ ran f t cs p
+    pub run_refused : (cs p : List ℕ) (n : ℕ) → n ≡ first_met (job_refusals f) → (n ≡ 0 → ⊥) → given (refused n) t p ≡ ran f t cs p
     unfolding run_refusals job_refusals
     run_refused cs p n q k =
         said cs p n (rw else_is (met_before (job_short f (job_lengths f) || bags_short f (job_lengths f)) (not (job_in_range f)) (counted_twice (counted_of f)) (totals_short (evening_of f) (state_lengths t)) n q k)) k
@@ -246,7 +244,7 @@ module _ (f : JobTables) (t : StateTables) (c : Bool) (e : c ≡ state_short (si
       pub packed_is : (x : Bool) → x ≡ totals_short (evening_of (handed_tables f standing)) (state_lengths t) → x ≡ totals_short (evening_of f) (state_lengths t)
       packed_is x q = q ∙ ap (λ (j : Job). totals_short j (state_lengths t)) (handed_evening f standing s)
 
-      pub run_packed : (cs p : List ℕ) (x : Bool) → x ≡ totals_short (evening_of (handed_tables f standing)) (state_lengths t) → x ≡ true → given (answer_of (Refused 20)) t p ≡ ran f t cs p
+      pub run_packed : (cs p : List ℕ) (x : Bool) → x ≡ totals_short (evening_of (handed_tables f standing)) (state_lengths t) → x ≡ true → given (refused 20) t p ≡ ran f t cs p
       unfolding run_refusals job_refusals
       run_packed cs p x q k =
           said cs p 20 (rw else_is (met_last (job_short f (job_lengths f) || bags_short f (job_lengths f)) (not (job_in_range f)) (counted_twice (counted_of f)) (totals_short (evening_of f) (state_lengths t)) z (sym (packed_is x q) ∙ k)))

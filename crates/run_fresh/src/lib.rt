@@ -7,33 +7,14 @@ ghost use Rattle.model.specs.Spans.{in_span};
 ghost use Rattle.run_fresh.specs.Fresh.{own_prices, FreshPrices, FreshTotals};
 
 use slices::lists::{width_of, words_at};
-
-// The first n words of 32 bits become 0,
-fn zero32(s: &mut [u32], n: usize)
-    requires { n ≤ length s.old }
-    ensures { s.new ≡ overwrite n (λ i. 0) s.old }
-{
-    for i in 0..n {
-        s[i] = 0;
-    }
-}
-
-// and of 64.
-fn zero64(s: &mut [i64], n: usize)
-    requires { n ≤ length s.old }
-    ensures { s.new ≡ overwrite n (λ i. pos 0) s.old }
-{
-    for i in 0..n {
-        s[i] = 0;
-    }
-}
+use tables::Job;
 
 // The place of a box's word for offer o.
 fn place(n: usize, owner: u16, o: usize) -> usize
     requires { (n ≤ 500) × ((owner < 16) × (o < n)) }
     ensures { result ≡ owner * n + o }
 {
-    owner as usize * n + o
+    usize::from(owner) * n + o
 }
 
 // Writes the prices of offer o, one for each price list, side by side from a place on.
@@ -49,27 +30,22 @@ fn put_prices(known: &mut [u32], at: usize, price: &[u32], n: usize, o: usize, w
 }
 
 // The price tables of a fresh state, whatever they held before: every owner knows the prices of its own offers, and none is in transit.
-pub fn fresh_prices(
-    boxes: u16,
-    offers: u16,
-    lists: u16,
-    price: &[u32],
-    offer_owner: &[u16],
-    known: &mut [u32],
-    price_transit: &mut [u32],
-)
-    requires { FreshPrices boxes offers lists price.now offer_owner.now known.old price_transit.old }
-    ensures { (known.new ≡ own_prices boxes offers lists price.now offer_owner.now known.old) ×
-        (price_transit.new ≡ overwrite (boxes * (offers * suc lists)) (λ i. 0) price_transit.old) }
+pub fn fresh_prices(job: &Job, known: &mut [u32], price_transit: &mut [u32])
+    requires { FreshPrices job.now.sizes.boxes job.now.sizes.offers job.now.sizes.lists job.now.price.now
+        job.now.offer_owner.now known.old price_transit.old }
+    ensures { (known.new ≡ own_prices job.now.sizes.boxes job.now.sizes.offers job.now.sizes.lists job.now.price.now
+        job.now.offer_owner.now known.old) × (price_transit.new ≡ overwrite (job.now.sizes.boxes *
+        (job.now.sizes.offers * suc job.now.sizes.lists)) (λ i. 0) price_transit.old) }
 {
-    let n = offers as usize;
-    let width = width_of(lists);
-    let words = boxes as usize * words_at(n, width);
-    zero32(price_transit, words);
-    zero32(known, words);
+    let z = job.sizes;
+    let n = usize::from(z.offers);
+    let width = width_of(z.lists);
+    let words = usize::from(z.boxes) * words_at(n, width);
+    price_transit[..words].fill(0);
+    known[..words].fill(0);
     for o in 0..n {
-        let at = words_at(place(n, slices::u16_at(offer_owner, o), o), width);
-        put_prices(known, at, price, n, o, width);
+        let at = words_at(place(n, slices::u16_at(job.offer_owner, o), o), width);
+        put_prices(known, at, job.price, n, o, width);
     }
 }
 
@@ -86,7 +62,7 @@ pub fn fresh_totals(
         (total_transit.new ≡ overwrite words (λ i. pos 0) total_transit.old) ×
         (statement.new ≡ overwrite statements (λ i. pos 0) statement.old) }
 {
-    zero64(working, words);
-    zero64(total_transit, words);
-    zero64(statement, statements);
+    working[..words].fill(0);
+    total_transit[..words].fill(0);
+    statement[..statements].fill(0);
 }

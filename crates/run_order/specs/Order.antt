@@ -8,6 +8,8 @@ use Rattle.model.specs.Run.{run}
 use Rattle.model.specs.Boxes.{Closed}
 use Rattle.step_places.specs.Order.{steps_in, mark_all, no_steps, permitted_at, steps_left, NoneBefore}
 use Rattle.step_rules.specs.Rules.{ReceiversOf, WaitsOf}
+use Rattle.run_ready.specs.declared.Rules.{Rules}
+use Rattle.run_ready.specs.Walk.{WalkIn}
 
 -- A job of k boxes, at most 16, with these words of receivers and waits.
 pub record OfJob (k : ℕ) (receivers : List ℕ) (waits : List (List ℕ)) (j : Job) : Type 0 where
@@ -68,6 +70,14 @@ pub record Passed (j : Job) (done order : List ℕ) (n i : ℕ) (done' order' : 
 -- What holds of every job with these words of receivers and waits.
 abbrev pub EveryJob : ℕ → List ℕ → List (List ℕ) → (Job → Type 0) → Type 0
 EveryJob k receivers waits P = (j : Job) → OfJob k receivers waits j → P j
+
+-- What holds of every job with these rules.
+abbrev pub EveryJobOf : Rules → (Job → Type 0) → Type 0
+EveryJobOf r P = EveryJob r.boxes r.receivers.now r.waits.now P
+
+-- What a walk by the rules of some job requires of the marks: they are as many as it needs, and those of the steps done alone.
+abbrev pub MayWalk : Rules → List ℕ → Type 0
+MayWalk r done = WalkIn r.boxes done × MarksFrom r.boxes done done × SomeJob r.boxes r.receivers.now r.waits.now
 
 -- The whole order of the run with the choices cs: its first n words are the run's steps, each permitted in its turn, and these are the ones marked.
 pub record Ordered (j : Job) (cs done order : List ℕ) (n : ℕ) : Type 0 where

@@ -1,13 +1,20 @@
 -- A search among the ready steps: how many are left to pass. Assumes nothing.
 use mathlib.Core.Path.{◌≡◌}
-use mathlib.Core.Bool.{Bool, false, ◌&&◌}
+use mathlib.Core.Bool.{Bool, true, false, ◌&&◌}
 use Prim.Native.Nat.{ℕ, ◌+◌, ◌-◌, ◌≤◌}
 use native.Mathlib.Omega.{arith}
 use lib.Dec.{eqb}
+use Rattle.std.specs.Int.{from_bool}
 use borrow.Author.Tests.{eqb-false}
 use Rattle.laws.specs.Below.{naturals, only, count}
 use Rattle.laws.proofs.Bools.{split}
 use Rattle.laws.proofs.Below.{count_next}
+
+-- A test as a number, as std makes it.
+pub one_of : (t : Bool) (n : ℕ) → n ≡ from_bool t → n ≡ only naturals t 1
+unfolding only naturals
+one_of true n e = e
+one_of false n e = e
 
 -- Searching for the place with c before it: how many are left to pass where it is not here.
 module _ (p : ℕ → Bool) (i left c : ℕ) (e : left + count i p ≡ c) where

@@ -1,12 +1,12 @@
 -- The rows that a step can change, and these made anew. Assumes nothing.
 use mathlib.Core.Path.{◌≡◌, refl, sym}
 use mathlib.Core.Bool.{Bool, true, false, cond, ◌&&◌, ◌||◌, not, false≢true}
-use mathlib.Core.List.{List}
 use Prim.Native.Nat.{ℕ, ◌+◌, ◌*◌, ◌≤◌, ◌<◌}
 use native.Mathlib.Omega.{arith}
 use lib.Dec.{eqb}
 use borrow.Author.Tests.{eqb-true}
 use Rattle.laws.proofs.Bools.{split}
+use Rattle.run_ready.specs.declared.ReadyRows.{ReadyRows}
 use Rattle.run_ready.specs.Rows.{row_of, IsRows, Renewed, HasRow}
 use Rattle.run_ready_rows.proofs.ByRow.{renewed_at}
 
@@ -18,21 +18,21 @@ changes k kind a b r =
     (cond (eqb kind 2 || eqb kind 3) (eqb r (row_of k 4 a) || eqb r (row_of k 5 a)) false)
 
 -- Each row that a step cannot change has the places that f tells.
-pub record IsRowsBut (k kind a b : ℕ) (f : ℕ → Bool) (rows : List ℕ) : Type 0 where
+pub record IsRowsBut (k kind a b : ℕ) (f : ℕ → Bool) (rows : ReadyRows) : Type 0 where
   pub boxes_in : k ≤ 16
   pub right : (r : ℕ) → r < 6 * k → changes k kind a b r ≡ false → HasRow k (λ b. f (r * k + b)) r rows
 
 module _ (k : ℕ) (f : ℕ → Bool) where
   -- Row i has the places that f tells now, and the others have what they had.
-  abbrev pub RenewedIn : ℕ → List ℕ → List ℕ → Type 0
+  abbrev pub RenewedIn : ℕ → ReadyRows → ReadyRows → Type 0
   RenewedIn i rows rows' = Renewed k (λ b. f (i * k + b)) i rows rows'
 
   -- After a step: its own row, and those that it can open, are made anew.
-  module _ (kind a b : ℕ) (rows rows₁ : List ℕ) (h : IsRowsBut k kind a b f rows) (n₁ : RenewedIn (row_of k kind a) rows rows₁) where
+  module _ (kind a b : ℕ) (rows rows₁ : ReadyRows) (h : IsRowsBut k kind a b f rows) (n₁ : RenewedIn (row_of k kind a) rows rows₁) where
     few : (r : ℕ) → r < 6 * k → r < 96
     few r l = omega (arith, h.boxes_in)
 
-    pub renewed_sent : (rows₂ : List ℕ) → (eqb kind 1 || eqb kind 4) ≡ true → RenewedIn (row_of k (kind + 2) b) rows₁ rows₂ → IsRows k f rows₂
+    pub renewed_sent : (rows₂ : ReadyRows) → (eqb kind 1 || eqb kind 4) ≡ true → RenewedIn (row_of k (kind + 2) b) rows₁ rows₂ → IsRows k f rows₂
     unfolding changes
     renewed_sent rows₂ t n₂ = record {
       long = n₂.long;
@@ -52,7 +52,7 @@ module _ (k : ℕ) (f : ℕ → Bool) where
           neither false true u = absurd (false≢true u)
           neither false false u = refl
 
-      pub renewed_multiplied : (rows₂ rows₃ : List ℕ) → (not (eqb kind 2) && not (eqb kind 3)) ≡ false →
+      pub renewed_multiplied : (rows₂ rows₃ : ReadyRows) → (not (eqb kind 2) && not (eqb kind 3)) ≡ false →
           RenewedIn (row_of k 4 a) rows₁ rows₂ → RenewedIn (row_of k 5 a) rows₂ rows₃ → IsRows k f rows₃
       unfolding changes
       renewed_multiplied rows₂ rows₃ u n₂ n₃ = record {

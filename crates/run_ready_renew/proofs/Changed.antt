@@ -15,6 +15,7 @@ use Rattle.model.specs.Tables.{steps_done}
 use Rattle.step_places.specs.Marks.{MarksIn}
 use Rattle.step_rules.specs.Rules.{fits_by, ready_by, permitted_by, has_got, all_got}
 use Rattle.run_ready.specs.Walk.{listed_by}
+use Rattle.run_ready.specs.declared.ReadyRows.{ReadyRows}
 use Rattle.run_ready.specs.Rows.{row_of, IsRows, RowsBefore, Renewed, HasRow, PlaceOf}
 use Rattle.model.proofs.Machine.{number_place}
 use Rattle.model.proofs.Cursor.{number_kind}
@@ -177,7 +178,7 @@ unfolding listed_by
 place_row k receivers waits done r b l = rw (digits_div r l, digits_mod r l)
 
 -- Rows from before a step.
-pub rows_before : (k kind a b : ℕ) (receivers : List ℕ) (waits : List (List ℕ)) (done done' rows : List ℕ) →
+pub rows_before : (k kind a b : ℕ) (receivers : List ℕ) (waits : List (List ℕ)) (done done' : List ℕ) (rows : ReadyRows) →
     steps_done k done' ≡ mark (steps_done k done) (kind_of kind) a b → permitted_by receivers waits (steps_done k done) (kind_of kind) a b ≡ true →
     IsRows k (listed_by k receivers waits done) rows → RowsBefore k kind a b receivers waits done' rows
 rows_before k kind a b receivers waits done done' rows e was h = record {
@@ -188,7 +189,7 @@ rows_before k kind a b receivers waits done done' rows e was h = record {
   right = λ r l. has_cong k _ _ r rows (place_row k receivers waits done r) (h.right r l);
 }
 
-module _ (k kind a b : ℕ) (receivers : List ℕ) (waits : List (List ℕ)) (done rows : List ℕ) (m : MarksIn k kind a b done) (h : RowsBefore k kind a b receivers waits done rows) where
+module _ (k kind a b : ℕ) (receivers : List ℕ) (waits : List (List ℕ)) (done : List ℕ) (rows : ReadyRows) (m : MarksIn k kind a b done) (h : RowsBefore k kind a b receivers waits done rows) where
   -- The tests of places, now.
   abbrev now_ready : ℕ → Bool
   now_ready = listed_by k receivers waits done
@@ -217,7 +218,7 @@ module _ (k kind a b : ℕ) (receivers : List ℕ) (waits : List (List ℕ)) (do
         has_cong k _ _ (row_of k n c) rows (λ x l. ap₂ (λ (u v : ℕ). permitted_by receivers waits h.steps (kind_of u) v x) row_kind (digits_mod (n - 1) lc))
         (h.right (row_of k n c) (digits_lt {q = n - 1} {m = 6} (omega arith) lc))
 
-    pub row_now : (f : ℕ → Bool) (rows₁ rows₂ : List ℕ) → ((x : ℕ) → f x ≡ permitted_by receivers waits (steps_done k done) (kind_of n) c x) →
+    pub row_now : (f : ℕ → Bool) (rows₁ rows₂ : ReadyRows) → ((x : ℕ) → f x ≡ permitted_by receivers waits (steps_done k done) (kind_of n) c x) →
         Renewed k f (row_of k n c) rows₁ rows₂ → RenewedIn k now_ready (row_of k n c) rows₁ rows₂
     row_now f rows₁ rows₂ e = renewed_cong k f _ (row_of k n c) (row_of k n c) rows₁ rows₂ refl (λ x l. e x ∙ row_listed k n c receivers waits done m.boxes_in from to lc x l)
 
@@ -237,7 +238,7 @@ module _ (k kind a b : ℕ) (receivers : List ℕ) (waits : List (List ℕ)) (do
     few = omega (arith, own_then.count_is, count_le k (permitted_by receivers waits h.steps (kind_of kind) a), m.boxes_in);
   }
 
-  module _ (rows₁ : List ℕ) (e₁ : (f : ℕ → Bool) → HasRow k f (row_of k kind a) rows → f b ≡ true → Renewed k (λ i. f i && not (eqb b i)) (row_of k kind a) rows rows₁) where
+  module _ (rows₁ : ReadyRows) (e₁ : (f : ℕ → Bool) → HasRow k f (row_of k kind a) rows → f b ≡ true → Renewed k (λ i. f i && not (eqb b i)) (row_of k kind a) rows rows₁) where
     pub own_renewed : RenewedIn k now_ready (row_of k kind a) rows rows₁
     own_renewed =
         row_now kind a m.kind_from m.kind_to m.a_in _ rows rows₁ (λ x. rw h.marked (own_after receivers waits h.steps (kind_of kind) a b x)) (e₁ _ own_then h.was_ready)
@@ -270,7 +271,7 @@ module _ (k kind a b : ℕ) (receivers : List ℕ) (waits : List (List ℕ)) (do
         few = omega (arith, receiver_then.count_is, count_le k (permitted_by receivers waits h.steps (kind_of (kind + 2)) b), m.boxes_in);
       }
 
-      pub receiver_renewed : (t : Bool) (rows₂ : List ℕ) → t ≡ permitted_by receivers waits (steps_done k done) (kind_of (kind + 2)) b a →
+      pub receiver_renewed : (t : Bool) (rows₂ : ReadyRows) → t ≡ permitted_by receivers waits (steps_done k done) (kind_of (kind + 2)) b a →
           ((f : ℕ → Bool) → HasRow k f (row_of k (kind + 2) b) rows₁ → f a ≡ false → Renewed k (λ i. f i || (t && eqb a i)) (row_of k (kind + 2) b) rows₁ rows₂) →
           RenewedIn k now_ready (row_of k (kind + 2) b) rows₁ rows₂
       receiver_renewed t rows₂ e step =
@@ -278,10 +279,10 @@ module _ (k kind a b : ℕ) (receivers : List ℕ) (waits : List (List ℕ)) (do
           (step _ receiver_then (sent_not receivers waits h.steps kind a b sends h.was_ready))
 
   -- Rows 4 and 5 of its box.
-  pub sends_renewed : (rows₁ rows₂ : List ℕ) → Renewed k (permitted_by receivers waits (steps_done k done) send_totals a) (row_of k 4 a) rows₁ rows₂ → RenewedIn k now_ready (row_of k 4 a) rows₁ rows₂
+  pub sends_renewed : (rows₁ rows₂ : ReadyRows) → Renewed k (permitted_by receivers waits (steps_done k done) send_totals a) (row_of k 4 a) rows₁ rows₂ → RenewedIn k now_ready (row_of k 4 a) rows₁ rows₂
   unfolding kind_of
   sends_renewed rows₁ rows₂ = row_now 4 a (omega arith) (omega arith) m.a_in _ rows₁ rows₂ (λ x. refl)
 
-  pub added_renewed : (rows₁ rows₂ : List ℕ) → Renewed k (permitted_by receivers waits (steps_done k done) add_own a) (row_of k 5 a) rows₁ rows₂ → RenewedIn k now_ready (row_of k 5 a) rows₁ rows₂
+  pub added_renewed : (rows₁ rows₂ : ReadyRows) → Renewed k (permitted_by receivers waits (steps_done k done) add_own a) (row_of k 5 a) rows₁ rows₂ → RenewedIn k now_ready (row_of k 5 a) rows₁ rows₂
   unfolding kind_of
   added_renewed rows₁ rows₂ = row_now 5 a (omega arith) (omega arith) m.a_in _ rows₁ rows₂ (λ x. refl)

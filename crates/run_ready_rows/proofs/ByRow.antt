@@ -8,7 +8,7 @@ use native.Mathlib.Nat.{suc-mul, add-zero, zero-mul, mul-le-mul_right, div-add-m
 use native.Mathlib.Numerals.{add-one}
 use lib.Arith.{digits_lt}
 use lib.Dec.{eqb, ltb}
-use lib.ListN.{get_or, set, length, length-set}
+use lib.ListN.{get_or, set, length-set}
 use lib.Seq.{get_or-set_same, get_or-set_other}
 use lib.Count.{ones}
 use borrow.Author.Tests.{eqb-true, eqb-false, lt-ltb}
@@ -23,7 +23,8 @@ use Rattle.model.specs.Tables.{steps_done}
 use Rattle.step_rules.specs.Rules.{permitted_by, word_at, totals_due_by, fits_by, has_got, all_got, ready_by}
 use Rattle.step_places.specs.Places.{PlaceIn, here, Found}
 use Rattle.run_ready.specs.Walk.{listed_by, WalkIn}
-use Rattle.run_ready.specs.Rows.{row_of, HasRow, RowIn, IsRows, rows_total, FewRows, Renewed}
+use Rattle.run_ready.specs.declared.ReadyRows.{ReadyRows}
+use Rattle.run_ready.specs.Rows.{row_of, IsLong, HasRow, RowIn, IsRows, rows_total, FewRows, Renewed}
 use Rattle.run_ready.proofs.InModel.{listed_at}
 use Rattle.run_ready.proofs.Rows.{rows_more, has_cong}
 
@@ -82,32 +83,29 @@ row_listed k kind a receivers waits done lk from to la b l =
     listed_at k kind a b receivers waits done (record { boxes_in = lk; kind_from = from; kind_to = to; a_in = la; b_in = l })
 
 -- One row written: its word, and its number.
-module _ (k : ℕ) (f : ℕ → Bool) (i word number : ℕ) (rows : List ℕ) (l : i < 96) (n : length rows ≡ 192) where
-  long_1 : length (set rows i word) ≡ 192
-  long_1 = length-set rows i word ∙ n
-
-  pub written : word ≡ mask_of k f → number ≡ count k f → Renewed k f i rows (set (set rows i word) (96 + i) number)
+module _ (k : ℕ) (f : ℕ → Bool) (i word number : ℕ) (rows : ReadyRows) (l : i < 96) (n : IsLong rows) where
+  pub written : word ≡ mask_of k f → number ≡ count k f → Renewed k f i rows (record { words = set rows.words i word; counts = set rows.counts i number })
   written ew en = record {
-    long = length-set (set rows i word) (96 + i) number ∙ long_1;
+    long = (length-set rows.words i word ∙ n.0, length-set rows.counts i number ∙ n.1);
     here = record {
-      word_is = get_or-set_other (set rows i word) (96 + i) i number 0 (λ e. omega arith) ∙ get_or-set_same rows i word 0 (omega arith) ∙ ew;
-      count_is = get_or-set_same (set rows i word) (96 + i) number 0 (omega (arith, long_1)) ∙ en;
+      word_is = get_or-set_same rows.words i word 0 (omega (arith, n.0)) ∙ ew;
+      count_is = get_or-set_same rows.counts i number 0 (omega (arith, n.1)) ∙ en;
     };
     others = λ r g lr ne h. record {
-      word_is = get_or-set_other (set rows i word) (96 + i) r number 0 (λ e. omega arith) ∙ get_or-set_other rows i r word 0 ne ∙ h.word_is;
-      count_is = get_or-set_other (set rows i word) (96 + i) (96 + r) number 0 (λ e. ne (omega arith)) ∙ get_or-set_other rows i (96 + r) word 0 (λ e. omega arith) ∙ h.count_is;
+      word_is = get_or-set_other rows.words i r word 0 ne ∙ h.word_is;
+      count_is = get_or-set_other rows.counts i r number 0 ne ∙ h.count_is;
     };
   }
 
 -- The same row by other tests that agree, or by another name.
-pub renewed_cong : (k : ℕ) (f g : ℕ → Bool) (i j : ℕ) (rows rows' : List ℕ) → i ≡ j → ((b : ℕ) → b < k → f b ≡ g b) → Renewed k f i rows rows' → Renewed k g j rows rows'
+pub renewed_cong : (k : ℕ) (f g : ℕ → Bool) (i j : ℕ) (rows rows' : ReadyRows) → i ≡ j → ((b : ℕ) → b < k → f b ≡ g b) → Renewed k f i rows rows' → Renewed k g j rows rows'
 renewed_cong k f g i j rows rows' e h n = record {
   long = n.long;
   here = rw (← e) (has_cong k f g i rows' h n.here);
   others = λ r s l ne. n.others r s l (λ q. ne (q ∙ e));
 }
 
-module _ (k : ℕ) (f : ℕ → Bool) (rows : List ℕ) (h : IsRows k f rows) where
+module _ (k : ℕ) (f : ℕ → Bool) (rows : ReadyRows) (h : IsRows k f rows) where
   pub rows_few : k ≤ 16 → FewRows k rows
   rows_few lk = record { boxes_in = lk; few = λ r l. rw (h.right r l).count_is (omega (arith, count_le k (λ b. f (r * k + b)))) }
 
@@ -121,24 +119,24 @@ module _ (k : ℕ) (f : ℕ → Bool) (rows : List ℕ) (h : IsRows k f rows) wh
   rows_ready = rows_sum (6 * k) (omega arith)
 
   -- The bits of the word of a row.
-  row_bit : (r : ℕ) → r < 6 * k → (b : ℕ) → b < k → bit b (get_or rows r 0) ≡ f (r * k + b)
+  row_bit : (r : ℕ) → r < 6 * k → (b : ℕ) → b < k → bit b (get_or rows.words r 0) ≡ f (r * k + b)
   row_bit r l b lb = ap (bit b) (h.right r l).word_is ∙ bit_mask k b (λ b. f (r * k + b)) lb
 
   -- Row r has the place that is meant: more bits than are left to pass,
-  pub row_some : (r left : ℕ) → r < 6 * k → left < get_or rows (96 + r) 0 → left < count k (λ b. bit b (get_or rows r 0))
+  pub row_some : (r left : ℕ) → r < 6 * k → left < get_or rows.counts r 0 → left < count k (λ b. bit b (get_or rows.words r 0))
   row_some r left l lt =
-      let c : count k (λ b. bit b (get_or rows r 0)) ≡ count k (λ b. f (r * k + b)) = count_cong k _ _ (row_bit r l) in
+      let c : count k (λ b. bit b (get_or rows.words r 0)) ≡ count k (λ b. f (r * k + b)) = count_cong k _ _ (row_bit r l) in
       omega (arith, c, (h.right r l).count_is)
 
   -- and the bit that has so many before it.
-  pub row_found : (r left c b : ℕ) → 1 ≤ k → k ≤ 16 → left + rows_total rows r ≡ c → r < 6 * k → b < k → bit b (get_or rows r 0) ≡ true → count b (λ i. bit i (get_or rows r 0)) ≡ left →
+  pub row_found : (r left c b : ℕ) → 1 ≤ k → k ≤ 16 → left + rows_total rows r ≡ c → r < 6 * k → b < k → bit b (get_or rows.words r 0) ≡ true → count b (λ i. bit i (get_or rows.words r 0)) ≡ left →
       Found k (nth (6 * k * k) f c) (r / k + 1) (r % k) b
   row_found r left c b some lk e l lb on m = record {
     place_in = row_place k r b some lk l lb;
     place_is = row_here k r b ∙ sym (nth_is (6 * k * k) f c (r * k + b) (digits_lt {q = r} {m = 6 * k} l lb) (sym (row_bit r l b lb) ∙ on) counted);
   }
     where
-      below : count b (λ i. bit i (get_or rows r 0)) ≡ count b (λ i. f (r * k + i))
+      below : count b (λ i. bit i (get_or rows.words r 0)) ≡ count b (λ i. f (r * k + i))
       below = count_cong b _ _ (λ i li. row_bit r l i (omega arith))
 
       counted : count (r * k + b) f ≡ c
@@ -156,33 +154,33 @@ pub next_kind : (q k : ℕ) → (q + 1) * k ≡ q * k + k
 next_kind q k = ap (λ (x : ℕ). x * k) (add-one q) ∙ suc-mul q k
 
 -- A row is passed.
-pub row_passed : (rows : List ℕ) (r left c : ℕ) → left + rows_total rows r ≡ c → get_or rows (96 + r) 0 ≤ left → left - get_or rows (96 + r) 0 + rows_total rows (r + 1) ≡ c
+pub row_passed : (rows : ReadyRows) (r left c : ℕ) → left + rows_total rows r ≡ c → get_or rows.counts r 0 ≤ left → left - get_or rows.counts r 0 + rows_total rows (r + 1) ≡ c
 row_passed rows r left c e h = rw (rows_more rows r) (omega arith)
 
 module _ (k : ℕ) (f : ℕ → Bool) where
   -- Rows made one after the other: those below r.
-  pub record MadeTo (rows : List ℕ) (r : ℕ) : Type 0 where
-    pub long : length rows ≡ 192
+  pub record MadeTo (rows : ReadyRows) (r : ℕ) : Type 0 where
+    pub long : IsLong rows
     pub right : (q : ℕ) → q < r → HasRow k (λ b. f (q * k + b)) q rows
 
-  pub made_first : (rows : List ℕ) → length rows ≡ 192 → MadeTo rows 0
+  pub made_first : (rows : ReadyRows) → IsLong rows → MadeTo rows 0
   made_first rows e = record { long = e; right = λ q l. absurd (omega arith) }
 
   -- A row that is made anew has what it is to have, and the others keep theirs.
-  pub renewed_at : (i r : ℕ) (rows rows' : List ℕ) → r < 96 → Renewed k (λ b. f (i * k + b)) i rows rows' → (eqb r i ≡ false → HasRow k (λ b. f (r * k + b)) r rows) →
+  pub renewed_at : (i r : ℕ) (rows rows' : ReadyRows) → r < 96 → Renewed k (λ b. f (i * k + b)) i rows rows' → (eqb r i ≡ false → HasRow k (λ b. f (r * k + b)) r rows) →
       HasRow k (λ b. f (r * k + b)) r rows'
   renewed_at i r rows rows' l n h =
       split (eqb r i)
       (λ e. rw (eqb-true r i e) n.here)
       (λ e. n.others r _ l (eqb-false r i e) (h e))
 
-  pub made_next : (r : ℕ) (rows rows' : List ℕ) → r < 96 → MadeTo rows r → Renewed k (λ b. f (r * k + b)) r rows rows' → MadeTo rows' (r + 1)
+  pub made_next : (r : ℕ) (rows rows' : ReadyRows) → r < 96 → MadeTo rows r → Renewed k (λ b. f (r * k + b)) r rows rows' → MadeTo rows' (r + 1)
   made_next r rows rows' lr w n = record {
     long = n.long;
     right = λ q l. renewed_at r q rows rows' (omega arith) n (λ e. w.right q (let ne : q ≡ r → ⊥ = eqb-false q r e in omega arith));
   }
 
-  pub made_all : (rows : List ℕ) (r : ℕ) → r ≡ 6 * k → MadeTo rows r → IsRows k f rows
+  pub made_all : (rows : ReadyRows) (r : ℕ) → r ≡ 6 * k → MadeTo rows r → IsRows k f rows
   made_all rows r e w = record { long = w.long; right = λ q l. w.right q (omega arith) }
 
 -- A row that has one place only, where a test holds.

@@ -7,7 +7,9 @@ use Rattle.laws.specs.Tables.{tabulate}
 use Rattle.model.specs.Job.{Job, need_word, sharer_word}
 use Rattle.model.specs.Steps.{State, fresh}
 use Rattle.model.specs.Words.{over, messages_of}
-use Rattle.model.specs.Tables.{JobTables, job_of, evening_of, StateTables, state_tables, store, job_lengths, job_short}
+use Rattle.tables.specs.declared.Job.{Job as LentJob}
+use Rattle.tables.specs.declared.State.{State as LentState}
+use Rattle.model.specs.Tables.{JobTables, job_tables, job_of, evening_of, StateTables, state_tables, store, job_lengths, job_short}
 use Rattle.model.specs.PackedTotals.{totals_length}
 use Rattle.model.specs.Ranges.{under}
 use Rattle.model.specs.Handed.{Handed}
@@ -20,6 +22,16 @@ use Rattle.step_places.specs.Order.{steps_in, mark_all, no_steps, permitted_at}
 -- The tables of prices and totals alone.
 abbrev pub without_marks : List ℕ → List ℕ → List ℤ → List ℤ → List ℤ → StateTables
 without_marks known transit working totals statement = state_tables known transit working totals statement [] []
+
+-- Those of a lent state.
+abbrev pub bare : LentState → StateTables
+bare s = without_marks s.known.now s.price_transit.now s.working.now s.total_transit.now s.statement.now
+
+-- A lent job's tables as its steps are done on them, without bags: its tally_box are the standing boxes.
+abbrev pub standing_job : LentJob → JobTables
+standing_job j =
+    job_tables j.sizes.boxes j.sizes.grocers j.sizes.offers j.sizes.tallies j.sizes.lists j.price.now j.offer_owner.now j.grocer_owner.now j.tally_grocer.now
+    j.tally_box.now j.tally_offer.now j.tally_count.now
 
 -- The word that tells where the list of a step begins, of 18 words a box, for its offers and for its totals; the next word tells where it ends.
 unfoldable pub head_of : ℕ → ℕ → ℕ → ℕ

@@ -7,22 +7,22 @@ ghost use Rattle.laws.specs.Lists.{list_words};
 ghost use Rattle.laws.specs.Tables.{overwrite};
 ghost use Rattle.model.specs.Steps.{kind_of};
 ghost use Rattle.model.specs.Words.{messages_of};
-ghost use Rattle.model.specs.Tables.{job_tables, evening_of};
+ghost use Rattle.model.specs.Tables.{evening_of};
+ghost use Rattle.tables.specs.Lent.{SameSlices};
 ghost use Rattle.step_links.specs.Links.{Some};
 ghost use Rattle.step_totals.specs.Row.{tallies, TalliesLinked};
 ghost use Rattle.book_places.specs.Spots.{CountIn, start_by};
 ghost use Rattle.run_fresh.specs.Fresh.{FreshTotals};
-ghost use Rattle.run_steps.specs.All.{without_marks, head_of, StepIn, StepOut, AllIn, AllOut};
+ghost use Rattle.run_steps.specs.All.{bare, standing_job, head_of, StepIn, StepOut, AllIn, AllOut};
 
 use book_places::all::GROUP_STARTS;
 use book_places::{CLASSES, TOTALS};
-use slices::casts::index_of;
 use slices::index_at;
 use slices::limits::{GROCERS, OFFERS, TALLIES};
 use slices::lists::{list_words, width_of, words_at};
-use slices::sizes::Sizes;
 use step_links::TALLY_LINKS;
 use step_places::{PLACES, Step};
+use tables::{Job, State};
 
 // The most offers that all boxes have: an own one of each, and one for each tally.
 const LISTED_OFFERS: usize = OFFERS + TALLIES;
@@ -73,194 +73,160 @@ fn head_of(x: Step) -> usize
     requires { head_of x.kind x.first x.second < 1_000 }
     ensures { result ≡ head_of x.kind x.first x.second }
 {
-    let b = index_of(step_apply::span_box(x));
+    let b = usize::from(step_apply::span_box(x));
     b * CLASSES + step_apply::span_group(x)
 }
 
+// What steps look up beside the job's tables: where the lists of offers and the spans of totals begin, the offers listed, the grocer of each place, the
+// place of each tally, and the links of tallies.
+#[derive(Clone, Copy)]
+struct Lookups<'a> {
+    offer_heads: &'a [u16],
+    offers: &'a [u16],
+    heads: &'a [u16],
+    grocers: &'a [u16],
+    tally_place: &'a [u16],
+    tally_links: &'a [u16; TALLY_LINKS],
+}
+
 // One step, on the side of prices or of totals. The words sent.
-fn one_step(
-    z: Sizes,
-    offer_heads: &[u16],
-    offers: &[u16],
-    tally_place: &[u16],
-    tally_offer: &[u16],
-    tally_count: &[i32],
-    tally_links: &[u16; TALLY_LINKS],
-    heads: &[u16],
-    grocers: &[u16],
-    known: &mut [u32],
-    price_transit: &mut [u32],
-    working: &mut [i64],
-    total_transit: &mut [i64],
-    statement: &mut [i64],
-    x: Step,
-) -> u32
-    requires { Some (λ owner. Some (λ holder. StepIn (tallies z.boxes z.offers z.tallies owner
-        tally_place.now holder tally_offer.now tally_count.now) z.lists tally_links.now offer_heads.now offers.now heads.now
-        grocers.now known.old price_transit.old working.old total_transit.old statement.old x.kind x.first x.second)) }
-    ensures { (owner holder : List ℕ) (passes : ℕ → Bool) → (x.kind ≤ 3 → TalliesLinked z.tallies owner holder
-        tally_offer.now tally_links.now) → (x.kind ≤ 3 → (x.kind ≡ 2 → ⊥) → Listed z.offers passes
-        (get_or offer_heads.now (head_of x.kind x.first x.second) 0)
-        (get_or offer_heads.now (head_of x.kind x.first x.second + 1) 0) offers.now) →
-        StepOut (tallies z.boxes z.offers z.tallies owner tally_place.now holder tally_offer.now
-        tally_count.now) z.lists passes offer_heads.now heads.now grocers.now
-        (without_marks known.old price_transit.old working.old total_transit.old statement.old)
-        (without_marks known.new price_transit.new working.new total_transit.new statement.new)
-        x.kind x.first x.second result }
+fn one_step(job: &Job, look: &Lookups, state: &mut State, x: Step) -> u32
+    requires { Some (λ owner. Some (λ holder. StepIn (tallies job.now.sizes.boxes job.now.sizes.offers job.now.sizes.tallies owner
+        look.now.tally_place.now holder job.now.tally_offer.now job.now.tally_count.now) job.now.sizes.lists look.now.tally_links.now
+        look.now.offer_heads.now look.now.offers.now look.now.heads.now look.now.grocers.now state.old.known.now state.old.price_transit.now
+        state.old.working.now state.old.total_transit.now state.old.statement.now x.kind x.first x.second)) }
+    ensures moved { (owner holder : List ℕ) (passes : ℕ → Bool) → (x.kind ≤ 3 → TalliesLinked job.now.sizes.tallies owner holder
+        job.now.tally_offer.now look.now.tally_links.now) → (x.kind ≤ 3 → (x.kind ≡ 2 → ⊥) → Listed job.now.sizes.offers passes
+        (get_or look.now.offer_heads.now (head_of x.kind x.first x.second) 0)
+        (get_or look.now.offer_heads.now (head_of x.kind x.first x.second + 1) 0) look.now.offers.now) →
+        StepOut (tallies job.now.sizes.boxes job.now.sizes.offers job.now.sizes.tallies owner look.now.tally_place.now holder
+        job.now.tally_offer.now job.now.tally_count.now) job.now.sizes.lists passes look.now.offer_heads.now look.now.heads.now
+        look.now.grocers.now (bare state.old) (bare state.new) x.kind x.first x.second result }
+    ensures marks_kept { (state.new.done.now ≡ state.old.done.now) × (state.new.sent.now ≡ state.old.sent.now) }
+    ensures same_slices { SameSlices state.old state.new }
 {
     let head = head_of(x);
     let next = head + 1;
     if x.kind <= 3 {
-        let first = index_at(offer_heads, head);
-        let last = index_at(offer_heads, next);
+        let first = index_at(look.offer_heads, head);
+        let last = index_at(look.offer_heads, next);
         return step_apply::price_step(
-            z,
+            job,
             first,
             last,
-            offers,
-            tally_place,
-            tally_offer,
-            tally_count,
-            tally_links,
-            known,
-            price_transit,
-            working,
+            look.offers,
+            look.tally_place,
+            look.tally_links,
+            state,
             x,
         );
     }
-    let from = index_at(heads, head);
-    let to = index_at(heads, next);
-    let width = width_of(z.lists);
-    step_apply::total_step(
-        x.kind,
-        from,
-        to,
-        width,
-        grocers,
-        working,
-        total_transit,
-        statement,
-    )
+    let from = index_at(look.heads, head);
+    let to = index_at(look.heads, next);
+    let width = width_of(job.sizes.lists);
+    step_apply::total_step(x.kind, from, to, width, look.grocers, state)
 }
 
 // The tables of totals of a fresh state: so many words as all boxes have totals, on every list, and the statements.
 fn clear_totals(
-    z: Sizes,
-    grocer_owner: &[u16],
+    job: &Job,
     sharers: &[u16; GROCERS],
     working: &mut [i64],
     total_transit: &mut [i64],
     statement: &mut [i64],
 )
-    requires count_in { CountIn z.grocers grocer_owner.now sharers.now × ((z.boxes ≤ 16) × (z.lists ≤ 7)) }
-    requires fresh_totals { FreshTotals (start_by z.grocers grocer_owner.now sharers.now z.boxes * suc z.lists) (list_words z.lists z.grocers)
-        working.old total_transit.old statement.old }
-    ensures { (working.new ≡ overwrite (start_by z.grocers grocer_owner.now sharers.now z.boxes
-        * suc z.lists) (λ i. pos 0) working.old) × (total_transit.new ≡ overwrite (start_by z.grocers
-        grocer_owner.now sharers.now z.boxes * suc z.lists) (λ i. pos 0) total_transit.old)
-        × (statement.new ≡ overwrite (list_words z.lists z.grocers) (λ i. pos 0) statement.old) }
+    requires count_in { CountIn job.now.sizes.grocers job.now.grocer_owner.now sharers.now × ((job.now.sizes.boxes ≤ 16) × (job.now.sizes.lists ≤ 7)) }
+    requires fresh_totals { FreshTotals (start_by job.now.sizes.grocers job.now.grocer_owner.now sharers.now job.now.sizes.boxes
+        * suc job.now.sizes.lists) (list_words job.now.sizes.lists job.now.sizes.grocers) working.old total_transit.old statement.old }
+    ensures { let words = start_by job.now.sizes.grocers job.now.grocer_owner.now sharers.now job.now.sizes.boxes * suc job.now.sizes.lists in
+        (working.new ≡ overwrite words (λ i. pos 0) working.old) × (total_transit.new ≡ overwrite words (λ i. pos 0) total_transit.old)
+        × (statement.new ≡ overwrite (list_words job.now.sizes.lists job.now.sizes.grocers) (λ i. pos 0) statement.old) }
 {
-    let m = index_of(z.grocers);
-    let places = index_of(book_places::box_start(m, grocer_owner, sharers, z.boxes));
+    let z = job.sizes;
+    let m = usize::from(z.grocers);
+    let places = usize::from(book_places::box_start(m, job.grocer_owner, sharers, z.boxes));
     let words = words_at(places, width_of(z.lists));
     let statements = list_words(z.lists, z.grocers);
     run_fresh::fresh_totals(words, statements, working, total_transit, statement);
 }
 
 // From a fresh state, whatever the tables held before, the first n steps of an order: offers and grocers are listed by boxes, places told, and tallies
-// linked, once. It is not put into its callers, whose checks would then run above its tables: a call has less than 32 KiB of stack (host/settlement.h).
+// linked, once. The job's tally_box are the standing boxes. It is not put into its callers, whose checks would then run above its tables: a call has less
+// than 32 KiB of stack (host/settlement.h).
 #[inline(never)]
 pub fn all_steps(
-    z: Sizes,
-    price: &[u32],
-    offer_owner: &[u16],
-    grocer_owner: &[u16],
-    tally_grocer: &[u16],
-    tally_box: &[u16],
-    tally_offer: &[u16],
-    tally_count: &[i32],
+    job: &Job,
     needs: &[u16; OFFERS],
     sharers: &[u16; GROCERS],
     order: &[u16; PLACES],
     n: usize,
-    known: &mut [u32],
-    price_transit: &mut [u32],
-    working: &mut [i64],
-    total_transit: &mut [i64],
-    statement: &mut [i64],
+    state: &mut State,
 ) -> Sent
-    requires { AllIn (job_tables z.boxes z.grocers z.offers z.tallies z.lists price.now offer_owner.now
-        grocer_owner.now tally_grocer.now tally_box.now tally_offer.now tally_count.now)
-        (without_marks known.old price_transit.old working.old total_transit.old statement.old) needs.now sharers.now order.now n }
-    ensures { AllOut (evening_of (job_tables z.boxes z.grocers z.offers z.tallies z.lists price.now
-        offer_owner.now grocer_owner.now tally_grocer.now tally_box.now tally_offer.now
-        tally_count.now)) (without_marks known.old price_transit.old working.old
-        total_transit.old statement.old) (without_marks known.new price_transit.new working.new
-        total_transit.new statement.new) order.now n result.words result.messages }
+    requires { AllIn (standing_job job.now) (bare state.old) needs.now sharers.now order.now n }
+    ensures done { AllOut (evening_of (standing_job job.now)) (bare state.old) (bare state.new) order.now n result.words result.messages }
+    ensures marks_kept { (state.new.done.now ≡ state.old.done.now) × (state.new.sent.now ≡ state.old.sent.now) }
+    ensures same_slices { SameSlices state.old state.new }
 {
-    run_fresh::fresh_prices(
-        z.boxes,
-        z.offers,
-        z.lists,
-        price,
-        offer_owner,
-        known,
-        price_transit,
+    let z = job.sizes;
+    run_fresh::fresh_prices(job, state.known, state.price_transit);
+    clear_totals(
+        job,
+        sharers,
+        state.working,
+        state.total_transit,
+        state.statement,
     );
-    clear_totals(z, grocer_owner, sharers, working, total_transit, statement);
     let mut heads = [0u16; GROUP_STARTS];
     let mut grocers = [0u16; TOTALS];
     let mut places = [0u16; TALLIES];
-    let m = index_of(z.grocers);
-    let t = index_of(z.tallies);
+    let m = usize::from(z.grocers);
+    let t = usize::from(z.tallies);
     book_places::all::all_boxes(
         z.boxes,
         m,
-        grocer_owner,
+        job.grocer_owner,
         sharers,
         t,
-        tally_box,
-        tally_grocer,
+        job.tally_box,
+        job.tally_grocer,
         &mut heads,
         &mut grocers,
         &mut places,
     );
     let mut offer_heads = [0u16; GROUP_STARTS];
     let mut offers = [0u16; LISTED_OFFERS];
-    let n_offers = index_of(z.offers);
+    let n_offers = usize::from(z.offers);
     book_places::all::all_lists(
         z.boxes,
         n_offers,
-        offer_owner,
+        job.offer_owner,
         needs,
         &mut offer_heads,
         &mut offers,
     );
     let mut tally_links = [0u16; TALLY_LINKS];
-    step_links::link_pairs(t, tally_box, tally_offer, offer_owner, &mut tally_links);
+    step_links::link_pairs(
+        t,
+        job.tally_box,
+        job.tally_offer,
+        job.offer_owner,
+        &mut tally_links,
+    );
+    let look = Lookups {
+        offer_heads: &offer_heads,
+        offers: &offers,
+        heads: &heads,
+        grocers: &grocers,
+        tally_place: &places,
+        tally_links: &tally_links,
+    };
     let mut sent = Sent {
         words: 0,
         messages: 0,
     };
     for i in 0..n {
         let x = step_at(z.boxes, order, i);
-        let more = one_step(
-            z,
-            &offer_heads,
-            &offers,
-            &places,
-            tally_offer,
-            tally_count,
-            &tally_links,
-            &heads,
-            &grocers,
-            known,
-            price_transit,
-            working,
-            total_transit,
-            statement,
-            x,
-        );
+        let more = one_step(job, &look, state, x);
         sent = sent_more(sent, x.kind, more);
     }
     sent

@@ -30,7 +30,8 @@ use Rattle.job_masks.proofs.InJob.{placed_offers, placed_grocers, owned_offers, 
 use Rattle.job_masks.proofs.Owned.{prices_reach, totals_reach}
 use Rattle.run_steps.specs.All.{without_marks, AllIn, after_order, AllOut}
 use Rattle.run_steps.proofs.Way.{some_box}
-use Rattle.settle.specs.Due.{due_by, due_at, DueIn, DueOut}
+use Rattle.job_masks.specs.Due.{due_by, due_at}
+use Rattle.settle.specs.Due.{DueIn, DueOut}
 
 module _ (f : JobTables) (g : DueIn f) where
   abbrev job : Job

@@ -2,11 +2,10 @@
 use mathlib.Core.Path.{◌≡◌, refl, sym, ap, ◌∙◌}
 use mathlib.Core.Bool.{Bool, true, false}
 use mathlib.Core.List.{List, [], ◌∷◌, ◌++◌, append-nil}
-use Prim.Native.Nat.{ℕ, zero, suc, ◌+◌, ◌-◌, ◌*◌, ◌≤◌, ◌<◌}
+use Prim.Native.Nat.{ℕ, suc, ◌+◌, ◌-◌, ◌*◌, ◌≤◌, ◌<◌}
 use native.Mathlib.Omega.{arith}
 use native.Mathlib.Nat.{add-zero, mul-le-mul}
 use native.Mathlib.Numerals.{add-one}
-use lib.Dec.{eqb}
 use mir.Val.{bool_byte}
 use lib.ListN.{length, take, set, length-set}
 use lib.Seq.{take-suc, take-set-le, get_or-set_same}
@@ -14,20 +13,7 @@ use Rattle.laws.specs.Below.{ascending}
 use Rattle.model.specs.Steps.{kind_of, step_at}
 use Rattle.step_places.specs.Places.{PlaceIn, here}
 use Rattle.step_places.proofs.Places.{kind_of_lem, first_of, second_of}
-use Rattle.settle.specs.Due.{due_by, due_at}
-
--- The kinds with one box are due where their boxes are equal.
-pub due_one : (receivers senders : List ℕ) (a b n : ℕ) → 1 ≤ n → n ≤ 6 → (n ≡ 1 → ⊥) → (n ≡ 3 → ⊥) → (n ≡ 4 → ⊥) → (n ≡ 6 → ⊥) →
-    eqb a b ≡ due_by receivers senders (kind_of n) a b
-unfolding due_by kind_of
-due_one receivers senders a b zero h l x y z w = absurd (omega arith)
-due_one receivers senders a b (suc zero) h l x y z w = absurd (x refl)
-due_one receivers senders a b (suc (suc zero)) h l x y z w = refl
-due_one receivers senders a b (suc (suc (suc zero))) h l x y z w = absurd (y refl)
-due_one receivers senders a b (suc (suc (suc (suc zero)))) h l x y z w = absurd (z refl)
-due_one receivers senders a b (suc (suc (suc (suc (suc zero))))) h l x y z w = refl
-due_one receivers senders a b (suc (suc (suc (suc (suc (suc zero)))))) h l x y z w = absurd (w refl)
-due_one receivers senders a b (suc (suc (suc (suc (suc (suc (suc n))))))) h l x y z w = absurd (omega arith)
+use Rattle.job_masks.specs.Due.{due_by, due_at}
 
 -- One place more that passes, and one that does not.
 one_more : (p : ℕ → Bool) (i : ℕ) → true ≡ p i → ascending i p ++ (i ∷ []) ≡ ascending (suc i) p

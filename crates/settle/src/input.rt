@@ -1,5 +1,5 @@
 // The input: its first bytes are read into a buffer, and what settle prints for them is what it prints for the whole input.
-ghost use Rattle.std.specs.Prelude.{◌≡◌, List, ℕ, ◌+◌, ◌≤◌, ◌<◌, length, take, drop, IsNone, IfSome, IfErr, OnOk};
+ghost use Rattle.std.specs.Prelude.{◌≡◌, [], List, ℕ, ◌+◌, ◌≤◌, ◌<◌, length, take, drop, IfSome, IfOk, IfErr, OnOk};
 ghost use Rattle.std.specs.Io.KnownBytes.{Consumes, IsAtEnd, Appends};
 ghost use Rattle.io.specs.Counts.{IsPrefixLen};
 ghost use Rattle.printing.specs.Printed.{printed};
@@ -13,53 +13,32 @@ use std::io::{Read, Write};
 // One byte more than the longest file has, 102 blocks of 512: of a longer input this much is read, and it is refused.
 pub const INPUT: usize = 52_225;
 
-// How many bytes were read, and why a read failed, if one did.
-#[derive(Clone, Copy)]
-pub struct Reading {
-    pub count: usize,
-    pub error: Option<io::Error>,
-}
-
-// One read behind the buffer's first `done` bytes, which stay.
-fn read_behind<R: Read>(input: &mut R, buffer: &mut [u8], done: usize) -> Reading
+// One read behind the buffer's first `done` bytes, which stay. How many bytes were read.
+fn read_behind<R: Read>(input: &mut R, buffer: &mut [u8], done: usize) -> io::Result<usize>
     requires { done ≤ length buffer.old }
-    ensures count_in_bounds { done + result.count ≤ length buffer.old }
+    ensures count_in_bounds { IfOk result (λ n. done + n ≤ length buffer.old) }
     ensures buffer_unchanged { take done buffer.new ≡ take done buffer.old }
-    ensures bytes_read { Consumes (R.remaining input.old) (R.remaining input.new)
-        (take result.count (drop done buffer.new)) }
-    ensures at_end { IsNone result.error → result.count ≡ 0 → done < length buffer.old
-        → IsAtEnd (R.remaining input.new) }
+    ensures bytes_read { IfOk result (λ n. Consumes (R.remaining input.old) (R.remaining input.new) (take n (drop done buffer.new))) }
+    ensures unread { IfErr result (λ error. Consumes (R.remaining input.old) (R.remaining input.new) []) }
+    ensures at_end { IfOk result (λ n. n ≡ 0 → done < length buffer.old → IsAtEnd (R.remaining input.new)) }
 {
-    match input.read(&mut buffer[done..]) {
-        Ok(count) => Reading { count, error: None },
-        Err(error) => Reading {
-            count: 0,
-            error: Some(error),
-        },
-    }
+    input.read(&mut buffer[done..])
 }
 
-// Reads until the buffer is full, the input ends or a read fails.
-pub fn read_input<R: Read>(input: &mut R, buffer: &mut [u8]) -> Reading
-    ensures count { IsPrefixLen result.count buffer.new }
-    ensures first_bytes { IsNone result.error
-        → IfSome (R.remaining input.old) (λ bytes. BytesRead bytes buffer.new result.count) }
+// Reads until the buffer is full or the input ends. How many bytes were read.
+pub fn read_input<R: Read>(input: &mut R, buffer: &mut [u8]) -> io::Result<usize>
+    ensures count { IfOk result (λ n. IsPrefixLen n buffer.new) }
+    ensures first_bytes { IfOk result (λ n. IfSome (R.remaining input.old) (λ bytes. BytesRead bytes buffer.new n)) }
 {
     let mut done: usize = 0;
     while done < buffer.len() {
-        let read = read_behind(input, buffer, done);
-        if read.count == 0 {
-            return Reading {
-                count: done,
-                error: read.error,
-            };
+        let count = read_behind(input, buffer, done)?;
+        if count == 0 {
+            return Ok(done);
         }
-        done += read.count;
+        done += count;
     }
-    Reading {
-        count: done,
-        error: None,
-    }
+    Ok(done)
 }
 
 // Puts what settle prints for an input, of which n bytes of the buffer were read, at the start of `out`, and answers how many bytes that is.
@@ -87,11 +66,8 @@ pub fn settle_input<R: Read, W: Write>(input: &mut R, output: &mut W) -> Result<
         (λ failure. KeepsIfUnread failure (W.contents output.old) (W.contents output.new)) }
 {
     let mut buffer = [0u8; INPUT];
-    let read = read_input(input, &mut buffer);
-    if let Some(error) = read.error {
-        return Err(Failure::Unread(error));
-    }
+    let n = read_input(input, &mut buffer).map_err(Failure::Unread)?;
     let mut out = [0u8; TEXT];
-    let n = settled_input(&buffer, read.count, &mut out);
+    let n = settled_input(&buffer, n, &mut out);
     output.write_all(&out[..n]).map_err(Failure::Unwritten)
 }

@@ -1,12 +1,14 @@
 -- Laws of text that is put into a buffer. Assumes nothing.
-use mathlib.Core.Path.{◌≡◌, sym, ap, ◌∙◌}
+use mathlib.Core.Path.{◌≡◌, refl, sym, ap, ◌∙◌}
 use mathlib.Core.List.{List, [], ◌∷◌, ◌++◌}
-use Prim.Native.Nat.{ℕ, suc, ◌+◌, ◌≤◌, ◌<◌}
+use Prim.Native.Nat.{ℕ, suc, ◌+◌, ◌-◌, ◌≤◌, ◌<◌}
 use native.Mathlib.Omega.{arith}
 use native.Mathlib.Nat.{add-zero}
 use native.Mathlib.Numerals.{add-one}
 use lib.ListN.{length, get_or, take, drop, set, length-append}
-use lib.Seq.{sets, sets-eq, length-sets, length-take-le, take-suc, take-append_seam, drop-append_seam}
+use lib.Seq.{sets, sets-eq, length-sets, length-take-le, take-suc, take-append_seam, drop-append_seam, take_all}
+use borrow.Rule.Slice.PartMut.{put_mid}
+use Rattle.std.proofs.lemmas.Slice.{put_mid-paste}
 use Rattle.io.specs.Counts.{IsPrefixLen}
 use Rattle.settle_text.specs.Puts.{put, Put}
 
@@ -75,3 +77,11 @@ module _ {r : ℕ} {s d e : List ℕ} (p : Put 0 s d e r) where
   shown =
       let room : r ≤ length e = omega (arith, p.room, same_long p) in
       ((room, sym (length-take-le r e room)), (front, rest))
+
+-- A text copied over as many bytes of the buffer is put there.
+pub put_by_copy : (at : ℕ) (s d new : List ℕ) → new ≡ s → at + length s ≤ length d → put_mid at (at + length s - at) d new ≡ put at s d
+unfolding put
+put_by_copy at s d new copied fits =
+    put_mid-paste at (at + length s - at) d new s (length s) copied (omega arith) refl
+    ∙ ap (λ (l : List ℕ). (take at d ++ l) ++ drop (at + length s) d) (take_all (length s) s (omega arith))
+    ∙ sym (sets-eq s d at fits)

@@ -7,7 +7,6 @@ ghost use Rattle.printing.specs.Printed.{decimal, signed_decimal, line, grocer_l
 ghost use Rattle.settle_text.specs.Puts.{Put, spaced_amounts};
 
 use crate::numbers::{put_amount, put_byte, put_bytes, put_decimal};
-use slices::i64_at;
 use slices::lists::{width_of, words_at};
 
 // Room for the longest text: 255 lines of at most 172 bytes, and the lines of words, messages and steps.
@@ -37,12 +36,10 @@ fn put_amounts(
     ensures upper_bound { result ≤ at + 21 * width }
 {
     let mut end = at;
-    let mut q: usize = 0;
-    while q < width {
-        let amount = i64_at(statement, from + q);
+    for q in 0..width {
+        let amount = statement[from + q];
         let z = printing::cents::cents(amount, to_even);
         end = put_cents(out, end, z);
-        q += 1;
     }
     end
 }
@@ -82,10 +79,8 @@ fn put_statements(
     let to_even = printing::cents::half_to_even(cycle);
     let width = width_of(lists);
     let mut at: usize = 0;
-    let mut g: usize = 0;
-    while g < grocers {
+    for g in 0..grocers {
         at = put_statement(out, at, to_even, width, statement, g);
-        g += 1;
     }
     at
 }

@@ -27,7 +27,7 @@ pub fn amount(count: i32, price: u32) -> i64
     requires { (nat_abs count ≤ max_count) × (price ≤ max_price) }
     ensures { result ≡ count *ℤ pos price }
 {
-    (count as i64) * (price as i64)
+    i64::from(count) * i64::from(price)
 }
 
 // Adds x to the amount at place g, where the sum is known to fit.
@@ -35,6 +35,5 @@ pub fn raise_at(amounts: &mut [i64], g: usize, x: i64)
     requires { (g < length amounts.old) × SFits w64 (get_or amounts.old g (pos 0) +ℤ x) }
     ensures { amounts.new ≡ set amounts.old g (get_or amounts.old g (pos 0) +ℤ x) }
 {
-    let v = plus(amounts[g], x);
-    amounts[g] = v;
+    amounts[g] += x;
 }

@@ -31,5 +31,5 @@ pub fn clear_bit(word: u16, b: u16) -> u16
 pub fn marks(k: u16) -> usize
     ensures { result ≡ 6 * k * k }
 {
-    6 * (k as usize) * (k as usize)
+    6 * usize::from(k) * usize::from(k)
 }

@@ -5,14 +5,14 @@ ghost use Rattle.std.specs.Prelude.{◌≡◌, ◌≤◌};
 pub fn byte_size(x: u8) -> usize
     ensures { (result ≡ x) × (result ≤ 255) }
 {
-    x as usize
+    usize::from(x)
 }
 
 // A 16-bit word as an index.
 pub fn index_of(x: u16) -> usize
     ensures { (result ≡ x) × (result ≤ 65535) }
 {
-    x as usize
+    usize::from(x)
 }
 
 // An index as a 16-bit word.

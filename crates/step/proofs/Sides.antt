@@ -29,7 +29,7 @@ use Rattle.step_apply.proofs.Sides.{words_few, words_none}
 use Rattle.step_apply.proofs.Moved.{passing, prices_moved, totals_moved}
 use Rattle.step.proofs.Zero.{accepted_by}
 
-module _ (f : JobTables) (t : StateTables) (q : Asked) {places : List ℕ} {from to : ℕ} {listed standing : List ℕ} {r : ℕ} (d : Decided f t q places from to listed standing r) (z : r ≡ 0) where
+module _ (f : JobTables) (t : StateTables) (q : Asked) {places : List ℕ} {from to : ℕ} {listed standing : List ℕ} (d : Decided f t q places from to listed standing 0) where
   -- The tables with the boxes of the tallies that stand.
   abbrev h : JobTables
   h = handed_tables f standing
@@ -39,7 +39,7 @@ module _ (f : JobTables) (t : StateTables) (q : Asked) {places : List ℕ} {from
   width = suc f.lists
 
   facts : Given h t places from to listed q
-  facts = given h t places from to listed q (d.applies z)
+  facts = given h t places from to listed q (d.applies refl)
 
   pub lists_in : f.lists ≤ max_lists
   lists_in = facts.lists_in
@@ -59,13 +59,13 @@ module _ (f : JobTables) (t : StateTables) (q : Asked) {places : List ℕ} {from
   module _ (k : q.kind ≤ 3) where
     pub prices_lent : PricesLent (tallies_of h places) width from to listed t.known t.price_transit t.working q.kind q.first q.second
     prices_lent = record {
-      tallies_keyed = tallies_keyed h (d.applies z).job_in_lem (d.applies z).job_long;
+      tallies_keyed = tallies_keyed h (d.applies refl).job_in_lem (d.applies refl).job_long;
       step_in = λ links l. price_step_in h t places from to listed q facts links l k;
     }
 
     -- The offers of the message are those that are listed.
     pub offers_listed : (q.kind ≡ 2 → ⊥) → Listed f.offers (passing h q) from to listed
-    offers_listed other = (d.applies z).offers_are k other
+    offers_listed other = (d.applies refl).offers_are k other
 
     module _ {known transit : List ℕ} {working : List ℤ} {more : ℕ}
         (o : PriceStepOut (tallies_of h places) width from to (passing h q) t.known t.price_transit t.working q.kind q.first q.second known transit working more) where
@@ -79,12 +79,13 @@ module _ (f : JobTables) (t : StateTables) (q : Asked) {places : List ℕ} {from
               omega (arith, o.sent_is, words_few 1 from to width q.kind, few_words (to - from) 500 n)
           go (no n) = omega (arith, o.sent_is, words_none 1 from to width q.kind n)
 
-      pub prices_accepted : {done sent : List ℕ} → done ≡ marked f.boxes (kind_of q.kind) q.first q.second t.done → sent ≡ sent_more t.sent more →
-          outcome accepted (state_tables known transit working t.total_transit t.statement done sent) ≡ stepped f t q
-      prices_accepted m s =
+      pub prices_accepted : {totals statement : List ℤ} {done sent : List ℕ} → totals ≡ t.total_transit → statement ≡ t.statement →
+          done ≡ marked f.boxes (kind_of q.kind) q.first q.second t.done → sent ≡ sent_more t.sent more →
+          outcome accepted (state_tables known transit working totals statement done sent) ≡ stepped f t q
+      prices_accepted x y m s =
           ap (λ (u : StateTables). outcome accepted u)
-          (tables_eq _ _ o.known_is o.transit_is o.working_is refl refl m (s ∙ ap (sent_more t.sent) o.sent_is) ∙ sym (prices_moved h t places from to listed q facts k) ∙ handed_moved f standing (d.standing_are z) t q)
-          ∙ accepted_by f t q r d.number_is z
+          (tables_eq _ _ o.known_is o.transit_is o.working_is x y m (s ∙ ap (sent_more t.sent) o.sent_is) ∙ sym (prices_moved h t places from to listed q facts k) ∙ handed_moved f standing (d.standing_are refl) t q)
+          ∙ accepted_by f t q 0 d.number_is refl
 
   -- Kinds 4 to 6.
   module _ (k : 4 ≤ q.kind) where
@@ -97,10 +98,11 @@ module _ (f : JobTables) (t : StateTables) (q : Asked) {places : List ℕ} {from
           let n : to - from ≤ 255 = omega (arith, (span_in h t places from to listed q facts k).1) in
           omega (arith, o.sent_is, words_few 4 from to width q.kind, few_words (to - from) 255 n)
 
-      pub totals_accepted : {done sent : List ℕ} → done ≡ marked f.boxes (kind_of q.kind) q.first q.second t.done → sent ≡ sent_more t.sent more →
-          outcome accepted (state_tables t.known t.price_transit working transit statement done sent) ≡ stepped f t q
-      totals_accepted m s =
+      pub totals_accepted : {known prices done sent : List ℕ} → known ≡ t.known → prices ≡ t.price_transit →
+          done ≡ marked f.boxes (kind_of q.kind) q.first q.second t.done → sent ≡ sent_more t.sent more →
+          outcome accepted (state_tables known prices working transit statement done sent) ≡ stepped f t q
+      totals_accepted x y m s =
           ap (λ (u : StateTables). outcome accepted u)
-          (tables_eq _ _ refl refl o.working_is o.transit_is o.statement_is m (s ∙ ap (sent_more t.sent) o.sent_is) ∙ sym (totals_moved h t places from to listed q facts k)
-          ∙ handed_moved f standing (d.standing_are z) t q)
-          ∙ accepted_by f t q r d.number_is z
+          (tables_eq _ _ x y o.working_is o.transit_is o.statement_is m (s ∙ ap (sent_more t.sent) o.sent_is) ∙ sym (totals_moved h t places from to listed q facts k)
+          ∙ handed_moved f standing (d.standing_are refl) t q)
+          ∙ accepted_by f t q 0 d.number_is refl

@@ -3,5 +3,6 @@ pub mod Ranges
 pub mod Keys
 pub mod Given
 pub mod Sides
+pub mod Parts
 pub mod Moved
 pub mod Found

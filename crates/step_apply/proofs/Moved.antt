@@ -12,12 +12,11 @@ use Rattle.laws.proofs.Entries.{span_times}
 use Rattle.laws.proofs.Tables.{overwrite_one, word_in_lem}
 use Rattle.laws.specs.Tables.{overwrite}
 use Rattle.model.specs.Job.{total_word, price_word}
-use Rattle.model.specs.PackedTotals.{spread, totals_length}
+use Rattle.model.specs.PackedTotals.{spread}
 use Rattle.model.specs.Steps.{Kind, State, effect, one_box, kind_of, send_prices, multiply_own, receive_prices, send_totals, add_own, receive_totals}
 use Rattle.model.specs.Tables.{JobTables, job_of, with_lists, evening_of, StateTables, state_tables, state_lengths, view, store}
 use Rattle.model.specs.Step.{Asked, moved}
 use Rattle.model.specs.Spans.{group_start, place_grocers, in_span, span_written, beside}
-use Rattle.model.proofs.EveningJob.{total_words_lem}
 use Rattle.step_prices.specs.Prices.{sent_transit, received_known, received_transit}
 use Rattle.step_places.specs.Marks.{marked}
 use Rattle.step_spans.specs.Credit.{credit_span}

@@ -5,86 +5,98 @@ ghost use Rattle.std.specs.Prelude.{Bool, List, ◌≡◌, ℕ, suc};
 ghost use Rattle.laws.specs.Listed.{Listed};
 ghost use Rattle.step_links.specs.Links.{Some};
 ghost use Rattle.step_totals.specs.Row.{tallies, TalliesLinked};
+ghost use Rattle.step_apply.specs.Kept.{TotalsKept, PricesKept};
+ghost use Rattle.tables.specs.Lent.{SameSlices};
 ghost use Rattle.step_apply.specs.Apply.{PriceStepIn, PriceStepOut, TotalStepIn, TotalStepOut, span_box, span_group};
 
-use slices::casts::index_of;
 use slices::lists::{span_words, width_of, words_at};
-use slices::sizes::Sizes;
 use step_links::TALLY_LINKS;
 use step_places::Step;
+use step_prices::receive::receive_prices;
+use step_prices::send::send_prices;
+use step_spans::{credit_span, move_span};
+use step_totals::row::add_placed;
+use tables::{Job, State};
 
 // A step of kind 1, 2 or 3: prices sent, own tallies multiplied, or prices received and their tallies multiplied. `offers` has those of the message of
-// kinds 1 and 3, from one place up to another. The words sent.
+// kinds 1 and 3, from one place up to another: a run has the lists of all boxes in one table, and a part of it would still be told by two places.
+// The words sent.
 pub fn price_step(
-    z: Sizes,
+    job: &Job,
     from: usize,
     to: usize,
     offers: &[u16],
     tally_place: &[u16],
-    tally_offer: &[u16],
-    tally_count: &[i32],
     tally_links: &[u16; TALLY_LINKS],
-    known: &mut [u32],
-    price_transit: &mut [u32],
-    working: &mut [i64],
+    state: &mut State,
     x: Step,
 ) -> u32
-    requires { Some (λ owner. Some (λ holder. PriceStepIn (tallies z.boxes z.offers z.tallies owner tally_place.now holder
-        tally_offer.now tally_count.now) (suc z.lists) from to offers.now tally_links.now known.old price_transit.old
-        working.old x.kind x.first x.second)) }
-    ensures { (owner holder : List ℕ) (passes : ℕ → Bool) → TalliesLinked z.tallies owner holder tally_offer.now
-        tally_links.now → ((x.kind ≡ 2 → ⊥) → Listed z.offers passes from to offers.now) →
-        PriceStepOut (tallies z.boxes z.offers z.tallies owner tally_place.now holder tally_offer.now
-        tally_count.now) (suc z.lists) from to passes known.old price_transit.old working.old
-        x.kind x.first x.second known.new price_transit.new working.new result }
+    requires { Some (λ owner. Some (λ holder. PriceStepIn (tallies job.now.sizes.boxes job.now.sizes.offers job.now.sizes.tallies owner
+        tally_place.now holder job.now.tally_offer.now job.now.tally_count.now) (suc job.now.sizes.lists) from to offers.now tally_links.now
+        state.old.known.now state.old.price_transit.now state.old.working.now x.kind x.first x.second)) }
+    ensures moved { (owner holder : List ℕ) (passes : ℕ → Bool) → TalliesLinked job.now.sizes.tallies owner holder job.now.tally_offer.now
+        tally_links.now → ((x.kind ≡ 2 → ⊥) → Listed job.now.sizes.offers passes from to offers.now) →
+        PriceStepOut (tallies job.now.sizes.boxes job.now.sizes.offers job.now.sizes.tallies owner tally_place.now holder
+        job.now.tally_offer.now job.now.tally_count.now) (suc job.now.sizes.lists) from to passes state.old.known.now
+        state.old.price_transit.now state.old.working.now x.kind x.first x.second
+        state.new.known.now state.new.price_transit.now state.new.working.now result }
+    ensures kept { TotalsKept state.old state.new }
+    ensures same_slices { SameSlices state.old state.new }
 {
-    let n = index_of(z.offers);
-    let t = index_of(z.tallies);
-    let width = width_of(z.lists);
+    let n = usize::from(job.sizes.offers);
+    let width = width_of(job.sizes.lists);
+    let a = x.first;
+    // A table that is only read is lent as the one beside it is: the borrow check does not cover a shared loan of one field beside another's.
     if x.kind == 1 {
-        step_prices::send::send_prices(
+        let known: &mut [u32] = state.known;
+        send_prices(
             n,
             width,
-            x.first,
+            a,
             x.second,
             from,
             to,
             offers,
             known,
-            price_transit,
+            state.price_transit,
         );
         return span_words(from, to, width);
     }
     if x.kind == 2 {
-        step_totals::row::add_placed(
-            n,
+        let known: &mut [u32] = state.known;
+        add_placed(
+            job,
             width,
-            t,
-            x.first,
-            x.first,
+            a,
+            a,
             tally_links,
             tally_place,
-            tally_offer,
-            tally_count,
             known,
-            working,
+            state.working,
         );
         return 0;
     }
-    step_totals::row::add_placed(
-        n,
+    let received: &mut [u32] = state.price_transit;
+    add_placed(
+        job,
         width,
-        t,
-        x.first,
+        a,
         x.second,
         tally_links,
         tally_place,
-        tally_offer,
-        tally_count,
-        price_transit,
-        working,
+        received,
+        state.working,
     );
-    step_prices::receive::receive_prices(n, width, x.first, from, to, offers, known, price_transit);
+    receive_prices(
+        n,
+        width,
+        a,
+        from,
+        to,
+        offers,
+        state.known,
+        state.price_transit,
+    );
     0
 }
 
@@ -96,28 +108,35 @@ pub fn total_step(
     to: usize,
     width: usize,
     grocers: &[u16],
-    working: &mut [i64],
-    total_transit: &mut [i64],
-    statement: &mut [i64],
+    state: &mut State,
 ) -> u32
-    requires { TotalStepIn from to width grocers.now working.old total_transit.old statement.old kind }
-    ensures { TotalStepOut from to width grocers.now working.old total_transit.old statement.old kind
-        working.new total_transit.new statement.new result }
+    requires { TotalStepIn from to width grocers.now state.old.working.now state.old.total_transit.now state.old.statement.now kind }
+    ensures moved { TotalStepOut from to width grocers.now state.old.working.now state.old.total_transit.now state.old.statement.now kind
+        state.new.working.now state.new.total_transit.now state.new.statement.now result }
+    ensures kept { PricesKept state.old state.new }
+    ensures same_slices { SameSlices state.old state.new }
 {
     if kind == 4 {
-        step_spans::move_span(
+        move_span(
             words_at(from, width),
             words_at(to, width),
-            working,
-            total_transit,
+            state.working,
+            state.total_transit,
         );
         return span_words(from, to, width);
     }
     if kind == 5 {
-        step_spans::credit_span(from, to, width, grocers, working, statement);
+        credit_span(from, to, width, grocers, state.working, state.statement);
         return 0;
     }
-    step_spans::credit_span(from, to, width, grocers, total_transit, statement);
+    credit_span(
+        from,
+        to,
+        width,
+        grocers,
+        state.total_transit,
+        state.statement,
+    );
     0
 }
 
@@ -136,10 +155,10 @@ pub fn span_group(x: Step) -> usize
     ensures { result ≡ span_group x.kind x.first x.second }
 {
     if (x.kind == 1) | (x.kind == 6) {
-        return index_of(x.first) + 1;
+        return usize::from(x.first) + 1;
     }
     if (x.kind == 2) | (x.kind == 5) {
         return 0;
     }
-    index_of(x.second) + 1
+    usize::from(x.second) + 1
 }

@@ -3,78 +3,57 @@ ghost use Rattle.std.specs.Prelude.{◌≡◌, suc};
 ghost use Rattle.step_totals.specs.Row.{tallies};
 ghost use Rattle.step_checks.specs.Fits.{price_fits, PriceFitsIn};
 
-use slices::casts::index_of;
 use slices::lists::{span_words, width_of};
-use slices::sizes::Sizes;
 use step_places::Step;
-use step_row::products_fit;
+use step_row::{Part, products_fit};
 use step_sent::sent_fits;
+use tables::{Job, State};
 
-// Kinds 1 to 3: whether what the step leaves is in range, with so many offers in its message. The span of the first box's totals, and the places of its
-// tallies, are looked at for kinds 2 and 3 alone.
+// Kinds 1 to 3: whether what the step leaves is in range, with so many offers in its message. `job` has the boxes that count in place of the tallies'. The
+// span of the first box's totals, and the places of its tallies, are looked at for kinds 2 and 3 alone.
 pub fn price_fits(
-    z: Sizes,
+    job: &Job,
     from: usize,
     to: usize,
     offers: usize,
-    offer_owner: &[u16],
     tally_place: &[u16],
-    tally_box: &[u16],
-    tally_offer: &[u16],
-    tally_count: &[i32],
-    known: &[u32],
-    price_transit: &[u32],
-    working: &[i64],
-    sent: &[u32],
+    state: &State,
     x: Step,
 ) -> bool
-    requires { PriceFitsIn (tallies z.boxes z.offers z.tallies offer_owner.now tally_place.now tally_box.now
-        tally_offer.now tally_count.now) z.lists from to offers known.now price_transit.now working.now sent.now
-        x.kind x.first x.second }
-    ensures { result ≡ price_fits (tallies z.boxes z.offers z.tallies offer_owner.now tally_place.now
-        tally_box.now tally_offer.now tally_count.now) (suc z.lists) from to offers known.now
-        price_transit.now working.now sent.now x.kind x.first x.second }
+    requires { PriceFitsIn (tallies job.now.sizes.boxes job.now.sizes.offers job.now.sizes.tallies job.now.offer_owner.now tally_place.now
+        job.now.tally_box.now job.now.tally_offer.now job.now.tally_count.now) job.now.sizes.lists from to offers state.now.known.now
+        state.now.price_transit.now state.now.working.now state.now.sent.now x.kind x.first x.second }
+    ensures { result ≡ price_fits (tallies job.now.sizes.boxes job.now.sizes.offers job.now.sizes.tallies job.now.offer_owner.now
+        tally_place.now job.now.tally_box.now job.now.tally_offer.now job.now.tally_count.now) (suc job.now.sizes.lists) from to offers
+        state.now.known.now state.now.price_transit.now state.now.working.now state.now.sent.now x.kind x.first x.second }
 {
-    let a = x.first;
-    let width = width_of(z.lists);
+    let width = width_of(job.sizes.lists);
     if x.kind == 1 {
-        return sent_fits(sent, span_words(0, offers, width));
+        return sent_fits(state.sent, span_words(0, offers, width));
     }
-    let len = to - from;
-    let n = index_of(z.offers);
-    let t = index_of(z.tallies);
+    let own = Part {
+        start: from,
+        len: to - from,
+        width,
+    };
     if x.kind == 2 {
         return products_fit(
-            from,
-            len,
-            width,
-            n,
-            t,
-            a,
-            a,
-            offer_owner,
+            job,
+            own,
+            x.first,
+            x.first,
             tally_place,
-            tally_box,
-            tally_offer,
-            tally_count,
-            known,
-            working,
+            state.known,
+            state.working,
         );
     }
     products_fit(
-        from,
-        len,
-        width,
-        n,
-        t,
-        a,
+        job,
+        own,
+        x.first,
         x.second,
-        offer_owner,
         tally_place,
-        tally_box,
-        tally_offer,
-        tally_count,
-        price_transit,
-        working,
+        state.price_transit,
+        state.working,
     )
 }

@@ -1,12 +1,15 @@
 // The conditions 22 to 26 of a request, from the words of receivers and waits and the marks of steps done.
 ghost use Rattle.std.specs.Prelude.{◌≡◌, ◌*◌, ◌≤◌, length};
 ghost use Rattle.laws.specs.Checks.{first_met};
+ghost use Rattle.refusals.specs.Numbers.{number};
 ghost use Rattle.model.specs.Steps.{kind_of, one_box};
 ghost use Rattle.model.specs.Step.{asked, is_kind};
 ghost use Rattle.model.specs.Tables.{steps_done};
 ghost use Rattle.step_checks.specs.Request.{boxes_fit_by, rules_by};
 
+use refusals::Refusal;
 use slices::limits::BOXES;
+use step_places::Step;
 use step_rules::marks::is_done;
 use step_rules::ready::{fits, is_ready};
 
@@ -26,41 +29,40 @@ fn one_box(kind: u16) -> bool
 }
 
 // Whether both boxes are below k, and equal or not as the kind asks.
-fn boxes_fit(k: u16, kind: u16, a: u16, b: u16) -> bool
-    requires { (1 ≤ kind) × (kind ≤ 6) }
-    ensures { result ≡ boxes_fit_by k (kind_of kind) a b }
+fn boxes_fit(k: u16, x: Step) -> bool
+    requires { (1 ≤ x.kind) × (x.kind ≤ 6) }
+    ensures { result ≡ boxes_fit_by k (kind_of x.kind) x.first x.second }
 {
-    let one = one_box(kind);
-    (a < k) & ((b < k) & ((one & (a == b)) | (!one & (a != b))))
+    let one = one_box(x.kind);
+    let same = x.first == x.second;
+    (x.first < k) & ((x.second < k) & ((one & same) | (!one & !same)))
 }
 
-// The first of the conditions 22 to 26 that is met, or 0. Tables and marks are looked at only where both boxes are below k.
+// The first of the conditions 22 to 26 that is met. Tables and marks are looked at only where both boxes are below k.
 pub fn request_refusal(
     k: u16,
-    kind: u16,
-    a: u16,
-    b: u16,
+    x: Step,
     receivers: &[u16; BOXES],
     waits: &[[u16; BOXES]; BOXES],
     done: &[u16],
-) -> u16
+) -> Result<(), Refusal>
     requires { (k ≤ 16) × (6 * k * k ≤ length done.now) }
-    ensures { result ≡ first_met (rules_by k receivers.now waits.now (steps_done k done.now) (asked kind a b)) }
+    ensures { number result ≡ first_met (rules_by k receivers.now waits.now (steps_done k done.now) (asked x.kind x.first x.second)) }
 {
-    if !is_kind(kind) {
-        return 22;
+    if !is_kind(x.kind) {
+        return Err(Refusal::NoSuchKind);
     }
-    if !boxes_fit(k, kind, a, b) {
-        return 23;
+    if !boxes_fit(k, x) {
+        return Err(Refusal::NoSuchBoxes);
     }
-    if !fits(kind, a, b, receivers, waits) {
-        return 24;
+    if !fits(x.kind, x.first, x.second, receivers, waits) {
+        return Err(Refusal::NoSuchStep);
     }
-    if is_done(k, kind, a, b, done) {
-        return 25;
+    if is_done(k, x.kind, x.first, x.second, done) {
+        return Err(Refusal::AlreadyDone);
     }
-    if !is_ready(k, kind, a, b, waits, done) {
-        return 26;
+    if !is_ready(k, x.kind, x.first, x.second, waits, done) {
+        return Err(Refusal::NotReady);
     }
-    0
+    Ok(())
 }

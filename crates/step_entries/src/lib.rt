@@ -10,12 +10,11 @@ pub fn copy_words(words: &mut [u32], to: usize, source: &[u32], from: usize, wid
     ensures { (k : ℕ) → get_or words.new k 0 ≡ cond (in_span to (to + width) k) (get_or source.now (from + (k - to)) 0)
         (get_or words.old k 0) }
 {
-    for i in 0..width {
-        words[to + i] = slices::u32_at(source, from + i);
-    }
+    words[to..to + width].copy_from_slice(&source[from..from + width]);
 }
 
-// Takes the words of an entry out of transit into the same places of those known. They become 0 in transit.
+// Takes the words of an entry out of transit into the same places of those known. They become 0 in transit. It is one pass over both tables: a copy and
+// a fill would be two, for the one to eight words of each entry.
 pub fn take_words(known: &mut [u32], transit: &mut [u32], at: usize, width: usize)
     requires { (at + width ≤ length known.old) × (at + width ≤ length transit.old) }
     ensures { ((k : ℕ) → get_or known.new k 0 ≡ cond (in_span at (at + width) k) (get_or transit.old k 0)

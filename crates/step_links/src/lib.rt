@@ -17,9 +17,7 @@ fn no_places(heads: usize, end: u16, links: &mut [u16])
     requires { heads ≤ length links.old }
     ensures { (v : ℕ) → v < heads → get_or links.new v 0 ≡ end }
 {
-    for v in 0..heads {
-        links[v] = end;
-    }
+    links[..heads].fill(end);
 }
 
 // Entry i goes in front of those of its key v.
@@ -37,7 +35,7 @@ pub fn pair(a: u16, b: u16) -> usize
     requires { (a ≤ 16) × (b < 16) }
     ensures { result ≡ pair_key a b }
 {
-    a as usize * 16 + b as usize
+    usize::from(a) * BOXES + usize::from(b)
 }
 
 // Links n entries, the last one first: each goes in front of those of its key, the box of the entry and the owner at its place.
@@ -46,9 +44,7 @@ pub fn link_pairs(n: usize, boxes: &[u16], places: &[u16], owners: &[u16], links
     ensures { LinkedPairs n boxes.now places.now owners.now links.new }
 {
     no_places(PAIR_HEADS, n as u16, links);
-    let mut i = n;
-    while i > 0 {
-        i -= 1;
+    for i in (0..n).rev() {
         let o = slices::index_at(places, i);
         put_first(
             PAIR_HEADS,

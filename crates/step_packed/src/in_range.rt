@@ -5,7 +5,7 @@ ghost use Rattle.model.specs.Ranges.{around};
 
 use slices::limits::{MAX_AMOUNT, MIN_AMOUNT};
 
-// Whether an amount is within ±10^15.
+// Whether an amount is within ±10^15. `job_ranges` has the same of counts: one function for both would take a trait with laws for two integer types.
 pub fn is_amount(x: i64) -> bool
     ensures { result ≡ leb (nat_abs x) max_amount }
 {
@@ -20,10 +20,5 @@ pub fn around64(s: &[i64], n: usize) -> bool
     requires { n ≤ length s.now }
     ensures { result ≡ around max_amount n s.now }
 {
-    for i in 0..n {
-        if !is_amount(s[i]) {
-            return false;
-        }
-    }
-    true
+    s[..n].iter().all(|x| is_amount(*x))
 }

@@ -7,28 +7,31 @@ ghost use Rattle.laws.specs.Checks.{first_met};
 ghost use Rattle.laws.specs.Limits.{max_amount};
 ghost use Rattle.model.specs.Ranges.{around};
 ghost use Rattle.model.specs.Spans.{beside};
+ghost use Rattle.refusals.specs.Numbers.{number};
 ghost use Rattle.step_spans.specs.Credit.{PlaceIn, SpanIn};
 ghost use Rattle.step_packed.specs.Fits.{word_fits, span_fits, total_fits, TotalFitsIn};
 
 use crate::in_range::{around64, is_amount};
+use refusals::Refusal;
 use slices::amounts::plus;
 use slices::limits::MAX_SENT;
 use slices::{i64_at, index_at, u32_at};
+use tables::State;
 
 pub mod in_range;
 
-// The first of the conditions 20 and 21 that the tables of packed totals meet, of so many words, or 0. Words past them are not looked at.
-pub fn packed_refusal(words: usize, working: &[i64], total_transit: &[i64]) -> u16
-    ensures { result ≡ first_met ((ltb (length working.now) words || ltb (length total_transit.now) words, 20)
+// The first of the conditions 20 and 21 that the tables of packed totals meet, of so many words. Words past them are not looked at.
+pub fn packed_refusal(words: usize, working: &[i64], total_transit: &[i64]) -> Result<(), Refusal>
+    ensures { number result ≡ first_met ((ltb (length working.now) words || ltb (length total_transit.now) words, 20)
         ∷ (not (around max_amount words working.now && around max_amount words total_transit.now), 21) ∷ []) }
 {
     if (working.len() < words) | (total_transit.len() < words) {
-        return 20;
+        return Err(Refusal::LentShort);
     }
     if !(around64(working, words) & around64(total_transit, words)) {
-        return 21;
+        return Err(Refusal::OutOfRange);
     }
-    0
+    Ok(())
 }
 
 // Whether word g of the statements stays within ±10^15 with word w of the totals.
@@ -82,21 +85,26 @@ pub fn total_fits(
     to: usize,
     width: usize,
     grocers: &[u16],
-    working: &[i64],
-    total_transit: &[i64],
-    statement: &[i64],
-    sent: &[u32],
+    state: &State,
 ) -> bool
-    requires { TotalFitsIn from to width grocers.now working.now total_transit.now statement.now sent.now kind }
-    ensures { result ≡ total_fits from to width grocers.now working.now total_transit.now statement.now
-        sent.now kind }
+    requires { TotalFitsIn from to width grocers.now state.now.working.now state.now.total_transit.now state.now.statement.now
+        state.now.sent.now kind }
+    ensures { result ≡ total_fits from to width grocers.now state.now.working.now state.now.total_transit.now
+        state.now.statement.now state.now.sent.now kind }
 {
     if kind == 4 {
         let more = ((to - from) * width) as u32;
-        return u32_at(sent, 0) + more <= MAX_SENT;
+        return u32_at(state.sent, 0) + more <= MAX_SENT;
     }
     if kind == 5 {
-        return span_fits(from, to, width, grocers, working, statement);
+        return span_fits(from, to, width, grocers, state.working, state.statement);
     }
-    span_fits(from, to, width, grocers, total_transit, statement)
+    span_fits(
+        from,
+        to,
+        width,
+        grocers,
+        state.total_transit,
+        state.statement,
+    )
 }

@@ -16,7 +16,8 @@ pub const KINDS: usize = 6;
 // The places of steps among the most boxes, one for each kind, first box and second box: 1536.
 pub const PLACES: usize = KINDS * BOXES * BOXES;
 
-// A step: its kind, first box and second box. By these it has a place among the steps.
+// A step: its kind, first box and second box. By these it has a place among the steps. The kind is a number, not an enum: C hands a request any number,
+// which condition 22 has to tell, and places, orders and the model's clauses count with it.
 #[derive(Clone, Copy)]
 pub struct Step {
     pub kind: u16,
@@ -29,20 +30,17 @@ pub fn next(k: u16, p: Step) -> Step
     requires { PlaceIn k p.kind p.first p.second }
     ensures { Next k p.kind p.first p.second result.kind result.first result.second }
 {
-    let a = p.first;
-    let b = p.second;
-    if b + 1 < k {
+    if p.second + 1 < k {
         return Step {
-            kind: p.kind,
-            first: a,
-            second: b + 1,
+            second: p.second + 1,
+            ..p
         };
     }
-    if a + 1 < k {
+    if p.first + 1 < k {
         return Step {
-            kind: p.kind,
-            first: a + 1,
+            first: p.first + 1,
             second: 0,
+            ..p
         };
     }
     Step {

@@ -8,7 +8,7 @@ use slices::u16_at;
 use step_places::words::in_message;
 
 // The offers below n of the message from box a, their owner, to box b are the first words of the list, ascending. How many. An offer that is not in it
-// is written over: there is no branch in the loop, since none could be foreseen.
+// is written over: there is no branch in the loop, since none could be foreseen. There is no heap, so the list lies in the caller's table.
 pub fn list_message(
     n: usize,
     owners: &[u16],
@@ -25,7 +25,7 @@ pub fn list_message(
     let mut l: usize = 0;
     for o in 0..n {
         offers[l] = word_of(o);
-        l += in_message(u16_at(owners, o), u16_at(masks, o), a, b) as usize;
+        l += usize::from(in_message(u16_at(owners, o), u16_at(masks, o), a, b));
     }
     l
 }

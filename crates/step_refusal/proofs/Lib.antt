@@ -2,3 +2,7 @@
 pub mod Extra
 pub mod Later
 pub mod Refused
+pub mod Told
+pub mod Base
+pub mod Priced
+pub mod Totalled

@@ -5,13 +5,14 @@ ghost use Rattle.model.specs.Ranges.{up_to};
 ghost use Rattle.model.specs.Tables.{steps_done};
 ghost use Rattle.step_places.specs.Marks.{MarksIn, marked};
 
-// The place of a step among the marks of k boxes.
+// The place of a step among the marks of k boxes. Kind and boxes are three numbers here and in `ready`, since callers go over them one by one and have no
+// `Step` at hand.
 pub fn place(k: u16, kind: u16, a: u16, b: u16) -> usize
     requires { (1 ≤ kind) × ((kind ≤ 6) × ((k ≤ 16) × ((a < k) × (b < k)))) }
     ensures { result ≡ step_place k kind a b }
 {
     let row = (kind - 1) * k + a;
-    (row * k + b) as usize
+    usize::from(row * k + b)
 }
 
 // Marks a step as done.

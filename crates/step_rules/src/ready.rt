@@ -10,15 +10,14 @@ ghost use Rattle.step_places.specs.Marks.{MarksIn};
 ghost use Rattle.step_rules.specs.Rules.{word_at, totals_due_by, fits_by, has_got, all_got, ready_by, permitted_by, BoxIn};
 
 use crate::marks::is_done;
+use step_places::words::reaches;
 
 // The word of boxes a and b.
 pub fn word_at(waits: &[[u16; 16]; 16], a: u16, b: u16) -> u16
     requires { (a < 16) × (b < 16) }
     ensures { result ≡ word_at waits.now a b }
 {
-    let i = a as usize;
-    let j = b as usize;
-    waits[i][j]
+    waits[usize::from(a)][usize::from(b)]
 }
 
 // Whether totals go from box a to box b.
@@ -34,19 +33,13 @@ pub fn fits(kind: u16, a: u16, b: u16, receivers: &[u16; 16], waits: &[[u16; 16]
     requires { (1 ≤ kind) × (kind ≤ 6) × (a < 16) × (b < 16) }
     ensures { result ≡ fits_by receivers.now waits.now (kind_of kind) a b }
 {
-    if kind == 1 {
-        return step_places::words::reaches(receivers, a, b);
+    match kind {
+        1 => reaches(receivers, a, b),
+        3 => reaches(receivers, b, a),
+        4 => totals_due(waits, a, b),
+        6 => totals_due(waits, b, a),
+        _ => a == b,
     }
-    if kind == 3 {
-        return step_places::words::reaches(receivers, b, a);
-    }
-    if kind == 4 {
-        return totals_due(waits, a, b);
-    }
-    if kind == 6 {
-        return totals_due(waits, b, a);
-    }
-    a == b
 }
 
 // Whether box a has the prices of box o and has added its tallies of them.
@@ -66,7 +59,7 @@ pub fn with_bit(word: u16, b: u16, test: bool) -> u16
     requires { b < 16 }
     ensures { (f : ℕ → Bool) → word ≡ mask_of 16 f → result ≡ mask_of 16 (λ o. f o || (test && eqb b o)) }
 {
-    word | ((test as u16) << b)
+    word | (u16::from(test) << b)
 }
 
 // The boxes whose prices box a has, one bit each.
@@ -76,8 +69,7 @@ pub fn got(k: u16, a: u16, done: &[u16]) -> u16
 {
     let mut word: u16 = 0;
     for o in 0..k {
-        let more = with_bit(word, o, has_got(k, a, o, done));
-        word = more;
+        word = with_bit(word, o, has_got(k, a, o, done));
     }
     word
 }
@@ -103,19 +95,13 @@ pub fn is_ready(k: u16, kind: u16, a: u16, b: u16, waits: &[[u16; 16]; 16], done
     requires { MarksIn k kind a b done.now }
     ensures { result ≡ ready_by waits.now (steps_done k done.now) (kind_of kind) a b }
 {
-    if kind == 3 {
-        return is_done(k, 1, b, a, done);
+    match kind {
+        3 => is_done(k, 1, b, a, done),
+        4 => has_all(k, a, b, waits, done),
+        5 => has_all(k, a, a, waits, done),
+        6 => is_done(k, 4, b, a, done),
+        _ => true,
     }
-    if kind == 4 {
-        return has_all(k, a, b, waits, done);
-    }
-    if kind == 5 {
-        return has_all(k, a, a, waits, done);
-    }
-    if kind == 6 {
-        return is_done(k, 4, b, a, done);
-    }
-    true
 }
 
 // Whether a step is permitted: the job has it, it is not done, and the steps done make it ready.

@@ -21,6 +21,5 @@ pub fn raise(sent: &mut [u32], more: u32)
     requires more_bound { more ≤ 4_000 }
     ensures { sent.new ≡ set sent.old 0 (get_or sent.old 0 0 + more) }
 {
-    let v = sent[0] + more;
-    sent[0] = v;
+    sent[0] += more;
 }

@@ -2,7 +2,7 @@
 use mathlib.Core.Path.{◌≡◌, refl, sym, ap, ap₂, ◌∙◌}
 use mathlib.Core.Bool.{Bool, true, false, cond}
 use mathlib.Core.List.{List}
-use Prim.Native.Nat.{ℕ, zero, suc, ◌+◌, ◌-◌, ◌*◌, ◌<◌, ◌≤◌}
+use Prim.Native.Nat.{ℕ, zero, suc, ◌+◌, ◌*◌, ◌<◌, ◌≤◌}
 use native.Mathlib.Omega.{arith}
 use lib.Dec.{eqb, ltb, leb}
 use lib.IntN.{ℤ, pos, nat_abs, ◌+ℤ◌}
@@ -13,7 +13,7 @@ use Rattle.laws.proofs.Bools.{split, and_true, and_false}
 use Rattle.laws.proofs.Signed.{abs_plus}
 use Rattle.laws.proofs.Tables.{length_tabulate, get_d_tabulate, is_tabulate}
 use Rattle.model.specs.Spans.{in_span, span_written}
-use Rattle.step_spans.specs.Credit.{credit_span, CreditIn}
+use Rattle.step_spans.specs.Credit.{credit_span}
 
 pub length_span : (from to : ℕ) (f : ℕ → ℤ) (l : List ℤ) → length (span_written from to f l) ≡ length l
 unfolding span_written

@@ -8,7 +8,8 @@ ghost use Rattle.step_spans.specs.Credit.{credit_span, PlaceIn, SpanIn};
 use slices::amounts::raise_at;
 use slices::index_at;
 
-// Step 4: the totals of a message go from the working totals to those in transit, and become 0.
+// Step 4: the totals of a message go from the working totals to those in transit, and become 0. It is one pass over both tables: a copy and a fill
+// would be two.
 pub fn move_span(from: usize, to: usize, working: &mut [i64], transit: &mut [i64])
     requires { (from ≤ to) × (to ≤ length working.old) × (to ≤ length transit.old) }
     ensures { (working.new ≡ span_written from to (λ i. pos 0) working.old) ×

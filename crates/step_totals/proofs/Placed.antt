@@ -6,7 +6,7 @@ use native.Mathlib.Omega.{arith}
 use lib.Dec.{eqb}
 use lib.ListN.{length, get_or}
 use lib.IntN.{ℤ, pos, nat_abs, ◌+ℤ◌, +ℤ_assoc}
-use Rattle.laws.specs.Below.{integers, sum, only}
+use Rattle.laws.specs.Below.{integers, sum}
 use Rattle.laws.specs.Limits.{max_amount}
 use Rattle.laws.proofs.Loops.{share}
 use Rattle.laws.proofs.Signed.{abs_plus, abs_times_le, only_abs, sum_abs}

@@ -2,7 +2,6 @@
 ghost use Rattle.std.specs.Prelude.{◌≡◌, ◌+◌, ◌<◌, get_or};
 ghost use Rattle.step_links.specs.Links.{pair_key};
 
-use slices::casts::index_of;
 use step_links::{PAIR_HEADS, TALLY_LINKS, pair};
 
 // The first of the places of a pair of boxes, by the links.
@@ -11,7 +10,7 @@ pub fn begin_pair(a: u16, b: u16, links: &[u16; TALLY_LINKS]) -> usize
     ensures { result ≡ get_or links.now (pair_key a b) 0 }
 {
     let v = pair(a, b);
-    index_of(links[v])
+    usize::from(links[v])
 }
 
 // The link of place i: the next place of its pair.
@@ -19,5 +18,5 @@ pub fn next_pair(i: usize, links: &[u16; TALLY_LINKS]) -> usize
     requires { i < 1_000 }
     ensures { result ≡ get_or links.now (272 + i) 0 }
 {
-    index_of(links[PAIR_HEADS + i])
+    usize::from(links[PAIR_HEADS + i])
 }

@@ -11,17 +11,17 @@ use Rattle.laws.specs.Below.{any, all}
 use Rattle.laws.specs.Masks.{bit, mask_of}
 use Rattle.laws.specs.Tables.{tabulate}
 use Rattle.laws.proofs.Bools.{split, same_test, clash, no_true, and_l, and_r, and_true, or_r, eqb_same}
-use Rattle.laws.proofs.Below.{any_at, any_find, any_false, any_cong, all_at, all_of_lem, all_find}
+use Rattle.laws.proofs.Below.{any_at, any_find, any_cong, all_at, all_of_lem, all_find}
 use Rattle.laws.proofs.Masks.{bit_mask, mask_empty}
-use Rattle.laws.proofs.Tables.{get_d_tabulate, word_in_lem}
-use Rattle.model.specs.Job.{Job, held_by, needs, shares, need_word, price_word, total_word, prices_due, totals_due}
+use Rattle.laws.proofs.Tables.{word_in_lem}
+use Rattle.model.specs.Job.{Job, held_by, shares, need_word, total_word, totals_due}
 use Rattle.model.specs.Steps.{Steps, added, all_added}
 use Rattle.model.specs.Tables.{JobTables, job_of}
 use Rattle.model.specs.Handed.{Handed}
 use Rattle.step_waits.specs.Waits.{TallyLists, tally_lists, grocer_box, offer_box, waits_on, wait_table, WaitsIn}
 use Rattle.step_rules.specs.Rules.{word_at, totals_due_by, has_got, all_got, ReceiversOf, WaitsOf}
 use Rattle.model.proofs.Range.{InRange, held_box}
-use Rattle.model.proofs.Step.{range, limits}
+use Rattle.model.proofs.Step.{range}
 use Rattle.model.proofs.Handed.{bare_stands}
 use Rattle.laws.proofs.Rows.{rows_at}
 use Rattle.model.proofs.Whole.{JobWhole}

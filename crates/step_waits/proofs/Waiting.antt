@@ -9,14 +9,13 @@ use lib.Dec.{eqb, ltb}
 use lib.Bits.{bit_or}
 use borrow.Author.Tests.{ltb-true, eqb-true, ne_eqb}
 use Rattle.laws.specs.Below.{any, only, naturals}
-use Rattle.laws.specs.Masks.{bit, mask_of}
+use Rattle.laws.specs.Masks.{mask_of}
 use Rattle.laws.specs.Tables.{tabulate, cell_at}
 use Rattle.laws.proofs.Bools.{split, eqb_same, and_false, or_false}
 use Rattle.laws.proofs.Below.{any_next}
-use Rattle.laws.proofs.Masks.{mask_cong, mask_bits, mask_or, mask_join}
-use Rattle.laws.proofs.Tables.{get_d_tabulate}
+use Rattle.laws.proofs.Masks.{mask_cong, mask_or}
 use Rattle.step_waits.specs.Waits.{TallyLists, grocer_box, offer_box, waits_on, wait_table, waited}
-use Rattle.laws.proofs.Rows.{set_tabulate, rows_cong, rows_at, rows_set}
+use Rattle.laws.proofs.Rows.{rows_cong, rows_at, rows_set}
 use Rattle.job_masks.proofs.Holders.{held_in, held_out}
 
 -- No tally yet.

@@ -16,29 +16,8 @@ use Rattle.format.specs.Job.{Head}
 use Rattle.format.specs.Tables.{ReaderTables}
 use Rattle.book_sort.specs.Sort.{in_front}
 use Rattle.late_rules.specs.Late.{LateAnswer, LateOutcome, late_outcome, bag_added, bag_withdrawn}
-use Rattle.late.specs.Calls.{late_answer_of, tally_by}
-use Rattle.late.specs.declared.Answer.{Answer}
-use Rattle.late.specs.declared.Answer.TheVariants.{Edited, Refused}
+use Rattle.late.specs.Calls.{tally_by}
 use Rattle.test_calls.specs.EntryEdits.{ReportTold, report_told, report_as, EditTold, edit_told, edit_as, added_by, withdrawn_by}
-
-put_four_words : (l : List ℕ) (a b c d : ℕ) → 4 ≤ length l → set (set (set (set l 0 a) 1 b) 2 c) 3 d ≡ in_front (a ∷ b ∷ c ∷ d ∷ []) l
-unfolding in_front overwrite tabulate
-put_four_words [] a b c d h = absurd (omega (arith, h))
-put_four_words (x ∷ []) a b c d h = absurd (omega (arith, h))
-put_four_words (x ∷ y ∷ []) a b c d h = absurd (omega (arith, h))
-put_four_words (x ∷ y ∷ z ∷ []) a b c d h = absurd (omega (arith, h))
-put_four_words (x ∷ y ∷ z ∷ w ∷ l) a b c d h = refl
-
--- T and the report, told.
-pub told_edited : (a : Answer) (t w m s : ℕ) (l : List ℕ) → a ≡ Edited t w m s → 4 ≤ length l →
-    report_told 0 (set (set (set (set l 0 t) 1 w) 2 m) 3 s) ≡ report_as (late_answer_of a) l
-unfolding report_as late_answer_of
-told_edited a t w m s l e h = rw (e, put_four_words l t w m s h)
-
--- A refusal, told.
-pub told_refused : (a : Answer) (n : ℕ) (l : List ℕ) → a ≡ Refused n → report_told n l ≡ report_as (late_answer_of a) l
-unfolding report_as late_answer_of
-told_refused a n l e = rw e
 
 yes : {A : Type 0} {b : Bool} (x y : A) → b ≡ true → cond b x y ≡ x
 yes x y e = rw e

@@ -19,9 +19,9 @@ use Rattle.laws.proofs.Tables.{is_tabulate, length_tabulate}
 use Rattle.model.specs.Ranges.{up_to}
 use Rattle.model.specs.Reconcile.{TallyRecord, DeskAnswer, refused, desk_refusals, desk_answer, reconciled}
 use Rattle.desk.specs.Records.{record_of, records_of, answer_of}
-use Rattle.desk.specs.declared.Answer.{Answer}
-use Rattle.desk.specs.declared.Answer.TheVariants.{Owed}
-use Rattle.desk.specs.declared.Tally.{Tally}
+use Rattle.std.specs.Prelude.{Result, Ok}
+use Rattle.refusals.specs.declared.Refusal.{Refusal}
+use Rattle.desk.specs.Records.{Tally}
 use Rattle.test_calls.specs.Entries.{Fields, lent_tally, lent_records, short_fields, told, told_as, told_by}
 
 -- A record of zeros.
@@ -123,6 +123,6 @@ fields_whole gs bs ps cs ss vs out e =
     )
 
 -- An amount that is told.
-pub told_amount : (a : Answer) (z : ℤ) (out out' : List ℤ) → a ≡ Owed z → out' ≡ overwrite 1 (λ i. z) out → told 0 out' ≡ told_as (answer_of a) out
+pub told_amount : (a : Result ℤ Refusal) (z : ℤ) (out out' : List ℤ) → a ≡ Ok z → out' ≡ overwrite 1 (λ i. z) out → told 0 out' ≡ told_as (answer_of a) out
 unfolding told_as answer_of
 told_amount a z out out' e h = rw (e, h)

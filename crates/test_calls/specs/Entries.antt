@@ -5,7 +5,7 @@ use Rattle.laws.specs.Tables.{tabulate, overwrite}
 use Rattle.format.specs.Tables.{WriteAnswer, wrote, not_written, WriteOutcome}
 use Rattle.model.specs.Reconcile.{TallyRecord, DeskAnswer, owed, refused, reconciled}
 use Rattle.desk.specs.Records.{tally_record}
-use Rattle.desk.specs.declared.Tally.{Tally}
+use Rattle.desk.specs.Records.{Tally}
 
 -- The writer's answer as one number: the file's length, which is 1,536 or more, or the refusal's number, which is 20 or less.
 unfoldable pub write_number : WriteAnswer → ℕ

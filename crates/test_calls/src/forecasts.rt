@@ -6,17 +6,8 @@ ghost use Rattle.forecast_rules.specs.Step.{stepped, freshened};
 ghost use Rattle.forecast.specs.Answer.{answer_of as forecast_answer_of};
 ghost use Rattle.test_calls.specs.EntryForecast.{answer_number, forecast_told, forecast_as};
 
-use forecast::Answer;
-
-// The answer as a number, 0 where the request is accepted.
-fn answer_number(a: Answer) -> u16
-    ensures { result ≡ answer_number (forecast_answer_of a) }
-{
-    match a {
-        Answer::Accepted => 0,
-        Answer::Refused(n) => n,
-    }
-}
+use forecast_doubles::tables::{Forecast, State};
+use step_places::Step;
 
 // A fresh state of a forecast: 0, or the number of the refusal.
 #[unsafe(no_mangle)]
@@ -45,7 +36,7 @@ pub extern "C" fn entries_forecast_fresh(
         (forecast_lent boxes grocers offers lines offer_owner grocer_owner line_grocer line_offer line_box line_rate line_value)
         (state_before known value_transit part part_transit held forecast done sent)) }
 {
-    let a = forecast::fresh_forecast(
+    let tables = Forecast {
         boxes,
         grocers,
         offers,
@@ -57,6 +48,8 @@ pub extern "C" fn entries_forecast_fresh(
         line_box,
         line_rate,
         line_value,
+    };
+    let mut state = State {
         known,
         value_transit,
         part,
@@ -65,8 +58,8 @@ pub extern "C" fn entries_forecast_fresh(
         forecast,
         done,
         sent,
-    );
-    answer_number(a)
+    };
+    refusals::number(forecast::fresh_forecast(&tables, &mut state))
 }
 
 // One step request of a forecast: 0, or the number of the refusal.
@@ -99,7 +92,7 @@ pub extern "C" fn entries_forecast_step(
         (forecast_lent boxes grocers offers lines offer_owner grocer_owner line_grocer line_offer line_box line_rate line_value)
         (state_before known value_transit part part_transit held forecast done sent) (asked kind first second)) }
 {
-    let a = forecast::forecast_step(
+    let tables = Forecast {
         boxes,
         grocers,
         offers,
@@ -111,6 +104,8 @@ pub extern "C" fn entries_forecast_step(
         line_box,
         line_rate,
         line_value,
+    };
+    let mut state = State {
         known,
         value_transit,
         part,
@@ -119,9 +114,11 @@ pub extern "C" fn entries_forecast_step(
         forecast,
         done,
         sent,
+    };
+    let request = Step {
         kind,
         first,
         second,
-    );
-    answer_number(a)
+    };
+    refusals::number(forecast::forecast_step(&tables, &mut state, request))
 }

@@ -26,17 +26,24 @@ ghost use Rattle.test_calls.specs.EntryEdits.{report_told, report_as, edit_told,
 
 pub mod forecasts;
 
-use desk::Tally;
-use slices::{i32_at, u16_at};
-use writer::Answer;
+use book::BookSizes;
+use desk::FEW;
+use file_blocks::codes::CODE_BYTES;
+use file_blocks::plan::Head;
+use late::Edited;
+use late_checks::judge::Tally;
+use refusals::Refusal;
+use slices::limits::BOXES;
+use slices::sizes::Sizes;
+use tables::{Job, State};
 
 // The writer's answer as one number.
-fn number(a: Answer) -> usize
-    ensures { result ≡ write_number (answer_of a) }
+fn number(answer: Result<usize, Refusal>) -> usize
+    ensures { result ≡ write_number (answer_of answer) }
 {
-    match a {
-        Answer::Wrote(n) => n,
-        Answer::Refused(n) => n as usize,
+    match answer {
+        Ok(length) => length,
+        Err(refusal) => refusal.number() as usize,
     }
 }
 
@@ -67,13 +74,17 @@ pub extern "C" fn entries_write(
         offer_owner offer_code offer_issuer grocer_owner tally_grocer tally_box tally_code tally_count tally_issuer tally_bag
         tally_revision) out.old) }
 {
-    let a = writer::write(
-        boxes,
-        grocers,
-        offers,
-        tallies,
-        cycle,
-        lists,
+    let tables = writer_checks::Tables {
+        head: Head {
+            sizes: Sizes {
+                boxes,
+                grocers,
+                offers,
+                tallies,
+                lists,
+            },
+            cycle,
+        },
         price,
         offer_owner,
         offer_code,
@@ -86,9 +97,8 @@ pub extern "C" fn entries_write(
         tally_issuer,
         tally_bag,
         tally_revision,
-        out,
-    );
-    number(a)
+    };
+    number(writer::write(&tables, out))
 }
 
 // Record i of those whose fields are lent apart.
@@ -100,19 +110,19 @@ fn tally(
     tally_bag: &[u16],
     tally_revision: &[u16],
     i: usize,
-) -> Tally
+) -> desk::Tally
     requires { Fields (i + 1) tally_grocer.now tally_box.now tally_offer.now tally_count.now tally_bag.now
         tally_revision.now }
     ensures { result ≡ lent_tally tally_grocer.now tally_box.now tally_offer.now
         tally_count.now tally_bag.now tally_revision.now i }
 {
-    Tally {
-        grocer: u16_at(tally_grocer, i),
-        tally_box: u16_at(tally_box, i),
-        place: u16_at(tally_offer, i),
-        count: i32_at(tally_count, i),
-        bag: u16_at(tally_bag, i),
-        revision: u16_at(tally_revision, i),
+    desk::Tally {
+        grocer: tally_grocer[i],
+        tally_box: tally_box[i],
+        place: tally_offer[i],
+        count: tally_count[i],
+        bag: tally_bag[i],
+        revision: tally_revision[i],
     }
 }
 
@@ -120,10 +130,7 @@ fn tally(
 fn shown(n: usize) -> usize
     ensures { (result ≤ n) × ((result ≤ 1024) × (result < n → 1000 < result)) }
 {
-    if n > 1024 {
-        return 1024;
-    }
-    n
+    n.min(FEW)
 }
 
 // The list of the first n records whose fields are lent apart.
@@ -135,13 +142,13 @@ fn records(
     tally_bag: &[u16],
     tally_revision: &[u16],
     n: usize,
-) -> [Tally; 1024]
+) -> [desk::Tally; FEW]
     requires n_bound { n ≤ 1024 }
     requires fields { Fields n tally_grocer.now tally_box.now tally_offer.now tally_count.now tally_bag.now tally_revision.now }
     ensures { records_of (take n result) ≡ lent_records n tally_grocer.now tally_box.now tally_offer.now
         tally_count.now tally_bag.now tally_revision.now }
 {
-    let none = Tally {
+    let none = desk::Tally {
         grocer: 0,
         tally_box: 0,
         place: 0,
@@ -149,7 +156,7 @@ fn records(
         bag: 0,
         revision: 0,
     };
-    let mut list = [none; 1024];
+    let mut list = [none; FEW];
     for i in 0..n {
         let t = tally(
             tally_grocer,
@@ -166,16 +173,16 @@ fn records(
 }
 
 // The answer as a number; an amount is put into the lent word.
-fn tell(a: desk::Answer, owed: &mut [i64]) -> u16
+fn tell(answer: Result<i64, Refusal>, owed: &mut [i64]) -> u16
     requires { 1 ≤ length owed.old }
-    ensures { told result owed.new ≡ told_as (desk_answer_of a) owed.old }
+    ensures { told result owed.new ≡ told_as (desk_answer_of answer) owed.old }
 {
-    match a {
-        desk::Answer::Owed(z) => {
-            owed[0] = z;
+    match answer {
+        Ok(amount) => {
+            owed[0] = amount;
             0
         }
-        desk::Answer::Refused(n) => n,
+        Err(refusal) => refusal.number(),
     }
 }
 
@@ -205,7 +212,7 @@ pub extern "C" fn entries_reconcile(
         | (tally_bag.len() < n)
         | (tally_revision.len() < n);
     if few | (owed.len() < 1) {
-        return 20;
+        return Refusal::LentShort.number();
     }
     let k = shown(n);
     let list = records(
@@ -217,12 +224,12 @@ pub extern "C" fn entries_reconcile(
         tally_revision,
         k,
     );
-    let a = desk::reconcile_few(list, k, price, grocers, offers, wanted);
-    tell(a, owed)
+    let answer = desk::reconcile_few(list, k, price, grocers, offers, wanted);
+    tell(answer, owed)
 }
 
 // A table of 16 rows of 16 counts, put in front of a lent buffer row by row.
-fn lay(table: [[u16; 16]; 16], out: &mut [u16])
+fn lay(table: [[u16; BOXES]; BOXES], out: &mut [u16])
     requires { 256 ≤ length out.old }
     ensures { out.new ≡ recell 16 16 (cell_at table) out.old }
 {
@@ -235,26 +242,26 @@ fn lay(table: [[u16; 16]; 16], out: &mut [u16])
 
 // The answer as a number; both tables and the words of the job are put into the lent buffers.
 fn tell_messages(
-    a: message_tables::Answer,
-    made_prices: [[u16; 16]; 16],
-    made_totals: [[u16; 16]; 16],
+    answer: Result<u32, Refusal>,
+    made_prices: [[u16; BOXES]; BOXES],
+    made_totals: [[u16; BOXES]; BOXES],
     price_words: &mut [u16],
     total_words: &mut [u16],
     job_words: &mut [u32],
 ) -> u16
     requires { (256 ≤ length price_words.old) × (256 ≤ length total_words.old) × (1 ≤ length job_words.old) }
     ensures { messages_told result price_words.new total_words.new job_words.new
-        ≡ messages_as (tables_given (said_messages a) made_prices made_totals) price_words.old total_words.old
+        ≡ messages_as (tables_given (said_messages answer) made_prices made_totals) price_words.old total_words.old
         job_words.old }
 {
-    match a {
-        message_tables::Answer::Made(words) => {
+    match answer {
+        Ok(words) => {
             lay(made_prices, price_words);
             lay(made_totals, total_words);
             job_words[0] = words;
             0
         }
-        message_tables::Answer::Refused(n) => n,
+        Err(refusal) => refusal.number(),
     }
 }
 
@@ -287,17 +294,19 @@ pub extern "C" fn entries_message_tables(
         price_words.old total_words.old job_words.old }
 {
     if (price_words.len() < 256) | (total_words.len() < 256) | (job_words.len() < 1) {
-        return 20;
+        return Refusal::LentShort.number();
     }
-    let none = [0u16; 16];
-    let mut prices = [none; 16];
-    let mut totals = [none; 16];
-    let a = message_tables::message_tables(
-        boxes,
-        grocers,
-        offers,
-        tallies,
-        lists,
+    let none = [0u16; BOXES];
+    let mut prices = [none; BOXES];
+    let mut totals = [none; BOXES];
+    let job = Job {
+        sizes: Sizes {
+            boxes,
+            grocers,
+            offers,
+            tallies,
+            lists,
+        },
         price,
         offer_owner,
         grocer_owner,
@@ -307,29 +316,23 @@ pub extern "C" fn entries_message_tables(
         tally_count,
         tally_bag,
         tally_revision,
-        &mut prices,
-        &mut totals,
-    );
-    tell_messages(a, prices, totals, price_words, total_words, job_words)
+    };
+    let answer = message_tables::message_tables(&job, &mut prices, &mut totals);
+    tell_messages(answer, prices, totals, price_words, total_words, job_words)
 }
 
 // The answer as a number; the numbers of local offers, local grocers and tallies are put into the lent buffer.
-fn tell_numbers(a: book::Answer, numbers: &mut [u16]) -> u16
+fn tell_numbers(answer: Result<BookSizes, Refusal>, numbers: &mut [u16]) -> u16
     requires { 3 ≤ length numbers.old }
-    ensures { numbers_told result numbers.new ≡ numbers_as (said_book a) numbers.old }
+    ensures { numbers_told result numbers.new ≡ numbers_as (said_book answer) numbers.old }
 {
-    match a {
-        book::Answer::Book {
-            offers,
-            grocers,
-            tallies,
-        } => {
-            numbers[0] = offers;
-            numbers[1] = grocers;
-            numbers[2] = tallies;
+    match answer {
+        Ok(sizes) => {
+            let told = [sizes.offers, sizes.grocers, sizes.tallies];
+            numbers[..3].copy_from_slice(&told);
             0
         }
-        book::Answer::Refused(n) => n,
+        Err(refusal) => refusal.number(),
     }
 }
 
@@ -364,14 +367,16 @@ pub extern "C" fn entries_book(
         book_box (book_before local_offers local_grocers starts packed_grocers packed_counts) numbers.old }
 {
     if numbers.len() < 3 {
-        return 20;
+        return Refusal::LentShort.number();
     }
-    let a = book::book(
-        boxes,
-        grocers,
-        offers,
-        tallies,
-        lists,
+    let job = Job {
+        sizes: Sizes {
+            boxes,
+            grocers,
+            offers,
+            tallies,
+            lists,
+        },
         price,
         offer_owner,
         grocer_owner,
@@ -381,6 +386,9 @@ pub extern "C" fn entries_book(
         tally_count,
         tally_bag,
         tally_revision,
+    };
+    let answer = book::book(
+        &job,
         book_box,
         local_offers,
         local_grocers,
@@ -388,16 +396,16 @@ pub extern "C" fn entries_book(
         packed_grocers,
         packed_counts,
     );
-    tell_numbers(a, numbers)
+    tell_numbers(answer, numbers)
 }
 
 // The trial's answer as one number: its rounds above all refusals.
-fn rounds_number(a: trial::Answer) -> u64
-    ensures { result ≡ rounds_number (trial_answer_of a) }
+fn rounds_number(answer: Result<u32, Refusal>) -> u64
+    ensures { result ≡ rounds_number (trial_answer_of answer) }
 {
-    match a {
-        trial::Answer::Tried { rounds } => 65536 + (rounds as u64),
-        trial::Answer::Refused(n) => n as u64,
+    match answer {
+        Ok(rounds) => 65536 + (rounds as u64),
+        Err(refusal) => refusal.number() as u64,
     }
 }
 
@@ -436,12 +444,14 @@ pub extern "C" fn entries_trial(
         (state_before known price_transit working total_transit statement done sent) preferences.now idle.old
         picked.old) }
 {
-    let a = trial::trial(
-        boxes,
-        grocers,
-        offers,
-        tallies,
-        lists,
+    let job = Job {
+        sizes: Sizes {
+            boxes,
+            grocers,
+            offers,
+            tallies,
+            lists,
+        },
         price,
         offer_owner,
         grocer_owner,
@@ -451,6 +461,8 @@ pub extern "C" fn entries_trial(
         tally_count,
         tally_bag,
         tally_revision,
+    };
+    let mut state = State {
         known,
         price_transit,
         working,
@@ -458,21 +470,8 @@ pub extern "C" fn entries_trial(
         statement,
         done,
         sent,
-        preferences,
-        idle,
-        picked,
-    );
-    rounds_number(a)
-}
-
-// The store's answer as one number.
-fn store_number(a: cycle_store::Answer) -> u16
-    ensures { result ≡ store_number (store_answer_of a) }
-{
-    match a {
-        cycle_store::Answer::Kept => 0,
-        cycle_store::Answer::Refused(n) => n,
-    }
+    };
+    rounds_number(trial::trial(&job, &mut state, preferences, idle, picked))
 }
 
 // A cycle put into the store: 0, or the number of the refusal.
@@ -488,41 +487,37 @@ pub extern "C" fn entries_store_cycle(
     ensures { store_told result (store next.new held.new sums.new)
         ≡ store_as (stored grocers (store next.old held.old sums.old) (given cycle amounts.now)) }
 {
-    let a = cycle_store::store_cycle(grocers, cycle, amounts, next, held, sums);
-    store_number(a)
+    let answer = cycle_store::store_cycle(grocers, cycle, amounts, next, held, sums);
+    refusals::number(answer)
 }
 
 // The eleven bytes of a code that is lent with more.
-fn code_of(code: &[u8]) -> [u8; 11]
+fn code_of(code: &[u8]) -> [u8; CODE_BYTES]
     requires { 11 ≤ length code.now }
     ensures { result ≡ tabulate 11 (from code.now 0) }
 {
-    let mut bytes = [0u8; 11];
-    for i in 0..11 {
-        bytes[i] = code[i];
-    }
+    let mut bytes = [0u8; CODE_BYTES];
+    bytes.copy_from_slice(&code[..CODE_BYTES]);
     bytes
 }
 
 // The answer of an edit as a number; T, words, messages and steps are put in front of the buffer.
-fn tell_edit(a: late::Answer, edited: &mut [u32]) -> u16
-    requires { 4 ≤ length edited.old }
-    ensures { report_told result edited.new ≡ report_as (late_answer_of a) edited.old }
+fn tell_edit(answer: Result<Edited, Refusal>, report: &mut [u32]) -> u16
+    requires { 4 ≤ length report.old }
+    ensures { report_told result report.new ≡ report_as (late_answer_of answer) report.old }
 {
-    match a {
-        late::Answer::Edited {
-            tallies,
-            words,
-            messages,
-            steps,
-        } => {
-            edited[0] = tallies as u32;
-            edited[1] = words;
-            edited[2] = messages;
-            edited[3] = steps;
+    match answer {
+        Ok(edited) => {
+            let told = [
+                edited.tallies as u32,
+                edited.words,
+                edited.messages,
+                edited.steps,
+            ];
+            report[..4].copy_from_slice(&told);
             0
         }
-        late::Answer::Refused(n) => n,
+        Err(refusal) => refusal.number(),
     }
 }
 
@@ -571,15 +566,17 @@ pub extern "C" fn entries_add(
         issuer bag revision edited.old }
 {
     if (code.len() < 11) | (edited.len() < 4) {
-        return 20;
+        return Refusal::LentShort.number();
     }
     let bytes = code_of(code);
-    let a = late::add(
+    let sizes = Sizes {
         boxes,
         grocers,
         offers,
         tallies,
         lists,
+    };
+    let mut tables = late::Tables {
         price,
         offer_owner,
         offer_code,
@@ -593,6 +590,8 @@ pub extern "C" fn entries_add(
         tally_bag,
         tally_revision,
         tally_offer,
+    };
+    let mut state = State {
         known,
         price_transit,
         working,
@@ -600,15 +599,17 @@ pub extern "C" fn entries_add(
         statement,
         done,
         sent,
+    };
+    let x = Tally {
         grocer,
-        box_of,
-        &bytes,
+        holder: box_of,
         count,
         issuer,
         bag,
         revision,
-    );
-    tell_edit(a, edited)
+    };
+    let answer = late::add(sizes, &mut tables, &mut state, x, &bytes);
+    tell_edit(answer, edited)
 }
 
 // A bag, withdrawn: the same.
@@ -649,14 +650,16 @@ pub extern "C" fn entries_withdraw(
         tally_offer) (state_before known price_transit working total_transit statement done sent) place edited.old }
 {
     if edited.len() < 4 {
-        return 20;
+        return Refusal::LentShort.number();
     }
-    let a = late::withdraw(
+    let sizes = Sizes {
         boxes,
         grocers,
         offers,
         tallies,
         lists,
+    };
+    let mut tables = late::Tables {
         price,
         offer_owner,
         offer_code,
@@ -670,6 +673,8 @@ pub extern "C" fn entries_withdraw(
         tally_bag,
         tally_revision,
         tally_offer,
+    };
+    let mut state = State {
         known,
         price_transit,
         working,
@@ -677,7 +682,7 @@ pub extern "C" fn entries_withdraw(
         statement,
         done,
         sent,
-        place,
-    );
-    tell_edit(a, edited)
+    };
+    let answer = late::withdraw(sizes, &mut tables, &mut state, place);
+    tell_edit(answer, edited)
 }

@@ -24,10 +24,8 @@ use Rattle.run_steps.specs.All.{without_marks, AllOut}
 use Rattle.run_order.specs.Order.{MarksFrom}
 use Rattle.run.specs.Run.{Begins}
 use Rattle.trial_rules.specs.Rounds.{is_preference, trial, taken_steps, of_box, idle_rounds, taken_places, trial_state, TrialEnds}
-use Rattle.trial_rules.specs.Trial.{tried, trial_outcome, trial_short, trial_refusals, tried_all, tried_on}
+use Rattle.trial_rules.specs.Trial.{tried, refused, trial_outcome, trial_short, trial_refusals, tried_all, tried_on}
 use Rattle.trial_rounds.specs.Taken.{AllRounds}
-use Rattle.trial.specs.Trial.{answer_of}
-use Rattle.trial.specs.declared.Answer.TheVariants.{Tried, Refused}
 use Rattle.model.proofs.Handed.{handed_evening}
 use Rattle.model.proofs.Step.{evening_range}
 use Rattle.job_masks.proofs.InJob.{some_box}
@@ -76,8 +74,8 @@ module _ (f : JobTables) (t : StateTables) (g : Begins f t) (list : List ℕ) (i
         (without_marks t'.known t'.price_transit t'.working t'.total_transit t'.statement) order n words messages →
         MarksFrom f.boxes t.done done → t'.done ≡ done → t'.sent ≡ set t.sent 0 words →
         (idle idle' : List ℕ) → idle' ≡ overwrite f.boxes (λ b. r - of_box b (steps_in f.boxes n order)) idle → (p p' : List ℕ) → p' ≡ lay_over (take n order) p →
-        trial_outcome (answer_of (Tried r)) t' idle' p' ≡ tried_all (evening_of f) t list idle p
-    unfolding answer_of tried_all trial_state taken_places
+        trial_outcome (tried r) t' idle' p' ≡ tried_all (evening_of f) t list idle p
+    unfolding tried_all trial_state taken_places
     trial_ended packed needs sharers en es t' words messages a m ed es' idle idle' ei p p' ep =
         let tables = tables_done f t g packed needs sharers done order n en es w.so_far (taken_steps (trial (evening_of f) list)) steps_of t' words messages a m ed es' in
         let places = ep ∙ ap (λ (l : List ℕ). lay_over l p)
@@ -88,12 +86,12 @@ module _ (f : JobTables) (t : StateTables) (g : Begins f t) (list : List ℕ) (i
 module _ (f : JobTables) (t : StateTables) (c : Bool) (e : c ≡ state_short (sizes f.boxes f.grocers f.offers f.lists) (state_lengths t)) (list idle p : List ℕ) (x : Bool)
     (ex : x ≡ (ltb (length list) 6 || ltb (length idle) f.boxes)) where
   -- A number that is met is the trial's refusal.
-  said : (n : ℕ) → first_met (trial_refusals f t list idle) ≡ n → (n ≡ 0 → ⊥) → trial_outcome (answer_of (Refused n)) t idle p ≡ tried_on f t list idle p
-  unfolding tried_on answer_of
+  said : (n : ℕ) → first_met (trial_refusals f t list idle) ≡ n → (n ≡ 0 → ⊥) → trial_outcome (refused n) t idle p ≡ tried_on f t list idle p
+  unfolding tried_on
   said n q k = rw (q, ne_eqb n 0 k)
 
   -- Something is short: no word is changed.
-  pub trial_short_lem : (c || x) ≡ true → trial_outcome (answer_of (Refused 20)) t idle p ≡ tried_on f t list idle p
+  pub trial_short_lem : (c || x) ≡ true → trial_outcome (refused 20) t idle p ≡ tried_on f t list idle p
   unfolding trial_refusals first_met trial_short lent_short
   trial_short_lem h = said 20 (rw short) (λ q. omega arith)
     where
@@ -126,7 +124,7 @@ module _ (f : JobTables) (t : StateTables) (c : Bool) (e : c ≡ state_short (si
     abbrev behind : List (Bool × ℕ)
     behind = (totals_short (evening_of f) (state_lengths t), 20) ∷ (not (is_preference list), 33) ∷ []
 
-    pub trial_refused : (n : ℕ) → n ≡ first_met (job_refusals f) → (n ≡ 0 → ⊥) → trial_outcome (answer_of (Refused n)) t idle p ≡ tried_on f t list idle p
+    pub trial_refused : (n : ℕ) → n ≡ first_met (job_refusals f) → (n ≡ 0 → ⊥) → trial_outcome (refused n) t idle p ≡ tried_on f t list idle p
     unfolding trial_refusals job_refusals
     trial_refused n q k =
         said n (rw short_is (met_before (job_short f (job_lengths f) || bags_short f (job_lengths f)) (not (job_in_range f)) (counted_twice (counted_of f)) behind n q k)) k
@@ -141,7 +139,7 @@ module _ (f : JobTables) (t : StateTables) (c : Bool) (e : c ≡ state_short (si
         packed_told : (y : Bool) → y ≡ totals_short (evening_of (handed_tables f standing)) (state_lengths t) → y ≡ totals_short (evening_of f) (state_lengths t)
         packed_told = packed_is f t c e state_long z standing s
 
-        pub trial_packed : (y : Bool) → y ≡ totals_short (evening_of (handed_tables f standing)) (state_lengths t) → y ≡ true → trial_outcome (answer_of (Refused 20)) t idle p ≡ tried_on f t list idle p
+        pub trial_packed : (y : Bool) → y ≡ totals_short (evening_of (handed_tables f standing)) (state_lengths t) → y ≡ true → trial_outcome (refused 20) t idle p ≡ tried_on f t list idle p
         unfolding first_met
         trial_packed y q k = said 20 (behind_is ∙ rw (sym (packed_told y q) ∙ k)) (λ q. omega arith)
 
@@ -149,7 +147,7 @@ module _ (f : JobTables) (t : StateTables) (c : Bool) (e : c ≡ state_short (si
           whole : totals_short (evening_of f) (state_lengths t) ≡ false
           whole = sym (packed_told _ refl) ∙ long
 
-          pub trial_listless : not (is_preference list) ≡ true → trial_outcome (answer_of (Refused 33)) t idle p ≡ tried_on f t list idle p
+          pub trial_listless : not (is_preference list) ≡ true → trial_outcome (refused 33) t idle p ≡ tried_on f t list idle p
           unfolding first_met
           trial_listless k = said 33 (behind_is ∙ rw (whole, k)) (λ q. omega arith)
 

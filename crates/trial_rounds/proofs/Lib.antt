@@ -4,3 +4,4 @@ pub mod Marks
 pub mod Turns
 pub mod All
 pub mod Idle
+pub mod Taken

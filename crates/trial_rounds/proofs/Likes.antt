@@ -14,12 +14,13 @@ use Rattle.laws.proofs.Bools.{split}
 use Rattle.laws.proofs.Below.{any_at, any_none, any_false, all_at, all_find, count_zero, count_at}
 use Rattle.laws.proofs.Masks.{bit_mask, mask_empty}
 use Rattle.laws.proofs.Tables.{cell_in, row_next}
+use Rattle.run_ready.specs.declared.ReadyRows.{ReadyRows}
 use Rattle.run_ready.specs.Rows.{row_of, IsRows}
 use Rattle.trial_rounds.specs.Taken.{Liking, likes, First}
 use Rattle.trial_rules.proofs.Preferences.{find_first, kind_in}
 
 -- Kind i of the preferences, counted from 0, of box a, and the word of its row.
-module _ (k a : ℕ) (list : List ℕ) (w : Liking k list) (la : a < k) (i : ℕ) (li : i < 6) (f : ℕ → Bool) (rows : List ℕ) (h : IsRows k f rows) (r : ℕ) (er : r ≡ row_of k (get_or list i 0) a) where
+module _ (k a : ℕ) (list : List ℕ) (w : Liking k list) (la : a < k) (i : ℕ) (li : i < 6) (f : ℕ → Bool) (rows : ReadyRows) (h : IsRows k f rows) (r : ℕ) (er : r ≡ row_of k (get_or list i 0) a) where
   abbrev kind : ℕ
   kind = get_or list i 0
 
@@ -30,13 +31,13 @@ module _ (k a : ℕ) (list : List ℕ) (w : Liking k list) (la : a < k) (i : ℕ
   abbrev places : ℕ → Bool
   places b = f (row_of k kind a * k + b)
 
-  word_is : get_or rows r 0 ≡ mask_of k places
-  word_is = ap (λ (x : ℕ). get_or rows x 0) er ∙ (h.right (row_of k kind a) row_in).word_is
+  word_is : get_or rows.words r 0 ≡ mask_of k places
+  word_is = ap (λ (x : ℕ). get_or rows.words x 0) er ∙ (h.right (row_of k kind a) row_in).word_is
 
   likes_at : (b : ℕ) → b < k → likes k list f a (i * k + b) ≡ places b
   likes_at b lb = rw (digits_div i lb, digits_mod i lb)
 
-  bit_is : (b : ℕ) → b < k → bit b (get_or rows r 0) ≡ places b
+  bit_is : (b : ℕ) → b < k → bit b (get_or rows.words r 0) ≡ places b
   bit_is b lb = rw word_is (bit_mask k b places lb)
 
   -- A place before row i is passed, and one behind it is one of the row.
@@ -49,7 +50,7 @@ module _ (k a : ℕ) (list : List ℕ) (w : Liking k list) (la : a < k) (i : ℕ
       rw same at (row (x - i * k) (omega arith)))
 
   -- The row is empty: none of this kind is liked either.
-  pub none_more : any (i * k) (likes k list f a) ≡ false → get_or rows r 0 ≡ 0 → any ((i + 1) * k) (likes k list f a) ≡ false
+  pub none_more : any (i * k) (likes k list f a) ≡ false → get_or rows.words r 0 ≡ 0 → any ((i + 1) * k) (likes k list f a) ≡ false
   none_more e z = any_false ((i + 1) * k) (likes k list f a) (λ x l. before e k x (omega (arith, l, row_next i k)) (λ b lb. likes_at b lb ∙ off b lb))
     where
       empty : all k (λ b. not (places b)) ≡ true
@@ -59,20 +60,20 @@ module _ (k a : ℕ) (list : List ℕ) (w : Liking k list) (la : a < k) (i : ℕ
       off b lb = not-true (places b) (all_at k (λ b. not (places b)) b lb empty)
 
   -- It is not: it has a bit.
-  pub word_some : (get_or rows r 0 ≡ 0 → ⊥) → 0 < count k (λ b. bit b (get_or rows r 0))
+  pub word_some : (get_or rows.words r 0 ≡ 0 → ⊥) → 0 < count k (λ b. bit b (get_or rows.words r 0))
   word_some ne =
       let (b, lb, e) = all_find k (λ b. not (places b)) (sym (mask_empty k places) ∙ ne_eqb (mask_of k places) 0 (λ z. ne (word_is ∙ z))) in
-      count_at k (λ b. bit b (get_or rows r 0)) b lb (bit_is b lb ∙ not-false (places b) e)
+      count_at k (λ b. bit b (get_or rows.words r 0)) b lb (bit_is b lb ∙ not-false (places b) e)
 
   -- The first bit is the step that the box likes best.
-  module _ (e : any (i * k) (likes k list f a) ≡ false) (b : ℕ) (lb : b < k) (on : bit b (get_or rows r 0) ≡ true) (none : count b (λ x. bit x (get_or rows r 0)) ≡ 0) where
+  module _ (e : any (i * k) (likes k list f a) ≡ false) (b : ℕ) (lb : b < k) (on : bit b (get_or rows.words r 0) ≡ true) (none : count b (λ x. bit x (get_or rows.words r 0)) ≡ 0) where
     liked : likes k list f a (i * k + b) ≡ true
     liked = likes_at b lb ∙ sym (bit_is b lb) ∙ on
 
     at_first : find (6 * k) (likes k list f a) ≡ i * k + b
     at_first =
         find_first (6 * k) (likes k list f a) (i * k + b) (cell_in i 6 k b li lb) liked
-        (λ x l. before e b x l (λ y ly. likes_at y (omega arith) ∙ sym (bit_is y (omega arith)) ∙ count_zero b (λ x. bit x (get_or rows r 0)) y ly none))
+        (λ x l. before e b x l (λ y ly. likes_at y (omega arith) ∙ sym (bit_is y (omega arith)) ∙ count_zero b (λ x. bit x (get_or rows.words r 0)) y ly none))
 
     pub first_liked : First k list f a kind a b
     first_liked = record {

@@ -1,23 +1,23 @@
 -- The step that a box takes in its turn is the one that the rules of a trial say, of every job with these words. Assumes nothing.
-use mathlib.Core.Path.{◌≡◌, sym, ap, ◌∙◌, subst}
-use mathlib.Core.Bool.{Bool, true}
+use mathlib.Core.Path.{◌≡◌, refl, sym, ap, ◌∙◌, subst}
+use Rattle.std.specs.Prelude.{Option, Some, None}
+use mathlib.Core.Bool.{Bool, true, false}
 use mathlib.Core.List.{List, [], ◌∷◌, append-nil, append_assoc}
-use Prim.Native.Nat.{ℕ, ◌+◌, ◌*◌, ◌/◌, ◌%◌, ◌≤◌, ◌<◌}
+use Prim.Native.Nat.{ℕ, ◌+◌, ◌*◌, ◌/◌, ◌%◌, ◌<◌}
 use native.Mathlib.Omega.{arith}
 use native.Mathlib.Nat.{mod-lt, div-lt_iff_lt-mul}
-use lib.Dec.{eqb}
 use lib.ListN.{get_or, set}
-use borrow.Author.Tests.{eqb-true, eqb-false}
-use Rattle.laws.proofs.Bools.{split}
 use Rattle.laws.specs.Below.{any}
 use Rattle.laws.proofs.Below.{any_cong, find_cong}
 use Rattle.model.specs.Job.{Job}
 use Rattle.model.specs.Steps.{kind_of, Steps, Step, step_at, permitted}
 use Rattle.model.specs.Tables.{steps_done}
+use Rattle.step_places.specs.declared.Step.{Step as Numbered}
 use Rattle.step_places.specs.Marks.{marked}
 use Rattle.step_places.specs.Order.{steps_in, mark_all, no_steps}
 use Rattle.step_places.specs.Places.{here}
 use Rattle.step_rules.specs.Rules.{ReceiversOf, WaitsOf}
+use Rattle.run_ready.specs.declared.ReadyRows.{ReadyRows}
 use Rattle.run_ready.specs.Walk.{listed_by}
 use Rattle.run_order.specs.Order.{OfJob, SoFar}
 use Rattle.trial_rules.specs.Rounds.{preferred, has_ready, acts, choice, round}
@@ -61,8 +61,7 @@ module _ (j : Job) (receivers : List ℕ) (waits : List (List ℕ)) (hr : Receiv
       rw (← (find_cong (6 * j.boxes) (liked a) (has_ready j list d₀ a) (likes_is a la)), g.kind_is, g.second_is)
 
   -- The turn of box a.
-  module _ (order₀ : List ℕ) (n₀ : ℕ) (p₀ : SoFar j done₀ order₀ n₀) (a : ℕ) (la : a < j.boxes) (done order : List ℕ) (n : ℕ) (p : RoundPart j list done₀ order₀ n₀ a done order n) (kind first second : ℕ)
-      (g : Best j.boxes list (listed_by j.boxes receivers waits done₀) a kind first second) where
+  module _ (order₀ : List ℕ) (n₀ : ℕ) (p₀ : SoFar j done₀ order₀ n₀) (a : ℕ) (la : a < j.boxes) (done order : List ℕ) (n : ℕ) (p : RoundPart j list done₀ order₀ n₀ a done order n) where
     abbrev d : Steps
     d = steps_done j.boxes done
 
@@ -73,10 +72,7 @@ module _ (j : Job) (receivers : List ℕ) (waits : List (List ℕ)) (hr : Receiv
         ∙ mark_append no_steps (steps_in j.boxes n₀ order₀) (round j list d₀ a)
         ∙ ap (λ (u : Steps). mark_all u (round j list d₀ a)) (sym p₀.marks_are)
 
-    module _ (some : 1 ≤ kind) where
-      it : First j.boxes list (listed_by j.boxes receivers waits done₀) a kind first second
-      it = g.some some
-
+    module _ (kind first second : ℕ) (it : First j.boxes list (listed_by j.boxes receivers waits done₀) a kind first second) where
       abbrev x : Step
       x = step_at j.boxes (here j.boxes kind a second)
 
@@ -121,8 +117,8 @@ module _ (j : Job) (receivers : List ℕ) (waits : List (List ℕ)) (hr : Receiv
                 ∙ rw (p.steps, round_yes j list d₀ a acts_now, choice_here) (append_assoc (steps_in j.boxes n₀ order₀) (round j list d₀ a) (x ∷ []));
           }
 
-    not_taken : kind ≡ 0 → RoundPart j list done₀ order₀ n₀ (a + 1) done order n
-    not_taken z = record { so_far = p.so_far; steps = rw (round_no j list d₀ a (sym (acts_is a la) ∙ g.none z)) p.steps }
+    not_taken : any (6 * j.boxes) (liked a) ≡ false → RoundPart j list done₀ order₀ n₀ (a + 1) done order n
+    not_taken none = record { so_far = p.so_far; steps = rw (round_no j list d₀ a (sym (acts_is a la) ∙ none)) p.steps }
 
 -- A round begins.
 pub part_none : (j : Job) (list done order : List ℕ) (n : ℕ) → SoFar j done order n → RoundPart j list done order n 0 done order n
@@ -135,26 +131,22 @@ part_end j list done order n i m done' order' n' e p = subst (λ (x : ℕ). Roun
 
 -- The same, for k boxes.
 module _ (k : ℕ) (receivers : List ℕ) (waits : List (List ℕ)) (list : List ℕ) (w : Liking k list) (j : Job) (o : OfJob k receivers waits j) (done₀ order₀ : List ℕ) (n₀ : ℕ) (p₀ : SoFar j done₀ order₀ n₀)
-    (a : ℕ) (la : a < k) (done order : List ℕ) (n : ℕ) (p : RoundPart j list done₀ order₀ n₀ a done order n) (kind first second : ℕ) (g : Best k list (listed_by k receivers waits done₀) a kind first second) where
-  first_of : 1 ≤ kind → first ≡ a
-  first_of some = (g.some some).first_is
-
+    (a : ℕ) (la : a < k) (done order : List ℕ) (n : ℕ) (p : RoundPart j list done₀ order₀ n₀ a done order n) where
   -- The step that the box takes is one that may be taken,
-  pub may_of : 1 ≤ kind → Ready k kind first second receivers waits n done
-  may_of some =
-      rw (first_of some, ← o.boxes_are)
-      (may_take j receivers waits o.receivers_are o.waits_are list (rw o.boxes_are w) done₀ order₀ n₀ p₀ a (rw o.boxes_are la) done order n p kind first second (rw o.boxes_are g) some)
+  pub may_of : (s : Option Numbered) → Best k list (listed_by k receivers waits done₀) a s → (q : Numbered) → s ≡ Some q → Ready k q.kind q.first q.second receivers waits n done
+  may_of s g q e =
+      let it : First k list (listed_by k receivers waits done₀) a q.kind q.first q.second = subst (Best k list (listed_by k receivers waits done₀) a) e g in
+      rw (it.first_is, ← o.boxes_are)
+      (may_take j receivers waits o.receivers_are o.waits_are list (rw o.boxes_are w) done₀ order₀ n₀ p₀ a (rw o.boxes_are la) done order n p q.kind q.first q.second (rw o.boxes_are it))
 
   -- and once it is, the next box has its turn.
-  pub turn_of : (done' rows' order' : List ℕ) (n' : ℕ) → Acted k kind first second receivers waits n done order done' rows' order' n' → RoundPart j list done₀ order₀ n₀ (a + 1) done' order' n'
-  turn_of done' rows' order' n' t =
-      split (eqb kind 0)
-      (λ e. let z = eqb-true kind 0 e in
-      let (ed, eo, en) = t.none z in
-      rw (ed, eo, en) (not_taken j receivers waits o.receivers_are o.waits_are list (rw o.boxes_are w) done₀ order₀ n₀ p₀ a (rw o.boxes_are la) done order n p kind first second (rw o.boxes_are g) z))
-      (λ e. let ne : kind ≡ 0 → ⊥ = eqb-false kind 0 e in
-      let some : 1 ≤ kind = omega arith in
-      let (ed, eo, en) = t.some some in
+  pub turn_of : (s : Option Numbered) → Best k list (listed_by k receivers waits done₀) a s → (done' : List ℕ) (rows' : ReadyRows) (order' : List ℕ) (n' : ℕ) →
+      Acted k s receivers waits n done order done' rows' order' n' → RoundPart j list done₀ order₀ n₀ (a + 1) done' order' n'
+  turn_of None g done' rows' order' n' t =
+      let (ed, eo, en) = t.none refl in
+      rw (ed, eo, en) (not_taken j receivers waits o.receivers_are o.waits_are list (rw o.boxes_are w) done₀ order₀ n₀ p₀ a (rw o.boxes_are la) done order n p (rw o.boxes_are g))
+  turn_of (Some q) g done' rows' order' n' t =
+      let (ed, eo, en) = t.some q refl in
       rw en
-      (taken j receivers waits o.receivers_are o.waits_are list (rw o.boxes_are w) done₀ order₀ n₀ p₀ a (rw o.boxes_are la) done order n p kind first second (rw o.boxes_are g) some done' order'
-      (rw o.boxes_are (rw (first_of some) at ed)) (rw o.boxes_are (rw (first_of some) at eo))))
+      (taken j receivers waits o.receivers_are o.waits_are list (rw o.boxes_are w) done₀ order₀ n₀ p₀ a (rw o.boxes_are la) done order n p q.kind q.first q.second (rw o.boxes_are g) done' order'
+      (rw o.boxes_are (rw g.first_is at ed)) (rw o.boxes_are (rw g.first_is at eo)))

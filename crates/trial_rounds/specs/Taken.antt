@@ -1,6 +1,8 @@
 -- Rounds told from the steps done alone, and what taking them requires and leaves.
-use Rattle.std.specs.Prelude.{◌≡◌, Bool, true, false, cond, List, [], ◌∷◌, ◌++◌, ℕ, zero, suc, ◌+◌, ◌-◌, ◌*◌, ◌/◌, ◌%◌, ◌≤◌, ◌<◌, eqb, length, get_or, set}
+use Rattle.std.specs.Prelude.{◌≡◌, Bool, true, false, cond, List, [], ◌∷◌, ◌++◌, ℕ, zero, suc, ◌+◌, ◌-◌, ◌*◌, ◌/◌, ◌%◌, ◌≤◌, ◌<◌, eqb}
+use Rattle.std.specs.Prelude.{length, get_or, set, Option, Some, None}
 use Rattle.laws.specs.Below.{any, find}
+use Rattle.step_places.specs.declared.Step.{Step as Numbered}
 use Rattle.model.specs.Job.{Job}
 use Rattle.model.specs.Steps.{Steps, Step, kind_of}
 use Rattle.model.specs.Words.{step_count}
@@ -11,6 +13,7 @@ use Rattle.step_places.specs.Order.{steps_in, mark_all, no_steps}
 use Rattle.step_places.specs.Places.{PlaceIn, here}
 use Rattle.step_rules.specs.Rules.{permitted_by}
 use Rattle.run_ready.specs.Walk.{listed_by}
+use Rattle.run_ready.specs.declared.ReadyRows.{ReadyRows}
 use Rattle.run_ready.specs.Rows.{IsRows}
 use Rattle.run_order.specs.Order.{MarksFrom, SoFar}
 use Rattle.trial_rules.specs.Rounds.{is_preference, round, taken_steps}
@@ -34,10 +37,10 @@ pub record First (k : ℕ) (list : List ℕ) (f : ℕ → Bool) (a kind first se
   pub kind_is : get_or list (find (6 * k) (likes k list f a) / k) 0 ≡ kind
   pub second_is : find (6 * k) (likes k list f a) % k ≡ second
 
--- The step that box a takes of those that f tells: the first that it likes, or kind 0 where there is none.
-pub record Best (k : ℕ) (list : List ℕ) (f : ℕ → Bool) (a kind first second : ℕ) : Type 0 where
-  pub none : kind ≡ 0 → any (6 * k) (likes k list f a) ≡ false
-  pub some : 1 ≤ kind → First k list f a kind first second
+-- The step that box a takes of those that f tells: the first that it likes, or none.
+abbrev pub Best : (k : ℕ) (list : List ℕ) (f : ℕ → Bool) (a : ℕ) → Option Numbered → Type 0
+Best k list f a None = any (6 * k) (likes k list f a) ≡ false
+Best k list f a (Some p) = First k list f a p.kind p.first p.second
 
 -- A step that may be taken: a place that is ready, and room for it in the order.
 pub record Ready (k kind a b : ℕ) (receivers : List ℕ) (waits : List (List ℕ)) (n : ℕ) (done : List ℕ) : Type 0 where
@@ -45,18 +48,20 @@ pub record Ready (k kind a b : ℕ) (receivers : List ℕ) (waits : List (List �
   pub is_open : permitted_by receivers waits (steps_done k done) (kind_of kind) a b ≡ true
   pub room : n < 1536
 
--- What taking a step requires, where its kind is not 0.
-pub record ActIn (k kind a b : ℕ) (receivers : List ℕ) (waits : List (List ℕ)) (n : ℕ) (done rows : List ℕ) : Type 0 where
+-- What taking a step requires, where there is one.
+pub record ActIn (k : ℕ) (s : Option Numbered) (receivers : List ℕ) (waits : List (List ℕ)) (n : ℕ) (done : List ℕ) (rows : ReadyRows) : Type 0 where
   pub marks_from : MarksFrom k done done
   pub rows_are : IsRows k (listed_by k receivers waits done) rows
-  pub may : 1 ≤ kind → Ready k kind a b receivers waits n done
+  pub may : (p : Numbered) → s ≡ Some p → Ready k p.kind p.first p.second receivers waits n done
 
--- What it leaves: the step is marked and is word n of the order; kind 0 changes nothing.
-pub record Acted (k kind a b : ℕ) (receivers : List ℕ) (waits : List (List ℕ)) (n : ℕ) (done order done' rows' order' : List ℕ) (n' : ℕ) : Type 0 where
+-- What it leaves: the step is marked and is word n of the order; no step changes nothing.
+pub record Acted (k : ℕ) (s : Option Numbered) (receivers : List ℕ) (waits : List (List ℕ)) (n : ℕ) (done order done' : List ℕ) (rows' : ReadyRows)
+    (order' : List ℕ) (n' : ℕ) : Type 0 where
   pub marks_from : MarksFrom k done done'
   pub rows_are : IsRows k (listed_by k receivers waits done') rows'
-  pub none : kind ≡ 0 → (done' ≡ done) × (order' ≡ order) × (n' ≡ n)
-  pub some : 1 ≤ kind → (done' ≡ marked k (kind_of kind) a b done) × (order' ≡ set order n (here k kind a b)) × (n' ≡ n + 1)
+  pub none : s ≡ None → (done' ≡ done) × (order' ≡ order) × (n' ≡ n)
+  pub some : (p : Numbered) → s ≡ Some p →
+      (done' ≡ marked k (kind_of p.kind) p.first p.second done) × (order' ≡ set order n (here k p.kind p.first p.second)) × (n' ≡ n + 1)
 
 -- The first a boxes have had their turn in a round that began with done, order and n.
 pub record RoundPart (j : Job) (list done order : List ℕ) (n a : ℕ) (done' order' : List ℕ) (n' : ℕ) : Type 0 where

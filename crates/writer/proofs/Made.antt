@@ -1,7 +1,7 @@
 -- Each kind of block as it is made: its head and its records are put, and it is closed. Assumes nothing.
 use mathlib.Core.Path.{◌≡◌, refl, sym, ap, ◌∙◌}
 use mathlib.Core.List.{List, [], ◌∷◌, ◌++◌}
-use Prim.Native.Nat.{ℕ, ◌+◌, ◌-◌, ◌*◌, ◌/◌, ◌%◌, ◌≤◌, ◌<◌, min}
+use Prim.Native.Nat.{ℕ, ◌+◌, ◌-◌, ◌*◌, ◌/◌, ◌%◌, ◌≤◌, min}
 use native.Mathlib.Omega.{arith}
 use lib.ListN.{length, get_or, set, get_or-append, get_or-eq_default}
 use lib.Seq.{get_or-append-add}
@@ -40,10 +40,6 @@ header_made x d d₁ d₂ d₃ eleven room e₁ e₂ e₃ =
   where
     f : ℕ → ℕ
     f = body_of (0 ∷ 1 ∷ bytes16 0) 504 1 (λ _. bytes_of x)
-
--- The records of a block are among the n.
-pub part_in : (n b c : ℕ) → 21 * b < n → c ≡ min 21 (n - 21 * b) → 21 * b + c ≤ n
-part_in n b c h e = omega (arith, h, e)
 
 -- A block of records of 24 bytes.
 pub records_made : (kind first n b c : ℕ) (fields : ℕ → List ℕ) (d d₁ d₂ d₃ : List ℕ) → c ≡ min 21 (n - 21 * b) → 512 * (first + b) + 512 ≤ length d →

@@ -66,11 +66,6 @@ module _ (p w : ℕ) (g : ℕ → ℕ) (s : ℕ) where
 
 -- ---- a tally
 
--- Three words that are the same make the same bytes.
-pub words_same : (at : ℕ) (d : List ℕ) {s s' a a' r r' : ℕ} → s ≡ s' → a ≡ a' → r ≡ r' →
-    put at 6 (bytes_of (bytes16 s ++ bytes16 a ++ bytes16 r)) d ≡ put at 6 (bytes_of (bytes16 s' ++ bytes16 a' ++ bytes16 r')) d
-words_same at d p q e = rw (p, q, e)
-
 module _ (m b : ℕ) (g : ℕ → ℕ) (z : ℤ) (s a r : ℕ) where
   abbrev tally : Tally
   tally = record { grocer = m; box = b; code = read_code g; count = z; issuer = s; bag = a; revision = r }

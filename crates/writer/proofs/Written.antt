@@ -17,7 +17,7 @@ use Rattle.format.specs.Blocks.{BlockKind, header, offer_block, grocer_block, pr
 use Rattle.format.specs.Blocks.{tallies_at, kind_at, block_kind_number, records, record_size, header_bytes, offer_bytes, tally_bytes, record_bytes}
 use Rattle.format.specs.File.{body_byte, block_byte, encode}
 use Rattle.format.specs.Refusals.{job_refusal}
-use Rattle.format.specs.Tables.{OfferTables, FileTables, LongOffers, offer_of, tally_of, file_job_of, wrote, not_written, short_tables, short_writer, write_refusal, write_result}
+use Rattle.format.specs.Tables.{FileTables, offer_of, tally_of, file_job_of, wrote, not_written, short_tables, short_writer, write_refusal, write_result}
 use Rattle.writer_bytes.specs.Puts.{put, bytes_of}
 use Rattle.writer.specs.Bodies.{body_of, record_body, list_body, blocks_of}
 use Rattle.writer.specs.Ready.{Ready}
@@ -86,10 +86,6 @@ module _ (h : Head) (l : FileTables) where
       let q₃ : d₃ ≡ put 0 (512 * prices_at h) (blocks_of body) d = e₃ ∙ ap (put (512 * grocers_at h) 512 _) q₂ ∙ block_behind body _ (grocers_at h) d (omega arith) grocer_body in
       let q₄ : d₄ ≡ put 0 (512 * tallies_at h) (blocks_of body) d = e₄ ∙ ap (put (512 * prices_at h) (prices * 512) _) q₃ ∙ blocks_behind body _ (prices_at h) prices d (omega arith) price_body_lem in
       e₅ ∙ ap (put (512 * tallies_at h) (blocks_for h.tallies * 512) _) q₄ ∙ blocks_behind body _ (tallies_at h) (blocks_for h.tallies) d (omega arith) (λ b p q. tally_body b p) ∙ file_front d
-
--- Tables that are long enough for all lists are so for the first.
-pub first_long : (q n : ℕ) (l : OfferTables) → LongOffers q n l → LongOffers 0 n l
-first_long q n l h = record { price = omega (arith, h.price); owner = h.owner; code = h.code; issuer = h.issuer }
 
 -- ---- where nothing is refused
 

@@ -1,19 +1,20 @@
 // Blocks put into the buffer for the file: head, records, zeros and both sums.
-ghost use Rattle.std.specs.Prelude.{◌≡◌, [], ◌∷◌, ◌+◌, ◌-◌, ◌*◌, ◌≤◌, ◌<◌, min, length, get_or};
+ghost use Rattle.std.specs.Prelude.{◌≡◌, [], ◌∷◌, ◌+◌, ◌*◌, ◌≤◌, ◌<◌, length, get_or};
 ghost use Rattle.format.specs.Bytes.{from, bytes16};
 ghost use Rattle.format.specs.Blocks.{header_bytes, offer_bytes, tally_bytes};
 ghost use Rattle.format.specs.File.{block_byte};
-ghost use Rattle.format.specs.Tables.{offer_tables, tally_tables, LongOffers, LongTallies, offer_of, tally_of};
-ghost use Rattle.format.specs.Lent.{offers_lent, tallies_lent};
+ghost use Rattle.format.specs.Tables.{LongOffers, LongTallies, offer_of, tally_of};
+ghost use Rattle.writer_checks.specs.Held.{offers_held, tallies_held};
 ghost use Rattle.file_blocks.specs.Due.{as_head, Most};
 ghost use Rattle.writer_bytes.specs.Puts.{put, bytes_of};
 ghost use Rattle.writer.specs.Bodies.{body_of, keep_of, record_body, price_body, Small};
 
 use crate::records::{put_offers, put_owners, put_prices, put_tallies};
+use file_blocks::kinds::BlockKind;
 use file_blocks::plan::Head;
 use file_sums::sums;
-use slices::casts::index_of;
 use writer_bytes::{put_byte, put_four, put_words, put_zeros, put16};
+use writer_checks::Tables;
 
 // Zeros behind the first bytes of a block, and both sums.
 fn close_block(out: &mut [u8], at: usize, used: usize)
@@ -22,20 +23,8 @@ fn close_block(out: &mut [u8], at: usize, used: usize)
 {
     put_zeros(out, at + used, 508 - used);
     let s = sums(out, at);
-    put16(out, at + 508, s.first as usize);
-    put16(out, at + 510, s.second as usize);
-}
-
-// How many of n records the block of at most so many has whose first record is `first`.
-fn part_of(n: usize, first: usize, most: usize) -> usize
-    requires { first ≤ n }
-    ensures { result ≡ min most (n - first) }
-{
-    let rest = n - first;
-    if rest < most {
-        return rest;
-    }
-    most
+    put16(out, at + 508, usize::from(s.first));
+    put16(out, at + 510, usize::from(s.second));
 }
 
 // The header's record: K, 1, M, N, T, the cycle and the number of additional price lists.
@@ -43,13 +32,16 @@ fn put_sizes(out: &mut [u8], head: Head)
     requires { (15 ≤ length out.old) × Most (as_head head) }
     ensures { out.new ≡ put 4 11 (bytes_of (header_bytes (as_head head))) out.old }
 {
-    let k = head.sizes.boxes as usize;
-    let m = head.sizes.grocers as usize;
-    let n = head.sizes.offers as usize;
-    let t = head.sizes.tallies as usize;
-    put_four(out, 4, k, 1, m);
-    put_words(out, 8, n, t, index_of(head.cycle));
-    put_byte(out, 14, index_of(head.sizes.lists));
+    let z = head.sizes;
+    put_four(out, 4, usize::from(z.boxes), 1, usize::from(z.grocers));
+    put_words(
+        out,
+        8,
+        usize::from(z.offers),
+        usize::from(z.tallies),
+        usize::from(head.cycle),
+    );
+    put_byte(out, 14, usize::from(z.lists));
 }
 
 // The header block.
@@ -58,42 +50,25 @@ pub fn put_header(out: &mut [u8], head: Head)
     ensures { out.new ≡ put 0 512 (block_byte (body_of (0 ∷ 1 ∷ bytes16 0) 504 1 (λ _. bytes_of (header_bytes (as_head head)))))
         out.old }
 {
-    put_four(out, 0, 0, 1, 0);
+    put_four(out, 0, BlockKind::Header.number(), 1, 0);
     put_sizes(out, head);
     close_block(out, 0, 15);
 }
 
 // Offer block b, of n offers.
-pub fn put_offer_block(
-    out: &mut [u8],
-    b: usize,
-    n: usize,
-    price: &[u32],
-    offer_owner: &[u16],
-    offer_code: &[u8],
-    offer_issuer: &[u16],
-)
+pub fn put_offer_block(out: &mut [u8], b: usize, n: usize, tables: &Tables)
     requires n_bound { (n ≤ 500) × ((21 * b < n) × (512 * (2 + b) ≤ length out.old)) }
-    requires long_offers { LongOffers 0 n (offer_tables price.now offer_owner.now offer_code.now offer_issuer.now) }
-    requires small { Small offer_owner.now n }
+    requires long_offers { LongOffers 0 n (offers_held tables.now) }
+    requires small { Small tables.now.offer_owner.now n }
     ensures { out.new ≡ put (512 * (1 + b)) 512 (block_byte
-        (record_body 1 1 n (λ i. offer_bytes (offer_of (offers_lent price offer_owner offer_code offer_issuer) i)) b)) out.old }
+        (record_body 1 1 n (λ i. offer_bytes (offer_of (offers_held tables.now) i)) b)) out.old }
 {
     let number = 1 + b;
     let at = 512 * number;
     let first = 21 * b;
-    let count = part_of(n, first, 21);
-    put_four(out, at, 1, count, number);
-    put_offers(
-        out,
-        at + 4,
-        first,
-        count,
-        price,
-        offer_owner,
-        offer_code,
-        offer_issuer,
-    );
+    let count = (n - first).min(21);
+    put_four(out, at, BlockKind::Offers.number(), count, number);
+    put_offers(out, at + 4, first, count, tables);
     close_block(out, at, 4 + count * 24);
 }
 
@@ -105,7 +80,7 @@ pub fn put_grocer_block(out: &mut [u8], k: usize, m: usize, grocer_owner: &[u16]
         (λ r. bytes_of (get_or grocer_owner.now r 0 ∷ [])))) out.old }
 {
     let at = 512 * k;
-    put_four(out, at, 2, m, k);
+    put_four(out, at, BlockKind::Grocers.number(), m, k);
     put_owners(out, at + 4, m, grocer_owner);
     close_block(out, at, 4 + m);
 }
@@ -126,52 +101,26 @@ pub fn put_price_block(
 {
     let at = 512 * number;
     let first = 126 * b;
-    let count = part_of(n, first, 126);
-    put_four(out, at, 4, count, number);
+    let count = (n - first).min(126);
+    put_four(out, at, BlockKind::Prices.number(), count, number);
     put_prices(out, at + 4, from + first, count, price);
     close_block(out, at, 4 + count * 4);
 }
 
 // Tally block b, of t tallies whose first block is block k.
-pub fn put_tally_block(
-    out: &mut [u8],
-    k: usize,
-    b: usize,
-    t: usize,
-    tally_grocer: &[u16],
-    tally_box: &[u16],
-    tally_code: &[u8],
-    tally_count: &[i32],
-    tally_issuer: &[u16],
-    tally_bag: &[u16],
-    tally_revision: &[u16],
-)
+pub fn put_tally_block(out: &mut [u8], k: usize, b: usize, t: usize, tables: &Tables)
     requires t_bound { (t ≤ 1000) × ((21 * b < t) × ((k ≤ 100) × (512 * (k + b + 1) ≤ length out.old))) }
-    requires long_tallies { LongTallies t (tally_tables tally_grocer.now tally_box.now tally_code.now tally_count.now tally_issuer.now
-        tally_bag.now tally_revision.now) }
-    requires small { Small tally_box.now t }
+    requires long_tallies { LongTallies t (tallies_held tables.now) }
+    requires small { Small tables.now.tally_box.now t }
     ensures { out.new ≡ put (512 * (k + b)) 512 (block_byte
-        (record_body 3 k t (λ i. tally_bytes (tally_of (tallies_lent tally_grocer tally_box tally_code tally_count tally_issuer
-        tally_bag tally_revision) i)) b))
+        (record_body 3 k t (λ i. tally_bytes (tally_of (tallies_held tables.now) i)) b))
         out.old }
 {
     let number = k + b;
     let at = 512 * number;
     let first = 21 * b;
-    let count = part_of(t, first, 21);
-    put_four(out, at, 3, count, number);
-    put_tallies(
-        out,
-        at + 4,
-        first,
-        count,
-        tally_grocer,
-        tally_box,
-        tally_code,
-        tally_count,
-        tally_issuer,
-        tally_bag,
-        tally_revision,
-    );
+    let count = (t - first).min(21);
+    put_four(out, at, BlockKind::Tallies.number(), count, number);
+    put_tallies(out, at + 4, first, count, tables);
     close_block(out, at, 4 + count * 24);
 }

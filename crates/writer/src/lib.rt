@@ -2,9 +2,9 @@
 #![tactic(auto)]
 
 ghost use Rattle.std.specs.Prelude.{◌≡◌};
-ghost use Rattle.format.specs.Job.{head_of};
 ghost use Rattle.format.specs.Tables.{write_result};
-ghost use Rattle.format.specs.Lent.{file_lent};
+ghost use Rattle.file_blocks.specs.Due.{as_head};
+ghost use Rattle.writer_checks.specs.Held.{held};
 ghost use Rattle.writer.specs.Outcome.{outcome_of};
 
 mod block;
@@ -12,77 +12,16 @@ mod file;
 mod records;
 
 use file::put_file;
+use refusals::Refusal;
+use writer_checks::Tables;
 use writer_checks::refusal::write_refusal;
-use writer_checks::sizes::{file_length, head_of};
+use writer_checks::sizes::file_length;
 
-// What the writer answers: the file's length, or a refusal's number.
-#[derive(Clone, Copy)]
-pub enum Answer {
-    Wrote(usize),
-    Refused(u16),
-}
-
-// Writes the file of the job that the tables hold into the buffer, or refuses it and leaves the buffer as it was.
-pub fn write(
-    boxes: u16,
-    grocers: u16,
-    offers: u16,
-    tallies: u16,
-    cycle: u16,
-    lists: u16,
-    price: &[u32],
-    offer_owner: &[u16],
-    offer_code: &[u8],
-    offer_issuer: &[u16],
-    grocer_owner: &[u16],
-    tally_grocer: &[u16],
-    tally_box: &[u16],
-    tally_code: &[u8],
-    tally_count: &[i32],
-    tally_issuer: &[u16],
-    tally_bag: &[u16],
-    tally_revision: &[u16],
-    out: &mut [u8],
-) -> Answer
-    ensures { outcome_of result out.new ≡ write_result (head_of boxes grocers offers tallies cycle lists)
-        (file_lent price offer_owner offer_code offer_issuer grocer_owner tally_grocer tally_box
-        tally_code tally_count tally_issuer tally_bag tally_revision) out.old }
+// Writes the file of the job that the tables hold into the buffer, and answers its length; or refuses it and leaves the buffer as it was.
+pub fn write(tables: &Tables, out: &mut [u8]) -> Result<usize, Refusal>
+    ensures { outcome_of result out.new ≡ write_result (as_head tables.now.head) (held tables.now) out.old }
 {
-    let head = head_of(boxes, grocers, offers, tallies, cycle, lists);
-    let refusal = write_refusal(
-        head,
-        price,
-        offer_owner,
-        offer_code,
-        offer_issuer,
-        grocer_owner,
-        tally_grocer,
-        tally_box,
-        tally_code,
-        tally_count,
-        tally_issuer,
-        tally_bag,
-        tally_revision,
-        out,
-    );
-    if refusal != 0 {
-        return Answer::Refused(refusal);
-    }
-    put_file(
-        head,
-        price,
-        offer_owner,
-        offer_code,
-        offer_issuer,
-        grocer_owner,
-        tally_grocer,
-        tally_box,
-        tally_code,
-        tally_count,
-        tally_issuer,
-        tally_bag,
-        tally_revision,
-        out,
-    );
-    Answer::Wrote(file_length(head))
+    write_refusal(tables, out)?;
+    put_file(tables, out);
+    Ok(file_length(tables.head))
 }

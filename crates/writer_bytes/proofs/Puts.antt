@@ -6,7 +6,10 @@ use native.Mathlib.Omega.{arith}
 use native.Mathlib.Nat.{add-zero}
 use native.Mathlib.Decide.{dec_lt}
 use lib.ListN.{length, get_or, take, drop, set, length-append, length-drop, get_or-append, take-append-drop}
-use lib.Seq.{ext_get_or, get_or-append-add, get_or-drop, get_or-take, length-take-le, sets, sets-eq}
+use native.Mathlib.Nat.{le_refl}
+use lib.Seq.{take_all, ext_get_or, get_or-append-add, get_or-drop, get_or-take, length-take-le, sets, sets-eq}
+use borrow.Rule.Slice.PartMut.{put_mid}
+use Rattle.std.proofs.lemmas.Slice.{put_mid-paste}
 use Rattle.laws.specs.Tables.{tabulate}
 use Rattle.laws.proofs.Tables.{length_tabulate, get_d_tabulate, is_tabulate, tabulate_cong}
 use Rattle.format.specs.Bytes.{from, bytes16}
@@ -111,6 +114,13 @@ pub store_next : (at n : ℕ) (g : ℕ → ℕ) (d : List ℕ) (v : ℕ) → at 
 store_next at n g d v h e =
     store_put (at + n) v (λ k. g (n + k)) (put at n g d) (rw (length_put at n g d (omega arith)) h) (e ∙ ap g (sym (add-zero n)))
     ∙ put_next at n g d 1 (λ k. g (n + k)) (omega arith) (λ k l. refl)
+
+-- A part that is written over whole is put there.
+pub mid_put : (at k : ℕ) (d l l' : List ℕ) → at + length l ≤ length d → k ≡ length l → l' ≡ l → put_mid at k d l' ≡ put at (length l) (λ i. get_or l i 0) d
+unfolding put
+mid_put at k d l l' room e q =
+    put_mid-paste at k d l' l (length l) q (sym e) refl
+    ∙ ap (λ (x : List ℕ). take at d ++ x ++ drop (at + length l) d) (take_all (length l) l (le_refl (length l)) ∙ is_tabulate l (length l) (λ i. get_or l i 0) 0 refl (λ i q. refl))
 
 -- From the front on, what is put is written over.
 pub put_front : (n : ℕ) (g : ℕ → ℕ) (d : List ℕ) → put 0 n g d ≡ tabulate n g ++ drop n d

@@ -1,26 +1,24 @@
-// Bytes put into a buffer: single bytes, words with the low byte first, and zeros; and the 32 bits of a count.
+// Bytes put into a buffer: single bytes, words with the low byte first, and zeros.
 #![tactic(auto)]
 
 ghost use Rattle.std.specs.Prelude.{◌≡◌, ◌∷◌, ◌++◌, ◌+◌, ◌≤◌, ◌<◌, length, set};
-ghost use Rattle.std.specs.Int.{w32};
-ghost use Rattle.std.proofs.Common.{of_z};
 ghost use Rattle.format.specs.Bytes.{bytes16, bytes32};
 ghost use Rattle.writer_bytes.specs.Puts.{put, bytes_of};
-
-// A number below 256 as a byte.
-fn byte(x: usize) -> u8
-    requires { x < 256 }
-    ensures { result ≡ x }
-{
-    x as u8
-}
 
 // A number below 256 in one byte.
 pub fn put_byte(out: &mut [u8], at: usize, v: usize)
     requires { (at < length out.old) × (v < 256) }
     ensures { out.new ≡ set out.old at v }
 {
-    out[at] = byte(v);
+    out[at] = v as u8;
+}
+
+// N bytes, one after the other.
+fn put_bytes<const N: usize>(out: &mut [u8], at: usize, bytes: &[u8; N])
+    requires { at + N ≤ length out.old }
+    ensures { out.new ≡ put at N (bytes_of bytes.now) out.old }
+{
+    out[at..at + N].copy_from_slice(bytes);
 }
 
 // A 16-bit word in two bytes.
@@ -28,8 +26,7 @@ pub fn put16(out: &mut [u8], at: usize, v: usize)
     requires { (at + 2 ≤ length out.old) × (v < 65536) }
     ensures { out.new ≡ put at 2 (bytes_of (bytes16 v)) out.old }
 {
-    out[at] = (v % 256) as u8;
-    out[at + 1] = (v / 256) as u8;
+    put_bytes(out, at, &(v as u16).to_le_bytes());
 }
 
 // A 32-bit word in four bytes.
@@ -37,10 +34,7 @@ pub fn put32(out: &mut [u8], at: usize, bits: u32)
     requires { at + 4 ≤ length out.old }
     ensures { out.new ≡ put at 4 (bytes_of (bytes32 bits)) out.old }
 {
-    out[at] = (bits % 256) as u8;
-    out[at + 1] = (bits / 256 % 256) as u8;
-    out[at + 2] = (bits / 65536 % 256) as u8;
-    out[at + 3] = (bits / 16777216) as u8;
+    put_bytes(out, at, &bits.to_le_bytes());
 }
 
 // Two numbers below 256 and a 16-bit word, in four bytes.
@@ -68,21 +62,5 @@ pub fn put_zeros(out: &mut [u8], at: usize, n: usize)
     requires { at + n ≤ length out.old }
     ensures { out.new ≡ put at n (λ _. 0) out.old }
 {
-    let mut i: usize = 0;
-    while i < n {
-        out[at + i] = 0;
-        i += 1;
-    }
-}
-
-// The 32 bits of a count.
-pub fn bits(z: i32) -> u32
-    ensures { result ≡ of_z w32 z }
-{
-    if z < 0 {
-        let m = (-1 - z) as u32;
-        4294967295 - m
-    } else {
-        z as u32
-    }
+    out[at..at + n].fill(0);
 }

@@ -2,9 +2,7 @@
 use mathlib.Core.Path.{◌≡◌, refl, ap₂}
 use mathlib.Core.Bool.{Bool, false, ◌||◌}
 use mathlib.Core.List.{List, [], ◌∷◌}
-use Prim.Native.Nat.{ℕ, suc, ◌+◌, ◌*◌, ◌≤◌, ◌<◌}
-use native.Mathlib.Omega.{arith}
-use native.Mathlib.Nat.{mul-le-mul, le_refl, mul_comm}
+use Prim.Native.Nat.{ℕ, suc, ◌+◌, ◌*◌}
 use lib.ListN.{get_or}
 use Rattle.laws.specs.Below.{any}
 use Rattle.laws.specs.Checks.{first_met}
@@ -23,10 +21,6 @@ use Rattle.format.proofs.Tables.{long_tables}
 pub long_enough : (h : Head) (l : FileTables) (out : List ℕ) → short_writer h l out ≡ false → Long h l
 unfolding short_writer
 long_enough h l out e = long_tables h l (or_off (short_tables h l) _ e).0
-
--- Where the words of all lists are lent, those of additional list q are, behind those before them.
-pub list_lent : (n q lists l : ℕ) → q < lists → n * suc lists ≤ l → suc q * n + n ≤ l
-list_lent n q lists l h p = omega (arith, mul-le-mul (le_refl n) h, mul_comm n (suc q))
 
 -- Where 4 and 6 are not met, 7, 8 and 9 decide.
 pub job_rest : (j : FileJob) → bad_sizes j.head ≡ false → bad_records j ≡ false → job_refusal j ≡ first_met ((shared j, 7) ∷ (unnamed j, 8) ∷ (counted_twice (counted_tallies j), 9) ∷ [])

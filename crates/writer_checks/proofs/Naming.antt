@@ -1,9 +1,8 @@
 -- The numbers of the names, and what they and the bags say of 7, 8 and 9. Assumes nothing.
-use mathlib.Core.Path.{◌≡◌, refl, sym, ap, ◌∙◌}
-use mathlib.Core.Bool.{Bool, true, false}
+use mathlib.Core.Path.{◌≡◌, sym, ap, ◌∙◌}
+use mathlib.Core.Bool.{Bool, true, false, cond}
 use mathlib.Core.List.{List, [], ◌∷◌}
 use Prim.Native.Nat.{ℕ, ◌<◌}
-use native.Mathlib.Omega.{arith}
 use lib.ListN.{get_or}
 use Rattle.laws.specs.Checks.{first_met}
 use Rattle.laws.proofs.Tables.{word_in_lem}
@@ -11,12 +10,10 @@ use Rattle.recount.specs.Recount.{columns, counted_twice}
 use Rattle.index.specs.Index.{shares_number, place_of as place_in}
 use Rattle.format.specs.Codes.{Name, is_code, name_number}
 use Rattle.format.specs.Job.{Head, FileJob, offer_name, place_of, shared, counted_tallies}
-use Rattle.format.specs.Tables.{offer_tables, tally_tables, offer_of, tally_of, name_in}
-use Rattle.file_blocks.specs.Due.{Most}
+use Rattle.format.specs.Tables.{name_in}
 use Rattle.file_blocks.specs.Fills.{Placed}
 use Rattle.writer_checks.specs.Rows.{Codes, Indexed, Keyed, Finds, HasNames, HasBags}
 use Rattle.format.proofs.Same.{twice_cong}
-use Rattle.file_blocks.proofs.Looked.{place_most}
 use Rattle.file_blocks.proofs.Naming as naming
 
 module _ (j : FileJob) (code issuer tcode tissuer keys order : List ℕ) (h : Head) (has : HasNames j code issuer tcode tissuer h)
@@ -50,21 +47,6 @@ module _ (j : FileJob) (code issuer tcode tissuer keys order : List ℕ) (h : He
 pub finds : {j : FileJob} {keys order tcode tissuer : List ℕ} {n t : ℕ} (k : Keyed j keys order tcode tissuer n t) → shares_number k.numbers n ≡ false → Finds j keys order tcode tissuer n
 finds k d = record { size = k.offers; numbers = k.numbers; index = k.index; apart = d; place = k.place }
 
--- Places that were found are below 512, as keys of counts ask.
-pub places-below : (h : Head) (code issuer tcode tissuer places : List ℕ) → Most h →
-    ((j : FileJob) → HasNames j code issuer tcode tissuer h → Placed j places h.tallies) → (t : ℕ) → t < h.tallies → get_or places t 0 < 512
-places-below h code issuer tcode tissuer places m found t l =
-    omega (arith, (found job (record { head = refl; offer = λ i. refl; tally = λ i. refl })).at t l, place_most job t, m.offers)
-  where
-    job : FileJob
-    job = record {
-      head = h;
-      offer = offer_of (offer_tables [] [] code issuer);
-      grocer_owner = λ i. 0;
-      list_price = λ q i. 0;
-      tally = tally_of (tally_tables [] [] tcode [] tissuer [] []);
-    }
-
 -- 9 of tables of tallies with the places of their offers is that of the job.
 pub twice_is : (j : FileJob) (grocer places bag revision : List ℕ) (t : ℕ) → j.head.tallies ≡ t → HasBags j grocer bag revision → Placed j places t →
     counted_twice (columns t grocer places bag revision) ≡ counted_twice (counted_tallies j)
@@ -81,10 +63,6 @@ pub seven : (a b : Bool) → a ≡ true → first_met ((a, 7) ∷ (b, 8) ∷ [])
 unfolding first_met
 seven a b e = rw e
 
-pub eight : (a b : Bool) → a ≡ false → b ≡ true → first_met ((a, 7) ∷ (b, 8) ∷ []) ≡ 8
+pub not_seven : (a b : Bool) → a ≡ false → first_met ((a, 7) ∷ (b, 8) ∷ []) ≡ cond b 8 0
 unfolding first_met
-eight a b e f = rw (e, f)
-
-pub neither : (a b : Bool) → a ≡ false → b ≡ false → first_met ((a, 7) ∷ (b, 8) ∷ []) ≡ 0
-unfolding first_met
-neither a b e f = rw (e, f)
+not_seven a b e = rw e

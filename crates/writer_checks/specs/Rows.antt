@@ -6,13 +6,6 @@ use Rattle.format.specs.Job.{Head, FileJob, offer_name, tally_name, place_of, sh
 use Rattle.format.specs.Tables.{code_of, name_in}
 use Rattle.file_blocks.specs.Due.{Most}
 
--- The numbers of a header as they are given: each fits 16 bits.
-pub record Fits (h : Head) : Type 0 where
-  pub grocers : h.grocers ≤ 65535
-  pub offers : h.offers ≤ 65535
-  pub tallies : h.tallies ≤ 65535
-  pub lists : h.lists ≤ 65535
-
 -- The first n entries of a table hold codes.
 pub record Codes (l : List ℕ) (n : ℕ) : Type 0 where
   pub code : (i : ℕ) → i < n → is_code (code_of l i) ≡ true

@@ -1,119 +1,38 @@
 // The writer's refusal: "The writer checks 20, 4, 6, 7, 8", then 9.
 ghost use Rattle.std.specs.Prelude.{◌≡◌};
+ghost use Rattle.refusals.specs.Numbers.{number};
 ghost use Rattle.format.specs.Refusals.{job_refusal};
-ghost use Rattle.format.specs.Tables.{offer_tables, tally_tables, file_tables, file_job_of, write_refusal, Long};
-ghost use Rattle.format.specs.Lent.{file_lent};
+ghost use Rattle.format.specs.Tables.{write_refusal, Long};
 ghost use Rattle.file_blocks.specs.Due.{as_head};
-ghost use Rattle.writer_checks.specs.Rows.{Fits};
+ghost use Rattle.writer_checks.specs.Held.{held, job_held};
 
+use crate::Tables;
 use crate::codes::last_refusal;
 use crate::records::bad_records;
 use crate::sizes::short_writer;
-use file_blocks::plan::{Head, bad_sizes};
+use file_blocks::plan::bad_sizes;
+use refusals::Refusal;
 
 // 4, 6, 7, 8, 9 or no refusal, of tables that are long enough.
-pub fn job_refusal(
-    head: Head,
-    price: &[u32],
-    offer_owner: &[u16],
-    offer_code: &[u8],
-    offer_issuer: &[u16],
-    grocer_owner: &[u16],
-    tally_grocer: &[u16],
-    tally_box: &[u16],
-    tally_code: &[u8],
-    tally_count: &[i32],
-    tally_issuer: &[u16],
-    tally_bag: &[u16],
-    tally_revision: &[u16],
-) -> u16
-    requires { Long (as_head head) (file_tables
-        (offer_tables price.now offer_owner.now offer_code.now offer_issuer.now) grocer_owner.now
-        (tally_tables tally_grocer.now tally_box.now tally_code.now tally_count.now tally_issuer.now tally_bag.now
-        tally_revision.now)) }
-    ensures { result ≡ job_refusal (file_job_of (as_head head) (file_lent price offer_owner offer_code offer_issuer grocer_owner tally_grocer tally_box
-        tally_code tally_count tally_issuer tally_bag tally_revision)) }
+pub fn job_refusal(tables: &Tables) -> Result<(), Refusal>
+    requires { Long (as_head tables.now.head) (held tables.now) }
+    ensures { number result ≡ job_refusal (job_held tables.now) }
 {
-    if bad_sizes(head) {
-        return 4;
+    if bad_sizes(tables.head) {
+        return Err(Refusal::BadSizes);
     }
-    if bad_records(
-        head,
-        price,
-        offer_owner,
-        offer_code,
-        grocer_owner,
-        tally_grocer,
-        tally_box,
-        tally_code,
-        tally_count,
-    ) {
-        return 6;
+    if bad_records(tables) {
+        return Err(Refusal::BadRecord);
     }
-    last_refusal(
-        head,
-        offer_code,
-        offer_issuer,
-        tally_grocer,
-        tally_code,
-        tally_issuer,
-        tally_bag,
-        tally_revision,
-    )
+    last_refusal(tables)
 }
 
-// The writer's refusal of any tables, or 0.
-pub fn write_refusal(
-    head: Head,
-    price: &[u32],
-    offer_owner: &[u16],
-    offer_code: &[u8],
-    offer_issuer: &[u16],
-    grocer_owner: &[u16],
-    tally_grocer: &[u16],
-    tally_box: &[u16],
-    tally_code: &[u8],
-    tally_count: &[i32],
-    tally_issuer: &[u16],
-    tally_bag: &[u16],
-    tally_revision: &[u16],
-    out: &[u8],
-) -> u16
-    requires { Fits (as_head head) }
-    ensures { result ≡ write_refusal (as_head head) (file_lent price offer_owner offer_code offer_issuer grocer_owner tally_grocer tally_box
-        tally_code tally_count tally_issuer tally_bag tally_revision) out.now }
+// The writer's refusal of any tables.
+pub fn write_refusal(tables: &Tables, out: &[u8]) -> Result<(), Refusal>
+    ensures { number result ≡ write_refusal (as_head tables.now.head) (held tables.now) out.now }
 {
-    if short_writer(
-        head,
-        price,
-        offer_owner,
-        offer_code,
-        offer_issuer,
-        grocer_owner,
-        tally_grocer,
-        tally_box,
-        tally_code,
-        tally_count,
-        tally_issuer,
-        tally_bag,
-        tally_revision,
-        out,
-    ) {
-        return 20;
+    if short_writer(tables, out) {
+        return Err(Refusal::LentShort);
     }
-    job_refusal(
-        head,
-        price,
-        offer_owner,
-        offer_code,
-        offer_issuer,
-        grocer_owner,
-        tally_grocer,
-        tally_box,
-        tally_code,
-        tally_count,
-        tally_issuer,
-        tally_bag,
-        tally_revision,
-    )
+    job_refusal(tables)
 }

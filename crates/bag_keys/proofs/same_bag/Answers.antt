@@ -5,5 +5,4 @@ use Rattle.bag_keys.proofs.same_bag.Goals as goal
 
 pub returns : goal.returns
 unfolding bag_keys
-returns c =
-    refl
+returns c = rw c.of_bag.ensures refl

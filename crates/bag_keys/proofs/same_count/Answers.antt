@@ -5,5 +5,4 @@ use Rattle.bag_keys.proofs.same_count.Goals as goal
 
 pub returns : goal.returns
 unfolding twice_keys
-returns c =
-    refl
+returns c = rw c.of_bag.ensures refl

@@ -5,6 +5,4 @@ use Rattle.bag_standing.proofs.Filling.{all_loose}
 use Rattle.bag_standing.proofs.columns_twice.Goals as goal
 
 pub returns : goal.returns
-returns c =
-    sym (loose_once _ (all_loose c.args.n c.args.tally_grocer.now c.args.tally_offer.now c.args.tally_bag.now c.args.tally_revision.now c.requires
-    (sym c.any_bag.ensures ∙ c.if-any_bag.false)))
+returns c = sym (loose_once _ (all_loose c.requires (sym c.any_bag.ensures ∙ c.if-any_bag.false)))

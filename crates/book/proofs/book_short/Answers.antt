@@ -6,4 +6,4 @@ use Rattle.book.proofs.book_short.Goals as goal
 pub returns : goal.returns
 unfolding book_short
 returns c =
-    rw (add-one c.args.offers)
+    rw (c.from-m.ensures, c.from-n.ensures, c.from-t.ensures, add-one c.args.z.offers)

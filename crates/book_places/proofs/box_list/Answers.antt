@@ -10,14 +10,6 @@ use Rattle.book_sort.proofs.Placing.{begin_le}
 use Rattle.book_places.proofs.Local.{few, list_owned, keys_ready, starts_are, list_length, place_few, list_is}
 use Rattle.book_places.proofs.box_list.Goals as goal
 
-pub gather-l-requires : goal.gather-l-requires
-gather-l-requires c =
-    let o = c.requires.owners_in.0 in
-    record {
-      n_bound = (o.n_in, (o.owners_long, c.requires.owners_in.1));
-      b_bound = (omega (arith, o.k_in, c.requires.b_lt_k.0), o.n_in);
-    }
-
 pub classes-keys-requires : goal.classes-keys-requires
 classes-keys-requires c =
     let list : List ℕ =
@@ -30,17 +22,11 @@ pub sort-requires : goal.sort-requires
 sort-requires c =
     let list : List ℕ =
     c.gather-l.new.list in
-    let m_is : c.index_of-m.result + 1 ≡ c.args.k + 1 =
-    ap (λ (i : ℕ). i + 1) c.index_of-m.ensures.0 in
+    let m_is : c.from-m.result + 1 ≡ c.args.k + 1 =
+    ap (λ (i : ℕ). i + 1) c.from-m.ensures in
     keys_ready c.args.k c.args.n c.args.b _ c.args.owners.now c.args.words.now list c.requires.owners_in.0 c.gather-l.ensures.value c.gather-l.ensures.by_index
     c.classes-keys.result c.classes-keys.ensures _ m_is
     c.args.starts.now c.args.out.now (omega (arith, m_is, c.requires.b_lt_k.1.0)) c.requires.b_lt_k.1.1
-
-pub bounds-starts-m : goal.bounds-starts-m
-bounds-starts-m c =
-    let m_is : c.index_of-m.result + 1 ≡ c.args.k + 1 =
-    ap (λ (i : ℕ). i + 1) c.index_of-m.ensures.0 in
-    omega (arith, m_is, c.sort.auto.starts, c.requires.b_lt_k.1.0)
 
 pub look_up-requires : goal.look_up-requires
 look_up-requires c =
@@ -48,19 +34,19 @@ look_up-requires c =
     c.gather-l.new.list in
     let long : length list ≡ 500 =
     c.gather-l.auto.list in
-    let m_is : c.index_of-m.result + 1 ≡ c.args.k + 1 =
-    ap (λ (i : ℕ). i + 1) c.index_of-m.ensures.0 in
-    let all_is : at c.sort.new.starts (c.index_of-m.result + 1) ≡ begin (at c.classes-keys.result) c.gather-l.result (c.index_of-m.result + 1) =
-    let m = c.index_of-m.result + 1 in
+    let m_is : c.from-m.result + 1 ≡ c.args.k + 1 =
+    ap (λ (i : ℕ). i + 1) c.from-m.ensures in
+    let all_is : at c.sort.new.starts (c.from-m.result + 1) ≡ begin (at c.classes-keys.result) c.gather-l.result (c.from-m.result + 1) =
+    let m = c.from-m.result + 1 in
     ap (λ (l : List ℕ). at l m) c.sort.ensures.starts_after
     ∙ get_d_overwrite (suc m) (begin (at c.classes-keys.result) c.gather-l.result) c.args.starts.now m 0 (omega arith) in
-    let sum_is : c.index_of.result ≡ begin (at c.classes-keys.result) c.gather-l.result (c.index_of-m.result + 1) =
-    c.index_of.ensures.0 ∙ all_is in
+    let sum_is : c.from.result ≡ begin (at c.classes-keys.result) c.gather-l.result (c.from-m.result + 1) =
+    c.from.ensures ∙ all_is in
     let o = c.requires.owners_in.0 in (
       omega (
         arith,
         sum_is,
-        begin_le (at c.classes-keys.result) c.gather-l.result (c.index_of-m.result + 1),
+        begin_le (at c.classes-keys.result) c.gather-l.result (c.from-m.result + 1),
         few _ _ _ _ _ _ list o c.gather-l.ensures.value c.gather-l.ensures.by_index,
         c.requires.b_lt_k.1.1,
         c.sort.auto.out,
@@ -72,28 +58,18 @@ look_up-requires c =
       ),
     )
 
-pub shape_of-starts : goal.shape_of-starts
-shape_of-starts c =
-    c.sort.auto.starts
-
-pub shape_of-out : goal.shape_of-out
-shape_of-out c =
-    let list : List ℕ =
-    c.gather-l.new.list in
-    c.look_up.auto.list ∙ c.sort.auto.out
-
 pub returns : goal.returns
 returns c =
     let list : List ℕ =
     c.gather-l.new.list in
-    let m_is : c.index_of-m.result + 1 ≡ c.args.k + 1 =
-    ap (λ (i : ℕ). i + 1) c.index_of-m.ensures.0 in
-    let all_is : at c.sort.new.starts (c.index_of-m.result + 1) ≡ begin (at c.classes-keys.result) c.gather-l.result (c.index_of-m.result + 1) =
-    let m = c.index_of-m.result + 1 in
+    let m_is : c.from-m.result + 1 ≡ c.args.k + 1 =
+    ap (λ (i : ℕ). i + 1) c.from-m.ensures in
+    let all_is : at c.sort.new.starts (c.from-m.result + 1) ≡ begin (at c.classes-keys.result) c.gather-l.result (c.from-m.result + 1) =
+    let m = c.from-m.result + 1 in
     ap (λ (l : List ℕ). at l m) c.sort.ensures.starts_after
     ∙ get_d_overwrite (suc m) (begin (at c.classes-keys.result) c.gather-l.result) c.args.starts.now m 0 (omega arith) in
-    let sum_is : c.index_of.result ≡ begin (at c.classes-keys.result) c.gather-l.result (c.index_of-m.result + 1) =
-    c.index_of.ensures.0 ∙ all_is in
+    let sum_is : c.from.result ≡ begin (at c.classes-keys.result) c.gather-l.result (c.from-m.result + 1) =
+    c.from.ensures ∙ all_is in
     let o = c.requires.owners_in.0 in record {
       value = all_is ∙ list_length _ _ _ _ _ _ list o c.gather-l.ensures.value c.gather-l.ensures.by_index _ c.classes-keys.ensures _ (m_is);
       starts_after = c.sort.ensures.starts_after ∙ starts_are _ _ _ _ _ _ list o c.gather-l.ensures.value c.gather-l.ensures.by_index _ c.classes-keys.ensures _ m_is c.args.starts.now;

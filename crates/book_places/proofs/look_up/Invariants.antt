@@ -1,14 +1,9 @@
 -- `book_places::look_up` meets its contract. Assumes nothing.
 use mathlib.Core.Path.{◌≡◌}
-use Prim.Native.Nat.{◌≤◌, ◌-◌}
 use Rattle.laws.specs.Tables.{overwrite}
 use Rattle.book_sort.specs.Sort.{at}
 use Rattle.book_places.proofs.look_up.Given as goal
 
 abbrev pub invariant-loop-i : goal.invariant-loop-i
 invariant-loop-i l =
-    (l.i ≤ l.l) × (l.list ≡ overwrite l.i (λ x. at l.table (at l.initial.list x)) l.initial.list)
-
-abbrev pub decreases-loop-i : goal.decreases-loop-i
-decreases-loop-i l =
-    l.l - l.i
+    l.list ≡ overwrite l.i (λ x. at l.table (at l.initial.list x)) l.initial.list

@@ -7,12 +7,6 @@ use lib.Count.{ones}
 use Rattle.book_places.proofs.Starts.{ones_few, below-count}
 use Rattle.book_places.proofs.totals_among.Goals as goal
 
-pub overflow_cast-result : goal.overflow_cast-result
-overflow_cast-result c =
-    let few : ones (bit_and c.set_bit.result c.args.below) ≤ 16 =
-    ones_few _ (omega (arith, and_le_r c.set_bit.result c.args.below, c.ranges.below.fits)) in
-    omega (arith, few)
-
 pub returns : goal.returns
 returns c =
     let few : ones (bit_and c.set_bit.result c.args.below) ≤ 16 =

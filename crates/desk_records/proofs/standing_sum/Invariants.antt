@@ -1,14 +1,7 @@
 -- `desk_records::standing_sum` meets its contract. The invariant: the sum is that of the first t. Assumes nothing.
 use mathlib.Core.Path.{◌≡◌}
-use Prim.Native.Nat.{◌-◌, ◌≤◌}
-use Rattle.laws.specs.Below.{sum}
 use Rattle.desk_records.specs.Rows.{unmarked}
 use Rattle.desk_records.proofs.standing_sum.Given as goal
 
 abbrev pub invariant-loop-t : goal.invariant-loop-t
-invariant-loop-t l =
-    (l.t ≤ l.n) × (l.sum ≡ unmarked l.t l.marks l.shares)
-
-abbrev pub decreases-loop-t : goal.decreases-loop-t
-decreases-loop-t l =
-    l.n - l.t
+invariant-loop-t l = l.sum ≡ unmarked l.t l.marks l.shares

@@ -1,7 +1,5 @@
 -- `file_codes::fill_codes` meets its contract. The invariant: the first i codes are stored. Assumes nothing.
 use mathlib.Core.Path.{◌≡◌}
-use Prim.Native.Nat.{◌≤◌, ◌-◌}
-use lib.ListN.{length}
 use Rattle.format.specs.Bytes.{from, after}
 use Rattle.format.specs.Codes.{read_code}
 use Rattle.format.specs.File.{record_at}
@@ -10,8 +8,4 @@ use Rattle.file_codes.proofs.fill_codes.Given as goal
 
 abbrev pub invariant-loop-i : goal.invariant-loop-i
 invariant-loop-i l =
-    (l.i ≤ l.n) × (length l.code ≡ length l.initial.code) × (l.code ≡ store_codes l.i (λ k. read_code (after (from l.f (record_at l.first k)) l.at)) l.initial.code)
-
-abbrev pub decreases-loop-i : goal.decreases-loop-i
-decreases-loop-i l =
-    l.n - l.i
+    l.code ≡ store_codes l.i (λ k. read_code (after (from l.f (record_at l.first k)) l.at)) l.initial.code

@@ -8,14 +8,6 @@ use Rattle.format.specs.Codes.{value}
 use Rattle.file_digits.proofs.Digits.{lows, four_is}
 use Rattle.file_digits.proofs.four.Goals as goal
 
-pub overflow_mul-result : goal.overflow_mul-result
-overflow_mul-result c =
-    omega (arith, c.two.ensures.1)
-
-pub overflow_add-result : goal.overflow_add-result
-overflow_add-result c =
-    omega (arith, c.two.ensures.1, c.two-2.ensures.1)
-
 pub returns : goal.returns
 returns c =
     let g = from c.args.f.now c.args.at in

@@ -8,22 +8,6 @@ use Rattle.format.specs.Codes.{value}
 use Rattle.file_digits.proofs.Digits.{lows, nine_is}
 use Rattle.file_digits.proofs.nine.Goals as goal
 
-pub overflow_mul-result : goal.overflow_mul-result
-overflow_mul-result c =
-    omega (arith, c.four.ensures.1)
-
-pub overflow_add-result : goal.overflow_add-result
-overflow_add-result c =
-    omega (arith, c.four.ensures.1, c.four-2.ensures.1)
-
-pub overflow_mul-result-2 : goal.overflow_mul-result-2
-overflow_mul-result-2 c =
-    omega (arith, c.four.ensures.1, c.four-2.ensures.1)
-
-pub overflow_add-result-2 : goal.overflow_add-result-2
-overflow_add-result-2 c =
-    omega (arith, c.four.ensures.1, c.four-2.ensures.1, c.low.ensures.1)
-
 pub returns : goal.returns
 returns c =
     let g = from c.args.f.now c.args.at in
@@ -31,4 +15,4 @@ returns c =
     let b = c.four-2.ensures in
     let l = c.low.ensures in
     let e = b.0 ∙ ap (λ (h : ℕ → ℕ). value 4 (lows h)) (from-after c.args.f.now c.args.at 4) in
-    (rw (a.0, e, l.0, c.byte_at.ensures.0) (sym (nine_is (λ k. g k % 16))), omega (arith, a.1, b.1, l.1))
+    (rw (a.0, e, l.0) (sym (nine_is (λ k. g k % 16))), omega (arith, a.1, b.1, l.1))

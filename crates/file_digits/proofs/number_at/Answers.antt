@@ -1,7 +1,6 @@
 -- `file_digits::number_at` meets its contract. Assumes nothing.
 use mathlib.Core.Path.{◌≡◌, ap, ◌∙◌}
-use Prim.Native.Nat.{ℕ, ◌+◌, ◌*◌, ◌/◌, ◌%◌, ◌≤◌}
-use native.Mathlib.Nat.{mul-le-mul}
+use Prim.Native.Nat.{ℕ, ◌+◌, ◌%◌}
 use native.Mathlib.Omega.{arith}
 use lib.ListN.{get_or}
 use Rattle.format.specs.Bytes.{from}
@@ -14,46 +13,17 @@ pub share-requires : goal.share-requires
 share-requires c =
     let code : IsCode (read_code (from c.args.f.now c.args.at)) =
     code_is (read_code (from c.args.f.now c.args.at)) c.requires.at_value in
-    let count_is : c.byte_at-n.result ≡ from c.args.f.now c.args.at 0 =
-    c.byte_at-n.ensures.0 ∙ ap (λ (p : ℕ). get_or c.args.f.now p 0) (omega arith) in
+    let count_is : c.from-n.result ≡ from c.args.f.now c.args.at 0 =
+    c.from-n.ensures ∙ ap (λ (p : ℕ). get_or c.args.f.now p 0) (omega arith) in
     let i = code in
     (omega (arith, count_is, i.some), omega (arith, count_is, i.few))
-
-pub overflow_mul-first : goal.overflow_mul-first
-overflow_mul-first c =
-    let prod : c.nine.result * c.share.result ≤ 1789569705000000000 =
-    let m : c.nine.result * c.share.result ≤ 1666666665 * 1073741824 = mul-le-mul {n₂ = 1666666665} {m₂ = 1073741824} c.nine.ensures.1 c.share.ensures.2 in
-    omega (arith, m) in
-    omega (arith, prod)
-
-pub overflow_mul-result : goal.overflow_mul-result
-overflow_mul-result c =
-    let prod : c.nine.result * c.share.result ≤ 1789569705000000000 =
-    let m : c.nine.result * c.share.result ≤ 1666666665 * 1073741824 = mul-le-mul {n₂ = 1666666665} {m₂ = 1073741824} c.nine.ensures.1 c.share.ensures.2 in
-    omega (arith, m) in
-    let grown : c.nine.result * c.share.result / 1073741824 * c.scale.result ≤ 16666666670 =
-    let m : c.nine.result * c.share.result / 1073741824 * c.scale.result ≤ 1666666667 * 10 =
-    mul-le-mul {n₂ = 1666666667} {m₂ = 10} (omega (arith, prod)) c.scale.ensures.1 in
-    omega (arith, m) in
-    omega (arith, grown)
-
-pub overflow_add-result : goal.overflow_add-result
-overflow_add-result c =
-    let prod : c.nine.result * c.share.result ≤ 1789569705000000000 =
-    let m : c.nine.result * c.share.result ≤ 1666666665 * 1073741824 = mul-le-mul {n₂ = 1666666665} {m₂ = 1073741824} c.nine.ensures.1 c.share.ensures.2 in
-    omega (arith, m) in
-    let grown : c.nine.result * c.share.result / 1073741824 * c.scale.result ≤ 16666666670 =
-    let m : c.nine.result * c.share.result / 1073741824 * c.scale.result ≤ 1666666667 * 10 =
-    mul-le-mul {n₂ = 1666666667} {m₂ = 10} (omega (arith, prod)) c.scale.ensures.1 in
-    omega (arith, m) in
-    omega (arith, grown, c.low.ensures.1)
 
 pub returns : goal.returns
 returns c =
     let code : IsCode (read_code (from c.args.f.now c.args.at)) =
     code_is (read_code (from c.args.f.now c.args.at)) c.requires.at_value in
-    let count_is : c.byte_at-n.result ≡ from c.args.f.now c.args.at 0 =
-    c.byte_at-n.ensures.0 ∙ ap (λ (p : ℕ). get_or c.args.f.now p 0) (omega arith) in
+    let count_is : c.from-n.result ≡ from c.args.f.now c.args.at 0 =
+    c.from-n.ensures ∙ ap (λ (p : ℕ). get_or c.args.f.now p 0) (omega arith) in
     let f = c.args.f.now in
     let at = c.args.at in
     let g = from f at in
@@ -61,4 +31,4 @@ returns c =
     let p = c.share.ensures in
     let e = c.nine.ensures.0 ∙ value_cong 9 (lows (from f (at + 1))) (lows (read_code g).digit) (λ k l. ap (λ (x : ℕ). 48 + get_or f x 0 % 16) (omega arith)) in
     let r = number_is (read_code g) code _ c.share.result e (rw n at p.0) (rw n at p.1) in
-    rw (c.scale.ensures.0, c.low.ensures.0, c.byte_at.ensures.0, n) r
+    rw (c.scale.ensures.0, c.low.ensures.0, n) r

@@ -8,14 +8,6 @@ use Rattle.format.specs.Bytes.{from}
 use Rattle.file_digits.proofs.Digits.{two_is}
 use Rattle.file_digits.proofs.two.Goals as goal
 
-pub overflow_mul-result : goal.overflow_mul-result
-overflow_mul-result c =
-    omega (arith, c.low.ensures.1)
-
-pub overflow_add-result : goal.overflow_add-result
-overflow_add-result c =
-    omega (arith, c.low.ensures.1, c.low-2.ensures.1)
-
 pub returns : goal.returns
 returns c =
     let x = c.low-2.ensures in
@@ -23,4 +15,4 @@ returns c =
     let f = c.args.f.now in
     let at = c.args.at in
     let e = two_is (λ k. from f at k % 16) ∙ ap (λ (p : ℕ). get_or f p 0 % 16 * 10 + get_or f (at + 1) 0 % 16) (add-zero at) in
-    (rw (y.0, x.0, c.byte_at.ensures.0, c.byte_at-2.ensures.0) (sym e), omega (arith, x.1, y.1))
+    (rw (y.0, x.0) (sym e), omega (arith, x.1, y.1))

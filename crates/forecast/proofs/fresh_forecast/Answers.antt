@@ -1,69 +1,34 @@
 -- `forecast::fresh_forecast` meets its contract: refused under a number, or every table written. Assumes nothing.
-use mathlib.Core.Path.{◌≡◌, ap, ◌∙◌}
-use mathlib.Core.List.{List}
-use Prim.Native.Nat.{ℕ, ◌*◌, ◌≤◌}
-use lib.ListN.{set}
-use lib.Ieee.{Float}
-use Rattle.laws.specs.Tables.{overwrite}
-use Rattle.forecast_rules.specs.Doubles.{zero+}
-use Rattle.forecast_rules.specs.Tables.{ForecastTables, forecast_tables, StateTables, state_tables}
-use Rattle.forecast_checks.proofs.Tested.{StateWhole}
+use Rattle.std.proofs.lemmas.Result.{err_from_is_err_and}
+use Rattle.refusals.proofs.Numbers.{number_positive}
+use Rattle.forecast_doubles.specs.Lent.{forecast_held, state_held}
 use Rattle.forecast.specs.Answer.{answer_of}
 use Rattle.forecast.proofs.Made.{fresh_is, fresh_refused, fresh_accepted, words, values_in}
 use Rattle.forecast.proofs.fresh_forecast.Goals as goal
 
--- A table of zeros, of so many words as the sizes say.
-zeros : (n m : ℕ) (l l' : List Float) → l' ≡ overwrite n (λ i. zero+) l → n ≡ m → l' ≡ overwrite m (λ i. zero+) l
-zeros n m l l' e h = e ∙ ap (λ (k : ℕ). overwrite k (λ i. zero+) l) h
-
-fits : (n m size : ℕ) → n ≡ m → m ≤ size → n ≤ size
-fits n m size e h = rw e h
-
-pub returns-then-met-ne0 : goal.returns-then-met-ne0
+pub returns-in_err-fresh_refusal-clause-answer : goal.returns-in_err-fresh_refusal-clause-answer
 unfolding answer_of
-returns-then-met-ne0 c = fresh_refused _ _ _ c.fresh_refusal-met.ensures c.if-met-ne0.true
+returns-in_err-fresh_refusal-clause-answer c =
+    let p = err_from_is_err_and c.from_residual.result c.from_residual.ensures.1 in
+    rw (p.1, p.2) (fresh_refused (forecast_held c.args.f.now) (state_held c.args.s.now) _ c.in_err-fresh_refusal.ensures (number_positive _))
 
 pub fresh_values-requires : goal.fresh_values-requires
-fresh_values-requires c = values_in _ _ _ c.fresh_refusal-met.ensures c.if-met-ne0.false
+fresh_values-requires c =
+    values_in (forecast_held c.args.f.now) (state_held c.args.s.now) c.in_ok-fresh_refusal.ensures
 
-pub zero_doubles-requires : goal.zero_doubles-requires
-zero_doubles-requires c = fits _ _ _ c.table_words.ensures (words _ _ _ c.fresh_refusal-met.ensures c.if-met-ne0.false).value_transit
+pub fresh_zeros-requires : goal.fresh_zeros-requires
+fresh_zeros-requires c =
+    let w = words (forecast_held c.args.f.now) (state_held c.args.s.now) c.in_ok-fresh_refusal.ensures in
+    record { values_long = w.value_transit; part_long = w.part; transit_long = w.part_transit; held_long = w.held; forecast_long = w.forecast; done_long = w.done }
 
-pub zero_doubles-requires-2 : goal.zero_doubles-requires-2
-zero_doubles-requires-2 c = fits _ _ _ c.table_words-words.ensures (words _ _ _ c.fresh_refusal-met.ensures c.if-met-ne0.false).part
+pub bounds-s-0 : goal.bounds-s-0
+bounds-s-0 c =
+    (words (forecast_held c.args.f.now) (state_held c.args.s.now) c.in_ok-fresh_refusal.ensures).sent
 
-pub zero_doubles-requires-3 : goal.zero_doubles-requires-3
-zero_doubles-requires-3 c = fits _ _ _ c.table_words-words.ensures (words _ _ _ c.fresh_refusal-met.ensures c.if-met-ne0.false).part_transit
-
-pub zero_doubles-requires-4 : goal.zero_doubles-requires-4
-zero_doubles-requires-4 c = fits _ _ _ c.table_words-words.ensures (words _ _ _ c.fresh_refusal-met.ensures c.if-met-ne0.false).held
-
-pub zero_doubles-requires-5 : goal.zero_doubles-requires-5
-zero_doubles-requires-5 c = fits _ _ _ c.index_of.ensures.0 (words _ _ _ c.fresh_refusal-met.ensures c.if-met-ne0.false).forecast
-
-pub zero_marks-requires : goal.zero_marks-requires
-zero_marks-requires c = fits _ _ _ c.marks.ensures (words _ _ _ c.fresh_refusal-met.ensures c.if-met-ne0.false).done
-
-pub bounds-sent-0 : goal.bounds-sent-0
-bounds-sent-0 c = (words _ _ _ c.fresh_refusal-met.ensures c.if-met-ne0.false).sent
-
-pub returns : goal.returns
+pub returns-clause-answer : goal.returns-clause-answer
 unfolding answer_of
-returns c =
-    let tables : ForecastTables =
-    forecast_tables c.args.boxes c.args.grocers c.args.offers c.args.lines c.args.offer_owner.now c.args.grocer_owner.now c.args.line_grocer.now c.args.line_offer.now
-    c.args.line_box.now c.args.line_rate.now c.args.line_value.now in
-    let state : StateTables =
-    state_tables c.args.known.now c.args.value_transit.now c.args.part.now c.args.part_transit.now c.args.held.now c.args.forecast.now c.args.done.now c.args.sent.now in
-    let whole : let f = tables in StateWhole f.boxes f.grocers f.offers (state) =
-    words tables state _ c.fresh_refusal-met.ensures c.if-met-ne0.false in
-    let sums : c.table_words-words.result ≡ c.args.boxes * c.args.grocers =
-    c.table_words-words.ensures in
-    let x = c.zero_marks.ensures ∙ ap (λ (n : ℕ). overwrite n (λ i. 0) c.args.done.now) c.marks.ensures in
-    let q = zeros _ _ c.args.value_transit.now _ c.zero_doubles.ensures c.table_words.ensures in
-    let r = zeros _ _ c.args.part.now _ c.zero_doubles-2.ensures sums in
-    let u = zeros _ _ c.args.part_transit.now _ c.zero_doubles-3.ensures sums in
-    let y = zeros _ _ c.args.held.now _ c.zero_doubles-4.ensures sums in
-    let z = zeros _ _ c.args.forecast.now _ c.zero_doubles-5.ensures c.index_of.ensures.0 in
-    fresh_accepted tables state _ c.fresh_refusal-met.ensures c.if-met-ne0.false _
-    ((λ i. state_tables (c.fresh_values.ensures i) (q i) (r i) (u i) (y i) (z i) (x i) (set c.args.sent.now 0 0)) ∙ fresh_is tables state whole.sent)
+returns-clause-answer c =
+    let z = c.fresh_zeros.ensures in
+    fresh_accepted (forecast_held c.args.f.now) (state_held c.args.s.now) c.in_ok-fresh_refusal.ensures _
+    (fresh_is (forecast_held c.args.f.now) (state_held c.args.s.now) _ _ _ _ _ _ _ c.fresh_values.ensures z.values_are z.parts_are z.transit_are z.held_are z.forecasts_are z.marks_are
+    (words (forecast_held c.args.f.now) (state_held c.args.s.now) c.in_ok-fresh_refusal.ensures).sent)

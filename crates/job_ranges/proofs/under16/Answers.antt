@@ -1,25 +1,14 @@
--- `job_ranges::under16` meets its contract: at word i those before it are tested. Assumes nothing.
-use mathlib.Core.Path.{refl, sym, ap, ◌∙◌}
-use Prim.Native.Nat.{ℕ}
-use native.Mathlib.Nat.{le_antisymm}
-use lib.ListN.{get_or}
-use lib.Dec.{ltb}
-use borrow.Author.Rules.{rules}
-use Rattle.laws.specs.Below.{all}
-use Rattle.laws.proofs.Below.{all_start, all_more}
+-- `job_ranges::under16` meets its contract: the tests of the words, folded. Assumes nothing.
+use Rattle.std.proofs.Common.{rules, tests, ◌∙◌, ◌&&◌, true, ltb, take}
+use Rattle.std.proofs.lemmas.Iterator.{YieldsList-from_slice}
+use Rattle.std.proofs.lemmas.Iterator.Consumers.{fold_from_yields_List}
 use Rattle.model.specs.Ranges.{under}
+use Rattle.job_ranges.proofs.Loops.{all_fold}
 use Rattle.job_ranges.proofs.under16.Goals as goal
-
-pub loop-i-init : goal.loop-i-init
-loop-i-init c =
-    (search rules, sym (all_start _))
-
-pub loop-i-preserved : goal.loop-i-preserved
-loop-i-preserved c =
-    let l = c.loop-i in (search rules, all_more l.i _ l.all _ l.invariant.1 refl)
 
 pub returns : goal.returns
 unfolding under
 returns c =
-    let s = c.args in
-    c.loop-i.invariant.1 ∙ ap (λ (k : ℕ). all k (λ w. ltb (get_or s.s.now w 0) s.m)) (le_antisymm c.loop-i.invariant.0 c.loop-i-test.false)
+    let m = c.args.m in
+    fold_from_yields_List _ (λ b x. b && ltb x m) true c.fold.result c.fold.ensures.ran (YieldsList-from_slice (take c.args.n c.args.s.now) (search rules)) (λ a x b q k. search (rules, tests))
+    ∙ all_fold (λ x. ltb x m) 0 c.args.n c.args.s.now c.requires

@@ -5,12 +5,12 @@ use Rattle.late_rules.specs.Late.{late_answer}
 use Rattle.late.specs.Calls.{late_answer_of}
 use Rattle.late.proofs.told.Goals as goal
 
-pub returns-in-Finished : goal.returns-in-Finished
+pub returns-in-Ok : goal.returns-in-Ok
 unfolding late_answer_of late_answer answer_of
-returns-in-Finished c =
+returns-in-Ok c =
     search rules
 
-pub returns-in-Refused : goal.returns-in-Refused
+pub returns-in-Err : goal.returns-in-Err
 unfolding late_answer_of late_answer answer_of
-returns-in-Refused c =
+returns-in-Err c =
     search rules

@@ -7,5 +7,5 @@ use Rattle.late_edits.proofs.edit_code.Goals as goal
 
 pub returns : goal.returns
 returns c =
-    edit_end 11 c.args.p c.args.n (c.args.p * 11) (c.args.n * 11) 0 (from c.args.code.now 0) c.args.s.now c.move_codes.new.s c.copy_code.new.code
-    refl refl c.requires.0 c.requires.2 (c.copy_code.auto.code ∙ c.move_codes.ensures.0) c.move_codes.ensures.1 (λ k q. c.copy_code.ensures.inside k q) (λ k q. c.copy_code.ensures.before k q) (λ k q. c.copy_code.ensures.past k q)
+    edit_end 11 c.args.p c.args.n (c.args.p * 11) (c.args.n * 11) 0 (from c.args.code.now 0) c.args.s.now c.move_up.new.s c.copy_code.new.code
+    refl refl c.requires.0 c.requires.2 (c.copy_code.auto.code ∙ c.move_up.auto.s) (c.move_up.ensures 0) (λ k q. c.copy_code.ensures.inside k q) (λ k q. c.copy_code.ensures.before k q) (λ k q. c.copy_code.ensures.past k q)

@@ -3,14 +3,14 @@ use mathlib.Core.Path.{◌≡◌, sym, ap, ap₂, ◌∙◌}
 use mathlib.Core.Bool.{true, false}
 use mathlib.Core.List.{List}
 use Prim.Native.Nat.{ℕ, ◌+◌}
-use lib.ListN.{length}
-use Rattle.model.specs.Tables.{JobTables, bag_tables, job_of}
-use Rattle.model.specs.Ranges.{Settles}
+use Rattle.std.proofs.lemmas.Result.{err_from_is_err_and}
+use Rattle.tables.specs.Lent.{job_held}
+use Rattle.laws.specs.Checks.{first_met}
+use Rattle.model.specs.Tables.{JobTables, job_of}
 use Rattle.model.specs.Handed.{handed_tables, Standing, Handed}
 use Rattle.model.specs.Words.{owner_words}
-use Rattle.model.specs.Local.{price_table, total_table}
+use Rattle.model.specs.Local.{price_table, total_table, job_refusals}
 use Rattle.message_tables.specs.Sums.{others_sum}
-use Rattle.job_masks.specs.Masks.{Owned}
 use Rattle.message_words.specs.Messages.{sent_table}
 use Rattle.model.proofs.Handed.{handed_job, handed-whole, handed_in}
 use Rattle.model.proofs.Whole.{JobWhole, job_whole}
@@ -21,148 +21,71 @@ use Rattle.message_tables.proofs.Summing.{word_total}
 use Rattle.message_tables.proofs.Refused.{messages_refused, messages_made}
 use Rattle.message_tables.proofs.message_tables.Goals as goal
 
-pub returns-then-r-ne0 : goal.returns-then-r-ne0
-returns-then-r-ne0 c =
-    let job : JobTables =
-    bag_tables c.args.boxes c.args.grocers c.args.offers c.args.tallies c.args.lists c.args.price.now c.args.offer_owner.now c.args.grocer_owner.now
-    c.args.tally_grocer.now c.args.tally_box.now c.args.tally_offer.now c.args.tally_count.now c.args.tally_bag.now c.args.tally_revision.now in
-    messages_refused job c.args.prices.now c.args.totals.now c.job_refusal-r.result c.job_refusal-r.ensures.value c.if-r-ne0.true
+-- Where nothing refuses, the job with the boxes of standing tallies is in range and whole.
+module _ (f : JobTables) (boxes : List ℕ) (none : 0 ≡ first_met (job_refusals f)) (stand : Standing f boxes) where
+  in_range_lem : Handed (handed_tables f boxes)
+  in_range_lem = handed_in f boxes stand (accepted f (sym none)).in_range
+
+  whole : JobWhole (handed_tables f boxes)
+  whole = job_whole (handed_tables f boxes) (handed-whole f boxes stand (accepted f (sym none)).whole)
+
+pub returns-in_err-job_refusal : goal.returns-in_err-job_refusal
+returns-in_err-job_refusal c =
+    let p = err_from_is_err_and c.from_residual.result c.from_residual.ensures.1 in
+    rw (p.1, p.2) (messages_refused (job_held c.args.job.now) c.args.prices.now c.args.totals.now c.in_err-job_refusal.field-0.0 c.in_err-job_refusal.ensures.value)
 
 pub needs-needing-requires : goal.needs-needing-requires
 needs-needing-requires c =
-    let job : JobTables =
-    bag_tables c.args.boxes c.args.grocers c.args.offers c.args.tallies c.args.lists c.args.price.now c.args.offer_owner.now c.args.grocer_owner.now
-    c.args.tally_grocer.now c.args.tally_box.now c.args.tally_offer.now c.args.tally_count.now c.args.tally_bag.now c.args.tally_revision.now in
-    let boxes : List ℕ =
-    c.job_refusal-r.new.standing in
-    let handed : JobTables =
-    handed_tables job (boxes) in
-    let settles : Settles (job) =
-    accepted job (sym c.job_refusal-r.ensures.value ∙ c.if-r-ne0.false) in
-    let stand : Standing job (boxes) =
-    c.job_refusal-r.ensures.standing c.if-r-ne0.false in
-    let in_range_lem : Handed (handed) =
-    handed_in job boxes stand settles.in_range in
-    let whole : JobWhole (handed) =
-    job_whole handed (handed-whole job boxes stand settles.whole) in
-    placed_offers handed in_range_lem (whole)
+    let f = job_held c.args.job.now in
+    let boxes = c.job_refusal.new.standing in
+    let r = c.in_ok-job_refusal.ensures in
+    placed_offers (handed_tables f boxes) (in_range_lem f boxes r.value r.standing) (whole f boxes r.value r.standing)
 
 pub sharers-sharing-requires : goal.sharers-sharing-requires
 sharers-sharing-requires c =
-    let job : JobTables =
-    bag_tables c.args.boxes c.args.grocers c.args.offers c.args.tallies c.args.lists c.args.price.now c.args.offer_owner.now c.args.grocer_owner.now
-    c.args.tally_grocer.now c.args.tally_box.now c.args.tally_offer.now c.args.tally_count.now c.args.tally_bag.now c.args.tally_revision.now in
-    let boxes : List ℕ =
-    c.job_refusal-r.new.standing in
-    let handed : JobTables =
-    handed_tables job (boxes) in
-    let settles : Settles (job) =
-    accepted job (sym c.job_refusal-r.ensures.value ∙ c.if-r-ne0.false) in
-    let stand : Standing job (boxes) =
-    c.job_refusal-r.ensures.standing c.if-r-ne0.false in
-    let in_range_lem : Handed (handed) =
-    handed_in job boxes stand settles.in_range in
-    let whole : JobWhole (handed) =
-    job_whole handed (handed-whole job boxes stand settles.whole) in
-    placed_grocers handed in_range_lem (whole)
+    let f = job_held c.args.job.now in
+    let boxes = c.job_refusal.new.standing in
+    let r = c.in_ok-job_refusal.ensures in
+    placed_grocers (handed_tables f boxes) (in_range_lem f boxes r.value r.standing) (whole f boxes r.value r.standing)
 
-pub price_table-p-requires : goal.price_table-p-requires
-price_table-p-requires c =
-    let job : JobTables =
-    bag_tables c.args.boxes c.args.grocers c.args.offers c.args.tallies c.args.lists c.args.price.now c.args.offer_owner.now c.args.grocer_owner.now
-    c.args.tally_grocer.now c.args.tally_box.now c.args.tally_offer.now c.args.tally_count.now c.args.tally_bag.now c.args.tally_revision.now in
-    let boxes : List ℕ =
-    c.job_refusal-r.new.standing in
-    let handed : JobTables =
-    handed_tables job (boxes) in
-    let settles : Settles (job) =
-    accepted job (sym c.job_refusal-r.ensures.value ∙ c.if-r-ne0.false) in
-    let stand : Standing job (boxes) =
-    c.job_refusal-r.ensures.standing c.if-r-ne0.false in
-    let in_range_lem : Handed (handed) =
-    handed_in job boxes stand settles.in_range in
-    let whole : JobWhole (handed) =
-    job_whole handed (handed-whole job boxes stand settles.whole) in
-    let offers_owned : Owned handed.offers handed.offer_owner c.needs-needing.result =
-    owned_offers handed in_range_lem whole _ _ c.needs-needing.ensures in
-    offers_owned
+pub price_table-requires : goal.price_table-requires
+price_table-requires c =
+    let f = job_held c.args.job.now in
+    let boxes = c.job_refusal.new.standing in
+    let r = c.in_ok-job_refusal.ensures in
+    owned_offers (handed_tables f boxes) (in_range_lem f boxes r.value r.standing) (whole f boxes r.value r.standing) _ _ c.needs-needing.ensures
 
-pub total_table-t-requires : goal.total_table-t-requires
-total_table-t-requires c =
-    let job : JobTables =
-    bag_tables c.args.boxes c.args.grocers c.args.offers c.args.tallies c.args.lists c.args.price.now c.args.offer_owner.now c.args.grocer_owner.now
-    c.args.tally_grocer.now c.args.tally_box.now c.args.tally_offer.now c.args.tally_count.now c.args.tally_bag.now c.args.tally_revision.now in
-    let boxes : List ℕ =
-    c.job_refusal-r.new.standing in
-    let handed : JobTables =
-    handed_tables job (boxes) in
-    let settles : Settles (job) =
-    accepted job (sym c.job_refusal-r.ensures.value ∙ c.if-r-ne0.false) in
-    let stand : Standing job (boxes) =
-    c.job_refusal-r.ensures.standing c.if-r-ne0.false in
-    let in_range_lem : Handed (handed) =
-    handed_in job boxes stand settles.in_range in
-    let whole : JobWhole (handed) =
-    job_whole handed (handed-whole job boxes stand settles.whole) in
-    let grocers_owned : Owned handed.grocers handed.grocer_owner c.sharers-sharing.result =
-    owned_grocers handed in_range_lem whole _ _ c.sharers-sharing.ensures in
-    grocers_owned
+pub total_table-requires : goal.total_table-requires
+total_table-requires c =
+    let f = job_held c.args.job.now in
+    let boxes = c.job_refusal.new.standing in
+    let r = c.in_ok-job_refusal.ensures in
+    owned_grocers (handed_tables f boxes) (in_range_lem f boxes r.value r.standing) (whole f boxes r.value r.standing) _ _ c.sharers-sharing.ensures
 
-pub word_total-words-requires : goal.word_total-words-requires
-word_total-words-requires c =
-    let job : JobTables =
-    bag_tables c.args.boxes c.args.grocers c.args.offers c.args.tallies c.args.lists c.args.price.now c.args.offer_owner.now c.args.grocer_owner.now
-    c.args.tally_grocer.now c.args.tally_box.now c.args.tally_offer.now c.args.tally_count.now c.args.tally_bag.now c.args.tally_revision.now in
-    let boxes : List ℕ =
-    c.job_refusal-r.new.standing in
-    let handed : JobTables =
-    handed_tables job (boxes) in
-    let settles : Settles (job) =
-    accepted job (sym c.job_refusal-r.ensures.value ∙ c.if-r-ne0.false) in
-    let stand : Standing job (boxes) =
-    c.job_refusal-r.ensures.standing c.if-r-ne0.false in
-    let in_range_lem : Handed (handed) =
-    handed_in job boxes stand settles.in_range in
-    let whole : JobWhole (handed) =
-    job_whole handed (handed-whole job boxes stand settles.whole) in
-    let offers_owned : Owned handed.offers handed.offer_owner c.needs-needing.result =
-    owned_offers handed in_range_lem whole _ _ c.needs-needing.ensures in
-    let grocers_owned : Owned handed.grocers handed.grocer_owner c.sharers-sharing.result =
-    owned_grocers handed in_range_lem whole _ _ c.sharers-sharing.ensures in
-    record {
-      owned = offers_owned;
-      owned_2 = grocers_owned;
-    }
+pub word_total-requires-clause-owned : goal.word_total-requires-clause-owned
+word_total-requires-clause-owned c =
+    let f = job_held c.args.job.now in
+    let boxes = c.job_refusal.new.standing in
+    let r = c.in_ok-job_refusal.ensures in
+    owned_offers (handed_tables f boxes) (in_range_lem f boxes r.value r.standing) (whole f boxes r.value r.standing) _ _ c.needs-needing.ensures
+
+pub word_total-requires-clause-owned_2 : goal.word_total-requires-clause-owned_2
+word_total-requires-clause-owned_2 c =
+    let f = job_held c.args.job.now in
+    let boxes = c.job_refusal.new.standing in
+    let r = c.in_ok-job_refusal.ensures in
+    owned_grocers (handed_tables f boxes) (in_range_lem f boxes r.value r.standing) (whole f boxes r.value r.standing) _ _ c.sharers-sharing.ensures
 
 pub returns : goal.returns
 returns c =
-    let job : JobTables =
-    bag_tables c.args.boxes c.args.grocers c.args.offers c.args.tallies c.args.lists c.args.price.now c.args.offer_owner.now c.args.grocer_owner.now
-    c.args.tally_grocer.now c.args.tally_box.now c.args.tally_offer.now c.args.tally_count.now c.args.tally_bag.now c.args.tally_revision.now in
-    let boxes : List ℕ =
-    c.job_refusal-r.new.standing in
-    let handed : JobTables =
-    handed_tables job (boxes) in
-    let settles : Settles (job) =
-    accepted job (sym c.job_refusal-r.ensures.value ∙ c.if-r-ne0.false) in
-    let stand : Standing job (boxes) =
-    c.job_refusal-r.ensures.standing c.if-r-ne0.false in
-    let in_range_lem : Handed (handed) =
-    handed_in job boxes stand settles.in_range in
-    let same : job_of handed ≡ job_of (job) =
-    handed_job job boxes (stand) in
-    messages_made job c.args.prices.now c.args.totals.now c.price_table-p.result c.total_table-t.result c.word_total-words.result
-    c.job_refusal-r.result c.job_refusal-r.ensures.value c.if-r-ne0.false
-    (c.price_table-p.ensures ∙ ap (sent_table false c.args.offers c.args.offer_owner.now) c.needs-needing.ensures ∙ price_sent_lem handed in_range_lem ∙ ap price_table same)
-    (c.total_table-t.ensures ∙ ap (sent_table true c.args.grocers c.args.grocer_owner.now) c.sharers-sharing.ensures ∙ total_sent_lem handed in_range_lem ∙ ap total_table same)
-    (c.word_total-words.ensures
-    ∙ ap₂ (λ (x y : List ℕ). others_sum c.args.offers c.args.offer_owner.now x + others_sum c.args.grocers c.args.grocer_owner.now y) c.needs-needing.ensures c.sharers-sharing.ensures
-    ∙ word_total handed in_range_lem ∙ ap owner_words same)
-
-pub slice_bounds-held-end : goal.slice_bounds-held-end
-slice_bounds-held-end c =
-    let boxes : List ℕ =
-    c.job_refusal-r.new.standing in
-    let long : length boxes ≡ 1_000 =
-    c.job_refusal-r.auto.standing in
-    sym (long)
+    let f = job_held c.args.job.now in
+    let boxes = c.job_refusal.new.standing in
+    let r = c.in_ok-job_refusal.ensures in
+    let ok = in_range_lem f boxes r.value r.standing in
+    let same : job_of (handed_tables f boxes) ≡ job_of f = handed_job f boxes r.standing in
+    messages_made f c.args.prices.now c.args.totals.now c.price_table.result c.total_table.result c.word_total.result r.value
+    (c.price_table.ensures ∙ ap (sent_table false f.offers f.offer_owner) c.needs-needing.ensures ∙ price_sent_lem (handed_tables f boxes) ok ∙ ap price_table same)
+    (c.total_table.ensures ∙ ap (sent_table true f.grocers f.grocer_owner) c.sharers-sharing.ensures ∙ total_sent_lem (handed_tables f boxes) ok ∙ ap total_table same)
+    (c.word_total.ensures
+    ∙ ap₂ (λ (x y : List ℕ). others_sum f.offers f.offer_owner x + others_sum f.grocers f.grocer_owner y) c.needs-needing.ensures c.sharers-sharing.ensures
+    ∙ word_total (handed_tables f boxes) ok ∙ ap owner_words same)

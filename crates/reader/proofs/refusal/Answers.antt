@@ -1,27 +1,20 @@
 -- `reader::refusal` meets its contract. Assumes nothing.
-use native.Mathlib.Omega.{arith}
+use mathlib.Core.Path.{sym, ◌∙◌}
+use Rattle.std.proofs.lemmas.Result.{on_ok_weaker}
 use Rattle.reader.proofs.Results.{short_refused, file_decides}
 use Rattle.reader.proofs.refusal.Goals as goal
 
-pub returns-then-short : goal.returns-then-short
-returns-then-short c =
+pub returns-then-short_tables : goal.returns-then-short_tables
+returns-then-short_tables c =
     record {
-      value = short_refused _ _ c.if-short.true;
-      short_value = λ e. absurd (omega (arith, e));
+      value = short_refused _ _ (sym c.short_tables.ensures ∙ c.if-short_tables.true);
+      kept = tt;
     }
 
 pub returns : goal.returns
 returns c =
-    let long = c.if-short.false in
+    let long = sym c.short_tables.ensures ∙ c.if-short_tables.false in
     record {
       value = file_decides _ _ _ long c.file_refusal.ensures.value;
-      short_value = λ e. (long, c.file_refusal.ensures.kept e);
+      kept = on_ok_weaker c.file_refusal.result (λ k. (long, k)) c.file_refusal.ensures.kept;
     }
-
-pub file_refusal-requires : goal.file_refusal-requires
-file_refusal-requires c =
-    c.requires
-
-pub shape_of-places : goal.shape_of-places
-shape_of-places c =
-    c.file_refusal.auto.places

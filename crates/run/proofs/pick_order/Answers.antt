@@ -23,7 +23,3 @@ by_owner-receivers-requires c =
 pub waits-waits-requires : goal.waits-waits-requires
 waits-waits-requires c =
     c.requires.0.lists_in
-
-pub shape_of-done : goal.shape_of-done
-shape_of-done c =
-    c.put_order.auto.done

@@ -1,10 +1,10 @@
 -- `run_fresh::put_prices` meets its contract. The invariant: the words of the first q lists are written, and the others are as they were. Assumes nothing.
-use mathlib.Core.Path.{refl, sym, ap, ◌∙◌}
+use mathlib.Core.Path.{◌≡◌, sym, ap, ◌∙◌}
 use mathlib.Core.Bool.{cond}
-use Prim.Native.Nat.{ℕ, ◌+◌, ◌-◌, ◌*◌, ◌<◌, ◌≤◌}
+use Prim.Native.Nat.{ℕ, ◌+◌, ◌-◌, ◌*◌, ◌≤◌}
 use native.Mathlib.Omega.{arith}
-use native.Mathlib.Nat.{le_antisymm, mul-le-mul}
-use lib.ListN.{length, get_or, length-set}
+use native.Mathlib.Nat.{mul-le-mul}
+use lib.ListN.{get_or}
 use Rattle.laws.proofs.Bools.{cond_no}
 use Rattle.laws.proofs.Loops.{window, window_none, window_here, window_else, stored_more}
 use Rattle.laws.proofs.Tables.{cell_in}
@@ -17,43 +17,21 @@ loop-q-init c =
     λ k. get_or c.args.price.now ((k - c.args.at) * c.args.n + c.args.o) 0 in
     let old : ℕ → ℕ =
     λ k. get_or c.args.known.now k 0 in
-    (omega arith, refl, λ k. sym (cond_no _ (new k) (old k) (window_none c.args.at k)))
+    λ k. sym (cond_no _ (new k) (old k) (window_none c.args.at k))
 
 pub overflow_mul-q : goal.overflow_mul-q
 overflow_mul-q c =
-    let few : c.loop-q.q * c.args.n ≤ 4_000 =
-    let h : c.loop-q.q ≤ 8 = omega (arith, c.loop-q-test.true, c.requires.n_bound.1.1) in omega (arith, mul-le-mul h c.requires.n_bound.0) in
-    omega (arith, few)
+    let h : c.loop-q.q ≤ 8 = omega arith in
+    omega (arith, mul-le-mul h c.requires.n_bound.0)
 
 pub overflow_add-q : goal.overflow_add-q
 overflow_add-q c =
-    let few : c.loop-q.q * c.args.n ≤ 4_000 =
-    let h : c.loop-q.q ≤ 8 = omega (arith, c.loop-q-test.true, c.requires.n_bound.1.1) in omega (arith, mul-le-mul h c.requires.n_bound.0) in
-    omega (arith, few, c.requires.n_bound.1.0, c.requires.n_bound.0)
+    let h : c.loop-q.q ≤ 8 = omega arith in
+    omega (arith, mul-le-mul h c.requires.n_bound.0)
 
 pub u32_at-requires : goal.u32_at-requires
 u32_at-requires c =
-    let from_in : c.loop-q.q * c.args.n + c.args.o < length c.args.price.now =
-    omega (arith, cell_in c.loop-q.q c.args.width c.args.n c.args.o c.loop-q-test.true c.requires.n_bound.1.0, c.requires.width_in_bounds.1) in
-    from_in
-
-pub overflow_add-known : goal.overflow_add-known
-overflow_add-known c =
-    let to_in : c.args.at + c.loop-q.q < length c.loop-q.known =
-    omega (arith, c.loop-q-test.true, c.requires.width_in_bounds.0, c.loop-q.invariant.1) in
-    omega (arith, to_in)
-
-pub offset_bounds-known-at : goal.offset_bounds-known-at
-offset_bounds-known-at c =
-    let to_in : c.args.at + c.loop-q.q < length c.loop-q.known =
-    omega (arith, c.loop-q-test.true, c.requires.width_in_bounds.0, c.loop-q.invariant.1) in
-    omega (arith, to_in)
-
-pub bounds-known-at : goal.bounds-known-at
-bounds-known-at c =
-    let to_in : c.args.at + c.loop-q.q < length c.loop-q.known =
-    omega (arith, c.loop-q-test.true, c.requires.width_in_bounds.0, c.loop-q.invariant.1) in
-    to_in
+    omega (arith, cell_in c.loop-q.q c.args.width c.args.n c.args.o c.loop-q-test.true c.requires.n_bound.1.0, c.requires.width_in_bounds.1)
 
 pub loop-q-preserved : goal.loop-q-preserved
 loop-q-preserved c =
@@ -61,19 +39,10 @@ loop-q-preserved c =
     λ k. get_or c.args.price.now ((k - c.args.at) * c.args.n + c.args.o) 0 in
     let old : ℕ → ℕ =
     λ k. get_or c.args.known.now k 0 in
-    let to_in : c.args.at + c.loop-q.q < length c.loop-q.known =
-    omega (arith, c.loop-q-test.true, c.requires.width_in_bounds.0, c.loop-q.invariant.1) in
-    let v = c.loop-q in (
-      omega (arith, c.loop-q-test.true),
-      length-set v.known (c.args.at + v.q) c.u32_at.result ∙ v.invariant.1,
-      stored_more v.known 0 new old (window c.args.at v.q) (window c.args.at (v.q + 1))
-          (c.args.at + v.q) to_in v.invariant.2 (window_here c.args.at v.q) (window_else c.args.at v.q) c.u32_at.result
-          (c.u32_at.ensures ∙ ap (λ (x : ℕ). get_or c.args.price.now (x * c.args.n + c.args.o) 0) (omega arith)),
-    )
-
-pub shape_of-known : goal.shape_of-known
-shape_of-known c =
-    c.loop-q.invariant.1
+    let v = c.loop-q in
+    stored_more v.known 0 new old (window c.args.at v.q) (window c.args.at (v.q + 1))
+    (c.args.at + v.q) (omega arith) v.invariant (window_here c.args.at v.q) (window_else c.args.at v.q) c.u32_at.result
+    (c.u32_at.ensures ∙ ap (λ (x : ℕ). get_or c.args.price.now (x * c.args.n + c.args.o) 0) (omega arith))
 
 pub returns : goal.returns
 unfolding in_span
@@ -82,5 +51,5 @@ returns c =
     λ k. get_or c.args.price.now ((k - c.args.at) * c.args.n + c.args.o) 0 in
     let old : ℕ → ℕ =
     λ k. get_or c.args.known.now k 0 in
-    λ k. let inv = c.loop-q.invariant in
-    inv.2 k ∙ ap (λ (x : ℕ). cond (window c.args.at x k) (new k) (old k)) (le_antisymm inv.0 c.loop-q-test.false)
+    let end : c.loop-q.q ≡ c.args.width = omega arith in
+    λ k. c.loop-q.invariant k ∙ ap (λ (x : ℕ). cond (window c.args.at x k) (new k) (old k)) end

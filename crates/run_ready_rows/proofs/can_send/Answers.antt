@@ -7,5 +7,5 @@ use Rattle.run_ready_rows.proofs.can_send.Goals as goal
 pub returns : goal.returns
 unfolding kind_of
 returns c =
-    λ receivers. sends_open c.args.waits.now (steps_done c.args.k c.args.done.now) c.args.a c.args.b _ c.args.got c.covers.result
+    λ receivers. sends_open c.args.rules.now.waits.now (steps_done c.args.rules.now.boxes c.args.done.now) c.args.a c.args.b _ c.args.got c.covers.result
     c.word_at-word.ensures c.requires.2 c.covers.ensures receivers _ c.is_done-marked.ensures

@@ -3,7 +3,6 @@ use mathlib.Core.Path.{◌≡◌, ap}
 use Prim.Native.Nat.{ℕ, ◌+◌, ◌*◌, ◌≤◌}
 use native.Mathlib.Omega.{arith}
 use native.Mathlib.Nat.{zero-mul}
-use borrow.Author.Rules.{rules}
 use Rattle.run_ready.specs.Rows.{rows_total}
 use Rattle.run_ready.proofs.Rows.{rows_none}
 use Rattle.run_ready_rows.proofs.ByRow.{kind_rows, next_kind, rows_end}
@@ -11,7 +10,7 @@ use Rattle.run_ready_rows.proofs.find_in.Goals as goal
 
 pub loop-q-init : goal.loop-q-init
 loop-q-init c =
-    (search rules, omega (arith, ap (rows_total c.args.rows.now) (zero-mul c.args.k), rows_none c.args.rows.now))
+    omega (arith, ap (rows_total c.args.rows.now) (zero-mul c.args.k), rows_none c.args.rows.now)
 
 pub places_in-found-requires : goal.places_in-found-requires
 places_in-found-requires c =
@@ -27,16 +26,16 @@ find_row-requires c =
 
 pub returns-then-left-found : goal.returns-then-left-found
 returns-then-left-found c =
-    λ f. λ h. λ lt. rw c.loop-q.invariant.1 at (c.find_row.ensures f h (omega (arith, c.places_in-found.ensures, c.if-left-found.true)))
+    λ f. λ h. λ lt. rw c.loop-q.invariant at (c.find_row.ensures f h (omega (arith, c.places_in-found.ensures, c.if-left-found.true)))
 
 pub loop-q-preserved : goal.loop-q-preserved
 loop-q-preserved c =
-    (search rules, omega (arith, c.loop-q.invariant.1, c.if-left-found.false, c.places_in-found.ensures, ap (rows_total c.args.rows.now) (next_kind c.loop-q.q c.args.k)))
+    omega (arith, c.loop-q.invariant, c.if-left-found.false, c.places_in-found.ensures, ap (rows_total c.args.rows.now) (next_kind c.loop-q.q c.args.k))
 
 pub returns : goal.returns
 returns c =
-    λ f. λ h. λ lt. let end : c.loop-q.q ≡ 6 = omega (arith, c.loop-q.invariant.0, c.loop-q-test.false) in
-    absurd (rows_end c.args.k f c.args.rows.now h (c.loop-q.q * c.args.k) c.loop-q.left c.args.c (ap (λ (x : ℕ). x * c.args.k) end) c.loop-q.invariant.1 lt)
+    λ f. λ h. λ lt. let end : c.loop-q.q ≡ 6 = omega arith in
+    absurd (rows_end c.args.k f c.args.rows.now h (c.loop-q.q * c.args.k) c.loop-q.left c.args.c (ap (λ (x : ℕ). x * c.args.k) end) c.loop-q.invariant lt)
 
 pub overflow_mul-q : goal.overflow_mul-q
 overflow_mul-q c =

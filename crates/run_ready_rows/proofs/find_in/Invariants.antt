@@ -1,13 +1,9 @@
 -- `run_ready_rows::find_in` meets its contract: at kind q, what is left to pass and the rows before it make c. Assumes nothing.
 use mathlib.Core.Path.{◌≡◌}
-use Prim.Native.Nat.{◌+◌, ◌*◌, ◌≤◌, ◌-◌}
+use Prim.Native.Nat.{◌+◌, ◌*◌}
 use Rattle.run_ready.specs.Rows.{rows_total}
 use Rattle.run_ready_rows.proofs.find_in.Given as goal
 
 abbrev pub invariant-loop-q : goal.invariant-loop-q
 invariant-loop-q l =
-    (l.q ≤ 6) × (l.left + rows_total l.rows (l.q * l.k) ≡ l.c)
-
-abbrev pub decreases-loop-q : goal.decreases-loop-q
-decreases-loop-q l =
-    6 - l.q
+    (l.left + rows_total l.rows (l.q * l.k) ≡ l.c)

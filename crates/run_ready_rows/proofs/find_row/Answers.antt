@@ -4,14 +4,13 @@ use Prim.Native.Nat.{ℕ, ◌+◌, ◌*◌, ◌<◌, ◌-◌}
 use native.Mathlib.Omega.{arith}
 use native.Mathlib.Nat.{add-zero}
 use lib.ListN.{get_or}
-use borrow.Author.Rules.{rules}
 use Rattle.run_ready.specs.Rows.{rows_total}
 use Rattle.run_ready_rows.proofs.ByRow.{kind_few, row_some, row_found, row_passed}
 use Rattle.run_ready_rows.proofs.find_row.Goals as goal
 
 pub loop-i-init : goal.loop-i-init
 loop-i-init c =
-    (search rules, ap (λ (x : ℕ). c.args.c + rows_total c.args.rows.now x) (add-zero c.args.first))
+    ap (λ (x : ℕ). c.args.c + rows_total c.args.rows.now x) (add-zero c.args.first)
 
 pub overflow_add-result : goal.overflow_add-result
 overflow_add-result c =
@@ -26,20 +25,18 @@ returns-then-left-found c =
     λ f. λ h. λ lt. let lr = row_at_turn in
     let r = c.args.first + c.loop-i.i in
     let (lb, on, m) = c.bit_at.ensures (row_some c.args.k f c.args.rows.now h r c.loop-i.left lr c.if-left-found.true) in
-    row_found c.args.k f c.args.rows.now h r c.loop-i.left _ c.bit_at.result c.requires.0 c.requires.1 c.loop-i.invariant.1 lr lb on m
+    row_found c.args.k f c.args.rows.now h r c.loop-i.left _ c.bit_at.result c.requires.0 c.requires.1 c.loop-i.invariant lr lb on m
 
 pub loop-i-preserved : goal.loop-i-preserved
-loop-i-preserved c = (
-  search rules,
-  ap (λ (x : ℕ). c.loop-i.left - get_or c.args.rows.now (96 + (c.args.first + c.loop-i.i)) 0 + rows_total c.args.rows.now x) (regroup c.args.first c.loop-i.i)
-      ∙ row_passed c.args.rows.now (c.args.first + c.loop-i.i) c.loop-i.left _ c.loop-i.invariant.1 c.if-left-found.false,
-)
+loop-i-preserved c =
+    ap (λ (x : ℕ). c.loop-i.left - get_or c.args.rows.now.counts (c.args.first + c.loop-i.i) 0 + rows_total c.args.rows.now x) (regroup c.args.first c.loop-i.i)
+    ∙ row_passed c.args.rows.now (c.args.first + c.loop-i.i) c.loop-i.left _ c.loop-i.invariant c.if-left-found.false
   where
     regroup : (x y : ℕ) → x + (y + 1) ≡ x + y + 1
     regroup x y = omega arith
 
 pub returns : goal.returns
 returns c =
-    λ f. λ h. λ lt. let end : c.loop-i.i ≡ c.args.k = omega (arith, c.loop-i.invariant.0, c.loop-i-test.false) in
-    let all : c.loop-i.left + rows_total c.args.rows.now (c.args.first + c.args.k) ≡ c.args.c + rows_total c.args.rows.now c.args.first = rw end at c.loop-i.invariant.1 in
+    λ f. λ h. λ lt. let end : c.loop-i.i ≡ c.args.k = omega arith in
+    let all : c.loop-i.left + rows_total c.args.rows.now (c.args.first + c.args.k) ≡ c.args.c + rows_total c.args.rows.now c.args.first = rw end at c.loop-i.invariant in
     absurd (omega (arith, lt))

@@ -1,7 +1,7 @@
 -- `run_ready_rows::row_word` meets its contract: of every box passed it is told. Assumes nothing.
 use mathlib.Core.Path.{ap, ◌∙◌}
 use Prim.Native.Nat.{ℕ}
-use native.Mathlib.Nat.{le_antisymm}
+use native.Mathlib.Omega.{arith}
 use borrow.Author.Rules.{rules}
 use Rattle.laws.specs.Masks.{mask_of}
 use Rattle.laws.proofs.Masks.{mask_below}
@@ -22,13 +22,13 @@ returns-then-kind-eq4 c =
 
 pub loop-b-init : goal.loop-b-init
 loop-b-init c =
-    (search rules, before_none _)
+    before_none _
 
 pub loop-b-preserved : goal.loop-b-preserved
 loop-b-preserved c =
-    (search rules, before_more _ c.loop-b.b _ c.permitted.result _ c.loop-b.invariant.1 c.permitted.ensures c.with_bit-more.ensures)
+    before_more _ c.loop-b.b _ c.permitted.result _ c.loop-b.invariant c.permitted.ensures c.with_bit-word.ensures
 
 pub returns : goal.returns
 returns c =
-    let f = permitted_by c.args.receivers.now c.args.waits.now (steps_done c.args.k c.args.done.now) (kind_of c.args.kind) c.args.a in
-    c.loop-b.invariant.1 ∙ ap (λ (b : ℕ). mask_of 16 (before b f)) (le_antisymm c.loop-b.invariant.0 c.loop-b-test.false) ∙ mask_below c.args.k 16 f c.requires.boxes_in
+    let f = permitted_by c.args.rules.now.receivers.now c.args.rules.now.waits.now (steps_done c.args.rules.now.boxes c.args.done.now) (kind_of c.args.kind) c.args.a in
+    c.loop-b.invariant ∙ ap (λ (b : ℕ). mask_of 16 (before b f)) (omega arith) ∙ mask_below c.args.rules.now.boxes 16 f c.requires.boxes_in

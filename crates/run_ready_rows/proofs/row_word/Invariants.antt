@@ -1,6 +1,5 @@
 -- `run_ready_rows::row_word` meets its contract: of every box passed it is told. Assumes nothing.
 use mathlib.Core.Path.{◌≡◌}
-use Prim.Native.Nat.{◌≤◌, ◌-◌}
 use Rattle.laws.specs.Masks.{mask_of}
 use Rattle.model.specs.Steps.{kind_of}
 use Rattle.model.specs.Tables.{steps_done}
@@ -10,8 +9,4 @@ use Rattle.run_ready_rows.proofs.row_word.Given as goal
 
 abbrev pub invariant-loop-b : goal.invariant-loop-b
 invariant-loop-b l =
-    (l.b ≤ l.k) × (l.word ≡ mask_of 16 (before l.b (permitted_by l.receivers l.waits (steps_done l.k l.done) (kind_of l.kind) l.a)))
-
-abbrev pub decreases-loop-b : goal.decreases-loop-b
-decreases-loop-b l =
-    l.k - l.b
+    (l.word ≡ mask_of 16 (before l.b (permitted_by l.rules.receivers.now l.rules.waits.now (steps_done l.rules.boxes l.done) (kind_of l.kind) l.a)))

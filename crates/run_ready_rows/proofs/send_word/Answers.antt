@@ -1,8 +1,7 @@
 -- `run_ready_rows::send_word` meets its contract: of every box passed it is told. Assumes nothing.
 use mathlib.Core.Path.{ap, ◌∙◌}
 use Prim.Native.Nat.{ℕ}
-use native.Mathlib.Nat.{le_antisymm}
-use borrow.Author.Rules.{rules}
+use native.Mathlib.Omega.{arith}
 use Rattle.laws.specs.Masks.{mask_of}
 use Rattle.laws.proofs.Masks.{mask_below}
 use Rattle.model.specs.Steps.{send_totals}
@@ -13,7 +12,7 @@ use Rattle.run_ready_rows.proofs.send_word.Goals as goal
 
 pub loop-b-init : goal.loop-b-init
 loop-b-init c =
-    (search rules, λ receivers. before_none _)
+    λ receivers. before_none _
 
 pub can_send-requires : goal.can_send-requires
 can_send-requires c =
@@ -21,9 +20,9 @@ can_send-requires c =
 
 pub loop-b-preserved : goal.loop-b-preserved
 loop-b-preserved c =
-    (search rules, λ receivers. before_more _ c.loop-b.b _ c.can_send.result _ (c.loop-b.invariant.1 receivers) (c.can_send.ensures receivers) c.with_bit-more.ensures)
+    λ receivers. before_more _ c.loop-b.b _ c.can_send.result _ (c.loop-b.invariant receivers) (c.can_send.ensures receivers) c.with_bit-word.ensures
 
 pub returns : goal.returns
 returns c =
-    λ receivers. let f = permitted_by receivers c.args.waits.now (steps_done c.args.k c.args.done.now) send_totals c.args.a in
-    c.loop-b.invariant.1 receivers ∙ ap (λ (b : ℕ). mask_of 16 (before b f)) (le_antisymm c.loop-b.invariant.0 c.loop-b-test.false) ∙ mask_below c.args.k 16 f c.requires.0.boxes_in
+    λ receivers. let f = permitted_by receivers c.args.rules.now.waits.now (steps_done c.args.rules.now.boxes c.args.done.now) send_totals c.args.a in
+    c.loop-b.invariant receivers ∙ ap (λ (b : ℕ). mask_of 16 (before b f)) (omega arith) ∙ mask_below c.args.rules.now.boxes 16 f c.requires.0.boxes_in

@@ -8,11 +8,11 @@ use Rattle.run_steps.proofs.head_of.Goals as goal
 pub returns : goal.returns
 unfolding head_of
 returns c =
-    ap₂ (λ (x y : ℕ). x * 18 + y) (c.index_of-b.ensures.0 ∙ c.span_box.ensures) c.span_group.ensures
+    ap₂ (λ (x y : ℕ). x * 18 + y) (c.from-b.ensures ∙ c.span_box.ensures) c.span_group.ensures
 
 pub overflow_mul-result : goal.overflow_mul-result
 overflow_mul-result c =
-    omega (arith, c.index_of-b.ensures.1)
+    omega (arith, c.from-b.ensures)
 
 pub overflow_add-result : goal.overflow_add-result
 overflow_add-result c =

@@ -10,14 +10,6 @@ pub overflow_add-result-2 : goal.overflow_add-result-2
 overflow_add-result-2 c =
     omega (arith, c.requires.3, c.sent_by.ensures 0 0, one_each (kind_of c.args.kind) 0 0)
 
-pub overflow_add-result : goal.overflow_add-result
-overflow_add-result c =
-    omega (arith, c.requires.2)
-
-pub sent_by-requires : goal.sent_by-requires
-sent_by-requires c =
-    (c.requires.0, c.requires.1)
-
 pub returns : goal.returns
 returns c =
     (refl, λ a b. ap (λ (n : ℕ). c.args.sent.messages + n) (c.sent_by.ensures a b))

@@ -23,14 +23,6 @@ returns c =
       left c.args.place c.by_boxes-row.result c.args.k (row_is),
     )
 
-pub by_boxes-row-requires : goal.by_boxes-row-requires
-by_boxes-row-requires c =
-    c.requires.0
-
-pub by_boxes-rows-requires : goal.by_boxes-rows-requires
-by_boxes-rows-requires c =
-    c.requires.0
-
 pub overflow_add-result : goal.overflow_add-result
 overflow_add-result c =
     let row_is : c.by_boxes-row.result ≡ c.args.place / c.args.k =
@@ -53,14 +45,6 @@ overflow_mul-result c =
     whole c.args.place c.by_boxes-row.result c.args.k (row_is) in
     omega (arith, row_whole, place-whole, c.ranges.place.fits)
 
-pub overflow_sub-result : goal.overflow_sub-result
-overflow_sub-result c =
-    let rows_are : c.by_boxes-rows.result ≡ c.by_boxes-row.result / c.args.k =
-    c.by_boxes-rows.ensures in
-    let row_whole : c.by_boxes-rows.result * c.args.k ≤ c.by_boxes-row.result =
-    whole c.by_boxes-row.result c.by_boxes-rows.result c.args.k (rows_are) in
-    row_whole
-
 pub overflow_mul-result-2 : goal.overflow_mul-result-2
 overflow_mul-result-2 c =
     let row_is : c.by_boxes-row.result ≡ c.args.place / c.args.k =
@@ -68,11 +52,3 @@ overflow_mul-result-2 c =
     let place-whole : c.by_boxes-row.result * c.args.k ≤ c.args.place =
     whole c.args.place c.by_boxes-row.result c.args.k (row_is) in
     omega (arith, place-whole, c.ranges.place.fits)
-
-pub overflow_sub-result-2 : goal.overflow_sub-result-2
-overflow_sub-result-2 c =
-    let row_is : c.by_boxes-row.result ≡ c.args.place / c.args.k =
-    c.by_boxes-row.ensures in
-    let place-whole : c.by_boxes-row.result * c.args.k ≤ c.args.place =
-    whole c.args.place c.by_boxes-row.result c.args.k (row_is) in
-    place-whole

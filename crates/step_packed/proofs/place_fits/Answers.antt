@@ -2,13 +2,11 @@
 use mathlib.Core.Path.{◌≡◌, sym, ap, ◌∙◌}
 use mathlib.Core.Bool.{Bool, true}
 use Prim.Native.Nat.{ℕ, ◌<◌, ◌+◌, ◌*◌}
-use native.Mathlib.Nat.{le_antisymm, mul-le-mul}
 use native.Mathlib.Omega.{arith}
 use lib.Dec.{leb}
 use lib.ListN.{get_or}
 use lib.IntN.{pos, nat_abs, ◌+ℤ◌}
 use borrow.Author.Tests.{not-true, not-false}
-use Rattle.laws.specs.Below.{all}
 use Rattle.laws.specs.Limits.{max_amount}
 use Rattle.laws.proofs.Bools.{and_true}
 use Rattle.laws.proofs.Below.{all_next, all_fails, all_start}
@@ -17,25 +15,9 @@ use Rattle.model.proofs.SideBySide.{get_d_beside}
 use Rattle.step_packed.specs.Fits.{word_fits}
 use Rattle.step_packed.proofs.place_fits.Goals as goal
 
-pub overflow_mul-w : goal.overflow_mul-w
-overflow_mul-w c =
-    omega (arith, c.requires.source_long)
-
-pub overflow_mul-g : goal.overflow_mul-g
-overflow_mul-g c =
-    omega (arith, mul-le-mul c.index_at.ensures.1 c.requires.width_in)
-
 pub loop-q-init : goal.loop-q-init
 loop-q-init c =
     (omega arith, all_start _)
-
-pub overflow_add-w : goal.overflow_add-w
-overflow_add-w c =
-    omega (arith, c.requires.source_long, c.loop-q-test.true)
-
-pub overflow_add-g : goal.overflow_add-g
-overflow_add-g c =
-    omega (arith, mul-le-mul c.index_at.ensures.1 c.requires.width_in, c.loop-q-test.true, c.requires.width_in)
 
 pub word_fits-requires : goal.word_fits-requires
 word_fits-requires c =
@@ -69,13 +51,3 @@ loop-q-preserved c =
     ∙ ap (λ (g : ℕ). leb (nat_abs (get_or c.args.statement.now g (pos 0) +ℤ get_or c.args.source.now (c.args.i * c.args.width + c.loop-q.q) (pos 0))) max_amount) (number_is c.loop-q-test.true) in
     let q = c.loop-q.q in
     (omega (arith, c.loop-q-test.true), all_next q test ∙ and_true c.loop-q.invariant.1 (sym tested ∙ not-false c.word_fits.result (mathlib.Core.Path.ap mathlib.Core.Bool.not c.if-not-word_fits.false)))
-
-pub returns : goal.returns
-returns c =
-    let test : ℕ → Bool =
-    word_fits (c.args.i * c.args.width) (beside c.args.width c.args.grocers.now) c.args.source.now c.args.statement.now in
-    sym (ap (λ (n : ℕ). all n test) (le_antisymm c.loop-q-test.false c.loop-q.invariant.0) ∙ c.loop-q.invariant.1)
-
-pub index_at-requires : goal.index_at-requires
-index_at-requires c =
-    c.requires.place_in

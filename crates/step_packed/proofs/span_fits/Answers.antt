@@ -3,7 +3,7 @@ use mathlib.Core.Path.{◌≡◌, sym, ap, ◌∙◌}
 use mathlib.Core.Bool.{Bool, true}
 use mathlib.Core.List.{List}
 use Prim.Native.Nat.{ℕ, ◌≤◌, ◌<◌, ◌+◌, ◌-◌, ◌*◌}
-use native.Mathlib.Nat.{le_antisymm, mul-le-mul}
+use native.Mathlib.Nat.{mul-le-mul}
 use native.Mathlib.Omega.{arith}
 use lib.ListN.{get_or}
 use borrow.Author.Tests.{not-true, not-false}
@@ -77,13 +77,3 @@ loop-i-preserved c =
       fits_more first numbers c.args.source.now c.args.statement.now (c.loop-i.i * c.args.width) c.args.width w.0 ((c.loop-i.i + 1) * c.args.width)
           (sym (row_next c.loop-i.i c.args.width)) c.loop-i.invariant.2 (sym c.place_fits.ensures ∙ not-false c.place_fits.result (mathlib.Core.Path.ap mathlib.Core.Bool.not c.if-not-place_fits.false)),
     )
-
-pub returns : goal.returns
-returns c =
-    let first : ℕ =
-    c.args.from * c.args.width in
-    let numbers : List ℕ =
-    beside c.args.width c.args.grocers.now in
-    let test : ℕ → Bool =
-    word_fits first numbers c.args.source.now c.args.statement.now in
-    sym (ap (λ (i : ℕ). all (i * c.args.width - first) test) (le_antisymm c.loop-i-test.false c.loop-i.invariant.1) ∙ c.loop-i.invariant.2)

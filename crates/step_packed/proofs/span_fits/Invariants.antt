@@ -10,7 +10,3 @@ use Rattle.step_packed.proofs.span_fits.Given as goal
 abbrev pub invariant-loop-i : goal.invariant-loop-i
 invariant-loop-i l =
     (l.from ≤ l.i) × (l.i ≤ l.to) × (all (l.i * l.width - l.from * l.width) (word_fits (l.from * l.width) (beside l.width l.grocers) l.source l.statement) ≡ true)
-
-abbrev pub decreases-loop-i : goal.decreases-loop-i
-decreases-loop-i l =
-    l.to - l.i

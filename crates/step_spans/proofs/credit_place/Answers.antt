@@ -3,36 +3,18 @@ use mathlib.Core.Path.{◌≡◌, refl, sym, ap, ap₂, ◌∙◌}
 use mathlib.Core.List.{List}
 use Prim.Native.Nat.{ℕ, ◌+◌, ◌*◌, ◌<◌}
 use native.Mathlib.Omega.{arith}
-use native.Mathlib.Nat.{mul-le-mul, le_antisymm}
 use lib.IntN.{ℤ, pos, ◌+ℤ◌}
 use lib.ListN.{length, length-set, get_or, set}
 use Rattle.model.specs.Spans.{span_written, beside}
 use Rattle.model.proofs.SideBySide.{get_d_beside}
-use Rattle.step_spans.specs.Credit.{credit_span}
 use Rattle.step_spans.proofs.Laws.{span_none, span_past, span_more, span_end, credit_none, size_as, credit_most, credit_next}
 use Rattle.step_spans.proofs.credit_place.Goals as goal
-
-pub overflow_mul-w : goal.overflow_mul-w
-overflow_mul-w c =
-    omega (arith, c.requires.source_long)
-
-pub overflow_mul-g : goal.overflow_mul-g
-overflow_mul-g c =
-    omega (arith, mul-le-mul c.index_at.ensures.1 c.requires.width_in)
 
 pub loop-q-init : goal.loop-q-init
 loop-q-init c =
     let first : ℕ =
     c.args.i * c.args.width in
     (omega arith, refl, refl, span_end first first (first + 0) _ _ _ (span_none first (λ k. pos 0) c.args.source.now) (omega arith) (omega arith), credit_none 0 _ _ _ _ refl)
-
-pub overflow_add-w : goal.overflow_add-w
-overflow_add-w c =
-    omega (arith, c.requires.source_long, c.loop-q-test.true)
-
-pub overflow_add-g : goal.overflow_add-g
-overflow_add-g c =
-    omega (arith, mul-le-mul c.index_at.ensures.1 c.requires.width_in, c.loop-q-test.true, c.requires.width_in)
 
 pub credit_word-requires : goal.credit_word-requires
 credit_word-requires c =
@@ -81,26 +63,3 @@ loop-q-preserved c =
   where
     next : (a q : ℕ) → a + q + 1 ≡ a + (q + 1)
     next a q = omega arith
-
-pub returns : goal.returns
-returns c =
-    let numbers : List ℕ =
-    beside c.args.width c.args.grocers.now in
-    let first : ℕ =
-    c.args.i * c.args.width in
-    let same : c.loop-q.q ≡ c.args.width = le_antisymm c.loop-q.invariant.0 c.loop-q-test.false in (
-      c.loop-q.invariant.3 ∙ ap (λ (k : ℕ). span_written first (first + k) (λ k. pos 0) c.args.source.now) same,
-      c.loop-q.invariant.4 ∙ ap (λ (k : ℕ). credit_span k first numbers c.args.source.now c.args.statement.now) same,
-    )
-
-pub index_at-requires : goal.index_at-requires
-index_at-requires c =
-    c.requires.place_in
-
-pub shape_of-source : goal.shape_of-source
-shape_of-source c =
-    c.loop-q.invariant.1
-
-pub shape_of-statement : goal.shape_of-statement
-shape_of-statement c =
-    c.loop-q.invariant.2

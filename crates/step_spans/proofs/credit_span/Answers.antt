@@ -3,7 +3,7 @@ use mathlib.Core.Path.{◌≡◌, refl, sym, ap, ap₂, ◌∙◌}
 use mathlib.Core.List.{List}
 use Prim.Native.Nat.{ℕ, ◌+◌, ◌-◌, ◌*◌, ◌<◌, ◌≤◌}
 use native.Mathlib.Omega.{arith}
-use native.Mathlib.Nat.{mul-le-mul, le_antisymm}
+use native.Mathlib.Nat.{mul-le-mul}
 use lib.IntN.{ℤ, pos}
 use lib.ListN.{length, get_or}
 use Rattle.laws.proofs.Tables.{row_next, row_in}
@@ -83,22 +83,3 @@ loop-i-preserved c =
           (λ q l. rw at (total_is h q l))
           ∙ ap (λ (k : ℕ). credit_span k first numbers c.args.source.now c.args.statement.now) more,
     )
-
-pub returns : goal.returns
-returns c =
-    let first : ℕ =
-    c.args.from * c.args.width in
-    let numbers : List ℕ =
-    beside c.args.width c.args.grocers.now in
-    let same : c.loop-i.i ≡ c.args.to = le_antisymm c.loop-i.invariant.1 c.loop-i-test.false in (
-      c.loop-i.invariant.4 ∙ ap (λ (k : ℕ). span_written first (k * c.args.width) (λ k. pos 0) c.args.source.now) same,
-      c.loop-i.invariant.5 ∙ ap (λ (k : ℕ). credit_span (k * c.args.width - first) first numbers c.args.source.now c.args.statement.now) same,
-    )
-
-pub shape_of-source : goal.shape_of-source
-shape_of-source c =
-    c.loop-i.invariant.2
-
-pub shape_of-statement : goal.shape_of-statement
-shape_of-statement c =
-    c.loop-i.invariant.3

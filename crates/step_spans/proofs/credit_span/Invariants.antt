@@ -11,7 +11,3 @@ abbrev pub invariant-loop-i : goal.invariant-loop-i
 invariant-loop-i l =
     (l.from ≤ l.i) × (l.i ≤ l.to) × (length l.source ≡ length l.initial.source) × (length l.statement ≡ length l.initial.statement) × (l.source ≡ span_written (l.from * l.width) (l.i * l.width) (λ k. pos 0) l.initial.source)
     × (l.statement ≡ credit_span (l.i * l.width - l.from * l.width) (l.from * l.width) (beside l.width l.grocers) l.initial.source l.initial.statement)
-
-abbrev pub decreases-loop-i : goal.decreases-loop-i
-decreases-loop-i l =
-    l.to - l.i

@@ -4,7 +4,7 @@ use native.Mathlib.Omega.{arith}
 use lib.IntN.{pos}
 use lib.ListN.{length-set, get_or}
 use Rattle.laws.proofs.Signed.{read64}
-use Rattle.step_spans.proofs.Laws.{span_none, span_next, span_more, span_end}
+use Rattle.step_spans.proofs.Laws.{span_none, span_next, span_more}
 use Rattle.step_spans.proofs.move_span.Goals as goal
 
 pub loop-i-init : goal.loop-i-init
@@ -21,15 +21,3 @@ loop-i-preserved c = (
   span_more _ c.loop-i.i _ _ _ _ c.loop-i.invariant.5 c.loop-i.invariant.0 (omega (arith, c.requires.2))
       (read64 (get_or c.loop-i.working c.loop-i.i (pos 0)) c.v-1.given ∙ span_next _ c.loop-i.i _ _ _ c.loop-i.invariant.4 (omega (arith, c.requires.1))),
 )
-
-pub shape_of-working : goal.shape_of-working
-shape_of-working c =
-    c.loop-i.invariant.2
-
-pub shape_of-transit : goal.shape_of-transit
-shape_of-transit c =
-    c.loop-i.invariant.3
-
-pub returns : goal.returns
-returns c =
-    (span_end _ c.loop-i.i _ _ _ _ c.loop-i.invariant.4 c.loop-i.invariant.1 (omega arith), span_end _ c.loop-i.i _ _ _ _ c.loop-i.invariant.5 c.loop-i.invariant.1 (omega arith))

@@ -1,4 +1,5 @@
 -- `test_calls::entries_add` gives what the call gives, in a number and a lent buffer. Assumes nothing.
+use borrow.Author.Rules.{rules}
 use Rattle.laws.proofs.Signed.{read32}
 use Rattle.model.specs.Tables.{StateTables, state_tables}
 use Rattle.format.specs.Job.{Head, head_of}
@@ -9,75 +10,15 @@ use Rattle.test_calls.proofs.entries_add.Goals as goal
 
 pub returns-then-code-edited : goal.returns-then-code-edited
 returns-then-code-edited c =
-    added_short _ _ _ _ _ _ _ _ _ _ _ c.if-code-edited.true
+    rw c.number.ensures (added_short _ _ _ _ _ _ _ _ _ _ _ c.if-code-edited.true)
 
 pub tell_edit-requires : goal.tell_edit-requires
 tell_edit-requires c =
     (code-room c.args.code.now c.args.edited.now c.if-code-edited.false).1
 
-pub shape_of-tally_grocer : goal.shape_of-tally_grocer
-shape_of-tally_grocer c =
-    c.add-a.auto.tally_grocer
-
-pub shape_of-tally_box : goal.shape_of-tally_box
-shape_of-tally_box c =
-    c.add-a.auto.tally_box
-
-pub shape_of-tally_code : goal.shape_of-tally_code
-shape_of-tally_code c =
-    c.add-a.auto.tally_code
-
-pub shape_of-tally_count : goal.shape_of-tally_count
-shape_of-tally_count c =
-    c.add-a.auto.tally_count
-
-pub shape_of-tally_issuer : goal.shape_of-tally_issuer
-shape_of-tally_issuer c =
-    c.add-a.auto.tally_issuer
-
-pub shape_of-tally_bag : goal.shape_of-tally_bag
-shape_of-tally_bag c =
-    c.add-a.auto.tally_bag
-
-pub shape_of-tally_revision : goal.shape_of-tally_revision
-shape_of-tally_revision c =
-    c.add-a.auto.tally_revision
-
-pub shape_of-tally_offer : goal.shape_of-tally_offer
-shape_of-tally_offer c =
-    c.add-a.auto.tally_offer
-
-pub shape_of-known : goal.shape_of-known
-shape_of-known c =
-    c.add-a.auto.known
-
-pub shape_of-price_transit : goal.shape_of-price_transit
-shape_of-price_transit c =
-    c.add-a.auto.price_transit
-
-pub shape_of-working : goal.shape_of-working
-shape_of-working c =
-    c.add-a.auto.working
-
-pub shape_of-total_transit : goal.shape_of-total_transit
-shape_of-total_transit c =
-    c.add-a.auto.total_transit
-
-pub shape_of-statement : goal.shape_of-statement
-shape_of-statement c =
-    c.add-a.auto.statement
-
-pub shape_of-done : goal.shape_of-done
-shape_of-done c =
-    c.add-a.auto.done
-
-pub shape_of-sent : goal.shape_of-sent
-shape_of-sent c =
-    c.add-a.auto.sent
-
 pub shape_of-edited : goal.shape_of-edited
 shape_of-edited c =
-    c.tell_edit.auto.edited
+    c.tell_edit.auto.report
 
 pub code_of-bytes-requires : goal.code_of-bytes-requires
 code_of-bytes-requires c =
@@ -96,6 +37,8 @@ returns c =
     let state : StateTables =
     state_tables c.args.known.now c.args.price_transit.now c.args.working.now c.args.total_transit.now c.args.statement.now c.args.done.now c.args.sent.now in
     let x = c.args in
+    let out =
     added_told head reader state x.edited.now x.grocer x.box_of x.code.now x.count x.issuer x.bag x.revision
-    c.code_of-bytes.result _ (late_answer_of c.add-a.result) _ _ c.tell_edit.result _
-    c.if-code-edited.false c.code_of-bytes.ensures (read32 x.count c.ranges.count.sfits) c.tell_edit.ensures c.add-a.ensures
+    c.code_of-bytes.result _ (late_answer_of c.add-answer.result) _ _ c.tell_edit.result _
+    c.if-code-edited.false c.code_of-bytes.ensures (read32 x.count c.ranges.count.sfits) c.tell_edit.ensures c.add-answer.ensures.added in
+    search (rules, out, c.add-answer.ensures.kept)

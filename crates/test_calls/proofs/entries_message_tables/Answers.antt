@@ -7,7 +7,7 @@ use Rattle.test_calls.proofs.entries_message_tables.Goals as goal
 pub returns-then-price_words-total_words : goal.returns-then-price_words-total_words
 unfolding messages_short
 returns-then-price_words-total_words c =
-    messages_short_lem _ _ _ _ c.if-price_words-total_words.true
+    rw c.number.ensures (messages_short_lem _ _ _ _ c.if-price_words-total_words.true)
 
 pub tell_messages-requires : goal.tell_messages-requires
 unfolding messages_short
@@ -30,4 +30,4 @@ shape_of-job_words c =
 pub returns : goal.returns
 unfolding messages_short no_words tabulate
 returns c =
-    messages_told_lem _ _ _ _ _ _ _ _ _ c.if-price_words-total_words.false c.message_tables-a.ensures c.tell_messages.ensures
+    messages_told_lem _ _ _ _ _ _ _ _ _ c.if-price_words-total_words.false c.message_tables-answer.ensures c.tell_messages.ensures

@@ -6,7 +6,7 @@ use Rattle.test_calls.proofs.entries_reconcile.Goals as goal
 pub returns-then-few-owed : goal.returns-then-few-owed
 unfolding short_fields
 returns-then-few-owed c =
-    told_short _ _ _ _ _ _ _ _ _ _ _ c.if-few-owed.true
+    rw c.number.ensures (told_short _ _ _ _ _ _ _ _ _ _ _ c.if-few-owed.true)
 
 pub records-list-requires : goal.records-list-requires
 unfolding short_fields
@@ -27,7 +27,7 @@ tell-requires c =
 pub returns : goal.returns
 unfolding short_fields
 returns c =
-    told-whole _ _ _ _ _ _ _ _ _ _ _ _ _ _ _ _ c.if-few-owed.false c.shown-k.ensures c.tell.ensures c.reconcile_few-a.ensures c.records-list.ensures
+    told-whole _ _ _ _ _ _ _ _ _ _ _ _ _ _ _ _ c.if-few-owed.false c.shown-k.ensures c.tell.ensures c.reconcile_few-answer.ensures c.records-list.ensures
 
 pub shape_of-owed : goal.shape_of-owed
 shape_of-owed c =

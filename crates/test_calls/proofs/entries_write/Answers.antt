@@ -6,8 +6,8 @@ use Rattle.test_calls.proofs.entries_write.Goals as goal
 pub returns : goal.returns
 unfolding written_as
 returns c =
-    rw (sym c.write-a.ensures, c.number.ensures)
+    rw (sym c.write.ensures, c.number.ensures)
 
 pub shape_of-out : goal.shape_of-out
 shape_of-out c =
-    c.write-a.auto.out
+    c.write.auto.out

@@ -2,12 +2,12 @@
 use Rattle.test_calls.specs.Entries.{write_number}
 use Rattle.test_calls.proofs.number.Goals as goal
 
-pub returns-in-Wrote : goal.returns-in-Wrote
+pub returns-in-Ok : goal.returns-in-Ok
 unfolding write_number
-returns-in-Wrote c =
-    rw c.in-Wrote.is
+returns-in-Ok c =
+    rw c.in-Ok.is
 
-pub returns-in-Refused : goal.returns-in-Refused
+pub returns-in-Err : goal.returns-in-Err
 unfolding write_number
-returns-in-Refused c =
-    rw c.in-Refused.is
+returns-in-Err c =
+    rw (c.in-Err.is, c.number.ensures)

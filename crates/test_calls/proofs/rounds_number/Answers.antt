@@ -3,12 +3,12 @@ use Rattle.trial.specs.Trial.{answer_of}
 use Rattle.test_calls.specs.EntryTrial.{rounds_number}
 use Rattle.test_calls.proofs.rounds_number.Goals as goal
 
-pub returns-in-Tried : goal.returns-in-Tried
+pub returns-in-Ok : goal.returns-in-Ok
 unfolding rounds_number answer_of
-returns-in-Tried c =
-    rw c.in-Tried.is
+returns-in-Ok c =
+    rw c.in-Ok.is
 
-pub returns-in-Refused : goal.returns-in-Refused
+pub returns-in-Err : goal.returns-in-Err
 unfolding rounds_number answer_of
-returns-in-Refused c =
-    rw c.in-Refused.is
+returns-in-Err c =
+    rw (c.in-Err.is, c.number.ensures)

@@ -7,8 +7,8 @@ pub lay-requires : goal.lay-requires
 lay-requires c =
     c.requires.0
 
-pub lay-requires-in-Made : goal.lay-requires-in-Made
-lay-requires-in-Made c =
+pub lay-requires-in-Ok : goal.lay-requires-in-Ok
+lay-requires-in-Ok c =
     c.requires.1
 
 pub bounds-job_words-0 : goal.bounds-job_words-0
@@ -21,16 +21,16 @@ shape_of-price_words c =
 
 pub shape_of-total_words : goal.shape_of-total_words
 shape_of-total_words c =
-    c.lay-in-Made.auto.out
+    c.lay-in-Ok.auto.out
 
 pub shape_of-job_words : goal.shape_of-job_words
 shape_of-job_words c =
     length-set c.args.job_words.now 0 _
 
-pub returns-in-Made : goal.returns-in-Made
-returns-in-Made c =
-    told_made _ _ _ _ _ c.args.job_words.now _ _ _ c.in-Made.is c.requires.2 c.lay.ensures c.lay-in-Made.ensures
+pub returns-in-Ok : goal.returns-in-Ok
+returns-in-Ok c =
+    told_made _ _ _ _ _ c.args.job_words.now _ _ _ c.in-Ok.is c.requires.2 c.lay.ensures c.lay-in-Ok.ensures
 
-pub returns-in-Refused : goal.returns-in-Refused
-returns-in-Refused c =
-    told_not_made _ _ _ _ _ _ _ c.in-Refused.is
+pub returns-in-Err : goal.returns-in-Err
+returns-in-Err c =
+    told_not_made _ _ _ _ _ _ _ _ c.in-Err.is c.number.ensures

@@ -1,17 +1,16 @@
 -- `test_calls::tell_numbers` meets its contract. Assumes nothing.
-use native.Mathlib.Omega.{arith}
-use lib.ListN.{length-set}
-use Rattle.test_calls.proofs.Told.{told_numbers, told_not_booked}
+use Rattle.laws.specs.Tables.{tabulate, overwrite}
+use Rattle.book_sort.specs.Sort.{in_front}
+use Rattle.book.specs.Book.{said}
+use Rattle.test_calls.specs.EntryBook.{numbers_as}
 use Rattle.test_calls.proofs.tell_numbers.Goals as goal
 
-pub bounds-numbers-1 : goal.bounds-numbers-1
-bounds-numbers-1 c =
-    rw (length-set c.args.numbers.now 0 _) (omega (arith, c.requires))
+pub returns-in-Ok : goal.returns-in-Ok
+unfolding numbers_as said in_front overwrite tabulate
+returns-in-Ok c =
+    rw (c.in-Ok.is, c.copy_from_slice.ensures.after)
 
-pub returns-in-Book : goal.returns-in-Book
-returns-in-Book c =
-    told_numbers _ _ _ _ c.args.numbers.now c.in-Book.is c.requires
-
-pub returns-in-Refused : goal.returns-in-Refused
-returns-in-Refused c =
-    told_not_booked _ _ _ c.in-Refused.is
+pub returns-in-Err : goal.returns-in-Err
+unfolding numbers_as said
+returns-in-Err c =
+    rw (c.in-Err.is, c.number.ensures)

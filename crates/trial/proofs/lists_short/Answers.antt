@@ -3,4 +3,4 @@ use Rattle.trial.proofs.lists_short.Goals as goal
 
 pub returns : goal.returns
 returns c =
-    rw c.index_of.ensures.0
+    rw c.from.ensures

@@ -1,37 +1,20 @@
 -- `trial_rounds::is_preference` meets its contract. Assumes nothing.
-use mathlib.Core.Path.{sym, ap, ◌∙◌}
-use mathlib.Core.Bool.{Bool}
-use Prim.Native.Nat.{ℕ, suc}
-use native.Mathlib.Numerals.{add-one}
-use native.Mathlib.Omega.{arith}
+use mathlib.Core.Path.{◌≡◌, refl}
+use mathlib.Core.Bool.{Bool, true, false}
+use Prim.Native.Nat.{ℕ}
 use lib.Dec.{eqb}
 use lib.ListN.{get_or}
-use borrow.Author.Rules.{rules}
-use Rattle.laws.specs.Below.{count, all}
-use Rattle.laws.proofs.Below.{all_start, all_more}
+use Rattle.std.proofs.Common.{rules, tests}
+use Rattle.std.proofs.lemmas.Iterator.{YieldsList-from_range, cases_from_all}
+use Rattle.laws.specs.Below.{count}
 use Rattle.trial_rules.specs.Rounds.{is_preference}
+use Rattle.trial_rounds.proofs.Taken.{all_range}
 use Rattle.trial_rounds.proofs.is_preference.Goals as goal
-
-pub loop-n-preserved : goal.loop-n-preserved
-loop-n-preserved c =
-    let once : ℕ → Bool =
-    λ m. eqb (count 6 (λ i. eqb (get_or c.args.list.now i 0) (suc m))) 1 in (
-      search rules,
-      all_more c.loop-n.n once c.loop-n.each _ c.loop-n.invariant.1
-          (ap (λ (x : ℕ). eqb x 1) (c.times-once.ensures ∙ ap (λ (q : ℕ). count 6 (λ i. eqb (get_or c.args.list.now i 0) q)) (add-one c.loop-n.n))),
-    )
 
 pub returns : goal.returns
 unfolding is_preference
 returns c =
-    let once : ℕ → Bool =
-    λ m. eqb (count 6 (λ i. eqb (get_or c.args.list.now i 0) (suc m))) 1 in
-    c.loop-n.invariant.1 ∙ ap (λ (n : ℕ). all n once) (omega (arith, c.loop-n.invariant.0, c.loop-n-test.false))
-
-pub loop-n-init : goal.loop-n-init
-loop-n-init c =
-    (search rules, sym (all_start _))
-
-pub times-once-requires : goal.times-once-requires
-times-once-requires c =
-    c.requires
+    let once : ℕ → Bool = λ kind. eqb (count 6 (λ i. eqb (get_or c.args.list.now i 0) kind)) 1 in
+    let tested = cases_from_all _ _ c.all.result (λ x. once x ≡ true) (λ x. once x ≡ false) c.all.ensures.ran (YieldsList-from_range 1 7 6 refl refl)
+    (λ x q k. search (rules, tests)) (λ x q k. search (rules, tests)) in
+    all_range once c.all.result tested

@@ -1,45 +1,28 @@
 -- `writer::write` meets its contract. Assumes nothing.
-use mathlib.Core.Path.{◌≡◌, sym, ap, ◌∙◌}
-use Rattle.format.specs.Job.{Head}
-use Rattle.format.specs.Tables.{FileTables, offer_tables, tally_tables, file_tables, write_refusal, write_result}
+use mathlib.Core.Path.{sym}
+use native.Mathlib.Omega.{arith}
+use Rattle.std.proofs.lemmas.Result.{err_from_is_err_and}
+use Rattle.refusals.specs.Numbers.{number_of}
+use Rattle.refusals.proofs.Numbers.{number_positive}
 use Rattle.file_blocks.specs.Due.{as_head}
+use Rattle.writer_checks.specs.Held.{held}
 use Rattle.writer.proofs.Written.{ready, refused_is, written_is}
 use Rattle.writer.proofs.write.Goals as goal
 
-pub returns-then-refusal-ne0 : goal.returns-then-refusal-ne0
-returns-then-refusal-ne0 c =
-    let tables : FileTables =
-    let a = c.args in
-    file_tables (offer_tables a.price.now a.offer_owner.now a.offer_code.now a.offer_issuer.now) a.grocer_owner.now
-    (tally_tables a.tally_grocer.now a.tally_box.now a.tally_code.now a.tally_count.now a.tally_issuer.now a.tally_bag.now a.tally_revision.now) in
-    refused_is _ tables c.args.out.now _ c.write_refusal-refusal.ensures c.if-refusal-ne0.true
-    ∙ ap (λ (x : Head). write_result x tables c.args.out.now) c.head_of-head.ensures.0
+pub returns-in_err-write_refusal : goal.returns-in_err-write_refusal
+returns-in_err-write_refusal c =
+    let x = c.args.tables.now in
+    let p = err_from_is_err_and c.from_residual.result c.from_residual.ensures.1 in
+    let r = c.in_err-write_refusal.field-0.0 in
+    let l = number_positive r in
+    rw (p.1, p.2) (refused_is (as_head x.head) (held x) c.args.out.now (number_of r) c.in_err-write_refusal.ensures (λ z. omega arith))
 
 pub put_file-requires : goal.put_file-requires
 put_file-requires c =
-    let tables : FileTables =
-    let a = c.args in
-    file_tables (offer_tables a.price.now a.offer_owner.now a.offer_code.now a.offer_issuer.now) a.grocer_owner.now
-    (tally_tables a.tally_grocer.now a.tally_box.now a.tally_code.now a.tally_count.now a.tally_issuer.now a.tally_bag.now a.tally_revision.now) in
-    let taken : write_refusal (as_head c.head_of-head.result) tables c.args.out.now ≡ 0 =
-    sym c.write_refusal-refusal.ensures ∙ c.if-refusal-ne0.false in
-    ready _ tables c.args.out.now (taken)
-
-pub file_length-requires : goal.file_length-requires
-file_length-requires c =
-    c.head_of-head.ensures.1
+    let x = c.args.tables.now in
+    ready (as_head x.head) (held x) c.args.out.now (sym c.in_ok-write_refusal.ensures)
 
 pub returns : goal.returns
 returns c =
-    let tables : FileTables =
-    let a = c.args in
-    file_tables (offer_tables a.price.now a.offer_owner.now a.offer_code.now a.offer_issuer.now) a.grocer_owner.now
-    (tally_tables a.tally_grocer.now a.tally_box.now a.tally_code.now a.tally_count.now a.tally_issuer.now a.tally_bag.now a.tally_revision.now) in
-    let taken : write_refusal (as_head c.head_of-head.result) tables c.args.out.now ≡ 0 =
-    sym c.write_refusal-refusal.ensures ∙ c.if-refusal-ne0.false in
-    written_is _ tables c.args.out.now taken _ _ c.file_length.ensures c.put_file.ensures
-    ∙ ap (λ (x : Head). write_result x tables c.args.out.now) c.head_of-head.ensures.0
-
-pub write_refusal-refusal-requires : goal.write_refusal-refusal-requires
-write_refusal-refusal-requires c =
-    c.head_of-head.ensures.1
+    let x = c.args.tables.now in
+    written_is (as_head x.head) (held x) c.args.out.now (sym c.in_ok-write_refusal.ensures) _ _ c.file_length.ensures c.put_file.ensures

@@ -1,25 +1,22 @@
--- `writer_bytes::put_zeros` meets its contract. The invariant: the first i bytes are 0. Assumes nothing.
+-- `writer_bytes::put_zeros` meets its contract: a part filled. Assumes nothing.
+use mathlib.Core.Path.{◌≡◌, ap, ◌∙◌}
+use mathlib.Core.List.{List}
 use Prim.Native.Nat.{ℕ}
-use mathlib.Core.Path.{refl, ap, ◌∙◌}
 use native.Mathlib.Omega.{arith}
-use native.Mathlib.Nat.{le_antisymm}
-use lib.ListN.{length-set}
-use Rattle.writer_bytes.specs.Puts.{put}
-use Rattle.writer_bytes.proofs.Puts.{put_none, store_next}
+use lib.ListN.{length, drop, replicate, length-drop, length-replicate}
+use lib.Seq.{length-take-le}
+use Rattle.laws.proofs.Loops.{get_d_zeros}
+use Rattle.writer_bytes.specs.Puts.{put, bytes_of}
+use Rattle.writer_bytes.proofs.Puts.{mid_put, put_cong}
 use Rattle.writer_bytes.proofs.put_zeros.Goals as goal
-
-pub loop-i-init : goal.loop-i-init
-loop-i-init c =
-    (omega arith, refl, put_none _ _ _)
-
-pub loop-i-preserved : goal.loop-i-preserved
-loop-i-preserved c =
-    (omega arith, simp length-set c.loop-i.invariant.1, rw c.loop-i.invariant.2 (store_next c.args.at c.loop-i.i (λ _. 0) c.args.out.now 0 (omega arith) refl))
-
-pub shape_of-out : goal.shape_of-out
-shape_of-out c =
-    c.loop-i.invariant.1
 
 pub returns : goal.returns
 returns c =
-    c.loop-i.invariant.2 ∙ ap (λ (i : ℕ). put c.args.at i (λ _. 0) c.args.out.now) (le_antisymm c.loop-i.invariant.0 c.loop-i-test.false)
+    let x = c.args in
+    let zeros : List ℕ = replicate x.n 0 in
+    let long : length zeros ≡ x.n = length-replicate x.n 0 in
+    mid_put x.at _ x.out.now zeros c.fill.new.self (omega (arith, long)) (omega (arith, long))
+    (c.fill.ensures.after (λ y h. h) ∙ ap (λ (n : ℕ). replicate n 0)
+    (length-take-le _ (drop x.at x.out.now) (omega (arith, length-drop x.at x.out.now)) ∙ omega arith))
+    ∙ ap (λ (n : ℕ). put x.at n (bytes_of zeros) x.out.now) long
+    ∙ put_cong x.at x.n (bytes_of zeros) (λ _. 0) x.out.now (λ k l. get_d_zeros x.n k 0)

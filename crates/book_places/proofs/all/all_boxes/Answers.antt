@@ -1,14 +1,8 @@
 -- `book_places::all::all_boxes` meets its contract. Assumes nothing.
-use mathlib.Core.Path.{◌∙◌}
 use native.Mathlib.Omega.{arith}
 use Rattle.book_places.specs.Boxes.{RowsIn}
 use Rattle.book_places.proofs.Boxes.{told_rows, all_told}
 use Rattle.book_places.proofs.all.all_boxes.Goals as goal
-
-pub all_lists-requires : goal.all_lists-requires
-all_lists-requires c =
-    let r = c.requires.room in
-    record { owners_in = r.owners_in; words_long = r.words_long; heads_long = r.heads_long; out_long = r.grocers_long }
 
 pub put_half-requires : goal.put_half-requires
 put_half-requires c =
@@ -43,18 +37,6 @@ put_half-requires-2 c =
       );
       by_index = λ t h. omega (arith, a.item_in t h, a.room.m_in);
     }
-
-pub shape_of-heads : goal.shape_of-heads
-shape_of-heads c =
-    c.all_lists.auto.heads
-
-pub shape_of-grocers : goal.shape_of-grocers
-shape_of-grocers c =
-    c.all_lists.auto.out
-
-pub shape_of-places : goal.shape_of-places
-shape_of-places c =
-    c.put_half-2.auto.places ∙ c.put_half.auto.places
 
 pub returns : goal.returns
 returns c =

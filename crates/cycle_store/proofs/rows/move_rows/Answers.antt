@@ -10,11 +10,7 @@ use Rattle.cycle_store.proofs.rows.move_rows.Goals as goal
 
 pub loop-p-init : goal.loop-p-init
 loop-p-init c =
-    (omega arith, from_end _ _ _)
-
-pub moved_word-x-requires : goal.moved_word-x-requires
-moved_word-x-requires c =
-    (c.requires.m_in_bounds.0, omega (arith, c.loop-p.invariant.0, c.loop-p.invariant.1.long, c.requires.m_in_bounds.1, c.loop-p-test.true))
+    from_end _ _ _
 
 pub loop-p-preserved : goal.loop-p-preserved
 loop-p-preserved c =
@@ -22,32 +18,12 @@ loop-p-preserved c =
     mul-le-mul c.requires.le_m.1.0 c.requires.le_m.0.0 in
     let h = c.args.held.now in
     let n : suc (c.loop-p.p - 1) ≡ c.loop-p.p = omega (arith, c.loop-p-test.true) in
-    let y : From (13 * c.args.m) (word_moved c.args.m (c.args.k * c.args.m) c.args.amounts.now h) h (suc (c.loop-p.p - 1)) c.loop-p.held = rw n c.loop-p.invariant.1 in (
-      omega (arith, c.loop-p.invariant.0),
-      from_more (13 * c.args.m) _ h (c.loop-p.p - 1) c.loop-p.held _ y (omega (arith, n, c.loop-p.invariant.0)) c.requires.m_in_bounds.1
-          (read64 c.moved_word-x.result c.moved_word-x.type_inv ∙ c.moved_word-x.ensures
-          ∙ word_read c.args.m (c.args.k * c.args.m) c.args.amounts.now h c.loop-p.held (c.loop-p.p - 1) (omega (arith, some)) (λ q k. c.loop-p.invariant.1.before q (omega (arith, n)))),
-    )
+    let y : From (13 * c.args.m) (word_moved c.args.m (c.args.k * c.args.m) c.args.amounts.now h) h (suc (c.loop-p.p - 1)) c.loop-p.held = rw n c.loop-p.invariant in
+    from_more (13 * c.args.m) _ h (c.loop-p.p - 1) c.loop-p.held _ y (omega (arith, n)) c.requires.m_in_bounds.1
+    (read64 c.moved_word.result c.moved_word.type_inv ∙ c.moved_word.ensures
+    ∙ word_read c.args.m (c.args.k * c.args.m) c.args.amounts.now h c.loop-p.held (c.loop-p.p - 1) (omega (arith, some)) (λ q k. c.loop-p.invariant.before q (omega (arith, n))))
 
 pub returns : goal.returns
 returns c =
     let e : c.loop-p.p ≡ 0 = omega (arith, c.loop-p-test.false) in
-    from_start (13 * c.args.m) _ c.args.held.now c.loop-p.held (rw e at c.loop-p.invariant.1) c.requires.m_in_bounds.1
-
-pub overflow_mul-back : goal.overflow_mul-back
-overflow_mul-back c =
-    let few : c.args.k * c.args.m ≤ 13 * 255 =
-    mul-le-mul {n₂ = 13} c.requires.le_m.1.1 c.requires.le_m.0.1 in
-    omega (arith, few)
-
-pub overflow_mul-p : goal.overflow_mul-p
-overflow_mul-p c =
-    omega (arith, c.requires.le_m.0.1)
-
-pub bounds-held-p : goal.bounds-held-p
-bounds-held-p c =
-    omega (arith, c.loop-p.invariant.0, c.loop-p.invariant.1.long, c.requires.m_in_bounds.1, c.loop-p-test.true)
-
-pub shape_of-held : goal.shape_of-held
-shape_of-held c =
-    c.loop-p.invariant.1.long
+    from_start (13 * c.args.m) _ c.args.held.now c.loop-p.held (rw e at c.loop-p.invariant) c.requires.m_in_bounds.1

@@ -26,18 +26,15 @@ place_is f at i n e = rw (count_is f at n e, add_assoc at 1 i)
 pub loop-i-init : goal.loop-i-init
 unfolding all
 loop-i-init c =
-    (omega arith, refl)
+    refl
 
 pub loop-i-preserved : goal.loop-i-preserved
 loop-i-preserved c =
-    let x = c.byte_at.ensures.0 in (
-      omega arith,
-      all_more c.loop-i.i _ _ _ c.loop-i.invariant.1
-          (rw x at c.is_place-ok.ensures ∙ place_is c.args.f.now c.args.at c.loop-i.i _ c.byte_at-n.ensures.0),
-    )
+    let x = c.byte_at.ensures.0 in
+    all_more c.loop-i.i _ _ _ c.loop-i.invariant (rw x at c.is_place-ok.ensures ∙ place_is c.args.f.now c.args.at c.loop-i.i _ c.byte_at-n.ensures.0)
 
 pub returns : goal.returns
 unfolding is_code
 returns c =
     let e : c.loop-i.i ≡ 10 = omega arith in
-    rw (c.loop-i.invariant.1, e, ← (count_is c.args.f.now c.args.at _ c.byte_at-n.ensures.0))
+    rw (c.loop-i.invariant, e, ← (count_is c.args.f.now c.args.at _ c.byte_at-n.ensures.0))

@@ -1,6 +1,5 @@
 -- `file_blocks::codes::is_code` meets its contract. Assumes nothing.
 use mathlib.Core.Path.{◌≡◌}
-use Prim.Native.Nat.{◌≤◌, ◌-◌}
 use Rattle.laws.specs.Below.{all}
 use Rattle.format.specs.Bytes.{from}
 use Rattle.format.specs.Codes.{is_place, read_code}
@@ -8,8 +7,4 @@ use Rattle.file_blocks.proofs.codes.is_code.Given as goal
 
 abbrev pub invariant-loop-i : goal.invariant-loop-i
 invariant-loop-i l =
-    (l.i ≤ 10) × (l.ok ≡ all l.i (is_place (read_code (from l.f l.at))))
-
-abbrev pub decreases-loop-i : goal.decreases-loop-i
-decreases-loop-i l =
-    10 - l.i
+    l.ok ≡ all l.i (is_place (read_code (from l.f l.at)))

@@ -1,8 +1,7 @@
 -- `file_blocks::fill::fill_lists` meets its contract. The invariant: the first list and the first q additional ones are written. Assumes nothing.
 use mathlib.Core.Path.{◌≡◌}
 use mathlib.Core.List.{List}
-use Prim.Native.Nat.{ℕ, ◌+◌, ◌*◌, ◌-◌, ◌≤◌}
-use lib.ListN.{length}
+use Prim.Native.Nat.{ℕ, ◌+◌}
 use Rattle.laws.specs.Tables.{recell}
 use Rattle.format.specs.Job.{price_on}
 use Rattle.format.specs.File.{decode}
@@ -14,8 +13,4 @@ prices f = price_on (decode f).offer (decode f).list_price
 
 abbrev pub invariant-loop-q : goal.invariant-loop-q
 invariant-loop-q l =
-    (l.q ≤ l.lists) × (l.first ≡ l.initial.first + l.q * l.blocks) × (l.to ≡ (l.q + 1) * l.n) × (length l.price ≡ length l.initial.price) × (l.price ≡ recell (l.q + 1) l.n (prices l.f) l.initial.price)
-
-abbrev pub decreases-loop-q : goal.decreases-loop-q
-decreases-loop-q l =
-    l.lists - l.q
+    l.price ≡ recell (l.q + 1) l.n (prices l.file.bytes.now) l.initial.price

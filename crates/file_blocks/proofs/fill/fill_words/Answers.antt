@@ -1,56 +1,9 @@
--- `file_blocks::fill::fill_words` meets its contract. The invariant: the first i words are written. Assumes nothing.
-use mathlib.Core.Path.{refl, ap, ◌∙◌}
-use Prim.Native.Nat.{ℕ, ◌+◌, ◌≤◌}
-use native.Mathlib.Omega.{arith}
-use lib.ListN.{length, length-set}
-use Rattle.laws.proofs.Tables.{fill_none, fill_more, fill_end}
-use Rattle.format.specs.Bytes.{from, word16}
-use Rattle.format.specs.File.{record_at}
+-- `file_blocks::fill::fill_words` meets its contract. Assumes nothing.
+use Rattle.std.proofs.Common.{rules}
+use Rattle.file_blocks.proofs.ByPlace.{filled_by}
 use Rattle.file_blocks.proofs.RecordWords.{word_shift}
 use Rattle.file_blocks.proofs.fill.fill_words.Goals as goal
 
-pub loop-i-init : goal.loop-i-init
-loop-i-init c =
-    (omega arith, refl, fill_none _ _)
-
-pub loop-i-preserved : goal.loop-i-preserved
-loop-i-preserved c =
-    let f = c.args.f.now in
-    let i = c.loop-i.i in
-    let e = ap (λ (p : ℕ). word16 (from f (p + c.args.at))) c.record_at.ensures in (
-      omega arith,
-      simp length-set c.loop-i.invariant.1,
-      fill_more _ i _ _ _ c.loop-i.invariant.2 (omega (arith, c.requires.first_bound.3)) (c.narrow16.ensures ∙ e ∙ word_shift f (record_at c.args.first i) c.args.at),
-    )
-
 pub returns : goal.returns
 returns c =
-    fill_end _ c.loop-i.i _ _ _ c.loop-i.invariant.2 c.loop-i.invariant.0 c.loop-i-test.false
-
-pub record_at-requires : goal.record_at-requires
-record_at-requires c =
-    (c.requires.first_bound.0, omega (arith, c.requires.first_bound.1))
-
-pub overflow_add-record_at : goal.overflow_add-record_at
-overflow_add-record_at c =
-    let room : c.record_at.result + 24 ≤ length c.args.f.now =
-    omega (arith, c.record_at.ensures, c.requires.by_index c.loop-i.i c.loop-i-test.true) in
-    omega (arith, room, c.requires.first_bound.2)
-
-pub narrow16-requires : goal.narrow16-requires
-narrow16-requires c =
-    let room : c.record_at.result + 24 ≤ length c.args.f.now =
-    omega (arith, c.record_at.ensures, c.requires.by_index c.loop-i.i c.loop-i-test.true) in
-    omega (arith, room, c.requires.first_bound.2)
-
-pub offset_bounds-words-i : goal.offset_bounds-words-i
-offset_bounds-words-i c =
-    omega (arith, c.requires.first_bound.1)
-
-pub bounds-words-i : goal.bounds-words-i
-bounds-words-i c =
-    omega (arith, c.requires.first_bound.3, c.loop-i.invariant.1)
-
-pub shape_of-words : goal.shape_of-words
-shape_of-words c =
-    c.loop-i.invariant.1
+    filled_by 0 _ c.fill_by.ensures c.requires.first_bound.3 c.fill_by.auto.table (λ i v l e. search (rules, word_shift))

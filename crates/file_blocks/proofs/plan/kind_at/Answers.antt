@@ -47,7 +47,3 @@ returns c =
       le-ltb k (prices_at n) (omega arith),
       le-ltb k (tallies_at n) (omega (arith, c.tallies_at.ensures, c.if-k-tallies_at.false)),
     )
-
-pub tallies_at-requires : goal.tallies_at-requires
-tallies_at-requires c =
-    c.requires

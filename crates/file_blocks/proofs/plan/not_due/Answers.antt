@@ -15,4 +15,4 @@ returns c =
     let at = 512 * c.args.k in
     let a : c.byte_at.result ≡ get_or f (at + 0) 0 = c.byte_at.ensures.0 ∙ ap (λ (p : ℕ). get_or f p 0) (sym (add-zero at)) in
     let b = c.word16.ensures.0 ∙ ap word16 (from-after f at 2) in
-    rw (← c.requires.due.kind, ← c.requires.due.count, a, b, c.byte_at-2.ensures.0)
+    rw (← c.requires.due.kind, ← c.number.ensures, ← c.requires.due.count, a, b, c.byte_at-2.ensures.0)

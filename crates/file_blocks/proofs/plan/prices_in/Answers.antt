@@ -24,19 +24,6 @@ nonzero_rem-b c =
     four_is (as_head c.args.head) c.args.k c.requires.2 in
     omega (arith, c.list_blocks.ensures, due.4)
 
-pub overflow_mul-b : goal.overflow_mul-b
-overflow_mul-b c =
-    let due : let a = c.args in
-    let h = as_head a.head in
-    (q : ℕ) × (b : ℕ) × (kind_at h a.k ≡ price_block q b) × (a.k ≡ list_at h q + b) × (b < list_blocks h.offers) =
-    four_is (as_head c.args.head) c.args.k c.requires.2 in
-    let place : (c.args.k - c.prices_at-first.result) % c.list_blocks.result ≡ due.1 =
-    let (q, b, i, e, m) = due in
-    let h = as_head c.args.head in
-    let d : c.args.k - c.prices_at-first.result ≡ q * list_blocks h.offers + b = omega (arith, c.prices_at-first.ensures, e) in
-    rw (d, c.list_blocks.ensures) (digits_mod q m) in
-    omega (arith, place, due.4, c.requires.1.offers)
-
 pub returns : goal.returns
 returns c =
     let due : let a = c.args in
@@ -47,14 +34,6 @@ returns c =
     let (q, b, i, e, m) = due in
     let h = as_head c.args.head in
     let d : c.args.k - c.prices_at-first.result ≡ q * list_blocks h.offers + b = omega (arith, c.prices_at-first.ensures, e) in
-    rw (d, c.list_blocks.ensures) (digits_mod q m) in
+    rw (d, c.list_blocks.ensures, c.from.ensures) (digits_mod q m) in
     let h = as_head c.args.head in
     (c.part.ensures ∙ ap (λ (b : ℕ). min 126 (h.offers - 126 * b)) place ∙ sym (ap (records h) due.2), omega (arith, c.part.ensures))
-
-pub prices_at-first-requires : goal.prices_at-first-requires
-prices_at-first-requires c =
-    omega (arith, c.requires.1.offers)
-
-pub list_blocks-requires : goal.list_blocks-requires
-list_blocks-requires c =
-    omega (arith, c.requires.1.offers)

@@ -1,54 +1,44 @@
 -- `file_blocks::records::bad_records` meets its contract. Assumes nothing.
-use Prim.Native.Nat.{◌-◌, ◌≤◌}
+use Rattle.std.proofs.Common.{rules}
 use mathlib.Core.Path.{◌≡◌, ◌∙◌, sym, ap}
-use native.Mathlib.Omega.{arith}
+use mathlib.Core.List.{List}
+use Prim.Native.Nat.{ℕ}
 use Rattle.laws.specs.Below.{any}
-use Rattle.format.specs.Blocks.{BlockKind, tally_block, tallies_at, kind_at}
+use Rattle.format.specs.Job.{bad_owner, bad_price}
+use Rattle.format.specs.Blocks.{BlockKind}
 use Rattle.format.specs.File.{decode}
 use Rattle.format.specs.Refusals.{bad_record}
-use Rattle.file_blocks.proofs.DueBlocks.{due_one, due_two, due_four, due_three}
-use Rattle.file_blocks.proofs.Places.{offers_in, owners_in, prices_in, tallies_in}
+use Rattle.file_blocks.proofs.ByPlace.{tested_by}
+use Rattle.file_blocks.proofs.DueBlocks.{due_zero, due_one, due_two, due_four, due_three}
+use Rattle.file_blocks.proofs.Places.{header_in, offers_in, owners_in, prices_in, tallies_in}
 use Rattle.file_blocks.proofs.records.bad_records.Goals as goal
 
-pub bad_offers-requires : goal.bad_offers-requires
-bad_offers-requires c =
-    (omega arith, (due_one _ _ _ _ c.requires.head_value.1 c.if-kind-eq1.true).1)
+-- The records of a block of kind b.
+of_kind : (f : List ℕ) (n : ℕ) {a b : BlockKind} → a ≡ b → any n (bad_record (decode f) b) ≡ any n (bad_record (decode f) a)
+of_kind f n e = sym (ap (λ (b : BlockKind). any n (bad_record (decode f) b)) e)
 
-pub returns-then-kind-eq1 : goal.returns-then-kind-eq1
-returns-then-kind-eq1 c =
-    let d = due_one _ _ _ _ c.requires.head_value.1 c.if-kind-eq1.true in
-    c.bad_offers.ensures ∙ offers_in _ _ c.requires.head_value.0 _ _ c.requires.k_in_bounds.1 d.1 ∙ sym (ap (λ (b : BlockKind). any c.args.count (bad_record (decode c.args.f.now) b)) d.0)
+pub returns-in-Header : goal.returns-in-Header
+returns-in-Header c =
+    header_in _ _ ∙ of_kind _ _ (due_zero c.requires.head_value.1 c.in-Header.is)
 
-pub bad_owners-requires : goal.bad_owners-requires
-bad_owners-requires c =
-    omega (arith, c.requires.head_value.1.few)
+pub returns-in-Offers : goal.returns-in-Offers
+returns-in-Offers c =
+    let d = due_one c.requires.head_value.1 c.in-Offers.is in
+    tested_by _ _ c.any_by.ensures (λ i b l e. search rules) ∙ offers_in _ _ c.requires.head_value.0 _ _ d.1 d.2 ∙ of_kind _ _ d.0
 
-pub returns-then-kind-eq2 : goal.returns-then-kind-eq2
-returns-then-kind-eq2 c =
-    let d = due_two _ _ _ _ c.requires.head_value.1 c.if-kind-eq2.true in
-    c.bad_owners.ensures ∙ owners_in _ _ c.requires.head_value.0 _ _ d.1 ∙ sym (ap (λ (b : BlockKind). any c.args.count (bad_record (decode c.args.f.now) b)) d.0)
+pub returns-in-Grocers : goal.returns-in-Grocers
+unfolding bad_owner
+returns-in-Grocers c =
+    let d = due_two c.requires.head_value.1 c.in-Grocers.is in
+    tested_by _ _ c.any_by-in-Grocers.ensures (λ i b l e. search rules) ∙ owners_in _ _ c.requires.head_value.0 _ _ d.1 ∙ of_kind _ _ d.0
 
-pub bad_prices-requires : goal.bad_prices-requires
-bad_prices-requires c =
-    let (q, b, i, p, n) = due_four _ _ _ _ c.requires.head_value.1 c.if-kind-eq4.true in
-    (omega arith, n)
+pub returns-in-Tallies : goal.returns-in-Tallies
+returns-in-Tallies c =
+    let d = due_three c.requires.head_value.1 c.in-Tallies.is in
+    tested_by _ _ c.any_by-in-Tallies.ensures (λ i b l e. search rules) ∙ tallies_in _ _ c.requires.head_value.0 _ _ d.1 d.2 ∙ of_kind _ _ d.0
 
-pub returns-then-kind-eq4 : goal.returns-then-kind-eq4
-returns-then-kind-eq4 c =
-    let (q, b, i, p, n) = due_four _ _ _ _ c.requires.head_value.1 c.if-kind-eq4.true in
-    c.bad_prices.ensures ∙ prices_in c.args.f.now _ _ q b p n ∙ sym (ap (λ (b : BlockKind). any c.args.count (bad_record (decode c.args.f.now) b)) i)
-
-pub returns : goal.returns
-returns c =
-    let rest : let h = (decode c.args.f.now).head in
-    (kind_at h c.args.k ≡ tally_block (c.args.k - tallies_at h)) × (tallies_at h ≤ c.args.k) × (c.args.count ≤ 21) =
-    due_three _ _ _ _ c.requires.head_value.1 c.requires.k_in_bounds.1 c.if-kind-eq1.false c.if-kind-eq2.false c.if-kind-eq4.false in
-    let d = rest in
-    c.bad_tallies.ensures ∙ tallies_in _ _ c.requires.head_value.0 _ _ d.1 d.2 ∙ sym (ap (λ (b : BlockKind). any c.args.count (bad_record (decode c.args.f.now) b)) d.0)
-
-pub bad_tallies-requires : goal.bad_tallies-requires
-bad_tallies-requires c =
-    let rest : let h = (decode c.args.f.now).head in
-    (kind_at h c.args.k ≡ tally_block (c.args.k - tallies_at h)) × (tallies_at h ≤ c.args.k) × (c.args.count ≤ 21) =
-    due_three _ _ _ _ c.requires.head_value.1 c.requires.k_in_bounds.1 c.if-kind-eq1.false c.if-kind-eq2.false c.if-kind-eq4.false in
-    (omega arith, rest.2)
+pub returns-in-Prices : goal.returns-in-Prices
+unfolding bad_price
+returns-in-Prices c =
+    let (q, b, i, p, n) = due_four c.requires.head_value.1 c.in-Prices.is in
+    tested_by _ _ c.any_by-in-Prices.ensures (λ i b l e. search rules) ∙ prices_in c.args.f.now _ _ q b p n ∙ of_kind _ _ i

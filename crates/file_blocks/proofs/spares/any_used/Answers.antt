@@ -1,19 +1,8 @@
 -- `file_blocks::spares::any_used` meets its contract. Assumes nothing.
-use mathlib.Core.Path.{refl}
-use native.Mathlib.Omega.{arith}
-use Rattle.laws.specs.Below.{any}
-use Rattle.laws.proofs.Below.{any_end, any_more}
+use Rattle.std.proofs.Common.{rules}
+use Rattle.file_blocks.proofs.ByPlace.{tested_by}
 use Rattle.file_blocks.proofs.spares.any_used.Goals as goal
-
-pub loop-i-init : goal.loop-i-init
-unfolding any
-loop-i-init c =
-    (omega arith, refl)
-
-pub loop-i-preserved : goal.loop-i-preserved
-loop-i-preserved c =
-    (omega arith, any_more _ _ _ _ c.loop-i.invariant.1 refl)
 
 pub returns : goal.returns
 returns c =
-    any_end _ _ _ _ (omega arith) c.loop-i.invariant.1
+    tested_by _ _ c.any_by.ensures (λ i b l e. search rules)

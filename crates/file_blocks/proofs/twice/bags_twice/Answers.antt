@@ -9,20 +9,8 @@ use Rattle.file_blocks.proofs.Last.{no_bags}
 use Rattle.file_blocks.proofs.twice.bags_twice.Goals as goal
 
 -- No bag is other than 0.
-pub returns : goal.returns
-returns c =
-    let f = c.args.f.now in
-    let n = ap (λ (h : Head). any h.tallies (λ t. not (eqb ((decode f).tally t).bag 0))) (sym c.requires.whole.0.says) in
-    sym (no_bags (decode f) (n ∙ sym c.any_bag.ensures ∙ c.if-any_bag.false))
-
-pub any_bag-requires : goal.any_bag-requires
-any_bag-requires c =
-    c.requires.whole.0
-
-pub keys_twice-requires : goal.keys_twice-requires
-keys_twice-requires c =
-    c.requires
-
-pub returns-then-any_bag : goal.returns-then-any_bag
-returns-then-any_bag c =
-    c.keys_twice.ensures
+pub returns-else-any_bag : goal.returns-else-any_bag
+returns-else-any_bag c =
+    let f = c.args.file.now.bytes.now in
+    let n = ap (λ (h : Head). any h.tallies (λ t. not (eqb ((decode f).tally t).bag 0))) (sym c.args.file.now.whole.says) in
+    c.if-any_bag.false ∙ sym (no_bags (decode f) (n ∙ sym c.any_bag.ensures ∙ c.if-any_bag.false))

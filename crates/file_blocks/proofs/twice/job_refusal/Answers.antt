@@ -1,45 +1,30 @@
 -- `file_blocks::twice::job_refusal` meets its contract. Assumes nothing.
-use mathlib.Core.Path.{sym, ◌∙◌}
+use mathlib.Core.Path.{◌≡◌, refl, sym, ◌∙◌}
 use native.Mathlib.Omega.{arith}
+use Rattle.std.proofs.lemmas.Result.{err_from_is_err_and}
+use Rattle.format.specs.File.{decode}
+use Rattle.refusals.specs.Numbers.{number_of}
+use Rattle.refusals.proofs.Numbers.{number_positive}
+use Rattle.file_blocks.specs.Sound.{names_refusal}
 use Rattle.file_blocks.proofs.Last.{last_names, last_9, last_0}
 use Rattle.file_blocks.proofs.twice.job_refusal.Goals as goal
 
-pub bags_twice-requires : goal.bags_twice-requires
-bags_twice-requires c =
-    record {
-      whole = (c.requires.0.whole, c.names_refusal-r.ensures.placed c.if-r-ne0.false);
-      tallies_in_bounds = omega (arith, c.requires.1, c.names_refusal-r.auto.places);
-    }
+pub returns-in_err-names_refusal-clause-value : goal.returns-in_err-names_refusal-clause-value
+returns-in_err-names_refusal-clause-value c =
+    let p = err_from_is_err_and c.from_residual.result c.from_residual.ensures.1 in
+    let x = c.in_err-names_refusal.field-0.0 in
+    let e : number_of x ≡ names_refusal (decode c.args.file.now.bytes.now) = c.in_err-names_refusal.ensures.value in
+    rw (p.1, p.2) (last_names _ _ e (λ z. omega (arith, number_positive x, z)))
 
-pub returns-then-r-ne0 : goal.returns-then-r-ne0
-returns-then-r-ne0 c =
-    record {
-      value = last_names _ _ c.names_refusal-r.ensures.value c.if-r-ne0.true;
-      placed = λ z. absurd (c.if-r-ne0.true z);
-    }
-
-pub returns-then-bags_twice : goal.returns-then-bags_twice
-returns-then-bags_twice c =
-    record {
-      value = last_9 _ _ c.names_refusal-r.ensures.value c.if-r-ne0.false (sym c.bags_twice.ensures ∙ c.if-bags_twice.true);
-      placed = λ z. absurd (omega arith);
-    }
+pub returns-then-bags_twice-clause-value : goal.returns-then-bags_twice-clause-value
+returns-then-bags_twice-clause-value c =
+    let e : 0 ≡ names_refusal (decode c.args.file.now.bytes.now) = c.in_ok-names_refusal.ensures.value in
+    last_9 _ _ e refl (sym c.bags_twice.ensures ∙ c.if-bags_twice.true)
 
 pub returns : goal.returns
 returns c =
+    let e : 0 ≡ names_refusal (decode c.args.file.now.bytes.now) = c.in_ok-names_refusal.ensures.value in
     record {
-      value = last_0 _ _ c.names_refusal-r.ensures.value c.if-r-ne0.false (sym c.bags_twice.ensures ∙ c.if-bags_twice.false);
-      placed = λ z. c.names_refusal-r.ensures.placed c.if-r-ne0.false;
+      value = last_0 _ _ e refl (sym c.bags_twice.ensures ∙ c.if-bags_twice.false);
+      placed = c.in_ok-names_refusal.ensures.placed;
     }
-
-pub shape_of-places-then-r-ne0 : goal.shape_of-places-then-r-ne0
-shape_of-places-then-r-ne0 c =
-    c.names_refusal-r.auto.places
-
-pub shape_of-places-then-bags_twice : goal.shape_of-places-then-bags_twice
-shape_of-places-then-bags_twice c =
-    c.names_refusal-r.auto.places
-
-pub shape_of-places : goal.shape_of-places
-shape_of-places c =
-    c.names_refusal-r.auto.places

@@ -1,9 +1,10 @@
 -- `forecast_checks::refusal::words_in` meets its contract: before word i those of the message before it are counted. Assumes nothing.
-use mathlib.Core.Path.{◌≡◌, sym, ap, ap₂, ◌∙◌}
+use mathlib.Core.Path.{◌≡◌, sym, ap₂, ◌∙◌}
 use mathlib.Core.Bool.{Bool}
+use mathlib.Core.List.{List}
 use Prim.Native.Nat.{ℕ, ◌+◌, ◌<◌}
-use native.Mathlib.Nat.{le_antisymm}
 use native.Mathlib.Omega.{arith}
+use lib.ListN.{get_or}
 use mir.Val.{bool_byte}
 use Rattle.laws.specs.Below.{count}
 use Rattle.laws.proofs.Below.{count_start, count_le}
@@ -11,69 +12,26 @@ use Rattle.laws.proofs.Listed.{count_more}
 use Rattle.step_places.specs.Message.{in_message, word_in}
 use Rattle.forecast_checks.proofs.refusal.words_in.Goals as goal
 
-pub overflow_add-words : goal.overflow_add-words
+-- One word more, from what the calls give.
+one_more : (a b : ℕ) (owner mask : List ℕ) (i n one x y : ℕ) (due : Bool) → n ≡ count i (word_in owner mask a b) → one ≡ bool_byte due → due ≡ in_message x y a b →
+    x ≡ get_or owner i 0 → y ≡ get_or mask i 0 → n + one ≡ count (i + 1) (word_in owner mask a b)
 unfolding word_in
-overflow_add-words c =
-    let due : ℕ → Bool =
-    word_in c.args.owner.now c.args.mask.now c.args.a c.args.b in
-    let turn_in : c.loop-i.i < c.args.n =
-    omega (arith, c.loop-i-test.true, c.index_of-size.ensures.0) in
-    let told : c.in_message-one.result ≡ due c.loop-i.i =
-    c.in_message-one.ensures ∙ ap₂ (λ (x y : ℕ). in_message x y c.args.a c.args.b) c.u16_at.ensures c.u16_at-in-loop-i.ensures in
-    let more : c.loop-i.words + bool_byte c.in_message-one.result ≡ count (c.loop-i.i + 1) (due) =
-    count_more due c.loop-i.i _ _ c.loop-i.invariant.1 (told) in
-    omega (arith, more, count_le (c.loop-i.i + 1) (due), turn_in, c.requires.1.0)
-
-pub returns : goal.returns
-returns c =
-    let due : ℕ → Bool =
-    word_in c.args.owner.now c.args.mask.now c.args.a c.args.b in
-    let last : c.loop-i.i ≡ c.args.n = le_antisymm c.loop-i.invariant.0 (omega (arith, c.loop-i-test.false, c.index_of-size.ensures.0)) in
-    c.loop-i.invariant.1 ∙ ap (λ (x : ℕ). count x due) last
+one_more a b owner mask i n one x y due en eo ed ex ey =
+    rw eo (count_more (word_in owner mask a b) i _ _ en (ed ∙ ap₂ (λ (x y : ℕ). in_message x y a b) ex ey))
 
 pub loop-i-init : goal.loop-i-init
 loop-i-init c =
-    let due : ℕ → Bool =
-    word_in c.args.owner.now c.args.mask.now c.args.a c.args.b in
-    (omega arith, sym (count_start due))
+    sym (count_start _)
 
-pub u16_at-requires : goal.u16_at-requires
-u16_at-requires c =
-    let turn_in : c.loop-i.i < c.args.n =
-    omega (arith, c.loop-i-test.true, c.index_of-size.ensures.0) in
-    omega (arith, turn_in, c.requires.1.1.0)
-
-pub u16_at-requires-in-loop-i : goal.u16_at-requires-in-loop-i
-u16_at-requires-in-loop-i c =
-    let turn_in : c.loop-i.i < c.args.n =
-    omega (arith, c.loop-i-test.true, c.index_of-size.ensures.0) in
-    omega (arith, turn_in, c.requires.1.1.1)
-
-pub in_message-one-requires : goal.in_message-one-requires
-in_message-one-requires c =
-    c.requires.0
-
-pub overflow_step-i : goal.overflow_step-i
-overflow_step-i c =
-    let turn_in : c.loop-i.i < c.args.n =
-    omega (arith, c.loop-i-test.true, c.index_of-size.ensures.0) in
-    omega (arith, turn_in, c.requires.1.0)
-
-pub loop-i-smaller : goal.loop-i-smaller
-loop-i-smaller c =
-    let turn_in : c.loop-i.i < c.args.n =
-    omega (arith, c.loop-i-test.true, c.index_of-size.ensures.0) in
-    omega (arith, turn_in)
+pub overflow_add-words : goal.overflow_add-words
+unfolding word_in
+overflow_add-words c =
+    let due : ℕ → Bool = word_in c.args.owner.now c.args.mask.now c.args.a c.args.b in
+    let turn : c.loop-i.i < c.args.n = omega (arith, c.loop-i-test.true, c.from-i-end.ensures) in
+    let more : c.loop-i.words + c.from-words.result ≡ count (c.loop-i.i + 1) due =
+    one_more c.args.a c.args.b c.args.owner.now c.args.mask.now c.loop-i.i _ _ _ _ _ c.loop-i.invariant c.from-words.ensures c.in_message.ensures c.u16_at.ensures c.u16_at-in-loop-i.ensures in
+    omega (arith, more, count_le (c.loop-i.i + 1) due, turn, c.requires.1.0)
 
 pub loop-i-preserved : goal.loop-i-preserved
-unfolding word_in
 loop-i-preserved c =
-    let due : ℕ → Bool =
-    word_in c.args.owner.now c.args.mask.now c.args.a c.args.b in
-    let turn_in : c.loop-i.i < c.args.n =
-    omega (arith, c.loop-i-test.true, c.index_of-size.ensures.0) in
-    let told : c.in_message-one.result ≡ due c.loop-i.i =
-    c.in_message-one.ensures ∙ ap₂ (λ (x y : ℕ). in_message x y c.args.a c.args.b) c.u16_at.ensures c.u16_at-in-loop-i.ensures in
-    let more : c.loop-i.words + bool_byte c.in_message-one.result ≡ count (c.loop-i.i + 1) (due) =
-    count_more due c.loop-i.i _ _ c.loop-i.invariant.1 (told) in
-    (omega (arith, turn_in), more)
+    one_more c.args.a c.args.b c.args.owner.now c.args.mask.now c.loop-i.i _ _ _ _ _ c.loop-i.invariant c.from-words.ensures c.in_message.ensures c.u16_at.ensures c.u16_at-in-loop-i.ensures

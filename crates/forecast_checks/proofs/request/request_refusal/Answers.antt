@@ -1,138 +1,50 @@
 -- `forecast_checks::request::request_refusal` meets its contract: each number is that of the first test that holds. Assumes nothing.
-use mathlib.Core.Path.{◌≡◌, sym, ◌∙◌}
-use mathlib.Core.Bool.{true}
-use native.Mathlib.Omega.{arith}
-use borrow.Author.Tests.{not-false}
-use Rattle.laws.specs.Checks.{first_met}
-use Rattle.model.specs.Step.{is_kind}
-use Rattle.step_places.specs.Marks.{MarksIn}
-use Rattle.forecast_rules.specs.Steps.{kind_of}
-use Rattle.forecast_rules.specs.Tables.{from_marks}
-use Rattle.forecast_checks.specs.Rules.{boxes_asked, rules_by}
-use Rattle.forecast_checks.proofs.Asked.{kind_from, kind_to, done_is, marks_in}
+use mathlib.Core.Path.{sym, ◌∙◌}
+use mathlib.Core.Bool.{true, false}
+use Rattle.forecast_checks.proofs.Asked.{kind_met, kind_in, boxes_met, step_met, mark_in, message_in, done_met, ready_told}
 use Rattle.forecast_checks.proofs.request.request_refusal.Goals as goal
 
 pub returns-then-not-is_kind : goal.returns-then-not-is_kind
-unfolding first_met rules_by
 returns-then-not-is_kind c =
-    rw (sym c.is_kind.ensures, (mathlib.Core.Path.ap mathlib.Core.Bool.not c.if-not-is_kind.true))
+    kind_met c.args.k c.args.receivers.now c.args.senders.now c.args.done.now c.args.kind c.args.a c.args.b (sym c.is_kind.ensures ∙ c.if-not-is_kind.true)
 
 pub boxes_fit-requires : goal.boxes_fit-requires
 boxes_fit-requires c =
-    let is_one : is_kind c.args.kind ≡ true =
-    sym c.is_kind.ensures ∙ not-false _ (mathlib.Core.Path.ap mathlib.Core.Bool.not c.if-not-is_kind.false) in
-    let e = is_one in (kind_from _ e, kind_to _ e)
+    kind_in c.args.k c.args.receivers.now c.args.senders.now c.args.done.now c.args.kind c.args.a c.args.b (sym c.is_kind.ensures ∙ c.if-not-is_kind.false)
 
 pub returns-then-not-boxes_fit : goal.returns-then-not-boxes_fit
-unfolding first_met rules_by
 returns-then-not-boxes_fit c =
-    rw (sym c.is_kind.ensures, (mathlib.Core.Path.ap mathlib.Core.Bool.not c.if-not-is_kind.false), sym c.boxes_fit.ensures, (mathlib.Core.Path.ap mathlib.Core.Bool.not c.if-not-boxes_fit.true))
+    boxes_met c.args.k c.args.receivers.now c.args.senders.now c.args.done.now c.args.kind c.args.a c.args.b (sym c.is_kind.ensures ∙ c.if-not-is_kind.false) (sym c.boxes_fit.ensures ∙ c.if-not-boxes_fit.true)
 
 pub fits-requires : goal.fits-requires
 fits-requires c =
-    let is_one : is_kind c.args.kind ≡ true =
-    sym c.is_kind.ensures ∙ not-false _ (mathlib.Core.Path.ap mathlib.Core.Bool.not c.if-not-is_kind.false) in
-    let marked_in : MarksIn c.args.k c.args.kind c.args.a c.args.b c.args.done.now =
-    marks_in c.args.k c.args.kind c.args.a c.args.b c.args.done.now (boxes_asked (kind_of c.args.kind) c.args.a c.args.b) c.requires.0 c.requires.1
-    is_one (sym c.boxes_fit.ensures ∙ not-false _ (mathlib.Core.Path.ap mathlib.Core.Bool.not c.if-not-boxes_fit.false)) in
-    let m = marked_in in (m.kind_from, (m.kind_to, (omega (arith, m.a_in, m.boxes_in), omega (arith, m.b_in, m.boxes_in))))
+    message_in c.args.k c.args.receivers.now c.args.senders.now c.args.done.now c.args.kind c.args.a c.args.b (sym c.is_kind.ensures ∙ c.if-not-is_kind.false) (sym c.boxes_fit.ensures ∙ c.if-not-boxes_fit.false)
+    c.requires.0 c.requires.1
 
 pub returns-then-not-fits : goal.returns-then-not-fits
-unfolding first_met rules_by
 returns-then-not-fits c =
-    rw (
-      sym c.is_kind.ensures,
-      (mathlib.Core.Path.ap mathlib.Core.Bool.not c.if-not-is_kind.false),
-      sym c.boxes_fit.ensures,
-      (mathlib.Core.Path.ap mathlib.Core.Bool.not c.if-not-boxes_fit.false),
-      sym c.fits.ensures,
-      (mathlib.Core.Path.ap mathlib.Core.Bool.not c.if-not-fits.true),
-    )
+    step_met c.args.k c.args.receivers.now c.args.senders.now c.args.done.now c.args.kind c.args.a c.args.b (sym c.is_kind.ensures ∙ c.if-not-is_kind.false)
+    (sym c.boxes_fit.ensures ∙ c.if-not-boxes_fit.false) (sym c.fits.ensures ∙ c.if-not-fits.true)
 
 pub is_done-requires : goal.is_done-requires
 is_done-requires c =
-    let is_one : is_kind c.args.kind ≡ true =
-    sym c.is_kind.ensures ∙ not-false _ (mathlib.Core.Path.ap mathlib.Core.Bool.not c.if-not-is_kind.false) in
-    let marked_in : MarksIn c.args.k c.args.kind c.args.a c.args.b c.args.done.now =
-    marks_in c.args.k c.args.kind c.args.a c.args.b c.args.done.now (boxes_asked (kind_of c.args.kind) c.args.a c.args.b) c.requires.0 c.requires.1
-    is_one (sym c.boxes_fit.ensures ∙ not-false _ (mathlib.Core.Path.ap mathlib.Core.Bool.not c.if-not-boxes_fit.false)) in
-    marked_in
+    mark_in c.args.k c.args.receivers.now c.args.senders.now c.args.done.now c.args.kind c.args.a c.args.b (sym c.is_kind.ensures ∙ c.if-not-is_kind.false) (sym c.boxes_fit.ensures ∙ c.if-not-boxes_fit.false) c.requires.0 c.requires.1
 
 pub returns-then-is_done : goal.returns-then-is_done
-unfolding first_met rules_by
 returns-then-is_done c =
-    let is_one : is_kind c.args.kind ≡ true =
-    sym c.is_kind.ensures ∙ not-false _ (mathlib.Core.Path.ap mathlib.Core.Bool.not c.if-not-is_kind.false) in
-    let marked_in : MarksIn c.args.k c.args.kind c.args.a c.args.b c.args.done.now =
-    marks_in c.args.k c.args.kind c.args.a c.args.b c.args.done.now (boxes_asked (kind_of c.args.kind) c.args.a c.args.b) c.requires.0 c.requires.1
-    is_one (sym c.boxes_fit.ensures ∙ not-false _ (mathlib.Core.Path.ap mathlib.Core.Bool.not c.if-not-boxes_fit.false)) in
-    let marked : c.is_done.result ≡ from_marks c.args.k c.args.done.now (kind_of c.args.kind) c.args.a c.args.b =
-    let m = marked_in in
-    c.is_done.ensures ∙ done_is c.args.k c.args.done.now c.args.a c.args.b c.args.kind m.kind_from m.kind_to in
-    rw (
-      sym c.is_kind.ensures,
-      (mathlib.Core.Path.ap mathlib.Core.Bool.not c.if-not-is_kind.false),
-      sym c.boxes_fit.ensures,
-      (mathlib.Core.Path.ap mathlib.Core.Bool.not c.if-not-boxes_fit.false),
-      sym c.fits.ensures,
-      (mathlib.Core.Path.ap mathlib.Core.Bool.not c.if-not-fits.false),
-      sym (marked),
-      c.if-is_done.true,
-    )
+    done_met c.args.k c.args.receivers.now c.args.senders.now c.args.done.now c.args.kind c.args.a c.args.b (sym c.is_kind.ensures ∙ c.if-not-is_kind.false) (sym c.boxes_fit.ensures ∙ c.if-not-boxes_fit.false)
+    (sym c.fits.ensures ∙ c.if-not-fits.false) _ c.is_done.ensures c.if-is_done.true
 
 pub is_ready-requires : goal.is_ready-requires
 is_ready-requires c =
-    let is_one : is_kind c.args.kind ≡ true =
-    sym c.is_kind.ensures ∙ not-false _ (mathlib.Core.Path.ap mathlib.Core.Bool.not c.if-not-is_kind.false) in
-    let marked_in : MarksIn c.args.k c.args.kind c.args.a c.args.b c.args.done.now =
-    marks_in c.args.k c.args.kind c.args.a c.args.b c.args.done.now (boxes_asked (kind_of c.args.kind) c.args.a c.args.b) c.requires.0 c.requires.1
-    is_one (sym c.boxes_fit.ensures ∙ not-false _ (mathlib.Core.Path.ap mathlib.Core.Bool.not c.if-not-boxes_fit.false)) in
-    marked_in
+    mark_in c.args.k c.args.receivers.now c.args.senders.now c.args.done.now c.args.kind c.args.a c.args.b (sym c.is_kind.ensures ∙ c.if-not-is_kind.false) (sym c.boxes_fit.ensures ∙ c.if-not-boxes_fit.false) c.requires.0 c.requires.1
 
 pub returns-then-not-is_ready : goal.returns-then-not-is_ready
-unfolding first_met rules_by
 returns-then-not-is_ready c =
-    let is_one : is_kind c.args.kind ≡ true =
-    sym c.is_kind.ensures ∙ not-false _ (mathlib.Core.Path.ap mathlib.Core.Bool.not c.if-not-is_kind.false) in
-    let marked_in : MarksIn c.args.k c.args.kind c.args.a c.args.b c.args.done.now =
-    marks_in c.args.k c.args.kind c.args.a c.args.b c.args.done.now (boxes_asked (kind_of c.args.kind) c.args.a c.args.b) c.requires.0 c.requires.1
-    is_one (sym c.boxes_fit.ensures ∙ not-false _ (mathlib.Core.Path.ap mathlib.Core.Bool.not c.if-not-boxes_fit.false)) in
-    let marked : c.is_done.result ≡ from_marks c.args.k c.args.done.now (kind_of c.args.kind) c.args.a c.args.b =
-    let m = marked_in in
-    c.is_done.ensures ∙ done_is c.args.k c.args.done.now c.args.a c.args.b c.args.kind m.kind_from m.kind_to in
-    rw (
-      sym c.is_kind.ensures,
-      (mathlib.Core.Path.ap mathlib.Core.Bool.not c.if-not-is_kind.false),
-      sym c.boxes_fit.ensures,
-      (mathlib.Core.Path.ap mathlib.Core.Bool.not c.if-not-boxes_fit.false),
-      sym c.fits.ensures,
-      (mathlib.Core.Path.ap mathlib.Core.Bool.not c.if-not-fits.false),
-      sym (marked),
-      c.if-is_done.false,
-      sym c.is_ready.ensures,
-      (mathlib.Core.Path.ap mathlib.Core.Bool.not c.if-not-is_ready.true),
-    )
+    ready_told c.args.k c.args.receivers.now c.args.senders.now c.args.done.now c.args.kind c.args.a c.args.b (sym c.is_kind.ensures ∙ c.if-not-is_kind.false) (sym c.boxes_fit.ensures ∙ c.if-not-boxes_fit.false)
+    (sym c.fits.ensures ∙ c.if-not-fits.false) _ c.is_done.ensures c.if-is_done.false false (sym c.is_ready.ensures ∙ c.if-not-is_ready.true)
 
 pub returns : goal.returns
-unfolding first_met rules_by
 returns c =
-    let is_one : is_kind c.args.kind ≡ true =
-    sym c.is_kind.ensures ∙ not-false _ (mathlib.Core.Path.ap mathlib.Core.Bool.not c.if-not-is_kind.false) in
-    let marked_in : MarksIn c.args.k c.args.kind c.args.a c.args.b c.args.done.now =
-    marks_in c.args.k c.args.kind c.args.a c.args.b c.args.done.now (boxes_asked (kind_of c.args.kind) c.args.a c.args.b) c.requires.0 c.requires.1
-    is_one (sym c.boxes_fit.ensures ∙ not-false _ (mathlib.Core.Path.ap mathlib.Core.Bool.not c.if-not-boxes_fit.false)) in
-    let marked : c.is_done.result ≡ from_marks c.args.k c.args.done.now (kind_of c.args.kind) c.args.a c.args.b =
-    let m = marked_in in
-    c.is_done.ensures ∙ done_is c.args.k c.args.done.now c.args.a c.args.b c.args.kind m.kind_from m.kind_to in
-    rw (
-      sym c.is_kind.ensures,
-      (mathlib.Core.Path.ap mathlib.Core.Bool.not c.if-not-is_kind.false),
-      sym c.boxes_fit.ensures,
-      (mathlib.Core.Path.ap mathlib.Core.Bool.not c.if-not-boxes_fit.false),
-      sym c.fits.ensures,
-      (mathlib.Core.Path.ap mathlib.Core.Bool.not c.if-not-fits.false),
-      sym (marked),
-      c.if-is_done.false,
-      sym c.is_ready.ensures,
-      (mathlib.Core.Path.ap mathlib.Core.Bool.not c.if-not-is_ready.false),
-    )
+    ready_told c.args.k c.args.receivers.now c.args.senders.now c.args.done.now c.args.kind c.args.a c.args.b (sym c.is_kind.ensures ∙ c.if-not-is_kind.false) (sym c.boxes_fit.ensures ∙ c.if-not-boxes_fit.false)
+    (sym c.fits.ensures ∙ c.if-not-fits.false) _ c.is_done.ensures c.if-is_done.false true (sym c.is_ready.ensures ∙ c.if-not-is_ready.false)

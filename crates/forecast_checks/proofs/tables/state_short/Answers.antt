@@ -5,4 +5,4 @@ use Rattle.forecast_checks.proofs.tables.state_short.Goals as goal
 pub returns : goal.returns
 unfolding state_short state_lengths
 returns c =
-    rw (c.table_words-kn.ensures, c.table_words-km.ensures, c.marks-kk.ensures)
+    rw (c.table_words-kn.ensures, c.table_words-km.ensures, c.from.ensures, c.marks.ensures)

@@ -9,40 +9,36 @@ use Rattle.forecast_doubles.proofs.checks.bad_lines.Goals as goal
 
 pub loop-i-init : goal.loop-i-init
 loop-i-init c =
-    (omega arith, seen_none _ _ _ (replicate 500 0) refl (zeros 500))
+    seen_none _ _ _ (replicate 500 0) refl (zeros 500)
 
 pub line_bad-requires : goal.line_bad-requires
 line_bad-requires c =
     let t : c.loop-i.i < c.args.n = c.loop-i-test.true in
-    let few : get_or c.loop-i.seen c.index_at-o.result 0 ≤ c.loop-i.i = last_few _ _ _ c.loop-i.i c.loop-i.seen c.loop-i.invariant.1 c.index_at-o.result in
+    let few : get_or c.loop-i.seen c.index_at-o.result 0 ≤ c.loop-i.i = last_few _ _ _ c.loop-i.i c.loop-i.seen c.loop-i.invariant c.index_at-o.result in
     record {
       i_in_bounds = (omega (arith, c.requires.n_bound.1.1.0), (omega (arith, c.requires.n_bound.1.1.1), few));
-      by_index = λ k h. value_in_lem _ _ _ c.loop-i.i c.loop-i.seen c.loop-i.invariant.1 k (omega (arith, few));
+      by_index = λ k h. value_in_lem _ _ _ c.loop-i.i c.loop-i.seen c.loop-i.invariant k (omega (arith, few));
     }
 
 pub returns-then-line_bad : goal.returns-then-line_bad
 returns-then-line_bad c =
-    bad_yes _ _ _ c.loop-i.i c.index_at-o.result c.loop-i.seen c.loop-i.invariant.1 c.index_at-o.ensures.0 _ c.loop-i-test.true (sym c.line_bad.ensures ∙ c.if-line_bad.true)
+    bad_yes _ _ _ c.loop-i.i c.index_at-o.result c.loop-i.seen c.loop-i.invariant c.index_at-o.ensures.0 _ c.loop-i-test.true (sym c.line_bad.ensures ∙ c.if-line_bad.true)
 
 pub loop-i-preserved : goal.loop-i-preserved
 loop-i-preserved c =
     let inside : c.index_at-o.result < 500 =
     omega (arith, c.index_at-o.ensures.0, under_at 500 c.args.n c.args.line_offer.now c.loop-i.i c.requires.line_offer_value c.loop-i-test.true) in
-    (omega (arith, c.loop-i-test.true), seen_more _ _ _ c.loop-i.i c.index_at-o.result c.loop-i.seen c.loop-i.invariant.1 c.index_at-o.ensures.0 (sym c.line_bad.ensures ∙ c.if-line_bad.false) inside)
+    seen_more _ _ _ c.loop-i.i c.index_at-o.result c.loop-i.seen c.loop-i.invariant c.index_at-o.ensures.0 (sym c.line_bad.ensures ∙ c.if-line_bad.false) inside
 
 pub returns : goal.returns
 returns c =
-    let e : c.loop-i.i ≡ c.args.n = omega (arith, c.loop-i.invariant.0, c.loop-i-test.false) in
-    bad_no _ _ _ _ c.loop-i.seen (rw e at c.loop-i.invariant.1)
+    let e : c.loop-i.i ≡ c.args.n = omega (arith, c.loop-i.auto.i-end, c.loop-i-test.false) in
+    bad_no _ _ _ _ c.loop-i.seen (rw e at c.loop-i.invariant)
 
 pub bounds-seen-o-in-loop-i : goal.bounds-seen-o-in-loop-i
 bounds-seen-o-in-loop-i c =
-    let inside : c.index_at-o.result < 500 =
-    omega (arith, c.index_at-o.ensures.0, under_at 500 c.args.n c.args.line_offer.now c.loop-i.i c.requires.line_offer_value c.loop-i-test.true) in
-    inside
+    omega (arith, c.index_at-o.ensures.0, under_at 500 c.args.n c.args.line_offer.now c.loop-i.i c.requires.line_offer_value c.loop-i-test.true)
 
 pub bounds-seen-o : goal.bounds-seen-o
 bounds-seen-o c =
-    let inside : c.index_at-o.result < 500 =
-    omega (arith, c.index_at-o.ensures.0, under_at 500 c.args.n c.args.line_offer.now c.loop-i.i c.requires.line_offer_value c.loop-i-test.true) in
-    inside
+    omega (arith, c.index_at-o.ensures.0, under_at 500 c.args.n c.args.line_offer.now c.loop-i.i c.requires.line_offer_value c.loop-i-test.true)

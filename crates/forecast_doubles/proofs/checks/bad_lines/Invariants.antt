@@ -1,12 +1,7 @@
 -- `forecast_doubles::checks::bad_lines` meets its contract: before line i the last line of each offer before it is known. Assumes nothing.
-use Prim.Native.Nat.{◌-◌, ◌≤◌}
 use Rattle.forecast_doubles.proofs.Seen.{Seen}
 use Rattle.forecast_doubles.proofs.checks.bad_lines.Given as goal
 
 abbrev pub invariant-loop-i : goal.invariant-loop-i
 invariant-loop-i l =
-    (l.i ≤ l.n) × Seen l.line_offer l.line_rate l.line_value l.i l.seen
-
-abbrev pub decreases-loop-i : goal.decreases-loop-i
-decreases-loop-i l =
-    l.n - l.i
+    Seen l.line_offer l.line_rate l.line_value l.i l.seen

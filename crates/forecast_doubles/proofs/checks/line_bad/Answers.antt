@@ -1,11 +1,8 @@
 -- `forecast_doubles::checks::line_bad` meets its contract. Assumes nothing.
 use mathlib.Core.Path.{◌≡◌, sym, ap, ap₂, ◌∙◌}
 use mathlib.Core.Bool.{Bool, true, ◌&&◌}
-use Prim.Native.Nat.{◌-◌}
-use native.Mathlib.Omega.{arith}
 use lib.ListN.{get_or}
 use borrow.Author.Tests.{eq-eqb, ne_eqb, not-true, not-false}
-use Rattle.laws.proofs.Bools.{and_r}
 use Rattle.forecast_rules.specs.Doubles.{zero+, is_value}
 use Rattle.forecast_doubles.specs.BadLines.{outside, line_bad}
 use Rattle.forecast_doubles.proofs.checks.line_bad.Goals as goal
@@ -27,17 +24,6 @@ returns-then-last-eq0 c =
     let fine : (c.is_value.result && c.is_value-2.result) ≡ true =
     not-false (c.is_value.result && c.is_value-2.result) (mathlib.Core.Path.ap mathlib.Core.Bool.not c.if-not-is_value.false) in
     rw (sym both ∙ fine, eq-eqb _ _ c.if-last-eq0.true)
-
-pub same_bits-requires : goal.same_bits-requires
-same_bits-requires c =
-    let both : let s = c.args in
-    (c.is_value.result && c.is_value-2.result) ≡ (is_value (get_or s.line_rate.now s.i zero+) && is_value (get_or s.line_value.now s.i zero+)) =
-    ap₂ (λ (x y : Bool). x && y) (c.is_value.ensures ∙ ap is_value c.f64_at.ensures) (c.is_value-2.ensures ∙ ap is_value c.f64_at-v.ensures) in
-    let fine : (c.is_value.result && c.is_value-2.result) ≡ true =
-    not-false (c.is_value.result && c.is_value-2.result) (mathlib.Core.Path.ap mathlib.Core.Bool.not c.if-not-is_value.false) in (
-      rw c.f64_at-2.ensures (c.requires.by_index (c.args.last - 1) (omega (arith, c.if-last-eq0.false))),
-      ap is_value c.f64_at-v.ensures ∙ and_r (is_value (get_or c.args.line_rate.now c.args.i zero+)) _ (sym both ∙ fine),
-    )
 
 pub returns : goal.returns
 unfolding line_bad outside

@@ -1,13 +1,8 @@
 -- `forecast_doubles::parts::owner_sum` meets its contract: at box c those before it are summed. Assumes nothing.
 use mathlib.Core.Path.{◌≡◌}
-use Prim.Native.Nat.{◌≤◌, ◌-◌}
 use Rattle.forecast_doubles.specs.Parts.{owner_sum}
 use Rattle.forecast_doubles.proofs.parts.owner_sum.Given as goal
 
 abbrev pub invariant-loop-c : goal.invariant-loop-c
 invariant-loop-c l =
-    (l.c ≤ l.k) × (l.sum ≡ owner_sum l.c l.m l.g l.a l.mask l.part l.held)
-
-abbrev pub decreases-loop-c : goal.decreases-loop-c
-decreases-loop-c l =
-    l.k - l.c
+    l.sum ≡ owner_sum l.c l.m l.g l.a l.mask l.part l.held

@@ -1,14 +1,11 @@
 -- `forecast_doubles::parts::sums_fit` meets its contract: at grocer g those before it are tested. Assumes nothing.
-use mathlib.Core.Path.{◌≡◌, sym, ap, ◌∙◌}
+use mathlib.Core.Path.{◌≡◌, sym}
 use mathlib.Core.Bool.{Bool, not, ◌||◌}
 use mathlib.Core.List.{List}
 use Prim.Native.Nat.{ℕ}
-use native.Mathlib.Omega.{arith}
-use native.Mathlib.Nat.{le_antisymm}
 use lib.Dec.{eqb}
 use lib.ListN.{get_or}
 use lib.Ieee.{Float}
-use borrow.Author.Rules.{rules}
 use Rattle.laws.proofs.Below.{all_start, all_more}
 use Rattle.forecast_rules.specs.Doubles.{is_sum}
 use Rattle.forecast_doubles.specs.Parts.{owner_sum, sums_fit}
@@ -23,33 +20,11 @@ fits_is k m a g x y owner sharers part held s r ex ey es er = rw (er, es, ex, ey
 pub loop-g-init : goal.loop-g-init
 unfolding sums_fit
 loop-g-init c =
-    (search rules, sym (all_start _))
-
-pub u16_at-requires : goal.u16_at-requires
-u16_at-requires c =
-    omega (arith, c.loop-g-test.true, c.requires.k_bound)
-
-pub u16_at-requires-in-loop-g : goal.u16_at-requires-in-loop-g
-u16_at-requires-in-loop-g c =
-    omega (arith, c.loop-g-test.true, c.requires.k_bound)
-
-pub owner_sum-requires : goal.owner_sum-requires
-owner_sum-requires c =
-    record {
-      k_bound = (c.requires.k_bound.0, (c.requires.k_bound.1.0, c.loop-g-test.true));
-      m_in_bounds = c.requires.m_in_bounds;
-    }
+    sym (all_start _)
 
 pub loop-g-preserved : goal.loop-g-preserved
 unfolding sums_fit
 loop-g-preserved c =
-    let s = c.args in (
-      omega (arith, c.loop-g-test.true),
-      all_more c.loop-g.g _ c.loop-g.fit _ c.loop-g.invariant.1
-          (fits_is s.k s.m s.a c.loop-g.g _ _ s.owner.now s.sharers.now s.part.now s.held.now _ _ c.u16_at.ensures c.u16_at-in-loop-g.ensures c.owner_sum.ensures c.is_sum.ensures),
-    )
-
-pub returns : goal.returns
-returns c =
     let s = c.args in
-    c.loop-g.invariant.1 ∙ ap (sums_fit s.k s.m s.a s.owner.now s.sharers.now s.part.now s.held.now) (le_antisymm c.loop-g.invariant.0 c.loop-g-test.false)
+    all_more c.loop-g.g _ c.loop-g.fit _ c.loop-g.invariant
+    (fits_is s.k s.m s.a c.loop-g.g _ _ s.owner.now s.sharers.now s.part.now s.held.now _ _ c.u16_at.ensures c.u16_at-in-loop-g.ensures c.owner_sum.ensures c.is_sum.ensures)

@@ -1,15 +1,9 @@
 -- `forecast_doubles::parts::write_sums` meets its contract: at grocer g the forecasts before it are written. Assumes nothing.
 use mathlib.Core.Path.{◌≡◌}
-use Prim.Native.Nat.{◌≤◌, ◌-◌}
-use lib.ListN.{length}
 use Rattle.laws.specs.Tables.{overwrite}
 use Rattle.forecast_doubles.specs.Parts.{summed_word}
 use Rattle.forecast_doubles.proofs.parts.write_sums.Given as goal
 
 abbrev pub invariant-loop-g : goal.invariant-loop-g
 invariant-loop-g l =
-    (l.g ≤ l.m) × ((length l.forecast ≡ length l.initial.forecast) × (l.forecast ≡ overwrite l.g (summed_word l.k l.m l.a l.owner l.sharers l.part l.held l.initial.forecast) l.initial.forecast))
-
-abbrev pub decreases-loop-g : goal.decreases-loop-g
-decreases-loop-g l =
-    l.m - l.g
+    l.forecast ≡ overwrite l.g (summed_word l.k l.m l.a l.owner l.sharers l.part l.held l.initial.forecast) l.initial.forecast

@@ -1,10 +1,10 @@
--- `forecast_doubles::values::is_value` meets its contract. Assumes nothing.
-use lib.Ieee.{le}
-use borrow.Author.Rules.{rules}
+-- `forecast_doubles::values::is_value` meets its contract: the bound is the definition's. Assumes nothing.
+use lib.Ieee.{of_bits}
 use Rattle.forecast_rules.specs.Doubles.{is_value}
+use Rattle.forecast_doubles.specs.Bounds.{within}
 use Rattle.forecast_doubles.proofs.values.is_value.Goals as goal
 
 pub returns : goal.returns
-unfolding le is_value
+unfolding within is_value of_bits
 returns c =
-    search rules
+    c.within.ensures

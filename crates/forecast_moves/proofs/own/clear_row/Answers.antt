@@ -1,19 +1,7 @@
 -- `forecast_moves::own::clear_row` meets its contract. Assumes nothing.
-use native.Mathlib.Omega.{arith}
 use Rattle.forecast_doubles.specs.Moves.{summed_in}
-use Rattle.forecast_moves.proofs.Cleared.{zeroed_same, zeroed_as, zeroed_at, held_other, held_own, few_words}
+use Rattle.forecast_moves.proofs.Cleared.{zeroed_same, zeroed_as, zeroed_at, held_other, held_own}
 use Rattle.forecast_moves.proofs.own.clear_row.Goals as goal
-
-pub row_start-requires : goal.row_start-requires
-row_start-requires c =
-    (omega (arith, c.requires.c_bound.1.0), c.requires.c_bound.0)
-
-pub zero_words-requires : goal.zero_words-requires
-zero_words-requires c =
-    record {
-      c_bound = (c.requires.c_bound.0, (omega (arith, c.requires.c_bound.1.0), (omega (arith, c.row_start.ensures, few_words c.args.c c.args.m c.requires.c_bound.0 (omega (arith, c.requires.c_bound.1.0))), c.requires.c_bound.1.1)));
-      n_in_bounds = omega (arith, c.row_start.ensures, c.requires.m_in_bounds);
-    }
 
 pub returns-then-c-a : goal.returns-then-c-a
 returns-then-c-a c =

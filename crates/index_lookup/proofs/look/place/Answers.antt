@@ -1,172 +1,53 @@
 -- `index_lookup::look::place` meets its contract. Assumes nothing.
-use mathlib.Core.Path.{refl, ◌∙◌}
-use Prim.Native.Nat.{ℕ, ◌-◌, ◌/◌, ◌^◌, ◌<◌, ◌≤◌}
+use mathlib.Core.Path.{sym, ◌∙◌}
 use native.Mathlib.Omega.{arith}
-use Rattle.index_lookup.specs.Lookup.{Bracket}
-use Rattle.index_lookup.proofs.Looking.{found, missing, top_out, top_rises, top_none, bracket_start, bracket_miss}
+use Rattle.index_lookup.proofs.Looking.{found, missing, top_out, top_rises, top_none, bracket_start, bracket_most, bracket_in, bracket_miss}
 use Rattle.index_lookup.proofs.look.place.Goals as goal
 
-pub overflow_shr-top : goal.overflow_shr-top
-overflow_shr-top c =
-    c.requires.tops.0.topped.shift_in
-
 pub returns-then-top-ge-TOPS : goal.returns-then-top-ge-TOPS
-returns-then-top-ge-TOPS c =
-    λ numbers x d.
-    missing x c.args.number d (top_out c.requires.tops.0 c.args.number c.if-top-ge-TOPS.true)
-
-pub offset_bounds-starts-top : goal.offset_bounds-starts-top
-offset_bounds-starts-top c =
-    let top : ℕ =
-    c.args.number / 2 ^ c.args.shift in
-    let small : top < 511 =
-    omega (arith, c.if-top-ge-TOPS.false) in
-    omega (arith, small)
-
-pub bounds-starts-top : goal.bounds-starts-top
-bounds-starts-top c =
-    let top : ℕ =
-    c.args.number / 2 ^ c.args.shift in
-    let small : top < 511 =
-    omega (arith, c.if-top-ge-TOPS.false) in
-    omega (arith, small)
-
-pub overflow_add-top : goal.overflow_add-top
-overflow_add-top c =
-    let top : ℕ =
-    c.args.number / 2 ^ c.args.shift in
-    let small : top < 511 =
-    omega (arith, c.if-top-ge-TOPS.false) in
-    omega (arith, small)
-
-pub offset_bounds-starts-top-2 : goal.offset_bounds-starts-top-2
-offset_bounds-starts-top-2 c =
-    let top : ℕ =
-    c.args.number / 2 ^ c.args.shift in
-    let small : top < 511 =
-    omega (arith, c.if-top-ge-TOPS.false) in
-    omega (arith, small)
-
-pub bounds-starts-top-2 : goal.bounds-starts-top-2
-bounds-starts-top-2 c =
-    let top : ℕ =
-    c.args.number / 2 ^ c.args.shift in
-    let small : top < 511 =
-    omega (arith, c.if-top-ge-TOPS.false) in
-    omega (arith, small)
+returns-then-top-ge-TOPS c = λ numbers x d. missing x c.args.number d (top_out c.requires.tops.0 c.args.number c.if-top-ge-TOPS.true)
 
 pub returns-then-from-to : goal.returns-then-from-to
 returns-then-from-to c =
-    let top : ℕ =
-    c.args.number / 2 ^ c.args.shift in
-    let small : top < 511 =
-    omega (arith, c.if-top-ge-TOPS.false) in
-    λ numbers x d.
-    missing x c.args.number d (top_none c.requires.tops.0 c.args.number top _ _ small refl c.index_of-from.ensures.0 c.index_of-to.ensures.0 c.if-from-to.true)
+    λ numbers x d. missing x c.args.number d (top_none c.requires.tops.0 c.args.number c.if-top-ge-TOPS.false c.from-from.ensures c.from-to.ensures c.if-from-to.true)
 
 pub overflow_sub-to : goal.overflow_sub-to
-overflow_sub-to c =
-    let top : ℕ =
-    c.args.number / 2 ^ c.args.shift in
-    let small : top < 511 =
-    omega (arith, c.if-top-ge-TOPS.false) in
-    let rises : c.index_of-from.result ≤ c.index_of-to.result =
-    top_rises c.requires.tops.0 c.args.number top _ _ small refl c.index_of-from.ensures.0 c.index_of-to.ensures.0 in
-    omega (arith, rises)
+overflow_sub-to c = top_rises c.requires.tops.0 c.args.number c.if-top-ge-TOPS.false c.from-from.ensures c.from-to.ensures
 
 pub halve-at-requires : goal.halve-at-requires
 halve-at-requires c =
-    let top : ℕ =
-    c.args.number / 2 ^ c.args.shift in
-    let small : top < 511 =
-    omega (arith, c.if-top-ge-TOPS.false) in
-    let rises : c.index_of-from.result ≤ c.index_of-to.result =
-    top_rises c.requires.tops.0 c.args.number top _ _ small refl c.index_of-from.ensures.0 c.index_of-to.ensures.0 in
-    let range : let from = c.index_of-from.result in Bracket c.args.keys.now c.args.n c.args.number from (c.index_of-to.result - from) =
-    bracket_start c.requires.tops.0 c.args.number top _ _ small refl c.index_of-from.ensures.0 c.index_of-to.ensures.0 in
-    let w = c.requires.tops.1.within top small in
-    omega (arith, c.if-from-to.false, rises, range.inside, c.requires.n_bound.0, c.requires.n_bound.1.0, w, c.index_of-from.ensures.0, c.index_of-to.ensures.0)
+    let most = bracket_most c.requires.tops.0 c.args.number c.if-top-ge-TOPS.false c.from-from.ensures c.from-to.ensures c.requires.tops.1 c.if-from-to.false in
+    omega (arith, most, c.requires.n_bound)
 
 pub offset_bounds-keys-at : goal.offset_bounds-keys-at
 offset_bounds-keys-at c =
-    let top : ℕ =
-    c.args.number / 2 ^ c.args.shift in
-    let small : top < 511 =
-    omega (arith, c.if-top-ge-TOPS.false) in
-    let range : let from = c.index_of-from.result in Bracket c.args.keys.now c.args.n c.args.number from (c.index_of-to.result - from) =
-    bracket_start c.requires.tops.0 c.args.number top _ _ small refl c.index_of-from.ensures.0 c.index_of-to.ensures.0 in
-    let one : Bracket c.args.keys.now c.args.n c.args.number c.halve-at.result 1 =
-    c.halve-at.ensures c.args.n (range) in
-    let in_keys : c.halve-at.result < c.args.n =
-    omega (arith, one.inside) in
-    omega (arith, in_keys, c.requires.n_bound)
+    omega (arith, bracket_in c.requires.tops.0 c.args.number c.if-top-ge-TOPS.false c.from-from.ensures c.from-to.ensures c.halve-at.ensures, c.requires.n_bound)
 
 pub bounds-keys-at : goal.bounds-keys-at
 bounds-keys-at c =
-    let top : ℕ =
-    c.args.number / 2 ^ c.args.shift in
-    let small : top < 511 =
-    omega (arith, c.if-top-ge-TOPS.false) in
-    let range : let from = c.index_of-from.result in Bracket c.args.keys.now c.args.n c.args.number from (c.index_of-to.result - from) =
-    bracket_start c.requires.tops.0 c.args.number top _ _ small refl c.index_of-from.ensures.0 c.index_of-to.ensures.0 in
-    let one : Bracket c.args.keys.now c.args.n c.args.number c.halve-at.result 1 =
-    c.halve-at.ensures c.args.n (range) in
-    let in_keys : c.halve-at.result < c.args.n =
-    omega (arith, one.inside) in
-    omega (arith, in_keys, c.requires.n_bound)
+    omega (arith, bracket_in c.requires.tops.0 c.args.number c.if-top-ge-TOPS.false c.from-from.ensures c.from-to.ensures c.halve-at.ensures, c.requires.n_bound)
 
 pub offset_bounds-places-at : goal.offset_bounds-places-at
 offset_bounds-places-at c =
-    let top : ℕ =
-    c.args.number / 2 ^ c.args.shift in
-    let small : top < 511 =
-    omega (arith, c.if-top-ge-TOPS.false) in
-    let range : let from = c.index_of-from.result in Bracket c.args.keys.now c.args.n c.args.number from (c.index_of-to.result - from) =
-    bracket_start c.requires.tops.0 c.args.number top _ _ small refl c.index_of-from.ensures.0 c.index_of-to.ensures.0 in
-    let one : Bracket c.args.keys.now c.args.n c.args.number c.halve-at.result 1 =
-    c.halve-at.ensures c.args.n (range) in
-    let in_keys : c.halve-at.result < c.args.n =
-    omega (arith, one.inside) in
-    omega (arith, in_keys, c.requires.n_bound)
+    omega (arith, bracket_in c.requires.tops.0 c.args.number c.if-top-ge-TOPS.false c.from-from.ensures c.from-to.ensures c.halve-at.ensures, c.requires.n_bound)
 
 pub bounds-places-at : goal.bounds-places-at
 bounds-places-at c =
-    let top : ℕ =
-    c.args.number / 2 ^ c.args.shift in
-    let small : top < 511 =
-    omega (arith, c.if-top-ge-TOPS.false) in
-    let range : let from = c.index_of-from.result in Bracket c.args.keys.now c.args.n c.args.number from (c.index_of-to.result - from) =
-    bracket_start c.requires.tops.0 c.args.number top _ _ small refl c.index_of-from.ensures.0 c.index_of-to.ensures.0 in
-    let one : Bracket c.args.keys.now c.args.n c.args.number c.halve-at.result 1 =
-    c.halve-at.ensures c.args.n (range) in
-    let in_keys : c.halve-at.result < c.args.n =
-    omega (arith, one.inside) in
-    omega (arith, in_keys, c.requires.n_bound)
+    omega (arith, bracket_in c.requires.tops.0 c.args.number c.if-top-ge-TOPS.false c.from-from.ensures c.from-to.ensures c.halve-at.ensures, c.requires.n_bound)
 
 pub returns-then-keys-at : goal.returns-then-keys-at
 returns-then-keys-at c =
-    let top : ℕ =
-    c.args.number / 2 ^ c.args.shift in
-    let small : top < 511 =
-    omega (arith, c.if-top-ge-TOPS.false) in
-    let range : let from = c.index_of-from.result in Bracket c.args.keys.now c.args.n c.args.number from (c.index_of-to.result - from) =
-    bracket_start c.requires.tops.0 c.args.number top _ _ small refl c.index_of-from.ensures.0 c.index_of-to.ensures.0 in
-    let one : Bracket c.args.keys.now c.args.n c.args.number c.halve-at.result 1 =
-    c.halve-at.ensures c.args.n (range) in
-    let in_keys : c.halve-at.result < c.args.n =
-    omega (arith, one.inside) in
+    let inside = bracket_in c.requires.tops.0 c.args.number c.if-top-ge-TOPS.false c.from-from.ensures c.from-to.ensures c.halve-at.ensures in
     λ numbers x d.
-    c.index_of.ensures.0 ∙ found x c.args.number d c.halve-at.result in_keys c.if-keys-at.true
+    let at = found x c.args.number d c.halve-at.result inside c.if-keys-at.true in
+    (at ∙ sym c.from.ensures, omega (arith, x.place_in c.halve-at.result inside, c.from.ensures))
 
 pub returns : goal.returns
 returns c =
-    let top : ℕ =
-    c.args.number / 2 ^ c.args.shift in
-    let small : top < 511 =
-    omega (arith, c.if-top-ge-TOPS.false) in
-    let range : let from = c.index_of-from.result in Bracket c.args.keys.now c.args.n c.args.number from (c.index_of-to.result - from) =
-    bracket_start c.requires.tops.0 c.args.number top _ _ small refl c.index_of-from.ensures.0 c.index_of-to.ensures.0 in
-    let one : Bracket c.args.keys.now c.args.n c.args.number c.halve-at.result 1 =
-    c.halve-at.ensures c.args.n (range) in
-    λ numbers x d.
-    missing x c.args.number d (bracket_miss c.args.keys.now c.args.n c.args.number c.halve-at.result one x.ascending c.if-keys-at.false)
+    let one = c.halve-at.ensures c.args.n (bracket_start c.requires.tops.0 c.args.number c.if-top-ge-TOPS.false c.from-from.ensures c.from-to.ensures) in
+    λ numbers x d. missing x c.args.number d (bracket_miss c.args.keys.now c.args.n c.args.number c.halve-at.result one x.ascending c.if-keys-at.false)
+
+pub prove-unreachable-requires : goal.prove-unreachable-requires
+prove-unreachable-requires c =
+    let inside = bracket_in c.requires.tops.0 c.args.number c.if-top-ge-TOPS.false c.from-from.ensures c.from-to.ensures c.halve-at.ensures in
+    absurd (omega (arith, inside, c.if-prove.true))

@@ -1,13 +1,9 @@
 -- `index_lookup::look::shared` meets its contract. The invariant: no two neighbours before i are equal. Assumes nothing.
-use Prim.Native.Nat.{ℕ, ◌<◌, ◌+◌, ◌-◌}
+use Prim.Native.Nat.{ℕ, ◌<◌, ◌+◌}
 use mathlib.Core.Path.{◌≡◌}
 use lib.ListN.{get_or}
 use Rattle.index_lookup.proofs.look.shared.Given as goal
 
 abbrev pub invariant-loop-i : goal.invariant-loop-i
 invariant-loop-i l =
-    (0 < l.i) × ((k : ℕ) → k + 1 < l.i → get_or l.keys k 0 ≡ get_or l.keys (k + 1) 0 → ⊥)
-
-abbrev pub decreases-loop-i : goal.decreases-loop-i
-decreases-loop-i l =
-    l.n - l.i
+    (k : ℕ) → k + 1 < l.i → get_or l.keys k 0 ≡ get_or l.keys (k + 1) 0 → ⊥

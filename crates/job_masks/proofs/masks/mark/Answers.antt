@@ -6,7 +6,7 @@ use Rattle.job_masks.proofs.masks.mark.Goals as goal
 pub returns-then-b-k : goal.returns-then-b-k
 unfolding marked
 returns-then-b-k c =
-    rw (c.set_bit-v.ensures, lt-ltb c.args.b c.args.k c.if-b-k.true)
+    rw (lt-ltb c.args.b c.args.k c.if-b-k.true) (cc (c.from-p.ensures, c.set_bit.ensures))
 
 pub returns-else-b-k : goal.returns-else-b-k
 unfolding marked

@@ -1,176 +1,75 @@
 -- `late::refusal::add_refusal` meets its contract: the number is that of the first condition that is met. Assumes nothing.
-use mathlib.Core.Path.{◌≡◌, sym, ap, ◌∙◌}
-use mathlib.Core.Bool.{Bool}
-use mathlib.Core.List.{List}
-use Prim.Native.Nat.{ℕ, ◌≤◌}
+use mathlib.Core.Path.{refl, sym, ap, ◌∙◌}
+use Prim.Native.Nat.{ℕ, ◌<◌}
+use native.Mathlib.Omega.{arith}
+use Rattle.std.proofs.lemmas.Result.{err_from_is_err_and}
 use Rattle.laws.specs.Checks.{first_met}
-use Rattle.model.specs.Tables.{StateTables, state_tables}
-use Rattle.format.specs.Job.{Head, head_of, Tally}
-use Rattle.format.specs.Tables.{offer_tables, tally_tables, file_tables, ReaderTables, reader_tables}
-use Rattle.late_rules.specs.Edit.{job_in, added_head, added_tables}
+use Rattle.refusals.specs.Numbers.{number_of}
+use Rattle.refusals.proofs.Numbers.{number_positive}
+use Rattle.tables.specs.Lent.{state_held}
+use Rattle.late_rules.specs.Edit.{added_head, added_tables}
 use Rattle.late_rules.specs.Late.{room, add_faults, add_rules}
-use Rattle.late_checks.specs.Judged.{tally_with}
+use Rattle.late_checks.specs.Judged.{tally_with, words_of}
+use Rattle.late_checks.specs.Lent.{head_held, reader_held}
 use Rattle.late_checks.specs.Present.{first_rules}
-use Rattle.late_finished.specs.Present.{PresentState, state_rules}
 use Rattle.late.proofs.Rules.{first_met_lem, state_met, own_met, present_in, present_state, room_most}
 use Rattle.late.proofs.refusal.add_refusal.Goals as goal
 
-pub returns-then-first-ne0 : goal.returns-then-first-ne0
+pub returns-in_err-present_refusal-clause-met : goal.returns-in_err-present_refusal-clause-met
 unfolding add_rules
-returns-then-first-ne0 c =
-    let head : Head =
-    head_of c.args.z.boxes c.args.z.grocers c.args.z.offers c.args.z.tallies 0 c.args.z.lists in
-    let reader : ReaderTables =
-    let a = c.args in
-    reader_tables
-    (file_tables (offer_tables a.price.now a.offer_owner.now a.offer_code.now a.offer_issuer.now) a.grocer_owner.now
-    (tally_tables a.tally_grocer.now a.tally_box.now a.tally_code.now a.tally_count.now a.tally_issuer.now a.tally_bag.now a.tally_revision.now))
-    a.tally_offer.now in
-    let state : StateTables =
-    state_tables c.args.known.now c.args.price_transit.now c.args.working.now c.args.total_transit.now c.args.statement.now c.args.done.now c.args.sent.now in
-    let tally : Tally =
-    tally_with c.args.x c.args.code.now in
-    let own : List (Bool × ℕ) =
-    add_faults head reader (tally_with c.args.x c.args.code.now) in
-    let most : ℕ =
-    room c.args.z.tallies in
-    let number_is : c.present_refusal-first.result ≡ first_met (first_rules most head reader state) =
-    (c.present_refusal-first.ensures state.working state.total_transit).number_is
-    ∙ ap (λ (t : ℕ). first_met (first_rules t head reader state)) c.room_for.ensures.0 in
-    record {
-      met_value = c.refused.ensures.0
-          ∙ first_met_lem most own head (added_head head) reader (added_tables head reader tally) state c.present_refusal-first.result number_is c.if-first-ne0.true;
-      place_value = λ z. absurd (c.if-first-ne0.true (sym c.refused.ensures.0 ∙ z));
-    }
+returns-in_err-present_refusal-clause-met c =
+    let head = head_held c.args.tables.now in
+    let reader = reader_held c.args.tables.now in
+    let state = state_held c.args.state.now in
+    let p = err_from_is_err_and c.from_residual.result c.from_residual.ensures.1 in
+    let k = number_of c.in_err-present_refusal.field-0.0 in
+    let some : 0 < number_of c.in_err-present_refusal.field-0.0 = number_positive c.in_err-present_refusal.field-0.0 in
+    rw (p.1, p.2) (
+    first_met_lem (room c.args.tables.now.sizes.tallies) (add_faults head reader (tally_with c.args.x c.args.code.now)) head (added_head head) reader (added_tables head reader (tally_with c.args.x c.args.code.now)) state k
+    ((c.in_err-present_refusal.ensures state.working state.total_transit).number_is ∙ ap (λ (t : ℕ). first_met (first_rules t head reader state)) c.room_for-room.ensures.0)
+    (λ z. omega (arith, some, z))
+    )
 
-pub added_job-e-requires : goal.added_job-e-requires
-added_job-e-requires c =
-    let head : Head =
-    head_of c.args.z.boxes c.args.z.grocers c.args.z.offers c.args.z.tallies 0 c.args.z.lists in
-    let reader : ReaderTables =
-    let a = c.args in
-    reader_tables
-    (file_tables (offer_tables a.price.now a.offer_owner.now a.offer_code.now a.offer_issuer.now) a.grocer_owner.now
-    (tally_tables a.tally_grocer.now a.tally_box.now a.tally_code.now a.tally_count.now a.tally_issuer.now a.tally_bag.now a.tally_revision.now))
-    a.tally_offer.now in
-    let state : StateTables =
-    state_tables c.args.known.now c.args.price_transit.now c.args.working.now c.args.total_transit.now c.args.statement.now c.args.done.now c.args.sent.now in
-    let most : ℕ =
-    room c.args.z.tallies in
-    let number_is : c.present_refusal-first.result ≡ first_met (first_rules most head reader state) =
-    (c.present_refusal-first.ensures state.working state.total_transit).number_is
-    ∙ ap (λ (t : ℕ). first_met (first_rules t head reader state)) c.room_for.ensures.0 in
-    let enough : head.tallies ≤ most =
-    room_most c.args.z.tallies in
-    let none : first_met (first_rules most head reader state) ≡ 0 =
-    sym number_is ∙ c.if-first-ne0.false in
-    present_in most head reader state enough (none)
+pub added_job-edit-requires : goal.added_job-edit-requires
+added_job-edit-requires c =
+    let head = head_held c.args.tables.now in
+    let reader = reader_held c.args.tables.now in
+    let state = state_held c.args.state.now in
+    let none = sym ((c.in_ok-present_refusal.ensures state.working state.total_transit).number_is ∙ ap (λ (t : ℕ). first_met (first_rules t head reader state)) c.room_for-room.ensures.0) in
+    present_in (room c.args.tables.now.sizes.tallies) head reader state (room_most c.args.tables.now.sizes.tallies) none
 
-pub state_refusal-met-requires : goal.state_refusal-met-requires
-state_refusal-met-requires c =
-    let head : Head =
-    head_of c.args.z.boxes c.args.z.grocers c.args.z.offers c.args.z.tallies 0 c.args.z.lists in
-    let reader : ReaderTables =
-    let a = c.args in
-    reader_tables
-    (file_tables (offer_tables a.price.now a.offer_owner.now a.offer_code.now a.offer_issuer.now) a.grocer_owner.now
-    (tally_tables a.tally_grocer.now a.tally_box.now a.tally_code.now a.tally_count.now a.tally_issuer.now a.tally_bag.now a.tally_revision.now))
-    a.tally_offer.now in
-    let state : StateTables =
-    state_tables c.args.known.now c.args.price_transit.now c.args.working.now c.args.total_transit.now c.args.statement.now c.args.done.now c.args.sent.now in
-    let most : ℕ =
-    room c.args.z.tallies in
-    let standing : List ℕ =
-    c.present_refusal-first.new.standing in
-    let number_is : c.present_refusal-first.result ≡ first_met (first_rules most head reader state) =
-    (c.present_refusal-first.ensures state.working state.total_transit).number_is
-    ∙ ap (λ (t : ℕ). first_met (first_rules t head reader state)) c.room_for.ensures.0 in
-    let enough : head.tallies ≤ most =
-    room_most c.args.z.tallies in
-    let none : first_met (first_rules most head reader state) ≡ 0 =
-    sym number_is ∙ c.if-first-ne0.false in
-    let present : PresentState (job_in head reader) state (standing) =
-    present_state most head reader state enough none standing ((c.present_refusal-first.ensures state.working state.total_transit).standing_are c.if-first-ne0.false) in
-    record { list = c.args.tally_box.now; passes = record { list = c.args.tally_bag.now; passes = record { list = c.args.tally_revision.now; passes = present } } }
+pub state_refusal-requires : goal.state_refusal-requires
+state_refusal-requires c =
+    let head = head_held c.args.tables.now in
+    let reader = reader_held c.args.tables.now in
+    let state = state_held c.args.state.now in
+    let none = sym ((c.in_ok-present_refusal.ensures state.working state.total_transit).number_is ∙ ap (λ (t : ℕ). first_met (first_rules t head reader state)) c.room_for-room.ensures.0) in
+    rw c.run_job-job.ensures (
+    present_state (room c.args.tables.now.sizes.tallies) head reader state (room_most c.args.tables.now.sizes.tallies) none _ ((c.in_ok-present_refusal.ensures state.working state.total_transit).standing_are refl)
+    )
 
-pub returns-then-met-ne0 : goal.returns-then-met-ne0
+pub returns-in_err-state_refusal-clause-met : goal.returns-in_err-state_refusal-clause-met
 unfolding add_rules
-returns-then-met-ne0 c =
-    let head : Head =
-    head_of c.args.z.boxes c.args.z.grocers c.args.z.offers c.args.z.tallies 0 c.args.z.lists in
-    let reader : ReaderTables =
-    let a = c.args in
-    reader_tables
-    (file_tables (offer_tables a.price.now a.offer_owner.now a.offer_code.now a.offer_issuer.now) a.grocer_owner.now
-    (tally_tables a.tally_grocer.now a.tally_box.now a.tally_code.now a.tally_count.now a.tally_issuer.now a.tally_bag.now a.tally_revision.now))
-    a.tally_offer.now in
-    let state : StateTables =
-    state_tables c.args.known.now c.args.price_transit.now c.args.working.now c.args.total_transit.now c.args.statement.now c.args.done.now c.args.sent.now in
-    let tally : Tally =
-    tally_with c.args.x c.args.code.now in
-    let own : List (Bool × ℕ) =
-    add_faults head reader (tally_with c.args.x c.args.code.now) in
-    let most : ℕ =
-    room c.args.z.tallies in
-    let standing : List ℕ =
-    c.present_refusal-first.new.standing in
-    let number_is : c.present_refusal-first.result ≡ first_met (first_rules most head reader state) =
-    (c.present_refusal-first.ensures state.working state.total_transit).number_is
-    ∙ ap (λ (t : ℕ). first_met (first_rules t head reader state)) c.room_for.ensures.0 in
-    let enough : head.tallies ≤ most =
-    room_most c.args.z.tallies in
-    let none : first_met (first_rules most head reader state) ≡ 0 =
-    sym number_is ∙ c.if-first-ne0.false in
-    let present : PresentState (job_in head reader) state (standing) =
-    present_state most head reader state enough none standing ((c.present_refusal-first.ensures state.working state.total_transit).standing_are c.if-first-ne0.false) in
-    let told : c.state_refusal-met.result ≡ first_met (state_rules (job_in head reader) c.added_job-e.result.words state) =
-    c.state_refusal-met.ensures c.args.tally_box.now c.args.tally_bag.now c.args.tally_revision.now (present) in
-    record {
-      met_value = c.refused-then-met-ne0.ensures.0
-          ∙ state_met most own head (added_head head) reader (added_tables head reader tally) state none c.added_job-e.result.words c.added_job-e.ensures.told.words_is
-          c.state_refusal-met.result told c.if-met-ne0.true;
-      place_value = λ z. absurd (c.if-met-ne0.true (sym c.refused-then-met-ne0.ensures.0 ∙ z));
-    }
+returns-in_err-state_refusal-clause-met c =
+    let head = head_held c.args.tables.now in
+    let reader = reader_held c.args.tables.now in
+    let state = state_held c.args.state.now in
+    let none = sym ((c.in_ok-present_refusal.ensures state.working state.total_transit).number_is ∙ ap (λ (t : ℕ). first_met (first_rules t head reader state)) c.room_for-room.ensures.0) in
+    let p = err_from_is_err_and c.from_residual-in_err-state_refusal.result c.from_residual-in_err-state_refusal.ensures.1 in
+    let k = number_of c.in_err-state_refusal.field-0.0 in
+    let some : 0 < number_of c.in_err-state_refusal.field-0.0 = number_positive c.in_err-state_refusal.field-0.0 in
+    rw (p.1, p.2) (
+    state_met (room c.args.tables.now.sizes.tallies) (add_faults head reader (tally_with c.args.x c.args.code.now)) head (added_head head) reader (added_tables head reader (tally_with c.args.x c.args.code.now)) state none
+    (words_of c.added_job-edit.result) c.added_job-edit.ensures.told.words_is k
+    (rw (c.run_job-job.ensures, c.words_of.ensures) at c.in_err-state_refusal.ensures) (λ z. omega (arith, some, z))
+    )
 
-pub returns : goal.returns
+pub returns-clause-met : goal.returns-clause-met
 unfolding add_rules
-returns c =
-    let head : Head =
-    head_of c.args.z.boxes c.args.z.grocers c.args.z.offers c.args.z.tallies 0 c.args.z.lists in
-    let reader : ReaderTables =
-    let a = c.args in
-    reader_tables
-    (file_tables (offer_tables a.price.now a.offer_owner.now a.offer_code.now a.offer_issuer.now) a.grocer_owner.now
-    (tally_tables a.tally_grocer.now a.tally_box.now a.tally_code.now a.tally_count.now a.tally_issuer.now a.tally_bag.now a.tally_revision.now))
-    a.tally_offer.now in
-    let state : StateTables =
-    state_tables c.args.known.now c.args.price_transit.now c.args.working.now c.args.total_transit.now c.args.statement.now c.args.done.now c.args.sent.now in
-    let tally : Tally =
-    tally_with c.args.x c.args.code.now in
-    let own : List (Bool × ℕ) =
-    add_faults head reader (tally_with c.args.x c.args.code.now) in
-    let most : ℕ =
-    room c.args.z.tallies in
-    let standing : List ℕ =
-    c.present_refusal-first.new.standing in
-    let number_is : c.present_refusal-first.result ≡ first_met (first_rules most head reader state) =
-    (c.present_refusal-first.ensures state.working state.total_transit).number_is
-    ∙ ap (λ (t : ℕ). first_met (first_rules t head reader state)) c.room_for.ensures.0 in
-    let enough : head.tallies ≤ most =
-    room_most c.args.z.tallies in
-    let none : first_met (first_rules most head reader state) ≡ 0 =
-    sym number_is ∙ c.if-first-ne0.false in
-    let present : PresentState (job_in head reader) state (standing) =
-    present_state most head reader state enough none standing ((c.present_refusal-first.ensures state.working state.total_transit).standing_are c.if-first-ne0.false) in
-    let told : c.state_refusal-met.result ≡ first_met (state_rules (job_in head reader) c.added_job-e.result.words state) =
-    c.state_refusal-met.ensures c.args.tally_box.now c.args.tally_bag.now c.args.tally_revision.now (present) in
-    record {
-      met_value = c.added_job-e.ensures.told.met_is
-          ∙ own_met most own head (added_head head) reader (added_tables head reader tally) state none c.added_job-e.result.words c.added_job-e.ensures.told.words_is
-          (sym told ∙ c.if-met-ne0.false);
-      place_value = c.added_job-e.ensures.place_value;
-    }
-
-pub present_refusal-first-requires : goal.present_refusal-first-requires
-present_refusal-first-requires c =
-    (c.room_for.ensures.1.0, c.room_for.ensures.1.1)
+returns-clause-met c =
+    let head = head_held c.args.tables.now in
+    let reader = reader_held c.args.tables.now in
+    let state = state_held c.args.state.now in
+    let none = sym ((c.in_ok-present_refusal.ensures state.working state.total_transit).number_is ∙ ap (λ (t : ℕ). first_met (first_rules t head reader state)) c.room_for-room.ensures.0) in
+    c.added_job-edit.ensures.told.met_is ∙ own_met (room c.args.tables.now.sizes.tallies) (add_faults head reader (tally_with c.args.x c.args.code.now)) head (added_head head) reader (added_tables head reader (tally_with
+    c.args.x c.args.code.now)) state none (words_of c.added_job-edit.result) c.added_job-edit.ensures.told.words_is (sym (rw (c.run_job-job.ensures, c.words_of.ensures) at c.in_ok-state_refusal.ensures))

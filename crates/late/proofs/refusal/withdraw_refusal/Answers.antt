@@ -1,159 +1,84 @@
 -- `late::refusal::withdraw_refusal` meets its contract: the number is that of the first condition that is met. Assumes nothing.
-use mathlib.Core.Path.{◌≡◌, sym, ap, ◌∙◌}
-use mathlib.Core.Bool.{Bool}
-use mathlib.Core.List.{List}
-use Prim.Native.Nat.{ℕ, ◌≤◌}
+use mathlib.Core.Path.{refl, sym, ◌∙◌}
+use Prim.Native.Nat.{◌<◌}
+use native.Mathlib.Nat.{le_refl}
 use native.Mathlib.Omega.{arith}
-use Rattle.laws.specs.Checks.{first_met}
-use Rattle.model.specs.Tables.{StateTables, state_tables}
-use Rattle.format.specs.Job.{Head, head_of}
-use Rattle.format.specs.Tables.{offer_tables, tally_tables, file_tables, ReaderTables, reader_tables}
-use Rattle.late_rules.specs.Edit.{job_in, withdrawn_head, withdrawn_tables}
+use Rattle.std.proofs.lemmas.Result.{err_from_is_err_and}
+use Rattle.refusals.specs.Numbers.{number_of}
+use Rattle.refusals.proofs.Numbers.{number_positive}
+use Rattle.tables.specs.Lent.{state_held}
+use Rattle.late_rules.specs.Edit.{withdrawn_head, withdrawn_tables}
 use Rattle.late_rules.specs.Late.{withdraw_faults, withdraw_rules}
-use Rattle.late_checks.specs.Present.{first_rules}
-use Rattle.late_finished.specs.Present.{PresentState, state_rules}
+use Rattle.late_checks.specs.Judged.{words_of}
+use Rattle.late_checks.specs.Lent.{head_held, reader_held}
 use Rattle.late.proofs.Rules.{first_met_lem, state_met, own_met, present_in, present_state}
 use Rattle.late.proofs.refusal.withdraw_refusal.Goals as goal
 
-pub returns-then-first-ne0 : goal.returns-then-first-ne0
+pub returns-in_err-present_refusal : goal.returns-in_err-present_refusal
 unfolding withdraw_rules
-returns-then-first-ne0 c =
-    let head : Head =
-    head_of c.args.z.boxes c.args.z.grocers c.args.z.offers c.args.z.tallies 0 c.args.z.lists in
-    let reader : ReaderTables =
-    let a = c.args in
-    reader_tables
-    (file_tables (offer_tables a.price.now a.offer_owner.now a.offer_code.now a.offer_issuer.now) a.grocer_owner.now
-    (tally_tables a.tally_grocer.now a.tally_box.now a.tally_code.now a.tally_count.now a.tally_issuer.now a.tally_bag.now a.tally_revision.now))
-    a.tally_offer.now in
-    let state : StateTables =
-    state_tables c.args.known.now c.args.price_transit.now c.args.working.now c.args.total_transit.now c.args.statement.now c.args.done.now c.args.sent.now in
-    let own : List (Bool × ℕ) =
-    withdraw_faults head reader c.args.place in
-    let most : ℕ =
-    c.args.z.tallies in
-    let number_is : c.present_refusal-first.result ≡ first_met (first_rules most head reader state) =
-    (c.present_refusal-first.ensures state.working state.total_transit).number_is
-    ∙ ap (λ (t : ℕ). first_met (first_rules t head reader state)) c.index_of.ensures.0 in
-    first_met_lem most own head (withdrawn_head head) reader (withdrawn_tables head reader c.args.place) state c.present_refusal-first.result number_is c.if-first-ne0.true
+returns-in_err-present_refusal c =
+    let head = head_held c.args.tables.now in
+    let reader = reader_held c.args.tables.now in
+    let state = state_held c.args.state.now in
+    let p = err_from_is_err_and c.from_residual.result c.from_residual.ensures.1 in
+    let k = number_of c.in_err-present_refusal.field-0.0 in
+    let some : 0 < number_of c.in_err-present_refusal.field-0.0 = number_positive c.in_err-present_refusal.field-0.0 in
+    rw (p.1, p.2) (
+    first_met_lem c.args.tables.now.sizes.tallies (withdraw_faults head reader c.args.place) head (withdrawn_head head) reader (withdrawn_tables head reader c.args.place) state k
+    ((c.in_err-present_refusal.ensures state.working state.total_transit).number_is)
+    (λ z. omega (arith, some, z))
+    )
 
-pub withdrawn_job-e-requires : goal.withdrawn_job-e-requires
-withdrawn_job-e-requires c =
-    let head : Head =
-    head_of c.args.z.boxes c.args.z.grocers c.args.z.offers c.args.z.tallies 0 c.args.z.lists in
-    let reader : ReaderTables =
-    let a = c.args in
-    reader_tables
-    (file_tables (offer_tables a.price.now a.offer_owner.now a.offer_code.now a.offer_issuer.now) a.grocer_owner.now
-    (tally_tables a.tally_grocer.now a.tally_box.now a.tally_code.now a.tally_count.now a.tally_issuer.now a.tally_bag.now a.tally_revision.now))
-    a.tally_offer.now in
-    let state : StateTables =
-    state_tables c.args.known.now c.args.price_transit.now c.args.working.now c.args.total_transit.now c.args.statement.now c.args.done.now c.args.sent.now in
-    let most : ℕ =
-    c.args.z.tallies in
-    let number_is : c.present_refusal-first.result ≡ first_met (first_rules most head reader state) =
-    (c.present_refusal-first.ensures state.working state.total_transit).number_is
-    ∙ ap (λ (t : ℕ). first_met (first_rules t head reader state)) c.index_of.ensures.0 in
-    let enough : head.tallies ≤ most =
-    omega arith in
-    let none : first_met (first_rules most head reader state) ≡ 0 =
-    sym number_is ∙ c.if-first-ne0.false in
-    present_in most head reader state enough (none)
+pub withdrawn_job-edit-requires : goal.withdrawn_job-edit-requires
+withdrawn_job-edit-requires c =
+    let head = head_held c.args.tables.now in
+    let reader = reader_held c.args.tables.now in
+    let state = state_held c.args.state.now in
+    let none = sym ((c.in_ok-present_refusal.ensures state.working state.total_transit).number_is) in
+    present_in c.args.tables.now.sizes.tallies head reader state (le_refl c.args.tables.now.sizes.tallies) none
 
-pub state_refusal-met-requires : goal.state_refusal-met-requires
-state_refusal-met-requires c =
-    let head : Head =
-    head_of c.args.z.boxes c.args.z.grocers c.args.z.offers c.args.z.tallies 0 c.args.z.lists in
-    let reader : ReaderTables =
-    let a = c.args in
-    reader_tables
-    (file_tables (offer_tables a.price.now a.offer_owner.now a.offer_code.now a.offer_issuer.now) a.grocer_owner.now
-    (tally_tables a.tally_grocer.now a.tally_box.now a.tally_code.now a.tally_count.now a.tally_issuer.now a.tally_bag.now a.tally_revision.now))
-    a.tally_offer.now in
-    let state : StateTables =
-    state_tables c.args.known.now c.args.price_transit.now c.args.working.now c.args.total_transit.now c.args.statement.now c.args.done.now c.args.sent.now in
-    let most : ℕ =
-    c.args.z.tallies in
-    let standing : List ℕ =
-    c.present_refusal-first.new.standing in
-    let number_is : c.present_refusal-first.result ≡ first_met (first_rules most head reader state) =
-    (c.present_refusal-first.ensures state.working state.total_transit).number_is
-    ∙ ap (λ (t : ℕ). first_met (first_rules t head reader state)) c.index_of.ensures.0 in
-    let enough : head.tallies ≤ most =
-    omega arith in
-    let none : first_met (first_rules most head reader state) ≡ 0 =
-    sym number_is ∙ c.if-first-ne0.false in
-    let present : PresentState (job_in head reader) state (standing) =
-    present_state most head reader state enough none standing ((c.present_refusal-first.ensures state.working state.total_transit).standing_are c.if-first-ne0.false) in
-    record { list = c.args.tally_box.now; passes = record { list = c.args.tally_bag.now; passes = record { list = c.args.tally_revision.now; passes = present } } }
+pub state_refusal-requires : goal.state_refusal-requires
+state_refusal-requires c =
+    let head = head_held c.args.tables.now in
+    let reader = reader_held c.args.tables.now in
+    let state = state_held c.args.state.now in
+    let none = sym ((c.in_ok-present_refusal.ensures state.working state.total_transit).number_is) in
+    rw c.run_job-job.ensures (
+    present_state c.args.tables.now.sizes.tallies head reader state (le_refl c.args.tables.now.sizes.tallies) none _ ((c.in_ok-present_refusal.ensures state.working state.total_transit).standing_are refl)
+    )
 
-pub returns-then-met-ne0 : goal.returns-then-met-ne0
+pub returns-in_err-state_refusal : goal.returns-in_err-state_refusal
 unfolding withdraw_rules
-returns-then-met-ne0 c =
-    let head : Head =
-    head_of c.args.z.boxes c.args.z.grocers c.args.z.offers c.args.z.tallies 0 c.args.z.lists in
-    let reader : ReaderTables =
-    let a = c.args in
-    reader_tables
-    (file_tables (offer_tables a.price.now a.offer_owner.now a.offer_code.now a.offer_issuer.now) a.grocer_owner.now
-    (tally_tables a.tally_grocer.now a.tally_box.now a.tally_code.now a.tally_count.now a.tally_issuer.now a.tally_bag.now a.tally_revision.now))
-    a.tally_offer.now in
-    let state : StateTables =
-    state_tables c.args.known.now c.args.price_transit.now c.args.working.now c.args.total_transit.now c.args.statement.now c.args.done.now c.args.sent.now in
-    let own : List (Bool × ℕ) =
-    withdraw_faults head reader c.args.place in
-    let most : ℕ =
-    c.args.z.tallies in
-    let standing : List ℕ =
-    c.present_refusal-first.new.standing in
-    let number_is : c.present_refusal-first.result ≡ first_met (first_rules most head reader state) =
-    (c.present_refusal-first.ensures state.working state.total_transit).number_is
-    ∙ ap (λ (t : ℕ). first_met (first_rules t head reader state)) c.index_of.ensures.0 in
-    let enough : head.tallies ≤ most =
-    omega arith in
-    let none : first_met (first_rules most head reader state) ≡ 0 =
-    sym number_is ∙ c.if-first-ne0.false in
-    let present : PresentState (job_in head reader) state (standing) =
-    present_state most head reader state enough none standing ((c.present_refusal-first.ensures state.working state.total_transit).standing_are c.if-first-ne0.false) in
-    let told : c.state_refusal-met.result ≡ first_met (state_rules (job_in head reader) c.withdrawn_job-e.result.words state) =
-    c.state_refusal-met.ensures c.args.tally_box.now c.args.tally_bag.now c.args.tally_revision.now (present) in
-    state_met most own head (withdrawn_head head) reader (withdrawn_tables head reader c.args.place) state none c.withdrawn_job-e.result.words c.withdrawn_job-e.ensures.words_is
-    c.state_refusal-met.result told c.if-met-ne0.true
+returns-in_err-state_refusal c =
+    let head = head_held c.args.tables.now in
+    let reader = reader_held c.args.tables.now in
+    let state = state_held c.args.state.now in
+    let none = sym ((c.in_ok-present_refusal.ensures state.working state.total_transit).number_is) in
+    let p = err_from_is_err_and c.from_residual-in_err-state_refusal.result c.from_residual-in_err-state_refusal.ensures.1 in
+    let k = number_of c.in_err-state_refusal.field-0.0 in
+    let some : 0 < number_of c.in_err-state_refusal.field-0.0 = number_positive c.in_err-state_refusal.field-0.0 in
+    rw (p.1, p.2) (
+    state_met c.args.tables.now.sizes.tallies (withdraw_faults head reader c.args.place) head (withdrawn_head head) reader (withdrawn_tables head reader c.args.place) state none (words_of c.withdrawn_job-edit.result)
+    c.withdrawn_job-edit.ensures.words_is k
+    (rw (c.run_job-job.ensures, c.words_of.ensures) at c.in_err-state_refusal.ensures) (λ z. omega (arith, some, z))
+    )
 
-pub returns : goal.returns
+pub returns-in-Ok : goal.returns-in-Ok
 unfolding withdraw_rules
-returns c =
-    let head : Head =
-    head_of c.args.z.boxes c.args.z.grocers c.args.z.offers c.args.z.tallies 0 c.args.z.lists in
-    let reader : ReaderTables =
-    let a = c.args in
-    reader_tables
-    (file_tables (offer_tables a.price.now a.offer_owner.now a.offer_code.now a.offer_issuer.now) a.grocer_owner.now
-    (tally_tables a.tally_grocer.now a.tally_box.now a.tally_code.now a.tally_count.now a.tally_issuer.now a.tally_bag.now a.tally_revision.now))
-    a.tally_offer.now in
-    let state : StateTables =
-    state_tables c.args.known.now c.args.price_transit.now c.args.working.now c.args.total_transit.now c.args.statement.now c.args.done.now c.args.sent.now in
-    let own : List (Bool × ℕ) =
-    withdraw_faults head reader c.args.place in
-    let most : ℕ =
-    c.args.z.tallies in
-    let standing : List ℕ =
-    c.present_refusal-first.new.standing in
-    let number_is : c.present_refusal-first.result ≡ first_met (first_rules most head reader state) =
-    (c.present_refusal-first.ensures state.working state.total_transit).number_is
-    ∙ ap (λ (t : ℕ). first_met (first_rules t head reader state)) c.index_of.ensures.0 in
-    let enough : head.tallies ≤ most =
-    omega arith in
-    let none : first_met (first_rules most head reader state) ≡ 0 =
-    sym number_is ∙ c.if-first-ne0.false in
-    let present : PresentState (job_in head reader) state (standing) =
-    present_state most head reader state enough none standing ((c.present_refusal-first.ensures state.working state.total_transit).standing_are c.if-first-ne0.false) in
-    let told : c.state_refusal-met.result ≡ first_met (state_rules (job_in head reader) c.withdrawn_job-e.result.words state) =
-    c.state_refusal-met.ensures c.args.tally_box.now c.args.tally_bag.now c.args.tally_revision.now (present) in
-    c.withdrawn_job-e.ensures.met_is
-    ∙ own_met most own head (withdrawn_head head) reader (withdrawn_tables head reader c.args.place) state none c.withdrawn_job-e.result.words c.withdrawn_job-e.ensures.words_is
-    (sym told ∙ c.if-met-ne0.false)
+returns-in-Ok c =
+    let head = head_held c.args.tables.now in
+    let reader = reader_held c.args.tables.now in
+    let state = state_held c.args.state.now in
+    let none = sym ((c.in_ok-present_refusal.ensures state.working state.total_transit).number_is) in
+    (rw c.in-Ok.is at c.withdrawn_job-edit.ensures.met_is) ∙ own_met c.args.tables.now.sizes.tallies (withdraw_faults head reader c.args.place) head (withdrawn_head head) reader (withdrawn_tables head reader c.args.place)
+    state none (words_of c.withdrawn_job-edit.result) c.withdrawn_job-edit.ensures.words_is (sym (rw (c.run_job-job.ensures, c.words_of.ensures) at c.in_ok-state_refusal.ensures))
 
-pub present_refusal-first-requires : goal.present_refusal-first-requires
-present_refusal-first-requires c =
-    (omega (arith, c.index_of.ensures.0), omega (arith, c.index_of.ensures))
+pub returns-in-Err : goal.returns-in-Err
+unfolding withdraw_rules
+returns-in-Err c =
+    let head = head_held c.args.tables.now in
+    let reader = reader_held c.args.tables.now in
+    let state = state_held c.args.state.now in
+    let none = sym ((c.in_ok-present_refusal.ensures state.working state.total_transit).number_is) in
+    (rw c.in-Err.is at c.withdrawn_job-edit.ensures.met_is) ∙ own_met c.args.tables.now.sizes.tallies (withdraw_faults head reader c.args.place) head (withdrawn_head head) reader (withdrawn_tables head reader c.args.place)
+    state none (words_of c.withdrawn_job-edit.result) c.withdrawn_job-edit.ensures.words_is (sym (rw (c.run_job-job.ensures, c.words_of.ensures) at c.in_ok-state_refusal.ensures))

@@ -7,70 +7,56 @@ use lib.Dec.{eqb, ltb}
 use borrow.Author.Tests.{lt-ltb, le-ltb}
 use Rattle.model.specs.Tables.{JobTables}
 use Rattle.format.specs.Refusals.{job_refusal}
-use Rattle.format.specs.Tables.{FileTables, ReaderTables, offer_tables, tally_tables, file_tables, reader_tables, file_job_of}
+use Rattle.format.specs.Tables.{FileTables, ReaderTables, file_job_of}
 use Rattle.late_rules.specs.Edit.{withdrawn_head}
 use Rattle.late_checks.specs.Judged.{ByPlaces, file_then}
 use Rattle.late_checks.proofs.Decided.{head_now, withdrawing, no_code, told_nowhere, told_codes, told-places, withdraw_alone, withdraw_file, withdraw_job, withdraw_file_in, withdraw_written, withdraw_job_in}
+use Rattle.late_checks.specs.Lent.{reader_held}
 use Rattle.late_checks.proofs.decide.withdrawn_job.Goals as goal
 
 -- 32: no such place.
 pub returns-then-z-place : goal.returns-then-z-place
 returns-then-z-place c =
-    let tables : ReaderTables =
-    reader_tables (file_tables (offer_tables c.args.price.now c.args.offer_owner.now c.args.offer_code.now c.args.offer_issuer.now) c.args.grocer_owner.now
-    (tally_tables c.args.tally_grocer.now c.args.tally_box.now c.args.tally_code.now c.args.tally_count.now c.args.tally_issuer.now c.args.tally_bag.now
-    c.args.tally_revision.now)) c.args.tally_offer.now in
-    told_nowhere c.args.z c.args.place tables _ (le-ltb _ _ c.if-z-place.true) c.refused.ensures.0 c.refused.ensures.1
+    let tables : ReaderTables = reader_held c.args.tables.now in
+    told_nowhere c.args.tables.now.sizes c.args.place tables (le-ltb _ _ c.if-z-place.true)
 
 pub by_codes-requires : goal.by_codes-requires
 by_codes-requires c =
-    let tables : ReaderTables =
-    reader_tables (file_tables (offer_tables c.args.price.now c.args.offer_owner.now c.args.offer_code.now c.args.offer_issuer.now) c.args.grocer_owner.now
-    (tally_tables c.args.tally_grocer.now c.args.tally_box.now c.args.tally_code.now c.args.tally_count.now c.args.tally_issuer.now c.args.tally_bag.now
-    c.args.tally_revision.now)) c.args.tally_offer.now in
-    let here : c.args.place < c.args.z.tallies =
+    let tables : ReaderTables = reader_held c.args.tables.now in
+    let here : c.args.place < c.args.tables.now.sizes.tallies =
     omega (arith, c.if-z-place.false) in
-    withdraw_file_in c.args.z c.args.place tables here c.requires
+    withdraw_file_in c.args.tables.now.sizes c.args.place tables here c.requires
 
 pub returns-then-by_codes : goal.returns-then-by_codes
 returns-then-by_codes c =
-    let tables : ReaderTables =
-    reader_tables (file_tables (offer_tables c.args.price.now c.args.offer_owner.now c.args.offer_code.now c.args.offer_issuer.now) c.args.grocer_owner.now
-    (tally_tables c.args.tally_grocer.now c.args.tally_box.now c.args.tally_code.now c.args.tally_count.now c.args.tally_issuer.now c.args.tally_bag.now
-    c.args.tally_revision.now)) c.args.tally_offer.now in
-    let here : c.args.place < c.args.z.tallies =
+    let tables : ReaderTables = reader_held c.args.tables.now in
+    let here : c.args.place < c.args.tables.now.sizes.tallies =
     omega (arith, c.if-z-place.false) in
-    let there : ltb c.args.place c.args.z.tallies ≡ true =
+    let there : ltb c.args.place c.args.tables.now.sizes.tallies ≡ true =
     lt-ltb _ _ (here) in
     let a = c.args in
-    told_codes _ _ _ (withdraw_alone a.z a.place tables there) _
-    (ap (λ (t : FileTables). not (eqb (job_refusal (file_job_of (withdrawn_head (head_now a.z)) t)) 0)) (sym (withdraw_file a.z a.place tables here))
-    ∙ sym c.by_codes.ensures ∙ c.if-by_codes.true) c.refused-then-by_codes.ensures.0 c.refused-then-by_codes.ensures.1
+    told_codes _ _ _ (withdraw_alone a.tables.now.sizes a.place tables there)
+    (ap (λ (t : FileTables). not (eqb (job_refusal (file_job_of (withdrawn_head (head_now a.tables.now.sizes)) t)) 0)) (sym (withdraw_file a.tables.now.sizes a.place tables here))
+    ∙ sym c.by_codes.ensures ∙ c.if-by_codes.true)
 
 pub by_places-requires : goal.by_places-requires
 by_places-requires c =
-    let tables : ReaderTables =
-    reader_tables (file_tables (offer_tables c.args.price.now c.args.offer_owner.now c.args.offer_code.now c.args.offer_issuer.now) c.args.grocer_owner.now
-    (tally_tables c.args.tally_grocer.now c.args.tally_box.now c.args.tally_code.now c.args.tally_count.now c.args.tally_issuer.now c.args.tally_bag.now
-    c.args.tally_revision.now)) c.args.tally_offer.now in
-    let here : c.args.place < c.args.z.tallies =
+    let tables : ReaderTables = reader_held c.args.tables.now in
+    let here : c.args.place < c.args.tables.now.sizes.tallies =
     omega (arith, c.if-z-place.false) in
-    let none : not (eqb (job_refusal (file_job_of (withdrawn_head (head_now c.args.z)) (file_then (withdrawing c.args.z c.args.place) no_code tables.job))) 0) ≡ false =
+    let none : not (eqb (job_refusal (file_job_of (withdrawn_head (head_now c.args.tables.now.sizes)) (file_then (withdrawing c.args.tables.now.sizes c.args.place) no_code tables.job))) 0) ≡ false =
     sym c.by_codes.ensures ∙ c.if-by_codes.false in
-    withdraw_job_in c.args.z c.args.place tables here c.requires (none)
+    withdraw_job_in c.args.tables.now.sizes c.args.place tables here c.requires (none)
 
 pub returns : goal.returns
 returns c =
-    let tables : ReaderTables =
-    reader_tables (file_tables (offer_tables c.args.price.now c.args.offer_owner.now c.args.offer_code.now c.args.offer_issuer.now) c.args.grocer_owner.now
-    (tally_tables c.args.tally_grocer.now c.args.tally_box.now c.args.tally_code.now c.args.tally_count.now c.args.tally_issuer.now c.args.tally_bag.now
-    c.args.tally_revision.now)) c.args.tally_offer.now in
-    let here : c.args.place < c.args.z.tallies =
+    let tables : ReaderTables = reader_held c.args.tables.now in
+    let here : c.args.place < c.args.tables.now.sizes.tallies =
     omega (arith, c.if-z-place.false) in
-    let there : ltb c.args.place c.args.z.tallies ≡ true =
+    let there : ltb c.args.place c.args.tables.now.sizes.tallies ≡ true =
     lt-ltb _ _ (here) in
-    let none : not (eqb (job_refusal (file_job_of (withdrawn_head (head_now c.args.z)) (file_then (withdrawing c.args.z c.args.place) no_code tables.job))) 0) ≡ false =
+    let none : not (eqb (job_refusal (file_job_of (withdrawn_head (head_now c.args.tables.now.sizes)) (file_then (withdrawing c.args.tables.now.sizes c.args.place) no_code tables.job))) 0) ≡ false =
     sym c.by_codes.ensures ∙ c.if-by_codes.false in
     let a = c.args in
-    told-places _ _ _ (withdraw_alone a.z a.place tables there) _ 0 (withdraw_written a.z a.place tables here c.requires none)
-    (subst (λ (f : JobTables). ByPlaces f 0 c.by_places.result) (withdraw_job a.z a.place tables here) c.by_places.ensures)
+    told-places _ _ _ (withdraw_alone a.tables.now.sizes a.place tables there) _ 0 (withdraw_written a.tables.now.sizes a.place tables here c.requires none)
+    (subst (λ (f : JobTables). ByPlaces f 0 c.by_places.result) (withdraw_job a.tables.now.sizes a.place tables here) c.by_places.ensures)

@@ -1,67 +1,33 @@
 -- `late_checks::judge::by_codes` meets its contract. Assumes nothing.
-use mathlib.Core.Path.{refl, subst}
-use native.Mathlib.Nat.{mul-le-mul_right}
-use native.Mathlib.Omega.{arith}
+use mathlib.Core.Path.{refl, subst, ◌∙◌}
 use lib.IntN.{ℤ, pos}
 use Rattle.laws.proofs.Signed.{read32}
 use Rattle.format.specs.Bytes.{from}
 use Rattle.format.specs.Tables.{offer_tables, tally_tables, file_tables}
 use Rattle.late_checks.specs.Held.{Holds}
 use Rattle.late_checks.specs.Judged.{tally_with, head_then, file_then}
-use Rattle.late_checks.proofs.Codes.{refused_both}
+use Rattle.late_checks.proofs.Codes.{refused_both, err_is}
+use Rattle.refusals.specs.Numbers.{number}
 use Rattle.late_checks.proofs.judge.by_codes.Goals as goal
-
-pub edited32-counts-requires : goal.edited32-counts-requires
-edited32-counts-requires c =
-    (c.requires.edit.shaped, c.requires.long.tallies.count)
-
-pub edited16-issuers-requires : goal.edited16-issuers-requires
-edited16-issuers-requires c =
-    (c.requires.edit.shaped, c.requires.long.tallies.issuer)
-
-pub edited16-bags-requires : goal.edited16-bags-requires
-edited16-bags-requires c =
-    (c.requires.edit.shaped, c.requires.long.tallies.bag)
-
-pub edited16-revisions-requires : goal.edited16-revisions-requires
-edited16-revisions-requires c =
-    (c.requires.edit.shaped, c.requires.long.tallies.revision)
-
-pub job_refusal-r-requires : goal.job_refusal-r-requires
-job_refusal-r-requires c =
-    let few = c.requires.edit.most in
-    record {
-      offers = c.requires.long.offers;
-      grocer_owner = c.requires.long.grocer_owner;
-      tallies = record {
-        grocer = omega (arith, few, c.edited16-grocers.ensures.long);
-        box = omega (arith, few, c.edited16-boxes.ensures.long);
-        code = omega (arith, few, mul-le-mul_right 11 few, c.edited_code-codes.ensures.long);
-        count = omega (arith, few, c.edited32-counts.ensures.long);
-        issuer = omega (arith, few, c.edited16-issuers.ensures.long);
-        bag = omega (arith, few, c.edited16-bags.ensures.long);
-        revision = omega (arith, few, c.edited16-revisions.ensures.long);
-      };
-    }
 
 pub returns : goal.returns
 unfolding file_then
 returns c =
     let a = c.args in
-    refused_both (head_then a.w) a.w.shape.place a.w.shape.last (tally_with a.w.tally a.code.now) (from a.code.now 0) refl
-    (file_tables (offer_tables a.price.now a.offer_owner.now a.offer_code.now a.offer_issuer.now) a.grocer_owner.now
-    (tally_tables a.tally_grocer.now a.tally_box.now a.tally_code.now a.tally_count.now a.tally_issuer.now a.tally_bag.now a.tally_revision.now))
-    (tally_tables c.edited16-grocers.result c.edited16-boxes.result c.edited_code-codes.result c.edited32-counts.result
-    c.edited16-issuers.result c.edited16-bags.result c.edited16-revisions.result)
+    c.is_err.ensures.value ∙ err_is c.job_refusal.result ∙ refused_both (head_then a.w) a.w.shape.place a.w.shape.last (tally_with a.w.tally a.code.now) (from a.code.now 0) refl
+    (file_tables (offer_tables a.tables.now.price.now a.tables.now.offer_owner.now a.tables.now.offer_code.now a.tables.now.offer_issuer.now) a.tables.now.grocer_owner.now
+    (tally_tables a.tables.now.tally_grocer.now a.tables.now.tally_box.now a.tables.now.tally_code.now a.tables.now.tally_count.now a.tables.now.tally_issuer.now a.tables.now.tally_bag.now a.tables.now.tally_revision.now))
+    (tally_tables c.edited-grocers.result c.edited-boxes.result c.edited_code-codes.result c.edited-counts.result
+    c.edited-issuers.result c.edited-bags.result c.edited-revisions.result)
     c.requires.edit.most
     (record {
-      grocer = c.edited16-grocers.ensures;
-      box = c.edited16-boxes.ensures;
+      grocer = c.edited-grocers.ensures 0;
+      box = c.edited-boxes.ensures 0;
       code = c.edited_code-codes.ensures;
-      count = subst (λ (v : ℤ). Holds 1 a.w.shape.place a.w.shape.last (pos 0) (λ k. v) a.tally_count.now c.edited32-counts.result)
-          (read32 a.w.tally.count c.struct_told-1.given.1.1.0.1) c.edited32-counts.ensures;
-      issuer = c.edited16-issuers.ensures;
-      bag = c.edited16-bags.ensures;
-      revision = c.edited16-revisions.ensures;
+      count = subst (λ (v : ℤ). Holds 1 c.args.w.shape.place c.args.w.shape.last (pos 0) (λ k. v) c.args.tables.now.tally_count.now c.edited-counts.result)
+          (read32 c.args.w.tally.count c.struct_told-1.given.1.1.0.1) (c.edited-counts.ensures (pos 0));
+      issuer = c.edited-issuers.ensures 0;
+      bag = c.edited-bags.ensures 0;
+      revision = c.edited-revisions.ensures 0;
     })
-    c.job_refusal-r.result c.job_refusal-r.ensures
+    (number c.job_refusal.result) c.job_refusal.ensures

@@ -7,7 +7,6 @@ use borrow.Author.Rules.{rules}
 use borrow.Author.Tests.{eq-eqb, ne_eqb}
 use Rattle.laws.specs.Below.{any}
 use Rattle.laws.proofs.Below.{any_next, find_none}
-use Rattle.laws.proofs.Tables.{row_in}
 use Rattle.late_checks.specs.Named.{is_number}
 use Rattle.late_checks.proofs.First.{find_first}
 use Rattle.late_checks.proofs.names.find_offer.Goals as goal
@@ -16,11 +15,6 @@ pub loop-i-init : goal.loop-i-init
 unfolding any
 loop-i-init c =
     (search rules, refl)
-
-pub number_of-requires : goal.number_of-requires
-number_of-requires c =
-    let i = c.loop-i.i in
-    (omega (arith, row_in i c.args.n 11 c.loop-i-test.true, c.requires.code_long), (omega (arith, c.requires.issuer_long, c.loop-i-test.true), c.requires.code i c.loop-i-test.true))
 
 pub returns-then-number_of-number : goal.returns-then-number_of-number
 unfolding is_number

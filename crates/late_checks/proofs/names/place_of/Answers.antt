@@ -10,16 +10,16 @@ use Rattle.late_checks.proofs.names.place_of.Goals as goal
 
 pub find_offer-requires : goal.find_offer-requires
 find_offer-requires c =
-    rw c.index_of-2.ensures.0 c.requires.0
+    rw c.from-2.ensures c.requires.0
 
 pub word_of-requires : goal.word_of-requires
 word_of-requires c =
-    omega (arith, c.find_offer.ensures.1, c.index_of-2.ensures.1)
+    omega (arith, c.find_offer.ensures.1, c.from-2.ensures)
 
 pub returns : goal.returns
 returns c =
     let a = c.args in
     c.word_of.ensures
     ∙ c.find_offer.ensures.0
-    ∙ ap₂ (λ (m k : ℕ). find m (is_number a.offer_code.now a.offer_issuer.now k)) c.index_of-2.ensures.0
-    (c.name_at-number.ensures ∙ ap (λ (i : ℕ). name_number (name_of i (read_code (from a.code.now 0)))) c.index_of.ensures.0)
+    ∙ ap₂ (λ (m k : ℕ). find m (is_number a.offer_code.now a.offer_issuer.now k)) c.from-2.ensures
+    (c.name_at-number.ensures ∙ ap (λ (i : ℕ). name_number (name_of i (read_code (from a.code.now 0)))) c.from.ensures)

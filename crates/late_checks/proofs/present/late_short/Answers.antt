@@ -1,6 +1,6 @@
 -- `late_checks::present::late_short` meets its contract. Assumes nothing.
-use Rattle.model.specs.Tables.{state_short}
 use Rattle.format.specs.Tables.{short_tables}
+use Rattle.model.specs.Tables.{state_short}
 use Rattle.late_rules.specs.Late.{late_short}
 use Rattle.late_checks.proofs.present.late_short.Goals as goal
 
@@ -8,8 +8,4 @@ pub returns : goal.returns
 unfolding late_short short_tables state_short
 returns c =
     λ working totals.
-    rw (c.short_offers-offers.ensures, c.short_tallies-tallies.ensures, c.state_short-state.ensures working totals)
-
-pub short_tallies-tallies-requires : goal.short_tallies-tallies-requires
-short_tallies-tallies-requires c =
-    c.requires
+    rw (c.short_offers-offers.ensures, c.short_tallies-tallies.ensures, c.from-m.ensures, c.state_short.ensures working totals)

@@ -25,22 +25,6 @@ pub loop-i-init : goal.loop-i-init
 loop-i-init c =
     (search rules, at_first _ c.requires.0, sym (all_start _))
 
-pub is_due-due-requires : goal.is_due-due-requires
-is_due-due-requires c =
-    let place_at : PlaceIn c.args.k c.loop-i.p.kind c.loop-i.p.first c.loop-i.p.second =
-    at_in _ c.loop-i.i _ _ _ c.requires.1 c.loop-i.invariant.1 (omega (arith, c.loop-i-test.true, c.marks-places.ensures)) in
-    let p = place_at in (p.kind_from, p.kind_to, omega (arith, p.a_in, p.boxes_in), omega (arith, p.b_in, p.boxes_in))
-
-pub u16_at-requires : goal.u16_at-requires
-u16_at-requires c =
-    omega (arith, c.loop-i-test.true, c.marks-places.ensures, c.requires.2)
-
-pub next-q-requires : goal.next-q-requires
-next-q-requires c =
-    let place_at : PlaceIn c.args.k c.loop-i.p.kind c.loop-i.p.first c.loop-i.p.second =
-    at_in _ c.loop-i.i _ _ _ c.requires.1 c.loop-i.invariant.1 (omega (arith, c.loop-i-test.true, c.marks-places.ensures)) in
-    place_at
-
 pub loop-i-preserved : goal.loop-i-preserved
 loop-i-preserved c =
     let place_at : PlaceIn c.args.k c.loop-i.p.kind c.loop-i.p.first c.loop-i.p.second =

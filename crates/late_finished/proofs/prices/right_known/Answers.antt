@@ -1,7 +1,7 @@
 -- `late_finished::prices::right_known` meets its contract: at box b the rows before it are tested. Assumes nothing.
 use mathlib.Core.Path.{sym, ap, ◌∙◌}
 use Prim.Native.Nat.{ℕ, ◌*◌}
-use native.Mathlib.Nat.{le_antisymm, mul-le-mul}
+use native.Mathlib.Nat.{le_antisymm}
 use native.Mathlib.Omega.{arith}
 use borrow.Author.Rules.{rules}
 use Rattle.laws.specs.Below.{all}
@@ -13,15 +13,6 @@ use Rattle.late_finished.proofs.prices.right_known.Goals as goal
 pub loop-b-init : goal.loop-b-init
 loop-b-init c =
     (search rules, sym (all_start _))
-
-pub words_at-m-requires : goal.words_at-m-requires
-words_at-m-requires c =
-    (omega (arith, c.requires.k_bound.1), c.requires.k_bound.2)
-
-pub row_start-at-requires : goal.row_start-at-requires
-row_start-at-requires c =
-    let most = mul-le-mul {n₂ = 500} {m₂ = 8} c.requires.k_bound.1 c.requires.k_bound.2 in
-    (omega (arith, c.words_at-m.ensures.0, most), omega (arith, c.requires.k_bound.0, c.loop-b-test.true))
 
 pub right_row-all-requires : goal.right_row-all-requires
 right_row-all-requires c =

@@ -1,35 +1,19 @@
 -- `late_finished::prices::right_row` meets its contract: at offer o those before it are tested. Assumes nothing.
 use mathlib.Core.Path.{◌≡◌, sym, ap, ap₂, ◌∙◌}
 use mathlib.Core.Bool.{Bool, ◌||◌}
-use Prim.Native.Nat.{ℕ, ◌≤◌, ◌+◌, ◌*◌}
+use Prim.Native.Nat.{ℕ, ◌+◌, ◌*◌}
 use native.Mathlib.Nat.{le_antisymm}
-use native.Mathlib.Omega.{arith}
 use lib.Dec.{eqb}
-use lib.ListN.{length}
 use borrow.Author.Rules.{rules}
 use Rattle.laws.specs.Below.{all}
 use Rattle.laws.specs.Masks.{bit}
 use Rattle.laws.proofs.Below.{all_start, all_more}
-use Rattle.laws.proofs.Tables.{row_in}
 use Rattle.late_finished.specs.Tests.{knows_by, right_words, right_row}
 use Rattle.late_finished.proofs.prices.right_row.Goals as goal
 
 pub loop-o-init : goal.loop-o-init
 loop-o-init c =
     (search rules, sym (all_start _))
-
-pub words_at-requires : goal.words_at-requires
-words_at-requires c =
-    (omega (arith, c.loop-o-test.true, c.requires.b_bound.1), c.requires.b_bound.2)
-
-pub right_words-all-requires : goal.right_words-all-requires
-right_words-all-requires c =
-    let place_in : let s = c.args in s.at + c.words_at.result + s.width ≤ length s.known.now =
-    omega (arith, c.words_at.ensures.0, row_in c.loop-o.o c.args.n c.args.width c.loop-o-test.true, c.requires.width_in_bounds.2) in
-    record {
-      o_lt_n = (c.loop-o-test.true, c.requires.b_bound.1, c.requires.b_bound.2);
-      width_in_bounds = (c.requires.width_in_bounds.0, place_in);
-    }
 
 pub loop-o-preserved : goal.loop-o-preserved
 loop-o-preserved c =
@@ -54,9 +38,3 @@ returns c =
     c.loop-o.invariant.1
     ∙ ap (λ (k : ℕ). all k (λ o. right_words (knows_by s.offer_owner.now s.needs.now s.b o) s.n s.width s.price.now s.known.now (s.b * (s.n * s.width) + o * s.width) o))
     (le_antisymm c.loop-o.invariant.0 c.loop-o-test.false)
-
-pub overflow_add-at : goal.overflow_add-at
-overflow_add-at c =
-    let place_in : let s = c.args in s.at + c.words_at.result + s.width ≤ length s.known.now =
-    omega (arith, c.words_at.ensures.0, row_in c.loop-o.o c.args.n c.args.width c.loop-o-test.true, c.requires.width_in_bounds.2) in
-    omega (arith, place_in)

@@ -1,6 +1,6 @@
 -- `late_finished::totals::no_amounts` meets its contract: at amount i those before it are tested. Assumes nothing.
 use mathlib.Core.Path.{◌≡◌}
-use Prim.Native.Nat.{◌≤◌, ◌-◌}
+use Prim.Native.Nat.{◌≤◌}
 use lib.ListN.{get_or}
 use lib.IntN.{pos}
 use Rattle.laws.specs.Below.{all}
@@ -10,7 +10,3 @@ use Rattle.late_finished.proofs.totals.no_amounts.Given as goal
 abbrev pub invariant-loop-i : goal.invariant-loop-i
 invariant-loop-i l =
     (l.i ≤ l.n) × (l.all ≡ all l.i (λ k. same_amount (get_or l.s k (pos 0)) (pos 0)))
-
-abbrev pub decreases-loop-i : goal.decreases-loop-i
-decreases-loop-i l =
-    l.n - l.i

@@ -1,15 +1,13 @@
 -- `late_finished::totals::right_amounts` meets its contract: at grocer g those before it are compared. Assumes nothing.
 use mathlib.Core.Path.{sym, ap, ap₂, ◌∙◌}
-use Prim.Native.Nat.{ℕ, ◌+◌, ◌*◌, ◌<◌}
-use native.Mathlib.Omega.{arith}
+use Prim.Native.Nat.{ℕ, ◌+◌, ◌*◌}
 use native.Mathlib.Nat.{le_antisymm}
 use lib.IntN.{pos}
-use lib.ListN.{get_or, length}
+use lib.ListN.{get_or}
 use borrow.Author.Rules.{rules}
 use Rattle.laws.specs.Below.{all}
 use Rattle.laws.proofs.Below.{all_start, all_more}
 use Rattle.laws.proofs.Signed.{read64}
-use Rattle.laws.proofs.Tables.{cell_in}
 use Rattle.late_rules.specs.Late.{same_amount}
 use Rattle.late_finished.specs.Tests.{right_amounts}
 use Rattle.late_finished.proofs.Amounts.{word_same}
@@ -32,21 +30,3 @@ returns c =
     let s = c.args in
     c.loop-g.invariant.1
     ∙ ap (λ (k : ℕ). all k (λ g. same_amount (get_or s.statement.now (g * s.width + s.q) (pos 0)) (get_or s.sums.now g (pos 0)))) (le_antisymm c.loop-g.invariant.0 c.loop-g-test.false)
-
-pub overflow_mul-g : goal.overflow_mul-g
-overflow_mul-g c =
-    let place_in : c.loop-g.g * c.args.width + c.args.q < length c.args.statement.now =
-    omega (arith, cell_in c.loop-g.g c.args.m c.args.width c.args.q c.loop-g-test.true c.requires.2, c.requires.3) in
-    omega (arith, place_in)
-
-pub overflow_add-g : goal.overflow_add-g
-overflow_add-g c =
-    let place_in : c.loop-g.g * c.args.width + c.args.q < length c.args.statement.now =
-    omega (arith, cell_in c.loop-g.g c.args.m c.args.width c.args.q c.loop-g-test.true c.requires.2, c.requires.3) in
-    omega (arith, place_in)
-
-pub i64_at-requires : goal.i64_at-requires
-i64_at-requires c =
-    let place_in : c.loop-g.g * c.args.width + c.args.q < length c.args.statement.now =
-    omega (arith, cell_in c.loop-g.g c.args.m c.args.width c.args.q c.loop-g-test.true c.requires.2, c.requires.3) in
-    place_in

@@ -7,7 +7,7 @@ use borrow.Author.Rules.{rules}
 use Rattle.laws.specs.Below.{ascending}
 use Rattle.step_places.specs.Places.{PlaceIn}
 use Rattle.step_places.proofs.Walking.{at_first, at_next, at_in}
-use Rattle.settle.specs.Due.{due_at}
+use Rattle.job_masks.specs.Due.{due_at}
 use Rattle.settle.proofs.Steps.{none_yet, due_next, due_most, due_here, places_few}
 use Rattle.settle.proofs.due.put_due.Goals as goal
 

@@ -4,7 +4,7 @@ use Prim.Native.Nat.{◌-◌, ◌≤◌}
 use lib.ListN.{length, take}
 use Rattle.laws.specs.Below.{ascending}
 use Rattle.step_places.proofs.Walking.{At}
-use Rattle.settle.specs.Due.{due_at}
+use Rattle.job_masks.specs.Due.{due_at}
 use Rattle.settle.proofs.due.put_due.Given as goal
 
 abbrev pub invariant-loop-i : goal.invariant-loop-i

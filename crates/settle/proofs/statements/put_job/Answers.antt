@@ -1,5 +1,4 @@
 -- `settle::statements::put_job` meets its contract: the tables are those that the reader leaves, and the run is the one of `run` without choices. Assumes nothing.
-use mathlib.Core.Path.{sym}
 use Prim.Native.Nat.{◌≤◌, suc-le-suc}
 use native.Mathlib.Nat.{mul-le-mul}
 use native.Mathlib.Omega.{arith}
@@ -12,41 +11,30 @@ use Rattle.settle_text.proofs.Puts.{reworded}
 use Rattle.settle.proofs.Texts.{once, may_run, run_text_lem}
 use Rattle.settle.proofs.statements.put_job.Goals as goal
 
+pub invariant_of-job_file : goal.invariant_of-job_file
+invariant_of-job_file c =
+    record { whole = (sound_read c.requires.0 c.requires.1.1.sound).whole }
+
 pub fill_offers-requires : goal.fill_offers-requires
 fill_offers-requires c =
-    let whole : Whole c.args.file.now (as_head c.args.head) =
-    (sound_read c.requires.0 c.requires.1.1.sound).whole in
-    let prices_most : list_words c.args.head.sizes.lists c.args.head.sizes.offers ≤ 4_000 =
-    let m = whole.most in mul-le-mul {n₂ = 500} {m₂ = 8} m.offers (suc-le-suc m.lists) in
-    let w = whole in
-    record {
-      whole = w;
-      offers_in_bounds = (omega (arith, prices_most), omega (arith, w.most.offers), omega (arith, w.most.grocers));
-    }
+    let m = (sound_read c.requires.0 c.requires.1.1.sound).whole.most in
+    let prices_most : list_words c.args.head.sizes.lists c.args.head.sizes.offers ≤ 4_000 = mul-le-mul {n₂ = 500} {m₂ = 8} m.offers (suc-le-suc m.lists) in
+    (omega (arith, prices_most), omega (arith, m.offers), omega (arith, m.grocers))
 
 pub fill_tallies-requires : goal.fill_tallies-requires
 fill_tallies-requires c =
-    let whole : Whole c.args.file.now (as_head c.args.head) =
-    (sound_read c.requires.0 c.requires.1.1.sound).whole in
-    let kept : Placed (decode c.args.file.now) c.args.places.now c.args.head.sizes.tallies =
-    placed_read c.requires.0 c.requires.1.1 in
-    let w = whole in
-    let t = w.most.tallies in
+    let t = (sound_read c.requires.0 c.requires.1.1.sound).whole.most.tallies in
     record {
-      whole = (w, kept, omega (arith, t));
+      placed = (placed_read c.requires.0 c.requires.1.1, omega (arith, t));
       tallies_in_bounds = (omega (arith, t), omega (arith, t), omega (arith, t));
     }
 
 pub standing_boxes-requires : goal.standing_boxes-requires
 standing_boxes-requires c =
-    let whole : Whole c.args.file.now (as_head c.args.head) =
-    (sound_read c.requires.0 c.requires.1.1.sound).whole in
-    let kept : Placed (decode c.args.file.now) c.args.places.now c.args.head.sizes.tallies =
-    placed_read c.requires.0 c.requires.1.1 in
-    let w = whole in
+    let t = (sound_read c.requires.0 c.requires.1.1.sound).whole.most.tallies in
     record {
-      whole = (w, kept);
-      tallies_in_bounds = (omega (arith, w.most.tallies), omega (arith, w.most.tallies));
+      placed = placed_read c.requires.0 c.requires.1.1;
+      tallies_in_bounds = (omega (arith, t), omega (arith, t));
       f_value = once _ c.requires.1.0;
     }
 
@@ -80,35 +68,3 @@ returns c =
     c.fill_tallies.ensures.tally_offer_after c.fill_tallies.ensures.tally_count_after
     _ c.standing_boxes.ensures _ _ _ _ c.due_run-report.ensures)
     c.put_settled.ensures
-
-pub slice_bounds-due_run-end : goal.slice_bounds-due_run-end
-slice_bounds-due_run-end c =
-    sym c.fill_offers.auto.price
-
-pub slice_bounds-due_run-end-2 : goal.slice_bounds-due_run-end-2
-slice_bounds-due_run-end-2 c =
-    sym c.fill_offers.auto.offer_owner
-
-pub slice_bounds-due_run-end-3 : goal.slice_bounds-due_run-end-3
-slice_bounds-due_run-end-3 c =
-    sym c.fill_offers.auto.grocer_owner
-
-pub slice_bounds-due_run-end-4 : goal.slice_bounds-due_run-end-4
-slice_bounds-due_run-end-4 c =
-    sym c.fill_tallies.auto.tally_grocer
-
-pub slice_bounds-due_run-end-5 : goal.slice_bounds-due_run-end-5
-slice_bounds-due_run-end-5 c =
-    sym c.standing_boxes.auto.boxes
-
-pub slice_bounds-due_run-end-6 : goal.slice_bounds-due_run-end-6
-slice_bounds-due_run-end-6 c =
-    sym c.fill_tallies.auto.tally_offer
-
-pub slice_bounds-due_run-end-7 : goal.slice_bounds-due_run-end-7
-slice_bounds-due_run-end-7 c =
-    sym c.fill_tallies.auto.tally_count
-
-pub slice_bounds-put_settled-end : goal.slice_bounds-put_settled-end
-slice_bounds-put_settled-end c =
-    sym c.due_run-report.auto.statement

@@ -19,7 +19,7 @@ width_of-width-requires c =
 
 pub loop-g-init : goal.loop-g-init
 loop-g-init c =
-    (grocer_none _ _ _ _, omega arith, omega arith)
+    (grocer_none _ _ _ _, omega arith)
 
 pub put_statement-at-requires : goal.put_statement-at-requires
 put_statement-at-requires c =
@@ -37,7 +37,6 @@ loop-g-preserved c =
     ap (λ (x : ℕ). decimal c.loop-g.g ++ spaced_amounts h x (λ (q : ℕ). get_or a.statement.now (c.loop-g.g * x + q) (pos 0)) ++ (10 ∷ [])) c.width_of-width.ensures.0 in (
       grocer_more h a.lists c.loop-g.g (amount_in a.lists a.statement.now) c.loop-g.invariant.0 (reworded e c.put_statement-at.ensures.put),
       omega (arith, c.put_statement-at.ensures.upper_bound, c.loop-g.invariant.1),
-      omega arith,
     )
 
 pub returns : goal.returns

@@ -10,4 +10,4 @@ use Rattle.step_checks.proofs.request.boxes_fit.Goals as goal
 pub returns : goal.returns
 unfolding boxes_fit_by
 returns c =
-    rw c.one_box-one.ensures (ap (λ (t : Bool). ltb c.args.a c.args.k && (ltb c.args.b c.args.k && t)) (as_asked (one_box (kind_of c.args.kind)) (eqb c.args.a c.args.b)))
+    rw c.one_box-one.ensures (ap (λ (t : Bool). ltb c.args.x.first c.args.k && (ltb c.args.x.second c.args.k && t)) (as_asked (one_box (kind_of c.args.x.kind)) (eqb c.args.x.first c.args.x.second)))

@@ -17,7 +17,7 @@ returns-then-not-is_kind c =
 
 pub boxes_fit-requires : goal.boxes_fit-requires
 boxes_fit-requires c =
-    let is_one : is_kind c.args.kind ≡ true =
+    let is_one : is_kind c.args.x.kind ≡ true =
     sym c.is_kind.ensures ∙ not-false _ (mathlib.Core.Path.ap mathlib.Core.Bool.not c.if-not-is_kind.false) in
     let e = is_one in (kind_from _ e, kind_to _ e)
 
@@ -28,10 +28,10 @@ returns-then-not-boxes_fit c =
 
 pub fits-requires : goal.fits-requires
 fits-requires c =
-    let is_one : is_kind c.args.kind ≡ true =
+    let is_one : is_kind c.args.x.kind ≡ true =
     sym c.is_kind.ensures ∙ not-false _ (mathlib.Core.Path.ap mathlib.Core.Bool.not c.if-not-is_kind.false) in
-    let marked_in : MarksIn c.args.k c.args.kind c.args.a c.args.b c.args.done.now =
-    marks_in c.args.k c.args.kind c.args.a c.args.b c.args.done.now c.requires.0 c.requires.1 is_one (sym c.boxes_fit.ensures ∙ not-false _ (mathlib.Core.Path.ap mathlib.Core.Bool.not c.if-not-boxes_fit.false)) in
+    let marked_in : MarksIn c.args.k c.args.x.kind c.args.x.first c.args.x.second c.args.done.now =
+    marks_in c.args.k c.args.x.kind c.args.x.first c.args.x.second c.args.done.now c.requires.0 c.requires.1 is_one (sym c.boxes_fit.ensures ∙ not-false _ (mathlib.Core.Path.ap mathlib.Core.Bool.not c.if-not-boxes_fit.false)) in
     let m = marked_in in (m.kind_from, m.kind_to, omega (arith, m.a_in, m.boxes_in), omega (arith, m.b_in, m.boxes_in))
 
 pub returns-then-not-fits : goal.returns-then-not-fits
@@ -48,10 +48,10 @@ returns-then-not-fits c =
 
 pub is_done-requires : goal.is_done-requires
 is_done-requires c =
-    let is_one : is_kind c.args.kind ≡ true =
+    let is_one : is_kind c.args.x.kind ≡ true =
     sym c.is_kind.ensures ∙ not-false _ (mathlib.Core.Path.ap mathlib.Core.Bool.not c.if-not-is_kind.false) in
-    let marked_in : MarksIn c.args.k c.args.kind c.args.a c.args.b c.args.done.now =
-    marks_in c.args.k c.args.kind c.args.a c.args.b c.args.done.now c.requires.0 c.requires.1 is_one (sym c.boxes_fit.ensures ∙ not-false _ (mathlib.Core.Path.ap mathlib.Core.Bool.not c.if-not-boxes_fit.false)) in
+    let marked_in : MarksIn c.args.k c.args.x.kind c.args.x.first c.args.x.second c.args.done.now =
+    marks_in c.args.k c.args.x.kind c.args.x.first c.args.x.second c.args.done.now c.requires.0 c.requires.1 is_one (sym c.boxes_fit.ensures ∙ not-false _ (mathlib.Core.Path.ap mathlib.Core.Bool.not c.if-not-boxes_fit.false)) in
     marked_in
 
 pub returns-then-is_done : goal.returns-then-is_done
@@ -70,10 +70,10 @@ returns-then-is_done c =
 
 pub is_ready-requires : goal.is_ready-requires
 is_ready-requires c =
-    let is_one : is_kind c.args.kind ≡ true =
+    let is_one : is_kind c.args.x.kind ≡ true =
     sym c.is_kind.ensures ∙ not-false _ (mathlib.Core.Path.ap mathlib.Core.Bool.not c.if-not-is_kind.false) in
-    let marked_in : MarksIn c.args.k c.args.kind c.args.a c.args.b c.args.done.now =
-    marks_in c.args.k c.args.kind c.args.a c.args.b c.args.done.now c.requires.0 c.requires.1 is_one (sym c.boxes_fit.ensures ∙ not-false _ (mathlib.Core.Path.ap mathlib.Core.Bool.not c.if-not-boxes_fit.false)) in
+    let marked_in : MarksIn c.args.k c.args.x.kind c.args.x.first c.args.x.second c.args.done.now =
+    marks_in c.args.k c.args.x.kind c.args.x.first c.args.x.second c.args.done.now c.requires.0 c.requires.1 is_one (sym c.boxes_fit.ensures ∙ not-false _ (mathlib.Core.Path.ap mathlib.Core.Bool.not c.if-not-boxes_fit.false)) in
     marked_in
 
 pub returns-then-not-is_ready : goal.returns-then-not-is_ready

@@ -5,4 +5,4 @@ use Rattle.step_places.proofs.words.reaches.Goals as goal
 pub returns : goal.returns
 unfolding reaches
 returns c =
-    rw c.has_bit.ensures
+    rw (c.has_bit.ensures, c.from.ensures)

@@ -24,12 +24,6 @@ loop-o-init c =
     word_in c.args.owners.now c.args.masks.now c.args.a c.args.b in
     (omega arith, refl, sym (count_start due), λ y l e. absurd (omega arith))
 
-pub word_of-requires : goal.word_of-requires
-word_of-requires c =
-    let small : c.loop-o.o < 500 =
-    omega (arith, c.loop-o-test.true, c.requires.n_bound.0) in
-    omega (arith, small)
-
 pub offset_bounds-offers-l : goal.offset_bounds-offers-l
 offset_bounds-offers-l c =
     let due : ℕ → Bool =
@@ -49,18 +43,6 @@ bounds-offers-l c =
     let there : c.loop-o.l < length c.loop-o.offers =
     omega (arith, few, c.loop-o-test.true, c.loop-o.invariant.1, c.requires.b_bound.1) in
     there
-
-pub u16_at-requires : goal.u16_at-requires
-u16_at-requires c =
-    omega (arith, c.loop-o-test.true, c.requires.n_bound.1.0)
-
-pub u16_at-requires-in-loop-o : goal.u16_at-requires-in-loop-o
-u16_at-requires-in-loop-o c =
-    omega (arith, c.loop-o-test.true, c.requires.n_bound.1.1)
-
-pub in_message-requires : goal.in_message-requires
-in_message-requires c =
-    c.requires.b_bound.0
 
 pub overflow_add-l : goal.overflow_add-l
 unfolding word_in
@@ -91,13 +73,9 @@ loop-o-preserved c =
     let v = c.loop-o in (
       omega (arith, c.loop-o-test.true),
       length-set v.offers v.l c.word_of.result ∙ v.invariant.1,
-      more,
+      rw c.from-l.ensures more,
       rw v.invariant.2 (stands_next due v.o c.word_of.result v.offers (omega (arith, there, v.invariant.2)) c.word_of.ensures v.invariant.3),
     )
-
-pub shape_of-offers : goal.shape_of-offers
-shape_of-offers c =
-    c.loop-o.invariant.1
 
 pub returns : goal.returns
 returns c =

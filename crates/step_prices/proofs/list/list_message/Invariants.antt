@@ -1,7 +1,7 @@
 -- `step_prices::list::list_message` meets its contract: at offer o the list has the offers below o that stand in the message. Assumes nothing.
 use mathlib.Core.Path.{◌≡◌}
 use mathlib.Core.Bool.{true}
-use Prim.Native.Nat.{ℕ, ◌-◌, ◌<◌, ◌≤◌}
+use Prim.Native.Nat.{ℕ, ◌<◌, ◌≤◌}
 use lib.ListN.{length, get_or}
 use Rattle.laws.specs.Below.{count}
 use Rattle.step_places.specs.Message.{word_in}
@@ -13,7 +13,3 @@ invariant-loop-o l =
     × (length l.offers ≡ length l.initial.offers)
     × (l.l ≡ count l.o (word_in l.owners l.masks l.a l.b))
     × ((y : ℕ) → y < l.o → word_in l.owners l.masks l.a l.b y ≡ true → get_or l.offers (count y (word_in l.owners l.masks l.a l.b)) 0 ≡ y)
-
-abbrev pub decreases-loop-o : goal.decreases-loop-o
-decreases-loop-o l =
-    l.n - l.o

@@ -1,88 +1,17 @@
 -- `step_prices::receive::receive_prices` meets its contract. The invariant: the words of the offers before place i of the list are known, and no longer in transit. Assumes nothing.
 use mathlib.Core.Path.{◌≡◌, refl, sym, ap, ◌∙◌}
 use mathlib.Core.Bool.{cond}
-use Prim.Native.Nat.{ℕ, ◌<◌, ◌≤◌, ◌+◌, ◌*◌}
+use Prim.Native.Nat.{ℕ, ◌+◌, ◌*◌}
 use native.Mathlib.Omega.{arith}
 use native.Mathlib.Nat.{le_antisymm}
-use lib.ListN.{length, get_or}
+use lib.ListN.{get_or}
 use Rattle.laws.specs.Tables.{cell}
 use Rattle.laws.proofs.Loops.{window}
 use Rattle.laws.proofs.Tables.{cell_at}
-use Rattle.laws.proofs.Bools.{cond_no}
 use Rattle.model.specs.Spans.{in_span}
 use Rattle.step_prices.specs.Prices.{received_known, received_transit}
-use Rattle.step_prices.proofs.Words.{words_in, row_small, stored, stored_none, stored_next, stored_row, still}
+use Rattle.step_prices.proofs.Words.{stored, stored_next, stored_row, still}
 use Rattle.step_prices.proofs.receive.receive_prices.Goals as goal
-
-pub words_at-requires : goal.words_at-requires
-words_at-requires c =
-    let p = c.requires in (omega (arith, p.offers_in), p.width_in)
-
-pub row_start-row-requires : goal.row_start-row-requires
-row_start-row-requires c =
-    (row_small c.args.n c.args.width _ c.words_at.ensures.0 c.requires.offers_in c.requires.width_in, c.requires.a_in)
-
-pub loop-i-init : goal.loop-i-init
-loop-i-init c =
-    let row : ℕ =
-    c.row_start-row.result in
-    let knew : ℕ → ℕ =
-    λ k. get_or c.args.known.now k 0 in
-    let came : ℕ → ℕ =
-    λ k. get_or c.args.transit.now k 0 in (
-      omega arith,
-      c.requires.ordered,
-      refl,
-      refl,
-      λ p l k. sym (cond_no _ (came k) (knew k) (stored_none c.args.n c.args.width p c.args.from row k)),
-      λ p l k. sym (cond_no _ 0 (came k) (stored_none c.args.n c.args.width p c.args.from row k)),
-    )
-
-pub index_at-requires : goal.index_at-requires
-index_at-requires c =
-    omega (arith, c.loop-i-test.true, c.requires.list_long)
-
-pub words_at-at-requires : goal.words_at-at-requires
-words_at-at-requires c =
-    let offer : ℕ =
-    get_or c.args.offers.now c.loop-i.i 0 in
-    let offer_in : offer < c.args.n =
-    c.requires.listed_in c.loop-i.i c.loop-i.invariant.0 c.loop-i-test.true in
-    (omega (arith, c.index_at.ensures.0, offer_in, c.requires.offers_in), c.requires.width_in)
-
-pub overflow_add-row : goal.overflow_add-row
-overflow_add-row c =
-    let row : ℕ =
-    c.row_start-row.result in
-    let row_is : row ≡ c.args.a * (c.args.n * c.args.width) =
-    c.row_start-row.ensures ∙ ap (λ (x : ℕ). c.args.a * x) c.words_at.ensures.0 in
-    let offer : ℕ =
-    get_or c.args.offers.now c.loop-i.i 0 in
-    let offer_in : offer < c.args.n =
-    c.requires.listed_in c.loop-i.i c.loop-i.invariant.0 c.loop-i-test.true in
-    let place_is : c.words_at-at.result ≡ offer * c.args.width =
-    c.words_at-at.ensures.0 ∙ ap (λ (x : ℕ). x * c.args.width) c.index_at.ensures.0 in
-    let known_in : row + c.words_at-at.result + c.args.width ≤ length c.loop-i.known =
-    words_in c.args.n c.args.width c.args.a _ _ _ _ row_is place_is offer_in (omega (arith, c.requires.known_long_lem, c.loop-i.invariant.2)) in
-    omega (arith, known_in)
-
-pub take_words-requires : goal.take_words-requires
-take_words-requires c =
-    let row : ℕ =
-    c.row_start-row.result in
-    let row_is : row ≡ c.args.a * (c.args.n * c.args.width) =
-    c.row_start-row.ensures ∙ ap (λ (x : ℕ). c.args.a * x) c.words_at.ensures.0 in
-    let offer : ℕ =
-    get_or c.args.offers.now c.loop-i.i 0 in
-    let offer_in : offer < c.args.n =
-    c.requires.listed_in c.loop-i.i c.loop-i.invariant.0 c.loop-i-test.true in
-    let place_is : c.words_at-at.result ≡ offer * c.args.width =
-    c.words_at-at.ensures.0 ∙ ap (λ (x : ℕ). x * c.args.width) c.index_at.ensures.0 in
-    let known_in : row + c.words_at-at.result + c.args.width ≤ length c.loop-i.known =
-    words_in c.args.n c.args.width c.args.a _ _ _ _ row_is place_is offer_in (omega (arith, c.requires.known_long_lem, c.loop-i.invariant.2)) in
-    let transit_in : row + c.words_at-at.result + c.args.width ≤ length c.loop-i.transit =
-    words_in c.args.n c.args.width c.args.a _ _ _ _ row_is place_is offer_in (omega (arith, c.requires.transit_long_lem, c.loop-i.invariant.3)) in
-    (known_in, transit_in)
 
 pub loop-i-preserved : goal.loop-i-preserved
 unfolding in_span
@@ -120,14 +49,6 @@ loop-i-preserved c =
       λ p l. stored_next c.args.n c.args.width some p c.args.from c.args.to list l at v.i v.invariant.0 h
           (λ k. 0) came v.transit c.take_words.new.transit 0 (v.invariant.5 p l) (taken_transit),
     )
-
-pub shape_of-known : goal.shape_of-known
-shape_of-known c =
-    c.loop-i.invariant.2
-
-pub shape_of-transit : goal.shape_of-transit
-shape_of-transit c =
-    c.loop-i.invariant.3
 
 pub returns : goal.returns
 unfolding received_known received_transit

@@ -1,7 +1,7 @@
 -- `step_prices::receive::receive_prices` meets its contract. The invariant: the words of the offers before place i of the list are known, and no longer in transit. Assumes nothing.
 use mathlib.Core.Path.{◌≡◌}
 use mathlib.Core.Bool.{Bool, cond}
-use Prim.Native.Nat.{ℕ, ◌≤◌, ◌-◌}
+use Prim.Native.Nat.{ℕ, ◌≤◌}
 use lib.ListN.{length, get_or}
 use Rattle.laws.specs.Listed.{Listed}
 use Rattle.step_prices.proofs.Words.{stored}
@@ -15,7 +15,3 @@ invariant-loop-i l =
     × (length l.transit ≡ length l.initial.transit)
     × ((passes : ℕ → Bool) → Listed l.n passes l.from l.to l.offers → (k : ℕ) → get_or l.known k 0 ≡ cond (stored l.n l.width passes l.from l.row l.i k) (get_or l.initial.transit k 0) (get_or l.initial.known k 0))
     × ((passes : ℕ → Bool) → Listed l.n passes l.from l.to l.offers → (k : ℕ) → get_or l.transit k 0 ≡ cond (stored l.n l.width passes l.from l.row l.i k) 0 (get_or l.initial.transit k 0))
-
-abbrev pub decreases-loop-i : goal.decreases-loop-i
-decreases-loop-i l =
-    l.to - l.i

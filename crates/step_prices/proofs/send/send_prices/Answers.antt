@@ -1,100 +1,17 @@
 -- `step_prices::send::send_prices` meets its contract. The invariant: the words of the offers before place i of the list are in transit. Assumes nothing.
-use mathlib.Core.Path.{◌≡◌, refl, sym, ap, ◌∙◌}
+use mathlib.Core.Path.{◌≡◌, sym, ap, ◌∙◌}
 use mathlib.Core.Bool.{cond}
-use Prim.Native.Nat.{ℕ, ◌<◌, ◌≤◌, ◌+◌, ◌-◌, ◌*◌}
+use Prim.Native.Nat.{ℕ, ◌<◌, ◌+◌, ◌-◌, ◌*◌}
 use native.Mathlib.Omega.{arith}
 use native.Mathlib.Nat.{le_antisymm}
-use lib.ListN.{length, get_or}
+use lib.ListN.{get_or}
 use Rattle.laws.specs.Tables.{cell}
 use Rattle.laws.proofs.Loops.{window}
 use Rattle.laws.proofs.Tables.{cell_at}
-use Rattle.laws.proofs.Bools.{cond_no}
 use Rattle.model.specs.Spans.{in_span}
 use Rattle.step_prices.specs.Prices.{sent_transit}
-use Rattle.step_prices.proofs.Words.{words_in, row_small, told, stored, stored_none, stored_next, stored_row}
+use Rattle.step_prices.proofs.Words.{told, stored, stored_next, stored_row}
 use Rattle.step_prices.proofs.send.send_prices.Goals as goal
-
-pub words_at-words-requires : goal.words_at-words-requires
-words_at-words-requires c =
-    let p = c.requires in (omega (arith, p.offers_in), p.width_in)
-
-pub row_start-sender-requires : goal.row_start-sender-requires
-row_start-sender-requires c =
-    (row_small c.args.n c.args.width _ c.words_at-words.ensures.0 c.requires.offers_in c.requires.width_in, c.requires.a_in)
-
-pub row_start-receiver-requires : goal.row_start-receiver-requires
-row_start-receiver-requires c =
-    (row_small c.args.n c.args.width _ c.words_at-words.ensures.0 c.requires.offers_in c.requires.width_in, c.requires.c_in)
-
-pub loop-i-init : goal.loop-i-init
-loop-i-init c =
-    let sender : ℕ =
-    c.row_start-sender.result in
-    let receiver : ℕ =
-    c.row_start-receiver.result in
-    let new : ℕ → ℕ =
-    λ k. get_or c.args.known.now (sender + (k - receiver)) 0 in
-    let old : ℕ → ℕ =
-    λ k. get_or c.args.transit.now k 0 in
-    (omega arith, c.requires.ordered, refl, λ p l k. sym (cond_no _ (new k) (old k) (stored_none c.args.n c.args.width p c.args.from receiver k)))
-
-pub index_at-requires : goal.index_at-requires
-index_at-requires c =
-    omega (arith, c.loop-i-test.true, c.requires.list_long)
-
-pub words_at-at-requires : goal.words_at-at-requires
-words_at-at-requires c =
-    let offer_in : get_or c.args.offers.now c.loop-i.i 0 < c.args.n =
-    c.requires.listed_in c.loop-i.i c.loop-i.invariant.0 c.loop-i-test.true in
-    (omega (arith, c.index_at.ensures.0, offer_in, c.requires.offers_in), c.requires.width_in)
-
-pub overflow_add-receiver : goal.overflow_add-receiver
-overflow_add-receiver c =
-    let receiver : ℕ =
-    c.row_start-receiver.result in
-    let receiver_is : receiver ≡ c.args.b * (c.args.n * c.args.width) =
-    c.row_start-receiver.ensures ∙ ap (λ (x : ℕ). c.args.b * x) c.words_at-words.ensures.0 in
-    let offer_in : get_or c.args.offers.now c.loop-i.i 0 < c.args.n =
-    c.requires.listed_in c.loop-i.i c.loop-i.invariant.0 c.loop-i-test.true in
-    let place_is : c.words_at-at.result ≡ get_or c.args.offers.now c.loop-i.i 0 * c.args.width =
-    c.words_at-at.ensures.0 ∙ ap (λ (x : ℕ). x * c.args.width) c.index_at.ensures.0 in
-    let receiver_in : receiver + c.words_at-at.result + c.args.width ≤ length c.loop-i.transit =
-    words_in c.args.n c.args.width c.args.b _ _ _ _ receiver_is place_is offer_in (omega (arith, c.requires.transit_long_lem, c.loop-i.invariant.2)) in
-    omega (arith, receiver_in)
-
-pub overflow_add-sender : goal.overflow_add-sender
-overflow_add-sender c =
-    let sender : ℕ =
-    c.row_start-sender.result in
-    let sender_is : sender ≡ c.args.a * (c.args.n * c.args.width) =
-    c.row_start-sender.ensures ∙ ap (λ (x : ℕ). c.args.a * x) c.words_at-words.ensures.0 in
-    let offer_in : get_or c.args.offers.now c.loop-i.i 0 < c.args.n =
-    c.requires.listed_in c.loop-i.i c.loop-i.invariant.0 c.loop-i-test.true in
-    let place_is : c.words_at-at.result ≡ get_or c.args.offers.now c.loop-i.i 0 * c.args.width =
-    c.words_at-at.ensures.0 ∙ ap (λ (x : ℕ). x * c.args.width) c.index_at.ensures.0 in
-    let sender_in : sender + c.words_at-at.result + c.args.width ≤ length c.args.known.now =
-    words_in c.args.n c.args.width c.args.a _ _ _ _ sender_is place_is offer_in c.requires.known_long_lem in
-    omega (arith, sender_in)
-
-pub copy_words-requires : goal.copy_words-requires
-copy_words-requires c =
-    let sender : ℕ =
-    c.row_start-sender.result in
-    let receiver : ℕ =
-    c.row_start-receiver.result in
-    let sender_is : sender ≡ c.args.a * (c.args.n * c.args.width) =
-    c.row_start-sender.ensures ∙ ap (λ (x : ℕ). c.args.a * x) c.words_at-words.ensures.0 in
-    let receiver_is : receiver ≡ c.args.b * (c.args.n * c.args.width) =
-    c.row_start-receiver.ensures ∙ ap (λ (x : ℕ). c.args.b * x) c.words_at-words.ensures.0 in
-    let offer_in : get_or c.args.offers.now c.loop-i.i 0 < c.args.n =
-    c.requires.listed_in c.loop-i.i c.loop-i.invariant.0 c.loop-i-test.true in
-    let place_is : c.words_at-at.result ≡ get_or c.args.offers.now c.loop-i.i 0 * c.args.width =
-    c.words_at-at.ensures.0 ∙ ap (λ (x : ℕ). x * c.args.width) c.index_at.ensures.0 in
-    let sender_in : sender + c.words_at-at.result + c.args.width ≤ length c.args.known.now =
-    words_in c.args.n c.args.width c.args.a _ _ _ _ sender_is place_is offer_in c.requires.known_long_lem in
-    let receiver_in : receiver + c.words_at-at.result + c.args.width ≤ length c.loop-i.transit =
-    words_in c.args.n c.args.width c.args.b _ _ _ _ receiver_is place_is offer_in (omega (arith, c.requires.transit_long_lem, c.loop-i.invariant.2)) in
-    (receiver_in, sender_in)
 
 pub loop-i-preserved : goal.loop-i-preserved
 unfolding in_span
@@ -121,10 +38,6 @@ loop-i-preserved c =
       λ p l. stored_next c.args.n c.args.width c.requires.width_some p c.args.from c.args.to c.args.offers.now l receiver v.i v.invariant.0 c.loop-i-test.true
           new old v.transit c.copy_words.new.words 0 (v.invariant.3 p l) (written),
     )
-
-pub shape_of-transit : goal.shape_of-transit
-shape_of-transit c =
-    c.loop-i.invariant.2
 
 pub returns : goal.returns
 unfolding sent_transit

@@ -14,7 +14,3 @@ invariant-loop-i l =
     × (length l.transit ≡ length l.initial.transit)
     × ((passes : ℕ → Bool) → Listed l.n passes l.from l.to l.offers → (k : ℕ) →
     get_or l.transit k 0 ≡ cond (stored l.n l.width passes l.from l.receiver l.i k) (get_or l.known (l.sender + (k - l.receiver)) 0) (get_or l.initial.transit k 0))
-
-abbrev pub decreases-loop-i : goal.decreases-loop-i
-decreases-loop-i l =
-    l.to - l.i

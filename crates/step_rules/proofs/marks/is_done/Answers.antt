@@ -1,26 +1,12 @@
 -- `step_rules::marks::is_done` meets its contract. Assumes nothing.
 use mathlib.Core.Path.{sym, ap, ◌∙◌}
-use Prim.Native.Nat.{ℕ, ◌*◌, ◌<◌}
-use native.Mathlib.Omega.{arith}
+use Prim.Native.Nat.{ℕ}
 use lib.Dec.{eqb}
 use lib.ListN.{get_or}
 use Rattle.model.specs.Steps.{kind_of, step_place}
 use Rattle.model.proofs.Cursor.{number_kind}
-use Rattle.step_rules.proofs.Marked.{marks_few, done_word}
-use Rattle.model.proofs.Tables.{place_in}
+use Rattle.step_rules.proofs.Marked.{done_word}
 use Rattle.step_rules.proofs.marks.is_done.Goals as goal
-
-pub offset_bounds-done-i : goal.offset_bounds-done-i
-offset_bounds-done-i c =
-    let inside : step_place c.args.k c.args.kind c.args.a c.args.b < 6 * c.args.k * c.args.k =
-    let p = c.requires in place_in c.args.k c.args.kind c.args.a c.args.b (omega (arith, p.kind_to)) p.a_in p.b_in in
-    omega (arith, c.place-i.ensures, inside, marks_few c.args.k c.requires.boxes_in)
-
-pub bounds-done-i : goal.bounds-done-i
-bounds-done-i c =
-    let inside : step_place c.args.k c.args.kind c.args.a c.args.b < 6 * c.args.k * c.args.k =
-    let p = c.requires in place_in c.args.k c.args.kind c.args.a c.args.b (omega (arith, p.kind_to)) p.a_in p.b_in in
-    omega (arith, c.place-i.ensures, inside, c.requires.done_long)
 
 pub returns : goal.returns
 returns c =

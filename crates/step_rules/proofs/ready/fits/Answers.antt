@@ -5,26 +5,26 @@ use Rattle.model.specs.Steps.{kind_of}
 use Rattle.step_rules.proofs.ByKind.{fits_one}
 use Rattle.step_rules.proofs.ready.fits.Goals as goal
 
-pub returns-then-kind-eq1 : goal.returns-then-kind-eq1
+pub returns-in-1 : goal.returns-in-1
 unfolding fits_by kind_of
-returns-then-kind-eq1 c =
-    rw c.if-kind-eq1.true c.reaches.ensures
+returns-in-1 c =
+    rw c.in-1.is c.reaches.ensures
 
-pub returns-then-kind-eq3 : goal.returns-then-kind-eq3
+pub returns-in-3 : goal.returns-in-3
 unfolding fits_by kind_of
-returns-then-kind-eq3 c =
-    rw c.if-kind-eq3.true c.reaches-then-kind-eq3.ensures
+returns-in-3 c =
+    rw c.in-3.is c.reaches-in-3.ensures
 
-pub returns-then-kind-eq4 : goal.returns-then-kind-eq4
+pub returns-in-4 : goal.returns-in-4
 unfolding fits_by kind_of
-returns-then-kind-eq4 c =
-    rw c.if-kind-eq4.true c.totals_due.ensures
+returns-in-4 c =
+    rw c.in-4.is c.totals_due.ensures
 
-pub returns-then-kind-eq6 : goal.returns-then-kind-eq6
+pub returns-in-6 : goal.returns-in-6
 unfolding fits_by kind_of
-returns-then-kind-eq6 c =
-    rw c.if-kind-eq6.true c.totals_due-then-kind-eq6.ensures
+returns-in-6 c =
+    rw c.in-6.is c.totals_due-in-6.ensures
 
-pub returns : goal.returns
-returns c =
-    fits_one _ _ c.args.a c.args.b c.args.kind (omega arith) (omega arith) c.if-kind-eq1.false c.if-kind-eq3.false c.if-kind-eq4.false c.if-kind-eq6.false
+pub returns-in_default : goal.returns-in_default
+returns-in_default c =
+    fits_one _ _ c.args.a c.args.b c.args.kind (omega arith) (omega arith) (omega arith) (omega arith) (omega arith) (omega arith)

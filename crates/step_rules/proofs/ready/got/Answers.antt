@@ -5,17 +5,13 @@ use native.Mathlib.Nat.{le_antisymm}
 use Rattle.laws.specs.Masks.{mask_of}
 use Rattle.model.specs.Tables.{steps_done}
 use Rattle.step_rules.specs.Rules.{has_got}
-use Rattle.step_rules.proofs.Bits.{before, before_none, before_more, got_all}
+use Rattle.step_rules.proofs.Bits.{before, before_none, got_all}
 use borrow.Author.Rules.{rules}
 use Rattle.step_rules.proofs.ready.got.Goals as goal
 
 pub loop-o-init : goal.loop-o-init
 loop-o-init c =
     (search rules, before_none _)
-
-pub loop-o-preserved : goal.loop-o-preserved
-loop-o-preserved c =
-    (search rules, before_more _ c.loop-o.o _ c.has_got.result (has_got _ _) c.loop-o.invariant.1 c.has_got.ensures c.with_bit-more.ensures)
 
 pub returns : goal.returns
 returns c =

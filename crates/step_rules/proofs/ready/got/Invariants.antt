@@ -1,6 +1,6 @@
 -- `step_rules::ready::got` meets its contract: of every box passed it is told. Assumes nothing.
 use mathlib.Core.Path.{◌≡◌}
-use Prim.Native.Nat.{◌≤◌, ◌-◌}
+use Prim.Native.Nat.{◌≤◌}
 use Rattle.laws.specs.Masks.{mask_of}
 use Rattle.model.specs.Tables.{steps_done}
 use Rattle.step_rules.specs.Rules.{has_got}
@@ -10,7 +10,3 @@ use Rattle.step_rules.proofs.ready.got.Given as goal
 abbrev pub invariant-loop-o : goal.invariant-loop-o
 invariant-loop-o l =
     (l.o ≤ l.k) × (l.word ≡ mask_of 16 (before l.o (has_got (steps_done l.k l.done) l.a)))
-
-abbrev pub decreases-loop-o : goal.decreases-loop-o
-decreases-loop-o l =
-    l.k - l.o

@@ -3,7 +3,7 @@ use mathlib.Core.Path.{◌∙◌}
 use Rattle.laws.proofs.Below.{all_cong}
 use Rattle.laws.proofs.Masks.{bit_mask}
 use Rattle.model.specs.Tables.{steps_done}
-use Rattle.step_rules.specs.Rules.{word_at, has_got, all_got}
+use Rattle.step_rules.specs.Rules.{has_got, all_got}
 use Rattle.step_rules.proofs.ready.has_all.Goals as goal
 
 pub returns : goal.returns

@@ -4,4 +4,4 @@ use Rattle.step_rules.proofs.ready.with_bit.Goals as goal
 
 pub returns : goal.returns
 returns c =
-    λ f. λ e. with_bit c.args.word c.args.b c.args.test f c.requires e
+    λ f. λ e. rw c.from.ensures (with_bit c.args.word c.args.b c.args.test f c.requires e)

@@ -16,11 +16,11 @@ abbrev pub invariant-loop-i : goal.invariant-loop-i
 invariant-loop-i l =
     (l.i ≤ l.t)
     × (length l.working ≡ length l.initial.working)
-    × ((owner holder : List ℕ) → TalliesLinked l.t owner holder l.tally_offer l.links →
+    × ((owner holder : List ℕ) → TalliesLinked l.job.sizes.tallies owner holder l.job.tally_offer.now l.links →
     ((p : ℕ) → p < length l.initial.working → get_or l.working p (pos 0) ≡ get_or l.initial.working p (pos 0) +ℤ sum integers l.i
-    (shares l.width l.tally_place (brings owner holder l.tally_offer l.tally_count l.prices l.a l.from l.at l.width) l.initial.working p))
-    × (l.i < l.t → pair_at holder l.tally_offer owner l.i ≡ pair_key l.a l.from))
+    (shares l.width l.tally_place (brings owner holder l.job.tally_offer.now l.job.tally_count.now l.prices l.a l.from l.at l.width) l.initial.working p))
+    × (l.i < l.job.sizes.tallies → pair_at holder l.job.tally_offer.now owner l.i ≡ pair_key l.a l.from))
 
 abbrev pub decreases-loop-i : goal.decreases-loop-i
 decreases-loop-i l =
-    l.t - l.i
+    l.job.sizes.tallies - l.i

@@ -17,10 +17,6 @@ use Rattle.step_totals.specs.Row.{raised}
 use Rattle.step_totals.proofs.Rows.{raised_is}
 use Rattle.step_totals.proofs.row.add_products.Goals as goal
 
-pub overflow_mul-g : goal.overflow_mul-g
-overflow_mul-g c =
-    omega (arith, c.requires.row_long 0 c.requires.width_some)
-
 pub loop-q-init : goal.loop-q-init
 unfolding integers
 loop-q-init c =
@@ -31,24 +27,6 @@ loop-q-init c =
     let product : ℕ → ℤ =
     λ q. count *ℤ pos (get_or c.args.prices.now (c.args.at + q) 0) in
     (omega arith, refl, λ p. sym (ap (λ (z : ℤ). get_or c.args.row.now p (pos 0) +ℤ z) (sum_start integers (share word product p)) ∙ +ℤ_idr (get_or c.args.row.now p (pos 0))))
-
-pub overflow_add-at : goal.overflow_add-at
-overflow_add-at c =
-    omega (arith, c.requires.price_long_lem c.loop-q.q c.loop-q-test.true)
-
-pub u32_at-requires : goal.u32_at-requires
-u32_at-requires c =
-    c.requires.price_long_lem c.loop-q.q c.loop-q-test.true
-
-pub amount-x-requires : goal.amount-x-requires
-amount-x-requires c =
-    let count : ℤ =
-    to_z w32 (of_z w32 c.args.count) in
-    let count_is : count ≡ c.args.count =
-    read32_abs c.args.count (le_trans c.requires.count_in (lit≤ tt)) in
-    let count_in : nat_abs count ≤ 99_999 =
-    rw count_is c.requires.count_in in
-    (count_in, rw c.u32_at.ensures (c.requires.price_in c.loop-q.q c.loop-q-test.true))
 
 pub overflow_add-g : goal.overflow_add-g
 overflow_add-g c =
@@ -111,7 +89,3 @@ returns c =
     raised_is c.args.width c.args.row.now c.args.e c.loop-q.row product c.requires.width_some c.loop-q.invariant.1
     (λ p. c.loop-q.invariant.2 p ∙ ap (λ (n : ℕ). get_or c.args.row.now p (pos 0) +ℤ sum integers n (share word product p)) (le_antisymm c.loop-q.invariant.0 c.loop-q-test.false))
     ∙ ap (λ (z : ℤ). raised c.args.width c.args.row.now c.args.e (λ q. z *ℤ pos (get_or c.args.prices.now (c.args.at + q) 0))) (count_is)
-
-pub shape_of-row : goal.shape_of-row
-shape_of-row c =
-    c.loop-q.invariant.1

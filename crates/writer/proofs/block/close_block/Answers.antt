@@ -10,21 +10,15 @@ use Rattle.writer.proofs.block.close_block.Goals as goal
 
 pub put16-requires : goal.put16-requires
 unfolding first_sum
-put16-requires c =
-    (omega (arith, c.put_zeros.auto.out, c.requires.0), omega (arith, c.sums-s.ensures.0))
+put16-requires c = (omega arith, omega (arith, c.sums-s.ensures.0))
 
 pub put16-requires-2 : goal.put16-requires-2
 unfolding second_sum
-put16-requires-2 c =
-    (omega (arith, c.put16.auto.out, c.put_zeros.auto.out, c.requires.0), omega (arith, c.sums-s.ensures.1))
-
-pub shape_of-out : goal.shape_of-out
-shape_of-out c =
-    c.put16-2.auto.out ∙ c.put16.auto.out ∙ c.put_zeros.auto.out
+put16-requires-2 c = (omega arith, omega (arith, c.sums-s.ensures.1))
 
 pub returns : goal.returns
 returns c =
     let a = c.args in
     c.put16-2.ensures
-    ∙ ap (put (a.at + 510) 2 (bytes_of (bytes16 c.sums-s.result.second))) c.put16.ensures
-    ∙ closed a.at a.used a.out.now c.requires.1 c.requires.0 _ c.put_zeros.ensures _ _ c.sums-s.ensures.0 c.sums-s.ensures.1
+    ∙ ap (put (a.at + 510) 2 (bytes_of (bytes16 c.from-2.result))) c.put16.ensures
+    ∙ closed a.at a.used a.out.now c.requires.1 c.requires.0 _ c.put_zeros.ensures _ _ (c.from.ensures ∙ c.sums-s.ensures.0) (c.from-2.ensures ∙ c.sums-s.ensures.1)

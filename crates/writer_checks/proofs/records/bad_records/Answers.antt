@@ -1,34 +1,25 @@
--- `writer_checks::records::bad_records` meets its contract. Assumes nothing.
-use Prim.Native.Nat.{ℕ, suc, ◌*◌, ◌≤◌}
-use native.Mathlib.Omega.{arith}
+-- `writer_checks::records::bad_records` meets its contract: each record is tested. Assumes nothing.
+use Rattle.std.proofs.Common.{rules}
+use mathlib.Core.Path.{ap, ◌∙◌}
+use Prim.Native.Nat.{ℕ, suc, ◌+◌, ◌*◌}
+use lib.ListN.{get_or}
+use Rattle.laws.specs.Below.{any}
+use Rattle.format.specs.Job.{bad_offer, bad_owner, bad_price, bad_tally}
+use Rattle.format.specs.Tables.{offer_of, tally_of}
+use Rattle.file_blocks.specs.Due.{as_head}
+use Rattle.file_blocks.proofs.ByPlace.{tested_by}
+use Rattle.writer_checks.specs.Held.{offers_held, tallies_held, held}
 use Rattle.writer_checks.proofs.Joining.{record_tests}
 use Rattle.writer_checks.proofs.records.bad_records.Goals as goal
 
--- The prices of all lists are at least those of the first.
-first : (n lists l : ℕ) → n * suc lists ≤ l → n ≤ l
-first n lists l h = omega arith
-
-pub bad_offers-requires : goal.bad_offers-requires
-bad_offers-requires c =
-    let h = c.args.head.sizes in
-    let p = c.requires.offers_in_bounds in
-    (first h.offers h.lists _ p.0, p.1, p.2)
-
-pub bad_owners-requires : goal.bad_owners-requires
-bad_owners-requires c =
-    c.requires.grocers_in_bounds
-
-pub bad_prices-requires : goal.bad_prices-requires
-bad_prices-requires c =
-    c.requires.offers_in_bounds.0
-
-pub bad_tallies-requires : goal.bad_tallies-requires
-bad_tallies-requires c =
-    record {
-      tallies_in_bounds = c.requires.tallies_in_bounds;
-      tallies_in_bounds_2 = c.requires.tallies_in_bounds_2;
-    }
-
 pub returns : goal.returns
+unfolding bad_owner
 returns c =
-    λ s s' b v. record_tests _ _ (c.bad_offers.ensures s) c.bad_owners.ensures c.bad_prices.ensures (c.bad_tallies.ensures s' b v)
+    let x = c.args.tables.now in
+    let h = as_head x.head in
+    record_tests h (held x)
+    (tested_by (λ i. bad_offer h (offer_of (offers_held x) i)) c.any_by.result c.any_by.ensures (λ i b l e. search rules) ∙ ap (λ (n : ℕ). any n (λ i. bad_offer h (offer_of (offers_held x) i))) c.from.ensures)
+    (tested_by (λ i. bad_owner h (get_or x.grocer_owner.now i 0)) c.any_by-2.result c.any_by-2.ensures (λ i b l e. search rules) ∙ ap (λ (n : ℕ). any n (λ i. bad_owner h (get_or x.grocer_owner.now i 0))) c.from-2.ensures)
+    (tested_by (λ q. any h.offers (λ i. bad_price (get_or x.price.now (suc q * h.offers + i) 0))) c.any_by-3.result c.any_by-3.ensures (λ i b l e. search rules)
+    ∙ ap (λ (n : ℕ). any n (λ q. any h.offers (λ i. bad_price (get_or x.price.now (suc q * h.offers + i) 0)))) c.from-3.ensures)
+    (tested_by (λ i. bad_tally h (tally_of (tallies_held x) i)) c.any_by-4.result c.any_by-4.ensures (λ i b l e. search rules) ∙ ap (λ (n : ℕ). any n (λ i. bad_tally h (tally_of (tallies_held x) i))) c.from-4.ensures)

@@ -1,0 +1,2 @@
+-- What callers need of the numbers of conditions.
+pub mod Numbers

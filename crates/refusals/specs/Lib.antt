@@ -1,0 +1,2 @@
+-- The numbers of the conditions, and of answers.
+pub mod Numbers

@@ -1,9 +1,0 @@
--- `run_order::fill16` meets its contract. The invariant: the first i words are v, and the others are as they were. Assumes nothing.
-use mathlib.Core.Path.{◌≡◌}
-use Prim.Native.Nat.{◌≤◌}
-use lib.ListN.{length}
-use Rattle.laws.specs.Tables.{overwrite}
-use Rattle.run_order.proofs.fill16.Given as goal
-
-abbrev pub invariant-loop-i : goal.invariant-loop-i
-invariant-loop-i l = (l.i ≤ l.n) × (length l.s ≡ length l.initial.s) × (l.s ≡ overwrite l.i (λ k. l.v) l.initial.s)

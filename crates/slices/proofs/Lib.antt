@@ -1,2 +1,0 @@
--- Lemmas that the proofs cite.
-pub mod Products

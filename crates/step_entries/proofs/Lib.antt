@@ -1,0 +1,2 @@
+-- Parts of tables, copied.
+pub mod Copied

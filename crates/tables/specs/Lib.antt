@@ -1,0 +1,2 @@
+-- What lent tables hold.
+pub mod Lent

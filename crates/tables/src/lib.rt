@@ -1,0 +1,31 @@
+// The tables of a job and of a state, as they are lent.
+#![tactic(auto)]
+
+use slices::sizes::Sizes;
+
+// The job's tables: its sizes, and nine lent slices. No call writes them.
+#[derive(Clone, Copy)]
+pub struct Job<'a> {
+    pub sizes: Sizes,
+    pub price: &'a [u32],
+    pub offer_owner: &'a [u16],
+    pub grocer_owner: &'a [u16],
+    pub tally_grocer: &'a [u16],
+    pub tally_box: &'a [u16],
+    pub tally_offer: &'a [u16],
+    pub tally_count: &'a [i32],
+    pub tally_bag: &'a [u16],
+    pub tally_revision: &'a [u16],
+}
+
+// The state's tables: seven lent slices.
+#[derive(Drop)]
+pub struct State<'a> {
+    pub known: &'a mut [u32],
+    pub price_transit: &'a mut [u32],
+    pub working: &'a mut [i64],
+    pub total_transit: &'a mut [i64],
+    pub statement: &'a mut [i64],
+    pub done: &'a mut [u16],
+    pub sent: &'a mut [u32],
+}
