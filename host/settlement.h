@@ -1,9 +1,9 @@
 /* Gaugelupin for C: the reader of job files, one step of a settlement, and a whole run. Link with libhost.a.
  *
  * THE ARCHIVE
- * libhost.a is for x86-64 Linux. It calls memcpy, memmove and memset of the C library, and no other function. It uses
- * no heap and has no data of its own, and no call keeps a pointer: calls on different buffers may run at once. A call
- * needs less than 32 KiB of stack.
+ * libhost.a is for x86-64 Linux. It calls memcpy and memset of the C library, and no other function. It uses no heap
+ * and has no data of its own, and no call keeps a pointer: calls on different buffers may run at once. A call needs
+ * less than 32 KiB of stack.
  *
  * BUFFERS
  * A lent table is a pointer and, after it, the number of its WORDS (not bytes; for uint8_t the two are one).

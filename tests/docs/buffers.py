@@ -1,5 +1,5 @@
-"""buffers.py: where 02 §5 is not kept. The crates that read, write and look up codes have no array of bytes, and each of their local
-buffers is in the table of docs/DECISIONS.md, "Code digits", with its function, name and element; each row of it is of a buffer."""
+"""buffers.py: where 02 §5 is not kept. The crates that read, write and look up codes have no array of bytes but the two or four of which
+a word is made, and each of their local buffers is in the table of docs/DECISIONS.md, "Code digits", with its function, name and element; each row of it is of a buffer."""
 import os
 import re
 import sys

@@ -20,6 +20,7 @@ pub fn of_bag(key: u64) -> bool
 }
 
 // Whether two keys are of one bag and revision; loose coupons are of none.
+#[tactic(auto, unfolding(crate::specs::Keys::twice_keys))]
 pub fn same_count(key: u64, next: u64) -> bool
     ensures { result ≡ twice_keys key next }
 {
@@ -27,6 +28,7 @@ pub fn same_count(key: u64, next: u64) -> bool
 }
 
 // Whether two keys are of one bag.
+#[tactic(auto, unfolding(crate::specs::Keys::bag_keys))]
 pub fn same_bag(key: u64, next: u64) -> bool
     ensures { result ≡ bag_keys key next }
 {

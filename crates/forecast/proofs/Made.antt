@@ -23,6 +23,10 @@ use Rattle.forecast_moves.specs.Fresh.{FreshIn, last_value, own_values}
 use Rattle.forecast_checks.proofs.Tested.{LinesWhole, lines_whole, StateWhole, state_whole}
 use Rattle.forecast_checks.proofs.Refused.{whole-told, fresh_none}
 
+-- What is met of the tables as they are seen is met of the tables.
+pub fresh_met : (f : ForecastTables) (t seen : StateTables) (n : ℕ) → seen ≡ t → n ≡ first_met (fresh_refusals f seen) → n ≡ first_met (fresh_refusals f t)
+fresh_met f t seen n e h = rw e at h
+
 module _ (f : ForecastTables) (t : StateTables) where
   -- The value of an offer is that of its last line.
   last_is : (n : ℕ) → n ≤ f.lines → (o : ℕ) → last_value f.line_offer f.line_value n o ≡ value_in (forecast_of f) n o

@@ -1,5 +1,5 @@
 -- The tables that an accepted step leaves, from what its parts leave. Assumes nothing.
-use mathlib.Core.Path.{◌≡◌, refl, sym, ap, ◌∙◌}
+use mathlib.Core.Path.{◌≡◌, refl, sym, ap, subst, ◌∙◌}
 use mathlib.Core.Bool.{true, cond, ◌&&◌, not}
 use mathlib.Core.List.{List}
 use Prim.Native.Nat.{ℕ, ◌+◌, ◌*◌, ◌<◌, ◌≤◌}
@@ -73,6 +73,11 @@ same_mark k marks n a b h l p c d = sym (rw (numbers n h l, back_number p, back_
 pub done_is : (k : ℕ) (marks : List ℕ) (n a b : ℕ) → 1 ≤ n → n ≤ 6 → marked k (Money.kind_of n) a b marks ≡ to_marks k (mark (from_marks k marks) (kind_of n) a b) marks
 unfolding marked to_marks
 done_is k marks n a b h l = ap (λ (d : Money.Steps). marks_of k d marks) (λ i p c d. same_mark k marks n a b h l p c d i)
+
+-- What is decided of the tables as they are seen is decided of the tables.
+pub decided : (f : ForecastTables) (t seen : StateTables) (q : Asked) (needs sharers : List ℕ) (met words : ℕ) → seen ≡ t →
+    Decided f seen q needs sharers met words → Decided f t q needs sharers met words
+decided f t seen q needs sharers met words e y = let P : StateTables → Type 0 = λ u. Decided f u q needs sharers met words in subst P e y
 
 -- The answer by the number of the first condition met.
 module _ (f : ForecastTables) (t : StateTables) (q : Asked) where
@@ -178,15 +183,15 @@ module _ (f : ForecastTables) (t : StateTables) (q : Asked) (needs sharers : Lis
         ),
       )
 
-  pub lines_in : LinesIn f.grocers f.offers f.lines (line_lists f.line_grocer f.line_offer f.line_box f.line_rate)
-  lines_in = record {
+  pub lines_in : (n : ℕ) → n ≡ f.lines → LinesIn f.grocers f.offers n (line_lists f.line_grocer f.line_offer f.line_box f.line_rate)
+  lines_in n e = rw e (record {
     grocer_long_lem = lines.line_grocer;
     offer_long_lem = lines.line_offer;
     box_long_lem = lines.line_box;
     rate_long = lines.line_rate;
     grocers = inside.line_grocer;
     offers = inside.line_offer;
-  }
+  })
 
   pub row_of : RowIn f.grocers f.offers q.first t.part t.known
   row_of = record {
@@ -293,12 +298,12 @@ module _ (f : ForecastTables) (t : StateTables) (q : Asked) (needs sharers : Lis
             (λ e. v.others (c * f.grocers + g) (omega (arith, lg, row_in c q.first f.grocers (ltb-true c q.first e))))
             (λ e. let more : q.first < c = omega (arith, ltb-false c q.first e, ne) in v.behind (c * f.grocers + g) (omega (arith, row_in q.first c f.grocers more)))
 
-    pub lines_accepted : (part' : List Float) → q.kind ≡ 3 → length part' ≡ length t.part →
-        Added (line_lists f.line_grocer f.line_offer f.line_box f.line_rate) f.grocers f.offers q.first f.lines t.known t.part part' →
+    pub lines_accepted : (part' : List Float) (n : ℕ) → n ≡ f.lines → q.kind ≡ 3 → length part' ≡ length t.part →
+        Added (line_lists f.line_grocer f.line_offer f.line_box f.line_rate) f.grocers f.offers q.first n t.known t.part part' →
         state_tables t.known t.value_transit part' t.part_transit t.held t.forecast done' sent' ≡ moved f t q
     unfolding store effect view forecast_of kind_of
-    lines_accepted part' e sp v =
-        let row = row_added part' sp v in
+    lines_accepted part' n en e sp v =
+        let row = row_added part' sp (rw en at v) in
         (λ i. state_tables (keep_known i) (keep_values i) (row i) (keep_transit i) (keep_held i) (keep_forecast i) (done_as 3 e i) (sent_as 3 e i)) ∙ moved_as 3 e
 
     -- 4.

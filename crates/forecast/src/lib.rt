@@ -9,7 +9,7 @@ ghost use Rattle.forecast.specs.Answer.{answer_of};
 
 use forecast_checks::refusal::{fresh_refusal, step_refusal};
 use forecast_doubles::lines::add_lines;
-use forecast_doubles::tables::{Forecast, State};
+use forecast_doubles::tables::{Forecast, State, view};
 use forecast_moves::fresh::{fresh_values, fresh_zeros};
 use forecast_moves::messages::{move_parts, move_values};
 use forecast_moves::own::sum_own;
@@ -25,7 +25,7 @@ pub fn fresh_forecast(f: &Forecast, s: &mut State) -> Result<(), Refusal>
     ensures answer { outcome (answer_of result) (state_held s.new) ≡ freshened (forecast_held f.now) (state_held s.old) }
     ensures same_slices { SameSlices s.old s.new }
 {
-    fresh_refusal(f, s)?;
+    fresh_refusal(f, &view(s))?;
     fresh_values(f, s.known);
     fresh_zeros(
         f,
@@ -49,14 +49,14 @@ pub fn forecast_step(f: &Forecast, s: &mut State, x: Step) -> Result<(), Refusal
 {
     let mut needs = [0u16; OFFERS];
     let mut sharers = [0u16; GROCERS];
-    let words = step_refusal(f, s, &mut needs, &mut sharers, x)?;
+    let words = step_refusal(f, &view(s), &mut needs, &mut sharers, x)?;
     mark(f.boxes, x.kind, x.first, x.second, s.done);
     raise(s.sent, words);
     let m = usize::from(f.grocers);
     match x.kind {
         3 => {
             let known: &mut [f64] = s.known;
-            add_lines(f, x.first, known, s.part)
+            add_lines(f, usize::from(f.lines), x.first, known, s.part)
         }
         4 | 5 => move_parts(
             m,

@@ -12,7 +12,7 @@ ghost use Rattle.forecast_rules.specs.Steps.{kind_of};
 ghost use Rattle.forecast_rules.specs.Tables.{from_marks, forecast_of, forecast_lengths, forecast_short};
 ghost use Rattle.forecast_rules.specs.Ranges.{forecast_in_range};
 ghost use Rattle.forecast_rules.specs.Step.{fresh_refusals};
-ghost use Rattle.forecast_doubles.specs.Lent.{forecast_held, state_held};
+ghost use Rattle.forecast_doubles.specs.Lent.{forecast_held, state_viewed};
 ghost use Rattle.forecast_checks.specs.Rules.{rules_by};
 ghost use Rattle.forecast_checks.specs.Decided.{lent_refusals, table_refusals, message_words, late_fits, words_of, Decided};
 
@@ -20,7 +20,7 @@ use crate::request::request_refusal;
 use crate::tables::{forecast_in_range, forecast_short, state_in_range, state_short};
 use forecast_doubles::checks::bad_lines;
 use forecast_doubles::parts::sums_fit;
-use forecast_doubles::tables::{Forecast, State};
+use forecast_doubles::tables::{Forecast, StateView};
 use job_masks::masks::by_owner;
 use refusals::Refusal;
 use slices::limits::{GROCERS, OFFERS};
@@ -30,8 +30,8 @@ use step_places::words::in_message;
 use step_sent::sent_fits;
 
 // The first that is met of 20 on all tables, and 21 on those of the forecast.
-fn lent_refusal(f: &Forecast, s: &State) -> Result<(), Refusal>
-    ensures { number result ≡ first_met (lent_refusals (forecast_held f.now) (state_held s.now)) }
+fn lent_refusal(f: &Forecast, s: &StateView) -> Result<(), Refusal>
+    ensures { number result ≡ first_met (lent_refusals (forecast_held f.now) (state_viewed s.now)) }
 {
     if forecast_short(f) | state_short(f, s) {
         return Err(Refusal::LentShort);
@@ -60,16 +60,16 @@ fn lines_refusal(f: &Forecast) -> Result<(), Refusal>
 }
 
 // The first condition that is met by the call for a fresh state: 20 on all tables, 21 and 34 on those of the forecast.
-pub fn fresh_refusal(f: &Forecast, s: &State) -> Result<(), Refusal>
-    ensures { number result ≡ first_met (fresh_refusals (forecast_held f.now) (state_held s.now)) }
+pub fn fresh_refusal(f: &Forecast, s: &StateView) -> Result<(), Refusal>
+    ensures { number result ≡ first_met (fresh_refusals (forecast_held f.now) (state_viewed s.now)) }
 {
     lent_refusal(f, s)?;
     lines_refusal(f)
 }
 
 // The first of 20, 21 and 34 that is met by a step's tables: as for a fresh state, with 21 on the words of the state before 34.
-fn table_refusal(f: &Forecast, s: &State) -> Result<(), Refusal>
-    ensures { number result ≡ first_met (table_refusals (forecast_held f.now) (state_held s.now)) }
+fn table_refusal(f: &Forecast, s: &StateView) -> Result<(), Refusal>
+    ensures { number result ≡ first_met (table_refusals (forecast_held f.now) (state_viewed s.now)) }
 {
     lent_refusal(f, s)?;
     if !state_in_range(f, s) {
@@ -127,7 +127,7 @@ fn message_words(f: &Forecast, needs: &[u16; OFFERS], sharers: &[u16; GROCERS], 
 }
 
 // The late 21: whether what an accepted step leaves is in range. Of step 6 these are the sums, and of the others the words sent.
-fn late_fits(f: &Forecast, s: &State, sharers: &[u16; GROCERS], words: u32, x: Step) -> bool
+fn late_fits(f: &Forecast, s: &StateView, sharers: &[u16; GROCERS], words: u32, x: Step) -> bool
     requires k_bound { (f.now.boxes ≤ 16) × ((f.now.grocers ≤ 255) × (f.now.grocers ≤ length f.now.grocer_owner.now)) }
     requires m_in_bounds { (f.now.boxes * f.now.grocers ≤ length s.now.part.now) × (f.now.boxes * f.now.grocers ≤ length s.now.held.now) }
     requires in_bounds { (1 ≤ length s.now.sent.now) × ((get_or s.now.sent.now 0 0 ≤ max_sent) × (words ≤ 4_000)) }
@@ -152,12 +152,12 @@ fn late_fits(f: &Forecast, s: &State, sharers: &[u16; GROCERS], words: u32, x: S
 // lent, and not answered beside the words: so they are not copied.)
 pub fn step_refusal(
     f: &Forecast,
-    s: &State,
+    s: &StateView,
     needs: &mut [u16; OFFERS],
     sharers: &mut [u16; GROCERS],
     x: Step,
 ) -> Result<u32, Refusal>
-    ensures { Decided (forecast_held f.now) (state_held s.now) (asked x.kind x.first x.second) needs.new sharers.new (number result)
+    ensures { Decided (forecast_held f.now) (state_viewed s.now) (asked x.kind x.first x.second) needs.new sharers.new (number result)
         (words_of result) }
 {
     table_refusal(f, s)?;

@@ -2,10 +2,10 @@
 ghost use Rattle.std.specs.Prelude.{◌≡◌, false};
 ghost use Rattle.forecast_rules.specs.Tables.{forecast_lengths, state_lengths, forecast_short, state_short};
 ghost use Rattle.forecast_rules.specs.Ranges.{forecast_in_range, state_in_range};
-ghost use Rattle.forecast_doubles.specs.Lent.{forecast_held, state_held};
+ghost use Rattle.forecast_doubles.specs.Lent.{forecast_held, state_viewed};
 ghost use Rattle.forecast_checks.specs.Sizes.{LinesLong};
 
-use forecast_doubles::tables::{Forecast, State};
+use forecast_doubles::tables::{Forecast, StateView};
 use forecast_doubles::values::{all_sums, all_values, table_words};
 use job_ranges::{under16, upto32};
 use slices::bits::marks;
@@ -28,8 +28,8 @@ pub fn forecast_short(f: &Forecast) -> bool
 }
 
 // 20: whether a table of the state is shorter than K, M and N as given need.
-pub fn state_short(f: &Forecast, s: &State) -> bool
-    ensures { result ≡ state_short (forecast_held f.now) (state_lengths (state_held s.now)) }
+pub fn state_short(f: &Forecast, s: &StateView) -> bool
+    ensures { result ≡ state_short (forecast_held f.now) (state_lengths (state_viewed s.now)) }
 {
     let kn = table_words(f.boxes, f.offers);
     let km = table_words(f.boxes, f.grocers);
@@ -64,9 +64,9 @@ pub fn forecast_in_range(f: &Forecast) -> bool
 }
 
 // 21: whether every word of the state's tables is in range: values, sums, marks and the words sent.
-pub fn state_in_range(f: &Forecast, s: &State) -> bool
-    requires { state_short (forecast_held f.now) (state_lengths (state_held s.now)) ≡ false }
-    ensures { result ≡ state_in_range (forecast_held f.now) (state_held s.now) }
+pub fn state_in_range(f: &Forecast, s: &StateView) -> bool
+    requires { state_short (forecast_held f.now) (state_lengths (state_viewed s.now)) ≡ false }
+    ensures { result ≡ state_in_range (forecast_held f.now) (state_viewed s.now) }
 {
     let kn = table_words(f.boxes, f.offers);
     let km = table_words(f.boxes, f.grocers);

@@ -2,6 +2,7 @@
 use Rattle.std.specs.Prelude.{◌≡◌}
 use Rattle.forecast_doubles.specs.declared.tables.Forecast.{Forecast}
 use Rattle.forecast_doubles.specs.declared.tables.State.{State}
+use Rattle.forecast_doubles.specs.declared.tables.StateView.{StateView}
 use Rattle.forecast_rules.specs.Tables.{ForecastTables, forecast_tables, StateTables, state_tables}
 
 -- What the forecast's tables hold.
@@ -13,6 +14,11 @@ forecast_held f =
 -- What the state's tables hold.
 abbrev pub state_held : State → StateTables
 state_held s =
+    state_tables s.known.now s.value_transit.now s.part.now s.part_transit.now s.held.now s.forecast.now s.done.now s.sent.now
+
+-- The same of a state that is lent to be read.
+abbrev pub state_viewed : StateView → StateTables
+state_viewed s =
     state_tables s.known.now s.value_transit.now s.part.now s.part_transit.now s.held.now s.forecast.now s.done.now s.sent.now
 
 -- The eight slices of a state are the same memory before and after: only what stands in them may differ.

@@ -72,19 +72,20 @@ fn line_at(f: &Forecast, i: usize, from: usize, known: &[f64]) -> Line
     }
 }
 
-// Step 3 of box a: for each grocer rate × the value known over the box's lines, from +0.0 in list order, in the box's row. One pass over the lines.
-pub fn add_lines(f: &Forecast, a: u16, known: &[f64], part: &mut [f64])
-    requires lines_in { LinesIn f.now.grocers f.now.offers f.now.lines (line_lists f.now.line_grocer.now f.now.line_offer.now f.now.line_box.now
+// Step 3 of box a: for each grocer rate × the value known over the box's lines, from +0.0 in list order, in the box's row. One pass over the first n
+// lines, which may be more or fewer than the forecast's own.
+pub fn add_lines(f: &Forecast, n: usize, a: u16, known: &[f64], part: &mut [f64])
+    requires lines_in { LinesIn f.now.grocers f.now.offers n (line_lists f.now.line_grocer.now f.now.line_offer.now f.now.line_box.now
         f.now.line_rate.now) }
     requires row_in { RowIn f.now.grocers f.now.offers a part.old known.now }
     ensures { Added (line_lists f.now.line_grocer.now f.now.line_offer.now f.now.line_box.now f.now.line_rate.now)
-        f.now.grocers f.now.offers a f.now.lines known.now part.old part.new }
+        f.now.grocers f.now.offers a n known.now part.old part.new }
 {
     let grocers = usize::from(f.grocers);
     let row = row_start(grocers, a);
     let from = row_start(usize::from(f.offers), a);
     zero_row(part, row, grocers);
-    for i in 0..usize::from(f.lines) {
+    for i in 0..n {
         add_line(part, row, a, line_at(f, i, from, known));
     }
 }

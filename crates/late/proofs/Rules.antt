@@ -16,6 +16,8 @@ use Rattle.model.specs.Handed.{Standing}
 use Rattle.model.specs.PackedTotals.{totals_length}
 use Rattle.model.specs.Ranges.{job_in_range, state_in_range}
 use Rattle.model.specs.Tables.{StateTables, counted_of, evening_of, state_lengths, totals_short}
+use Rattle.tables.specs.Lent.{job_held}
+use Rattle.tables.specs.declared.Job.{Job}
 use Rattle.format.specs.Job.{Head}
 use Rattle.format.specs.Tables.{ReaderTables}
 use Rattle.late_rules.specs.Edit.{job_in}
@@ -81,6 +83,10 @@ module _ (t : ℕ) (h : Head) (l : ReaderTables) (s : StateTables) (most : h.tal
 
   pub present_state : (standing : List ℕ) → Standing (job_in h l) standing → PresentState (job_in h l) s standing
   present_state standing st = record { settles = settles_is h l s (whole-less h.tallies t h l s most whole) in_range_lem off.2; long = whole.state; stands = st }
+
+  -- The same of a job that holds these tables.
+  pub present_job : (j : Job) → job_held j ≡ job_in h l → (standing : List ℕ) → Standing (job_in h l) standing → PresentState (job_held j) s standing
+  present_job j e standing st = rw e (present_state standing st)
 
 pub room_most : (t : ℕ) → t ≤ room t
 unfolding room

@@ -21,7 +21,7 @@ use late_edits::{edit, edit_code};
 use refusals::Refusal;
 use run::Finished;
 use slices::sizes::Sizes;
-use tables::State;
+use tables::{State, view};
 
 pub mod refusal;
 
@@ -139,7 +139,7 @@ pub fn add(
     ensures same_slices { SameSlices state.old state.new }
 {
     let present = lent(sizes, tables);
-    let edit = add_refusal(&present, state, x, code)?;
+    let edit = add_refusal(&present, &view(state), x, code)?;
     let t = sizes.tallies as usize;
     edit_all(tables, t, t, x, code, edit.place);
     let edited = Sizes {
@@ -164,7 +164,7 @@ pub fn withdraw(
     ensures same_slices { SameSlices state.old state.new }
 {
     let present = lent(sizes, tables);
-    withdraw_refusal(&present, state, place)?;
+    withdraw_refusal(&present, &view(state), place)?;
     let freed = Tally {
         grocer: 0,
         holder: 0,

@@ -2,7 +2,7 @@
 ghost use Rattle.std.specs.Prelude.{◌≡◌, IfOk};
 ghost use Rattle.laws.specs.Checks.{first_met};
 ghost use Rattle.refusals.specs.Numbers.{number};
-ghost use Rattle.tables.specs.Lent.{state_held};
+ghost use Rattle.tables.specs.Lent.{state_viewed};
 ghost use Rattle.late_rules.specs.Edit.{place_found};
 ghost use Rattle.late_rules.specs.Late.{add_rules, withdraw_rules};
 ghost use Rattle.late_checks.specs.Judged.{tally_with, words_of};
@@ -15,7 +15,7 @@ use late_checks::{Tables, run_job};
 use late_finished::state::state_refusal;
 use refusals::Refusal;
 use slices::limits::TALLIES;
-use tables::State;
+use tables::StateView;
 
 // The packed length that is told of an edit: none where it is refused.
 fn words_of(edit: Result<Edit, Refusal>) -> usize
@@ -30,11 +30,11 @@ fn words_of(edit: Result<Edit, Refusal>) -> usize
 // Adding tally x, with the eleven bytes of its code: the first condition met, or the place of its offer and the packed length of the edited job.
 pub fn add_refusal(
     tables: &Tables,
-    state: &State,
+    state: &StateView,
     x: Tally,
     code: &[u8; 11],
 ) -> Result<Edit, Refusal>
-    ensures met { number result ≡ first_met (add_rules (head_held tables.now) (reader_held tables.now) (state_held state.now)
+    ensures met { number result ≡ first_met (add_rules (head_held tables.now) (reader_held tables.now) (state_viewed state.now)
         (tally_with x code.now)) }
     ensures place { IfOk result (λ e. e.place ≡ place_found (head_held tables.now) (reader_held tables.now) (tally_with x code.now)) }
 {
@@ -48,8 +48,8 @@ pub fn add_refusal(
 }
 
 // Withdrawing the tally at a place: the first condition met.
-pub fn withdraw_refusal(tables: &Tables, state: &State, place: u16) -> Result<(), Refusal>
-    ensures { number result ≡ first_met (withdraw_rules (head_held tables.now) (reader_held tables.now) (state_held state.now) place) }
+pub fn withdraw_refusal(tables: &Tables, state: &StateView, place: u16) -> Result<(), Refusal>
+    ensures { number result ≡ first_met (withdraw_rules (head_held tables.now) (reader_held tables.now) (state_viewed state.now) place) }
 {
     let mut standing = [0u16; TALLIES];
     let room = tables.sizes.tallies as usize;

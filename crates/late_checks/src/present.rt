@@ -12,7 +12,7 @@ use refusals::Refusal;
 use slices::limits::{MAX_TALLIES, TALLIES};
 use step_checks::state::state_short;
 use step_refusal::early_refusal;
-use tables::State;
+use tables::StateView;
 use writer_checks::sizes::{short_offers, short_tallies};
 
 // How many tallies must have room where one is added: one more, up to 1,000.
@@ -27,7 +27,7 @@ pub fn room_for(tallies: u16) -> usize
 }
 
 // 20: whether a table but the packed ones is shorter than K, M, N and the lists as given and t tallies need.
-fn late_short(tables: &Tables, t: usize, state: &State) -> bool
+fn late_short(tables: &Tables, t: usize, state: &StateView) -> bool
     requires { t ≤ 65535 }
     ensures { (working totals : List ℤ) → result ≡ late_short t (head_held tables.now) (reader_held tables.now)
         (state_tables state.now.known.now state.now.price_transit.now working totals state.now.statement.now state.now.done.now
@@ -64,7 +64,7 @@ fn late_short(tables: &Tables, t: usize, state: &State) -> bool
 pub fn present_refusal(
     tables: &Tables,
     t: usize,
-    state: &State,
+    state: &StateView,
     standing: &mut [u16; TALLIES],
 ) -> Result<(), Refusal>
     requires { (tables.now.sizes.tallies ≤ t) × (t ≤ 65535) }

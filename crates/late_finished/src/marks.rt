@@ -12,7 +12,7 @@ use slices::limits::{BOXES, GROCERS, OFFERS};
 use slices::lists::width_of;
 use slices::{u16_at, u32_at};
 use step_places::Step;
-use tables::{Job, State};
+use tables::{Job, StateView};
 
 // Whether the done marks are those of the steps that the words of receivers and senders tell.
 fn right_marks(k: u16, receivers: &[u16; BOXES], senders: &[u16; BOXES], done: &[u16]) -> bool
@@ -48,7 +48,7 @@ pub fn marks_finished(
     job: &Job,
     needs: &[u16; OFFERS],
     sharers: &[u16; GROCERS],
-    state: &State,
+    state: &StateView,
 ) -> bool
     requires le_boxes { (1 ≤ job.now.sizes.boxes) × (job.now.sizes.boxes ≤ 16) × (job.now.sizes.lists ≤ max_lists) ×
         (6 * job.now.sizes.boxes * job.now.sizes.boxes ≤ length state.now.done.now) × (1 ≤ length state.now.sent.now) }

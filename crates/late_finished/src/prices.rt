@@ -9,7 +9,7 @@ use slices::bits::has_bit;
 use slices::limits::OFFERS;
 use slices::lists::{box_words, width_of, words_at};
 use slices::{u16_at, u32_at};
-use tables::{Job, State};
+use tables::{Job, StateView};
 
 // Whether the n words from a place on are 0. There is no branch in the loop, so that several words are tested at once.
 fn no_words(s: &[u32], at: usize, n: usize) -> bool
@@ -111,7 +111,7 @@ fn right_known(
 }
 
 // Whether known prices and prices in transit are those of a finished run, of a job with these need words.
-pub fn prices_finished(job: &Job, needs: &[u16; OFFERS], state: &State) -> bool
+pub fn prices_finished(job: &Job, needs: &[u16; OFFERS], state: &StateView) -> bool
     requires { PricesLent job.now.sizes.boxes job.now.sizes.offers job.now.sizes.lists job.now.price.now job.now.offer_owner.now needs.now
         state.now.known.now state.now.price_transit.now }
     ensures { result ≡ (right_known job.now.sizes.boxes job.now.sizes.offers (suc job.now.sizes.lists) job.now.price.now job.now.offer_owner.now

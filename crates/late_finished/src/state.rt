@@ -1,8 +1,10 @@
 // What the calls of late bags ask of the state once 20, 21 and 9 are not met on all else: 20 and 21 of the packed totals, and 30.
-ghost use Rattle.std.specs.Prelude.{◌≡◌, suc, ◌*◌, ◌≤◌};
+ghost use Rattle.std.specs.Prelude.{◌≡◌, List, ℕ, suc, ◌*◌, ◌≤◌};
 ghost use Rattle.laws.specs.Checks.{first_met};
 ghost use Rattle.refusals.specs.Numbers.{number};
-ghost use Rattle.tables.specs.Lent.{job_held, state_held};
+ghost use Rattle.model.specs.Tables.{bag_tables};
+ghost use Rattle.tables.specs.Lent.{state_viewed};
+ghost use Rattle.step_links.specs.Links.{Some};
 ghost use Rattle.book_places.specs.Spots.{CountIn, start_by};
 ghost use Rattle.late_finished.specs.Present.{PresentState, packed_rules, state_rules};
 
@@ -14,7 +16,7 @@ use slices::limits::{GROCERS, TALLIES};
 use slices::lists::{width_of, words_at};
 use slices::sizes::Sizes;
 use step_packed::packed_refusal;
-use tables::{Job, State};
+use tables::{Job, StateView};
 
 // The packed length: a word for each box and grocer that have a total, on every list.
 fn packed_length(z: Sizes, grocer_owner: &[u16], sharers: &[u16; GROCERS]) -> usize
@@ -47,10 +49,17 @@ pub fn state_refusal(
     job: &Job,
     standing: &[u16; TALLIES],
     edited: usize,
-    state: &State,
+    state: &StateView,
 ) -> Result<(), Refusal>
-    requires { PresentState (job_held job.now) (state_held state.now) standing.now }
-    ensures { number result ≡ first_met (state_rules (job_held job.now) edited (state_held state.now)) }
+    requires { Some (λ holder. Some (λ bag. Some (λ revision. PresentState (bag_tables job.now.sizes.boxes job.now.sizes.grocers job.now.sizes.offers
+        job.now.sizes.tallies job.now.sizes.lists job.now.price.now job.now.offer_owner.now job.now.grocer_owner.now job.now.tally_grocer.now
+        holder job.now.tally_offer.now job.now.tally_count.now bag revision) (state_viewed state.now) standing.now))) }
+    ensures { (holder bag revision : List ℕ) → PresentState (bag_tables job.now.sizes.boxes job.now.sizes.grocers job.now.sizes.offers
+        job.now.sizes.tallies job.now.sizes.lists job.now.price.now job.now.offer_owner.now job.now.grocer_owner.now job.now.tally_grocer.now
+        holder job.now.tally_offer.now job.now.tally_count.now bag revision) (state_viewed state.now) standing.now →
+        number result ≡ first_met (state_rules (bag_tables job.now.sizes.boxes job.now.sizes.grocers job.now.sizes.offers
+        job.now.sizes.tallies job.now.sizes.lists job.now.price.now job.now.offer_owner.now job.now.grocer_owner.now job.now.tally_grocer.now
+        holder job.now.tally_offer.now job.now.tally_count.now bag revision) edited (state_viewed state.now)) }
 {
     let z = job.sizes;
     let sharers = job_masks::masks::sharers(z.boxes, z.tallies, standing, job.tally_grocer);

@@ -8,7 +8,7 @@ use slices::amounts::{amount, raise_at};
 use slices::limits::GROCERS;
 use slices::lists::width_of;
 use slices::{i32_at, i64_at, index_at, u16_at, u32_at};
-use tables::{Job, State};
+use tables::{Job, StateView};
 
 // Whether the first n amounts are 0.
 fn no_amounts(s: &[i64], n: usize) -> bool
@@ -88,7 +88,7 @@ fn right_statements(job: &Job, statement: &[i64]) -> bool
 
 // Whether working totals, totals in transit and statements are those of a finished run, of the tallies that boxes below K hold. The packed tables
 // have so many words.
-pub fn totals_finished(job: &Job, words: usize, state: &State) -> bool
+pub fn totals_finished(job: &Job, words: usize, state: &StateView) -> bool
     requires sums_lent { SumsLent job.now.sizes.grocers job.now.sizes.offers job.now.sizes.tallies job.now.sizes.lists job.now.tally_box.now
         job.now.tally_grocer.now job.now.tally_offer.now job.now.tally_count.now job.now.price.now state.now.statement.now }
     requires words_in_bounds { (words ≤ length state.now.working.now) × (words ≤ length state.now.total_transit.now) }

@@ -18,7 +18,7 @@ use slices::limits::{GROCERS, OFFERS, TALLIES};
 use slices::lists::{width_of, words_at};
 use step_checks::state::state_short;
 use step_places::PLACES;
-use tables::{Job, State};
+use tables::{Job, State, StateView, view};
 
 // What a run that has ended answers: words sent, messages and steps.
 #[derive(Clone, Copy)]
@@ -29,7 +29,7 @@ pub struct Finished {
 }
 
 // 20: whether a table of packed totals is shorter than all boxes have totals, on every list.
-pub fn totals_short(job: &Job, sharers: &[u16; GROCERS], state: &State) -> bool
+pub fn totals_short(job: &Job, sharers: &[u16; GROCERS], state: &StateView) -> bool
     requires { CountIn job.now.sizes.grocers job.now.grocer_owner.now sharers.now × ((job.now.sizes.boxes ≤ 16) × (job.now.sizes.lists ≤ 7)) }
     ensures { let words = start_by job.now.sizes.grocers job.now.grocer_owner.now sharers.now job.now.sizes.boxes * suc job.now.sizes.lists in
         result ≡ (ltb (length state.now.working.now) words || ltb (length state.now.total_transit.now) words) }
@@ -76,7 +76,8 @@ pub fn run(
     ensures same_slices { SameSlices state.old state.new }
 {
     let z = job.sizes;
-    if state_short(z, state) {
+    let seen = view(state);
+    if state_short(z, &seen) {
         return Err(Refusal::LentShort);
     }
     let mut standing = [0u16; TALLIES];
@@ -88,14 +89,24 @@ pub fn run(
         ..*job
     };
     let sharers = masks::sharers(z.boxes, z.tallies, handed.tally_box, job.tally_grocer);
-    if totals_short(&handed, &sharers, state) {
+    if totals_short(&handed, &sharers, &seen) {
         return Err(Refusal::LentShort);
     }
     let needs = masks::needs(z.boxes, z.tallies, handed.tally_box, job.tally_offer);
     let mut order = [0u16; PLACES];
     let n = pick_order(&handed, &needs, choices, state.done, &mut order);
     run_order::lay_order(&order, n, picked);
-    let all = run_steps::all_steps(&handed, &needs, &sharers, &order, n, state);
+    // The steps are done with no marks, and their words are counted apart.
+    let mut tables = State {
+        known: state.known,
+        price_transit: state.price_transit,
+        working: state.working,
+        total_transit: state.total_transit,
+        statement: state.statement,
+        done: &mut [],
+        sent: &mut [],
+    };
+    let all = run_steps::all_steps(&handed, &needs, &sharers, &order, n, &mut tables);
     state.sent[0] = all.words;
     Ok(Finished {
         words: all.words,

@@ -220,13 +220,19 @@ pub fn all_steps(
         tally_place: &places,
         tally_links: &tally_links,
     };
+    // The links tell the box and the owner: the walks over them are lent neither list.
+    let linked = Job {
+        tally_box: &[],
+        offer_owner: &[],
+        ..*job
+    };
     let mut sent = Sent {
         words: 0,
         messages: 0,
     };
     for i in 0..n {
         let x = step_at(z.boxes, order, i);
-        let more = one_step(job, &look, state, x);
+        let more = one_step(&linked, &look, state, x);
         sent = sent_more(sent, x.kind, more);
     }
     sent

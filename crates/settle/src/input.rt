@@ -25,14 +25,26 @@ fn read_behind<R: Read>(input: &mut R, buffer: &mut [u8], done: usize) -> io::Re
     input.read(&mut buffer[done..])
 }
 
-// Reads until the buffer is full or the input ends. How many bytes were read.
-pub fn read_input<R: Read>(input: &mut R, buffer: &mut [u8]) -> io::Result<usize>
+// A read that failed, and how many bytes were read before it.
+#[derive(Clone, Copy)]
+pub struct FailedRead {
+    pub count: usize,
+    pub error: io::Error,
+}
+
+// Reads until the buffer is full or the input ends. How many bytes were read, also where a read fails: those before it stand in the buffer.
+pub fn read_input<R: Read>(input: &mut R, buffer: &mut [u8]) -> Result<usize, FailedRead>
     ensures count { IfOk result (λ n. IsPrefixLen n buffer.new) }
+    ensures count_before { IfErr result (λ failed. IsPrefixLen failed.count buffer.new) }
+    ensures bytes_before { IfErr result (λ failed. Consumes (R.remaining input.old) (R.remaining input.new) (take failed.count buffer.new)) }
     ensures first_bytes { IfOk result (λ n. IfSome (R.remaining input.old) (λ bytes. BytesRead bytes buffer.new n)) }
 {
     let mut done: usize = 0;
     while done < buffer.len() {
-        let count = read_behind(input, buffer, done)?;
+        let count = match read_behind(input, buffer, done) {
+            Ok(count) => count,
+            Err(error) => return Err(FailedRead { count: done, error }),
+        };
         if count == 0 {
             return Ok(done);
         }
@@ -66,7 +78,7 @@ pub fn settle_input<R: Read, W: Write>(input: &mut R, output: &mut W) -> Result<
         (λ failure. KeepsIfUnread failure (W.contents output.old) (W.contents output.new)) }
 {
     let mut buffer = [0u8; INPUT];
-    let n = read_input(input, &mut buffer).map_err(Failure::Unread)?;
+    let n = read_input(input, &mut buffer).map_err(|failed| Failure::Unread(failed.error))?;
     let mut out = [0u8; TEXT];
     let n = settled_input(&buffer, n, &mut out);
     output.write_all(&out[..n]).map_err(Failure::Unwritten)

@@ -21,7 +21,7 @@ use step_places::Step;
 use step_refusal::{price_refusal, total_refusal};
 use step_rules::marks::mark;
 use step_sent::raise;
-use tables::{Job, State};
+use tables::{Job, State, view};
 
 // A step of kind 1, 2 or 3, on the offers listed: tallies are linked by the box that counts them, which `job` has in place of theirs and is 16 for
 // superseded ones, and the owner of their offer, and the step is applied. The words sent.
@@ -53,8 +53,14 @@ fn move_prices(
         job.offer_owner,
         &mut links,
     );
+    // The links tell the box and the owner: the walk over them is lent neither list.
+    let linked = Job {
+        tally_box: &[],
+        offer_owner: &[],
+        ..*job
+    };
     price_step(
-        job,
+        &linked,
         span.from,
         span.to,
         offers,
@@ -75,7 +81,14 @@ fn step_of_prices(job: &Job, state: &mut State, x: Step) -> Result<(), Refusal>
     let mut standing = [0u16; TALLIES];
     let mut offers = [0u16; OFFERS];
     let mut places = [0u16; TALLIES];
-    let span = price_refusal(job, state, &mut offers, &mut places, &mut standing, x)?;
+    let span = price_refusal(
+        job,
+        &view(state),
+        &mut offers,
+        &mut places,
+        &mut standing,
+        x,
+    )?;
     mark(job.sizes.boxes, x.kind, x.first, x.second, state.done);
     let counted = Job {
         tally_box: &standing,
@@ -97,7 +110,7 @@ fn step_of_totals(job: &Job, state: &mut State, x: Step) -> Result<(), Refusal>
 {
     let mut standing = [0u16; TALLIES];
     let mut grocers = [0u16; TOTALS];
-    let span = total_refusal(job, state, &mut grocers, &mut standing, x)?;
+    let span = total_refusal(job, &view(state), &mut grocers, &mut standing, x)?;
     mark(job.sizes.boxes, x.kind, x.first, x.second, state.done);
     let width = width_of(job.sizes.lists);
     let more = total_step(x.kind, span.from, span.to, width, &grocers, state);

@@ -7,7 +7,7 @@ use slices::lists::{span_words, width_of};
 use step_places::Step;
 use step_row::{Part, products_fit};
 use step_sent::sent_fits;
-use tables::{Job, State};
+use tables::{Job, StateView};
 
 // Kinds 1 to 3: whether what the step leaves is in range, with so many offers in its message. `job` has the boxes that count in place of the tallies'. The
 // span of the first box's totals, and the places of its tallies, are looked at for kinds 2 and 3 alone.
@@ -17,7 +17,7 @@ pub fn price_fits(
     to: usize,
     offers: usize,
     tally_place: &[u16],
-    state: &State,
+    state: &StateView,
     x: Step,
 ) -> bool
     requires { PriceFitsIn (tallies job.now.sizes.boxes job.now.sizes.offers job.now.sizes.tallies job.now.offer_owner.now tally_place.now

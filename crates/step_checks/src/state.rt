@@ -10,10 +10,10 @@ use slices::limits::{MAX_PRICE, MAX_SENT};
 use slices::lists::{box_words, list_words};
 use slices::sizes::Sizes;
 use step_packed::in_range::around64;
-use tables::State;
+use tables::StateView;
 
 // 20: whether a table of the state but the packed totals is shorter than K, M, N and the number of lists as given need.
-pub fn state_short(z: Sizes, state: &State) -> bool
+pub fn state_short(z: Sizes, state: &StateView) -> bool
     ensures { (working totals : List ℤ) → result ≡ state_short (sizes z.boxes z.grocers z.offers z.lists)
         (state_lengths (state_tables state.now.known.now state.now.price_transit.now working totals state.now.statement.now
         state.now.done.now state.now.sent.now)) }
@@ -29,7 +29,7 @@ pub fn state_short(z: Sizes, state: &State) -> bool
 }
 
 // 21: whether every word of the state's tables but the packed totals is in range.
-pub fn state_in_range(z: Sizes, state: &State) -> bool
+pub fn state_in_range(z: Sizes, state: &StateView) -> bool
     requires { state_short (sizes z.boxes z.grocers z.offers z.lists)
         (state_lengths (state_tables state.now.known.now state.now.price_transit.now [] [] state.now.statement.now
         state.now.done.now state.now.sent.now)) ≡ false }

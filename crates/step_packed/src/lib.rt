@@ -16,7 +16,7 @@ use refusals::Refusal;
 use slices::amounts::plus;
 use slices::limits::MAX_SENT;
 use slices::{i64_at, index_at, u32_at};
-use tables::State;
+use tables::StateView;
 
 pub mod in_range;
 
@@ -85,7 +85,7 @@ pub fn total_fits(
     to: usize,
     width: usize,
     grocers: &[u16],
-    state: &State,
+    state: &StateView,
 ) -> bool
     requires { TotalFitsIn from to width grocers.now state.now.working.now state.now.total_transit.now state.now.statement.now
         state.now.sent.now kind }

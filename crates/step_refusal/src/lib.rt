@@ -7,7 +7,7 @@ ghost use Rattle.laws.specs.Listed.{Listed};
 ghost use Rattle.model.specs.Tables.{state_tables, steps_done};
 ghost use Rattle.model.specs.Step.{asked, step_refusal};
 ghost use Rattle.refusals.specs.Numbers.{number};
-ghost use Rattle.tables.specs.Lent.{job_held, state_held};
+ghost use Rattle.tables.specs.Lent.{job_held, state_viewed};
 ghost use Rattle.job_masks.specs.Masks.{Owned, by_owner};
 ghost use Rattle.step_waits.specs.Waits.{tally_lists, WaitsIn, wait_table};
 ghost use Rattle.step_checks.specs.Request.{rules_by};
@@ -31,11 +31,15 @@ use step_packed::{packed_refusal, total_fits};
 use step_places::Step;
 use step_prices::list::list_message;
 use step_waits::waits;
-use tables::{Job, State};
+use tables::{Job, StateView};
 
 // The first of the conditions 20, 21 and 9 that is met on all else than the packed tables. Where none is, `standing` has the box of each
 // tally that stands, and 16 for the others.
-pub fn early_refusal(job: &Job, state: &State, standing: &mut [u16; TALLIES]) -> Result<(), Refusal>
+pub fn early_refusal(
+    job: &Job,
+    state: &StateView,
+    standing: &mut [u16; TALLIES],
+) -> Result<(), Refusal>
     ensures { (working totals : List ℤ) → Early (job_held job.now) (state_tables state.now.known.now state.now.price_transit.now
         working totals state.now.statement.now state.now.done.now state.now.sent.now) standing.new (number result) }
 {
@@ -62,11 +66,11 @@ pub fn early_refusal(job: &Job, state: &State, standing: &mut [u16; TALLIES]) ->
 // `standing` has the box of each tally that stands, and 16 for the others.
 fn tables_refusal(
     job: &Job,
-    state: &State,
+    state: &StateView,
     standing: &mut [u16; TALLIES],
 ) -> Result<[u16; GROCERS], Refusal>
-    ensures number_is { number result ≡ first_met (table_rules (job_held job.now) (state_held state.now)) }
-    ensures tested { IfOk result (λ sharers. Tested (job_held job.now) (state_held state.now) standing.new sharers 0) }
+    ensures number_is { number result ≡ first_met (table_rules (job_held job.now) (state_viewed state.now)) }
+    ensures tested { IfOk result (λ sharers. Tested (job_held job.now) (state_viewed state.now) standing.new sharers 0) }
 {
     early_refusal(job, state, standing)?;
     let z = job.sizes;
@@ -160,15 +164,15 @@ fn message_offers(job: &Job, needs: &[u16; OFFERS], offers: &mut [u16], x: Step)
 // `standing` has the boxes of the tallies that stand, with 16 for the others, and `places` the places of the first box's tallies for kinds 2 and 3.
 pub fn price_refusal(
     job: &Job,
-    state: &State,
+    state: &StateView,
     offers: &mut [u16],
     places: &mut [u16; TALLIES],
     standing: &mut [u16; TALLIES],
     x: Step,
 ) -> Result<Span, Refusal>
     requires { (x.kind ≤ 3) × (500 ≤ length offers.old) }
-    ensures number_is { number result ≡ step_refusal (job_held job.now) (state_held state.now) (asked x.kind x.first x.second) }
-    ensures decided { IfOk result (λ span. Decided (job_held job.now) (state_held state.now) (asked x.kind x.first x.second) places.new
+    ensures number_is { number result ≡ step_refusal (job_held job.now) (state_viewed state.now) (asked x.kind x.first x.second) }
+    ensures decided { IfOk result (λ span. Decided (job_held job.now) (state_viewed state.now) (asked x.kind x.first x.second) places.new
         span.from span.to offers.new standing.new 0) }
 {
     let sharing = tables_refusal(job, state, standing)?;
@@ -194,14 +198,14 @@ pub fn price_refusal(
 // Kinds 4 to 6, likewise: the step's span. `grocers` has the grocer of each place of it.
 pub fn total_refusal(
     job: &Job,
-    state: &State,
+    state: &StateView,
     grocers: &mut [u16],
     standing: &mut [u16; TALLIES],
     x: Step,
 ) -> Result<Span, Refusal>
     requires { (4 ≤ x.kind) × (1_255 ≤ length grocers.old) }
-    ensures number_is { number result ≡ step_refusal (job_held job.now) (state_held state.now) (asked x.kind x.first x.second) }
-    ensures decided { IfOk result (λ span. Decided (job_held job.now) (state_held state.now) (asked x.kind x.first x.second) []
+    ensures number_is { number result ≡ step_refusal (job_held job.now) (state_viewed state.now) (asked x.kind x.first x.second) }
+    ensures decided { IfOk result (λ span. Decided (job_held job.now) (state_viewed state.now) (asked x.kind x.first x.second) []
         span.from span.to grocers.new standing.new 0) }
 {
     let sharing = tables_refusal(job, state, standing)?;

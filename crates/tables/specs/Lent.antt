@@ -2,6 +2,7 @@
 use Rattle.std.specs.Prelude.{◌≡◌}
 use Rattle.tables.specs.declared.Job.{Job}
 use Rattle.tables.specs.declared.State.{State}
+use Rattle.tables.specs.declared.StateView.{StateView}
 use Rattle.model.specs.Tables.{JobTables, bag_tables, StateTables, state_tables}
 
 -- What the job's tables hold.
@@ -13,6 +14,10 @@ job_held j =
 -- What the state's tables hold.
 abbrev pub state_held : State → StateTables
 state_held s = state_tables s.known.now s.price_transit.now s.working.now s.total_transit.now s.statement.now s.done.now s.sent.now
+
+-- The same of a state that is lent to be read.
+abbrev pub state_viewed : StateView → StateTables
+state_viewed s = state_tables s.known.now s.price_transit.now s.working.now s.total_transit.now s.statement.now s.done.now s.sent.now
 
 -- The seven slices of a state are the same memory before and after: only what stands in them may differ.
 pub record SameSlices (before after : State) : Type 0 where

@@ -1,6 +1,9 @@
 // The tables of a job and of a state, as they are lent.
 #![tactic(auto)]
 
+ghost use Rattle.std.specs.Prelude.{◌≡◌};
+ghost use Rattle.tables.specs.Lent.{state_held, state_viewed};
+
 use slices::sizes::Sizes;
 
 // The job's tables: its sizes, and nine lent slices. No call writes them.
@@ -28,4 +31,31 @@ pub struct State<'a> {
     pub statement: &'a mut [i64],
     pub done: &'a mut [u16],
     pub sent: &'a mut [u32],
+}
+
+// The same seven slices, lent to be read: for calls that write none of them.
+#[derive(Clone, Copy)]
+pub struct StateView<'a> {
+    pub known: &'a [u32],
+    pub price_transit: &'a [u32],
+    pub working: &'a [i64],
+    pub total_transit: &'a [i64],
+    pub statement: &'a [i64],
+    pub done: &'a [u16],
+    pub sent: &'a [u32],
+}
+
+// The state's tables, lent to be read.
+pub fn view<'a>(state: &'a State) -> StateView<'a>
+    ensures { state_viewed result ≡ state_held state.now }
+{
+    StateView {
+        known: state.known,
+        price_transit: state.price_transit,
+        working: state.working,
+        total_transit: state.total_transit,
+        statement: state.statement,
+        done: state.done,
+        sent: state.sent,
+    }
 }

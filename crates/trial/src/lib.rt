@@ -19,7 +19,7 @@ use run_ready::Rules;
 use slices::limits::{OFFERS, TALLIES};
 use step_checks::state::state_short;
 use step_places::{KINDS, PLACES};
-use tables::{Job, State};
+use tables::{Job, State, view};
 use trial_rounds::Rounds;
 
 // 20: whether the preference list has fewer than six words, or the table of idle rounds fewer than K.
@@ -69,7 +69,8 @@ pub fn trial(
     ensures same_slices { SameSlices state.old state.new }
 {
     let z = job.sizes;
-    if state_short(z, state) | lists_short(z.boxes, preferences.len(), idle.len()) {
+    let seen = view(state);
+    if state_short(z, &seen) | lists_short(z.boxes, preferences.len(), idle.len()) {
         return Err(Refusal::LentShort);
     }
     let mut standing = [0u16; TALLIES];
@@ -81,7 +82,7 @@ pub fn trial(
         ..*job
     };
     let sharers = masks::sharers(z.boxes, z.tallies, handed.tally_box, job.tally_grocer);
-    if totals_short(&handed, &sharers, state) {
+    if totals_short(&handed, &sharers, &seen) {
         return Err(Refusal::LentShort);
     }
     if !trial_rounds::is_preference(preferences) {
@@ -92,7 +93,17 @@ pub fn trial(
     let taken = pick_rounds(&handed, &needs, preferences, state.done, &mut order);
     run_order::lay_order(&order, taken.steps, picked);
     trial_rounds::idle_rounds(z.boxes, &order, taken.steps, taken.rounds, idle);
-    let all = run_steps::all_steps(&handed, &needs, &sharers, &order, taken.steps, state);
+    // The steps are done with no marks, and their words are counted apart.
+    let mut tables = State {
+        known: state.known,
+        price_transit: state.price_transit,
+        working: state.working,
+        total_transit: state.total_transit,
+        statement: state.statement,
+        done: &mut [],
+        sent: &mut [],
+    };
+    let all = run_steps::all_steps(&handed, &needs, &sharers, &order, taken.steps, &mut tables);
     state.sent[0] = all.words;
     Ok(u32::from(taken.rounds))
 }

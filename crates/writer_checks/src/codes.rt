@@ -1,13 +1,14 @@
 // 7, 8 and 9: the numbers of the names, and the tallies' bags.
-ghost use Rattle.std.specs.Prelude.{◌≡◌, true, false, cond, [], ◌∷◌, ◌+◌, ◌*◌, ◌≤◌, ◌<◌, length, OnOk, MatchOption};
+ghost use Rattle.std.specs.Prelude.{◌≡◌, true, cond, [], ◌∷◌, ◌+◌, ◌*◌, ◌≤◌, ◌<◌, length, OnOk, MatchOption};
 ghost use Rattle.refusals.specs.Numbers.{number};
 ghost use Rattle.laws.specs.Checks.{first_met};
 ghost use Rattle.recount.specs.Recount.{counted_twice};
-ghost use Rattle.format.specs.Job.{place_of, shared, unnamed, counted_tallies};
-ghost use Rattle.format.specs.Tables.{LongTallies};
+ghost use Rattle.format.specs.Codes.{is_code};
+ghost use Rattle.format.specs.Job.{FileJob, place_of, shared, unnamed, counted_tallies};
+ghost use Rattle.format.specs.Tables.{code_of};
 ghost use Rattle.file_blocks.specs.Fills.{Placed};
 ghost use Rattle.index_lookup.specs.Digits.{TopsOf};
-ghost use Rattle.writer_checks.specs.Held.{tallies_held, job_held, NamesHeld, KeyedHeld, FindsHeld};
+ghost use Rattle.writer_checks.specs.Held.{job_held, NamesHeld, KeyedBy, FindsBy, HasNamesOf, HasBagsOf};
 ghost use Rattle.writer_checks.specs.Rows.{Codes, Indexed};
 
 use crate::Tables;
@@ -39,12 +40,13 @@ fn find_place(
     tops: &TopDigits,
     i: usize,
 ) -> Option<usize>
-    requires names { NamesHeld tables.now × FindsHeld tables.now keys.now order.now }
-    requires long { (tables.now.head.sizes.offers ≤ length keys.now) × (tables.now.head.sizes.offers ≤ length order.now) }
+    requires n_bound { (tables.now.head.sizes.offers ≤ 500) × ((tables.now.head.sizes.offers ≤ length keys.now) ×
+        (tables.now.head.sizes.offers ≤ length order.now)) }
     requires tops { TopsOf tops.now keys.now tables.now.head.sizes.offers }
-    requires i_bound { i < tables.now.head.sizes.tallies }
-    ensures { MatchOption result (place_of (job_held tables.now) i ≡ tables.now.head.sizes.offers)
-        (λ p. (place_of (job_held tables.now) i ≡ p) × (p < tables.now.head.sizes.offers)) }
+    requires i_in_bounds { (i * 11 + 11 ≤ length tables.now.tally_code.now) × (i < length tables.now.tally_issuer.now) ×
+        (is_code (code_of tables.now.tally_code.now i) ≡ true) }
+    ensures { (j : FileJob) → FindsBy j tables.now keys.now order.now →
+        MatchOption result (place_of j i ≡ tables.now.head.sizes.offers) (λ p. (place_of j i ≡ p) × (p < tables.now.head.sizes.offers)) }
 {
     let n = usize::from(tables.head.sizes.offers);
     let number = number_of(tables.tally_code, tables.tally_issuer, i);
@@ -59,12 +61,16 @@ fn find_places(
     tops: &TopDigits,
     places: &mut [u16],
 ) -> Result<(), Refusal>
-    requires names { NamesHeld tables.now × FindsHeld tables.now keys.now order.now }
-    requires long { (tables.now.head.sizes.offers ≤ length keys.now) × (tables.now.head.sizes.offers ≤ length order.now) }
+    requires n_bound { (tables.now.head.sizes.offers ≤ 500) × ((tables.now.head.sizes.offers ≤ length keys.now) ×
+        (tables.now.head.sizes.offers ≤ length order.now)) }
+    requires finds { FindsBy (job_held tables.now) tables.now keys.now order.now }
     requires tops { TopsOf tops.now keys.now tables.now.head.sizes.offers }
-    requires room { tables.now.head.sizes.tallies ≤ length places.old }
-    ensures value { number result ≡ cond (unnamed (job_held tables.now)) 8 0 }
-    ensures placed { OnOk result (Placed (job_held tables.now) places.new tables.now.head.sizes.tallies) }
+    requires t_in_bounds { (tables.now.head.sizes.tallies * 11 ≤ length tables.now.tally_code.now) ×
+        (tables.now.head.sizes.tallies ≤ length tables.now.tally_issuer.now) × Codes tables.now.tally_code.now tables.now.head.sizes.tallies }
+    requires t_in_bounds_2 { tables.now.head.sizes.tallies ≤ length places.old }
+    ensures value { (j : FileJob) → FindsBy j tables.now keys.now order.now → j.head.tallies ≡ tables.now.head.sizes.tallies →
+        number result ≡ cond (unnamed j) 8 0 }
+    ensures placed { (j : FileJob) → FindsBy j tables.now keys.now order.now → OnOk result (Placed j places.new tables.now.head.sizes.tallies) }
 {
     for i in 0..usize::from(tables.head.sizes.tallies) {
         match find_place(tables, keys, order, tops, i) {
@@ -82,11 +88,14 @@ fn look_refusal(
     order: &[u16],
     places: &mut [u16],
 ) -> Result<(), Refusal>
-    requires names { NamesHeld tables.now × KeyedHeld tables.now keys.now order.now }
-    requires long { (tables.now.head.sizes.offers ≤ length keys.now) × (tables.now.head.sizes.offers ≤ length order.now) }
-    requires room { tables.now.head.sizes.tallies ≤ length places.old }
-    ensures value { number result ≡ first_met ((shared (job_held tables.now), 7) ∷ (unnamed (job_held tables.now), 8) ∷ []) }
-    ensures placed { OnOk result (Placed (job_held tables.now) places.new tables.now.head.sizes.tallies) }
+    requires n_bound { (tables.now.head.sizes.offers ≤ 500) × ((tables.now.head.sizes.offers ≤ length keys.now) ×
+        (tables.now.head.sizes.offers ≤ length order.now)) }
+    requires keyed { KeyedBy (job_held tables.now) tables.now keys.now order.now }
+    requires t_in_bounds { (tables.now.head.sizes.tallies * 11 ≤ length tables.now.tally_code.now) ×
+        (tables.now.head.sizes.tallies ≤ length tables.now.tally_issuer.now) × Codes tables.now.tally_code.now tables.now.head.sizes.tallies }
+    requires t_in_bounds_2 { tables.now.head.sizes.tallies ≤ length places.old }
+    ensures value { (j : FileJob) → KeyedBy j tables.now keys.now order.now → number result ≡ first_met ((shared j, 7) ∷ (unnamed j, 8) ∷ []) }
+    ensures placed { (j : FileJob) → KeyedBy j tables.now keys.now order.now → OnOk result (Placed j places.new tables.now.head.sizes.tallies) }
 {
     let n = usize::from(tables.head.sizes.offers);
     if index::look::shared(keys, n) {
@@ -98,10 +107,10 @@ fn look_refusal(
 
 // The same by the names of the offers and of the tallies.
 fn names_refusal(tables: &Tables, places: &mut [u16]) -> Result<(), Refusal>
-    requires names { NamesHeld tables.now }
-    requires room { tables.now.head.sizes.tallies ≤ length places.old }
-    ensures value { number result ≡ first_met ((shared (job_held tables.now), 7) ∷ (unnamed (job_held tables.now), 8) ∷ []) }
-    ensures placed { OnOk result (Placed (job_held tables.now) places.new tables.now.head.sizes.tallies) }
+    requires names_in { NamesHeld tables.now }
+    requires tallies_in_bounds { tables.now.head.sizes.tallies ≤ length places.old }
+    ensures value { (j : FileJob) → HasNamesOf j tables.now → number result ≡ first_met ((shared j, 7) ∷ (unnamed j, 8) ∷ []) }
+    ensures placed { (j : FileJob) → HasNamesOf j tables.now → OnOk result (Placed j places.new tables.now.head.sizes.tallies) }
 {
     let n = usize::from(tables.head.sizes.offers);
     let mut keys = [0u64; OFFERS];
@@ -118,10 +127,11 @@ fn names_refusal(tables: &Tables, places: &mut [u16]) -> Result<(), Refusal>
 
 // 7, 8, 9 or no refusal, by the names of the offers and by the tallies.
 pub fn last_refusal(tables: &Tables) -> Result<(), Refusal>
-    requires names { NamesHeld tables.now }
-    requires long { LongTallies tables.now.head.sizes.tallies (tallies_held tables.now) }
-    ensures { number result ≡ first_met ((shared (job_held tables.now), 7) ∷ (unnamed (job_held tables.now), 8)
-        ∷ (counted_twice (counted_tallies (job_held tables.now)), 9) ∷ []) }
+    requires names_in { NamesHeld tables.now }
+    requires tallies_in_bounds { (tables.now.head.sizes.tallies ≤ length tables.now.tally_grocer.now) ×
+        (tables.now.head.sizes.tallies ≤ length tables.now.tally_bag.now) × (tables.now.head.sizes.tallies ≤ length tables.now.tally_revision.now) }
+    ensures { (j : FileJob) → HasNamesOf j tables.now → HasBagsOf j tables.now →
+        number result ≡ first_met ((shared j, 7) ∷ (unnamed j, 8) ∷ (counted_twice (counted_tallies j), 9) ∷ []) }
 {
     let mut places = [0u16; TALLIES];
     names_refusal(tables, &mut places)?;

@@ -29,7 +29,7 @@ returns-in_err-edit-clause-added c =
     let some : 0 < number_of c.in_err-edit.field-0.0 = number_positive c.in_err-edit.field-0.0 in
     rw (p.1, p.2) (
     add_refused head reader state tally (number_of c.in_err-edit.field-0.0)
-    (c.in_err-edit.ensures.met ∙ ap₂ (λ (z : Sizes) (r : ReaderTables). first_met (add_rules (sizes_head z) r (state_held c.args.state.now) (tally_with c.args.x c.args.code.now))) c.lent-present.ensures.0
+    ((rw c.view.ensures at c.in_err-edit.ensures.met) ∙ ap₂ (λ (z : Sizes) (r : ReaderTables). first_met (add_rules (sizes_head z) r state tally)) c.lent-present.ensures.0
     c.lent-present.ensures.1) (λ z. omega (arith, some, z))
     )
 
@@ -39,7 +39,7 @@ edit_all-requires-clause-n_bound c =
     let head = sizes_head c.args.sizes in
     let state = state_held c.args.state.now in
     let tally = tally_with c.args.x c.args.code.now in
-    let met = c.in_ok-edit.ensures.met ∙ ap₂ (λ (z : Sizes) (r : ReaderTables). first_met (add_rules (sizes_head z) r (state_held c.args.state.now) (tally_with c.args.x c.args.code.now))) c.lent-present.ensures.0 c.lent-present.ensures.1 in
+    let met = (rw c.view.ensures at c.in_ok-edit.ensures.met) ∙ ap₂ (λ (z : Sizes) (r : ReaderTables). first_met (add_rules (sizes_head z) r state tally)) c.lent-present.ensures.0 c.lent-present.ensures.1 in
     let few : c.args.sizes.tallies < 1000 = add_few head reader state tally 0 met refl in
     (omega arith, few)
 
@@ -49,7 +49,7 @@ edit_all-requires-clause-long c =
     let head = sizes_head c.args.sizes in
     let state = state_held c.args.state.now in
     let tally = tally_with c.args.x c.args.code.now in
-    let met = c.in_ok-edit.ensures.met ∙ ap₂ (λ (z : Sizes) (r : ReaderTables). first_met (add_rules (sizes_head z) r (state_held c.args.state.now) (tally_with c.args.x c.args.code.now))) c.lent-present.ensures.0 c.lent-present.ensures.1 in
+    let met = (rw c.view.ensures at c.in_ok-edit.ensures.met) ∙ ap₂ (λ (z : Sizes) (r : ReaderTables). first_met (add_rules (sizes_head z) r state tally)) c.lent-present.ensures.0 c.lent-present.ensures.1 in
     add_long head reader state tally 0 met refl
 
 pub edit_all-requires-clause-places : goal.edit_all-requires-clause-places
@@ -58,7 +58,7 @@ edit_all-requires-clause-places c =
     let head = sizes_head c.args.sizes in
     let state = state_held c.args.state.now in
     let tally = tally_with c.args.x c.args.code.now in
-    let met = c.in_ok-edit.ensures.met ∙ ap₂ (λ (z : Sizes) (r : ReaderTables). first_met (add_rules (sizes_head z) r (state_held c.args.state.now) (tally_with c.args.x c.args.code.now))) c.lent-present.ensures.0 c.lent-present.ensures.1 in
+    let met = (rw c.view.ensures at c.in_ok-edit.ensures.met) ∙ ap₂ (λ (z : Sizes) (r : ReaderTables). first_met (add_rules (sizes_head z) r state tally)) c.lent-present.ensures.0 c.lent-present.ensures.1 in
     add_places head reader state tally 0 met refl
 
 pub overflow_add-edited : goal.overflow_add-edited
@@ -67,7 +67,7 @@ overflow_add-edited c =
     let head = sizes_head c.args.sizes in
     let state = state_held c.args.state.now in
     let tally = tally_with c.args.x c.args.code.now in
-    let met = c.in_ok-edit.ensures.met ∙ ap₂ (λ (z : Sizes) (r : ReaderTables). first_met (add_rules (sizes_head z) r (state_held c.args.state.now) (tally_with c.args.x c.args.code.now))) c.lent-present.ensures.0 c.lent-present.ensures.1 in
+    let met = (rw c.view.ensures at c.in_ok-edit.ensures.met) ∙ ap₂ (λ (z : Sizes) (r : ReaderTables). first_met (add_rules (sizes_head z) r state tally)) c.lent-present.ensures.0 c.lent-present.ensures.1 in
     let few : c.args.sizes.tallies < 1000 = add_few head reader state tally 0 met refl in
     omega (arith, few)
 
@@ -77,7 +77,7 @@ returns-clause-added c =
     let head = sizes_head c.args.sizes in
     let state = state_held c.args.state.now in
     let tally = tally_with c.args.x c.args.code.now in
-    let met = c.in_ok-edit.ensures.met ∙ ap₂ (λ (z : Sizes) (r : ReaderTables). first_met (add_rules (sizes_head z) r (state_held c.args.state.now) (tally_with c.args.x c.args.code.now))) c.lent-present.ensures.0 c.lent-present.ensures.1 in
+    let met = (rw c.view.ensures at c.in_ok-edit.ensures.met) ∙ ap₂ (λ (z : Sizes) (r : ReaderTables). first_met (add_rules (sizes_head z) r state tally)) c.lent-present.ensures.0 c.lent-present.ensures.1 in
     let place_is = c.in_ok-edit.ensures.place
     ∙ ap₂ (λ (z : Sizes) (r : ReaderTables). place_found (sizes_head z) r (tally_with c.args.x c.args.code.now)) c.lent-present.ensures.0 c.lent-present.ensures.1 in
     c.run_edited.ensures.ran

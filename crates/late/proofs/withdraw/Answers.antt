@@ -29,7 +29,7 @@ returns-in_err-withdraw_refusal-clause-withdrawn c =
     let some : 0 < number_of c.in_err-withdraw_refusal.field-0.0 = number_positive c.in_err-withdraw_refusal.field-0.0 in
     rw (p.1, p.2) (
     withdraw_refused head reader state c.args.place (number_of c.in_err-withdraw_refusal.field-0.0)
-    (c.in_err-withdraw_refusal.ensures ∙ ap₂ (λ (z : Sizes) (r : ReaderTables). first_met (withdraw_rules (sizes_head z) r (state_held c.args.state.now) c.args.place)) c.lent-present.ensures.0 c.lent-present.ensures.1) (λ z.
+    ((rw c.view.ensures at c.in_err-withdraw_refusal.ensures) ∙ ap₂ (λ (z : Sizes) (r : ReaderTables). first_met (withdraw_rules (sizes_head z) r state c.args.place)) c.lent-present.ensures.0 c.lent-present.ensures.1) (λ z.
     omega (arith, some, z))
     )
 
@@ -38,7 +38,7 @@ overflow_sub-edited c =
     let reader = reader_now c.args.tables.now in
     let head = sizes_head c.args.sizes in
     let state = state_held c.args.state.now in
-    let met = c.in_ok-withdraw_refusal.ensures ∙ ap₂ (λ (z : Sizes) (r : ReaderTables). first_met (withdraw_rules (sizes_head z) r (state_held c.args.state.now) c.args.place)) c.lent-present.ensures.0 c.lent-present.ensures.1 in
+    let met = (rw c.view.ensures at c.in_ok-withdraw_refusal.ensures) ∙ ap₂ (λ (z : Sizes) (r : ReaderTables). first_met (withdraw_rules (sizes_head z) r state c.args.place)) c.lent-present.ensures.0 c.lent-present.ensures.1 in
     let there : c.args.place < c.args.sizes.tallies = withdraw_there head reader state c.args.place 0 met refl in
     omega (arith, there)
 
@@ -47,7 +47,7 @@ edit_all-requires-clause-n_bound c =
     let reader = reader_now c.args.tables.now in
     let head = sizes_head c.args.sizes in
     let state = state_held c.args.state.now in
-    let met = c.in_ok-withdraw_refusal.ensures ∙ ap₂ (λ (z : Sizes) (r : ReaderTables). first_met (withdraw_rules (sizes_head z) r (state_held c.args.state.now) c.args.place)) c.lent-present.ensures.0 c.lent-present.ensures.1 in
+    let met = (rw c.view.ensures at c.in_ok-withdraw_refusal.ensures) ∙ ap₂ (λ (z : Sizes) (r : ReaderTables). first_met (withdraw_rules (sizes_head z) r state c.args.place)) c.lent-present.ensures.0 c.lent-present.ensures.1 in
     let there : c.args.place < c.args.sizes.tallies = withdraw_there head reader state c.args.place 0 met refl in
     let few : c.args.sizes.tallies ≤ 1000 = withdraw_few head reader state c.args.place 0 met refl in
     (omega (arith, there), omega (arith, there, few))
@@ -57,7 +57,7 @@ edit_all-requires-clause-long c =
     let reader = reader_now c.args.tables.now in
     let head = sizes_head c.args.sizes in
     let state = state_held c.args.state.now in
-    let met = c.in_ok-withdraw_refusal.ensures ∙ ap₂ (λ (z : Sizes) (r : ReaderTables). first_met (withdraw_rules (sizes_head z) r (state_held c.args.state.now) c.args.place)) c.lent-present.ensures.0 c.lent-present.ensures.1 in
+    let met = (rw c.view.ensures at c.in_ok-withdraw_refusal.ensures) ∙ ap₂ (λ (z : Sizes) (r : ReaderTables). first_met (withdraw_rules (sizes_head z) r state c.args.place)) c.lent-present.ensures.0 c.lent-present.ensures.1 in
     let there : c.args.place < c.args.sizes.tallies = withdraw_there head reader state c.args.place 0 met refl in
     let same : c.args.sizes.tallies - 1 + 1 ≡ c.args.sizes.tallies = omega (arith, there) in
     rw same (withdraw_long head reader state c.args.place 0 met refl)
@@ -67,7 +67,7 @@ edit_all-requires-clause-places c =
     let reader = reader_now c.args.tables.now in
     let head = sizes_head c.args.sizes in
     let state = state_held c.args.state.now in
-    let met = c.in_ok-withdraw_refusal.ensures ∙ ap₂ (λ (z : Sizes) (r : ReaderTables). first_met (withdraw_rules (sizes_head z) r (state_held c.args.state.now) c.args.place)) c.lent-present.ensures.0 c.lent-present.ensures.1 in
+    let met = (rw c.view.ensures at c.in_ok-withdraw_refusal.ensures) ∙ ap₂ (λ (z : Sizes) (r : ReaderTables). first_met (withdraw_rules (sizes_head z) r state c.args.place)) c.lent-present.ensures.0 c.lent-present.ensures.1 in
     let there : c.args.place < c.args.sizes.tallies = withdraw_there head reader state c.args.place 0 met refl in
     let places = withdraw_places head reader state c.args.place 0 met refl in
     omega (arith, there, places)
@@ -77,7 +77,7 @@ returns-clause-withdrawn c =
     let reader = reader_now c.args.tables.now in
     let head = sizes_head c.args.sizes in
     let state = state_held c.args.state.now in
-    let met = c.in_ok-withdraw_refusal.ensures ∙ ap₂ (λ (z : Sizes) (r : ReaderTables). first_met (withdraw_rules (sizes_head z) r (state_held c.args.state.now) c.args.place)) c.lent-present.ensures.0 c.lent-present.ensures.1 in
+    let met = (rw c.view.ensures at c.in_ok-withdraw_refusal.ensures) ∙ ap₂ (λ (z : Sizes) (r : ReaderTables). first_met (withdraw_rules (sizes_head z) r state c.args.place)) c.lent-present.ensures.0 c.lent-present.ensures.1 in
     c.run_edited.ensures.ran
     ∙ withdrawn head reader state c.args.place 0 met refl _
     (edited_is c.args.tables.now _ c.args.place (c.args.sizes.tallies - 1) _ (from (replicate 11 0) 0) c.edit_all.ensures.kept c.edit_all.ensures.left

@@ -3,7 +3,7 @@ use mathlib.Core.Path.{refl}
 use Rattle.std.proofs.lemmas.Result.{err_from_is_err_and}
 use Rattle.model.specs.Step.{asked}
 use Rattle.refusals.proofs.Numbers.{number_positive}
-use Rattle.tables.specs.Lent.{job_held, state_held}
+use Rattle.tables.specs.Lent.{job_held, state_viewed}
 use Rattle.step_refusal.proofs.Base.{tables_met, marks_bound, few_lists}
 use Rattle.step_refusal.proofs.Totalled.{waits_asked, asked_met, span_in, span_room, fits_in, late_met, none_met}
 use Rattle.step_refusal.proofs.total_refusal.Goals as goal
@@ -12,7 +12,7 @@ pub returns-in_err-sharing-clause-number_is : goal.returns-in_err-sharing-clause
 returns-in_err-sharing-clause-number_is c =
     let x = c.args.x in
     let p = err_from_is_err_and c.from_residual.result c.from_residual.ensures.1 in
-    rw (p.1, p.2) (tables_met (job_held c.args.job.now) (state_held c.args.state.now) (asked x.kind x.first x.second) _ c.in_err-sharing.ensures.number_is (number_positive _))
+    rw (p.1, p.2) (tables_met (job_held c.args.job.now) (state_viewed c.args.state.now) (asked x.kind x.first x.second) _ c.in_err-sharing.ensures.number_is (number_positive _))
 
 pub totals_asked-requires-clause-waits_in : goal.totals_asked-requires-clause-waits_in
 totals_asked-requires-clause-waits_in c =

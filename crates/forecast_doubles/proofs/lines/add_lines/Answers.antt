@@ -27,10 +27,9 @@ pub line_at-requires-clause-from_bound : goal.line_at-requires-clause-from_bound
 line_at-requires-clause-from_bound c =
     let f = c.args.f.now in
     let w = c.requires.row_in in
-    let from : c.row_start-from.result ≡ c.args.a * c.args.f.now.offers = row_at _ _ _ _ c.row_start-from.ensures c.from.ensures in
-    let lines : c.from-i-end.result ≡ c.args.f.now.lines = c.from-i-end.ensures in (
+    let from : c.row_start-from.result ≡ c.args.a * c.args.f.now.offers = row_at _ _ _ _ c.row_start-from.ensures c.from.ensures in (
       omega (arith, from, few c.args.a f.offers 500 w.box_in w.offers_in),
-      omega (arith, from, w.known_long_lem, under_at f.offers f.lines f.line_offer.now c.loop-i.i c.requires.lines_in.offers (omega (arith, lines, c.loop-i-test.true))),
+      omega (arith, from, w.known_long_lem, under_at f.offers c.args.n f.line_offer.now c.loop-i.i c.requires.lines_in.offers c.loop-i-test.true),
     )
 
 pub add_line-requires-clause-grocer_in_bounds : goal.add_line-requires-clause-grocer_in_bounds
@@ -38,7 +37,6 @@ add_line-requires-clause-grocer_in_bounds c =
     let f = c.args.f.now in
     let w = c.requires.row_in in
     let row : c.row_start-row.result ≡ c.args.a * c.args.f.now.grocers = row_at _ _ _ _ c.row_start-row.ensures c.from-grocers.ensures in
-    let lines : c.from-i-end.result ≡ c.args.f.now.lines = c.from-i-end.ensures in
     let long : length c.zero_row.new.part ≡ length c.args.part.now = c.zero_row.auto.part in
     omega (
       arith,
@@ -47,7 +45,7 @@ add_line-requires-clause-grocer_in_bounds c =
       c.loop-i.auto.part,
       long,
       c.line_at.ensures.0,
-      under_at f.grocers f.lines f.line_grocer.now c.loop-i.i c.requires.lines_in.grocers (omega (arith, lines, c.loop-i-test.true)),
+      under_at f.grocers c.args.n f.line_grocer.now c.loop-i.i c.requires.lines_in.grocers c.loop-i-test.true,
     )
 
 pub loop-i-preserved : goal.loop-i-preserved
@@ -58,10 +56,9 @@ loop-i-preserved c =
     line_lists c.args.f.now.line_grocer.now c.args.f.now.line_offer.now c.args.f.now.line_box.now c.args.f.now.line_rate.now in
     let row : c.row_start-row.result ≡ c.args.a * c.args.f.now.grocers = row_at _ _ _ _ c.row_start-row.ensures c.from-grocers.ensures in
     let from : c.row_start-from.result ≡ c.args.a * c.args.f.now.offers = row_at _ _ _ _ c.row_start-from.ensures c.from.ensures in
-    let lines : c.from-i-end.result ≡ c.args.f.now.lines = c.from-i-end.ensures in
     let long : length c.zero_row.new.part ≡ length c.args.part.now = c.zero_row.auto.part in
     added_more lists f.grocers f.offers c.args.a c.args.known.now _ c.loop-i.i c.loop-i.part _ c.loop-i.invariant
-    (under_at f.grocers f.lines f.line_grocer.now c.loop-i.i c.requires.lines_in.grocers (omega (arith, lines, c.loop-i-test.true)))
+    (under_at f.grocers c.args.n f.line_grocer.now c.loop-i.i c.requires.lines_in.grocers c.loop-i-test.true)
     (omega (arith, w.part_long, c.loop-i.auto.part, long))
     (line_is lists f.grocers f.offers c.args.a c.loop-i.i c.args.known.now c.loop-i.part _ _ _ _ _ _ _ c.add_line.ensures row from
     c.line_at.ensures.0 c.line_at.ensures.1.0 c.line_at.ensures.1.1.0 c.line_at.ensures.1.1.1)
@@ -70,7 +67,6 @@ pub returns : goal.returns
 returns c =
     let f = c.args.f.now in
     let row : c.row_start-row.result ≡ c.args.a * c.args.f.now.grocers = row_at _ _ _ _ c.row_start-row.ensures c.from-grocers.ensures in
-    let lines : c.from-i-end.result ≡ c.args.f.now.lines = c.from-i-end.ensures in
-    let e : c.loop-i.i ≡ c.args.f.now.lines = omega (arith, lines, c.loop-i.auto.i-end, c.loop-i-test.false) in
-    added_over _ f.grocers f.offers c.args.a f.lines c.args.known.now c.args.part.now _ _
+    let e : c.loop-i.i ≡ c.args.n = omega (arith, c.loop-i.auto.i-end, c.loop-i-test.false) in
+    added_over _ f.grocers f.offers c.args.a c.args.n c.args.known.now c.args.part.now _ _
     (cleared_at _ _ _ _ _ _ row c.from-grocers.ensures c.zero_row.ensures) (rw e at c.loop-i.invariant)

@@ -6,7 +6,7 @@ use Rattle.settle.proofs.input.read_input.Goals as goal
 pub loop-done-preserved : goal.loop-done-preserved
 loop-done-preserved g c =
     let i = c.loop-done.invariant in
-    let r = c.in_ok-count in
+    let r = c.in-Ok in
     record {
       same_length = omega arith;
       in_buffer = omega (arith, r.ensures.count_in_bounds);
@@ -15,7 +15,7 @@ loop-done-preserved g c =
 
 pub returns-then-count-eq0-clause-first_bytes : goal.returns-then-count-eq0-clause-first_bytes
 returns-then-count-eq0-clause-first_bytes g c =
-    let r = c.in_ok-count in
+    let r = c.in-Ok in
     let done = c.loop-done.done in
     let more = read_more _ _ _ done r.count _ _ r.ensures.buffer_unchanged c.loop-done.invariant.bytes_read r.ensures.bytes_read in
     let none : done + r.count ≡ done = omega arith in

@@ -5,7 +5,17 @@ use Rattle.writer_checks.proofs.Naming.{keyed}
 use Rattle.writer_checks.proofs.Joining.{has_names}
 use Rattle.writer_checks.proofs.codes.names_refusal.Goals as goal
 
-pub look_refusal-requires-clause-names : goal.look_refusal-requires-clause-names
-look_refusal-requires-clause-names c =
+pub look_refusal-requires-clause-keyed : goal.look_refusal-requires-clause-keyed
+look_refusal-requires-clause-keyed c =
     let x = c.args.tables.now in
-    (c.requires.names, keyed _ _ _ _ _ _ _ (as_head x.head) (has_names (as_head x.head) (held x)) (rw c.from-n.ensures at c.index_names.ensures) c.requires.names.offers)
+    keyed _ _ _ _ _ _ _ (as_head x.head) (has_names (as_head x.head) (held x)) (rw c.from-n.ensures at c.index_names.ensures) c.requires.names_in.offers
+
+pub returns-clause-value : goal.returns-clause-value
+returns-clause-value c = λ j h.
+    c.look_refusal.ensures.value j
+    (keyed j _ _ _ _ _ _ (as_head c.args.tables.now.head) h (rw c.from-n.ensures at c.index_names.ensures) c.requires.names_in.offers)
+
+pub returns-clause-placed : goal.returns-clause-placed
+returns-clause-placed c = λ j h.
+    c.look_refusal.ensures.placed j
+    (keyed j _ _ _ _ _ _ (as_head c.args.tables.now.head) h (rw c.from-n.ensures at c.index_names.ensures) c.requires.names_in.offers)

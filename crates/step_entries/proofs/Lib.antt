@@ -1,2 +1,0 @@
--- Parts of tables, copied.
-pub mod Copied
