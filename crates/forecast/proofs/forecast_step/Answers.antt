@@ -79,7 +79,8 @@ pub returns-in-6-clause-answer : goal.returns-in-6-clause-answer
 unfolding answer_of
 returns-in-6-clause-answer c =
     accepted_by _ _ _ (decided _ _ _ _ _ _ _ _ c.view.ensures c.in_ok-words.ensures).number_is _
-    (sums_accepted _ _ _ _ _ _ (decided _ _ _ _ _ _ _ _ c.view.ensures c.in_ok-words.ensures) _ _ c.mark.ensures.0 c.raise.ensures _ _ _ c.in-6.is c.sum_own.auto.part c.sum_own.ensures.forecast_after c.sum_own.ensures.zeroed c.sum_own.ensures.held_after)
+    (sums_accepted _ _ _ _ _ _ (decided _ _ _ _ _ _ _ _ c.view.ensures c.in_ok-words.ensures) _ _ c.mark.ensures.0 c.raise.ensures _ _ _ c.in-6.is
+    c.sum_own.auto.part c.sum_own.ensures.forecast_after c.sum_own.ensures.zeroed c.sum_own.ensures.held_after)
 
 pub returns-in-4-clause-answer : goal.returns-in-4-clause-answer
 unfolding answer_of
@@ -94,4 +95,5 @@ returns-in_default-clause-answer c =
     let most : c.args.x.kind ≤ 6 = (marking _ _ _ _ _ _ (decided _ _ _ _ _ _ _ _ c.view.ensures c.in_ok-words.ensures)).0.kind_to in
     let two : c.args.x.kind ≤ 2 = grind (arith, most, c.in_default) in
     accepted_by _ _ _ (decided _ _ _ _ _ _ _ _ c.view.ensures c.in_ok-words.ensures).number_is _
-    (values_accepted _ _ _ _ _ _ (decided _ _ _ _ _ _ _ _ c.view.ensures c.in_ok-words.ensures) _ _ c.mark.ensures.0 c.raise.ensures _ _ _ c.from-in_default.ensures two c.move_values.auto.known c.move_values.auto.value_transit c.move_values.ensures)
+    (values_accepted _ _ _ _ _ _ (decided _ _ _ _ _ _ _ _ c.view.ensures c.in_ok-words.ensures) _ _ c.mark.ensures.0 c.raise.ensures _ _ _ c.from-in_default.ensures two
+    c.move_values.auto.known c.move_values.auto.value_transit c.move_values.ensures)
